@@ -115,7 +115,7 @@ fn make_buffer(queue: &mut VecDeque<Vec<u8>>, len: usize) -> Result<Vec<u8>, All
     ensures place { OnOk result (deque_len queue.new < deque_capacity queue.new) }
 {
     queue.reserve(1)?;
-    let mut buffer = Vec::new(queue.allocator().clone()?);
+    let mut buffer = Vec::new(*queue.allocator());
     buffer.resize(len, 0)?;
     Ok(buffer)
 }
