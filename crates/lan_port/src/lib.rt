@@ -3,5 +3,7 @@
 
 mod pool;
 mod port;
+#[cfg(test)]
+mod tests;
 
 pub use port::{Port, PortTxToken};

@@ -112,19 +112,18 @@ impl Device for Port {
 
     ghost described = { λ p. p.link.capabilities };
 
-    fn receive(&mut self, _timestamp: Instant) -> Option<(OwnedRxToken, PortTxToken)> {
-        if self.refused == u64::MAX {
-            return None;
-        }
+    fn receive(&mut self, timestamp: Instant) -> Option<(OwnedRxToken, PortTxToken)> {
+        let leave = self.transmit(timestamp)?;
         let frame = self.incoming.pop_front()?;
-        Some((OwnedRxToken::new(frame), PortTxToken {}))
+        Some((OwnedRxToken::new(frame), leave))
     }
 
     fn transmit(&mut self, _timestamp: Instant) -> Option<PortTxToken> {
-        if self.refused == u64::MAX {
-            return None;
+        if self.refused < u64::MAX {
+            Some(PortTxToken {})
+        } else {
+            None
         }
-        Some(PortTxToken {})
     }
 
     fn send<R: Drop, F: FnOnce(&mut [u8]) -> R>(

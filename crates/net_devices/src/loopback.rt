@@ -63,19 +63,18 @@ impl Device for Loopback {
 
     ghost described = { loopback_capabilities };
 
-    fn receive(&mut self, _timestamp: Instant) -> Option<(OwnedRxToken, LoopbackTxToken)> {
-        if self.refused == u64::MAX {
-            return None;
-        }
+    fn receive(&mut self, timestamp: Instant) -> Option<(OwnedRxToken, LoopbackTxToken)> {
+        let leave = self.transmit(timestamp)?;
         let frame = self.queue.pop_front()?;
-        Some((OwnedRxToken::new(frame), LoopbackTxToken {}))
+        Some((OwnedRxToken::new(frame), leave))
     }
 
     fn transmit(&mut self, _timestamp: Instant) -> Option<LoopbackTxToken> {
-        if self.refused == u64::MAX {
-            return None;
+        if self.refused < u64::MAX {
+            Some(LoopbackTxToken {})
+        } else {
+            None
         }
-        Some(LoopbackTxToken {})
     }
 
     fn send<R: Drop, F: FnOnce(&mut [u8]) -> R>(
