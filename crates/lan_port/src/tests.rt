@@ -1,0 +1,111 @@
+use super::*;
+use net_base::{Device, DeviceCapabilities, Instant, Medium, RxToken};
+use std::alloc::Global;
+use std::test::Fail;
+
+fn ip_port(alloc: Global) -> Port {
+    let capabilities = DeviceCapabilities {
+        medium: Medium::Ip,
+        max_transmission_unit: 1500,
+        ..DeviceCapabilities::default()
+    };
+    Port::new(alloc, capabilities)
+}
+
+/// Answers the next frame with its own bytes. It knows the device by its bound alone.
+fn echo<D: Device>(device: &mut D) -> bool {
+    let Some((frame, token)) = device.receive(Instant::ZERO) else {
+        return false;
+    };
+    let bytes = frame.bytes();
+    device
+        .send(token, bytes.len(), |buffer: &mut [u8]| {
+            buffer.copy_from_slice(bytes)
+        })
+        .is_ok()
+}
+
+#[test]
+fn frames_come_in_order_in_their_own_buffers(rt: HostRuntime) -> Result<(), Fail> {
+    let mut port = ip_port(rt.alloc());
+    let mut first = Vec::with_capacity(rt.alloc(), 100)?;
+    first.extend_from_slice(b"one")?;
+    port.push(first)?;
+    port.push(b"two".to_vec(rt.alloc())?)?;
+    assert_eq!(rt; port.waiting().len(), 2);
+
+    let (token, _leave) = port.receive(Instant::ZERO).ok_or("a frame waits")?;
+    assert_eq!(rt; token.bytes(), b"one".as_slice());
+    let frame = token.into_frame();
+    assert_eq!(rt; frame.as_slice(), b"one".as_slice());
+    assert_eq!(rt;
+        frame.capacity(),
+        100,
+        "the buffer is the one that was pushed"
+    );
+
+    let (token, _leave) = port.receive(Instant::ZERO).ok_or("a frame waits")?;
+    assert_eq!(rt;
+        token.consume(|bytes: &[u8]| bytes == b"two".as_slice()),
+        true
+    );
+    assert!(rt; port.receive(Instant::ZERO).is_none());
+    assert!(rt; port.waiting().is_empty());
+    Ok(())
+}
+
+#[test]
+fn sends_what_the_closure_leaves(rt: HostRuntime) -> Result<(), Fail> {
+    let mut port = ip_port(rt.alloc());
+    let leave = port.transmit(Instant::ZERO).ok_or("leave to send")?;
+    let length = port.send(leave, 3, |buffer: &mut [u8]| {
+        buffer.copy_from_slice(b"abc");
+        buffer.len()
+    })?;
+    assert_eq!(rt; length, 3);
+    port.push(b"ping".to_vec(rt.alloc())?)?;
+    assert!(rt; echo(&mut port));
+    assert!(rt; !echo(&mut port), "nothing waits");
+
+    let sent = port.sent();
+    assert_eq!(rt; sent.len(), 2);
+    assert_eq!(rt; sent[0].as_slice(), b"abc".as_slice());
+    assert_eq!(rt; sent[1].as_slice(), b"ping".as_slice());
+    assert_eq!(rt; port.refusals(), 0);
+    assert_eq!(rt; port.capabilities().ip_mtu(), 1500);
+    Ok(())
+}
+
+#[test]
+fn refuses_before_the_closure_runs(rt: HostRuntime) -> Result<(), Fail> {
+    let mut port = ip_port(rt.alloc());
+    let mut ran = false;
+    let leave = port.transmit(Instant::ZERO).ok_or("leave to send")?;
+    // No allocator gives as much.
+    let sent = port.send(leave, usize::MAX, |_buffer: &mut [u8]| {
+        ran = true;
+    });
+    assert!(rt; sent.is_err());
+    assert!(rt; !ran);
+    assert_eq!(rt; port.refusals(), 1);
+    assert!(rt; port.sent().is_empty());
+    Ok(())
+}
+
+#[test]
+fn prepared_frames_are_not_refused(rt: HostRuntime) -> Result<(), Fail> {
+    let mut port = ip_port(rt.alloc());
+    port.prepare(2, 1500)?;
+    for length in [1500, 20] {
+        let leave = port.transmit(Instant::ZERO).ok_or("leave to send")?;
+        port.send(leave, length, |buffer: &mut [u8]| buffer.fill(7))?;
+    }
+    port.prepare(1, 9000)?;
+    let sent = port.sent();
+    assert_eq!(rt; sent.len(), 2);
+    assert_eq!(rt; sent[0].len(), 1500);
+    assert_eq!(rt; sent[1].as_slice(), [7; 20].as_slice());
+    assert!(rt; port.prepare(1, usize::MAX).is_err());
+    assert_eq!(rt; port.sent().len(), 2);
+    Ok(())
+}
