@@ -1,0 +1,4 @@
+pub mod Members
+pub mod Sockets
+pub mod Polls
+pub mod MachineLaws
