@@ -1,0 +1,250 @@
+-- The calls of a user, the end of a connection and the fallback of a listener keep the invariant.
+use Rattle.std.proofs.Common.{◌≡◌, ◌⊎◌, inl, inr, ℕ, ◌+◌, ◌^◌, ◌≤◌, Bool, true, false, List, [], ◌++◌, length, take, drop, refl, sym, ap, ◌∙◌, subst, arith, length-append, append-nil, append_assoc, take-append-drop, le_refl}
+use Rattle.tcp_law.specs.ReceiveMap.{Begins, AgreesWith}
+use Rattle.tcp_law.specs.Side.{Phase, Opening, Side, taken_in, one_if, IsConnected}
+use Rattle.tcp_law.specs.Side.Phase.{Unopened, Listen, SynSent, SynReceived, Synchronized, Ended}
+use Rattle.tcp_law.specs.Side.Opening.{None_yet, Passive, Active}
+use Rattle.tcp_law.specs.Move.{Move, May, after}
+use Rattle.tcp_law.specs.Move.Move.{Listens, Connects, Writes, Reads, Closes, Ends, FallsBack}
+use Rattle.tcp_law.specs.Invariant.{IsLate, IsEarly, FitsPhase, IsWellFormed, IsInStep, IsSilent, Half}
+use Rattle.tcp_law.proofs.Lists.{AgreesWith-room, AgreesWith-space}
+use Rattle.tcp_law.proofs.Grows.{Grows, Half-own, Half-other}
+
+-- a move of s keeps both streams
+abbrev pub Keeps : Side → Side → Move → Type 0
+Keeps s t move = Half s t → Half t s → May s t move → Half (after s move) t × Half t (after s move)
+
+pub same_bytes : (xs : List ℕ) → (more : List ℕ) × (xs ≡ xs ++ more)
+same_bytes xs = ([], sym (append-nil xs))
+
+-- a connected side took a SYN
+pub heard : (phase : Phase) (opening : Opening) (irs : ℕ) → IsConnected phase → FitsPhase phase opening irs → 2 ^ 32 ≤ irs
+heard SynReceived opening irs c fits = fits
+heard Synchronized opening irs c fits = fits
+heard Unopened opening irs c fits = absurd c
+heard Listen opening irs c fits = absurd c
+heard SynSent opening irs c fits = absurd c
+heard Ended opening irs c fits = absurd c
+
+pub fits_at : (s : Side) (phase : Phase) → IsWellFormed s → s.phase ≡ phase → FitsPhase phase s.opening s.irs
+fits_at s phase well e = subst (λ (p : Phase). FitsPhase p s.opening s.irs) e well.phase
+
+pub early_at : (s : Side) (phase : Phase) → s.phase ≡ phase → IsEarly phase → IsEarly s.phase
+early_at s phase e early = subst IsEarly (sym e) early
+
+pub not_late : {A : Type 0} (s : Side) (phase : Phase) → s.phase ≡ phase → (IsLate phase → ⊥) → IsLate s.phase → A
+not_late s phase e early late = absurd (early (subst IsLate e late))
+
+pub keeps_listens : (s t : Side) → Keeps s t Listens
+keeps_listens s t half back may =
+    let new = after s Listens in
+    let well = half.well_formed in
+    let fits = fits_at s Unopened well may in
+    let unset = fits.0 in
+    let none = fits.1 in
+    let grows : Grows s new = record {
+      late = not_late s Unopened may (λ late. late);
+      written = same_bytes s.written;
+      closed = λ e. (e, refl);
+      active = λ e. absurd (let clash : None_yet ≡ Active = sym unset ∙ e in cc);
+      taken = λ _. (refl, le_refl _);
+    } in
+    let well' : IsWellFormed new = record {
+      phase = refl;
+      early = λ _. well.early (early_at s Unopened may tt);
+      iss = well.iss;
+      una_low = well.una_low;
+      una_high = well.una_high;
+      short = well.short;
+      irs = well.irs;
+    } in
+    let no_stream = well.early (early_at s Unopened may tt) in (
+      Half-own s new grows t half well' (step no_stream.0 half.step) (λ _. inl none) (λ sent. sent),
+      Half-other s new grows t back back.received back.held (λ e. let f = back.fin e in f),
+    )
+  where
+    step : s.written ≡ [] → IsInStep s t ⊎ IsSilent s t → IsInStep (after s Listens) t ⊎ IsSilent (after s Listens) t
+    step nothing (inl in_step) = inl in_step
+    step nothing (inr silent) = inr (silent.0, λ (e : Listen ≡ Synchronized). absurd (cc), silent.2)
+
+pub keeps_connects : (s t : Side) (iss : ℕ) → Keeps s t (Connects iss)
+keeps_connects s t iss half back may =
+    let new = after s (Connects iss) in
+    let well = half.well_formed in
+    let fits = fits_at s Unopened well may.0 in
+    let unset = fits.0 in
+    let none = fits.1 in
+    let no_stream = well.early (early_at s Unopened may.0 tt) in
+    let grows : Grows s new = record {
+      late = not_late s Unopened may.0 (λ late. late);
+      written = same_bytes s.written;
+      closed = λ e. (e, refl);
+      active = λ e. absurd (let clash : None_yet ≡ Active = sym unset ∙ e in cc);
+      taken = λ _. (refl, le_refl _);
+    } in
+    let well' : IsWellFormed new = record {
+      phase = (refl, none);
+      early = λ _. no_stream;
+      iss = may.1;
+      una_low = le_refl _;
+      una_high = omega arith;
+      short = well.short;
+      irs = well.irs;
+    } in (
+      Half-own s new grows t half well' (inr (no_stream.0, λ (e : SynSent ≡ Synchronized). absurd (cc), inl refl)) (λ (e : Active ≡ Passive). absurd (cc)) (λ sent. sent),
+      Half-other s new grows t back back.received back.held (λ e. back.fin e),
+    )
+
+pub keeps_writes : (s t : Side) (bytes : List ℕ) → Keeps s t (Writes bytes)
+keeps_writes s t bytes half back may =
+    let new = after s (Writes bytes) in
+    let well = half.well_formed in
+    let is_open = may.1 in
+    let longer = length-append s.written bytes in
+    let high = well.una_high in
+    let grows : Grows s new = record {
+      late = λ late. (late, refl);
+      written = (bytes, refl);
+      closed = λ e. absurd (let clash : false ≡ true = sym is_open ∙ e in cc);
+      active = λ e. (e, refl);
+      taken = λ _. (refl, le_refl _);
+    } in
+    let well' : IsWellFormed new = record {
+      phase = well.phase;
+      early = λ early. absurd (subst IsEarly may.0 early);
+      iss = well.iss;
+      una_low = well.una_low;
+      una_high = omega arith;
+      short = may.2;
+      irs = well.irs;
+    } in (
+      Half-own s new grows t half well' (step half.step) half.listener (λ sent. sent),
+      Half-other s new grows t back back.received back.held back.fin,
+    )
+  where
+    step : IsInStep s t ⊎ IsSilent s t → IsInStep (after s (Writes bytes)) t ⊎ IsSilent (after s (Writes bytes)) t
+    step (inl in_step) = inl in_step
+    step (inr silent) = absurd (let clash : false ≡ true = sym may.1 ∙ silent.1 may.0 in cc)
+
+-- what was read and what waits are the same bytes together
+taken_in-reads : (s : Side) (count : ℕ) → taken_in (after s (Reads count)) ≡ taken_in s
+taken_in-reads s count = append_assoc s.read (take count s.waiting) (drop count s.waiting) ∙ ap (λ (bytes : List ℕ). s.read ++ bytes) (take-append-drop count s.waiting)
+
+pub keeps_reads : (s t : Side) (count : ℕ) → Keeps s t (Reads count)
+keeps_reads s t count half back may =
+    let new = after s (Reads count) in
+    let well = half.well_formed in
+    let same = taken_in-reads s count in
+    let same_length = ap length same in
+    let grows : Grows s new = record {
+      late = λ late. (late, refl);
+      written = same_bytes s.written;
+      closed = λ e. (e, refl);
+      active = λ e. (e, refl);
+      taken = λ _. (refl, omega arith);
+    } in
+    let well' : IsWellFormed new = record {
+      phase = well.phase;
+      early = λ early. let none = well.early early in (none.0, same ∙ none.1, none.2, none.3);
+      iss = well.iss;
+      una_low = well.una_low;
+      una_high = well.una_high;
+      short = well.short;
+      irs = well.irs;
+    } in (
+      Half-own s new grows t half well' half.step half.listener (λ sent. sent),
+      Half-other s new grows t back
+          (subst (λ (bytes : List ℕ). Begins bytes t.written) (sym same) back.received)
+          (subst (λ (bytes : List ℕ). AgreesWith new.window (drop (length bytes) t.written)) (sym same)
+          (AgreesWith-room s.window (length (take count s.waiting)) (drop (length (taken_in s)) t.written) back.held))
+          (λ e. let f = back.fin e in (f.0, same ∙ f.1, f.2)),
+    )
+
+pub keeps_closes : (s t : Side) → Keeps s t Closes
+keeps_closes s t half back may =
+    let new = after s Closes in
+    let well = half.well_formed in
+    let high = well.una_high in
+    let bit : one_if s.closed ≤ 1 = at_most_one s.closed in
+    let grows : Grows s new = record {
+      late = λ late. (tt, refl);
+      written = same_bytes s.written;
+      closed = λ e. (refl, refl);
+      active = λ e. (e, refl);
+      taken = λ _. (refl, le_refl _);
+    } in
+    let well' : IsWellFormed new = record {
+      phase = heard s.phase s.opening s.irs may well.phase;
+      early = λ early. absurd early;
+      iss = well.iss;
+      una_low = well.una_low;
+      una_high = omega arith;
+      short = well.short;
+      irs = well.irs;
+    } in (
+      Half-own s new grows t half well' (step half.step) half.listener (λ sent. sent),
+      Half-other s new grows t back back.received back.held back.fin,
+    )
+  where
+    at_most_one : (b : Bool) → one_if b ≤ 1
+    at_most_one true = omega arith
+    at_most_one false = omega arith
+
+    step : IsInStep s t ⊎ IsSilent s t → IsInStep (after s Closes) t ⊎ IsSilent (after s Closes) t
+    step (inl in_step) = inl in_step
+    step (inr silent) = inr (silent.0, λ _. refl, silent.2)
+
+pub keeps_ends : (s t : Side) → Keeps s t Ends
+keeps_ends s t half back may =
+    let new = after s Ends in
+    let well = half.well_formed in
+    let grows : Grows s new = record {
+      late = λ late. (tt, refl);
+      written = same_bytes s.written;
+      closed = λ e. (e, refl);
+      active = λ e. (e, refl);
+      taken = λ _. (refl, le_refl _);
+    } in
+    let well' : IsWellFormed new = record {
+      phase = tt;
+      early = λ early. absurd early;
+      iss = well.iss;
+      una_low = well.una_low;
+      una_high = well.una_high;
+      short = well.short;
+      irs = well.irs;
+    } in (
+      Half-own s new grows t half well' (step half.step) half.listener (λ sent. sent),
+      Half-other s new grows t back back.received back.held back.fin,
+    )
+  where
+    step : IsInStep s t ⊎ IsSilent s t → IsInStep (after s Ends) t ⊎ IsSilent (after s Ends) t
+    step (inl in_step) = inl in_step
+    step (inr silent) = inr (silent.0, λ (e : Ended ≡ Synchronized). absurd (cc), silent.2)
+
+pub keeps_falls_back : (s t : Side) → Keeps s t FallsBack
+keeps_falls_back s t half back may =
+    let new = after s FallsBack in
+    let well = half.well_formed in
+    let no_stream = well.early (early_at s SynReceived may.0 tt) in
+    let nothing = ap length no_stream.1 in
+    let is_open = no_stream.2 in
+    let grows : Grows s new = record {
+      late = not_late s SynReceived may.0 (λ late. late);
+      written = ([], sym (ap (λ (bytes : List ℕ). bytes ++ []) no_stream.0));
+      closed = λ e. absurd (let clash : false ≡ true = sym is_open ∙ e in cc);
+      active = λ e. absurd (let clash : Passive ≡ Active = sym may.1 ∙ e in cc);
+      taken = λ _. (refl, (let no_fin = ap one_if no_stream.3 in omega arith));
+    } in
+    let well' : IsWellFormed new = record {
+      phase = refl;
+      early = λ _. (refl, refl, refl, refl);
+      iss = (omega arith, omega arith);
+      una_low = le_refl _;
+      una_high = omega arith;
+      short = omega arith;
+      irs = well.irs;
+    } in (
+      Half-own s new grows t half well' (inr (refl, λ (e : Listen ≡ Synchronized). absurd (cc), inl refl)) (λ _. half.listener may.1) (λ sent. sent),
+      Half-other s new grows t back tt (AgreesWith-space (length s.waiting + length s.window) t.written) (λ (e : false ≡ true). absurd (cc)),
+    )

@@ -1,0 +1,165 @@
+-- What never goes back on one side, and what of the invariant it alone keeps.
+use Rattle.std.proofs.Common.{◌≡◌, ◌⊎◌, inl, inr, ℕ, suc, ◌+◌, ◌-◌, ◌^◌, ◌≤◌, true, List, [], ◌++◌, length, drop, Some, None, sym, ap, ◌∙◌, arith, length-append}
+use Rattle.std.specs.List.{AllByRecursion}
+use Rattle.tcp_law.specs.ReceiveMap.{Begins, AgreesWith}
+use Rattle.tcp_law.specs.Numbers.{wire}
+use Rattle.tcp_law.specs.Segment.{Segment}
+use Rattle.tcp_law.specs.Side.{Phase, Side, taken_in, rcv_next}
+use Rattle.tcp_law.specs.Side.Phase.{Unopened, Listen, SynSent, SynReceived, Synchronized, Ended}
+use Rattle.tcp_law.specs.Side.Opening.{Passive, Active}
+use Rattle.tcp_law.specs.Invariant.{IsLate, IsEarly, IsWellFormed, IsPiece, IsBelow, IsPlain, IsSyn, HasReached, IsHonest, IsInStep, IsSilent, Half}
+use Rattle.tcp_law.proofs.Lists.{Begins-grow, Begins-drop-grow, AgreesWith-drop-grow, AllByRecursion-map}
+
+pub record Grows (s new : Side) : Type 0 where
+  pub late : IsLate s.phase → IsLate new.phase × (new.iss ≡ s.iss)
+  pub written : (more : List ℕ) × (new.written ≡ s.written ++ more)
+  pub closed : s.closed ≡ true → (new.closed ≡ true) × (new.written ≡ s.written)
+  pub active : s.opening ≡ Active → (new.opening ≡ Active) × (new.iss ≡ s.iss)
+  pub taken : 2 ^ 32 ≤ s.irs → (new.irs ≡ s.irs) × (rcv_next s ≤ rcv_next new)
+
+late_or_early : (phase : Phase) → IsLate phase ⊎ IsEarly phase
+late_or_early Unopened = inr tt
+late_or_early Listen = inr tt
+late_or_early SynSent = inr tt
+late_or_early SynReceived = inr tt
+late_or_early Synchronized = inl tt
+late_or_early Ended = inl tt
+
+-- a side that closed is past SYN-RECEIVED
+pub late_of_closed : (s : Side) → IsWellFormed s → s.closed ≡ true → IsLate s.phase
+late_of_closed s well e = by (late_or_early s.phase) where
+  by : IsLate s.phase ⊎ IsEarly s.phase → IsLate s.phase
+  by (inl late) = late
+  by (inr early) = let none = well.early early in let open_still = none.2 in absurd (cc)
+
+module _ (s new : Side) (grows : Grows s new) where
+  pub HasReached-grows : (number : ℕ) → HasReached s number → HasReached new number
+  HasReached-grows number h =
+      let low = h.2 in
+      let past = h.3 in
+      let high = h.4 in
+      let g = grows.taken low in
+      let same = g.0 in
+      let further = g.1 in
+      (h.0, h.1, omega arith, omega arith, omega arith)
+
+  pub IsPlain-grows : (x : Segment) → IsPlain s x → IsPlain new x
+  IsPlain-grows x p = record { plain = p.plain; bytes = by p.bytes } where
+    by : (x.bytes ≡ []) ⊎ IsBelow s x → (x.bytes ≡ []) ⊎ IsBelow new x
+    by (inl none) = inl none
+    by (inr h) =
+        let low = h.2 in
+        let past = h.3 in
+        let high = h.4 in
+        let g = grows.taken low in
+        let same = g.0 in
+        let further = g.1 in
+        inr (h.0, h.1, omega arith, omega arith, omega arith)
+
+  IsPiece-grows : (x : Segment) → IsPiece s x → IsPiece new x
+  IsPiece-grows x p =
+      let stays = (grows.late p.late).1 in
+      let grown = grows.written.1 in
+      let more = grows.written.0 in
+      let longer : length new.written ≡ length s.written + length more = ap length grown ∙ length-append s.written more in
+      let past = p.after_syn in
+      let fits = p.fits in
+      record {
+        late = (grows.late p.late).0;
+        kind = p.kind;
+        at = p.at;
+        seq = p.seq;
+        after_syn = omega arith;
+        bytes = rw (stays, grown) (Begins-drop-grow (p.at - suc s.iss) x.bytes s.written more p.bytes);
+        fits = omega arith;
+        fin = λ e. let f = p.fin e in let c = grows.closed f.0 in let same = ap length c.1 in let ends = f.1 in (c.0, omega arith);
+      }
+
+  IsSyn-grows : (x : Segment) → IsSyn s x → IsSyn new x
+  IsSyn-grows x p = record {
+    syn = p.syn;
+    at = p.at;
+    first = p.first;
+    seq = p.seq;
+    bare = λ e. let b = p.bare e in let a = grows.active b.1 in (b.0 ∙ sym a.1, a.0);
+  }
+
+  -- the segments that it sent
+  pub IsHonest-own : (t : Side) (x : Segment) → IsHonest s t x → IsHonest new t x
+  IsHonest-own t x (inl reset) = inl reset
+  IsHonest-own t x (inr h) = inr (kind h.0, ack h.1) where
+    kind : IsPiece s x ⊎ (IsPlain t x ⊎ IsSyn s x) → IsPiece new x ⊎ (IsPlain t x ⊎ IsSyn new x)
+    kind (inl piece) = inl (IsPiece-grows x piece)
+    kind (inr (inl plain)) = inr (inl plain)
+    kind (inr (inr syn)) = inr (inr (IsSyn-grows x syn))
+
+    ack : (x.ack ≡ None) ⊎ ((number : ℕ) × (x.ack ≡ Some number) × HasReached s number) → (x.ack ≡ None) ⊎ ((number : ℕ) × (x.ack ≡ Some number) × HasReached new number)
+    ack (inl none) = inl none
+    ack (inr some) = inr (some.0, some.1, HasReached-grows some.0 some.2)
+
+  -- the segments that its partner sent
+  IsHonest-other : (t : Side) (x : Segment) → IsHonest t s x → IsHonest t new x
+  IsHonest-other t x (inl reset) = inl reset
+  IsHonest-other t x (inr h) = inr (kind h.0, h.1) where
+    kind : IsPiece t x ⊎ (IsPlain s x ⊎ IsSyn t x) → IsPiece t x ⊎ (IsPlain new x ⊎ IsSyn t x)
+    kind (inl piece) = inl piece
+    kind (inr (inl plain)) = inr (inl (IsPlain-grows x plain))
+    kind (inr (inr syn)) = inr (inr syn)
+
+  -- the stream that it sends, by what its move changes of it
+  pub Half-own :
+      (t : Side) → Half s t → IsWellFormed new → IsInStep new t ⊎ IsSilent new t
+      → (new.opening ≡ Passive → (new.irs ≡ 0) ⊎ ((new.irs ≡ t.iss) × (t.opening ≡ Active)))
+      → (AllByRecursion (IsHonest new t) s.sent → AllByRecursion (IsHonest new t) new.sent)
+      → Half new t
+  Half-own t half well step listener sent =
+      let grown = grows.written.1 in
+      let more = grows.written.0 in
+      record {
+        well_formed = well;
+        step = step;
+        received = rw grown (Begins-grow (taken_in t) s.written more half.received);
+        held = rw grown (AgreesWith-drop-grow (length (taken_in t)) t.window s.written more half.held);
+        fin =
+            λ e.
+            let f = half.fin e in
+            let c = grows.closed f.0 in
+            let stays = (grows.late (late_of_closed s half.well_formed f.0)).1 in
+            (c.0, f.1 ∙ sym c.1, f.2 ∙ sym stays);
+        listener = listener;
+        sent = sent (AllByRecursion-map (IsHonest s t) (IsHonest new t) (IsHonest-own t) s.sent half.sent);
+      }
+
+  -- the stream that it takes, by what its move changes of it
+  pub Half-other :
+      (t : Side) → Half t s → Begins (taken_in new) t.written → AgreesWith new.window (drop (length (taken_in new)) t.written)
+      → (new.took_fin ≡ true → (t.closed ≡ true) × (taken_in new ≡ t.written) × (new.irs ≡ t.iss))
+      → Half t new
+  Half-other t half received held fin = record {
+    well_formed = half.well_formed;
+    step = step half.step;
+    received = received;
+    held = held;
+    fin = fin;
+    listener = λ e. listener (half.listener e);
+    sent = AllByRecursion-map (IsHonest t s) (IsHonest t new) (IsHonest-other t) t.sent half.sent;
+  } where
+    step : IsInStep t s ⊎ IsSilent t s → IsInStep t new ⊎ IsSilent t new
+    step (inl in_step) =
+        let first = half.well_formed.iss.0 in
+        let counts = in_step.0 in
+        let past = in_step.1 in
+        let reached = in_step.2 in
+        let low : 2 ^ 32 ≤ s.irs = omega arith in
+        let g = grows.taken low in
+        let same = g.0 in
+        let further = g.1 in
+        inl (same ∙ counts, past, omega arith)
+    step (inr silent) = inr (silent.0, silent.1, una silent.2) where
+      una : (t.una ≡ t.iss) ⊎ HasReached s (wire t.una) → (t.una ≡ t.iss) ⊎ HasReached new (wire t.una)
+      una (inl first) = inl first
+      una (inr reached) = inr (HasReached-grows (wire t.una) reached)
+
+    listener : (t.irs ≡ 0) ⊎ ((t.irs ≡ s.iss) × (s.opening ≡ Active)) → (t.irs ≡ 0) ⊎ ((t.irs ≡ new.iss) × (new.opening ≡ Active))
+    listener (inl none) = inl none
+    listener (inr heard) = let a = grows.active heard.1 in inr (heard.0 ∙ sym a.1, a.0)

@@ -1,0 +1,7 @@
+pub mod Lists
+pub mod Grows
+pub mod Calls
+pub mod Sends
+pub mod Opening
+pub mod Taking
+pub mod Theorem

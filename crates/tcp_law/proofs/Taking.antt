@@ -1,0 +1,190 @@
+-- Bytes and a FIN that a side takes keep the invariant.
+use Rattle.std.proofs.Common.{◌≡◌, ◌⊎◌, inl, inr, ℕ, suc, ◌+◌, ◌-◌, ◌^◌, ◌<◌, ◌≤◌, Bool, true, false, List, [], ◌++◌, length, drop, Option, refl, sym, ap, ◌∙◌, subst, arith, append_assoc, length-append, drop-drop, drop_of_length-le}
+use Rattle.tcp_law.specs.ReceiveMap.{Begins, AgreesWith, store, front, behind}
+use Rattle.tcp_law.specs.Numbers.{wire, IsNear}
+use Rattle.tcp_law.specs.Segment.{Segment, IsData}
+use Rattle.tcp_law.specs.Segment.Control.{Plain, Syn, Fin, Rst}
+use Rattle.tcp_law.specs.Side.{Side, taken_in, rcv_next, one_if}
+use Rattle.tcp_law.specs.Side.Phase.{Synchronized}
+use Rattle.tcp_law.specs.Move.{after, laid}
+use Rattle.tcp_law.specs.Move.Move.{TakesBytes, TakesFin}
+use Rattle.tcp_law.specs.Invariant.{IsEarly, IsPiece, IsBelow, IsPlain, IsSyn, IsHonest, IsWellFormed, IsInStep, IsSilent, Half}
+use Rattle.tcp_law.proofs.Lists.{Begins-append, Begins-drop, Begins-front, Begins-length, Begins-nothing, Begins-whole, AgreesWith-store, AgreesWith-behind, store-nothing, drop-nothing, drop-twice}
+use Rattle.tcp_law.proofs.Grows.{Grows, Half-own, Half-other}
+use Rattle.tcp_law.proofs.Calls.{Keeps, same_bytes, fits_at}
+use Rattle.tcp_law.proofs.Opening.{honest}
+
+-- so many bytes were taken in, and RCV.NXT is one past them, while no FIN is taken
+rcv_next-open : (s : Side) → s.took_fin ≡ false → rcv_next s ≡ suc s.irs + length (taken_in s)
+rcv_next-open s e = let none = ap one_if e in omega arith
+
+-- bytes that are cut away whole, and no bytes at all, leave the receive map
+laid-below : (s : Side) (at : ℕ) (bytes : List ℕ) → at + length bytes ≤ rcv_next s → laid s at bytes ≡ s.window
+laid-below s at bytes below =
+    let short : length bytes ≤ rcv_next s - at = omega arith in
+    ap (λ (rest : List ℕ). store s.window (at - rcv_next s) rest) (drop_of_length-le bytes short) ∙ store-nothing s.window (at - rcv_next s)
+
+laid-nothing : (s : Side) (at : ℕ) (bytes : List ℕ) → bytes ≡ [] → laid s at bytes ≡ s.window
+laid-nothing s at bytes e =
+    ap (λ (rest : List ℕ). store s.window (at - rcv_next s) (drop (rcv_next s - at) rest)) e
+    ∙ (ap (λ (rest : List ℕ). store s.window (at - rcv_next s) rest) (drop-nothing (rcv_next s - at)) ∙ store-nothing s.window (at - rcv_next s))
+
+module _ (s t : Side) (x : Segment) (half : Half s t) (back : Half t s) where
+  -- RCV.NXT is less than 2 ^ 30 past the SYN that s took
+  rcv_next-short : rcv_next s ≤ suc (suc s.irs) + 2 ^ 29
+  rcv_next-short =
+      let shorter = Begins-length (taken_in s) t.written back.received in
+      let short = back.well_formed.short in
+      let fin = small s.took_fin in
+      omega arith
+    where
+      small : (b : Bool) → one_if b ≤ 1
+      small true = omega arith
+      small false = omega arith
+
+  -- a piece lies at its place in the receive map
+  laid_piece : (at : ℕ) → s.took_fin ≡ false → x.seq ≡ wire at → IsNear (rcv_next s) at → IsPiece t x → s.irs ≡ t.iss → AgreesWith (laid s at x.bytes) (drop (length (taken_in s)) t.written)
+  laid_piece at none seq near piece counts =
+      let next = rcv_next-open s none in
+      let bound = rcv_next-short in
+      let its = piece.seq in
+      let past = piece.after_syn in
+      let fits = piece.fits in
+      let short = back.well_formed.short in
+      let nearer = near.0 in
+      let nearer' = near.1 in
+      let same : at ≡ piece.at = omega arith in
+      let cut = Begins-drop (rcv_next s - at) x.bytes (drop (piece.at - suc t.iss) t.written) piece.bytes in
+      let place : piece.at - suc t.iss + (rcv_next s - at) ≡ length (taken_in s) + (at - rcv_next s) = omega arith in
+      let moved = drop-twice (rcv_next s - at) (piece.at - suc t.iss) (at - rcv_next s) (length (taken_in s)) t.written place in
+      AgreesWith-store s.window (at - rcv_next s) (drop (rcv_next s - at) x.bytes) (drop (length (taken_in s)) t.written) back.held
+      (subst (λ (ys : List ℕ). Begins (drop (rcv_next s - at) x.bytes) ys) moved cut)
+
+  laid_unchanged : (at : ℕ) → laid s at x.bytes ≡ s.window → AgreesWith (laid s at x.bytes) (drop (length (taken_in s)) t.written)
+  laid_unchanged at e = subst (λ (map : List (Option ℕ)). AgreesWith map (drop (length (taken_in s)) t.written)) (sym e) back.held
+
+  -- whatever came, the receive map holds bytes of the stream at their places
+  laid_agrees : (at : ℕ) → s.took_fin ≡ false → IsData x.control → x.seq ≡ wire at → IsNear (rcv_next s) at → IsHonest t s x → AgreesWith (laid s at x.bytes) (drop (length (taken_in s)) t.written)
+  laid_agrees at none data_kind seq near (inl reset) = absurd (subst IsData reset data_kind)
+  laid_agrees at none data_kind seq near (inr h) = kind h.0 where
+    from : IsPiece t x → IsInStep t s ⊎ IsSilent t s → AgreesWith (laid s at x.bytes) (drop (length (taken_in s)) t.written)
+    from piece (inl in_step) = laid_piece at none seq near piece in_step.0
+    from piece (inr silent) =
+        let nothing : drop (piece.at - suc t.iss) t.written ≡ [] = ap (λ (ys : List ℕ). drop (piece.at - suc t.iss) ys) silent.0 ∙ drop-nothing (piece.at - suc t.iss) in
+        laid_unchanged at (laid-nothing s at x.bytes (Begins-nothing x.bytes (subst (λ (ys : List ℕ). Begins x.bytes ys) nothing piece.bytes)))
+
+    plain : (x.bytes ≡ []) ⊎ IsBelow s x → AgreesWith (laid s at x.bytes) (drop (length (taken_in s)) t.written)
+    plain (inl no_bytes) = laid_unchanged at (laid-nothing s at x.bytes no_bytes)
+    plain (inr below) =
+        let its = below.1 in
+        let low = below.3 in
+        let high = below.4 in
+        let bound = rcv_next-short in
+        let nearer = near.0 in
+        let nearer' = near.1 in
+        let same : at ≡ below.0 = omega arith in
+        laid_unchanged at (laid-below s at x.bytes (omega arith))
+
+    kind : IsPiece t x ⊎ (IsPlain s x ⊎ IsSyn t x) → AgreesWith (laid s at x.bytes) (drop (length (taken_in s)) t.written)
+    kind (inl piece) = from piece back.step
+    kind (inr (inl its_plain)) = plain its_plain.bytes
+    kind (inr (inr its_syn)) = absurd (subst IsData its_syn.syn data_kind)
+
+  -- what came with FIN set is the end of the stream
+  fin_of : x.control ≡ Fin → IsHonest t s x → IsPiece t x
+  fin_of e (inl reset) = absurd (let clash : Fin ≡ Rst = sym e ∙ reset in cc)
+  fin_of e (inr h) = kind h.0 where
+    kind : IsPiece t x ⊎ (IsPlain s x ⊎ IsSyn t x) → IsPiece t x
+    kind (inl piece) = piece
+    kind (inr (inl its_plain)) = absurd (let clash : Fin ≡ Plain = sym e ∙ its_plain.plain in cc)
+    kind (inr (inr its_syn)) = absurd (let clash : Fin ≡ Syn = sym e ∙ its_syn.syn in cc)
+
+  -- a FIN at RCV.NXT ends a stream that was taken in whole, from the SYN that its sender has now
+  complete : s.took_fin ≡ false → 2 ^ 32 ≤ s.irs → x.control ≡ Fin → wire (x.seq + length x.bytes) ≡ wire (rcv_next s) → IsPiece t x → (t.closed ≡ true) × (taken_in s ≡ t.written) × (s.irs ≡ t.iss)
+  complete none low e place piece =
+      let next = rcv_next-open s none in
+      let its = piece.seq in
+      let ends = piece.fin e in
+      let last = ends.1 in
+      let shorter = Begins-length (taken_in s) t.written back.received in
+      let short = back.well_formed.short in
+      let first_low = back.well_formed.iss.0 in
+      let first_high = back.well_formed.iss.1 in
+      let irs_high = half.well_formed.irs in
+      by ends.0 next its last shorter short first_low first_high irs_high back.step
+    where
+      by : t.closed ≡ true → rcv_next s ≡ suc s.irs + length (taken_in s) → x.seq ≡ wire piece.at → piece.at + length x.bytes ≡ suc t.iss + length t.written
+          → length (taken_in s) ≤ length t.written → length t.written < 2 ^ 29 → 2 ^ 32 ≤ t.iss → t.iss < 2 ^ 33 → s.irs < 2 ^ 33
+          → IsInStep t s ⊎ IsSilent t s → (t.closed ≡ true) × (taken_in s ≡ t.written) × (s.irs ≡ t.iss)
+      by asked next its last shorter short first_low first_high irs_high (inl in_step) =
+          let counts = in_step.0 in
+          let longer : length t.written ≤ length (taken_in s) = omega arith in
+          (asked, Begins-whole (taken_in s) t.written back.received longer, counts)
+      by asked next its last shorter short first_low first_high irs_high (inr silent) =
+          let nothing = ap length silent.0 in
+          let longer : length t.written ≤ length (taken_in s) = omega arith in
+          (asked, Begins-whole (taken_in s) t.written back.received longer, omega arith)
+
+not_early : {A : Type 0} (s : Side) → s.phase ≡ Synchronized → IsEarly s.phase → A
+not_early s e early = absurd (subst IsEarly e early)
+
+pub keeps_takes_bytes : (s t : Side) (x : Segment) (at : ℕ) → Keeps s t (TakesBytes x at)
+keeps_takes_bytes s t x at half back may =
+    let new = after s (TakesBytes x at) in
+    let well = half.well_formed in
+    let map = laid s at x.bytes in
+    let agrees = laid_agrees s t x half back at may.1 may.3 may.4 may.5 (honest t s x back may.2) in
+    let longer : taken_in new ≡ taken_in s ++ front map = sym (append_assoc s.read s.waiting (front map)) in
+    let more = ap length longer ∙ length-append (taken_in s) (front map) in
+    let rest = drop (length (taken_in s)) t.written in
+    let behind_them : drop (length (front map)) rest ≡ drop (length (taken_in new)) t.written =
+    drop-drop (length (front map)) (length (taken_in s)) t.written ∙ ap (λ (k : ℕ). drop k t.written) (sym more) in
+    let grows : Grows s new = record {
+      late = λ late. (late, refl);
+      written = same_bytes s.written;
+      closed = λ e. (e, refl);
+      active = λ e. (e, refl);
+      taken = λ _. (refl, omega arith);
+    } in
+    let well' : IsWellFormed new = record {
+      phase = well.phase;
+      early = not_early s may.0;
+      iss = well.iss;
+      una_low = well.una_low;
+      una_high = well.una_high;
+      short = well.short;
+      irs = well.irs;
+    } in (
+      Half-own s new grows t half well' half.step half.listener (λ sent. sent),
+      Half-other s new grows t back
+          (subst (λ (bytes : List ℕ). Begins bytes t.written) (sym longer) (Begins-append (taken_in s) (front map) t.written back.received (Begins-front map rest agrees)))
+          (subst (λ (ys : List ℕ). AgreesWith (behind map) ys) behind_them (AgreesWith-behind map rest agrees))
+          (λ e. absurd (let clash : false ≡ true = sym may.1 ∙ e in cc)),
+    )
+
+pub keeps_takes_fin : (s t : Side) (x : Segment) → Keeps s t (TakesFin x)
+keeps_takes_fin s t x half back may =
+    let new = after s (TakesFin x) in
+    let well = half.well_formed in
+    let low : 2 ^ 32 ≤ s.irs = fits_at s Synchronized well may.0 in
+    let next = rcv_next-open s may.1 in
+    let ends = complete s t x half back may.1 low may.3 may.4 (fin_of s t x half back may.3 (honest t s x back may.2)) in
+    let grows : Grows s new = record {
+      late = λ late. (late, refl);
+      written = same_bytes s.written;
+      closed = λ e. (e, refl);
+      active = λ e. (e, refl);
+      taken = λ _. (refl, omega arith);
+    } in
+    let well' : IsWellFormed new = record {
+      phase = well.phase;
+      early = not_early s may.0;
+      iss = well.iss;
+      una_low = well.una_low;
+      una_high = well.una_high;
+      short = well.short;
+      irs = well.irs;
+    } in (
+      Half-own s new grows t half well' half.step half.listener (λ sent. sent),
+      Half-other s new grows t back back.received back.held (λ _. ends),
+    )

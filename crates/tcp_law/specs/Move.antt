@@ -1,0 +1,126 @@
+-- The moves of a side: the calls of its user, the segments that it may send, and what it may take from a segment of its partner.
+-- What a move asks for is less than what the rules of a socket ask for: where they say that a socket does so, here it may.
+use Rattle.std.specs.Prelude.{◌≡◌, ℕ, suc, ◌+◌, ◌-◌, ◌^◌, ◌<◌, ◌≤◌, ◌≢◌, Bool, true, false, List, [], ◌∷◌, ◌++◌, length, take, drop, Option, Some, None, slice_get}
+use Rattle.tcp_law.specs.ReceiveMap.{store, front, behind, space}
+use Rattle.tcp_law.specs.Numbers.{wire, IsFirst, IsNear}
+use Rattle.tcp_law.specs.Segment.{Segment, IsData, fin_if}
+use Rattle.tcp_law.specs.Segment.Control.{Plain, Syn, Fin, Rst}
+use Rattle.tcp_law.specs.Side.{Side, rcv_next, send_end, IsConnected, fresh}
+use Rattle.tcp_law.specs.Side.Phase.{Unopened, Listen, SynSent, SynReceived, Synchronized, Ended}
+use Rattle.tcp_law.specs.Side.Opening.{Passive, Active}
+
+pub data Move : Type 0 where
+  -- calls
+  Listens : Move
+  Connects : (iss : ℕ) → Move
+  Writes : (bytes : List ℕ) → Move
+  Reads : (count : ℕ) → Move
+  Closes : Move  -- with bytes or a FIN to send: in SYN-RECEIVED, ESTABLISHED or CLOSE-WAIT
+  -- to CLOSED: at a reset, a timeout, an abort, the end of LAST-ACK or TIME-WAIT, a close in LISTEN or SYN-SENT
+  Ends : Move
+  FallsBack : Move  -- a listener in SYN-RECEIVED, at a reset: to LISTEN, as its listen left it
+  -- segments that it sends
+  SendsSyn : Move
+  SendsSynAck : Move
+  SendsAck : (at : ℕ) → Move
+  SendsData : (at count : ℕ) (fin : Bool) → Move  -- bytes, or the FIN, or both, from any position: SND.NXT, SND.UNA or another
+  SendsKeepAlive : Move
+  SendsReset : (x : Segment) → Move
+  -- what it takes from a segment of its partner
+  TakesSyn : (x : Segment) (iss : ℕ) → Move  -- in LISTEN
+  TakesCrossedSyn : (x : Segment) → Move  -- in SYN-SENT, with no ACK: simultaneous open
+  TakesSynAck : (x : Segment) → Move  -- in SYN-SENT
+  TakesAck : (x : Segment) (at : ℕ) → Move
+  TakesBytes : (x : Segment) (at : ℕ) → Move
+  TakesFin : (x : Segment) → Move
+
+-- a segment that was sent comes; it may come again, later than others, or never
+abbrev pub Comes : Side → Segment → Type 0
+Comes t x = (k : ℕ) × (slice_get t.sent k ≡ Some x)
+
+-- a segment that it may send, from this position on; each but a first SYN has the ACK bit set
+abbrev pub syn : Side → Segment
+syn s = record { control = Syn; seq = wire s.iss; ack = None; bytes = [] }
+
+abbrev pub syn_ack : Side → Segment
+syn_ack s = record { control = Syn; seq = wire s.iss; ack = Some (wire (rcv_next s)); bytes = [] }
+
+abbrev pub bare_ack : Side → ℕ → Segment
+bare_ack s at = record { control = Plain; seq = wire at; ack = Some (wire (rcv_next s)); bytes = [] }
+
+-- at most so many of the written bytes, from this position on
+abbrev pub bytes_from : Side → ℕ → ℕ → List ℕ
+bytes_from s at count = take count (drop (at - suc s.iss) s.written)
+
+abbrev pub data_segment : Side → ℕ → ℕ → Bool → Segment
+data_segment s at count fin =
+    record { control = fin_if fin; seq = wire at; ack = Some (wire (rcv_next s)); bytes = bytes_from s at count }
+
+-- one byte below SND.UNA (RFC 9293, 3.8.4)
+abbrev pub keep_alive : Side → Segment
+keep_alive s = record { control = Plain; seq = wire (s.una - 1); ack = Some (wire (rcv_next s)); bytes = 0 ∷ [] }
+
+-- the bytes of a segment at this position, laid over the receive map; what lies below RCV.NXT is cut off
+abbrev pub laid : Side → ℕ → List ℕ → List (Option ℕ)
+laid s at bytes = store s.window (at - rcv_next s) (drop (rcv_next s - at) bytes)
+
+-- what a move asks for, of side s with partner t
+abbrev pub May : Side → Side → Move → Type 0
+May s t Listens = s.phase ≡ Unopened
+May s t (Connects iss) = (s.phase ≡ Unopened) × IsFirst iss
+May s t (Writes bytes) = (s.phase ≡ Synchronized) × (s.closed ≡ false) × (length (s.written ++ bytes) < 2 ^ 29)
+May s t (Reads count) = Unit {0}
+May s t Closes = IsConnected s.phase
+May s t Ends = s.phase ≢ Unopened
+May s t FallsBack = (s.phase ≡ SynReceived) × (s.opening ≡ Passive)
+May s t SendsSyn = s.phase ≡ SynSent
+May s t SendsSynAck = IsConnected s.phase
+May s t (SendsAck at) = IsConnected s.phase
+May s t (SendsData at count fin) =
+    (s.phase ≡ Synchronized) × (s.iss < at) × (at ≤ suc s.iss + length s.written)
+    × (fin ≡ true → (s.closed ≡ true) × (at + length (bytes_from s at count) ≡ suc s.iss + length s.written))
+May s t SendsKeepAlive = (s.phase ≡ Synchronized) × (s.iss < s.una)
+May s t (SendsReset x) = x.control ≡ Rst
+May s t (TakesSyn x iss) = (s.phase ≡ Listen) × Comes t x × (x.control ≡ Syn) × (x.ack ≡ None) × IsFirst iss
+May s t (TakesCrossedSyn x) = (s.phase ≡ SynSent) × Comes t x × (x.control ≡ Syn) × (x.ack ≡ None)
+May s t (TakesSynAck x) = (s.phase ≡ SynSent) × Comes t x × (x.control ≡ Syn) × (x.ack ≡ Some (wire (suc s.iss)))
+May s t (TakesAck x at) =
+    IsConnected s.phase × Comes t x × (x.control ≢ Rst) × (x.ack ≡ Some (wire at)) × (s.phase ≡ SynReceived → at ≡ suc s.iss) × (s.una ≤ at) × (at ≤ send_end s)
+May s t (TakesBytes x at) =
+    (s.phase ≡ Synchronized) × (s.took_fin ≡ false) × Comes t x × IsData x.control × (x.seq ≡ wire at) × IsNear (rcv_next s) at
+May s t (TakesFin x) =
+    (s.phase ≡ Synchronized) × (s.took_fin ≡ false) × Comes t x × (x.control ≡ Fin) × (wire (x.seq + length x.bytes) ≡ wire (rcv_next s))
+
+abbrev pub sends : Side → Segment → Side
+sends s x = record s { sent = x ∷ s.sent }
+
+-- a side with so much receive space that listens: nothing is left of a connection
+abbrev pub listening : ℕ → Side
+listening capacity = record (fresh capacity) { phase = Listen; opening = Passive }
+
+-- the side after a move
+abbrev pub after : Side → Move → Side
+after s Listens = record s { phase = Listen; opening = Passive }
+after s (Connects iss) = record s { phase = SynSent; opening = Active; iss = iss; una = iss }
+after s (Writes bytes) = record s { written = s.written ++ bytes }
+after s (Reads count) =
+    record s {
+      read = s.read ++ take count s.waiting;
+      waiting = drop count s.waiting;
+      window = s.window ++ space (length (take count s.waiting));
+    }
+after s Closes = record s { phase = Synchronized; closed = true }
+after s Ends = record s { phase = Ended }
+after s FallsBack = record (listening (length s.waiting + length s.window)) { irs = s.irs; sent = s.sent }
+after s SendsSyn = sends s (syn s)
+after s SendsSynAck = sends s (syn_ack s)
+after s (SendsAck at) = sends s (bare_ack s at)
+after s (SendsData at count fin) = sends s (data_segment s at count fin)
+after s SendsKeepAlive = sends s (keep_alive s)
+after s (SendsReset x) = sends s x
+after s (TakesSyn x iss) = record s { phase = SynReceived; irs = 2 ^ 32 + x.seq; iss = iss; una = iss }
+after s (TakesCrossedSyn x) = record s { phase = SynReceived; irs = 2 ^ 32 + x.seq }
+after s (TakesSynAck x) = record s { phase = Synchronized; irs = 2 ^ 32 + x.seq; una = suc s.iss }
+after s (TakesAck x at) = record s { phase = Synchronized; una = at }
+after s (TakesBytes x at) = record s { waiting = s.waiting ++ front (laid s at x.bytes); window = behind (laid s at x.bytes) }
+after s (TakesFin x) = record s { took_fin = true }

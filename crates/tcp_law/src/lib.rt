@@ -1,0 +1,47 @@
+//! The two-socket theorem of TCP, on a pure machine: whatever the network loses, repeats, delays or reorders, two sides keep one
+//! byte stream each way. `specs/` has the machine and its invariant, each function here is a law about them, and docs/TCP.md says
+//! which rule of a socket is which move, and why each move keeps the invariant.
+#![tactic(auto)]
+
+ghost use Rattle.std.specs.Prelude.{ℕ, List, [], false, ◌<◌, ◌≤◌, ◌≡◌, ◌≢◌, ◌+◌, ◌^◌};
+ghost use Rattle.std.specs.List.{AllByRecursion};
+ghost use Rattle.tcp_law.specs.Numbers.{wire, nearest, IsNear};
+ghost use Rattle.tcp_law.specs.Segment.{Segment};
+ghost use Rattle.tcp_law.specs.Segment.Control.{Rst};
+ghost use Rattle.tcp_law.specs.Side.{taken_in, freed, fresh};
+ghost use Rattle.tcp_law.specs.Side.Phase.{Unopened, SynReceived};
+ghost use Rattle.tcp_law.specs.Side.Opening.{Passive};
+ghost use Rattle.tcp_law.specs.Move.{sends, after};
+ghost use Rattle.tcp_law.specs.Move.Move.{Ends, FallsBack};
+ghost use Rattle.tcp_law.specs.Run.{World, Event, MayHappen, happens, IsRun, run, start};
+ghost use Rattle.tcp_law.specs.Safe.{AreSafe};
+ghost use Rattle.tcp_law.specs.Invariant.{Kept};
+
+/// A wire number stands for one position near its reference: a sent position that is near is decoded to itself.
+pub fn numbers_decode()
+    ensures sent { (reference position : ℕ) → 2 ^ 31 ≤ reference → IsNear reference position → nearest reference (wire position) ≡ position }
+    ensures near { (reference number : ℕ) → 2 ^ 31 ≤ reference → IsNear reference (nearest reference number) }
+    ensures number { (reference number : ℕ) → 2 ^ 31 ≤ reference → number < 2 ^ 32 → wire (nearest reference number) ≡ number }
+{}
+
+/// Two fresh sides keep the invariant, each move of either keeps it, and it makes both streams safe.
+pub fn moves_keep_the_invariant()
+    ensures start { (space_a space_b : ℕ) → Kept (start space_a space_b) }
+    ensures each_move { (w : World) (event : Event) → Kept w → MayHappen w event → Kept (happens w event) }
+    ensures safe { (w : World) → Kept w → AreSafe w }
+{}
+
+/// A reset keeps the invariant, whoever sent it, whatever numbers it has, and whenever it is sent or taken.
+pub fn resets_keep_the_invariant()
+    ensures sent_by_a { (w : World) (x : Segment) → x.control ≡ Rst → Kept w → Kept (record w { a = sends w.a x }) }
+    ensures sent_by_b { (w : World) (x : Segment) → x.control ≡ Rst → Kept w → Kept (record w { b = sends w.b x }) }
+    ensures ends_a { (w : World) → w.a.phase ≢ Unopened → Kept w → Kept (record w { a = after w.a Ends }) }
+    ensures ends_b { (w : World) → w.b.phase ≢ Unopened → Kept w → Kept (record w { b = after w.b Ends }) }
+    ensures falls_back_a { (w : World) → w.a.phase ≡ SynReceived → w.a.opening ≡ Passive → Kept w → Kept (record w { a = after w.a FallsBack }) }
+    ensures falls_back_b { (w : World) → w.b.phase ≡ SynReceived → w.b.opening ≡ Passive → Kept w → Kept (record w { b = after w.b FallsBack }) }
+{}
+
+/// The theorem: after each run of two fresh sides both streams are safe.
+pub fn streams_are_safe()
+    ensures { (space_a space_b : ℕ) (events : List Event) → IsRun (start space_a space_b) events → AreSafe (run (start space_a space_b) events) }
+{}
