@@ -1,0 +1,5 @@
+pub mod Fields
+pub mod Sum
+pub mod Address
+pub mod Block
+pub mod Protocol
