@@ -7,7 +7,8 @@ word_sum [] = 0
 word_sum (b ∷ []) = 256 * b
 word_sum (b ∷ c ∷ bytes) = 256 * b + c + word_sum bytes
 
--- the one's complement sum of 16 bits: 0 for a sum of 0, else the member of its class modulo 65535 from 1 to 65535
+-- the one's complement sum of 16 bits: 0 for a sum of 0, else the number from 1 to 65535 that is
+-- congruent to the sum modulo 65535
 abbrev pub folded : ℕ → ℕ
 folded zero = 0
 folded (suc n) = n % 65535 + 1

@@ -2,6 +2,7 @@
 //! every packet format above is made of.
 #![tactic(auto)]
 
+pub mod checksum;
 pub mod ethernet;
 pub mod hardware;
 pub mod ip;
