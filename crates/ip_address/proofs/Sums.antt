@@ -1,0 +1,141 @@
+-- Laws of word sums and of their folding to 16 bits.
+use Rattle.std.proofs.Common.{◌≡◌, ◌≢◌, ℕ, ◌+◌, ◌-◌, ◌*◌, ◌/◌, ◌%◌, ◌^◌, ◌<◌, ◌≤◌, List, [], ◌∷◌, ◌++◌, length, zero, suc, refl, sym, ◌∙◌, ap, arith, ◌↔◌, take, drop, length-append}
+use Rattle.std.proofs.lemmas.List.{take-append-drop}
+use Rattle.std.specs.Int.{w32, w64, from_le_bytes, to_be_bytes}
+use Rattle.ip_address.specs.Pseudo.{pseudo_v6}
+use Rattle.ip_address.specs.Sum.{word_sum, folded, ChecksumHolds}
+use Rattle.ip_address.specs.Fields.{be16, put16}
+use Rattle.ip_address.specs.LowFirst.{low_first}
+
+-- a multiple of 65535 makes no difference to what is not 0
+pub folded-more : (n k m : ℕ) → k ≤ m * n → folded (n + 65535 * k) ≡ folded n
+folded-more zero zero m le = refl
+folded-more zero (suc k) m le = absurd (omega arith)
+folded-more (suc n) k m le = let e : suc n + 65535 * k ≡ suc (n + 65535 * k) = omega arith in rw e (omega arith)
+
+-- a part of a sum may be folded before it is added
+pub folded-folded : (a c : ℕ) → folded (folded a + c) ≡ folded (a + c)
+folded-folded zero c = refl
+folded-folded (suc n) c =
+    let e : n % 65535 + 1 + c ≡ suc (n % 65535 + c) = omega arith in
+    let f : suc n + c ≡ suc (n + c) = omega arith in
+    rw (e, f) (omega arith)
+
+-- sums whose parts fold alike fold alike
+pub folded-alike : (a b c : ℕ) → folded a ≡ folded b → folded (a + c) ≡ folded (b + c)
+folded-alike a b c same = sym (folded-folded a c) ∙ ap (λ x. folded (x + c)) same ∙ folded-folded b c
+
+-- low bytes first, times 256, folds as the words do
+pub folded-low_first : (bytes : List ℕ) → folded (256 * low_first bytes) ≡ folded (word_sum bytes)
+folded-low_first [] = refl
+folded-low_first (b ∷ []) = ap folded (omega arith)
+folded-low_first (b ∷ c ∷ bytes) =
+    let whole : 256 * (b + 256 * (c + 256 * low_first bytes)) ≡ (256 * low_first bytes + (256 * b + c)) + 65535 * (c + 256 * low_first bytes) = omega arith in
+    let turned : word_sum bytes + (256 * b + c) ≡ 256 * b + c + word_sum bytes = omega arith in
+    ap folded whole
+    ∙ folded-more (256 * low_first bytes + (256 * b + c)) (c + 256 * low_first bytes) 1 (omega arith)
+    ∙ folded-alike (256 * low_first bytes) (word_sum bytes) (256 * b + c) (folded-low_first bytes)
+    ∙ ap folded turned
+
+-- the word sum of joined strings, the first of even length
+pub word_sum-append : (front back : List ℕ) → length front % 2 ≡ 0 → word_sum (front ++ back) ≡ word_sum front + word_sum back
+word_sum-append [] back even = omega arith
+word_sum-append (b ∷ []) back even = absurd (omega arith)
+word_sum-append (b ∷ c ∷ front) back even =
+    let rest : word_sum (front ++ back) ≡ word_sum front + word_sum back = word_sum-append front back (omega arith) in
+    omega arith
+
+-- eight bytes as the number that they make with the least significant first
+pub from_le_bytes-low_first : (bytes : List ℕ) → length bytes ≡ 8 → from_le_bytes w64 bytes ≡ low_first bytes
+from_le_bytes-low_first (a ∷ b ∷ c ∷ d ∷ e ∷ f ∷ g ∷ h ∷ []) len = omega arith
+from_le_bytes-low_first _ len = absurd (omega arith)
+
+-- a step of the sum over the first eight bytes of the rest
+pub low_first-step : (total x : ℕ) (front rest tail : List ℕ) (all : ℕ) → x ≡ from_le_bytes w64 front → front ≡ take 8 rest → tail ≡ drop 8 rest → length tail + 8 ≡ length rest
+    → folded (256 * total + word_sum rest) ≡ all → folded (256 * (total + x) + word_sum tail) ≡ all
+low_first-step total x front rest tail all is first last len before =
+    let joined : front ++ tail ≡ rest = rw (first, last) (take-append-drop 8 rest) in
+    let eight : length front ≡ 8 = let e : length (front ++ tail) ≡ length rest = ap length joined in omega (arith, length-append front tail) in
+    let number : x ≡ low_first front = is ∙ from_le_bytes-low_first front eight in
+    let split : word_sum (front ++ tail) ≡ word_sum front + word_sum tail = word_sum-append front tail (rw eight refl) in
+    let sums : word_sum rest ≡ word_sum front + word_sum tail = sym (ap word_sum joined) ∙ split in
+    let left : 256 * (total + x) + word_sum tail ≡ 256 * low_first front + (256 * total + word_sum tail) = omega arith in
+    let right : word_sum front + (256 * total + word_sum tail) ≡ 256 * total + word_sum rest = omega arith in
+    ap folded left
+    ∙ folded-alike (256 * low_first front) (word_sum front) (256 * total + word_sum tail) (folded-low_first front)
+    ∙ ap folded right ∙ before
+
+-- the last step, over fewer than eight bytes
+pub low_first-last : (total x : ℕ) (rest : List ℕ) (all : ℕ) → x ≡ low_first rest
+    → folded (256 * total + word_sum rest) ≡ all → folded (256 * (total + x)) ≡ all
+low_first-last total x rest all is before =
+    let left : 256 * (total + x) ≡ 256 * low_first rest + 256 * total = omega arith in
+    let right : word_sum rest + 256 * total ≡ 256 * total + word_sum rest = omega arith in
+    ap folded left ∙ folded-alike (256 * low_first rest) (word_sum rest) (256 * total) (folded-low_first rest)
+    ∙ ap folded right ∙ before
+
+-- two sums that fold alike stay alike beside others that do
+pub folded-both : (a b c d : ℕ) → folded a ≡ folded b → folded c ≡ folded d → folded (a + c) ≡ folded (b + d)
+folded-both a b c d first second =
+    let turned : a + c ≡ c + a = omega arith in
+    let back : d + a ≡ a + d = omega arith in
+    ap folded turned ∙ folded-alike c d a second ∙ ap folded back ∙ folded-alike a b d first
+
+-- a sum that folds to 65535 is a positive multiple of 65535, and only such a sum does
+pub ChecksumHolds-folded : (n : ℕ) → (folded n ≡ 65535) ↔ ChecksumHolds n
+ChecksumHolds-folded zero = (λ e. absurd (omega arith), λ h. absurd (let pos : 0 < h.0 = h.1 in let is : 0 ≡ 65535 * h.0 = h.2 in omega arith))
+ChecksumHolds-folded (suc n) = (
+  λ e. (n / 65535 + 1, omega arith, omega arith),
+  λ h. let k : ℕ = h.0 in let pos : 0 < k = h.1 in let is : suc n ≡ 65535 * k = h.2 in omega arith,
+)
+
+-- two bytes at an even place replaced
+pub word_sum-put16 : (bytes : List ℕ) (i n : ℕ) → i % 2 ≡ 0 → i + 2 ≤ length bytes → n < 65536 → word_sum (put16 bytes i n) + be16 bytes i ≡ word_sum bytes + n
+word_sum-put16 [] i n even within small = absurd (omega arith)
+word_sum-put16 (b ∷ []) i n even within small = absurd (omega arith)
+word_sum-put16 (b ∷ c ∷ bytes) zero n even within small = omega arith
+word_sum-put16 (b ∷ c ∷ bytes) (suc zero) n even within small = absurd (omega arith)
+word_sum-put16 (b ∷ c ∷ bytes) (suc (suc i)) n even within small =
+    let rest : word_sum (put16 bytes i n) + be16 bytes i ≡ word_sum bytes + n = word_sum-put16 bytes i n (omega arith) (omega arith) small in
+    let next : suc (suc i) + 1 ≡ suc (suc (i + 1)) = omega arith in
+    rw next (omega (arith, rest))
+
+-- the words of the pseudo header over IPv6
+pub word_sum-pseudo_v6 : (source destination : List ℕ) (protocol len : ℕ) → length source ≡ 16 → length destination ≡ 16 → len < 2 ^ 32
+    → word_sum (pseudo_v6 source destination protocol len) ≡ word_sum source + word_sum destination + (len / 65536 + len % 65536) + protocol
+word_sum-pseudo_v6 source destination protocol len s d fits =
+    let rest : word_sum (to_be_bytes w32 len ++ 0 ∷ 0 ∷ 0 ∷ protocol ∷ []) ≡ len / 65536 + len % 65536 + protocol = omega arith in
+    rw (
+      word_sum-append source (destination ++ (to_be_bytes w32 len ++ 0 ∷ 0 ∷ 0 ∷ protocol ∷ [])) (rw s refl),
+      word_sum-append destination (to_be_bytes w32 len ++ 0 ∷ 0 ∷ 0 ∷ protocol ∷ []) (rw d refl),
+    )
+    (omega (arith, rest))
+
+-- the sum of joined strings is the combination of their sums
+pub folded-append : (front back : List ℕ) → length front % 2 ≡ 0 → folded (word_sum (front ++ back)) ≡ folded (folded (word_sum front) + folded (word_sum back))
+folded-append front back even =
+    let turned : word_sum front + folded (word_sum back) ≡ folded (word_sum back) + word_sum front = omega arith in
+    let back' : word_sum back + word_sum front ≡ word_sum front + word_sum back = omega arith in
+    ap folded (word_sum-append front back even)
+    ∙ sym (folded-folded (word_sum front) (folded (word_sum back)) ∙ ap folded turned
+    ∙ folded-folded (word_sum back) (word_sum front) ∙ ap folded back')
+
+-- the complement of the folded sum makes a checksum that holds
+pub ChecksumHolds-complement : (n : ℕ) → ChecksumHolds (n + (65535 - folded n))
+ChecksumHolds-complement zero = (1, omega arith, refl)
+ChecksumHolds-complement (suc n) = (n / 65535 + 1, omega arith, omega arith)
+
+-- two numbers that differ by a multiple of 65535 are congruent
+classes : (a b k j : ℕ) → 65535 * j + a ≡ 65535 * k + b → a % 65535 ≢ b % 65535 → ⊥
+classes a b k j same other = omega arith
+
+-- a checksum that holds fails once one aligned word is changed to a number that is not congruent to it
+pub ChecksumHolds-put16 : (covered : ℕ) (bytes : List ℕ) (i n : ℕ) → i % 2 ≡ 0 → i + 2 ≤ length bytes → n < 65536 → be16 bytes i % 65535 ≢ n % 65535
+    → ChecksumHolds (covered + word_sum bytes) → ChecksumHolds (covered + word_sum (put16 bytes i n)) → ⊥
+ChecksumHolds-put16 covered bytes i n even within small other before after =
+    let moved : word_sum (put16 bytes i n) + be16 bytes i ≡ word_sum bytes + n = word_sum-put16 bytes i n even within small in
+    let k : ℕ = before.0 in
+    let j : ℕ = after.0 in
+    let first : covered + word_sum bytes ≡ 65535 * k = before.2 in
+    let second : covered + word_sum (put16 bytes i n) ≡ 65535 * j = after.2 in
+    classes (be16 bytes i) n k j (omega arith) other

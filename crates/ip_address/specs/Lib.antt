@@ -1,0 +1,7 @@
+pub mod Fields
+pub mod Sum
+pub mod LowFirst
+pub mod Address
+pub mod Block
+pub mod Protocol
+pub mod Pseudo

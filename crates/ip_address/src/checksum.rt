@@ -1,0 +1,232 @@
+//! The Internet checksum (RFC 1071). A checksum field holds the complement of the one's complement
+//! sum of all 16-bit words that it covers, so a receiver's sum over all of them is `0xffff`.
+ghost use Rattle.std.specs.Prelude.{◌≡◌, ◌≢◌, ◌↔◌, ℕ, ◌+◌, ◌-◌, ◌*◌, ◌%◌, ◌^◌, ◌<◌, ◌≤◌, List, ◌++◌, length, sum};
+ghost use Rattle.ip_address.specs.Address.{version_of};
+ghost use Rattle.ip_address.specs.Fields.{be16, put16};
+ghost use Rattle.ip_address.specs.LowFirst.{low_first};
+ghost use Rattle.ip_address.specs.Protocol.{protocol_number};
+ghost use Rattle.ip_address.specs.Pseudo.{FitsPseudo, pseudo_of, pseudo_v4, pseudo_v6};
+ghost use Rattle.ip_address.specs.Sum.{word_sum, folded, ChecksumHolds};
+
+use crate::ip::{IpAddress, IpProtocol};
+use crate::ipv4::Ipv4Address;
+use crate::ipv6::Ipv6Address;
+use crate::network_order::read_u16;
+
+/// The one's complement sum of the 16-bit words of the bytes, not complemented. An odd last byte
+/// is the high byte of a word.
+pub fn data(bytes: &[u8]) -> u16
+    ensures { result ≡ folded (word_sum bytes.now) }
+{
+    fold(sum_low_first(bytes)).swap_bytes()
+}
+
+/// The one's complement sum of sums, as those of the parts of what one checksum covers.
+pub fn combine(checksums: &[u16]) -> u16
+    ensures { result ≡ folded (sum checksums.now) }
+{
+    let mut total: u128 = 0;
+    for checksum in checksums {
+        total += *checksum as u128;
+    }
+    fold(total)
+}
+
+/// The sum of the pseudo header over IPv4: both addresses, the protocol and the length of what
+/// follows.
+pub fn pseudo_header_v4(
+    source: &Ipv4Address,
+    destination: &Ipv4Address,
+    protocol: IpProtocol,
+    length: u32,
+) -> u16
+    requires { length < 2 ^ 16 }
+    ensures { result ≡ folded (word_sum (pseudo_v4 source.now.0 destination.now.0 (protocol_number protocol) length)) }
+{
+    fold((words_v4(source) + words_v4(destination) + u8::from(protocol) as u32 + length) as u128)
+}
+
+/// The sum of the pseudo header over IPv6.
+pub fn pseudo_header_v6(
+    source: &Ipv6Address,
+    destination: &Ipv6Address,
+    protocol: IpProtocol,
+    length: u32,
+) -> u16
+    ensures { result ≡ folded (word_sum (pseudo_v6 source.now.0 destination.now.0 (protocol_number protocol) length)) }
+{
+    let length_words = length / 65536 + length % 65536;
+    fold(
+        (words_v6(source)
+            + words_v6(destination)
+            + length_words
+            + u8::from(protocol) as u32) as u128,
+    )
+}
+
+/// The sum of the pseudo header over the family of both addresses.
+pub fn pseudo_header(
+    source: &IpAddress,
+    destination: &IpAddress,
+    protocol: IpProtocol,
+    length: u32,
+) -> u16
+    requires family { version_of source.now ≡ version_of destination.now }
+    requires fits { FitsPseudo source.now length }
+    ensures { result ≡ folded (word_sum (pseudo_of source.now destination.now (protocol_number protocol) length)) }
+{
+    match (source, destination) {
+        (IpAddress::Ipv4(source), IpAddress::Ipv4(destination)) => pseudo_header_v4(
+            source,
+            destination,
+            protocol,
+            length,
+        ),
+        (IpAddress::Ipv6(source), IpAddress::Ipv6(destination)) => pseudo_header_v6(
+            source,
+            destination,
+            protocol,
+            length,
+        ),
+        _ => unreachable!(),
+    }
+}
+
+/// The sum of the address's two words.
+fn words_v4(address: &Ipv4Address) -> u32
+    ensures same { result ≡ word_sum address.now.0 }
+    ensures room { result < 2 ^ 20 }
+{
+    let [a, b, c, d] = address.0;
+    u16::from_be_bytes([a, b]) as u32 + u16::from_be_bytes([c, d]) as u32
+}
+
+/// The sum of the address's eight words.
+fn words_v6(address: &Ipv6Address) -> u32
+    ensures same { result ≡ word_sum address.now.0 }
+    ensures room { result < 2 ^ 20 }
+{
+    let (front, back) = address.0.split_at(8);
+    words_of_eight(front) + words_of_eight(back)
+}
+
+/// The sum of the four words of eight bytes.
+fn words_of_eight(bytes: &[u8]) -> u32
+    requires { length bytes.now ≡ 8 }
+    ensures same { result ≡ word_sum bytes.now }
+    ensures room { result < 2 ^ 19 }
+{
+    read_u16(bytes, 0) as u32
+        + read_u16(bytes, 2) as u32
+        + read_u16(bytes, 4) as u32
+        + read_u16(bytes, 6) as u32
+}
+
+/// The sum of the words with their bytes exchanged, which saves exchanging them in each word: since
+/// 65536 is 1 modulo 65535, it is enough to exchange the bytes of the folded sum.
+fn sum_low_first(bytes: &[u8]) -> u128
+    ensures { folded (256 * result) ≡ folded (word_sum bytes.now) }
+{
+    let mut total: u128 = 0;
+    let mut rest = bytes;
+    while let Some((front, tail)) = rest.split_first_chunk::<8>() {
+        total += u64::from_le_bytes(*front) as u128;
+        rest = tail;
+    }
+    total + low_first_number(rest) as u128
+}
+
+/// The number of fewer than eight bytes, the least significant first.
+fn low_first_number(bytes: &[u8]) -> u64
+    requires { length bytes.now < 8 }
+    ensures { result ≡ low_first bytes.now }
+{
+    match bytes {
+        [] => 0,
+        [a] => *a as u64,
+        [a, b] => u16::from_le_bytes([*a, *b]) as u64,
+        [a, b, c] => u32::from_le_bytes([*a, *b, *c, 0]) as u64,
+        [a, b, c, d] => u32::from_le_bytes([*a, *b, *c, *d]) as u64,
+        [a, b, c, d, e] => u64::from_le_bytes([*a, *b, *c, *d, *e, 0, 0, 0]),
+        [a, b, c, d, e, f] => u64::from_le_bytes([*a, *b, *c, *d, *e, *f, 0, 0]),
+        [a, b, c, d, e, f, g] => u64::from_le_bytes([*a, *b, *c, *d, *e, *f, *g, 0]),
+        _ => unreachable!(),
+    }
+}
+
+/// The sum brought to 16 bits.
+const fn fold(total: u128) -> u16
+    ensures { result ≡ folded total }
+{
+    if total == 0 {
+        0
+    } else {
+        ((total - 1) % 65535 + 1) as u16
+    }
+}
+
+/// Law: the sum of joined strings is the combination of their sums, where the first has an even
+/// length.
+pub fn joined()
+    ensures words { (front back : List ℕ) → length front % 2 ≡ 0 → word_sum (front ++ back) ≡ word_sum front + word_sum back }
+    ensures sums { (front back : List ℕ) → length front % 2 ≡ 0 → folded (word_sum (front ++ back)) ≡ folded (folded (word_sum front) + folded (word_sum back)) }
+{}
+
+/// Law: a checksum holds exactly where the sum of all that it covers is `0xffff`.
+pub fn holds_at_all_ones()
+    ensures { (sum : ℕ) → (folded sum ≡ 65535) ↔ ChecksumHolds sum }
+{}
+
+/// Law: with the complement of the sum of all else in its field a checksum holds.
+pub fn complement_holds()
+    ensures { (sum : ℕ) → ChecksumHolds (sum + (65535 - folded sum)) }
+{}
+
+/// Law: a checksum that holds fails once one aligned word that it covers is replaced by a number
+/// that is not congruent to it modulo 65535. `covered` is the sum of what else it covers.
+pub fn changed_word_fails()
+    ensures { (covered : ℕ) (bytes : List ℕ) (i n : ℕ) → i % 2 ≡ 0 → i + 2 ≤ length bytes → n < 2 ^ 16 → be16 bytes i % 65535 ≢ n % 65535 → ChecksumHolds (covered + word_sum bytes) → ¬ (ChecksumHolds (covered + word_sum (put16 bytes i n))) }
+{}
+
+#[cfg(test)]
+mod tests {
+    use super::*;
+
+    // RFC 1071, section 3: the sum of these bytes is 2ddf0, which folds to ddf2.
+    #[test]
+    fn sums_the_example(rt: HostRuntime) {
+        let bytes = [0x00, 0x01, 0xf2, 0x03, 0xf4, 0xf5, 0xf6, 0xf7];
+        assert_eq!(rt; data(&bytes), 0xddf2);
+        assert_eq!(rt; data(&bytes[..7]), 0xdcfb);
+        assert_eq!(rt; data(&[]), 0);
+        assert_eq!(rt; data(&[0xff; 64]), 0xffff);
+        assert_eq!(rt; combine(&[data(&bytes[..2]), data(&bytes[2..])]), 0xddf2);
+        joined();
+        holds_at_all_ones();
+        complement_holds();
+        changed_word_fails();
+    }
+
+    // A TCP segment from 192.168.1.1 to 192.168.1.2 and an ICMPv6 message from fd00::2 to
+    // ff02::1:ff00:1, whose checksums hold.
+    #[test]
+    fn holds_over_packets(rt: HostRuntime) {
+        let segment = [
+            0xbf, 0x00, 0x00, 0x50, 0x01, 0x23, 0x45, 0x67, 0x00, 0x00, 0x00, 0x00, 0x50, 0x02,
+            0x01, 0x23, 0x7a, 0x8d, 0x00, 0x00, 0xaa, 0x00, 0x00, 0xff,
+        ];
+        let source = IpAddress::v4(192, 168, 1, 1);
+        let destination = IpAddress::v4(192, 168, 1, 2);
+        let header = pseudo_header(&source, &destination, IpProtocol::Tcp, 24);
+        assert_eq!(rt; combine(&[header, data(&segment)]), 0xffff);
+
+        let message = [
+            0x87, 0x00, 0x7d, 0x97, 0, 0, 0, 0, 0xfd, 0, 0, 0, 0, 0, 0, 0, 0, 0, 0, 0, 0, 0, 0, 1,
+            0x01, 0x01, 0x02, 0, 0, 0, 0, 0x02,
+        ];
+        let source = IpAddress::v6(0xfd00, 0, 0, 0, 0, 0, 0, 2);
+        let destination = IpAddress::v6(0xff02, 0, 0, 0, 0, 1, 0xff00, 1);
+        let header = pseudo_header(&source, &destination, IpProtocol::Icmpv6, 32);
+        assert_eq!(rt; combine(&[header, data(&message)]), 0xffff);
+    }
+}

@@ -1,0 +1,66 @@
+//! Ethernet addresses and the numbers of what a frame carries.
+ghost use Rattle.std.specs.Prelude.{◌≡◌, length};
+ghost use Rattle.ip_address.specs.Protocol.{ether_number, ether_of};
+
+/// A six-byte Ethernet address, in the order in which its bytes are sent.
+#[derive(Clone, Copy, Debug, PartialEq, Eq, PartialOrd, Ord, Hash)]
+pub struct EthernetAddress(pub [u8; 6]);
+
+impl EthernetAddress {
+    /// The address of all stations.
+    pub const BROADCAST: EthernetAddress = EthernetAddress([0xff; 6]);
+
+    /// The address of the six bytes.
+    pub fn from_bytes(bytes: &[u8]) -> EthernetAddress
+        requires { length bytes.now ≡ 6 }
+        ensures { result.0 ≡ bytes.now }
+    {
+        let mut octets = [0; 6];
+        octets.copy_from_slice(bytes);
+        EthernetAddress(octets)
+    }
+
+    /// The bytes of the address.
+    pub const fn as_bytes(&self) -> &[u8]
+        ensures { result.now ≡ self.now.0 }
+    {
+        &self.0
+    }
+}
+
+/// What an Ethernet frame carries, by its number in the frame's header.
+#[derive(Clone, Copy, Debug, PartialEq, Eq, PartialOrd, Ord, Hash)]
+pub enum EthernetProtocol {
+    Ipv4,
+    Arp,
+    Ipv6,
+    /// Any other number. A known one here stands for the same protocol as its own variant, and
+    /// is not equal to it.
+    Unknown(u16),
+}
+
+impl From<u16> for EthernetProtocol {
+    ghost from_gives = { λ n protocol. protocol ≡ ether_of n };
+
+    fn from(value: u16) -> EthernetProtocol {
+        match value {
+            0x0800 => EthernetProtocol::Ipv4,
+            0x0806 => EthernetProtocol::Arp,
+            0x86dd => EthernetProtocol::Ipv6,
+            other => EthernetProtocol::Unknown(other),
+        }
+    }
+}
+
+impl From<EthernetProtocol> for u16 {
+    ghost from_gives = { λ protocol n. n ≡ ether_number protocol };
+
+    fn from(value: EthernetProtocol) -> u16 {
+        match value {
+            EthernetProtocol::Ipv4 => 0x0800,
+            EthernetProtocol::Arp => 0x0806,
+            EthernetProtocol::Ipv6 => 0x86dd,
+            EthernetProtocol::Unknown(other) => other,
+        }
+    }
+}

@@ -1,0 +1,266 @@
+//! What holds for both families: versions, protocol numbers, addresses, blocks and endpoints.
+ghost use Rattle.std.specs.Prelude.{◌≡◌, ◌≢◌, ◌↔◌, ◌≤◌, ◌∷◌, [], IsTrue, Some, None};
+ghost use Rattle.std.specs.Net.Addr.{octets_of};
+ghost use Rattle.ip_address.specs.declared.ip.IpAddress.TheVariants as Address;
+ghost use Rattle.ip_address.specs.declared.ip.IpCidr.TheVariants as Block;
+ghost use Rattle.ip_address.specs.Address.{version_of};
+ghost use Rattle.ip_address.specs.Block.{width_of, block_address, block_prefix_len};
+ghost use Rattle.ip_address.specs.Protocol.{protocol_number, protocol_of};
+
+use crate::ipv4::{Ipv4Address, Ipv4Cidr};
+use crate::ipv6::{Ipv6Address, Ipv6Cidr};
+
+/// The family of an address or a packet.
+#[derive(Clone, Copy, Debug, PartialEq, Eq, PartialOrd, Ord, Hash)]
+pub enum IpVersion {
+    Ipv4,
+    Ipv6,
+}
+
+/// What an IP packet carries, by its number in the header.
+#[derive(Clone, Copy, Debug, PartialEq, Eq, PartialOrd, Ord, Hash)]
+pub enum IpProtocol {
+    HopByHop,
+    Icmp,
+    Igmp,
+    Tcp,
+    Udp,
+    Ipv6Route,
+    Ipv6Frag,
+    IpSecEsp,
+    IpSecAh,
+    Icmpv6,
+    Ipv6NoNxt,
+    Ipv6Opts,
+    /// Any other number. A known one here stands for the same protocol as its own variant, and
+    /// is not equal to it.
+    Unknown(u8),
+}
+
+impl From<u8> for IpProtocol {
+    ghost from_gives = { λ n protocol. protocol ≡ protocol_of n };
+
+    fn from(value: u8) -> IpProtocol {
+        match value {
+            0x00 => IpProtocol::HopByHop,
+            0x01 => IpProtocol::Icmp,
+            0x02 => IpProtocol::Igmp,
+            0x06 => IpProtocol::Tcp,
+            0x11 => IpProtocol::Udp,
+            0x2b => IpProtocol::Ipv6Route,
+            0x2c => IpProtocol::Ipv6Frag,
+            0x32 => IpProtocol::IpSecEsp,
+            0x33 => IpProtocol::IpSecAh,
+            0x3a => IpProtocol::Icmpv6,
+            0x3b => IpProtocol::Ipv6NoNxt,
+            0x3c => IpProtocol::Ipv6Opts,
+            other => IpProtocol::Unknown(other),
+        }
+    }
+}
+
+impl From<IpProtocol> for u8 {
+    ghost from_gives = { λ protocol n. n ≡ protocol_number protocol };
+
+    fn from(value: IpProtocol) -> u8 {
+        match value {
+            IpProtocol::HopByHop => 0x00,
+            IpProtocol::Icmp => 0x01,
+            IpProtocol::Igmp => 0x02,
+            IpProtocol::Tcp => 0x06,
+            IpProtocol::Udp => 0x11,
+            IpProtocol::Ipv6Route => 0x2b,
+            IpProtocol::Ipv6Frag => 0x2c,
+            IpProtocol::IpSecEsp => 0x32,
+            IpProtocol::IpSecAh => 0x33,
+            IpProtocol::Icmpv6 => 0x3a,
+            IpProtocol::Ipv6NoNxt => 0x3b,
+            IpProtocol::Ipv6Opts => 0x3c,
+            IpProtocol::Unknown(other) => other,
+        }
+    }
+}
+
+/// An address of either family.
+#[derive(Clone, Copy, Debug, PartialEq, Eq, PartialOrd, Ord, Hash)]
+pub enum IpAddress {
+    Ipv4(Ipv4Address),
+    Ipv6(Ipv6Address),
+}
+
+impl IpAddress {
+    /// The IPv4 address `a.b.c.d`.
+    pub const fn v4(a: u8, b: u8, c: u8, d: u8) -> IpAddress
+        ensures { result ≡ IpAddress.Ipv4 (record { 0 = a ∷ b ∷ c ∷ d ∷ [] }) }
+    {
+        IpAddress::Ipv4(Ipv4Address::new(a, b, c, d))
+    }
+
+    /// The IPv6 address `a:b:c:d:e:f:g:h`.
+    pub fn v6(a: u16, b: u16, c: u16, d: u16, e: u16, f: u16, g: u16, h: u16) -> IpAddress
+        ensures { result ≡ IpAddress.Ipv6 (record { 0 = octets_of (a ∷ b ∷ c ∷ d ∷ e ∷ f ∷ g ∷ h ∷ []) }) }
+    {
+        IpAddress::Ipv6(Ipv6Address::new(a, b, c, d, e, f, g, h))
+    }
+
+    /// The family of the address.
+    pub const fn version(&self) -> IpVersion
+        ensures { result ≡ version_of self.now }
+    {
+        match self {
+            IpAddress::Ipv4(_) => IpVersion::Ipv4,
+            IpAddress::Ipv6(_) => IpVersion::Ipv6,
+        }
+    }
+}
+
+impl From<Ipv4Address> for IpAddress {
+    ghost from_gives = { λ a address. address ≡ Address.Ipv4 a };
+
+    fn from(value: Ipv4Address) -> IpAddress {
+        IpAddress::Ipv4(value)
+    }
+}
+
+impl From<Ipv6Address> for IpAddress {
+    ghost from_gives = { λ a address. address ≡ Address.Ipv6 a };
+
+    fn from(value: Ipv6Address) -> IpAddress {
+        IpAddress::Ipv6(value)
+    }
+}
+
+/// A block of addresses of either family.
+#[derive(Clone, Copy, Debug, PartialEq, Eq, PartialOrd, Ord, Hash)]
+pub enum IpCidr {
+    Ipv4(Ipv4Cidr),
+    Ipv6(Ipv6Cidr),
+}
+
+impl IpCidr {
+    /// The block of the addresses of the family that begin with the first `prefix_len` bits of
+    /// `address`.
+    pub const fn new(address: IpAddress, prefix_len: u8) -> IpCidr
+        requires { prefix_len ≤ width_of address }
+        ensures address { block_address result ≡ address }
+        ensures prefix_len { block_prefix_len result ≡ prefix_len }
+    {
+        match address {
+            IpAddress::Ipv4(address) => IpCidr::Ipv4(Ipv4Cidr::new(address, prefix_len)),
+            IpAddress::Ipv6(address) => IpCidr::Ipv6(Ipv6Cidr::new(address, prefix_len)),
+        }
+    }
+
+    /// The address that the block was made with, its host bits too.
+    pub const fn address(&self) -> IpAddress
+        ensures { result ≡ block_address self.now }
+    {
+        match self {
+            IpCidr::Ipv4(block) => IpAddress::Ipv4(block.address),
+            IpCidr::Ipv6(block) => IpAddress::Ipv6(block.address),
+        }
+    }
+
+    /// How many first bits the addresses of the block have in common.
+    pub const fn prefix_len(&self) -> u8
+        ensures value { result ≡ block_prefix_len self.now }
+        ensures in_range { result ≤ width_of (block_address self.now) }
+    {
+        match self {
+            IpCidr::Ipv4(block) => block.prefix_len,
+            IpCidr::Ipv6(block) => block.prefix_len,
+        }
+    }
+}
+
+impl From<Ipv4Cidr> for IpCidr {
+    ghost from_gives = { λ b block. block ≡ Block.Ipv4 b };
+
+    fn from(value: Ipv4Cidr) -> IpCidr {
+        IpCidr::Ipv4(value)
+    }
+}
+
+impl From<Ipv6Cidr> for IpCidr {
+    ghost from_gives = { λ b block. block ≡ Block.Ipv6 b };
+
+    fn from(value: Ipv6Cidr) -> IpCidr {
+        IpCidr::Ipv6(value)
+    }
+}
+
+/// Where a datagram or a segment goes to or comes from: an address and a port.
+#[derive(Clone, Copy, Debug, PartialEq, Eq, PartialOrd, Ord, Hash)]
+pub struct IpEndpoint {
+    pub addr: IpAddress,
+    pub port: u16,
+}
+
+impl IpEndpoint {
+    /// The endpoint of this address and port.
+    pub const fn new(addr: IpAddress, port: u16) -> IpEndpoint
+        ensures { result ≡ record { addr = addr; port = port } }
+    {
+        IpEndpoint { addr, port }
+    }
+}
+
+impl From<(IpAddress, u16)> for IpEndpoint {
+    ghost from_gives = { λ pair endpoint. endpoint ≡ record { addr = pair.0; port = pair.1 } };
+
+    fn from(value: (IpAddress, u16)) -> IpEndpoint {
+        IpEndpoint {
+            addr: value.0,
+            port: value.1,
+        }
+    }
+}
+
+/// Where a socket waits: a port, on one address of its own or on all of them.
+#[derive(Clone, Copy, Debug, Default, PartialEq, Eq, PartialOrd, Ord, Hash)]
+pub struct IpListenEndpoint {
+    pub addr: Option<IpAddress>,
+    pub port: u16,
+}
+
+impl IpListenEndpoint {
+    /// Whether a port is named. Port 0 names none.
+    pub const fn is_specified(&self) -> bool
+        ensures { IsTrue result ↔ (self.now.port ≢ 0) }
+    {
+        self.port != 0
+    }
+}
+
+impl From<u16> for IpListenEndpoint {
+    ghost from_gives = { λ port endpoint. endpoint ≡ record { addr = None; port = port } };
+
+    fn from(value: u16) -> IpListenEndpoint {
+        IpListenEndpoint {
+            addr: None,
+            port: value,
+        }
+    }
+}
+
+impl From<(IpAddress, u16)> for IpListenEndpoint {
+    ghost from_gives = { λ pair endpoint. endpoint ≡ record { addr = Some pair.0; port = pair.1 } };
+
+    fn from(value: (IpAddress, u16)) -> IpListenEndpoint {
+        IpListenEndpoint {
+            addr: Some(value.0),
+            port: value.1,
+        }
+    }
+}
+
+impl From<IpEndpoint> for IpListenEndpoint {
+    ghost from_gives = { λ e endpoint. endpoint ≡ record { addr = Some e.addr; port = e.port } };
+
+    fn from(value: IpEndpoint) -> IpListenEndpoint {
+        IpListenEndpoint {
+            addr: Some(value.addr),
+            port: value.port,
+        }
+    }
+}
