@@ -1,0 +1,3 @@
+pub mod ManagedSlice
+pub mod Ring
+pub mod RingLends

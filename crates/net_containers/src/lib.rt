@@ -1,0 +1,8 @@
+//! Containers in storage that is handed in: nothing here allocates.
+#![tactic(auto)]
+
+mod managed;
+mod ring_buffer;
+
+pub use managed::ManagedSlice;
+pub use ring_buffer::RingBuffer;

@@ -1,0 +1,174 @@
+//! A ring of elements in storage that is handed in.
+ghost use Rattle.std.specs.Prelude.{◌≡◌, ℕ, ◌+◌, ◌-◌, ◌%◌, ◌≤◌, ◌<◌, ◌↔◌, List, [], ◌∷◌, ◌++◌, length, take, drop, map, min, IsTrue, IsOk, IfOk, OnErr, slice_get, Some};
+ghost use Rattle.net_containers.specs.Ring.{Ring, capacity, ring, cleared, anchored, IsPlaced, until_end, contiguous, unbroken_free, unbroken_queued, overwritten, rewritten, extended, released, enqueued, dequeued, laid_from};
+ghost use Rattle.std.specs.Borrow.{sem};
+
+use crate::managed::ManagedSlice;
+use std::marker::Model;
+
+/// A ring buffer. The elements that are queued lie behind one another from the read place on, and round the end of the
+/// storage; the free ones lie behind them.
+#[derive(Drop)]
+pub struct RingBuffer<T> {
+    storage: Vec<T>,
+    read_at: usize,
+    length: usize,
+}
+
+impl<T> Model for RingBuffer<T> {
+    ghost use Rattle.net_containers.specs.Ring.{Ring, ring_code, ring_in, IsRing};
+
+    ghost Value = { Ring T };
+
+    ghost coded = { ring_code T.code };
+
+    ghost view = { λ r. ring_in r.storage.items r.read_at r.length };
+
+    ghost invariant = { λ r. IsRing r.storage.items r.read_at r.length };
+}
+
+/// The place of the element `offset` behind the place `start`, in a storage of `capacity` elements.
+fn place(start: usize, offset: usize, capacity: usize) -> usize
+    requires { (start ≤ capacity) × (offset ≤ capacity) × (0 < capacity → start < capacity) }
+    ensures place { result ≡ (start + offset) % capacity }
+    ensures within { result ≤ capacity }
+    ensures below { 0 < capacity → result < capacity }
+{
+    let until_end = capacity - start;
+    if offset < until_end {
+        start + offset
+    } else {
+        offset - until_end
+    }
+}
+
+impl<T> RingBuffer<T> {
+    ghost use Rattle.net_containers.specs.RingLends.{LendsFrom, LendsAt, LendsEnqueued, LendsDequeued};
+    ghost use Rattle.net_containers.specs.ManagedSlice.{storage_items};
+
+    /// Makes a ring of the storage, in which nothing is queued.
+    pub fn new(storage: ManagedSlice<T>) -> RingBuffer<T>
+        ensures { result ≡ ring [] (storage_items storage) 0 }
+    {
+        RingBuffer {
+            storage: storage.into_items(),
+            read_at: 0,
+            length: 0,
+        }
+    }
+
+    /// Forgets what is queued, and reads from the storage's first place on.
+    pub fn clear(&mut self)
+        ensures { self.new ≡ cleared self.old }
+    {
+        self.read_at = 0;
+        self.length = 0;
+    }
+
+    /// Returns how many elements the ring holds at most.
+    pub fn capacity(&self) -> usize
+        ensures capacity { result ≡ capacity self.now }
+        ensures placed { IsPlaced self.now }
+    {
+        self.storage.len()
+    }
+
+    /// Returns how many elements are queued.
+    pub fn len(&self) -> usize
+        ensures { result ≡ length self.now.queue }
+    {
+        self.length
+    }
+
+    /// Returns how many elements can still be queued.
+    pub fn window(&self) -> usize
+        ensures { result ≡ length self.now.free }
+    {
+        self.storage.len() - self.length
+    }
+
+    /// Returns how many elements can be queued before the end of the storage. On an empty ring more may fit, since a call
+    /// that queues many then begins at the storage's first place.
+    pub fn contiguous_window(&self) -> usize
+        ensures { result ≡ contiguous self.now }
+    {
+        self.window().min(self.until_end(self.len()))
+    }
+
+    /// Returns whether nothing is queued.
+    pub fn is_empty(&self) -> bool
+        ensures { IsTrue result ↔ (self.now.queue ≡ []) }
+    {
+        self.len() == 0
+    }
+
+    /// Returns whether no more can be queued.
+    pub fn is_full(&self) -> bool
+        ensures { IsTrue result ↔ (self.now.free ≡ []) }
+    {
+        self.window() == 0
+    }
+
+    /// Returns how many elements from `offset` on, counted from the read place, come before the end of the storage.
+    fn until_end(&self, offset: usize) -> usize
+        requires { offset ≤ capacity self.now }
+        ensures until_end { result ≡ until_end self.now offset }
+        ensures placed { IsPlaced self.now }
+    {
+        let capacity = self.storage.len();
+        capacity - place(self.read_at, offset, capacity)
+    }
+
+    /// Lends the elements from `offset` on, counted from the read place.
+    fn part_mut(&mut self, offset: usize, size: usize) -> &mut [T]
+        requires within { offset + size ≤ capacity self.old }
+        requires unbroken { size ≤ until_end self.old offset }
+        ensures* lends { sem 𝓛 (LendsFrom T.row self.entry result self.old offset) }
+        ensures len { length result.now ≡ size }
+        ensures value { result.now ≡ take size (drop offset (self.old.queue ++ self.old.free)) }
+        ensures placed { IsPlaced self.old }
+    {
+        let at = place(self.read_at, offset, self.storage.len());
+        self.storage.slice_mut(at..at + size)
+    }
+
+    /// Lends the element at `offset`, counted from the read place.
+    fn element_mut(&mut self, offset: usize) -> &mut T
+        requires { offset < capacity self.old }
+        ensures* lends { sem 𝓛 (LendsAt T.row self.entry result self.old offset) }
+        ensures value { slice_get (self.old.queue ++ self.old.free) offset ≡ Some result.now }
+        ensures placed { IsPlaced self.old }
+    {
+        let at = place(self.read_at, offset, self.storage.len());
+        &mut self.storage[at]
+    }
+
+    /// Queues the next `count` free elements as they are.
+    pub fn enqueue_unallocated(&mut self, count: usize)
+        requires { count ≤ length self.old.free }
+        ensures { self.new ≡ extended self.old count }
+    {
+        self.length += count;
+    }
+
+    /// Gives up the first `count` queued elements.
+    pub fn dequeue_allocated(&mut self, count: usize)
+        requires { count ≤ length self.old.queue }
+        ensures { self.new ≡ released self.old count }
+    {
+        self.length -= count;
+        self.read_at = place(self.read_at, count, self.storage.len());
+    }
+
+    /// Returns the queued elements from `offset` on, at most `size` and up to the end of the storage.
+    pub fn get_allocated(&self, offset: usize, size: usize) -> &[T]
+        ensures len { length result.now ≡ unbroken_queued self.now offset size }
+        ensures value { result.now ≡ take (unbroken_queued self.now offset size) (drop offset self.now.queue) }
+    {
+        let offset = offset.min(self.length);
+        let capacity = self.storage.len();
+        let at = place(self.read_at, offset, capacity);
+        let size = size.min(self.length - offset).min(capacity - at);
+        &self.storage.as_slice()[at..at + size]
+    }
+}
