@@ -1,7 +1,7 @@
 -- The laws of the host machine (specs/Laws).
-use Rattle.std.proofs.Common.{◌≡◌, ℕ, ◌<◌, ◌^◌, Bool, true, false, cond, List, [], ◌∷◌, length, get_or, ◌⊎◌, inl, inr, refl, sym, ◌∙◌, ap, subst}
-use Rattle.std.specs.Prelude.{nat_le}
-use Rattle.std.proofs.lemmas.Bool.{cases_eq, ne_eqb}
+use Rattle.std.proofs.Common.{◌≡◌, ◌≢◌, ℕ, ◌+◌, ◌<◌, ◌^◌, Bool, true, false, cond, List, [], ◌∷◌, ◌++◌, Some, length, get_or, ◌⊎◌, inl, inr, refl, sym, ◌∙◌, ap, subst}
+use Rattle.std.specs.Prelude.{nat_le, nat_lt}
+use Rattle.std.proofs.lemmas.Bool.{cases_eq, ne_eqb, and_parts, ltb-true}
 use Rattle.std.proofs.lemmas.List.{length-set, get_or-set_same, get_or-set_other}
 use Rattle.lan_machine.specs.declared.event.Side.{Side}
 use Rattle.lan_machine.specs.declared.event.Endpoint.{Endpoint}
@@ -12,9 +12,10 @@ use Rattle.lan_machine.specs.declared.event.Answer.TheVariants.{Done, FromEndpoi
 use Rattle.lan_machine.specs.declared.event.Fault.TheVariants.{Truncated}
 use Rattle.lan_machine.specs.Members.{◌∈◌}
 use Rattle.lan_machine.specs.Values.{DatagramValue, SocketValue, HostValue, no_socket, socket_at}
-use Rattle.lan_machine.specs.Packet.{spelling}
-use Rattle.lan_machine.specs.Machine.{read_answer, bind_after, bind_answer, send_after, recv_after, arrivals, passes_after, with_socket, host_after}
-use Rattle.lan_machine.specs.Laws.{ReadLaw, QueuedLaw, IsAccepted, ReceivedLaw, FramesLaw, IsQueuedFrame, port_after, PortLaw, IsSameHost, SameLaw, IsRemote, IsInRange, IsEventInRange, RangeLaw, IdleLaw}
+use Rattle.lan_machine.specs.Packet.{spelling, packet_of}
+use Rattle.lan_machine.specs.Machine.{fits, packet_from, read_answer, bind_after, bind_answer, send_after, recv_after, arrivals, passes_after, with_socket, host_after}
+use Rattle.lan_machine.proofs.Frames.{padded}
+use Rattle.lan_machine.specs.Laws.{PaddedLaw, SentLaw, ExampleLaw, IsSpellable, ReadLaw, QueuedLaw, IsAccepted, ReceivedLaw, FramesLaw, IsQueuedFrame, port_after, PortLaw, IsSameHost, SameLaw, IsRemote, IsInRange, IsEventInRange, RangeLaw, IdleLaw}
 use Rattle.lan_machine.proofs.Members.{member_of_push, written_or_old}
 use Rattle.lan_machine.proofs.Sockets.{bound_port, bound_queue, bound_received, bound_or_same, send_cases, addressable, sent_port, sent_received, Receives, arrived_at, length-arrivals}
 use Rattle.lan_machine.proofs.Polls.{member_of_rest, Sends, sent_at, passes_from, packet_at, idle_passes, length-passes_after}
@@ -81,6 +82,7 @@ queued_here h side j e taken d member =
           sends = ap (λ (q : DatagramValue). SendTo side j q.remote q.bytes) (sym new);
           done = sent.1;
           bound = (addressable (socket_at h j) e.remote sent.2).0;
+          specified = subst (λ (q : DatagramValue). q.remote.port ≢ 0) (sym new) (addressable (socket_at h j) e.remote sent.2).1;
         })
       ]
     ]
@@ -258,3 +260,38 @@ range_law h event taken range in_range =
 
 pub idle_law : IdleLaw
 idle_law = idle_passes
+
+-- FRAMES AND PACKETS
+
+pub padded_law : PaddedLaw
+padded_law = padded
+
+-- a queued datagram that the device takes can be spelled
+spellable : (h : HostValue) (i : ℕ) (d : DatagramValue) → IsInRange h → d ∈ (socket_at h i).queued → fits h.mtu d ≡ true → IsSpellable (packet_from h.address (socket_at h i) d)
+spellable h i d range member fitting =
+    let remote = (range.sockets i).queued d member in
+    let parts = and_parts (nat_le (28 + length d.bytes) h.mtu) (nat_lt (28 + length d.bytes) (2 ^ 16)) fitting in
+    record {
+      source = range.address;
+      destination = remote.address;
+      source_port = (range.sockets i).port;
+      destination_port = remote.port;
+      specified = remote.specified;
+      short = ltb-true _ _ parts.1;
+    }
+
+pub sent_law : SentLaw
+sent_law h event taken frame range member =
+    let q = frames_law h event taken frame member in
+    record {
+      place = q.place;
+      datagram = q.datagram;
+      queued = q.queued;
+      carries = λ padding. subst (λ (bytes : List ℕ). packet_of (bytes ++ padding) ≡ Some (packet_from h.address (socket_at h q.place) q.datagram)) (sym q.spells)
+          (padded (packet_from h.address (socket_at h q.place) q.datagram) padding (spellable h q.place q.datagram range q.queued q.fitting));
+    }
+
+-- A WORKED EXAMPLE
+
+pub example_law : ExampleLaw
+example_law = record { spelled = refl; padded = refl; changed = refl }

@@ -23,12 +23,13 @@ ReadLaw =
 
 -- QUEUED
 
--- the event is the sending of this datagram from the socket, which is bound, and it is accepted
+-- the event is the sending of this datagram from the socket, which is bound, to a port, and it is accepted
 pub record IsAccepted (h : HostValue) (event : Event) (taken : List (List ℕ)) (i : ℕ) (d : DatagramValue) : Type 0 where
   pub side : Side
   pub sends : event ≡ SendTo side i d.remote d.bytes
   pub done : answer_of h event taken ≡ Done
   pub bound : (socket_at h i).port ≢ 0
+  pub specified : d.remote.port ≢ 0
 
 -- what is queued was queued before, or is accepted now: `queued_law`
 abbrev pub QueuedLaw : Type 0

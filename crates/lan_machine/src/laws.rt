@@ -1,7 +1,7 @@
 //! The laws of the host machine. Each is a function that does nothing, whose clause is the law: its
 //! statement stands in `specs/Laws.antt`, and the lemma that a proof of a crate above applies in
 //! `proofs/MachineLaws.antt`.
-ghost use Rattle.lan_machine.specs.Laws.{ReadLaw, QueuedLaw, ReceivedLaw, FramesLaw, PortLaw, SameLaw, RangeLaw, IdleLaw};
+ghost use Rattle.lan_machine.specs.Laws.{ReadLaw, QueuedLaw, ReceivedLaw, FramesLaw, PortLaw, SameLaw, RangeLaw, IdleLaw, PaddedLaw, SentLaw, ExampleLaw};
 
 /// What a socket reads had been received by it.
 pub fn reads()
@@ -41,4 +41,19 @@ pub fn ranges()
 /// Passes over sockets with nothing to send do nothing.
 pub fn idles()
     ensures { IdleLaw }
+{}
+
+/// A frame that spells a packet carries it, whatever padding is behind it.
+pub fn carries()
+    ensures { PaddedLaw }
+{}
+
+/// Each frame that a host sends carries what one of its sockets had queued.
+pub fn delivers()
+    ensures { SentLaw }
+{}
+
+/// The worked example: a frame, what it carries, and a changed byte.
+pub fn example()
+    ensures { ExampleLaw }
 {}
