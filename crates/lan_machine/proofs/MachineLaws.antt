@@ -1,8 +1,8 @@
 -- The laws of the host machine (specs/Laws).
-use Rattle.std.proofs.Common.{◌≡◌, ◌≢◌, ℕ, ◌+◌, ◌<◌, ◌^◌, Bool, true, false, cond, List, [], ◌∷◌, ◌++◌, Some, length, get_or, ◌⊎◌, inl, inr, refl, sym, ◌∙◌, ap, subst}
+use Rattle.std.proofs.Common.{◌≡◌, ◌≢◌, ℕ, ◌+◌, ◌<◌, ◌≤◌, ◌^◌, Bool, true, false, cond, List, [], ◌∷◌, ◌++◌, Some, length, get_or, ◌⊎◌, inl, inr, refl, sym, ◌∙◌, ap, subst, arith}
 use Rattle.std.specs.Prelude.{nat_le, nat_lt}
-use Rattle.std.proofs.lemmas.Bool.{cases_eq, ne_eqb, and_parts, ltb-true}
-use Rattle.std.proofs.lemmas.List.{length-set, get_or-set_same, get_or-set_other}
+use Rattle.std.proofs.lemmas.Bool.{cases_lt, cases_eq, ne_eqb, and_parts, ltb-true}
+use Rattle.std.proofs.lemmas.List.{get_or_past, length-set, get_or-set_same, get_or-set_other}
 use Rattle.lan_machine.specs.declared.event.Side.{Side}
 use Rattle.lan_machine.specs.declared.event.Endpoint.{Endpoint}
 use Rattle.lan_machine.specs.declared.event.Event.{Event}
@@ -15,7 +15,7 @@ use Rattle.lan_machine.specs.Values.{DatagramValue, SocketValue, HostValue, no_s
 use Rattle.lan_machine.specs.Packet.{spelling, packet_of}
 use Rattle.lan_machine.specs.Machine.{fits, packet_from, read_answer, bind_after, bind_answer, send_after, recv_after, arrivals, passes_after, with_socket, host_after}
 use Rattle.lan_machine.proofs.Frames.{padded}
-use Rattle.lan_machine.specs.Laws.{PaddedLaw, SentLaw, ExampleLaw, IsSpellable, ReadLaw, QueuedLaw, IsAccepted, ReceivedLaw, FramesLaw, IsQueuedFrame, port_after, PortLaw, IsSameHost, SameLaw, IsRemote, IsInRange, IsEventInRange, RangeLaw, IdleLaw}
+use Rattle.lan_machine.specs.Laws.{UnusedLaw, IsSocketInRange, PaddedLaw, SentLaw, ExampleLaw, IsSpellable, ReadLaw, QueuedLaw, IsAccepted, ReceivedLaw, FramesLaw, IsQueuedFrame, port_after, PortLaw, IsSameHost, SameLaw, IsRemote, IsInRange, IsEventInRange, RangeLaw, IdleLaw}
 use Rattle.lan_machine.proofs.Members.{member_of_push, written_or_old}
 use Rattle.lan_machine.proofs.Sockets.{bound_port, bound_queue, bound_received, bound_or_same, send_cases, addressable, sent_port, sent_received, Receives, arrived_at, length-arrivals}
 use Rattle.lan_machine.proofs.Polls.{member_of_rest, Sends, sent_at, passes_from, packet_at, idle_passes, length-passes_after}
@@ -255,6 +255,20 @@ range_law h event taken range in_range =
       address = ap (λ (bytes : List ℕ). length bytes) (same_law h event taken).address ∙ range.address;
       sockets = λ i. record { port = port_range h event taken i range in_range; queued = queue_range h event taken i range in_range };
     }
+
+-- a place where a host has no socket is in range
+range_at : (h : HostValue) (i : ℕ) → (i < length h.sockets) ⊎ (length h.sockets ≤ i) → (i < length h.sockets → (socket_at h i).port ≡ 0) → (i < length h.sockets → (socket_at h i).queued ≡ []) → IsSocketInRange (socket_at h i)
+range_at h i (inl within) unbound empty =
+    record {
+      port = subst (λ (n : ℕ). n < 2 ^ 16) (sym (unbound within)) (omega arith);
+      queued = λ d member. absurd (subst (λ (q : List DatagramValue). d ∈ q) (empty within) member);
+    }
+range_at h i (inr past) unbound empty =
+    subst (λ (s : SocketValue). IsSocketInRange s) (sym (get_or_past h.sockets i no_socket past)) (record { port = omega arith; queued = λ d member. absurd member })
+
+pub unused_law : UnusedLaw
+unused_law h address unbound empty =
+    record { address = address; sockets = λ i. range_at h i (cases_lt i (length h.sockets)) (unbound i) (empty i) }
 
 -- IDLE PASSES
 

@@ -135,6 +135,12 @@ RangeLaw =
     (h : HostValue) (event : Event) (taken : List (List ℕ)) →
     IsInRange h → IsEventInRange event → IsInRange (host_after h event taken)
 
+-- a host whose sockets are all unbound, with nothing queued, is in range: `unused_law`
+abbrev pub UnusedLaw : Type 0
+UnusedLaw =
+    (h : HostValue) → length h.address ≡ 4 → ((i : ℕ) → i < length h.sockets → (socket_at h i).port ≡ 0) →
+    ((i : ℕ) → i < length h.sockets → (socket_at h i).queued ≡ []) → IsInRange h
+
 -- FRAMES AND PACKETS
 
 -- a packet that a frame can spell
