@@ -15,9 +15,9 @@ use Rattle.lan_machine.specs.Values.{DatagramValue, SocketValue, HostValue, no_s
 use Rattle.lan_machine.specs.Packet.{spelling, packet_of}
 use Rattle.lan_machine.specs.Machine.{fits, packet_from, read_answer, bind_after, bind_answer, send_after, recv_after, arrivals, passes_after, with_socket, host_after}
 use Rattle.lan_machine.proofs.Frames.{padded}
-use Rattle.lan_machine.specs.Laws.{UnusedLaw, IsSocketInRange, PaddedLaw, SentLaw, ExampleLaw, IsSpellable, ReadLaw, QueuedLaw, IsAccepted, ReceivedLaw, FramesLaw, IsQueuedFrame, port_after, PortLaw, IsSameHost, SameLaw, IsRemote, IsInRange, IsEventInRange, RangeLaw, IdleLaw}
+use Rattle.lan_machine.specs.Laws.{ArrivalsLaw, UnusedLaw, IsSocketInRange, PaddedLaw, SentLaw, ExampleLaw, IsSpellable, ReadLaw, QueuedLaw, IsAccepted, ReceivedLaw, FramesLaw, IsQueuedFrame, port_after, PortLaw, IsSameHost, SameLaw, IsRemote, IsInRange, IsEventInRange, RangeLaw, IdleLaw}
 use Rattle.lan_machine.proofs.Members.{member_of_push, written_or_old}
-use Rattle.lan_machine.proofs.Sockets.{bound_port, bound_queue, bound_received, bound_or_same, send_cases, addressable, sent_port, sent_received, Receives, arrived_at, length-arrivals}
+use Rattle.lan_machine.proofs.Sockets.{bound_port, bound_queue, bound_received, bound_or_same, send_cases, addressable, sent_port, sent_received, Receives, arrived_at, arrived_queues, length-arrivals}
 use Rattle.lan_machine.proofs.Polls.{member_of_rest, Sends, sent_at, passes_from, packet_at, idle_passes, length-passes_after}
 
 -- READ
@@ -274,6 +274,9 @@ unused_law h address unbound empty =
 
 pub idle_law : IdleLaw
 idle_law = idle_passes
+
+pub arrivals_law : ArrivalsLaw
+arrivals_law = arrived_queues
 
 -- FRAMES AND PACKETS
 

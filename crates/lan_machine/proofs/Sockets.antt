@@ -1,5 +1,6 @@
 -- What a call and an arrival do to the socket at each place.
 use Rattle.std.proofs.Common.{◌≡◌, ◌≢◌, ℕ, zero, suc, Bool, true, false, cond, ◌||◌, ◌==◌, List, [], ◌∷◌, ◌++◌, length, get_or, Option, Some, None, ◌⊎◌, inl, inr, refl, sym, ◌∙◌, ap, subst}
+use Rattle.std.specs.List.{list_any}
 use Rattle.std.specs.Str.{bytes_eq}
 use Rattle.std.proofs.lemmas.Bool.{true≢false, eqb-true, eqb-false, eq-eqb, cases_Bool}
 use Rattle.std.proofs.lemmas.Slice.Eq.{bytes_eq-Decides}
@@ -12,7 +13,7 @@ use Rattle.lan_machine.specs.declared.event.Fault.TheVariants.{Unaddressable, Bu
 use Rattle.lan_machine.specs.Members.{◌∈◌}
 use Rattle.lan_machine.specs.Values.{DatagramValue, SocketValue, is_full, no_socket}
 use Rattle.lan_machine.specs.Packet.{Packet, packet_of}
-use Rattle.lan_machine.specs.Machine.{bind_answer, bind_after, is_unaddressable, send_answer, send_after, take_in, datagram_of, deliver, deliver_if, arrivals}
+use Rattle.lan_machine.specs.Machine.{bind_answer, bind_after, is_unaddressable, send_answer, send_after, take_in, datagram_of, deliver, deliver_if, arrivals, has_queued}
 use Rattle.lan_machine.specs.Laws.{HasArrived, port_after}
 use Rattle.lan_machine.proofs.Members.{member_of_push}
 
@@ -158,3 +159,30 @@ length-deliver_if address (Some p) ss = elim (cases_Bool (bytes_eq p.destination
 pub length-arrivals : (address : List ℕ) (frames : List (List ℕ)) (ss : List SocketValue) → length (arrivals address frames ss) ≡ length ss
 length-arrivals address [] ss = refl
 length-arrivals address (frame ∷ frames) ss = length-arrivals address frames (deliver_if address (packet_of frame) ss) ∙ length-deliver_if address (packet_of frame) ss
+
+-- WHAT IS QUEUED
+
+taken_queue : (s : SocketValue) (d : DatagramValue) → has_queued (take_in s d) ≡ has_queued s
+taken_queue s d =
+    elim (take_in_cases s d) [
+      | inl same ↦ ap (λ (t : SocketValue). has_queued t) same
+      | inr grown ↦ ap (λ (t : SocketValue). has_queued t) grown
+    ]
+
+delivered_queues : (p : Packet) (ss : List SocketValue) → list_any has_queued (deliver p ss) ≡ list_any has_queued ss
+delivered_queues p [] = refl
+delivered_queues p (s ∷ ss) =
+    elim (cases_Bool (s.port == p.destination_port)) [
+      | inl bound ↦ rw bound (ap (λ (b : Bool). b || list_any has_queued ss) (taken_queue s (datagram_of p)))
+      | inr other ↦ rw other (ap (λ (b : Bool). has_queued s || b) (delivered_queues p ss))
+    ]
+
+queues_after : (address : List ℕ) (o : Option Packet) (ss : List SocketValue) → list_any has_queued (deliver_if address o ss) ≡ list_any has_queued ss
+queues_after address None ss = refl
+queues_after address (Some p) ss =
+    elim (cases_Bool (bytes_eq p.destination address)) [ inl own ↦ rw own (delivered_queues p ss) | inr other ↦ rw other refl ]
+
+pub arrived_queues : (address : List ℕ) (frames : List (List ℕ)) (ss : List SocketValue) → list_any has_queued (arrivals address frames ss) ≡ list_any has_queued ss
+arrived_queues address [] ss = refl
+arrived_queues address (frame ∷ frames) ss =
+    arrived_queues address frames (deliver_if address (packet_of frame) ss) ∙ queues_after address (packet_of frame) ss

@@ -11,7 +11,7 @@ use Rattle.lan_machine.specs.declared.event.Answer.TheVariants.{Done, FromEndpoi
 use Rattle.lan_machine.specs.Members.{◌∈◌}
 use Rattle.lan_machine.specs.Values.{DatagramValue, SocketValue, HostValue, no_socket, socket_at}
 use Rattle.lan_machine.specs.Packet.{Packet, packet_of, spelling}
-use Rattle.lan_machine.specs.Machine.{fits, packet_from, datagram_of, has_queued, passes_frames, passes_after, answer_of, host_after, frames_of}
+use Rattle.lan_machine.specs.Machine.{fits, packet_from, datagram_of, has_queued, arrivals, passes_frames, passes_after, answer_of, host_after, frames_of}
 
 -- READ
 
@@ -176,6 +176,12 @@ abbrev pub IdleLaw : Type 0
 IdleLaw =
     (address : List ℕ) (mtu budget : ℕ) (ss : List SocketValue) →
     list_any has_queued ss ≡ false → (passes_frames address mtu budget ss ≡ []) × (passes_after budget ss ≡ ss)
+
+-- an arrival leaves what is queued to be sent, so that the answer of a poll can tell it afterwards: `arrivals_law`
+abbrev pub ArrivalsLaw : Type 0
+ArrivalsLaw =
+    (address : List ℕ) (frames : List (List ℕ)) (ss : List SocketValue) →
+    list_any has_queued (arrivals address frames ss) ≡ list_any has_queued ss
 
 -- A WORKED EXAMPLE
 

@@ -2,7 +2,7 @@
 //! statement stands in `specs/Laws.antt`, and the lemma that a proof of a crate above applies in
 //! `proofs/MachineLaws.antt`.
 ghost use Rattle.std.specs.Prelude.{◌≡◌, ◌<◌, ◌^◌, length};
-ghost use Rattle.lan_machine.specs.Laws.{IsEventInRange, ReadLaw, QueuedLaw, ReceivedLaw, FramesLaw, PortLaw, SameLaw, RangeLaw, UnusedLaw, IdleLaw, PaddedLaw, SentLaw, ExampleLaw};
+ghost use Rattle.lan_machine.specs.Laws.{IsEventInRange, ReadLaw, QueuedLaw, ReceivedLaw, FramesLaw, PortLaw, SameLaw, RangeLaw, UnusedLaw, IdleLaw, ArrivalsLaw, PaddedLaw, SentLaw, ExampleLaw};
 
 use crate::event::{Endpoint, Event};
 
@@ -69,6 +69,11 @@ pub fn begins()
 /// Passes over sockets with nothing to send do nothing.
 pub fn idles()
     ensures { IdleLaw }
+{}
+
+/// An arrival leaves what is queued to be sent.
+pub fn arrives()
+    ensures { ArrivalsLaw }
 {}
 
 /// A frame that spells a packet carries it, whatever padding is behind it.
