@@ -20,14 +20,17 @@ pub sealed : (sum whole : ℕ) → 0 < sum → whole ≡ sum + checksum sum → 
 sealed zero whole some e = absurd (omega arith)
 sealed (suc n) whole some e = holds_of_multiple (n / 65535) whole (omega arith)
 
-full_or_not : (n whole : ℕ) → (checksum (suc n) ≡ 0) ⊎ (checksum (suc n) ≡ 0 → ⊥) → whole ≡ suc n + cond (checksum (suc n) == 0) 65535 (checksum (suc n)) → checksum_holds whole ≡ true
+full_or_not :
+    (n whole : ℕ) → (checksum (suc n) ≡ 0) ⊎ (checksum (suc n) ≡ 0 → ⊥) →
+    whole ≡ suc n + cond (checksum (suc n) == 0) 65535 (checksum (suc n)) → checksum_holds whole ≡ true
 full_or_not n whole (inl full) e =
     let sum : whole ≡ suc n + 65535 = rw (eq-eqb (checksum (suc n)) 0 full) at e in
     holds_of_multiple (n / 65535 + 1) whole (omega arith)
 full_or_not n whole (inr other) e = sealed (suc n) whole (omega arith) (rw (ne_eqb (checksum (suc n)) 0 other) at e)
 
 -- 65535 stands for a checksum of 0
-pub sealed_or_full : (sum whole : ℕ) → 0 < sum → whole ≡ sum + cond (checksum sum == 0) 65535 (checksum sum) → checksum_holds whole ≡ true
+pub sealed_or_full :
+    (sum whole : ℕ) → 0 < sum → whole ≡ sum + cond (checksum sum == 0) 65535 (checksum sum) → checksum_holds whole ≡ true
 sealed_or_full zero whole some e = absurd (omega arith)
 sealed_or_full (suc n) whole some e = full_or_not n whole (cases_eq (checksum (suc n)) 0) e
 
@@ -42,11 +45,15 @@ four_true a b c d p q r s = rw (p, q, r, s) refl
 five_true : (a b c d e : Bool) → a ≡ true → b ≡ true → c ≡ true → d ≡ true → e ≡ true → (a && b && c && d && e) ≡ true
 five_true a b c d e p q r s t = rw (p, q, r, s, t) refl
 
-six_true : (a b c d e f : Bool) → a ≡ true → b ≡ true → c ≡ true → d ≡ true → e ≡ true → f ≡ true → (a && b && c && d && e && f) ≡ true
+six_true :
+    (a b c d e f : Bool) → a ≡ true → b ≡ true → c ≡ true → d ≡ true → e ≡ true → f ≡ true →
+    (a && b && c && d && e && f) ≡ true
 six_true a b c d e f p q r s t u = rw (p, q, r, s, t, u) refl
 
 -- what a packet's frame says where it carries a datagram
-packet_with : (frame datagram : List ℕ) → ipv4_payload frame ≡ datagram → carries_datagram frame ≡ true → packet_of frame ≡ Some (record { source = source_address frame; destination = destination_address frame; source_port = be16 datagram 0; destination_port = be16 datagram 2; payload = take (be16 datagram 4 - 8) (drop 8 datagram) })
+packet_with :
+    (frame datagram : List ℕ) → ipv4_payload frame ≡ datagram → carries_datagram frame ≡ true →
+    packet_of frame ≡ Some (record { source = source_address frame; destination = destination_address frame; source_port = be16 datagram 0; destination_port = be16 datagram 2; payload = take (be16 datagram 4 - 8) (drop 8 datagram) })
 packet_with frame datagram e carries =
     cond-true (carries_datagram frame) _ _ carries
     ∙ ap (λ (bytes : List ℕ). Some (record { source = source_address frame; destination = destination_address frame; source_port = be16 bytes 0; destination_port = be16 bytes 2; payload = take (be16 bytes 4 - 8) (drop 8 bytes) })) e
@@ -79,7 +86,10 @@ module _ (n1 n0 c1 c0 s0 s1 s2 s3 d0 d1 d2 d3 a1 a0 b1 b0 l1 l0 k1 k0 : ℕ) (pa
       let len : length cells ≡ 28 + length payload + length padding = omega (arith, length-append payload padding) in
       six_true _ _ _ _ _ _ (le-leb 20 (length cells) (omega arith)) refl refl (le-leb 20 (256 * n1 + n0) (omega arith)) (le-leb (256 * n1 + n0) (length cells) (omega arith)) holds
 
-  udp_holds : 256 * l1 + l0 ≡ 8 + length payload → 256 * b1 + b0 ≢ 0 → checksum_holds (word_sum (pseudo_header source destination (8 + length payload) ++ datagram)) ≡ true → is_udp source destination datagram ≡ true
+  udp_holds :
+      256 * l1 + l0 ≡ 8 + length payload → 256 * b1 + b0 ≢ 0 →
+      checksum_holds (word_sum (pseudo_header source destination (8 + length payload) ++ datagram)) ≡ true →
+      is_udp source destination datagram ≡ true
   udp_holds len specified holds =
       let whole : take (256 * l1 + l0) datagram ≡ datagram = take_all (256 * l1 + l0) datagram (omega arith) in
       let to_port : not (256 * b1 + b0 == 0) ≡ true = rw (ne_eqb (256 * b1 + b0) 0 specified) refl in
@@ -88,14 +98,22 @@ module _ (n1 n0 c1 c0 s0 s1 s2 s3 d0 d1 d2 d3 a1 a0 b1 b0 l1 l0 k1 k0 : ℕ) (pa
       let sum = subst (λ (bytes : List ℕ). checksum_holds (word_sum bytes) ≡ true) (sym covered) holds in
       five_true _ _ _ _ _ (le-leb 8 (length datagram) (omega arith)) (le-leb 8 (256 * l1 + l0) (omega arith)) (le-leb (256 * l1 + l0) (length datagram) (omega arith)) to_port (or_right (256 * k1 + k0 == 0) _ sum)
 
-  carries_cells : 256 * n1 + n0 ≡ 28 + length payload → 256 * l1 + l0 ≡ 8 + length payload → 256 * b1 + b0 ≢ 0 → checksum_holds (word_sum header) ≡ true → checksum_holds (word_sum (pseudo_header source destination (8 + length payload) ++ datagram)) ≡ true → carries_datagram cells ≡ true
+  carries_cells :
+      256 * n1 + n0 ≡ 28 + length payload → 256 * l1 + l0 ≡ 8 + length payload → 256 * b1 + b0 ≢ 0 →
+      checksum_holds (word_sum header) ≡ true →
+      checksum_holds (word_sum (pseudo_header source destination (8 + length payload) ++ datagram)) ≡ true →
+      carries_datagram cells ≡ true
   carries_cells total len specified ipv4_sum udp_sum =
       four_true _ _ _ _ (ipv4_holds total ipv4_sum) refl refl (subst (λ (bytes : List ℕ). is_udp source destination bytes ≡ true) (sym (datagram_is total)) (udp_holds len specified udp_sum))
 
   payload_is : 256 * l1 + l0 ≡ 8 + length payload → take (256 * l1 + l0 - 8) payload ≡ payload
   payload_is len = take_all (256 * l1 + l0 - 8) payload (omega arith)
 
-  pub cells_carry : 256 * n1 + n0 ≡ 28 + length payload → 256 * l1 + l0 ≡ 8 + length payload → 256 * b1 + b0 ≢ 0 → checksum_holds (word_sum header) ≡ true → checksum_holds (word_sum (pseudo_header source destination (8 + length payload) ++ datagram)) ≡ true → packet_of cells ≡ Some packet
+  pub cells_carry :
+      256 * n1 + n0 ≡ 28 + length payload → 256 * l1 + l0 ≡ 8 + length payload → 256 * b1 + b0 ≢ 0 →
+      checksum_holds (word_sum header) ≡ true →
+      checksum_holds (word_sum (pseudo_header source destination (8 + length payload) ++ datagram)) ≡ true →
+      packet_of cells ≡ Some packet
   cells_carry total len specified ipv4_sum udp_sum =
       packet_with cells datagram (datagram_is total) (carries_cells total len specified ipv4_sum udp_sum)
       ∙ ap (λ (bytes : List ℕ). Some (record { source = source; destination = destination; source_port = 256 * a1 + a0; destination_port = 256 * b1 + b0; payload = bytes })) (payload_is len)
@@ -139,7 +157,9 @@ module _ (s0 s1 s2 s3 d0 d1 d2 d3 source_port destination_port : ℕ) (payload :
       let sum = word_sum (covered 0) in
       sealed_or_full sum _ (omega arith) (udp_sum (cond (checksum sum == 0) 65535 (checksum sum)) (full_small sum))
 
-  pub spelled_padded : (padding : List ℕ) → source_port < 2 ^ 16 → destination_port < 2 ^ 16 → destination_port ≢ 0 → 28 + length payload < 2 ^ 16 → packet_of (spelling spelled ++ padding) ≡ Some spelled
+  pub spelled_padded :
+      (padding : List ℕ) → source_port < 2 ^ 16 → destination_port < 2 ^ 16 → destination_port ≢ 0 →
+      28 + length payload < 2 ^ 16 → packet_of (spelling spelled ++ padding) ≡ Some spelled
   spelled_padded padding source_small destination_small specified short =
       let total = two_bytes (28 + length payload) short in
       let len = two_bytes (8 + length payload) (omega arith) in
@@ -154,7 +174,10 @@ four_cells : (xs : List ℕ) → length xs ≡ 4 → (a : ℕ) × (b : ℕ) × (
 four_cells (a ∷ b ∷ c ∷ d ∷ []) len = (a, b, c, d, refl)
 four_cells _ len = absurd (omega arith)
 
-padded_at : (p : Packet) (source destination padding : List ℕ) → p.source ≡ source → p.destination ≡ destination → packet_of (spelling (record p { source = source; destination = destination }) ++ padding) ≡ Some (record p { source = source; destination = destination }) → packet_of (spelling p ++ padding) ≡ Some p
+padded_at :
+    (p : Packet) (source destination padding : List ℕ) → p.source ≡ source → p.destination ≡ destination →
+    packet_of (spelling (record p { source = source; destination = destination }) ++ padding) ≡ Some (record p { source = source; destination = destination }) →
+    packet_of (spelling p ++ padding) ≡ Some p
 padded_at p source destination padding from to carried =
     let q : Packet = record p { source = source; destination = destination } in
     let same : q ≡ p =

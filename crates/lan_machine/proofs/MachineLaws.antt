@@ -25,7 +25,9 @@ use Rattle.lan_machine.proofs.Polls.{member_of_rest, Sends, sent_at, passes_from
 abbrev datagram : Endpoint → List ℕ → DatagramValue
 datagram remote bytes = record { remote = remote; bytes = bytes }
 
-read_by : (limit : ℕ) (q : DatagramValue) (qs : List DatagramValue) (d : DatagramValue) (b : Bool) → cond b (FromEndpoint q.remote q.bytes) (Error Truncated) ≡ FromEndpoint d.remote d.bytes → d ∈ (q ∷ qs)
+read_by :
+    (limit : ℕ) (q : DatagramValue) (qs : List DatagramValue) (d : DatagramValue) (b : Bool) →
+    cond b (FromEndpoint q.remote q.bytes) (Error Truncated) ≡ FromEndpoint d.remote d.bytes → d ∈ (q ∷ qs)
 read_by limit q qs d true e =
     let remote : d.remote ≡ q.remote = cc in
     let bytes : d.bytes ≡ q.bytes = cc in
@@ -33,7 +35,9 @@ read_by limit q qs d true e =
 read_by limit q qs d false e = cc
 
 -- the first datagram of a queue is what a read answers
-read_first : (limit : ℕ) (queue : List DatagramValue) (d : DatagramValue) → read_answer queue limit ≡ FromEndpoint d.remote d.bytes → d ∈ queue
+read_first :
+    (limit : ℕ) (queue : List DatagramValue) (d : DatagramValue) →
+    read_answer queue limit ≡ FromEndpoint d.remote d.bytes → d ∈ queue
 read_first limit [] d e = cc
 read_first limit (q ∷ qs) d e = read_by limit q qs d (nat_le (length q.bytes) limit) e
 
@@ -48,22 +52,30 @@ module _ (h : HostValue) (i : ℕ) (s : SocketValue) (j : ℕ) where
   socket_cases = written_or_old h.sockets i j s no_socket
 
 -- what a poll makes of the socket at a place
-polled_at : (h : HostValue) (budget : ℕ) (taken : List (List ℕ)) (i : ℕ) → Sends (get_or (arrivals h.address taken h.sockets) i no_socket) (get_or (passes_after budget (arrivals h.address taken h.sockets)) i no_socket)
+polled_at :
+    (h : HostValue) (budget : ℕ) (taken : List (List ℕ)) (i : ℕ) →
+    Sends (get_or (arrivals h.address taken h.sockets) i no_socket) (get_or (passes_after budget (arrivals h.address taken h.sockets)) i no_socket)
 polled_at h budget taken i = sent_at budget (arrivals h.address taken h.sockets) i
 
-came_at : (h : HostValue) (taken : List (List ℕ)) (i : ℕ) → Receives h.address taken (socket_at h i) (get_or (arrivals h.address taken h.sockets) i no_socket)
+came_at :
+    (h : HostValue) (taken : List (List ℕ)) (i : ℕ) →
+    Receives h.address taken (socket_at h i) (get_or (arrivals h.address taken h.sockets) i no_socket)
 came_at h taken i = arrived_at h.address taken h.sockets i
 
 -- QUEUED
 
-queued_by_bind : (h : HostValue) (j port i : ℕ) (d : DatagramValue) → d ∈ (socket_at (with_socket h j (bind_after (socket_at h j) port)) i).queued → d ∈ (socket_at h i).queued
+queued_by_bind :
+    (h : HostValue) (j port i : ℕ) (d : DatagramValue) →
+    d ∈ (socket_at (with_socket h j (bind_after (socket_at h j) port)) i).queued → d ∈ (socket_at h i).queued
 queued_by_bind h j port i d member =
     elim (socket_cases h j (bind_after (socket_at h j) port) i) [
       | inl here ↦ subst (λ (q : List DatagramValue). d ∈ q) (ap (λ (s : SocketValue). s.queued) here.1 ∙ bound_queue (socket_at h j) port ∙ ap (λ (k : ℕ). (socket_at h k).queued) (sym here.0)) member
       | inr other ↦ subst (λ (s : SocketValue). d ∈ s.queued) other member
     ]
 
-queued_by_recv : (h : HostValue) (j i : ℕ) (d : DatagramValue) → d ∈ (socket_at (with_socket h j (recv_after (socket_at h j))) i).queued → d ∈ (socket_at h i).queued
+queued_by_recv :
+    (h : HostValue) (j i : ℕ) (d : DatagramValue) →
+    d ∈ (socket_at (with_socket h j (recv_after (socket_at h j))) i).queued → d ∈ (socket_at h i).queued
 queued_by_recv h j i d member =
     elim (socket_cases h j (recv_after (socket_at h j)) i) [
       | inl here ↦ subst (λ (q : List DatagramValue). d ∈ q) (ap (λ (s : SocketValue). s.queued) here.1 ∙ ap (λ (k : ℕ). (socket_at h k).queued) (sym here.0)) member
@@ -71,7 +83,10 @@ queued_by_recv h j i d member =
     ]
 
 -- the socket that the datagram e is sent from
-queued_here : (h : HostValue) (side : Side) (j : ℕ) (e : DatagramValue) (taken : List (List ℕ)) (d : DatagramValue) → d ∈ (send_after (socket_at h j) e.remote e.bytes).queued → (d ∈ (socket_at h j).queued) ⊎ IsAccepted h (SendTo side j e.remote e.bytes) taken j d
+queued_here :
+    (h : HostValue) (side : Side) (j : ℕ) (e : DatagramValue) (taken : List (List ℕ)) (d : DatagramValue) →
+    d ∈ (send_after (socket_at h j) e.remote e.bytes).queued →
+    (d ∈ (socket_at h j).queued) ⊎ IsAccepted h (SendTo side j e.remote e.bytes) taken j d
 queued_here h side j e taken d member =
     elim (send_cases (socket_at h j) e) [
       | inl same ↦ inl (subst (λ (s : SocketValue). d ∈ s.queued) same member)
@@ -87,7 +102,10 @@ queued_here h side j e taken d member =
       ]
     ]
 
-queued_by_send : (h : HostValue) (side : Side) (j : ℕ) (e : DatagramValue) (taken : List (List ℕ)) (i : ℕ) (d : DatagramValue) → d ∈ (socket_at (with_socket h j (send_after (socket_at h j) e.remote e.bytes)) i).queued → (d ∈ (socket_at h i).queued) ⊎ IsAccepted h (SendTo side j e.remote e.bytes) taken i d
+queued_by_send :
+    (h : HostValue) (side : Side) (j : ℕ) (e : DatagramValue) (taken : List (List ℕ)) (i : ℕ) (d : DatagramValue) →
+    d ∈ (socket_at (with_socket h j (send_after (socket_at h j) e.remote e.bytes)) i).queued →
+    (d ∈ (socket_at h i).queued) ⊎ IsAccepted h (SendTo side j e.remote e.bytes) taken i d
 queued_by_send h side j e taken i d member =
     elim (socket_cases h j (send_after (socket_at h j) e.remote e.bytes) i) [
       | inl here ↦ subst (λ (k : ℕ). (d ∈ (socket_at h k).queued) ⊎ IsAccepted h (SendTo side j e.remote e.bytes) taken k d) (sym here.0) (queued_here h side j e taken d (subst (λ (s : SocketValue). d ∈ s.queued) here.1 member))
@@ -103,21 +121,28 @@ queued_law h (Deliver side k padding) taken i d member = inl member
 
 -- RECEIVED
 
-received_by_bind : (h : HostValue) (j port i : ℕ) (d : DatagramValue) → d ∈ (socket_at (with_socket h j (bind_after (socket_at h j) port)) i).received → d ∈ (socket_at h i).received
+received_by_bind :
+    (h : HostValue) (j port i : ℕ) (d : DatagramValue) →
+    d ∈ (socket_at (with_socket h j (bind_after (socket_at h j) port)) i).received → d ∈ (socket_at h i).received
 received_by_bind h j port i d member =
     elim (socket_cases h j (bind_after (socket_at h j) port) i) [
       | inl here ↦ subst (λ (q : List DatagramValue). d ∈ q) (ap (λ (s : SocketValue). s.received) here.1 ∙ bound_received (socket_at h j) port ∙ ap (λ (k : ℕ). (socket_at h k).received) (sym here.0)) member
       | inr other ↦ subst (λ (s : SocketValue). d ∈ s.received) other member
     ]
 
-received_by_send : (h : HostValue) (j : ℕ) (e : DatagramValue) (i : ℕ) (d : DatagramValue) → d ∈ (socket_at (with_socket h j (send_after (socket_at h j) e.remote e.bytes)) i).received → d ∈ (socket_at h i).received
+received_by_send :
+    (h : HostValue) (j : ℕ) (e : DatagramValue) (i : ℕ) (d : DatagramValue) →
+    d ∈ (socket_at (with_socket h j (send_after (socket_at h j) e.remote e.bytes)) i).received →
+    d ∈ (socket_at h i).received
 received_by_send h j e i d member =
     elim (socket_cases h j (send_after (socket_at h j) e.remote e.bytes) i) [
       | inl here ↦ subst (λ (q : List DatagramValue). d ∈ q) (ap (λ (s : SocketValue). s.received) here.1 ∙ sent_received (socket_at h j) e ∙ ap (λ (k : ℕ). (socket_at h k).received) (sym here.0)) member
       | inr other ↦ subst (λ (s : SocketValue). d ∈ s.received) other member
     ]
 
-received_by_recv : (h : HostValue) (j i : ℕ) (d : DatagramValue) → d ∈ (socket_at (with_socket h j (recv_after (socket_at h j))) i).received → d ∈ (socket_at h i).received
+received_by_recv :
+    (h : HostValue) (j i : ℕ) (d : DatagramValue) →
+    d ∈ (socket_at (with_socket h j (recv_after (socket_at h j))) i).received → d ∈ (socket_at h i).received
 received_by_recv h j i d member =
     elim (socket_cases h j (recv_after (socket_at h j)) i) [
       | inl here ↦
@@ -137,7 +162,10 @@ received_law h (Deliver side k padding) taken i d member = inl member
 -- FRAMES
 
 -- an arrival changes no queue of datagrams to send, and no port
-before_arrivals : (h : HostValue) (taken : List (List ℕ)) (frame : List ℕ) → IsQueuedFrame h.address h.mtu (arrivals h.address taken h.sockets) frame → IsQueuedFrame h.address h.mtu h.sockets frame
+before_arrivals :
+    (h : HostValue) (taken : List (List ℕ)) (frame : List ℕ) →
+    IsQueuedFrame h.address h.mtu (arrivals h.address taken h.sockets) frame →
+    IsQueuedFrame h.address h.mtu h.sockets frame
 before_arrivals h taken frame q =
     let came = came_at h taken q.place in
     record {
@@ -159,7 +187,9 @@ frames_law h (Deliver side k padding) taken frame none = absurd none
 -- PORTS
 
 -- a call that leaves its own socket's port leaves each
-port_kept : (h : HostValue) (j i : ℕ) (s : SocketValue) → s.port ≡ (socket_at h j).port → (socket_at (with_socket h j s) i).port ≡ (socket_at h i).port
+port_kept :
+    (h : HostValue) (j i : ℕ) (s : SocketValue) → s.port ≡ (socket_at h j).port →
+    (socket_at (with_socket h j s) i).port ≡ (socket_at h i).port
 port_kept h j i s kept =
     elim (socket_cases h j s i) [
       | inl here ↦ ap (λ (t : SocketValue). t.port) here.1 ∙ kept ∙ ap (λ (k : ℕ). (socket_at h k).port) (sym here.0)
@@ -167,13 +197,17 @@ port_kept h j i s kept =
     ]
 
 -- another socket's port
-port_elsewhere : (i j port : ℕ) (side : Side) (answer : Answer) (before : ℕ) → (i ≡ j → ⊥) → before ≡ port_after i (Bind side j port) answer before
+port_elsewhere :
+    (i j port : ℕ) (side : Side) (answer : Answer) (before : ℕ) → (i ≡ j → ⊥) →
+    before ≡ port_after i (Bind side j port) answer before
 port_elsewhere i j port side Done before other = rw (ne_eqb i j other) refl
 port_elsewhere i j port side (FromEndpoint remote bytes) before other = refl
 port_elsewhere i j port side (Polled changed) before other = refl
 port_elsewhere i j port side (Error fault) before other = refl
 
-port_by_bind : (h : HostValue) (side : Side) (j port i : ℕ) → j < length h.sockets → (socket_at (with_socket h j (bind_after (socket_at h j) port)) i).port ≡ port_after i (Bind side j port) (bind_answer (socket_at h j) port) (socket_at h i).port
+port_by_bind :
+    (h : HostValue) (side : Side) (j port i : ℕ) → j < length h.sockets →
+    (socket_at (with_socket h j (bind_after (socket_at h j) port)) i).port ≡ port_after i (Bind side j port) (bind_answer (socket_at h j) port) (socket_at h i).port
 port_by_bind h side j port i within =
     elim (cases_eq i j) [
       | inl here ↦ subst (λ (k : ℕ). (socket_at (with_socket h j (bind_after (socket_at h j) port)) k).port ≡ port_after k (Bind side j port) (bind_answer (socket_at h j) port) (socket_at h k).port) (sym here)
@@ -206,7 +240,9 @@ same_law h (Deliver side k padding) taken = record { address = refl; mtu = refl;
 -- RANGES
 
 -- each event leaves a socket's port, or binds it
-port_range : (h : HostValue) (event : Event) (taken : List (List ℕ)) (i : ℕ) → IsInRange h → IsEventInRange event → (socket_at (host_after h event taken) i).port < 2 ^ 16
+port_range :
+    (h : HostValue) (event : Event) (taken : List (List ℕ)) (i : ℕ) → IsInRange h → IsEventInRange event →
+    (socket_at (host_after h event taken) i).port < 2 ^ 16
 port_range h (Bind side j port) taken i range event =
     elim (socket_cases h j (bind_after (socket_at h j) port) i) [
       | inl here ↦ subst (λ (s : SocketValue). s.port < 2 ^ 16) (sym here.1) (elim (bound_or_same (socket_at h j) port) [
@@ -223,7 +259,10 @@ port_range h (Poll side moment budget) taken i range event =
     subst (λ (n : ℕ). n < 2 ^ 16) (sym ((polled_at h budget taken i).port ∙ (came_at h taken i).port)) ((range.sockets i).port)
 port_range h (Deliver side k padding) taken i range event = (range.sockets i).port
 
-remote_here : (h : HostValue) (side : Side) (j : ℕ) (e : DatagramValue) → IsInRange h → IsEventInRange (SendTo side j e.remote e.bytes) → (d : DatagramValue) → d ∈ (send_after (socket_at h j) e.remote e.bytes).queued → IsRemote d.remote
+remote_here :
+    (h : HostValue) (side : Side) (j : ℕ) (e : DatagramValue) → IsInRange h →
+    IsEventInRange (SendTo side j e.remote e.bytes) → (d : DatagramValue) →
+    d ∈ (send_after (socket_at h j) e.remote e.bytes).queued → IsRemote d.remote
 remote_here h side j e range event d member =
     elim (send_cases (socket_at h j) e) [
       | inl same ↦ (range.sockets j).queued d (subst (λ (s : SocketValue). d ∈ s.queued) same member)
@@ -234,14 +273,19 @@ remote_here h side j e range event d member =
     ]
 
 -- an accepted datagram goes to a remote endpoint in range
-remote_range : (h : HostValue) (side : Side) (j : ℕ) (e : DatagramValue) (i : ℕ) → IsInRange h → IsEventInRange (SendTo side j e.remote e.bytes) → (d : DatagramValue) → d ∈ (socket_at (with_socket h j (send_after (socket_at h j) e.remote e.bytes)) i).queued → IsRemote d.remote
+remote_range :
+    (h : HostValue) (side : Side) (j : ℕ) (e : DatagramValue) (i : ℕ) → IsInRange h →
+    IsEventInRange (SendTo side j e.remote e.bytes) → (d : DatagramValue) →
+    d ∈ (socket_at (with_socket h j (send_after (socket_at h j) e.remote e.bytes)) i).queued → IsRemote d.remote
 remote_range h side j e i range event d member =
     elim (socket_cases h j (send_after (socket_at h j) e.remote e.bytes) i) [
       | inl here ↦ remote_here h side j e range event d (subst (λ (s : SocketValue). d ∈ s.queued) here.1 member)
       | inr other ↦ (range.sockets i).queued d (subst (λ (s : SocketValue). d ∈ s.queued) other member)
     ]
 
-queue_range : (h : HostValue) (event : Event) (taken : List (List ℕ)) (i : ℕ) → IsInRange h → IsEventInRange event → (d : DatagramValue) → d ∈ (socket_at (host_after h event taken) i).queued → IsRemote d.remote
+queue_range :
+    (h : HostValue) (event : Event) (taken : List (List ℕ)) (i : ℕ) → IsInRange h → IsEventInRange event →
+    (d : DatagramValue) → d ∈ (socket_at (host_after h event taken) i).queued → IsRemote d.remote
 queue_range h (Bind side j port) taken i range event d member = (range.sockets i).queued d (queued_by_bind h j port i d member)
 queue_range h (SendTo side j remote bytes) taken i range event d member = remote_range h side j (record { remote = remote; bytes = bytes }) i range event d member
 queue_range h (RecvFrom side j limit) taken i range event d member = (range.sockets i).queued d (queued_by_recv h j i d member)
@@ -257,7 +301,10 @@ range_law h event taken range in_range =
     }
 
 -- a place where a host has no socket is in range
-range_at : (h : HostValue) (i : ℕ) → (i < length h.sockets) ⊎ (length h.sockets ≤ i) → (i < length h.sockets → (socket_at h i).port ≡ 0) → (i < length h.sockets → (socket_at h i).queued ≡ []) → IsSocketInRange (socket_at h i)
+range_at :
+    (h : HostValue) (i : ℕ) → (i < length h.sockets) ⊎ (length h.sockets ≤ i) →
+    (i < length h.sockets → (socket_at h i).port ≡ 0) → (i < length h.sockets → (socket_at h i).queued ≡ []) →
+    IsSocketInRange (socket_at h i)
 range_at h i (inl within) unbound empty =
     record {
       port = subst (λ (n : ℕ). n < 2 ^ 16) (sym (unbound within)) (omega arith);
@@ -284,7 +331,9 @@ pub padded_law : PaddedLaw
 padded_law = padded
 
 -- a queued datagram that the device takes can be spelled
-spellable : (h : HostValue) (i : ℕ) (d : DatagramValue) → IsInRange h → d ∈ (socket_at h i).queued → fits h.mtu d ≡ true → IsSpellable (packet_from h.address (socket_at h i) d)
+spellable :
+    (h : HostValue) (i : ℕ) (d : DatagramValue) → IsInRange h → d ∈ (socket_at h i).queued → fits h.mtu d ≡ true →
+    IsSpellable (packet_from h.address (socket_at h i) d)
 spellable h i d range member fitting =
     let remote = (range.sockets i).queued d member in
     let parts = and_parts (nat_le (28 + length d.bytes) h.mtu) (nat_lt (28 + length d.bytes) (2 ^ 16)) fitting in
