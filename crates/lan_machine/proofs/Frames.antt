@@ -1,6 +1,6 @@
 -- A frame that spells a packet carries it.
-use Rattle.std.proofs.Common.{◌≡◌, ◌≢◌, ◌⊎◌, inl, inr, ℕ, zero, suc, ◌+◌, ◌-◌, ◌*◌, ◌/◌, ◌%◌, ◌^◌, ◌<◌, Bool, true, cond, not, ◌&&◌, List, [], ◌∷◌, ◌++◌, length, take, drop, Some, refl, sym, ◌∙◌, ap, subst, arith, length-append}
-use Rattle.std.specs.Prelude.{◌==◌}
+use Rattle.std.proofs.Common.{◌≡◌, ◌≢◌, ◌⊎◌, inl, inr, ℕ, zero, suc, ◌+◌, ◌-◌, ◌*◌, ◌/◌, ◌%◌, ◌^◌, ◌<◌, Bool, true, cond, not, ◌&&◌, List, [], ◌∷◌, ◌++◌, length, take, Some, refl, sym, ◌∙◌, ap, subst, arith, length-append}
+use Rattle.std.specs.Prelude.{◌==◌, slice_range}
 use Rattle.std.proofs.lemmas.Bool.{le-leb, eq-eqb, ne_eqb, cond-true, cases_eq, or_right}
 use Rattle.std.proofs.lemmas.List.{take_at, take_all}
 use Rattle.lan_machine.specs.Packet.{Packet, be16, word_sum, checksum_holds, checksum, ipv4_header, pseudo_header, udp_datagram, ipv4_checksum, udp_checksum, spelling, ipv4_payload, is_ipv4, source_address, destination_address, is_udp, carries_datagram, packet_of}
@@ -50,13 +50,21 @@ six_true :
     (a && b && c && d && e && f) ≡ true
 six_true a b c d e f p q r s t u = rw (p, q, r, s, t, u) refl
 
--- what a packet's frame says where it carries a datagram
+-- the packet that a frame and the datagram in it spell
+abbrev said : List ℕ → List ℕ → Packet
+said frame datagram =
+    record {
+      source = source_address frame;
+      destination = destination_address frame;
+      source_port = be16 datagram 0;
+      destination_port = be16 datagram 2;
+      payload = slice_range datagram 8 (be16 datagram 4);
+    }
+
 packet_with :
     (frame datagram : List ℕ) → ipv4_payload frame ≡ datagram → carries_datagram frame ≡ true →
-    packet_of frame ≡ Some (record { source = source_address frame; destination = destination_address frame; source_port = be16 datagram 0; destination_port = be16 datagram 2; payload = take (be16 datagram 4 - 8) (drop 8 datagram) })
-packet_with frame datagram e carries =
-    cond-true (carries_datagram frame) _ _ carries
-    ∙ ap (λ (bytes : List ℕ). Some (record { source = source_address frame; destination = destination_address frame; source_port = be16 bytes 0; destination_port = be16 bytes 2; payload = take (be16 bytes 4 - 8) (drop 8 bytes) })) e
+    packet_of frame ≡ Some (said frame datagram)
+packet_with frame datagram e carries = cond-true (carries_datagram frame) _ _ carries ∙ ap (λ (bytes : List ℕ). Some (said frame bytes)) e
 
 -- a frame cell by cell: the numbers that vary, each of two bytes, the addresses, the payload and the padding
 module _ (n1 n0 c1 c0 s0 s1 s2 s3 d0 d1 d2 d3 a1 a0 b1 b0 l1 l0 k1 k0 : ℕ) (payload padding : List ℕ) where
@@ -116,7 +124,7 @@ module _ (n1 n0 c1 c0 s0 s1 s2 s3 d0 d1 d2 d3 a1 a0 b1 b0 l1 l0 k1 k0 : ℕ) (pa
       packet_of cells ≡ Some packet
   cells_carry total len specified ipv4_sum udp_sum =
       packet_with cells datagram (datagram_is total) (carries_cells total len specified ipv4_sum udp_sum)
-      ∙ ap (λ (bytes : List ℕ). Some (record { source = source; destination = destination; source_port = 256 * a1 + a0; destination_port = 256 * b1 + b0; payload = bytes })) (payload_is len)
+      ∙ ap (λ (bytes : List ℕ). Some (record packet { payload = bytes })) (payload_is len)
 
 -- SPELLINGS
 
@@ -136,7 +144,14 @@ full_small sum =
 -- a packet whose addresses are written out
 module _ (s0 s1 s2 s3 d0 d1 d2 d3 source_port destination_port : ℕ) (payload : List ℕ) where
   abbrev spelled : Packet
-  spelled = record { source = s0 ∷ s1 ∷ s2 ∷ s3 ∷ []; destination = d0 ∷ d1 ∷ d2 ∷ d3 ∷ []; source_port = source_port; destination_port = destination_port; payload = payload }
+  spelled =
+      record {
+        source = s0 ∷ s1 ∷ s2 ∷ s3 ∷ [];
+        destination = d0 ∷ d1 ∷ d2 ∷ d3 ∷ [];
+        source_port = source_port;
+        destination_port = destination_port;
+        payload = payload;
+      }
 
   abbrev covered : ℕ → List ℕ
   covered check = pseudo_header spelled.source spelled.destination (8 + length payload) ++ udp_datagram spelled check
