@@ -300,4 +300,4 @@ sent_law h event taken frame range member =
 -- A WORKED EXAMPLE
 
 pub example_law : ExampleLaw
-example_law = record { spelled = refl; padded = refl; changed = refl }
+example_law = record { spelled = refl; padded = refl; unchecked = refl; changed = refl; first_fragment = refl; later_fragment = refl; other_protocol = refl }

@@ -2,6 +2,7 @@
 -- above applies `Rattle.lan_machine.proofs.MachineLaws.read_law` and the like to its own values.
 use Rattle.std.specs.Prelude.{◌≡◌, ◌≢◌, ◌⊎◌, ⊤, ℕ, ◌+◌, ◌<◌, ◌^◌, true, false, ◌==◌, if◌then◌else◌, List, [], ◌∷◌, ◌++◌, length, slice_index_or, Some, None}
 use Rattle.std.specs.List.{list_any}
+use Rattle.std.specs.Int.{to_be_bytes, w16}
 use Rattle.lan_machine.specs.declared.event.Side.{Side}
 use Rattle.lan_machine.specs.declared.event.Endpoint.{Endpoint}
 use Rattle.lan_machine.specs.declared.event.Event.{Event}
@@ -196,15 +197,24 @@ example_packet =
       payload = 0xaa ∷ 0 ∷ 0 ∷ 0xff ∷ [];
     }
 
--- its 32 bytes, but for the last
-abbrev pub example_front : List ℕ
-example_front =
-    0x45 ∷ 0x00 ∷ 0x00 ∷ 0x20 ∷ 0x00 ∷ 0x00 ∷ 0x40 ∷ 0x00 ∷ 0x40 ∷ 0x11 ∷ 0xb7 ∷ 0x79
-    ∷ 0xc0 ∷ 0xa8 ∷ 0x01 ∷ 0x01 ∷ 0xc0 ∷ 0xa8 ∷ 0x01 ∷ 0x02
-    ∷ 0xbf ∷ 0x00 ∷ 0x00 ∷ 0x35 ∷ 0x00 ∷ 0x0c ∷ 0x12 ∷ 0x4d ∷ 0xaa ∷ 0x00 ∷ 0x00 ∷ []
+-- a frame from the one address to the other, with these flags and offset, protocol and header checksum
+abbrev pub example_frame : ℕ → ℕ → ℕ → List ℕ → List ℕ
+example_frame flags protocol check rest =
+    0x45 ∷ 0x00 ∷ 0x00 ∷ 0x20 ∷ 0x00 ∷ 0x00 ∷ [] ++ to_be_bytes w16 flags ++ (0x40 ∷ protocol ∷ []) ++ to_be_bytes w16 check
+    ++ (0xc0 ∷ 0xa8 ∷ 0x01 ∷ 0x01 ∷ 0xc0 ∷ 0xa8 ∷ 0x01 ∷ 0x02 ∷ []) ++ rest
 
--- the frame that spells it, what it carries with padding, and that nothing is carried once a byte has changed
+-- its UDP header with this checksum, and the payload with this last byte
+abbrev pub example_datagram : ℕ → ℕ → List ℕ
+example_datagram check last =
+    0xbf ∷ 0x00 ∷ 0x00 ∷ 0x35 ∷ 0x00 ∷ 0x0c ∷ [] ++ to_be_bytes w16 check ++ (0xaa ∷ 0x00 ∷ 0x00 ∷ last ∷ [])
+
+-- the frame that spells the packet, what it carries with padding and without a checksum, and frames that carry
+-- nothing: one with a changed byte, a first fragment, a later fragment, and one of another protocol
 pub record ExampleLaw : Type 0 where
-  pub spelled : spelling example_packet ≡ example_front ++ 0xff ∷ []
-  pub padded : packet_of (example_front ++ 0xff ∷ 1 ∷ 2 ∷ 3 ∷ []) ≡ Some example_packet
-  pub changed : packet_of (example_front ++ 0xfe ∷ []) ≡ None
+  pub spelled : spelling example_packet ≡ example_frame 0x4000 17 0xb779 (example_datagram 0x124d 0xff)
+  pub padded : packet_of (example_frame 0x4000 17 0xb779 (example_datagram 0x124d 0xff) ++ 1 ∷ 2 ∷ 3 ∷ []) ≡ Some example_packet
+  pub unchecked : packet_of (example_frame 0x4000 17 0xb779 (example_datagram 0 0xff)) ≡ Some example_packet
+  pub changed : packet_of (example_frame 0x4000 17 0xb779 (example_datagram 0x124d 0xfe)) ≡ None
+  pub first_fragment : packet_of (example_frame 0x2000 17 0xd779 (example_datagram 0x124d 0xff)) ≡ None
+  pub later_fragment : packet_of (example_frame 0x4001 17 0xb778 (example_datagram 0x124d 0xff)) ≡ None
+  pub other_protocol : packet_of (example_frame 0x4000 6 0xb784 (example_datagram 0x124d 0xff)) ≡ None

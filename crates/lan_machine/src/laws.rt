@@ -86,7 +86,7 @@ pub fn delivers()
     ensures { SentLaw }
 {}
 
-/// The worked example: a frame, what it carries, and a changed byte.
+/// The worked example: a packet and its frame, and frames that carry nothing.
 pub fn example()
     ensures { ExampleLaw }
 {}
