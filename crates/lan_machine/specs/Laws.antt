@@ -1,5 +1,6 @@
--- The laws of the host machine, each a type whose proof is the lemma named beside it in proofs.MachineLaws: a proof of a crate
--- above applies `Rattle.lan_machine.proofs.MachineLaws.read_law` and the like to its own values.
+-- The laws of the host machine, each a type whose proof is the lemma named beside it in proofs/MachineLaws. A proof of a
+-- crate above imports the lemma, as `use Rattle.lan_machine.proofs.MachineLaws.{queued_law}`, and applies it to its own
+-- values.
 use Rattle.std.specs.Prelude.{◌≡◌, ◌≢◌, ◌⊎◌, ⊤, ℕ, ◌+◌, ◌<◌, ◌^◌, true, false, ◌==◌, if◌then◌else◌, List, [], ◌∷◌, ◌++◌, length, slice_index_or, Some, None}
 use Rattle.std.specs.List.{list_any}
 use Rattle.std.specs.Int.{to_be_bytes, w16}
