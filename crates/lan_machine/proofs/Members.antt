@@ -17,7 +17,9 @@ module _ {X : Type 0} (x : X) where
   member_of_push ys y member = elim (member_of_append ys (y ∷ []) member) [ inl old ↦ inl old | inr (inl new) ↦ inr new | inr (inr none) ↦ absurd none ]
 
 -- an element after a write: the one that was written, or the old one
-pub written_or_old : {X : Type 0} (xs : List X) (i j : ℕ) (y d : X) → ((j ≡ i) × (get_or (set xs i y) j d ≡ y)) ⊎ (get_or (set xs i y) j d ≡ get_or xs j d)
+pub written_or_old :
+    {X : Type 0} (xs : List X) (i j : ℕ) (y d : X) →
+    ((j ≡ i) × (get_or (set xs i y) j d ≡ y)) ⊎ (get_or (set xs i y) j d ≡ get_or xs j d)
 written_or_old [] i j y d = inr refl
 written_or_old (x ∷ xs) zero zero y d = inl (refl, refl)
 written_or_old (x ∷ xs) zero (suc j) y d = inr refl

@@ -1,5 +1,6 @@
 -- What a call and an arrival do to the socket at each place.
 use Rattle.std.proofs.Common.{◌≡◌, ◌≢◌, ℕ, zero, suc, Bool, true, false, cond, ◌||◌, ◌==◌, List, [], ◌∷◌, ◌++◌, length, get_or, Option, Some, None, ◌⊎◌, inl, inr, refl, sym, ◌∙◌, ap, subst}
+use Rattle.std.specs.List.{list_any}
 use Rattle.std.specs.Str.{bytes_eq}
 use Rattle.std.proofs.lemmas.Bool.{true≢false, eqb-true, eqb-false, eq-eqb, cases_Bool}
 use Rattle.std.proofs.lemmas.Slice.Eq.{bytes_eq-Decides}
@@ -12,13 +13,15 @@ use Rattle.lan_machine.specs.declared.event.Fault.TheVariants.{Unaddressable, Bu
 use Rattle.lan_machine.specs.Members.{◌∈◌}
 use Rattle.lan_machine.specs.Values.{DatagramValue, SocketValue, is_full, no_socket}
 use Rattle.lan_machine.specs.Packet.{Packet, packet_of}
-use Rattle.lan_machine.specs.Machine.{bind_answer, bind_after, is_unaddressable, send_answer, send_after, take_in, datagram_of, deliver, deliver_if, arrivals}
+use Rattle.lan_machine.specs.Machine.{bind_answer, bind_after, is_unaddressable, send_answer, send_after, take_in, datagram_of, deliver, deliver_if, arrivals, has_queued}
 use Rattle.lan_machine.specs.Laws.{HasArrived, port_after}
 use Rattle.lan_machine.proofs.Members.{member_of_push}
 
 -- BIND
 
-pub bound_port : (s : SocketValue) (side : Side) (i port : ℕ) → (bind_after s port).port ≡ port_after i (Bind side i port) (bind_answer s port) s.port
+pub bound_port :
+    (s : SocketValue) (side : Side) (i port : ℕ) →
+    (bind_after s port).port ≡ port_after i (Bind side i port) (bind_answer s port) s.port
 bound_port s side i port =
     elim (cases_Bool (port == 0)) [
       | inl none ↦ elim (cases_Bool (s.port == 0)) [
@@ -49,12 +52,16 @@ with_queued s d = record s { queued = s.queued ++ d ∷ [] }
 abbrev pub SendsOrNot : Bool → SocketValue → SocketValue → SocketValue → Answer → Type 0
 SendsOrNot unaddressable s queued after answer = (after ≡ s) ⊎ ((after ≡ queued) × (answer ≡ Done) × (unaddressable ≡ false))
 
-sends_by : (u f : Bool) (s queued : SocketValue) → SendsOrNot u s queued (cond (u || f) s queued) (cond u (Error Unaddressable) (cond f (Error BufferFull) Done))
+sends_by :
+    (u f : Bool) (s queued : SocketValue) →
+    SendsOrNot u s queued (cond (u || f) s queued) (cond u (Error Unaddressable) (cond f (Error BufferFull) Done))
 sends_by true f s queued = inl refl
 sends_by false true s queued = inl refl
 sends_by false false s queued = inr (refl, refl, refl)
 
-pub send_cases : (s : SocketValue) (d : DatagramValue) → SendsOrNot (is_unaddressable s d.remote) s (with_queued s d) (send_after s d.remote d.bytes) (send_answer s d.remote d.bytes)
+pub send_cases :
+    (s : SocketValue) (d : DatagramValue) →
+    SendsOrNot (is_unaddressable s d.remote) s (with_queued s d) (send_after s d.remote d.bytes) (send_answer s d.remote d.bytes)
 send_cases s d = sends_by (is_unaddressable s d.remote) (is_full s.send_packets s.send_bytes s.queued (length d.bytes)) s (with_queued s d)
 
 pub sent_port : (s : SocketValue) (d : DatagramValue) → (send_after s d.remote d.bytes).port ≡ s.port
@@ -77,7 +84,9 @@ addressable s remote e =
 -- ARRIVAL
 
 -- a socket took in nothing, or one datagram
-pub take_in_cases : (s : SocketValue) (d : DatagramValue) → (take_in s d ≡ s) ⊎ (take_in s d ≡ record s { received = s.received ++ d ∷ [] })
+pub take_in_cases :
+    (s : SocketValue) (d : DatagramValue) →
+    (take_in s d ≡ s) ⊎ (take_in s d ≡ record s { received = s.received ++ d ∷ [] })
 take_in_cases s d =
     elim (cases_Bool (is_full s.receive_packets s.receive_bytes s.received (length d.bytes))) [ inl full ↦ inl (rw full refl) | inr room ↦ inr (rw room refl) ]
 
@@ -90,7 +99,9 @@ pub record Receives (address : List ℕ) (frames : List (List ℕ)) (s t : Socke
 nothing_received : (address : List ℕ) (frames : List (List ℕ)) (s : SocketValue) → Receives address frames s s
 nothing_received address frames s = record { port = refl; queued = refl; received = λ d old. inl old }
 
-one_received : (address frame : List ℕ) (p : Packet) (s : SocketValue) → packet_of frame ≡ Some p → p.destination ≡ address → p.destination_port ≡ s.port → Receives address (frame ∷ []) s (take_in s (datagram_of p))
+one_received :
+    (address frame : List ℕ) (p : Packet) (s : SocketValue) → packet_of frame ≡ Some p → p.destination ≡ address →
+    p.destination_port ≡ s.port → Receives address (frame ∷ []) s (take_in s (datagram_of p))
 one_received address frame p s carried own bound =
     elim (take_in_cases s (datagram_of p)) [
       | inl same ↦ subst (λ t. Receives address (frame ∷ []) s t) (sym same) (nothing_received address (frame ∷ []) s)
@@ -105,14 +116,18 @@ one_received address frame p s carried own bound =
     ]
 
 -- a packet goes to at most one socket, which is bound to its port
-delivered_at : (p : Packet) (ss : List SocketValue) (i : ℕ) → (get_or (deliver p ss) i no_socket ≡ get_or ss i no_socket) ⊎ ((get_or (deliver p ss) i no_socket ≡ take_in (get_or ss i no_socket) (datagram_of p)) × (p.destination_port ≡ (get_or ss i no_socket).port))
+delivered_at :
+    (p : Packet) (ss : List SocketValue) (i : ℕ) →
+    (get_or (deliver p ss) i no_socket ≡ get_or ss i no_socket) ⊎ ((get_or (deliver p ss) i no_socket ≡ take_in (get_or ss i no_socket) (datagram_of p)) × (p.destination_port ≡ (get_or ss i no_socket).port))
 delivered_at p [] i = inl refl
 delivered_at p (s ∷ ss) zero =
     elim (cases_Bool (s.port == p.destination_port)) [ inl bound ↦ inr (rw bound refl, sym (eqb-true _ _ bound)) | inr other ↦ inl (rw other refl) ]
 delivered_at p (s ∷ ss) (suc i) =
     elim (cases_Bool (s.port == p.destination_port)) [ inl bound ↦ inl (rw bound refl) | inr other ↦ rw other (delivered_at p ss i) ]
 
-arrived_by : (address frame : List ℕ) (o : Option Packet) (ss : List SocketValue) (i : ℕ) → packet_of frame ≡ o → Receives address (frame ∷ []) (get_or ss i no_socket) (get_or (deliver_if address o ss) i no_socket)
+arrived_by :
+    (address frame : List ℕ) (o : Option Packet) (ss : List SocketValue) (i : ℕ) → packet_of frame ≡ o →
+    Receives address (frame ∷ []) (get_or ss i no_socket) (get_or (deliver_if address o ss) i no_socket)
 arrived_by address frame None ss i carried = nothing_received address (frame ∷ []) (get_or ss i no_socket)
 arrived_by address frame (Some p) ss i carried =
     elim (cases_Bool (bytes_eq p.destination address)) [
@@ -123,13 +138,19 @@ arrived_by address frame (Some p) ss i carried =
       | inr other ↦ rw other (nothing_received address (frame ∷ []) (get_or ss i no_socket))
     ]
 
-later : {address : List ℕ} {port : ℕ} {frame : List ℕ} {frames : List (List ℕ)} {d : DatagramValue} → HasArrived address port frames d → HasArrived address port (frame ∷ frames) d
+later :
+    {address : List ℕ} {port : ℕ} {frame : List ℕ} {frames : List (List ℕ)} {d : DatagramValue} →
+    HasArrived address port frames d → HasArrived address port (frame ∷ frames) d
 later a = record { frame = a.frame; packet = a.packet; among = inr a.among; carries = a.carries; own = a.own; bound = a.bound; holds = a.holds }
 
-first : {address : List ℕ} {port : ℕ} {frame : List ℕ} {frames : List (List ℕ)} {d : DatagramValue} → HasArrived address port (frame ∷ []) d → HasArrived address port (frame ∷ frames) d
+first :
+    {address : List ℕ} {port : ℕ} {frame : List ℕ} {frames : List (List ℕ)} {d : DatagramValue} →
+    HasArrived address port (frame ∷ []) d → HasArrived address port (frame ∷ frames) d
 first a = record { frame = a.frame; packet = a.packet; among = elim a.among [ inl same ↦ inl same | inr none ↦ absurd none ]; carries = a.carries; own = a.own; bound = a.bound; holds = a.holds }
 
-both_receive : (address frame : List ℕ) (frames : List (List ℕ)) (s t u : SocketValue) → Receives address (frame ∷ []) s t → Receives address frames t u → Receives address (frame ∷ frames) s u
+both_receive :
+    (address frame : List ℕ) (frames : List (List ℕ)) (s t u : SocketValue) → Receives address (frame ∷ []) s t →
+    Receives address frames t u → Receives address (frame ∷ frames) s u
 both_receive address frame frames s t u one more =
     record {
       port = more.port ∙ one.port;
@@ -140,7 +161,9 @@ both_receive address frame frames s t u one more =
       ];
     }
 
-pub arrived_at : (address : List ℕ) (frames : List (List ℕ)) (ss : List SocketValue) (i : ℕ) → Receives address frames (get_or ss i no_socket) (get_or (arrivals address frames ss) i no_socket)
+pub arrived_at :
+    (address : List ℕ) (frames : List (List ℕ)) (ss : List SocketValue) (i : ℕ) →
+    Receives address frames (get_or ss i no_socket) (get_or (arrivals address frames ss) i no_socket)
 arrived_at address [] ss i = nothing_received address [] (get_or ss i no_socket)
 arrived_at address (frame ∷ frames) ss i =
     both_receive address frame frames _ _ _ (arrived_by address frame (packet_of frame) ss i refl) (arrived_at address frames (deliver_if address (packet_of frame) ss) i)
@@ -155,6 +178,38 @@ length-deliver_if : (address : List ℕ) (o : Option Packet) (ss : List SocketVa
 length-deliver_if address None ss = refl
 length-deliver_if address (Some p) ss = elim (cases_Bool (bytes_eq p.destination address)) [ inl own ↦ rw own (length-deliver p ss) | inr other ↦ rw other refl ]
 
-pub length-arrivals : (address : List ℕ) (frames : List (List ℕ)) (ss : List SocketValue) → length (arrivals address frames ss) ≡ length ss
+pub length-arrivals :
+    (address : List ℕ) (frames : List (List ℕ)) (ss : List SocketValue) → length (arrivals address frames ss) ≡ length ss
 length-arrivals address [] ss = refl
 length-arrivals address (frame ∷ frames) ss = length-arrivals address frames (deliver_if address (packet_of frame) ss) ∙ length-deliver_if address (packet_of frame) ss
+
+-- WHAT IS QUEUED
+
+taken_queue : (s : SocketValue) (d : DatagramValue) → has_queued (take_in s d) ≡ has_queued s
+taken_queue s d =
+    elim (take_in_cases s d) [
+      | inl same ↦ ap (λ (t : SocketValue). has_queued t) same
+      | inr grown ↦ ap (λ (t : SocketValue). has_queued t) grown
+    ]
+
+delivered_queues : (p : Packet) (ss : List SocketValue) → list_any has_queued (deliver p ss) ≡ list_any has_queued ss
+delivered_queues p [] = refl
+delivered_queues p (s ∷ ss) =
+    elim (cases_Bool (s.port == p.destination_port)) [
+      | inl bound ↦ rw bound (ap (λ (b : Bool). b || list_any has_queued ss) (taken_queue s (datagram_of p)))
+      | inr other ↦ rw other (ap (λ (b : Bool). has_queued s || b) (delivered_queues p ss))
+    ]
+
+queues_after :
+    (address : List ℕ) (o : Option Packet) (ss : List SocketValue) →
+    list_any has_queued (deliver_if address o ss) ≡ list_any has_queued ss
+queues_after address None ss = refl
+queues_after address (Some p) ss =
+    elim (cases_Bool (bytes_eq p.destination address)) [ inl own ↦ rw own (delivered_queues p ss) | inr other ↦ rw other refl ]
+
+pub arrived_queues :
+    (address : List ℕ) (frames : List (List ℕ)) (ss : List SocketValue) →
+    list_any has_queued (arrivals address frames ss) ≡ list_any has_queued ss
+arrived_queues address [] ss = refl
+arrived_queues address (frame ∷ frames) ss =
+    arrived_queues address frames (deliver_if address (packet_of frame) ss) ∙ queues_after address (packet_of frame) ss

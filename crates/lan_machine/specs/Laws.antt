@@ -1,7 +1,9 @@
--- The laws of the host machine, each a type whose proof is the lemma named beside it in proofs.MachineLaws: a proof of a crate
--- above applies `Rattle.lan_machine.proofs.MachineLaws.read_law` and the like to its own values.
+-- The laws of the host machine, each a type whose proof is the lemma named beside it in proofs/MachineLaws. A proof of a
+-- crate above imports the lemma, as `use Rattle.lan_machine.proofs.MachineLaws.{queued_law}`, and applies it to its own
+-- values.
 use Rattle.std.specs.Prelude.{◌≡◌, ◌≢◌, ◌⊎◌, ⊤, ℕ, ◌+◌, ◌<◌, ◌^◌, true, false, ◌==◌, if◌then◌else◌, List, [], ◌∷◌, ◌++◌, length, slice_index_or, Some, None}
 use Rattle.std.specs.List.{list_any}
+use Rattle.std.specs.Int.{to_be_bytes, w16}
 use Rattle.lan_machine.specs.declared.event.Side.{Side}
 use Rattle.lan_machine.specs.declared.event.Endpoint.{Endpoint}
 use Rattle.lan_machine.specs.declared.event.Event.{Event}
@@ -11,7 +13,7 @@ use Rattle.lan_machine.specs.declared.event.Answer.TheVariants.{Done, FromEndpoi
 use Rattle.lan_machine.specs.Members.{◌∈◌}
 use Rattle.lan_machine.specs.Values.{DatagramValue, SocketValue, HostValue, no_socket, socket_at}
 use Rattle.lan_machine.specs.Packet.{Packet, packet_of, spelling}
-use Rattle.lan_machine.specs.Machine.{fits, packet_from, datagram_of, has_queued, passes_frames, passes_after, answer_of, host_after, frames_of}
+use Rattle.lan_machine.specs.Machine.{fits, packet_from, datagram_of, has_queued, arrivals, passes_frames, passes_after, answer_of, host_after, frames_of}
 
 -- READ
 
@@ -23,12 +25,13 @@ ReadLaw =
 
 -- QUEUED
 
--- the event is the sending of this datagram from the socket, which is bound, and it is accepted
+-- the event is the sending of this datagram from the socket, which is bound, to a port, and it is accepted
 pub record IsAccepted (h : HostValue) (event : Event) (taken : List (List ℕ)) (i : ℕ) (d : DatagramValue) : Type 0 where
   pub side : Side
   pub sends : event ≡ SendTo side i d.remote d.bytes
   pub done : answer_of h event taken ≡ Done
   pub bound : (socket_at h i).port ≢ 0
+  pub specified : d.remote.port ≢ 0
 
 -- what is queued was queued before, or is accepted now: `queued_law`
 abbrev pub QueuedLaw : Type 0
@@ -134,6 +137,12 @@ RangeLaw =
     (h : HostValue) (event : Event) (taken : List (List ℕ)) →
     IsInRange h → IsEventInRange event → IsInRange (host_after h event taken)
 
+-- a host whose sockets are all unbound, with nothing queued, is in range: `unused_law`
+abbrev pub UnusedLaw : Type 0
+UnusedLaw =
+    (h : HostValue) → length h.address ≡ 4 → ((i : ℕ) → i < length h.sockets → (socket_at h i).port ≡ 0) →
+    ((i : ℕ) → i < length h.sockets → (socket_at h i).queued ≡ []) → IsInRange h
+
 -- FRAMES AND PACKETS
 
 -- a packet that a frame can spell
@@ -170,6 +179,12 @@ IdleLaw =
     (address : List ℕ) (mtu budget : ℕ) (ss : List SocketValue) →
     list_any has_queued ss ≡ false → (passes_frames address mtu budget ss ≡ []) × (passes_after budget ss ≡ ss)
 
+-- an arrival leaves what is queued to be sent, so that the answer of a poll can tell it afterwards: `arrivals_law`
+abbrev pub ArrivalsLaw : Type 0
+ArrivalsLaw =
+    (address : List ℕ) (frames : List (List ℕ)) (ss : List SocketValue) →
+    list_any has_queued (arrivals address frames ss) ≡ list_any has_queued ss
+
 -- A WORKED EXAMPLE
 
 -- four bytes from port 48896 of 192.168.1.1 to port 53 of 192.168.1.2
@@ -183,15 +198,24 @@ example_packet =
       payload = 0xaa ∷ 0 ∷ 0 ∷ 0xff ∷ [];
     }
 
--- its 32 bytes, but for the last
-abbrev pub example_front : List ℕ
-example_front =
-    0x45 ∷ 0x00 ∷ 0x00 ∷ 0x20 ∷ 0x00 ∷ 0x00 ∷ 0x40 ∷ 0x00 ∷ 0x40 ∷ 0x11 ∷ 0xb7 ∷ 0x79
-    ∷ 0xc0 ∷ 0xa8 ∷ 0x01 ∷ 0x01 ∷ 0xc0 ∷ 0xa8 ∷ 0x01 ∷ 0x02
-    ∷ 0xbf ∷ 0x00 ∷ 0x00 ∷ 0x35 ∷ 0x00 ∷ 0x0c ∷ 0x12 ∷ 0x4d ∷ 0xaa ∷ 0x00 ∷ 0x00 ∷ []
+-- a frame from the one address to the other, with these flags and offset, protocol and header checksum
+abbrev pub example_frame : ℕ → ℕ → ℕ → List ℕ → List ℕ
+example_frame flags protocol check rest =
+    0x45 ∷ 0x00 ∷ 0x00 ∷ 0x20 ∷ 0x00 ∷ 0x00 ∷ [] ++ to_be_bytes w16 flags ++ (0x40 ∷ protocol ∷ []) ++ to_be_bytes w16 check
+    ++ (0xc0 ∷ 0xa8 ∷ 0x01 ∷ 0x01 ∷ 0xc0 ∷ 0xa8 ∷ 0x01 ∷ 0x02 ∷ []) ++ rest
 
--- the frame that spells it, what it carries with padding, and that nothing is carried once a byte has changed
+-- its UDP header with this checksum, and the payload with this last byte
+abbrev pub example_datagram : ℕ → ℕ → List ℕ
+example_datagram check last =
+    0xbf ∷ 0x00 ∷ 0x00 ∷ 0x35 ∷ 0x00 ∷ 0x0c ∷ [] ++ to_be_bytes w16 check ++ (0xaa ∷ 0x00 ∷ 0x00 ∷ last ∷ [])
+
+-- the frame that spells the packet, what it carries with padding and without a checksum, and frames that carry
+-- nothing: one with a changed byte, a first fragment, a later fragment, and one of another protocol
 pub record ExampleLaw : Type 0 where
-  pub spelled : spelling example_packet ≡ example_front ++ 0xff ∷ []
-  pub padded : packet_of (example_front ++ 0xff ∷ 1 ∷ 2 ∷ 3 ∷ []) ≡ Some example_packet
-  pub changed : packet_of (example_front ++ 0xfe ∷ []) ≡ None
+  pub spelled : spelling example_packet ≡ example_frame 0x4000 17 0xb779 (example_datagram 0x124d 0xff)
+  pub padded : packet_of (example_frame 0x4000 17 0xb779 (example_datagram 0x124d 0xff) ++ 1 ∷ 2 ∷ 3 ∷ []) ≡ Some example_packet
+  pub unchecked : packet_of (example_frame 0x4000 17 0xb779 (example_datagram 0 0xff)) ≡ Some example_packet
+  pub changed : packet_of (example_frame 0x4000 17 0xb779 (example_datagram 0x124d 0xfe)) ≡ None
+  pub first_fragment : packet_of (example_frame 0x2000 17 0xd779 (example_datagram 0x124d 0xff)) ≡ None
+  pub later_fragment : packet_of (example_frame 0x4001 17 0xb778 (example_datagram 0x124d 0xff)) ≡ None
+  pub other_protocol : packet_of (example_frame 0x4000 6 0xb784 (example_datagram 0x124d 0xff)) ≡ None
