@@ -1,8 +1,11 @@
 -- What contracts of the members cite, for the crates above: `Rattle.net_base.specs.Time`,
 -- `Rattle.net_base.specs.Instant.{Instant}`, `Rattle.net_base.specs.Medium.TheVariants.{Ip}`.
+pub use Rattle.net_time.specs.Rand as RandomWords
+pub use Rattle.net_time.specs.Text as TimeText
 pub use Rattle.net_time.specs.Time
 pub use Rattle.net_time.specs.declared.instant.Instant
 pub use Rattle.net_time.specs.declared.duration.Duration
+pub use Rattle.net_time.specs.declared.rand.Rand
 pub use Rattle.net_devices.specs.Capabilities
 pub use Rattle.net_devices.specs.Device
 pub use Rattle.net_devices.specs.Loopback
@@ -12,3 +15,5 @@ pub use Rattle.net_devices.specs.declared.capabilities.DeviceCapabilities
 pub use Rattle.net_devices.specs.declared.capabilities.Medium
 pub use Rattle.net_devices.specs.declared.device.PacketMeta
 pub use Rattle.net_devices.specs.declared.device.SendRefused
+pub use Rattle.net_devices.specs.declared.loopback.Loopback as LoopbackDevice
+pub use Rattle.net_devices.specs.declared.owned.OwnedRxToken

@@ -1,4 +1,4 @@
-//! The base of the stack: time and devices.
+//! The base of the stack: time, random words and devices.
 //!
 //! It holds nothing of its own: it passes on the items of its members, `net_time` and
 //! `net_devices`. A crate above names `net_base` alone, in `crates.txt` and in its code, as
@@ -12,4 +12,4 @@ pub use net_devices::{
     Checksum, ChecksumCapabilities, Device, DeviceCapabilities, IPV4_FRAGMENT_PAYLOAD_ALIGNMENT,
     Loopback, LoopbackTxToken, Medium, OwnedRxToken, PacketMeta, RxToken, SendRefused, TxToken,
 };
-pub use net_time::{Duration, Instant};
+pub use net_time::{Duration, Instant, Rand, laws};

@@ -5,6 +5,8 @@ mod capabilities;
 mod device;
 mod loopback;
 mod owned;
+#[cfg(test)]
+mod tests;
 
 pub use capabilities::{
     Checksum, ChecksumCapabilities, DeviceCapabilities, IPV4_FRAGMENT_PAYLOAD_ALIGNMENT, Medium,

@@ -1,1 +1,3 @@
+pub mod Rand
+pub mod Text
 pub mod Time

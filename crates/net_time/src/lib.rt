@@ -1,8 +1,14 @@
-//! Moments and durations of the stack, whole numbers of microseconds.
+//! Time in whole numbers of microseconds, and random words.
 #![tactic(auto)]
 
 mod duration;
 mod instant;
+pub mod laws;
+mod rand;
+#[cfg(test)]
+mod tests;
+mod text;
 
 pub use duration::Duration;
 pub use instant::Instant;
+pub use rand::Rand;
