@@ -1,7 +1,7 @@
 //! Addresses of the medium below IP.
-ghost use Rattle.std.specs.Prelude.{◌≡◌};
+ghost use Rattle.std.specs.Prelude.{◌≡◌, ◌↔◌, IsTrue};
 ghost use Rattle.ip_address.specs.declared.hardware.HardwareAddress.TheVariants as Hardware;
-ghost use Rattle.ip_address.specs.Address.{hardware_bytes};
+ghost use Rattle.ip_address.specs.Address.{hardware_bytes, IsHardwareUnicast, IsHardwareBroadcast};
 
 use crate::ethernet::EthernetAddress;
 
@@ -24,6 +24,26 @@ impl HardwareAddress {
         match self {
             HardwareAddress::Ip => &[],
             HardwareAddress::Ethernet(address) => address.as_bytes(),
+        }
+    }
+
+    /// Whether the address names one station.
+    pub fn is_unicast(&self) -> bool
+        ensures { IsTrue result ↔ IsHardwareUnicast self.now }
+    {
+        match self {
+            HardwareAddress::Ip => false,
+            HardwareAddress::Ethernet(address) => address.is_unicast(),
+        }
+    }
+
+    /// Whether the address is that of all stations.
+    pub fn is_broadcast(&self) -> bool
+        ensures { IsTrue result ↔ IsHardwareBroadcast self.now }
+    {
+        match self {
+            HardwareAddress::Ip => false,
+            HardwareAddress::Ethernet(address) => address.is_broadcast(),
         }
     }
 }

@@ -1,5 +1,10 @@
 //! IPv4 addresses and blocks of them.
-ghost use Rattle.std.specs.Prelude.{◌≡◌, ◌≤◌, ◌∷◌, []};
+ghost use Rattle.std.specs.Prelude.{◌≡◌, ◌↔◌, ◌-◌, ◌^◌, ◌≤◌, ◌∷◌, [], IsTrue};
+ghost use Rattle.ip_address.specs.Address.{v4_number, IsUnspecifiedV4, IsLoopbackV4, IsMulticastV4, IsBroadcastV4, IsUnicastV4, IsMaskV4};
+
+use byteorder::{BigEndian, ByteOrder};
+
+use crate::ip::AddressExt;
 
 /// The length of packet that every IPv4 link takes whole (RFC 791, section 3.2).
 pub const IPV4_MIN_MTU: usize = 576;
@@ -33,6 +38,65 @@ impl Ipv4Address {
     {
         self.0
     }
+
+    /// Whether this is `0.0.0.0`.
+    pub fn is_unspecified(&self) -> bool
+        ensures { IsTrue result ↔ IsUnspecifiedV4 self.now }
+    {
+        self.0 == [0; 4]
+    }
+
+    /// Whether this is an address by which a host reaches itself.
+    pub const fn is_loopback(&self) -> bool
+        ensures { IsTrue result ↔ IsLoopbackV4 self.now }
+    {
+        self.0[0] == 127
+    }
+
+    /// Whether this is the address of a group.
+    pub const fn is_multicast(&self) -> bool
+        ensures { IsTrue result ↔ IsMulticastV4 self.now }
+    {
+        self.0[0] >> 4 == 14
+    }
+
+    /// Whether this is `255.255.255.255`.
+    pub fn is_broadcast(&self) -> bool
+        ensures { IsTrue result ↔ IsBroadcastV4 self.now }
+    {
+        self.0 == [255; 4]
+    }
+
+    /// The address as a number, its first byte the most significant.
+    pub(crate) fn to_bits(self) -> u32
+        ensures { result ≡ v4_number self }
+    {
+        BigEndian::read_u32(&self.0)
+    }
+}
+
+impl AddressExt for Ipv4Address {
+    ghost is_unicast = { IsUnicastV4 };
+
+    ghost is_mask = { IsMaskV4 };
+
+    fn x_is_unicast(&self) -> bool {
+        !(self.is_unspecified() || self.is_multicast() || self.is_broadcast())
+    }
+
+    fn prefix_len(&self) -> Option<u8> {
+        let bits = self.to_bits();
+        let ones = bits.leading_ones();
+        if bits == mask_of(ones as u8) { Some(ones as u8) } else { None }
+    }
+}
+
+/// The number of `ones` ones, then zeros.
+fn mask_of(ones: u8) -> u32
+    requires { ones ≤ 32 }
+    ensures { result ≡ 2 ^ 32 - 2 ^ (32 - ones) }
+{
+    ((1u64 << 32) - (1u64 << (32 - ones))) as u32
 }
 
 /// A block of IPv4 addresses: those whose first `prefix_len` bits are the address's. The

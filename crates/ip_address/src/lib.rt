@@ -12,7 +12,7 @@ pub mod network_order;
 
 pub use ethernet::{EthernetAddress, EthernetProtocol};
 pub use hardware::{HardwareAddress, MAX_HARDWARE_ADDRESS_LEN};
-pub use ip::{IpAddress, IpCidr, IpEndpoint, IpListenEndpoint, IpProtocol, IpVersion};
+pub use ip::{AddressExt, IpAddress, IpCidr, IpEndpoint, IpListenEndpoint, IpProtocol, IpVersion};
 pub use ipv4::{
     IPV4_MIN_MTU, IPV4_MULTICAST_ALL_ROUTERS, IPV4_MULTICAST_ALL_SYSTEMS, Ipv4Address, Ipv4Cidr,
 };
