@@ -75,7 +75,7 @@ IsHardwareBroadcast (Hardware.Ethernet a) = IsEthernetBroadcast a
 -- IPv4 (RFC 1122, section 3.2.1.3; RFC 1112, section 4).
 
 -- the address as a number, the first byte the most significant
-abbrev pub v4_number : Ipv4Address → ℕ
+unfoldable pub v4_number : Ipv4Address → ℕ
 v4_number a = big_number 4 a.0
 
 -- 0.0.0.0
@@ -105,7 +105,7 @@ IsMaskV4 a n = (n ≤ 32) × (v4_number a ≡ 2 ^ 32 - 2 ^ (32 - n))
 -- IPv6 (RFC 4291, sections 2.4 to 2.7).
 
 -- the address as a number, the first byte the most significant
-abbrev pub v6_number : Ipv6Address → ℕ
+unfoldable pub v6_number : Ipv6Address → ℕ
 v6_number a = big_number 16 a.0
 
 -- ::

@@ -4,7 +4,7 @@ ghost use Rattle.std.specs.Net.Addr.{octets_of};
 ghost use Rattle.ip_address.specs.declared.ip.IpAddress.TheVariants as Address;
 ghost use Rattle.ip_address.specs.declared.ip.IpCidr.TheVariants as Block;
 ghost use Rattle.ip_address.specs.Address.{version_of, IsUnspecified, IsMulticast, IsBroadcast, IsUnicast, IsMask};
-ghost use Rattle.ip_address.specs.Block.{width_of, block_address, block_prefix_len};
+ghost use Rattle.ip_address.specs.Block.{width_of, block_address, block_prefix_len, IsIn, IsWithin};
 ghost use Rattle.ip_address.specs.Protocol.{protocol_number, protocol_of};
 
 use crate::ipv4::{Ipv4Address, Ipv4Cidr};
@@ -239,6 +239,28 @@ impl IpCidr {
         match self {
             IpCidr::Ipv4(block) => block.prefix_len,
             IpCidr::Ipv6(block) => block.prefix_len,
+        }
+    }
+
+    /// Whether the address is in the block.
+    pub fn contains_addr(&self, address: &IpAddress) -> bool
+        ensures { IsTrue result ↔ IsIn self.now address.now }
+    {
+        match (self, address) {
+            (IpCidr::Ipv4(block), IpAddress::Ipv4(address)) => block.contains_addr(address),
+            (IpCidr::Ipv6(block), IpAddress::Ipv6(address)) => block.contains_addr(address),
+            _ => false,
+        }
+    }
+
+    /// Whether each address of the other block is in this one.
+    pub fn contains_subnet(&self, subnet: &IpCidr) -> bool
+        ensures { IsTrue result ↔ IsWithin self.now subnet.now }
+    {
+        match (self, subnet) {
+            (IpCidr::Ipv4(outer), IpCidr::Ipv4(inner)) => outer.contains_subnet(inner),
+            (IpCidr::Ipv6(outer), IpCidr::Ipv6(inner)) => outer.contains_subnet(inner),
+            _ => false,
         }
     }
 }

@@ -1,7 +1,7 @@
 //! IPv6 addresses and blocks of them.
 ghost use Rattle.std.specs.Prelude.{◌≡◌, ◌↔◌, ◌-◌, ◌^◌, ◌≤◌, ◌/◌, ◌%◌, ◌∷◌, [], IsTrue};
 ghost use Rattle.std.specs.Net.Addr.{octets_of};
-ghost use Rattle.ip_address.specs.Address.{v6_number, IsUnspecifiedV6, IsLoopbackV6, IsMulticastV6, IsLinkLocal, IsUnicastV6, IsMaskV6, scope_of, IsSolicitedNode, solicited_of};
+ghost use Rattle.ip_address.specs.Address.{v6_number, IsIpv6Address, IsUnspecifiedV6, IsLoopbackV6, IsMulticastV6, IsLinkLocal, IsUnicastV6, IsMaskV6, scope_of, IsSolicitedNode, solicited_of};
 
 use byteorder::{BigEndian, ByteOrder};
 
@@ -118,7 +118,8 @@ impl Ipv6Address {
 
     /// The address as a number, its first byte the most significant.
     pub(crate) fn to_bits(self) -> u128
-        ensures { result ≡ v6_number self }
+        ensures value { result ≡ v6_number self }
+        ensures whole { IsIpv6Address self }
     {
         BigEndian::read_u128(&self.0)
     }
@@ -165,6 +166,19 @@ pub struct Ipv6Cidr {
 }
 
 impl Ipv6Cidr {
+    ghost use Rattle.ip_address.specs.Block.{IsInV6, IsWithinV6};
+
+    /// The block of all solicited-node addresses, `ff02::1:ff00:0/104`.
+    pub const SOLICITED_NODE_PREFIX: Ipv6Cidr = Ipv6Cidr {
+        address: Ipv6Address([0xff, 2, 0, 0, 0, 0, 0, 0, 0, 0, 0, 1, 0xff, 0, 0, 0]),
+        prefix_len: 104,
+    };
+    /// The block of the addresses that no router passes on, `fe80::/10`.
+    pub const LINK_LOCAL_PREFIX: Ipv6Cidr = Ipv6Cidr {
+        address: Ipv6Address([0xfe, 0x80, 0, 0, 0, 0, 0, 0, 0, 0, 0, 0, 0, 0, 0, 0]),
+        prefix_len: 10,
+    };
+
     /// The block of the addresses that begin with the first `prefix_len` bits of `address`.
     pub const fn new(address: Ipv6Address, prefix_len: u8) -> Ipv6Cidr
         requires { prefix_len ≤ 128 }
@@ -191,4 +205,34 @@ impl Ipv6Cidr {
     {
         self.prefix_len
     }
+
+    /// Whether the address is in the block.
+    pub fn contains_addr(&self, address: &Ipv6Address) -> bool
+        ensures { IsTrue result ↔ IsInV6 self.now address.now }
+    {
+        self.contains_bits(address.to_bits())
+    }
+
+    /// Whether each address of the other block is in this one.
+    pub fn contains_subnet(&self, subnet: &Ipv6Cidr) -> bool
+        ensures { IsTrue result ↔ IsWithinV6 self.now subnet.now }
+    {
+        let bits = subnet.address.to_bits();
+        self.prefix_len <= subnet.prefix_len && self.contains_bits(bits)
+    }
+
+    /// Whether the address that is this number is in the block.
+    fn contains_bits(&self, bits: u128) -> bool
+        ensures { IsTrue result ↔ (bits / 2 ^ (128 - self.now.prefix_len) ≡ v6_number self.now.address / 2 ^ (128 - self.now.prefix_len)) }
+    {
+        leading_bits(bits, self.prefix_len) == leading_bits(self.address.to_bits(), self.prefix_len)
+    }
+}
+
+/// The first `count` bits of 128.
+fn leading_bits(bits: u128, count: u8) -> u128
+    requires { count ≤ 128 }
+    ensures { result ≡ bits / 2 ^ (128 - count) }
+{
+    if count == 0 { 0 } else { bits >> (128 - count) }
 }
