@@ -1,5 +1,10 @@
 -- A block is the set of the addresses of one family whose first bits are those of its address (RFC 4632, section 3.1).
-use Rattle.std.specs.Prelude.{ℕ}
+use Rattle.std.specs.Prelude.{◌≡◌, ℕ, ◌+◌, ◌-◌, ◌/◌, ◌%◌, ◌^◌}
+use Rattle.ip_address.specs.Address.{v4_number, v6_number, IsIpv4Address, IsIpv6Address}
+use Rattle.ip_address.specs.declared.ipv4.Ipv4Address.{Ipv4Address}
+use Rattle.ip_address.specs.declared.ipv4.Ipv4Cidr.{Ipv4Cidr}
+use Rattle.ip_address.specs.declared.ipv6.Ipv6Address.{Ipv6Address}
+use Rattle.ip_address.specs.declared.ipv6.Ipv6Cidr.{Ipv6Cidr}
 use Rattle.ip_address.specs.declared.ip.IpAddress.{IpAddress}
 use Rattle.ip_address.specs.declared.ip.IpAddress.TheVariants as Ip
 use Rattle.ip_address.specs.declared.ip.IpCidr.{IpCidr}
@@ -19,3 +24,43 @@ block_address (Block.Ipv6 b) = Ip.Ipv6 b.address
 abbrev pub block_prefix_len : IpCidr → ℕ
 block_prefix_len (Block.Ipv4 b) = b.prefix_len
 block_prefix_len (Block.Ipv6 b) = b.prefix_len
+
+-- the block holds the address: the first prefix_len bits of both agree
+abbrev pub IsInV4 : Ipv4Cidr → Ipv4Address → Type 0
+IsInV4 b a = v4_number a / 2 ^ (32 - b.prefix_len) ≡ v4_number b.address / 2 ^ (32 - b.prefix_len)
+
+-- the same for IPv6
+abbrev pub IsInV6 : Ipv6Cidr → Ipv6Address → Type 0
+IsInV6 b a = v6_number a / 2 ^ (128 - b.prefix_len) ≡ v6_number b.address / 2 ^ (128 - b.prefix_len)
+
+-- a block holds addresses of its own family alone
+abbrev pub IsIn : IpCidr → IpAddress → Type 0
+IsIn (Block.Ipv4 b) (Ip.Ipv4 a) = IsInV4 b a
+IsIn (Block.Ipv6 b) (Ip.Ipv6 a) = IsInV6 b a
+IsIn _ _ = ⊥
+
+-- every address of the inner block is in the outer one
+abbrev pub IsWithinV4 : Ipv4Cidr → Ipv4Cidr → Type 0
+IsWithinV4 outer inner = (a : Ipv4Address) → IsIpv4Address a → IsInV4 inner a → IsInV4 outer a
+
+-- the same for IPv6
+abbrev pub IsWithinV6 : Ipv6Cidr → Ipv6Cidr → Type 0
+IsWithinV6 outer inner = (a : Ipv6Address) → IsIpv6Address a → IsInV6 inner a → IsInV6 outer a
+
+-- blocks of different families never hold each other
+abbrev pub IsWithin : IpCidr → IpCidr → Type 0
+IsWithin (Block.Ipv4 outer) (Block.Ipv4 inner) = IsWithinV4 outer inner
+IsWithin (Block.Ipv6 outer) (Block.Ipv6 inner) = IsWithinV6 outer inner
+IsWithin _ _ = ⊥
+
+-- the block's address with the host bits zero
+abbrev pub network_number : Ipv4Cidr → ℕ
+network_number b = v4_number b.address - v4_number b.address % 2 ^ (32 - b.prefix_len)
+
+-- the block's address with the host bits one
+abbrev pub broadcast_number : Ipv4Cidr → ℕ
+broadcast_number b = network_number b + (2 ^ (32 - b.prefix_len) - 1)
+
+-- prefix_len ones, then zeros
+abbrev pub netmask_number : Ipv4Cidr → ℕ
+netmask_number b = 2 ^ 32 - 2 ^ (32 - b.prefix_len)

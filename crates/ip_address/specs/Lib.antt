@@ -5,3 +5,5 @@ pub mod Address
 pub mod Block
 pub mod Protocol
 pub mod Pseudo
+pub mod Seq
+pub mod Hardware

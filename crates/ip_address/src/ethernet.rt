@@ -1,5 +1,6 @@
 //! Ethernet addresses and the numbers of what a frame carries.
-ghost use Rattle.std.specs.Prelude.{◌≡◌, length};
+ghost use Rattle.std.specs.Prelude.{◌≡◌, ◌↔◌, IsTrue, length};
+ghost use Rattle.ip_address.specs.Address.{IsEthernetBroadcast, IsEthernetMulticast, IsEthernetLocal, IsEthernetUnicast};
 ghost use Rattle.ip_address.specs.Protocol.{ether_number, ether_of};
 
 /// A six-byte Ethernet address, in the order in which its bytes are sent.
@@ -25,6 +26,34 @@ impl EthernetAddress {
         ensures { result.now ≡ self.now.0 }
     {
         &self.0
+    }
+
+    /// Whether the address is that of all stations.
+    pub fn is_broadcast(&self) -> bool
+        ensures { IsTrue result ↔ IsEthernetBroadcast self.now }
+    {
+        self.0 == [0xff; 6]
+    }
+
+    /// Whether the address names a group of stations; all stations are one.
+    pub const fn is_multicast(&self) -> bool
+        ensures { IsTrue result ↔ IsEthernetMulticast self.now }
+    {
+        self.0[0] & 0x01 == 1
+    }
+
+    /// Whether the address was given by a network's own hand and not by a maker.
+    pub const fn is_local(&self) -> bool
+        ensures { IsTrue result ↔ IsEthernetLocal self.now }
+    {
+        (self.0[0] >> 1) & 0x01 == 1
+    }
+
+    /// Whether the address names one station.
+    pub fn is_unicast(&self) -> bool
+        ensures { IsTrue result ↔ IsEthernetUnicast self.now }
+    {
+        !(self.is_broadcast() || self.is_multicast())
     }
 }
 

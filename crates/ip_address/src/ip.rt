@@ -1,10 +1,10 @@
 //! What holds for both families: versions, protocol numbers, addresses, blocks and endpoints.
-ghost use Rattle.std.specs.Prelude.{◌≡◌, ◌≢◌, ◌↔◌, ◌≤◌, ◌∷◌, [], IsTrue, Some, None};
+ghost use Rattle.std.specs.Prelude.{◌≡◌, ◌≢◌, ◌↔◌, ℕ, ◌≤◌, ◌∷◌, [], IsTrue, IfSome, Some, None};
 ghost use Rattle.std.specs.Net.Addr.{octets_of};
 ghost use Rattle.ip_address.specs.declared.ip.IpAddress.TheVariants as Address;
 ghost use Rattle.ip_address.specs.declared.ip.IpCidr.TheVariants as Block;
-ghost use Rattle.ip_address.specs.Address.{version_of};
-ghost use Rattle.ip_address.specs.Block.{width_of, block_address, block_prefix_len};
+ghost use Rattle.ip_address.specs.Address.{version_of, IsUnspecified, IsMulticast, IsBroadcast, IsUnicast, IsMask};
+ghost use Rattle.ip_address.specs.Block.{width_of, block_address, block_prefix_len, IsIn, IsWithin};
 ghost use Rattle.ip_address.specs.Protocol.{protocol_number, protocol_of};
 
 use crate::ipv4::{Ipv4Address, Ipv4Cidr};
@@ -81,6 +81,25 @@ impl From<IpProtocol> for u8 {
     }
 }
 
+/// What an address answers in either family, beside the tests that each family names itself.
+pub trait AddressExt {
+    /// the address of one host
+    ghost is_unicast: { Self → Type 0 };
+
+    /// so many ones, then zeros
+    ghost is_mask: { Self → ℕ → Type 0 };
+
+    /// Whether this is the address of one host.
+    fn x_is_unicast(&self) -> bool
+        ensures { IsTrue result ↔ is_unicast self.now };
+
+    /// How many ones the address has, if they come before all zeros: the length of the prefix
+    /// that it stands for as a network mask.
+    fn prefix_len(&self) -> Option<u8>
+        ensures found { IfSome result (is_mask self.now) }
+        ensures only { (n : ℕ) → is_mask self.now n → result ≡ Some n };
+}
+
 /// An address of either family.
 #[derive(Clone, Copy, Debug, PartialEq, Eq, PartialOrd, Ord, Hash)]
 pub enum IpAddress {
@@ -110,6 +129,57 @@ impl IpAddress {
         match self {
             IpAddress::Ipv4(_) => IpVersion::Ipv4,
             IpAddress::Ipv6(_) => IpVersion::Ipv6,
+        }
+    }
+
+    /// Whether this is the address of one host.
+    pub fn is_unicast(&self) -> bool
+        ensures { IsTrue result ↔ IsUnicast self.now }
+    {
+        match self {
+            IpAddress::Ipv4(address) => address.x_is_unicast(),
+            IpAddress::Ipv6(address) => address.x_is_unicast(),
+        }
+    }
+
+    /// Whether this is the address of a group.
+    pub fn is_multicast(&self) -> bool
+        ensures { IsTrue result ↔ IsMulticast self.now }
+    {
+        match self {
+            IpAddress::Ipv4(address) => address.is_multicast(),
+            IpAddress::Ipv6(address) => address.is_multicast(),
+        }
+    }
+
+    /// Whether this is the address of all hosts of the local network, which IPv4 alone has.
+    pub fn is_broadcast(&self) -> bool
+        ensures { IsTrue result ↔ IsBroadcast self.now }
+    {
+        match self {
+            IpAddress::Ipv4(address) => address.is_broadcast(),
+            IpAddress::Ipv6(_) => false,
+        }
+    }
+
+    /// Whether this is the unspecified address of its family.
+    pub fn is_unspecified(&self) -> bool
+        ensures { IsTrue result ↔ IsUnspecified self.now }
+    {
+        match self {
+            IpAddress::Ipv4(address) => address.is_unspecified(),
+            IpAddress::Ipv6(address) => address.is_unspecified(),
+        }
+    }
+
+    /// How many ones the address has, if they come before all zeros.
+    pub fn prefix_len(&self) -> Option<u8>
+        ensures found { IfSome result (IsMask self.now) }
+        ensures only { (n : ℕ) → IsMask self.now n → result ≡ Some n }
+    {
+        match self {
+            IpAddress::Ipv4(address) => address.prefix_len(),
+            IpAddress::Ipv6(address) => address.prefix_len(),
         }
     }
 }
@@ -169,6 +239,28 @@ impl IpCidr {
         match self {
             IpCidr::Ipv4(block) => block.prefix_len,
             IpCidr::Ipv6(block) => block.prefix_len,
+        }
+    }
+
+    /// Whether the address is in the block.
+    pub fn contains_addr(&self, address: &IpAddress) -> bool
+        ensures { IsTrue result ↔ IsIn self.now address.now }
+    {
+        match (self, address) {
+            (IpCidr::Ipv4(block), IpAddress::Ipv4(address)) => block.contains_addr(address),
+            (IpCidr::Ipv6(block), IpAddress::Ipv6(address)) => block.contains_addr(address),
+            _ => false,
+        }
+    }
+
+    /// Whether each address of the other block is in this one.
+    pub fn contains_subnet(&self, subnet: &IpCidr) -> bool
+        ensures { IsTrue result ↔ IsWithin self.now subnet.now }
+    {
+        match (self, subnet) {
+            (IpCidr::Ipv4(outer), IpCidr::Ipv4(inner)) => outer.contains_subnet(inner),
+            (IpCidr::Ipv6(outer), IpCidr::Ipv6(inner)) => outer.contains_subnet(inner),
+            _ => false,
         }
     }
 }

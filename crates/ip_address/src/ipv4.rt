@@ -1,5 +1,12 @@
 //! IPv4 addresses and blocks of them.
-ghost use Rattle.std.specs.Prelude.{◌≡◌, ◌≤◌, ◌∷◌, []};
+ghost use Rattle.std.specs.Prelude.{◌≡◌, ◌↔◌, ℕ, ◌+◌, ◌-◌, ◌/◌, ◌^◌, ◌<◌, ◌≤◌, ◌∷◌, [], IsTrue, IfOk, IsOk, IfSome, IsNone};
+ghost use Rattle.byteorder.specs.Endian.{big_bytes};
+ghost use Rattle.ip_address.specs.Address.{v4_number, IsIpv4Address, IsUnspecifiedV4, IsLoopbackV4, IsMulticastV4, IsBroadcastV4, IsUnicastV4, IsMaskV4};
+
+use byteorder::{BigEndian, ByteOrder};
+
+use crate::Error;
+use crate::ip::{AddressExt, IpProtocol};
 
 /// The length of packet that every IPv4 link takes whole (RFC 791, section 3.2).
 pub const IPV4_MIN_MTU: usize = 576;
@@ -33,6 +40,73 @@ impl Ipv4Address {
     {
         self.0
     }
+
+    /// Whether this is `0.0.0.0`.
+    pub fn is_unspecified(&self) -> bool
+        ensures { IsTrue result ↔ IsUnspecifiedV4 self.now }
+    {
+        self.0 == [0; 4]
+    }
+
+    /// Whether this is an address by which a host reaches itself.
+    pub const fn is_loopback(&self) -> bool
+        ensures { IsTrue result ↔ IsLoopbackV4 self.now }
+    {
+        self.0[0] == 127
+    }
+
+    /// Whether this is the address of a group.
+    pub const fn is_multicast(&self) -> bool
+        ensures { IsTrue result ↔ IsMulticastV4 self.now }
+    {
+        self.0[0] >> 4 == 14
+    }
+
+    /// Whether this is `255.255.255.255`.
+    pub fn is_broadcast(&self) -> bool
+        ensures { IsTrue result ↔ IsBroadcastV4 self.now }
+    {
+        self.0 == [255; 4]
+    }
+
+    /// The address as a number, its first byte the most significant.
+    pub(crate) fn to_bits(self) -> u32
+        ensures value { result ≡ v4_number self }
+        ensures whole { IsIpv4Address self }
+    {
+        BigEndian::read_u32(&self.0)
+    }
+
+    /// The address that is this number.
+    pub(crate) fn from_bits(bits: u32) -> Ipv4Address
+        ensures { result.0 ≡ big_bytes 4 bits }
+    {
+        Ipv4Address(bits.to_be_bytes())
+    }
+}
+
+impl AddressExt for Ipv4Address {
+    ghost is_unicast = { IsUnicastV4 };
+
+    ghost is_mask = { IsMaskV4 };
+
+    fn x_is_unicast(&self) -> bool {
+        !(self.is_unspecified() || self.is_multicast() || self.is_broadcast())
+    }
+
+    fn prefix_len(&self) -> Option<u8> {
+        let bits = self.to_bits();
+        let ones = bits.leading_ones();
+        if bits == mask_of(ones as u8) { Some(ones as u8) } else { None }
+    }
+}
+
+/// The number of `ones` ones, then zeros.
+fn mask_of(ones: u8) -> u32
+    requires { ones ≤ 32 }
+    ensures { result ≡ 2 ^ 32 - 2 ^ (32 - ones) }
+{
+    ((1u64 << 32) - (1u64 << (32 - ones))) as u32
 }
 
 /// A block of IPv4 addresses: those whose first `prefix_len` bits are the address's. The
@@ -45,6 +119,8 @@ pub struct Ipv4Cidr {
 }
 
 impl Ipv4Cidr {
+    ghost use Rattle.ip_address.specs.Block.{IsInV4, IsWithinV4, network_number, broadcast_number, netmask_number};
+
     /// The block of the addresses that begin with the first `prefix_len` bits of `address`.
     pub const fn new(address: Ipv4Address, prefix_len: u8) -> Ipv4Cidr
         requires { prefix_len ≤ 32 }
@@ -71,4 +147,96 @@ impl Ipv4Cidr {
     {
         self.prefix_len
     }
+
+    /// The block of the addresses that agree with `address` where the mask has ones. The mask is
+    /// one or more ones, then zeros, else the answer is an `Error`.
+    pub fn from_netmask(address: Ipv4Address, netmask: Ipv4Address) -> Result<Ipv4Cidr, Error>
+        ensures found { IfOk result (λ b. (b.address ≡ address) × (0 < b.prefix_len) × IsMaskV4 netmask b.prefix_len) }
+        ensures only { (n : ℕ) → 0 < n → IsMaskV4 netmask n → IfOk result (λ b. b.prefix_len ≡ n) × IsOk result }
+    {
+        match netmask.prefix_len() {
+            Some(ones) if ones > 0 => Ok(Ipv4Cidr::new(address, ones)),
+            _ => Err(Error),
+        }
+    }
+
+    /// The mask of the block: `prefix_len` ones, then zeros.
+    pub fn netmask(&self) -> Ipv4Address
+        ensures { result.0 ≡ big_bytes 4 (netmask_number self.now) }
+    {
+        Ipv4Address::from_bits(mask_of(self.prefix_len))
+    }
+
+    /// The block with the host bits of its address zero.
+    pub fn network(&self) -> Ipv4Cidr
+        ensures address { result.address.0 ≡ big_bytes 4 (network_number self.now) }
+        ensures prefix_len { result.prefix_len ≡ self.now.prefix_len }
+    {
+        Ipv4Cidr::new(Ipv4Address::from_bits(self.network_bits()), self.prefix_len)
+    }
+
+    /// The address of all hosts of the block: its host bits are one. Blocks of one or two
+    /// addresses have none.
+    pub fn broadcast(&self) -> Option<Ipv4Address>
+        ensures none { IsNone result ↔ (31 ≤ self.now.prefix_len) }
+        ensures address { IfSome result (λ a. a.0 ≡ big_bytes 4 (broadcast_number self.now)) }
+    {
+        if self.prefix_len >= 31 {
+            None
+        } else {
+            let hosts = (host_count(self.prefix_len) - 1) as u32;
+            Some(Ipv4Address::from_bits(self.network_bits() + hosts))
+        }
+    }
+
+    /// Whether the address is in the block.
+    pub fn contains_addr(&self, address: &Ipv4Address) -> bool
+        ensures { IsTrue result ↔ IsInV4 self.now address.now }
+    {
+        self.contains_bits(address.to_bits())
+    }
+
+    /// Whether each address of the other block is in this one.
+    pub fn contains_subnet(&self, subnet: &Ipv4Cidr) -> bool
+        ensures { IsTrue result ↔ IsWithinV4 self.now subnet.now }
+    {
+        let bits = subnet.address.to_bits();
+        self.prefix_len <= subnet.prefix_len && self.contains_bits(bits)
+    }
+
+    /// Whether the address that is this number is in the block.
+    fn contains_bits(&self, bits: u32) -> bool
+        ensures { IsTrue result ↔ (bits / 2 ^ (32 - self.now.prefix_len) ≡ v4_number self.now.address / 2 ^ (32 - self.now.prefix_len)) }
+    {
+        let host = 32 - self.prefix_len;
+        u64::from(bits) >> host == u64::from(self.address.to_bits()) >> host
+    }
+
+    /// The block's address as a number, its host bits zero.
+    fn network_bits(&self) -> u32
+        ensures value { result ≡ network_number self.now }
+        ensures room { result + 2 ^ (32 - self.now.prefix_len) ≤ 2 ^ 32 }
+    {
+        let bits = u64::from(self.address.to_bits());
+        (bits - bits % host_count(self.prefix_len)) as u32
+    }
+}
+
+/// How many addresses agree in the first `prefix_len` bits.
+fn host_count(prefix_len: u8) -> u64
+    requires { prefix_len ≤ 32 }
+    ensures value { result ≡ 2 ^ (32 - prefix_len) }
+    ensures room { result ≤ 2 ^ 32 }
+    ensures some { 0 < result }
+{
+    1u64 << (32 - prefix_len)
+}
+
+/// What tells the pieces of one cut IPv4 packet from those of others (RFC 791, section 3.2).
+#[derive(Clone, Copy, Debug, PartialEq, Eq, PartialOrd, Ord, Hash)]
+pub struct Ipv4FragKey {
+    pub id: u16,
+    pub src_addr: Ipv4Address,
+    pub dst_addr: Ipv4Address,
+    pub protocol: IpProtocol,
 }

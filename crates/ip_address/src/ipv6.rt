@@ -1,6 +1,11 @@
 //! IPv6 addresses and blocks of them.
-ghost use Rattle.std.specs.Prelude.{◌≡◌, ◌≤◌, ◌/◌, ◌%◌, ◌∷◌, []};
+ghost use Rattle.std.specs.Prelude.{◌≡◌, ◌↔◌, ◌-◌, ◌^◌, ◌≤◌, ◌/◌, ◌%◌, ◌∷◌, [], IsTrue};
 ghost use Rattle.std.specs.Net.Addr.{octets_of};
+ghost use Rattle.ip_address.specs.Address.{v6_number, IsIpv6Address, IsUnspecifiedV6, IsLoopbackV6, IsMulticastV6, IsLinkLocal, IsUnicastV6, IsMaskV6, scope_of, IsSolicitedNode, solicited_of};
+
+use byteorder::{BigEndian, ByteOrder};
+
+use crate::ip::AddressExt;
 
 /// The length of packet that every IPv6 link takes whole (RFC 8200, section 5).
 pub const IPV6_MIN_MTU: usize = 1280;
@@ -52,6 +57,96 @@ impl Ipv6Address {
     {
         self.0
     }
+
+    /// Whether this is `::`.
+    pub fn is_unspecified(&self) -> bool
+        ensures { IsTrue result ↔ IsUnspecifiedV6 self.now }
+    {
+        *self == Ipv6Address::UNSPECIFIED
+    }
+
+    /// Whether this is `::1`, by which a host reaches itself.
+    pub fn is_loopback(&self) -> bool
+        ensures { IsTrue result ↔ IsLoopbackV6 self.now }
+    {
+        *self == Ipv6Address::LOCALHOST
+    }
+
+    /// Whether this is the address of a group.
+    pub const fn is_multicast(&self) -> bool
+        ensures { IsTrue result ↔ IsMulticastV6 self.now }
+    {
+        self.0[0] == 0xff
+    }
+
+    /// Whether the address is one of `fe80::/10`, which no router passes on.
+    pub const fn is_link_local(&self) -> bool
+        ensures { IsTrue result ↔ IsLinkLocal self.now }
+    {
+        self.0[0] == 0xfe && self.0[1] >> 6 == 2
+    }
+
+    /// How far the address is known, by the numbers of multicast scopes: 2 is the link, 14 is
+    /// everywhere. An address that is no multicast address has one of these two.
+    pub const fn x_multicast_scope(&self) -> u8
+        ensures { result ≡ scope_of self.now }
+    {
+        if self.is_multicast() {
+            self.0[1] & 0x0f
+        } else if self.is_link_local() {
+            2
+        } else {
+            14
+        }
+    }
+
+    /// Whether neighbours' solicitations go to this address.
+    pub fn is_solicited_node_multicast(&self) -> bool
+        ensures { IsTrue result ↔ IsSolicitedNode self.now }
+    {
+        self.0[..13] == [0xff, 2, 0, 0, 0, 0, 0, 0, 0, 0, 0, 1, 0xff]
+    }
+
+    /// The address to which solicitations for this one go.
+    pub fn solicited_node(&self) -> Ipv6Address
+        requires { IsUnicastV6 self.now }
+        ensures { result.0 ≡ solicited_of self.now }
+    {
+        let [.., a, b, c] = self.0;
+        Ipv6Address([0xff, 2, 0, 0, 0, 0, 0, 0, 0, 0, 0, 1, 0xff, a, b, c])
+    }
+
+    /// The address as a number, its first byte the most significant.
+    pub(crate) fn to_bits(self) -> u128
+        ensures value { result ≡ v6_number self }
+        ensures whole { IsIpv6Address self }
+    {
+        BigEndian::read_u128(&self.0)
+    }
+}
+
+impl AddressExt for Ipv6Address {
+    ghost is_unicast = { IsUnicastV6 };
+
+    ghost is_mask = { IsMaskV6 };
+
+    fn x_is_unicast(&self) -> bool {
+        !(self.is_unspecified() || self.is_multicast())
+    }
+
+    fn prefix_len(&self) -> Option<u8> {
+        let bits = self.to_bits();
+        let ones = bits.leading_ones();
+        if bits == mask_of(ones as u8) { Some(ones as u8) } else { None }
+    }
+}
+
+/// The number of `ones` ones, then zeros.
+fn mask_of(ones: u8) -> u128
+    requires { ones ≤ 128 }
+    ensures { result ≡ 2 ^ 128 - 2 ^ (128 - ones) }
+{
+    if ones == 0 { 0 } else { u128::MAX - (1u128 << (128 - ones)) + 1 }
 }
 
 /// The two bytes of a group.
@@ -71,6 +166,19 @@ pub struct Ipv6Cidr {
 }
 
 impl Ipv6Cidr {
+    ghost use Rattle.ip_address.specs.Block.{IsInV6, IsWithinV6};
+
+    /// The block of all solicited-node addresses, `ff02::1:ff00:0/104`.
+    pub const SOLICITED_NODE_PREFIX: Ipv6Cidr = Ipv6Cidr {
+        address: Ipv6Address([0xff, 2, 0, 0, 0, 0, 0, 0, 0, 0, 0, 1, 0xff, 0, 0, 0]),
+        prefix_len: 104,
+    };
+    /// The block of the addresses that no router passes on, `fe80::/10`.
+    pub const LINK_LOCAL_PREFIX: Ipv6Cidr = Ipv6Cidr {
+        address: Ipv6Address([0xfe, 0x80, 0, 0, 0, 0, 0, 0, 0, 0, 0, 0, 0, 0, 0, 0]),
+        prefix_len: 10,
+    };
+
     /// The block of the addresses that begin with the first `prefix_len` bits of `address`.
     pub const fn new(address: Ipv6Address, prefix_len: u8) -> Ipv6Cidr
         requires { prefix_len ≤ 128 }
@@ -97,4 +205,34 @@ impl Ipv6Cidr {
     {
         self.prefix_len
     }
+
+    /// Whether the address is in the block.
+    pub fn contains_addr(&self, address: &Ipv6Address) -> bool
+        ensures { IsTrue result ↔ IsInV6 self.now address.now }
+    {
+        self.contains_bits(address.to_bits())
+    }
+
+    /// Whether each address of the other block is in this one.
+    pub fn contains_subnet(&self, subnet: &Ipv6Cidr) -> bool
+        ensures { IsTrue result ↔ IsWithinV6 self.now subnet.now }
+    {
+        let bits = subnet.address.to_bits();
+        self.prefix_len <= subnet.prefix_len && self.contains_bits(bits)
+    }
+
+    /// Whether the address that is this number is in the block.
+    fn contains_bits(&self, bits: u128) -> bool
+        ensures { IsTrue result ↔ (bits / 2 ^ (128 - self.now.prefix_len) ≡ v6_number self.now.address / 2 ^ (128 - self.now.prefix_len)) }
+    {
+        leading_bits(bits, self.prefix_len) == leading_bits(self.address.to_bits(), self.prefix_len)
+    }
+}
+
+/// The first `count` bits of 128.
+fn leading_bits(bits: u128, count: u8) -> u128
+    requires { count ≤ 128 }
+    ensures { result ≡ bits / 2 ^ (128 - count) }
+{
+    if count == 0 { 0 } else { bits >> (128 - count) }
 }
