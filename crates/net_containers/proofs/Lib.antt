@@ -1,2 +1,3 @@
 pub mod Rotations
 pub mod Rings
+pub mod RingSteps

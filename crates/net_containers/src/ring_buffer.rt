@@ -172,3 +172,118 @@ impl<T> RingBuffer<T> {
         &self.storage.as_slice()[at..at + size]
     }
 }
+
+impl<T> RingBuffer<T> {
+    ghost use Rattle.net_containers.specs.RingLends.{LendsFrom, LendsAt, LendsEnqueued, LendsDequeued};
+
+    /// An empty ring is read from the storage's first place on.
+    fn anchor(&mut self)
+        ensures { self.new ≡ anchored self.old }
+    {
+        if self.is_empty() {
+            self.clear();
+        }
+    }
+
+    /// Lends the free elements from `offset` on, counted from the first free one, at most `size` and up to the end of the
+    /// storage.
+    pub fn get_unallocated(&mut self, offset: usize, size: usize) -> &mut [T]
+        ensures* lends { sem 𝓛 (LendsFrom T.row self.entry result self.old (length self.old.queue + min offset (length self.old.free))) }
+        ensures len { length result.now ≡ unbroken_free self.old offset size }
+        ensures value { result.now ≡ take (unbroken_free self.old offset size) (drop offset self.old.free) }
+        ensures written { (ws : List T) → length ws ≡ unbroken_free self.old offset size → laid_from self.old (length self.old.queue + min offset (length self.old.free)) ws ≡ overwritten self.old offset ws }
+    {
+        let window = self.capacity() - self.len();
+        let offset = offset.min(window);
+        let from = self.len() + offset;
+        let size = size.min(window - offset).min(self.until_end(from));
+        self.part_mut(from, size)
+    }
+
+    /// Copies the elements over the free ones from `offset` on, counted from the first free one, and returns how many there
+    /// was room for. Nothing is queued by it.
+    pub fn write_unallocated(&mut self, offset: usize, data: &[T]) -> usize
+    where
+        T: Copy,
+        ensures count { result ≡ min (length «data».now) (length self.old.free - offset) }
+        ensures written { self.new ≡ overwritten self.old offset (take result «data».now) }
+    {
+        let window = self.capacity() - self.len();
+        let offset = offset.min(window);
+        let from = self.len() + offset;
+        let count = data.len().min(window - offset);
+        let first = count.min(self.until_end(from));
+        self.part_mut(from, first).copy_from_slice(&data[..first]);
+        self.part_mut(from + first, count - first)
+            .copy_from_slice(&data[first..count]);
+        count
+    }
+
+    /// Copies queued elements from `offset` on into the slice, and returns how many there were.
+    pub fn read_allocated(&self, offset: usize, data: &mut [T]) -> usize
+    where
+        T: Copy,
+        ensures count { result ≡ min (length «data».old) (length self.now.queue - offset) }
+        ensures read { «data».new ≡ take result (drop offset self.now.queue) ++ drop result «data».old }
+    {
+        let offset = offset.min(self.len());
+        let count = data.len().min(self.len() - offset);
+        let first = count.min(self.until_end(offset));
+        data[..first].copy_from_slice(self.get_allocated(offset, first));
+        data[first..count].copy_from_slice(self.get_allocated(offset + first, count - first));
+        count
+    }
+
+    /// Queues as many of the elements as there is room for, and returns how many these are.
+    pub fn enqueue_slice(&mut self, data: &[T]) -> usize
+    where
+        T: Copy,
+        ensures count { result ≡ min (length «data».now) (length self.old.free) }
+        ensures queued { self.new ≡ enqueued (anchored self.old) (take result «data».now) }
+    {
+        self.anchor();
+        let count = self.write_unallocated(0, data);
+        self.enqueue_unallocated(count);
+        count
+    }
+
+    /// Takes queued elements into the slice, and returns how many these are.
+    pub fn dequeue_slice(&mut self, data: &mut [T]) -> usize
+    where
+        T: Copy,
+        ensures count { result ≡ min (length «data».old) (length self.old.queue) }
+        ensures read { «data».new ≡ take result self.old.queue ++ drop result «data».old }
+        ensures rest { self.new ≡ released self.old result }
+    {
+        let count = self.read_allocated(0, data);
+        self.dequeue_allocated(count);
+        count
+    }
+
+    /// Queues the next free elements, at most `size` and up to the end of the storage, and lends them for writing.
+    pub fn enqueue_many(&mut self, size: usize) -> &mut [T]
+        ensures* lends { sem 𝓛 (LendsFrom T.row self.entry result (extended (anchored self.old) (min size (contiguous (anchored self.old)))) (length self.old.queue)) }
+        ensures len { length result.now ≡ min size (contiguous (anchored self.old)) }
+        ensures value { result.now ≡ take (min size (contiguous (anchored self.old))) (anchored self.old).free }
+        ensures written { (ws : List T) → length ws ≡ min size (contiguous (anchored self.old)) → laid_from (extended (anchored self.old) (min size (contiguous (anchored self.old)))) (length self.old.queue) ws ≡ enqueued (anchored self.old) ws }
+    {
+        self.anchor();
+        let from = self.len();
+        let size = size.min(self.contiguous_window());
+        self.enqueue_unallocated(size);
+        self.part_mut(from, size)
+    }
+
+    /// Gives up the first queued elements, at most `size` and up to the end of the storage, and lends them.
+    pub fn dequeue_many(&mut self, size: usize) -> &mut [T]
+        ensures* lends { sem 𝓛 (LendsFrom T.row self.entry result (released self.old (unbroken_queued self.old 0 size)) (capacity self.old - unbroken_queued self.old 0 size)) }
+        ensures len { length result.now ≡ unbroken_queued self.old 0 size }
+        ensures value { result.now ≡ take (unbroken_queued self.old 0 size) self.old.queue }
+        ensures written { (ws : List T) → length ws ≡ unbroken_queued self.old 0 size → laid_from (released self.old (unbroken_queued self.old 0 size)) (capacity self.old - unbroken_queued self.old 0 size) ws ≡ dequeued self.old ws }
+    {
+        let size = size.min(self.len()).min(self.until_end(0));
+        let from = self.capacity() - size;
+        self.dequeue_allocated(size);
+        self.part_mut(from, size)
+    }
+}
