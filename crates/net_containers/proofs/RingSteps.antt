@@ -1,12 +1,14 @@
 -- The steps of a ring, on its value alone.
 use Rattle.std.proofs.Common.{◌≡◌, ℕ, ◌+◌, ◌-◌, ◌%◌, ◌<◌, ◌≤◌, ◌⊎◌, List, [], ◌∷◌, ◌++◌, length, take, drop, min, refl, sym, ap, ◌∙◌, inl, inr, add_assoc, arith, length-append, length-drop, take-append-drop, append_assoc}
-use Rattle.std.proofs.lemmas.List.{take_at, drop_at, take_all, drop_all, length-take-le, drop-drop, append-nil, nil_from_length}
+use Rattle.std.proofs.lemmas.List.{take_at, drop_at, take_all, drop_all, length-take-le, take-append-le, drop-drop, append-nil, nil_from_length, length-map, drop_more, get_or_at, set_at, map_more}
 use Rattle.std.proofs.lemmas.Bool.{cases_lt}
 use Rattle.std.proofs.Math.Seq.{take-add, drop-append-add}
+use Rattle.std.specs.Prelude.{slice_get, Some, map}
+use Rattle.std.proofs.Common.{get_or, set}
 use Rattle.std.proofs.Math.Dec.{eqb-suc-zero}
-use Rattle.net_containers.specs.Ring.{Ring, ring, ring_in, IsPlaced, laid_from, storage_of, capacity, until_end, contiguous, unbroken_free, unbroken_queued, cleared, anchored, extended, released, overwritten, enqueued, dequeued}
+use Rattle.net_containers.specs.Ring.{Ring, ring, ring_in, IsPlaced, laid_from, storage_of, capacity, until_end, contiguous, unbroken_free, unbroken_queued, cleared, anchored, extended, released, overwritten, rewritten, enqueued, dequeued, waiting}
 use Rattle.net_containers.proofs.Rotations.{wraps_once, laid_over-fits, length-rotated}
-use Rattle.net_containers.proofs.Rings.{rotated-laid_from, laid_from-free}
+use Rattle.net_containers.proofs.Rings.{rotated-laid_from, laid_from-free, laid_from-queue}
 
 -- what does not fit before the end of the storage begins at its first place, and is unbroken
 pub rest_unbroken : {X : Type 0} (r : Ring X) (from count first : ℕ) → IsPlaced r → from + count ≤ capacity r → first ≡ min count (until_end r from) → count - first ≤ until_end r (from + first)
@@ -236,3 +238,102 @@ module _ {X : Type 0} where
     | inl none ↦ rw none.1 (sym (ap length none.0))
     | inr same ↦ ap (λ s. length s.queue) same
   ]
+
+  -- one element comes before the end of the storage
+  pub one_unbroken : (r : Ring X) (offset : ℕ) → IsPlaced r → offset < capacity r → 1 ≤ until_end r offset
+  one_unbroken r offset p within =
+      let w = wraps_once r.start offset (capacity r) (p.1 (omega arith)) (omega arith) in
+      omega arith
+
+  pub laid_from-next : (r : Ring X) (w : X) → IsPlaced r → 0 < length r.free → laid_from r (length r.queue) (w ∷ []) ≡ overwritten r 0 (w ∷ [])
+  laid_from-next r w p some =
+      let z : length r.queue + 0 ≡ length r.queue = omega arith in
+      let one = one_unbroken r (length r.queue) p (omega arith) in
+      ap (λ i. laid_from r i (w ∷ [])) (sym z) ∙ laid_from-free r 0 (w ∷ []) p.0 p.1 some (rw z one)
+
+  pub laid_from-first : (r : Ring X) (w : X) → IsPlaced r → 0 < length r.queue → laid_from r 0 (w ∷ []) ≡ rewritten r (w ∷ [])
+  laid_from-first r w p some = laid_from-queue r (w ∷ []) p.0 p.1 some (one_unbroken r 0 p (omega arith))
+
+  first_of_queue : (q f : List X) (x : X) → 0 < length q → slice_get (q ++ f) 0 ≡ Some x → slice_get q 0 ≡ Some x
+  first_of_queue [] f x some e = absurd (omega (arith, some))
+  first_of_queue (y ∷ q) f x some e = e
+
+  pub first_queued : (r : Ring X) (x : X) → 0 < length r.queue → slice_get (r.queue ++ r.free) 0 ≡ Some x → slice_get r.queue 0 ≡ Some x
+  first_queued r x some e = first_of_queue r.queue r.free x some e
+
+  -- what was written over the first queued elements and then given up
+  pub released-rewritten : (r : Ring X) (ws : List X) → length ws ≤ length r.queue → released (rewritten r ws) (length ws) ≡ dequeued r ws
+  released-rewritten r ws fits =
+      let rest = drop (length ws) r.queue in
+      let n : length (ws ++ rest) + length r.free ≡ length r.queue + length r.free = omega (arith, length-append ws rest, length-drop (length ws) r.queue) in
+      rw (n, drop_at ws rest (length ws) refl, take_at ws rest (length ws) refl) refl
+
+  -- the lengths stay
+  pub length-rewritten : (r : Ring X) (ws : List X) → length ws ≤ length r.queue → length (rewritten r ws).queue ≡ length r.queue
+  length-rewritten r ws fits = length-append ws (drop (length ws) r.queue) ∙ omega (arith, length-drop (length ws) r.queue)
+
+  -- the part that a call which takes many lends
+  pub waiting-part : (r : Ring X) (size : ℕ) → size ≡ min (length r.queue) (until_end r 0) → take size (r.queue ++ r.free) ≡ waiting r
+  waiting-part r size is =
+      let k : unbroken_queued r 0 (length r.queue) ≡ size = omega arith in
+      rw (k, take-append-le size r.queue r.free (omega arith)) refl
+
+  pub length-waiting : (r : Ring X) → length (waiting r) ≡ min (length r.queue) (until_end r 0)
+  length-waiting r = length-take-le _ r.queue (omega arith) ∙ omega arith
+
+  after_queue : (q f : List X) (x : X) → slice_get (q ++ f) (length q) ≡ Some x → slice_get f 0 ≡ Some x
+  after_queue [] f x e = e
+  after_queue (y ∷ q) f x e = after_queue q f x e
+
+  -- the element behind the queued ones is the first free one
+  pub next_free : (r : Ring X) (x : X) → slice_get (r.queue ++ r.free) (length r.queue) ≡ Some x → slice_get r.free 0 ≡ Some x
+  next_free r x e = after_queue r.queue r.free x e
+
+  -- a list with an element is not empty
+  pub some_free : (xs : List X) (x : X) → slice_get xs 0 ≡ Some x → 0 < length xs
+  some_free [] x e = cc
+  some_free (y ∷ xs) x e = omega arith
+
+  pub not_empty : (xs : List X) → (xs ≡ [] → ⊥) → 0 < length xs
+  not_empty [] h = absurd (h refl)
+  not_empty (y ∷ xs) h = omega arith
+
+  -- the element that was just queued, and the one that was just given up
+  pub just_queued : (r : Ring X) (x : X) → slice_get ((r.queue ++ take 1 r.free) ++ drop 1 r.free) (length r.queue) ≡ Some x → slice_get r.free 0 ≡ Some x
+  just_queued r x e =
+      let shape : (r.queue ++ take 1 r.free) ++ drop 1 r.free ≡ r.queue ++ r.free = append_assoc r.queue (take 1 r.free) (drop 1 r.free) ∙ ap (λ ys. r.queue ++ ys) (take-append-drop 1 r.free) in
+      next_free r x (rw shape at e)
+
+  first_taken : (q : List X) (x : X) → slice_get (take 1 q) 0 ≡ Some x → slice_get q 0 ≡ Some x
+  first_taken [] x e = e
+  first_taken (y ∷ q) x e = e
+
+  pub just_given : (r : Ring X) (x : X) → 0 < length r.queue → slice_get (drop 1 r.queue ++ (r.free ++ take 1 r.queue)) (capacity r - 1) ≡ Some x → slice_get r.queue 0 ≡ Some x
+  just_given r x some e =
+      let front = drop 1 r.queue ++ r.free in
+      let shape : drop 1 r.queue ++ (r.free ++ take 1 r.queue) ≡ front ++ take 1 r.queue = sym (append_assoc (drop 1 r.queue) r.free (take 1 r.queue)) in
+      let n : capacity r - 1 ≡ length front = omega (arith, length-append (drop 1 r.queue) r.free, length-drop 1 r.queue) in
+      first_taken r.queue x (after_queue front (take 1 r.queue) x (rw (shape, n) at e))
+
+  -- elements laid over the first free ones
+  pub laid_from-many : (r : Ring X) (ws : List X) → IsPlaced r → length ws ≤ length r.free → length ws ≤ until_end r (length r.queue) → laid_from r (length r.queue) ws ≡ overwritten r 0 ws
+  laid_from-many r ws p fits unbroken =
+      let z : length r.queue + 0 ≡ length r.queue = omega arith in
+      ap (λ i. laid_from r i ws) (sym z) ∙ laid_from-free r 0 ws p.0 p.1 (omega arith) (rw z unbroken)
+
+  pub length-overwritten_many : (r : Ring X) (ws : List X) → length ws ≤ length r.free → length (overwritten r 0 ws).free ≡ length r.free
+  length-overwritten_many r ws fits = length-overwritten r 0 ws (omega arith)
+
+  -- a list whose first elements are put into their known state
+  pub reset_more : (f : X → X) (xs : List X) (i : ℕ) (x y : X) → i < length xs → x ≡ get_or (map f (take i xs) ++ drop i xs) i x → y ≡ f x → set (map f (take i xs) ++ drop i xs) i y ≡ map f (take (i + 1) xs) ++ drop (i + 1) xs
+  reset_more f xs i x y within read is =
+      let n : length (map f (take i xs)) ≡ i = length-map (take i xs) f ∙ length-take-le i xs (omega arith) in
+      let rest : drop i xs ≡ get_or xs i x ∷ drop (i + 1) xs = drop_more xs i x within in
+      let here : x ≡ get_or xs i x = read ∙ ap (λ ys. get_or (map f (take i xs) ++ ys) i x) rest ∙ get_or_at (map f (take i xs)) (get_or xs i x) (drop (i + 1) xs) x i n in
+      ap (λ ys. set (map f (take i xs) ++ ys) i y) rest
+      ∙ set_at (map f (take i xs)) (get_or xs i x) (drop (i + 1) xs) y i n
+      ∙ ap (λ v. map f (take i xs) ++ v ∷ drop (i + 1) xs) (is ∙ ap f here)
+      ∙ sym (ap (λ ys. ys ++ drop (i + 1) xs) (map_more f xs i x within) ∙ append_assoc (map f (take i xs)) (f (get_or xs i x) ∷ []) (drop (i + 1) xs))
+
+  pub reset_all : (f : X → X) (xs : List X) (n : ℕ) → n ≡ length xs → map f (take n xs) ++ drop n xs ≡ map f xs
+  reset_all f xs n e = rw (take_all n xs (omega arith), drop_all n xs (omega arith)) (append-nil (map f xs))
