@@ -1,2 +1,4 @@
 pub mod Rotations
 pub mod Rings
+pub mod RingSteps
+pub mod Answered

@@ -88,6 +88,14 @@ module _ {X : Type 0} where
   dequeued r written =
       ring (drop (length written) r.queue) (r.free ++ written) ((r.start + length written) % capacity r)
 
+  -- what a call that queues many may write to: the unbroken part of the free elements, of an empty ring all of them
+  abbrev pub offered : Ring X → List X
+  offered r = take (contiguous (anchored r)) (anchored r).free
+
+  -- what a call that takes many may read: the unbroken part of the queued elements
+  abbrev pub waiting : Ring X → List X
+  waiting r = take (unbroken_queued r 0 (length r.queue)) r.queue
+
   -- xs with others laid over it from the index on, as far as it goes
   abbrev pub laid_over : List X → ℕ → List X → List X
   laid_over xs at written = take (length xs) (take at xs ++ (written ++ drop (length written) (drop at xs)))

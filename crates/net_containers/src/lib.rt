@@ -5,4 +5,4 @@ mod managed;
 mod ring_buffer;
 
 pub use managed::ManagedSlice;
-pub use ring_buffer::RingBuffer;
+pub use ring_buffer::{Empty, Full, Resettable, RingBuffer};
