@@ -67,7 +67,7 @@ pub Kept-run : (w : World) (events : List Event) → Kept w → IsRun w events �
 Kept-run w [] kept is_run = kept
 Kept-run w (event ∷ events) kept is_run = Kept-run (happens w event) events (Kept-happens w event kept is_run.0) is_run.1
 
-freed-reached : (s t : Side) → Half s t → freed s ≤ length (taken_in t)
+pub freed-reached : (s t : Side) → Half s t → freed s ≤ length (taken_in t)
 freed-reached s t half = by t.took_fin refl half.step where
   cut : length (drop (s.una - suc s.iss) s.written) ≡ length s.written - (s.una - suc s.iss)
   cut = length-drop (s.una - suc s.iss) s.written

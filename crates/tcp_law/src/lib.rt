@@ -3,6 +3,9 @@
 //! which rule of a socket is which move, and why each move keeps the invariant.
 #![tactic(auto)]
 
+pub mod examples;
+pub mod wrong_rules;
+
 ghost use Rattle.std.specs.Prelude.{ℕ, List, [], false, ◌<◌, ◌≤◌, ◌≡◌, ◌≢◌, ◌+◌, ◌^◌};
 ghost use Rattle.std.specs.List.{AllByRecursion};
 ghost use Rattle.tcp_law.specs.Numbers.{wire, nearest, IsNear};
@@ -15,6 +18,7 @@ ghost use Rattle.tcp_law.specs.Move.{sends, after};
 ghost use Rattle.tcp_law.specs.Move.Move.{Ends, FallsBack};
 ghost use Rattle.tcp_law.specs.Run.{World, Event, MayHappen, happens, IsRun, run, start};
 ghost use Rattle.tcp_law.specs.Safe.{AreSafe};
+ghost use Rattle.tcp_law.specs.Alone.{HasNothing, AreResets, unopened};
 ghost use Rattle.tcp_law.specs.Invariant.{Kept};
 
 /// A wire number stands for one position near its reference: a sent position that is near is decoded to itself.
@@ -45,3 +49,19 @@ pub fn resets_keep_the_invariant()
 pub fn streams_are_safe()
     ensures { (space_a space_b : ℕ) (events : List Event) → IsRun (start space_a space_b) events → AreSafe (run (start space_a space_b) events) }
 {}
+
+/// Where only one side is ever opened, it reads nothing and frees nothing.
+pub fn a_lone_side_has_nothing()
+    ensures kept_a { (w : World) → Kept w → w.b.phase ≡ Unopened → HasNothing w.a }
+    ensures kept_b { (w : World) → Kept w → w.a.phase ≡ Unopened → HasNothing w.b }
+    ensures run_a { (space_a space_b : ℕ) (events : List Event) → IsRun (start space_a space_b) events → (run (start space_a space_b) events).b.phase ≡ Unopened → HasNothing (run (start space_a space_b) events).a }
+    ensures run_b { (space_a space_b : ℕ) (events : List Event) → IsRun (start space_a space_b) events → (run (start space_a space_b) events).a.phase ≡ Unopened → HasNothing (run (start space_a space_b) events).b }
+{
+}
+
+/// A partner that isn't opened may be any: a host can give a side the partner that it will have only when that one is opened.
+pub fn an_unopened_partner_may_be_any()
+    ensures of_a { (w : World) (space : ℕ) (resets : List Segment) → Kept w → w.b.phase ≡ Unopened → AreResets resets → Kept (record w { b = unopened space resets }) }
+    ensures of_b { (w : World) (space : ℕ) (resets : List Segment) → Kept w → w.a.phase ≡ Unopened → AreResets resets → Kept (record w { a = unopened space resets }) }
+{
+}
