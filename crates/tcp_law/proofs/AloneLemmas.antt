@@ -1,20 +1,19 @@
 -- A side whose partner isn't opened has nothing, and any partner that isn't opened will do.
-use Rattle.std.proofs.Common.{◌≡◌, ◌⊎◌, inl, inr, ℕ, suc, ◌+◌, ◌-◌, ◌^◌, ◌<◌, ◌≤◌, Bool, true, false, List, [], ◌∷◌, ◌++◌, length, drop, Option, Some, None, refl, sym, ap, ◌∙◌, subst, arith, le_refl}
-use Rattle.std.specs.List.{AllByRecursion}
+use Rattle.std.proofs.Common.{◌≡◌, ◌⊎◌, inl, inr, ℕ, ◌^◌, ◌≤◌, Bool, true, false, List, [], length, drop, refl, sym, ap, ◌∙◌, subst, arith, le_refl}
 use Rattle.tcp_law.specs.ReceiveMap.{Begins, AgreesWith}
 use Rattle.tcp_law.specs.Numbers.{wire}
 use Rattle.tcp_law.specs.Segment.{Segment}
 use Rattle.tcp_law.specs.Segment.Control.{Rst}
-use Rattle.tcp_law.specs.Side.{Side, taken_in, freed}
+use Rattle.tcp_law.specs.Side.{Side, taken_in}
 use Rattle.tcp_law.specs.Side.Phase.{Unopened, Synchronized}
-use Rattle.tcp_law.specs.Side.Opening.{None_yet, Passive, Active}
+use Rattle.tcp_law.specs.Side.Opening.{NotYet, Passive, Active}
 use Rattle.tcp_law.specs.Alone.{HasNothing, AreResets, unopened}
-use Rattle.tcp_law.specs.Invariant.{IsPiece, IsBelow, IsPlain, IsSyn, HasReached, IsHonest, IsInStep, IsSilent, Half}
+use Rattle.tcp_law.specs.Invariant.{IsPiece, IsBelow, IsPlain, IsSyn, HasReached, IsHonest, IsInStep, IsSilent, OneWay}
 use Rattle.tcp_law.proofs.Lists.{Begins-nothing, AgreesWith-space, AllByRecursion-map}
 use Rattle.tcp_law.proofs.Calls.{fits_at, early_at}
 use Rattle.tcp_law.proofs.Theorem.{freed-reached}
 
-module _ (s t : Side) (half : Half s t) (back : Half t s) (phase : t.phase ≡ Unopened) where
+module _ (s t : Side) (out : OneWay s t) (back : OneWay t s) (phase : t.phase ≡ Unopened) where
   no_stream : (t.written ≡ []) × (taken_in t ≡ []) × (t.closed ≡ false) × (t.took_fin ≡ false)
   no_stream = back.well_formed.early (early_at t Unopened phase tt)
 
@@ -31,7 +30,7 @@ module _ (s t : Side) (half : Half s t) (back : Half t s) (phase : t.phase ≡ U
   pub HasNothing-unopened : HasNothing s
   HasNothing-unopened =
       let none = ap length no_stream.1 in
-      let most = freed-reached s t half in
+      let most = freed-reached s t out in
       record {
         read = Begins-nothing (taken_in s) (subst (λ (ys : List ℕ). Begins (taken_in s) ys) no_stream.0 back.received);
         freed = omega arith;
@@ -50,42 +49,43 @@ module _ (s t : Side) (half : Half s t) (back : Half t s) (phase : t.phase ≡ U
         by (inl none) = inl none
         by (inr below) = not_reached below.2
 
-    pub Half-to_unopened : Half s (unopened capacity resets)
-    Half-to_unopened = record {
-      well_formed = half.well_formed;
-      step = step half.step;
+    pub OneWay-to_unopened : OneWay s (unopened capacity resets)
+    OneWay-to_unopened = record {
+      well_formed = out.well_formed;
+      sync = sync out.sync;
       received = tt;
       held = AgreesWith-space capacity s.written;
       fin = λ (e : false ≡ true). absurd (cc);
-      listener = λ e. listener (half.listener e);
-      sent = AllByRecursion-map (IsHonest s t) (IsHonest s (unopened capacity resets)) honest_to s.sent half.sent;
+      listener = λ e. listener (out.listener e);
+      sent = AllByRecursion-map (IsHonest s t) (IsHonest s (unopened capacity resets)) honest_to s.sent out.sent;
     } where
-      step : IsInStep s t ⊎ IsSilent s t → IsInStep s (unopened capacity resets) ⊎ IsSilent s (unopened capacity resets)
-      step (inl in_step) = let counts = in_step.0 in let first = half.well_formed.iss.0 in not_reached (omega arith)
-      step (inr silent) = inr (silent.0, silent.1, una silent.2) where
+      sync : IsInStep s t ⊎ IsSilent s t → IsInStep s (unopened capacity resets) ⊎ IsSilent s (unopened capacity resets)
+      sync (inl in_step) = let counts = in_step.0 in let first = out.well_formed.iss.0 in not_reached (omega arith)
+      sync (inr silent) = inr (silent.0, silent.1, una silent.2) where
         una : (s.una ≡ s.iss) ⊎ HasReached t (wire s.una) → (s.una ≡ s.iss) ⊎ HasReached (unopened capacity resets) (wire s.una)
         una (inl first) = inl first
         una (inr reached) = not_reached reached.2
-      listener : (s.irs ≡ 0) ⊎ ((s.irs ≡ t.iss) × (t.opening ≡ Active)) → (s.irs ≡ 0) ⊎ ((s.irs ≡ 2 ^ 32) × (None_yet ≡ Active))
-      listener (inl none) = inl none
-      listener (inr heard) = absurd (let unset = (fits_at t Unopened back.well_formed phase).0 in let clash : None_yet ≡ Active = sym unset ∙ heard.1 in cc)
 
-    pub Half-from_unopened : Half (unopened capacity resets) s
-    Half-from_unopened = record {
+      listener : (s.irs ≡ 0) ⊎ ((s.irs ≡ t.iss) × (t.opening ≡ Active)) → (s.irs ≡ 0) ⊎ ((s.irs ≡ 2 ^ 32) × (NotYet ≡ Active))
+      listener (inl none) = inl none
+      listener (inr heard) = absurd (let unset = (fits_at t Unopened back.well_formed phase).0 in let clash : NotYet ≡ Active = sym unset ∙ heard.1 in cc)
+
+    pub OneWay-from_unopened : OneWay (unopened capacity resets) s
+    OneWay-from_unopened = record {
       well_formed =
-        record {
-          phase = (refl, refl);
-          early = λ _. (refl, refl, refl, refl);
-          iss = (omega arith, omega arith);
-          una_low = le_refl _;
-          una_high = omega arith;
-          short = omega arith;
-          irs = omega arith;
-        };
-      step = inr (refl, λ (e : Unopened ≡ Synchronized). absurd (cc), inl refl);
+          record {
+            phase = (refl, refl);
+            early = λ _. (refl, refl, refl, refl);
+            iss = (omega arith, omega arith);
+            una_low = le_refl _;
+            una_high = omega arith;
+            short = omega arith;
+            irs = omega arith;
+          };
+      sync = inr (refl, λ (e : Unopened ≡ Synchronized). absurd (cc), inl refl);
       received = subst (λ (ys : List ℕ). Begins (taken_in s) ys) no_stream.0 back.received;
       held = subst (λ (ys : List ℕ). AgreesWith s.window (drop (length (taken_in s)) ys)) no_stream.0 back.held;
       fin = λ e. absurd (let still = unfinished s.took_fin refl in let clash : false ≡ true = sym still ∙ e in cc);
-      listener = λ (e : None_yet ≡ Passive). absurd (cc);
+      listener = λ (e : NotYet ≡ Passive). absurd (cc);
       sent = AllByRecursion-map (λ x. x.control ≡ Rst) (IsHonest (unopened capacity resets) s) (λ x reset. inl reset) resets are_resets;
     }

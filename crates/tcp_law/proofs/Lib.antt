@@ -6,3 +6,4 @@ pub mod Opening
 pub mod Taking
 pub mod Theorem
 pub mod AloneLemmas
+mod Came

@@ -1,9 +1,7 @@
 -- Runs on numerals. Side a sends from number 100 on and side b from number 300 on, but where a run says otherwise.
-use Rattle.std.specs.Prelude.{ℕ, suc, ◌+◌, ◌-◌, ◌^◌, Bool, true, false, List, [], ◌∷◌, ◌++◌, Option, Some, None}
-use Rattle.tcp_law.specs.Numbers.{wire}
-use Rattle.tcp_law.specs.Segment.{Control, Segment, fin_if}
+use Rattle.std.specs.Prelude.{ℕ, ◌+◌, ◌-◌, ◌^◌, true, false, List, [], ◌∷◌, ◌++◌, Some, None}
+use Rattle.tcp_law.specs.Segment.{Segment}
 use Rattle.tcp_law.specs.Segment.Control.{Plain, Syn, Fin, Rst}
-use Rattle.tcp_law.specs.Move.{Move}
 use Rattle.tcp_law.specs.Move.Move.{Listens, Connects, Writes, Reads, Closes, Ends, FallsBack, SendsSyn, SendsSynAck, SendsAck, SendsData, SendsKeepAlive, SendsReset, TakesSyn, TakesCrossedSyn, TakesSynAck, TakesAck, TakesBytes, TakesFin}
 use Rattle.tcp_law.specs.Run.{World, Event, IsRun, run, start}
 use Rattle.tcp_law.specs.Run.Event.{A, B}

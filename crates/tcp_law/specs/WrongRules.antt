@@ -1,16 +1,16 @@
 -- Wrong rules, each of which breaks the promise: a run in which one side follows it once, and everything else is right.
-use Rattle.std.specs.Prelude.{◌≡◌, ℕ, suc, ◌+◌, ◌^◌, ◌<◌, ◌≢◌, true, false, List, [], ◌∷◌, ◌++◌, length, Some, None}
+use Rattle.std.specs.Prelude.{◌≡◌, suc, ◌+◌, ◌≢◌, true, false, List, [], ◌∷◌, ◌++◌, length, Some, None}
 use Rattle.tcp_law.specs.Numbers.{wire}
 use Rattle.tcp_law.specs.Segment.{Segment}
 use Rattle.tcp_law.specs.Segment.Control.{Plain, Fin, Rst}
 use Rattle.tcp_law.specs.Side.{Side, rcv_next}
 use Rattle.tcp_law.specs.Side.Phase.{SynReceived, Synchronized, Ended}
-use Rattle.tcp_law.specs.Move.{Move, Comes, sends}
-use Rattle.tcp_law.specs.Move.Move.{Listens, Connects, Writes, Reads, Closes, Ends, FallsBack, SendsSyn, SendsSynAck, SendsAck, SendsData, TakesSyn, TakesSynAck, TakesAck, TakesBytes, TakesFin}
+use Rattle.tcp_law.specs.Move.{Comes, sends}
+use Rattle.tcp_law.specs.Move.Move.{Listens, Connects, Writes, Closes, Ends, FallsBack, SendsSyn, SendsSynAck, SendsAck, SendsData, TakesSyn, TakesSynAck, TakesAck, TakesBytes}
 use Rattle.tcp_law.specs.Run.{World, Event, IsRun, run, start}
 use Rattle.tcp_law.specs.Run.Event.{A, B}
 use Rattle.tcp_law.specs.Safe.{AreSafe}
-use Rattle.tcp_law.specs.Examples.{at, syn, syn_ack, piece, last_piece, bare_ack, passive_first}
+use Rattle.tcp_law.specs.Examples.{at, syn, syn_ack, piece, bare_ack, passive_first}
 
 pub data WrongRule : Type 0 where
   -- in SYN-RECEIVED any acknowledgement opens, not that of its SYN alone

@@ -12,8 +12,7 @@ pub fn connections_open()
     ensures simultaneous_open { LeadsTo simultaneous_open (λ w. (w.a.phase ≡ Synchronized) × (w.b.phase ≡ Synchronized)) }
     ensures fallback { LeadsTo fallback (λ w. (w.b.phase ≡ Synchronized) × (taken_in w.a ≡ 1 ∷ 2 ∷ [])) }
     ensures old_answer { LeadsTo old_answer (λ w. (w.a.phase ≡ Ended) × (w.b.phase ≡ SynReceived) × (freed w.a ≡ 0)) }
-{
-}
+{}
 
 /// Bytes out of order and twice, a keep-alive, numbers that wrap, and a close both ways.
 pub fn bytes_arrive()
@@ -22,5 +21,4 @@ pub fn bytes_arrive()
     ensures zero_window { LeadsTo zero_window (λ w. (w.b.waiting ≡ 4 ∷ 5 ∷ 6 ∷ 7 ∷ 8 ∷ 9 ∷ []) × (freed w.a ≡ 8)) }
     ensures wrap { LeadsTo wrap (λ w. (taken_in w.b ≡ 1 ∷ 2 ∷ 3 ∷ []) × (w.b.took_fin ≡ true) × (freed w.a ≡ 3)) }
     ensures close_both_ways { LeadsTo close_both_ways (λ w. (w.b.read ≡ 7 ∷ []) × (w.a.waiting ≡ 8 ∷ []) × (w.a.took_fin ≡ true) × (w.b.took_fin ≡ true)) }
-{
-}
+{}

@@ -15,5 +15,4 @@ pub fn wrong_rules_break_the_promise()
     ensures ack_for_unaccepted_segment { Breaks before_unaccepted (AckForUnaccepted (piece 101 301 (7 ∷ []))) after_unaccepted }
     ensures reset_read_as_finished { Breaks (passive_first ++ A (SendsReset (reset 101)) ∷ []) (ResetReadAsFinished (reset 101)) [] }
     ensures keep_alive_at_una { Breaks passive_first KeepAliveAtUna (A (TakesBytes (piece 301 101 (0 ∷ [])) (at 301)) ∷ []) }
-{
-}
+{}

@@ -12,13 +12,13 @@ returns-clause-kept_b c = λ w kept phase. HasNothing-unopened w.b w.a kept.1 ke
 pub returns-clause-run_a : goal.returns-clause-run_a
 returns-clause-run_a c =
     λ space_a space_b events is_run phase.
-      let w = run (start space_a space_b) events in
-      let kept = Kept-run (start space_a space_b) events (Kept-start space_a space_b) is_run in
-      HasNothing-unopened w.a w.b kept.0 kept.1 phase
+    let w = run (start space_a space_b) events in
+    let kept = Kept-run (start space_a space_b) events (Kept-start space_a space_b) is_run in
+    HasNothing-unopened w.a w.b kept.0 kept.1 phase
 
 pub returns-clause-run_b : goal.returns-clause-run_b
 returns-clause-run_b c =
     λ space_a space_b events is_run phase.
-      let w = run (start space_a space_b) events in
-      let kept = Kept-run (start space_a space_b) events (Kept-start space_a space_b) is_run in
-      HasNothing-unopened w.b w.a kept.1 kept.0 phase
+    let w = run (start space_a space_b) events in
+    let kept = Kept-run (start space_a space_b) events (Kept-start space_a space_b) is_run in
+    HasNothing-unopened w.b w.a kept.1 kept.0 phase
