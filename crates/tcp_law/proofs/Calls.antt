@@ -3,16 +3,16 @@ use Rattle.std.proofs.Common.{◌≡◌, ◌⊎◌, inl, inr, ℕ, ◌+◌, ◌^
 use Rattle.tcp_law.specs.ReceiveMap.{Begins, AgreesWith}
 use Rattle.tcp_law.specs.Side.{Phase, Opening, Side, taken_in, one_if, IsConnected}
 use Rattle.tcp_law.specs.Side.Phase.{Unopened, Listen, SynSent, SynReceived, Synchronized, Ended}
-use Rattle.tcp_law.specs.Side.Opening.{None_yet, Passive, Active}
+use Rattle.tcp_law.specs.Side.Opening.{NotYet, Passive, Active}
 use Rattle.tcp_law.specs.Move.{Move, May, after}
 use Rattle.tcp_law.specs.Move.Move.{Listens, Connects, Writes, Reads, Closes, Ends, FallsBack}
-use Rattle.tcp_law.specs.Invariant.{IsLate, IsEarly, FitsPhase, IsWellFormed, IsInStep, IsSilent, Half}
+use Rattle.tcp_law.specs.Invariant.{IsLate, IsEarly, FitsPhase, IsWellFormed, IsInStep, IsSilent, OneWay}
 use Rattle.tcp_law.proofs.Lists.{AgreesWith-room, AgreesWith-space}
-use Rattle.tcp_law.proofs.Grows.{Grows, Half-own, Half-other}
+use Rattle.tcp_law.proofs.Grows.{Grows, OneWay-own, OneWay-other}
 
 -- a move of s keeps both streams
 abbrev pub Keeps : Side → Side → Move → Type 0
-Keeps s t move = Half s t → Half t s → May s t move → Half (after s move) t × Half t (after s move)
+Keeps s t move = OneWay s t → OneWay t s → May s t move → OneWay (after s move) t × OneWay t (after s move)
 
 pub same_bytes : (xs : List ℕ) → (more : List ℕ) × (xs ≡ xs ++ more)
 same_bytes xs = ([], sym (append-nil xs))
@@ -36,9 +36,9 @@ pub not_late : {A : Type 0} (s : Side) (phase : Phase) → s.phase ≡ phase →
 not_late s phase e early late = absurd (early (subst IsLate e late))
 
 pub keeps_listens : (s t : Side) → Keeps s t Listens
-keeps_listens s t half back may =
+keeps_listens s t out back may =
     let new = after s Listens in
-    let well = half.well_formed in
+    let well = out.well_formed in
     let fits = fits_at s Unopened well may in
     let unset = fits.0 in
     let none = fits.1 in
@@ -46,7 +46,7 @@ keeps_listens s t half back may =
       late = not_late s Unopened may (λ late. late);
       written = same_bytes s.written;
       closed = λ e. (e, refl);
-      active = λ e. absurd (let clash : None_yet ≡ Active = sym unset ∙ e in cc);
+      active = λ e. absurd (let clash : NotYet ≡ Active = sym unset ∙ e in cc);
       taken = λ _. (refl, le_refl _);
     } in
     let well' : IsWellFormed new = record {
@@ -59,18 +59,18 @@ keeps_listens s t half back may =
       irs = well.irs;
     } in
     let no_stream = well.early (early_at s Unopened may tt) in (
-      Half-own s new grows t half well' (step no_stream.0 half.step) (λ _. inl none) (λ sent. sent),
-      Half-other s new grows t back back.received back.held (λ e. let f = back.fin e in f),
+      OneWay-own s new grows t out well' (sync no_stream.0 out.sync) (λ _. inl none) (λ sent. sent),
+      OneWay-other s new grows t back back.received back.held (λ e. let f = back.fin e in f),
     )
   where
-    step : s.written ≡ [] → IsInStep s t ⊎ IsSilent s t → IsInStep (after s Listens) t ⊎ IsSilent (after s Listens) t
-    step nothing (inl in_step) = inl in_step
-    step nothing (inr silent) = inr (silent.0, λ (e : Listen ≡ Synchronized). absurd (cc), silent.2)
+    sync : s.written ≡ [] → IsInStep s t ⊎ IsSilent s t → IsInStep (after s Listens) t ⊎ IsSilent (after s Listens) t
+    sync nothing (inl in_step) = inl in_step
+    sync nothing (inr silent) = inr (silent.0, λ (e : Listen ≡ Synchronized). absurd (cc), silent.2)
 
 pub keeps_connects : (s t : Side) (iss : ℕ) → Keeps s t (Connects iss)
-keeps_connects s t iss half back may =
+keeps_connects s t iss out back may =
     let new = after s (Connects iss) in
-    let well = half.well_formed in
+    let well = out.well_formed in
     let fits = fits_at s Unopened well may.0 in
     let unset = fits.0 in
     let none = fits.1 in
@@ -79,7 +79,7 @@ keeps_connects s t iss half back may =
       late = not_late s Unopened may.0 (λ late. late);
       written = same_bytes s.written;
       closed = λ e. (e, refl);
-      active = λ e. absurd (let clash : None_yet ≡ Active = sym unset ∙ e in cc);
+      active = λ e. absurd (let clash : NotYet ≡ Active = sym unset ∙ e in cc);
       taken = λ _. (refl, le_refl _);
     } in
     let well' : IsWellFormed new = record {
@@ -91,14 +91,14 @@ keeps_connects s t iss half back may =
       short = well.short;
       irs = well.irs;
     } in (
-      Half-own s new grows t half well' (inr (no_stream.0, λ (e : SynSent ≡ Synchronized). absurd (cc), inl refl)) (λ (e : Active ≡ Passive). absurd (cc)) (λ sent. sent),
-      Half-other s new grows t back back.received back.held (λ e. back.fin e),
+      OneWay-own s new grows t out well' (inr (no_stream.0, λ (e : SynSent ≡ Synchronized). absurd (cc), inl refl)) (λ (e : Active ≡ Passive). absurd (cc)) (λ sent. sent),
+      OneWay-other s new grows t back back.received back.held (λ e. back.fin e),
     )
 
 pub keeps_writes : (s t : Side) (bytes : List ℕ) → Keeps s t (Writes bytes)
-keeps_writes s t bytes half back may =
+keeps_writes s t bytes out back may =
     let new = after s (Writes bytes) in
-    let well = half.well_formed in
+    let well = out.well_formed in
     let is_open = may.1 in
     let longer = length-append s.written bytes in
     let high = well.una_high in
@@ -118,22 +118,22 @@ keeps_writes s t bytes half back may =
       short = may.2;
       irs = well.irs;
     } in (
-      Half-own s new grows t half well' (step half.step) half.listener (λ sent. sent),
-      Half-other s new grows t back back.received back.held back.fin,
+      OneWay-own s new grows t out well' (sync out.sync) out.listener (λ sent. sent),
+      OneWay-other s new grows t back back.received back.held back.fin,
     )
   where
-    step : IsInStep s t ⊎ IsSilent s t → IsInStep (after s (Writes bytes)) t ⊎ IsSilent (after s (Writes bytes)) t
-    step (inl in_step) = inl in_step
-    step (inr silent) = absurd (let clash : false ≡ true = sym may.1 ∙ silent.1 may.0 in cc)
+    sync : IsInStep s t ⊎ IsSilent s t → IsInStep (after s (Writes bytes)) t ⊎ IsSilent (after s (Writes bytes)) t
+    sync (inl in_step) = inl in_step
+    sync (inr silent) = absurd (let clash : false ≡ true = sym may.1 ∙ silent.1 may.0 in cc)
 
 -- what was read and what waits are the same bytes together
 taken_in-reads : (s : Side) (count : ℕ) → taken_in (after s (Reads count)) ≡ taken_in s
 taken_in-reads s count = append_assoc s.read (take count s.waiting) (drop count s.waiting) ∙ ap (λ (bytes : List ℕ). s.read ++ bytes) (take-append-drop count s.waiting)
 
 pub keeps_reads : (s t : Side) (count : ℕ) → Keeps s t (Reads count)
-keeps_reads s t count half back may =
+keeps_reads s t count out back may =
     let new = after s (Reads count) in
-    let well = half.well_formed in
+    let well = out.well_formed in
     let same = taken_in-reads s count in
     let same_length = ap length same in
     let grows : Grows s new = record {
@@ -152,8 +152,8 @@ keeps_reads s t count half back may =
       short = well.short;
       irs = well.irs;
     } in (
-      Half-own s new grows t half well' half.step half.listener (λ sent. sent),
-      Half-other s new grows t back
+      OneWay-own s new grows t out well' out.sync out.listener (λ sent. sent),
+      OneWay-other s new grows t back
           (subst (λ (bytes : List ℕ). Begins bytes t.written) (sym same) back.received)
           (subst (λ (bytes : List ℕ). AgreesWith new.window (drop (length bytes) t.written)) (sym same)
           (AgreesWith-room s.window (length (take count s.waiting)) (drop (length (taken_in s)) t.written) back.held))
@@ -161,9 +161,9 @@ keeps_reads s t count half back may =
     )
 
 pub keeps_closes : (s t : Side) → Keeps s t Closes
-keeps_closes s t half back may =
+keeps_closes s t out back may =
     let new = after s Closes in
-    let well = half.well_formed in
+    let well = out.well_formed in
     let high = well.una_high in
     let bit : one_if s.closed ≤ 1 = at_most_one s.closed in
     let grows : Grows s new = record {
@@ -182,22 +182,22 @@ keeps_closes s t half back may =
       short = well.short;
       irs = well.irs;
     } in (
-      Half-own s new grows t half well' (step half.step) half.listener (λ sent. sent),
-      Half-other s new grows t back back.received back.held back.fin,
+      OneWay-own s new grows t out well' (sync out.sync) out.listener (λ sent. sent),
+      OneWay-other s new grows t back back.received back.held back.fin,
     )
   where
     at_most_one : (b : Bool) → one_if b ≤ 1
     at_most_one true = omega arith
     at_most_one false = omega arith
 
-    step : IsInStep s t ⊎ IsSilent s t → IsInStep (after s Closes) t ⊎ IsSilent (after s Closes) t
-    step (inl in_step) = inl in_step
-    step (inr silent) = inr (silent.0, λ _. refl, silent.2)
+    sync : IsInStep s t ⊎ IsSilent s t → IsInStep (after s Closes) t ⊎ IsSilent (after s Closes) t
+    sync (inl in_step) = inl in_step
+    sync (inr silent) = inr (silent.0, λ _. refl, silent.2)
 
 pub keeps_ends : (s t : Side) → Keeps s t Ends
-keeps_ends s t half back may =
+keeps_ends s t out back may =
     let new = after s Ends in
-    let well = half.well_formed in
+    let well = out.well_formed in
     let grows : Grows s new = record {
       late = λ late. (tt, refl);
       written = same_bytes s.written;
@@ -214,18 +214,18 @@ keeps_ends s t half back may =
       short = well.short;
       irs = well.irs;
     } in (
-      Half-own s new grows t half well' (step half.step) half.listener (λ sent. sent),
-      Half-other s new grows t back back.received back.held back.fin,
+      OneWay-own s new grows t out well' (sync out.sync) out.listener (λ sent. sent),
+      OneWay-other s new grows t back back.received back.held back.fin,
     )
   where
-    step : IsInStep s t ⊎ IsSilent s t → IsInStep (after s Ends) t ⊎ IsSilent (after s Ends) t
-    step (inl in_step) = inl in_step
-    step (inr silent) = inr (silent.0, λ (e : Ended ≡ Synchronized). absurd (cc), silent.2)
+    sync : IsInStep s t ⊎ IsSilent s t → IsInStep (after s Ends) t ⊎ IsSilent (after s Ends) t
+    sync (inl in_step) = inl in_step
+    sync (inr silent) = inr (silent.0, λ (e : Ended ≡ Synchronized). absurd (cc), silent.2)
 
 pub keeps_falls_back : (s t : Side) → Keeps s t FallsBack
-keeps_falls_back s t half back may =
+keeps_falls_back s t out back may =
     let new = after s FallsBack in
-    let well = half.well_formed in
+    let well = out.well_formed in
     let no_stream = well.early (early_at s SynReceived may.0 tt) in
     let nothing = ap length no_stream.1 in
     let is_open = no_stream.2 in
@@ -245,6 +245,6 @@ keeps_falls_back s t half back may =
       short = omega arith;
       irs = well.irs;
     } in (
-      Half-own s new grows t half well' (inr (refl, λ (e : Listen ≡ Synchronized). absurd (cc), inl refl)) (λ _. half.listener may.1) (λ sent. sent),
-      Half-other s new grows t back tt (AgreesWith-space (length s.waiting + length s.window) t.written) (λ (e : false ≡ true). absurd (cc)),
+      OneWay-own s new grows t out well' (inr (refl, λ (e : Listen ≡ Synchronized). absurd (cc), inl refl)) (λ _. out.listener may.1) (λ sent. sent),
+      OneWay-other s new grows t back tt (AgreesWith-space (length s.waiting + length s.window) t.written) (λ (e : false ≡ true). absurd (cc)),
     )

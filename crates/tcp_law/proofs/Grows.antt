@@ -7,7 +7,7 @@ use Rattle.tcp_law.specs.Segment.{Segment}
 use Rattle.tcp_law.specs.Side.{Phase, Side, taken_in, rcv_next}
 use Rattle.tcp_law.specs.Side.Phase.{Unopened, Listen, SynSent, SynReceived, Synchronized, Ended}
 use Rattle.tcp_law.specs.Side.Opening.{Passive, Active}
-use Rattle.tcp_law.specs.Invariant.{IsLate, IsEarly, IsWellFormed, IsPiece, IsBelow, IsPlain, IsSyn, HasReached, IsHonest, IsInStep, IsSilent, Half}
+use Rattle.tcp_law.specs.Invariant.{IsLate, IsEarly, IsWellFormed, IsPiece, IsBelow, IsPlain, IsSyn, HasReached, IsHonest, IsInStep, IsSilent, OneWay}
 use Rattle.tcp_law.proofs.Lists.{Begins-grow, Begins-drop-grow, AgreesWith-drop-grow, AllByRecursion-map}
 
 pub record Grows (s new : Side) : Type 0 where
@@ -107,46 +107,46 @@ module _ (s new : Side) (grows : Grows s new) where
     kind (inr (inr syn)) = inr (inr syn)
 
   -- the stream that it sends, by what its move changes of it
-  pub Half-own :
-      (t : Side) → Half s t → IsWellFormed new → IsInStep new t ⊎ IsSilent new t
+  pub OneWay-own :
+      (t : Side) → OneWay s t → IsWellFormed new → IsInStep new t ⊎ IsSilent new t
       → (new.opening ≡ Passive → (new.irs ≡ 0) ⊎ ((new.irs ≡ t.iss) × (t.opening ≡ Active)))
       → (AllByRecursion (IsHonest new t) s.sent → AllByRecursion (IsHonest new t) new.sent)
-      → Half new t
-  Half-own t half well step listener sent =
+      → OneWay new t
+  OneWay-own t out well sync listener sent =
       let grown = grows.written.1 in
       let more = grows.written.0 in
       record {
         well_formed = well;
-        step = step;
-        received = rw grown (Begins-grow (taken_in t) s.written more half.received);
-        held = rw grown (AgreesWith-drop-grow (length (taken_in t)) t.window s.written more half.held);
+        sync = sync;
+        received = rw grown (Begins-grow (taken_in t) s.written more out.received);
+        held = rw grown (AgreesWith-drop-grow (length (taken_in t)) t.window s.written more out.held);
         fin =
             λ e.
-            let f = half.fin e in
+            let f = out.fin e in
             let c = grows.closed f.0 in
-            let stays = (grows.late (late_of_closed s half.well_formed f.0)).1 in
+            let stays = (grows.late (late_of_closed s out.well_formed f.0)).1 in
             (c.0, f.1 ∙ sym c.1, f.2 ∙ sym stays);
         listener = listener;
-        sent = sent (AllByRecursion-map (IsHonest s t) (IsHonest new t) (IsHonest-own t) s.sent half.sent);
+        sent = sent (AllByRecursion-map (IsHonest s t) (IsHonest new t) (IsHonest-own t) s.sent out.sent);
       }
 
   -- the stream that it takes, by what its move changes of it
-  pub Half-other :
-      (t : Side) → Half t s → Begins (taken_in new) t.written → AgreesWith new.window (drop (length (taken_in new)) t.written)
+  pub OneWay-other :
+      (t : Side) → OneWay t s → Begins (taken_in new) t.written → AgreesWith new.window (drop (length (taken_in new)) t.written)
       → (new.took_fin ≡ true → (t.closed ≡ true) × (taken_in new ≡ t.written) × (new.irs ≡ t.iss))
-      → Half t new
-  Half-other t half received held fin = record {
-    well_formed = half.well_formed;
-    step = step half.step;
+      → OneWay t new
+  OneWay-other t out received held fin = record {
+    well_formed = out.well_formed;
+    sync = sync out.sync;
     received = received;
     held = held;
     fin = fin;
-    listener = λ e. listener (half.listener e);
-    sent = AllByRecursion-map (IsHonest t s) (IsHonest t new) (IsHonest-other t) t.sent half.sent;
+    listener = λ e. listener (out.listener e);
+    sent = AllByRecursion-map (IsHonest t s) (IsHonest t new) (IsHonest-other t) t.sent out.sent;
   } where
-    step : IsInStep t s ⊎ IsSilent t s → IsInStep t new ⊎ IsSilent t new
-    step (inl in_step) =
-        let first = half.well_formed.iss.0 in
+    sync : IsInStep t s ⊎ IsSilent t s → IsInStep t new ⊎ IsSilent t new
+    sync (inl in_step) =
+        let first = out.well_formed.iss.0 in
         let counts = in_step.0 in
         let past = in_step.1 in
         let reached = in_step.2 in
@@ -155,7 +155,7 @@ module _ (s new : Side) (grows : Grows s new) where
         let same = g.0 in
         let further = g.1 in
         inl (same ∙ counts, past, omega arith)
-    step (inr silent) = inr (silent.0, silent.1, una silent.2) where
+    sync (inr silent) = inr (silent.0, silent.1, una silent.2) where
       una : (t.una ≡ t.iss) ⊎ HasReached s (wire t.una) → (t.una ≡ t.iss) ⊎ HasReached new (wire t.una)
       una (inl first) = inl first
       una (inr reached) = inr (HasReached-grows (wire t.una) reached)

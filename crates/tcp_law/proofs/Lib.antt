@@ -5,3 +5,5 @@ pub mod Sends
 pub mod Opening
 pub mod Taking
 pub mod Theorem
+pub mod AloneLemmas
+mod Came

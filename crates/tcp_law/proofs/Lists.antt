@@ -145,3 +145,7 @@ pub AllByRecursion-at : {X : Type 0} (P : X → Type 0) (xs : List X) (k : ℕ) 
 AllByRecursion-at P [] k x h e = absurd (cc)
 AllByRecursion-at P (y ∷ xs) zero x h e = let same : y ≡ x = cc in subst P same h.0
 AllByRecursion-at P (y ∷ xs) (suc k) x h e = AllByRecursion-at P xs k x h.1 e
+
+pub AllByRecursion-push : {X : Type 0} (P : X → Type 0) (xs : List X) (x : X) → AllByRecursion P xs → P x → AllByRecursion P (xs ++ x ∷ [])
+AllByRecursion-push P [] x h last = (last, tt)
+AllByRecursion-push P (y ∷ xs) x h last = (h.0, AllByRecursion-push P xs x h.1 last)

@@ -1,21 +1,21 @@
 -- A SYN and an acknowledgement that a side takes keep the invariant.
-use Rattle.std.proofs.Common.{◌≡◌, ◌⊎◌, inl, inr, ℕ, suc, ◌+◌, ◌^◌, ◌≤◌, ◌≢◌, Bool, true, false, List, [], length, Some, None, refl, sym, ap, ◌∙◌, subst, arith, le_refl}
+use Rattle.std.proofs.Common.{◌≡◌, ◌⊎◌, inl, inr, ℕ, suc, ◌+◌, ◌^◌, ◌≤◌, Bool, true, false, List, [], length, Some, None, refl, sym, ap, ◌∙◌, subst, arith, le_refl}
 use Rattle.tcp_law.specs.ReceiveMap.{Begins}
 use Rattle.tcp_law.specs.Numbers.{wire, IsFirst}
-use Rattle.tcp_law.specs.Segment.{Control, Segment, IsData}
+use Rattle.tcp_law.specs.Segment.{Control, Segment, IsData, IsNoReset}
 use Rattle.tcp_law.specs.Segment.Control.{Plain, Syn, Rst}
 use Rattle.tcp_law.specs.Side.{Phase, Side, taken_in, rcv_next, one_if, IsConnected}
 use Rattle.tcp_law.specs.Side.Phase.{Unopened, Listen, SynSent, SynReceived, Synchronized, Ended}
 use Rattle.tcp_law.specs.Side.Opening.{Passive, Active}
 use Rattle.tcp_law.specs.Move.{after, Comes}
 use Rattle.tcp_law.specs.Move.Move.{TakesSyn, TakesCrossedSyn, TakesSynAck, TakesAck}
-use Rattle.tcp_law.specs.Invariant.{IsPiece, IsPlain, IsSyn, HasReached, IsHonest, HasNoStream, IsWellFormed, IsInStep, IsSilent, Half}
+use Rattle.tcp_law.specs.Invariant.{IsPiece, IsPlain, IsSyn, HasReached, IsHonest, HasNoStream, IsWellFormed, IsInStep, IsSilent, OneWay}
 use Rattle.tcp_law.proofs.Lists.{AllByRecursion-at, Begins-length, Begins-nothing}
-use Rattle.tcp_law.proofs.Grows.{Grows, Half-own, Half-other}
+use Rattle.tcp_law.proofs.Grows.{Grows, OneWay-own, OneWay-other}
 use Rattle.tcp_law.proofs.Calls.{Keeps, same_bytes, heard, fits_at, early_at, not_late}
 
 -- what came is honest
-pub honest : (t s : Side) (x : Segment) → Half t s → Comes t x → IsHonest t s x
+pub honest : (t s : Side) (x : Segment) → OneWay t s → Comes t x → IsHonest t s x
 honest t s x back comes = AllByRecursion-at (IsHonest t s) t.sent comes.0 x back.sent comes.1
 
 not_data : {A : Type 0} (control : Control) → control ≡ Syn → IsData control → A
@@ -31,8 +31,8 @@ syn_of t s x e (inr h) = kind h.0 where
   kind (inr (inr syn)) = syn
 
 -- the number that a segment acknowledges is one that its sender has reached
-pub acked : (t s : Side) (x : Segment) (number : ℕ) → x.control ≢ Rst → x.ack ≡ Some number → IsHonest t s x → HasReached t number
-acked t s x number no_reset e (inl reset) = absurd (no_reset reset)
+pub acked : (t s : Side) (x : Segment) (number : ℕ) → IsNoReset x.control → x.ack ≡ Some number → IsHonest t s x → HasReached t number
+acked t s x number no_reset e (inl reset) = absurd (subst IsNoReset reset no_reset)
 acked t s x number no_reset e (inr h) = by h.1 where
   by : (x.ack ≡ None) ⊎ ((n : ℕ) × (x.ack ≡ Some n) × HasReached t n) → HasReached t number
   by (inl none) = absurd (let clash : Some number ≡ None = sym e ∙ none in cc)
@@ -46,34 +46,34 @@ pub syn_position : (at seq : ℕ) → IsFirst at → seq ≡ wire at → 2 ^ 32 
 syn_position at seq first e = let low = first.0 in let high = first.1 in omega arith
 
 -- a partner of a side that has no stream has reached nothing past its SYN
-pub rcv_next-early : (s t : Side) → Half s t → HasNoStream s → rcv_next t ≡ suc t.irs
-rcv_next-early s t half none =
-    let received : Begins (taken_in t) [] = subst (λ (ys : List ℕ). Begins (taken_in t) ys) none.0 half.received in
+pub rcv_next-early : (s t : Side) → OneWay s t → HasNoStream s → rcv_next t ≡ suc t.irs
+rcv_next-early s t out none =
+    let received : Begins (taken_in t) [] = subst (λ (ys : List ℕ). Begins (taken_in t) ys) none.0 out.received in
     let nothing = ap length (Begins-nothing (taken_in t) received) in
     let no_fin = ap one_if (not_finished t.took_fin refl) in
     omega arith
   where
     not_finished : (b : Bool) → t.took_fin ≡ b → t.took_fin ≡ false
     not_finished false e = e
-    not_finished true e = absurd (let f = half.fin e in let clash : false ≡ true = sym none.2 ∙ f.0 in cc)
+    not_finished true e = absurd (let f = out.fin e in let clash : false ≡ true = sym none.2 ∙ f.0 in cc)
 
 -- an acknowledgement of its SYN alone says that the partner counts from it
-pub opened : (s t : Side) → Half s t → Half t s → HasNoStream s → HasReached t (wire (suc s.iss)) → (t.irs ≡ s.iss) × (suc s.iss ≤ rcv_next t)
-opened s t half back none h =
+pub opened : (s t : Side) → OneWay s t → OneWay t s → HasNoStream s → HasReached t (wire (suc s.iss)) → (t.irs ≡ s.iss) × (suc s.iss ≤ rcv_next t)
+opened s t out back none h =
     let number = h.1 in
     let low = h.2 in
     let past = h.3 in
     let high = h.4 in
-    let next = rcv_next-early s t half none in
-    let iss_low = half.well_formed.iss.0 in
-    let iss_high = half.well_formed.iss.1 in
+    let next = rcv_next-early s t out none in
+    let iss_low = out.well_formed.iss.0 in
+    let iss_high = out.well_formed.iss.1 in
     let irs_high = back.well_formed.irs in
     (omega arith, omega arith)
 
 pub keeps_takes_syn : (s t : Side) (x : Segment) (iss : ℕ) → Keeps s t (TakesSyn x iss)
-keeps_takes_syn s t x iss half back may =
+keeps_takes_syn s t x iss out back may =
     let new = after s (TakesSyn x iss) in
-    let well = half.well_formed in
+    let well = out.well_formed in
     let passive = fits_at s Listen well may.0 in
     let no_stream = well.early (early_at s Listen may.0 tt) in
     let its_syn = syn_of t s x may.2 (honest t s x back may.1) in
@@ -86,7 +86,7 @@ keeps_takes_syn s t x iss half back may =
       written = same_bytes s.written;
       closed = λ e. (e, refl);
       active = λ e. absurd (let clash : Passive ≡ Active = sym passive ∙ e in cc);
-      taken = λ low. taken counts low (half.listener passive);
+      taken = λ low. taken counts low (out.listener passive);
     } in
     let well' : IsWellFormed new = record {
       phase = omega arith;
@@ -97,8 +97,8 @@ keeps_takes_syn s t x iss half back may =
       short = well.short;
       irs = omega arith;
     } in (
-      Half-own s new grows t half well' (inr (no_stream.0, λ (e : SynReceived ≡ Synchronized). absurd (cc), inl refl)) (λ _. inr (counts, bare.1)) (λ sent. sent),
-      Half-other s new grows t back back.received back.held (λ e. absurd (let no_fin : false ≡ true = sym no_stream.3 ∙ e in cc)),
+      OneWay-own s new grows t out well' (inr (no_stream.0, λ (e : SynReceived ≡ Synchronized). absurd (cc), inl refl)) (λ _. inr (counts, bare.1)) (λ sent. sent),
+      OneWay-other s new grows t back back.received back.held (λ e. absurd (let no_fin : false ≡ true = sym no_stream.3 ∙ e in cc)),
     )
   where
     taken :
@@ -108,9 +108,9 @@ keeps_takes_syn s t x iss half back may =
     taken counts low (inr same) = let again = same.0 in (omega arith, omega arith)
 
 pub keeps_takes_crossed_syn : (s t : Side) (x : Segment) → Keeps s t (TakesCrossedSyn x)
-keeps_takes_crossed_syn s t x half back may =
+keeps_takes_crossed_syn s t x out back may =
     let new = after s (TakesCrossedSyn x) in
-    let well = half.well_formed in
+    let well = out.well_formed in
     let fits = fits_at s SynSent well may.0 in
     let active = fits.0 in
     let none = fits.1 in
@@ -134,18 +134,18 @@ keeps_takes_crossed_syn s t x half back may =
       short = well.short;
       irs = omega arith;
     } in (
-      Half-own s new grows t half well' (step half.step) (λ e. absurd (let clash : Active ≡ Passive = sym active ∙ e in cc)) (λ sent. sent),
-      Half-other s new grows t back back.received back.held (λ e. absurd (let no_fin : false ≡ true = sym no_stream.3 ∙ e in cc)),
+      OneWay-own s new grows t out well' (sync out.sync) (λ e. absurd (let clash : Active ≡ Passive = sym active ∙ e in cc)) (λ sent. sent),
+      OneWay-other s new grows t back back.received back.held (λ e. absurd (let no_fin : false ≡ true = sym no_stream.3 ∙ e in cc)),
     )
   where
-    step : IsInStep s t ⊎ IsSilent s t → IsInStep (after s (TakesCrossedSyn x)) t ⊎ IsSilent (after s (TakesCrossedSyn x)) t
-    step (inl in_step) = inl in_step
-    step (inr silent) = inr (silent.0, λ (e : SynReceived ≡ Synchronized). absurd (cc), silent.2)
+    sync : IsInStep s t ⊎ IsSilent s t → IsInStep (after s (TakesCrossedSyn x)) t ⊎ IsSilent (after s (TakesCrossedSyn x)) t
+    sync (inl in_step) = inl in_step
+    sync (inr silent) = inr (silent.0, λ (e : SynReceived ≡ Synchronized). absurd (cc), silent.2)
 
 pub keeps_takes_syn_ack : (s t : Side) (x : Segment) → Keeps s t (TakesSynAck x)
-keeps_takes_syn_ack s t x half back may =
+keeps_takes_syn_ack s t x out back may =
     let new = after s (TakesSynAck x) in
-    let well = half.well_formed in
+    let well = out.well_formed in
     let fits = fits_at s SynSent well may.0 in
     let active = fits.0 in
     let none = fits.1 in
@@ -155,7 +155,7 @@ keeps_takes_syn_ack s t x half back may =
     let position = syn_position its_syn.at x.seq its_syn.first its_syn.seq in
     let low = its_syn.first.0 in
     let high = its_syn.first.1 in
-    let in_step = opened s t half back no_stream (acked t s x (wire (suc s.iss)) (λ e. absurd (let clash : Syn ≡ Rst = sym may.2 ∙ e in cc)) may.3 came) in
+    let in_step = opened s t out back no_stream (acked t s x (wire (suc s.iss)) (subst IsNoReset (sym may.2) tt) may.3 came) in
     let grows : Grows s new = record {
       late = not_late s SynSent may.0 (λ late. late);
       written = same_bytes s.written;
@@ -172,8 +172,8 @@ keeps_takes_syn_ack s t x half back may =
       short = well.short;
       irs = omega arith;
     } in (
-      Half-own s new grows t half well' (inl (in_step.0, le_refl _, in_step.1)) (λ e. absurd (let clash : Active ≡ Passive = sym active ∙ e in cc)) (λ sent. sent),
-      Half-other s new grows t back back.received back.held (λ e. absurd (let no_fin : false ≡ true = sym no_stream.3 ∙ e in cc)),
+      OneWay-own s new grows t out well' (inl (in_step.0, le_refl _, in_step.1)) (λ e. absurd (let clash : Active ≡ Passive = sym active ∙ e in cc)) (λ sent. sent),
+      OneWay-other s new grows t back back.received back.held (λ e. absurd (let no_fin : false ≡ true = sym no_stream.3 ∙ e in cc)),
     )
 
 connected_cases : (phase : Phase) → IsConnected phase → (phase ≡ SynReceived) ⊎ (phase ≡ Synchronized)
@@ -189,9 +189,9 @@ one_if-small true = omega arith
 one_if-small false = omega arith
 
 pub keeps_takes_ack : (s t : Side) (x : Segment) (at : ℕ) → Keeps s t (TakesAck x at)
-keeps_takes_ack s t x at half back may =
+keeps_takes_ack s t x at out back may =
     let new = after s (TakesAck x at) in
-    let well = half.well_formed in
+    let well = out.well_formed in
     let low = well.una_low in
     let further = may.5 in
     let reached = acked t s x (wire at) may.2 may.3 (honest t s x back may.1) in
@@ -211,8 +211,8 @@ keeps_takes_ack s t x at half back may =
       short = well.short;
       irs = well.irs;
     } in (
-      Half-own s new grows t half well' (step reached (connected_cases s.phase may.0)) half.listener (λ sent. sent),
-      Half-other s new grows t back back.received back.held back.fin,
+      OneWay-own s new grows t out well' (sync reached (connected_cases s.phase may.0)) out.listener (λ sent. sent),
+      OneWay-other s new grows t back back.received back.held back.fin,
     )
   where
     running : HasReached t (wire at) → s.phase ≡ Synchronized → IsInStep s t ⊎ IsSilent s t → IsInStep (after s (TakesAck x at)) t ⊎ IsSilent (after s (TakesAck x at)) t
@@ -222,8 +222,8 @@ keeps_takes_ack s t x at half back may =
         let high = h.4 in
         let counts = in_step.0 in
         let before = in_step.1 in
-        let shorter = Begins-length (taken_in t) s.written half.received in
-        let short = half.well_formed.short in
+        let shorter = Begins-length (taken_in t) s.written out.received in
+        let short = out.well_formed.short in
         let fin = one_if-small t.took_fin in
         let asked = one_if-small s.closed in
         let low = may.5 in
@@ -232,13 +232,13 @@ keeps_takes_ack s t x at half back may =
         inl (counts, omega arith, omega arith)
     running h e (inr silent) = inr (silent.0, λ _. silent.1 e, inr h)
 
-    step : HasReached t (wire at) → (s.phase ≡ SynReceived) ⊎ (s.phase ≡ Synchronized) → IsInStep (after s (TakesAck x at)) t ⊎ IsSilent (after s (TakesAck x at)) t
-    step h (inl e) =
+    sync : HasReached t (wire at) → (s.phase ≡ SynReceived) ⊎ (s.phase ≡ Synchronized) → IsInStep (after s (TakesAck x at)) t ⊎ IsSilent (after s (TakesAck x at)) t
+    sync h (inl e) =
         let one : at ≡ suc s.iss = may.4 e in
-        let none = half.well_formed.early (early_at s SynReceived e tt) in
+        let none = out.well_formed.early (early_at s SynReceived e tt) in
         let first : HasReached t (wire (suc s.iss)) = subst (λ (p : ℕ). HasReached t (wire p)) one h in
-        let in_step = opened s t half back none first in
+        let in_step = opened s t out back none first in
         let counts = in_step.0 in
         let reached = in_step.1 in
         inl (counts, omega arith, omega arith)
-    step h (inr e) = running h e half.step
+    sync h (inr e) = running h e out.sync

@@ -7,9 +7,9 @@ use Rattle.tcp_law.specs.Side.{Side, rcv_next}
 use Rattle.tcp_law.specs.Side.Phase.{SynSent, Synchronized}
 use Rattle.tcp_law.specs.Move.{sends, syn, syn_ack, bare_ack, data_segment, keep_alive, bytes_from}
 use Rattle.tcp_law.specs.Move.Move.{SendsSyn, SendsSynAck, SendsAck, SendsData, SendsKeepAlive, SendsReset}
-use Rattle.tcp_law.specs.Invariant.{IsLate, IsBelow, HasReached, IsHonest, IsInStep, IsSilent, IsWellFormed, Half}
-use Rattle.tcp_law.proofs.Lists.{Begins-take}
-use Rattle.tcp_law.proofs.Grows.{Grows, IsHonest-own, Half-own, Half-other}
+use Rattle.tcp_law.specs.Invariant.{IsLate, IsBelow, HasReached, IsHonest, IsInStep, IsSilent, IsWellFormed, OneWay}
+use Rattle.tcp_law.proofs.Lists.{Begins-take, AllByRecursion-push}
+use Rattle.tcp_law.proofs.Grows.{Grows, IsHonest-own, OneWay-own, OneWay-other}
 use Rattle.tcp_law.proofs.Calls.{Keeps, same_bytes, heard, fits_at}
 
 grows_sends : (s : Side) (x : Segment) → Grows s (sends s x)
@@ -22,11 +22,11 @@ grows_sends s x = record {
 }
 
 -- one more honest segment
-keeps_sent : (s t : Side) (x : Segment) → Half s t → Half t s → IsHonest s t x → Half (sends s x) t × Half t (sends s x)
-keeps_sent s t x half back honest =
+keeps_sent : (s t : Side) (x : Segment) → OneWay s t → OneWay t s → IsHonest s t x → OneWay (sends s x) t × OneWay t (sends s x)
+keeps_sent s t x out back honest =
     let new = sends s x in
     let grows = grows_sends s x in
-    let well = half.well_formed in
+    let well = out.well_formed in
     let well' : IsWellFormed new = record {
       phase = well.phase;
       early = well.early;
@@ -36,8 +36,8 @@ keeps_sent s t x half back honest =
       short = well.short;
       irs = well.irs;
     } in (
-      Half-own s new grows t half well' half.step half.listener (λ sent. (IsHonest-own s new grows t x honest, sent)),
-      Half-other s new grows t back back.received back.held back.fin,
+      OneWay-own s new grows t out well' out.sync out.listener (λ sent. AllByRecursion-push (IsHonest new t) s.sent x sent (IsHonest-own s new grows t x honest)),
+      OneWay-other s new grows t back back.received back.held back.fin,
     )
 
 -- an acknowledgement of what it took
@@ -48,21 +48,21 @@ acks_reached : (s : Side) (x : Segment) → 2 ^ 32 ≤ s.irs → x.ack ≡ Some 
 acks_reached s x low e = inr (wire (rcv_next s), e, rcv_next-reached s low)
 
 pub keeps_sends_syn : (s t : Side) → Keeps s t SendsSyn
-keeps_sends_syn s t half back may =
-    let fits = fits_at s SynSent half.well_formed may in
-    keeps_sent s t (syn s) half back
-    (inr (inr (inr (record { syn = refl; at = s.iss; first = half.well_formed.iss; seq = refl; bare = λ _. (refl, fits.0) })), inl refl))
+keeps_sends_syn s t out back may =
+    let fits = fits_at s SynSent out.well_formed may in
+    keeps_sent s t (syn s) out back
+    (inr (inr (inr (record { syn = refl; at = s.iss; first = out.well_formed.iss; seq = refl; bare = λ _. (refl, fits.0) })), inl refl))
 
 pub keeps_sends_syn_ack : (s t : Side) → Keeps s t SendsSynAck
-keeps_sends_syn_ack s t half back may =
-    let low = heard s.phase s.opening s.irs may half.well_formed.phase in
-    keeps_sent s t (syn_ack s) half back
-    (inr (inr (inr (record { syn = refl; at = s.iss; first = half.well_formed.iss; seq = refl; bare = λ (e : Some (wire (rcv_next s)) ≡ None). absurd (cc) })), acks_reached s (syn_ack s) low refl))
+keeps_sends_syn_ack s t out back may =
+    let low = heard s.phase s.opening s.irs may out.well_formed.phase in
+    keeps_sent s t (syn_ack s) out back
+    (inr (inr (inr (record { syn = refl; at = s.iss; first = out.well_formed.iss; seq = refl; bare = λ (e : Some (wire (rcv_next s)) ≡ None). absurd (cc) })), acks_reached s (syn_ack s) low refl))
 
 pub keeps_sends_ack : (s t : Side) (at : ℕ) → Keeps s t (SendsAck at)
-keeps_sends_ack s t at half back may =
-    let low = heard s.phase s.opening s.irs may half.well_formed.phase in
-    keeps_sent s t (bare_ack s at) half back (inr (inr (inl (record { plain = refl; bytes = inl refl })), acks_reached s (bare_ack s at) low refl))
+keeps_sends_ack s t at out back may =
+    let low = heard s.phase s.opening s.irs may out.well_formed.phase in
+    keeps_sent s t (bare_ack s at) out back (inr (inr (inl (record { plain = refl; bytes = inl refl })), acks_reached s (bare_ack s at) low refl))
 
 -- the written bytes from a position on fit
 bytes_from-fit : (s : Side) (at count : ℕ) → s.iss < at → at ≤ suc s.iss + length s.written → at + length (bytes_from s at count) ≤ suc s.iss + length s.written
@@ -80,9 +80,9 @@ fin_of_control true e = refl
 fin_of_control false e = absurd (cc)
 
 pub keeps_sends_data : (s t : Side) (at count : ℕ) (fin : Bool) → Keeps s t (SendsData at count fin)
-keeps_sends_data s t at count fin half back may =
-    let low : 2 ^ 32 ≤ s.irs = fits_at s Synchronized half.well_formed may.0 in
-    keeps_sent s t (data_segment s at count fin) half back
+keeps_sends_data s t at count fin out back may =
+    let low : 2 ^ 32 ≤ s.irs = fits_at s Synchronized out.well_formed may.0 in
+    keeps_sent s t (data_segment s at count fin) out back
     (inr (
       inl (record {
         late = subst IsLate (sym may.0) tt;
@@ -98,11 +98,11 @@ keeps_sends_data s t at count fin half back may =
     ))
 
 -- the byte below SND.UNA lies below RCV.NXT of the partner
-keep_alive-below : (s t : Side) → Half s t → s.iss < s.una → IsBelow t (keep_alive s)
-keep_alive-below s t half past = by half.step where
+keep_alive-below : (s t : Side) → OneWay s t → s.iss < s.una → IsBelow t (keep_alive s)
+keep_alive-below s t out past = by out.sync where
   by : IsInStep s t ⊎ IsSilent s t → IsBelow t (keep_alive s)
   by (inl in_step) =
-      let first = half.well_formed.iss.0 in
+      let first = out.well_formed.iss.0 in
       let counts = in_step.0 in
       let reached = in_step.2 in
       (s.una - 1, refl, omega arith, omega arith, omega arith)
@@ -114,14 +114,14 @@ keep_alive-below s t half past = by half.step where
         let low = h.2 in
         let after_syn = h.3 in
         let high = h.4 in
-        let first = half.well_formed.iss.0 in
+        let first = out.well_formed.iss.0 in
         (h.0 - 1, omega arith, low, omega arith, omega arith)
 
 pub keeps_sends_keep_alive : (s t : Side) → Keeps s t SendsKeepAlive
-keeps_sends_keep_alive s t half back may =
-    let low : 2 ^ 32 ≤ s.irs = fits_at s Synchronized half.well_formed may.0 in
-    keeps_sent s t (keep_alive s) half back
-    (inr (inr (inl (record { plain = refl; bytes = inr (keep_alive-below s t half may.1) })), acks_reached s (keep_alive s) low refl))
+keeps_sends_keep_alive s t out back may =
+    let low : 2 ^ 32 ≤ s.irs = fits_at s Synchronized out.well_formed may.0 in
+    keeps_sent s t (keep_alive s) out back
+    (inr (inr (inl (record { plain = refl; bytes = inr (keep_alive-below s t out may.1) })), acks_reached s (keep_alive s) low refl))
 
 pub keeps_sends_reset : (s t : Side) (x : Segment) → Keeps s t (SendsReset x)
-keeps_sends_reset s t x half back may = keeps_sent s t x half back (inl may)
+keeps_sends_reset s t x out back may = keeps_sent s t x out back (inl may)

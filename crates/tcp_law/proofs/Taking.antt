@@ -8,9 +8,9 @@ use Rattle.tcp_law.specs.Side.{Side, taken_in, rcv_next, one_if}
 use Rattle.tcp_law.specs.Side.Phase.{Synchronized}
 use Rattle.tcp_law.specs.Move.{after, laid}
 use Rattle.tcp_law.specs.Move.Move.{TakesBytes, TakesFin}
-use Rattle.tcp_law.specs.Invariant.{IsEarly, IsPiece, IsBelow, IsPlain, IsSyn, IsHonest, IsWellFormed, IsInStep, IsSilent, Half}
+use Rattle.tcp_law.specs.Invariant.{IsEarly, IsPiece, IsBelow, IsPlain, IsSyn, IsHonest, IsWellFormed, IsInStep, IsSilent, OneWay}
 use Rattle.tcp_law.proofs.Lists.{Begins-append, Begins-drop, Begins-front, Begins-length, Begins-nothing, Begins-whole, AgreesWith-store, AgreesWith-behind, store-nothing, drop-nothing, drop-twice}
-use Rattle.tcp_law.proofs.Grows.{Grows, Half-own, Half-other}
+use Rattle.tcp_law.proofs.Grows.{Grows, OneWay-own, OneWay-other}
 use Rattle.tcp_law.proofs.Calls.{Keeps, same_bytes, fits_at}
 use Rattle.tcp_law.proofs.Opening.{honest}
 
@@ -29,7 +29,7 @@ laid-nothing s at bytes e =
     ap (λ (rest : List ℕ). store s.window (at - rcv_next s) (drop (rcv_next s - at) rest)) e
     ∙ (ap (λ (rest : List ℕ). store s.window (at - rcv_next s) rest) (drop-nothing (rcv_next s - at)) ∙ store-nothing s.window (at - rcv_next s))
 
-module _ (s t : Side) (x : Segment) (half : Half s t) (back : Half t s) where
+module _ (s t : Side) (x : Segment) (out : OneWay s t) (back : OneWay t s) where
   -- RCV.NXT is less than 2 ^ 30 past the SYN that s took
   rcv_next-short : rcv_next s ≤ suc (suc s.irs) + 2 ^ 29
   rcv_next-short =
@@ -86,7 +86,7 @@ module _ (s t : Side) (x : Segment) (half : Half s t) (back : Half t s) where
         laid_unchanged at (laid-below s at x.bytes (omega arith))
 
     kind : IsPiece t x ⊎ (IsPlain s x ⊎ IsSyn t x) → AgreesWith (laid s at x.bytes) (drop (length (taken_in s)) t.written)
-    kind (inl piece) = from piece back.step
+    kind (inl piece) = from piece back.sync
     kind (inr (inl its_plain)) = plain its_plain.bytes
     kind (inr (inr its_syn)) = absurd (subst IsData its_syn.syn data_kind)
 
@@ -110,8 +110,8 @@ module _ (s t : Side) (x : Segment) (half : Half s t) (back : Half t s) where
       let short = back.well_formed.short in
       let first_low = back.well_formed.iss.0 in
       let first_high = back.well_formed.iss.1 in
-      let irs_high = half.well_formed.irs in
-      by ends.0 next its last shorter short first_low first_high irs_high back.step
+      let irs_high = out.well_formed.irs in
+      by ends.0 next its last shorter short first_low first_high irs_high back.sync
     where
       by : t.closed ≡ true → rcv_next s ≡ suc s.irs + length (taken_in s) → x.seq ≡ wire piece.at → piece.at + length x.bytes ≡ suc t.iss + length t.written
           → length (taken_in s) ≤ length t.written → length t.written < 2 ^ 29 → 2 ^ 32 ≤ t.iss → t.iss < 2 ^ 33 → s.irs < 2 ^ 33
@@ -129,11 +129,11 @@ not_early : {A : Type 0} (s : Side) → s.phase ≡ Synchronized → IsEarly s.p
 not_early s e early = absurd (subst IsEarly e early)
 
 pub keeps_takes_bytes : (s t : Side) (x : Segment) (at : ℕ) → Keeps s t (TakesBytes x at)
-keeps_takes_bytes s t x at half back may =
+keeps_takes_bytes s t x at out back may =
     let new = after s (TakesBytes x at) in
-    let well = half.well_formed in
+    let well = out.well_formed in
     let map = laid s at x.bytes in
-    let agrees = laid_agrees s t x half back at may.1 may.3 may.4 may.5 (honest t s x back may.2) in
+    let agrees = laid_agrees s t x out back at may.1 may.3 may.4 may.5 (honest t s x back may.2) in
     let longer : taken_in new ≡ taken_in s ++ front map = sym (append_assoc s.read s.waiting (front map)) in
     let more = ap length longer ∙ length-append (taken_in s) (front map) in
     let rest = drop (length (taken_in s)) t.written in
@@ -155,20 +155,20 @@ keeps_takes_bytes s t x at half back may =
       short = well.short;
       irs = well.irs;
     } in (
-      Half-own s new grows t half well' half.step half.listener (λ sent. sent),
-      Half-other s new grows t back
+      OneWay-own s new grows t out well' out.sync out.listener (λ sent. sent),
+      OneWay-other s new grows t back
           (subst (λ (bytes : List ℕ). Begins bytes t.written) (sym longer) (Begins-append (taken_in s) (front map) t.written back.received (Begins-front map rest agrees)))
           (subst (λ (ys : List ℕ). AgreesWith (behind map) ys) behind_them (AgreesWith-behind map rest agrees))
           (λ e. absurd (let clash : false ≡ true = sym may.1 ∙ e in cc)),
     )
 
 pub keeps_takes_fin : (s t : Side) (x : Segment) → Keeps s t (TakesFin x)
-keeps_takes_fin s t x half back may =
+keeps_takes_fin s t x out back may =
     let new = after s (TakesFin x) in
-    let well = half.well_formed in
+    let well = out.well_formed in
     let low : 2 ^ 32 ≤ s.irs = fits_at s Synchronized well may.0 in
     let next = rcv_next-open s may.1 in
-    let ends = complete s t x half back may.1 low may.3 may.4 (fin_of s t x half back may.3 (honest t s x back may.2)) in
+    let ends = complete s t x out back may.1 low may.3 may.4 (fin_of s t x out back may.3 (honest t s x back may.2)) in
     let grows : Grows s new = record {
       late = λ late. (late, refl);
       written = same_bytes s.written;
@@ -185,6 +185,6 @@ keeps_takes_fin s t x half back may =
       short = well.short;
       irs = well.irs;
     } in (
-      Half-own s new grows t half well' half.step half.listener (λ sent. sent),
-      Half-other s new grows t back back.received back.held (λ _. ends),
+      OneWay-own s new grows t out well' out.sync out.listener (λ sent. sent),
+      OneWay-other s new grows t back back.received back.held (λ _. ends),
     )

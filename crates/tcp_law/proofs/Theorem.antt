@@ -2,13 +2,13 @@
 use Rattle.std.proofs.Common.{◌≡◌, ◌⊎◌, inl, inr, ℕ, suc, ◌-◌, ◌≤◌, Bool, true, false, List, [], ◌∷◌, length, drop, refl, ap, arith, le_refl, length-drop}
 use Rattle.tcp_law.specs.Side.{Side, taken_in, freed, fresh, one_if}
 use Rattle.tcp_law.specs.Side.Phase.{Unopened, Synchronized}
-use Rattle.tcp_law.specs.Side.Opening.{None_yet, Passive}
-use Rattle.tcp_law.specs.Move.{Move}
+use Rattle.tcp_law.specs.Side.Opening.{NotYet, Passive}
+use Rattle.tcp_law.specs.Move.{Move, after, MayAll, after_all}
 use Rattle.tcp_law.specs.Move.Move.{Listens, Connects, Writes, Reads, Closes, Ends, FallsBack, SendsSyn, SendsSynAck, SendsAck, SendsData, SendsKeepAlive, SendsReset, TakesSyn, TakesCrossedSyn, TakesSynAck, TakesAck, TakesBytes, TakesFin}
 use Rattle.tcp_law.specs.Run.{World, Event, MayHappen, happens, IsRun, run, start}
 use Rattle.tcp_law.specs.Run.Event.{A, B}
 use Rattle.tcp_law.specs.Safe.{IsSafe, AreSafe}
-use Rattle.tcp_law.specs.Invariant.{IsInStep, IsSilent, Half, Kept}
+use Rattle.tcp_law.specs.Invariant.{IsInStep, IsSilent, OneWay, Kept}
 use Rattle.tcp_law.proofs.Lists.{Begins-prefix, AgreesWith-space}
 use Rattle.tcp_law.proofs.Calls.{Keeps, keeps_listens, keeps_connects, keeps_writes, keeps_reads, keeps_closes, keeps_ends, keeps_falls_back}
 use Rattle.tcp_law.proofs.Sends.{keeps_sends_syn, keeps_sends_syn_ack, keeps_sends_ack, keeps_sends_data, keeps_sends_keep_alive, keeps_sends_reset}
@@ -36,12 +36,16 @@ keeps s t (TakesAck x at) = keeps_takes_ack s t x at
 keeps s t (TakesBytes x at) = keeps_takes_bytes s t x at
 keeps s t (TakesFin x) = keeps_takes_fin s t x
 
+pub keeps_all : (s t : Side) (moves : List Move) → OneWay s t → OneWay t s → MayAll s t moves → OneWay (after_all s moves) t × OneWay t (after_all s moves)
+keeps_all s t [] out back may = (out, back)
+keeps_all s t (move ∷ moves) out back may = let both = keeps s t move out back may.0 in keeps_all (after s move) t moves both.0 both.1 may.1
+
 pub Kept-happens : (w : World) (event : Event) → Kept w → MayHappen w event → Kept (happens w event)
 Kept-happens w (A move) kept may = let both = keeps w.a w.b move kept.0 kept.1 may in (both.0, both.1)
 Kept-happens w (B move) kept may = let both = keeps w.b w.a move kept.1 kept.0 may in (both.1, both.0)
 
-half_fresh : (m n : ℕ) → Half (fresh m) (fresh n)
-half_fresh m n = record {
+fresh_one_way : (m n : ℕ) → OneWay (fresh m) (fresh n)
+fresh_one_way m n = record {
   well_formed =
       record {
         phase = (refl, refl);
@@ -52,28 +56,28 @@ half_fresh m n = record {
         short = omega arith;
         irs = omega arith;
       };
-  step = inr (refl, λ (e : Unopened ≡ Synchronized). absurd (cc), inl refl);
+  sync = inr (refl, λ (e : Unopened ≡ Synchronized). absurd (cc), inl refl);
   received = tt;
   held = AgreesWith-space n [];
   fin = λ (e : false ≡ true). absurd (cc);
-  listener = λ (e : None_yet ≡ Passive). absurd (cc);
+  listener = λ (e : NotYet ≡ Passive). absurd (cc);
   sent = tt;
 }
 
 pub Kept-start : (m n : ℕ) → Kept (start m n)
-Kept-start m n = (half_fresh m n, half_fresh n m)
+Kept-start m n = (fresh_one_way m n, fresh_one_way n m)
 
 pub Kept-run : (w : World) (events : List Event) → Kept w → IsRun w events → Kept (run w events)
 Kept-run w [] kept is_run = kept
 Kept-run w (event ∷ events) kept is_run = Kept-run (happens w event) events (Kept-happens w event kept is_run.0) is_run.1
 
-freed-reached : (s t : Side) → Half s t → freed s ≤ length (taken_in t)
-freed-reached s t half = by t.took_fin refl half.step where
+pub freed-reached : (s t : Side) → OneWay s t → freed s ≤ length (taken_in t)
+freed-reached s t out = by t.took_fin refl out.sync where
   cut : length (drop (s.una - suc s.iss) s.written) ≡ length s.written - (s.una - suc s.iss)
   cut = length-drop (s.una - suc s.iss) s.written
 
   by : (b : Bool) → t.took_fin ≡ b → IsInStep s t ⊎ IsSilent s t → freed s ≤ length (taken_in t)
-  by true e step = let f = half.fin e in let same = ap length f.1 in let rest = cut in omega arith
+  by true e sync = let f = out.fin e in let same = ap length f.1 in let rest = cut in omega arith
   by false e (inl in_step) =
       let none = ap one_if e in
       let counts = in_step.0 in
@@ -82,15 +86,15 @@ freed-reached s t half = by t.took_fin refl half.step where
       omega arith
   by false e (inr silent) = let nothing = ap length silent.0 in omega arith
 
-half_safe : (s t : Side) → Half s t → IsSafe s t
-half_safe s t half = record {
-  prefix = Begins-prefix (taken_in t) s.written half.received;
-  freed = freed-reached s t half;
-  finished = λ e. let f = half.fin e in (f.0, f.1);
+IsSafe-one_way : (s t : Side) → OneWay s t → IsSafe s t
+IsSafe-one_way s t out = record {
+  prefix = Begins-prefix (taken_in t) s.written out.received;
+  freed = freed-reached s t out;
+  finished = λ e. let f = out.fin e in (f.0, f.1);
 }
 
 pub AreSafe-kept : (w : World) → Kept w → AreSafe w
-AreSafe-kept w kept = (half_safe w.a w.b kept.0, half_safe w.b w.a kept.1)
+AreSafe-kept w kept = (IsSafe-one_way w.a w.b kept.0, IsSafe-one_way w.b w.a kept.1)
 
 pub AreSafe-run : (m n : ℕ) (events : List Event) → IsRun (start m n) events → AreSafe (run (start m n) events)
 AreSafe-run m n events is_run = AreSafe-kept (run (start m n) events) (Kept-run (start m n) events (Kept-start m n) is_run)

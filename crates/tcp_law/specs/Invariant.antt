@@ -7,7 +7,7 @@ use Rattle.tcp_law.specs.Segment.{Segment, IsData}
 use Rattle.tcp_law.specs.Segment.Control.{Plain, Syn, Fin, Rst}
 use Rattle.tcp_law.specs.Side.{Phase, Opening, Side, taken_in, rcv_next, send_end}
 use Rattle.tcp_law.specs.Side.Phase.{Unopened, Listen, SynSent, SynReceived, Synchronized, Ended}
-use Rattle.tcp_law.specs.Side.Opening.{None_yet, Passive, Active}
+use Rattle.tcp_law.specs.Side.Opening.{NotYet, Passive, Active}
 use Rattle.tcp_law.specs.Run.{World}
 
 -- its ISS stays from now on
@@ -34,7 +34,7 @@ HasNoStream s = (s.written ≡ []) × (taken_in s ≡ []) × (s.closed ≡ false
 
 -- how a side was opened, and whether it took a SYN, as its phase tells
 abbrev pub FitsPhase : Phase → Opening → ℕ → Type 0
-FitsPhase Unopened opening irs = (opening ≡ None_yet) × (irs ≡ 0)
+FitsPhase Unopened opening irs = (opening ≡ NotYet) × (irs ≡ 0)
 FitsPhase Listen opening irs = opening ≡ Passive
 FitsPhase SynSent opening irs = (opening ≡ Active) × (irs ≡ 0)
 FitsPhase SynReceived opening irs = 2 ^ 32 ≤ irs
@@ -97,9 +97,9 @@ abbrev pub IsSilent : Side → Side → Type 0
 IsSilent s t = (s.written ≡ []) × (s.phase ≡ Synchronized → s.closed ≡ true) × ((s.una ≡ s.iss) ⊎ HasReached t (wire s.una))
 
 -- the stream from s to t
-pub record Half (s t : Side) : Type 0 where
+pub record OneWay (s t : Side) : Type 0 where
   pub well_formed : IsWellFormed s
-  pub step : IsInStep s t ⊎ IsSilent s t
+  pub sync : IsInStep s t ⊎ IsSilent s t
   pub received : Begins (taken_in t) s.written
   pub held : AgreesWith t.window (drop (length (taken_in t)) s.written)
   pub fin : t.took_fin ≡ true → (s.closed ≡ true) × (taken_in t ≡ s.written) × (t.irs ≡ s.iss)
@@ -108,4 +108,4 @@ pub record Half (s t : Side) : Type 0 where
 
 -- the invariant: both streams
 abbrev pub Kept : World → Type 0
-Kept w = Half w.a w.b × Half w.b w.a
+Kept w = OneWay w.a w.b × OneWay w.b w.a

@@ -6,3 +6,6 @@ pub mod Move
 pub mod Run
 pub mod Safe
 pub mod Invariant
+pub mod Examples
+pub mod WrongRules
+pub mod Alone

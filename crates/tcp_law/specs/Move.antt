@@ -3,7 +3,7 @@
 use Rattle.std.specs.Prelude.{◌≡◌, ℕ, suc, ◌+◌, ◌-◌, ◌^◌, ◌<◌, ◌≤◌, ◌≢◌, Bool, true, false, List, [], ◌∷◌, ◌++◌, length, take, drop, Option, Some, None, slice_get}
 use Rattle.tcp_law.specs.ReceiveMap.{store, front, behind, space}
 use Rattle.tcp_law.specs.Numbers.{wire, IsFirst, IsNear}
-use Rattle.tcp_law.specs.Segment.{Segment, IsData, fin_if}
+use Rattle.tcp_law.specs.Segment.{Segment, IsData, IsNoReset, fin_if}
 use Rattle.tcp_law.specs.Segment.Control.{Plain, Syn, Fin, Rst}
 use Rattle.tcp_law.specs.Side.{Side, rcv_next, send_end, IsConnected, fresh}
 use Rattle.tcp_law.specs.Side.Phase.{Unopened, Listen, SynSent, SynReceived, Synchronized, Ended}
@@ -34,11 +34,11 @@ pub data Move : Type 0 where
   TakesBytes : (x : Segment) (at : ℕ) → Move
   TakesFin : (x : Segment) → Move
 
--- a segment that was sent comes; it may come again, later than others, or never
+-- a segment that its partner sent comes: it may come again, later than others, or never
 abbrev pub Comes : Side → Segment → Type 0
 Comes t x = (k : ℕ) × (slice_get t.sent k ≡ Some x)
 
--- a segment that it may send, from this position on; each but a first SYN has the ACK bit set
+-- the segments that it may send: each but a first SYN acknowledges what it took
 abbrev pub syn : Side → Segment
 syn s = record { control = Syn; seq = wire s.iss; ack = None; bytes = [] }
 
@@ -85,14 +85,14 @@ May s t (TakesSyn x iss) = (s.phase ≡ Listen) × Comes t x × (x.control ≡ S
 May s t (TakesCrossedSyn x) = (s.phase ≡ SynSent) × Comes t x × (x.control ≡ Syn) × (x.ack ≡ None)
 May s t (TakesSynAck x) = (s.phase ≡ SynSent) × Comes t x × (x.control ≡ Syn) × (x.ack ≡ Some (wire (suc s.iss)))
 May s t (TakesAck x at) =
-    IsConnected s.phase × Comes t x × (x.control ≢ Rst) × (x.ack ≡ Some (wire at)) × (s.phase ≡ SynReceived → at ≡ suc s.iss) × (s.una ≤ at) × (at ≤ send_end s)
+    IsConnected s.phase × Comes t x × IsNoReset x.control × (x.ack ≡ Some (wire at)) × (s.phase ≡ SynReceived → at ≡ suc s.iss) × (s.una ≤ at) × (at ≤ send_end s)
 May s t (TakesBytes x at) =
     (s.phase ≡ Synchronized) × (s.took_fin ≡ false) × Comes t x × IsData x.control × (x.seq ≡ wire at) × IsNear (rcv_next s) at
 May s t (TakesFin x) =
     (s.phase ≡ Synchronized) × (s.took_fin ≡ false) × Comes t x × (x.control ≡ Fin) × (wire (x.seq + length x.bytes) ≡ wire (rcv_next s))
 
 abbrev pub sends : Side → Segment → Side
-sends s x = record s { sent = x ∷ s.sent }
+sends s x = record s { sent = s.sent ++ x ∷ [] }
 
 -- a side with so much receive space that listens: nothing is left of a connection
 abbrev pub listening : ℕ → Side
@@ -124,3 +124,12 @@ after s (TakesSynAck x) = record s { phase = Synchronized; irs = 2 ^ 32 + x.seq;
 after s (TakesAck x at) = record s { phase = Synchronized; una = at }
 after s (TakesBytes x at) = record s { waiting = s.waiting ++ front (laid s at x.bytes); window = behind (laid s at x.bytes) }
 after s (TakesFin x) = record s { took_fin = true }
+
+-- these moves, one after the other, while its partner stays as it is: what one call, arrival or offer of a socket amounts to
+abbrev pub MayAll : Side → Side → List Move → Type 0
+MayAll s t [] = Unit {0}
+MayAll s t (move ∷ moves) = May s t move × MayAll (after s move) t moves
+
+abbrev pub after_all : Side → List Move → Side
+after_all s [] = s
+after_all s (move ∷ moves) = after_all (after s move) moves

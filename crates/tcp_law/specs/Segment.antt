@@ -21,6 +21,13 @@ IsData Fin = Unit {0}
 IsData Syn = ⊥
 IsData Rst = ⊥
 
+-- it is no reset: its acknowledgement counts
+abbrev pub IsNoReset : Control → Type 0
+IsNoReset Plain = Unit {0}
+IsNoReset Syn = Unit {0}
+IsNoReset Fin = Unit {0}
+IsNoReset Rst = ⊥
+
 abbrev pub fin_if : Bool → Control
 fin_if true = Fin
 fin_if false = Plain

@@ -14,7 +14,7 @@ pub data Phase : Type 0 where
 
 -- how it was opened, once
 pub data Opening : Type 0 where
-  None_yet : Opening
+  NotYet : Opening
   Passive : Opening  -- by listen
   Active : Opening  -- by connect
 
@@ -30,7 +30,7 @@ pub record Side : Type 0 where
   pub waiting : List ℕ  -- the bytes that wait to be read
   pub window : List (Option ℕ)  -- the receive map behind them; its length is RCV.WND
   pub took_fin : Bool  -- it took the partner's FIN
-  pub sent : List Segment  -- each segment that it ever sent, the latest first
+  pub sent : List Segment  -- each segment that it ever sent, in order
 
 -- each byte that it took in
 abbrev pub taken_in : Side → List ℕ
@@ -70,7 +70,7 @@ abbrev pub fresh : ℕ → Side
 fresh capacity =
     record {
       phase = Unopened;
-      opening = None_yet;
+      opening = NotYet;
       iss = 2 ^ 32;
       una = 2 ^ 32;
       written = [];

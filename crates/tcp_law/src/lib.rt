@@ -3,6 +3,9 @@
 //! which rule of a socket is which move, and why each move keeps the invariant.
 #![tactic(auto)]
 
+pub mod examples;
+pub mod wrong_rules;
+
 ghost use Rattle.std.specs.Prelude.{ℕ, List, [], false, ◌<◌, ◌≤◌, ◌≡◌, ◌≢◌, ◌+◌, ◌^◌};
 ghost use Rattle.std.specs.List.{AllByRecursion};
 ghost use Rattle.tcp_law.specs.Numbers.{wire, nearest, IsNear};
@@ -11,15 +14,17 @@ ghost use Rattle.tcp_law.specs.Segment.Control.{Rst};
 ghost use Rattle.tcp_law.specs.Side.{taken_in, freed, fresh};
 ghost use Rattle.tcp_law.specs.Side.Phase.{Unopened, SynReceived};
 ghost use Rattle.tcp_law.specs.Side.Opening.{Passive};
-ghost use Rattle.tcp_law.specs.Move.{sends, after};
+ghost use Rattle.tcp_law.specs.Move.{Move, sends, after, MayAll, after_all};
 ghost use Rattle.tcp_law.specs.Move.Move.{Ends, FallsBack};
 ghost use Rattle.tcp_law.specs.Run.{World, Event, MayHappen, happens, IsRun, run, start};
 ghost use Rattle.tcp_law.specs.Safe.{AreSafe};
+ghost use Rattle.tcp_law.specs.Alone.{HasNothing, AreResets, unopened};
 ghost use Rattle.tcp_law.specs.Invariant.{Kept};
 
 /// A wire number stands for one position near its reference: a sent position that is near is decoded to itself.
 pub fn numbers_decode()
     ensures sent { (reference position : ℕ) → 2 ^ 31 ≤ reference → IsNear reference position → nearest reference (wire position) ≡ position }
+    ensures one { (reference p q : ℕ) → IsNear reference p → IsNear reference q → wire p ≡ wire q → p ≡ q }
     ensures near { (reference number : ℕ) → 2 ^ 31 ≤ reference → IsNear reference (nearest reference number) }
     ensures number { (reference number : ℕ) → 2 ^ 31 ≤ reference → number < 2 ^ 32 → wire (nearest reference number) ≡ number }
 {}
@@ -28,6 +33,8 @@ pub fn numbers_decode()
 pub fn moves_keep_the_invariant()
     ensures start { (space_a space_b : ℕ) → Kept (start space_a space_b) }
     ensures each_move { (w : World) (event : Event) → Kept w → MayHappen w event → Kept (happens w event) }
+    ensures moves_of_a { (w : World) (moves : List Move) → Kept w → MayAll w.a w.b moves → Kept (record w { a = after_all w.a moves }) }
+    ensures moves_of_b { (w : World) (moves : List Move) → Kept w → MayAll w.b w.a moves → Kept (record w { b = after_all w.b moves }) }
     ensures safe { (w : World) → Kept w → AreSafe w }
 {}
 
@@ -44,4 +51,18 @@ pub fn resets_keep_the_invariant()
 /// The theorem: after each run of two fresh sides both streams are safe.
 pub fn streams_are_safe()
     ensures { (space_a space_b : ℕ) (events : List Event) → IsRun (start space_a space_b) events → AreSafe (run (start space_a space_b) events) }
+{}
+
+/// Where only one side is ever opened, it reads nothing and frees nothing.
+pub fn a_lone_side_has_nothing()
+    ensures kept_a { (w : World) → Kept w → w.b.phase ≡ Unopened → HasNothing w.a }
+    ensures kept_b { (w : World) → Kept w → w.a.phase ≡ Unopened → HasNothing w.b }
+    ensures run_a { (space_a space_b : ℕ) (events : List Event) → IsRun (start space_a space_b) events → (run (start space_a space_b) events).b.phase ≡ Unopened → HasNothing (run (start space_a space_b) events).a }
+    ensures run_b { (space_a space_b : ℕ) (events : List Event) → IsRun (start space_a space_b) events → (run (start space_a space_b) events).a.phase ≡ Unopened → HasNothing (run (start space_a space_b) events).b }
+{}
+
+/// A partner that isn't opened may be any: a host can give a side the partner that it will have only when that one is opened.
+pub fn an_unopened_partner_may_be_any()
+    ensures of_a { (w : World) (space : ℕ) (resets : List Segment) → Kept w → w.b.phase ≡ Unopened → AreResets resets → Kept (record w { b = unopened space resets }) }
+    ensures of_b { (w : World) (space : ℕ) (resets : List Segment) → Kept w → w.a.phase ≡ Unopened → AreResets resets → Kept (record w { a = unopened space resets }) }
 {}
