@@ -1,0 +1,5 @@
+//! A host with a few UDP sockets over IPv4, and its device.
+#![tactic(auto)]
+
+mod checksum;
+mod frame;
