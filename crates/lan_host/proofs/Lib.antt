@@ -1,2 +1,4 @@
 pub mod Found
+pub mod Passes
+pub mod Queues
 pub mod Sums

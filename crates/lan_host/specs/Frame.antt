@@ -1,6 +1,6 @@
 -- A frame's UDP datagram, as the code holds its parts.
 use Rattle.std.specs.Prelude.{ℕ, List, slice_range, Option, Some, None}
-use Rattle.lan_machine.specs.Packet.{Packet}
+use Rattle.lan_machine.specs.Packet.{Packet, spelling}
 use Rattle.lan_machine.specs.declared.event.Endpoint.{Endpoint}
 use Rattle.lan_host.specs.declared.frame.Found.{Found}
 
@@ -26,3 +26,7 @@ packet_between source destination payload =
       destination_port = destination.port;
       payload = payload;
     }
+
+-- the frame of a datagram between these endpoints
+unfoldable pub frame_between : Endpoint → Endpoint → List ℕ → List ℕ
+frame_between source destination payload = spelling (packet_between source destination payload)

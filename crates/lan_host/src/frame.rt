@@ -1,6 +1,6 @@
 ghost use Rattle.std.specs.Prelude.{◌≡◌, ◌+◌, ◌^◌, ◌<◌, ◌≤◌, ◌++◌, length, drop, slice_range, IfSome};
-ghost use Rattle.lan_machine.specs.Packet.{be16, header_length, is_ipv4, is_whole, is_udp, packet_of, spelling, ipv4_header, udp_datagram, ipv4_checksum, udp_checksum};
-ghost use Rattle.lan_host.specs.Frame.{packet_at, packet_between};
+ghost use Rattle.lan_machine.specs.Packet.{be16, header_length, is_ipv4, is_whole, is_udp, packet_of, ipv4_header, udp_datagram, ipv4_checksum, udp_checksum};
+ghost use Rattle.lan_host.specs.Frame.{packet_at, packet_between, frame_between};
 
 use crate::checksum;
 use lan_machine::Endpoint;
@@ -8,6 +8,9 @@ use lan_machine::Endpoint;
 const IPV4_HEADER_LEN: usize = 20;
 
 const UDP_HEADER_LEN: usize = 8;
+
+/// What stands before a frame's payload.
+pub const HEADERS_LEN: usize = 28;
 
 const UDP: u8 = 17;
 
@@ -48,11 +51,12 @@ pub fn read(frame: &[u8]) -> Option<Found>
     })
 }
 
+#[tactic(auto, unfolding(crate::specs::Frame::frame_between))]
 /// Writes the frame of a datagram over all of `frame`.
 pub fn write(frame: &mut [u8], source: &Endpoint, destination: &Endpoint, payload: &[u8])
     requires room { length frame.old ≡ 28 + length payload.now }
     requires fits { 28 + length payload.now < 2 ^ 16 }
-    ensures { frame.new ≡ spelling (packet_between source.now destination.now payload.now) }
+    ensures { frame.new ≡ frame_between source.now destination.now payload.now }
 {
     let (header, datagram) = frame.split_at_mut(IPV4_HEADER_LEN);
     write_ipv4(header, source, destination, payload);
@@ -75,7 +79,7 @@ fn ipv4_header(source: &Endpoint, destination: &Endpoint, payload: &[u8], check:
 {
     let [s0, s1, s2, s3] = source.address;
     let [d0, d1, d2, d3] = destination.address;
-    let [n0, n1] = ((IPV4_HEADER_LEN + UDP_HEADER_LEN + payload.len()) as u16).to_be_bytes();
+    let [n0, n1] = ((HEADERS_LEN + payload.len()) as u16).to_be_bytes();
     let [c0, c1] = check.to_be_bytes();
     [
         0x45, 0, n0, n1, 0, 0, 0x40, 0, 64, UDP, c0, c1, s0, s1, s2, s3, d0, d1, d2, d3,

@@ -2,4 +2,7 @@
 #![tactic(auto)]
 
 mod checksum;
+mod egress;
 mod frame;
+mod queue;
+mod socket;
