@@ -1,3 +1,4 @@
+pub mod Delivered
 pub mod Found
 pub mod Passes
 pub mod Queues

@@ -54,9 +54,7 @@ fn pass(
 {
     let mut changed = false;
     for socket in sockets.iter_mut() {
-        if offer(address, mtu, moment, socket, port) {
-            changed = true;
-        }
+        changed |= offer(address, mtu, moment, socket, port);
     }
     changed
 }

@@ -15,6 +15,7 @@ pub const HEADERS_LEN: usize = 28;
 const UDP: u8 = 17;
 
 /// Where a frame's UDP datagram comes from and goes, and where in the frame its payload lies.
+#[derive(Drop)]
 pub struct Found {
     pub source: Endpoint,
     pub destination: Endpoint,

@@ -4,5 +4,6 @@
 mod checksum;
 mod egress;
 mod frame;
+mod ingress;
 mod queue;
 mod socket;
