@@ -1,10 +1,11 @@
 -- The socket that a datagram is delivered to, by its place in the list.
-use Rattle.std.proofs.Common.{◌≡◌, ◌+◌, ◌-◌, ◌<◌, ◌≤◌, ℕ, zero, suc, Bool, true, false, cond, ◌==◌, List, [], ◌∷◌, length, Option, Some, None, refl, sym, ap, ◌∙◌, subst, arith}
+use Rattle.std.proofs.Common.{◌≡◌, ◌+◌, ◌-◌, ◌<◌, ◌≤◌, ℕ, zero, suc, Bool, true, false, not, cond, ◌==◌, List, [], ◌∷◌, length, Option, Some, None, refl, sym, ap, ◌∙◌, subst, arith}
 use Rattle.std.proofs.Math.ListN.{get_or, set}
 use Rattle.std.specs.List.{position_from}
+use Rattle.std.specs.Str.{bytes_eq}
 use Rattle.lan_machine.specs.Values.{DatagramValue, SocketValue}
-use Rattle.lan_machine.specs.Packet.{Packet}
-use Rattle.lan_machine.specs.Machine.{take_in, deliver, datagram_of}
+use Rattle.lan_machine.specs.Packet.{Packet, packet_of}
+use Rattle.lan_machine.specs.Machine.{take_in, deliver, deliver_if, datagram_of}
 
 -- the sockets after a datagram was given to the one at this place, where places count from k on
 abbrev pub GivenAt : List SocketValue → List SocketValue → DatagramValue → ℕ → Option ℕ → Type 0
@@ -33,3 +34,40 @@ deliver-given p [] k = refl
 deliver-given p (s ∷ ss) k =
     given-either (s.port == p.destination_port) s ss (deliver p ss) (datagram_of p) k (position_from (λ s. s.port == p.destination_port) (k + 1) ss)
     (deliver-given p ss (k + 1))
+
+-- AN ARRIVAL
+
+taken_out : (ss after : List SocketValue) (d : DatagramValue) (place : Option ℕ) → GivenAt ss after d 0 place → (i : ℕ) → place ≡ Some i
+    → (i < length ss) × ((x : SocketValue) → after ≡ set ss i (take_in (get_or ss i x) d))
+taken_out ss after d place given i found =
+    let at : GivenAt ss after d 0 (Some i) = subst (GivenAt ss after d 0) found given in
+    let same : i - 0 ≡ i = omega arith in
+    (omega (arith, at.1), λ x. rw same at (at.2 x))
+
+delivered_own : (address : List ℕ) (p : Packet) (ss : List SocketValue) (frame : List ℕ) → Some p ≡ packet_of frame → bytes_eq p.destination address ≡ true
+    → deliver_if address (packet_of frame) ss ≡ deliver p ss
+delivered_own address p ss frame carried own =
+    ap (λ (o : Option Packet). deliver_if address o ss) (sym carried) ∙ rw own refl
+
+pub arrive-none : (address : List ℕ) (p : Packet) (ss : List SocketValue) (frame : List ℕ) → Some p ≡ packet_of frame → bytes_eq p.destination address ≡ true
+    → position_from (λ s. s.port == p.destination_port) 0 ss ≡ None
+    → ss ≡ deliver_if address (packet_of frame) ss
+arrive-none address p ss frame carried own none =
+    sym (delivered_own address p ss frame carried own ∙ subst (GivenAt ss (deliver p ss) (datagram_of p) 0) none (deliver-given p ss 0))
+
+pub arrive-place : (p : Packet) (ss : List SocketValue) (i : ℕ) → position_from (λ s. s.port == p.destination_port) 0 ss ≡ Some i → i < length ss
+arrive-place p ss i found = (taken_out ss (deliver p ss) (datagram_of p) _ (deliver-given p ss 0) i found).0
+
+pub arrive-some : (address : List ℕ) (p : Packet) (ss : List SocketValue) (frame : List ℕ) (i : ℕ) (x after : SocketValue) → Some p ≡ packet_of frame
+    → bytes_eq p.destination address ≡ true
+    → position_from (λ s. s.port == p.destination_port) 0 ss ≡ Some i
+    → after ≡ take_in (get_or ss i x) (datagram_of p)
+    → set ss i after ≡ deliver_if address (packet_of frame) ss
+arrive-some address p ss frame i x after carried own found takes =
+    ap (set ss i) takes
+    ∙ sym ((taken_out ss (deliver p ss) (datagram_of p) _ (deliver-given p ss 0) i found).1 x)
+    ∙ sym (delivered_own address p ss frame carried own)
+
+pub holds_unless : (b : Bool) → false ≡ not b → b ≡ true
+holds_unless true e = refl
+holds_unless false e = cc
