@@ -1,11 +1,15 @@
 -- The socket that a datagram is delivered to, by its place in the list.
-use Rattle.std.proofs.Common.{◌≡◌, ◌+◌, ◌-◌, ◌<◌, ◌≤◌, ℕ, zero, suc, Bool, true, false, not, cond, ◌==◌, List, [], ◌∷◌, length, Option, Some, None, refl, sym, ap, ◌∙◌, subst, arith}
+use Rattle.std.proofs.Common.{◌≡◌, ◌+◌, ◌-◌, ◌<◌, ◌≤◌, ℕ, zero, suc, Bool, true, false, not, cond, ◌||◌, nat_lt, ◌==◌, take, drop, List, [], ◌∷◌, length, Option, Some, None, refl, sym, ap, ◌∙◌, subst, arith}
 use Rattle.std.proofs.Math.ListN.{get_or, set}
+use Rattle.std.proofs.lemmas.Bool.Decides.{nat_tests}
 use Rattle.std.specs.List.{position_from}
 use Rattle.std.specs.Str.{bytes_eq}
 use Rattle.lan_machine.specs.Values.{DatagramValue, SocketValue}
 use Rattle.lan_machine.specs.Packet.{Packet, packet_of}
-use Rattle.lan_machine.specs.Machine.{take_in, deliver, deliver_if, datagram_of}
+use Rattle.net_base.specs.Device.{Took}
+use Rattle.lan_port.specs.Port.{PortValue, PortMove}
+use Rattle.lan_host.specs.Arrivals.{without_waiting}
+use Rattle.lan_machine.specs.Machine.{take_in, deliver, deliver_if, arrivals, datagram_of}
 
 -- the sockets after a datagram was given to the one at this place, where places count from k on
 abbrev pub GivenAt : List SocketValue → List SocketValue → DatagramValue → ℕ → Option ℕ → Type 0
@@ -71,3 +75,40 @@ arrive-some address p ss frame i x after carried own found takes =
 pub holds_unless : (b : Bool) → false ≡ not b → b ≡ true
 holds_unless true e = refl
 holds_unless false e = cc
+
+-- FRAMES TAKEN ONE BY ONE
+
+or_true : (b : Bool) → (b || true) ≡ true
+or_true true = refl
+or_true false = refl
+
+above_zero : (n : ℕ) → nat_lt 0 (suc n) ≡ true
+above_zero n = grind (arith, nat_tests)
+
+pub taken-step : (left : ℕ) (waiting rest : List (List ℕ)) (frame : List ℕ) → 0 < left → waiting ≡ frame ∷ rest
+    → (take left waiting ≡ frame ∷ take (left - 1) rest) × (drop left waiting ≡ drop (left - 1) rest)
+taken-step zero waiting rest frame some first = absurd (omega arith)
+taken-step (suc n) waiting rest frame some first =
+    let e : suc n - 1 ≡ n = omega arith in (rw (first, e) refl, rw (first, e) refl)
+
+pub arrivals-step : (address : List ℕ) (left : ℕ) (waiting rest : List (List ℕ)) (frame : List ℕ) (ss after : List SocketValue) → 0 < left → waiting ≡ frame ∷ rest
+    → after ≡ deliver_if address (packet_of frame) ss
+    → arrivals address (take (left - 1) rest) after ≡ arrivals address (take left waiting) ss
+arrivals-step address left waiting rest frame ss after some first arrives =
+    ap (arrivals address (take (left - 1) rest)) arrives
+    ∙ ap (λ (frames : List (List ℕ)). arrivals address frames ss) (sym (taken-step left waiting rest frame some first).0)
+
+pub waiting-step : (left : ℕ) (old new : PortValue) (frame : List ℕ) → 0 < left → PortMove old (Took frame) new
+    → without_waiting new (left - 1) ≡ without_waiting old left
+waiting-step left old new frame some takes =
+    let first : old.link.waiting ≡ frame ∷ new.link.waiting = ap (λ (p : PortValue). p.link.waiting) takes.1 in
+    let rest : drop (left - 1) new.link.waiting ≡ drop left old.link.waiting =
+    sym (taken-step left old.link.waiting new.link.waiting frame some first).1 in
+    ap (λ (waiting : List (List ℕ)). record new { link = record new.link { waiting = waiting } }) rest
+    ∙ ap (λ (p : PortValue). record p { link = record p.link { waiting = drop left old.link.waiting } }) (sym takes.1)
+
+pub changed-step : (changed all : Bool) (left : ℕ) (waiting rest : List (List ℕ)) (frame : List ℕ) → 0 < left → waiting ≡ frame ∷ rest
+    → (changed || nat_lt 0 (length (take left waiting))) ≡ all → true ≡ all
+changed-step changed all left waiting rest frame some first so_far =
+    let one : nat_lt 0 (length (take left waiting)) ≡ true = ap (λ (frames : List (List ℕ)). nat_lt 0 (length frames)) (taken-step left waiting rest frame some first).0 ∙ above_zero (length (take (left - 1) rest)) in
+    sym (or_true changed) ∙ ap (λ (b : Bool). changed || b) (sym one) ∙ so_far
