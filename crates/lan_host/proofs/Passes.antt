@@ -236,3 +236,22 @@ passed_on address mtu left done all ss after some so_far passed =
 
 pub changed_on : (changed any all : Bool) (left : ℕ) → 0 < left → true ≡ any → (changed || (nat_lt 0 left && any)) ≡ all → true ≡ all
 changed_on changed any all left some queued so_far = grind (arith, nat_tests)
+
+-- ROOM FOR ALL PASSES
+
+each : (mtu size : ℕ) (s : SocketValue) (ss : List SocketValue) → longest_frame mtu s.queued ≤ size → All (λ s. longest_frame mtu s.queued ≤ size) ss
+    → All (λ s. longest_frame mtu s.queued ≤ size) (s ∷ ss)
+each mtu size s ss first others zero d within = first
+each mtu size s ss first others (suc k) d within = others k d (omega arith)
+
+sizes_from : (mtu size : ℕ) (ss : List SocketValue) (least : ℕ) → fold (λ longest s. max longest (longest_frame mtu s.queued)) least ss ≤ size
+    → (least ≤ size) × All (λ s. longest_frame mtu s.queued ≤ size) ss
+sizes_from mtu size [] least short = (short, λ k d within. absurd (omega arith))
+sizes_from mtu size (s ∷ ss) least short =
+    let rest = sizes_from mtu size ss (max least (longest_frame mtu s.queued)) short in
+    (omega (arith, rest.0), each mtu size s ss (omega (arith, rest.0)) rest.1)
+
+-- each socket's longest is within the longest of all
+pub sizes_within : (mtu size : ℕ) (ss : List SocketValue) → fold (λ longest s. max longest (longest_frame mtu s.queued)) 0 ss ≤ size
+    → All (λ s. longest_frame mtu s.queued ≤ size) ss
+sizes_within mtu size ss short = (sizes_from mtu size ss 0 short).1

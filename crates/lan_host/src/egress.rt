@@ -1,9 +1,10 @@
-ghost use Rattle.std.specs.Prelude.{◌≡◌, ◌<◌, ◌+◌, ◌^◌, ◌≤◌, ◌&&◌, nat_lt, IsTrue, [], ◌∷◌, length};
-ghost use Rattle.std.specs.List.{list_any};
+ghost use Rattle.std.specs.Prelude.{◌≡◌, ◌<◌, ◌+◌, ◌^◌, ◌≤◌, ◌&&◌, max, nat_lt, IsTrue, IfSome, OnOk, [], ◌∷◌, length};
+ghost use Rattle.std.specs.List.{list_any, fold};
 ghost use Rattle.lan_machine.specs.Machine.{offered, offer_after, pass_frames, pass_after, passes_frames, passes_after, has_queued};
 ghost use Rattle.net_base.specs.Device.{gives_tokens};
 ghost use Rattle.lan_host.specs.Frame.{frame_between};
-ghost use Rattle.lan_host.specs.Sends.{CanSend, Sends};
+ghost use Rattle.lan_host.specs.Sends.{CanSend, Sends, IsPrepared, frames_needed};
+ghost use Rattle.lan_host.specs.Queue.{longest_frame};
 
 use crate::frame;
 use crate::queue::Datagram;
@@ -11,6 +12,42 @@ use crate::socket::Socket;
 use lan_machine::Endpoint;
 use lan_port::Port;
 use net_base::{Device, Instant};
+use std::alloc::AllocError;
+
+/// Makes room at the port for the frames that the passes will send: as many as there are datagrams
+/// to send, each as long as the longest of them fills.
+pub fn prepare(
+    mtu: usize,
+    budget: u16,
+    sockets: &[Socket],
+    port: &mut Port,
+) -> Result<(), AllocError>
+    ensures link { port.new.link ≡ port.old.link }
+    ensures ok { OnOk result (IsPrepared port.new mtu budget sockets.now) }
+{
+    let count = frames_needed(budget, sockets).ok_or(AllocError)?;
+    port.prepare(count, longest_frame(mtu, sockets))?;
+    Ok(())
+}
+
+/// How many datagrams the passes can take out of the queues, unless they are more than memory has
+/// addresses.
+fn frames_needed(budget: u16, sockets: &[Socket]) -> Option<usize>
+    ensures { IfSome result (λ count. count ≡ frames_needed budget sockets.now) }
+{
+    let mut count = 0usize;
+    for socket in sockets {
+        count = count.checked_add(socket.queued_len().min(budget as usize))?;
+    }
+    Some(count)
+}
+
+/// The length of the longest frame that a queued datagram fills, of those that fit the device.
+fn longest_frame(mtu: usize, sockets: &[Socket]) -> usize
+    ensures { result ≡ fold (λ longest s. max longest (longest_frame mtu s.queued)) 0 sockets.now }
+{
+    sockets.iter().fold(0, |longest, socket| longest.max(socket.longest_frame(mtu)))
+}
 
 /// Sends the queued datagrams in passes, each of one datagram of each socket, until a pass takes
 /// none out of its queue. Says whether one left its queue.

@@ -5,5 +5,6 @@ mod checksum;
 mod egress;
 mod frame;
 mod ingress;
+mod poll;
 mod queue;
 mod socket;
