@@ -1,6 +1,7 @@
 //! A host with a few UDP sockets over IPv4, and its device.
 #![tactic(auto)]
 
+mod calls;
 mod checksum;
 mod egress;
 mod frame;

@@ -1,8 +1,9 @@
 ghost use Rattle.std.specs.Prelude.{◌≡◌, ◌==◌, ℕ, List, ◌∷◌, length, IfOk, IfSome, IfNone, [], if◌then◌else◌};
 ghost use Rattle.lan_machine.specs.declared.event.Answer.TheVariants.{Done};
-ghost use Rattle.lan_machine.specs.Machine.{bind_answer, bind_after, send_answer, send_after, read_answer, recv_after, take_in, offer_after, has_queued};
+ghost use Rattle.lan_machine.specs.Machine.{bind_answer, bind_after, send_answer, send_after, without_first, recv_after, take_in, offer_after, has_queued};
 ghost use Rattle.lan_host.specs.Queue.{longest_frame};
-ghost use Rattle.lan_host.specs.Socket.{unbound_socket, answered};
+ghost use Rattle.lan_host.specs.Socket.{answered};
+ghost use Rattle.lan_host.specs.Station.{fresh_socket};
 
 use crate::queue::{Datagram, Queue};
 use lan_machine::{Answer, Bytes, Endpoint, Fault};
@@ -34,7 +35,7 @@ impl Socket {
         send_packets: usize,
         send_bytes: usize,
     ) -> Result<Socket, AllocError>
-        ensures { IfOk result (λ s. s ≡ unbound_socket receive_packets receive_bytes send_packets send_bytes) }
+        ensures { IfOk result (λ s. s ≡ fresh_socket receive_packets receive_bytes send_packets send_bytes) }
     {
         Ok(Socket {
             port: 0,
@@ -88,7 +89,7 @@ impl Socket {
 
     /// The first of the datagrams that wait to be read.
     pub fn first_received(&self) -> Option<&Datagram>
-        ensures some { IfSome result (λ d. (limit : ℕ) → read_answer self.now.received limit ≡ read_answer (d.now ∷ []) limit) }
+        ensures some { IfSome result (λ d. self.now.received ≡ d.now ∷ without_first self.now.received) }
         ensures none { IfNone result (self.now.received ≡ []) }
     {
         self.received.front()
@@ -96,7 +97,9 @@ impl Socket {
 
     /// Takes out the first of the datagrams that wait to be read.
     pub fn pop_received(&mut self) -> Option<Datagram>
-        ensures { self.new ≡ recv_after self.old }
+        ensures some { IfSome result (λ d. self.old.received ≡ d ∷ self.new.received) }
+        ensures none { IfNone result (self.old.received ≡ []) }
+        ensures after { self.new ≡ recv_after self.old }
     {
         self.received.pop()
     }
