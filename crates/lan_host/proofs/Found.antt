@@ -1,5 +1,5 @@
 -- The datagram that the code finds in a frame is the one that the frame carries.
-use Rattle.std.proofs.Common.{◌≡◌, ◌+◌, ◌-◌, ◌≤◌, ℕ, Bool, true, false, ◌&&◌, nat_le, nat_eq, List, length, take, drop, slice_index_or, slice_range, Option, Some, None, cond, refl, sym, ap, ◌∙◌, subst, arith, leb-true}
+use Rattle.std.proofs.Common.{◌≡◌, ◌+◌, ◌-◌, ◌≤◌, ℕ, Bool, true, nat_eq, List, length, take, drop, slice_index_or, slice_range, Some, None, cond, refl, sym, ap, ◌∙◌, subst, arith, leb-true}
 use Rattle.std.proofs.lemmas.Bool.{and_parts, and_from}
 use Rattle.std.proofs.lemmas.List.{drop-take, take-take, drop-drop, length-take}
 use Rattle.lan_machine.specs.Packet.{Packet, be16, header_length, is_ipv4, is_whole, is_udp, source_address, destination_address, ipv4_payload, carries_datagram, packet_of}

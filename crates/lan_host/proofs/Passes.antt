@@ -2,12 +2,10 @@
 use Rattle.std.proofs.Common.{◌≡◌, ◌+◌, ◌-◌, ◌<◌, ◌≤◌, IsTrue, ℕ, zero, suc, max, Bool, true, false, cond, ◌&&◌, ◌||◌, nat_lt, List, [], ◌∷◌, ◌++◌, length, take, drop, map, All, refl, sym, ap, ◌∙◌, subst, arith, append_assoc, append-nil, length-append}
 use Rattle.std.specs.List.{fold, list_any}
 use Rattle.std.proofs.Math.ListN.{get_or, set, length-map}
-use Rattle.std.proofs.Math.Seq.{drop-cons}
 use Rattle.std.proofs.lemmas.List.{length-take-le, take_more, take-append-drop, get_or-append_right, get_or-drop}
 use Rattle.std.proofs.lemmas.Bool.Decides.{nat_tests}
 use Rattle.std.proofs.lemmas.List.Edits.{map_over_more}
 use Rattle.std.proofs.lemmas.List.Folds.{list_any-append}
-use Rattle.lan_machine.specs.declared.event.Endpoint.{Endpoint}
 use Rattle.lan_machine.specs.Values.{DatagramValue, SocketValue}
 use Rattle.lan_machine.specs.Machine.{fits, offered, offer_after, pass_frames, pass_after, passes_frames, passes_after, has_queued, without_first}
 use Rattle.net_base.specs.Device.{gives_tokens}

@@ -1,5 +1,5 @@
 -- Room made before the arrivals is enough for the passes after them.
-use Rattle.std.proofs.Common.{◌≡◌, ◌+◌, ◌-◌, ◌<◌, ◌≤◌, min, ℕ, zero, suc, Bool, true, false, cond, ◌||◌, nat_lt, IsTrue, All, List, [], ◌∷◌, ◌++◌, length, map, Option, Some, None, inl, inr, refl, sym, ap, ◌∙◌, subst, arith, length-append}
+use Rattle.std.proofs.Common.{◌≡◌, ◌+◌, ◌≤◌, min, ℕ, zero, suc, Bool, true, false, cond, ◌||◌, nat_lt, IsTrue, All, List, [], ◌∷◌, length, Option, Some, None, inl, inr, refl, sym, ap, ◌∙◌, subst, arith, length-append}
 use Rattle.std.specs.List.{list_any, sum_by}
 use Rattle.std.specs.Str.{bytes_eq}
 use Rattle.std.proofs.lemmas.List.Sums.{sum_by-cons}
@@ -7,7 +7,7 @@ use Rattle.net_base.specs.Device.{gives_tokens}
 use Rattle.lan_port.specs.Port.{PortValue}
 use Rattle.lan_machine.specs.Values.{DatagramValue, SocketValue}
 use Rattle.lan_machine.specs.Packet.{Packet, packet_of, spelling}
-use Rattle.lan_machine.specs.Machine.{take_in, deliver, deliver_own, deliver_if, arrivals, datagram_of, fits, packet_from, offer_after, offered, pass_frames, pass_after, passes_frames, has_queued, without_first}
+use Rattle.lan_machine.specs.Machine.{take_in, deliver, deliver_if, arrivals, datagram_of, fits, packet_from, offer_after, offered, pass_frames, pass_after, passes_frames, has_queued, without_first}
 use Rattle.lan_machine.proofs.Sockets.{take_in_cases}
 use Rattle.lan_host.specs.Queue.{longest_frame}
 use Rattle.lan_host.specs.Sends.{CanSend, IsPrepared, frames_needed}

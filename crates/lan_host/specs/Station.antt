@@ -3,7 +3,7 @@ use Rattle.std.specs.Prelude.{◌≡◌, ℕ, pos, ◌<◌, List, [], ◌∷◌,
 use Rattle.lan_machine.specs.declared.event.Event.{Event}
 use Rattle.lan_machine.specs.declared.event.Event.TheVariants.{Bind, SendTo, RecvFrom, Poll, Deliver}
 use Rattle.lan_machine.specs.declared.event.Answer.{Answer}
-use Rattle.lan_machine.specs.Values.{HostValue, SocketValue, StationValue}
+use Rattle.lan_machine.specs.Values.{SocketValue, StationValue}
 use Rattle.lan_machine.specs.Machine.{taken_by, answer_of, host_after, frames_of}
 
 -- a host without sockets that nothing has happened to

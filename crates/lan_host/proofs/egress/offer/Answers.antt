@@ -1,4 +1,4 @@
-use Rattle.std.proofs.Common.{◌≡◌, ◌+◌, ◌<◌, ◌≤◌, List, ℕ, arith, sym, ap, ◌∙◌, subst}
+use Rattle.std.proofs.Common.{◌<◌, ◌≤◌, List, ℕ, arith, subst}
 use Rattle.lan_host.specs.Queue.{frame_length}
 use Rattle.lan_host.specs.Sends.{Sends}
 use Rattle.lan_host.proofs.Passes.{first-size, offered-sent, offered-none, sends-none}

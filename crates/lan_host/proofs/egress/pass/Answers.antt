@@ -1,5 +1,3 @@
-use Rattle.std.proofs.Common.{◌≡◌, ◌<◌, List, length, arith, sym, ap, ◌∙◌, subst}
-use Rattle.lan_machine.specs.Values.{SocketValue}
 use Rattle.lan_host.proofs.Passes.{can_offer, passed-sockets, passed-frames, passed-changed}
 use Rattle.lan_host.proofs.egress.pass.Goals as goal
 

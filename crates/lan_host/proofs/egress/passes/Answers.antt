@@ -1,5 +1,5 @@
-use Rattle.std.proofs.Common.{◌≡◌, ◌<◌, ◌-◌, ◌++◌, false, List, ℕ, [], length, arith, sym, ap, ◌∙◌, subst, append-nil}
-use Rattle.lan_machine.specs.Machine.{passes_frames, pass_frames, passes_after, has_queued}
+use Rattle.std.proofs.Common.{◌-◌, ◌++◌, List, ℕ, sym, ap, ◌∙◌, subst}
+use Rattle.lan_machine.specs.Machine.{pass_frames, passes_after}
 use Rattle.lan_machine.proofs.Polls.{idle_pass, idle_passes}
 use Rattle.lan_host.specs.Sends.{Sends}
 use Rattle.lan_host.proofs.Passes.{passes-step, still_ready, passed_on, changed_on, sends-append}

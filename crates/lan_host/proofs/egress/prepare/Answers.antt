@@ -1,5 +1,5 @@
-use Rattle.std.proofs.Common.{◌≡◌, ◌≤◌, ℕ, Option, IfSome, sym, subst, arith, ◌∙◌}
-use Rattle.lan_host.specs.Sends.{IsPrepared, frames_needed}
+use Rattle.std.proofs.Common.{◌≡◌, ℕ, Option, IfSome, subst, arith}
+use Rattle.lan_host.specs.Sends.{frames_needed}
 use Rattle.lan_host.proofs.Passes.{sizes_within}
 use Rattle.lan_host.proofs.egress.prepare.Goals as goal
 

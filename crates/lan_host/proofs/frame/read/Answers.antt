@@ -1,4 +1,4 @@
-use Rattle.std.proofs.Common.{sym, ◌∙◌}
+use Rattle.std.proofs.Common.{sym}
 use Rattle.lan_host.proofs.Found.{packet_of-found}
 use Rattle.lan_host.proofs.frame.read.Goals as goal
 

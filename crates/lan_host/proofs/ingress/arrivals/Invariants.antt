@@ -1,4 +1,4 @@
-use Rattle.std.proofs.Common.{◌≡◌, ◌||◌, nat_lt, length, take, drop}
+use Rattle.std.proofs.Common.{◌≡◌, ◌||◌, nat_lt, length, take}
 use Rattle.lan_machine.specs.Machine.{arrivals}
 use Rattle.lan_host.specs.Arrivals.{without_waiting}
 use Rattle.lan_host.proofs.ingress.arrivals.Given as goal

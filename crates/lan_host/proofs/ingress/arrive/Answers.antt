@@ -1,6 +1,6 @@
-use Rattle.std.proofs.Common.{◌≡◌, ◌==◌, ◌<◌, ℕ, List, length, arith, sym, ap, ◌∙◌, subst, Some, None, slice_range}
+use Rattle.std.proofs.Common.{◌≡◌, ◌==◌, ℕ, List, arith, sym, ap, ◌∙◌, subst, Some, None, slice_range}
 use Rattle.std.specs.List.{position_from}
-use Rattle.lan_machine.specs.Values.{SocketValue, DatagramValue}
+use Rattle.lan_machine.specs.Values.{SocketValue}
 use Rattle.lan_machine.specs.Machine.{take_in}
 use Rattle.lan_machine.specs.Packet.{packet_of}
 use Rattle.lan_host.specs.Frame.{packet_between}

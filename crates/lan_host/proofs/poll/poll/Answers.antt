@@ -1,9 +1,9 @@
-use Rattle.std.proofs.Common.{◌≡◌, ℕ, List, IsTrue, take, sym, subst, ap, ◌∙◌}
+use Rattle.std.proofs.Common.{List, IsTrue, take, sym, subst}
 use Rattle.net_base.specs.Device.{gives_tokens}
 use Rattle.lan_port.specs.Port.{LinkEnd}
 use Rattle.lan_machine.specs.Values.{SocketValue}
 use Rattle.lan_host.specs.Sends.{IsPrepared}
-use Rattle.lan_host.proofs.Prepared.{prepared, arrivals-any}
+use Rattle.lan_host.proofs.Prepared.{prepared}
 use Rattle.lan_host.proofs.poll.poll.Goals as goal
 
 pub passes-sent-requires : goal.passes-sent-requires

@@ -1,5 +1,5 @@
-use Rattle.std.proofs.Common.{◌≡◌, ◌∙◌, ◌+◌, ◌++◌, ◌∷◌, [], arith, ap, sym, subst, false, length, length-append}
-use Rattle.lan_machine.specs.Values.{DatagramValue, bytes_held, is_full}
+use Rattle.std.proofs.Common.{◌≡◌, ◌∙◌, ◌∷◌, [], arith, ap, sym, subst, false, length, length-append}
+use Rattle.lan_machine.specs.Values.{DatagramValue, is_full}
 use Rattle.lan_host.specs.Queue.{QueueValue}
 use Rattle.lan_host.proofs.Queues.{bytes_held-joined, within_limits}
 use Rattle.lan_host.proofs.queue.Queue.push.Goals as goal
