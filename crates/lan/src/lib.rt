@@ -1,0 +1,4 @@
+//! Two hosts and the link between them.
+#![tactic(auto)]
+
+mod kept;
