@@ -1,0 +1,4 @@
+pub mod Values
+pub mod Packet
+pub mod Machine
+pub mod Steps

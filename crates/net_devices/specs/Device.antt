@@ -1,0 +1,19 @@
+-- The moves of a device: what one call on it did with frames.
+use Rattle.std.specs.Prelude.{ℕ, Bool, List, map}
+use Rattle.std.specs.Global.{Vec}
+
+pub data Move : Type 0 where
+  -- `receive` handed out this frame, with leave to send one
+  Took : List ℕ → Move
+  -- `receive` handed out nothing
+  Empty : Move
+  -- `transmit` gave leave to send a frame, or refused it
+  Allowed : Bool → Move
+  -- `send` sent this frame
+  Emitted : List ℕ → Move
+  -- `send` refused a frame of this length
+  Denied : ℕ → Move
+
+-- the bytes of each frame, without where they lie in memory
+abbrev pub frames_of : List (Vec ℕ) → List (List ℕ)
+frames_of frames = map (λ frame. frame.items) frames
