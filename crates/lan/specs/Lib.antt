@@ -1,0 +1,5 @@
+pub mod Link
+pub mod Reads
+pub mod Steps
+pub mod Runs
+pub mod Safe
