@@ -3,3 +3,4 @@ pub mod Reads
 pub mod Steps
 pub mod Runs
 pub mod Safe
+pub mod Invariant
