@@ -4,3 +4,4 @@ pub mod Steps
 pub mod Runs
 pub mod Safe
 pub mod Invariant
+pub mod Fresh
