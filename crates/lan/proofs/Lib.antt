@@ -1,0 +1,9 @@
+pub mod Sides
+pub mod Acting
+pub mod Reading
+pub mod Handed
+pub mod Turns
+pub mod Keeps
+pub mod Histories
+pub mod Running
+pub mod Beginnings
