@@ -43,6 +43,6 @@ impl RxToken for OwnedRxToken {
     }
 
     fn consume<R, F: FnOnce(&[u8]) -> R>(self, f: F) -> R {
-        f(self.frame.as_slice())
+        f(self.bytes())
     }
 }
