@@ -87,12 +87,14 @@ fn allocate(
     Ok(buffer)
 }
 
-/// Puts a frame behind the sent ones, where a place was reserved for it.
-pub(crate) fn keep(sent: &mut Vec<Vec<u8>>, frame: Vec<u8>)
+/// Puts a frame behind the sent ones, where a place was reserved for it. What its buffer has too
+/// much is given back: the sent frames stay for the whole simulation.
+pub(crate) fn keep(sent: &mut Vec<Vec<u8>>, mut frame: Vec<u8>)
     requires { vec_len sent.old < vec_capacity sent.old }
     ensures frames { frames_of sent.new.items ≡ frames_of sent.old.items ++ frame.items ∷ [] }
     ensures len { vec_len sent.new ≡ vec_len sent.old + 1 }
     ensures capacity { vec_capacity sent.new ≡ vec_capacity sent.old }
 {
+    frame.shrink_to_fit();
     sent.push_reserved(frame);
 }

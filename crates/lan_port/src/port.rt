@@ -13,7 +13,7 @@ use std::marker::Model;
 /// Frames that the simulator pushes wait until the host receives them; frames that the host sends
 /// are kept for the simulator. A contract sees both lists of frames, the count of refusals, the
 /// capabilities, and how many buffers lie ready for sends.
-#[derive(Drop)]
+#[derive(Debug, Drop)]
 pub struct Port {
     incoming: VecDeque<Vec<u8>>,
     outgoing: Vec<Vec<u8>>,
@@ -37,7 +37,7 @@ impl Model for Port {
 }
 
 /// Leave to send one frame at a port.
-#[derive(Drop)]
+#[derive(Debug, Drop)]
 pub struct PortTxToken {}
 
 impl TxToken for PortTxToken {}

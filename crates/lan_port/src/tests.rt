@@ -105,6 +105,11 @@ fn prepared_frames_are_not_refused(rt: HostRuntime) -> Result<(), Fail> {
     assert_eq!(rt; sent.len(), 2);
     assert_eq!(rt; sent[0].len(), 1500);
     assert_eq!(rt; sent[1].as_slice(), [7; 20].as_slice());
+    assert_eq!(rt;
+        sent[1].capacity(),
+        20,
+        "no sent frame keeps a whole buffer"
+    );
     assert!(rt; port.prepare(1, usize::MAX).is_err());
     assert_eq!(rt; port.sent().len(), 2);
     Ok(())

@@ -15,7 +15,7 @@ const MAX_TRANSMISSION_UNIT: usize = 65_535;
 /// long by its capabilities; longer ones travel too.
 ///
 /// A contract sees the frames on their way, the medium and the count of refusals.
-#[derive(Drop)]
+#[derive(Debug, Drop)]
 pub struct Loopback {
     queue: VecDeque<Vec<u8>>,
     medium: Medium,
@@ -32,7 +32,7 @@ impl Model for Loopback {
 }
 
 /// Leave to send one frame on a loopback.
-#[derive(Drop)]
+#[derive(Debug, Drop)]
 pub struct LoopbackTxToken {}
 
 impl TxToken for LoopbackTxToken {}

@@ -5,7 +5,7 @@ use std::marker::Model;
 
 /// A received frame that the token itself holds, as a device in memory hands it out: no byte of it
 /// is copied on the way. A contract sees its bytes.
-#[derive(Drop)]
+#[derive(Debug, Drop)]
 pub struct OwnedRxToken {
     frame: Vec<u8>,
 }
@@ -43,6 +43,6 @@ impl RxToken for OwnedRxToken {
     }
 
     fn consume<R, F: FnOnce(&[u8]) -> R>(self, f: F) -> R {
-        f(self.frame.as_slice())
+        f(self.bytes())
     }
 }

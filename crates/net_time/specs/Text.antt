@@ -1,5 +1,5 @@
 -- How times are printed: seconds, a point, three digits of milliseconds, and `s`.
-use Rattle.std.specs.Prelude.{ℕ, ◌/◌, ◌%◌, List, ◌∷◌, ◌++◌, ℤ, pos, negsuc, suc, codes, decimal}
+use Rattle.std.specs.Prelude.{ℕ, ◌/◌, ◌%◌, List, ◌++◌, ℤ, pos, negsuc, suc, codes, decimal}
 
 -- exactly three decimal digits, for a number below 1000
 abbrev pub three_digits : ℕ → List ℕ

@@ -1,5 +1,5 @@
 -- Instants and durations as counts of microseconds.
-use Rattle.std.specs.Prelude.{ℕ, ◌-◌, ◌/◌, ◌<◌, ◌≤◌, ◌^◌, min, ℤ, pos, ◌≤ℤ◌, ◌+ℤ◌, ◌-ℤ◌, FitsSigned}
+use Rattle.std.specs.Prelude.{ℕ, ◌-◌, ◌/◌, ◌<◌, ◌^◌, min, ℤ, pos, ◌≤ℤ◌, FitsSigned}
 use Rattle.std.specs.Int.{w64}
 
 -- the last moment that the stack's calls take, in microseconds

@@ -11,7 +11,7 @@ const INCREMENT: u64 = 0x7590_ef39;
 /// words can foretell the rest, so it is no use for secrets.
 ///
 /// A contract sees its state, a number of 64 bits. Each word is a function of the next state.
-#[derive(Debug, Clone, Copy)]
+#[derive(Debug, Drop)]
 pub struct Rand {
     state: u64,
 }
@@ -20,8 +20,6 @@ impl Model for Rand {
     ghost Value = { ℕ };
 
     ghost view = { λ r. r.state };
-
-    ghost inverse = { λ s. record { state = s } };
 }
 
 impl Rand {
