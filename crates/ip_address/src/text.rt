@@ -1,12 +1,12 @@
 //! The texts of addresses, blocks and endpoints: how they are printed, and which texts are read.
 ghost use Rattle.std.specs.Prelude.{◌≡◌, ℕ, ◌<◌, ◌≤◌, List, Some, IfSome, IsSomeAnd};
 ghost use Rattle.std.specs.Net.Text.{ipv4_text};
-ghost use Rattle.ip_address.specs.Text.{Reads, Lacks, IsCut, IsDecimal, IsOctet, IsOctetBefore, IsDottedText, IsIpv4Text};
+ghost use Rattle.ip_address.specs.Text.{Reads, Lacks, IsCut, IsDecimal, IsOctet, IsOctetBefore, IsDottedText, IsIpv4Text, IsIpv4BlockText, ReadsIpv4Block, IsIpv4EndpointText, ipv4_block_text};
 
 use std::fmt;
 use std::str::FromStr;
 
-use crate::ipv4::Ipv4Address;
+use crate::ipv4::{Ipv4Address, Ipv4Cidr};
 
 /// The parts of the text before and after the first `separator`.
 fn cut(text: &str, separator: char) -> Option<(&str, &str)>
@@ -54,15 +54,15 @@ fn octet_before(text: &str) -> Option<(u8, &str)>
 }
 
 /// Four parts with dots between them.
-fn dotted(text: &str) -> Option<[u8; 4]>
-    ensures found { IfSome result (IsDottedText text.now) }
-    ensures only { (octets : List ℕ) → IsDottedText text.now octets → result ≡ Some octets }
+fn dotted(text: &str) -> Option<Ipv4Address>
+    ensures found { IfSome result (IsIpv4Text text.now) }
+    ensures only { (address : Ipv4Address) → IsIpv4Text text.now address → result ≡ Some address }
 {
     let (a, rest) = octet_before(text)?;
     let (b, rest) = octet_before(rest)?;
     let (c, rest) = octet_before(rest)?;
     let d = octet(rest)?;
-    Some([a, b, c, d])
+    Some(Ipv4Address([a, b, c, d]))
 }
 
 impl fmt::Display for Ipv4Address {
@@ -81,9 +81,47 @@ impl FromStr for Ipv4Address {
     ghost from_str_gives = { Reads IsIpv4Text };
 
     fn from_str(s: &str) -> Result<Ipv4Address, ()> {
-        match dotted(s) {
-            Some(octets) => Ok(Ipv4Address(octets)),
-            None => Err(()),
-        }
+        dotted(s).ok_or(())
+    }
+}
+
+/// An IPv4 address, a slash and a prefix length.
+fn ipv4_block(text: &str) -> Option<Ipv4Cidr>
+    ensures found { IfSome result (λ b. IsIpv4BlockText text.now b.address b.prefix_len) }
+    ensures only { (a : Ipv4Address) (len : ℕ) → IsIpv4BlockText text.now a len → IsSomeAnd result (λ b. (b.address ≡ a) × (b.prefix_len ≡ len)) }
+{
+    let (front, digits) = cut(text, '/')?;
+    let address = dotted(front)?;
+    let len = decimal_number(digits, 32)?;
+    Some(Ipv4Cidr::new(address, len as u8))
+}
+
+/// An IPv4 address, a colon and a port.
+fn ipv4_endpoint(text: &str) -> Option<(Ipv4Address, u16)>
+    ensures found { IfSome result (λ p. IsIpv4EndpointText text.now p.0 p.1) }
+    ensures only { (a : Ipv4Address) (port : ℕ) → IsIpv4EndpointText text.now a port → IsSomeAnd result (λ p. (p.0 ≡ a) × (p.1 ≡ port)) }
+{
+    let (front, digits) = cut(text, ':')?;
+    let address = dotted(front)?;
+    let port = decimal_number(digits, 65535)?;
+    Some((address, port))
+}
+
+impl fmt::Display for Ipv4Cidr {
+    ghost output = { λ b. Some (ipv4_block_text b) };
+
+    fn fmt<W: fmt::Write>(&self, f: &mut fmt::Formatter<W>) -> fmt::Result {
+        write!(f, "{}/{}", self.address, self.prefix_len)
+    }
+}
+
+/// Reads an IPv4 address, a slash and a decimal number up to 32.
+impl FromStr for Ipv4Cidr {
+    type Err = ();
+
+    ghost from_str_gives = { ReadsIpv4Block };
+
+    fn from_str(s: &str) -> Result<Ipv4Cidr, ()> {
+        ipv4_block(s).ok_or(())
     }
 }
