@@ -64,11 +64,73 @@ keep_alive s = record { control = Plain; seq = wire (s.una - 1); ack = Some (wir
 abbrev pub laid : Side → ℕ → List ℕ → List (Option ℕ)
 laid s at bytes = store s.window (at - rcv_next s) (drop (rcv_next s - at) bytes)
 
+-- bytes are accepted in the synchronized states until a close
+pub record MayWrite (s : Side) (bytes : List ℕ) : Type 0 where
+  pub running : s.phase ≡ Synchronized
+  pub unclosed : s.closed ≡ false
+  pub short : length (s.written ++ bytes) < 2 ^ 29
+
+-- bytes from a position of the stream, and the FIN only right behind the last byte of a closed side
+pub record MaySendData (s : Side) (at count : ℕ) (fin : Bool) : Type 0 where
+  pub running : s.phase ≡ Synchronized
+  pub after_syn : s.iss < at
+  pub within : at ≤ suc s.iss + length s.written
+  pub last : fin ≡ true → (s.closed ≡ true) × (at + length (bytes_from s at count) ≡ suc s.iss + length s.written)
+
+-- in LISTEN a SYN without ACK
+pub record MayTakeSyn (s t : Side) (x : Segment) (iss : ℕ) : Type 0 where
+  pub listening : s.phase ≡ Listen
+  pub comes : Comes t x
+  pub syn : x.control ≡ Syn
+  pub bare : x.ack ≡ None
+  pub first : IsFirst iss
+
+-- in SYN-SENT a SYN without ACK
+pub record MayTakeCrossedSyn (s t : Side) (x : Segment) : Type 0 where
+  pub asking : s.phase ≡ SynSent
+  pub comes : Comes t x
+  pub syn : x.control ≡ Syn
+  pub bare : x.ack ≡ None
+
+-- in SYN-SENT a SYN that acknowledges its own SYN, and that alone
+pub record MayTakeSynAck (s t : Side) (x : Segment) : Type 0 where
+  pub asking : s.phase ≡ SynSent
+  pub comes : Comes t x
+  pub syn : x.control ≡ Syn
+  pub acks_syn : x.ack ≡ Some (wire (suc s.iss))
+
+-- an acknowledgement from SND.UNA up to all that was sent, in SYN-RECEIVED of its SYN alone
+pub record MayTakeAck (s t : Side) (x : Segment) (at : ℕ) : Type 0 where
+  pub connected : IsConnected s.phase
+  pub comes : Comes t x
+  pub no_reset : IsNoReset x.control
+  pub number : x.ack ≡ Some (wire at)
+  pub opens : s.phase ≡ SynReceived → at ≡ suc s.iss
+  pub low : s.una ≤ at
+  pub high : at ≤ send_end s
+
+-- bytes at the position nearest to RCV.NXT that has their number
+pub record MayTakeBytes (s t : Side) (x : Segment) (at : ℕ) : Type 0 where
+  pub running : s.phase ≡ Synchronized
+  pub unfinished : s.took_fin ≡ false
+  pub comes : Comes t x
+  pub kind : IsData x.control
+  pub number : x.seq ≡ wire at
+  pub near : IsNear (rcv_next s) at
+
+-- a FIN whose number is that of RCV.NXT
+pub record MayTakeFin (s t : Side) (x : Segment) : Type 0 where
+  pub running : s.phase ≡ Synchronized
+  pub unfinished : s.took_fin ≡ false
+  pub comes : Comes t x
+  pub fin : x.control ≡ Fin
+  pub next : wire (x.seq + length x.bytes) ≡ wire (rcv_next s)
+
 -- what a move asks for, of side s with partner t
 abbrev pub May : Side → Side → Move → Type 0
 May s t Listens = s.phase ≡ Unopened
 May s t (Connects iss) = (s.phase ≡ Unopened) × IsFirst iss
-May s t (Writes bytes) = (s.phase ≡ Synchronized) × (s.closed ≡ false) × (length (s.written ++ bytes) < 2 ^ 29)
+May s t (Writes bytes) = MayWrite s bytes
 May s t (Reads count) = Unit {0}
 May s t Closes = IsConnected s.phase
 May s t Ends = s.phase ≢ Unopened
@@ -76,20 +138,15 @@ May s t FallsBack = (s.phase ≡ SynReceived) × (s.opening ≡ Passive)
 May s t SendsSyn = s.phase ≡ SynSent
 May s t SendsSynAck = IsConnected s.phase
 May s t (SendsAck at) = IsConnected s.phase
-May s t (SendsData at count fin) =
-    (s.phase ≡ Synchronized) × (s.iss < at) × (at ≤ suc s.iss + length s.written)
-    × (fin ≡ true → (s.closed ≡ true) × (at + length (bytes_from s at count) ≡ suc s.iss + length s.written))
+May s t (SendsData at count fin) = MaySendData s at count fin
 May s t SendsKeepAlive = (s.phase ≡ Synchronized) × (s.iss < s.una)
 May s t (SendsReset x) = x.control ≡ Rst
-May s t (TakesSyn x iss) = (s.phase ≡ Listen) × Comes t x × (x.control ≡ Syn) × (x.ack ≡ None) × IsFirst iss
-May s t (TakesCrossedSyn x) = (s.phase ≡ SynSent) × Comes t x × (x.control ≡ Syn) × (x.ack ≡ None)
-May s t (TakesSynAck x) = (s.phase ≡ SynSent) × Comes t x × (x.control ≡ Syn) × (x.ack ≡ Some (wire (suc s.iss)))
-May s t (TakesAck x at) =
-    IsConnected s.phase × Comes t x × IsNoReset x.control × (x.ack ≡ Some (wire at)) × (s.phase ≡ SynReceived → at ≡ suc s.iss) × (s.una ≤ at) × (at ≤ send_end s)
-May s t (TakesBytes x at) =
-    (s.phase ≡ Synchronized) × (s.took_fin ≡ false) × Comes t x × IsData x.control × (x.seq ≡ wire at) × IsNear (rcv_next s) at
-May s t (TakesFin x) =
-    (s.phase ≡ Synchronized) × (s.took_fin ≡ false) × Comes t x × (x.control ≡ Fin) × (wire (x.seq + length x.bytes) ≡ wire (rcv_next s))
+May s t (TakesSyn x iss) = MayTakeSyn s t x iss
+May s t (TakesCrossedSyn x) = MayTakeCrossedSyn s t x
+May s t (TakesSynAck x) = MayTakeSynAck s t x
+May s t (TakesAck x at) = MayTakeAck s t x at
+May s t (TakesBytes x at) = MayTakeBytes s t x at
+May s t (TakesFin x) = MayTakeFin s t x
 
 abbrev pub sends : Side → Segment → Side
 sends s x = record s { sent = s.sent ++ x ∷ [] }
