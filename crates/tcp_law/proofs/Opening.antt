@@ -184,7 +184,7 @@ connected_cases Listen c = absurd c
 connected_cases SynSent c = absurd c
 connected_cases Ended c = absurd c
 
-one_if-small : (b : Bool) → one_if b ≤ 1
+pub one_if-small : (b : Bool) → one_if b ≤ 1
 one_if-small true = omega arith
 one_if-small false = omega arith
 
