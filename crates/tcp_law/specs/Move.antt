@@ -10,29 +10,31 @@ use Rattle.tcp_law.specs.Side.Phase.{Unopened, Listen, SynSent, SynReceived, Syn
 use Rattle.tcp_law.specs.Side.Opening.{Passive, Active}
 
 pub data Move : Type 0 where
-  -- calls
-  Listens : Move
-  Connects : (iss : ℕ) → Move
-  Writes : (bytes : List ℕ) → Move
-  Reads : (count : ℕ) → Move
-  Closes : Move  -- with bytes or a FIN to send: in SYN-RECEIVED, ESTABLISHED or CLOSE-WAIT
-  -- to CLOSED: at a reset, a timeout, an abort, the end of LAST-ACK or TIME-WAIT, a close in LISTEN or SYN-SENT
+  -- calls (RFC 9293, 3.9.1 and 3.10.1 to 3.10.5)
+  Listens : Move  -- passive OPEN
+  Connects : (iss : ℕ) → Move  -- active OPEN
+  Writes : (bytes : List ℕ) → Move  -- SEND
+  Reads : (count : ℕ) → Move  -- RECEIVE
+  Closes : Move  -- CLOSE, where a FIN follows: in SYN-RECEIVED, ESTABLISHED or CLOSE-WAIT
+  -- to CLOSED: a reset, a user timeout, ABORT, the end of LAST-ACK or TIME-WAIT, CLOSE in LISTEN or SYN-SENT
   Ends : Move
-  FallsBack : Move  -- a listener in SYN-RECEIVED, at a reset: to LISTEN, as its listen left it
+  -- a listener in SYN-RECEIVED, at a reset: to LISTEN, as its listen left it (3.5.3)
+  FallsBack : Move
   -- segments that it sends
   SendsSyn : Move
   SendsSynAck : Move
   SendsAck : (at : ℕ) → Move
-  SendsData : (at count : ℕ) (fin : Bool) → Move  -- bytes, or the FIN, or both, from any position: SND.NXT, SND.UNA or another
-  SendsKeepAlive : Move
+  -- bytes, or the FIN, or both, from a position: SND.NXT, SND.UNA again (3.8.1, 3.8.6.1), or any other
+  SendsData : (at count : ℕ) (fin : Bool) → Move
+  SendsKeepAlive : Move  -- 3.8.4
   SendsReset : (x : Segment) → Move
-  -- what it takes from a segment of its partner
+  -- what it takes from a segment of its partner (3.10.7.2 to 3.10.7.4)
   TakesSyn : (x : Segment) (iss : ℕ) → Move  -- in LISTEN
-  TakesCrossedSyn : (x : Segment) → Move  -- in SYN-SENT, with no ACK: simultaneous open
+  TakesCrossedSyn : (x : Segment) → Move  -- in SYN-SENT, with no ACK: simultaneous open (3.5)
   TakesSynAck : (x : Segment) → Move  -- in SYN-SENT
-  TakesAck : (x : Segment) (at : ℕ) → Move
-  TakesBytes : (x : Segment) (at : ℕ) → Move
-  TakesFin : (x : Segment) → Move
+  TakesAck : (x : Segment) (at : ℕ) → Move  -- the fifth check
+  TakesBytes : (x : Segment) (at : ℕ) → Move  -- the segment text
+  TakesFin : (x : Segment) → Move  -- the FIN bit
 
 -- a segment that its partner sent comes: it may come again, later than others, or never
 abbrev pub Comes : Side → Segment → Type 0
@@ -56,7 +58,7 @@ abbrev pub data_segment : Side → ℕ → ℕ → Bool → Segment
 data_segment s at count fin =
     record { control = fin_if fin; seq = wire at; ack = Some (wire (rcv_next s)); bytes = bytes_from s at count }
 
--- one byte below SND.UNA (RFC 9293, 3.8.4)
+-- one byte below SND.UNA
 abbrev pub keep_alive : Side → Segment
 keep_alive s = record { control = Plain; seq = wire (s.una - 1); ack = Some (wire (rcv_next s)); bytes = 0 ∷ [] }
 
