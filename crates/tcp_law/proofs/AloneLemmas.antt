@@ -25,7 +25,7 @@ module _ (s t : Side) (out : OneWay s t) (back : OneWay t s) (phase : t.phase �
 
   unfinished : (b : Bool) → s.took_fin ≡ b → s.took_fin ≡ false
   unfinished false e = e
-  unfinished true e = absurd (let f = back.fin e in let clash : false ≡ true = sym no_stream.2 ∙ f.0 in cc)
+  unfinished true e = absurd (let f = back.fin e in let clash : false ≡ true = sym no_stream.2 ∙ f.closed in cc)
 
   pub HasNothing-unopened : HasNothing s
   HasNothing-unopened =
@@ -47,7 +47,7 @@ module _ (s t : Side) (out : OneWay s t) (back : OneWay t s) (phase : t.phase �
       kind (inr (inl plain)) = inr (inl (record { plain = plain.plain; bytes = by plain.bytes })) where
         by : (x.bytes ≡ []) ⊎ IsBelow t x → (x.bytes ≡ []) ⊎ IsBelow (unopened capacity resets) x
         by (inl none) = inl none
-        by (inr below) = not_reached below.2
+        by (inr below) = not_reached below.heard
 
     pub OneWay-to_unopened : OneWay s (unopened capacity resets)
     OneWay-to_unopened = record {
@@ -60,11 +60,11 @@ module _ (s t : Side) (out : OneWay s t) (back : OneWay t s) (phase : t.phase �
       sent = AllByRecursion-map (IsHonest s t) (IsHonest s (unopened capacity resets)) honest_to s.sent out.sent;
     } where
       sync : IsInStep s t ⊎ IsSilent s t → IsInStep s (unopened capacity resets) ⊎ IsSilent s (unopened capacity resets)
-      sync (inl in_step) = let counts = in_step.0 in let first = out.well_formed.iss.0 in not_reached (omega arith)
-      sync (inr silent) = inr (silent.0, silent.1, una silent.2) where
+      sync (inl in_step) = let counts = in_step.counts in let first = out.well_formed.iss.0 in not_reached (omega arith)
+      sync (inr silent) = inr (record { unwritten = silent.unwritten; closed = silent.closed; una = una silent.una }) where
         una : (s.una ≡ s.iss) ⊎ HasReached t (wire s.una) → (s.una ≡ s.iss) ⊎ HasReached (unopened capacity resets) (wire s.una)
         una (inl first) = inl first
-        una (inr reached) = not_reached reached.2
+        una (inr reached) = not_reached reached.heard
 
       listener : (s.irs ≡ 0) ⊎ ((s.irs ≡ t.iss) × (t.opening ≡ Active)) → (s.irs ≡ 0) ⊎ ((s.irs ≡ 2 ^ 32) × (NotYet ≡ Active))
       listener (inl none) = inl none
@@ -82,7 +82,7 @@ module _ (s t : Side) (out : OneWay s t) (back : OneWay t s) (phase : t.phase �
             short = omega arith;
             irs = omega arith;
           };
-      sync = inr (refl, λ (e : Unopened ≡ Synchronized). absurd (cc), inl refl);
+      sync = inr (record { unwritten = refl; closed = λ (e : Unopened ≡ Synchronized). absurd (cc); una = inl refl });
       received = subst (λ (ys : List ℕ). Begins (taken_in s) ys) no_stream.0 back.received;
       held = subst (λ (ys : List ℕ). AgreesWith s.window (drop (length (taken_in s)) ys)) no_stream.0 back.held;
       fin = λ e. absurd (let still = unfinished s.took_fin refl in let clash : false ≡ true = sym still ∙ e in cc);

@@ -1,14 +1,15 @@
 -- The calls of a user, the end of a connection and the fallback of a listener keep the invariant.
 use Rattle.std.proofs.Common.{◌≡◌, ◌⊎◌, inl, inr, ℕ, ◌+◌, ◌^◌, ◌≤◌, Bool, true, false, List, [], ◌++◌, length, take, drop, refl, sym, ap, ◌∙◌, subst, arith, length-append, append-nil, append_assoc, take-append-drop, le_refl}
+use Rattle.tcp_law.specs.Numbers.{wire}
 use Rattle.tcp_law.specs.ReceiveMap.{Begins, AgreesWith}
 use Rattle.tcp_law.specs.Side.{Phase, Opening, Side, taken_in, one_if, IsConnected}
 use Rattle.tcp_law.specs.Side.Phase.{Unopened, Listen, SynSent, SynReceived, Synchronized, Ended}
 use Rattle.tcp_law.specs.Side.Opening.{NotYet, Passive, Active}
 use Rattle.tcp_law.specs.Move.{Move, May, after}
 use Rattle.tcp_law.specs.Move.Move.{Listens, Connects, Writes, Reads, Closes, Ends, FallsBack}
-use Rattle.tcp_law.specs.Invariant.{IsLate, IsEarly, FitsPhase, IsWellFormed, IsInStep, IsSilent, OneWay}
+use Rattle.tcp_law.specs.Invariant.{IsLate, IsEarly, FitsPhase, IsWellFormed, IsInStep, IsSilent, OneWay, HasReached}
 use Rattle.tcp_law.proofs.Lists.{AgreesWith-room, AgreesWith-space}
-use Rattle.tcp_law.proofs.Grows.{Grows, OneWay-own, OneWay-other}
+use Rattle.tcp_law.proofs.Grows.{Grows, IsInStep-same, IsComplete-same, OneWay-own, OneWay-other}
 
 -- a move of s keeps both streams
 abbrev pub Keeps : Side → Side → Move → Type 0
@@ -35,6 +36,14 @@ early_at s phase e early = subst IsEarly (sym e) early
 pub not_late : {A : Type 0} (s : Side) (phase : Phase) → s.phase ≡ phase → (IsLate phase → ⊥) → IsLate s.phase → A
 not_late s phase e early late = absurd (early (subst IsLate e late))
 
+-- where nothing of the stream to the partner changes
+pub same_sync : (s new t : Side) → new.iss ≡ s.iss → new.una ≡ s.una → new.written ≡ s.written → new.phase ≡ s.phase → new.closed ≡ s.closed → IsInStep s t ⊎ IsSilent s t → IsInStep new t ⊎ IsSilent new t
+same_sync s new t iss una written phase closed (inl in_step) = inl (IsInStep-same s new t iss una in_step)
+same_sync s new t iss una written phase closed (inr silent) = inr (record { unwritten = written ∙ silent.unwritten; closed = λ e. closed ∙ silent.closed (sym phase ∙ e); una = by silent.una }) where
+  by : (s.una ≡ s.iss) ⊎ HasReached t (wire s.una) → (new.una ≡ new.iss) ⊎ HasReached t (wire new.una)
+  by (inl first) = inl (una ∙ (first ∙ sym iss))
+  by (inr reached) = inr (subst (λ (p : ℕ). HasReached t (wire p)) (sym una) reached)
+
 pub keeps_listens : (s t : Side) → Keeps s t Listens
 keeps_listens s t out back may =
     let new = after s Listens in
@@ -60,12 +69,12 @@ keeps_listens s t out back may =
     } in
     let no_stream = well.early (early_at s Unopened may tt) in (
       OneWay-own s new grows t out well' (sync no_stream.0 out.sync) (λ _. inl none) (λ sent. sent),
-      OneWay-other s new grows t back back.received back.held (λ e. let f = back.fin e in f),
+      OneWay-other s new grows t back back.received back.held (λ e. IsComplete-same t s new refl refl (back.fin e)),
     )
   where
     sync : s.written ≡ [] → IsInStep s t ⊎ IsSilent s t → IsInStep (after s Listens) t ⊎ IsSilent (after s Listens) t
-    sync nothing (inl in_step) = inl in_step
-    sync nothing (inr silent) = inr (silent.0, λ (e : Listen ≡ Synchronized). absurd (cc), silent.2)
+    sync nothing (inl in_step) = inl (IsInStep-same s (after s Listens) t refl refl in_step)
+    sync nothing (inr silent) = inr (record { unwritten = silent.unwritten; closed = λ (e : Listen ≡ Synchronized). absurd (cc); una = silent.una })
 
 pub keeps_connects : (s t : Side) (iss : ℕ) → Keeps s t (Connects iss)
 keeps_connects s t iss out back may =
@@ -91,15 +100,15 @@ keeps_connects s t iss out back may =
       short = well.short;
       irs = well.irs;
     } in (
-      OneWay-own s new grows t out well' (inr (no_stream.0, λ (e : SynSent ≡ Synchronized). absurd (cc), inl refl)) (λ (e : Active ≡ Passive). absurd (cc)) (λ sent. sent),
-      OneWay-other s new grows t back back.received back.held (λ e. back.fin e),
+      OneWay-own s new grows t out well' (inr (record { unwritten = no_stream.0; closed = λ (e : SynSent ≡ Synchronized). absurd (cc); una = inl refl })) (λ (e : Active ≡ Passive). absurd (cc)) (λ sent. sent),
+      OneWay-other s new grows t back back.received back.held (λ e. IsComplete-same t s new refl refl (back.fin e)),
     )
 
 pub keeps_writes : (s t : Side) (bytes : List ℕ) → Keeps s t (Writes bytes)
 keeps_writes s t bytes out back may =
     let new = after s (Writes bytes) in
     let well = out.well_formed in
-    let is_open = may.1 in
+    let is_open = may.unclosed in
     let longer = length-append s.written bytes in
     let high = well.una_high in
     let grows : Grows s new = record {
@@ -111,20 +120,20 @@ keeps_writes s t bytes out back may =
     } in
     let well' : IsWellFormed new = record {
       phase = well.phase;
-      early = λ early. absurd (subst IsEarly may.0 early);
+      early = λ early. absurd (subst IsEarly may.running early);
       iss = well.iss;
       una_low = well.una_low;
       una_high = omega arith;
-      short = may.2;
+      short = may.short;
       irs = well.irs;
     } in (
       OneWay-own s new grows t out well' (sync out.sync) out.listener (λ sent. sent),
-      OneWay-other s new grows t back back.received back.held back.fin,
+      OneWay-other s new grows t back back.received back.held (λ e. IsComplete-same t s new refl refl (back.fin e)),
     )
   where
     sync : IsInStep s t ⊎ IsSilent s t → IsInStep (after s (Writes bytes)) t ⊎ IsSilent (after s (Writes bytes)) t
-    sync (inl in_step) = inl in_step
-    sync (inr silent) = absurd (let clash : false ≡ true = sym may.1 ∙ silent.1 may.0 in cc)
+    sync (inl in_step) = inl (IsInStep-same s (after s (Writes bytes)) t refl refl in_step)
+    sync (inr silent) = absurd (let clash : false ≡ true = sym may.unclosed ∙ silent.closed may.running in cc)
 
 -- what was read and what waits are the same bytes together
 taken_in-reads : (s : Side) (count : ℕ) → taken_in (after s (Reads count)) ≡ taken_in s
@@ -152,12 +161,12 @@ keeps_reads s t count out back may =
       short = well.short;
       irs = well.irs;
     } in (
-      OneWay-own s new grows t out well' out.sync out.listener (λ sent. sent),
+      OneWay-own s new grows t out well' (same_sync s new t refl refl refl refl refl out.sync) out.listener (λ sent. sent),
       OneWay-other s new grows t back
           (subst (λ (bytes : List ℕ). Begins bytes t.written) (sym same) back.received)
           (subst (λ (bytes : List ℕ). AgreesWith new.window (drop (length bytes) t.written)) (sym same)
           (AgreesWith-room s.window (length (take count s.waiting)) (drop (length (taken_in s)) t.written) back.held))
-          (λ e. let f = back.fin e in (f.0, same ∙ f.1, f.2)),
+          (λ e. IsComplete-same t s new same refl (back.fin e)),
     )
 
 pub keeps_closes : (s t : Side) → Keeps s t Closes
@@ -183,7 +192,7 @@ keeps_closes s t out back may =
       irs = well.irs;
     } in (
       OneWay-own s new grows t out well' (sync out.sync) out.listener (λ sent. sent),
-      OneWay-other s new grows t back back.received back.held back.fin,
+      OneWay-other s new grows t back back.received back.held (λ e. IsComplete-same t s new refl refl (back.fin e)),
     )
   where
     at_most_one : (b : Bool) → one_if b ≤ 1
@@ -191,8 +200,8 @@ keeps_closes s t out back may =
     at_most_one false = omega arith
 
     sync : IsInStep s t ⊎ IsSilent s t → IsInStep (after s Closes) t ⊎ IsSilent (after s Closes) t
-    sync (inl in_step) = inl in_step
-    sync (inr silent) = inr (silent.0, λ _. refl, silent.2)
+    sync (inl in_step) = inl (IsInStep-same s (after s Closes) t refl refl in_step)
+    sync (inr silent) = inr (record { unwritten = silent.unwritten; closed = λ _. refl; una = silent.una })
 
 pub keeps_ends : (s t : Side) → Keeps s t Ends
 keeps_ends s t out back may =
@@ -215,12 +224,12 @@ keeps_ends s t out back may =
       irs = well.irs;
     } in (
       OneWay-own s new grows t out well' (sync out.sync) out.listener (λ sent. sent),
-      OneWay-other s new grows t back back.received back.held back.fin,
+      OneWay-other s new grows t back back.received back.held (λ e. IsComplete-same t s new refl refl (back.fin e)),
     )
   where
     sync : IsInStep s t ⊎ IsSilent s t → IsInStep (after s Ends) t ⊎ IsSilent (after s Ends) t
-    sync (inl in_step) = inl in_step
-    sync (inr silent) = inr (silent.0, λ (e : Ended ≡ Synchronized). absurd (cc), silent.2)
+    sync (inl in_step) = inl (IsInStep-same s (after s Ends) t refl refl in_step)
+    sync (inr silent) = inr (record { unwritten = silent.unwritten; closed = λ (e : Ended ≡ Synchronized). absurd (cc); una = silent.una })
 
 pub keeps_falls_back : (s t : Side) → Keeps s t FallsBack
 keeps_falls_back s t out back may =
@@ -245,6 +254,6 @@ keeps_falls_back s t out back may =
       short = omega arith;
       irs = well.irs;
     } in (
-      OneWay-own s new grows t out well' (inr (refl, λ (e : Listen ≡ Synchronized). absurd (cc), inl refl)) (λ _. out.listener may.1) (λ sent. sent),
+      OneWay-own s new grows t out well' (inr (record { unwritten = refl; closed = λ (e : Listen ≡ Synchronized). absurd (cc); una = inl refl })) (λ _. out.listener may.1) (λ sent. sent),
       OneWay-other s new grows t back tt (AgreesWith-space (length s.waiting + length s.window) t.written) (λ (e : false ≡ true). absurd (cc)),
     )

@@ -7,7 +7,7 @@ use Rattle.tcp_law.specs.Segment.{Segment}
 use Rattle.tcp_law.specs.Side.{Phase, Side, taken_in, rcv_next}
 use Rattle.tcp_law.specs.Side.Phase.{Unopened, Listen, SynSent, SynReceived, Synchronized, Ended}
 use Rattle.tcp_law.specs.Side.Opening.{Passive, Active}
-use Rattle.tcp_law.specs.Invariant.{IsLate, IsEarly, IsWellFormed, IsPiece, IsBelow, IsPlain, IsSyn, HasReached, IsHonest, IsInStep, IsSilent, OneWay}
+use Rattle.tcp_law.specs.Invariant.{IsLate, IsEarly, IsWellFormed, IsPiece, IsBelow, IsPlain, IsSyn, HasReached, IsHonest, IsInStep, IsSilent, IsComplete, OneWay}
 use Rattle.tcp_law.proofs.Lists.{Begins-grow, Begins-drop-grow, AgreesWith-drop-grow, AllByRecursion-map}
 
 pub record Grows (s new : Side) : Type 0 where
@@ -32,29 +32,41 @@ late_of_closed s well e = by (late_or_early s.phase) where
   by (inl late) = late
   by (inr early) = let none = well.early early in let open_still = none.2 in absurd (cc)
 
+-- where ISS and SND.UNA stay
+pub IsInStep-same : (s new t : Side) → new.iss ≡ s.iss → new.una ≡ s.una → IsInStep s t → IsInStep new t
+IsInStep-same s new t iss una in_step = record { counts = in_step.counts ∙ sym iss; opened = omega (arith, in_step.opened); reached = omega (arith, in_step.reached) }
+
+-- where the bytes that were taken in and IRS stay
+pub IsComplete-same : (t s new : Side) → taken_in new ≡ taken_in s → new.irs ≡ s.irs → IsComplete t s → IsComplete t new
+IsComplete-same t s new bytes irs c = record { closed = c.closed; whole = bytes ∙ c.whole; counts = irs ∙ c.counts }
+
 module _ (s new : Side) (grows : Grows s new) where
   pub HasReached-grows : (number : ℕ) → HasReached s number → HasReached new number
   HasReached-grows number h =
-      let low = h.2 in
-      let past = h.3 in
-      let high = h.4 in
-      let g = grows.taken low in
-      let same = g.0 in
-      let further = g.1 in
-      (h.0, h.1, omega arith, omega arith, omega arith)
+      let same_irs = (grows.taken h.heard).0 in
+      let further = (grows.taken h.heard).1 in
+      record {
+        at = h.at;
+        same = h.same;
+        heard = omega arith;
+        after_syn = omega arith;
+        high = omega arith;
+      }
 
   pub IsPlain-grows : (x : Segment) → IsPlain s x → IsPlain new x
   IsPlain-grows x p = record { plain = p.plain; bytes = by p.bytes } where
     by : (x.bytes ≡ []) ⊎ IsBelow s x → (x.bytes ≡ []) ⊎ IsBelow new x
     by (inl none) = inl none
     by (inr h) =
-        let low = h.2 in
-        let past = h.3 in
-        let high = h.4 in
-        let g = grows.taken low in
-        let same = g.0 in
-        let further = g.1 in
-        inr (h.0, h.1, omega arith, omega arith, omega arith)
+        let same_irs = (grows.taken h.heard).0 in
+        let further = (grows.taken h.heard).1 in
+        inr (record {
+          at = h.at;
+          number = h.number;
+          heard = omega arith;
+          low = omega arith;
+          high = omega arith;
+        })
 
   IsPiece-grows : (x : Segment) → IsPiece s x → IsPiece new x
   IsPiece-grows x p =
@@ -123,9 +135,9 @@ module _ (s new : Side) (grows : Grows s new) where
         fin =
             λ e.
             let f = out.fin e in
-            let c = grows.closed f.0 in
-            let stays = (grows.late (late_of_closed s out.well_formed f.0)).1 in
-            (c.0, f.1 ∙ sym c.1, f.2 ∙ sym stays);
+            let c = grows.closed f.closed in
+            let stays = (grows.late (late_of_closed s out.well_formed f.closed)).1 in
+            record { closed = c.0; whole = f.whole ∙ sym c.1; counts = f.counts ∙ sym stays };
         listener = listener;
         sent = sent (AllByRecursion-map (IsHonest s t) (IsHonest new t) (IsHonest-own t) s.sent out.sent);
       }
@@ -133,7 +145,7 @@ module _ (s new : Side) (grows : Grows s new) where
   -- the stream that it takes, by what its move changes of it
   pub OneWay-other :
       (t : Side) → OneWay t s → Begins (taken_in new) t.written → AgreesWith new.window (drop (length (taken_in new)) t.written)
-      → (new.took_fin ≡ true → (t.closed ≡ true) × (taken_in new ≡ t.written) × (new.irs ≡ t.iss))
+      → (new.took_fin ≡ true → IsComplete t new)
       → OneWay t new
   OneWay-other t out received held fin = record {
     well_formed = out.well_formed;
@@ -147,15 +159,12 @@ module _ (s new : Side) (grows : Grows s new) where
     sync : IsInStep t s ⊎ IsSilent t s → IsInStep t new ⊎ IsSilent t new
     sync (inl in_step) =
         let first = out.well_formed.iss.0 in
-        let counts = in_step.0 in
-        let past = in_step.1 in
-        let reached = in_step.2 in
+        let counts = in_step.counts in
         let low : 2 ^ 32 ≤ s.irs = omega arith in
-        let g = grows.taken low in
-        let same = g.0 in
-        let further = g.1 in
-        inl (same ∙ counts, past, omega arith)
-    sync (inr silent) = inr (silent.0, silent.1, una silent.2) where
+        let same = (grows.taken low).0 in
+        let further = (grows.taken low).1 in
+        inl (record { counts = same ∙ counts; opened = in_step.opened; reached = omega arith })
+    sync (inr silent) = inr (record { unwritten = silent.unwritten; closed = silent.closed; una = una silent.una }) where
       una : (t.una ≡ t.iss) ⊎ HasReached s (wire t.una) → (t.una ≡ t.iss) ⊎ HasReached new (wire t.una)
       una (inl first) = inl first
       una (inr reached) = inr (HasReached-grows (wire t.una) reached)

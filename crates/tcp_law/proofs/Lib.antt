@@ -6,4 +6,5 @@ pub mod Opening
 pub mod Taking
 pub mod Theorem
 pub mod AloneLemmas
+pub mod DecodedLemmas
 mod Came

@@ -11,7 +11,7 @@ use Rattle.tcp_law.specs.Move.{after, Comes}
 use Rattle.tcp_law.specs.Move.Move.{TakesSyn, TakesCrossedSyn, TakesSynAck, TakesAck}
 use Rattle.tcp_law.specs.Invariant.{IsPiece, IsPlain, IsSyn, HasReached, IsHonest, HasNoStream, IsWellFormed, IsInStep, IsSilent, OneWay}
 use Rattle.tcp_law.proofs.Lists.{AllByRecursion-at, Begins-length, Begins-nothing}
-use Rattle.tcp_law.proofs.Grows.{Grows, OneWay-own, OneWay-other}
+use Rattle.tcp_law.proofs.Grows.{Grows, IsInStep-same, IsComplete-same, OneWay-own, OneWay-other}
 use Rattle.tcp_law.proofs.Calls.{Keeps, same_bytes, heard, fits_at, early_at, not_late}
 
 -- what came is honest
@@ -55,15 +55,15 @@ rcv_next-early s t out none =
   where
     not_finished : (b : Bool) → t.took_fin ≡ b → t.took_fin ≡ false
     not_finished false e = e
-    not_finished true e = absurd (let f = out.fin e in let clash : false ≡ true = sym none.2 ∙ f.0 in cc)
+    not_finished true e = absurd (let f = out.fin e in let clash : false ≡ true = sym none.2 ∙ f.closed in cc)
 
 -- an acknowledgement of its SYN alone says that the partner counts from it
 pub opened : (s t : Side) → OneWay s t → OneWay t s → HasNoStream s → HasReached t (wire (suc s.iss)) → (t.irs ≡ s.iss) × (suc s.iss ≤ rcv_next t)
 opened s t out back none h =
-    let number = h.1 in
-    let low = h.2 in
-    let past = h.3 in
-    let high = h.4 in
+    let number = h.same in
+    let past = h.after_syn in
+    let high = h.high in
+    let heard_first = h.heard in
     let next = rcv_next-early s t out none in
     let iss_low = out.well_formed.iss.0 in
     let iss_high = out.well_formed.iss.1 in
@@ -74,15 +74,15 @@ pub keeps_takes_syn : (s t : Side) (x : Segment) (iss : ℕ) → Keeps s t (Take
 keeps_takes_syn s t x iss out back may =
     let new = after s (TakesSyn x iss) in
     let well = out.well_formed in
-    let passive = fits_at s Listen well may.0 in
-    let no_stream = well.early (early_at s Listen may.0 tt) in
-    let its_syn = syn_of t s x may.2 (honest t s x back may.1) in
+    let passive = fits_at s Listen well may.listening in
+    let no_stream = well.early (early_at s Listen may.listening tt) in
+    let its_syn = syn_of t s x may.syn (honest t s x back may.comes) in
     let position = syn_position its_syn.at x.seq its_syn.first its_syn.seq in
-    let bare = its_syn.bare may.3 in
+    let bare = its_syn.bare may.bare in
     let counts : 2 ^ 32 + x.seq ≡ t.iss = position ∙ bare.0 in
     let high = its_syn.first.1 in
     let grows : Grows s new = record {
-      late = not_late s Listen may.0 (λ late. late);
+      late = not_late s Listen may.listening (λ late. late);
       written = same_bytes s.written;
       closed = λ e. (e, refl);
       active = λ e. absurd (let clash : Passive ≡ Active = sym passive ∙ e in cc);
@@ -91,13 +91,13 @@ keeps_takes_syn s t x iss out back may =
     let well' : IsWellFormed new = record {
       phase = omega arith;
       early = λ _. no_stream;
-      iss = may.4;
+      iss = may.first;
       una_low = le_refl _;
       una_high = omega arith;
       short = well.short;
       irs = omega arith;
     } in (
-      OneWay-own s new grows t out well' (inr (no_stream.0, λ (e : SynReceived ≡ Synchronized). absurd (cc), inl refl)) (λ _. inr (counts, bare.1)) (λ sent. sent),
+      OneWay-own s new grows t out well' (inr (record { unwritten = no_stream.0; closed = λ (e : SynReceived ≡ Synchronized). absurd (cc); una = inl refl })) (λ _. inr (counts, bare.1)) (λ sent. sent),
       OneWay-other s new grows t back back.received back.held (λ e. absurd (let no_fin : false ≡ true = sym no_stream.3 ∙ e in cc)),
     )
   where
@@ -111,15 +111,15 @@ pub keeps_takes_crossed_syn : (s t : Side) (x : Segment) → Keeps s t (TakesCro
 keeps_takes_crossed_syn s t x out back may =
     let new = after s (TakesCrossedSyn x) in
     let well = out.well_formed in
-    let fits = fits_at s SynSent well may.0 in
+    let fits = fits_at s SynSent well may.asking in
     let active = fits.0 in
     let none = fits.1 in
-    let no_stream = well.early (early_at s SynSent may.0 tt) in
-    let its_syn = syn_of t s x may.2 (honest t s x back may.1) in
+    let no_stream = well.early (early_at s SynSent may.asking tt) in
+    let its_syn = syn_of t s x may.syn (honest t s x back may.comes) in
     let position = syn_position its_syn.at x.seq its_syn.first its_syn.seq in
     let high = its_syn.first.1 in
     let grows : Grows s new = record {
-      late = not_late s SynSent may.0 (λ late. late);
+      late = not_late s SynSent may.asking (λ late. late);
       written = same_bytes s.written;
       closed = λ e. (e, refl);
       active = λ e. (e, refl);
@@ -139,25 +139,25 @@ keeps_takes_crossed_syn s t x out back may =
     )
   where
     sync : IsInStep s t ⊎ IsSilent s t → IsInStep (after s (TakesCrossedSyn x)) t ⊎ IsSilent (after s (TakesCrossedSyn x)) t
-    sync (inl in_step) = inl in_step
-    sync (inr silent) = inr (silent.0, λ (e : SynReceived ≡ Synchronized). absurd (cc), silent.2)
+    sync (inl in_step) = inl (IsInStep-same s (after s (TakesCrossedSyn x)) t refl refl in_step)
+    sync (inr silent) = inr (record { unwritten = silent.unwritten; closed = λ (e : SynReceived ≡ Synchronized). absurd (cc); una = silent.una })
 
 pub keeps_takes_syn_ack : (s t : Side) (x : Segment) → Keeps s t (TakesSynAck x)
 keeps_takes_syn_ack s t x out back may =
     let new = after s (TakesSynAck x) in
     let well = out.well_formed in
-    let fits = fits_at s SynSent well may.0 in
+    let fits = fits_at s SynSent well may.asking in
     let active = fits.0 in
     let none = fits.1 in
-    let no_stream = well.early (early_at s SynSent may.0 tt) in
-    let came = honest t s x back may.1 in
-    let its_syn = syn_of t s x may.2 came in
+    let no_stream = well.early (early_at s SynSent may.asking tt) in
+    let came = honest t s x back may.comes in
+    let its_syn = syn_of t s x may.syn came in
     let position = syn_position its_syn.at x.seq its_syn.first its_syn.seq in
     let low = its_syn.first.0 in
     let high = its_syn.first.1 in
-    let in_step = opened s t out back no_stream (acked t s x (wire (suc s.iss)) (subst IsNoReset (sym may.2) tt) may.3 came) in
+    let in_step = opened s t out back no_stream (acked t s x (wire (suc s.iss)) (subst IsNoReset (sym may.syn) tt) may.acks_syn came) in
     let grows : Grows s new = record {
-      late = not_late s SynSent may.0 (λ late. late);
+      late = not_late s SynSent may.asking (λ late. late);
       written = same_bytes s.written;
       closed = λ e. (e, refl);
       active = λ e. (e, refl);
@@ -172,7 +172,7 @@ keeps_takes_syn_ack s t x out back may =
       short = well.short;
       irs = omega arith;
     } in (
-      OneWay-own s new grows t out well' (inl (in_step.0, le_refl _, in_step.1)) (λ e. absurd (let clash : Active ≡ Passive = sym active ∙ e in cc)) (λ sent. sent),
+      OneWay-own s new grows t out well' (inl (record { counts = in_step.0; opened = le_refl _; reached = in_step.1 })) (λ e. absurd (let clash : Active ≡ Passive = sym active ∙ e in cc)) (λ sent. sent),
       OneWay-other s new grows t back back.received back.held (λ e. absurd (let no_fin : false ≡ true = sym no_stream.3 ∙ e in cc)),
     )
 
@@ -184,7 +184,7 @@ connected_cases Listen c = absurd c
 connected_cases SynSent c = absurd c
 connected_cases Ended c = absurd c
 
-one_if-small : (b : Bool) → one_if b ≤ 1
+pub one_if-small : (b : Bool) → one_if b ≤ 1
 one_if-small true = omega arith
 one_if-small false = omega arith
 
@@ -193,8 +193,8 @@ keeps_takes_ack s t x at out back may =
     let new = after s (TakesAck x at) in
     let well = out.well_formed in
     let low = well.una_low in
-    let further = may.5 in
-    let reached = acked t s x (wire at) may.2 may.3 (honest t s x back may.1) in
+    let further = may.low in
+    let reached = acked t s x (wire at) may.no_reset may.number (honest t s x back may.comes) in
     let grows : Grows s new = record {
       late = λ late. (tt, refl);
       written = same_bytes s.written;
@@ -203,42 +203,41 @@ keeps_takes_ack s t x at out back may =
       taken = λ _. (refl, le_refl _);
     } in
     let well' : IsWellFormed new = record {
-      phase = heard s.phase s.opening s.irs may.0 well.phase;
+      phase = heard s.phase s.opening s.irs may.connected well.phase;
       early = λ early. absurd early;
       iss = well.iss;
       una_low = omega arith;
-      una_high = may.6;
+      una_high = may.high;
       short = well.short;
       irs = well.irs;
     } in (
-      OneWay-own s new grows t out well' (sync reached (connected_cases s.phase may.0)) out.listener (λ sent. sent),
-      OneWay-other s new grows t back back.received back.held back.fin,
+      OneWay-own s new grows t out well' (sync reached (connected_cases s.phase may.connected)) out.listener (λ sent. sent),
+      OneWay-other s new grows t back back.received back.held (λ e. IsComplete-same t s new refl refl (back.fin e)),
     )
   where
     running : HasReached t (wire at) → s.phase ≡ Synchronized → IsInStep s t ⊎ IsSilent s t → IsInStep (after s (TakesAck x at)) t ⊎ IsSilent (after s (TakesAck x at)) t
     running h e (inl in_step) =
-        let number = h.1 in
-        let past = h.3 in
-        let high = h.4 in
-        let counts = in_step.0 in
-        let before = in_step.1 in
+        let number = h.same in
+        let past = h.after_syn in
+        let high = h.high in
+        let counts = in_step.counts in
         let shorter = Begins-length (taken_in t) s.written out.received in
         let short = out.well_formed.short in
         let fin = one_if-small t.took_fin in
         let asked = one_if-small s.closed in
-        let low = may.5 in
-        let top = may.6 in
-        let same : at ≡ h.0 = omega arith in
-        inl (counts, omega arith, omega arith)
-    running h e (inr silent) = inr (silent.0, λ _. silent.1 e, inr h)
+        let low = may.low in
+        let top = may.high in
+        let same : at ≡ h.at = omega arith in
+        inl (record { counts = counts; opened = omega arith; reached = omega arith })
+    running h e (inr silent) = inr (record { unwritten = silent.unwritten; closed = λ _. silent.closed e; una = inr h })
 
     sync : HasReached t (wire at) → (s.phase ≡ SynReceived) ⊎ (s.phase ≡ Synchronized) → IsInStep (after s (TakesAck x at)) t ⊎ IsSilent (after s (TakesAck x at)) t
     sync h (inl e) =
-        let one : at ≡ suc s.iss = may.4 e in
+        let one : at ≡ suc s.iss = may.opens e in
         let none = out.well_formed.early (early_at s SynReceived e tt) in
         let first : HasReached t (wire (suc s.iss)) = subst (λ (p : ℕ). HasReached t (wire p)) one h in
         let in_step = opened s t out back none first in
         let counts = in_step.0 in
         let reached = in_step.1 in
-        inl (counts, omega arith, omega arith)
+        inl (record { counts = counts; opened = omega arith; reached = omega arith })
     sync h (inr e) = running h e out.sync

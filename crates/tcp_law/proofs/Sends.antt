@@ -9,8 +9,8 @@ use Rattle.tcp_law.specs.Move.{sends, syn, syn_ack, bare_ack, data_segment, keep
 use Rattle.tcp_law.specs.Move.Move.{SendsSyn, SendsSynAck, SendsAck, SendsData, SendsKeepAlive, SendsReset}
 use Rattle.tcp_law.specs.Invariant.{IsLate, IsBelow, HasReached, IsHonest, IsInStep, IsSilent, IsWellFormed, OneWay}
 use Rattle.tcp_law.proofs.Lists.{Begins-take, AllByRecursion-push}
-use Rattle.tcp_law.proofs.Grows.{Grows, IsHonest-own, OneWay-own, OneWay-other}
-use Rattle.tcp_law.proofs.Calls.{Keeps, same_bytes, heard, fits_at}
+use Rattle.tcp_law.proofs.Grows.{Grows, IsComplete-same, IsHonest-own, OneWay-own, OneWay-other}
+use Rattle.tcp_law.proofs.Calls.{Keeps, same_sync, same_bytes, heard, fits_at}
 
 grows_sends : (s : Side) (x : Segment) → Grows s (sends s x)
 grows_sends s x = record {
@@ -36,13 +36,13 @@ keeps_sent s t x out back honest =
       short = well.short;
       irs = well.irs;
     } in (
-      OneWay-own s new grows t out well' out.sync out.listener (λ sent. AllByRecursion-push (IsHonest new t) s.sent x sent (IsHonest-own s new grows t x honest)),
-      OneWay-other s new grows t back back.received back.held back.fin,
+      OneWay-own s new grows t out well' (same_sync s new t refl refl refl refl refl out.sync) out.listener (λ sent. AllByRecursion-push (IsHonest new t) s.sent x sent (IsHonest-own s new grows t x honest)),
+      OneWay-other s new grows t back back.received back.held (λ e. IsComplete-same t s new refl refl (back.fin e)),
     )
 
 -- an acknowledgement of what it took
 rcv_next-reached : (s : Side) → 2 ^ 32 ≤ s.irs → HasReached s (wire (rcv_next s))
-rcv_next-reached s low = (rcv_next s, refl, low, omega arith, le_refl _)
+rcv_next-reached s low = record { at = rcv_next s; same = refl; heard = low; after_syn = omega arith; high = le_refl _ }
 
 acks_reached : (s : Side) (x : Segment) → 2 ^ 32 ≤ s.irs → x.ack ≡ Some (wire (rcv_next s)) → (x.ack ≡ None) ⊎ ((number : ℕ) × (x.ack ≡ Some number) × HasReached s number)
 acks_reached s x low e = inr (wire (rcv_next s), e, rcv_next-reached s low)
@@ -81,18 +81,18 @@ fin_of_control false e = absurd (cc)
 
 pub keeps_sends_data : (s t : Side) (at count : ℕ) (fin : Bool) → Keeps s t (SendsData at count fin)
 keeps_sends_data s t at count fin out back may =
-    let low : 2 ^ 32 ≤ s.irs = fits_at s Synchronized out.well_formed may.0 in
+    let low : 2 ^ 32 ≤ s.irs = fits_at s Synchronized out.well_formed may.running in
     keeps_sent s t (data_segment s at count fin) out back
     (inr (
       inl (record {
-        late = subst IsLate (sym may.0) tt;
+        late = subst IsLate (sym may.running) tt;
         kind = is_data_fin_if fin;
         at = at;
         seq = refl;
-        after_syn = may.1;
+        after_syn = may.after_syn;
         bytes = Begins-take count (drop (at - suc s.iss) s.written);
-        fits = bytes_from-fit s at count may.1 may.2;
-        fin = λ e. may.3 (fin_of_control fin e);
+        fits = bytes_from-fit s at count may.after_syn may.within;
+        fin = λ e. may.last (fin_of_control fin e);
       }),
       acks_reached s (data_segment s at count fin) low refl,
     ))
@@ -103,19 +103,28 @@ keep_alive-below s t out past = by out.sync where
   by : IsInStep s t ⊎ IsSilent s t → IsBelow t (keep_alive s)
   by (inl in_step) =
       let first = out.well_formed.iss.0 in
-      let counts = in_step.0 in
-      let reached = in_step.2 in
-      (s.una - 1, refl, omega arith, omega arith, omega arith)
-  by (inr silent) = una silent.2 where
+      let counts = in_step.counts in
+      let reached = in_step.reached in
+      record {
+        at = s.una - 1;
+        number = refl;
+        heard = omega arith;
+        low = omega arith;
+        high = omega arith;
+      }
+  by (inr silent) = una silent.una where
     una : (s.una ≡ s.iss) ⊎ HasReached t (wire s.una) → IsBelow t (keep_alive s)
     una (inl none) = absurd (omega arith)
     una (inr h) =
-        let number = h.1 in
-        let low = h.2 in
-        let after_syn = h.3 in
-        let high = h.4 in
+        let number = h.same in
         let first = out.well_formed.iss.0 in
-        (h.0 - 1, omega arith, low, omega arith, omega arith)
+        record {
+          at = h.at - 1;
+          number = omega arith;
+          heard = h.heard;
+          low = omega arith;
+          high = omega arith;
+        }
 
 pub keeps_sends_keep_alive : (s t : Side) → Keeps s t SendsKeepAlive
 keeps_sends_keep_alive s t out back may =

@@ -8,10 +8,10 @@ use Rattle.tcp_law.specs.Side.{Side, taken_in, rcv_next, one_if}
 use Rattle.tcp_law.specs.Side.Phase.{Synchronized}
 use Rattle.tcp_law.specs.Move.{after, laid}
 use Rattle.tcp_law.specs.Move.Move.{TakesBytes, TakesFin}
-use Rattle.tcp_law.specs.Invariant.{IsEarly, IsPiece, IsBelow, IsPlain, IsSyn, IsHonest, IsWellFormed, IsInStep, IsSilent, OneWay}
+use Rattle.tcp_law.specs.Invariant.{IsEarly, IsPiece, IsBelow, IsPlain, IsSyn, IsHonest, IsWellFormed, IsInStep, IsSilent, IsComplete, OneWay}
 use Rattle.tcp_law.proofs.Lists.{Begins-append, Begins-drop, Begins-front, Begins-length, Begins-nothing, Begins-whole, AgreesWith-store, AgreesWith-behind, store-nothing, drop-nothing, drop-twice}
 use Rattle.tcp_law.proofs.Grows.{Grows, OneWay-own, OneWay-other}
-use Rattle.tcp_law.proofs.Calls.{Keeps, same_bytes, fits_at}
+use Rattle.tcp_law.proofs.Calls.{Keeps, same_sync, same_bytes, fits_at}
 use Rattle.tcp_law.proofs.Opening.{honest}
 
 -- so many bytes were taken in, and RCV.NXT is one past them, while no FIN is taken
@@ -68,21 +68,21 @@ module _ (s t : Side) (x : Segment) (out : OneWay s t) (back : OneWay t s) where
   laid_agrees at none data_kind seq near (inl reset) = absurd (subst IsData reset data_kind)
   laid_agrees at none data_kind seq near (inr h) = kind h.0 where
     from : IsPiece t x → IsInStep t s ⊎ IsSilent t s → AgreesWith (laid s at x.bytes) (drop (length (taken_in s)) t.written)
-    from piece (inl in_step) = laid_piece at none seq near piece in_step.0
+    from piece (inl in_step) = laid_piece at none seq near piece in_step.counts
     from piece (inr silent) =
-        let nothing : drop (piece.at - suc t.iss) t.written ≡ [] = ap (λ (ys : List ℕ). drop (piece.at - suc t.iss) ys) silent.0 ∙ drop-nothing (piece.at - suc t.iss) in
+        let nothing : drop (piece.at - suc t.iss) t.written ≡ [] = ap (λ (ys : List ℕ). drop (piece.at - suc t.iss) ys) silent.unwritten ∙ drop-nothing (piece.at - suc t.iss) in
         laid_unchanged at (laid-nothing s at x.bytes (Begins-nothing x.bytes (subst (λ (ys : List ℕ). Begins x.bytes ys) nothing piece.bytes)))
 
     plain : (x.bytes ≡ []) ⊎ IsBelow s x → AgreesWith (laid s at x.bytes) (drop (length (taken_in s)) t.written)
     plain (inl no_bytes) = laid_unchanged at (laid-nothing s at x.bytes no_bytes)
     plain (inr below) =
-        let its = below.1 in
-        let low = below.3 in
-        let high = below.4 in
+        let its = below.number in
+        let low = below.low in
+        let high = below.high in
         let bound = rcv_next-short in
         let nearer = near.0 in
         let nearer' = near.1 in
-        let same : at ≡ below.0 = omega arith in
+        let same : at ≡ below.at = omega arith in
         laid_unchanged at (laid-below s at x.bytes (omega arith))
 
     kind : IsPiece t x ⊎ (IsPlain s x ⊎ IsSyn t x) → AgreesWith (laid s at x.bytes) (drop (length (taken_in s)) t.written)
@@ -100,7 +100,7 @@ module _ (s t : Side) (x : Segment) (out : OneWay s t) (back : OneWay t s) where
     kind (inr (inr its_syn)) = absurd (let clash : Fin ≡ Syn = sym e ∙ its_syn.syn in cc)
 
   -- a FIN at RCV.NXT ends a stream that was taken in whole, from the SYN that its sender has now
-  complete : s.took_fin ≡ false → 2 ^ 32 ≤ s.irs → x.control ≡ Fin → wire (x.seq + length x.bytes) ≡ wire (rcv_next s) → IsPiece t x → (t.closed ≡ true) × (taken_in s ≡ t.written) × (s.irs ≡ t.iss)
+  complete : s.took_fin ≡ false → 2 ^ 32 ≤ s.irs → x.control ≡ Fin → wire (x.seq + length x.bytes) ≡ wire (rcv_next s) → IsPiece t x → IsComplete t s
   complete none low e place piece =
       let next = rcv_next-open s none in
       let its = piece.seq in
@@ -115,15 +115,15 @@ module _ (s t : Side) (x : Segment) (out : OneWay s t) (back : OneWay t s) where
     where
       by : t.closed ≡ true → rcv_next s ≡ suc s.irs + length (taken_in s) → x.seq ≡ wire piece.at → piece.at + length x.bytes ≡ suc t.iss + length t.written
           → length (taken_in s) ≤ length t.written → length t.written < 2 ^ 29 → 2 ^ 32 ≤ t.iss → t.iss < 2 ^ 33 → s.irs < 2 ^ 33
-          → IsInStep t s ⊎ IsSilent t s → (t.closed ≡ true) × (taken_in s ≡ t.written) × (s.irs ≡ t.iss)
+          → IsInStep t s ⊎ IsSilent t s → IsComplete t s
       by asked next its last shorter short first_low first_high irs_high (inl in_step) =
-          let counts = in_step.0 in
+          let counts = in_step.counts in
           let longer : length t.written ≤ length (taken_in s) = omega arith in
-          (asked, Begins-whole (taken_in s) t.written back.received longer, counts)
+          record { closed = asked; whole = Begins-whole (taken_in s) t.written back.received longer; counts = counts }
       by asked next its last shorter short first_low first_high irs_high (inr silent) =
-          let nothing = ap length silent.0 in
+          let nothing = ap length silent.unwritten in
           let longer : length t.written ≤ length (taken_in s) = omega arith in
-          (asked, Begins-whole (taken_in s) t.written back.received longer, omega arith)
+          record { closed = asked; whole = Begins-whole (taken_in s) t.written back.received longer; counts = omega arith }
 
 not_early : {A : Type 0} (s : Side) → s.phase ≡ Synchronized → IsEarly s.phase → A
 not_early s e early = absurd (subst IsEarly e early)
@@ -133,7 +133,7 @@ keeps_takes_bytes s t x at out back may =
     let new = after s (TakesBytes x at) in
     let well = out.well_formed in
     let map = laid s at x.bytes in
-    let agrees = laid_agrees s t x out back at may.1 may.3 may.4 may.5 (honest t s x back may.2) in
+    let agrees = laid_agrees s t x out back at may.unfinished may.kind may.number may.near (honest t s x back may.comes) in
     let longer : taken_in new ≡ taken_in s ++ front map = sym (append_assoc s.read s.waiting (front map)) in
     let more = ap length longer ∙ length-append (taken_in s) (front map) in
     let rest = drop (length (taken_in s)) t.written in
@@ -148,27 +148,27 @@ keeps_takes_bytes s t x at out back may =
     } in
     let well' : IsWellFormed new = record {
       phase = well.phase;
-      early = not_early s may.0;
+      early = not_early s may.running;
       iss = well.iss;
       una_low = well.una_low;
       una_high = well.una_high;
       short = well.short;
       irs = well.irs;
     } in (
-      OneWay-own s new grows t out well' out.sync out.listener (λ sent. sent),
+      OneWay-own s new grows t out well' (same_sync s new t refl refl refl refl refl out.sync) out.listener (λ sent. sent),
       OneWay-other s new grows t back
           (subst (λ (bytes : List ℕ). Begins bytes t.written) (sym longer) (Begins-append (taken_in s) (front map) t.written back.received (Begins-front map rest agrees)))
           (subst (λ (ys : List ℕ). AgreesWith (behind map) ys) behind_them (AgreesWith-behind map rest agrees))
-          (λ e. absurd (let clash : false ≡ true = sym may.1 ∙ e in cc)),
+          (λ e. absurd (let clash : false ≡ true = sym may.unfinished ∙ e in cc)),
     )
 
 pub keeps_takes_fin : (s t : Side) (x : Segment) → Keeps s t (TakesFin x)
 keeps_takes_fin s t x out back may =
     let new = after s (TakesFin x) in
     let well = out.well_formed in
-    let low : 2 ^ 32 ≤ s.irs = fits_at s Synchronized well may.0 in
-    let next = rcv_next-open s may.1 in
-    let ends = complete s t x out back may.1 low may.3 may.4 (fin_of s t x out back may.3 (honest t s x back may.2)) in
+    let low : 2 ^ 32 ≤ s.irs = fits_at s Synchronized well may.running in
+    let next = rcv_next-open s may.unfinished in
+    let ends = complete s t x out back may.unfinished low may.fin may.next (fin_of s t x out back may.fin (honest t s x back may.comes)) in
     let grows : Grows s new = record {
       late = λ late. (late, refl);
       written = same_bytes s.written;
@@ -178,13 +178,13 @@ keeps_takes_fin s t x out back may =
     } in
     let well' : IsWellFormed new = record {
       phase = well.phase;
-      early = not_early s may.0;
+      early = not_early s may.running;
       iss = well.iss;
       una_low = well.una_low;
       una_high = well.una_high;
       short = well.short;
       irs = well.irs;
     } in (
-      OneWay-own s new grows t out well' out.sync out.listener (λ sent. sent),
-      OneWay-other s new grows t back back.received back.held (λ _. ends),
+      OneWay-own s new grows t out well' (same_sync s new t refl refl refl refl refl out.sync) out.listener (λ sent. sent),
+      OneWay-other s new grows t back back.received back.held (λ _. record { closed = ends.closed; whole = ends.whole; counts = ends.counts }),
     )

@@ -56,7 +56,7 @@ fresh_one_way m n = record {
         short = omega arith;
         irs = omega arith;
       };
-  sync = inr (refl, λ (e : Unopened ≡ Synchronized). absurd (cc), inl refl);
+  sync = inr (record { unwritten = refl; closed = λ (e : Unopened ≡ Synchronized). absurd (cc); una = inl refl });
   received = tt;
   held = AgreesWith-space n [];
   fin = λ (e : false ≡ true). absurd (cc);
@@ -77,20 +77,20 @@ freed-reached s t out = by t.took_fin refl out.sync where
   cut = length-drop (s.una - suc s.iss) s.written
 
   by : (b : Bool) → t.took_fin ≡ b → IsInStep s t ⊎ IsSilent s t → freed s ≤ length (taken_in t)
-  by true e sync = let f = out.fin e in let same = ap length f.1 in let rest = cut in omega arith
+  by true e sync = let f = out.fin e in let same = ap length f.whole in let rest = cut in omega arith
   by false e (inl in_step) =
       let none = ap one_if e in
-      let counts = in_step.0 in
-      let reached = in_step.2 in
+      let counts = in_step.counts in
+      let reached = in_step.reached in
       let rest = cut in
       omega arith
-  by false e (inr silent) = let nothing = ap length silent.0 in omega arith
+  by false e (inr silent) = let nothing = ap length silent.unwritten in omega arith
 
 IsSafe-one_way : (s t : Side) → OneWay s t → IsSafe s t
 IsSafe-one_way s t out = record {
   prefix = Begins-prefix (taken_in t) s.written out.received;
   freed = freed-reached s t out;
-  finished = λ e. let f = out.fin e in (f.0, f.1);
+  finished = λ e. let f = out.fin e in (f.closed, f.whole);
 }
 
 pub AreSafe-kept : (w : World) → Kept w → AreSafe w

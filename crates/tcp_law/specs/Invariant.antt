@@ -63,8 +63,12 @@ pub record IsPiece (s : Side) (x : Segment) : Type 0 where
   pub fin : x.control ≡ Fin → (s.closed ≡ true) × (at + length x.bytes ≡ suc s.iss + length s.written)
 
 -- its bytes lie below RCV.NXT of t: a keep-alive
-abbrev pub IsBelow : Side → Segment → Type 0
-IsBelow t x = (at : ℕ) × (x.seq ≡ wire at) × (2 ^ 32 ≤ t.irs) × (t.irs ≤ at) × (at + length x.bytes ≤ rcv_next t)
+pub record IsBelow (t : Side) (x : Segment) : Type 0 where
+  pub at : ℕ
+  pub number : x.seq ≡ wire at
+  pub heard : 2 ^ 32 ≤ t.irs
+  pub low : t.irs ≤ at
+  pub high : at + length x.bytes ≤ rcv_next t
 
 -- an ACK at any sequence number, or a keep-alive
 pub record IsPlain (t : Side) (x : Segment) : Type 0 where
@@ -80,8 +84,12 @@ pub record IsSyn (s : Side) (x : Segment) : Type 0 where
   pub bare : x.ack ≡ None → (at ≡ s.iss) × (s.opening ≡ Active)
 
 -- the number is that of a position past the SYN that t took, up to RCV.NXT of t
-abbrev pub HasReached : Side → ℕ → Type 0
-HasReached t number = (at : ℕ) × (number ≡ wire at) × (2 ^ 32 ≤ t.irs) × (t.irs < at) × (at ≤ rcv_next t)
+pub record HasReached (t : Side) (number : ℕ) : Type 0 where
+  pub at : ℕ
+  pub same : number ≡ wire at
+  pub heard : 2 ^ 32 ≤ t.irs
+  pub after_syn : t.irs < at
+  pub high : at ≤ rcv_next t
 
 -- a segment that s sent to t: of a reset nothing is known
 abbrev pub IsHonest : Side → Side → Segment → Type 0
@@ -89,12 +97,22 @@ IsHonest s t x =
     (x.control ≡ Rst) ⊎ ((IsPiece s x ⊎ (IsPlain t x ⊎ IsSyn s x)) × ((x.ack ≡ None) ⊎ ((number : ℕ) × (x.ack ≡ Some number) × HasReached s number)))
 
 -- t counts from the SYN that s has now, and what is acknowledged to s is what t has reached
-abbrev pub IsInStep : Side → Side → Type 0
-IsInStep s t = (t.irs ≡ s.iss) × (s.iss < s.una) × (s.una ≤ rcv_next t)
+pub record IsInStep (s t : Side) : Type 0 where
+  pub counts : t.irs ≡ s.iss
+  pub opened : s.iss < s.una
+  pub reached : s.una ≤ rcv_next t
 
 -- s wrote nothing, and can't write any more in this phase
-abbrev pub IsSilent : Side → Side → Type 0
-IsSilent s t = (s.written ≡ []) × (s.phase ≡ Synchronized → s.closed ≡ true) × ((s.una ≡ s.iss) ⊎ HasReached t (wire s.una))
+pub record IsSilent (s t : Side) : Type 0 where
+  pub unwritten : s.written ≡ []
+  pub closed : s.phase ≡ Synchronized → s.closed ≡ true
+  pub una : (s.una ≡ s.iss) ⊎ HasReached t (wire s.una)
+
+-- s is closed, and t took in all that s wrote, from the SYN that s has now
+pub record IsComplete (s t : Side) : Type 0 where
+  pub closed : s.closed ≡ true
+  pub whole : taken_in t ≡ s.written
+  pub counts : t.irs ≡ s.iss
 
 -- the stream from s to t
 pub record OneWay (s t : Side) : Type 0 where
@@ -102,7 +120,7 @@ pub record OneWay (s t : Side) : Type 0 where
   pub sync : IsInStep s t ⊎ IsSilent s t
   pub received : Begins (taken_in t) s.written
   pub held : AgreesWith t.window (drop (length (taken_in t)) s.written)
-  pub fin : t.took_fin ≡ true → (s.closed ≡ true) × (taken_in t ≡ s.written) × (t.irs ≡ s.iss)
+  pub fin : t.took_fin ≡ true → IsComplete s t
   pub listener : s.opening ≡ Passive → (s.irs ≡ 0) ⊎ ((s.irs ≡ t.iss) × (t.opening ≡ Active))
   pub sent : AllByRecursion (IsHonest s t) s.sent
 

@@ -9,3 +9,4 @@ pub mod Invariant
 pub mod Examples
 pub mod WrongRules
 pub mod Alone
+pub mod Decoded

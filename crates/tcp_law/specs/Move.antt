@@ -10,29 +10,31 @@ use Rattle.tcp_law.specs.Side.Phase.{Unopened, Listen, SynSent, SynReceived, Syn
 use Rattle.tcp_law.specs.Side.Opening.{Passive, Active}
 
 pub data Move : Type 0 where
-  -- calls
-  Listens : Move
-  Connects : (iss : ℕ) → Move
-  Writes : (bytes : List ℕ) → Move
-  Reads : (count : ℕ) → Move
-  Closes : Move  -- with bytes or a FIN to send: in SYN-RECEIVED, ESTABLISHED or CLOSE-WAIT
-  -- to CLOSED: at a reset, a timeout, an abort, the end of LAST-ACK or TIME-WAIT, a close in LISTEN or SYN-SENT
+  -- calls (RFC 9293, 3.9.1 and 3.10.1 to 3.10.5)
+  Listens : Move  -- passive OPEN
+  Connects : (iss : ℕ) → Move  -- active OPEN
+  Writes : (bytes : List ℕ) → Move  -- SEND
+  Reads : (count : ℕ) → Move  -- RECEIVE
+  Closes : Move  -- CLOSE, where a FIN follows: in SYN-RECEIVED, ESTABLISHED or CLOSE-WAIT
+  -- to CLOSED: a reset, a user timeout, ABORT, the end of LAST-ACK or TIME-WAIT, CLOSE in LISTEN or SYN-SENT
   Ends : Move
-  FallsBack : Move  -- a listener in SYN-RECEIVED, at a reset: to LISTEN, as its listen left it
+  -- a listener in SYN-RECEIVED, at a reset: to LISTEN, as its listen left it (3.5.3)
+  FallsBack : Move
   -- segments that it sends
   SendsSyn : Move
   SendsSynAck : Move
   SendsAck : (at : ℕ) → Move
-  SendsData : (at count : ℕ) (fin : Bool) → Move  -- bytes, or the FIN, or both, from any position: SND.NXT, SND.UNA or another
-  SendsKeepAlive : Move
+  -- bytes, or the FIN, or both, from a position: SND.NXT, SND.UNA again (3.8.1, 3.8.6.1), or any other
+  SendsData : (at count : ℕ) (fin : Bool) → Move
+  SendsKeepAlive : Move  -- 3.8.4
   SendsReset : (x : Segment) → Move
-  -- what it takes from a segment of its partner
+  -- what it takes from a segment of its partner (3.10.7.2 to 3.10.7.4)
   TakesSyn : (x : Segment) (iss : ℕ) → Move  -- in LISTEN
-  TakesCrossedSyn : (x : Segment) → Move  -- in SYN-SENT, with no ACK: simultaneous open
+  TakesCrossedSyn : (x : Segment) → Move  -- in SYN-SENT, with no ACK: simultaneous open (3.5)
   TakesSynAck : (x : Segment) → Move  -- in SYN-SENT
-  TakesAck : (x : Segment) (at : ℕ) → Move
-  TakesBytes : (x : Segment) (at : ℕ) → Move
-  TakesFin : (x : Segment) → Move
+  TakesAck : (x : Segment) (at : ℕ) → Move  -- the fifth check
+  TakesBytes : (x : Segment) (at : ℕ) → Move  -- the segment text
+  TakesFin : (x : Segment) → Move  -- the FIN bit
 
 -- a segment that its partner sent comes: it may come again, later than others, or never
 abbrev pub Comes : Side → Segment → Type 0
@@ -56,7 +58,7 @@ abbrev pub data_segment : Side → ℕ → ℕ → Bool → Segment
 data_segment s at count fin =
     record { control = fin_if fin; seq = wire at; ack = Some (wire (rcv_next s)); bytes = bytes_from s at count }
 
--- one byte below SND.UNA (RFC 9293, 3.8.4)
+-- one byte below SND.UNA
 abbrev pub keep_alive : Side → Segment
 keep_alive s = record { control = Plain; seq = wire (s.una - 1); ack = Some (wire (rcv_next s)); bytes = 0 ∷ [] }
 
@@ -64,11 +66,73 @@ keep_alive s = record { control = Plain; seq = wire (s.una - 1); ack = Some (wir
 abbrev pub laid : Side → ℕ → List ℕ → List (Option ℕ)
 laid s at bytes = store s.window (at - rcv_next s) (drop (rcv_next s - at) bytes)
 
+-- bytes are accepted in the synchronized states until a close
+pub record MayWrite (s : Side) (bytes : List ℕ) : Type 0 where
+  pub running : s.phase ≡ Synchronized
+  pub unclosed : s.closed ≡ false
+  pub short : length (s.written ++ bytes) < 2 ^ 29
+
+-- bytes from a position of the stream, and the FIN only right behind the last byte of a closed side
+pub record MaySendData (s : Side) (at count : ℕ) (fin : Bool) : Type 0 where
+  pub running : s.phase ≡ Synchronized
+  pub after_syn : s.iss < at
+  pub within : at ≤ suc s.iss + length s.written
+  pub last : fin ≡ true → (s.closed ≡ true) × (at + length (bytes_from s at count) ≡ suc s.iss + length s.written)
+
+-- in LISTEN a SYN without ACK
+pub record MayTakeSyn (s t : Side) (x : Segment) (iss : ℕ) : Type 0 where
+  pub listening : s.phase ≡ Listen
+  pub comes : Comes t x
+  pub syn : x.control ≡ Syn
+  pub bare : x.ack ≡ None
+  pub first : IsFirst iss
+
+-- in SYN-SENT a SYN without ACK
+pub record MayTakeCrossedSyn (s t : Side) (x : Segment) : Type 0 where
+  pub asking : s.phase ≡ SynSent
+  pub comes : Comes t x
+  pub syn : x.control ≡ Syn
+  pub bare : x.ack ≡ None
+
+-- in SYN-SENT a SYN that acknowledges its own SYN, and that alone
+pub record MayTakeSynAck (s t : Side) (x : Segment) : Type 0 where
+  pub asking : s.phase ≡ SynSent
+  pub comes : Comes t x
+  pub syn : x.control ≡ Syn
+  pub acks_syn : x.ack ≡ Some (wire (suc s.iss))
+
+-- an acknowledgement from SND.UNA up to all that was sent, in SYN-RECEIVED of its SYN alone
+pub record MayTakeAck (s t : Side) (x : Segment) (at : ℕ) : Type 0 where
+  pub connected : IsConnected s.phase
+  pub comes : Comes t x
+  pub no_reset : IsNoReset x.control
+  pub number : x.ack ≡ Some (wire at)
+  pub opens : s.phase ≡ SynReceived → at ≡ suc s.iss
+  pub low : s.una ≤ at
+  pub high : at ≤ send_end s
+
+-- bytes at the position nearest to RCV.NXT that has their number
+pub record MayTakeBytes (s t : Side) (x : Segment) (at : ℕ) : Type 0 where
+  pub running : s.phase ≡ Synchronized
+  pub unfinished : s.took_fin ≡ false
+  pub comes : Comes t x
+  pub kind : IsData x.control
+  pub number : x.seq ≡ wire at
+  pub near : IsNear (rcv_next s) at
+
+-- a FIN whose number is that of RCV.NXT
+pub record MayTakeFin (s t : Side) (x : Segment) : Type 0 where
+  pub running : s.phase ≡ Synchronized
+  pub unfinished : s.took_fin ≡ false
+  pub comes : Comes t x
+  pub fin : x.control ≡ Fin
+  pub next : wire (x.seq + length x.bytes) ≡ wire (rcv_next s)
+
 -- what a move asks for, of side s with partner t
 abbrev pub May : Side → Side → Move → Type 0
 May s t Listens = s.phase ≡ Unopened
 May s t (Connects iss) = (s.phase ≡ Unopened) × IsFirst iss
-May s t (Writes bytes) = (s.phase ≡ Synchronized) × (s.closed ≡ false) × (length (s.written ++ bytes) < 2 ^ 29)
+May s t (Writes bytes) = MayWrite s bytes
 May s t (Reads count) = Unit {0}
 May s t Closes = IsConnected s.phase
 May s t Ends = s.phase ≢ Unopened
@@ -76,20 +140,15 @@ May s t FallsBack = (s.phase ≡ SynReceived) × (s.opening ≡ Passive)
 May s t SendsSyn = s.phase ≡ SynSent
 May s t SendsSynAck = IsConnected s.phase
 May s t (SendsAck at) = IsConnected s.phase
-May s t (SendsData at count fin) =
-    (s.phase ≡ Synchronized) × (s.iss < at) × (at ≤ suc s.iss + length s.written)
-    × (fin ≡ true → (s.closed ≡ true) × (at + length (bytes_from s at count) ≡ suc s.iss + length s.written))
+May s t (SendsData at count fin) = MaySendData s at count fin
 May s t SendsKeepAlive = (s.phase ≡ Synchronized) × (s.iss < s.una)
 May s t (SendsReset x) = x.control ≡ Rst
-May s t (TakesSyn x iss) = (s.phase ≡ Listen) × Comes t x × (x.control ≡ Syn) × (x.ack ≡ None) × IsFirst iss
-May s t (TakesCrossedSyn x) = (s.phase ≡ SynSent) × Comes t x × (x.control ≡ Syn) × (x.ack ≡ None)
-May s t (TakesSynAck x) = (s.phase ≡ SynSent) × Comes t x × (x.control ≡ Syn) × (x.ack ≡ Some (wire (suc s.iss)))
-May s t (TakesAck x at) =
-    IsConnected s.phase × Comes t x × IsNoReset x.control × (x.ack ≡ Some (wire at)) × (s.phase ≡ SynReceived → at ≡ suc s.iss) × (s.una ≤ at) × (at ≤ send_end s)
-May s t (TakesBytes x at) =
-    (s.phase ≡ Synchronized) × (s.took_fin ≡ false) × Comes t x × IsData x.control × (x.seq ≡ wire at) × IsNear (rcv_next s) at
-May s t (TakesFin x) =
-    (s.phase ≡ Synchronized) × (s.took_fin ≡ false) × Comes t x × (x.control ≡ Fin) × (wire (x.seq + length x.bytes) ≡ wire (rcv_next s))
+May s t (TakesSyn x iss) = MayTakeSyn s t x iss
+May s t (TakesCrossedSyn x) = MayTakeCrossedSyn s t x
+May s t (TakesSynAck x) = MayTakeSynAck s t x
+May s t (TakesAck x at) = MayTakeAck s t x at
+May s t (TakesBytes x at) = MayTakeBytes s t x at
+May s t (TakesFin x) = MayTakeFin s t x
 
 abbrev pub sends : Side → Segment → Side
 sends s x = record s { sent = s.sent ++ x ∷ [] }

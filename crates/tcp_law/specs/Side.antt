@@ -1,4 +1,5 @@
 -- One side of a connection: what matters of a socket for what is read, freed and finished, with the record of what happened to it.
+-- ISS, IRS, SND.UNA, RCV.NXT and RCV.WND are those of RFC 9293, 3.3.1. SND.NXT doesn't stand here: a side may send from any position.
 use Rattle.std.specs.Prelude.{ℕ, suc, ◌+◌, ◌-◌, ◌^◌, Bool, true, false, List, [], ◌++◌, length, drop, Option}
 use Rattle.tcp_law.specs.ReceiveMap.{space}
 use Rattle.tcp_law.specs.Segment.{Segment}
@@ -12,7 +13,7 @@ pub data Phase : Type 0 where
   Synchronized : Phase  -- ESTABLISHED and each later state up to TIME-WAIT
   Ended : Phase  -- CLOSED, after its OPEN
 
--- how it was opened, once
+-- how it was opened, once (RFC 9293, 3.9.1.1)
 pub data Opening : Type 0 where
   NotYet : Opening
   Passive : Opening  -- by listen

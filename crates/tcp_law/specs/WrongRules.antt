@@ -6,11 +6,11 @@ use Rattle.tcp_law.specs.Segment.Control.{Plain, Fin, Rst}
 use Rattle.tcp_law.specs.Side.{Side, rcv_next}
 use Rattle.tcp_law.specs.Side.Phase.{SynReceived, Synchronized, Ended}
 use Rattle.tcp_law.specs.Move.{Comes, sends}
-use Rattle.tcp_law.specs.Move.Move.{Listens, Connects, Writes, Closes, Ends, FallsBack, SendsSyn, SendsSynAck, SendsAck, SendsData, TakesSyn, TakesSynAck, TakesAck, TakesBytes}
+use Rattle.tcp_law.specs.Move.Move.{Listens, Connects, Writes, Closes, Ends, FallsBack, SendsSyn, SendsSynAck, SendsAck, SendsData, TakesSyn, TakesSynAck, TakesAck, TakesBytes, TakesFin}
 use Rattle.tcp_law.specs.Run.{World, Event, IsRun, run, start}
 use Rattle.tcp_law.specs.Run.Event.{A, B}
 use Rattle.tcp_law.specs.Safe.{AreSafe}
-use Rattle.tcp_law.specs.Examples.{at, syn, syn_ack, piece, bare_ack, passive_first}
+use Rattle.tcp_law.specs.Examples.{at, syn, syn_ack, piece, last_piece, bare_ack, passive_first}
 
 pub data WrongRule : Type 0 where
   -- in SYN-RECEIVED any acknowledgement opens, not that of its SYN alone
@@ -29,7 +29,7 @@ pub data WrongRule : Type 0 where
 abbrev pub MayWrongly : Side → Side → WrongRule → Type 0
 MayWrongly s t (AnyAckOpens x) = (s.phase ≡ SynReceived) × Comes t x × (x.control ≡ Plain) × (x.ack ≢ None)
 MayWrongly s t (FinTakenAnywhere x) = (s.phase ≡ Synchronized) × (s.took_fin ≡ false) × Comes t x × (x.control ≡ Fin)
-MayWrongly s t UnreadDropped = s.phase ≡ Synchronized
+MayWrongly s t UnreadDropped = (s.phase ≡ Synchronized) × (s.closed ≡ true) × (s.took_fin ≡ true)
 MayWrongly s t (AckForUnaccepted x) = (s.phase ≡ Ended) × Comes t x
 MayWrongly s t (ResetReadAsFinished x) = (s.phase ≡ Synchronized) × Comes t x × (x.control ≡ Rst)
 MayWrongly s t KeepAliveAtUna = s.phase ≡ Synchronized
@@ -86,15 +86,22 @@ before_fin =
     ∷ A (SendsData (at 102) 0 true)
     ∷ []
 
--- a byte is taken in and acknowledged
+-- both close, b first, and b is in TIME-WAIT with a byte that its user hasn't read
 abbrev pub before_drop : List Event
 before_drop =
     passive_first
-    ++ A (Writes (7 ∷ []))
-    ∷ A (SendsData (at 101) 1 false)
-    ∷ B (TakesBytes (piece 101 301 (7 ∷ [])) (at 101))
-    ∷ B (SendsAck (at 301))
-    ∷ A (TakesAck (bare_ack 301 102) (at 102))
+    ++ B Closes
+    ∷ B (SendsData (at 301) 0 true)
+    ∷ A (TakesFin (last_piece 301 101 []))
+    ∷ A (SendsAck (at 101))
+    ∷ B (TakesAck (bare_ack 101 302) (at 302))
+    ∷ A (Writes (7 ∷ []))
+    ∷ A Closes
+    ∷ A (SendsData (at 101) 1 true)
+    ∷ B (TakesBytes (last_piece 101 302 (7 ∷ [])) (at 101))
+    ∷ B (TakesFin (last_piece 101 302 (7 ∷ [])))
+    ∷ B (SendsAck (at 302))
+    ∷ A (TakesAck (bare_ack 302 103) (at 103))
     ∷ []
 
 -- b is aborted, and a byte of a comes

@@ -6,20 +6,21 @@
 pub mod examples;
 pub mod wrong_rules;
 
-ghost use Rattle.std.specs.Prelude.{ℕ, List, [], false, ◌<◌, ◌≤◌, ◌≡◌, ◌≢◌, ◌+◌, ◌^◌};
+ghost use Rattle.std.specs.Prelude.{Some, ℕ, List, [], false, ◌<◌, ◌≤◌, ◌≡◌, ◌≢◌, ◌+◌, ◌^◌};
 ghost use Rattle.std.specs.List.{AllByRecursion};
 ghost use Rattle.tcp_law.specs.Numbers.{wire, nearest, IsNear};
-ghost use Rattle.tcp_law.specs.Segment.{Segment};
+ghost use Rattle.tcp_law.specs.Segment.{Segment, IsData, IsNoReset};
 ghost use Rattle.tcp_law.specs.Segment.Control.{Rst};
-ghost use Rattle.tcp_law.specs.Side.{taken_in, freed, fresh};
+ghost use Rattle.tcp_law.specs.Side.{Side};
 ghost use Rattle.tcp_law.specs.Side.Phase.{Unopened, SynReceived};
 ghost use Rattle.tcp_law.specs.Side.Opening.{Passive};
-ghost use Rattle.tcp_law.specs.Move.{Move, sends, after, MayAll, after_all};
+ghost use Rattle.tcp_law.specs.Move.{Move, Comes, sends, after, MayAll, after_all};
 ghost use Rattle.tcp_law.specs.Move.Move.{Ends, FallsBack};
 ghost use Rattle.tcp_law.specs.Run.{World, Event, MayHappen, happens, IsRun, run, start};
 ghost use Rattle.tcp_law.specs.Safe.{AreSafe};
+ghost use Rattle.tcp_law.specs.Decoded.{IsAtItsPlace, IsAckedSoFar};
 ghost use Rattle.tcp_law.specs.Alone.{HasNothing, AreResets, unopened};
-ghost use Rattle.tcp_law.specs.Invariant.{Kept};
+ghost use Rattle.tcp_law.specs.Invariant.{IsInStep, OneWay, Kept};
 
 /// A wire number stands for one position near its reference: a sent position that is near is decoded to itself.
 pub fn numbers_decode()
@@ -27,6 +28,13 @@ pub fn numbers_decode()
     ensures one { (reference p q : ℕ) → IsNear reference p → IsNear reference q → wire p ≡ wire q → p ≡ q }
     ensures near { (reference number : ℕ) → 2 ^ 31 ≤ reference → IsNear reference (nearest reference number) }
     ensures number { (reference number : ℕ) → 2 ^ 31 ≤ reference → number < 2 ^ 32 → wire (nearest reference number) ≡ number }
+{}
+
+/// Between sides in step each number that comes is decoded to the position that was sent: bytes stand at their place, or are old,
+/// and an acknowledgement is of what the partner has reached.
+pub fn what_comes_is_decoded()
+    ensures bytes { (s t : Side) (x : Segment) → OneWay s t → OneWay t s → IsInStep s t → Comes s x → IsData x.control → x.bytes ≢ [] → IsAtItsPlace s t x }
+    ensures acknowledgements { (s t : Side) (x : Segment) (number : ℕ) → OneWay s t → OneWay t s → IsInStep s t → Comes t x → IsNoReset x.control → x.ack ≡ Some number → IsAckedSoFar s t number }
 {}
 
 /// Two fresh sides keep the invariant, each move of either keeps it, and it makes both streams safe.
