@@ -3,12 +3,12 @@ use Rattle.std.proofs.Common.{◌≡◌, ◌⊎◌, inl, inr, ℕ, suc, ◌-◌,
 use Rattle.tcp_law.specs.Side.{Side, taken_in, freed, fresh, one_if}
 use Rattle.tcp_law.specs.Side.Phase.{Unopened, Synchronized}
 use Rattle.tcp_law.specs.Side.Opening.{NotYet, Passive}
-use Rattle.tcp_law.specs.Move.{Move, after, MayAll, after_all}
+use Rattle.tcp_law.specs.Move.{Move, May, after, MayAll, after_all}
 use Rattle.tcp_law.specs.Move.Move.{Listens, Connects, Writes, Reads, Closes, Ends, FallsBack, SendsSyn, SendsSynAck, SendsAck, SendsData, SendsKeepAlive, SendsReset, TakesSyn, TakesCrossedSyn, TakesSynAck, TakesAck, TakesBytes, TakesFin}
 use Rattle.tcp_law.specs.Run.{World, Event, MayHappen, happens, IsRun, run, start}
 use Rattle.tcp_law.specs.Run.Event.{A, B}
 use Rattle.tcp_law.specs.Safe.{IsSafe, AreSafe}
-use Rattle.tcp_law.specs.Invariant.{IsInStep, IsSilent, OneWay, Kept}
+use Rattle.tcp_law.specs.Invariant.{IsInStep, IsSilent, OneWay, Kept, HoldsBetween}
 use Rattle.tcp_law.proofs.Lists.{Begins-prefix, AgreesWith-space}
 use Rattle.tcp_law.proofs.Calls.{Keeps, keeps_listens, keeps_connects, keeps_writes, keeps_reads, keeps_closes, keeps_ends, keeps_falls_back}
 use Rattle.tcp_law.proofs.Sends.{keeps_sends_syn, keeps_sends_syn_ack, keeps_sends_ack, keeps_sends_data, keeps_sends_keep_alive, keeps_sends_reset}
@@ -36,9 +36,12 @@ keeps s t (TakesAck x at) = keeps_takes_ack s t x at
 keeps s t (TakesBytes x at) = keeps_takes_bytes s t x at
 keeps s t (TakesFin x) = keeps_takes_fin s t x
 
-pub keeps_all : (s t : Side) (moves : List Move) → OneWay s t → OneWay t s → MayAll s t moves → OneWay (after_all s moves) t × OneWay t (after_all s moves)
-keeps_all s t [] out back may = (out, back)
-keeps_all s t (move ∷ moves) out back may = let both = keeps s t move out back may.0 in keeps_all (after s move) t moves both.0 both.1 may.1
+pub HoldsBetween-after : (s t : Side) (move : Move) → HoldsBetween s t → May s t move → HoldsBetween (after s move) t
+HoldsBetween-after s t move holds may = keeps s t move holds.0 holds.1 may
+
+pub HoldsBetween-after_all : (s t : Side) (moves : List Move) → HoldsBetween s t → MayAll s t moves → HoldsBetween (after_all s moves) t
+HoldsBetween-after_all s t [] holds may = holds
+HoldsBetween-after_all s t (move ∷ moves) holds may = HoldsBetween-after_all (after s move) t moves (HoldsBetween-after s t move holds may.0) may.1
 
 pub Kept-happens : (w : World) (event : Event) → Kept w → MayHappen w event → Kept (happens w event)
 Kept-happens w (A move) kept may = let both = keeps w.a w.b move kept.0 kept.1 may in (both.0, both.1)
@@ -64,6 +67,9 @@ fresh_one_way m n = record {
   sent = tt;
 }
 
+pub HoldsBetween-fresh : (m n : ℕ) → HoldsBetween (fresh m) (fresh n)
+HoldsBetween-fresh m n = (fresh_one_way m n, fresh_one_way n m)
+
 pub Kept-start : (m n : ℕ) → Kept (start m n)
 Kept-start m n = (fresh_one_way m n, fresh_one_way n m)
 
@@ -86,7 +92,7 @@ freed-reached s t out = by t.took_fin refl out.sync where
       omega arith
   by false e (inr silent) = let nothing = ap length silent.unwritten in omega arith
 
-IsSafe-one_way : (s t : Side) → OneWay s t → IsSafe s t
+pub IsSafe-one_way : (s t : Side) → OneWay s t → IsSafe s t
 IsSafe-one_way s t out = record {
   prefix = Begins-prefix (taken_in t) s.written out.received;
   freed = freed-reached s t out;

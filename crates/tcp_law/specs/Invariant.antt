@@ -124,6 +124,9 @@ pub record OneWay (s t : Side) : Type 0 where
   pub listener : s.opening ≡ Passive → (s.irs ≡ 0) ⊎ ((s.irs ≡ t.iss) × (t.opening ≡ Active))
   pub sent : AllByRecursion (IsHonest s t) s.sent
 
--- the invariant: both streams
+-- the invariant between two sides: both streams
+abbrev pub HoldsBetween : Side → Side → Type 0
+HoldsBetween s t = OneWay s t × OneWay t s
+
 abbrev pub Kept : World → Type 0
-Kept w = OneWay w.a w.b × OneWay w.b w.a
+Kept w = HoldsBetween w.a w.b

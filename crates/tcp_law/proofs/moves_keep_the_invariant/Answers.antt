@@ -1,17 +1,20 @@
-use Rattle.tcp_law.proofs.Theorem.{Kept-start, Kept-happens, keeps_all, AreSafe-kept}
+use Rattle.tcp_law.proofs.Theorem.{HoldsBetween-fresh, HoldsBetween-after, HoldsBetween-after_all, Kept-happens, IsSafe-one_way}
 use Rattle.tcp_law.proofs.moves_keep_the_invariant.Goals as goal
 
-pub returns-clause-start : goal.returns-clause-start
-returns-clause-start c = Kept-start
+pub returns-clause-fresh_sides : goal.returns-clause-fresh_sides
+returns-clause-fresh_sides c = HoldsBetween-fresh
+
+pub returns-clause-either_way : goal.returns-clause-either_way
+returns-clause-either_way c = λ s t holds. (holds.1, holds.0)
 
 pub returns-clause-each_move : goal.returns-clause-each_move
-returns-clause-each_move c = Kept-happens
+returns-clause-each_move c = HoldsBetween-after
+
+pub returns-clause-moves : goal.returns-clause-moves
+returns-clause-moves c = HoldsBetween-after_all
+
+pub returns-clause-events : goal.returns-clause-events
+returns-clause-events c = Kept-happens
 
 pub returns-clause-safe : goal.returns-clause-safe
-returns-clause-safe c = AreSafe-kept
-
-pub returns-clause-moves_of_a : goal.returns-clause-moves_of_a
-returns-clause-moves_of_a c = λ w moves kept may. let both = keeps_all w.a w.b moves kept.0 kept.1 may in (both.0, both.1)
-
-pub returns-clause-moves_of_b : goal.returns-clause-moves_of_b
-returns-clause-moves_of_b c = λ w moves kept may. let both = keeps_all w.b w.a moves kept.1 kept.0 may in (both.1, both.0)
+returns-clause-safe c = λ s t holds. IsSafe-one_way s t holds.0
