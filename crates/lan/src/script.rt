@@ -1,0 +1,3 @@
+//! The script language: what each line says, and what is answered.
+
+mod words;
