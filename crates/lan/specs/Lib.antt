@@ -1,1 +1,7 @@
+pub mod Link
+pub mod Reads
+pub mod Steps
+pub mod Runs
+pub mod Safe
 pub mod ScriptWords
+pub mod ScriptLines

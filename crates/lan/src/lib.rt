@@ -1,4 +1,5 @@
-//! A world of two hosts on one link, and the script language that drives it.
+//! Two hosts and the link between them, and the script language that drives them.
 #![tactic(auto)]
 
+mod kept;
 mod script;

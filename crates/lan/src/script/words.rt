@@ -5,7 +5,7 @@ ghost use Rattle.std.specs.Char.{is_ascii_digit};
 ghost use Rattle.lan.specs.ScriptWords.{words_of, number_of, size_of, short_of, micros_of, side_of, octet_of, address_of, endpoint_of};
 
 use lan_machine::{Bytes, Endpoint, Side};
-use net_time::Instant;
+use net_base::Instant;
 use std::alloc::{AllocError, Global};
 use std::marker::Model;
 

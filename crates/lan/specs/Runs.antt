@@ -1,0 +1,82 @@
+-- A world of two hosts, and its runs.
+use Rattle.std.specs.Prelude.{◌≡◌, ℕ, Bool, true, false, cond, if◌then◌else◌, List, [], ◌∷◌, ◌++◌, map, Option, None}
+use Rattle.lan_machine.specs.declared.event.Side.{Side}
+use Rattle.lan_machine.specs.declared.event.Side.TheVariants.{A, B}
+use Rattle.lan_machine.specs.declared.event.Event.{Event}
+use Rattle.lan_machine.specs.declared.event.Event.TheVariants.{Bind, SendTo, RecvFrom, Poll, Deliver}
+use Rattle.lan_machine.specs.declared.event.Answer.{Answer}
+use Rattle.lan_machine.specs.Values.{HostValue, StationValue}
+use Rattle.lan_machine.specs.Steps.{Turn, HostRun}
+use Rattle.lan.specs.Link.{Stations, station}
+use Rattle.lan.specs.Reads.{Entry, same_side}
+use Rattle.lan.specs.Steps.{refusal, Happens}
+
+-- the values that the hosts had when their world was made
+pub record Starts : Type 0 where
+  pub a : HostValue
+  pub b : HostValue
+
+abbrev pub start : Starts → Side → HostValue
+start starts A = starts.a
+start starts B = starts.b
+
+-- a world: its hosts at the link, what they were at first, and all that happened since, the newest first
+pub record WorldValue : Type 0 where
+  pub hosts : Stations
+  pub starts : Starts
+  pub history : List Entry
+
+abbrev pub events_of : List Entry → List Event
+events_of history = map (λ (e : Entry). e.event) history
+
+abbrev pub answers_of : List Entry → List Answer
+answers_of history = map (λ (e : Entry). e.answer) history
+
+-- a host that has sent nothing, and that nothing waits for
+abbrev pub quiet : HostValue → StationValue
+quiet h = record { host = h; waiting = []; sent = [] }
+
+abbrev pub quiet_both : Starts → Stations
+quiet_both starts = record { a = quiet starts.a; b = quiet starts.b }
+
+-- one event taken: none that must be refused, with the answer that it has, kept in the history
+pub record Step (old : WorldValue) (event : Event) (answer : Answer) (new : WorldValue) : Type 0 where
+  pub allowed : refusal old.hosts event ≡ None
+  pub happens : Happens old.hosts event answer new.hosts
+  pub history : new.history ≡ record { event = event; answer = answer } ∷ old.history
+  pub starts : new.starts ≡ old.starts
+
+-- the hosts and the link went from one state to the other by this history, each event having been allowed
+abbrev pub WorldRun : List Entry → Stations → Stations → Type 0
+WorldRun [] from to = to ≡ from
+WorldRun (e ∷ past) from to =
+    (before : Stations) × WorldRun past from before × (refusal before e.event ≡ None) × Happens before e.event e.answer to
+
+-- whether an event is a call or a poll of this host
+abbrev pub is_of : Side → Event → Bool
+is_of side (Bind s i port) = same_side s side
+is_of side (SendTo s i remote bytes) = same_side s side
+is_of side (RecvFrom s i limit) = same_side s side
+is_of side (Poll s moment budget) = same_side s side
+is_of side (Deliver from k padding) = false
+
+-- what a history has of one host
+abbrev pub entries_of : Side → List Entry → List Entry
+entries_of side [] = []
+entries_of side (e ∷ past) = if is_of side e.event then e ∷ entries_of side past else entries_of side past
+
+abbrev pub entry_of : Turn → Entry
+entry_of turn = record { event = turn.event; answer = turn.answer }
+
+-- all frames of some turns, the oldest first
+abbrev pub frames_sent : List Turn → List (List ℕ)
+frames_sent [] = []
+frames_sent (turn ∷ past) = frames_sent past ++ turn.sent
+
+-- a host is a run of the host machine from what it was at first: its turns are its events with their answers, and the
+-- frames that it sent are those of its turns
+pub record IsHostRun (world : WorldValue) (side : Side) : Type 0 where
+  pub turns : List Turn
+  pub run : HostRun (start world.starts side) turns (station world.hosts side).host
+  pub entries : map entry_of turns ≡ entries_of side world.history
+  pub sent : (station world.hosts side).sent ≡ frames_sent turns
