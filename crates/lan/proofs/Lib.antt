@@ -1,1 +1,2 @@
 pub mod ScriptWordLemmas
+pub mod ScriptLineLemmas

@@ -1,6 +1,6 @@
 -- Lemmas on the words of a script.
-use Rattle.std.proofs.Common.{◌≡◌, ℕ, ℤ, pos, ◌==◌,  ◌+◌, ◌<◌, ◌≤◌, ◌^◌, Bool, true, false, not, cond, eqb, ltb, ◌&&◌, List, [], ◌∷◌, length, refl, sym, inl, inr, ap, ◌∙◌, arith, rules, Option, Some, None, Result, Ok, Err}
-use Rattle.std.specs.Option.{is_none}
+use Rattle.std.proofs.Common.{◌≡◌, ℕ, ℤ, pos, ◌==◌, ◌+◌, ◌<◌, ◌≤◌, ◌^◌, Bool, true, false, not, cond, eqb, ltb, ◌&&◌, List, [], ◌∷◌, length, refl, sym, inl, inr, ap, ◌∙◌, arith, rules, Option, Some, None, Result, Ok, Err, drop}
+use Rattle.std.specs.Option.{is_some}
 use Rattle.std.specs.List.{slice_split, onto_first, position_or_len, list_all, before_first, after_first}
 use Rattle.std.specs.Char.{is_ascii_digit}
 use Rattle.std.specs.Result.{result_ok}
@@ -11,7 +11,8 @@ use Rattle.std.proofs.lemmas.Bool.Decides.{nat_tests}
 use Rattle.std.proofs.lemmas.List.Splits.{length-slice_split, slice_split_first}
 use Rattle.std.proofs.lemmas.Bool.{cases_lt}
 use denote.Ref.{Bor}
-use Rattle.lan.specs.ScriptWords.{words_of, words_left, number_of, micros_of, octet_of}
+use Rattle.lan.specs.ScriptWords.{words_of, words_left, number_of, micros_of, octet_of, first_as, four, ◌>>=◌}
+use Rattle.lan.specs.ScriptLines.{at_end}
 
 -- WORDS
 
@@ -44,9 +45,11 @@ pub last_word : (c : ℕ) (left : Option (Bor (List ℕ))) (words : List (List �
     → position_or_len (λ b. eqb b c) text.now ≡ length text.now → words ≡ text.now ∷ []
 last_word c left words text view is none = sym view ∙ ap (words_left c) is ∙ words_of_one c text.now none
 
-pub none_left : (c : ℕ) (left : Option (Bor (List ℕ))) → is_none left ≡ (length (words_left c left) == 0)
-none_left c None = refl
-none_left c (Some text) = sym (words_of_some c text.now)
+pub none_left : (c : ℕ) (left : Option (Bor (List ℕ))) (none : Bool) → is_some left ≡ not none → none ≡ (length (words_left c left) == 0)
+none_left c None true h = refl
+none_left c None false h = cc
+none_left c (Some text) true h = cc
+none_left c (Some text) false h = sym (words_of_some c text.now)
 
 -- NUMBERS
 
@@ -66,8 +69,8 @@ number_of_large bound word large = grind (arith, nat_tests)
 pub number_of_no : (bound : ℕ) (word : List ℕ) → (0 < length word × digits_value 10 word < bound → ⊥) → number_of bound word ≡ None
 number_of_no bound word not_in =
     elim (cases_lt 0 (length word)) [
-      inl some ↦ elim (cases_lt (digits_value 10 word) bound) [ inl small ↦ absurd (not_in (some, small)) | inr large ↦ number_of_large bound word large ]
-    | inr none ↦ number_of_nothing bound word none
+      | inl some ↦ elim (cases_lt (digits_value 10 word) bound) [ inl small ↦ absurd (not_in (some, small)) | inr large ↦ number_of_large bound word large ]
+      | inr none ↦ number_of_nothing bound word none
     ]
 
 pub number_of_parsed : {E : Type 0} → (k : ℕ) (word : List ℕ) (r : Result ℕ E) → ParsesUnsigned k 10 word r → list_all is_ascii_digit word ≡ true → result_ok r ≡ number_of (2 ^ k) word
@@ -88,3 +91,33 @@ micros_of_parsed {E} word (Ok x) parsed digits =
 micros_of_parsed {E} word (Err e) parsed digits =
     let facts = parse_signed_digits digit_words {E = E} w64 word (Err e) parsed digits in
     rw (number_of_no (2 ^ 63) word facts) refl
+
+-- WORDS READ ONE AFTER ANOTHER
+
+none_after_one : {P S : Type 0} (o : Option P) → ◌≡◌ {A = Option S} None (o >>= λ _. None)
+none_after_one None = refl
+none_after_one (Some p) = refl
+
+none_after_two : {P Q S : Type 0} (o : Option P) (second : Option Q) → ◌≡◌ {A = Option S} None (o >>= λ _. second >>= λ _. None)
+none_after_two None second = refl
+none_after_two (Some p) second = none_after_one second
+
+none_after_three : {P Q R S : Type 0} (o : Option P) (second : Option Q) (third : Option R) → ◌≡◌ {A = Option S} None (o >>= λ _. second >>= λ _. third >>= λ _. None)
+none_after_three None second third = refl
+none_after_three (Some p) second third = none_after_two second third
+
+none_after_four : {P Q R S T : Type 0} (o : Option P) (second : Option Q) (third : Option R) (fourth : Option S) → ◌≡◌ {A = Option T} None (o >>= λ _. second >>= λ _. third >>= λ _. fourth >>= λ _. None)
+none_after_four None second third fourth = refl
+none_after_four (Some p) second third fourth = none_after_three second third fourth
+
+-- four words are read one after another
+pub four_by_steps : {P Q R S T : Type 0} (f : List ℕ → Option P) (g : List ℕ → Option Q) (h : List ℕ → Option R) (i : List ℕ → Option S) (make : P → Q → R → S → T) (words : List (List ℕ))
+    → four f g h i make words
+    ≡ (first_as f words >>= λ p. first_as g (drop 1 words) >>= λ q. first_as h (drop 1 (drop 1 words)) >>= λ r. first_as i (drop 1 (drop 1 (drop 1 words))) >>= λ s.
+    at_end (make p q r s) (drop 1 (drop 1 (drop 1 (drop 1 words)))))
+four_by_steps f g h i make [] = refl
+four_by_steps f g h i make (a ∷ []) = none_after_one (f a)
+four_by_steps f g h i make (a ∷ b ∷ []) = none_after_two (f a) (g b)
+four_by_steps f g h i make (a ∷ b ∷ c ∷ []) = none_after_three (f a) (g b) (h c)
+four_by_steps f g h i make (a ∷ b ∷ c ∷ d ∷ []) = refl
+four_by_steps f g h i make (a ∷ b ∷ c ∷ d ∷ e ∷ rest) = none_after_four (f a) (g b) (h c) (i d)

@@ -1,5 +1,5 @@
 -- The words of a script, and what each class of them says.
-use Rattle.std.specs.Prelude.{ℕ, ℤ, pos, ◌^◌, Bool, ◌&&◌, nat_lt, nat_le, ◌==◌, if◌then◌else◌, List, [], ◌∷◌, length, codes, Option, Some, None}
+use Rattle.std.specs.Prelude.{ℕ, ℤ, pos, ◌^◌, Bool, ◌&&◌, nat_lt, nat_le, ◌==◌, if◌then◌else◌, List, [], ◌∷◌, length, slice_get, codes, Option, Some, None}
 use Rattle.std.specs.List.{slice_split, list_all}
 use Rattle.std.specs.Char.{is_ascii_digit}
 use Rattle.std.specs.Str.{bytes_eq}
@@ -57,31 +57,50 @@ bytes_of word =
     else if length word == 0 then None
     else result_ok (decode_of word)
 
+-- a word that has to be this one
+abbrev pub exactly : List ℕ → List ℕ → Option (Unit {0})
+exactly name word = if bytes_eq word name then Some tt else None
+
+-- what the first of these words says
+abbrev pub first_as : {X : Type 0} → (List ℕ → Option X) → List (List ℕ) → Option X
+first_as class words = slice_get words 0 >>= class
+
+-- SO MANY WORDS, EACH OF ITS CLASS
+
+abbrev pub two : {P Q R : Type 0} → (List ℕ → Option P) → (List ℕ → Option Q) → (P → Q → R) → List (List ℕ) → Option R
+two f g make (a ∷ b ∷ []) = do
+  p ← f a
+  q ← g b
+  Some (make p q)
+two f g make _ = None
+
+abbrev pub three : {P Q R S : Type 0} → (List ℕ → Option P) → (List ℕ → Option Q) → (List ℕ → Option R) → (P → Q → R → S) → List (List ℕ) → Option S
+three f g h make (a ∷ b ∷ c ∷ []) = do
+  p ← f a
+  q ← g b
+  r ← h c
+  Some (make p q r)
+three f g h make _ = None
+
+abbrev pub four : {P Q R S T : Type 0} → (List ℕ → Option P) → (List ℕ → Option Q) → (List ℕ → Option R) → (List ℕ → Option S) → (P → Q → R → S → T) → List (List ℕ) → Option T
+four f g h i make (a ∷ b ∷ c ∷ d ∷ []) = do
+  p ← f a
+  q ← g b
+  r ← h c
+  s ← i d
+  Some (make p q r s)
+four f g h i make _ = None
+
+-- ADDRESSES
+
 -- a part of a dotted address: a number of one to three digits, at most 255
 abbrev pub octet_of : List ℕ → Option ℕ
 octet_of word = if nat_le (length word) 3 then number_of 256 word else None
 
--- the four parts of a dotted address
-abbrev pub octets_of : List (List ℕ) → Option (List ℕ)
-octets_of (a ∷ b ∷ c ∷ d ∷ []) = do
-  p ← octet_of a
-  q ← octet_of b
-  r ← octet_of c
-  s ← octet_of d
-  Some (p ∷ q ∷ r ∷ s ∷ [])
-octets_of _ = None
-
--- an address, as in 192.168.1.1
+-- an address of four parts, as in 192.168.1.1
 abbrev pub address_of : List ℕ → Option (List ℕ)
-address_of word = octets_of (words_of 46 word)
-
-abbrev pub address_and_port : List (List ℕ) → Option Endpoint
-address_and_port (first ∷ second ∷ []) = do
-  a ← address_of first
-  p ← short_of second
-  Some (record { address = a; port = p })
-address_and_port _ = None
+address_of word = four octet_of octet_of octet_of octet_of (λ p q r s. p ∷ q ∷ r ∷ s ∷ []) (words_of 46 word)
 
 -- an address and a port, as in 192.168.1.1:53
 abbrev pub endpoint_of : List ℕ → Option Endpoint
-endpoint_of word = address_and_port (words_of 58 word)
+endpoint_of word = two address_of short_of (λ a p. record { address = a; port = p }) (words_of 58 word)
