@@ -1,2 +1,3 @@
 pub mod ScriptWordLemmas
 pub mod ScriptLineLemmas
+pub mod ScriptAnswerLemmas

@@ -5,3 +5,4 @@ pub mod Runs
 pub mod Safe
 pub mod ScriptWords
 pub mod ScriptLines
+pub mod ScriptAnswers

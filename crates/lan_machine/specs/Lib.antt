@@ -2,3 +2,4 @@ pub mod Values
 pub mod Packet
 pub mod Machine
 pub mod Steps
+pub mod Texts
