@@ -6,3 +6,4 @@ pub mod Safe
 pub mod ScriptWords
 pub mod ScriptLines
 pub mod ScriptAnswers
+pub mod Invariant

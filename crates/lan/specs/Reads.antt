@@ -7,6 +7,7 @@ use Rattle.lan_machine.specs.declared.event.Event.{Event}
 use Rattle.lan_machine.specs.declared.event.Event.TheVariants.{Bind, SendTo, RecvFrom, Poll, Deliver}
 use Rattle.lan_machine.specs.declared.event.Answer.{Answer}
 use Rattle.lan_machine.specs.declared.event.Answer.TheVariants.{Done, FromEndpoint, Poll as Polled, Error}
+use Rattle.lan_machine.specs.Laws.{port_after}
 use Rattle.lan.specs.Link.{other}
 
 -- an event that was taken, and its answer; a history is a list of them, the newest first
@@ -20,15 +21,19 @@ same_side B B = true
 same_side A B = false
 same_side B A = false
 
--- the port that a socket is bound to after one more event, that before it being given
-abbrev pub port_after : Event → Answer → Side → ℕ → ℕ → ℕ
-port_after (Bind side i port) Done s j before = if same_side side s && (i == j) then port else before
-port_after _ _ s j before = before
+-- whether an event is a call or a poll of this host; a delivery is the link's
+abbrev pub is_of : Side → Event → Bool
+is_of side (Bind s i port) = same_side s side
+is_of side (SendTo s i remote bytes) = same_side s side
+is_of side (RecvFrom s i limit) = same_side s side
+is_of side (Poll s moment budget) = same_side s side
+is_of side (Deliver from k padding) = false
 
 -- the port that a host's socket is bound to: that of its last bind that was answered `Done`, 0 before any
 abbrev pub bound_port : List Entry → Side → ℕ → ℕ
 bound_port [] side i = 0
-bound_port (e ∷ past) side i = port_after e.event e.answer side i (bound_port past side i)
+bound_port (e ∷ past) side i =
+    if is_of side e.event then port_after i e.event e.answer (bound_port past side i) else bound_port past side i
 
 -- a host accepted a datagram of these bytes to a destination port, from a socket that was bound to the source port then
 pub record Accepts (past : List Entry) (e : Entry) (sender : Side) (source destination : ℕ) (bytes : List ℕ) : Type 0 where

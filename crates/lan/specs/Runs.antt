@@ -8,7 +8,7 @@ use Rattle.lan_machine.specs.declared.event.Answer.{Answer}
 use Rattle.lan_machine.specs.Values.{HostValue, StationValue}
 use Rattle.lan_machine.specs.Steps.{Turn, HostRun}
 use Rattle.lan.specs.Link.{Stations, station}
-use Rattle.lan.specs.Reads.{Entry, same_side}
+use Rattle.lan.specs.Reads.{Entry, is_of}
 use Rattle.lan.specs.Steps.{refusal, Happens}
 
 -- the values that the hosts had when their world was made
@@ -51,14 +51,6 @@ abbrev pub WorldRun : List Entry → Stations → Stations → Type 0
 WorldRun [] from to = to ≡ from
 WorldRun (e ∷ past) from to =
     (before : Stations) × WorldRun past from before × (refusal before e.event ≡ None) × Happens before e.event e.answer to
-
--- whether an event is a call or a poll of this host
-abbrev pub is_of : Side → Event → Bool
-is_of side (Bind s i port) = same_side s side
-is_of side (SendTo s i remote bytes) = same_side s side
-is_of side (RecvFrom s i limit) = same_side s side
-is_of side (Poll s moment budget) = same_side s side
-is_of side (Deliver from k padding) = false
 
 -- what a history has of one host
 abbrev pub entries_of : Side → List Entry → List Entry

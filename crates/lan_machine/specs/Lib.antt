@@ -3,3 +3,5 @@ pub mod Packet
 pub mod Machine
 pub mod Steps
 pub mod Texts
+pub mod Members
+pub mod Laws

@@ -7,6 +7,7 @@
 
 mod bytes;
 mod event;
+pub mod laws;
 
 pub use bytes::Bytes;
 pub use event::{Answer, Endpoint, Event, Fault, Refused, Side};

@@ -1,0 +1,5 @@
+pub mod Members
+pub mod Sockets
+pub mod Polls
+pub mod Frames
+pub mod MachineLaws

@@ -1,0 +1,5 @@
+use Rattle.lan_machine.proofs.laws.stays.Goals as goal
+use Rattle.lan_machine.proofs.MachineLaws.{same_law}
+
+pub returns : goal.returns
+returns c = same_law
