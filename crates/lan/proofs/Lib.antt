@@ -1,9 +1,9 @@
 pub mod ScriptWordLemmas
 pub mod ScriptLineLemmas
 pub mod ScriptAnswerLemmas
-pub mod Laws
 pub mod Sides
 pub mod Acting
 pub mod Turns
 pub mod Reading
 pub mod Keeps
+pub mod ScriptRunLemmas

@@ -7,3 +7,6 @@ pub mod ScriptWords
 pub mod ScriptLines
 pub mod ScriptAnswers
 pub mod Invariant
+pub mod ScriptEnds
+pub mod ScriptHosts
+pub mod ScriptRuns

@@ -1,5 +1,12 @@
 //! Two hosts and the link between them, and the script language that drives them.
 #![tactic(auto)]
 
+mod host;
 mod kept;
 mod script;
+mod stub;
+mod world;
+
+pub use host::Host;
+pub use script::replay::replay;
+pub use world::{World, WorldError};

@@ -1,5 +1,8 @@
-//! The script language: what each line says, and what is answered.
+//! The script language: what each line says and does, and what is answered.
 
 mod answer;
 mod line;
+pub mod replay;
+mod session;
 mod words;
+

@@ -1,9 +1,11 @@
 //! What a script writes.
-ghost use Rattle.std.specs.Prelude.{◌≡◌, ◌≤◌, ◌++◌, length, drop, Some, IfOk, OnOk};
+ghost use Rattle.std.specs.Prelude.{◌≡◌, ◌++◌, drop, Some, IfOk, OnOk};
 ghost use Rattle.std.specs.String.{string_bytes};
 ghost use Rattle.net_base.specs.Device.{frames_of};
 ghost use Rattle.lan.specs.ScriptAnswers.{hex_text, side_name, fault_name, refused_name, answer_line, sent_line, sent_lines};
 
+use super::line::LineError;
+use crate::world::WorldError;
 use lan_machine::{Answer, Fault, Refused, Side};
 use std::alloc::{AllocError, Global};
 use std::fmt;
@@ -17,6 +19,57 @@ pub enum End {
     Refusal(Refused),
     /// No world has hosts of this MTU.
     Mtu,
+}
+
+impl From<AllocError> for End {
+    ghost use Rattle.std.specs.Prelude.{◌≡◌};
+    ghost use Rattle.lan.specs.declared.script.answer.End.TheVariants.{Refusal};
+    ghost use Rattle.lan_machine.specs.declared.event.Refused.TheVariants.{Memory};
+
+    ghost from_gives = { λ _ end. end ≡ Refusal Memory };
+
+    fn from(_error: AllocError) -> End {
+        End::Refusal(Refused::Memory)
+    }
+}
+
+impl From<Refused> for End {
+    ghost use Rattle.std.specs.Prelude.{◌≡◌};
+    ghost use Rattle.lan.specs.declared.script.answer.End.TheVariants.{Refusal};
+
+    ghost from_gives = { λ refused end. end ≡ Refusal refused };
+
+    fn from(refused: Refused) -> End {
+        End::Refusal(refused)
+    }
+}
+
+impl From<LineError> for End {
+    ghost use Rattle.std.specs.Prelude.{◌≡◌};
+    ghost use Rattle.lan.specs.ScriptEnds.{line_end};
+
+    ghost from_gives = { λ error end. end ≡ line_end error };
+
+    fn from(error: LineError) -> End {
+        match error {
+            LineError::Outside => End::BadEvent,
+            LineError::Memory => End::Refusal(Refused::Memory),
+        }
+    }
+}
+
+impl From<WorldError> for End {
+    ghost use Rattle.std.specs.Prelude.{◌≡◌};
+    ghost use Rattle.lan.specs.ScriptEnds.{world_end};
+
+    ghost from_gives = { λ error end. end ≡ world_end error };
+
+    fn from(error: WorldError) -> End {
+        match error {
+            WorldError::Mtu => End::Mtu,
+            WorldError::Memory => End::Refusal(Refused::Memory),
+        }
+    }
 }
 
 impl fmt::Display for End {
@@ -108,7 +161,6 @@ pub fn push_sent(
     first: usize,
     frames: &[Vec<u8>],
 ) -> Result<(), AllocError>
-    requires { first ≤ length frames.now }
     ensures { OnOk result (string_bytes text.new ≡ string_bytes text.old ++ sent_lines side first (drop first (frames_of frames.now))) }
 {
     for k in first..frames.len() {

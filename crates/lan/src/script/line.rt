@@ -7,7 +7,7 @@ ghost use Rattle.lan.specs.declared.script.line.LineError.TheVariants.{Outside};
 
 use super::words::Words;
 use lan_machine::{Event, Side};
-use std::alloc::{AllocError, Global};
+use std::alloc::Global;
 use thiserror::Error;
 
 /// What a line of a script says.
@@ -23,7 +23,7 @@ pub enum Line {
 }
 
 /// How many datagrams and how many bytes of payload the queues of a socket hold.
-#[derive(Clone, Copy, Debug, PartialEq, Eq)]
+#[derive(Clone, Copy, Debug, PartialEq, Eq, Drop)]
 pub struct SocketSizes {
     pub receive_packets: usize,
     pub receive_bytes: usize,
@@ -40,12 +40,6 @@ pub enum LineError {
     /// The bytes that the line names found no memory.
     #[error("out of memory")]
     Memory,
-}
-
-impl From<AllocError> for LineError {
-    fn from(_error: AllocError) -> LineError {
-        LineError::Memory
-    }
 }
 
 impl Line {
