@@ -17,7 +17,7 @@ use Rattle.lan.specs.Link.{other}
 use Rattle.lan.specs.Reads.{Entry, is_of, bound_port, Accepted}
 use Rattle.lan.specs.Steps.{Acts}
 use Rattle.lan.specs.Invariant.{WasAccepted, WasSpelled, IsSideOk}
-use Rattle.lan.proofs.Laws.{queued_law, received_law, port_law, range_law, sent_law}
+use Rattle.lan_machine.proofs.MachineLaws.{queued_law, received_law, port_law, range_law, sent_law}
 use Rattle.lan.proofs.Sides.{same_side_true, grown, member_left, member_right, either_part}
 
 -- PORTS
@@ -26,7 +26,7 @@ use Rattle.lan.proofs.Sides.{same_side_true, grown, member_left, member_right, e
 bind_keeps : (side : Side) (i j port : ℕ) (s : SocketValue) (before : ℕ) → (i ≡ j → s.port ≡ before) → before ≢ 0 → port_after i (Bind side j port) (bind_answer s port) before ≡ before
 bind_keeps side i j port s before same bound =
     elim (port == 0) as (λ (zero_port : Bool). port_after i (Bind side j port) (if zero_port then Error Unaddressable else if s.port == 0 then Done else Error InvalidState) before ≡ before) [
-      true ↦ refl
+      | true ↦ refl
       | false ↦ bound_already (s.port == 0) refl (i == j) refl
     ]
   where
@@ -52,7 +52,6 @@ module _ (host : HostValue) (event : Event) (taken : List (List ℕ)) (i : ℕ) 
 module _ (h : List Entry) (side : Side) (old new : StationValue) (event : Event) (answer : Answer)
     (ok : IsSideOk h side old) (acts : Acts old event answer new) (of : is_of side event ≡ true)
     (fits : IsEventInRange event) (has : HasSocket old.host event) where
-
   abbrev e : Entry
   e = record { event = event; answer = answer }
 
@@ -86,13 +85,13 @@ module _ (h : List Entry) (side : Side) (old new : StationValue) (event : Event)
   arrived i d a =
       let w : WasSpelled h (other side) a.packet = ok.waiting a.frame (taken_waited a.frame a.among) a.packet a.carries in
       let at_port : WasAccepted h (other side) a.packet.source_port (socket_at old.host i).port a.packet.payload =
-          subst (λ (port : ℕ). WasAccepted h (other side) a.packet.source_port port a.packet.payload) a.bound w in
+      subst (λ (port : ℕ). WasAccepted h (other side) a.packet.source_port port a.packet.payload) a.bound w in
       subst (λ (x : DatagramValue). WasAccepted h (other side) x.remote.port (socket_at old.host i).port x.bytes) (sym a.holds) at_port
 
   received : (i : ℕ) (d : DatagramValue) → d ∈ (socket_at after i).received → WasAccepted (e ∷ h) (other side) d.remote.port (socket_at after i).port d.bytes
   received i d m =
       elim (received_law old.host event taken i d m) [
-        inl before ↦ to_port (other side) i d.remote.port d.bytes (ok.received i d before)
+        | inl before ↦ to_port (other side) i d.remote.port d.bytes (ok.received i d before)
         | inr now ↦ to_port (other side) i d.remote.port d.bytes (arrived i d now)
       ]
 
@@ -118,7 +117,7 @@ module _ (h : List Entry) (side : Side) (old new : StationValue) (event : Event)
   queued : (i : ℕ) (d : DatagramValue) → d ∈ (socket_at after i).queued → WasAccepted (e ∷ h) side (socket_at after i).port d.remote.port d.bytes
   queued i d m =
       elim (queued_law old.host event taken i d m) [
-        inl before ↦ from_port side i d.remote.port d.bytes (ok.queued i d before)
+        | inl before ↦ from_port side i d.remote.port d.bytes (ok.queued i d before)
         | inr now ↦ now_accepted i d m now
       ]
 
@@ -133,7 +132,7 @@ module _ (h : List Entry) (side : Side) (old new : StationValue) (event : Event)
   sent frame m padding p is =
       let m' : frame ∈ (old.sent ++ acts.frames) = subst (λ (frames : List (List ℕ)). frame ∈ frames) acts.sends m in
       elim (either_part frame old.sent acts.frames m') [
-        inl before ↦ grown e h side _ _ _ (ok.sent frame before padding p is)
+        | inl before ↦ grown e h side _ _ _ (ok.sent frame before padding p is)
         | inr now ↦ grown e h side _ _ _ (carried frame (sent_law old.host event taken frame ok.in_range (subst (λ (frames : List (List ℕ)). frame ∈ frames) acts.step.sends now)) padding p is)
       ]
 

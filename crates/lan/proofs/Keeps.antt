@@ -1,6 +1,7 @@
 -- Each step that is allowed leads from a world that is safe to one that is.
 use Rattle.std.proofs.Common.{◌≡◌, ℕ, ◌<◌, Bool, true, false, nat_lt, List, [], ◌∷◌, ◌++◌, length, Option, Some, None, refl, sym, ◌∙◌, ap, subst, arith}
 use Rattle.std.proofs.lemmas.Bool.Decides.{nat_tests}
+use Rattle.std.proofs.lemmas.List.{append-nil, length-append}
 use Rattle.lan_machine.specs.declared.event.Side.{Side}
 use Rattle.lan_machine.specs.declared.event.Side.TheVariants.{A, B}
 use Rattle.lan_machine.specs.declared.event.Event.{Event}
@@ -14,12 +15,13 @@ use Rattle.lan_machine.specs.Laws.{IsEventInRange, HasSocket}
 use Rattle.lan.specs.Link.{Stations, station, other, delivered, frame_sent, with_waiting}
 use Rattle.lan.specs.Reads.{Entry, is_of, same_side, ReadWasAccepted}
 use Rattle.lan.specs.Steps.{refusal, unless_absent, has_socket, Acts, ActsAt, Happens}
-use Rattle.lan.specs.Runs.{WorldValue, IsHostRun}
+use Rattle.lan.specs.Runs.{WorldValue, IsHostRun, handed_by}
 use Rattle.lan.specs.Safe.{IsSafe}
-use Rattle.lan.specs.Invariant.{WasSpelled, IsSideOk, IsWorldOk}
+use Rattle.lan.specs.Invariant.{WasSpelled, IsSideOk, IsKnown, AreKnown, IsWorldOk}
 use Rattle.lan.proofs.Sides.{grown, rests, joined, member_at, other_twice}
 use Rattle.lan.proofs.Acting.{acting}
 use Rattle.lan.proofs.Turns.{next_world, both, acts_turn, rests_turn}
+use Rattle.lan.proofs.Handed.{all_known_among}
 use Rattle.lan.proofs.Reading.{read_accepted}
 
 same_side_refl : (s : Side) → same_side s s ≡ true
@@ -43,8 +45,8 @@ module _ (w : WorldValue) (event : Event) (answer : Answer) (next : Stations) (o
 
   -- what a step adds, given what it keeps of each host
   kept : Happens w.hosts event answer next → ReadWasAccepted w.history event answer → ((side : Side) → IsHostRun new side)
-      → ((side : Side) → IsSideOk new.history side (station next side)) → IsWorldOk new
-  kept happens reads runs sides =
+      → ((side : Side) → AreKnown side new.history (length (station next (other side)).sent)) → ((side : Side) → IsSideOk new.history side (station next side)) → IsWorldOk new
+  kept happens reads runs known sides =
       record {
         safe = record {
           reads = (reads, ok.safe.reads);
@@ -52,6 +54,7 @@ module _ (w : WorldValue) (event : Event) (answer : Answer) (next : Stations) (o
           run_b = runs B;
           run = (w.hosts, ok.safe.run, allowed, happens);
         };
+        known = known;
         sides = sides;
       }
 
@@ -61,12 +64,32 @@ module _ (w : WorldValue) (event : Event) (answer : Answer) (next : Stations) (o
 
   -- a call or a poll of a host
   module _ (s : Side) (of : is_of s event ≡ true) (apart : is_of (other s) event ≡ false) (fits : IsEventInRange event) (has : HasSocket (station w.hosts s).host event)
-      (step : ActsAt w.hosts s event answer next) where
+      (no_hand : (side : Side) (sent : List (List ℕ)) → handed_by side event sent ≡ []) (none_known : (side : Side) (n : ℕ) → IsKnown side event n) (step : ActsAt w.hosts s event answer next) where
+    -- the host that acts is the other one's other
+    grew : (station next (other (other s))).sent ≡ (station w.hosts (other (other s))).sent ++ step.acts.frames
+    grew = subst (λ (t : Side). (station next t).sent ≡ (station w.hosts t).sent ++ step.acts.frames) (sym (other_twice s)) step.acts.sends
+
+    same_sent : (station next (other s)).sent ≡ (station w.hosts (other s)).sent
+    same_sent = ap (λ (t : StationValue). t.sent) step.rests
+
+    waits : (station next (other s)).waiting ≡ (station w.hosts (other s)).waiting ++ handed_by (other s) event (station w.hosts (other (other s))).sent
+    waits = rw (no_hand (other s) (station w.hosts (other (other s))).sent, append-nil (station w.hosts (other s)).waiting) (ap (λ (t : StationValue). t.waiting) step.rests)
+
     acted_runs : (side : Side) → IsHostRun new side
     acted_runs =
         both s (λ (t : Side). IsHostRun new t)
-        (acts_turn w event answer next s (host_run s) of step.acts)
-        (rests_turn w event answer next (other s) (host_run (other s)) apart (ap (λ (t : StationValue). t.host) step.rests) (ap (λ (t : StationValue). t.sent) step.rests))
+        (acts_turn w event answer next s (host_run s) of step.acts (no_hand s (station w.hosts (other s)).sent) same_sent)
+        (rests_turn w event answer next (other s) (host_run (other s)) apart (ap (λ (t : StationValue). t.host) step.rests) same_sent waits step.acts.frames grew
+        (none_known (other s) (length (station w.hosts (other (other s))).sent)) (ok.known (other s)))
+
+    acted_known : (side : Side) → AreKnown side new.history (length (station next (other side)).sent)
+    acted_known =
+        both s (λ (t : Side). AreKnown t new.history (length (station next (other t)).sent))
+        (none_known s (length (station next (other s)).sent), rw same_sent (ok.known s)) (
+          none_known (other s) (length (station next (other (other s))).sent),
+          all_known_among (other s) w.history (length (station w.hosts (other (other s))).sent) (length (station next (other (other s))).sent)
+              (omega (arith, ap length grew, length-append (station w.hosts (other (other s))).sent step.acts.frames)) (ok.known (other s)),
+        )
 
     acted_sides : (side : Side) → IsSideOk new.history side (station next side)
     acted_sides =
@@ -91,45 +114,69 @@ module _ (w : WorldValue) (event : Event) (answer : Answer) (next : Stations) (o
     handed_sides B k padding there A = joined (e ∷ w.history) A w.hosts.a (frame_sent w.hosts B k ++ padding) (handed B k padding there) (left_alone A)
     handed_sides B k padding there B = left_alone B
 
-same_hosts : (hosts : Stations) (from side : Side) (k : ℕ) (padding : List ℕ)
-    → ((station (delivered hosts from k padding) side).host ≡ (station hosts side).host) × ((station (delivered hosts from k padding) side).sent ≡ (station hosts side).sent)
-same_hosts hosts A A k padding = (refl, refl)
-same_hosts hosts A B k padding = (refl, refl)
-same_hosts hosts B A k padding = (refl, refl)
-same_hosts hosts B B k padding = (refl, refl)
+-- what a delivery makes of either host
+record IsHanded (hosts : Stations) (from : Side) (k : ℕ) (padding : List ℕ) (side : Side) : Type 0 where
+  same_host : (station (delivered hosts from k padding) side).host ≡ (station hosts side).host
+  same_sent : (station (delivered hosts from k padding) side).sent ≡ (station hosts side).sent
+  none_more : (station (delivered hosts from k padding) (other side)).sent ≡ (station hosts (other side)).sent
+  waits : (station (delivered hosts from k padding) side).waiting ≡ (station hosts side).waiting ++ handed_by side (Deliver from k padding) (station hosts (other side)).sent
+  known : k < length (station hosts from).sent → IsKnown side (Deliver from k padding) (length (station hosts (other side)).sent)
 
-delivery_keeps : (w : WorldValue) (from : Side) (k : ℕ) (padding : List ℕ) (answer : Answer) (next : Stations) → IsWorldOk w → refusal w.hosts (Deliver from k padding) ≡ None
-    → next ≡ delivered w.hosts from k padding → answer ≡ Done → IsWorldOk (next_world w (Deliver from k padding) answer next)
-delivery_keeps w from k padding answer next ok allowed is done =
-    let event : Event = Deliver from k padding in
-    let there : k < length (station w.hosts from).sent = below k _ (present _ _ allowed) in
-    let hosts : Stations = delivered w.hosts from k padding in
-    subst (λ (n : Stations). IsWorldOk (next_world w event answer n)) (sym is)
-    (kept w event answer hosts ok allowed (done, refl) tt
-      (λ side. rests_turn w event answer hosts side (host_run w event answer hosts ok allowed side) refl (same_hosts w.hosts from side k padding).0 (same_hosts w.hosts from side k padding).1)
-      (handed_sides w event answer hosts ok allowed (λ side. refl) from k padding there))
+is_handed : (hosts : Stations) (from : Side) (k : ℕ) (padding : List ℕ) (side : Side) → IsHanded hosts from k padding side
+is_handed hosts A k padding A = record { same_host = refl; same_sent = refl; none_more = refl; waits = sym (append-nil hosts.a.waiting); known = λ below to. cc }
+is_handed hosts A k padding B = record { same_host = refl; same_sent = refl; none_more = refl; waits = refl; known = λ below to. below }
+is_handed hosts B k padding A = record { same_host = refl; same_sent = refl; none_more = refl; waits = refl; known = λ below to. below }
+is_handed hosts B k padding B = record { same_host = refl; same_sent = refl; none_more = refl; waits = sym (append-nil hosts.b.waiting); known = λ below to. cc }
+
+module _ (w : WorldValue) (from : Side) (k : ℕ) (padding : List ℕ) (answer : Answer) (ok : IsWorldOk w) (allowed : refusal w.hosts (Deliver from k padding) ≡ None) where
+  abbrev hosts : Stations
+  hosts = delivered w.hosts from k padding
+
+  there : k < length (station w.hosts from).sent
+  there = below k _ (present _ _ allowed)
+
+  handed_runs : (side : Side) → IsHostRun (next_world w (Deliver from k padding) answer hosts) side
+  handed_runs side =
+      let h : IsHanded w.hosts from k padding side = is_handed w.hosts from k padding side in
+      rests_turn w (Deliver from k padding) answer hosts side (host_run w (Deliver from k padding) answer hosts ok allowed side) refl h.same_host h.same_sent h.waits
+      [] (h.none_more ∙ sym (append-nil (station w.hosts (other side)).sent)) (h.known there) (ok.known side)
+
+  handed_known : (side : Side) → AreKnown side (record { event = Deliver from k padding; answer = answer } ∷ w.history) (length (station hosts (other side)).sent)
+  handed_known side =
+      let h : IsHanded w.hosts from k padding side = is_handed w.hosts from k padding side in
+      rw h.none_more (h.known there, ok.known side)
+
+  delivery_keeps : (next : Stations) → next ≡ hosts → answer ≡ Done → IsWorldOk (next_world w (Deliver from k padding) answer next)
+  delivery_keeps next is done =
+      subst (λ (n : Stations). IsWorldOk (next_world w (Deliver from k padding) answer n)) (sym is)
+      (kept w (Deliver from k padding) answer hosts ok allowed (done, refl) tt handed_runs handed_known
+      (handed_sides w (Deliver from k padding) answer hosts ok allowed (λ side. refl) from k padding there))
 
 pub keeps : (w : WorldValue) (event : Event) (answer : Answer) (next : Stations) → IsWorldOk w → refusal w.hosts event ≡ None → Happens w.hosts event answer next → IsEventInRange event
     → IsWorldOk (next_world w event answer next)
 keeps w (Bind s i port) answer next ok allowed happens fits =
     let has : i < length (station w.hosts s).host.sockets = below i _ (present _ _ allowed) in
     kept w (Bind s i port) answer next ok allowed happens tt
-    (acted_runs w (Bind s i port) answer next ok allowed s (same_side_refl s) (same_side_other s) fits has happens)
-    (acted_sides w (Bind s i port) answer next ok allowed s (same_side_refl s) (same_side_other s) fits has happens)
+    (acted_runs w (Bind s i port) answer next ok allowed s (same_side_refl s) (same_side_other s) fits has (λ side sent. refl) (λ side n. tt) happens)
+    (acted_known w (Bind s i port) answer next ok allowed s (same_side_refl s) (same_side_other s) fits has (λ side sent. refl) (λ side n. tt) happens)
+    (acted_sides w (Bind s i port) answer next ok allowed s (same_side_refl s) (same_side_other s) fits has (λ side sent. refl) (λ side n. tt) happens)
 keeps w (SendTo s i remote bytes) answer next ok allowed happens fits =
     let has : i < length (station w.hosts s).host.sockets = below i _ (present _ _ allowed) in
     kept w (SendTo s i remote bytes) answer next ok allowed happens tt
-    (acted_runs w (SendTo s i remote bytes) answer next ok allowed s (same_side_refl s) (same_side_other s) fits has happens)
-    (acted_sides w (SendTo s i remote bytes) answer next ok allowed s (same_side_refl s) (same_side_other s) fits has happens)
+    (acted_runs w (SendTo s i remote bytes) answer next ok allowed s (same_side_refl s) (same_side_other s) fits has (λ side sent. refl) (λ side n. tt) happens)
+    (acted_known w (SendTo s i remote bytes) answer next ok allowed s (same_side_refl s) (same_side_other s) fits has (λ side sent. refl) (λ side n. tt) happens)
+    (acted_sides w (SendTo s i remote bytes) answer next ok allowed s (same_side_refl s) (same_side_other s) fits has (λ side sent. refl) (λ side n. tt) happens)
 keeps w (RecvFrom s i limit) answer next ok allowed happens fits =
     let has : i < length (station w.hosts s).host.sockets = below i _ (present _ _ allowed) in
     kept w (RecvFrom s i limit) answer next ok allowed happens
     (read_accepted w.history s i limit (station w.hosts s) answer [] (ok.sides s) (sym happens.acts.step.answers))
-    (acted_runs w (RecvFrom s i limit) answer next ok allowed s (same_side_refl s) (same_side_other s) fits has happens)
-    (acted_sides w (RecvFrom s i limit) answer next ok allowed s (same_side_refl s) (same_side_other s) fits has happens)
+    (acted_runs w (RecvFrom s i limit) answer next ok allowed s (same_side_refl s) (same_side_other s) fits has (λ side sent. refl) (λ side n. tt) happens)
+    (acted_known w (RecvFrom s i limit) answer next ok allowed s (same_side_refl s) (same_side_other s) fits has (λ side sent. refl) (λ side n. tt) happens)
+    (acted_sides w (RecvFrom s i limit) answer next ok allowed s (same_side_refl s) (same_side_other s) fits has (λ side sent. refl) (λ side n. tt) happens)
 keeps w (Poll s moment budget) answer next ok allowed happens fits =
     kept w (Poll s moment budget) answer next ok allowed happens tt
-    (acted_runs w (Poll s moment budget) answer next ok allowed s (same_side_refl s) (same_side_other s) fits tt happens)
-    (acted_sides w (Poll s moment budget) answer next ok allowed s (same_side_refl s) (same_side_other s) fits tt happens)
+    (acted_runs w (Poll s moment budget) answer next ok allowed s (same_side_refl s) (same_side_other s) fits tt (λ side sent. refl) (λ side n. tt) happens)
+    (acted_known w (Poll s moment budget) answer next ok allowed s (same_side_refl s) (same_side_other s) fits tt (λ side sent. refl) (λ side n. tt) happens)
+    (acted_sides w (Poll s moment budget) answer next ok allowed s (same_side_refl s) (same_side_other s) fits tt (λ side sent. refl) (λ side n. tt) happens)
 keeps w (Deliver from k padding) answer next ok allowed happens fits =
-    delivery_keeps w from k padding answer next ok allowed happens.1 happens.0
+    delivery_keeps w from k padding answer ok allowed next happens.1 happens.0

@@ -10,7 +10,7 @@ use Rattle.lan_machine.specs.Machine.{answer_of}
 use Rattle.lan.specs.Link.{other}
 use Rattle.lan.specs.Reads.{Entry, Accepted, ReadWasAccepted}
 use Rattle.lan.specs.Invariant.{IsSideOk}
-use Rattle.lan.proofs.Laws.{read_law}
+use Rattle.lan_machine.proofs.MachineLaws.{read_law}
 
 pub read_accepted : (h : List Entry) (side : Side) (i limit : ℕ) (s : StationValue) (answer : Answer) (taken : List (List ℕ)) → IsSideOk h side s
     → answer_of s.host (RecvFrom side i limit) taken ≡ answer → ReadWasAccepted h (RecvFrom side i limit) answer

@@ -15,7 +15,7 @@ use Rattle.lan.specs.Link.{other, with_waiting}
 use Rattle.lan.specs.Reads.{Entry, same_side, is_of, bound_port, Accepted}
 use Rattle.lan.specs.Steps.{Acts}
 use Rattle.lan.specs.Invariant.{WasAccepted, WasSpelled, IsSideOk}
-use Rattle.lan.proofs.Laws.{queued_law, received_law, port_law, range_law, sent_law}
+use Rattle.lan_machine.proofs.MachineLaws.{queued_law, received_law, port_law, range_law, sent_law}
 
 -- MEMBERS
 
@@ -78,7 +78,7 @@ joined h side s frame says ok =
       queued = ok.queued;
       sent = ok.sent;
       waiting = λ f m p is. elim (either_part f s.waiting (frame ∷ []) m) [
-        inl old ↦ ok.waiting f old p is
+        | inl old ↦ ok.waiting f old p is
         | inr (inl new) ↦ says p (rw new at is)
         | inr (inr none) ↦ absurd none
       ];

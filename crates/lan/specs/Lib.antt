@@ -10,3 +10,4 @@ pub mod Invariant
 pub mod ScriptEnds
 pub mod ScriptHosts
 pub mod ScriptRuns
+pub mod Fresh

@@ -1,5 +1,5 @@
 -- A world of two hosts, and its runs.
-use Rattle.std.specs.Prelude.{◌≡◌, ℕ, Bool, true, false, cond, if◌then◌else◌, List, [], ◌∷◌, ◌++◌, map, Option, None}
+use Rattle.std.specs.Prelude.{◌≡◌, ℕ, Bool, true, false, cond, if◌then◌else◌, List, [], ◌∷◌, ◌++◌, map, reverse, slice_index_or, Option, None}
 use Rattle.lan_machine.specs.declared.event.Side.{Side}
 use Rattle.lan_machine.specs.declared.event.Side.TheVariants.{A, B}
 use Rattle.lan_machine.specs.declared.event.Event.{Event}
@@ -7,8 +7,8 @@ use Rattle.lan_machine.specs.declared.event.Event.TheVariants.{Bind, SendTo, Rec
 use Rattle.lan_machine.specs.declared.event.Answer.{Answer}
 use Rattle.lan_machine.specs.Values.{HostValue, StationValue}
 use Rattle.lan_machine.specs.Steps.{Turn, HostRun}
-use Rattle.lan.specs.Link.{Stations, station}
-use Rattle.lan.specs.Reads.{Entry, is_of}
+use Rattle.lan.specs.Link.{Stations, station, other}
+use Rattle.lan.specs.Reads.{Entry, is_of, same_side}
 use Rattle.lan.specs.Steps.{refusal, Happens}
 
 -- the values that the hosts had when their world was made
@@ -26,11 +26,9 @@ pub record WorldValue : Type 0 where
   pub starts : Starts
   pub history : List Entry
 
-abbrev pub events_of : List Entry → List Event
-events_of history = map (λ (e : Entry). e.event) history
-
+-- the answers of a history, the oldest first
 abbrev pub answers_of : List Entry → List Answer
-answers_of history = map (λ (e : Entry). e.answer) history
+answers_of history = reverse (map (λ (e : Entry). e.answer) history)
 
 -- a host that has sent nothing, and that nothing waits for
 abbrev pub quiet : HostValue → StationValue
@@ -46,6 +44,11 @@ pub record Step (old : WorldValue) (event : Event) (answer : Answer) (new : Worl
   pub history : new.history ≡ record { event = event; answer = answer } ∷ old.history
   pub starts : new.starts ≡ old.starts
 
+-- these events were taken, one after the other
+abbrev pub Steps : WorldValue → List Event → WorldValue → Type 0
+Steps old [] new = new ≡ old
+Steps old (event ∷ events) new = (answer : Answer) × (next : WorldValue) × Step old event answer next × Steps next events new
+
 -- the hosts and the link went from one state to the other by this history, each event having been allowed
 abbrev pub WorldRun : List Entry → Stations → Stations → Type 0
 WorldRun [] from to = to ≡ from
@@ -60,15 +63,33 @@ entries_of side (e ∷ past) = if is_of side e.event then e ∷ entries_of side 
 abbrev pub entry_of : Turn → Entry
 entry_of turn = record { event = turn.event; answer = turn.answer }
 
--- all frames of some turns, the oldest first
+-- all frames that some turns sent, the oldest first
 abbrev pub frames_sent : List Turn → List (List ℕ)
 frames_sent [] = []
 frames_sent (turn ∷ past) = frames_sent past ++ turn.sent
 
--- a host is a run of the host machine from what it was at first: its turns are its events with their answers, and the
--- frames that it sent are those of its turns
+-- all frames that they took
+abbrev pub frames_taken : List Turn → List (List ℕ)
+frames_taken [] = []
+frames_taken (turn ∷ past) = frames_taken past ++ turn.taken
+
+-- the frame that an event hands to a host, if it hands it one, of those that the other host has sent
+abbrev pub handed_by : Side → Event → List (List ℕ) → List (List ℕ)
+handed_by side (Deliver from k padding) sent =
+    if same_side (other from) side then (slice_index_or sent k [] ++ padding) ∷ [] else []
+handed_by side _ sent = []
+
+-- all frames that the link has handed to a host, the oldest first
+abbrev pub frames_handed : Side → List Entry → List (List ℕ) → List (List ℕ)
+frames_handed side [] sent = []
+frames_handed side (e ∷ past) sent = frames_handed side past sent ++ handed_by side e.event sent
+
+-- a host is a run of the host machine from what it was at first. Its turns are its events with their answers; the
+-- frames that they sent are all that it has sent; and those that they took, with those that still wait, are all that
+-- the link handed to it of what the other host has sent
 pub record IsHostRun (world : WorldValue) (side : Side) : Type 0 where
   pub turns : List Turn
   pub run : HostRun (start world.starts side) turns (station world.hosts side).host
   pub entries : map entry_of turns ≡ entries_of side world.history
   pub sent : (station world.hosts side).sent ≡ frames_sent turns
+  pub taken : frames_taken turns ++ (station world.hosts side).waiting ≡ frames_handed side world.history (station world.hosts (other side)).sent

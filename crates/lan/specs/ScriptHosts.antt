@@ -5,7 +5,7 @@ use Rattle.lan_machine.specs.declared.event.Side.TheVariants.{A, B}
 use Rattle.lan_machine.specs.Values.{SocketValue, StationValue}
 use Rattle.lan.specs.declared.script.line.SocketSizes.{SocketSizes}
 use Rattle.lan.specs.Reads.{same_side}
-use Rattle.lan.specs.Stub.{fresh_station, fresh_socket, with_new_socket}
+use Rattle.lan_host.specs.Station.{fresh_station, fresh_socket, with_new_socket}
 
 -- the header so far: the longest IP packet on the link, and each socket with its host, in the order of their lines
 pub record HeaderValue : Type 0 where

@@ -18,7 +18,7 @@ use Rattle.lan.specs.Reads.{same_side}
 use Rattle.lan.specs.Steps.{refusal}
 use Rattle.lan.specs.Runs.{WorldValue, Step}
 use Rattle.lan.specs.Fresh.{new_refusal, new_world}
-use Rattle.lan.specs.Stub.{fresh_station, fresh_socket, with_new_socket}
+use Rattle.lan_host.specs.Station.{fresh_station, fresh_socket, with_new_socket}
 use Rattle.lan.specs.ScriptLines.{line_of, lines_of}
 use Rattle.lan.specs.ScriptAnswers.{answer_line, sent_lines, end_line}
 use Rattle.lan.specs.ScriptEnds.{world_end}

@@ -1,5 +1,5 @@
 -- What an event does to the two hosts and the link, and when it is refused.
-use Rattle.std.specs.Prelude.{◌≡◌, ℕ, ℤ, pos, ◌^◌, Bool, ◌&&◌, nat_lt, int_le, if◌then◌else◌, List, ◌++◌, length, Option, Some, None}
+use Rattle.std.specs.Prelude.{◌≡◌, ℕ, ℤ, pos, ◌^◌, Bool, ◌&&◌, nat_lt, int_le, if◌then◌else◌, List, ◌++◌, length, Option, Some, None, ◌⊎◌}
 use Rattle.net_base.specs.Time.{last_moment}
 use Rattle.lan_machine.specs.declared.event.Side.{Side}
 use Rattle.lan_machine.specs.declared.event.Event.{Event}
@@ -7,7 +7,7 @@ use Rattle.lan_machine.specs.declared.event.Event.TheVariants.{Bind, SendTo, Rec
 use Rattle.lan_machine.specs.declared.event.Answer.{Answer}
 use Rattle.lan_machine.specs.declared.event.Answer.TheVariants.{Done}
 use Rattle.lan_machine.specs.declared.event.Refused.{Refused}
-use Rattle.lan_machine.specs.declared.event.Refused.TheVariants.{NoSocket, NoFrame, Moment}
+use Rattle.lan_machine.specs.declared.event.Refused.TheVariants.{NoSocket, NoFrame, Moment, Memory}
 use Rattle.lan_machine.specs.Values.{StationValue}
 use Rattle.lan_machine.specs.Machine.{taken_by}
 use Rattle.lan_machine.specs.Steps.{Turn, HostStep}
@@ -32,6 +32,10 @@ refusal hosts (SendTo side i remote bytes) = unless_absent (has_socket (station 
 refusal hosts (RecvFrom side i limit) = unless_absent (has_socket (station hosts side) i) NoSocket
 refusal hosts (Poll side moment budget) = unless_absent (can_be_polled (station hosts side) moment) Moment
 refusal hosts (Deliver from k padding) = unless_absent (nat_lt k (length (station hosts from).sent)) NoFrame
+
+-- a refusal of an event: that which it must have, or want of memory
+abbrev pub MayRefuse : Stations → Event → Refused → Type 0
+MayRefuse hosts event refused = (refusal hosts event ≡ Some refused) ⊎ (refused ≡ Memory)
 
 -- STEPS
 

@@ -4,7 +4,6 @@
 mod host;
 mod kept;
 mod script;
-mod stub;
 mod world;
 
 pub use host::Host;

@@ -5,6 +5,7 @@ pub use Rattle.net_time.specs.declared.instant.Instant
 pub use Rattle.net_time.specs.declared.duration.Duration
 pub use Rattle.net_devices.specs.Capabilities
 pub use Rattle.net_devices.specs.Device
+pub use Rattle.net_devices.specs.Loopback
 pub use Rattle.net_devices.specs.declared.capabilities.Checksum
 pub use Rattle.net_devices.specs.declared.capabilities.ChecksumCapabilities
 pub use Rattle.net_devices.specs.declared.capabilities.DeviceCapabilities

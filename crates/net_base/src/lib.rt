@@ -10,6 +10,6 @@
 
 pub use net_devices::{
     Checksum, ChecksumCapabilities, Device, DeviceCapabilities, IPV4_FRAGMENT_PAYLOAD_ALIGNMENT,
-    Medium, PacketMeta, RxToken, SendRefused, TxToken,
+    Loopback, LoopbackTxToken, Medium, OwnedRxToken, PacketMeta, RxToken, SendRefused, TxToken,
 };
 pub use net_time::{Duration, Instant};

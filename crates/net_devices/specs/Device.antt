@@ -1,5 +1,5 @@
 -- The moves of a device: what one call on it did with frames.
-use Rattle.std.specs.Prelude.{ℕ, Bool, List, map}
+use Rattle.std.specs.Prelude.{ℕ, ◌+◌, ◌^◌, Bool, nat_lt, List, map}
 use Rattle.std.specs.Global.{Vec}
 
 pub data Move : Type 0 where
@@ -17,3 +17,8 @@ pub data Move : Type 0 where
 -- the bytes of each frame, without where they lie in memory
 abbrev pub frames_of : List (Vec ℕ) → List (List ℕ)
 frames_of frames = map (λ frame. frame.items) frames
+
+-- whether a device that has refused so many frames gives tokens: its count, 64 bits wide, can
+-- still rise
+abbrev pub gives_tokens : ℕ → Bool
+gives_tokens refusals = nat_lt (refusals + 1) (2 ^ 64)

@@ -3,8 +3,12 @@
 
 mod capabilities;
 mod device;
+mod loopback;
+mod owned;
 
 pub use capabilities::{
     Checksum, ChecksumCapabilities, DeviceCapabilities, IPV4_FRAGMENT_PAYLOAD_ALIGNMENT, Medium,
 };
 pub use device::{Device, PacketMeta, RxToken, SendRefused, TxToken};
+pub use loopback::{Loopback, LoopbackTxToken};
+pub use owned::OwnedRxToken;

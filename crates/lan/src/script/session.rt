@@ -6,7 +6,7 @@ ghost use Rattle.lan_machine.specs.declared.event.Side.TheVariants.{A, B};
 ghost use Rattle.lan.specs.Steps.{refusal};
 ghost use Rattle.lan.specs.Runs.{Step};
 ghost use Rattle.lan.specs.Fresh.{new_refusal, new_world};
-ghost use Rattle.lan.specs.Stub.{fresh_station};
+ghost use Rattle.lan_host.specs.Station.{fresh_station};
 ghost use Rattle.lan.specs.ScriptHosts.{address, host_of, with_sockets};
 ghost use Rattle.lan.specs.ScriptRuns.{event_text};
 ghost use Rattle.lan.specs.ScriptEnds.{world_end};

@@ -1,6 +1,6 @@
 -- The host so far, with its own of the sockets that are left, is the host with all of its own.
 use Rattle.std.proofs.Common.{◌≡◌, drop}
-use Rattle.lan.specs.Stub.{fresh_station}
+use Rattle.lan_host.specs.Station.{fresh_station}
 use Rattle.lan.specs.ScriptHosts.{address, with_sockets}
 use Rattle.lan.proofs.script.session.make_host.Given as goal
 

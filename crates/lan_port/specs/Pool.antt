@@ -1,0 +1,9 @@
+-- The buffers that a port holds ready for frames that it will send.
+use Rattle.std.specs.Prelude.{ℕ, ◌+◌, ◌≤◌, All, vec_len, vec_capacity}
+use Rattle.std.specs.Global.{Vec}
+
+-- each ready buffer holds a frame of `size` bytes, and each has a place waiting among the sent
+-- frames: none of them needs memory any more
+pub record Pool (sent ready : Vec (Vec ℕ)) (size : ℕ) : Type 0 where
+  pub places : vec_len sent + vec_len ready ≤ vec_capacity sent
+  pub room : All (λ buffer. size ≤ vec_capacity buffer) ready.items
