@@ -5,4 +5,3 @@ mod line;
 pub mod replay;
 mod session;
 mod words;
-
