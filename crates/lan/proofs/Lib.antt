@@ -1,9 +1,13 @@
+pub mod ScriptWordLemmas
+pub mod ScriptLineLemmas
+pub mod ScriptAnswerLemmas
 pub mod Sides
 pub mod Acting
 pub mod Reading
 pub mod Handed
 pub mod Turns
 pub mod Keeps
+pub mod ScriptRunLemmas
 pub mod Histories
 pub mod Running
 pub mod Beginnings

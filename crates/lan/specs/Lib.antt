@@ -3,5 +3,11 @@ pub mod Reads
 pub mod Steps
 pub mod Runs
 pub mod Safe
+pub mod ScriptWords
+pub mod ScriptLines
+pub mod ScriptAnswers
 pub mod Invariant
+pub mod ScriptEnds
+pub mod ScriptHosts
+pub mod ScriptRuns
 pub mod Fresh

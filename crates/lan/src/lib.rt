@@ -1,9 +1,11 @@
-//! Two hosts and the link between them.
+//! Two hosts and the link between them, and the script language that drives them.
 #![tactic(auto)]
 
 mod host;
 mod kept;
+mod script;
 mod world;
 
 pub use host::Host;
+pub use script::replay::replay;
 pub use world::{World, WorldError};

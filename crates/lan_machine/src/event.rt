@@ -18,6 +18,11 @@ pub struct Endpoint {
 }
 
 impl fmt::Display for Endpoint {
+    ghost use Rattle.std.specs.Prelude.{Some};
+    ghost use Rattle.lan_machine.specs.Texts.{endpoint_text};
+
+    ghost output = { λ e. Some (endpoint_text e) };
+
     fn fmt<W: fmt::Write>(&self, f: &mut fmt::Formatter<W>) -> fmt::Result {
         let [a, b, c, d] = self.address;
         write!(f, "{a}.{b}.{c}.{d}:{}", self.port)

@@ -1,0 +1,13 @@
+use Rattle.std.proofs.Common.{◌≡◌, ap, ◌∙◌}
+use Rattle.std.proofs.lemmas.Str.{IsUtf8-from_ascii}
+use Rattle.lan.proofs.ScriptLineLemmas.{line_of_ascii}
+use Rattle.lan.proofs.script.line.Line.read.Goals as goal
+
+-- ASCII is UTF-8
+pub returns-in_default-clause-only : goal.returns-in_default-clause-only
+returns-in_default-clause-only c =
+    absurd (c.in_default.ensures.cases.0 (IsUtf8-from_ascii c.args.text.now c.if-not-is_ascii.ensures.cases))
+
+pub returns-clause-found : goal.returns-clause-found
+returns-clause-found c =
+    rw (line_of_ascii c.args.text.now c.if-not-is_ascii.ensures.cases, ← c.in-Ok.ensures.cases.0, ← c.new.ensures) c.from_words.ensures.found

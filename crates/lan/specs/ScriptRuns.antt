@@ -1,0 +1,71 @@
+-- A run of a script: what each line does and writes, and what the whole writes.
+use Rattle.std.specs.Prelude.{◌≡◌, ℕ, ◌+◌, if◌then◌else◌, List, [], ◌∷◌, ◌++◌, length, drop, codes, ◌⊎◌, Option, Some, None, option_map}
+use Rattle.lan_machine.specs.declared.event.Side.{Side}
+use Rattle.lan_machine.specs.declared.event.Side.TheVariants.{A, B}
+use Rattle.lan_machine.specs.declared.event.Event.{Event}
+use Rattle.lan_machine.specs.declared.event.Answer.{Answer}
+use Rattle.lan_machine.specs.declared.event.Refused.TheVariants.{Memory}
+use Rattle.lan_machine.specs.Values.{SocketValue, StationValue}
+use Rattle.lan.specs.declared.script.line.Line.{Line}
+use Rattle.lan.specs.declared.script.line.Line.TheVariants.{World, Socket, Start, Event as Happening}
+use Rattle.lan.specs.declared.script.line.SocketSizes.{SocketSizes}
+use Rattle.lan.specs.declared.script.answer.End.{End}
+use Rattle.lan.specs.declared.script.answer.End.TheVariants.{BadEvent, Refusal}
+use Rattle.lan.specs.declared.script.session.Session.{Session}
+use Rattle.lan.specs.declared.script.session.Session.TheVariants.{Begun, Header, Running}
+use Rattle.lan.specs.Link.{Stations, station}
+use Rattle.lan.specs.Reads.{same_side}
+use Rattle.lan.specs.Steps.{refusal}
+use Rattle.lan.specs.Runs.{WorldValue, Step}
+use Rattle.lan.specs.Fresh.{new_refusal, new_world}
+use Rattle.lan_host.specs.Station.{fresh_station, fresh_socket, with_new_socket}
+use Rattle.lan.specs.ScriptLines.{line_of, lines_of}
+use Rattle.lan.specs.ScriptAnswers.{answer_line, sent_lines, end_line}
+use Rattle.lan.specs.ScriptEnds.{world_end}
+use Rattle.lan.specs.ScriptHosts.{HeaderValue, host_of}
+
+-- EVENTS
+
+-- the lines of the frames that a host sent on the way from one state to another
+abbrev pub new_frames : Side → Stations → Stations → List ℕ
+new_frames side old new = let k = length (station old side).sent in sent_lines side k (drop k (station new side).sent)
+
+-- what an event writes: its answer, and then a line for each new frame, those of A first
+abbrev pub event_text : WorldValue → Answer → WorldValue → List ℕ
+event_text old answer new = answer_line answer ++ (new_frames A old.hosts new.hosts ++ new_frames B old.hosts new.hosts)
+
+-- LINES
+
+-- why a line ends the run, but for want of memory: it is outside the grammar or out of order, or it is refused
+abbrev pub end_of : Session → Option Line → Option End
+end_of Begun (Some (World mtu)) = None
+end_of (Header h) (Some (Socket side sizes)) = None
+end_of (Header h) (Some Start) = option_map world_end (new_refusal (host_of h A) (host_of h B))
+end_of (Running world) (Some (Happening event)) = option_map Refusal (refusal world.hosts event)
+end_of _ _ = Some BadEvent
+
+-- where else a line leads, and what it writes
+abbrev pub Leads : Session → Option Line → List ℕ → Session → Type 0
+Leads Begun (Some (World mtu)) text next = (text ≡ []) × (next ≡ Header (record { mtu = mtu; sockets = [] }))
+Leads (Header h) (Some (Socket side sizes)) text next =
+    (text ≡ []) × (next ≡ Header (record h { sockets = h.sockets ++ (side, sizes) ∷ [] }))
+Leads (Header h) (Some Start) text next = (text ≡ codes "ok\n") × (next ≡ Running (new_world (host_of h A) (host_of h B)))
+Leads (Running world) (Some (Happening event)) text next =
+    (answer : Answer) × (new : WorldValue) × Step world event answer new × (text ≡ event_text world answer new) × (next ≡ Running new)
+Leads _ _ text next = ⊥
+
+-- RUNS
+
+-- what the lines from line n on write, and the status: 0 at the end of the script, 1 after the line that ended the run;
+-- at any line memory may be wanting
+abbrev pub Replays : ℕ → Session → List (List ℕ) → List ℕ → ℕ → Type 0
+Replays n session [] output status = (output ≡ []) × (status ≡ 0)
+Replays n session (line ∷ lines) output status =
+    ((end : End) × ((end_of session (line_of line) ≡ Some end) ⊎ (end ≡ Refusal Memory)) × (output ≡ end_line n end) × (status ≡ 1))
+    ⊎ ((text : List ℕ) × (next : Session) × (rest : List ℕ)
+    × (end_of session (line_of line) ≡ None) × Leads session (line_of line) text next
+    × Replays (n + 1) next lines rest status × (output ≡ text ++ rest))
+
+-- what a script writes, and its status
+abbrev pub IsReplay : List ℕ → List ℕ → ℕ → Type 0
+IsReplay script output status = Replays 1 Begun (lines_of script) output status

@@ -1,0 +1,7 @@
+//! The script language: what each line says and does, and what is answered.
+
+mod answer;
+mod line;
+pub mod replay;
+mod session;
+mod words;

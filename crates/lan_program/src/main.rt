@@ -1,0 +1,13 @@
+//! Runs a script on standard input, and writes what it answers to standard output.
+#![tactic(auto)]
+
+#[cfg(test)]
+mod tests;
+
+use std::io;
+use std::process::ExitCode;
+
+fn main(rt: HostRuntime) -> ExitCode {
+    let status = lan::replay(rt.alloc(), &mut rt.reader(), &mut io::writer(&rt));
+    ExitCode::from(status)
+}
