@@ -6,4 +6,6 @@ mod kept;
 mod world;
 
 pub use host::Host;
+pub use lan_machine::{Answer, Bytes, Endpoint, Event, Fault, Refused, Side};
+pub use lan_port::Port;
 pub use world::{World, WorldError};
