@@ -10,7 +10,7 @@ pub mod ipv4;
 pub mod ipv6;
 pub mod network_order;
 pub mod seq_number;
-mod text;
+pub mod text;
 
 pub use ethernet::{EthernetAddress, EthernetProtocol};
 pub use hardware::{HardwareAddress, MAX_HARDWARE_ADDRESS_LEN, RawHardwareAddress};
@@ -38,3 +38,6 @@ impl fmt::Display for Error {
 }
 
 impl std::error::Error for Error {}
+
+#[cfg(test)]
+mod tests;
