@@ -8,3 +8,6 @@ mod ring_buffer;
 pub use assembler::{Assembler, AssemblerIter, TooManyHolesError};
 pub use managed::ManagedSlice;
 pub use ring_buffer::{Empty, Full, Resettable, RingBuffer};
+
+#[cfg(test)]
+mod tests;
