@@ -2,3 +2,4 @@ pub mod Rotations
 pub mod Rings
 pub mod RingSteps
 pub mod Answered
+pub mod Runs

@@ -1,3 +1,5 @@
+pub mod Assembler
+pub mod Contigs
 pub mod ManagedSlice
 pub mod Ring
 pub mod RingLends
