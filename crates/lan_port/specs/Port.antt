@@ -1,10 +1,11 @@
 -- A port: one host's end of the link, as two lists of frames.
-use Rattle.std.specs.Prelude.{◌≡◌, ℕ, ◌+◌, ◌-◌, ◌≤◌, IsTrue, nat_le, if◌then◌else◌, List, [], ◌∷◌, ◌++◌, length}
+use Rattle.std.specs.Prelude.{◌≡◌, ℕ, ◌+◌, ◌≤◌, IsTrue, List, [], ◌∷◌, ◌++◌, length}
 use Rattle.net_base.specs.Device.{Move, Took, Empty, Allowed, Emitted, Denied, gives_tokens}
 use Rattle.net_base.specs.DeviceCapabilities.{DeviceCapabilities}
+use Rattle.lan_port.specs.Pool.{ready_left}
 
 -- what the world knows of a port: the frames that wait for the host, the oldest first, the frames
--- that the host sent, the oldest first, and how many it was refused
+-- that the host sent, the oldest first, how many it was refused, and what the port says of itself
 pub record LinkEnd : Type 0 where
   pub waiting : List (List ℕ)
   pub sent : List (List ℕ)
@@ -19,21 +20,22 @@ pub record PortValue : Type 0 where
 
 -- an end of a link over which nothing has gone yet
 abbrev pub unused_end : DeviceCapabilities → LinkEnd
-unused_end capabilities = record { waiting = []; sent = []; refusals = 0; capabilities = capabilities }
+unused_end said = record { waiting = []; sent = []; refusals = 0; capabilities = said }
 
--- a frame comes to the end of a link
+-- a frame comes to the end of a link, and waits behind the others
 abbrev pub arrived : LinkEnd → List ℕ → LinkEnd
 arrived link frame = record link { waiting = link.waiting ++ frame ∷ [] }
 
--- how many buffers lie ready once a frame of this length was sent: it takes one that it fits
+-- how many buffers lie ready once a frame of this length was sent
 abbrev pub ready_after : PortValue → ℕ → ℕ
-ready_after port len = if nat_le len port.size then port.ready - 1 else port.ready
+ready_after port len = ready_left port.ready port.size len
 
 abbrev pub PortMove : PortValue → Move → PortValue → Type 0
 PortMove old (Took frame) new =
     IsTrue (gives_tokens old.link.refusals)
     × (old ≡ record new { link = record new.link { waiting = frame ∷ new.link.waiting } })
-PortMove old Empty new = (new ≡ old) × (IsTrue (gives_tokens old.link.refusals) → old.link.waiting ≡ [])
+PortMove old Empty new =
+    (new ≡ old) × (IsTrue (gives_tokens old.link.refusals) → old.link.waiting ≡ [])
 PortMove old (Allowed leave) new = (new ≡ old) × (leave ≡ gives_tokens old.link.refusals)
 PortMove old (Emitted frame) new =
     new

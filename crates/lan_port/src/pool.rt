@@ -1,6 +1,6 @@
-ghost use Rattle.std.specs.Prelude.{◌≡◌, ◌+◌, ◌-◌, ◌<◌, ◌≤◌, vec_len, vec_capacity, nat_le, if◌then◌else◌, [], ◌∷◌, ◌++◌, All, IfSome, IfNone, IfOk, OnOk};
+ghost use Rattle.std.specs.Prelude.{◌≡◌, ◌+◌, ◌-◌, ◌<◌, ◌≤◌, vec_len, vec_capacity, [], ◌∷◌, ◌++◌, All, IfSome, IfNone, OnSome, IfOk, OnOk};
 ghost use Rattle.net_base.specs.Device.{frames_of};
-ghost use Rattle.lan_port.specs.Pool.{Pool};
+ghost use Rattle.lan_port.specs.Pool.{Pool, ready_left};
 
 use std::alloc::AllocError;
 
@@ -40,8 +40,11 @@ pub(crate) fn take_buffer(
     requires { Pool sent.old ready.old size }
     ensures pool { Pool sent.new ready.new size }
     ensures frames { sent.new.items ≡ sent.old.items }
-    ensures some { IfSome result (λ buffer. (vec_len buffer ≡ len) × (vec_len sent.new + vec_len ready.new < vec_capacity sent.new) × (vec_len ready.new ≡ (if nat_le len size then vec_len ready.old - 1 else vec_len ready.old))) }
-    ensures none { IfNone result ((vec_len ready.new ≡ vec_len ready.old) × (len ≤ size → vec_len ready.old ≡ 0)) }
+    ensures buffer { IfSome result (λ buffer. vec_len buffer ≡ len) }
+    ensures place { OnSome result (vec_len sent.new + vec_len ready.new < vec_capacity sent.new) }
+    ensures taken { OnSome result (vec_len ready.new ≡ ready_left (vec_len ready.old) size len) }
+    ensures kept { IfNone result (vec_len ready.new ≡ vec_len ready.old) }
+    ensures none_fits { IfNone result (len ≤ size → vec_len ready.old ≡ 0) }
 {
     if len <= size && !ready.is_empty() {
         Some(take_ready(ready, len, size))
@@ -79,7 +82,8 @@ fn allocate(
     ensures frames { sent.new.items ≡ sent.old.items }
     ensures count { vec_len sent.new ≡ vec_len sent.old }
     ensures capacity { vec_capacity sent.old ≤ vec_capacity sent.new }
-    ensures ok { IfOk result (λ buffer. (vec_len buffer ≡ len) × (vec_len sent.new + vec_len ready.now < vec_capacity sent.new)) }
+    ensures buffer { IfOk result (λ buffer. vec_len buffer ≡ len) }
+    ensures place { OnOk result (vec_len sent.new + vec_len ready.now < vec_capacity sent.new) }
 {
     sent.reserve(ready.len() + 1)?;
     let mut buffer = Vec::new(*sent.allocator());

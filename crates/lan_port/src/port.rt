@@ -31,7 +31,16 @@ impl Model for Port {
 
     ghost Value = { PortValue };
 
-    ghost view = { λ p. record { link = record { waiting = frames_of p.incoming.items; sent = frames_of p.outgoing.items; refusals = p.refused; capabilities = p.described }; ready = vec_len p.spare; size = p.frame_size } };
+    ghost view = { λ p. record {
+      link = record {
+        waiting = frames_of p.incoming.items;
+        sent = frames_of p.outgoing.items;
+        refusals = p.refused;
+        capabilities = p.described;
+      };
+      ready = vec_len p.spare;
+      size = p.frame_size;
+    } };
 
     ghost invariant = { λ p. Pool p.outgoing p.spare p.frame_size };
 }
@@ -60,7 +69,8 @@ impl Port {
     /// A frame comes, and waits behind those that wait already. It may find no memory for its
     /// place in the queue; then it is lost and nothing else changes.
     pub fn push(&mut self, frame: Vec<u8>) -> Result<(), AllocError>
-        ensures ok { OnOk result (self.new ≡ record self.old { link = arrived self.old.link frame.items }) }
+        ensures ok { OnOk result
+            (self.new ≡ record self.old { link = arrived self.old.link frame.items }) }
         ensures err { OnErr result (self.new ≡ self.old) }
     {
         self.incoming.push_back(frame)?;

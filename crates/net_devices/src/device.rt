@@ -64,7 +64,9 @@ pub trait Device {
     ///
     /// There is none while the count of refusals can't rise any more.
     fn receive(&mut self, timestamp: Instant) -> Option<(Self::RxToken, Self::TxToken)>
-        ensures moves { MatchOption result (moves self.old Empty self.new) (λ tokens. moves self.old (Took (Self.RxToken.frame tokens.0)) self.new) }
+        ensures moves { MatchOption result
+            (moves self.old Empty self.new)
+            (λ tokens. moves self.old (Took (Self.RxToken.frame tokens.0)) self.new) }
         ensures refusals { refused self.new ≡ refused self.old }
         ensures capabilities { described self.new ≡ described self.old }
         ensures works { OnSome result (refused self.old + 1 < 2 ^ 64) };
@@ -89,11 +91,16 @@ pub trait Device {
         len: usize,
         f: F,
     ) -> Result<R, SendRefused>
-        requires callable { (buffer : List ℕ) → length buffer ≡ len → FnOnceTakesAtMut F.FnOnce f buffer }
+        requires callable { (buffer : List ℕ) → length buffer ≡ len →
+            FnOnceTakesAtMut F.FnOnce f buffer }
         requires room { refused self.old + 1 < 2 ^ 64 }
-        ensures ok { IfOk result (λ r. (buffer : List ℕ) × (frame : List ℕ) × (length buffer ≡ len) × (length frame ≡ len) × FnOnceReturnsAtMut F.FnOnce f buffer r frame × moves self.old (Emitted frame) self.new) }
+        ensures ok { IfOk result (λ r. (buffer : List ℕ) × (frame : List ℕ)
+            × (length buffer ≡ len) × (length frame ≡ len)
+            × FnOnceReturnsAtMut F.FnOnce f buffer r frame
+            × moves self.old (Emitted frame) self.new) }
         ensures err { OnErr result (moves self.old (Denied len) self.new) }
-        ensures refusals { refused self.new ≡ (if is_ok result then refused self.old else refused self.old + 1) }
+        ensures refusals { refused self.new ≡
+            (if is_ok result then refused self.old else refused self.old + 1) }
         ensures capabilities { described self.new ≡ described self.old };
 
     /// What the device says of itself, which no call changes.

@@ -28,7 +28,11 @@ impl Model for Loopback {
 
     ghost Value = { LoopbackValue };
 
-    ghost view = { λ l. record { queue = frames_of l.queue.items; refusals = l.refused; medium = l.medium } };
+    ghost view = { λ l. record {
+      queue = frames_of l.queue.items;
+      refusals = l.refused;
+      medium = l.medium;
+    } };
 }
 
 /// Leave to send one frame on a loopback.

@@ -7,7 +7,9 @@ three_digits n = decimal (n / 100) ++ (decimal (n / 10 % 10) ++ decimal (n % 10)
 
 -- the text of so many microseconds; what is less than a millisecond is left out
 abbrev pub seconds_text : ℕ → List ℕ
-seconds_text micros = decimal (micros / 1_000_000) ++ (codes "." ++ (three_digits (micros % 1_000_000 / 1000) ++ codes "s"))
+seconds_text micros =
+    decimal (micros / 1_000_000)
+    ++ (codes "." ++ (three_digits (micros % 1_000_000 / 1000) ++ codes "s"))
 
 -- a count below 0 has a minus sign before the text of its absolute value
 abbrev pub signed_seconds_text : ℤ → List ℕ
