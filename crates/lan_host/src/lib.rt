@@ -14,5 +14,7 @@ mod poll;
 mod queue;
 mod socket;
 mod station;
+#[cfg(test)]
+mod tests;
 
 pub use station::Station;
