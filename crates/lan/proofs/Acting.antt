@@ -1,8 +1,7 @@
 -- A step of its own keeps what a world knows of a host.
-use Rattle.std.proofs.Common.{◌≡◌, ◌≢◌, ℕ, ◌<◌, ◌^◌, Bool, true, false, eqb, ◌==◌, cond, if◌then◌else◌, List, [], ◌∷◌, ◌++◌, length, Option, Some, ◌⊎◌, inl, inr, refl, sym, ◌∙◌, ap, subst, arith}
+use Rattle.std.proofs.Common.{◌≡◌, ◌≢◌, ℕ, Bool, true, false, ◌==◌, if◌then◌else◌, List, ◌∷◌, ◌++◌, Some, inl, inr, refl, sym, ◌∙◌, ap, subst, arith}
 use Rattle.std.proofs.lemmas.Bool.Decides.{nat_tests}
 use Rattle.lan_machine.specs.declared.event.Side.{Side}
-use Rattle.lan_machine.specs.declared.event.Side.TheVariants.{A, B}
 use Rattle.lan_machine.specs.declared.event.Event.{Event}
 use Rattle.lan_machine.specs.declared.event.Event.TheVariants.{Bind, SendTo, RecvFrom, Poll, Deliver}
 use Rattle.lan_machine.specs.declared.event.Answer.{Answer}
@@ -11,10 +10,10 @@ use Rattle.lan_machine.specs.declared.event.Fault.TheVariants.{InvalidState, Una
 use Rattle.lan_machine.specs.Members.{◌∈◌}
 use Rattle.lan_machine.specs.Values.{DatagramValue, SocketValue, HostValue, StationValue, socket_at}
 use Rattle.lan_machine.specs.Packet.{Packet, packet_of}
-use Rattle.lan_machine.specs.Machine.{datagram_of, bind_answer, packet_from, answer_of, host_after, frames_of, taken_by}
+use Rattle.lan_machine.specs.Machine.{bind_answer, packet_from, answer_of, host_after, taken_by}
 use Rattle.lan_machine.specs.Laws.{IsInRange, IsEventInRange, HasSocket, IsAccepted, HasArrived, CarriesQueued, port_after}
 use Rattle.lan.specs.Link.{other}
-use Rattle.lan.specs.Reads.{Entry, is_of, bound_port, Accepted}
+use Rattle.lan.specs.Reads.{Entry, is_of, bound_port}
 use Rattle.lan.specs.Steps.{Acts}
 use Rattle.lan.specs.Invariant.{WasAccepted, WasSpelled, IsSideOk}
 use Rattle.lan_machine.proofs.MachineLaws.{queued_law, received_law, port_law, range_law, sent_law}

@@ -1,5 +1,5 @@
 -- The history that a world's fields show.
-use Rattle.std.proofs.Common.{◌≡◌, ℕ, suc, List, [], ◌∷◌, ◌++◌, map, reverse, length, None, refl, sym, ◌∙◌, ap, subst, append_assoc, length-append, arith}
+use Rattle.std.proofs.Common.{◌≡◌, List, [], ◌∷◌, ◌++◌, map, length, None, refl, sym, ◌∙◌, ap, subst, append_assoc, length-append, arith}
 use Rattle.std.proofs.lemmas.Grind.{common_steps}
 use Rattle.std.proofs.lemmas.List.{reverse-append}
 use Rattle.lan_machine.specs.declared.event.Event.{Event}
@@ -10,7 +10,6 @@ use Rattle.lan.specs.Reads.{Entry}
 use Rattle.lan.specs.Steps.{refusal, Happens}
 use Rattle.lan.specs.Runs.{WorldValue, Step, answers_of}
 use Rattle.lan.specs.Invariant.{history_from, world_value, IsKept, IsWorldOk}
-use Rattle.lan.proofs.Turns.{next_world}
 use Rattle.lan.proofs.Keeps.{keeps}
 
 -- one more event and its answer come to the front

@@ -1,5 +1,5 @@
 -- Each step that is allowed leads from a world that is safe to one that is.
-use Rattle.std.proofs.Common.{◌≡◌, ℕ, ◌<◌, Bool, true, false, nat_lt, List, [], ◌∷◌, ◌++◌, length, Option, Some, None, refl, sym, ◌∙◌, ap, subst, arith}
+use Rattle.std.proofs.Common.{◌≡◌, ℕ, ◌<◌, Bool, true, false, nat_lt, List, [], ◌∷◌, ◌++◌, length, Some, None, refl, sym, ◌∙◌, ap, subst, arith}
 use Rattle.std.proofs.lemmas.Bool.Decides.{nat_tests}
 use Rattle.std.proofs.lemmas.List.{append-nil, length-append}
 use Rattle.lan_machine.specs.declared.event.Side.{Side}
@@ -12,13 +12,12 @@ use Rattle.lan_machine.specs.declared.event.Refused.{Refused}
 use Rattle.lan_machine.specs.Packet.{Packet, packet_of}
 use Rattle.lan_machine.specs.Values.{StationValue}
 use Rattle.lan_machine.specs.Laws.{IsEventInRange, HasSocket}
-use Rattle.lan.specs.Link.{Stations, station, other, delivered, frame_sent, with_waiting}
+use Rattle.lan.specs.Link.{Stations, station, other, delivered, frame_sent}
 use Rattle.lan.specs.Reads.{Entry, is_of, same_side, ReadWasAccepted}
-use Rattle.lan.specs.Steps.{refusal, unless_absent, has_socket, Acts, ActsAt, Happens}
+use Rattle.lan.specs.Steps.{refusal, unless_absent, ActsAt, Happens}
 use Rattle.lan.specs.Runs.{WorldValue, IsHostRun, handed_by}
-use Rattle.lan.specs.Safe.{IsSafe}
 use Rattle.lan.specs.Invariant.{WasSpelled, IsSideOk, IsKnown, AreKnown, IsWorldOk}
-use Rattle.lan.proofs.Sides.{grown, rests, joined, member_at, other_twice}
+use Rattle.lan.proofs.Sides.{rests, joined, member_at, other_twice}
 use Rattle.lan.proofs.Acting.{acting}
 use Rattle.lan.proofs.Turns.{next_world, both, acts_turn, rests_turn}
 use Rattle.lan.proofs.Handed.{all_known_among}

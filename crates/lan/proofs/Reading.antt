@@ -1,8 +1,7 @@
 -- What a step reads was accepted.
-use Rattle.std.proofs.Common.{◌≡◌, ℕ, List, refl, sym, subst, ◌∙◌}
+use Rattle.std.proofs.Common.{◌≡◌, ℕ, List, sym, subst}
 use Rattle.lan_machine.specs.declared.event.Side.{Side}
-use Rattle.lan_machine.specs.declared.event.Event.{Event}
-use Rattle.lan_machine.specs.declared.event.Event.TheVariants.{Bind, SendTo, RecvFrom, Poll, Deliver}
+use Rattle.lan_machine.specs.declared.event.Event.TheVariants.{RecvFrom}
 use Rattle.lan_machine.specs.declared.event.Answer.{Answer}
 use Rattle.lan_machine.specs.declared.event.Answer.TheVariants.{Done, FromEndpoint, Poll as Polled, Error}
 use Rattle.lan_machine.specs.Values.{DatagramValue, StationValue}

@@ -1,21 +1,13 @@
 -- Each step keeps what a world knows of one host.
-use Rattle.std.proofs.Common.{◌≡◌, ◌≢◌, ℕ, zero, suc, ◌<◌, Bool, true, false, ◌==◌, if◌then◌else◌, List, [], ◌∷◌, ◌++◌, length, get_or, Option, Some, ◌⊎◌, inl, inr, refl, sym, ◌∙◌, ap, subst, arith}
+use Rattle.std.proofs.Common.{◌≡◌, ℕ, zero, suc, ◌<◌, true, false, List, [], ◌∷◌, ◌++◌, length, get_or, Some, ◌⊎◌, inl, inr, refl, arith}
 use Rattle.lan_machine.specs.declared.event.Side.{Side}
 use Rattle.lan_machine.specs.declared.event.Side.TheVariants.{A, B}
-use Rattle.lan_machine.specs.declared.event.Event.{Event}
-use Rattle.lan_machine.specs.declared.event.Event.TheVariants.{Bind, SendTo, RecvFrom, Poll, Deliver}
-use Rattle.lan_machine.specs.declared.event.Answer.{Answer}
-use Rattle.lan_machine.specs.declared.event.Answer.TheVariants.{Done}
 use Rattle.lan_machine.specs.Members.{◌∈◌}
-use Rattle.lan_machine.specs.Values.{DatagramValue, SocketValue, HostValue, StationValue, socket_at}
+use Rattle.lan_machine.specs.Values.{StationValue}
 use Rattle.lan_machine.specs.Packet.{Packet, packet_of}
-use Rattle.lan_machine.specs.Machine.{bind_answer, packet_from, answer_of, host_after, frames_of, taken_by}
-use Rattle.lan_machine.specs.Laws.{IsInRange, IsEventInRange, HasSocket, IsAccepted, HasArrived, CarriesQueued, port_after}
 use Rattle.lan.specs.Link.{other, with_waiting}
-use Rattle.lan.specs.Reads.{Entry, same_side, is_of, bound_port, Accepted}
-use Rattle.lan.specs.Steps.{Acts}
+use Rattle.lan.specs.Reads.{Entry, same_side, is_of}
 use Rattle.lan.specs.Invariant.{WasAccepted, WasSpelled, IsSideOk}
-use Rattle.lan_machine.proofs.MachineLaws.{queued_law, received_law, port_law, range_law, sent_law}
 
 -- MEMBERS
 

@@ -1,5 +1,5 @@
 -- Each step continues the runs of the hosts.
-use Rattle.std.proofs.Common.{◌≡◌, ℕ, Bool, true, false, if◌then◌else◌, List, [], ◌∷◌, ◌++◌, length, refl, sym, ◌∙◌, ap, subst, append_assoc}
+use Rattle.std.proofs.Common.{◌≡◌, ℕ, true, false, List, [], ◌∷◌, ◌++◌, length, sym, ◌∙◌, ap, subst, append_assoc}
 use Rattle.std.proofs.lemmas.List.{append-nil}
 use Rattle.lan_machine.specs.declared.event.Side.{Side}
 use Rattle.lan_machine.specs.declared.event.Side.TheVariants.{A, B}
@@ -11,7 +11,7 @@ use Rattle.lan_machine.specs.Steps.{Turn, HostRun}
 use Rattle.lan.specs.Link.{Stations, station, other}
 use Rattle.lan.specs.Reads.{Entry, is_of}
 use Rattle.lan.specs.Steps.{Acts}
-use Rattle.lan.specs.Runs.{WorldValue, IsHostRun, entries_of, entry_of, start, frames_taken, handed_by, frames_handed}
+use Rattle.lan.specs.Runs.{WorldValue, IsHostRun, entry_of, start, frames_taken, handed_by, frames_handed}
 use Rattle.lan.specs.Invariant.{IsKnown, AreKnown}
 use Rattle.lan.proofs.Handed.{all_handed_still}
 

@@ -1,7 +1,6 @@
 -- A host that was never used, and a world that was just made.
-use Rattle.std.specs.Prelude.{◌≡◌, ℕ, Bool, ◌&&◌, nat_le, if◌then◌else◌, List, [], length, All, Option, Some, None}
+use Rattle.std.specs.Prelude.{◌≡◌, Bool, ◌&&◌, nat_le, if◌then◌else◌, [], length, All, Option, Some, None}
 use Rattle.lan_machine.specs.Values.{SocketValue, StationValue}
-use Rattle.lan.specs.Link.{Stations}
 use Rattle.lan.specs.Runs.{WorldValue}
 use Rattle.lan.specs.declared.world.WorldError.{WorldError}
 use Rattle.lan.specs.declared.world.WorldError.TheVariants.{Mtu}

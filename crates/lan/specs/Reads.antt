@@ -1,12 +1,12 @@
 -- Datagrams read were accepted: what a history of events and answers says of UDP datagrams (RFC 768).
-use Rattle.std.specs.Prelude.{◌≡◌, ℕ, Bool, true, false, ◌==◌, ◌&&◌, if◌then◌else◌, List, [], ◌∷◌, ◌⊎◌}
+use Rattle.std.specs.Prelude.{◌≡◌, ℕ, Bool, true, false, if◌then◌else◌, List, [], ◌∷◌, ◌⊎◌}
 use Rattle.lan_machine.specs.declared.event.Side.{Side}
 use Rattle.lan_machine.specs.declared.event.Side.TheVariants.{A, B}
 use Rattle.lan_machine.specs.declared.event.Endpoint.{Endpoint}
 use Rattle.lan_machine.specs.declared.event.Event.{Event}
 use Rattle.lan_machine.specs.declared.event.Event.TheVariants.{Bind, SendTo, RecvFrom, Poll, Deliver}
 use Rattle.lan_machine.specs.declared.event.Answer.{Answer}
-use Rattle.lan_machine.specs.declared.event.Answer.TheVariants.{Done, FromEndpoint, Poll as Polled, Error}
+use Rattle.lan_machine.specs.declared.event.Answer.TheVariants.{Done, FromEndpoint}
 use Rattle.lan_machine.specs.Laws.{port_after}
 use Rattle.lan.specs.Link.{other}
 

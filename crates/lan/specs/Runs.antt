@@ -1,9 +1,9 @@
 -- A world of two hosts, and its runs.
-use Rattle.std.specs.Prelude.{◌≡◌, ℕ, Bool, true, false, cond, if◌then◌else◌, List, [], ◌∷◌, ◌++◌, map, reverse, slice_index_or, Option, None}
+use Rattle.std.specs.Prelude.{◌≡◌, ℕ, if◌then◌else◌, List, [], ◌∷◌, ◌++◌, map, reverse, slice_index_or, None}
 use Rattle.lan_machine.specs.declared.event.Side.{Side}
 use Rattle.lan_machine.specs.declared.event.Side.TheVariants.{A, B}
 use Rattle.lan_machine.specs.declared.event.Event.{Event}
-use Rattle.lan_machine.specs.declared.event.Event.TheVariants.{Bind, SendTo, RecvFrom, Poll, Deliver}
+use Rattle.lan_machine.specs.declared.event.Event.TheVariants.{Deliver}
 use Rattle.lan_machine.specs.declared.event.Answer.{Answer}
 use Rattle.lan_machine.specs.Values.{HostValue, StationValue}
 use Rattle.lan_machine.specs.Steps.{Turn, HostRun}

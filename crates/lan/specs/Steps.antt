@@ -1,5 +1,5 @@
 -- What an event does to the two hosts and the link, and when it is refused.
-use Rattle.std.specs.Prelude.{◌≡◌, ℕ, ℤ, pos, ◌^◌, Bool, ◌&&◌, nat_lt, int_le, if◌then◌else◌, List, ◌++◌, length, Option, Some, None, ◌⊎◌}
+use Rattle.std.specs.Prelude.{◌≡◌, ℕ, ℤ, pos, Bool, ◌&&◌, nat_lt, int_le, if◌then◌else◌, List, ◌++◌, length, Option, Some, None, ◌⊎◌}
 use Rattle.net_base.specs.Time.{last_moment}
 use Rattle.lan_machine.specs.declared.event.Side.{Side}
 use Rattle.lan_machine.specs.declared.event.Event.{Event}
@@ -10,7 +10,7 @@ use Rattle.lan_machine.specs.declared.event.Refused.{Refused}
 use Rattle.lan_machine.specs.declared.event.Refused.TheVariants.{NoSocket, NoFrame, Moment, Memory}
 use Rattle.lan_machine.specs.Values.{StationValue}
 use Rattle.lan_machine.specs.Machine.{taken_by}
-use Rattle.lan_machine.specs.Steps.{Turn, HostStep}
+use Rattle.lan_machine.specs.Steps.{HostStep}
 use Rattle.lan.specs.Link.{Stations, station, other, delivered}
 
 -- REFUSALS

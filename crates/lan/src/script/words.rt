@@ -13,6 +13,9 @@ use net_base::Instant;
 use std::alloc::{AllocError, Global};
 use std::marker::Model;
 
+/// A part of a dotted address has at most so many digits.
+const OCTET_DIGITS: usize = 3;
+
 /// What is left of the words of a text, where each two have one separator between them.
 #[derive(Drop)]
 pub struct Words<'a> {
@@ -222,7 +225,7 @@ fn moment(word: &str) -> Option<Instant>
 fn octet(word: &str) -> Option<u8>
     ensures { result ≡ octet_of word.now }
 {
-    if word.len() <= 3 && is_digits(word) {
+    if word.len() <= OCTET_DIGITS && is_digits(word) {
         word.parse().ok()
     } else {
         None

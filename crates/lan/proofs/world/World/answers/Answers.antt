@@ -1,4 +1,4 @@
-use Rattle.std.proofs.Common.{◌∙◌, ap, ◌≡◌}
+use Rattle.std.proofs.Common.{◌∙◌, ap}
 use Rattle.lan.specs.Runs.{WorldValue, answers_of}
 use Rattle.lan.proofs.Histories.{answers_kept}
 use Rattle.lan.proofs.world.World.answers.Goals as goal

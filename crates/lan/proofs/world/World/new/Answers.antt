@@ -1,5 +1,3 @@
-use Rattle.std.proofs.Common.{ap}
-use Rattle.lan_machine.specs.Values.{StationValue}
 use Rattle.lan.proofs.Beginnings.{new_kept}
 use Rattle.lan.proofs.world.World.new.Goals as goal
 

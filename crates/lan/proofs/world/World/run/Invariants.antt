@@ -1,7 +1,4 @@
-use Rattle.std.proofs.Common.{◌≡◌, ℕ, ◌≤◌, length, take, drop}
 use Rattle.std.specs.Vec.Iter.{into_iter_items}
-use Rattle.lan.specs.Runs.{Steps}
-use Rattle.lan.specs.Safe.{IsSafe}
 use Rattle.lan.specs.Invariant.{HasRun}
 use Rattle.lan.proofs.world.World.run.Given as goal
 
