@@ -7,13 +7,11 @@ use Rattle.std.proofs.lemmas.Bool.{cases_lt}
 use Rattle.std.proofs.lemmas.List.Sums.{prefix_len-le-length}
 use Rattle.std.proofs.lemmas.Bool.Decides.{nat_tests}
 use Rattle.std.proofs.lemmas.Grind.{common_steps}
-use Rattle.lan_machine.specs.declared.event.Refused.TheVariants.{Memory}
 use Rattle.lan.specs.declared.script.answer.End.{End}
-use Rattle.lan.specs.declared.script.answer.End.TheVariants.{Refusal}
 use Rattle.lan.specs.declared.script.session.Session.{Session}
 use Rattle.lan.specs.ScriptLines.{line_of, lines_of, onto_line}
 use Rattle.lan.specs.ScriptAnswers.{end_line}
-use Rattle.lan.specs.ScriptRuns.{end_of, Leads, Replays, IsReplay}
+use Rattle.lan.specs.ScriptRuns.{end_of, Leads, Ends, Replays, IsReplay}
 
 -- LINES
 
@@ -109,7 +107,7 @@ replay_ends script n session (b ∷ bs) output h e = absurd (omega (arith, none_
 
 -- the first of the lines that are left ends the run
 pub replay_ends_early : (script : List ℕ) (n : ℕ) (session : Session) (rest output line after : List ℕ) (end : End) → Completes script n session rest output
-    → lines_of rest ≡ line ∷ lines_of after → (end_of session (line_of line) ≡ Some end) ⊎ (end ≡ Refusal Memory) → IsReplay script (output ++ end_line n end) 1
+    → lines_of rest ≡ line ∷ lines_of after → Ends session (line_of line) end → IsReplay script (output ++ end_line n end) 1
 replay_ends_early script n session rest output line after end h lines why =
     h (end_line n end) 1 (subst (λ ls. Replays n session ls (end_line n end) 1) (sym lines) (inl (end, why, refl, refl)))
 

@@ -1,9 +1,9 @@
 -- Lemmas on the words of a script.
-use Rattle.std.proofs.Common.{◌≡◌, ℕ, ℤ, pos, ◌==◌, ◌+◌, ◌<◌, ◌≤◌, ◌^◌, Bool, true, false, not, cond, eqb, ltb, ◌&&◌, List, [], ◌∷◌, length, refl, sym, inl, inr, ap, ◌∙◌, arith, rules, Option, Some, None, Result, Ok, Err, drop}
+use Rattle.std.proofs.Common.{◌≡◌, ℕ, ℤ, pos, ◌==◌, ◌+◌, ◌-◌, ◌%◌, ◌<◌, ◌≤◌, ◌^◌, Bool, true, false, not, cond, eqb, ltb, nat_le, ◌&&◌, ◌||◌, List, [], ◌∷◌, length, refl, sym, inl, inr, ap, ◌∙◌, arith, rules, Option, Some, None, Result, Ok, Err, drop}
 use Rattle.std.specs.Option.{is_some}
 use Rattle.std.specs.List.{slice_split, onto_first, position_or_len, list_all, before_first, after_first}
-use Rattle.std.specs.Char.{is_ascii_digit}
-use Rattle.std.specs.Result.{result_ok}
+use Rattle.std.specs.Char.{is_ascii_digit, is_ascii_hexdigit}
+use Rattle.std.specs.Result.{result_ok, is_ok}
 use Rattle.std.specs.Str.Parse.{ParsesUnsigned, ParsesSigned, digits_value}
 use Rattle.std.specs.Int.{w64}
 use Rattle.std.proofs.lemmas.Str.Parse.{IsNumeralModel, numerals_by_value, parse_digits, parse_signed_digits}
@@ -11,8 +11,12 @@ use Rattle.std.proofs.lemmas.Bool.Decides.{nat_tests}
 use Rattle.std.proofs.lemmas.List.Splits.{length-slice_split, slice_split_first}
 use Rattle.std.proofs.lemmas.Bool.{cases_lt}
 use denote.Ref.{Bor}
+use Rattle.std.proofs.lemmas.List.Sums.{AllPass-from_list_all, list_all-from_AllPass}
+use Rattle.hex.specs.declared.error.FromHexError.{FromHexError}
+use Rattle.hex.specs.Hex.{is_hex_digit, decode_of}
+use Rattle.hex.proofs.HexLemmas.{decode_of-ok, decode_of-digits}
 use Rattle.lan.specs.ScriptWords.{words_of, words_left, number_of, micros_of, octet_of, first_as, four, ◌>>=◌}
-use Rattle.lan.specs.ScriptLines.{at_end}
+use Rattle.lan.specs.ScriptLines.{at_end, within}
 
 -- WORDS
 
@@ -121,3 +125,52 @@ four_by_steps f g h i make (a ∷ b ∷ []) = none_after_two (f a) (g b)
 four_by_steps f g h i make (a ∷ b ∷ c ∷ []) = none_after_three (f a) (g b) (h c)
 four_by_steps f g h i make (a ∷ b ∷ c ∷ d ∷ []) = refl
 four_by_steps f g h i make (a ∷ b ∷ c ∷ d ∷ e ∷ rest) = none_after_four (f a) (g b) (h c) (i d)
+
+-- HEX
+
+some_of_three : {X : Type 0} (p q r : Bool) (x y z : X) → ((r || p) || q) ≡ is_some (cond p (Some x) (cond q (Some y) (cond r (Some z) None)))
+some_of_three true q true x y z = refl
+some_of_three true q false x y z = refl
+some_of_three false true true x y z = refl
+some_of_three false true false x y z = refl
+some_of_three false false true x y z = refl
+some_of_three false false false x y z = refl
+
+same_digits : (word : List ℕ) → list_all is_ascii_hexdigit word ≡ list_all is_hex_digit word
+same_digits [] = refl
+same_digits (c ∷ cs) = rw (some_of_three (nat_le 65 c && nat_le c 70) (nat_le 97 c && nat_le c 102) (nat_le 48 c && nat_le c 57) (c - 55) (c - 87) (c - 48), same_digits cs) refl
+
+only_digits_decode : (word : List ℕ) (r : Result (List ℕ) FromHexError) → decode_of word ≡ r → list_all is_hex_digit word ≡ false → false ≡ is_ok r
+only_digits_decode word (Ok bytes) e h =
+    let all = list_all-from_AllPass is_hex_digit word (decode_of-ok word bytes e).1 in cc
+only_digits_decode word (Err error) e h = refl
+
+digits_decode : (word : List ℕ) (all : Bool) → list_all is_hex_digit word ≡ all → length word % 2 ≡ 0 → all ≡ is_ok (decode_of word)
+digits_decode word true h even =
+    let found = decode_of-digits word even (AllPass-from_list_all is_hex_digit word h) in
+    rw found.1 refl
+digits_decode word false h even = only_digits_decode word (decode_of word) refl h
+
+-- pairs of digits are what decodes
+pub list_all-hex : (word : List ℕ) → length word % 2 ≡ 0 → list_all is_ascii_hexdigit word ≡ is_ok (decode_of word)
+list_all-hex word even = digits_decode word (list_all is_ascii_hexdigit word) (sym (same_digits word)) even
+
+-- FOUR WORDS READ
+
+pub within_some : {X : Type 0} (said : Option X) (x : X) → Ok x ≡ within said → said ≡ Some x
+within_some None x h = cc
+within_some (Some y) x h = cc
+
+at_end_some : {X : Type 0} (words : List (List ℕ)) (x : X) (u : Unit {0}) → at_end tt words ≡ Some u → at_end x words ≡ Some x
+at_end_some [] x u h = refl
+at_end_some (word ∷ words) x u h = cc
+
+-- what four readers found, each behind the word of the one before, and nothing behind them
+pub four_read : {P Q R S T : Type 0} (f : List ℕ → Option P) (g : List ℕ → Option Q) (h : List ℕ → Option R) (i : List ℕ → Option S) (make : P → Q → R → S → T)
+    (w0 w1 w2 w3 w4 : List (List ℕ)) (p : P) (q : Q) (r : R) (s : S) (u : Unit {0})
+    → w1 ≡ drop 1 w0 → w2 ≡ drop 1 w1 → w3 ≡ drop 1 w2 → w4 ≡ drop 1 w3
+    → Ok p ≡ within (first_as f w0) → Ok q ≡ within (first_as g w1) → Ok r ≡ within (first_as h w2) → Ok s ≡ within (first_as i w3) → Ok u ≡ within (at_end tt w4)
+    → four f g h i make w0 ≡ Some (make p q r s)
+four_read f g h i make w0 w1 w2 w3 w4 p q r s u e1 e2 e3 e4 fp gq hr is end =
+    rw (four_by_steps f g h i make w0, ← e1, ← e2, ← e3, ← e4, within_some _ _ fp, within_some _ _ gq, within_some _ _ hr, within_some _ _ is)
+    (at_end_some w4 (make p q r s) u (within_some (at_end tt w4) u end))

@@ -2,14 +2,8 @@
 use Rattle.lan_machine.specs.declared.event.Refused.TheVariants as refused
 use Rattle.lan.specs.declared.world.WorldError.{WorldError}
 use Rattle.lan.specs.declared.world.WorldError.TheVariants as world_error
-use Rattle.lan.specs.declared.script.line.LineError.{LineError}
-use Rattle.lan.specs.declared.script.line.LineError.TheVariants as line_error
 use Rattle.lan.specs.declared.script.answer.End.{End}
 use Rattle.lan.specs.declared.script.answer.End.TheVariants as end
-
-abbrev pub line_end : LineError → End
-line_end line_error.Outside = end.BadEvent
-line_end line_error.Memory = end.Refusal refused.Memory
 
 abbrev pub world_end : WorldError → End
 world_end world_error.Mtu = end.Mtu

@@ -70,3 +70,8 @@ line_of_words (verb ∷ words) =
 -- what a line of a script says: ASCII text, its words one blank apart
 abbrev pub line_of : List ℕ → Option Line
 line_of text = if list_all (λ b. nat_lt b 128) text then line_of_words (words_of 32 text) else None
+
+-- a line says an event: it alone may name bytes
+abbrev pub SaysEvent : Option Line → Type 0
+SaysEvent (Some (Happening event)) = Unit {0}
+SaysEvent _ = ⊥

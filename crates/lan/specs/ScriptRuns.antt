@@ -1,5 +1,5 @@
 -- A run of a script: what each line does and writes, and what the whole writes.
-use Rattle.std.specs.Prelude.{◌≡◌, ℕ, ◌+◌, if◌then◌else◌, List, [], ◌∷◌, ◌++◌, length, drop, codes, ◌⊎◌, Option, Some, None, option_map}
+use Rattle.std.specs.Prelude.{◌≡◌, ◌≢◌, ℕ, ◌+◌, if◌then◌else◌, List, [], ◌∷◌, ◌++◌, length, drop, codes, ◌⊎◌, Option, Some, None, option_map}
 use Rattle.lan_machine.specs.declared.event.Side.{Side}
 use Rattle.lan_machine.specs.declared.event.Side.TheVariants.{A, B}
 use Rattle.lan_machine.specs.declared.event.Event.{Event}
@@ -44,6 +44,10 @@ end_of (Header h) (Some Start) = option_map world_end (new_refusal (host_of h A)
 end_of (Running world) (Some (Happening event)) = option_map Refusal (refusal world.hosts event)
 end_of _ _ = Some BadEvent
 
+-- why a line ends the run: memory may be wanting at each line that is neither outside the grammar nor out of order
+abbrev pub Ends : Session → Option Line → End → Type 0
+Ends session line end = (end_of session line ≡ Some end) ⊎ ((end ≡ Refusal Memory) × (end_of session line ≢ Some BadEvent))
+
 -- where else a line leads, and what it writes
 abbrev pub Leads : Session → Option Line → List ℕ → Session → Type 0
 Leads Begun (Some (World mtu)) text next = (text ≡ []) × (next ≡ Header (record { mtu = mtu; sockets = [] }))
@@ -56,12 +60,11 @@ Leads _ _ text next = ⊥
 
 -- RUNS
 
--- what the lines from line n on write, and the status: 0 at the end of the script, 1 after the line that ended the run;
--- at any line memory may be wanting
+-- what the lines from line n on write, and the status: 0 at the end of the script, 1 after the line that ended the run
 abbrev pub Replays : ℕ → Session → List (List ℕ) → List ℕ → ℕ → Type 0
 Replays n session [] output status = (output ≡ []) × (status ≡ 0)
 Replays n session (line ∷ lines) output status =
-    ((end : End) × ((end_of session (line_of line) ≡ Some end) ⊎ (end ≡ Refusal Memory)) × (output ≡ end_line n end) × (status ≡ 1))
+    ((end : End) × Ends session (line_of line) end × (output ≡ end_line n end) × (status ≡ 1))
     ⊎ ((text : List ℕ) × (next : Session) × (rest : List ℕ)
     × (end_of session (line_of line) ≡ None) × Leads session (line_of line) text next
     × Replays (n + 1) next lines rest status × (output ≡ text ++ rest))

@@ -4,7 +4,7 @@ use Rattle.std.specs.List.{slice_split, list_all}
 use Rattle.std.specs.Char.{is_ascii_digit}
 use Rattle.std.specs.Str.{bytes_eq}
 use Rattle.std.specs.Str.Parse.{digits_value}
-use Rattle.std.specs.Result.{result_ok}
+use Rattle.std.specs.Result.{result_ok, result_unwrap_or, IsOk}
 use Rattle.hex.specs.Hex.{decode_of}
 use Rattle.lan_machine.specs.declared.event.Side.{Side}
 use Rattle.lan_machine.specs.declared.event.Side.TheVariants.{A, B}
@@ -56,6 +56,15 @@ bytes_of word =
     if bytes_eq word (codes "-") then Some []
     else if length word == 0 then None
     else result_ok (decode_of word)
+
+-- the bytes that digits in hex say; no bytes without digits
+abbrev pub bytes_said : Option (Bor (List ℕ)) → List ℕ
+bytes_said None = []
+bytes_said (Some digits) = result_unwrap_or (decode_of digits.now) []
+
+abbrev pub IsHex : Option (Bor (List ℕ)) → Type 0
+IsHex None = Unit {0}
+IsHex (Some digits) = IsOk (decode_of digits.now)
 
 -- a word that has to be this one
 abbrev pub exactly : List ℕ → List ℕ → Option (Unit {0})

@@ -4,7 +4,6 @@ ghost use Rattle.std.specs.String.{string_bytes};
 ghost use Rattle.net_base.specs.Device.{frames_of};
 ghost use Rattle.lan.specs.ScriptAnswers.{hex_text, side_name, fault_name, refused_name, answer_line, sent_line, sent_lines};
 
-use super::line::LineError;
 use crate::world::WorldError;
 use lan_machine::{Answer, Fault, Refused, Side};
 use std::alloc::{AllocError, Global};
@@ -41,20 +40,6 @@ impl From<Refused> for End {
 
     fn from(refused: Refused) -> End {
         End::Refusal(refused)
-    }
-}
-
-impl From<LineError> for End {
-    ghost use Rattle.std.specs.Prelude.{◌≡◌};
-    ghost use Rattle.lan.specs.ScriptEnds.{line_end};
-
-    ghost from_gives = { λ error end. end ≡ line_end error };
-
-    fn from(error: LineError) -> End {
-        match error {
-            LineError::Outside => End::BadEvent,
-            LineError::Memory => End::Refusal(Refused::Memory),
-        }
     }
 }
 

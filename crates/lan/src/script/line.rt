@@ -1,13 +1,13 @@
 //! The lines of a script.
-ghost use Rattle.std.specs.Prelude.{◌≡◌, None, Some, Err, IfOk};
-ghost use Rattle.lan.specs.ScriptLines.{line_of, line_of_words, event_of, world_of, socket_of, sizes_of, within};
+ghost use Rattle.std.specs.Prelude.{◌≡◌, None, Some, Err, IfOk, IsSome};
+ghost use Rattle.lan.specs.ScriptLines.{line_of, line_of_words, event_of, world_of, socket_of, sizes_of, within, SaysEvent};
 ghost use Rattle.lan.specs.ScriptWords.{two, three, four, side_of, size_of, short_of, micros_of, bytes_of, endpoint_of};
 ghost use Rattle.lan_machine.specs.declared.event.Event.TheVariants.{Bind, SendTo, RecvFrom, Poll, Deliver};
-ghost use Rattle.lan.specs.declared.script.line.LineError.TheVariants.{Outside};
+ghost use Rattle.lan.specs.declared.script.line.LineError.TheVariants.{Outside, Memory};
 
 use super::words::Words;
 use lan_machine::{Event, Side};
-use std::alloc::Global;
+use std::alloc::{AllocError, Global};
 use thiserror::Error;
 
 /// What a line of a script says.
@@ -42,11 +42,23 @@ pub enum LineError {
     Memory,
 }
 
+impl From<AllocError> for LineError {
+    ghost use Rattle.std.specs.Prelude.{◌≡◌};
+    ghost use Rattle.lan.specs.declared.script.line.LineError.TheVariants.{Memory};
+
+    ghost from_gives = { λ _ error. error ≡ Memory };
+
+    fn from(_error: AllocError) -> LineError {
+        LineError::Memory
+    }
+}
+
 impl Line {
     /// What a line says, without the byte 0a that ends it.
     pub fn read(alloc: Global, text: &[u8]) -> Result<Line, LineError>
         ensures found { IfOk result (λ line. line_of text.now ≡ Some line) }
         ensures only { result ≡ Err Outside → line_of text.now ≡ None }
+        ensures memory { result ≡ Err Memory → SaysEvent (line_of text.now) }
     {
         if !text.is_ascii() {
             return Err(LineError::Outside);
@@ -61,6 +73,7 @@ impl Line {
 fn from_words(alloc: Global, words: &mut Words<'_>) -> Result<Line, LineError>
     ensures found { IfOk result (λ line. line_of_words words.old ≡ Some line) }
     ensures only { result ≡ Err Outside → line_of_words words.old ≡ None }
+    ensures memory { result ≡ Err Memory → SaysEvent (line_of_words words.old) }
 {
     let verb = words.word().ok_or(LineError::Outside)?;
     match verb {
@@ -107,6 +120,7 @@ fn sizes(words: &mut Words<'_>) -> Result<SocketSizes, LineError>
 fn event(alloc: Global, verb: &str, words: &mut Words<'_>) -> Result<Event, LineError>
     ensures found { IfOk result (λ event. event_of verb.now words.old ≡ Some event) }
     ensures only { result ≡ Err Outside → event_of verb.now words.old ≡ None }
+    ensures memory { result ≡ Err Memory → IsSome (event_of verb.now words.old) }
 {
     match verb {
         "bind" => bind(words),
@@ -130,13 +144,14 @@ fn bind(words: &mut Words<'_>) -> Result<Event, LineError>
 fn send_to(alloc: Global, words: &mut Words<'_>) -> Result<Event, LineError>
     ensures found { IfOk result (λ event. four side_of size_of endpoint_of bytes_of SendTo words.old ≡ Some event) }
     ensures only { result ≡ Err Outside → four side_of size_of endpoint_of bytes_of SendTo words.old ≡ None }
+    ensures memory { result ≡ Err Memory → IsSome (four side_of size_of endpoint_of bytes_of SendTo words.old) }
 {
     let side = words.side()?;
     let socket = words.size()?;
     let remote = words.endpoint()?;
-    let bytes = words.bytes(alloc)?;
+    let bytes = words.bytes()?;
     words.end()?;
-    Ok(Event::SendTo(side, socket, remote, bytes))
+    Ok(Event::SendTo(side, socket, remote, bytes.decode(alloc)?))
 }
 
 fn receive_from(words: &mut Words<'_>) -> Result<Event, LineError>
@@ -158,10 +173,11 @@ fn poll(words: &mut Words<'_>) -> Result<Event, LineError>
 fn deliver(alloc: Global, words: &mut Words<'_>) -> Result<Event, LineError>
     ensures found { IfOk result (λ event. three side_of size_of bytes_of Deliver words.old ≡ Some event) }
     ensures only { result ≡ Err Outside → three side_of size_of bytes_of Deliver words.old ≡ None }
+    ensures memory { result ≡ Err Memory → IsSome (three side_of size_of bytes_of Deliver words.old) }
 {
     let from = words.side()?;
     let frame = words.size()?;
-    let padding = words.bytes(alloc)?;
+    let padding = words.bytes()?;
     words.end()?;
-    Ok(Event::Deliver(from, frame, padding))
+    Ok(Event::Deliver(from, frame, padding.decode(alloc)?))
 }

@@ -14,10 +14,10 @@ ghost use Rattle.lan.specs.declared.script.answer.End.TheVariants.{Refusal};
 ghost use Rattle.lan_machine.specs.declared.event.Refused.TheVariants.{Memory};
 
 use super::answer::{End, answer_line, push_sent};
-use super::line::{Line, SocketSizes};
+use super::line::{Line, LineError, SocketSizes};
 use crate::host::Host;
 use crate::world::World;
-use lan_machine::{Event, Side};
+use lan_machine::{Event, Refused, Side};
 use net_base::{ChecksumCapabilities, DeviceCapabilities, Medium};
 use std::alloc::{AllocError, Global};
 use std::marker::Model;
@@ -49,16 +49,24 @@ impl Model for Header {
 }
 
 impl Session {
-    ghost use Rattle.lan.specs.ScriptLines.{line_of};
-    ghost use Rattle.lan.specs.ScriptRuns.{end_of, Leads};
+    ghost use Rattle.std.specs.Prelude.{◌≡◌, None, IfOk, IfErr, Option};
+    ghost use Rattle.std.specs.String.{string_bytes};
+    ghost use Rattle.lan.specs.declared.script.line.Line.{Line};
+    ghost use Rattle.lan.specs.ScriptLines.{line_of, SaysEvent};
+    ghost use Rattle.lan.specs.ScriptRuns.{end_of, Leads, Ends};
 
     /// Takes one line, without the byte 0a that ends it: what it leads to, and what it writes.
     pub fn take_line(self, alloc: Global, text: &[u8]) -> Result<(Session, String), End>
         ensures allowed { IfOk result (λ r. end_of self (line_of text.now) ≡ None) }
         ensures leads { IfOk result (λ r. Leads self (line_of text.now) (string_bytes r.1) r.0) }
-        ensures ends { IfErr result (λ end. (end_of self (line_of text.now) ≡ Some end) ⊎ (end ≡ Refusal Memory)) }
+        ensures ends { IfErr result (Ends self (line_of text.now)) }
     {
-        match (self, Line::read(alloc, text)?) {
+        let line = match Line::read(alloc, text) {
+            Ok(line) => line,
+            Err(LineError::Outside) => return Err(End::BadEvent),
+            Err(LineError::Memory) => return Err(self.end_without_memory()),
+        };
+        match (self, line) {
             (Session::Begun, Line::World(mtu)) => {
                 Ok((Session::Header(Header::new(alloc, mtu)), String::new(alloc)))
             }
@@ -75,6 +83,16 @@ impl Session {
                 Ok((Session::Running(world), text))
             }
             _ => Err(End::BadEvent),
+        }
+    }
+
+    // How the run ends at an event that finds no memory: events are in order once the hosts run.
+    fn end_without_memory(&self) -> End
+        ensures { (line : Option Line) → SaysEvent line → Ends self.now line result }
+    {
+        match self {
+            Session::Running(_) => End::Refusal(Refused::Memory),
+            Session::Begun | Session::Header(_) => End::BadEvent,
         }
     }
 }

@@ -1,17 +1,20 @@
 //! The words of a line, and the classes that they come in.
-ghost use Rattle.std.specs.Prelude.{◌≡◌, ℕ, ◌^◌, ◌<◌, List, drop, slice_get, option_copied, IfOk, Some, None, Err, length, ◌==◌};
+ghost use Rattle.std.specs.Prelude.{◌≡◌, ℕ, ◌^◌, ◌<◌, List, drop, slice_get, option_copied, IfOk, length, ◌==◌};
 ghost use Rattle.std.specs.List.{list_all};
-ghost use Rattle.std.specs.Char.{is_ascii_digit};
+ghost use Rattle.std.specs.Char.{is_ascii_digit, is_ascii_hexdigit};
 ghost use Rattle.lan.specs.ScriptWords.{words_of, size_of, short_of, micros_of, side_of, bytes_of, octet_of, address_of, endpoint_of, exactly, first_as};
+ghost use Rattle.std.specs.Result.{is_ok};
+ghost use Rattle.hex.specs.Hex.{decode_of};
 ghost use Rattle.lan.specs.ScriptLines.{within, at_end};
-ghost use Rattle.lan.specs.declared.script.line.LineError.TheVariants.{Outside};
 
 use super::line::LineError;
-use hex::FromHexError;
 use lan_machine::{Bytes, Endpoint, Side};
 use net_base::Instant;
-use std::alloc::Global;
+use std::alloc::{AllocError, Global};
 use std::marker::Model;
+
+/// A part of a dotted address has at most so many digits.
+const OCTET_DIGITS: usize = 3;
 
 /// What is left of the words of a text, where each two have one separator between them.
 #[derive(Drop)]
@@ -132,15 +135,43 @@ impl<'a> Words<'a> {
     }
 
     /// Bytes in hex.
-    pub fn bytes(&mut self, alloc: Global) -> Result<Bytes, LineError>
-        ensures found { IfOk result (λ bytes. (first_as bytes_of self.old) ≡ Some bytes) }
-        ensures only { result ≡ Err Outside → (first_as bytes_of self.old) ≡ None }
+    pub fn bytes(&mut self) -> Result<Hex<'a>, LineError>
+        ensures value { result ≡ within (first_as bytes_of self.old) }
         ensures rest { self.new ≡ drop 1 self.old }
     {
-        match self.word() {
-            Some(word) => bytes(alloc, word),
-            None => Err(LineError::Outside),
-        }
+        self.word().and_then(bytes).ok_or(LineError::Outside)
+    }
+}
+
+/// The text of bytes, which is in the grammar and takes no memory of its own. A contract sees the
+/// bytes.
+#[derive(Drop)]
+pub struct Hex<'a> {
+    // None where the text is `-`.
+    digits: Option<&'a str>,
+}
+
+impl<'a> Model for Hex<'a> {
+    ghost use Rattle.std.specs.Prelude.{List, ℕ};
+    ghost use Rattle.lan.specs.ScriptWords.{bytes_said, IsHex};
+
+    ghost Value = { List ℕ };
+
+    ghost view = { λ h. bytes_said h.digits };
+
+    ghost invariant = { λ h. IsHex h.digits };
+}
+
+impl<'a> Hex<'a> {
+    /// The bytes.
+    pub fn decode(self, alloc: Global) -> Result<Bytes, AllocError>
+        ensures { IfOk result (λ bytes. bytes ≡ self.entry) }
+    {
+        let bytes = match self.digits {
+            None => Vec::new(alloc),
+            Some(digits) => hex::decode(alloc, digits).map_err(|_| AllocError)?,
+        };
+        Ok(Bytes::from_vec(bytes))
     }
 }
 
@@ -194,7 +225,7 @@ fn moment(word: &str) -> Option<Instant>
 fn octet(word: &str) -> Option<u8>
     ensures { result ≡ octet_of word.now }
 {
-    if word.len() <= 3 && is_digits(word) {
+    if word.len() <= OCTET_DIGITS && is_digits(word) {
         word.parse().ok()
     } else {
         None
@@ -224,19 +255,26 @@ fn endpoint(word: &str) -> Option<Endpoint>
     Some(Endpoint { address, port })
 }
 
-fn bytes(alloc: Global, word: &str) -> Result<Bytes, LineError>
-    ensures found { IfOk result (λ bytes. bytes_of word.now ≡ Some bytes) }
-    ensures only { result ≡ Err Outside → bytes_of word.now ≡ None }
+fn bytes(word: &str) -> Option<Hex<'_>>
+    ensures { result ≡ bytes_of word.now }
 {
     if word == "-" {
-        return Ok(Bytes::from_vec(Vec::new(alloc)));
+        return Some(Hex { digits: None });
     }
-    if word.is_empty() {
-        return Err(LineError::Outside);
+    if word.is_empty() || !is_hex(word) {
+        return None;
     }
-    match hex::decode(alloc, word) {
-        Ok(bytes) => Ok(Bytes::from_vec(bytes)),
-        Err(FromHexError::OutOfMemory) => Err(LineError::Memory),
-        Err(_) => Err(LineError::Outside),
-    }
+    Some(Hex { digits: Some(word) })
+}
+
+fn is_hex(word: &str) -> bool
+    ensures { result ≡ is_ok (decode_of word.now) }
+{
+    word.len() % 2 == 0 && all_hex_digits(word)
+}
+
+fn all_hex_digits(word: &str) -> bool
+    ensures { result ≡ list_all is_ascii_hexdigit word.now }
+{
+    word.bytes().all(|b| b.is_ascii_hexdigit())
 }

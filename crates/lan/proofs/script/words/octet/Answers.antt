@@ -6,4 +6,4 @@ use Rattle.lan.proofs.script.words.octet.Goals as goal
 pub returns-then-is_digits : goal.returns-then-is_digits
 returns-then-is_digits c =
     c.ok.ensures.value ∙ number_of_parsed 8 c.args.word.now _ c.parse.ensures.value.0 (sym c.is_digits.ensures ∙ c.if-is_digits.true)
-    ∙ sym (octet_of_short c.args.word.now c.if-word-le3.true)
+    ∙ sym (octet_of_short c.args.word.now c.if-word-le-OCTET_DIGITS.true)

@@ -11,3 +11,7 @@ returns-in_default-clause-only c =
 pub returns-clause-found : goal.returns-clause-found
 returns-clause-found c =
     rw (line_of_ascii c.args.text.now c.if-not-is_ascii.ensures.cases, ← c.in-Ok.ensures.cases.0, ← c.new.ensures) c.from_words.ensures.found
+
+pub returns-clause-memory : goal.returns-clause-memory
+returns-clause-memory c =
+    rw (line_of_ascii c.args.text.now c.if-not-is_ascii.ensures.cases, ← c.in-Ok.ensures.cases.0, ← c.new.ensures) c.from_words.ensures.memory
