@@ -16,8 +16,9 @@ use Rattle.lan.specs.Link.{other}
 use Rattle.lan.specs.Reads.{Entry, is_of, bound_port}
 use Rattle.lan.specs.Steps.{Acts}
 use Rattle.lan.specs.Invariant.{WasAccepted, WasSpelled, IsSideOk}
+use Rattle.lan_machine.proofs.Members.{member_of_append}
 use Rattle.lan_machine.proofs.MachineLaws.{queued_law, received_law, port_law, range_law, sent_law}
-use Rattle.lan.proofs.Sides.{same_side_true, grown, member_left, member_right, either_part}
+use Rattle.lan.proofs.Sides.{same_side_true, grown, member_left, member_right}
 
 -- PORTS
 
@@ -130,7 +131,7 @@ module _ (h : List Entry) (side : Side) (old new : StationValue) (event : Event)
   sent : (frame : List ℕ) → frame ∈ new.sent → (padding : List ℕ) (p : Packet) → packet_of (frame ++ padding) ≡ Some p → WasSpelled (e ∷ h) side p
   sent frame m padding p is =
       let m' : frame ∈ (old.sent ++ acts.frames) = subst (λ (frames : List (List ℕ)). frame ∈ frames) acts.sends m in
-      elim (either_part frame old.sent acts.frames m') [
+      elim (member_of_append frame old.sent acts.frames m') [
         | inl before ↦ grown e h side _ _ _ (ok.sent frame before padding p is)
         | inr now ↦ grown e h side _ _ _ (carried frame (sent_law old.host event taken frame ok.in_range (subst (λ (frames : List (List ℕ)). frame ∈ frames) acts.step.sends now)) padding p is)
       ]
@@ -141,7 +142,6 @@ module _ (h : List Entry) (side : Side) (old new : StationValue) (event : Event)
 
   pub acting : IsSideOk (e ∷ h) side new
   acting =
-      let station : StationValue = record { host = after; waiting = new.waiting; sent = new.sent } in
       subst (λ (host : HostValue). IsSideOk (e ∷ h) side (record { host = host; waiting = new.waiting; sent = new.sent })) (sym acts.step.becomes)
       (record {
         in_range = in_range;

@@ -2,6 +2,7 @@
 use Rattle.std.proofs.Common.{◌≡◌, ℕ, zero, suc, ◌<◌, true, false, List, [], ◌∷◌, ◌++◌, length, get_or, Some, ◌⊎◌, inl, inr, refl, arith}
 use Rattle.lan_machine.specs.declared.event.Side.{Side}
 use Rattle.lan_machine.specs.declared.event.Side.TheVariants.{A, B}
+use Rattle.lan_machine.proofs.Members.{member_of_append}
 use Rattle.lan_machine.specs.Members.{◌∈◌}
 use Rattle.lan_machine.specs.Values.{StationValue}
 use Rattle.lan_machine.specs.Packet.{Packet, packet_of}
@@ -24,11 +25,6 @@ member_left x (y ∷ xs) ys (inr h) = inr (member_left x xs ys h)
 pub member_right : {X : Type 0} (x : X) (xs ys : List X) → x ∈ ys → x ∈ (xs ++ ys)
 member_right x [] ys h = h
 member_right x (y ∷ xs) ys h = inr (member_right x xs ys h)
-
-pub either_part : {X : Type 0} (x : X) (xs ys : List X) → x ∈ (xs ++ ys) → (x ∈ xs) ⊎ (x ∈ ys)
-either_part x [] ys h = inr h
-either_part x (y ∷ xs) ys (inl h) = inl (inl h)
-either_part x (y ∷ xs) ys (inr h) = elim (either_part x xs ys h) [ inl l ↦ inl (inr l) | inr r ↦ inr r ]
 
 -- SIDES
 
@@ -69,7 +65,7 @@ joined h side s frame says ok =
       received = ok.received;
       queued = ok.queued;
       sent = ok.sent;
-      waiting = λ f m p is. elim (either_part f s.waiting (frame ∷ []) m) [
+      waiting = λ f m p is. elim (member_of_append f s.waiting (frame ∷ []) m) [
         | inl old ↦ ok.waiting f old p is
         | inr (inl new) ↦ says p (rw new at is)
         | inr (inr none) ↦ absurd none
