@@ -3,3 +3,4 @@ pub mod Rings
 pub mod RingSteps
 pub mod Answered
 pub mod Runs
+pub mod PacketQueues

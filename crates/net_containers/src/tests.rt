@@ -1,5 +1,8 @@
 //! Values from outside: the worked examples of the original crate's tests.
-use crate::{Assembler, Empty, Full, ManagedSlice, Resettable, RingBuffer, TooManyHolesError};
+use crate::{
+    Assembler, Empty, Full, ManagedSlice, PacketBuffer, PacketMetadata, Resettable, RingBuffer,
+    TooManyHolesError,
+};
 use std::test::Fail;
 
 fn ring_of(rt: &HostRuntime, size: usize) -> Result<RingBuffer<u8>, Fail> {
@@ -154,5 +157,29 @@ fn joins_runs(rt: HostRuntime) -> Result<(), Fail> {
     assert_eq!(rt; held.remove_front(), 0);
     let text = format!(in rt.alloc(); "{TooManyHolesError}")?;
     assert!(rt; text.as_str() == "too many holes");
+    Ok(())
+}
+
+#[test]
+fn begins_with_no_packet(rt: HostRuntime) -> Result<(), Fail> {
+    let entries = vec![in rt.alloc(); PacketMetadata::EMPTY, PacketMetadata::EMPTY]?;
+    let bytes = vec![in rt.alloc(); 0; 16]?;
+    let mut packets: PacketBuffer<u16> = PacketBuffer::new(
+        ManagedSlice::Fixed(entries),
+        ManagedSlice::Fixed(bytes),
+    );
+    assert_eq!(rt;
+        (packets.packet_capacity(), packets.payload_capacity()),
+        (2, 16)
+    );
+    packets.reset();
+    assert_eq!(rt;
+        (
+            packets.is_empty(),
+            packets.is_full(),
+            packets.payload_bytes_count()
+        ),
+        (true, false, 0)
+    );
     Ok(())
 }
