@@ -1,11 +1,10 @@
 -- Numbers whose first bits agree: blocks of addresses as sets.
-use Rattle.std.proofs.Common.{◌≡◌, ◌≢◌, ℕ, ◌+◌, ◌-◌, ◌*◌, ◌/◌, ◌%◌, ◌^◌, ◌<◌, ◌≤◌, ◌++◌, List, [], ◌∷◌, inl, inr, zero, suc, refl, sym, ◌∙◌, ap, arith, length, slice_index}
-use Rattle.std.specs.Int.{bytes_high_first}
+use Rattle.std.proofs.Common.{◌≡◌, ℕ, ◌+◌, ◌-◌, ◌*◌, ◌/◌, ◌%◌, ◌^◌, ◌<◌, ◌≤◌, [], inl, inr, zero, suc, refl, sym, ◌∙◌, ap, arith}
 use Rattle.std.proofs.Math.Nat.{div-div-eq-div-mul, mul-le-mul_right, suc-mul, mul-div_cancel, add-div_right}
-use Rattle.std.proofs.Math.Pow.{pow_mono, pow-lt}
+use Rattle.std.proofs.Math.Pow.{pow-lt}
 use Rattle.std.proofs.lemmas.Bool.{cases_lt}
 use Rattle.std.proofs.lemmas.List.{append-nil}
-use Rattle.std.proofs.lemmas.Nat.{pow-add, pow_pos, shr_split, shr_high, div_below, div-mul-add, shl_below}
+use Rattle.std.proofs.lemmas.Nat.{pow-add, pow_pos, shr_split, shr_high, div_below}
 use Rattle.byteorder.specs.Endian.{big_bytes, big_number}
 use Rattle.byteorder.specs.Numbers.{length-bytes_high_first, big_number-reads_back}
 use Rattle.ip_address.specs.Address.{v4_number, v6_number, IsIpv4Address, IsIpv6Address}

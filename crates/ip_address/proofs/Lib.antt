@@ -1,3 +1,4 @@
 pub mod Sums
 pub mod Masks
 pub mod Blocks
+pub mod Texts

@@ -1,5 +1,5 @@
 -- What contracts see of addresses: the numbers that they are, most significant byte first, and where they belong.
-use Rattle.std.specs.Prelude.{◌≡◌, ℕ, ◌-◌, ◌/◌, ◌%◌, ◌^◌, ◌≤◌, ◌==◌, if◌then◌else◌, List, [], ◌∷◌, ◌++◌, length, take, drop, replicate, slice_index, ⊤}
+use Rattle.std.specs.Prelude.{◌≡◌, ℕ, ◌-◌, ◌/◌, ◌%◌, ◌^◌, ◌≤◌, ◌==◌, if◌then◌else◌, List, [], ◌∷◌, ◌++◌, length, take, drop, replicate, slice_index}
 use Rattle.byteorder.specs.Endian.{big_number}
 use Rattle.ip_address.specs.Fields.{IsBytes}
 use Rattle.ip_address.specs.declared.ethernet.EthernetAddress.{EthernetAddress}

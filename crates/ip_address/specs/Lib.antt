@@ -7,3 +7,4 @@ pub mod Protocol
 pub mod Pseudo
 pub mod Seq
 pub mod Hardware
+pub mod Text

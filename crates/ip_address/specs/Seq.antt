@@ -1,5 +1,5 @@
 -- TCP sequence numbers, which go round modulo 2^32 (RFC 9293, section 3.4).
-use Rattle.std.specs.Prelude.{◌≡◌, ◌≢◌, ℕ, ◌+◌, ◌-◌, ◌%◌, ◌^◌, ◌<◌, ◌≤◌}
+use Rattle.std.specs.Prelude.{ℕ, ◌+◌, ◌-◌, ◌%◌, ◌^◌, ◌<◌, ◌≤◌}
 use Rattle.ip_address.specs.declared.seq_number.SeqNumber.{SeqNumber}
 
 -- how far it is from a up to b

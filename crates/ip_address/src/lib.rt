@@ -10,6 +10,7 @@ pub mod ipv4;
 pub mod ipv6;
 pub mod network_order;
 pub mod seq_number;
+mod text;
 
 pub use ethernet::{EthernetAddress, EthernetProtocol};
 pub use hardware::{HardwareAddress, MAX_HARDWARE_ADDRESS_LEN, RawHardwareAddress};

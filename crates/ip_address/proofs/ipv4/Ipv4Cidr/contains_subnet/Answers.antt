@@ -1,4 +1,4 @@
-use Rattle.std.proofs.Common.{◌≡◌, ◌<◌, ◌/◌, ◌-◌, ◌≤◌, ◌^◌, sym, ◌∙◌, ap, arith}
+use Rattle.std.proofs.Common.{◌<◌, ◌/◌, ◌-◌, ◌≤◌, ◌^◌, sym, ◌∙◌, ap, arith}
 use Rattle.std.proofs.lemmas.Bool.{lt-leb}
 use Rattle.ip_address.specs.Address.{v4_number}
 use Rattle.ip_address.proofs.Blocks.{IsWithinV4-of, IsWithinV4-only}

@@ -1,4 +1,4 @@
-use Rattle.std.proofs.Common.{◌≡◌, ◌<◌, ◌-◌, ◌≤◌, ◌^◌, arith}
+use Rattle.std.proofs.Common.{◌<◌, ◌-◌, ◌^◌, arith}
 use Rattle.ip_address.proofs.Blocks.{network-room}
 use Rattle.ip_address.proofs.ipv4.Ipv4Cidr.network_bits.Goals as goal
 

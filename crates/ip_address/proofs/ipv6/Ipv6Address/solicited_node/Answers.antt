@@ -1,4 +1,4 @@
-use Rattle.std.proofs.Common.{rules, ◌≡◌, ◌+◌, ◌<◌, ◌≤◌, ℕ, List, [], ◌∷◌, length, drop, get_or, refl, sym, ◌∙◌, ap, arith, drop-cons}
+use Rattle.std.proofs.Common.{rules, ◌≡◌, ℕ, List, [], ◌∷◌, length, drop, get_or, refl, ◌∙◌, ap, arith, drop-cons}
 use Rattle.std.proofs.lemmas.List.{drop_all}
 use Rattle.ip_address.proofs.ipv6.Ipv6Address.solicited_node.Goals as goal
 

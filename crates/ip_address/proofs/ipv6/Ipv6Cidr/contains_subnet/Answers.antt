@@ -1,4 +1,4 @@
-use Rattle.std.proofs.Common.{◌≡◌, ◌<◌, ◌/◌, ◌-◌, ◌≤◌, ◌^◌, sym, ◌∙◌, ap, arith}
+use Rattle.std.proofs.Common.{◌<◌, ◌/◌, ◌-◌, ◌≤◌, ◌^◌, sym, ◌∙◌, ap, arith}
 use Rattle.std.proofs.lemmas.Bool.{lt-leb}
 use Rattle.ip_address.specs.Address.{v6_number}
 use Rattle.ip_address.proofs.Blocks.{IsWithinV6-of, IsWithinV6-only}
