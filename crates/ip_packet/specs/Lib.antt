@@ -1,0 +1,4 @@
+pub mod Covered
+pub mod Parts
+pub mod Udp
+pub mod Ipv4
