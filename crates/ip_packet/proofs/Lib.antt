@@ -4,3 +4,5 @@ pub mod Protocols
 pub mod Puts
 pub mod UdpLaws
 pub mod Ipv4Laws
+pub mod Ipv6Laws
+pub mod Fronts

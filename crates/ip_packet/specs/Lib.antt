@@ -2,3 +2,5 @@ pub mod Covered
 pub mod Parts
 pub mod Udp
 pub mod Ipv4
+pub mod Ipv6
+pub mod Ip

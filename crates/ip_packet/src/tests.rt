@@ -5,7 +5,9 @@ ghost use Rattle.ip_packet.specs.Ipv4 as Ipv4;
 ghost use Rattle.ip_packet.specs.Udp as Udp;
 
 use super::*;
-use ip_address::{Error, IpAddress, IpProtocol, Ipv4Address};
+use ip_address::{
+    Error, IPV6_LINK_LOCAL_ALL_NODES, IpAddress, IpProtocol, IpVersion, Ipv4Address, Ipv6Address,
+};
 use net_devices::{Checksum, ChecksumCapabilities};
 
 const LEFT: IpAddress = IpAddress::Ipv4(Ipv4Address([192, 168, 1, 1]));
@@ -373,5 +375,126 @@ fn frame_is_written_in_place(rt: HostRuntime) {
     assert_eq!(rt;
         Ipv4Repr::parse(&packet, &ChecksumCapabilities::default()),
         Ok(ip)
+    );
+}
+
+/// Four bytes over IPv6 from fe80::1 to ff02::1, with class and flow, and two bytes of padding.
+const OVER_V6: [u8; 46] = [
+    0x6f, 0xe1, 0x23, 0x45, 0x00, 0x04, 0x11, 0x40, 0xfe, 0x80, 0, 0, 0, 0, 0, 0, 0, 0, 0, 0, 0, 0,
+    0, 1, 0xff, 0x02, 0, 0, 0, 0, 0, 0, 0, 0, 0, 0, 0, 0, 0, 1, 1, 2, 3, 4, 0, 0,
+];
+
+#[test]
+fn ipv6_is_read(rt: HostRuntime) {
+    let packet = Ipv6Packet::new_checked(&OVER_V6).expect(&rt, "whole");
+    assert!(rt; packet.check_len().is_ok());
+    assert_eq!(rt; packet.version(), 6);
+    assert_eq!(rt; packet.traffic_class(), 0xfe);
+    assert_eq!(rt; packet.flow_label(), 0x12345);
+    assert_eq!(rt; packet.payload_len(), 4);
+    assert_eq!(rt; packet.total_len(), 44);
+    assert_eq!(rt; packet.header_len(), 40);
+    assert_eq!(rt; packet.next_header(), IpProtocol::Udp);
+    assert_eq!(rt; packet.hop_limit(), 64);
+    assert_eq!(rt;
+        packet.src_addr(),
+        Ipv6Address::new(0xfe80, 0, 0, 0, 0, 0, 0, 1)
+    );
+    assert_eq!(rt; packet.dst_addr(), IPV6_LINK_LOCAL_ALL_NODES);
+    assert_eq!(rt; packet.payload(), [1, 2, 3, 4].as_slice());
+    let header = Ipv6Repr::parse(&packet).expect(&rt, "valid");
+    assert_eq!(rt; header.payload_len, 4);
+    assert_eq!(rt; header.buffer_len(), 40);
+    assert_eq!(rt; packet.into_inner().len(), 46);
+    let mut bytes = OVER_V6;
+    let mut packet = Ipv6PacketMut::new_checked(&mut bytes).expect(&rt, "whole");
+    header.emit(&mut packet);
+    assert_eq!(rt; &packet.into_inner()[..4], [0x60, 0, 0, 0].as_slice());
+    assert_eq!(rt; &bytes[4..], &OVER_V6[4..]);
+    ipv6::ipv6_spelled();
+    ipv6::ipv6_reads_back();
+}
+
+#[test]
+fn ipv6_is_refused(rt: HostRuntime) {
+    assert!(rt;
+        Ipv6Repr::parse(&Ipv6Packet::new_unchecked(&OVER_V6[..39])).is_err(),
+        "no header"
+    );
+    assert!(rt;
+        Ipv6Repr::parse(&Ipv6Packet::new_unchecked(&OVER_V6[..43])).is_err(),
+        "too short"
+    );
+    let mut bytes = OVER_V6;
+    bytes[0] = 0x4f;
+    assert!(rt;
+        Ipv6Repr::parse(&Ipv6Packet::new_unchecked(&bytes)).is_err(),
+        "version 4"
+    );
+}
+
+#[test]
+fn ipv6_is_set(rt: HostRuntime) {
+    let mut bytes = [0xff; 46];
+    let mut packet = Ipv6PacketMut::new_unchecked(&mut bytes);
+    packet.set_version(6);
+    packet.set_traffic_class(0xfe);
+    packet.set_flow_label(0x12345);
+    packet.set_payload_len(4);
+    packet.set_next_header(IpProtocol::Udp);
+    packet.set_hop_limit(64);
+    packet.set_src_addr(Ipv6Address::new(0xfe80, 0, 0, 0, 0, 0, 0, 1));
+    packet.set_dst_addr(IPV6_LINK_LOCAL_ALL_NODES);
+    assert!(rt; packet.check_len().is_ok());
+    assert_eq!(rt; packet.version(), 6);
+    assert_eq!(rt; packet.traffic_class(), 0xfe);
+    assert_eq!(rt; packet.flow_label(), 0x12345);
+    assert_eq!(rt; packet.payload_len(), 4);
+    assert_eq!(rt; packet.total_len(), 44);
+    assert_eq!(rt; packet.header_len(), 40);
+    assert_eq!(rt; packet.next_header(), IpProtocol::Udp);
+    assert_eq!(rt; packet.hop_limit(), 64);
+    assert_eq!(rt;
+        packet.src_addr(),
+        Ipv6Address::new(0xfe80, 0, 0, 0, 0, 0, 0, 1)
+    );
+    assert_eq!(rt; packet.dst_addr(), IPV6_LINK_LOCAL_ALL_NODES);
+    assert_eq!(rt; packet.payload().len(), 4);
+    assert_eq!(rt; packet.payload_mut().len(), 4);
+    assert_eq!(rt; &bytes[..40], &OVER_V6[..40]);
+}
+
+#[test]
+fn headers_of_both_families(rt: HostRuntime) {
+    let mut header = IpRepr::new(LEFT, RIGHT, IpProtocol::Udp, 12, 64);
+    assert_eq!(rt; header.version(), IpVersion::Ipv4);
+    assert_eq!(rt; header.src_addr(), LEFT);
+    assert_eq!(rt; header.dst_addr(), RIGHT);
+    assert_eq!(rt; header.next_header(), IpProtocol::Udp);
+    assert_eq!(rt; header.hop_limit(), 64);
+    assert_eq!(rt; header.header_len(), 20);
+    assert_eq!(rt; header.buffer_len(), 32);
+    header.set_payload_len(95);
+    assert_eq!(rt; header.payload_len(), 95);
+    let all = ChecksumCapabilities::default();
+    let ipv4 = Ipv4Repr {
+        src_addr: Ipv4Address::new(192, 168, 0, 1),
+        dst_addr: Ipv4Address::new(192, 168, 0, 199),
+        next_header: IpProtocol::Udp,
+        payload_len: 95,
+        hop_limit: 64,
+    };
+    let mut bytes = [0xa5; 24];
+    IpRepr::from(ipv4).emit(&mut bytes, &all);
+    assert_eq!(rt; &bytes[..20], HEADER.as_slice());
+    assert_eq!(rt; &bytes[20..], [0xa5; 4].as_slice());
+    let packet = Ipv6Packet::new_unchecked(&OVER_V6);
+    let ipv6 = Ipv6Repr::parse(&packet).expect(&rt, "valid");
+    let header = IpRepr::from(ipv6);
+    assert_eq!(rt; header.version(), IpVersion::Ipv6);
+    assert_eq!(rt; header.header_len(), 40);
+    assert_eq!(rt;
+        IpRepr::new(header.src_addr(), header.dst_addr(), IpProtocol::Udp, 4, 64),
+        header
     );
 }
