@@ -2,3 +2,4 @@ pub mod Sums
 pub mod Masks
 pub mod Blocks
 pub mod Texts
+pub mod Printed

@@ -1,5 +1,5 @@
 //! What holds for both families: versions, protocol numbers, addresses, blocks and endpoints.
-ghost use Rattle.std.specs.Prelude.{◌≡◌, ◌≢◌, ◌↔◌, ℕ, ◌≤◌, ◌∷◌, [], IsTrue, IfSome, Some, None};
+ghost use Rattle.std.specs.Prelude.{◌≡◌, ◌≢◌, ◌↔◌, ℕ, ◌/◌, ◌≤◌, ◌∷◌, slice_index, [], IsTrue, IfSome, Some, None};
 ghost use Rattle.std.specs.Net.Addr.{octets_of};
 ghost use Rattle.ip_address.specs.declared.ip.IpAddress.TheVariants as Address;
 ghost use Rattle.ip_address.specs.declared.ip.IpCidr.TheVariants as Block;
@@ -7,6 +7,7 @@ ghost use Rattle.ip_address.specs.Address.{version_of, IsUnspecified, IsMulticas
 ghost use Rattle.ip_address.specs.Block.{width_of, block_address, block_prefix_len, IsIn, IsWithin};
 ghost use Rattle.ip_address.specs.Protocol.{protocol_number, protocol_of};
 
+use crate::Error;
 use crate::ipv4::{Ipv4Address, Ipv4Cidr};
 use crate::ipv6::{Ipv6Address, Ipv6Cidr};
 
@@ -15,6 +16,24 @@ use crate::ipv6::{Ipv6Address, Ipv6Cidr};
 pub enum IpVersion {
     Ipv4,
     Ipv6,
+}
+
+impl IpVersion {
+    /// The family of a packet, by the first four bits of its bytes: an `Error` where they are
+    /// neither 4 nor 6, or where there are no bytes.
+    pub fn of_packet(bytes: &[u8]) -> Result<IpVersion, Error>
+        ensures ipv4 { (result ≡ Ok IpVersion.Ipv4) ↔ (slice_index bytes.now 0 / 16 ≡ 4) }
+        ensures ipv6 { (result ≡ Ok IpVersion.Ipv6) ↔ (slice_index bytes.now 0 / 16 ≡ 6) }
+    {
+        let Some(first) = bytes.first() else {
+            return Err(Error);
+        };
+        match *first >> 4 {
+            4 => Ok(IpVersion::Ipv4),
+            6 => Ok(IpVersion::Ipv6),
+            _ => Err(Error),
+        }
+    }
 }
 
 /// What an IP packet carries, by its number in the header.

@@ -3,10 +3,9 @@ ghost use Rattle.std.specs.Prelude.{◌≡◌, ◌↔◌, ℕ, ◌+◌, ◌-◌,
 ghost use Rattle.byteorder.specs.Endian.{big_bytes};
 ghost use Rattle.ip_address.specs.Address.{v4_number, IsIpv4Address, IsUnspecifiedV4, IsLoopbackV4, IsMulticastV4, IsBroadcastV4, IsUnicastV4, IsMaskV4};
 
-use byteorder::{BigEndian, ByteOrder};
-
 use crate::Error;
 use crate::ip::{AddressExt, IpProtocol};
+use byteorder::{BigEndian, ByteOrder};
 
 /// The length of packet that every IPv4 link takes whole (RFC 791, section 3.2).
 pub const IPV4_MIN_MTU: usize = 576;
@@ -97,7 +96,11 @@ impl AddressExt for Ipv4Address {
     fn prefix_len(&self) -> Option<u8> {
         let bits = self.to_bits();
         let ones = bits.leading_ones();
-        if bits == mask_of(ones as u8) { Some(ones as u8) } else { None }
+        if bits == mask_of(ones as u8) {
+            Some(ones as u8)
+        } else {
+            None
+        }
     }
 }
 

@@ -3,9 +3,8 @@ ghost use Rattle.std.specs.Prelude.{◌≡◌, ◌↔◌, ◌-◌, ◌^◌, ◌�
 ghost use Rattle.std.specs.Net.Addr.{octets_of};
 ghost use Rattle.ip_address.specs.Address.{v6_number, IsIpv6Address, IsUnspecifiedV6, IsLoopbackV6, IsMulticastV6, IsLinkLocal, IsUnicastV6, IsMaskV6, scope_of, IsSolicitedNode, solicited_of};
 
-use byteorder::{BigEndian, ByteOrder};
-
 use crate::ip::AddressExt;
+use byteorder::{BigEndian, ByteOrder};
 
 /// The length of packet that every IPv6 link takes whole (RFC 8200, section 5).
 pub const IPV6_MIN_MTU: usize = 1280;
@@ -137,7 +136,11 @@ impl AddressExt for Ipv6Address {
     fn prefix_len(&self) -> Option<u8> {
         let bits = self.to_bits();
         let ones = bits.leading_ones();
-        if bits == mask_of(ones as u8) { Some(ones as u8) } else { None }
+        if bits == mask_of(ones as u8) {
+            Some(ones as u8)
+        } else {
+            None
+        }
     }
 }
 
@@ -146,7 +149,11 @@ fn mask_of(ones: u8) -> u128
     requires { ones ≤ 128 }
     ensures { result ≡ 2 ^ 128 - 2 ^ (128 - ones) }
 {
-    if ones == 0 { 0 } else { u128::MAX - (1u128 << (128 - ones)) + 1 }
+    if ones == 0 {
+        0
+    } else {
+        u128::MAX - (1u128 << (128 - ones)) + 1
+    }
 }
 
 /// The two bytes of a group.

@@ -10,19 +10,20 @@ pub mod ipv4;
 pub mod ipv6;
 pub mod network_order;
 pub mod seq_number;
-mod text;
+pub mod text;
 
 pub use ethernet::{EthernetAddress, EthernetProtocol};
 pub use hardware::{HardwareAddress, MAX_HARDWARE_ADDRESS_LEN, RawHardwareAddress};
 pub use ip::{AddressExt, IpAddress, IpCidr, IpEndpoint, IpListenEndpoint, IpProtocol, IpVersion};
 pub use ipv4::{
-    IPV4_MIN_MTU, IPV4_MULTICAST_ALL_ROUTERS, IPV4_MULTICAST_ALL_SYSTEMS, Ipv4Address, Ipv4Cidr, Ipv4FragKey,
+    IPV4_MIN_MTU, IPV4_MULTICAST_ALL_ROUTERS, IPV4_MULTICAST_ALL_SYSTEMS, Ipv4Address, Ipv4Cidr,
+    Ipv4FragKey,
 };
 pub use ipv6::{
     IPV6_LINK_LOCAL_ALL_MLDV2_ROUTERS, IPV6_LINK_LOCAL_ALL_NODES, IPV6_LINK_LOCAL_ALL_ROUTERS,
     IPV6_MIN_MTU, Ipv6Address, Ipv6Cidr,
-};pub use seq_number::SeqNumber;
-
+};
+pub use seq_number::SeqNumber;
 use std::fmt;
 
 /// The refusal of every reader of a format: the bytes are no packet, or the text no address, of
@@ -37,3 +38,6 @@ impl fmt::Display for Error {
 }
 
 impl std::error::Error for Error {}
+
+#[cfg(test)]
+mod tests;

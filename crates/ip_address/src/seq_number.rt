@@ -31,7 +31,11 @@ impl SeqNumber {
         ensures other { ComesBefore self other → result ≡ other }
         ensures own { ¬ (ComesBefore self other) → result ≡ self }
     {
-        if self.comes_before(other) { other } else { self }
+        if self.comes_before(other) {
+            other
+        } else {
+            self
+        }
     }
 
     /// This number if it comes before the other one, else that.
@@ -39,7 +43,11 @@ impl SeqNumber {
         ensures own { ComesBefore self other → result ≡ self }
         ensures other { ¬ (ComesBefore self other) → result ≡ other }
     {
-        if self.comes_before(other) { self } else { other }
+        if self.comes_before(other) {
+            self
+        } else {
+            other
+        }
     }
 }
 
@@ -89,5 +97,42 @@ impl Sub for SeqNumber {
 
     fn sub(self, rhs: SeqNumber) -> usize {
         rhs.distance(self) as usize
+    }
+}
+
+/// Law: a number so many ahead is at that distance and comes after, and two numbers half the
+/// circle apart come before each other.
+pub fn sum_comes_after()
+    ensures distance { (a sum : SeqNumber) (n : ℕ) → a.0 < 2 ^ 32 → n < 2 ^ 31 → sum.0 ≡ advanced a n → distance_of a sum ≡ n }
+    ensures order { (a sum : SeqNumber) (n : ℕ) → a.0 < 2 ^ 32 → 0 < n → n < 2 ^ 31 → sum.0 ≡ advanced a n → ComesBefore a sum }
+    ensures opposite { (a b : SeqNumber) → a.0 < 2 ^ 32 → b.0 < 2 ^ 32 → distance_of a b ≡ 2 ^ 31 → ComesBefore a b × ComesBefore b a }
+{}
+
+#[cfg(test)]
+mod tests {
+    use super::*;
+
+    // Numbers on both sides of the point where they go round.
+    #[test]
+    fn goes_round(rt: HostRuntime) {
+        sum_comes_after();
+        let last = SeqNumber(0xffff_ffff);
+        let first = SeqNumber(0);
+        let half = SeqNumber(0x8000_0000);
+        assert!(rt; last.comes_before(first));
+        assert!(rt; !first.comes_before(last));
+        assert!(rt; !first.comes_before(first));
+        assert!(rt; first.comes_before(half) && half.comes_before(first));
+        assert_eq!(rt; last + 3, SeqNumber(2));
+        assert_eq!(rt; first - 1, last);
+        assert_eq!(rt; last.distance(SeqNumber(4)), 5);
+        assert_eq!(rt; last.max(first), first);
+        assert_eq!(rt; last.min(first), last);
+        assert_eq!(rt; SeqNumber(7) - SeqNumber(7), 0);
+        assert_eq!(rt; SeqNumber(9) - SeqNumber(7), 2);
+        let mut moved = last;
+        moved += 1;
+        assert_eq!(rt; moved, first);
+        assert_eq!(rt; SeqNumber::default(), first);
     }
 }
