@@ -1,0 +1,106 @@
+-- A packet's header and what spells it.
+use Rattle.std.proofs.Common.{◌≡◌, ℕ, ◌+◌, ◌-◌, ◌*◌, ◌/◌, ◌%◌, ◌<◌, ◌≤◌, ◌^◌, Bool, true, false, IsTrue, List, [], ◌∷◌, ◌++◌, length, take, drop, refl, sym, ◌∙◌, ap, subst, arith, length-append, append_assoc}
+use Rattle.std.specs.Prelude.{slice_range, slice_index}
+use Rattle.std.proofs.lemmas.List.{take_at, drop_at}
+use Rattle.ip_address.proofs.Sums.{ChecksumHolds-complement}
+use Rattle.ip_address.specs.Fields.{be16, put16, IsBytes}
+use Rattle.ip_address.specs.Protocol.{protocol_number}
+use Rattle.ip_address.specs.Sum.{word_sum, folded, ChecksumHolds}
+use Rattle.ip_packet.specs.Covered.{complement}
+use Rattle.ip_packet.specs.Ipv4.{IsIpv4, IsWhole, IsChecked, IsValue, Fits, spelling, sent_fields, free_fields, written, header_len_of, header_of, with_checksum, normal}
+use Rattle.ip_packet.specs.declared.ipv4.Ipv4Repr.{Ipv4Repr}
+use Rattle.ip_packet.proofs.Peel.{peel8, peel16, peel_to, length-slice_range}
+use Rattle.ip_packet.proofs.Protocols.{protocol_number-protocol_of}
+use Rattle.ip_packet.proofs.Puts.{put16-put16}
+
+-- a packet is spelled by its header, with what a value doesn't keep, and then come payload and padding
+pub bytes-spelling : (tested : Bool) (bytes : List ℕ) (v : Ipv4Repr) → IsBytes bytes → IsIpv4 tested bytes v → bytes ≡ spelling v (free_fields bytes) ++ drop (header_len_of bytes) bytes
+bytes-spelling tested bytes v small is =
+    let whole : IsWhole bytes = is.whole in
+    let options : List ℕ = slice_range bytes 20 (header_len_of bytes) in
+    let behind : List ℕ = drop (header_len_of bytes) bytes in
+    let len : 20 + length options ≡ header_len_of bytes = length-slice_range bytes 20 (header_len_of bytes) whole.header (omega (arith, whole.least, whole.within)) in
+    let total : 20 + length options + v.payload_len ≡ be16 bytes 2 = omega (arith, len, is.payload) in
+    let protocol : protocol_number v.next_header ≡ slice_index bytes 9 = ap protocol_number is.protocol ∙ protocol_number-protocol_of (slice_index bytes 9) in
+    let addresses : (v.src_addr.0 ++ (v.dst_addr.0 ++ options)) ++ behind ≡ v.src_addr.0 ++ (v.dst_addr.0 ++ (options ++ behind)) = simp append_assoc in
+    peel8 bytes 0 (64 + (20 + length options) / 4) _ (omega (arith, whole.room)) (omega (arith, len, is.version)) (
+    peel8 bytes 1 (slice_index bytes 1) _ (omega (arith, whole.room)) refl (
+    peel16 bytes 2 (20 + length options + v.payload_len) _ small (omega (arith, whole.room)) total (
+    peel16 bytes 4 (be16 bytes 4) _ small (omega (arith, whole.room)) refl (
+    peel16 bytes 6 (be16 bytes 6) _ small (omega (arith, whole.room)) refl (
+    peel8 bytes 8 v.hop_limit _ (omega (arith, whole.room)) is.hops (
+    peel8 bytes 9 (protocol_number v.next_header) _ (omega (arith, whole.room)) protocol (
+    peel16 bytes 10 (be16 bytes 10) _ small (omega (arith, whole.room)) refl (
+    peel_to bytes 12 16 v.src_addr.0 (v.dst_addr.0 ++ (options ++ behind)) (omega arith) is.source (
+    peel_to bytes 16 20 v.dst_addr.0 (options ++ behind) (omega arith) is.destination (
+    peel_to bytes 20 (header_len_of bytes) options behind whole.header refl refl
+    )
+    )
+    ∙ sym addresses
+    )
+    )
+    )
+    )
+    )
+    )
+    )
+    )
+
+-- a number in the checksum field adds itself to the word sum
+word_sum-check : (v : Ipv4Repr) (check : ℕ) → check < 65536 → word_sum (spelling v (sent_fields check)) ≡ word_sum (spelling v (sent_fields 0)) + check
+word_sum-check v check small = omega arith
+
+-- a header whose checksum was written holds it
+ChecksumHolds-written : (v : Ipv4Repr) → ChecksumHolds (word_sum (written true v))
+ChecksumHolds-written v =
+    let total : ℕ = word_sum (spelling v (sent_fields 0)) in
+    subst ChecksumHolds (sym (word_sum-check v (complement total) (omega arith))) (ChecksumHolds-complement total)
+
+-- how long a header is that is sent
+length-spelling : (v : Ipv4Repr) (check : ℕ) → IsValue v → length (spelling v (sent_fields check)) ≡ 20
+length-spelling v check value =
+    omega (arith, value.source.0, value.destination.0, length-append v.src_addr.0 (v.dst_addr.0 ++ []), length-append v.dst_addr.0 [])
+
+-- addresses behind the first twelve bytes, read
+take-first : (source destination rest : List ℕ) → length source ≡ 4 → source ≡ take 4 ((source ++ (destination ++ [])) ++ rest)
+take-first source destination rest len =
+    sym (ap (take 4) (append_assoc source (destination ++ []) rest) ∙ take_at source ((destination ++ []) ++ rest) 4 len)
+
+take-second : (source destination rest : List ℕ) → length source ≡ 4 → length destination ≡ 4 → destination ≡ take 4 (drop 4 ((source ++ (destination ++ [])) ++ rest))
+take-second source destination rest first second =
+    sym (
+    ap (λ xs. take 4 (drop 4 xs)) (append_assoc source (destination ++ []) rest)
+    ∙ ap (take 4) (drop_at source ((destination ++ []) ++ rest) 4 first)
+    ∙ ap (take 4) (append_assoc destination [] rest)
+    ∙ take_at destination ([] ++ rest) 4 second
+    )
+
+-- a packet whose header was emitted, up to its checksum
+IsIpv4-spelling : (tested : Bool) (v : Ipv4Repr) (check : ℕ) (rest : List ℕ) → Fits v → IsValue v → v.payload_len ≤ length rest → (IsTrue tested → ChecksumHolds (word_sum (spelling v (sent_fields check))))
+    → IsIpv4 tested (spelling v (sent_fields check) ++ rest) (normal v)
+IsIpv4-spelling tested v check rest fits value within holds =
+    let header : length (spelling v (sent_fields check)) ≡ 20 = length-spelling v check value in
+    let all : length (spelling v (sent_fields check) ++ rest) ≡ 20 + length rest = length-append (spelling v (sent_fields check)) rest ∙ ap (λ n. n + length rest) header in
+    record {
+      whole = record { room = omega (arith, all); header = omega arith; least = omega (arith, fits); within = omega (arith, all, fits, within) };
+      version = refl;
+      checked = λ t. subst (λ xs. ChecksumHolds (word_sum xs)) (sym (take_at (spelling v (sent_fields check)) rest 20 header)) (holds t);
+      source = take-first v.src_addr.0 v.dst_addr.0 rest value.source.0;
+      destination = take-second v.src_addr.0 v.dst_addr.0 rest value.source.0 value.destination.0;
+      protocol = refl;
+      payload = omega (arith, fits);
+      hops = refl;
+    }
+
+-- a packet whose header was emitted is read back in its normal form, whatever follows the payload
+pub IsIpv4-written : (tested sealed : Bool) (v : Ipv4Repr) (rest : List ℕ) → Fits v → IsValue v → v.payload_len ≤ length rest → (IsTrue tested → IsTrue sealed) → IsIpv4 tested (written sealed v ++ rest) (normal v)
+IsIpv4-written tested false v rest fits value within both = IsIpv4-spelling tested v 0 rest fits value within (λ t. absurd (cc (both t)))
+IsIpv4-written tested true v rest fits value within both =
+    IsIpv4-spelling tested v (complement (word_sum (spelling v (sent_fields 0)))) rest fits value within (λ _. ChecksumHolds-written v)
+
+-- the checksum of the header with 0 in the field, put into the field
+pub with_checksum-steps : (old cleared new : List ℕ) (sum : ℕ) → cleared ≡ put16 old 10 0 → sum ≡ folded (word_sum (header_of cleared)) → new ≡ put16 cleared 10 (65535 - sum) → new ≡ with_checksum old
+with_checksum-steps old cleared new sum first sums last =
+    last ∙ ap (λ n. put16 cleared 10 (65535 - n)) sums
+    ∙ ap (λ xs. put16 xs 10 (complement (word_sum (header_of xs)))) first
+    ∙ put16-put16 old 10 0 (complement (word_sum (header_of (put16 old 10 0))))

@@ -1,0 +1,79 @@
+-- A datagram and what spells it.
+use Rattle.std.proofs.Common.{◌≡◌, ℕ, ◌+◌, ◌-◌, ◌*◌, ◌/◌, ◌%◌, ◌<◌, ◌≤◌, ◌^◌, Bool, true, false, IsTrue, List, ◌∷◌, ◌++◌, length, take, drop, refl, sym, ◌∙◌, ap, subst, inl, inr, arith, length-append}
+use Rattle.std.proofs.lemmas.List.{take_at}
+use Rattle.ip_address.specs.Fields.{be16, put16, IsBytes}
+use Rattle.ip_address.specs.Pseudo.{pseudo_of}
+use Rattle.ip_address.specs.Sum.{word_sum, folded, ChecksumHolds}
+use Rattle.ip_address.specs.declared.ip.IpAddress.{IpAddress}
+use Rattle.ip_packet.specs.Covered.{covered, nonzero_complement}
+use Rattle.ip_packet.specs.Udp.{IsUdp, IsWhole, IsChecked, IsAccepted, Fits, spelling, written, payload_of, datagram_of, with_checksum}
+use Rattle.ip_packet.specs.declared.udp.UdpRepr.{UdpRepr}
+use Rattle.ip_packet.proofs.CoveredSums.{ChecksumHolds-nonzero_complement, nonzero_complement-small}
+use Rattle.ip_packet.proofs.Puts.{put16-put16}
+use Rattle.ip_packet.proofs.Peel.{peel16, peel_to, length-slice_range}
+
+-- a datagram is spelled by its header and payload, and then comes padding
+pub bytes-spelling : (source destination : IpAddress) (tested : Bool) (bytes : List ℕ) (v : UdpRepr) → IsBytes bytes → IsUdp source destination tested bytes v
+    → bytes ≡ spelling v (payload_of bytes) (be16 bytes 6) ++ drop (be16 bytes 4) bytes
+bytes-spelling source destination tested bytes v small is =
+    let whole : IsWhole bytes = is.whole in
+    let len : 8 + length (payload_of bytes) ≡ be16 bytes 4 = length-slice_range bytes 8 (be16 bytes 4) whole.least whole.within in
+    peel16 bytes 0 v.src_port _ small (omega arith) is.source_port (
+    peel16 bytes 2 v.dst_port _ small (omega arith) is.destination_port (
+    peel16 bytes 4 (8 + length (payload_of bytes)) _ small (omega arith) len (
+    peel16 bytes 6 (be16 bytes 6) _ small (omega arith) refl (
+    peel_to bytes 8 (be16 bytes 4) (payload_of bytes) (drop (be16 bytes 4) bytes) whole.least refl refl
+    )
+    )
+    )
+    )
+
+-- a number in the checksum field adds itself to the word sum
+word_sum-check : (v : UdpRepr) (payload : List ℕ) (check : ℕ) → check < 65536 → word_sum (spelling v payload check) ≡ word_sum (spelling v payload 0) + check
+word_sum-check v payload check small = omega arith
+
+-- a datagram whose checksum was written holds it
+ChecksumHolds-written : (source destination : IpAddress) (v : UdpRepr) (payload : List ℕ)
+    → ChecksumHolds (covered source destination 17 (written source destination true v payload))
+ChecksumHolds-written source destination v payload =
+    let total : ℕ = covered source destination 17 (spelling v payload 0) in
+    let sums : word_sum (spelling v payload (nonzero_complement total)) ≡ word_sum (spelling v payload 0) + nonzero_complement total =
+    word_sum-check v payload (nonzero_complement total) (nonzero_complement-small total)
+    in
+    let same : covered source destination 17 (written source destination true v payload) ≡ total + nonzero_complement total = omega (arith, sums) in
+    subst ChecksumHolds (sym same) (ChecksumHolds-nonzero_complement total)
+
+-- a datagram's length field gives back the datagram, whatever follows it
+datagram_of-spelling : (v : UdpRepr) (payload rest : List ℕ) (check : ℕ) → 8 + length payload < 2 ^ 16 → datagram_of (spelling v payload check ++ rest) ≡ spelling v payload check
+datagram_of-spelling v payload rest check fits =
+    take_at (spelling v payload check) rest (be16 (spelling v payload check ++ rest) 4) (omega arith)
+
+-- a datagram that was emitted is read back, whatever follows it
+pub IsUdp-written : (source destination : IpAddress) (tested sealed : Bool) (v : UdpRepr) (payload rest : List ℕ) → Fits source destination payload → IsAccepted v → (IsTrue tested → IsTrue sealed)
+    → IsUdp source destination tested (written source destination sealed v payload ++ rest) v
+IsUdp-written source destination tested false v payload rest fits accepted both = record {
+  whole = record { header = omega arith; least = omega (arith, fits.len); within = omega (arith, fits.len, length-append payload rest) };
+  checked = λ t. absurd (cc (both t));
+  source_port = omega (arith, accepted.source_port);
+  destination_port = omega (arith, accepted.destination_port);
+  accepted = λ none. accepted.nonzero (omega (arith, accepted.destination_port));
+}
+IsUdp-written source destination tested true v payload rest fits accepted both = record {
+  whole = record { header = omega arith; least = omega (arith, fits.len); within = omega (arith, fits.len, length-append payload rest) };
+  checked = λ _. inr (
+      subst (λ xs. ChecksumHolds (covered source destination 17 xs)) (sym (datagram_of-spelling v payload rest _ fits.len))
+      (ChecksumHolds-written source destination v payload)
+      );
+  source_port = omega (arith, accepted.source_port);
+  destination_port = omega (arith, accepted.destination_port);
+  accepted = λ none. accepted.nonzero (omega (arith, accepted.destination_port));
+}
+
+-- the checksum of the datagram with 0 in the field, put into the field
+pub with_checksum-steps : (source destination : IpAddress) (old cleared new : List ℕ) (sum value : ℕ) → cleared ≡ put16 old 6 0 → sum ≡ folded (covered source destination 17 (datagram_of cleared))
+    → ((total : ℕ) → sum ≡ folded total → value ≡ nonzero_complement total) → new ≡ put16 cleared 6 value → new ≡ with_checksum source destination old
+with_checksum-steps source destination old cleared new sum value first sums sealed last =
+    let same : value ≡ nonzero_complement (covered source destination 17 (datagram_of cleared)) = sealed _ sums in
+    last ∙ ap (λ n. put16 cleared 6 n) same
+    ∙ ap (λ xs. put16 xs 6 (nonzero_complement (covered source destination 17 (datagram_of xs)))) first
+    ∙ put16-put16 old 6 0 (nonzero_complement (covered source destination 17 (datagram_of (put16 old 6 0))))

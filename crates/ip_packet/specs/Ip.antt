@@ -1,0 +1,61 @@
+-- IP headers of either family.
+use Rattle.std.specs.Prelude.{ℕ, Bool, List}
+use Rattle.ip_address.specs.declared.ip.IpAddress.{IpAddress}
+use Rattle.ip_address.specs.declared.ip.IpAddress.TheVariants as Address
+use Rattle.ip_address.specs.declared.ip.IpProtocol.{IpProtocol}
+use Rattle.ip_address.specs.declared.ip.IpVersion.{IpVersion}
+use Rattle.ip_address.specs.declared.ip.IpVersion.TheVariants as Version
+use Rattle.ip_packet.specs.Ipv4 as Ipv4
+use Rattle.ip_packet.specs.Ipv6 as Ipv6
+use Rattle.ip_packet.specs.declared.ip.IpRepr.{IpRepr}
+use Rattle.ip_packet.specs.declared.ip.IpRepr.TheVariants as Ip
+
+-- the family
+abbrev pub version_in : IpRepr → IpVersion
+version_in (Ip.Ipv4 v) = Version.Ipv4
+version_in (Ip.Ipv6 v) = Version.Ipv6
+
+-- the source address
+abbrev pub source_in : IpRepr → IpAddress
+source_in (Ip.Ipv4 v) = Address.Ipv4 v.src_addr
+source_in (Ip.Ipv6 v) = Address.Ipv6 v.src_addr
+
+-- the destination address
+abbrev pub destination_in : IpRepr → IpAddress
+destination_in (Ip.Ipv4 v) = Address.Ipv4 v.dst_addr
+destination_in (Ip.Ipv6 v) = Address.Ipv6 v.dst_addr
+
+-- what the packet carries
+abbrev pub carried_in : IpRepr → IpProtocol
+carried_in (Ip.Ipv4 v) = v.next_header
+carried_in (Ip.Ipv6 v) = v.next_header
+
+-- how long the payload is
+abbrev pub payload_len_in : IpRepr → ℕ
+payload_len_in (Ip.Ipv4 v) = v.payload_len
+payload_len_in (Ip.Ipv6 v) = v.payload_len
+
+-- the hop limit
+abbrev pub hops_in : IpRepr → ℕ
+hops_in (Ip.Ipv4 v) = v.hop_limit
+hops_in (Ip.Ipv6 v) = v.hop_limit
+
+-- how long the header is that is written
+abbrev pub header_len_in : IpRepr → ℕ
+header_len_in (Ip.Ipv4 v) = 20
+header_len_in (Ip.Ipv6 v) = 40
+
+-- the header for a payload of another length
+abbrev pub with_payload_len : IpRepr → ℕ → IpRepr
+with_payload_len (Ip.Ipv4 v) len = Ip.Ipv4 (record v { payload_len = len })
+with_payload_len (Ip.Ipv6 v) len = Ip.Ipv6 (record v { payload_len = len })
+
+-- what can be sent: the lengths fit their fields
+abbrev pub Fits : IpRepr → Type 0
+Fits (Ip.Ipv4 v) = Ipv4.Fits v
+Fits (Ip.Ipv6 v) = Ipv6.Fits v
+
+-- the header that is sent
+abbrev pub written : Bool → IpRepr → List ℕ
+written sealed (Ip.Ipv4 v) = Ipv4.written sealed v
+written sealed (Ip.Ipv6 v) = Ipv6.written v

@@ -1,0 +1,119 @@
+-- IPv4 packets (RFC 791, section 3.1): version and header length in units of four bytes, services, total
+-- length, identification, flags and offset in units of eight bytes, time to live, protocol, checksum, the
+-- addresses and options; then the payload, which ends where the total length says. What lies behind it is
+-- padding.
+use Rattle.std.specs.Prelude.{◌≡◌, ℕ, ◌+◌, ◌*◌, ◌/◌, ◌%◌, ◌<◌, ◌≤◌, ◌^◌, Bool, IsTrue, if◌then◌else◌, List, [], ◌∷◌, ◌++◌, length, take, slice_index, slice_range}
+use Rattle.std.specs.Int.{w16, to_be_bytes}
+use Rattle.std.specs.Borrow.{GName}
+use Rattle.ip_address.specs.Address.{IsIpv4Address}
+use Rattle.ip_address.specs.Fields.{be16, put16}
+use Rattle.ip_address.specs.Protocol.{protocol_number, protocol_of}
+use Rattle.ip_address.specs.Sum.{word_sum, ChecksumHolds}
+use Rattle.ip_address.specs.declared.ipv4.Ipv4FragKey.{Ipv4FragKey}
+use Rattle.ip_packet.specs.Covered.{complement}
+use Rattle.ip_packet.specs.declared.ipv4.Ipv4Packet.{Ipv4Packet}
+use Rattle.ip_packet.specs.declared.ipv4.Ipv4PacketMut.{Ipv4PacketMut}
+use Rattle.ip_packet.specs.declared.ipv4.Ipv4Repr.{Ipv4Repr}
+
+-- the bytes that a view reads
+abbrev pub bytes_of : Ipv4Packet → List ℕ
+bytes_of view = view.buffer.now
+
+-- the bytes that a writing view holds
+abbrev pub bytes_in : Ipv4PacketMut → List ℕ
+bytes_in view = view.buffer.now
+
+-- which buffer it is that a writing view holds
+abbrev pub name_of : Ipv4PacketMut → GName
+name_of view = view.buffer.ghost_name
+
+-- the length of the header with its options
+abbrev pub header_len_of : List ℕ → ℕ
+header_len_of bytes = 4 * (slice_index bytes 0 % 16)
+
+-- the header with its options
+abbrev pub header_of : List ℕ → List ℕ
+header_of bytes = take (header_len_of bytes) bytes
+
+-- what the packet carries
+abbrev pub payload_of : List ℕ → List ℕ
+payload_of bytes = slice_range bytes (header_len_of bytes) (be16 bytes 2)
+
+-- the header is there, the total length covers it, and no more than there is
+pub record IsWhole (bytes : List ℕ) : Type 0 where
+  pub room : 20 ≤ length bytes
+  pub header : 20 ≤ header_len_of bytes
+  pub least : header_len_of bytes ≤ be16 bytes 2
+  pub within : be16 bytes 2 ≤ length bytes
+
+-- the header's checksum holds
+abbrev pub IsChecked : List ℕ → Type 0
+IsChecked bytes = ChecksumHolds (word_sum (header_of bytes))
+
+-- the bytes are a packet with this header, and padding
+pub record IsIpv4 (tested : Bool) (bytes : List ℕ) (v : Ipv4Repr) : Type 0 where
+  pub whole : IsWhole bytes
+  pub version : slice_index bytes 0 / 16 ≡ 4
+  pub checked : IsTrue tested → IsChecked bytes
+  pub source : v.src_addr.0 ≡ slice_range bytes 12 16
+  pub destination : v.dst_addr.0 ≡ slice_range bytes 16 20
+  pub protocol : v.next_header ≡ protocol_of (slice_index bytes 9)
+  pub payload : header_len_of bytes + v.payload_len ≡ be16 bytes 2
+  pub hops : v.hop_limit ≡ slice_index bytes 8
+
+-- what the pieces of one datagram have in common (RFC 791, section 3.2)
+pub record IsKeyOf (bytes : List ℕ) (key : Ipv4FragKey) : Type 0 where
+  pub identification : key.id ≡ be16 bytes 4
+  pub source : key.src_addr.0 ≡ slice_range bytes 12 16
+  pub destination : key.dst_addr.0 ≡ slice_range bytes 16 20
+  pub protocol : key.protocol ≡ protocol_of (slice_index bytes 9)
+
+-- what a header has beside its value
+pub record Free : Type 0 where
+  pub services : ℕ
+  pub identification : ℕ
+  pub flags_and_offset : ℕ
+  pub checksum : ℕ
+  pub options : List ℕ
+
+-- these fields of a packet
+abbrev pub free_fields : List ℕ → Free
+free_fields bytes = record {
+  services = slice_index bytes 1;
+  identification = be16 bytes 4;
+  flags_and_offset = be16 bytes 6;
+  checksum = be16 bytes 10;
+  options = slice_range bytes 20 (header_len_of bytes);
+}
+
+-- these fields as they are sent: don't-fragment set, and else zeros
+abbrev pub sent_fields : ℕ → Free
+sent_fields check = record { services = 0; identification = 0; flags_and_offset = 0x4000; checksum = check; options = [] }
+
+-- a header with this value
+abbrev pub spelling : Ipv4Repr → Free → List ℕ
+spelling v free =
+    (64 + (20 + length free.options) / 4) ∷ free.services ∷ (to_be_bytes w16 (20 + length free.options + v.payload_len) ++ (to_be_bytes w16 free.identification ++ (to_be_bytes w16 free.flags_and_offset ++ v.hop_limit ∷ protocol_number v.next_header ∷ (to_be_bytes w16 free.checksum ++ (v.src_addr.0 ++ (v.dst_addr.0 ++ free.options))))))
+
+-- the header that is sent: with a checksum that holds, or with 0
+abbrev pub written : Bool → Ipv4Repr → List ℕ
+written sealed v = spelling v (sent_fields (if sealed then complement (word_sum (spelling v (sent_fields 0))) else 0))
+
+-- the bytes with the header's checksum in its field
+abbrev pub with_checksum : List ℕ → List ℕ
+with_checksum bytes = put16 bytes 10 (complement (word_sum (header_of (put16 bytes 10 0))))
+
+-- what can be sent: the total length fits its field
+abbrev pub Fits : Ipv4Repr → Type 0
+Fits v = 20 + v.payload_len < 2 ^ 16
+
+-- each field is a number of its width
+pub record IsValue (v : Ipv4Repr) : Type 0 where
+  pub source : IsIpv4Address v.src_addr
+  pub destination : IsIpv4Address v.dst_addr
+  pub protocol : protocol_number v.next_header < 256
+  pub hops : v.hop_limit < 256
+
+-- what a reader makes of a value that was sent: a protocol by its number is that protocol
+abbrev pub normal : Ipv4Repr → Ipv4Repr
+normal v = record v { next_header = protocol_of (protocol_number v.next_header) }
