@@ -1,0 +1,4 @@
+pub mod Options
+pub mod Seen
+pub mod Tcp
+pub mod Timestamp

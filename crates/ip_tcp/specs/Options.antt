@@ -1,0 +1,128 @@
+-- TCP options (RFC 9293, section 3.2; RFC 7323, sections 2.2 and 3.2; RFC 2018, sections 2 and 3). The end of
+-- the options and a no-operation are one byte. All others are their kind, their length with these two bytes,
+-- and what is inside.
+use Rattle.std.specs.Prelude.{◌≡◌, ◌==◌, ℕ, ◌+◌, ◌%◌, ◌<◌, ◌^◌, Bool, true, false, nat_le, if◌then◌else◌, Option, Some, None, List, [], ◌∷◌, ◌++◌, length, drop, slice_index, slice_range, min}
+use Rattle.std.specs.Int.{w16, w32, to_be_bytes}
+use Rattle.ip_address.specs.Fields.{be16, be32}
+use Rattle.ip_tcp.specs.declared.option.TcpOption.{TcpOption}
+use Rattle.ip_tcp.specs.declared.option.TcpOption.TheVariants as Tcp
+use Rattle.ip_tcp.specs.declared.option.TcpOptions.{TcpOptions}
+
+-- an option as a value, whose bytes are a list
+pub data OptionValue : Type 0 where
+  EndOfList : OptionValue
+  NoOperation : OptionValue
+  MaxSegmentSize : ℕ → OptionValue
+  WindowScale : ℕ → OptionValue
+  SackPermitted : OptionValue
+  SackRange : List (Option (ℕ × ℕ)) → OptionValue
+  TimeStamp : ℕ → ℕ → OptionValue
+  Unknown : ℕ → List ℕ → OptionValue
+
+-- the value of an option
+abbrev pub value_of : TcpOption → OptionValue
+value_of Tcp.EndOfList = EndOfList
+value_of Tcp.NoOperation = NoOperation
+value_of (Tcp.MaxSegmentSize n) = MaxSegmentSize n
+value_of (Tcp.WindowScale n) = WindowScale n
+value_of Tcp.SackPermitted = SackPermitted
+value_of (Tcp.SackRange ranges) = SackRange ranges
+value_of (Tcp.TimeStamp tsval tsecr) = TimeStamp tsval tsecr
+value_of (Tcp.Unknown kind bytes) = Unknown kind bytes.now
+
+-- the range of sequence numbers at a place, if it is there (RFC 2018, section 3)
+abbrev pub range_at : List ℕ → ℕ → Option (ℕ × ℕ)
+range_at inner i = if nat_le (i + 8) (length inner) then Some (be32 inner i, be32 inner (i + 4)) else None
+
+-- the first three ranges
+abbrev pub ranges_of : List ℕ → List (Option (ℕ × ℕ))
+ranges_of inner = range_at inner 0 ∷ range_at inner 8 ∷ range_at inner 16 ∷ []
+
+-- what is inside an option of a kind that isn't 0 or 1, read; none where it doesn't fit the kind
+abbrev pub inside : ℕ → List ℕ → Option OptionValue
+inside kind inner =
+    if kind == 2 then (if length inner == 2 then Some (MaxSegmentSize (be16 inner 0)) else None)
+    else (if kind == 3 then (if length inner == 1 then Some (WindowScale (slice_index inner 0)) else None)
+    else (if kind == 4 then (if length inner == 0 then Some SackPermitted else None)
+    else (if kind == 5 then (if length inner % 8 == 0 then Some (SackRange (ranges_of inner)) else None)
+    else (if kind == 8 then (if length inner == 8 then Some (TimeStamp (be32 inner 0) (be32 inner 4)) else None)
+    else Some (Unknown kind inner)))))
+
+-- an option, and the bytes behind it
+pub record First : Type 0 where
+  pub option : OptionValue
+  pub rest : List ℕ
+
+-- an option, if there is one, before these bytes
+abbrev pub before : Option OptionValue → List ℕ → Option First
+before None rest = None
+before (Some o) rest = Some (record { option = o; rest = rest })
+
+-- the option of more than one byte at the front, whose length field is n
+abbrev pub first_long : List ℕ → ℕ → Option First
+first_long bytes n =
+    if nat_le 2 n then (if nat_le n (length bytes) then before (inside (slice_index bytes 0) (slice_range bytes 2 n)) (drop n bytes) else None)
+    else None
+
+-- the option at the front; none where the bytes are no option
+abbrev pub first_option : List ℕ → Option First
+first_option [] = None
+first_option (kind ∷ rest) =
+    if kind == 0 then Some (record { option = EndOfList; rest = rest })
+    else (if kind == 1 then Some (record { option = NoOperation; rest = rest }) else first_long (kind ∷ rest) (slice_index rest 0))
+
+-- whether no option follows this one
+abbrev pub is_end : OptionValue → Bool
+is_end EndOfList = true
+is_end _ = false
+
+-- the bytes are these options; what is behind the end of the options is not looked at
+abbrev pub Spells : List OptionValue → List ℕ → Type 0
+Spells [] bytes = bytes ≡ []
+Spells (EndOfList ∷ os) bytes = (rest : List ℕ) × (first_option bytes ≡ Some (record { option = EndOfList; rest = rest })) × (os ≡ [])
+Spells (o ∷ os) bytes = (rest : List ℕ) × (first_option bytes ≡ Some (record { option = o; rest = rest })) × Spells os rest
+
+-- no options
+abbrev pub no_options : TcpOptions
+no_options = record { max_seg_size = None; window_scale = None; sack_permitted = false; sack_ranges = None ∷ None ∷ None ∷ []; timestamp = None }
+
+-- the largest shift that is used (RFC 7323, section 2.3)
+abbrev pub capped : ℕ → ℕ
+capped scale = min scale 14
+
+-- the options with one more, which replaces an earlier one of its kind
+abbrev pub taken : TcpOptions → OptionValue → TcpOptions
+taken v EndOfList = v
+taken v NoOperation = v
+taken v (MaxSegmentSize n) = record v { max_seg_size = Some n }
+taken v (WindowScale n) = record v { window_scale = Some (capped n) }
+taken v SackPermitted = record v { sack_permitted = true }
+taken v (SackRange ranges) = record v { sack_ranges = ranges }
+taken v (TimeStamp tsval tsecr) = record v { timestamp = Some (record { tsval = tsval; tsecr = tsecr }) }
+taken v (Unknown kind bytes) = v
+
+-- the options with these more, in order
+abbrev pub all_taken : TcpOptions → List OptionValue → TcpOptions
+all_taken v [] = v
+all_taken v (o ∷ os) = all_taken (taken v o) os
+
+-- beside the options so far the bytes hold options that make these
+abbrev pub Says : TcpOptions → List ℕ → TcpOptions → Type 0
+Says so_far bytes v = (os : List OptionValue) × Spells os bytes × (v ≡ all_taken so_far os)
+
+-- the bytes of ranges, closed up
+abbrev pub ranges_bytes : List (Option (ℕ × ℕ)) → List ℕ
+ranges_bytes [] = []
+ranges_bytes (None ∷ ranges) = ranges_bytes ranges
+ranges_bytes (Some range ∷ ranges) = to_be_bytes w32 range.0 ++ (to_be_bytes w32 range.1 ++ ranges_bytes ranges)
+
+-- the bytes of an option
+abbrev pub option_bytes : OptionValue → List ℕ
+option_bytes EndOfList = 0 ∷ []
+option_bytes NoOperation = 1 ∷ []
+option_bytes (MaxSegmentSize n) = 2 ∷ 4 ∷ to_be_bytes w16 n
+option_bytes (WindowScale n) = 3 ∷ 3 ∷ n ∷ []
+option_bytes SackPermitted = 4 ∷ 2 ∷ []
+option_bytes (SackRange ranges) = 5 ∷ (2 + length (ranges_bytes ranges)) ∷ ranges_bytes ranges
+option_bytes (TimeStamp tsval tsecr) = 8 ∷ 10 ∷ (to_be_bytes w32 tsval ++ to_be_bytes w32 tsecr)
+option_bytes (Unknown kind bytes) = kind ∷ (2 + length bytes) ∷ bytes
