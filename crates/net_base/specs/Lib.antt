@@ -6,6 +6,13 @@ pub use Rattle.net_time.specs.Time
 pub use Rattle.net_time.specs.declared.instant.Instant
 pub use Rattle.net_time.specs.declared.duration.Duration
 pub use Rattle.net_time.specs.declared.rand.Rand
+pub use Rattle.net_containers.specs.Assembler
+pub use Rattle.net_containers.specs.Contigs
+pub use Rattle.net_containers.specs.Entries
+pub use Rattle.net_containers.specs.ManagedSlice
+pub use Rattle.net_containers.specs.Packets
+pub use Rattle.net_containers.specs.Ring
+pub use Rattle.net_containers.specs.RingLends
 pub use Rattle.net_devices.specs.Capabilities
 pub use Rattle.net_devices.specs.Device
 pub use Rattle.net_devices.specs.Loopback
