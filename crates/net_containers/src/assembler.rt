@@ -1,5 +1,6 @@
 //! Which positions behind a front have come, as a set with few runs.
 ghost use Rattle.std.specs.Prelude.{◌≡◌, ℕ, ◌+◌, ◌-◌, ◌≤◌, ◌<◌, ◌^◌, ◌↔◌, List, [], ◌∷◌, ◌++◌, length, IsTrue, IsErr, OnOk, OnErr, IfOk};
+ghost use Rattle.net_containers.specs.AssemblerEq.{same_run_lists};
 ghost use Rattle.net_containers.specs.Assembler.{AreRuns, Holds, HoldSame, IsUnion, added, front, joined, without_front};
 
 use std::fmt;
@@ -145,6 +146,20 @@ impl<const N: usize> Assembler<N> {
         self.contigs[..self.count].is_empty()
     }
 
+    /// Returns whether the two have the same runs.
+    fn has_runs_of(&self, other: &Assembler<N>) -> bool
+        ensures value { result ≡ same_run_lists self.now other.now }
+        ensures runs { AreRuns self.now × AreRuns other.now }
+    {
+        let mut others = other.iter_data();
+        for run in self.iter_data() {
+            if others.next() != Some(run) {
+                return false;
+            }
+        }
+        others.next().is_none()
+    }
+
     /// Appends a run behind the others.
     fn push(&mut self, start: usize, end: usize) -> Result<(), TooManyHolesError>
         requires { AreRuns (self.old ++ (start, end) ∷ []) }
@@ -243,4 +258,29 @@ impl<const N: usize> Assembler<N> {
         self.add(offset, size)?;
         Ok(self.remove_front())
     }
+}
+
+// Assemblers that hold the same positions are equal.
+impl<const N: usize> PartialEq for Assembler<N> {
+    ghost use Rattle.std.specs.Prelude.{◌≡◌, ◌↔◌, IsTrue};
+    ghost use Rattle.std.specs.Cmp.{partial_equiv_from_equiv};
+    ghost use Rattle.net_containers.specs.Assembler.{HoldSame};
+    ghost use Rattle.net_containers.specs.AssemblerEq.{same_run_lists, same_runs_equiv};
+
+    ghost eq = { same_run_lists };
+
+    ghost laws = { partial_equiv_from_equiv same_runs_equiv };
+
+    fn eq(&self, other: &Assembler<N>) -> bool
+        ensures value { result ≡ same_run_lists self.now other.now }
+        ensures positions { IsTrue result ↔ HoldSame self.now other.now }
+    {
+        self.has_runs_of(other)
+    }
+}
+
+impl<const N: usize> Eq for Assembler<N> {
+    ghost use Rattle.net_containers.specs.AssemblerEq.{same_runs_equiv};
+
+    ghost laws = { same_runs_equiv };
 }
