@@ -118,7 +118,8 @@ impl<const N: usize> Assembler<N> {
         ensures runs { result ≡ self.now }
         ensures maximal { AreRuns self.now }
         // Two assemblers that hold the same positions are equal.
-        ensures unique { (others : List (ℕ × ℕ)) → AreRuns others → HoldSame self.now others → self.now ≡ others }
+        ensures unique { (others : List (ℕ × ℕ)) → AreRuns others → HoldSame self.now others
+            → self.now ≡ others }
         ensures few { length self.now ≤ N }
         ensures room { 1 ≤ N }
     {
@@ -247,7 +248,8 @@ impl<const N: usize> Assembler<N> {
         requires { offset + size < 2 ^ 64 }
         ensures union { IsUnion self.old offset size (added self.old offset size) }
         ensures refused { IsErr result ↔ ((0 < offset) × (N < length (added self.old offset size))) }
-        ensures ok { IfOk result (λ n. (n ≡ front (added self.old offset size)) × (self.new ≡ without_front (added self.old offset size))) }
+        ensures ok { IfOk result (λ n. (n ≡ front (added self.old offset size))
+            × (self.new ≡ without_front (added self.old offset size))) }
         ensures err { OnErr result (self.new ≡ self.old) }
     {
         if offset == 0 && size > 0 && self.count > 0 && size < self.contigs[0].hole_size {
