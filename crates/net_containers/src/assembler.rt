@@ -11,6 +11,10 @@ use std::marker::Model;
 pub struct TooManyHolesError;
 
 impl fmt::Display for TooManyHolesError {
+    ghost use Rattle.std.specs.Prelude.{Some, codes};
+
+    ghost output = { λ _. Some (codes "too many holes") };
+
     fn fmt<W: fmt::Write>(&self, f: &mut fmt::Formatter<W>) -> fmt::Result {
         write!(f, "too many holes")
     }
