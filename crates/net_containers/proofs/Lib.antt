@@ -4,3 +4,4 @@ pub mod RingSteps
 pub mod Answered
 pub mod Runs
 pub mod PacketQueues
+pub mod RunsEq

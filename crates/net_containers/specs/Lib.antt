@@ -1,4 +1,5 @@
 pub mod Assembler
+pub mod AssemblerEq
 pub mod Contigs
 pub mod Entries
 pub mod ManagedSlice

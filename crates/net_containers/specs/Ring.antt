@@ -57,6 +57,14 @@ module _ {X : Type 0} where
   abbrev pub unbroken_free : Ring X → ℕ → ℕ → ℕ
   unbroken_free r offset size = min size (min (length r.free - offset) (until_end r (length r.queue + offset)))
 
+  -- where the free elements from the offset on begin, counted from the read place
+  abbrev pub free_from : Ring X → ℕ → ℕ
+  free_from r offset = length r.queue + min offset (length r.free)
+
+  -- how many a call queues that may queue `size`
+  abbrev pub queued_count : Ring X → ℕ → ℕ
+  queued_count r size = min size (contiguous (anchored r))
+
   -- the length of the unbroken part of the queued elements from the offset on, at most `size`
   abbrev pub unbroken_queued : Ring X → ℕ → ℕ → ℕ
   unbroken_queued r offset size = min size (min (length r.queue - offset) (until_end r offset))

@@ -1,5 +1,6 @@
 //! Which positions behind a front have come, as a set with few runs.
 ghost use Rattle.std.specs.Prelude.{◌≡◌, ℕ, ◌+◌, ◌-◌, ◌≤◌, ◌<◌, ◌^◌, ◌↔◌, List, [], ◌∷◌, ◌++◌, length, IsTrue, IsErr, OnOk, OnErr, IfOk};
+ghost use Rattle.net_containers.specs.AssemblerEq.{same_run_lists};
 ghost use Rattle.net_containers.specs.Assembler.{AreRuns, Holds, HoldSame, IsUnion, added, front, joined, without_front};
 
 use std::fmt;
@@ -10,6 +11,10 @@ use std::marker::Model;
 pub struct TooManyHolesError;
 
 impl fmt::Display for TooManyHolesError {
+    ghost use Rattle.std.specs.Prelude.{Some, codes};
+
+    ghost output = { λ _. Some (codes "too many holes") };
+
     fn fmt<W: fmt::Write>(&self, f: &mut fmt::Formatter<W>) -> fmt::Result {
         write!(f, "too many holes")
     }
@@ -117,7 +122,8 @@ impl<const N: usize> Assembler<N> {
         ensures runs { result ≡ self.now }
         ensures maximal { AreRuns self.now }
         // Two assemblers that hold the same positions are equal.
-        ensures unique { (others : List (ℕ × ℕ)) → AreRuns others → HoldSame self.now others → self.now ≡ others }
+        ensures unique { (others : List (ℕ × ℕ)) → AreRuns others → HoldSame self.now others
+            → self.now ≡ others }
         ensures few { length self.now ≤ N }
         ensures room { 1 ≤ N }
     {
@@ -143,6 +149,20 @@ impl<const N: usize> Assembler<N> {
         ensures { IsTrue result ↔ (self.now ≡ []) }
     {
         self.contigs[..self.count].is_empty()
+    }
+
+    /// Returns whether the two have the same runs.
+    fn has_runs_of(&self, other: &Assembler<N>) -> bool
+        ensures value { result ≡ same_run_lists self.now other.now }
+        ensures runs { AreRuns self.now × AreRuns other.now }
+    {
+        let mut others = other.iter_data();
+        for run in self.iter_data() {
+            if others.next() != Some(run) {
+                return false;
+            }
+        }
+        others.next().is_none()
     }
 
     /// Appends a run behind the others.
@@ -232,7 +252,8 @@ impl<const N: usize> Assembler<N> {
         requires { offset + size < 2 ^ 64 }
         ensures union { IsUnion self.old offset size (added self.old offset size) }
         ensures refused { IsErr result ↔ ((0 < offset) × (N < length (added self.old offset size))) }
-        ensures ok { IfOk result (λ n. (n ≡ front (added self.old offset size)) × (self.new ≡ without_front (added self.old offset size))) }
+        ensures ok { IfOk result (λ n. (n ≡ front (added self.old offset size))
+            × (self.new ≡ without_front (added self.old offset size))) }
         ensures err { OnErr result (self.new ≡ self.old) }
     {
         if offset == 0 && size > 0 && self.count > 0 && size < self.contigs[0].hole_size {
@@ -243,4 +264,29 @@ impl<const N: usize> Assembler<N> {
         self.add(offset, size)?;
         Ok(self.remove_front())
     }
+}
+
+// Assemblers that hold the same positions are equal.
+impl<const N: usize> PartialEq for Assembler<N> {
+    ghost use Rattle.std.specs.Prelude.{◌≡◌, ◌↔◌, IsTrue};
+    ghost use Rattle.std.specs.Cmp.{partial_equiv_from_equiv};
+    ghost use Rattle.net_containers.specs.Assembler.{HoldSame};
+    ghost use Rattle.net_containers.specs.AssemblerEq.{same_run_lists, same_runs_equiv};
+
+    ghost eq = { same_run_lists };
+
+    ghost laws = { partial_equiv_from_equiv same_runs_equiv };
+
+    fn eq(&self, other: &Assembler<N>) -> bool
+        ensures value { result ≡ same_run_lists self.now other.now }
+        ensures positions { IsTrue result ↔ HoldSame self.now other.now }
+    {
+        self.has_runs_of(other)
+    }
+}
+
+impl<const N: usize> Eq for Assembler<N> {
+    ghost use Rattle.net_containers.specs.AssemblerEq.{same_runs_equiv};
+
+    ghost laws = { same_runs_equiv };
 }

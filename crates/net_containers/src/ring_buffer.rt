@@ -1,6 +1,6 @@
 //! A ring of elements in storage that is handed in.
 ghost use Rattle.std.specs.Prelude.{◌≡◌, ℕ, ◌+◌, ◌-◌, ◌%◌, ◌≤◌, ◌<◌, ◌↔◌, List, [], ◌∷◌, ◌++◌, length, take, drop, map, min, IsTrue, IsOk, IsErr, IfOk, OnErr, MatchResult, slice_get, Some, ⊤};
-ghost use Rattle.net_containers.specs.Ring.{Ring, capacity, ring, cleared, anchored, IsPlaced, until_end, contiguous, unbroken_free, unbroken_queued, overwritten, rewritten, extended, released, enqueued, dequeued, laid_from, offered, waiting, storage_of};
+ghost use Rattle.net_containers.specs.Ring.{Ring, capacity, ring, cleared, anchored, IsPlaced, until_end, contiguous, unbroken_free, free_from, queued_count, unbroken_queued, overwritten, rewritten, extended, released, enqueued, dequeued, laid_from, offered, waiting, storage_of};
 ghost use Rattle.std.specs.Borrow.{sem};
 ghost use Rattle.std.specs.Fn.{FnOnceTakesAtMut, FnOnceReturnsAtMut};
 
@@ -206,10 +206,11 @@ impl<T> RingBuffer<T> {
     /// Lends the free elements from `offset` on, counted from the first free one, at most `size` and up to the end of the
     /// storage.
     pub fn get_unallocated(&mut self, offset: usize, size: usize) -> &mut [T]
-        ensures* lends { sem 𝓛 (LendsFrom T.row self.entry result self.old (length self.old.queue + min offset (length self.old.free))) }
+        ensures* lends { sem 𝓛 (LendsFrom T.row self.entry result self.old (free_from self.old offset)) }
         ensures len { length result.now ≡ unbroken_free self.old offset size }
         ensures value { result.now ≡ take (unbroken_free self.old offset size) (drop offset self.old.free) }
-        ensures written { (ws : List T) → length ws ≡ unbroken_free self.old offset size → laid_from self.old (length self.old.queue + min offset (length self.old.free)) ws ≡ overwritten self.old offset ws }
+        ensures written { (ws : List T) → length ws ≡ unbroken_free self.old offset size
+            → laid_from self.old (free_from self.old offset) ws ≡ overwritten self.old offset ws }
     {
         let window = self.capacity() - self.len();
         let offset = offset.min(window);
@@ -280,10 +281,13 @@ impl<T> RingBuffer<T> {
 
     /// Queues the next free elements, at most `size` and up to the end of the storage, and lends them for writing.
     pub fn enqueue_many(&mut self, size: usize) -> &mut [T]
-        ensures* lends { sem 𝓛 (LendsFrom T.row self.entry result (extended (anchored self.old) (min size (contiguous (anchored self.old)))) (length self.old.queue)) }
-        ensures len { length result.now ≡ min size (contiguous (anchored self.old)) }
-        ensures value { result.now ≡ take (min size (contiguous (anchored self.old))) (anchored self.old).free }
-        ensures written { (ws : List T) → length ws ≡ min size (contiguous (anchored self.old)) → laid_from (extended (anchored self.old) (min size (contiguous (anchored self.old)))) (length self.old.queue) ws ≡ enqueued (anchored self.old) ws }
+        ensures* lends { sem 𝓛 (LendsFrom T.row self.entry result
+            (extended (anchored self.old) (queued_count self.old size)) (length self.old.queue)) }
+        ensures len { length result.now ≡ queued_count self.old size }
+        ensures value { result.now ≡ take (queued_count self.old size) (anchored self.old).free }
+        ensures written { (ws : List T) → length ws ≡ queued_count self.old size
+            → laid_from (extended (anchored self.old) (queued_count self.old size)) (length self.old.queue) ws
+            ≡ enqueued (anchored self.old) ws }
     {
         self.anchor();
         let from = self.len();
@@ -294,10 +298,14 @@ impl<T> RingBuffer<T> {
 
     /// Gives up the first queued elements, at most `size` and up to the end of the storage, and lends them.
     pub fn dequeue_many(&mut self, size: usize) -> &mut [T]
-        ensures* lends { sem 𝓛 (LendsFrom T.row self.entry result (released self.old (unbroken_queued self.old 0 size)) (capacity self.old - unbroken_queued self.old 0 size)) }
+        ensures* lends { sem 𝓛 (LendsFrom T.row self.entry result
+            (released self.old (unbroken_queued self.old 0 size)) (capacity self.old - unbroken_queued self.old 0 size)) }
         ensures len { length result.now ≡ unbroken_queued self.old 0 size }
         ensures value { result.now ≡ take (unbroken_queued self.old 0 size) self.old.queue }
-        ensures written { (ws : List T) → length ws ≡ unbroken_queued self.old 0 size → laid_from (released self.old (unbroken_queued self.old 0 size)) (capacity self.old - unbroken_queued self.old 0 size) ws ≡ dequeued self.old ws }
+        ensures written { (ws : List T) → length ws ≡ unbroken_queued self.old 0 size
+            → laid_from (released self.old (unbroken_queued self.old 0 size))
+            (capacity self.old - unbroken_queued self.old 0 size) ws
+            ≡ dequeued self.old ws }
     {
         let size = size.min(self.len()).min(self.until_end(0));
         let from = self.capacity() - size;
@@ -313,8 +321,11 @@ impl<T> RingBuffer<T> {
     /// queued.
     pub fn enqueue_many_with<R, F: FnOnce(&mut [T]) -> (usize, R)>(&mut self, f: F) -> (usize, R)
         requires callable { FnOnceTakesAtMut F.FnOnce f (offered self.old) }
-        requires within { (answer : _) (left : List T) → FnOnceReturnsAtMut F.FnOnce f (offered self.old) answer left → answer.0 ≤ contiguous (anchored self.old) }
-        ensures { (left : List T) × (length left ≡ contiguous (anchored self.old)) × FnOnceReturnsAtMut F.FnOnce f (offered self.old) result left × (self.new ≡ extended (overwritten (anchored self.old) 0 left) result.0) }
+        requires within { (answer : _) (left : List T) → FnOnceReturnsAtMut F.FnOnce f (offered self.old) answer left
+            → answer.0 ≤ contiguous (anchored self.old) }
+        ensures { (left : List T) × (length left ≡ contiguous (anchored self.old))
+            × FnOnceReturnsAtMut F.FnOnce f (offered self.old) result left
+            × (self.new ≡ extended (overwritten (anchored self.old) 0 left) result.0) }
     {
         self.anchor();
         let from = self.len();
@@ -328,8 +339,11 @@ impl<T> RingBuffer<T> {
     /// be given up.
     pub fn dequeue_many_with<R, F: FnOnce(&mut [T]) -> (usize, R)>(&mut self, f: F) -> (usize, R)
         requires callable { FnOnceTakesAtMut F.FnOnce f (waiting self.old) }
-        requires within { (answer : _) (left : List T) → FnOnceReturnsAtMut F.FnOnce f (waiting self.old) answer left → answer.0 ≤ length (waiting self.old) }
-        ensures { (left : List T) × (length left ≡ length (waiting self.old)) × FnOnceReturnsAtMut F.FnOnce f (waiting self.old) result left × (self.new ≡ released (rewritten self.old left) result.0) }
+        requires within { (answer : _) (left : List T) → FnOnceReturnsAtMut F.FnOnce f (waiting self.old) answer left
+            → answer.0 ≤ length (waiting self.old) }
+        ensures { (left : List T) × (length left ≡ length (waiting self.old))
+            × FnOnceReturnsAtMut F.FnOnce f (waiting self.old) result left
+            × (self.new ≡ released (rewritten self.old left) result.0) }
     {
         let size = self.len().min(self.until_end(0));
         let (count, answer) = f(self.part_mut(0, size));
@@ -393,7 +407,9 @@ impl<T> RingBuffer<T> {
         requires callable { (x : T) → slice_get self.old.free 0 ≡ Some x → FnOnceTakesAtMut F.FnOnce f x }
         ensures full { IsErr result ↔ (self.old.free ≡ []) }
         ensures refused { OnErr result (self.new ≡ self.old) }
-        ensures called { IfOk result (λ answer. (x left : T) × (slice_get self.old.free 0 ≡ Some x) × FnOnceReturnsAtMut F.FnOnce f x answer left × MatchResult answer (λ _. self.new ≡ enqueued self.old (left ∷ [])) (λ _. self.new ≡ overwritten self.old 0 (left ∷ []))) }
+        ensures called { IfOk result (λ answer. (x left : T) × (slice_get self.old.free 0 ≡ Some x) × FnOnceReturnsAtMut F.FnOnce f x answer left
+            × MatchResult answer (λ _. self.new ≡ enqueued self.old (left ∷ []))
+            (λ _. self.new ≡ overwritten self.old 0 (left ∷ []))) }
     {
         if self.is_full() {
             return Err(Full);
@@ -414,7 +430,9 @@ impl<T> RingBuffer<T> {
         requires callable { (x : T) → slice_get self.old.queue 0 ≡ Some x → FnOnceTakesAtMut F.FnOnce f x }
         ensures empty { IsErr result ↔ (self.old.queue ≡ []) }
         ensures refused { OnErr result (self.new ≡ self.old) }
-        ensures called { IfOk result (λ answer. (x left : T) × (slice_get self.old.queue 0 ≡ Some x) × FnOnceReturnsAtMut F.FnOnce f x answer left × MatchResult answer (λ _. self.new ≡ dequeued self.old (left ∷ [])) (λ _. self.new ≡ rewritten self.old (left ∷ []))) }
+        ensures called { IfOk result (λ answer. (x left : T) × (slice_get self.old.queue 0 ≡ Some x) × FnOnceReturnsAtMut F.FnOnce f x answer left
+            × MatchResult answer (λ _. self.new ≡ dequeued self.old (left ∷ []))
+            (λ _. self.new ≡ rewritten self.old (left ∷ []))) }
     {
         if self.is_empty() {
             return Err(Empty);

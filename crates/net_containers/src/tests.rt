@@ -153,6 +153,11 @@ fn joins_runs(rt: HostRuntime) -> Result<(), Fail> {
     assert_eq!(rt; held.peek_front(), 2);
     assert_eq!(rt; held.remove_front(), 2);
     assert_eq!(rt; held.iter_data().next(), Some((2, 14)));
+    let mut other: Assembler<4> = Assembler::new();
+    assert_eq!(rt; other.add(18, 4), Ok(()));
+    assert!(rt; held != other);
+    assert_eq!(rt; other.add(2, 12), Ok(()));
+    assert!(rt; held == other);
     held.clear();
     assert_eq!(rt; held.remove_front(), 0);
     let text = format!(in rt.alloc(); "{TooManyHolesError}")?;
