@@ -1,8 +1,7 @@
 -- What is printed is a text that is read.
-use Rattle.std.proofs.Common.{◌≡◌, ℕ, ◌+◌, ◌*◌, ◌/◌, ◌%◌, ◌^◌, ◌<◌, ◌≤◌, inl, inr, List, [], ◌∷◌, ◌++◌, length, zero, suc, sym, refl, ◌∙◌, append_assoc, ap, arith, get_or, decimal}
+use Rattle.std.proofs.Common.{◌≡◌, ℕ, ◌+◌, ◌*◌, ◌/◌, ◌%◌, ◌^◌, ◌<◌, ◌≤◌, inl, List, [], ◌∷◌, ◌++◌, length, zero, suc, sym, refl, append_assoc, arith, get_or, decimal}
 use Rattle.std.specs.Char.{digit_char, digit_value}
 use Rattle.std.specs.Net.Addr.{segments_of, octets_of}
-use Rattle.std.specs.Net.Grammar.{IsColonHex}
 use Rattle.std.specs.Net.Text.{ipv4_text, ipv6_text}
 use Rattle.std.proofs.NetLemmas.Texts.{IsColonHex-ipv6_text}
 use Rattle.std.proofs.lemmas.Fmt.{decimal_is_IsNumeral, length-decimal-le}
@@ -10,7 +9,7 @@ use Rattle.std.proofs.lemmas.Str.{digit_value-digit_char}
 use Rattle.ip_address.specs.Address.{IsEthernetAddress, IsIpv4Address, IsIpv6Address, IsIpAddress}
 use Rattle.ip_address.specs.Block.{block_address, block_prefix_len}
 use Rattle.ip_address.specs.Fields.{IsBytes}
-use Rattle.ip_address.specs.Text.{IsDecimal, IsOctet, IsDottedText, IsIpv4Text, IsBlockText, IsIpv4BlockText, IsIpv6BlockText, IsIpBlockText, IsIpv4EndpointText, IsHexPair, IsSixPairs, IsEthernetText, hex_pair, ethernet_text, IsIpv6Text, IsIpText, ip_text, block_text, ipv4_block_text, ipv6_block_text}
+use Rattle.ip_address.specs.Text.{IsDecimal, IsOctet, IsDottedText, IsIpv4BlockText, IsIpv6BlockText, IsIpBlockText, IsIpv4EndpointText, IsHexPair, IsSixPairs, IsEthernetText, hex_pair, ethernet_text, IsIpv6Text, IsIpText, ip_text, block_text, ipv4_block_text, ipv6_block_text}
 use Rattle.ip_address.specs.declared.ethernet.EthernetAddress.{EthernetAddress}
 use Rattle.ip_address.specs.declared.ip.IpAddress.{IpAddress}
 use Rattle.ip_address.specs.declared.ip.IpAddress.TheVariants as Ip

@@ -1,5 +1,5 @@
 -- Laws of the texts of addresses.
-use Rattle.std.proofs.Common.{◌≡◌, ◌≢◌, ℕ, ◌+◌, ◌<◌, ◌≤◌, ◌⊎◌, inl, inr, Bool, true, false, List, [], ◌∷◌, ◌++◌, length, zero, suc, sym, refl, ◌∙◌, append_assoc, ap, arith, get_or, subst, decimal, Option, Some, None, Result, Ok, Err}
+use Rattle.std.proofs.Common.{◌≡◌, ◌≢◌, ℕ, ◌<◌, ◌≤◌, ◌⊎◌, inl, inr, Bool, true, false, List, [], ◌∷◌, ◌++◌, length, zero, suc, sym, refl, ◌∙◌, append_assoc, ap, arith, get_or, subst, decimal, Option, Some, None, Result, Ok}
 use Rattle.std.specs.Prelude.{MatchOption, IfSome, IsSomeAnd, IfOk, IsOkAnd}
 use Rattle.std.specs.Option.{ok_or}
 use Rattle.std.specs.Borrow.{Bor}
@@ -7,7 +7,7 @@ use Rattle.std.specs.Char.{digit_value}
 use Rattle.std.specs.Str.Parse.{AllDigits}
 use Rattle.std.proofs.lemmas.Fmt.{decimal_is_IsNumeral}
 use Rattle.std.specs.Net.Grammar.{IsDotted, IsGroupsAfter, IsColonHex}
-use Rattle.ip_address.specs.Text.{Reads, Lacks, IsCut, IsOctet, IsOctetBefore, IsDottedText, IsDecimal, IsHexPair, IsHexPairBefore, IsSixPairs, IsIpText, IsIpv4Text, IsIpv6Text, IsIpv4EndpointText, IsIpv6EndpointText, IsAddressAndPort}
+use Rattle.ip_address.specs.Text.{Reads, Lacks, IsCut, IsOctetBefore, IsDottedText, IsHexPair, IsHexPairBefore, IsSixPairs, IsIpText, IsIpv4Text, IsIpv6Text, IsIpv4EndpointText, IsIpv6EndpointText, IsAddressAndPort}
 use Rattle.std.specs.Net.Addr.{segments_of}
 use Rattle.ip_address.specs.declared.ip.IpAddress.{IpAddress}
 use Rattle.ip_address.specs.declared.ip.IpAddress.TheVariants as Ip

@@ -1,5 +1,5 @@
 -- The texts of addresses. A text is its bytes.
-use Rattle.std.specs.Prelude.{◌≡◌, ◌≢◌, ℕ, ◌<◌, ◌≤◌, List, [], ◌∷◌, ◌++◌, length, slice_index, codes, decimal, ◌⊎◌, ◌/◌, ◌%◌, false, Option, Some, None, Result, Ok, IfOk, IsOkAnd}
+use Rattle.std.specs.Prelude.{◌≡◌, ◌≢◌, ℕ, ◌<◌, ◌≤◌, List, [], ◌∷◌, ◌++◌, length, slice_index, codes, decimal, ◌⊎◌, ◌/◌, ◌%◌, Option, Some, None, Result, Ok, IfOk, IsOkAnd}
 use Rattle.std.specs.Char.{digit_char}
 use Rattle.std.specs.Net.Addr.{segments_of, octets_of}
 use Rattle.std.specs.Net.Grammar.{IsNumber, IsColonHex}
@@ -13,7 +13,6 @@ use Rattle.ip_address.specs.declared.ip.IpAddress.TheVariants as Ip
 use Rattle.ip_address.specs.declared.ip.IpCidr.{IpCidr}
 use Rattle.ip_address.specs.declared.ip.IpCidr.TheVariants as Block
 use Rattle.ip_address.specs.declared.ip.IpEndpoint.{IpEndpoint}
-use Rattle.ip_address.specs.declared.ip.IpListenEndpoint.{IpListenEndpoint}
 use Rattle.ip_address.specs.declared.ipv6.Ipv6Address.{Ipv6Address}
 use Rattle.ip_address.specs.declared.ipv6.Ipv6Cidr.{Ipv6Cidr}
 use Rattle.ip_address.specs.declared.ipv4.Ipv4Address.{Ipv4Address}

@@ -154,14 +154,16 @@ fn low_first_number(bytes: &[u8]) -> u64
     }
 }
 
-/// The sum brought to 16 bits.
+/// The sum brought to 16 bits, half by half: 2^64 is 1 modulo 65535.
 const fn fold(total: u128) -> u16
     ensures { result ≡ folded total }
 {
     if total == 0 {
         0
     } else {
-        ((total - 1) % 65535 + 1) as u16
+        let high = (total / 0x1_0000_0000_0000_0000) as u64;
+        let low = (total % 0x1_0000_0000_0000_0000) as u64;
+        ((high % 65535 + low % 65535 + 65534) % 65535 + 1) as u16
     }
 }
 

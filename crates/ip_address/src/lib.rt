@@ -2,6 +2,8 @@
 //! every packet format above is made of.
 #![tactic(auto)]
 
+ghost use Rattle.std.specs.Prelude.{Some, codes};
+
 pub mod checksum;
 pub mod ethernet;
 pub mod hardware;
@@ -32,6 +34,8 @@ use std::fmt;
 pub struct Error;
 
 impl fmt::Display for Error {
+    ghost output = { λ _. Some (codes "wire::Error") };
+
     fn fmt<W: fmt::Write>(&self, f: &mut fmt::Formatter<W>) -> fmt::Result {
         write!(f, "wire::Error")
     }

@@ -1,4 +1,4 @@
-use Rattle.std.proofs.Common.{◌≡◌, ◌<◌, [], arith}
+use Rattle.std.proofs.Common.{[], arith}
 use Rattle.ip_address.proofs.text.after.Goals as goal
 
 pub returns-in_err-front-clause-only : goal.returns-in_err-front-clause-only

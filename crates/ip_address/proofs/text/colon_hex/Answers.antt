@@ -1,4 +1,4 @@
-use Rattle.std.proofs.Common.{◌≡◌, ℕ, List, Some, sym, ◌∙◌, ap}
+use Rattle.std.proofs.Common.{ℕ, List, Some, sym, ◌∙◌, ap}
 use Rattle.std.specs.Net.Addr.{octets_of}
 use Rattle.std.specs.declared.net.ipv6_addr.Ipv6Addr.{Ipv6Addr}
 use Rattle.std.proofs.NetLemmas.Theorems.{IsIpv6Text_unique}

@@ -1,4 +1,4 @@
-use Rattle.std.proofs.Common.{◌≡◌, ℕ, List, Some, sym, ap}
+use Rattle.std.proofs.Common.{ℕ, List, Some, sym, ap}
 use Rattle.ip_address.specs.declared.ipv4.Ipv4Address.{Ipv4Address}
 use Rattle.ip_address.proofs.Texts.{some_inside}
 use Rattle.ip_address.proofs.text.dotted.Goals as goal

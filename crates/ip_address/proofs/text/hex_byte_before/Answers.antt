@@ -1,4 +1,3 @@
-use Rattle.std.proofs.Common.{◌≡◌}
 use Rattle.ip_address.proofs.Texts.{Lacks-hex, some_inside}
 use Rattle.ip_address.proofs.text.hex_byte_before.Goals as goal
 

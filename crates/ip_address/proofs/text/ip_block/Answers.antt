@@ -1,4 +1,4 @@
-use Rattle.std.proofs.Common.{◌≡◌, ◌≤◌, ◌∙◌, ap, arith}
+use Rattle.std.proofs.Common.{◌∙◌, ap}
 use Rattle.ip_address.specs.Block.{width_of}
 use Rattle.ip_address.proofs.Texts.{Lacks-slash, some_inside}
 use Rattle.ip_address.proofs.text.ip_block.Goals as goal

@@ -1,4 +1,4 @@
-use Rattle.std.proofs.Common.{◌≡◌, ℕ, Some, ◌∙◌, ap}
+use Rattle.std.proofs.Common.{ℕ, Some, ◌∙◌, ap}
 use Rattle.ip_address.specs.declared.ip.IpAddress.{IpAddress}
 use Rattle.ip_address.specs.declared.ip.IpEndpoint.{IpEndpoint}
 use Rattle.ip_address.proofs.Texts.{endpoint_v4}

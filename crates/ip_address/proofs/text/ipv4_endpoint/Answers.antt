@@ -1,4 +1,4 @@
-use Rattle.std.proofs.Common.{◌≡◌, ◌≤◌, ◌∙◌, arith}
+use Rattle.std.proofs.Common.{arith}
 use Rattle.ip_address.proofs.Texts.{Lacks-dotted, some_inside}
 use Rattle.ip_address.proofs.text.ipv4_endpoint.Goals as goal
 

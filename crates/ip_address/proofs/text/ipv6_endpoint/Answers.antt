@@ -1,4 +1,4 @@
-use Rattle.std.proofs.Common.{◌≡◌, ◌≤◌, ◌∷◌, ◌++◌, arith}
+use Rattle.std.proofs.Common.{◌∷◌, ◌++◌, arith}
 use Rattle.ip_address.proofs.Texts.{Lacks-colon_hex, some_inside}
 use Rattle.ip_address.proofs.text.ipv6_endpoint.Goals as goal
 

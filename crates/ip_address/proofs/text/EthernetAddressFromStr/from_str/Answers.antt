@@ -1,4 +1,4 @@
-use Rattle.std.proofs.Common.{◌≡◌, ap, inl, inr, Ok}
+use Rattle.std.proofs.Common.{ap, inl, inr, Ok}
 use Rattle.ip_address.specs.Text.{IsEthernetText}
 use Rattle.ip_address.proofs.Texts.{Reads-ok_or, IfSome-map, IsSixPairs-apart, some_inside}
 use Rattle.ip_address.proofs.text.EthernetAddressFromStr.from_str.Goals as goal

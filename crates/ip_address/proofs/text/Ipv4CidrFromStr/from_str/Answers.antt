@@ -1,4 +1,3 @@
-use Rattle.std.proofs.Common.{ℕ}
 use Rattle.ip_address.specs.Text.{IsIpv4BlockText}
 use Rattle.ip_address.specs.declared.ipv4.Ipv4Cidr.{Ipv4Cidr}
 use Rattle.ip_address.proofs.Texts.{ReadsBlock-ok_or}

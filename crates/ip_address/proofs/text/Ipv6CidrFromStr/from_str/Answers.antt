@@ -1,4 +1,3 @@
-use Rattle.std.proofs.Common.{ℕ}
 use Rattle.ip_address.specs.Text.{IsIpv6BlockText}
 use Rattle.ip_address.specs.declared.ipv6.Ipv6Cidr.{Ipv6Cidr}
 use Rattle.ip_address.proofs.Texts.{ReadsBlock-ok_or}
