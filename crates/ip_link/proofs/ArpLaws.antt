@@ -1,7 +1,6 @@
 -- An ARP packet and what spells it.
-use Rattle.std.proofs.Common.{◌≡◌, ℕ, ◌+◌, ◌*◌, ◌/◌, ◌%◌, ◌<◌, ◌≤◌, ◌^◌, List, [], ◌∷◌, ◌++◌, length, get_or, take, drop, refl, sym, ◌∙◌, ap, arith, length-append, append_assoc}
+use Rattle.std.proofs.Common.{◌≡◌, ℕ, ◌+◌, ◌*◌, ◌/◌, ◌%◌, ◌<◌, ◌^◌, List, ◌++◌, length, get_or, take, drop, refl, sym, ◌∙◌, ap, arith, length-append, append_assoc}
 use Rattle.std.proofs.lemmas.List.{take_at, drop_at, drop-drop}
-use Rattle.std.specs.Int.{w16, to_be_bytes}
 use Rattle.ip_address.specs.Fields.{be16, IsBytes}
 use Rattle.ip_link.specs.Arp.{IsArp, IsValue, written, normal, operation_number, operation_of}
 use Rattle.ip_link.specs.declared.arp.ArpRepr.{ArpRepr}

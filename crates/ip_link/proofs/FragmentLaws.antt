@@ -1,9 +1,9 @@
 -- A fragment header and what spells it.
-use Rattle.std.proofs.Common.{◌≡◌, ℕ, ◌+◌, ◌*◌, ◌/◌, ◌%◌, ◌<◌, ◌≤◌, ◌^◌, Bool, true, false, List, ◌∷◌, ◌++◌, length, get_or, drop, refl, sym, ◌∙◌, ap, inl, inr, arith}
+use Rattle.std.proofs.Common.{◌≡◌, ℕ, ◌+◌, ◌*◌, ◌%◌, ◌<◌, Bool, true, false, List, ◌++◌, get_or, drop, refl, sym, inl, inr, arith}
 use Rattle.std.specs.Prelude.{◌==◌, ◌⊎◌, if◌then◌else◌}
 use Rattle.std.proofs.lemmas.Bool.{eq-eqb, ne_eqb}
 use Rattle.std.proofs.lemmas.Bool.Decides.{eqb_tells}
-use Rattle.ip_address.specs.Fields.{be16, be32, IsBytes}
+use Rattle.ip_address.specs.Fields.{be16, IsBytes}
 use Rattle.ip_link.specs.Fragment.{IsFragment, IsWhole, IsValue, spelling, written, normal, reserved_of}
 use Rattle.ip_link.specs.declared.ipv6_fragment.Ipv6FragmentRepr.{Ipv6FragmentRepr}
 use Rattle.ip_packet.proofs.Peel.{peel16, peel32}

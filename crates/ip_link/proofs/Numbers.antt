@@ -3,10 +3,8 @@ use Rattle.std.proofs.Common.{◌≡◌, ℕ, refl, sym, ◌∙◌, inl, inr}
 use Rattle.std.specs.Prelude.{◌==◌, if◌then◌else◌}
 use Rattle.std.proofs.lemmas.Bool.Decides.{eqb_tells}
 use Rattle.ip_address.specs.Protocol.{ether_number, ether_of}
-use Rattle.ip_address.specs.declared.ethernet.EthernetProtocol.{EthernetProtocol}
 use Rattle.ip_address.specs.declared.ethernet.EthernetProtocol.TheVariants as Ether
 use Rattle.ip_link.specs.Arp.{operation_number, operation_of}
-use Rattle.ip_link.specs.declared.arp.ArpOperation.{ArpOperation}
 use Rattle.ip_link.specs.declared.arp.ArpOperation.TheVariants as Operation
 
 -- one test of the number

@@ -16,3 +16,6 @@ use std::ops::{Range, RangeFrom};
 pub type Field = Range<usize>;
 /// The places behind a header.
 pub type Rest = RangeFrom<usize>;
+
+#[cfg(test)]
+mod tests;
