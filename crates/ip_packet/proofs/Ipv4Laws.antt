@@ -1,5 +1,5 @@
 -- A packet's header and what spells it.
-use Rattle.std.proofs.Common.{◌≡◌, ℕ, ◌+◌, ◌-◌, ◌*◌, ◌/◌, ◌%◌, ◌<◌, ◌≤◌, ◌^◌, Bool, true, false, IsTrue, List, [], ◌∷◌, ◌++◌, length, take, drop, refl, sym, ◌∙◌, ap, subst, arith, length-append, append_assoc}
+use Rattle.std.proofs.Common.{◌≡◌, ℕ, ◌+◌, ◌-◌, ◌/◌, ◌<◌, ◌≤◌, Bool, true, false, IsTrue, List, [], ◌++◌, length, take, drop, refl, sym, ◌∙◌, ap, subst, arith, length-append, append_assoc}
 use Rattle.std.specs.Prelude.{slice_range, slice_index}
 use Rattle.std.proofs.lemmas.List.{take_at, drop_at}
 use Rattle.ip_address.proofs.Sums.{ChecksumHolds-complement}
@@ -7,7 +7,7 @@ use Rattle.ip_address.specs.Fields.{be16, put16, IsBytes}
 use Rattle.ip_address.specs.Protocol.{protocol_number}
 use Rattle.ip_address.specs.Sum.{word_sum, folded, ChecksumHolds}
 use Rattle.ip_packet.specs.Covered.{complement}
-use Rattle.ip_packet.specs.Ipv4.{IsIpv4, IsWhole, IsChecked, IsValue, Fits, spelling, sent_fields, free_fields, written, header_len_of, header_of, with_checksum, normal}
+use Rattle.ip_packet.specs.Ipv4.{IsIpv4, IsWhole, IsValue, Fits, spelling, sent_fields, free_fields, written, header_len_of, header_of, with_checksum, normal}
 use Rattle.ip_packet.specs.declared.ipv4.Ipv4Repr.{Ipv4Repr}
 use Rattle.ip_packet.proofs.Peel.{peel8, peel16, peel_to, length-slice_range}
 use Rattle.ip_packet.proofs.Protocols.{protocol_number-protocol_of}

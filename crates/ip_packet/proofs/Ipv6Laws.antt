@@ -1,8 +1,8 @@
 -- An IPv6 packet's header and what spells it.
-use Rattle.std.proofs.Common.{◌≡◌, ℕ, ◌+◌, ◌-◌, ◌*◌, ◌/◌, ◌%◌, ◌<◌, ◌≤◌, ◌^◌, List, ◌∷◌, ◌++◌, length, get_or, take, drop, refl, sym, ◌∙◌, ap, arith, length-append, append_assoc}
+use Rattle.std.proofs.Common.{◌≡◌, ℕ, ◌+◌, ◌*◌, ◌/◌, ◌<◌, ◌≤◌, ◌^◌, List, ◌++◌, length, get_or, take, drop, refl, sym, ◌∙◌, ap, arith, length-append, append_assoc}
 use Rattle.std.specs.Prelude.{slice_index}
 use Rattle.std.proofs.lemmas.List.{take_at, drop_at}
-use Rattle.ip_address.specs.Fields.{be16, be32, IsBytes}
+use Rattle.ip_address.specs.Fields.{be32, IsBytes}
 use Rattle.ip_address.specs.Protocol.{protocol_number}
 use Rattle.ip_packet.specs.Ipv6.{IsIpv6, IsWhole, IsValue, Fits, spelling, written, class_and_flow, normal}
 use Rattle.ip_packet.specs.declared.ipv6.Ipv6Repr.{Ipv6Repr}

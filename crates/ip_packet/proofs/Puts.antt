@@ -1,5 +1,5 @@
 -- A number written twice at one place.
-use Rattle.std.proofs.Common.{◌≡◌, ◌≢◌, ℕ, ◌+◌, ◌/◌, ◌%◌, List, refl, sym, ◌∙◌, ap, arith}
+use Rattle.std.proofs.Common.{◌≡◌, ◌≢◌, ℕ, ◌+◌, ◌/◌, ◌%◌, List, ◌∙◌, ap, arith}
 use Rattle.std.proofs.lemmas.List.{set-set, set_comm}
 use Rattle.std.proofs.Math.ListN.{set}
 use Rattle.ip_address.specs.Fields.{put16}

@@ -1,12 +1,11 @@
 -- A datagram and what spells it.
-use Rattle.std.proofs.Common.{◌≡◌, ℕ, ◌+◌, ◌-◌, ◌*◌, ◌/◌, ◌%◌, ◌<◌, ◌≤◌, ◌^◌, Bool, true, false, IsTrue, List, ◌∷◌, ◌++◌, length, take, drop, refl, sym, ◌∙◌, ap, subst, inl, inr, arith, length-append}
+use Rattle.std.proofs.Common.{◌≡◌, ℕ, ◌+◌, ◌<◌, ◌^◌, Bool, true, false, IsTrue, List, ◌++◌, length, drop, refl, sym, ◌∙◌, ap, subst, inr, arith, length-append}
 use Rattle.std.proofs.lemmas.List.{take_at}
 use Rattle.ip_address.specs.Fields.{be16, put16, IsBytes}
-use Rattle.ip_address.specs.Pseudo.{pseudo_of}
 use Rattle.ip_address.specs.Sum.{word_sum, folded, ChecksumHolds}
 use Rattle.ip_address.specs.declared.ip.IpAddress.{IpAddress}
 use Rattle.ip_packet.specs.Covered.{covered, nonzero_complement}
-use Rattle.ip_packet.specs.Udp.{IsUdp, IsWhole, IsChecked, IsAccepted, Fits, spelling, written, payload_of, datagram_of, with_checksum}
+use Rattle.ip_packet.specs.Udp.{IsUdp, IsWhole, IsAccepted, Fits, spelling, written, payload_of, datagram_of, with_checksum}
 use Rattle.ip_packet.specs.declared.udp.UdpRepr.{UdpRepr}
 use Rattle.ip_packet.proofs.CoveredSums.{ChecksumHolds-nonzero_complement, nonzero_complement-small}
 use Rattle.ip_packet.proofs.Puts.{put16-put16}

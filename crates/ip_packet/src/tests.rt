@@ -32,6 +32,10 @@ const WITH_OPTION: [u8; 34] = [
     0xe0, 0x00, 0x00, 0x16, 0x94, 0x04, 0x00, 0x00, 1, 2, 3, 4, 5, 6, 7, 8, 0, 0,
 ];
 
+fn starts_with(bytes: &[u8], front: &[u8]) -> bool {
+    bytes.starts_with(front)
+}
+
 fn unverified() -> ChecksumCapabilities {
     ChecksumCapabilities::ignored()
 }
@@ -324,7 +328,7 @@ fn ipv4_is_set(rt: HostRuntime) {
         0x46, 0xc1, 0x00, 0x20, 0x12, 0x34, 0x61, 0x05, 0x01, 0x02, 0x01, 0x02, 0x0a, 0x00, 0x00,
         0x01, 0xe0, 0x00, 0x00, 0x16,
     ];
-    assert_eq!(rt; &packet.into_inner()[..20], front.as_slice());
+    assert!(rt; starts_with(packet.into_inner(), &front));
 }
 
 /// Writes a datagram behind an Ethernet header, each part in its place.
@@ -461,7 +465,7 @@ fn ipv6_is_set(rt: HostRuntime) {
     assert_eq!(rt; packet.dst_addr(), IPV6_LINK_LOCAL_ALL_NODES);
     assert_eq!(rt; packet.payload().len(), 4);
     assert_eq!(rt; packet.payload_mut().len(), 4);
-    assert_eq!(rt; &bytes[..40], &OVER_V6[..40]);
+    assert!(rt; starts_with(&bytes, &OVER_V6[..40]));
 }
 
 #[test]

@@ -1,0 +1,3 @@
+pub mod Ethernet
+pub mod Arp
+pub mod Fragment
