@@ -1,5 +1,5 @@
 -- Lemmas on what a script writes.
-use Rattle.std.proofs.Common.{◌≡◌, ℕ, zero, suc, ◌+◌, ◌<◌, List, [], ◌∷◌, ◌++◌, length, get_or, drop, refl, sym, ap, ◌∙◌, append_assoc, add-one, arith}
+use Rattle.std.proofs.Common.{◌≡◌, ℕ, zero, suc, ◌+◌, ◌<◌, List, [], ◌∷◌, ◌++◌, length, get_or, drop, sym, ap, ◌∙◌, append_assoc, add-one, arith}
 use Rattle.std.specs.Global.{Vec}
 use Rattle.net_base.specs.Device.{frames_of}
 use Rattle.lan_machine.specs.declared.event.Side.{Side}

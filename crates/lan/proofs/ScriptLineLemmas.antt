@@ -1,7 +1,7 @@
 -- Lemmas on the lines of a script.
-use Rattle.std.proofs.Common.{◌≡◌, ℕ, zero, suc, ◌<◌, ◌≤◌, Bool, true, false, ◌&&◌, ltb, nat_lt, List, [], ◌∷◌, slice_index, refl, sym, ap, ◌∙◌, arith, Option, Some, None, Result, IfOk, slice_get, drop, codes}
+use Rattle.std.proofs.Common.{◌≡◌, ℕ, zero, suc, ◌<◌, ◌≤◌, Bool, true, false, ◌&&◌, ltb, nat_lt, List, [], ◌∷◌, slice_index, refl, arith, Option, Some, None, Result, IfOk, slice_get, drop, codes}
 use Rattle.std.specs.List.{list_all}
-use Rattle.std.specs.Str.{IsAscii, IsNotAscii}
+use Rattle.std.specs.Str.{IsAscii}
 use Rattle.lan.specs.declared.script.line.LineError.{LineError}
 use Rattle.lan.specs.ScriptWords.{words_of}
 use Rattle.lan.specs.ScriptLines.{line_of, line_of_words, socket_of, within}

@@ -1,7 +1,7 @@
 -- Lemmas on the lines of a script and on what they write.
-use Rattle.std.proofs.Common.{◌≡◌, ℕ, zero, suc, ◌+◌, ◌-◌, ◌<◌, ◌≤◌, Bool, true, false, not, cond, eqb, ltb, List, [], ◌∷◌, ◌++◌, length, take, drop, refl, sym, ap, ◌∙◌, subst, inl, inr, append_assoc, append-nil, add-one, arith, Option, Some, None, ◌⊎◌, IfSome}
+use Rattle.std.proofs.Common.{◌≡◌, ℕ, zero, suc, ◌+◌, ◌-◌, ◌<◌, ◌≤◌, Bool, true, false, not, cond, eqb, ltb, List, [], ◌∷◌, ◌++◌, length, take, drop, refl, sym, ap, subst, inl, inr, append_assoc, append-nil, add-one, arith, Option, Some, None, ◌⊎◌, IfSome}
 use Rattle.std.specs.List.{position_or_len, position}
-use Rattle.std.specs.Io.KnownBytes.{Appends, Consumes, IsAtEnd}
+use Rattle.std.specs.Io.KnownBytes.{Consumes, IsAtEnd}
 use Rattle.std.proofs.KnownBytes.{Consumes-trans, Consumes-whole}
 use Rattle.std.proofs.lemmas.Bool.{cases_lt}
 use Rattle.std.proofs.lemmas.List.Sums.{prefix_len-le-length}
@@ -9,7 +9,7 @@ use Rattle.std.proofs.lemmas.Bool.Decides.{nat_tests}
 use Rattle.std.proofs.lemmas.Grind.{common_steps}
 use Rattle.lan.specs.declared.script.answer.End.{End}
 use Rattle.lan.specs.declared.script.session.Session.{Session}
-use Rattle.lan.specs.ScriptLines.{line_of, lines_of, onto_line}
+use Rattle.lan.specs.ScriptLines.{line_of, lines_of}
 use Rattle.lan.specs.ScriptAnswers.{end_line}
 use Rattle.lan.specs.ScriptRuns.{end_of, Leads, Ends, Replays, IsReplay}
 

@@ -1,7 +1,7 @@
 -- Lemmas on the words of a script.
-use Rattle.std.proofs.Common.{◌≡◌, ℕ, ℤ, pos, ◌==◌, ◌+◌, ◌-◌, ◌%◌, ◌<◌, ◌≤◌, ◌^◌, Bool, true, false, not, cond, eqb, ltb, nat_le, ◌&&◌, ◌||◌, List, [], ◌∷◌, length, refl, sym, inl, inr, ap, ◌∙◌, arith, rules, Option, Some, None, Result, Ok, Err, drop}
+use Rattle.std.proofs.Common.{◌≡◌, ℕ, ℤ, ◌==◌, ◌-◌, ◌%◌, ◌<◌, ◌≤◌, ◌^◌, Bool, true, false, not, cond, eqb, nat_le, ◌&&◌, ◌||◌, List, [], ◌∷◌, length, refl, sym, inl, inr, ap, ◌∙◌, arith, rules, Option, Some, None, Result, Ok, Err, drop}
 use Rattle.std.specs.Option.{is_some}
-use Rattle.std.specs.List.{slice_split, onto_first, position_or_len, list_all, before_first, after_first}
+use Rattle.std.specs.List.{onto_first, position_or_len, list_all, before_first, after_first}
 use Rattle.std.specs.Char.{is_ascii_digit, is_ascii_hexdigit}
 use Rattle.std.specs.Result.{result_ok, is_ok}
 use Rattle.std.specs.Str.Parse.{ParsesUnsigned, ParsesSigned, digits_value}

@@ -2,7 +2,6 @@
 use Rattle.std.specs.Prelude.{ℕ, nat_lt, ◌==◌, if◌then◌else◌, List, [], ◌∷◌, codes, Option, Some, None, Result, Ok, Err, option_map}
 use Rattle.std.specs.List.{list_all}
 use Rattle.std.specs.Str.{bytes_eq}
-use Rattle.lan_machine.specs.declared.event.Side.{Side}
 use Rattle.lan_machine.specs.declared.event.Event.{Event}
 use Rattle.lan_machine.specs.declared.event.Event.TheVariants.{Bind, SendTo, RecvFrom, Poll, Deliver}
 use Rattle.lan.specs.declared.script.line.Line.{Line}

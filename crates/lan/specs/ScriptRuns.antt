@@ -1,28 +1,23 @@
 -- A run of a script: what each line does and writes, and what the whole writes.
-use Rattle.std.specs.Prelude.{◌≡◌, ◌≢◌, ℕ, ◌+◌, if◌then◌else◌, List, [], ◌∷◌, ◌++◌, length, drop, codes, ◌⊎◌, Option, Some, None, option_map}
+use Rattle.std.specs.Prelude.{◌≡◌, ◌≢◌, ℕ, ◌+◌, List, [], ◌∷◌, ◌++◌, length, drop, codes, ◌⊎◌, Option, Some, None, option_map}
 use Rattle.lan_machine.specs.declared.event.Side.{Side}
 use Rattle.lan_machine.specs.declared.event.Side.TheVariants.{A, B}
-use Rattle.lan_machine.specs.declared.event.Event.{Event}
 use Rattle.lan_machine.specs.declared.event.Answer.{Answer}
 use Rattle.lan_machine.specs.declared.event.Refused.TheVariants.{Memory}
-use Rattle.lan_machine.specs.Values.{SocketValue, StationValue}
 use Rattle.lan.specs.declared.script.line.Line.{Line}
 use Rattle.lan.specs.declared.script.line.Line.TheVariants.{World, Socket, Start, Event as Happening}
-use Rattle.lan.specs.declared.script.line.SocketSizes.{SocketSizes}
 use Rattle.lan.specs.declared.script.answer.End.{End}
 use Rattle.lan.specs.declared.script.answer.End.TheVariants.{BadEvent, Refusal}
 use Rattle.lan.specs.declared.script.session.Session.{Session}
 use Rattle.lan.specs.declared.script.session.Session.TheVariants.{Begun, Header, Running}
 use Rattle.lan.specs.Link.{Stations, station}
-use Rattle.lan.specs.Reads.{same_side}
 use Rattle.lan.specs.Steps.{refusal}
 use Rattle.lan.specs.Runs.{WorldValue, Step}
 use Rattle.lan.specs.Fresh.{new_refusal, new_world}
-use Rattle.lan_host.specs.Station.{fresh_station, fresh_socket, with_new_socket}
 use Rattle.lan.specs.ScriptLines.{line_of, lines_of}
 use Rattle.lan.specs.ScriptAnswers.{answer_line, sent_lines, end_line}
 use Rattle.lan.specs.ScriptEnds.{world_end}
-use Rattle.lan.specs.ScriptHosts.{HeaderValue, host_of}
+use Rattle.lan.specs.ScriptHosts.{host_of}
 
 -- EVENTS
 

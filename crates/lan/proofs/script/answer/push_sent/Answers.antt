@@ -1,4 +1,4 @@
-use Rattle.std.proofs.Common.{◌≡◌, ◌++◌, refl, ap, ◌∙◌}
+use Rattle.std.proofs.Common.{◌++◌, refl, ap, ◌∙◌}
 use Rattle.std.specs.String.{string_bytes}
 use Rattle.lan.specs.ScriptAnswers.{sent_line}
 use Rattle.lan.proofs.ScriptAnswerLemmas.{drop-frames_of, sent_lines_more}

@@ -1,5 +1,5 @@
 -- What is written so far, with the lines of the frames that are left, is what is to be written.
-use Rattle.std.proofs.Common.{◌≡◌, ◌++◌, ◌≤◌, drop, length}
+use Rattle.std.proofs.Common.{◌≡◌, ◌++◌, drop, length}
 use Rattle.std.specs.String.{string_bytes}
 use Rattle.net_base.specs.Device.{frames_of}
 use Rattle.lan.specs.ScriptAnswers.{sent_lines}

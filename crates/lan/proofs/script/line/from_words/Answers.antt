@@ -1,4 +1,4 @@
-use Rattle.std.proofs.Common.{◌≡◌, sym, ap, ◌∙◌, option_copied}
+use Rattle.std.proofs.Common.{sym, ap, ◌∙◌, option_copied}
 use Rattle.lan.proofs.ScriptLineLemmas.{IfOk-within, line_of_words-socket}
 use Rattle.lan.proofs.script.line.from_words.Goals as goal
 

@@ -1,4 +1,3 @@
-use Rattle.std.proofs.Common.{◌≡◌}
 use Rattle.lan.proofs.ScriptWordLemmas.{four_read}
 use Rattle.lan.proofs.script.line.send_to.Goals as goal
 

@@ -1,4 +1,4 @@
-use Rattle.std.proofs.Common.{◌≡◌, ◌<◌, length, refl, arith}
+use Rattle.std.proofs.Common.{◌<◌, length, refl, arith}
 use Rattle.lan.proofs.ScriptRunLemmas.{all_read}
 use Rattle.lan.proofs.script.replay.read_script.Goals as goal
 

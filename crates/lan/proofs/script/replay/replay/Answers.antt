@@ -1,4 +1,4 @@
-use Rattle.std.proofs.Common.{◌≡◌, ◌≤◌, arith}
+use Rattle.std.proofs.Common.{arith}
 use Rattle.lan.proofs.ScriptRunLemmas.{status-le}
 use Rattle.lan.proofs.script.replay.replay.Goals as goal
 

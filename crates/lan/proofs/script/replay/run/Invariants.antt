@@ -1,5 +1,5 @@
 -- Whatever the lines that are left write completes what is written so far to what the script writes.
-use Rattle.std.proofs.Common.{◌≡◌, ℕ, ◌+◌, ◌<◌, ◌≤◌, List, ◌++◌, length}
+use Rattle.std.proofs.Common.{ℕ, ◌+◌, ◌≤◌, List, ◌++◌, length}
 use Rattle.std.specs.Io.KnownBytes.{Appends}
 use Rattle.lan.specs.ScriptLines.{lines_of}
 use Rattle.lan.specs.ScriptRuns.{Replays, IsReplay}

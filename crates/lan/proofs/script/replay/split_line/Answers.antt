@@ -1,4 +1,4 @@
-use Rattle.std.proofs.Common.{◌≡◌, ◌+◌, sym}
+use Rattle.std.proofs.Common.{◌+◌, sym}
 use Rattle.lan.proofs.ScriptRunLemmas.{lines_of-first, lines_of-last, take-drop_end}
 use Rattle.lan.proofs.script.replay.split_line.Goals as goal
 

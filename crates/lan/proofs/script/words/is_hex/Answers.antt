@@ -1,4 +1,4 @@
-use Rattle.std.proofs.Common.{◌≡◌, ◌%◌, length, sym, ◌∙◌, arith}
+use Rattle.std.proofs.Common.{◌∙◌}
 use Rattle.lan.proofs.ScriptWordLemmas.{list_all-hex}
 use Rattle.lan.proofs.script.words.is_hex.Goals as goal
 

@@ -1,4 +1,3 @@
-use Rattle.std.proofs.Common.{◌≡◌, ap, ◌∙◌}
 use Rattle.std.proofs.lemmas.Str.{IsUtf8-from_ascii}
 use Rattle.lan.proofs.ScriptLineLemmas.{line_of_ascii}
 use Rattle.lan.proofs.script.line.Line.read.Goals as goal

@@ -1,4 +1,4 @@
-use Rattle.std.proofs.Common.{◌≡◌, ap, ◌∙◌, ◌==◌, length}
+use Rattle.std.proofs.Common.{ap, ◌∙◌, ◌==◌, length}
 use Rattle.lan.proofs.ScriptWordLemmas.{none_left}
 use Rattle.lan.proofs.script.words.Words.is_empty.Goals as goal
 

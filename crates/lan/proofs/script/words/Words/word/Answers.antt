@@ -1,5 +1,5 @@
 -- The word ends at the first separator.
-use Rattle.std.proofs.Common.{◌≡◌, refl, sym, ap, ◌∙◌, Some, drop, slice_get}
+use Rattle.std.proofs.Common.{refl}
 use Rattle.lan.proofs.ScriptWordLemmas.{first_word_ends, last_word}
 use Rattle.lan.proofs.script.words.Words.word.Goals as goal
 
