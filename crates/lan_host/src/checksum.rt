@@ -19,8 +19,8 @@ pub fn word_sum(bytes: &[u8]) -> u64
     }
 }
 
-#[tactic(auto, using(crate::proofs::Sums::sums))]
 /// The sum of what a UDP checksum covers: the pseudo header, and then the datagram (RFC 768).
+#[tactic(auto, using(crate::proofs::Sums::sums))]
 pub fn udp_sum(source: &[u8; 4], destination: &[u8; 4], datagram: &[u8]) -> u64
     requires { length datagram.now < 2 ^ 16 }
     ensures { result ≡ word_sum (pseudo_header source.now destination.now (length datagram.now) ++ datagram.now) }

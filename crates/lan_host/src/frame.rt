@@ -52,8 +52,8 @@ pub fn read(frame: &[u8]) -> Option<Found>
     })
 }
 
-#[tactic(auto, unfolding(crate::specs::Frame::frame_between))]
 /// Writes the frame of a datagram over all of `frame`.
+#[tactic(auto, unfolding(crate::specs::Frame::frame_between))]
 pub fn write(frame: &mut [u8], source: &Endpoint, destination: &Endpoint, payload: &[u8])
     requires room { length frame.old ≡ 28 + length payload.now }
     requires fits { 28 + length payload.now < 2 ^ 16 }
