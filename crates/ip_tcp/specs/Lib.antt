@@ -1,3 +1,4 @@
+pub mod Control
 pub mod Options
 pub mod Seen
 pub mod Tcp

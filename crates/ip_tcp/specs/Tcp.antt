@@ -2,12 +2,18 @@
 -- acknowledgement number, four bytes each; header length in units of four bytes, reserved bits and flags, in
 -- two bytes; window, checksum and urgent pointer, two bytes each; options up to the header's length; then
 -- the payload, up to the end.
-use Rattle.std.specs.Prelude.{◌≡◌, ◌==◌, ℕ, ◌+◌, ◌-◌, ◌*◌, ◌/◌, ◌%◌, ◌<◌, ◌≤◌, Bool, if◌then◌else◌, List, length, drop, slice_index, slice_range}
+use Rattle.std.specs.Prelude.{◌≡◌, ◌≢◌, ◌==◌, IsTrue, Option, Some, None, ℕ, ◌+◌, ◌-◌, ◌*◌, ◌/◌, ◌%◌, ◌<◌, ◌≤◌, Bool, if◌then◌else◌, List, length, drop, slice_index, slice_range}
 use Rattle.std.specs.Borrow.{GName}
-use Rattle.ip_address.specs.Fields.{put16}
+use Rattle.ip_address.specs.Fields.{be16, be32, put16}
 use Rattle.ip_address.specs.Pseudo.{pseudo_of}
 use Rattle.ip_address.specs.Sum.{word_sum, folded, ChecksumHolds}
 use Rattle.ip_address.specs.declared.ip.IpAddress.{IpAddress}
+use Rattle.ip_address.specs.declared.seq_number.SeqNumber.{SeqNumber}
+use Rattle.ip_tcp.specs.Control.{control_of}
+use Rattle.ip_tcp.specs.Options.{Says, no_options}
+use Rattle.ip_tcp.specs.declared.control.TcpControl.{TcpControl}
+use Rattle.ip_tcp.specs.declared.header.TcpHeader.{TcpHeader}
+use Rattle.ip_tcp.specs.declared.repr.TcpRepr.{TcpRepr}
 use Rattle.ip_tcp.specs.declared.packet.TcpPacket.{TcpPacket}
 use Rattle.ip_tcp.specs.declared.packet_mut.TcpPacketMut.{TcpPacketMut}
 
@@ -71,3 +77,43 @@ IsChecked source destination bytes = ChecksumHolds (covered source destination b
 abbrev pub with_checksum : IpAddress → IpAddress → List ℕ → List ℕ
 with_checksum source destination bytes =
     put16 bytes 16 (65535 - folded (covered source destination (put16 bytes 16 0)))
+
+-- what the flags of the segment say, if it has not two of SYN, FIN and RST
+abbrev pub control_in : List ℕ → Option TcpControl
+control_in bytes = control_of (flag bytes 13 2) (flag bytes 13 1) (flag bytes 13 4) (flag bytes 13 8)
+
+-- the acknowledgement number, where ACK is set
+abbrev pub acknowledged : List ℕ → Option SeqNumber
+acknowledged bytes = if flag bytes 13 16 then Some (record { 0 = be32 bytes 8 }) else None
+
+-- the bytes are a segment with this header; all behind the header is payload
+pub record IsTcp (source destination : IpAddress) (tested : Bool) (bytes : List ℕ) (v : TcpHeader) : Type 0 where
+  pub whole : IsWhole bytes
+  pub source_port : v.src_port ≡ be16 bytes 0
+  pub destination_port : v.dst_port ≡ be16 bytes 2
+  pub source_accepted : be16 bytes 0 ≢ 0
+  pub destination_accepted : be16 bytes 2 ≢ 0
+  pub checked : IsTrue tested → IsChecked source destination bytes
+  pub control : control_in bytes ≡ Some v.control
+  pub sequence : v.seq_number ≡ record { 0 = be32 bytes 4 }
+  pub acknowledgement : v.ack_number ≡ acknowledged bytes
+  pub window : v.window_len ≡ be16 bytes 14
+  pub options : Says no_options (options_of bytes) v.options
+
+-- the header of a segment with a payload
+abbrev pub header_of : TcpRepr → TcpHeader
+header_of v = record {
+  src_port = v.src_port;
+  dst_port = v.dst_port;
+  control = v.control;
+  seq_number = v.seq_number;
+  ack_number = v.ack_number;
+  window_len = v.window_len;
+  options = record {
+    max_seg_size = v.max_seg_size;
+    window_scale = v.window_scale;
+    sack_permitted = v.sack_permitted;
+    sack_ranges = v.sack_ranges;
+    timestamp = v.timestamp;
+  };
+}
