@@ -1,6 +1,6 @@
 //! What a segment does to the connection beside carrying bytes.
 ghost use Rattle.std.specs.Prelude.{◌≡◌};
-ghost use Rattle.ip_tcp.specs.Control.{control_len, without_psh, control_of};
+ghost use Rattle.ip_tcp.specs.Control.{control_len, without_psh, control_of, control_bits};
 
 /// The flag of a segment that counts beside ACK. No segment has two of SYN, FIN and RST.
 #[derive(Clone, Copy, Debug, PartialEq, Eq)]
@@ -30,6 +30,19 @@ impl TcpControl {
         match self {
             TcpControl::Psh => TcpControl::None,
             other => other,
+        }
+    }
+
+    /// The bits of the flag in the byte of the flags.
+    pub(crate) const fn bits(self) -> u8
+        ensures { result ≡ control_bits self }
+    {
+        match self {
+            TcpControl::None => 0x00,
+            TcpControl::Psh => 0x08,
+            TcpControl::Syn => 0x02,
+            TcpControl::Fin => 0x01,
+            TcpControl::Rst => 0x04,
         }
     }
 

@@ -2,6 +2,7 @@
 #![tactic(auto)]
 
 mod control;
+mod emit;
 pub mod field;
 mod header;
 mod option;

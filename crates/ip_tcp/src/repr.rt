@@ -1,15 +1,16 @@
 //! A segment as a value.
-ghost use Rattle.std.specs.Prelude.{◌≡◌, ◌+◌, ◌<◌, ◌^◌, ◌==◌, ◌&&◌, IsOk, IfOk, length};
+ghost use Rattle.std.specs.Prelude.{◌≡◌, ◌+◌, ◌<◌, ◌≤◌, ◌^◌, ◌==◌, ◌&&◌, IsOk, IfOk, length};
 ghost use Rattle.ip_address.specs.Address.{version_of};
-ghost use Rattle.net_devices.specs.Capabilities.{verifies};
+ghost use Rattle.net_devices.specs.Capabilities.{verifies, computes};
 ghost use Rattle.ip_tcp.specs.Control.{control_len, is_quiet};
-ghost use Rattle.ip_tcp.specs.Tcp.{IsTcp, bytes_of, payload_of, header_of};
+ghost use Rattle.ip_tcp.specs.Tcp.{IsTcp, Fits, bytes_of, bytes_in, name_of, payload_of, header_of, header_len, written};
 ghost use Rattle.ip_tcp.specs.declared.header.TcpHeader.{TcpHeader};
 
 use crate::control::TcpControl;
 use crate::header::TcpHeader;
 use crate::option::TcpOptions;
 use crate::packet::TcpPacket;
+use crate::packet_mut::TcpPacketMut;
 use crate::timestamp::TcpTimestampRepr;
 use ip_address::{Error, IpAddress, SeqNumber};
 use net_devices::ChecksumCapabilities;
@@ -93,6 +94,40 @@ impl<'a> TcpRepr<'a> {
     {
         let header = TcpHeader::parse(packet, source, destination, checksum_caps)?;
         Ok(TcpRepr::new(&header, packet.payload()))
+    }
+
+    /// The length of the header with room for its options, a multiple of four. Ranges count also
+    /// where they aren't sent. A header that is sent has at most 60 bytes.
+    pub fn header_len(&self) -> usize
+        ensures exact { result ≡ header_len (header_of self.now) }
+        ensures small { result ≤ 68 }
+    {
+        self.header().header_len()
+    }
+
+    /// The length of the segment.
+    pub fn buffer_len(&self) -> usize
+        ensures { result ≡ header_len (header_of self.now) + length self.now.payload.now }
+    {
+        self.header_len() + self.payload.len()
+    }
+
+    /// Writes the segment over the whole buffer, with a checksum where the capabilities say that
+    /// the stack computes it.
+    pub fn emit(
+        &self,
+        packet: &mut TcpPacketMut,
+        source: &IpAddress,
+        destination: &IpAddress,
+        checksum_caps: &ChecksumCapabilities,
+    )
+        requires room { length (bytes_in packet.old) ≡ header_len (header_of self.now) + length self.now.payload.now }
+        requires fits { Fits source.now destination.now (header_of self.now) self.now.payload.now }
+        ensures same_reference { name_of packet.new ≡ name_of packet.old }
+        ensures bytes { bytes_in packet.new ≡ written source.now destination.now (computes checksum_caps.now.tcp) (header_of self.now) self.now.payload.now }
+    {
+        self.header()
+            .emit(packet, source, destination, self.payload, checksum_caps);
     }
 
     /// How many sequence numbers the segment takes: its payload, and one for SYN or FIN.
