@@ -1,3 +1,5 @@
+pub mod Control
+pub mod Extends
 pub mod Options
 pub mod Seen
 pub mod Tcp

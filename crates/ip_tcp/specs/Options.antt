@@ -1,12 +1,13 @@
 -- TCP options (RFC 9293, section 3.2; RFC 7323, sections 2.2 and 3.2; RFC 2018, sections 2 and 3). The end of
 -- the options and a no-operation are one byte. All others are their kind, their length with these two bytes,
 -- and what is inside.
-use Rattle.std.specs.Prelude.{◌≡◌, ◌==◌, ℕ, ◌+◌, ◌%◌, ◌<◌, ◌^◌, Bool, true, false, nat_le, if◌then◌else◌, Option, Some, None, List, [], ◌∷◌, ◌++◌, length, drop, slice_index, slice_range, min}
+use Rattle.std.specs.Prelude.{◌≡◌, ◌==◌, ℕ, ◌+◌, ◌%◌, ◌<◌, ◌^◌, Bool, true, false, nat_le, if◌then◌else◌, Option, Some, None, List, [], ◌∷◌, ◌++◌, length, drop, slice_index, slice_range, min, replicate, ◌-◌, ◌*◌, ◌/◌}
 use Rattle.std.specs.Int.{w16, w32, to_be_bytes}
 use Rattle.ip_address.specs.Fields.{be16, be32}
 use Rattle.ip_tcp.specs.declared.option.TcpOption.{TcpOption}
 use Rattle.ip_tcp.specs.declared.option.TcpOption.TheVariants as Tcp
 use Rattle.ip_tcp.specs.declared.option.TcpOptions.{TcpOptions}
+use Rattle.ip_tcp.specs.declared.timestamp.TcpTimestampRepr.{TcpTimestampRepr}
 
 -- an option as a value, whose bytes are a list
 pub data OptionValue : Type 0 where
@@ -126,3 +127,65 @@ option_bytes SackPermitted = 4 ∷ 2 ∷ []
 option_bytes (SackRange ranges) = 5 ∷ (2 + length (ranges_bytes ranges)) ∷ ranges_bytes ranges
 option_bytes (TimeStamp tsval tsecr) = 8 ∷ 10 ∷ (to_be_bytes w32 tsval ++ to_be_bytes w32 tsecr)
 option_bytes (Unknown kind bytes) = kind ∷ (2 + length bytes) ∷ bytes
+
+-- what can be written: an option's length fits its field
+abbrev pub FitsOption : OptionValue → Type 0
+FitsOption (Unknown kind bytes) = 2 + length bytes < 256
+FitsOption _ = Unit {0}
+
+-- the bytes of several options
+abbrev pub options_bytes : List OptionValue → List ℕ
+options_bytes [] = []
+options_bytes (o ∷ os) = option_bytes o ++ options_bytes os
+
+-- the maximum segment size, if there is one
+abbrev pub size_options : Option ℕ → List OptionValue
+size_options None = []
+size_options (Some n) = MaxSegmentSize n ∷ []
+
+-- the shift of the window, if there is one
+abbrev pub scale_options : Option ℕ → List OptionValue
+scale_options None = []
+scale_options (Some n) = WindowScale n ∷ []
+
+-- whether selective acknowledgement is permitted
+abbrev pub permitted_options : Bool → List OptionValue
+permitted_options true = SackPermitted ∷ []
+permitted_options false = []
+
+-- the ranges, if there are any
+abbrev pub range_options : List (Option (ℕ × ℕ)) → List OptionValue
+range_options ranges = if length (ranges_bytes ranges) == 0 then [] else SackRange ranges ∷ []
+
+-- the timestamps, if there are any
+abbrev pub stamp_options : Option TcpTimestampRepr → List OptionValue
+stamp_options None = []
+stamp_options (Some stamp) = TimeStamp stamp.tsval stamp.tsecr ∷ []
+
+-- SACK permitted, else the ranges, where the segment acknowledges
+abbrev pub sack_options : Bool → Bool → List (Option (ℕ × ℕ)) → List OptionValue
+sack_options true acknowledges ranges = SackPermitted ∷ []
+sack_options false true ranges = range_options ranges
+sack_options false false ranges = []
+
+-- the bytes of the options that are sent, in their order
+abbrev pub sent_bytes : Bool → TcpOptions → List ℕ
+sent_bytes acknowledges v =
+    options_bytes (size_options v.max_seg_size) ++ options_bytes (scale_options v.window_scale)
+    ++ options_bytes (sack_options v.sack_permitted acknowledges v.sack_ranges) ++ options_bytes (stamp_options v.timestamp)
+
+-- how many bytes room is made for: ranges count also where they aren't sent
+abbrev pub options_room : TcpOptions → ℕ
+options_room v =
+    length (options_bytes (size_options v.max_seg_size)) + length (options_bytes (scale_options v.window_scale))
+    + length (options_bytes (permitted_options v.sack_permitted)) + length (options_bytes (range_options v.sack_ranges))
+    + length (options_bytes (stamp_options v.timestamp))
+
+-- a multiple of four
+abbrev pub padded : ℕ → ℕ
+padded n = (n + 3) / 4 * 4
+
+-- the option bytes of a header: the options, and zeros, which end them, up to the room
+abbrev pub options_area : Bool → TcpOptions → List ℕ
+options_area acknowledges v =
+    sent_bytes acknowledges v ++ replicate (padded (options_room v) - length (sent_bytes acknowledges v)) 0

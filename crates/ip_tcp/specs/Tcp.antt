@@ -2,12 +2,20 @@
 -- acknowledgement number, four bytes each; header length in units of four bytes, reserved bits and flags, in
 -- two bytes; window, checksum and urgent pointer, two bytes each; options up to the header's length; then
 -- the payload, up to the end.
-use Rattle.std.specs.Prelude.{◌≡◌, ◌==◌, ℕ, ◌+◌, ◌-◌, ◌*◌, ◌/◌, ◌%◌, ◌<◌, ◌≤◌, Bool, if◌then◌else◌, List, length, drop, slice_index, slice_range}
+use Rattle.std.specs.Prelude.{◌≡◌, ◌≢◌, ◌==◌, IsTrue, Option, Some, None, ℕ, ◌+◌, ◌-◌, ◌*◌, ◌/◌, ◌%◌, ◌<◌, ◌≤◌, Bool, if◌then◌else◌, ◌^◌, true, false, List, [], ◌∷◌, ◌++◌, length, drop, slice_index, slice_range}
+use Rattle.std.specs.Int.{w16, w32, to_be_bytes}
 use Rattle.std.specs.Borrow.{GName}
-use Rattle.ip_address.specs.Fields.{put16}
+use Rattle.ip_address.specs.Address.{version_of}
+use Rattle.ip_address.specs.Fields.{be16, be32, put16}
 use Rattle.ip_address.specs.Pseudo.{pseudo_of}
 use Rattle.ip_address.specs.Sum.{word_sum, folded, ChecksumHolds}
 use Rattle.ip_address.specs.declared.ip.IpAddress.{IpAddress}
+use Rattle.ip_address.specs.declared.seq_number.SeqNumber.{SeqNumber}
+use Rattle.ip_tcp.specs.Control.{control_of, control_bits}
+use Rattle.ip_tcp.specs.Options.{Says, no_options, padded, options_room, options_area}
+use Rattle.ip_tcp.specs.declared.control.TcpControl.{TcpControl}
+use Rattle.ip_tcp.specs.declared.header.TcpHeader.{TcpHeader}
+use Rattle.ip_tcp.specs.declared.repr.TcpRepr.{TcpRepr}
 use Rattle.ip_tcp.specs.declared.packet.TcpPacket.{TcpPacket}
 use Rattle.ip_tcp.specs.declared.packet_mut.TcpPacketMut.{TcpPacketMut}
 
@@ -71,3 +79,81 @@ IsChecked source destination bytes = ChecksumHolds (covered source destination b
 abbrev pub with_checksum : IpAddress → IpAddress → List ℕ → List ℕ
 with_checksum source destination bytes =
     put16 bytes 16 (65535 - folded (covered source destination (put16 bytes 16 0)))
+
+-- what the flags of the segment say, if it has not two of SYN, FIN and RST
+abbrev pub control_in : List ℕ → Option TcpControl
+control_in bytes = control_of (flag bytes 13 2) (flag bytes 13 1) (flag bytes 13 4) (flag bytes 13 8)
+
+-- the acknowledgement number, where ACK is set
+abbrev pub acknowledged : List ℕ → Option SeqNumber
+acknowledged bytes = if flag bytes 13 16 then Some (record { 0 = be32 bytes 8 }) else None
+
+-- the bytes are a segment with this header; all behind the header is payload
+pub record IsTcp (source destination : IpAddress) (tested : Bool) (bytes : List ℕ) (v : TcpHeader) : Type 0 where
+  pub whole : IsWhole bytes
+  pub source_port : v.src_port ≡ be16 bytes 0
+  pub destination_port : v.dst_port ≡ be16 bytes 2
+  pub source_accepted : be16 bytes 0 ≢ 0
+  pub destination_accepted : be16 bytes 2 ≢ 0
+  pub checked : IsTrue tested → IsChecked source destination bytes
+  pub control : control_in bytes ≡ Some v.control
+  pub sequence : v.seq_number ≡ record { 0 = be32 bytes 4 }
+  pub acknowledgement : v.ack_number ≡ acknowledged bytes
+  pub window : v.window_len ≡ be16 bytes 14
+  pub options : Says no_options (options_of bytes) v.options
+
+-- the header of a segment with a payload
+abbrev pub header_of : TcpRepr → TcpHeader
+header_of v = record {
+  src_port = v.src_port;
+  dst_port = v.dst_port;
+  control = v.control;
+  seq_number = v.seq_number;
+  ack_number = v.ack_number;
+  window_len = v.window_len;
+  options = record {
+    max_seg_size = v.max_seg_size;
+    window_scale = v.window_scale;
+    sack_permitted = v.sack_permitted;
+    sack_ranges = v.sack_ranges;
+    timestamp = v.timestamp;
+  };
+}
+
+-- the length of a header that is sent, with room for its options
+abbrev pub header_len : TcpHeader → ℕ
+header_len v = 20 + padded (options_room v.options)
+
+-- whether the segment acknowledges
+abbrev pub acknowledges : Option SeqNumber → Bool
+acknowledges None = false
+acknowledges (Some n) = true
+
+-- the acknowledgement number that is sent, 0 where there is none
+abbrev pub sent_ack : Option SeqNumber → ℕ
+sent_ack None = 0
+sent_ack (Some n) = n.0
+
+-- the flags that are sent
+abbrev pub sent_flags : TcpHeader → ℕ
+sent_flags v = control_bits v.control + (if acknowledges v.ack_number then 16 else 0)
+
+-- the fixed fields of a header with this checksum
+abbrev pub fixed_fields : TcpHeader → ℕ → List ℕ
+fixed_fields v check =
+    to_be_bytes w16 v.src_port ++ (to_be_bytes w16 v.dst_port ++ (to_be_bytes w32 v.seq_number.0 ++ (to_be_bytes w32 (sent_ack v.ack_number) ++ ((header_len v / 4 * 16) ∷ sent_flags v ∷ (to_be_bytes w16 v.window_len ++ (to_be_bytes w16 check ++ (0 ∷ 0 ∷ [])))))))
+
+-- a segment with this header, checksum and payload
+abbrev pub spelling : TcpHeader → ℕ → List ℕ → List ℕ
+spelling v check payload = fixed_fields v check ++ (options_area (acknowledges v.ack_number) v.options ++ payload)
+
+-- what is sent: with a checksum that holds, or with 0
+abbrev pub written : IpAddress → IpAddress → Bool → TcpHeader → List ℕ → List ℕ
+written source destination sealed v payload =
+    spelling v (if sealed then 65535 - folded (covered source destination (spelling v 0 payload)) else 0) payload
+
+-- what can be sent: header and segment fit their length fields, and the addresses are of one family
+pub record Fits (source destination : IpAddress) (v : TcpHeader) (payload : List ℕ) : Type 0 where
+  pub header : header_len v ≤ 60
+  pub all : header_len v + length payload < 2 ^ 16
+  pub family : version_of source ≡ version_of destination

@@ -13,7 +13,7 @@ use ip_address::{Error, IpAddress, SeqNumber};
 /// A segment in a buffer, read and written in place. A setter changes the bits of its field alone.
 #[derive(Debug, Drop)]
 pub struct TcpPacketMut<'a> {
-    buffer: &'a mut [u8],
+    pub(crate) buffer: &'a mut [u8],
 }
 
 impl<'a> TcpPacketMut<'a> {

@@ -1,0 +1,203 @@
+//! The header of a segment as a value.
+ghost use Rattle.std.specs.Prelude.{◌≡◌, ◌+◌, ◌-◌, ◌<◌, ◌≤◌, ◌^◌, IfOk, length};
+ghost use Rattle.ip_address.specs.Address.{version_of};
+ghost use Rattle.net_devices.specs.Capabilities.{verifies, computes};
+ghost use Rattle.ip_address.specs.Fields.{put16};
+ghost use Rattle.ip_address.specs.Sum.{folded};
+ghost use Rattle.ip_tcp.specs.Tcp.{IsTcp, IsWhole, Fits, bytes_of, bytes_in, name_of, acknowledged, acknowledges, sent_ack, sent_flags, covered, header_len, fixed_fields, spelling, written};
+ghost use Rattle.ip_tcp.specs.declared.header.TcpHeader.{TcpHeader};
+
+use crate::control::TcpControl;
+use crate::field;
+use crate::option::TcpOptions;
+use crate::packet::TcpPacket;
+use crate::packet_mut::TcpPacketMut;
+use ip_address::network_order::write_u16;
+use ip_address::{Error, IpAddress, SeqNumber};
+use net_devices::ChecksumCapabilities;
+
+/// A segment but for its payload. It holds no borrowed bytes, so it can be kept.
+#[derive(Clone, Copy, Debug, PartialEq, Eq)]
+pub struct TcpHeader {
+    pub src_port: u16,
+    pub dst_port: u16,
+    pub control: TcpControl,
+    pub seq_number: SeqNumber,
+    /// The next number that is awaited, where the segment acknowledges.
+    pub ack_number: Option<SeqNumber>,
+    /// The window field, not scaled.
+    pub window_len: u16,
+    pub options: TcpOptions,
+}
+
+impl TcpHeader {
+    /// The header of the segment in the bytes. Its checksum is tested where the capabilities say
+    /// that the stack does so.
+    pub fn parse(
+        packet: &TcpPacket,
+        source: &IpAddress,
+        destination: &IpAddress,
+        checksum_caps: &ChecksumCapabilities,
+    ) -> Result<TcpHeader, Error>
+        requires family { version_of source.now ≡ version_of destination.now }
+        requires fits { length (bytes_of packet.now) < 2 ^ 16 }
+        ensures found { IfOk result (λ v. IsTcp source.now destination.now (verifies checksum_caps.now.tcp) (bytes_of packet.now) v) }
+        ensures only { (v : TcpHeader) → IsTcp source.now destination.now (verifies checksum_caps.now.tcp) (bytes_of packet.now) v → result ≡ Ok v }
+    {
+        packet.check_len()?;
+        if packet.src_port() == 0 || packet.dst_port() == 0 {
+            return Err(Error);
+        }
+        if checksum_caps.tcp.rx() && !packet.verify_checksum(source, destination) {
+            return Err(Error);
+        }
+        let flags = TcpControl::from_flags(packet.syn(), packet.fin(), packet.rst(), packet.psh());
+        let Some(control) = flags else {
+            return Err(Error);
+        };
+        let options = TcpOptions::parse(packet.options())?;
+        Ok(TcpHeader {
+            src_port: packet.src_port(),
+            dst_port: packet.dst_port(),
+            control,
+            seq_number: packet.seq_number(),
+            ack_number: acknowledged(packet),
+            window_len: packet.window_len(),
+            options,
+        })
+    }
+
+    /// The length of the header with room for its options, a multiple of four. Ranges count also
+    /// where they aren't sent. A header that is sent has at most 60 bytes.
+    pub fn header_len(&self) -> usize
+        ensures exact { result ≡ header_len self.now }
+        ensures small { result ≤ 68 }
+    {
+        field::HEADER_LEN + self.options.buffer_len()
+    }
+
+    /// Writes the segment of this header and the payload over the whole buffer, with a checksum
+    /// where the capabilities say that the stack computes it.
+    pub fn emit(
+        &self,
+        packet: &mut TcpPacketMut,
+        source: &IpAddress,
+        destination: &IpAddress,
+        payload: &[u8],
+        checksum_caps: &ChecksumCapabilities,
+    )
+        requires room { length (bytes_in packet.old) ≡ header_len self.now + length payload.now }
+        requires fits { Fits source.now destination.now self.now payload.now }
+        ensures same_reference { name_of packet.new ≡ name_of packet.old }
+        ensures bytes { bytes_in packet.new ≡ written source.now destination.now (computes checksum_caps.now.tcp) self.now payload.now }
+    {
+        self.spell(packet.buffer, payload);
+        if checksum_caps.tcp.tx() {
+            seal(packet.buffer, source, destination);
+        }
+    }
+
+    /// Writes the segment with 0 for its checksum.
+    fn spell(&self, bytes: &mut [u8], payload: &[u8])
+        requires room { length bytes.old ≡ header_len self.now + length payload.now }
+        requires fits { header_len self.now ≤ 60 }
+        ensures { bytes.new ≡ spelling self.now 0 payload.now }
+    {
+        let (front, rest) = bytes.split_at_mut(field::HEADER_LEN);
+        front.copy_from_slice(&self.fixed_fields());
+        let (area, body) = rest.split_at_mut(self.options.buffer_len());
+        self.options.emit(area, acknowledges(self.ack_number));
+        body.copy_from_slice(payload);
+    }
+
+    /// The fixed fields, with 0 for the checksum.
+    fn fixed_fields(&self) -> [u8; 20]
+        requires { header_len self.now ≤ 60 }
+        ensures { result ≡ fixed_fields self.now 0 }
+    {
+        let [source_high, source_low] = self.src_port.to_be_bytes();
+        let [destination_high, destination_low] = self.dst_port.to_be_bytes();
+        let [seq_first, seq_second, seq_third, seq_fourth] = self.seq_number.0.to_be_bytes();
+        let [ack_first, ack_second, ack_third, ack_fourth] = sent_ack(
+            self.ack_number,
+        ).to_be_bytes();
+        let [window_high, window_low] = self.window_len.to_be_bytes();
+        [
+            source_high,
+            source_low,
+            destination_high,
+            destination_low,
+            seq_first,
+            seq_second,
+            seq_third,
+            seq_fourth,
+            ack_first,
+            ack_second,
+            ack_third,
+            ack_fourth,
+            ((self.header_len() / 4) << 4) as u8,
+            self.sent_flags(),
+            window_high,
+            window_low,
+            0,
+            0,
+            0,
+            0,
+        ]
+    }
+
+    /// The byte of the flags.
+    const fn sent_flags(&self) -> u8
+        ensures { result ≡ sent_flags self.now }
+    {
+        self.control.bits()
+            + if acknowledges(self.ack_number) {
+                0x10
+            } else {
+                0
+            }
+    }
+}
+
+/// Whether there is an acknowledgement number.
+const fn acknowledges(ack_number: Option<SeqNumber>) -> bool
+    ensures { result ≡ acknowledges ack_number }
+{
+    match ack_number {
+        Some(_) => true,
+        None => false,
+    }
+}
+
+/// The acknowledgement number as it is sent.
+const fn sent_ack(ack_number: Option<SeqNumber>) -> u32
+    ensures { result ≡ sent_ack ack_number }
+{
+    match ack_number {
+        Some(number) => number.0,
+        None => 0,
+    }
+}
+
+/// Puts the checksum of a segment whose field holds 0 into the field.
+fn seal(bytes: &mut [u8], source: &IpAddress, destination: &IpAddress)
+    requires header { 20 ≤ length bytes.old }
+    requires fits { length bytes.old < 2 ^ 16 }
+    requires family { version_of source.now ≡ version_of destination.now }
+    ensures { bytes.new ≡ put16 bytes.old 16 (65535 - folded (covered source.now destination.now bytes.old)) }
+{
+    let sum = TcpPacket::new_unchecked(bytes).sum(source, destination);
+    write_u16(bytes, field::CHECKSUM.start, 0xffff - sum);
+}
+
+/// The acknowledgement number, where the segment acknowledges.
+fn acknowledged(packet: &TcpPacket) -> Option<SeqNumber>
+    requires { IsWhole (bytes_of packet.now) }
+    ensures { result ≡ acknowledged (bytes_of packet.now) }
+{
+    if packet.ack() {
+        Some(packet.ack_number())
+    } else {
+        None
+    }
+}
