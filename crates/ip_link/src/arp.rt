@@ -34,7 +34,8 @@ pub mod field {
 
     /// The sender's protocol address.
     pub const fn SPA(hardware_len: u8, protocol_len: u8) -> Field
-        ensures { result ≡ record { start = 8 + hardware_len; end = 8 + hardware_len + protocol_len } }
+        ensures { result
+            ≡ record { start = 8 + hardware_len; end = 8 + hardware_len + protocol_len } }
     {
         let start = 8 + hardware_len as usize;
         start..start + protocol_len as usize
@@ -42,7 +43,8 @@ pub mod field {
 
     /// The target's hardware address.
     pub const fn THA(hardware_len: u8, protocol_len: u8) -> Field
-        ensures { result ≡ record { start = 8 + hardware_len + protocol_len; end = 8 + hardware_len + protocol_len + hardware_len } }
+        ensures { result
+            ≡ record { start = 8 + hardware_len + protocol_len; end = 8 + hardware_len + protocol_len + hardware_len } }
     {
         let start = 8 + hardware_len as usize + protocol_len as usize;
         start..start + hardware_len as usize
@@ -50,7 +52,8 @@ pub mod field {
 
     /// The target's protocol address.
     pub const fn TPA(hardware_len: u8, protocol_len: u8) -> Field
-        ensures { result ≡ record { start = 8 + hardware_len + protocol_len + hardware_len; end = 8 + hardware_len + protocol_len + hardware_len + protocol_len } }
+        ensures { result
+            ≡ record { start = 8 + hardware_len + protocol_len + hardware_len; end = 8 + hardware_len + protocol_len + hardware_len + protocol_len } }
     {
         let start = 8 + hardware_len as usize + protocol_len as usize + hardware_len as usize;
         start..start + protocol_len as usize
@@ -207,7 +210,8 @@ impl<'a> ArpPacket<'a> {
     /// The sender's hardware address.
     pub fn source_hardware_addr(&self) -> &'a [u8]
         requires { IsWhole (bytes_of self.now) }
-        ensures { result.now ≡ slice_range (bytes_of self.now) 8 (source_protocol_at (bytes_of self.now)) }
+        ensures { result.now
+            ≡ slice_range (bytes_of self.now) 8 (source_protocol_at (bytes_of self.now)) }
     {
         let place = field::SHA(self.buffer[field::HLEN], self.buffer[field::PLEN]);
         &self.buffer[place.start..place.end]
@@ -216,7 +220,8 @@ impl<'a> ArpPacket<'a> {
     /// The sender's protocol address.
     pub fn source_protocol_addr(&self) -> &'a [u8]
         requires { IsWhole (bytes_of self.now) }
-        ensures { result.now ≡ slice_range (bytes_of self.now) (source_protocol_at (bytes_of self.now)) (target_hardware_at (bytes_of self.now)) }
+        ensures { result.now
+            ≡ slice_range (bytes_of self.now) (source_protocol_at (bytes_of self.now)) (target_hardware_at (bytes_of self.now)) }
     {
         let place = field::SPA(self.buffer[field::HLEN], self.buffer[field::PLEN]);
         &self.buffer[place.start..place.end]
@@ -225,7 +230,8 @@ impl<'a> ArpPacket<'a> {
     /// The target's hardware address, which a request leaves open.
     pub fn target_hardware_addr(&self) -> &'a [u8]
         requires { IsWhole (bytes_of self.now) }
-        ensures { result.now ≡ slice_range (bytes_of self.now) (target_hardware_at (bytes_of self.now)) (target_protocol_at (bytes_of self.now)) }
+        ensures { result.now
+            ≡ slice_range (bytes_of self.now) (target_hardware_at (bytes_of self.now)) (target_protocol_at (bytes_of self.now)) }
     {
         let place = field::THA(self.buffer[field::HLEN], self.buffer[field::PLEN]);
         &self.buffer[place.start..place.end]
@@ -234,7 +240,8 @@ impl<'a> ArpPacket<'a> {
     /// The target's protocol address.
     pub fn target_protocol_addr(&self) -> &'a [u8]
         requires { IsWhole (bytes_of self.now) }
-        ensures { result.now ≡ slice_range (bytes_of self.now) (target_protocol_at (bytes_of self.now)) (packet_end (bytes_of self.now)) }
+        ensures { result.now
+            ≡ slice_range (bytes_of self.now) (target_protocol_at (bytes_of self.now)) (packet_end (bytes_of self.now)) }
     {
         let place = field::TPA(self.buffer[field::HLEN], self.buffer[field::PLEN]);
         &self.buffer[place.start..place.end]
@@ -321,7 +328,8 @@ impl<'a> ArpPacketMut<'a> {
     /// The sender's hardware address.
     pub fn source_hardware_addr(&self) -> &[u8]
         requires { IsWhole (bytes_in self.now) }
-        ensures { result.now ≡ slice_range (bytes_in self.now) 8 (source_protocol_at (bytes_in self.now)) }
+        ensures { result.now
+            ≡ slice_range (bytes_in self.now) 8 (source_protocol_at (bytes_in self.now)) }
     {
         ArpPacket::new_unchecked(self.buffer).source_hardware_addr()
     }
@@ -329,7 +337,8 @@ impl<'a> ArpPacketMut<'a> {
     /// The sender's protocol address.
     pub fn source_protocol_addr(&self) -> &[u8]
         requires { IsWhole (bytes_in self.now) }
-        ensures { result.now ≡ slice_range (bytes_in self.now) (source_protocol_at (bytes_in self.now)) (target_hardware_at (bytes_in self.now)) }
+        ensures { result.now
+            ≡ slice_range (bytes_in self.now) (source_protocol_at (bytes_in self.now)) (target_hardware_at (bytes_in self.now)) }
     {
         ArpPacket::new_unchecked(self.buffer).source_protocol_addr()
     }
@@ -337,7 +346,8 @@ impl<'a> ArpPacketMut<'a> {
     /// The target's hardware address, which a request leaves open.
     pub fn target_hardware_addr(&self) -> &[u8]
         requires { IsWhole (bytes_in self.now) }
-        ensures { result.now ≡ slice_range (bytes_in self.now) (target_hardware_at (bytes_in self.now)) (target_protocol_at (bytes_in self.now)) }
+        ensures { result.now
+            ≡ slice_range (bytes_in self.now) (target_hardware_at (bytes_in self.now)) (target_protocol_at (bytes_in self.now)) }
     {
         ArpPacket::new_unchecked(self.buffer).target_hardware_addr()
     }
@@ -345,7 +355,8 @@ impl<'a> ArpPacketMut<'a> {
     /// The target's protocol address.
     pub fn target_protocol_addr(&self) -> &[u8]
         requires { IsWhole (bytes_in self.now) }
-        ensures { result.now ≡ slice_range (bytes_in self.now) (target_protocol_at (bytes_in self.now)) (packet_end (bytes_in self.now)) }
+        ensures { result.now
+            ≡ slice_range (bytes_in self.now) (target_protocol_at (bytes_in self.now)) (packet_end (bytes_in self.now)) }
     {
         ArpPacket::new_unchecked(self.buffer).target_protocol_addr()
     }
@@ -395,7 +406,8 @@ impl<'a> ArpPacketMut<'a> {
         requires whole { IsWhole (bytes_in self.old) }
         requires len { length value.now ≡ slice_index (bytes_in self.old) 4 }
         ensures same_reference { name_of self.new ≡ name_of self.old }
-        ensures bytes { bytes_in self.new ≡ put_run (bytes_in self.old) 8 (length value.now) value.now }
+        ensures bytes { bytes_in self.new
+            ≡ put_run (bytes_in self.old) 8 (length value.now) value.now }
     {
         let place = field::SHA(self.buffer[field::HLEN], self.buffer[field::PLEN]);
         put_slice(self.buffer, place.start, value);
@@ -406,7 +418,8 @@ impl<'a> ArpPacketMut<'a> {
         requires whole { IsWhole (bytes_in self.old) }
         requires len { length value.now ≡ slice_index (bytes_in self.old) 5 }
         ensures same_reference { name_of self.new ≡ name_of self.old }
-        ensures bytes { bytes_in self.new ≡ put_run (bytes_in self.old) (source_protocol_at (bytes_in self.old)) (length value.now) value.now }
+        ensures bytes { bytes_in self.new
+            ≡ put_run (bytes_in self.old) (source_protocol_at (bytes_in self.old)) (length value.now) value.now }
     {
         let place = field::SPA(self.buffer[field::HLEN], self.buffer[field::PLEN]);
         put_slice(self.buffer, place.start, value);
@@ -417,7 +430,8 @@ impl<'a> ArpPacketMut<'a> {
         requires whole { IsWhole (bytes_in self.old) }
         requires len { length value.now ≡ slice_index (bytes_in self.old) 4 }
         ensures same_reference { name_of self.new ≡ name_of self.old }
-        ensures bytes { bytes_in self.new ≡ put_run (bytes_in self.old) (target_hardware_at (bytes_in self.old)) (length value.now) value.now }
+        ensures bytes { bytes_in self.new
+            ≡ put_run (bytes_in self.old) (target_hardware_at (bytes_in self.old)) (length value.now) value.now }
     {
         let place = field::THA(self.buffer[field::HLEN], self.buffer[field::PLEN]);
         put_slice(self.buffer, place.start, value);
@@ -428,7 +442,8 @@ impl<'a> ArpPacketMut<'a> {
         requires whole { IsWhole (bytes_in self.old) }
         requires len { length value.now ≡ slice_index (bytes_in self.old) 5 }
         ensures same_reference { name_of self.new ≡ name_of self.old }
-        ensures bytes { bytes_in self.new ≡ put_run (bytes_in self.old) (target_protocol_at (bytes_in self.old)) (length value.now) value.now }
+        ensures bytes { bytes_in self.new
+            ≡ put_run (bytes_in self.old) (target_protocol_at (bytes_in self.old)) (length value.now) value.now }
     {
         let place = field::TPA(self.buffer[field::HLEN], self.buffer[field::PLEN]);
         put_slice(self.buffer, place.start, value);
@@ -545,8 +560,11 @@ fn put_packet(
     target_protocol: &[u8; 4],
 )
     requires { 28 ≤ length bytes.old }
-    ensures front { bytes.new ≡ (header.now ++ (source_hardware.now ++ (source_protocol.now ++ (target_hardware.now ++ target_protocol.now)))) ++ drop 28 bytes.old }
-    ensures exact { length bytes.old ≡ 28 → bytes.new ≡ header.now ++ (source_hardware.now ++ (source_protocol.now ++ (target_hardware.now ++ target_protocol.now))) }
+    ensures front { bytes.new
+        ≡ (header.now ++ (source_hardware.now ++ (source_protocol.now ++ (target_hardware.now ++ target_protocol.now)))) ++ drop 28 bytes.old }
+    ensures exact { length bytes.old ≡ 28
+        → bytes.new
+        ≡ header.now ++ (source_hardware.now ++ (source_protocol.now ++ (target_hardware.now ++ target_protocol.now))) }
 {
     let (front, rest) = bytes.split_at_mut(8);
     front.copy_from_slice(header);
@@ -568,7 +586,10 @@ fn put_pair(bytes: &mut [u8], hardware: &[u8; 6], protocol: &[u8; 4])
 
 /// Law: a packet is spelled by its value, and then comes padding.
 pub fn arp_spelled()
-    ensures { (bytes : List ℕ) (v : ArpRepr) → IsBytes bytes → IsArp bytes v → bytes ≡ written v ++ drop 28 bytes }
+    ensures { (bytes : List ℕ) (v : ArpRepr)
+        → IsBytes bytes
+        → IsArp bytes v
+        → bytes ≡ written v ++ drop 28 bytes }
 {}
 
 /// Law: a packet that was emitted is read back in its normal form, whatever follows.

@@ -285,8 +285,10 @@ impl EthernetRepr {
 /// Writes a header of 14 bytes at the front.
 fn put_header(bytes: &mut [u8], destination: &[u8; 6], source: &[u8; 6], ethertype: u16)
     requires { 14 ≤ length bytes.old }
-    ensures front { bytes.new ≡ (destination.now ++ (source.now ++ to_be_bytes w16 ethertype)) ++ drop 14 bytes.old }
-    ensures exact { length bytes.old ≡ 14 → bytes.new ≡ destination.now ++ (source.now ++ to_be_bytes w16 ethertype) }
+    ensures front { bytes.new
+        ≡ (destination.now ++ (source.now ++ to_be_bytes w16 ethertype)) ++ drop 14 bytes.old }
+    ensures exact { length bytes.old ≡ 14
+        → bytes.new ≡ destination.now ++ (source.now ++ to_be_bytes w16 ethertype) }
 {
     let (front, rest) = bytes.split_at_mut(6);
     front.copy_from_slice(destination);
@@ -298,10 +300,15 @@ fn put_header(bytes: &mut [u8], destination: &[u8; 6], source: &[u8; 6], etherty
 
 /// Law: a frame is spelled by its header, and then come payload and padding.
 pub fn ethernet_spelled()
-    ensures { (bytes : List ℕ) (v : EthernetRepr) → IsBytes bytes → IsEthernet bytes v → bytes ≡ written v ++ drop 14 bytes }
+    ensures { (bytes : List ℕ) (v : EthernetRepr)
+        → IsBytes bytes
+        → IsEthernet bytes v
+        → bytes ≡ written v ++ drop 14 bytes }
 {}
 
 /// Law: a frame whose header was emitted is read back in its normal form, whatever follows.
 pub fn ethernet_reads_back()
-    ensures { (v : EthernetRepr) (rest : List ℕ) → IsValue v → IsEthernet (written v ++ rest) (normal v) }
+    ensures { (v : EthernetRepr) (rest : List ℕ)
+        → IsValue v
+        → IsEthernet (written v ++ rest) (normal v) }
 {}

@@ -174,7 +174,8 @@ impl<'a> Ipv6FragmentHeaderMut<'a> {
     pub fn clear_reserved(&mut self)
         requires { 6 ≤ length (bytes_in self.old) }
         ensures same_reference { name_of self.new ≡ name_of self.old }
-        ensures bytes { bytes_in self.new ≡ put8 (bytes_in self.old) 1 (slice_index (bytes_in self.old) 1 / 8 * 8 + slice_index (bytes_in self.old) 1 % 2) }
+        ensures bytes { bytes_in self.new
+            ≡ put8 (bytes_in self.old) 1 (slice_index (bytes_in self.old) 1 / 8 * 8 + slice_index (bytes_in self.old) 1 % 2) }
     {
         let old = self.buffer[field::M];
         self.buffer[field::M] = ((old >> 3) << 3) + (old & 0x01);
@@ -184,7 +185,8 @@ impl<'a> Ipv6FragmentHeaderMut<'a> {
     pub fn set_frag_offset(&mut self, value: u16)
         requires { 6 ≤ length (bytes_in self.old) }
         ensures same_reference { name_of self.new ≡ name_of self.old }
-        ensures bytes { bytes_in self.new ≡ put16 (bytes_in self.old) 0 (value % 2 ^ 13 * 8 + be16 (bytes_in self.old) 0 % 8) }
+        ensures bytes { bytes_in self.new
+            ≡ put16 (bytes_in self.old) 0 (value % 2 ^ 13 * 8 + be16 (bytes_in self.old) 0 % 8) }
     {
         let old = self.first_half();
         write_u16(
@@ -197,7 +199,8 @@ impl<'a> Ipv6FragmentHeaderMut<'a> {
     pub fn set_more_frags(&mut self, value: bool)
         requires { 6 ≤ length (bytes_in self.old) }
         ensures same_reference { name_of self.new ≡ name_of self.old }
-        ensures bytes { bytes_in self.new ≡ put8 (bytes_in self.old) 1 (with_flag (slice_index (bytes_in self.old) 1) 1 value) }
+        ensures bytes { bytes_in self.new
+            ≡ put8 (bytes_in self.old) 1 (with_flag (slice_index (bytes_in self.old) 1) 1 value) }
     {
         let old = self.buffer[field::M];
         self.buffer[field::M] = with_more_frags(old, value);
@@ -264,8 +267,10 @@ impl Ipv6FragmentRepr {
 /// Writes a header of 6 bytes at the front.
 fn put_header(bytes: &mut [u8], first: u16, ident: u32)
     requires { 6 ≤ length bytes.old }
-    ensures front { bytes.new ≡ (to_be_bytes w16 first ++ to_be_bytes w32 ident) ++ drop 6 bytes.old }
-    ensures exact { length bytes.old ≡ 6 → bytes.new ≡ to_be_bytes w16 first ++ to_be_bytes w32 ident }
+    ensures front { bytes.new
+        ≡ (to_be_bytes w16 first ++ to_be_bytes w32 ident) ++ drop 6 bytes.old }
+    ensures exact { length bytes.old ≡ 6
+        → bytes.new ≡ to_be_bytes w16 first ++ to_be_bytes w32 ident }
 {
     let [high, low] = first.to_be_bytes();
     let [i0, i1, i2, i3] = ident.to_be_bytes();
@@ -275,10 +280,15 @@ fn put_header(bytes: &mut [u8], first: u16, ident: u32)
 
 /// Law: a fragment header is spelled by its value and its reserved bits.
 pub fn ipv6_fragment_spelled()
-    ensures { (bytes : List ℕ) (v : Ipv6FragmentRepr) → IsBytes bytes → IsFragment bytes v → bytes ≡ spelling v (reserved_of bytes) ++ drop 6 bytes }
+    ensures { (bytes : List ℕ) (v : Ipv6FragmentRepr)
+        → IsBytes bytes
+        → IsFragment bytes v
+        → bytes ≡ spelling v (reserved_of bytes) ++ drop 6 bytes }
 {}
 
 /// Law: a fragment header that was emitted is read back in its normal form, whatever follows.
 pub fn ipv6_fragment_reads_back()
-    ensures { (v : Ipv6FragmentRepr) (rest : List ℕ) → IsValue v → IsFragment (written v ++ rest) (normal v) }
+    ensures { (v : Ipv6FragmentRepr) (rest : List ℕ)
+        → IsValue v
+        → IsFragment (written v ++ rest) (normal v) }
 {}

@@ -139,8 +139,10 @@ impl IpRepr {
     pub fn emit(&self, buffer: &mut [u8], checksum_caps: &ChecksumCapabilities)
         requires room { header_len_in self.now ≤ length buffer.old }
         requires fits { Fits self.now }
-        ensures bytes { buffer.new ≡ written (computes checksum_caps.now.ipv4) self.now ++ drop (header_len_in self.now) buffer.old }
-        ensures exact { length buffer.old ≡ header_len_in self.now → buffer.new ≡ written (computes checksum_caps.now.ipv4) self.now }
+        ensures bytes { buffer.new
+            ≡ written (computes checksum_caps.now.ipv4) self.now ++ drop (header_len_in self.now) buffer.old }
+        ensures exact { length buffer.old ≡ header_len_in self.now
+            → buffer.new ≡ written (computes checksum_caps.now.ipv4) self.now }
     {
         match self {
             IpRepr::Ipv4(header) => {

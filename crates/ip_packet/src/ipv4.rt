@@ -438,7 +438,8 @@ impl<'a> Ipv4PacketMut<'a> {
     pub fn set_version(&mut self, value: u8)
         requires { 20 ≤ length (bytes_in self.old) }
         ensures same_reference { name_of self.new ≡ name_of self.old }
-        ensures bytes { bytes_in self.new ≡ put8 (bytes_in self.old) 0 (value % 16 * 16 + slice_index (bytes_in self.old) 0 % 16) }
+        ensures bytes { bytes_in self.new
+            ≡ put8 (bytes_in self.old) 0 (value % 16 * 16 + slice_index (bytes_in self.old) 0 % 16) }
     {
         let old = self.buffer[field::VER_IHL];
         self.buffer[field::VER_IHL] = ((value & 0x0f) << 4) + (old & 0x0f);
@@ -448,7 +449,8 @@ impl<'a> Ipv4PacketMut<'a> {
     pub fn set_header_len(&mut self, value: u8)
         requires { 20 ≤ length (bytes_in self.old) }
         ensures same_reference { name_of self.new ≡ name_of self.old }
-        ensures bytes { bytes_in self.new ≡ put8 (bytes_in self.old) 0 (slice_index (bytes_in self.old) 0 / 16 * 16 + value / 4 % 16) }
+        ensures bytes { bytes_in self.new
+            ≡ put8 (bytes_in self.old) 0 (slice_index (bytes_in self.old) 0 / 16 * 16 + value / 4 % 16) }
     {
         let old = self.buffer[field::VER_IHL];
         self.buffer[field::VER_IHL] = ((old >> 4) << 4) + ((value >> 2) & 0x0f);
@@ -458,7 +460,8 @@ impl<'a> Ipv4PacketMut<'a> {
     pub fn set_dscp(&mut self, value: u8)
         requires { 20 ≤ length (bytes_in self.old) }
         ensures same_reference { name_of self.new ≡ name_of self.old }
-        ensures bytes { bytes_in self.new ≡ put8 (bytes_in self.old) 1 (value % 64 * 4 + slice_index (bytes_in self.old) 1 % 4) }
+        ensures bytes { bytes_in self.new
+            ≡ put8 (bytes_in self.old) 1 (value % 64 * 4 + slice_index (bytes_in self.old) 1 % 4) }
     {
         let old = self.buffer[field::DSCP_ECN];
         self.buffer[field::DSCP_ECN] = ((value & 0x3f) << 2) + (old & 0x03);
@@ -468,7 +471,8 @@ impl<'a> Ipv4PacketMut<'a> {
     pub fn set_ecn(&mut self, value: u8)
         requires { 20 ≤ length (bytes_in self.old) }
         ensures same_reference { name_of self.new ≡ name_of self.old }
-        ensures bytes { bytes_in self.new ≡ put8 (bytes_in self.old) 1 (slice_index (bytes_in self.old) 1 / 4 * 4 + value % 4) }
+        ensures bytes { bytes_in self.new
+            ≡ put8 (bytes_in self.old) 1 (slice_index (bytes_in self.old) 1 / 4 * 4 + value % 4) }
     {
         let old = self.buffer[field::DSCP_ECN];
         self.buffer[field::DSCP_ECN] = ((old >> 2) << 2) + (value & 0x03);
@@ -495,7 +499,8 @@ impl<'a> Ipv4PacketMut<'a> {
     pub fn clear_flags(&mut self)
         requires { 20 ≤ length (bytes_in self.old) }
         ensures same_reference { name_of self.new ≡ name_of self.old }
-        ensures bytes { bytes_in self.new ≡ put8 (bytes_in self.old) 6 (slice_index (bytes_in self.old) 6 % 32) }
+        ensures bytes { bytes_in self.new
+            ≡ put8 (bytes_in self.old) 6 (slice_index (bytes_in self.old) 6 % 32) }
     {
         let old = self.buffer[field::FLG_OFF.start];
         self.buffer[field::FLG_OFF.start] = old & 0x1f;
@@ -504,7 +509,8 @@ impl<'a> Ipv4PacketMut<'a> {
     pub fn set_dont_frag(&mut self, value: bool)
         requires { 20 ≤ length (bytes_in self.old) }
         ensures same_reference { name_of self.new ≡ name_of self.old }
-        ensures bytes { bytes_in self.new ≡ put8 (bytes_in self.old) 6 (with_flag (slice_index (bytes_in self.old) 6) 64 value) }
+        ensures bytes { bytes_in self.new
+            ≡ put8 (bytes_in self.old) 6 (with_flag (slice_index (bytes_in self.old) 6) 64 value) }
     {
         let old = self.buffer[field::FLG_OFF.start];
         self.buffer[field::FLG_OFF.start] = with_dont_frag(old, value);
@@ -513,7 +519,8 @@ impl<'a> Ipv4PacketMut<'a> {
     pub fn set_more_frags(&mut self, value: bool)
         requires { 20 ≤ length (bytes_in self.old) }
         ensures same_reference { name_of self.new ≡ name_of self.old }
-        ensures bytes { bytes_in self.new ≡ put8 (bytes_in self.old) 6 (with_flag (slice_index (bytes_in self.old) 6) 32 value) }
+        ensures bytes { bytes_in self.new
+            ≡ put8 (bytes_in self.old) 6 (with_flag (slice_index (bytes_in self.old) 6) 32 value) }
     {
         let old = self.buffer[field::FLG_OFF.start];
         self.buffer[field::FLG_OFF.start] = with_more_frags(old, value);
@@ -523,7 +530,8 @@ impl<'a> Ipv4PacketMut<'a> {
     pub fn set_frag_offset(&mut self, value: u16)
         requires { 20 ≤ length (bytes_in self.old) }
         ensures same_reference { name_of self.new ≡ name_of self.old }
-        ensures bytes { bytes_in self.new ≡ put16 (bytes_in self.old) 6 (be16 (bytes_in self.old) 6 / 2 ^ 13 * 2 ^ 13 + value / 8) }
+        ensures bytes { bytes_in self.new
+            ≡ put16 (bytes_in self.old) 6 (be16 (bytes_in self.old) 6 / 2 ^ 13 * 2 ^ 13 + value / 8) }
     {
         let old = self.flags_and_offset();
         write_u16(
@@ -625,8 +633,11 @@ impl Ipv4Repr {
         packet: &Ipv4Packet,
         checksum_caps: &ChecksumCapabilities,
     ) -> Result<Ipv4Repr, Error>
-        ensures found { IfOk result (λ v. IsIpv4 (verifies checksum_caps.now.ipv4) (bytes_of packet.now) v) }
-        ensures only { (v : Ipv4Repr) → IsIpv4 (verifies checksum_caps.now.ipv4) (bytes_of packet.now) v → result ≡ Ok v }
+        ensures found { IfOk result
+            (λ v. IsIpv4 (verifies checksum_caps.now.ipv4) (bytes_of packet.now) v) }
+        ensures only { (v : Ipv4Repr)
+            → IsIpv4 (verifies checksum_caps.now.ipv4) (bytes_of packet.now) v
+            → result ≡ Ok v }
     {
         packet.check_len()?;
         if packet.version() != 4 {
@@ -657,8 +668,10 @@ impl Ipv4Repr {
         requires room { 20 ≤ length (bytes_in packet.old) }
         requires fits { Fits self.now }
         ensures same_reference { name_of packet.new ≡ name_of packet.old }
-        ensures bytes { bytes_in packet.new ≡ written (computes checksum_caps.now.ipv4) self.now ++ drop 20 (bytes_in packet.old) }
-        ensures exact { length (bytes_in packet.old) ≡ 20 → bytes_in packet.new ≡ written (computes checksum_caps.now.ipv4) self.now }
+        ensures bytes { bytes_in packet.new
+            ≡ written (computes checksum_caps.now.ipv4) self.now ++ drop 20 (bytes_in packet.old) }
+        ensures exact { length (bytes_in packet.old) ≡ 20
+            → bytes_in packet.new ≡ written (computes checksum_caps.now.ipv4) self.now }
     {
         let check = self.sent_checksum(checksum_caps.ipv4.tx());
         put_header(packet.buffer, &self.header(check));
@@ -700,7 +713,8 @@ impl Ipv4Repr {
     /// The checksum that goes out: a right one, or 0 where none is computed.
     fn sent_checksum(&self, sealed: bool) -> u16
         requires { Fits self.now }
-        ensures { result ≡ (if sealed then complement (word_sum (spelling self.now (sent_fields 0))) else 0) }
+        ensures { result
+            ≡ (if sealed then complement (word_sum (spelling self.now (sent_fields 0))) else 0) }
     {
         if sealed {
             !checksum::data(&self.header(0))
@@ -713,11 +727,19 @@ impl Ipv4Repr {
 /// Law: a packet is spelled by its header, with what a value doesn't keep, and then come payload
 /// and padding.
 pub fn ipv4_spelled()
-    ensures { (tested : Bool) (bytes : List ℕ) (v : Ipv4Repr) → IsBytes bytes → IsIpv4 tested bytes v → bytes ≡ spelling v (free_fields bytes) ++ drop (header_len_of bytes) bytes }
+    ensures { (tested : Bool) (bytes : List ℕ) (v : Ipv4Repr)
+        → IsBytes bytes
+        → IsIpv4 tested bytes v
+        → bytes ≡ spelling v (free_fields bytes) ++ drop (header_len_of bytes) bytes }
 {}
 
 /// Law: a packet whose header was emitted is read back in its normal form, whatever follows the
 /// payload, where a checksum that is tested was also written.
 pub fn ipv4_reads_back()
-    ensures { (tested sealed : Bool) (v : Ipv4Repr) (rest : List ℕ) → Fits v → IsValue v → v.payload_len ≤ length rest → (IsTrue tested → IsTrue sealed) → IsIpv4 tested (written sealed v ++ rest) (normal v) }
+    ensures { (tested sealed : Bool) (v : Ipv4Repr) (rest : List ℕ)
+        → Fits v
+        → IsValue v
+        → v.payload_len ≤ length rest
+        → (IsTrue tested → IsTrue sealed)
+        → IsIpv4 tested (written sealed v ++ rest) (normal v) }
 {}

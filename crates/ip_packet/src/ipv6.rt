@@ -316,7 +316,8 @@ impl<'a> Ipv6PacketMut<'a> {
     pub fn set_version(&mut self, value: u8)
         requires { 40 ≤ length (bytes_in self.old) }
         ensures same_reference { name_of self.new ≡ name_of self.old }
-        ensures bytes { bytes_in self.new ≡ put8 (bytes_in self.old) 0 (value % 16 * 16 + slice_index (bytes_in self.old) 0 % 16) }
+        ensures bytes { bytes_in self.new
+            ≡ put8 (bytes_in self.old) 0 (value % 16 * 16 + slice_index (bytes_in self.old) 0 % 16) }
     {
         let old = self.buffer[field::VER_TC_FLOW.start];
         self.buffer[field::VER_TC_FLOW.start] = ((value & 0x0f) << 4) + (old & 0x0f);
@@ -325,7 +326,8 @@ impl<'a> Ipv6PacketMut<'a> {
     pub fn set_traffic_class(&mut self, value: u8)
         requires { 40 ≤ length (bytes_in self.old) }
         ensures same_reference { name_of self.new ≡ name_of self.old }
-        ensures bytes { bytes_in self.new ≡ put16 (bytes_in self.old) 0 (be16 (bytes_in self.old) 0 / 2 ^ 12 * 2 ^ 12 + value * 16 + be16 (bytes_in self.old) 0 % 16) }
+        ensures bytes { bytes_in self.new
+            ≡ put16 (bytes_in self.old) 0 (be16 (bytes_in self.old) 0 / 2 ^ 12 * 2 ^ 12 + value * 16 + be16 (bytes_in self.old) 0 % 16) }
     {
         let old = self.first_half();
         let new = ((old >> 12) << 12) + ((value as u16) << 4) + (old & 0x000f);
@@ -336,7 +338,8 @@ impl<'a> Ipv6PacketMut<'a> {
     pub fn set_flow_label(&mut self, value: u32)
         requires { 40 ≤ length (bytes_in self.old) }
         ensures same_reference { name_of self.new ≡ name_of self.old }
-        ensures bytes { bytes_in self.new ≡ put32 (bytes_in self.old) 0 (be32 (bytes_in self.old) 0 / 2 ^ 20 * 2 ^ 20 + value % 2 ^ 20) }
+        ensures bytes { bytes_in self.new
+            ≡ put32 (bytes_in self.old) 0 (be32 (bytes_in self.old) 0 / 2 ^ 20 * 2 ^ 20 + value % 2 ^ 20) }
     {
         let old = self.first_word();
         let new = ((old >> 20) << 20) + (value & 0x000f_ffff);
@@ -456,11 +459,18 @@ impl Ipv6Repr {
 /// Law: a packet is spelled by its header, with the class and flow that a value doesn't keep, and
 /// then come payload and padding.
 pub fn ipv6_spelled()
-    ensures { (bytes : List ℕ) (v : Ipv6Repr) → IsBytes bytes → IsIpv6 bytes v → bytes ≡ spelling v (class_and_flow bytes) ++ drop 40 bytes }
+    ensures { (bytes : List ℕ) (v : Ipv6Repr)
+        → IsBytes bytes
+        → IsIpv6 bytes v
+        → bytes ≡ spelling v (class_and_flow bytes) ++ drop 40 bytes }
 {}
 
 /// Law: a packet whose header was emitted is read back in its normal form, whatever follows the
 /// payload.
 pub fn ipv6_reads_back()
-    ensures { (v : Ipv6Repr) (rest : List ℕ) → Fits v → IsValue v → v.payload_len ≤ length rest → IsIpv6 (written v ++ rest) (normal v) }
+    ensures { (v : Ipv6Repr) (rest : List ℕ)
+        → Fits v
+        → IsValue v
+        → v.payload_len ≤ length rest
+        → IsIpv6 (written v ++ rest) (normal v) }
 {}

@@ -31,8 +31,10 @@ pub fn put16_bytes(bytes: &mut [u8], at: usize, from: &[u8; 16])
 /// Writes a header of 40 bytes, which ends with two addresses, at the front.
 pub fn put_front(bytes: &mut [u8], first: &[u8; 8], source: &[u8; 16], destination: &[u8; 16])
     requires { 40 ≤ length bytes.old }
-    ensures front { bytes.new ≡ (first.now ++ (source.now ++ destination.now)) ++ drop 40 bytes.old }
-    ensures exact { length bytes.old ≡ 40 → bytes.new ≡ first.now ++ (source.now ++ destination.now) }
+    ensures front { bytes.new
+        ≡ (first.now ++ (source.now ++ destination.now)) ++ drop 40 bytes.old }
+    ensures exact { length bytes.old ≡ 40
+        → bytes.new ≡ first.now ++ (source.now ++ destination.now) }
 {
     let (front, rest) = bytes.split_at_mut(8);
     front.copy_from_slice(first);

@@ -11,7 +11,8 @@ use ip_address::{IpAddress, IpProtocol, checksum};
 pub fn sum(source: &IpAddress, destination: &IpAddress, protocol: IpProtocol, packet: &[u8]) -> u16
     requires family { version_of source.now ≡ version_of destination.now }
     requires fits { length packet.now < 2 ^ 16 }
-    ensures { result ≡ folded (covered source.now destination.now (protocol_number protocol) packet.now) }
+    ensures { result
+        ≡ folded (covered source.now destination.now (protocol_number protocol) packet.now) }
 {
     let header = checksum::pseudo_header(source, destination, protocol, packet.len() as u32);
     checksum::combine(&[header, checksum::data(packet)])
@@ -26,7 +27,8 @@ pub fn holds(
 ) -> bool
     requires family { version_of source.now ≡ version_of destination.now }
     requires fits { length packet.now < 2 ^ 16 }
-    ensures { IsTrue result ↔ ChecksumHolds (covered source.now destination.now (protocol_number protocol) packet.now) }
+    ensures { IsTrue result
+        ↔ ChecksumHolds (covered source.now destination.now (protocol_number protocol) packet.now) }
 {
     sum(source, destination, protocol, packet) == 0xffff
 }

@@ -123,7 +123,8 @@ impl<'a> UdpPacket<'a> {
     fn sum(&self, source: &IpAddress, destination: &IpAddress) -> u16
         requires whole { IsWhole (bytes_of self.now) }
         requires family { version_of source.now ≡ version_of destination.now }
-        ensures { result ≡ folded (covered source.now destination.now 17 (datagram_of (bytes_of self.now))) }
+        ensures { result
+            ≡ folded (covered source.now destination.now 17 (datagram_of (bytes_of self.now))) }
     {
         let (datagram, _padding) = self.buffer.split_at(self.len() as usize);
         sealed::sum(source, destination, IpProtocol::Udp, datagram)
@@ -222,7 +223,8 @@ impl<'a> UdpPacketMut<'a> {
     fn sum(&self, source: &IpAddress, destination: &IpAddress) -> u16
         requires whole { IsWhole (bytes_in self.now) }
         requires family { version_of source.now ≡ version_of destination.now }
-        ensures { result ≡ folded (covered source.now destination.now 17 (datagram_of (bytes_in self.now))) }
+        ensures { result
+            ≡ folded (covered source.now destination.now 17 (datagram_of (bytes_in self.now))) }
     {
         UdpPacket::new_unchecked(self.buffer).sum(source, destination)
     }
@@ -274,7 +276,8 @@ impl<'a> UdpPacketMut<'a> {
         requires whole { IsWhole (bytes_in self.old) }
         requires family { version_of source.now ≡ version_of destination.now }
         ensures same_reference { name_of self.new ≡ name_of self.old }
-        ensures bytes { bytes_in self.new ≡ with_checksum source.now destination.now (bytes_in self.old) }
+        ensures bytes { bytes_in self.new
+            ≡ with_checksum source.now destination.now (bytes_in self.old) }
     {
         self.set_checksum(0);
         let sum = self.sum(source, destination);
@@ -308,8 +311,11 @@ impl UdpRepr {
         checksum_caps: &ChecksumCapabilities,
     ) -> Result<UdpRepr, Error>
         requires { version_of source.now ≡ version_of destination.now }
-        ensures found { IfOk result (λ v. IsUdp source.now destination.now (verifies checksum_caps.now.udp) (bytes_of packet.now) v) }
-        ensures only { (v : UdpRepr) → IsUdp source.now destination.now (verifies checksum_caps.now.udp) (bytes_of packet.now) v → result ≡ Ok v }
+        ensures found { IfOk result
+            (λ v. IsUdp source.now destination.now (verifies checksum_caps.now.udp) (bytes_of packet.now) v) }
+        ensures only { (v : UdpRepr)
+            → IsUdp source.now destination.now (verifies checksum_caps.now.udp) (bytes_of packet.now) v
+            → result ≡ Ok v }
     {
         packet.check_len()?;
         if packet.dst_port() == 0 {
@@ -352,7 +358,8 @@ impl UdpRepr {
         requires room { length (bytes_in packet.old) ≡ 8 + length payload.now }
         requires fits { Fits source.now destination.now payload.now }
         ensures same_reference { name_of packet.new ≡ name_of packet.old }
-        ensures bytes { bytes_in packet.new ≡ written source.now destination.now (computes checksum_caps.now.udp) self.now payload.now }
+        ensures bytes { bytes_in packet.new
+            ≡ written source.now destination.now (computes checksum_caps.now.udp) self.now payload.now }
     {
         self.spell(packet.buffer, payload);
         if checksum_caps.udp.tx() {
@@ -389,7 +396,8 @@ fn seal(bytes: &mut [u8], source: &IpAddress, destination: &IpAddress)
     requires header { 8 ≤ length bytes.old }
     requires fits { length bytes.old < 2 ^ 16 }
     requires family { version_of source.now ≡ version_of destination.now }
-    ensures { bytes.new ≡ put16 bytes.old 6 (nonzero_complement (covered source.now destination.now 17 bytes.old)) }
+    ensures { bytes.new
+        ≡ put16 bytes.old 6 (nonzero_complement (covered source.now destination.now 17 bytes.old)) }
 {
     let sum = sealed::sum(source, destination, IpProtocol::Udp, bytes);
     write_u16(bytes, field::CHECKSUM.start, sealed::sent_complement(sum));
@@ -397,11 +405,18 @@ fn seal(bytes: &mut [u8], source: &IpAddress, destination: &IpAddress)
 
 /// Law: a datagram is spelled by its header and payload, and then comes padding.
 pub fn udp_spelled()
-    ensures { (source destination : IpAddress) (tested : Bool) (bytes : List ℕ) (v : UdpRepr) → IsBytes bytes → IsUdp source destination tested bytes v → bytes ≡ spelling v (payload_of bytes) (be16 bytes 6) ++ drop (be16 bytes 4) bytes }
+    ensures { (source destination : IpAddress) (tested : Bool) (bytes : List ℕ) (v : UdpRepr)
+        → IsBytes bytes
+        → IsUdp source destination tested bytes v
+        → bytes ≡ spelling v (payload_of bytes) (be16 bytes 6) ++ drop (be16 bytes 4) bytes }
 {}
 
 /// Law: a datagram that was emitted is read back, whatever follows it, where a checksum that is
 /// tested was also written.
 pub fn udp_reads_back()
-    ensures { (source destination : IpAddress) (tested sealed : Bool) (v : UdpRepr) (payload rest : List ℕ) → Fits source destination payload → IsAccepted v → (IsTrue tested → IsTrue sealed) → IsUdp source destination tested (written source destination sealed v payload ++ rest) v }
+    ensures { (source destination : IpAddress) (tested sealed : Bool) (v : UdpRepr) (payload rest : List ℕ)
+        → Fits source destination payload
+        → IsAccepted v
+        → (IsTrue tested → IsTrue sealed)
+        → IsUdp source destination tested (written source destination sealed v payload ++ rest) v }
 {}
