@@ -1,3 +1,4 @@
 pub mod Headers
 pub mod Sealed
+pub mod Sent
 pub mod Steps

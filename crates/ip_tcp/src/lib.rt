@@ -9,6 +9,8 @@ mod option;
 mod packet;
 mod packet_mut;
 mod repr;
+#[cfg(test)]
+mod tests;
 mod timestamp;
 
 pub use control::TcpControl;
