@@ -5,6 +5,7 @@ mod control;
 mod emit;
 pub mod field;
 mod header;
+pub mod laws;
 mod option;
 mod packet;
 mod packet_mut;
