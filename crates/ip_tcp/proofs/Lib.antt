@@ -1,3 +1,5 @@
 pub mod Headers
 pub mod Sealed
+pub mod Sent
 pub mod Steps
+pub mod Written

@@ -56,7 +56,7 @@ Says-unfold so_far v (p ∷ os) bytes o r is more s all =
     let f = same_rest o p r s.0 (first_option bytes) is s.1 in
     (os, subst (Spells os) (sym f) s.2, all ∙ ap (λ q. all_taken (taken so_far q) os) (sym e))
 
-Says-fold : (so_far v : TcpOptions) (bytes : List ℕ) (o : OptionValue) (r : List ℕ) → first_option bytes ≡ Some (record { option = o; rest = r }) → is_end o ≡ false
+pub Says-fold : (so_far v : TcpOptions) (bytes : List ℕ) (o : OptionValue) (r : List ℕ) → first_option bytes ≡ Some (record { option = o; rest = r }) → is_end o ≡ false
     → Says (taken so_far o) r v → Says so_far bytes v
 Says-fold so_far v bytes EndOfList r is more says = absurd (cc more)
 Says-fold so_far v bytes o r is more says = (o ∷ says.0, (r, is, says.1), says.2)

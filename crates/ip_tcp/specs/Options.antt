@@ -1,7 +1,7 @@
 -- TCP options (RFC 9293, section 3.2; RFC 7323, sections 2.2 and 3.2; RFC 2018, sections 2 and 3). The end of
 -- the options and a no-operation are one byte. All others are their kind, their length with these two bytes,
 -- and what is inside.
-use Rattle.std.specs.Prelude.{◌≡◌, ◌==◌, ℕ, ◌+◌, ◌%◌, ◌<◌, ◌^◌, Bool, true, false, nat_le, if◌then◌else◌, Option, Some, None, List, [], ◌∷◌, ◌++◌, length, drop, slice_index, slice_range, min, replicate, ◌-◌, ◌*◌, ◌/◌}
+use Rattle.std.specs.Prelude.{◌≡◌, ◌==◌, ℕ, ◌+◌, ◌%◌, ◌<◌, ◌^◌, Bool, true, false, nat_le, if◌then◌else◌, Option, Some, None, List, [], ◌∷◌, ◌++◌, length, take, drop, slice_index, slice_range, min, replicate, ◌-◌, ◌*◌, ◌/◌}
 use Rattle.std.specs.Int.{w16, w32, to_be_bytes}
 use Rattle.ip_address.specs.Fields.{be16, be32}
 use Rattle.ip_tcp.specs.declared.option.TcpOption.{TcpOption}
@@ -189,3 +189,56 @@ padded n = (n + 3) / 4 * 4
 abbrev pub options_area : Bool → TcpOptions → List ℕ
 options_area acknowledges v =
     sent_bytes acknowledges v ++ replicate (padded (options_room v) - length (sent_bytes acknowledges v)) 0
+
+-- the ranges that are there
+abbrev pub present : List (Option (ℕ × ℕ)) → List (Option (ℕ × ℕ))
+present [] = []
+present (None ∷ ranges) = present ranges
+present (Some range ∷ ranges) = Some range ∷ present ranges
+
+-- no ranges
+abbrev pub no_ranges : List (Option (ℕ × ℕ))
+no_ranges = None ∷ None ∷ None ∷ []
+
+-- the ranges closed up
+abbrev pub closed_up : List (Option (ℕ × ℕ)) → List (Option (ℕ × ℕ))
+closed_up ranges = take 3 (present ranges ++ no_ranges)
+
+-- the ranges as they are sent: only beside an acknowledgement, and not where SACK is permitted
+abbrev pub sent_ranges : Bool → Bool → List (Option (ℕ × ℕ)) → List (Option (ℕ × ℕ))
+sent_ranges true acknowledges ranges = no_ranges
+sent_ranges false true ranges = closed_up ranges
+sent_ranges false false ranges = no_ranges
+
+-- the scale as it is read
+abbrev pub read_scale : Option ℕ → Option ℕ
+read_scale None = None
+read_scale (Some n) = Some (capped n)
+
+-- what a reader makes of options that were sent
+abbrev pub normal_options : Bool → TcpOptions → TcpOptions
+normal_options acknowledges v =
+    record v { window_scale = read_scale v.window_scale; sack_ranges = sent_ranges v.sack_permitted acknowledges v.sack_ranges }
+
+-- each field is a number of its width
+abbrev pub IsNumber : ℕ → Option ℕ → Type 0
+IsNumber width None = Unit {0}
+IsNumber width (Some n) = n < width
+
+abbrev pub IsRange : Option (ℕ × ℕ) → Type 0
+IsRange None = Unit {0}
+IsRange (Some range) = (range.0 < 2 ^ 32) × (range.1 < 2 ^ 32)
+
+abbrev pub IsStamp : Option TcpTimestampRepr → Type 0
+IsStamp None = Unit {0}
+IsStamp (Some stamp) = (stamp.tsval < 2 ^ 32) × (stamp.tsecr < 2 ^ 32)
+
+abbrev pub AreRanges : List (Option (ℕ × ℕ)) → Type 0
+AreRanges (a ∷ b ∷ c ∷ []) = IsRange a × IsRange b × IsRange c
+AreRanges _ = ⊥
+
+pub record AreOptions (v : TcpOptions) : Type 0 where
+  pub size : IsNumber (2 ^ 16) v.max_seg_size
+  pub scale : IsNumber 256 v.window_scale
+  pub ranges : AreRanges v.sack_ranges
+  pub stamp : IsStamp v.timestamp

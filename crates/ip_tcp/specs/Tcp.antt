@@ -12,7 +12,7 @@ use Rattle.ip_address.specs.Sum.{word_sum, folded, ChecksumHolds}
 use Rattle.ip_address.specs.declared.ip.IpAddress.{IpAddress}
 use Rattle.ip_address.specs.declared.seq_number.SeqNumber.{SeqNumber}
 use Rattle.ip_tcp.specs.Control.{control_of, control_bits}
-use Rattle.ip_tcp.specs.Options.{Says, no_options, padded, options_room, options_area}
+use Rattle.ip_tcp.specs.Options.{Says, no_options, padded, options_room, options_area, normal_options, AreOptions}
 use Rattle.ip_tcp.specs.declared.control.TcpControl.{TcpControl}
 use Rattle.ip_tcp.specs.declared.header.TcpHeader.{TcpHeader}
 use Rattle.ip_tcp.specs.declared.repr.TcpRepr.{TcpRepr}
@@ -157,3 +157,24 @@ pub record Fits (source destination : IpAddress) (v : TcpHeader) (payload : List
   pub header : header_len v ≤ 60
   pub all : header_len v + length payload < 2 ^ 16
   pub family : version_of source ≡ version_of destination
+
+-- an acknowledgement number is a number of its width
+abbrev pub IsAck : Option SeqNumber → Type 0
+IsAck None = Unit {0}
+IsAck (Some n) = n.0 < 2 ^ 32
+
+-- a header whose fields are numbers of their widths, with ports that a reader takes
+pub record IsValue (v : TcpHeader) : Type 0 where
+  pub source_port : v.src_port < 2 ^ 16
+  pub destination_port : v.dst_port < 2 ^ 16
+  pub source_accepted : v.src_port ≢ 0
+  pub destination_accepted : v.dst_port ≢ 0
+  pub sequence : v.seq_number.0 < 2 ^ 32
+  pub acknowledgement : IsAck v.ack_number
+  pub window : v.window_len < 2 ^ 16
+  pub options : AreOptions v.options
+
+-- what a reader makes of a header that was sent: scales end at 14, and ranges are closed up, and are only
+-- there beside an acknowledgement where SACK isn't being permitted
+abbrev pub normal : TcpHeader → TcpHeader
+normal v = record v { options = normal_options (acknowledges v.ack_number) v.options }

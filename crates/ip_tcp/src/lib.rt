@@ -5,10 +5,13 @@ mod control;
 mod emit;
 pub mod field;
 mod header;
+pub mod laws;
 mod option;
 mod packet;
 mod packet_mut;
 mod repr;
+#[cfg(test)]
+mod tests;
 mod timestamp;
 
 pub use control::TcpControl;
