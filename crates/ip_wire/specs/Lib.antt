@@ -18,6 +18,10 @@ pub use Rattle.ip_packet.specs.Ip
 pub use Rattle.ip_link.specs.Ethernet
 pub use Rattle.ip_link.specs.Arp
 pub use Rattle.ip_link.specs.Fragment
+pub use Rattle.ip_tcp.specs.Control
+pub use Rattle.ip_tcp.specs.Options
+pub use Rattle.ip_tcp.specs.Tcp
+pub use Rattle.ip_tcp.specs.Timestamp
 pub use Rattle.ip_address.specs.declared.ethernet.EthernetAddress
 pub use Rattle.ip_address.specs.declared.ethernet.EthernetProtocol
 pub use Rattle.ip_address.specs.declared.hardware.HardwareAddress
@@ -55,3 +59,12 @@ pub use Rattle.ip_link.specs.declared.arp.ArpRepr
 pub use Rattle.ip_link.specs.declared.ipv6_fragment.Ipv6FragmentHeader
 pub use Rattle.ip_link.specs.declared.ipv6_fragment.Ipv6FragmentHeaderMut
 pub use Rattle.ip_link.specs.declared.ipv6_fragment.Ipv6FragmentRepr
+pub use Rattle.ip_tcp.specs.declared.control.TcpControl
+pub use Rattle.ip_tcp.specs.declared.header.TcpHeader
+pub use Rattle.ip_tcp.specs.declared.option.TcpOption
+pub use Rattle.ip_tcp.specs.declared.option.TcpOptions
+pub use Rattle.ip_tcp.specs.declared.packet.TcpPacket
+pub use Rattle.ip_tcp.specs.declared.packet_mut.TcpPacketMut
+pub use Rattle.ip_tcp.specs.declared.repr.TcpRepr
+pub use Rattle.ip_tcp.specs.declared.timestamp.TcpTimestampGenerator
+pub use Rattle.ip_tcp.specs.declared.timestamp.TcpTimestampRepr

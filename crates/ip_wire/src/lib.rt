@@ -1,7 +1,7 @@
 //! Packet formats, addresses, their texts and checksums.
 //!
-//! It holds nothing of its own: it passes on the items of its members, `ip_address`, `ip_packet` and
-//! `ip_link`. A crate above names `ip_wire` alone, in `crates.txt` and in its code, as
+//! It holds nothing of its own: it passes on the items of its members, `ip_address`, `ip_packet`,
+//! `ip_link` and `ip_tcp`. A crate above names `ip_wire` alone, in `crates.txt` and in its code, as
 //! `ip_wire::Ipv4Packet`. In clauses, `specs/` and `proofs/` the members' definitions are
 //! `Rattle.ip_wire.specs.Udp`, `.Ipv4`, `.Address` and so on, one file a format, and each type that a
 //! definition names is a module of its own name, as `Rattle.ip_wire.specs.UdpRepr.{UdpRepr}` and
@@ -41,4 +41,9 @@ pub use ip_packet::udp::{
 pub use ip_packet::{
     IpRepr, Ipv4Packet, Ipv4PacketMut, Ipv4Repr, Ipv6Packet, Ipv6PacketMut, Ipv6Repr, UdpPacket,
     UdpPacketMut, UdpRepr,
+};
+pub use ip_tcp::laws::tcp_reads_back;
+pub use ip_tcp::{
+    MAX_WINDOW_SCALE, TcpControl, TcpHeader, TcpOption, TcpOptions, TcpPacket, TcpPacketMut,
+    TcpRepr, TcpTimestampGenerator, TcpTimestampRepr, field as tcp_field,
 };
