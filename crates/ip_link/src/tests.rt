@@ -146,7 +146,22 @@ fn packet_is_set(rt: HostRuntime) {
     if packet.hardware_len() == 6 && packet.protocol_len() == 4 {
         packet.set_source_hardware_addr(SENDER.as_bytes());
     }
-    assert_eq!(rt; packet.into_inner()[13], 1);
+    if packet.check_len().is_ok() && packet.protocol_len() == 4 {
+        packet.set_source_protocol_addr(&[192, 168, 1, 1]);
+    }
+    if packet.check_len().is_ok() && packet.hardware_len() == 6 {
+        packet.set_target_hardware_addr(&[0; 6]);
+    }
+    if packet.check_len().is_ok() && packet.protocol_len() == 4 {
+        packet.set_target_protocol_addr(&[192, 168, 1, 2]);
+    }
+    if packet.check_len().is_ok() {
+        assert_eq!(rt; packet.source_hardware_addr(), SENDER.as_bytes());
+        assert_eq!(rt; packet.source_protocol_addr(), [192, 168, 1, 1].as_slice());
+        assert_eq!(rt; packet.target_hardware_addr(), [0; 6].as_slice());
+        assert_eq!(rt; packet.target_protocol_addr(), [192, 168, 1, 2].as_slice());
+    }
+    assert!(rt; starts_with(packet.into_inner(), &FRAME[14..42]));
 }
 
 #[test]

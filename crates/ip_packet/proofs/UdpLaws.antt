@@ -1,5 +1,5 @@
 -- A datagram and what spells it.
-use Rattle.std.proofs.Common.{◌≡◌, ℕ, ◌+◌, ◌<◌, ◌^◌, Bool, true, false, IsTrue, List, ◌++◌, length, drop, refl, sym, ◌∙◌, ap, subst, inr, arith, length-append}
+use Rattle.std.proofs.Common.{◌≡◌, ◌≤◌, ℕ, ◌+◌, ◌<◌, ◌^◌, Bool, true, false, IsTrue, List, ◌++◌, length, drop, refl, sym, ◌∙◌, ap, subst, inr, arith, length-append}
 use Rattle.std.proofs.lemmas.List.{take_at}
 use Rattle.ip_address.specs.Fields.{be16, put16, IsBytes}
 use Rattle.ip_address.specs.Sum.{word_sum, folded, ChecksumHolds}
@@ -76,3 +76,9 @@ with_checksum-steps source destination old cleared new sum value first sums seal
     last ∙ ap (λ n. put16 cleared 6 n) same
     ∙ ap (λ xs. put16 xs 6 (nonzero_complement (covered source destination 17 (datagram_of xs)))) first
     ∙ put16-put16 old 6 0 (nonzero_complement (covered source destination 17 (datagram_of (put16 old 6 0))))
+
+-- a datagram and its header take no more room than the bytes that they were read from
+pub within : (source destination : IpAddress) (tested : Bool) (bytes : List ℕ) (v : UdpRepr) → IsUdp source destination tested bytes v → 8 + length (payload_of bytes) ≤ length bytes
+within source destination tested bytes v is =
+    let whole : IsWhole bytes = is.whole in
+    omega (arith, whole.within, length-slice_range bytes 8 (be16 bytes 4) whole.least whole.within)

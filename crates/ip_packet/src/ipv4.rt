@@ -733,6 +733,13 @@ pub fn ipv4_spelled()
         → bytes ≡ spelling v (free_fields bytes) ++ drop (header_len_of bytes) bytes }
 {}
 
+/// Law: a packet that was read is written again in no more bytes.
+pub fn ipv4_no_longer()
+    ensures { (tested : Bool) (bytes : List ℕ) (v : Ipv4Repr)
+        → IsIpv4 tested bytes v
+        → 20 + v.payload_len ≤ length bytes }
+{}
+
 /// Law: a packet whose header was emitted is read back in its normal form, whatever follows the
 /// payload, where a checksum that is tested was also written.
 pub fn ipv4_reads_back()

@@ -465,6 +465,11 @@ pub fn ipv6_spelled()
         → bytes ≡ spelling v (class_and_flow bytes) ++ drop 40 bytes }
 {}
 
+/// Law: a packet that was read is written again in no more bytes.
+pub fn ipv6_no_longer()
+    ensures { (bytes : List ℕ) (v : Ipv6Repr) → IsIpv6 bytes v → 40 + v.payload_len ≤ length bytes }
+{}
+
 /// Law: a packet whose header was emitted is read back in its normal form, whatever follows the
 /// payload.
 pub fn ipv6_reads_back()

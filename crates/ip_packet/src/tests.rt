@@ -60,6 +60,7 @@ fn datagram_is_read(rt: HostRuntime) {
     assert_eq!(rt; want.buffer_len(4), 12);
     assert_eq!(rt; packet.into_inner(), DATAGRAM.as_slice());
     udp::udp_spelled();
+    udp::udp_no_longer();
     udp::udp_reads_back();
 }
 
@@ -218,6 +219,7 @@ fn ipv4_is_read(rt: HostRuntime) {
     assert_eq!(rt; header.buffer_len(), 20);
     assert_eq!(rt; packet.into_inner().len(), 34);
     ipv4::ipv4_spelled();
+    ipv4::ipv4_no_longer();
     ipv4::ipv4_reads_back();
 }
 
@@ -417,6 +419,7 @@ fn ipv6_is_read(rt: HostRuntime) {
     assert_eq!(rt; &packet.into_inner()[..4], [0x60, 0, 0, 0].as_slice());
     assert_eq!(rt; &bytes[4..], &OVER_V6[4..]);
     ipv6::ipv6_spelled();
+    ipv6::ipv6_no_longer();
     ipv6::ipv6_reads_back();
 }
 

@@ -411,6 +411,13 @@ pub fn udp_spelled()
         → bytes ≡ spelling v (payload_of bytes) (be16 bytes 6) ++ drop (be16 bytes 4) bytes }
 {}
 
+/// Law: a datagram that was read is written again in no more bytes.
+pub fn udp_no_longer()
+    ensures { (source destination : IpAddress) (tested : Bool) (bytes : List ℕ) (v : UdpRepr)
+        → IsUdp source destination tested bytes v
+        → 8 + length (payload_of bytes) ≤ length bytes }
+{}
+
 /// Law: a datagram that was emitted is read back, whatever follows it, where a checksum that is
 /// tested was also written.
 pub fn udp_reads_back()

@@ -30,13 +30,15 @@ pub use ip_link::{
     EthernetRepr, Field, Ipv6FragmentHeader, Ipv6FragmentHeaderMut, Ipv6FragmentRepr, Rest,
 };
 pub use ip_packet::ipv4::{
-    HEADER_LEN as IPV4_HEADER_LEN, field as ipv4_field, ipv4_reads_back, ipv4_spelled,
+    HEADER_LEN as IPV4_HEADER_LEN, field as ipv4_field, ipv4_no_longer, ipv4_reads_back,
+    ipv4_spelled,
 };
 pub use ip_packet::ipv6::{
-    HEADER_LEN as IPV6_HEADER_LEN, field as ipv6_field, ipv6_reads_back, ipv6_spelled,
+    HEADER_LEN as IPV6_HEADER_LEN, field as ipv6_field, ipv6_no_longer, ipv6_reads_back,
+    ipv6_spelled,
 };
 pub use ip_packet::udp::{
-    HEADER_LEN as UDP_HEADER_LEN, field as udp_field, udp_reads_back, udp_spelled,
+    HEADER_LEN as UDP_HEADER_LEN, field as udp_field, udp_no_longer, udp_reads_back, udp_spelled,
 };
 pub use ip_packet::{
     IpRepr, Ipv4Packet, Ipv4PacketMut, Ipv4Repr, Ipv6Packet, Ipv6PacketMut, Ipv6Repr, UdpPacket,
