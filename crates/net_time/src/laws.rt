@@ -1,10 +1,14 @@
 //! What the comparisons of instants and durations mean.
-ghost use Rattle.std.specs.Prelude.{◌≡◌, ◌↔◌, IsTrue};
+ghost use Rattle.std.specs.Prelude.{◌≡◌, ◌↔◌, ℕ, ℤ, IsTrue};
+ghost use Rattle.std.specs.Cmp.{IsTotalOrder};
+ghost use Rattle.std.specs.Hash as fed;
 ghost use Rattle.std.specs.Ordering.{nat_cmp, int_cmp};
+ghost use Rattle.std.specs.declared.cmp.Ordering.TheVariants.{Equal};
 
 use crate::duration::Duration;
 use crate::instant::Instant;
 use std::cmp::Ordering;
+use std::hash::Hash;
 
 /// Instants are ordered as their counts are.
 pub fn orders_instants(a: Instant, b: Instant) -> Ordering
@@ -33,3 +37,23 @@ pub fn equates_durations(a: Duration, b: Duration) -> bool
 {
     a == b
 }
+
+/// The order of instants is total, and two are equal exactly where neither comes first. Their hash is fed the count, so equal
+/// ones hash alike.
+pub fn instants_are_ordered()
+    ensures total { IsTotalOrder ⟦<Instant as Ord>⟧.cmp }
+    ensures equal { (a b : ℤ) → IsTrue (⟦<Instant as PartialEq>⟧.eq a b) ↔ (⟦<Instant as Ord>⟧.cmp a b ≡ Equal) }
+    ensures hashed { (a : ℤ) → ⟦<Instant as Hash>⟧.hash_input a ≡ fed.i64 a }
+    ensures alike { (a b : ℤ) → IsTrue (⟦<Instant as PartialEq>⟧.eq a b)
+        → ⟦<Instant as Hash>⟧.hash_input a ≡ ⟦<Instant as Hash>⟧.hash_input b }
+{}
+
+/// The order of durations is total, and two are equal exactly where neither comes first. Their hash is fed the count, so
+/// equal ones hash alike.
+pub fn durations_are_ordered()
+    ensures total { IsTotalOrder ⟦<Duration as Ord>⟧.cmp }
+    ensures equal { (a b : ℕ) → IsTrue (⟦<Duration as PartialEq>⟧.eq a b) ↔ (⟦<Duration as Ord>⟧.cmp a b ≡ Equal) }
+    ensures hashed { (a : ℕ) → ⟦<Duration as Hash>⟧.hash_input a ≡ fed.u64 a }
+    ensures alike { (a b : ℕ) → IsTrue (⟦<Duration as PartialEq>⟧.eq a b)
+        → ⟦<Duration as Hash>⟧.hash_input a ≡ ⟦<Duration as Hash>⟧.hash_input b }
+{}
