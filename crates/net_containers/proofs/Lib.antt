@@ -4,4 +4,6 @@ pub mod RingSteps
 pub mod Answered
 pub mod Runs
 pub mod PacketQueues
+pub mod PacketSteps
+pub mod PacketLaws
 pub mod RunsEq

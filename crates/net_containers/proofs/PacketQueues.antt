@@ -1,11 +1,12 @@
 -- Lemmas on the packets of a queue and the entries that it keeps.
-use Rattle.std.proofs.Common.{◌≡◌, ℕ, ◌+◌, ◌%◌, ◌⊎◌, List, [], ◌∷◌, length, drop, refl, sym, ap, ◌∙◌, inl, inr, arith, length-drop}
+use Rattle.std.proofs.Common.{◌≡◌, ℕ, ◌+◌, ◌<◌, ◌≤◌, ◌%◌, ◌⊎◌, List, [], ◌∷◌, ◌++◌, length, take, drop, refl, sym, ap, ◌∙◌, inl, inr, add_assoc, zero-add, arith, length-drop}
 use Rattle.std.specs.Prelude.{Option, None, Some, IsSome, ◌==◌, if◌then◌else◌}
 use Rattle.std.proofs.lemmas.Bool.{false≢true}
 use Rattle.std.proofs.lemmas.Bool.Decides.{eqb_tells}
-use Rattle.std.proofs.lemmas.List.{length-take-le, nil_from_length}
-use Rattle.net_containers.specs.Packets.{used_places, used_room}
-use Rattle.net_containers.specs.Entries.{packets_of, BeginsWithPacket, AreLaid, size_of}
+use Rattle.std.proofs.lemmas.List.{length-take-le, nil_from_length, take-append-le, drop-append-le, take_all, drop_at}
+use Rattle.std.proofs.Math.Nat.{mod-add-mod, mod-mod, mod_self, zero-mod, add-zero}
+use Rattle.net_containers.specs.Packets.{packet, used_places, used_room}
+use Rattle.net_containers.specs.Entries.{entry, packets_of, BeginsWithPacket, IsPadding, AreLaid, size_of}
 use Rattle.net_containers.specs.declared.packet_buffer.PacketMetadata.{PacketMetadata}
 
 -- the entry of the padding
@@ -13,9 +14,6 @@ abbrev more : ℕ → ℕ
 more skipped = if skipped == 0 then 0 else 1
 
 module _ {H : Type 0} where
-  abbrev entry : ℕ → Option H → PacketMetadata H
-  entry size header = record { size = size; header = header }
-
   -- as many entries as the packets take
   places-step : (n : ℕ) (header : Option H) (ms : List (PacketMetadata H)) (bs : List ℕ) (skipped at room : ℕ) → AreLaid at room (entry n header ∷ ms) → ((skipped ≡ 0) ⊎ IsSome header) → ((s : ℕ) → ((s ≡ 0) ⊎ BeginsWithPacket ms) → used_places (packets_of s ms (drop n bs)) ≡ more s + length ms) → used_places (packets_of skipped (entry n header ∷ ms) bs) ≡ more skipped + length (entry n header ∷ ms)
   places-step n None ms bs skipped at room h way ih = elim way [
@@ -58,3 +56,80 @@ module _ {H : Type 0} where
   -- no packet is no entry
   pub packets_of-nil : (ms : List (PacketMetadata H)) (bs : List ℕ) (at room : ℕ) → AreLaid at room ms → packets_of 0 ms bs ≡ [] → ms ≡ []
   packets_of-nil ms bs at room h e = nil_from_length ms (sym (used_places-packets_of ms bs at room h) ∙ ap used_places e)
+
+  -- entries behind others account for the bytes of both
+  pub size_of-append : (ms es : List (PacketMetadata H)) → size_of (ms ++ es) ≡ size_of ms + size_of es
+  size_of-append [] es = omega arith
+  size_of-append (m ∷ ms) es = omega (arith, size_of-append ms es)
+
+  BeginsWithPacket-append : (ms es : List (PacketMetadata H)) → BeginsWithPacket ms → BeginsWithPacket (ms ++ es)
+  BeginsWithPacket-append [] es h = absurd h
+  BeginsWithPacket-append (m ∷ ms) es h = h
+
+  IsPadding-append : (n : ℕ) (header : Option H) (ms es : List (PacketMetadata H)) → IsPadding (entry n header) ms → IsPadding (entry n header) (ms ++ es)
+  IsPadding-append n None ms es h = (h.0, BeginsWithPacket-append ms es h.1)
+  IsPadding-append n (Some x) ms es h = tt
+
+  -- entries that are laid behind others
+  pub AreLaid-append : (ms es : List (PacketMetadata H)) (at room : ℕ) → at % room ≡ at → AreLaid at room ms → AreLaid ((at + size_of ms) % room) room es → AreLaid at room (ms ++ es)
+  AreLaid-append [] es at room e h t =
+      let here : (at + 0) % room ≡ at = ap (λ n. n % room) (add-zero at) ∙ e in
+      rw here at t
+  AreLaid-append (m ∷ ms) es at room e h t =
+      let next : (at + (m.size + size_of ms)) % room ≡ ((at + m.size) % room + size_of ms) % room =
+      sym (mod-add-mod (at + m.size) room (size_of ms) ∙ ap (λ n. n % room) (add_assoc at m.size (size_of ms))) in
+      (h.0, IsPadding-append m.size m.header ms es h.1, AreLaid-append ms es ((at + m.size) % room) room (mod-mod (at + m.size) room) h.2 (rw next at t))
+
+  -- entries of no bytes, wherever they begin
+  pub AreLaid-from_zero : (ms : List (PacketMetadata H)) (at room : ℕ) → AreLaid at room ms → size_of ms ≡ 0 → AreLaid 0 room ms
+  AreLaid-from_zero [] at room h e = tt
+  AreLaid-from_zero (m ∷ ms) at room h e =
+      let none : 0 + m.size ≡ 0 = omega (arith, e) in
+      let next : (0 + m.size) % room ≡ 0 = ap (λ n. n % room) none ∙ zero-mod room in
+      (omega (arith, none), h.1, rw next (AreLaid-from_zero ms ((at + m.size) % room) room h.2 (omega (arith, e))))
+
+  append-step : (n : ℕ) (header : Option H) (ms es : List (PacketMetadata H)) (bs cs : List ℕ) (skipped at room : ℕ) → AreLaid at room (entry n header ∷ ms) → n ≤ length bs → ((s : ℕ) → ((s ≡ 0) ⊎ BeginsWithPacket ms) → packets_of s (ms ++ es) (drop n bs ++ cs) ≡ packets_of s ms (drop n bs) ++ packets_of 0 es cs) → ((skipped ≡ 0) ⊎ IsSome header) → packets_of skipped (entry n header ∷ (ms ++ es)) (bs ++ cs) ≡ packets_of skipped (entry n header ∷ ms) bs ++ packets_of 0 es cs
+  append-step n None ms es bs cs skipped at room h fits ih way =
+      ap (λ xs. packets_of (skipped + n) (ms ++ es) xs) (drop-append-le n bs cs fits) ∙ ih (skipped + n) (inr h.1.1)
+  append-step n (Some x) ms es bs cs skipped at room h fits ih way =
+      rw (drop-append-le n bs cs fits, take-append-le n bs cs fits) (ap (λ ps. packet skipped x (take n bs) ∷ ps) (ih 0 (inl refl)))
+
+  -- packets behind others
+  packets_of-behind : (ms es : List (PacketMetadata H)) (bs cs : List ℕ) (skipped at room : ℕ) → AreLaid at room ms → size_of ms ≡ length bs → ((skipped ≡ 0) ⊎ BeginsWithPacket ms) → packets_of skipped (ms ++ es) (bs ++ cs) ≡ packets_of skipped ms bs ++ packets_of 0 es cs
+  packets_of-behind [] es bs cs skipped at room h e way = elim way [
+    | inl z ↦ let none : bs ≡ [] = nil_from_length bs (sym e) in rw (none, z) refl
+    | inr x ↦ absurd x
+  ]
+  packets_of-behind (m ∷ ms) es bs cs skipped at room h e way =
+      append-step m.size m.header ms es bs cs skipped at room h (omega (arith, e)) (λ s w. packets_of-behind ms es (drop m.size bs) cs s ((at + m.size) % room) room h.2 (omega (arith, e, length-drop m.size bs)) w) way
+
+  pub packets_of-append : (ms es : List (PacketMetadata H)) (bs cs : List ℕ) (at room : ℕ) → AreLaid at room ms → size_of ms ≡ length bs → packets_of 0 (ms ++ es) (bs ++ cs) ≡ packets_of 0 ms bs ++ packets_of 0 es cs
+  packets_of-append ms es bs cs at room h e = packets_of-behind ms es bs cs 0 at room h e (inl refl)
+
+  -- the entries of a new packet
+  abbrev pub entries_for : ℕ → ℕ → H → List (PacketMetadata H)
+  entries_for padding size header =
+      if padding == 0 then entry size (Some header) ∷ []
+      else entry padding None ∷ entry size (Some header) ∷ []
+
+  pub AreLaid-entries_for : (padding size : ℕ) (header : H) (at room : ℕ) → (padding ≡ 0 → at + size ≤ room) → (0 < padding → (at + padding ≡ room) × (size ≤ room)) → AreLaid at room (entries_for padding size header)
+  AreLaid-entries_for padding size header at room whole wrapped = elim (eqb_tells padding 0) [
+    | inl none ↦ rw none.0 (whole none.1, tt, tt)
+    | inr some ↦ let w = wrapped (omega (arith, some.1)) in
+        let start : (at + padding) % room ≡ 0 = ap (λ n. n % room) w.0 ∙ mod_self room in
+        rw (some.0, start) (omega (arith, w.0), (omega (arith, some.1), refl), (omega (arith, w.1), tt, tt))
+  ]
+
+  pub size_of-entries_for : (padding size : ℕ) (header : H) → size_of (entries_for padding size header) ≡ padding + size
+  size_of-entries_for padding size header = elim (eqb_tells padding 0) [
+    | inl none ↦ rw none.0 (omega (arith, none.1))
+    | inr some ↦ rw some.0 (omega arith)
+  ]
+
+  pub packets_of-entries_for : (padding size : ℕ) (header : H) (ps cs : List ℕ) → length ps ≡ padding → length cs ≡ size → packets_of 0 (entries_for padding size header) (ps ++ cs) ≡ packet padding header cs ∷ []
+  packets_of-entries_for padding size header ps cs long whole =
+      let all : take size cs ≡ cs = take_all size cs (omega (arith, whole)) in
+      elim (eqb_tells padding 0) [
+        | inl none ↦ let nil : ps ≡ [] = nil_from_length ps (long ∙ none.1) in rw (none.0, nil, all, none.1) refl
+        | inr some ↦ rw (some.0, drop_at ps cs padding long, all) (ap (λ n. packet n header cs ∷ []) (zero-add padding))
+      ]

@@ -1,10 +1,17 @@
 -- How a `PacketBuffer` keeps its packets: an entry for each packet and for each padding, and the bytes of all in a ring.
-use Rattle.std.specs.Prelude.{◌≡◌, ℕ, ◌+◌, ◌%◌, ◌<◌, ◌≤◌, List, [], ◌∷◌, length, take, drop, None, Some, IsSome}
-use Rattle.net_containers.specs.Ring.{Ring, capacity}
+use Rattle.std.specs.Prelude.{◌≡◌, ℕ, ◌+◌, ◌%◌, ◌<◌, ◌≤◌, ◌==◌, if◌then◌else◌, List, [], ◌∷◌, length, take, drop, Option, None, Some, IsSome}
+use Rattle.net_containers.specs.Ring.{Ring, capacity, enqueued, IsPlaced}
 use Rattle.net_containers.specs.Packets.{Packet, Packets, packet, packets_in}
 use Rattle.net_containers.specs.declared.packet_buffer.PacketMetadata.{PacketMetadata}
 
 module _ {H : Type 0} where
+  abbrev pub entry : ℕ → Option H → PacketMetadata H
+  entry size header = record { size = size; header = header }
+
+  -- behind the entries, one for so much padding, if there is any
+  abbrev pub padded : Ring (PacketMetadata H) → ℕ → Ring (PacketMetadata H)
+  padded metadata size = if size == 0 then metadata else enqueued metadata (entry size None ∷ [])
+
   -- the packets, where so much padding was passed
   abbrev pub packets_of : ℕ → List (PacketMetadata H) → List ℕ → List (Packet H)
   packets_of skipped [] bytes = []
@@ -12,6 +19,11 @@ module _ {H : Type 0} where
     | None ↦ packets_of (skipped + m.size) ms (drop m.size bytes)
     | Some h ↦ packet skipped h (take m.size bytes) ∷ packets_of 0 ms (drop m.size bytes)
   ]
+
+  -- the padding that comes first
+  abbrev pub padding_first : List (PacketMetadata H) → ℕ
+  padding_first [] = 0
+  padding_first (m ∷ ms) = elim m.header as (λ _. ℕ) [ None ↦ m.size | Some h ↦ 0 ]
 
   abbrev pub BeginsWithPacket : List (PacketMetadata H) → Type 0
   BeginsWithPacket [] = ⊥
@@ -33,6 +45,7 @@ module _ {H : Type 0} where
 
   -- the entries account for the queued bytes
   pub record AreEntries (metadata : Ring (PacketMetadata H)) (payload : Ring ℕ) : Type 0 where
+    pub placed : IsPlaced payload
     pub laid : AreLaid payload.start (capacity payload) metadata.queue
     pub sizes : size_of metadata.queue ≡ length payload.queue
 

@@ -3,6 +3,8 @@ pub mod AssemblerEq
 pub mod Contigs
 pub mod Entries
 pub mod ManagedSlice
+pub mod PacketCalls
+pub mod PacketLends
 pub mod Packets
 pub mod Ring
 pub mod RingLends

@@ -1,5 +1,5 @@
 -- What a contract sees of a `PacketBuffer`.
-use Rattle.std.specs.Prelude.{ℕ, ◌+◌, ◌-◌, ◌%◌, ◌==◌, nat_lt, nat_le, ◌&&◌, ◌||◌, Bool, if◌then◌else◌, min, List, [], ◌∷◌, ◌++◌, length, drop, refl}
+use Rattle.std.specs.Prelude.{ℕ, ◌+◌, ◌-◌, ◌%◌, ◌==◌, nat_lt, nat_le, ◌&&◌, ◌||◌, Bool, if◌then◌else◌, min, List, [], ◌∷◌, ◌++◌, length, drop, map, Option, None, Some, refl}
 use Rattle.std.specs.Coded.{Coded, code_by, coded×, coded_list, coded_ℕ}
 
 -- A packet in its place. `padding` counts the bytes that were skipped before it at the end of the storage.
@@ -30,6 +30,10 @@ module _ {H : Type 0} where
   abbrev pub packets_code : Coded H → Coded (Packets H)
   packets_code c =
       code_by (List (Packet H) × (ℕ × (ℕ × ℕ))) (coded× (coded_list (packet_code c)) (coded× coded_ℕ (coded× coded_ℕ coded_ℕ))) (λ q. (q.packets, (q.start, (q.places, q.room)))) (λ p. packets_in p.0 p.1.0 p.1.1.0 p.1.1.1) (λ _. refl)
+
+  -- the headers and bytes in order, without their places
+  abbrev pub contents : Packets H → List (H × List ℕ)
+  contents q = map (λ p. (p.header, p.bytes)) q.packets
 
   -- the entries that a packet takes: padding has one of its own
   abbrev pub entries : Packet H → ℕ
@@ -82,6 +86,14 @@ module _ {H : Type 0} where
   -- the padding before the first packet given up
   abbrev pub unpadded : Packets H → Packets H
   unpadded q = unpadded_by q.packets q
+
+  abbrev pub first_by : List (Packet H) → Option (H × List ℕ)
+  first_by [] = None
+  first_by (p ∷ ps) = Some (p.header, p.bytes)
+
+  -- the first packet's header and bytes
+  abbrev pub first : Packets H → Option (H × List ℕ)
+  first q = first_by q.packets
 
   abbrev pub without_first_by : List (Packet H) → Packets H → Packets H
   without_first_by [] q = q

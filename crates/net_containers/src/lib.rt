@@ -2,6 +2,7 @@
 #![tactic(auto)]
 
 mod assembler;
+pub mod laws;
 mod managed;
 mod packet_buffer;
 mod ring_buffer;

@@ -138,7 +138,7 @@ impl<T> RingBuffer<T> {
     }
 
     /// Lends the elements from `offset` on, counted from the read place.
-    fn part_mut(&mut self, offset: usize, size: usize) -> &mut [T]
+    pub(crate) fn part_mut(&mut self, offset: usize, size: usize) -> &mut [T]
         requires within { offset + size ≤ capacity self.old }
         requires unbroken { size ≤ until_end self.old offset }
         ensures* lends { sem 𝓛 (LendsFrom T.row self.entry result self.old offset) }
@@ -195,7 +195,7 @@ impl<T> RingBuffer<T> {
     ghost use Rattle.net_containers.specs.RingLends.{LendsFrom, LendsAt, LendsEnqueued, LendsDequeued};
 
     /// An empty ring is read from the storage's first place on.
-    fn anchor(&mut self)
+    pub(crate) fn anchor(&mut self)
         ensures { self.new ≡ anchored self.old }
     {
         if self.is_empty() {
@@ -362,12 +362,23 @@ impl<T> RingBuffer<T> {
     }
 
     /// Lends the first queued element.
-    fn first_mut(&mut self) -> &mut T
+    pub(crate) fn first_mut(&mut self) -> &mut T
         requires { 0 < length self.old.queue }
         ensures* lends { sem 𝓛 (LendsFirst T.row self.entry result) }
         ensures value { slice_get self.old.queue 0 ≡ Some result.now }
     {
         self.element_mut(0)
+    }
+
+    /// Queues the element.
+    pub(crate) fn push(&mut self, element: T)
+    where
+        T: Drop,
+        requires { 0 < length self.old.free }
+        ensures { self.new ≡ enqueued self.old (element ∷ []) }
+    {
+        *self.next_mut() = element;
+        self.enqueue_unallocated(1);
     }
 
     /// Queues the next free element and lends it for writing.
