@@ -1,5 +1,12 @@
 pub mod Sums
+pub mod Covered
+pub mod Puts
+pub mod Numbers
+pub mod Orders
 pub mod Masks
 pub mod Blocks
 pub mod Texts
+pub mod Ipv6Texts
+pub mod Families
+pub mod OneReading
 pub mod Printed

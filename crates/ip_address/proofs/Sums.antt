@@ -25,6 +25,13 @@ folded-folded (suc n) c =
 pub folded-alike : (a b c : ℕ) → folded a ≡ folded b → folded (a + c) ≡ folded (b + c)
 folded-alike a b c same = sym (folded-folded a c) ∙ ap (λ x. folded (x + c)) same ∙ folded-folded b c
 
+-- two sums that fold alike stay alike beside others that do
+pub folded-both : (a b c d : ℕ) → folded a ≡ folded b → folded c ≡ folded d → folded (a + c) ≡ folded (b + d)
+folded-both a b c d first second =
+    let turned : a + c ≡ c + a = omega arith in
+    let back : d + a ≡ a + d = omega arith in
+    ap folded turned ∙ folded-alike c d a second ∙ ap folded back ∙ folded-alike a b d first
+
 -- low bytes first, times 256, folds as the words do
 pub folded-low_first : (bytes : List ℕ) → folded (256 * low_first bytes) ≡ folded (word_sum bytes)
 folded-low_first [] = refl
@@ -45,10 +52,27 @@ word_sum-append (b ∷ c ∷ front) back even =
     let rest : word_sum (front ++ back) ≡ word_sum front + word_sum back = word_sum-append front back (omega arith) in
     omega arith
 
+-- four bytes as the number that they make with the least significant first
+from_le_bytes_4-low_first : (bytes : List ℕ) → length bytes ≡ 4 → from_le_bytes w32 bytes ≡ low_first bytes
+from_le_bytes_4-low_first (a ∷ b ∷ c ∷ d ∷ []) len = omega arith
+from_le_bytes_4-low_first _ len = absurd (omega arith)
+
 -- eight bytes as the number that they make with the least significant first
 pub from_le_bytes-low_first : (bytes : List ℕ) → length bytes ≡ 8 → from_le_bytes w64 bytes ≡ low_first bytes
 from_le_bytes-low_first (a ∷ b ∷ c ∷ d ∷ e ∷ f ∷ g ∷ h ∷ []) len = omega arith
 from_le_bytes-low_first _ len = absurd (omega arith)
+
+-- the first four bytes added to the rest, which are again low bytes first
+pub low_first-fours : (x y : ℕ) (front bytes tail : List ℕ) → x ≡ from_le_bytes w32 front → y ≡ low_first tail → front ≡ take 4 bytes → tail ≡ drop 4 bytes → length tail + 4 ≡ length bytes
+    → folded (256 * (x + y)) ≡ folded (word_sum bytes)
+low_first-fours x y front bytes tail first second taken left len =
+    let joined : front ++ tail ≡ bytes = rw (taken, left) (take-append-drop 4 bytes) in
+    let four : length front ≡ 4 = let e : length (front ++ tail) ≡ length bytes = ap length joined in omega (arith, length-append front tail) in
+    let number : x ≡ low_first front = first ∙ from_le_bytes_4-low_first front four in
+    let split : word_sum (front ++ tail) ≡ word_sum front + word_sum tail = word_sum-append front tail (rw four refl) in
+    let sums : word_sum front + word_sum tail ≡ word_sum bytes = sym split ∙ ap word_sum joined in
+    let parts : 256 * (x + y) ≡ 256 * low_first front + 256 * low_first tail = omega arith in
+    ap folded parts ∙ folded-both _ _ _ _ (folded-low_first front) (folded-low_first tail) ∙ ap folded sums
 
 -- a step of the sum over the first eight bytes of the rest
 pub low_first-step : (total x : ℕ) (front rest tail : List ℕ) (all : ℕ) → x ≡ from_le_bytes w64 front → front ≡ take 8 rest → tail ≡ drop 8 rest → length tail + 8 ≡ length rest
@@ -66,20 +90,13 @@ low_first-step total x front rest tail all is first last len before =
     ∙ ap folded right ∙ before
 
 -- the last step, over fewer than eight bytes
-pub low_first-last : (total x : ℕ) (rest : List ℕ) (all : ℕ) → x ≡ low_first rest
+pub low_first-last : (total x : ℕ) (rest : List ℕ) (all : ℕ) → folded (256 * x) ≡ folded (word_sum rest)
     → folded (256 * total + word_sum rest) ≡ all → folded (256 * (total + x)) ≡ all
 low_first-last total x rest all is before =
-    let left : 256 * (total + x) ≡ 256 * low_first rest + 256 * total = omega arith in
+    let left : 256 * (total + x) ≡ 256 * x + 256 * total = omega arith in
     let right : word_sum rest + 256 * total ≡ 256 * total + word_sum rest = omega arith in
-    ap folded left ∙ folded-alike (256 * low_first rest) (word_sum rest) (256 * total) (folded-low_first rest)
+    ap folded left ∙ folded-alike (256 * x) (word_sum rest) (256 * total) is
     ∙ ap folded right ∙ before
-
--- two sums that fold alike stay alike beside others that do
-pub folded-both : (a b c d : ℕ) → folded a ≡ folded b → folded c ≡ folded d → folded (a + c) ≡ folded (b + d)
-folded-both a b c d first second =
-    let turned : a + c ≡ c + a = omega arith in
-    let back : d + a ≡ a + d = omega arith in
-    ap folded turned ∙ folded-alike c d a second ∙ ap folded back ∙ folded-alike a b d first
 
 -- a sum that folds to 65535 is a positive multiple of 65535, and only such a sum does
 pub ChecksumHolds-folded : (n : ℕ) → (folded n ≡ 65535) ↔ ChecksumHolds n

@@ -1,18 +1,15 @@
 -- Laws of the texts of addresses.
-use Rattle.std.proofs.Common.{◌≡◌, ◌≢◌, ℕ, ◌<◌, ◌≤◌, ◌⊎◌, inl, inr, Bool, true, false, List, [], ◌∷◌, ◌++◌, length, zero, suc, sym, refl, ◌∙◌, append_assoc, ap, arith, get_or, subst, decimal, Option, Some, None, Result, Ok}
-use Rattle.std.specs.Prelude.{MatchOption, IfSome, IsSomeAnd, IfOk, IsOkAnd}
+use Rattle.std.proofs.Common.{◌≡◌, ◌≢◌, ℕ, ◌+◌, ◌<◌, ◌≤◌, ◌⊎◌, inl, inr, List, [], ◌∷◌, ◌++◌, length, zero, suc, sym, refl, ◌∙◌, ap, ap₂, arith, get_or, subst, take, drop, take-append-drop, Option, Some, None, Result, Ok}
+use Rattle.std.specs.Prelude.{MatchOption, MatchResult, IsSome, IfSome, IsSomeAnd, IsOk, IfOk, IsOkAnd, IsUtf8, Err}
+use Rattle.std.specs.Str.{IsAscii}
+use Rattle.std.proofs.lemmas.Str.{IsUtf8-from_ascii}
 use Rattle.std.specs.Option.{ok_or}
 use Rattle.std.specs.Borrow.{Bor}
 use Rattle.std.specs.Char.{digit_value}
 use Rattle.std.specs.Str.Parse.{AllDigits}
-use Rattle.std.proofs.lemmas.Fmt.{decimal_is_IsNumeral}
-use Rattle.std.specs.Net.Grammar.{IsDotted, IsGroupsAfter, IsColonHex}
-use Rattle.ip_address.specs.Text.{Reads, Lacks, IsCut, IsOctetBefore, IsDottedText, IsHexPair, IsHexPairBefore, IsSixPairs, IsIpText, IsIpv4Text, IsIpv6Text, IsIpv4EndpointText, IsIpv6EndpointText, IsAddressAndPort}
-use Rattle.std.specs.Net.Addr.{segments_of}
-use Rattle.ip_address.specs.declared.ip.IpAddress.{IpAddress}
-use Rattle.ip_address.specs.declared.ip.IpAddress.TheVariants as Ip
-use Rattle.ip_address.specs.declared.ipv4.Ipv4Address.{Ipv4Address}
-use Rattle.ip_address.specs.declared.ipv6.Ipv6Address.{Ipv6Address}
+use Rattle.std.specs.Str.Pattern.{RFindsChar}
+use Rattle.std.proofs.lemmas.Str.Pattern.{drop_at_char, NoCharPasses-char}
+use Rattle.ip_address.specs.Text.{Reads, Lacks, IsCut, IsCutAtLast, IsOctetBefore, IsDottedText, IsHexPair, IsHexPairBefore, IsSixPairs}
 
 -- digits lack what is no digit
 pub Lacks-digits : (radix byte : ℕ) (text : List ℕ) → AllDigits radix text → radix ≤ digit_value byte → Lacks text byte
@@ -30,6 +27,21 @@ pub Lacks-append : (byte : ℕ) (front back : List ℕ) → Lacks front byte →
 Lacks-append byte [] back first second = second
 Lacks-append byte (b ∷ front) back first second =
     Lacks-cons byte b (front ++ back) (first 0 (omega arith)) (Lacks-append byte front back (λ i less. first (suc i) (omega arith)) second)
+
+-- what joined texts lack, each of them lacks
+pub Lacks-front : (byte : ℕ) (front back : List ℕ) → Lacks (front ++ back) byte → Lacks front byte
+Lacks-front byte [] back lacks i less = absurd (omega arith)
+Lacks-front byte (b ∷ front) back lacks zero less = lacks 0 (omega arith)
+Lacks-front byte (b ∷ front) back lacks (suc i) less = Lacks-front byte front back (λ j l. lacks (suc j) (omega arith)) i (omega arith)
+
+pub Lacks-back : (byte : ℕ) (front back : List ℕ) → Lacks (front ++ back) byte → Lacks back byte
+Lacks-back byte [] back lacks = lacks
+Lacks-back byte (b ∷ front) back lacks = Lacks-back byte front back (λ j l. lacks (suc j) (omega arith))
+
+-- a text that has a byte does not lack it
+pub Lacks-joined : (byte : ℕ) (front back : List ℕ) → Lacks (front ++ byte ∷ back) byte → ⊥
+Lacks-joined byte [] back lacks = lacks 0 (omega arith) refl
+Lacks-joined byte (b ∷ front) back lacks = Lacks-joined byte front back (λ i less. lacks (suc i) (omega arith))
 
 -- an octet and a dot
 Lacks-octet_before : (byte : ℕ) (text : List ℕ) (n : ℕ) (rest : List ℕ) → 10 ≤ digit_value byte → 46 ≢ byte → IsOctetBefore text n rest → Lacks rest byte → Lacks text byte
@@ -63,6 +75,52 @@ pub IsSomeAnd-parts : (front back : List ℕ) (r : Parts) → MatchOption r ⊥ 
 IsSomeAnd-parts front back None h = h
 IsSomeAnd-parts front back (Some p) h = h
 
+-- the parts at the last place of a byte are determined
+pub IsCutAtLast-unique : (byte : ℕ) (front back first second : List ℕ) → front ++ byte ∷ back ≡ first ++ byte ∷ second → Lacks back byte → Lacks second byte → (front ≡ first) × (back ≡ second)
+IsCutAtLast-unique byte [] back [] second same lacks other = (refl, cc)
+IsCutAtLast-unique byte [] back (b ∷ first) second same lacks other =
+    let P : List ℕ → Type 0 = λ t. Lacks t byte in
+    let tail : back ≡ first ++ byte ∷ second = cc in
+    absurd (Lacks-joined byte first second (subst P tail lacks))
+IsCutAtLast-unique byte (a ∷ front) back [] second same lacks other =
+    let P : List ℕ → Type 0 = λ t. Lacks t byte in
+    let tail : second ≡ front ++ byte ∷ back = cc in
+    absurd (Lacks-joined byte front back (subst P tail other))
+IsCutAtLast-unique byte (a ∷ front) back (b ∷ first) second same lacks other =
+    let tail : front ++ byte ∷ back ≡ first ++ byte ∷ second = cc in
+    let both = IsCutAtLast-unique byte front back first second tail lacks other in
+    let head : a ≡ b = cc in
+    (ap₂ ◌∷◌ head both.0, both.1)
+
+-- the parts that `rsplit_once` gives at a character
+abbrev pub IsRsplitOnceResult : ℕ → List ℕ → Parts → Type 0
+IsRsplitOnceResult c bs r =
+    MatchOption r (RFindsChar c bs None)
+    (λ x. (i : ℕ) × (j : ℕ) × RFindsChar c bs (Some (i, j)) × (x.0.now ≡ take i bs) × (x.1.now ≡ drop j bs) × (i ≤ j) × (length x.0.now ≡ i) × (length x.1.now + j ≡ length bs))
+
+-- they are a cut at the last such byte
+pub IsCutAtLast-parts : (byte : ℕ) (text : List ℕ) (r : Parts) → IsRsplitOnceResult byte text r → byte < 128 → IfSome r (λ p. IsCutAtLast byte text p.0.now p.1.now)
+IsCutAtLast-parts byte text None h small = tt
+IsCutAtLast-parts byte text (Some p) h small =
+    let i : ℕ = h.0 in
+    let j : ℕ = h.1 in
+    let at : drop i text ≡ byte ∷ drop j text = drop_at_char byte text i j h.2.1 small in
+    let P : List ℕ → Type 0 = λ t. Lacks t byte in
+    record {
+      joined = sym (take-append-drop i text) ∙ ap (λ t. take i text ++ t) at ∙ sym (ap₂ (λ f b. f ++ byte ∷ b) h.3 h.4);
+      last = subst P (sym h.4) (λ k less. NoCharPasses-char byte (drop j text) k h.2.0 small less);
+    }
+
+-- and the only one
+pub IsCutAtLast-only : (byte : ℕ) (text front back : List ℕ) (r : Parts) → IsRsplitOnceResult byte text r → byte < 128 → IsCutAtLast byte text front back
+    → IsSomeAnd r (λ p. (p.0.now ≡ front) × (p.1.now ≡ back))
+IsCutAtLast-only byte text front back None h small cut =
+    let P : List ℕ → Type 0 = λ t. Lacks t byte in
+    absurd (Lacks-joined byte front back (subst P cut.joined (λ k less. NoCharPasses-char byte text k h small less)))
+IsCutAtLast-only byte text front back (Some p) h small cut =
+    let own = IsCutAtLast-parts byte text (Some p) h small in
+    IsCutAtLast-unique byte p.0.now p.1.now front back (sym own.joined ∙ cut.joined) own.last cut.last
+
 -- a reader that makes an error of `None`
 pub Reads-ok_or : {A E : Type 0} (IsTextOf : List ℕ → A → Type 0) (text : List ℕ) (o : Option A) (e : E) (r : Result A E) → r ≡ ok_or o e
     → IfSome o (IsTextOf text) → ((a : A) → IsTextOf text a → o ≡ Some a) → Reads IsTextOf text r
@@ -88,11 +146,6 @@ ReadsBlock-ok_or {A} {B} {E} IsTextOf address len (Some x) e r is found only =
 pub IfSome-map : {A : Type 0} (P Q : A → Type 0) (o : Option A) → ((a : A) → P a → Q a) → IfSome o P → IfSome o Q
 IfSome-map P Q None step h = tt
 IfSome-map P Q (Some a) step h = step a h
-
--- a text that has a byte does not lack it
-Lacks-joined : (byte : ℕ) (front back : List ℕ) → Lacks (front ++ byte ∷ back) byte → ⊥
-Lacks-joined byte [] back lacks = lacks 0 (omega arith) refl
-Lacks-joined byte (b ∷ front) back lacks = Lacks-joined byte front back (λ i less. lacks (suc i) (omega arith))
 
 -- the separators of Ethernet addresses are no hex digits
 separator-other : (separator : ℕ) → (separator ≡ 45) ⊎ (separator ≡ 58) → 16 ≤ digit_value separator
@@ -121,100 +174,12 @@ IsSixPairs-apart text octets others h k =
     let P : List ℕ → Type 0 = λ t. Lacks t 45 in
     Lacks-joined 45 h.first.0 h.after_a (subst P h.first.1 (Lacks-six text others k))
 
--- a decimal number has digits alone
-Lacks-decimal : (byte n : ℕ) → 16 ≤ digit_value byte → n < 256 → Lacks (decimal n) byte
-Lacks-decimal byte n other small = Lacks-digits 10 byte (decimal n) (decimal_is_IsNumeral n (omega arith)).0.1 (omega arith)
+-- bytes of ASCII are a text
+pub IsOk-ascii : {A E : Type 0} (bytes : List ℕ) (P : A → Type 0) (Q : E → Type 0) (r : Result A E) → MatchResult r P (λ e. ¬ (IsUtf8 bytes) × Q e) → IsAscii bytes → IsOk r
+IsOk-ascii bytes P Q (Ok x) h ascii = refl
+IsOk-ascii bytes P Q (Err e) h ascii = absurd (h.0 (IsUtf8-from_ascii bytes ascii))
 
--- the IPv4 address at the end of an IPv6 address
-Lacks-tail : (byte : ℕ) (text octets : List ℕ) → 16 ≤ digit_value byte → 46 ≢ byte → IsDotted text octets → Lacks text byte
-Lacks-tail byte text octets other dot h =
-    let P : List ℕ → Type 0 = λ t. Lacks t byte in
-    let point : Lacks (46 ∷ []) byte = Lacks-cons byte 46 [] dot (λ i less. absurd (omega arith)) in
-    subst P (sym h.spelled)
-    (Lacks-append byte _ (decimal h.d) (Lacks-append byte _ (46 ∷ []) (Lacks-append byte _ (decimal h.c) (Lacks-append byte _ (46 ∷ []) (Lacks-append byte _ (decimal h.b) (Lacks-append byte (decimal h.a) (46 ∷ [])
-    (Lacks-decimal byte h.a other h.fit.0) point) (Lacks-decimal byte h.b other h.fit.1)) point) (Lacks-decimal byte h.c other h.fit.2)) point) (Lacks-decimal byte h.d other h.fit.3))
-
--- groups of hex digits with colons between them
-Lacks-groups : (byte : ℕ) (ipv4 : Bool) (lead text segments : List ℕ) → 16 ≤ digit_value byte → 46 ≢ byte → 58 ≢ byte → Lacks lead byte → IsGroupsAfter ipv4 lead text segments → Lacks text byte
-Lacks-groups byte ipv4 lead text [] other dot colon before h = let P : List ℕ → Type 0 = λ t. Lacks t byte in subst P (sym h) (λ i less. absurd (omega arith))
-Lacks-groups byte ipv4 lead text (s ∷ segments) other dot colon before h =
-    let P : List ℕ → Type 0 = λ t. Lacks t byte in
-    elim h [
-      | inl g ↦ subst P (sym g.2) (Lacks-append byte (lead ++ g.0) g.1 (Lacks-append byte lead g.0 before (Lacks-digits 16 byte g.0 g.3.0.0.1 other))
-          (Lacks-groups byte ipv4 (58 ∷ []) g.1 segments other dot colon (Lacks-cons byte 58 [] colon (λ i less. absurd (omega arith))) g.4))
-      | inr d ↦ subst P (sym d.3) (Lacks-append byte lead d.0 before (Lacks-tail byte d.0 d.1 other dot d.4))
-    ]
-
--- an IPv6 address has hex digits, colons and dots alone
-pub Lacks-colon_hex : (byte : ℕ) (text segments : List ℕ) → 16 ≤ digit_value byte → 46 ≢ byte → 58 ≢ byte → IsColonHex text segments → Lacks text byte
-Lacks-colon_hex byte text segments other dot colon h =
-    let P : List ℕ → Type 0 = λ t. Lacks t byte in
-    let none : Lacks [] byte = λ i less. absurd (omega arith) in
-    elim h [
-      | inl g ↦ Lacks-groups byte true [] text segments other dot colon none g.0
-      | inr e ↦ subst P (sym e.spelled) (Lacks-append byte _ e.tail_text (Lacks-append byte e.head_text (58 ∷ 58 ∷ []) (Lacks-groups byte false [] e.head_text e.head other dot colon none e.head_groups)
-          (Lacks-cons byte 58 (58 ∷ []) colon (Lacks-cons byte 58 [] colon none))) (Lacks-groups byte true [] e.tail_text e.tail other dot colon none e.tail_groups))
-    ]
-
--- an address of either family has no slash
-pub Lacks-slash : (text : List ℕ) (a : IpAddress) → IsIpText text a → Lacks text 47
-Lacks-slash text (Ip.Ipv4 a) h = Lacks-dotted 47 text a.0 (omega arith) (λ e. omega arith) h
-Lacks-slash text (Ip.Ipv6 a) h = Lacks-colon_hex 47 text h.0 (omega arith) (λ e. omega arith) (λ e. omega arith) h.1
-
--- groups after a colon begin with it
-groups-colon : (ipv4 : Bool) (text : List ℕ) (s : ℕ) (segments : List ℕ) → IsGroupsAfter ipv4 (58 ∷ []) text (s ∷ segments) → (rest : List ℕ) × (text ≡ 58 ∷ rest)
-groups-colon ipv4 text s segments h = elim h [ inl g ↦ (g.0 ++ g.1, g.2) | inr d ↦ (d.0, d.3) ]
-
--- eight groups have a colon between them
-colon-groups : (text segments : List ℕ) → IsGroupsAfter true [] text segments → length segments ≡ 8 → Lacks text 58 → ⊥
-colon-groups text [] h eight lacks = absurd (omega arith)
-colon-groups text (s ∷ []) h eight lacks = absurd (omega arith)
-colon-groups text (s ∷ t ∷ segments) h eight lacks =
-    let P : List ℕ → Type 0 = λ x. Lacks x 58 in
-    elim h [
-      | inl g ↦ (let k = groups-colon true g.1 t segments g.4 in Lacks-joined 58 g.0 k.0 (subst P (g.2 ∙ ap (λ x. g.0 ++ x) k.1) lacks))
-      | inr d ↦ (let two : length (s ∷ t ∷ segments) ≡ 2 = ap length (d.5 ∙ ap segments_of d.4.value) in absurd (omega arith))
-    ]
-
--- an IPv6 address has a colon
-Lacks-colon : (text segments : List ℕ) → IsColonHex text segments → Lacks text 58 → ⊥
-Lacks-colon text segments h lacks =
-    let P : List ℕ → Type 0 = λ x. Lacks x 58 in
-    elim h [
-      | inl g ↦ colon-groups text segments g.0 g.1 lacks
-      | inr e ↦ Lacks-joined 58 e.head_text (58 ∷ e.tail_text) (subst P (e.spelled ∙ append_assoc e.head_text (58 ∷ 58 ∷ []) e.tail_text) lacks)
-    ]
-
--- no text is an address of both families
-pub IsIpText-apart : (text : List ℕ) (a : Ipv4Address) (b : Ipv6Address) → IsIpv4Text text a → IsIpv6Text text b → ⊥
-IsIpText-apart text a b h k = Lacks-colon text k.0 k.1 (Lacks-dotted 58 text a.0 (omega arith) (λ e. omega arith) h)
-
--- no text is an endpoint of both families
-pub IsEndpointText-apart : (text : List ℕ) (a : Ipv4Address) (port : ℕ) (b : Ipv6Address) (other : ℕ) → IsIpv4EndpointText text a port → IsIpv6EndpointText text b other → ⊥
-IsEndpointText-apart text a port b other h k =
-    let P : List ℕ → Type 0 = λ t. Lacks t 91 in
-    let lacks : Lacks text 91 =
-    subst P (sym h.spelled) (Lacks-append 91 h.address (58 ∷ h.digits) (Lacks-dotted 91 h.address a.0 (omega arith) (λ e. omega arith) h.of_address)
-    (Lacks-cons 91 58 h.digits (λ e. omega arith) (Lacks-digits 10 91 h.digits h.of_port.0.0.1 (omega arith)))) in
-    Lacks-joined 91 [] (k.address ++ 93 ∷ 58 ∷ k.digits) (subst P k.spelled lacks)
-
--- reading an address of either family: an IPv4 address was read
-pub ip_v4 : (text : List ℕ) (x : Ipv4Address) → IsIpv4Text text x → ((y : Ipv4Address) → IsIpv4Text text y → Some x ≡ Some y) → (a : IpAddress) → IsIpText text a → Some (Ip.Ipv4 x) ≡ Some a
-ip_v4 text x found only (Ip.Ipv4 y) h = ap (λ z. Some (Ip.Ipv4 z)) (some_inside x y (only y h))
-ip_v4 text x found only (Ip.Ipv6 y) h = absurd (IsIpText-apart text x y found h)
-
--- no IPv4 address was read, and an IPv6 address was
-pub ip_v6 : (text : List ℕ) (x : Ipv6Address) → ((y : Ipv4Address) → IsIpv4Text text y → None ≡ Some y) → ((y : Ipv6Address) → IsIpv6Text text y → Some x ≡ Some y) → (a : IpAddress) → IsIpText text a → Some (Ip.Ipv6 x) ≡ Some a
-ip_v6 text x first only (Ip.Ipv4 y) h = let e : None ≡ Some y = first y h in absurd (cc)
-ip_v6 text x first only (Ip.Ipv6 y) h = ap (λ z. Some (Ip.Ipv6 z)) (some_inside x y (only y h))
-
--- neither was
-pub ip_none : (text : List ℕ) → ((y : Ipv4Address) → IsIpv4Text text y → None ≡ Some y) → ((y : Ipv6Address) → IsIpv6Text text y → None ≡ Some y) → (a : IpAddress) → IsIpText text a → None ≡ Some a
-ip_none text first second (Ip.Ipv4 y) h = let e : None ≡ Some y = first y h in absurd (cc)
-ip_none text first second (Ip.Ipv6 y) h = let e : None ≡ Some y = second y h in absurd (cc)
-
--- an IPv4 endpoint was read
-pub endpoint_v4 : (text : List ℕ) (x : Ipv4Address) (port : ℕ) → IsIpv4EndpointText text x port → ((y : Ipv4Address) (q : ℕ) → IsIpv4EndpointText text y q → (x ≡ y) × (port ≡ q))
-    → (a : IpAddress) (q : ℕ) → IsAddressAndPort text a q → (Ip.Ipv4 x ≡ a) × (port ≡ q)
-endpoint_v4 text x port found only (Ip.Ipv4 y) q h = let both = only y q h in (ap Ip.Ipv4 both.0, both.1)
-endpoint_v4 text x port found only (Ip.Ipv6 y) q h = absurd (IsEndpointText-apart text x port y q found h)
+-- a value of which something is known, and which is there
+pub IsSomeAnd-from : {A : Type 0} (P Q : A → Type 0) (o : Option A) → IfSome o P → IsSome o → ((a : A) → P a → Q a) → IsSomeAnd o Q
+IsSomeAnd-from P Q None found some step = absurd (cc)
+IsSomeAnd-from P Q (Some a) found some step = step a found

@@ -8,3 +8,4 @@ pub mod Pseudo
 pub mod Seq
 pub mod Hardware
 pub mod Text
+pub mod Order

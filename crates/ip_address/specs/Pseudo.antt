@@ -1,7 +1,8 @@
 -- What the checksum of TCP, UDP and ICMPv6 covers before the bytes of its own packet.
-use Rattle.std.specs.Prelude.{ℕ, ◌<◌, ◌^◌, List, [], ◌∷◌, ◌++◌}
+use Rattle.std.specs.Prelude.{ℕ, ◌+◌, ◌<◌, ◌^◌, List, [], ◌∷◌, ◌++◌, length}
 use Rattle.std.specs.Int.{w16, w32, to_be_bytes}
 use Rattle.ip_address.specs.Address.{address_bytes}
+use Rattle.ip_address.specs.Sum.{word_sum}
 use Rattle.ip_address.specs.declared.ip.IpAddress.{IpAddress}
 use Rattle.ip_address.specs.declared.ip.IpAddress.TheVariants as Ip
 
@@ -24,3 +25,9 @@ pseudo_of (Ip.Ipv6 source) destination = pseudo_v6 source.0 (address_bytes desti
 abbrev pub FitsPseudo : IpAddress → ℕ → Type 0
 FitsPseudo (Ip.Ipv4 source) len = len < 2 ^ 16
 FitsPseudo (Ip.Ipv6 source) len = len < 2 ^ 32
+
+-- the word sum of all that the checksum covers: the pseudo header, then the packet (RFC 9293, section 3.1; RFC 768;
+-- RFC 8200, section 8.1)
+abbrev pub covered : IpAddress → IpAddress → ℕ → List ℕ → ℕ
+covered source destination protocol packet =
+    word_sum (pseudo_of source destination protocol (length packet)) + word_sum packet

@@ -31,6 +31,11 @@ pub record IsCut (byte : ℕ) (text front back : List ℕ) : Type 0 where
   pub joined : text ≡ front ++ byte ∷ back
   pub first : Lacks front byte
 
+-- front and back stand before and after the last such byte
+pub record IsCutAtLast (byte : ℕ) (text front back : List ℕ) : Type 0 where
+  pub joined : text ≡ front ++ byte ∷ back
+  pub last : Lacks back byte
+
 -- a decimal number of any number of digits, which is at most so much
 abbrev pub IsDecimal : ℕ → List ℕ → ℕ → Type 0
 IsDecimal most text n = IsNumber 10 text n × (n ≤ most)
@@ -150,9 +155,33 @@ raw_hardware_text (b ∷ c ∷ bytes) = hex_pair b ++ 58 ∷ raw_hardware_text (
 
 -- IPv6 addresses (RFC 4291, section 2.2; printed as RFC 5952 says).
 
+-- without a dot: eight groups of one to four hex digits with colons between them, or fewer groups with one `::`,
+-- which stands for the groups of zero that are missing
+abbrev pub IsHexGroups : List ℕ → List ℕ → Type 0
+IsHexGroups text segments = Lacks text 46 × IsColonHex text segments
+
+-- the two groups of four hex digits that have these four bytes
+abbrev pub two_groups : List ℕ → List ℕ
+two_groups o =
+    hex_pair (slice_index o 0) ++ hex_pair (slice_index o 1) ++ codes ":" ++ hex_pair (slice_index o 2) ++ hex_pair (slice_index o 3)
+
+-- with a dotted end: the text behind the last colon is that of an IPv4 address, which stands for the two groups of
+-- its bytes; `hex` is the text with these groups in its place
+pub record IsDottedEnd (text hex : List ℕ) : Type 0 where
+  pub front : List ℕ
+  pub tail : List ℕ
+  pub octets : List ℕ
+  pub spelled : text ≡ front ++ 58 ∷ tail
+  pub of_tail : IsDottedText tail octets
+  pub in_hex : hex ≡ front ++ 58 ∷ two_groups octets
+
+-- the text of eight groups
+abbrev pub IsGroupsText : List ℕ → List ℕ → Type 0
+IsGroupsText text segments = IsHexGroups text segments ⊎ ((hex : List ℕ) × IsDottedEnd text hex × IsHexGroups hex segments)
+
 -- the text of an IPv6 address
 abbrev pub IsIpv6Text : List ℕ → Ipv6Address → Type 0
-IsIpv6Text text a = (segments : List ℕ) × IsColonHex text segments × (a.0 ≡ octets_of segments)
+IsIpv6Text text a = (segments : List ℕ) × IsGroupsText text segments × (a.0 ≡ octets_of segments)
 
 -- the text of an IPv6 block, with its address and its prefix length
 abbrev pub IsIpv6BlockText : List ℕ → Ipv6Address → ℕ → Type 0

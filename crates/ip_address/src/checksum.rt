@@ -1,11 +1,11 @@
 //! The Internet checksum (RFC 1071). A checksum field holds the complement of the one's complement
 //! sum of all 16-bit words that it covers, so a receiver's sum over all of them is `0xffff`.
-ghost use Rattle.std.specs.Prelude.{◌≡◌, ◌≢◌, ◌↔◌, ℕ, ◌+◌, ◌-◌, ◌*◌, ◌%◌, ◌^◌, ◌<◌, ◌≤◌, List, ◌++◌, length, sum};
+ghost use Rattle.std.specs.Prelude.{◌≡◌, ◌≢◌, ◌↔◌, ℕ, ◌+◌, ◌-◌, ◌*◌, ◌/◌, ◌%◌, ◌^◌, ◌<◌, ◌≤◌, List, ◌++◌, length, sum};
 ghost use Rattle.ip_address.specs.Address.{version_of};
 ghost use Rattle.ip_address.specs.Fields.{be16, put16};
 ghost use Rattle.ip_address.specs.LowFirst.{low_first};
 ghost use Rattle.ip_address.specs.Protocol.{protocol_number};
-ghost use Rattle.ip_address.specs.Pseudo.{FitsPseudo, pseudo_of, pseudo_v4, pseudo_v6};
+ghost use Rattle.ip_address.specs.Pseudo.{FitsPseudo, covered, pseudo_of, pseudo_v4, pseudo_v6};
 ghost use Rattle.ip_address.specs.Sum.{word_sum, folded, ChecksumHolds};
 
 use crate::ip::{IpAddress, IpProtocol};
@@ -32,6 +32,14 @@ pub fn combine(checksums: &[u16]) -> u16
     fold(total)
 }
 
+/// The one's complement sum of two sums, as those of a pseudo header and of what follows it.
+pub const fn add(a: u16, b: u16) -> u16
+    ensures { result ≡ folded (a + b) }
+{
+    let (sum, carry) = a.overflowing_add(b);
+    sum + carry as u16
+}
+
 /// The sum of the pseudo header over IPv4: both addresses, the protocol and the length of what
 /// follows.
 pub fn pseudo_header_v4(
@@ -43,7 +51,7 @@ pub fn pseudo_header_v4(
     requires { length < 2 ^ 16 }
     ensures { result ≡ folded (word_sum (pseudo_v4 source.now.0 destination.now.0 (protocol_number protocol) length)) }
 {
-    fold((words_v4(source) + words_v4(destination) + u8::from(protocol) as u32 + length) as u128)
+    fold_u32(words_v4(source) + words_v4(destination) + u8::from(protocol) as u32 + length)
 }
 
 /// The sum of the pseudo header over IPv6.
@@ -56,12 +64,7 @@ pub fn pseudo_header_v6(
     ensures { result ≡ folded (word_sum (pseudo_v6 source.now.0 destination.now.0 (protocol_number protocol) length)) }
 {
     let length_words = length / 65536 + length % 65536;
-    fold(
-        (words_v6(source)
-            + words_v6(destination)
-            + length_words
-            + u8::from(protocol) as u32) as u128,
-    )
+    fold_u32(words_v6(source) + words_v6(destination) + length_words + u8::from(protocol) as u32)
 }
 
 /// The sum of the pseudo header over the family of both addresses.
@@ -133,38 +136,76 @@ fn sum_low_first(bytes: &[u8]) -> u128
         total += u64::from_le_bytes(*front) as u128;
         rest = tail;
     }
-    total + low_first_number(rest) as u128
+    total + sum_of_end(rest) as u128
 }
 
-/// The number of fewer than eight bytes, the least significant first.
-fn low_first_number(bytes: &[u8]) -> u64
+/// The same for fewer than eight bytes.
+fn sum_of_end(bytes: &[u8]) -> u64
     requires { length bytes.now < 8 }
+    ensures { folded (256 * result) ≡ folded (word_sum bytes.now) }
+{
+    match bytes.split_first_chunk::<4>() {
+        Some((front, tail)) => u32::from_le_bytes(*front) as u64 + low_first_number(tail) as u64,
+        None => low_first_number(bytes) as u64,
+    }
+}
+
+/// The number of fewer than four bytes, the least significant first.
+fn low_first_number(bytes: &[u8]) -> u32
+    requires { length bytes.now < 4 }
     ensures { result ≡ low_first bytes.now }
 {
     match bytes {
         [] => 0,
-        [a] => *a as u64,
-        [a, b] => u16::from_le_bytes([*a, *b]) as u64,
-        [a, b, c] => u32::from_le_bytes([*a, *b, *c, 0]) as u64,
-        [a, b, c, d] => u32::from_le_bytes([*a, *b, *c, *d]) as u64,
-        [a, b, c, d, e] => u64::from_le_bytes([*a, *b, *c, *d, *e, 0, 0, 0]),
-        [a, b, c, d, e, f] => u64::from_le_bytes([*a, *b, *c, *d, *e, *f, 0, 0]),
-        [a, b, c, d, e, f, g] => u64::from_le_bytes([*a, *b, *c, *d, *e, *f, *g, 0]),
+        [a] => *a as u32,
+        [a, b] => u16::from_le_bytes([*a, *b]) as u32,
+        [a, b, c] => u32::from_le_bytes([*a, *b, *c, 0]),
         _ => unreachable!(),
     }
 }
 
-/// The sum brought to 16 bits, half by half: 2^64 is 1 modulo 65535.
+/// The sum brought to 16 bits. The halves are added to each other, since 2^64, 2^32 and 2^16 are 1
+/// modulo 65535.
 const fn fold(total: u128) -> u16
     ensures { result ≡ folded total }
 {
-    if total == 0 {
-        0
-    } else {
-        let high = (total / 0x1_0000_0000_0000_0000) as u64;
-        let low = (total % 0x1_0000_0000_0000_0000) as u64;
-        ((high % 65535 + low % 65535 + 65534) % 65535 + 1) as u16
-    }
+    fold_u64(add_u64(
+        (total / 0x1_0000_0000_0000_0000) as u64,
+        (total % 0x1_0000_0000_0000_0000) as u64,
+    ))
+}
+
+/// The same for a sum of 64 bits.
+const fn fold_u64(total: u64) -> u16
+    ensures { result ≡ folded total }
+{
+    fold_u32(add_u32(
+        (total / 0x1_0000_0000) as u32,
+        (total % 0x1_0000_0000) as u32,
+    ))
+}
+
+/// The same for a sum of 32 bits.
+const fn fold_u32(total: u32) -> u16
+    ensures { result ≡ folded total }
+{
+    add((total / 0x1_0000) as u16, (total % 0x1_0000) as u16)
+}
+
+/// The one's complement sum of two numbers of 64 bits.
+const fn add_u64(a: u64, b: u64) -> u64
+    ensures { folded result ≡ folded (a + b) }
+{
+    let (sum, carry) = a.overflowing_add(b);
+    sum + carry as u64
+}
+
+/// The one's complement sum of two numbers of 32 bits.
+const fn add_u32(a: u32, b: u32) -> u32
+    ensures { folded result ≡ folded (a + b) }
+{
+    let (sum, carry) = a.overflowing_add(b);
+    sum + carry as u32
 }
 
 /// Law: the sum of joined strings is the combination of their sums, where the first has an even
@@ -172,6 +213,12 @@ const fn fold(total: u128) -> u16
 pub fn joined()
     ensures words { (front back : List ℕ) → length front % 2 ≡ 0 → word_sum (front ++ back) ≡ word_sum front + word_sum back }
     ensures sums { (front back : List ℕ) → length front % 2 ≡ 0 → folded (word_sum (front ++ back)) ≡ folded (folded (word_sum front) + folded (word_sum back)) }
+{}
+
+/// Law: the sum of what the checksum of a protocol above IP covers is the combination of the sums of
+/// the pseudo header and of the packet.
+pub fn covered_combines()
+    ensures { (source destination : IpAddress) (protocol : ℕ) (packet : List ℕ) → folded (folded (word_sum (pseudo_of source destination protocol (length packet))) + folded (word_sum packet)) ≡ folded (covered source destination protocol packet) }
 {}
 
 /// Law: a checksum holds exactly where the sum of all that it covers is `0xffff`.
@@ -203,7 +250,10 @@ mod tests {
         assert_eq!(rt; data(&[]), 0);
         assert_eq!(rt; data(&[0xff; 64]), 0xffff);
         assert_eq!(rt; combine(&[data(&bytes[..2]), data(&bytes[2..])]), 0xddf2);
+        assert_eq!(rt; add(add(0x0001, 0xf203), add(0xf4f5, 0xf6f7)), 0xddf2);
+        assert_eq!(rt; add(0xffff, 0xffff), 0xffff);
         joined();
+        covered_combines();
         holds_at_all_ones();
         complement_holds();
         changed_word_fails();

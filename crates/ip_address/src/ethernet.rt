@@ -1,7 +1,12 @@
 //! Ethernet addresses and the numbers of what a frame carries.
-ghost use Rattle.std.specs.Prelude.{◌≡◌, ◌↔◌, IsTrue, length};
+ghost use Rattle.std.specs.Prelude.{◌≡◌, ◌↔◌, IsTrue, Some, length};
 ghost use Rattle.ip_address.specs.Address.{IsEthernetBroadcast, IsEthernetMulticast, IsEthernetLocal, IsEthernetUnicast};
 ghost use Rattle.ip_address.specs.Protocol.{ether_number, ether_of};
+ghost use Rattle.ip_address.specs.Text.{Reads, IsEthernetText, ethernet_text};
+
+use crate::text::{HexPair, six_bytes};
+use std::fmt;
+use std::str::FromStr;
 
 /// A six-byte Ethernet address, in the order in which its bytes are sent.
 #[derive(Clone, Copy, Debug, PartialEq, Eq, PartialOrd, Ord, Hash)]
@@ -54,6 +59,38 @@ impl EthernetAddress {
         ensures { IsTrue result ↔ IsEthernetUnicast self.now }
     {
         !(self.is_broadcast() || self.is_multicast())
+    }
+}
+
+impl fmt::Display for EthernetAddress {
+    ghost output = { λ a. Some (ethernet_text a.0) };
+
+    fn fmt<W: fmt::Write>(&self, f: &mut fmt::Formatter<W>) -> fmt::Result {
+        let [a, b, c, d, e, g] = self.0;
+        write!(
+            f,
+            "{}-{}-{}-{}-{}-{}",
+            HexPair(a),
+            HexPair(b),
+            HexPair(c),
+            HexPair(d),
+            HexPair(e),
+            HexPair(g)
+        )
+    }
+}
+
+/// Reads six groups of one or two hex digits, with `-` or with `:` between them.
+impl FromStr for EthernetAddress {
+    type Err = ();
+
+    ghost from_str_gives = { Reads IsEthernetText };
+
+    fn from_str(s: &str) -> Result<EthernetAddress, ()> {
+        match six_bytes(s, '-') {
+            Some(address) => Ok(address),
+            None => six_bytes(s, ':').ok_or(()),
+        }
     }
 }
 

@@ -1,10 +1,13 @@
 //! Addresses of the medium below IP.
-ghost use Rattle.std.specs.Prelude.{◌≡◌, ◌↔◌, ◌≤◌, [], length, IsTrue, IfOk, IsOk};
+ghost use Rattle.std.specs.Prelude.{◌≡◌, ◌↔◌, ◌≤◌, [], length, IsTrue, IfOk, IsOk, Some};
 ghost use Rattle.ip_address.specs.declared.hardware.HardwareAddress.TheVariants as Hardware;
 ghost use Rattle.ip_address.specs.Address.{hardware_bytes, IsHardwareUnicast, IsHardwareBroadcast};
 
 use crate::Error;
 use crate::ethernet::EthernetAddress;
+use crate::text::HexPair;
+use net_devices::Medium;
+use std::fmt;
 
 /// The most bytes that a hardware address has.
 pub const MAX_HARDWARE_ADDRESS_LEN: usize = 6;
@@ -57,6 +60,19 @@ impl From<EthernetAddress> for HardwareAddress {
     }
 }
 
+impl fmt::Display for HardwareAddress {
+    ghost use Rattle.ip_address.specs.Text.{hardware_text};
+
+    ghost output = { λ a. Some (hardware_text a) };
+
+    fn fmt<W: fmt::Write>(&self, f: &mut fmt::Formatter<W>) -> fmt::Result {
+        match self {
+            HardwareAddress::Ip => write!(f, "no hardware addr"),
+            HardwareAddress::Ethernet(address) => write!(f, "{address}"),
+        }
+    }
+}
+
 /// The bytes of a hardware address of any kind, as neighbour messages carry them.
 #[derive(Clone, Copy, Debug, PartialEq, Eq, PartialOrd, Ord, Hash)]
 pub struct RawHardwareAddress {
@@ -102,15 +118,17 @@ impl RawHardwareAddress {
         self.len == 0
     }
 
-    /// The Ethernet address of these bytes, an `Error` unless they are six.
-    pub fn parse_ethernet(&self) -> Result<EthernetAddress, Error>
-        ensures found { IfOk result (λ a. a.0 ≡ raw_bytes self.now) }
-        ensures only { IsOk result ↔ (length (raw_bytes self.now) ≡ 6) }
+    /// The address that these bytes are on the medium: an `Error` on a medium without addresses,
+    /// or unless they are six.
+    pub fn parse(&self, medium: Medium) -> Result<HardwareAddress, Error>
+        ensures found { IfOk result (λ a. hardware_bytes a ≡ raw_bytes self.now) }
+        ensures only { IsOk result ↔ ((medium ≡ Medium.Ethernet) × (length (raw_bytes self.now) ≡ 6)) }
     {
-        if self.len() == 6 {
-            Ok(EthernetAddress::from_bytes(self.as_bytes()))
-        } else {
-            Err(Error)
+        match medium {
+            Medium::Ethernet if self.len() == 6 => Ok(HardwareAddress::Ethernet(
+                EthernetAddress::from_bytes(self.as_bytes()),
+            )),
+            _ => Err(Error),
         }
     }
 }
@@ -132,5 +150,49 @@ impl From<HardwareAddress> for RawHardwareAddress {
 
     fn from(value: HardwareAddress) -> RawHardwareAddress {
         RawHardwareAddress::from_bytes(value.as_bytes())
+    }
+}
+
+impl fmt::Display for RawHardwareAddress {
+    ghost use Rattle.ip_address.specs.Hardware.{raw_bytes};
+    ghost use Rattle.ip_address.specs.Text.{raw_hardware_text};
+
+    ghost output = { λ a. Some (raw_hardware_text (raw_bytes a)) };
+
+    fn fmt<W: fmt::Write>(&self, f: &mut fmt::Formatter<W>) -> fmt::Result {
+        match self.as_bytes() {
+            [] => Ok(()),
+            [a] => write!(f, "{}", HexPair(*a)),
+            [a, b] => write!(f, "{}:{}", HexPair(*a), HexPair(*b)),
+            [a, b, c] => write!(f, "{}:{}:{}", HexPair(*a), HexPair(*b), HexPair(*c)),
+            [a, b, c, d] => write!(
+                f,
+                "{}:{}:{}:{}",
+                HexPair(*a),
+                HexPair(*b),
+                HexPair(*c),
+                HexPair(*d)
+            ),
+            [a, b, c, d, e] => write!(
+                f,
+                "{}:{}:{}:{}:{}",
+                HexPair(*a),
+                HexPair(*b),
+                HexPair(*c),
+                HexPair(*d),
+                HexPair(*e)
+            ),
+            [a, b, c, d, e, g] => write!(
+                f,
+                "{}:{}:{}:{}:{}:{}",
+                HexPair(*a),
+                HexPair(*b),
+                HexPair(*c),
+                HexPair(*d),
+                HexPair(*e),
+                HexPair(*g)
+            ),
+            _ => unreachable!(),
+        }
     }
 }

@@ -5,11 +5,15 @@ ghost use Rattle.ip_address.specs.declared.ip.IpAddress.TheVariants as Address;
 ghost use Rattle.ip_address.specs.declared.ip.IpCidr.TheVariants as Block;
 ghost use Rattle.ip_address.specs.Address.{version_of, IsUnspecified, IsMulticast, IsBroadcast, IsUnicast, IsMask};
 ghost use Rattle.ip_address.specs.Block.{width_of, block_address, block_prefix_len, IsIn, IsWithin};
-ghost use Rattle.ip_address.specs.Protocol.{protocol_number, protocol_of};
+ghost use Rattle.ip_address.specs.Protocol.{ether_number, ether_of, protocol_number, protocol_of};
+ghost use Rattle.ip_address.specs.Text.{Reads, IsIpText, ReadsIpBlock, IsEndpointText, ip_text, block_text, endpoint_text, listen_endpoint_text};
 
 use crate::Error;
 use crate::ipv4::{Ipv4Address, Ipv4Cidr};
 use crate::ipv6::{Ipv6Address, Ipv6Cidr};
+use crate::text::{ip_address, ip_block, ip_endpoint};
+use std::fmt;
+use std::str::FromStr;
 
 /// The family of an address or a packet.
 #[derive(Clone, Copy, Debug, PartialEq, Eq, PartialOrd, Ord, Hash)]
@@ -99,6 +103,12 @@ impl From<IpProtocol> for u8 {
         }
     }
 }
+
+/// Law: what a number names has that number.
+pub fn number_reads_back()
+    ensures ether { (n : ℕ) → ether_number (ether_of n) ≡ n }
+    ensures ip { (n : ℕ) → protocol_number (protocol_of n) ≡ n }
+{}
 
 /// What an address answers in either family, beside the tests that each family names itself.
 pub trait AddressExt {
@@ -219,6 +229,28 @@ impl From<Ipv6Address> for IpAddress {
     }
 }
 
+impl fmt::Display for IpAddress {
+    ghost output = { λ a. Some (ip_text a) };
+
+    fn fmt<W: fmt::Write>(&self, f: &mut fmt::Formatter<W>) -> fmt::Result {
+        match self {
+            IpAddress::Ipv4(address) => write!(f, "{address}"),
+            IpAddress::Ipv6(address) => write!(f, "{address}"),
+        }
+    }
+}
+
+/// Reads an IPv4 or an IPv6 address.
+impl FromStr for IpAddress {
+    type Err = ();
+
+    ghost from_str_gives = { Reads IsIpText };
+
+    fn from_str(s: &str) -> Result<IpAddress, ()> {
+        ip_address(s).ok_or(())
+    }
+}
+
 /// A block of addresses of either family.
 #[derive(Clone, Copy, Debug, PartialEq, Eq, PartialOrd, Ord, Hash)]
 pub enum IpCidr {
@@ -300,6 +332,28 @@ impl From<Ipv6Cidr> for IpCidr {
     }
 }
 
+impl fmt::Display for IpCidr {
+    ghost output = { λ b. Some (block_text b) };
+
+    fn fmt<W: fmt::Write>(&self, f: &mut fmt::Formatter<W>) -> fmt::Result {
+        match self {
+            IpCidr::Ipv4(block) => write!(f, "{block}"),
+            IpCidr::Ipv6(block) => write!(f, "{block}"),
+        }
+    }
+}
+
+/// Reads an address of either family, a slash and a decimal number up to the address's bits.
+impl FromStr for IpCidr {
+    type Err = ();
+
+    ghost from_str_gives = { ReadsIpBlock };
+
+    fn from_str(s: &str) -> Result<IpCidr, ()> {
+        ip_block(s).ok_or(())
+    }
+}
+
 /// Where a datagram or a segment goes to or comes from: an address and a port.
 #[derive(Clone, Copy, Debug, PartialEq, Eq, PartialOrd, Ord, Hash)]
 pub struct IpEndpoint {
@@ -324,6 +378,25 @@ impl From<(IpAddress, u16)> for IpEndpoint {
             addr: value.0,
             port: value.1,
         }
+    }
+}
+
+impl fmt::Display for IpEndpoint {
+    ghost output = { λ e. Some (endpoint_text e) };
+
+    fn fmt<W: fmt::Write>(&self, f: &mut fmt::Formatter<W>) -> fmt::Result {
+        write!(f, "{}:{}", self.addr, self.port)
+    }
+}
+
+/// Reads `a.b.c.d:port` or `[v6]:port`.
+impl FromStr for IpEndpoint {
+    type Err = ();
+
+    ghost from_str_gives = { Reads IsEndpointText };
+
+    fn from_str(s: &str) -> Result<IpEndpoint, ()> {
+        ip_endpoint(s).ok_or(())
     }
 }
 
@@ -372,6 +445,17 @@ impl From<IpEndpoint> for IpListenEndpoint {
         IpListenEndpoint {
             addr: Some(value.addr),
             port: value.port,
+        }
+    }
+}
+
+impl fmt::Display for IpListenEndpoint {
+    ghost output = { λ e. Some (listen_endpoint_text e.addr e.port) };
+
+    fn fmt<W: fmt::Write>(&self, f: &mut fmt::Formatter<W>) -> fmt::Result {
+        match self.addr {
+            Some(address) => write!(f, "{}:{}", address, self.port),
+            None => write!(f, "*:{}", self.port),
         }
     }
 }

@@ -1,11 +1,14 @@
 //! IPv4 addresses and blocks of them.
-ghost use Rattle.std.specs.Prelude.{◌≡◌, ◌↔◌, ℕ, ◌+◌, ◌-◌, ◌/◌, ◌^◌, ◌<◌, ◌≤◌, ◌∷◌, [], IsTrue, IfOk, IsOk, IfSome, IsNone};
+ghost use Rattle.std.specs.Prelude.{◌≡◌, ◌↔◌, ℕ, ◌+◌, ◌-◌, ◌/◌, ◌^◌, ◌<◌, ◌≤◌, ◌∷◌, [], IsTrue, IfOk, IsOk, IfSome, IsNone, Some};
 ghost use Rattle.byteorder.specs.Endian.{big_bytes};
 ghost use Rattle.ip_address.specs.Address.{v4_number, IsIpv4Address, IsUnspecifiedV4, IsLoopbackV4, IsMulticastV4, IsBroadcastV4, IsUnicastV4, IsMaskV4};
 
 use crate::Error;
 use crate::ip::{AddressExt, IpProtocol};
+use crate::text::{dotted, ipv4_block};
 use byteorder::{BigEndian, ByteOrder};
+use std::fmt;
+use std::str::FromStr;
 
 /// The length of packet that every IPv4 link takes whole (RFC 791, section 3.2).
 pub const IPV4_MIN_MTU: usize = 576;
@@ -101,6 +104,30 @@ impl AddressExt for Ipv4Address {
         } else {
             None
         }
+    }
+}
+
+impl fmt::Display for Ipv4Address {
+    ghost use Rattle.std.specs.Net.Text.{ipv4_text};
+
+    ghost output = { λ a. Some (ipv4_text a.0) };
+
+    fn fmt<W: fmt::Write>(&self, f: &mut fmt::Formatter<W>) -> fmt::Result {
+        let [a, b, c, d] = self.0;
+        write!(f, "{a}.{b}.{c}.{d}")
+    }
+}
+
+/// Reads four decimal numbers of one to three digits with dots between them.
+impl FromStr for Ipv4Address {
+    ghost use Rattle.ip_address.specs.Text.{Reads, IsIpv4Text};
+
+    type Err = ();
+
+    ghost from_str_gives = { Reads IsIpv4Text };
+
+    fn from_str(s: &str) -> Result<Ipv4Address, ()> {
+        dotted(s).ok_or(())
     }
 }
 
@@ -222,6 +249,29 @@ impl Ipv4Cidr {
     {
         let bits = u64::from(self.address.to_bits());
         (bits - bits % host_count(self.prefix_len)) as u32
+    }
+}
+
+impl fmt::Display for Ipv4Cidr {
+    ghost use Rattle.ip_address.specs.Text.{ipv4_block_text};
+
+    ghost output = { λ b. Some (ipv4_block_text b) };
+
+    fn fmt<W: fmt::Write>(&self, f: &mut fmt::Formatter<W>) -> fmt::Result {
+        write!(f, "{}/{}", self.address, self.prefix_len)
+    }
+}
+
+/// Reads an IPv4 address, a slash and a decimal number up to 32.
+impl FromStr for Ipv4Cidr {
+    ghost use Rattle.ip_address.specs.Text.{ReadsIpv4Block};
+
+    type Err = ();
+
+    ghost from_str_gives = { ReadsIpv4Block };
+
+    fn from_str(s: &str) -> Result<Ipv4Cidr, ()> {
+        ipv4_block(s).ok_or(())
     }
 }
 

@@ -1,10 +1,14 @@
 //! IPv6 addresses and blocks of them.
-ghost use Rattle.std.specs.Prelude.{◌≡◌, ◌↔◌, ◌-◌, ◌^◌, ◌≤◌, ◌/◌, ◌%◌, ◌∷◌, [], IsTrue};
+ghost use Rattle.std.specs.Prelude.{◌≡◌, ◌↔◌, ◌-◌, ◌^◌, ◌≤◌, ◌/◌, ◌%◌, ◌∷◌, [], IsTrue, Some};
 ghost use Rattle.std.specs.Net.Addr.{octets_of};
 ghost use Rattle.ip_address.specs.Address.{v6_number, IsIpv6Address, IsUnspecifiedV6, IsLoopbackV6, IsMulticastV6, IsLinkLocal, IsUnicastV6, IsMaskV6, scope_of, IsSolicitedNode, solicited_of};
 
 use crate::ip::AddressExt;
+use crate::text::{colon_hex, ipv6_block};
 use byteorder::{BigEndian, ByteOrder};
+use std::fmt;
+use std::net::Ipv6Addr;
+use std::str::FromStr;
 
 /// The length of packet that every IPv6 link takes whole (RFC 8200, section 5).
 pub const IPV6_MIN_MTU: usize = 1280;
@@ -144,6 +148,32 @@ impl AddressExt for Ipv6Address {
     }
 }
 
+impl fmt::Display for Ipv6Address {
+    ghost use Rattle.std.specs.Net.Addr.{segments_of};
+    ghost use Rattle.std.specs.Net.Text.{ipv6_text};
+
+    ghost output = { λ a. Some (ipv6_text (segments_of a.0)) };
+
+    fn fmt<W: fmt::Write>(&self, f: &mut fmt::Formatter<W>) -> fmt::Result {
+        let address = Ipv6Addr::from_octets(self.0);
+        write!(f, "{address}")
+    }
+}
+
+/// Reads eight groups of one to four hex digits, `::` in place of one or more groups that are
+/// zero, and the last two groups as an IPv4 address too.
+impl FromStr for Ipv6Address {
+    ghost use Rattle.ip_address.specs.Text.{Reads, IsIpv6Text};
+
+    type Err = ();
+
+    ghost from_str_gives = { Reads IsIpv6Text };
+
+    fn from_str(s: &str) -> Result<Ipv6Address, ()> {
+        colon_hex(s).ok_or(())
+    }
+}
+
 /// The number of `ones` ones, then zeros.
 fn mask_of(ones: u8) -> u128
     requires { ones ≤ 128 }
@@ -233,6 +263,29 @@ impl Ipv6Cidr {
         ensures { IsTrue result ↔ (bits / 2 ^ (128 - self.now.prefix_len) ≡ v6_number self.now.address / 2 ^ (128 - self.now.prefix_len)) }
     {
         leading_bits(bits, self.prefix_len) == leading_bits(self.address.to_bits(), self.prefix_len)
+    }
+}
+
+impl fmt::Display for Ipv6Cidr {
+    ghost use Rattle.ip_address.specs.Text.{ipv6_block_text};
+
+    ghost output = { λ b. Some (ipv6_block_text b) };
+
+    fn fmt<W: fmt::Write>(&self, f: &mut fmt::Formatter<W>) -> fmt::Result {
+        write!(f, "{}/{}", self.address, self.prefix_len)
+    }
+}
+
+/// Reads an IPv6 address, a slash and a decimal number up to 128.
+impl FromStr for Ipv6Cidr {
+    ghost use Rattle.ip_address.specs.Text.{ReadsIpv6Block};
+
+    type Err = ();
+
+    ghost from_str_gives = { ReadsIpv6Block };
+
+    fn from_str(s: &str) -> Result<Ipv6Cidr, ()> {
+        ipv6_block(s).ok_or(())
     }
 }
 

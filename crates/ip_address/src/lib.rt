@@ -10,6 +10,7 @@ pub mod hardware;
 pub mod ip;
 pub mod ipv4;
 pub mod ipv6;
+pub mod laws;
 pub mod network_order;
 pub mod seq_number;
 pub mod text;

@@ -9,4 +9,4 @@ returns c =
     let s : length c.args.source.now.0 ≡ 16 = search rules in
     let d : length c.args.destination.now.0 ≡ 16 = search rules in
     let e = word_sum-pseudo_v6 c.args.source.now.0 c.args.destination.now.0 (protocol_number c.args.protocol) c.args.length s d (omega arith) in
-    c.fold.ensures ∙ ap folded (sym (rw (e, c.words_v6.ensures.same, c.words_v6-2.ensures.same, c.from.ensures) refl))
+    c.fold_u32.ensures ∙ ap folded (sym (rw (e, c.words_v6.ensures.same, c.words_v6-2.ensures.same, c.from.ensures) refl))

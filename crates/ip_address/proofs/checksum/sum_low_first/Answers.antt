@@ -9,4 +9,4 @@ loop-front-preserved c = (
 )
 
 pub returns : goal.returns
-returns c = low_first-last _ _ c.loop-front.rest.now _ c.low_first_number.ensures c.loop-front.invariant.0
+returns c = low_first-last _ _ c.loop-front.rest.now _ c.sum_of_end.ensures c.loop-front.invariant.0

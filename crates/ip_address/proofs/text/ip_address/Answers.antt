@@ -1,4 +1,4 @@
-use Rattle.ip_address.proofs.Texts.{ip_v4, ip_v6, ip_none}
+use Rattle.ip_address.proofs.Families.{ip_v4, ip_v6, ip_none}
 use Rattle.ip_address.proofs.text.ip_address.Goals as goal
 
 pub returns-in-Some-clause-only : goal.returns-in-Some-clause-only

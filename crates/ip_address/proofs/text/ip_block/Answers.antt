@@ -1,6 +1,7 @@
 use Rattle.std.proofs.Common.{◌∙◌, ap}
 use Rattle.ip_address.specs.Block.{width_of}
-use Rattle.ip_address.proofs.Texts.{Lacks-slash, some_inside}
+use Rattle.ip_address.proofs.Families.{Lacks-slash}
+use Rattle.ip_address.proofs.Texts.{some_inside}
 use Rattle.ip_address.proofs.text.ip_block.Goals as goal
 
 pub returns-in_err-front-clause-only : goal.returns-in_err-front-clause-only

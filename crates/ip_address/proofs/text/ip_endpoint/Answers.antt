@@ -1,7 +1,7 @@
 use Rattle.std.proofs.Common.{ℕ, Some, ◌∙◌, ap}
 use Rattle.ip_address.specs.declared.ip.IpAddress.{IpAddress}
 use Rattle.ip_address.specs.declared.ip.IpEndpoint.{IpEndpoint}
-use Rattle.ip_address.proofs.Texts.{endpoint_v4}
+use Rattle.ip_address.proofs.Families.{endpoint_v4}
 use Rattle.ip_address.proofs.text.ip_endpoint.Goals as goal
 
 pub returns-in-Some-clause-only : goal.returns-in-Some-clause-only
