@@ -1,9 +1,9 @@
 -- Checksums over a pseudo header and a packet.
-use Rattle.std.proofs.Common.{◌≡◌, ℕ, ◌+◌, ◌*◌, ◌<◌, ◌^◌, zero, suc, arith, sym, ◌∙◌, ap, inl, inr, lit<, ◌↔◌, IsTrue}
+use Rattle.std.proofs.Common.{◌≡◌, ℕ, ◌+◌, ◌*◌, ◌<◌, ◌^◌, zero, suc, arith, sym, ◌∙◌, inl, inr, lit<, ◌↔◌, IsTrue}
 use Rattle.std.specs.Prelude.{◌==◌}
 use Rattle.std.proofs.lemmas.Bool.{eqb-true, eq-eqb}
 use Rattle.std.proofs.lemmas.Bool.Decides.{eqb_tells}
-use Rattle.ip_address.proofs.Sums.{folded-folded, ChecksumHolds-folded, ChecksumHolds-complement}
+use Rattle.ip_address.proofs.Sums.{ChecksumHolds-folded, ChecksumHolds-complement}
 use Rattle.ip_address.specs.Pseudo.{FitsPseudo}
 use Rattle.ip_address.specs.Sum.{folded, ChecksumHolds}
 use Rattle.ip_address.specs.declared.ip.IpAddress.{IpAddress}
@@ -14,13 +14,6 @@ use Rattle.ip_packet.specs.Covered.{complement, nonzero_complement}
 pub FitsPseudo-small : (a : IpAddress) (n : ℕ) → n < 2 ^ 16 → FitsPseudo a n
 FitsPseudo-small (Ip.Ipv4 a) n small = small
 FitsPseudo-small (Ip.Ipv6 a) n small = omega arith
-
--- the combination of two sums
-pub folded-combined : (a b : ℕ) → folded (folded a + (folded b + 0)) ≡ folded (a + b)
-folded-combined a b =
-    let turned : a + (folded b + 0) ≡ folded b + a = omega arith in
-    let back : b + a ≡ a + b = omega arith in
-    folded-folded a (folded b + 0) ∙ ap folded turned ∙ folded-folded b a ∙ ap folded back
 
 -- the sum is all ones exactly where the checksum holds
 pub all_ones-holds : (sum total : ℕ) → sum ≡ folded total → IsTrue (sum == 65535) ↔ ChecksumHolds total

@@ -7,33 +7,48 @@ use Rattle.ip_address.specs.Fields.{be16, put16, IsBytes}
 use Rattle.ip_address.specs.Protocol.{protocol_number}
 use Rattle.ip_address.specs.Sum.{word_sum, folded, ChecksumHolds}
 use Rattle.ip_packet.specs.Covered.{complement}
-use Rattle.ip_packet.specs.Ipv4.{IsIpv4, IsWhole, IsValue, Fits, spelling, sent_fields, free_fields, written, header_len_of, header_of, with_checksum, normal}
+use Rattle.ip_packet.specs.Ipv4.{IsIpv4, IsQuoted, IsValue, Fits, spelling, sent_fields, free_fields, written, header_len_of, header_of, with_checksum, normal}
 use Rattle.ip_packet.specs.declared.ipv4.Ipv4Repr.{Ipv4Repr}
 use Rattle.ip_packet.proofs.Peel.{peel8, peel16, peel_to, length-slice_range}
 use Rattle.ip_packet.proofs.Protocols.{protocol_number-protocol_of}
 use Rattle.ip_packet.proofs.Puts.{put16-put16}
 
--- a packet is spelled by its header, with what a value doesn't keep, and then come payload and padding
-pub bytes-spelling : (tested : Bool) (bytes : List ℕ) (v : Ipv4Repr) → IsBytes bytes → IsIpv4 tested bytes v → bytes ≡ spelling v (free_fields bytes) ++ drop (header_len_of bytes) bytes
-bytes-spelling tested bytes v small is =
-    let whole : IsWhole bytes = is.whole in
+-- the header of a packet that was read is one that can be quoted
+pub IsQuoted-whole : (tested : Bool) (bytes : List ℕ) (v : Ipv4Repr) → IsIpv4 tested bytes v → IsQuoted bytes v (header_len_of bytes)
+IsQuoted-whole tested bytes v is = record {
+  room = is.whole.room;
+  version = is.version;
+  header = refl;
+  least = is.whole.header;
+  within = omega (arith, is.whole.least, is.whole.within);
+  source = is.source;
+  destination = is.destination;
+  protocol = is.protocol;
+  payload = omega (arith, is.payload);
+  hops = is.hops;
+}
+
+-- a quoted header is spelled by its value, with what the value doesn't keep, where the total length covers it
+pub header-spelling : (bytes : List ℕ) (v : Ipv4Repr) (header_len : ℕ) → IsBytes bytes → IsQuoted bytes v header_len → header_len ≤ be16 bytes 2
+    → bytes ≡ spelling v (free_fields bytes) ++ drop header_len bytes
+header-spelling bytes v header_len small is least =
     let options : List ℕ = slice_range bytes 20 (header_len_of bytes) in
-    let behind : List ℕ = drop (header_len_of bytes) bytes in
-    let len : 20 + length options ≡ header_len_of bytes = length-slice_range bytes 20 (header_len_of bytes) whole.header (omega (arith, whole.least, whole.within)) in
-    let total : 20 + length options + v.payload_len ≡ be16 bytes 2 = omega (arith, len, is.payload) in
+    let behind : List ℕ = drop header_len bytes in
+    let len : 20 + length options ≡ header_len_of bytes = length-slice_range bytes 20 (header_len_of bytes) (omega (arith, is.header, is.least)) (omega (arith, is.header, is.within)) in
+    let total : 20 + length options + v.payload_len ≡ be16 bytes 2 = omega (arith, len, is.header, is.payload, least) in
     let protocol : protocol_number v.next_header ≡ slice_index bytes 9 = ap protocol_number is.protocol ∙ protocol_number-protocol_of (slice_index bytes 9) in
     let addresses : (v.src_addr.0 ++ (v.dst_addr.0 ++ options)) ++ behind ≡ v.src_addr.0 ++ (v.dst_addr.0 ++ (options ++ behind)) = simp append_assoc in
-    peel8 bytes 0 (64 + (20 + length options) / 4) _ (omega (arith, whole.room)) (omega (arith, len, is.version)) (
-    peel8 bytes 1 (slice_index bytes 1) _ (omega (arith, whole.room)) refl (
-    peel16 bytes 2 (20 + length options + v.payload_len) _ small (omega (arith, whole.room)) total (
-    peel16 bytes 4 (be16 bytes 4) _ small (omega (arith, whole.room)) refl (
-    peel16 bytes 6 (be16 bytes 6) _ small (omega (arith, whole.room)) refl (
-    peel8 bytes 8 v.hop_limit _ (omega (arith, whole.room)) is.hops (
-    peel8 bytes 9 (protocol_number v.next_header) _ (omega (arith, whole.room)) protocol (
-    peel16 bytes 10 (be16 bytes 10) _ small (omega (arith, whole.room)) refl (
+    peel8 bytes 0 (64 + (20 + length options) / 4) _ (omega (arith, is.room)) (omega (arith, len, is.version)) (
+    peel8 bytes 1 (slice_index bytes 1) _ (omega (arith, is.room)) refl (
+    peel16 bytes 2 (20 + length options + v.payload_len) _ small (omega (arith, is.room)) total (
+    peel16 bytes 4 (be16 bytes 4) _ small (omega (arith, is.room)) refl (
+    peel16 bytes 6 (be16 bytes 6) _ small (omega (arith, is.room)) refl (
+    peel8 bytes 8 v.hop_limit _ (omega (arith, is.room)) is.hops (
+    peel8 bytes 9 (protocol_number v.next_header) _ (omega (arith, is.room)) protocol (
+    peel16 bytes 10 (be16 bytes 10) _ small (omega (arith, is.room)) refl (
     peel_to bytes 12 16 v.src_addr.0 (v.dst_addr.0 ++ (options ++ behind)) (omega arith) is.source (
     peel_to bytes 16 20 v.dst_addr.0 (options ++ behind) (omega arith) is.destination (
-    peel_to bytes 20 (header_len_of bytes) options behind whole.header refl refl
+    peel_to bytes 20 (header_len_of bytes) options behind (omega (arith, is.header, is.least)) refl (ap (λ k. drop k bytes) (sym is.header))
     )
     )
     ∙ sym addresses
@@ -46,6 +61,11 @@ bytes-spelling tested bytes v small is =
     )
     )
 
+-- a packet is spelled by its header, with what a value doesn't keep, and then come payload and padding
+pub bytes-spelling : (tested : Bool) (bytes : List ℕ) (v : Ipv4Repr) → IsBytes bytes → IsIpv4 tested bytes v → bytes ≡ spelling v (free_fields bytes) ++ drop (header_len_of bytes) bytes
+bytes-spelling tested bytes v small is =
+    header-spelling bytes v (header_len_of bytes) small (IsQuoted-whole tested bytes v is) (omega (arith, is.payload))
+
 -- a number in the checksum field adds itself to the word sum
 word_sum-check : (v : Ipv4Repr) (check : ℕ) → check < 65536 → word_sum (spelling v (sent_fields check)) ≡ word_sum (spelling v (sent_fields 0)) + check
 word_sum-check v check small = omega arith
@@ -57,16 +77,16 @@ ChecksumHolds-written v =
     subst ChecksumHolds (sym (word_sum-check v (complement total) (omega arith))) (ChecksumHolds-complement total)
 
 -- how long a header is that is sent
-length-spelling : (v : Ipv4Repr) (check : ℕ) → IsValue v → length (spelling v (sent_fields check)) ≡ 20
+pub length-spelling : (v : Ipv4Repr) (check : ℕ) → IsValue v → length (spelling v (sent_fields check)) ≡ 20
 length-spelling v check value =
     omega (arith, value.source.0, value.destination.0, length-append v.src_addr.0 (v.dst_addr.0 ++ []), length-append v.dst_addr.0 [])
 
 -- addresses behind the first twelve bytes, read
-take-first : (source destination rest : List ℕ) → length source ≡ 4 → source ≡ take 4 ((source ++ (destination ++ [])) ++ rest)
+pub take-first : (source destination rest : List ℕ) → length source ≡ 4 → source ≡ take 4 ((source ++ (destination ++ [])) ++ rest)
 take-first source destination rest len =
     sym (ap (take 4) (append_assoc source (destination ++ []) rest) ∙ take_at source ((destination ++ []) ++ rest) 4 len)
 
-take-second : (source destination rest : List ℕ) → length source ≡ 4 → length destination ≡ 4 → destination ≡ take 4 (drop 4 ((source ++ (destination ++ [])) ++ rest))
+pub take-second : (source destination rest : List ℕ) → length source ≡ 4 → length destination ≡ 4 → destination ≡ take 4 (drop 4 ((source ++ (destination ++ [])) ++ rest))
 take-second source destination rest first second =
     sym (
     ap (λ xs. take 4 (drop 4 xs)) (append_assoc source (destination ++ []) rest)

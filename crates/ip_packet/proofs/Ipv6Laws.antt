@@ -4,7 +4,7 @@ use Rattle.std.specs.Prelude.{slice_index}
 use Rattle.std.proofs.lemmas.List.{take_at, drop_at}
 use Rattle.ip_address.specs.Fields.{be32, IsBytes}
 use Rattle.ip_address.specs.Protocol.{protocol_number}
-use Rattle.ip_packet.specs.Ipv6.{IsIpv6, IsWhole, IsValue, Fits, spelling, written, class_and_flow, normal}
+use Rattle.ip_packet.specs.Ipv6.{IsIpv6, IsQuoted, IsValue, Fits, spelling, written, class_and_flow, normal}
 use Rattle.ip_packet.specs.declared.ipv6.Ipv6Repr.{Ipv6Repr}
 use Rattle.ip_packet.proofs.Peel.{peel8, peel16, peel32, peel_to}
 use Rattle.ip_packet.proofs.Protocols.{protocol_number-protocol_of}
@@ -18,30 +18,47 @@ first_word bytes small version =
     let b3 : get_or bytes 3 0 < 256 = small 3 in
     omega arith
 
--- a packet is spelled by its header, with its class and flow, and then come payload and padding
-pub bytes-spelling : (bytes : List ℕ) (v : Ipv6Repr) → IsBytes bytes → IsIpv6 bytes v → bytes ≡ spelling v (class_and_flow bytes) ++ drop 40 bytes
-bytes-spelling bytes v small is =
-    let whole : IsWhole bytes = is.whole in
+-- the header of a packet that was read is one that can be quoted
+pub IsQuoted-whole : (bytes : List ℕ) (v : Ipv6Repr) → IsIpv6 bytes v → IsQuoted bytes v 40
+IsQuoted-whole bytes v is = record {
+  room = is.whole.room;
+  version = is.version;
+  header = refl;
+  source = is.source;
+  destination = is.destination;
+  protocol = is.protocol;
+  payload = is.payload;
+  hops = is.hops;
+}
+
+-- a quoted header is spelled by its value, with its class and flow
+pub header-spelling : (bytes : List ℕ) (v : Ipv6Repr) (header_len : ℕ) → IsBytes bytes → IsQuoted bytes v header_len → bytes ≡ spelling v (class_and_flow bytes) ++ drop header_len bytes
+header-spelling bytes v header_len small is =
     let protocol : protocol_number v.next_header ≡ slice_index bytes 6 = ap protocol_number is.protocol ∙ protocol_number-protocol_of (slice_index bytes 6) in
-    peel32 bytes 0 (6 * 2 ^ 28 + class_and_flow bytes) _ small (omega (arith, whole.room)) (first_word bytes small is.version) (
-    peel16 bytes 4 v.payload_len _ small (omega (arith, whole.room)) is.payload (
-    peel8 bytes 6 (protocol_number v.next_header) _ (omega (arith, whole.room)) protocol (
-    peel8 bytes 7 v.hop_limit _ (omega (arith, whole.room)) is.hops (
-    peel_to bytes 8 24 v.src_addr.0 (v.dst_addr.0 ++ drop 40 bytes) (omega arith) is.source (
-    peel_to bytes 24 40 v.dst_addr.0 (drop 40 bytes) (omega arith) is.destination refl
+    let behind : List ℕ = drop header_len bytes in
+    peel32 bytes 0 (6 * 2 ^ 28 + class_and_flow bytes) _ small (omega (arith, is.room)) (first_word bytes small is.version) (
+    peel16 bytes 4 v.payload_len _ small (omega (arith, is.room)) is.payload (
+    peel8 bytes 6 (protocol_number v.next_header) _ (omega (arith, is.room)) protocol (
+    peel8 bytes 7 v.hop_limit _ (omega (arith, is.room)) is.hops (
+    peel_to bytes 8 24 v.src_addr.0 (v.dst_addr.0 ++ behind) (omega arith) is.source (
+    peel_to bytes 24 40 v.dst_addr.0 behind (omega arith) is.destination (ap (λ k. drop k bytes) (sym is.header))
     )
-    ∙ sym (append_assoc v.src_addr.0 v.dst_addr.0 (drop 40 bytes))
+    ∙ sym (append_assoc v.src_addr.0 v.dst_addr.0 behind)
     )
     )
     )
     )
 
+-- a packet is spelled by its header, with its class and flow, and then come payload and padding
+pub bytes-spelling : (bytes : List ℕ) (v : Ipv6Repr) → IsBytes bytes → IsIpv6 bytes v → bytes ≡ spelling v (class_and_flow bytes) ++ drop 40 bytes
+bytes-spelling bytes v small is = header-spelling bytes v 40 small (IsQuoted-whole bytes v is)
+
 -- addresses behind the first eight bytes, read
-take-first : (source destination rest : List ℕ) → length source ≡ 16 → source ≡ take 16 ((source ++ destination) ++ rest)
+pub take-first : (source destination rest : List ℕ) → length source ≡ 16 → source ≡ take 16 ((source ++ destination) ++ rest)
 take-first source destination rest len =
     sym (ap (take 16) (append_assoc source destination rest) ∙ take_at source (destination ++ rest) 16 len)
 
-take-second : (source destination rest : List ℕ) → length source ≡ 16 → length destination ≡ 16 → destination ≡ take 16 (drop 16 ((source ++ destination) ++ rest))
+pub take-second : (source destination rest : List ℕ) → length source ≡ 16 → length destination ≡ 16 → destination ≡ take 16 (drop 16 ((source ++ destination) ++ rest))
 take-second source destination rest first second =
     sym (
     ap (λ xs. take 16 (drop 16 xs)) (append_assoc source destination rest)

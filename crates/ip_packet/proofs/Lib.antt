@@ -6,3 +6,5 @@ pub mod UdpLaws
 pub mod Ipv4Laws
 pub mod Ipv6Laws
 pub mod Fronts
+pub mod QuotedLaws
+pub mod IpLaws

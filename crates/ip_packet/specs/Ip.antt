@@ -50,6 +50,11 @@ abbrev pub with_payload_len : IpRepr → ℕ → IpRepr
 with_payload_len (Ip.Ipv4 v) len = Ip.Ipv4 (record v { payload_len = len })
 with_payload_len (Ip.Ipv6 v) len = Ip.Ipv6 (record v { payload_len = len })
 
+-- the bytes are a packet with this header, and padding
+abbrev pub IsIp : Bool → List ℕ → IpRepr → Type 0
+IsIp tested bytes (Ip.Ipv4 v) = Ipv4.IsIpv4 tested bytes v
+IsIp tested bytes (Ip.Ipv6 v) = Ipv6.IsIpv6 bytes v
+
 -- what can be sent: the lengths fit their fields
 abbrev pub Fits : IpRepr → Type 0
 Fits (Ip.Ipv4 v) = Ipv4.Fits v
@@ -59,3 +64,13 @@ Fits (Ip.Ipv6 v) = Ipv6.Fits v
 abbrev pub written : Bool → IpRepr → List ℕ
 written sealed (Ip.Ipv4 v) = Ipv4.written sealed v
 written sealed (Ip.Ipv6 v) = Ipv6.written v
+
+-- each field is a number of its width
+abbrev pub IsValue : IpRepr → Type 0
+IsValue (Ip.Ipv4 v) = Ipv4.IsValue v
+IsValue (Ip.Ipv6 v) = Ipv6.IsValue v
+
+-- what a reader makes of a value that was sent
+abbrev pub normal : IpRepr → IpRepr
+normal (Ip.Ipv4 v) = Ip.Ipv4 (Ipv4.normal v)
+normal (Ip.Ipv6 v) = Ip.Ipv6 (Ipv6.normal v)

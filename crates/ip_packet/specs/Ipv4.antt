@@ -2,7 +2,7 @@
 -- length, identification, flags and offset in units of eight bytes, time to live, protocol, checksum, the
 -- addresses and options; then the payload, which ends where the total length says. What lies behind it is
 -- padding.
-use Rattle.std.specs.Prelude.{◌≡◌, ℕ, ◌+◌, ◌*◌, ◌/◌, ◌%◌, ◌<◌, ◌≤◌, ◌^◌, Bool, IsTrue, if◌then◌else◌, List, [], ◌∷◌, ◌++◌, length, take, slice_index, slice_range}
+use Rattle.std.specs.Prelude.{◌≡◌, ℕ, ◌+◌, ◌-◌, ◌*◌, ◌/◌, ◌%◌, ◌<◌, ◌≤◌, ◌^◌, Bool, IsTrue, if◌then◌else◌, List, [], ◌∷◌, ◌++◌, length, take, slice_index, slice_range}
 use Rattle.std.specs.Int.{w16, to_be_bytes}
 use Rattle.std.specs.Borrow.{GName}
 use Rattle.ip_address.specs.Address.{IsIpv4Address}
@@ -59,6 +59,20 @@ pub record IsIpv4 (tested : Bool) (bytes : List ℕ) (v : Ipv4Repr) : Type 0 whe
   pub destination : v.dst_addr.0 ≡ slice_range bytes 16 20
   pub protocol : v.next_header ≡ protocol_of (slice_index bytes 9)
   pub payload : header_len_of bytes + v.payload_len ≡ be16 bytes 2
+  pub hops : v.hop_limit ≡ slice_index bytes 8
+
+-- the bytes begin with a header of this length, as an error message quotes it (RFC 792): what it says of
+-- the whole packet isn't tested, and a total length below the header's leaves no payload
+pub record IsQuoted (bytes : List ℕ) (v : Ipv4Repr) (header_len : ℕ) : Type 0 where
+  pub room : 20 ≤ length bytes
+  pub version : slice_index bytes 0 / 16 ≡ 4
+  pub header : header_len ≡ header_len_of bytes
+  pub least : 20 ≤ header_len
+  pub within : header_len ≤ length bytes
+  pub source : v.src_addr.0 ≡ slice_range bytes 12 16
+  pub destination : v.dst_addr.0 ≡ slice_range bytes 16 20
+  pub protocol : v.next_header ≡ protocol_of (slice_index bytes 9)
+  pub payload : v.payload_len ≡ be16 bytes 2 - header_len
   pub hops : v.hop_limit ≡ slice_index bytes 8
 
 -- what the pieces of one datagram have in common (RFC 791, section 3.2)

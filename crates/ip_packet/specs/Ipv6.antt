@@ -42,6 +42,18 @@ pub record IsIpv6 (bytes : List ℕ) (v : Ipv6Repr) : Type 0 where
   pub payload : v.payload_len ≡ be16 bytes 4
   pub hops : v.hop_limit ≡ slice_index bytes 7
 
+-- the bytes begin with a header of this length, as an error message quotes it (RFC 4443, section 2.4): the
+-- payload need not be there
+pub record IsQuoted (bytes : List ℕ) (v : Ipv6Repr) (header_len : ℕ) : Type 0 where
+  pub room : 40 ≤ length bytes
+  pub version : slice_index bytes 0 / 16 ≡ 6
+  pub header : header_len ≡ 40
+  pub source : v.src_addr.0 ≡ slice_range bytes 8 24
+  pub destination : v.dst_addr.0 ≡ slice_range bytes 24 40
+  pub protocol : v.next_header ≡ protocol_of (slice_index bytes 6)
+  pub payload : v.payload_len ≡ be16 bytes 4
+  pub hops : v.hop_limit ≡ slice_index bytes 7
+
 -- traffic class and flow label, which a value doesn't keep
 abbrev pub class_and_flow : List ℕ → ℕ
 class_and_flow bytes = be32 bytes 0 % 2 ^ 28

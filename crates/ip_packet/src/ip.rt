@@ -1,12 +1,13 @@
 //! IP headers of either family.
-ghost use Rattle.std.specs.Prelude.{◌≡◌, ◌+◌, ◌≤◌, ◌<◌, ◌^◌, ◌++◌, length, drop};
+ghost use Rattle.std.specs.Prelude.{◌≡◌, ℕ, ◌+◌, ◌≤◌, ◌<◌, ◌^◌, Bool, IsTrue, IfOk, List, ◌++◌, length, drop};
 ghost use Rattle.ip_address.specs.Address.{version_of};
-ghost use Rattle.net_devices.specs.Capabilities.{computes};
-ghost use Rattle.ip_packet.specs.Ip.{version_in, source_in, destination_in, carried_in, payload_len_in, hops_in, header_len_in, with_payload_len, Fits, written};
+ghost use Rattle.net_devices.specs.Capabilities.{verifies, computes};
+ghost use Rattle.ip_packet.specs.Ip.{version_in, source_in, destination_in, carried_in, payload_len_in, hops_in, header_len_in, with_payload_len, IsIp, IsValue, Fits, written, normal};
+ghost use Rattle.ip_packet.specs.declared.ip.IpRepr.{IpRepr};
 ghost use Rattle.ip_packet.specs.declared.ip.IpRepr.TheVariants as Either;
 
-use crate::{Ipv4PacketMut, Ipv4Repr, Ipv6PacketMut, Ipv6Repr};
-use ip_address::{IpAddress, IpProtocol, IpVersion};
+use crate::{Ipv4Packet, Ipv4PacketMut, Ipv4Repr, Ipv6Packet, Ipv6PacketMut, Ipv6Repr};
+use ip_address::{Error, IpAddress, IpProtocol, IpVersion};
 use net_devices::ChecksumCapabilities;
 
 /// The header of an IP packet of either family.
@@ -17,6 +18,27 @@ pub enum IpRepr {
 }
 
 impl IpRepr {
+    /// The header of the packet in the bytes, of the family that their first four bits say. IPv4's
+    /// checksum is tested where the capabilities say that the stack does so.
+    pub fn parse(packet: &[u8], checksum_caps: &ChecksumCapabilities) -> Result<IpRepr, Error>
+        ensures found { IfOk result
+            (λ v. IsIp (verifies checksum_caps.now.ipv4) packet.now v) }
+        ensures only { (v : IpRepr)
+            → IsIp (verifies checksum_caps.now.ipv4) packet.now v
+            → result ≡ Ok v }
+    {
+        match IpVersion::of_packet(packet)? {
+            IpVersion::Ipv4 => {
+                let header = Ipv4Repr::parse(&Ipv4Packet::new_unchecked(packet), checksum_caps)?;
+                Ok(IpRepr::Ipv4(header))
+            }
+            IpVersion::Ipv6 => {
+                let header = Ipv6Repr::parse(&Ipv6Packet::new_unchecked(packet))?;
+                Ok(IpRepr::Ipv6(header))
+            }
+        }
+    }
+
     /// The header of the family of both addresses.
     pub const fn new(
         src_addr: IpAddress,
@@ -168,3 +190,26 @@ impl From<Ipv6Repr> for IpRepr {
         IpRepr::Ipv6(header)
     }
 }
+
+/// Law: a packet that was read is written again in no more bytes.
+pub fn ip_no_longer()
+    ensures { (tested : Bool) (bytes : List ℕ) (v : IpRepr)
+        → IsIp tested bytes v
+        → header_len_in v + payload_len_in v ≤ length bytes }
+{}
+
+/// Law: a packet whose header was emitted is read back in its normal form, whatever follows the
+/// payload, where a checksum that is tested was also written.
+pub fn ip_reads_back()
+    ensures { (tested sealed : Bool) (v : IpRepr) (rest : List ℕ)
+        → Fits v
+        → IsValue v
+        → payload_len_in v ≤ length rest
+        → (IsTrue tested → IsTrue sealed)
+        → IsIp tested (written sealed v ++ rest) (normal v) }
+{}
+
+/// Law: the normal form of a normal form is itself.
+pub fn ip_normal_again()
+    ensures { (v : IpRepr) → normal (normal v) ≡ normal v }
+{}

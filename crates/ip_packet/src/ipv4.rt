@@ -750,3 +750,8 @@ pub fn ipv4_reads_back()
         → (IsTrue tested → IsTrue sealed)
         → IsIpv4 tested (written sealed v ++ rest) (normal v) }
 {}
+
+/// Law: the normal form of a normal form is itself.
+pub fn ipv4_normal_again()
+    ensures { (v : Ipv4Repr) → normal (normal v) ≡ normal v }
+{}

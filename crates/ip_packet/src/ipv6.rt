@@ -479,3 +479,8 @@ pub fn ipv6_reads_back()
         → v.payload_len ≤ length rest
         → IsIpv6 (written v ++ rest) (normal v) }
 {}
+
+/// Law: the normal form of a normal form is itself.
+pub fn ipv6_normal_again()
+    ensures { (v : Ipv6Repr) → normal (normal v) ≡ normal v }
+{}

@@ -5,6 +5,7 @@ pub mod ip;
 pub mod ipv4;
 pub mod ipv6;
 mod parts;
+pub mod quoted;
 mod sealed;
 pub mod udp;
 

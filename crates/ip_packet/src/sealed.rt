@@ -15,7 +15,7 @@ pub fn sum(source: &IpAddress, destination: &IpAddress, protocol: IpProtocol, pa
         ≡ folded (covered source.now destination.now (protocol_number protocol) packet.now) }
 {
     let header = checksum::pseudo_header(source, destination, protocol, packet.len() as u32);
-    checksum::combine(&[header, checksum::data(packet)])
+    checksum::add(header, checksum::data(packet))
 }
 
 /// Whether the checksum that the packet carries holds.

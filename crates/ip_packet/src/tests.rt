@@ -1,6 +1,7 @@
 //! Packets from outside, read and written.
 ghost use Rattle.std.specs.Prelude.{◌≡◌, ◌+◌, ◌<◌, ◌≤◌, ◌^◌, ◌++◌, length, take, true};
 ghost use Rattle.ip_address.specs.declared.ip.IpAddress.TheVariants as Address;
+ghost use Rattle.net_devices.specs.Capabilities.{computes};
 ghost use Rattle.ip_packet.specs.Ipv4 as Ipv4;
 ghost use Rattle.ip_packet.specs.Udp as Udp;
 
@@ -505,4 +506,243 @@ fn headers_of_both_families(rt: HostRuntime) {
         IpRepr::new(header.src_addr(), header.dst_addr(), IpProtocol::Udp, 4, 64),
         header
     );
+}
+
+fn ipv4_header(next_header: IpProtocol, payload_len: usize) -> Ipv4Repr {
+    Ipv4Repr {
+        src_addr: Ipv4Address::new(192, 168, 0, 1),
+        dst_addr: Ipv4Address::new(192, 168, 0, 199),
+        next_header,
+        payload_len,
+        hop_limit: 64,
+    }
+}
+
+#[test]
+fn quoted_ipv4_is_read(rt: HostRuntime) {
+    let header = ipv4_header(IpProtocol::Udp, 95);
+    assert_eq!(rt;
+        Ipv4Repr::parse_quoted(&HEADER),
+        Ok((header, 20)),
+        "no payload is there"
+    );
+    let (header, header_len) = Ipv4Repr::parse_quoted(&WITH_OPTION).expect(&rt, "a header");
+    assert_eq!(rt; header_len, 24);
+    assert_eq!(rt; header.payload_len, 8, "a checksum of 0 isn't tested");
+    assert_eq!(rt; header.next_header, IpProtocol::Igmp);
+    assert_eq!(rt; header.hop_limit, 1);
+    assert_eq!(rt; header.src_addr, Ipv4Address::new(10, 0, 0, 1));
+    assert_eq!(rt; header.dst_addr, Ipv4Address::new(224, 0, 0, 22));
+    let mut bytes = WITH_OPTION;
+    bytes[3] = 23;
+    let (header, header_len) = Ipv4Repr::parse_quoted(&bytes).expect(&rt, "a header");
+    assert_eq!(rt; header_len, 24);
+    assert_eq!(rt; header.payload_len, 0, "a total length below the header's");
+    quoted::ipv4_quoted();
+    quoted::ipv4_quoted_spelled();
+    quoted::ipv4_quoted_fits();
+    quoted::ipv4_quoted_no_longer();
+    quoted::ipv4_quoted_reads_back();
+}
+
+#[test]
+fn quoted_ipv4_is_refused(rt: HostRuntime) {
+    assert_eq!(rt;
+        Ipv4Repr::parse_quoted(&HEADER[..19]),
+        Err(Error),
+        "no header"
+    );
+    assert_eq!(rt;
+        Ipv4Repr::parse_quoted(&WITH_OPTION[..23]),
+        Err(Error),
+        "options past the bytes"
+    );
+    assert!(rt; Ipv4Repr::parse_quoted(&WITH_OPTION[..24]).is_ok());
+    let mut bytes = WITH_OPTION;
+    bytes[0] = 0x66;
+    assert_eq!(rt; Ipv4Repr::parse_quoted(&bytes), Err(Error), "version 6");
+    bytes[0] = 0x44;
+    assert_eq!(rt;
+        Ipv4Repr::parse_quoted(&bytes),
+        Err(Error),
+        "a header under 20 bytes"
+    );
+}
+
+#[test]
+fn quoted_ipv6_is_read(rt: HostRuntime) {
+    let want = Ipv6Repr {
+        src_addr: Ipv6Address::new(0xfe80, 0, 0, 0, 0, 0, 0, 1),
+        dst_addr: IPV6_LINK_LOCAL_ALL_NODES,
+        next_header: IpProtocol::Udp,
+        payload_len: 4,
+        hop_limit: 64,
+    };
+    assert_eq!(rt;
+        Ipv6Repr::parse_quoted(&OVER_V6[..40]),
+        Ok((want, 40)),
+        "no payload is there"
+    );
+    assert_eq!(rt; Ipv6Repr::parse_quoted(&OVER_V6), Ok((want, 40)));
+    assert_eq!(rt;
+        Ipv6Repr::parse_quoted(&OVER_V6[..39]),
+        Err(Error),
+        "no header"
+    );
+    let mut bytes = OVER_V6;
+    bytes[0] = 0x4f;
+    assert_eq!(rt; Ipv6Repr::parse_quoted(&bytes), Err(Error), "version 4");
+    quoted::ipv6_quoted();
+    quoted::ipv6_quoted_spelled();
+    quoted::ipv6_quoted_fits();
+    quoted::ipv6_quoted_no_longer();
+    quoted::ipv6_quoted_reads_back();
+}
+
+#[test]
+fn packets_of_both_families_are_read(rt: HostRuntime) {
+    let all = ChecksumCapabilities::default();
+    let mut frame = [0; 115];
+    frame[..20].copy_from_slice(&HEADER);
+    assert_eq!(rt;
+        IpRepr::parse(&frame, &all),
+        Ok(IpRepr::Ipv4(ipv4_header(IpProtocol::Udp, 95)))
+    );
+    assert_eq!(rt;
+        IpRepr::parse(&frame[..114], &all),
+        Err(Error),
+        "a total length past the bytes"
+    );
+    let ipv6 = Ipv6Repr::parse(&Ipv6Packet::new_unchecked(&OVER_V6)).expect(&rt, "valid");
+    assert_eq!(rt; IpRepr::parse(&OVER_V6, &all), Ok(IpRepr::Ipv6(ipv6)));
+    assert_eq!(rt;
+        IpRepr::parse(&OVER_V6[..43], &all),
+        Err(Error),
+        "a payload length past the bytes"
+    );
+    frame[10] = 0;
+    assert_eq!(rt; IpRepr::parse(&frame, &all), Err(Error), "a wrong checksum");
+    assert!(rt; IpRepr::parse(&frame, &unverified()).is_ok());
+    frame[0] = 0x55;
+    assert_eq!(rt;
+        IpRepr::parse(&frame, &unverified()),
+        Err(Error),
+        "version 5"
+    );
+    assert_eq!(rt; IpRepr::parse(&[], &unverified()), Err(Error), "no bytes");
+    ip::ip_no_longer();
+    ip::ip_reads_back();
+    ip::ip_normal_again();
+    ipv4::ipv4_normal_again();
+    ipv6::ipv6_normal_again();
+}
+
+/// Writes a datagram with this payload through a closure that copies it.
+fn emit_copy(
+    frame: &mut [u8],
+    header: &UdpRepr,
+    source: &IpAddress,
+    destination: &IpAddress,
+    payload: &[u8],
+    checksum_caps: &ChecksumCapabilities,
+)
+    requires room { length frame.old ≡ 8 + length payload.now }
+    requires fits { Udp.Fits source.now destination.now payload.now }
+    ensures { frame.new
+        ≡ Udp.written source.now destination.now (computes checksum_caps.now.udp) header.now payload.now }
+{
+    let copy = |place: &mut [u8]| place.copy_from_slice(payload);
+    let mut packet = UdpPacketMut::new_unchecked(frame);
+    header.emit_with(
+        &mut packet,
+        source,
+        destination,
+        payload.len(),
+        copy,
+        checksum_caps,
+    );
+}
+
+#[test]
+fn payload_is_written_in_place(rt: HostRuntime) {
+    let all = ChecksumCapabilities::default();
+    let header = UdpRepr {
+        src_port: 48896,
+        dst_port: 53,
+    };
+    let mut bytes = [0xa5; 12];
+    emit_copy(
+        &mut bytes,
+        &header,
+        &LEFT,
+        &RIGHT,
+        &[0xaa, 0, 0, 0xff],
+        &all,
+    );
+    assert_eq!(rt; bytes, DATAGRAM);
+    emit_copy(
+        &mut bytes,
+        &header,
+        &LEFT,
+        &RIGHT,
+        &[0xaa, 0, 0, 0xff],
+        &unverified(),
+    );
+    assert_eq!(rt; &bytes[6..8], [0, 0].as_slice(), "the device computes it");
+}
+
+#[test]
+fn closure_finds_what_the_buffer_held(rt: HostRuntime) {
+    let left = IpAddress::v6(0x2001, 0xdb8, 0, 0, 0, 0, 0, 1);
+    let right = IpAddress::v6(0x2001, 0xdb8, 0, 0, 0, 0, 0, 2);
+    let mut bytes = [
+        0xff, 0xff, 0xff, 0xff, 0xff, 0xff, 0xff, 0xff, 1, 2, 3, 4, 0,
+    ];
+    let mut packet = UdpPacketMut::new_unchecked(&mut bytes);
+    let header = UdpRepr {
+        src_port: 5353,
+        dst_port: 53,
+    };
+    let last = |place: &mut [u8]| {
+        if let Some(byte) = place.last_mut() {
+            *byte = 5;
+        }
+    };
+    header.emit_with(
+        &mut packet,
+        &left,
+        &right,
+        5,
+        last,
+        &ChecksumCapabilities::default(),
+    );
+    let want = [
+        0x14, 0xe9, 0x00, 0x35, 0x00, 0x0d, 0x86, 0x3b, 1, 2, 3, 4, 5,
+    ];
+    assert_eq!(rt; bytes, want);
+}
+
+#[test]
+fn fields_stand_where_the_standards_say(rt: HostRuntime) {
+    assert_eq!(rt; udp::field::SRC_PORT, 0..2);
+    assert_eq!(rt; udp::field::DST_PORT, 2..4);
+    assert_eq!(rt; udp::field::LENGTH, 4..6);
+    assert_eq!(rt; udp::field::CHECKSUM, 6..8);
+    assert_eq!(rt; udp::field::PAYLOAD(12), 8..12);
+    assert_eq!(rt; ipv4::field::VER_IHL, 0);
+    assert_eq!(rt; ipv4::field::DSCP_ECN, 1);
+    assert_eq!(rt; ipv4::field::LENGTH, 2..4);
+    assert_eq!(rt; ipv4::field::IDENT, 4..6);
+    assert_eq!(rt; ipv4::field::FLG_OFF, 6..8);
+    assert_eq!(rt; ipv4::field::TTL, 8);
+    assert_eq!(rt; ipv4::field::PROTOCOL, 9);
+    assert_eq!(rt; ipv4::field::CHECKSUM, 10..12);
+    assert_eq!(rt; ipv4::field::SRC_ADDR, 12..16);
+    assert_eq!(rt; ipv4::field::DST_ADDR, 16..20);
+    assert_eq!(rt; ipv6::field::VER_TC_FLOW, 0..4);
+    assert_eq!(rt; ipv6::field::LENGTH, 4..6);
+    assert_eq!(rt; ipv6::field::NXT_HDR, 6);
+    assert_eq!(rt; ipv6::field::HOP_LIMIT, 7);
+    assert_eq!(rt; ipv6::field::SRC_ADDR, 8..24);
+    assert_eq!(rt; ipv6::field::DST_ADDR, 24..40);
 }

@@ -1,5 +1,6 @@
 //! User datagrams (RFC 768).
 ghost use Rattle.std.specs.Prelude.{◌≡◌, ◌↔◌, ℕ, ◌+◌, ◌<◌, ◌≤◌, ◌^◌, Bool, IsTrue, IsOk, IfOk, List, ◌++◌, length, drop};
+ghost use Rattle.std.specs.Fn.{FnOnceTakesAtMut, FnOnceReturnsAtMut};
 ghost use Rattle.ip_address.specs.Address.{version_of};
 ghost use Rattle.ip_address.specs.Fields.{be16, put16, IsBytes};
 ghost use Rattle.ip_address.specs.Sum.{folded};
@@ -367,17 +368,76 @@ impl UdpRepr {
         }
     }
 
+    /// Writes the datagram over the whole buffer as `emit` does, its payload as the closure leaves
+    /// it in its place. The closure finds there what the buffer held.
+    pub fn emit_with<F: FnOnce(&mut [u8])>(
+        &self,
+        packet: &mut UdpPacketMut,
+        source: &IpAddress,
+        destination: &IpAddress,
+        payload_len: usize,
+        emit_payload: F,
+        checksum_caps: &ChecksumCapabilities,
+    )
+        requires room { length (bytes_in packet.old) ≡ 8 + payload_len }
+        requires fits { 8 + payload_len < 2 ^ 16 }
+        requires family { version_of source.now ≡ version_of destination.now }
+        requires callable { FnOnceTakesAtMut F.FnOnce emit_payload (drop 8 (bytes_in packet.old)) }
+        ensures same_reference { name_of packet.new ≡ name_of packet.old }
+        ensures bytes { (payload : List ℕ)
+            × FnOnceReturnsAtMut F.FnOnce emit_payload (drop 8 (bytes_in packet.old)) tt payload
+            × (length payload ≡ payload_len)
+            × (bytes_in packet.new
+            ≡ written source.now destination.now (computes checksum_caps.now.udp) self.now payload) }
+    {
+        self.spell_with(packet.buffer, payload_len, emit_payload);
+        if checksum_caps.udp.tx() {
+            seal(packet.buffer, source, destination);
+        }
+    }
+
     /// Writes the datagram without a checksum.
     fn spell(&self, bytes: &mut [u8], payload: &[u8])
         requires room { length bytes.old ≡ 8 + length payload.now }
         requires fits { 8 + length payload.now < 2 ^ 16 }
         ensures { bytes.new ≡ spelling self.now payload.now 0 }
     {
+        let (header, rest) = bytes.split_at_mut(HEADER_LEN);
+        header.copy_from_slice(&self.header(payload.len()));
+        rest.copy_from_slice(payload);
+    }
+
+    /// Writes the datagram without a checksum, its payload by the closure.
+    fn spell_with<F: FnOnce(&mut [u8])>(
+        &self,
+        bytes: &mut [u8],
+        payload_len: usize,
+        emit_payload: F,
+    )
+        requires room { length bytes.old ≡ 8 + payload_len }
+        requires fits { 8 + payload_len < 2 ^ 16 }
+        requires callable { FnOnceTakesAtMut F.FnOnce emit_payload (drop 8 bytes.old) }
+        ensures { (payload : List ℕ)
+            × FnOnceReturnsAtMut F.FnOnce emit_payload (drop 8 bytes.old) tt payload
+            × (length payload ≡ payload_len)
+            × (bytes.new ≡ spelling self.now payload 0) }
+    {
+        let (header, rest) = bytes.split_at_mut(HEADER_LEN);
+        header.copy_from_slice(&self.header(payload_len));
+        emit_payload(rest);
+    }
+
+    /// The header before so many bytes of payload, without a checksum.
+    fn header(&self, payload_len: usize) -> [u8; 8]
+        requires { 8 + payload_len < 2 ^ 16 }
+        ensures { (payload : List ℕ)
+            → length payload ≡ payload_len
+            → result ++ payload ≡ spelling self.now payload 0 }
+    {
         let [source_high, source_low] = self.src_port.to_be_bytes();
         let [destination_high, destination_low] = self.dst_port.to_be_bytes();
-        let [length_high, length_low] = (bytes.len() as u16).to_be_bytes();
-        let (header, rest) = bytes.split_at_mut(HEADER_LEN);
-        header.copy_from_slice(&[
+        let [length_high, length_low] = ((HEADER_LEN + payload_len) as u16).to_be_bytes();
+        [
             source_high,
             source_low,
             destination_high,
@@ -386,8 +446,7 @@ impl UdpRepr {
             length_low,
             0,
             0,
-        ]);
-        rest.copy_from_slice(payload);
+        ]
     }
 }
 

@@ -1,0 +1,45 @@
+-- Headers of either family, written and read.
+use Rattle.std.proofs.Common.{◌≡◌, ℕ, ◌≤◌, ◌+◌, ◌/◌, Bool, IsTrue, List, ◌++◌, length, ap, sym, subst, arith}
+use Rattle.std.specs.Prelude.{slice_index}
+use Rattle.ip_packet.specs.Ip.{IsIp, IsValue, Fits, written, normal, header_len_in, payload_len_in}
+use Rattle.ip_packet.specs.Ipv4 as Ipv4
+use Rattle.ip_packet.specs.Ipv6 as Ipv6
+use Rattle.ip_packet.specs.declared.ip.IpRepr.{IpRepr}
+use Rattle.ip_packet.specs.declared.ip.IpRepr.TheVariants as Ip
+use Rattle.ip_packet.specs.declared.ipv4.Ipv4Repr.{Ipv4Repr}
+use Rattle.ip_packet.specs.declared.ipv6.Ipv6Repr.{Ipv6Repr}
+use Rattle.ip_packet.proofs.Ipv4Laws.{IsIpv4-written}
+use Rattle.ip_packet.proofs.Ipv6Laws.{IsIpv6-written}
+use Rattle.ip_packet.proofs.Protocols.{protocol_of-again}
+
+-- a packet and its header take no more room than the bytes that they were read from
+pub within : (tested : Bool) (bytes : List ℕ) (v : IpRepr) → IsIp tested bytes v → header_len_in v + payload_len_in v ≤ length bytes
+within tested bytes (Ip.Ipv4 v) is = omega (arith, is.whole.header, is.whole.within, is.payload)
+within tested bytes (Ip.Ipv6 v) is = omega (arith, is.whole.within, is.payload)
+
+-- a packet whose header was emitted is read back in its normal form, whatever follows the payload
+pub IsIp-written : (tested sealed : Bool) (v : IpRepr) (rest : List ℕ) → Fits v → IsValue v → payload_len_in v ≤ length rest → (IsTrue tested → IsTrue sealed)
+    → IsIp tested (written sealed v ++ rest) (normal v)
+IsIp-written tested sealed (Ip.Ipv4 v) rest fits value within both = IsIpv4-written tested sealed v rest fits value within both
+IsIp-written tested sealed (Ip.Ipv6 v) rest fits value within both = IsIpv6-written v rest fits value within
+
+-- the normal form of a normal form is itself
+pub normal-v4 : (v : Ipv4Repr) → Ipv4.normal (Ipv4.normal v) ≡ Ipv4.normal v
+normal-v4 v = ap (λ p. record v { next_header = p }) (protocol_of-again v.next_header)
+
+pub normal-v6 : (v : Ipv6Repr) → Ipv6.normal (Ipv6.normal v) ≡ Ipv6.normal v
+normal-v6 v = ap (λ p. record v { next_header = p }) (protocol_of-again v.next_header)
+
+pub normal-ip : (v : IpRepr) → normal (normal v) ≡ normal v
+normal-ip (Ip.Ipv4 v) = ap Ip.Ipv4 (normal-v4 v)
+normal-ip (Ip.Ipv6 v) = ap Ip.Ipv6 (normal-v6 v)
+
+-- bytes of version 4 that aren't an IPv4 packet are no packet
+pub refused-v4 : (tested : Bool) (bytes viewed : List ℕ) → viewed ≡ bytes → slice_index bytes 0 / 16 ≡ 4 → ((v : Ipv4Repr) → Ipv4.IsIpv4 tested viewed v → ⊥) → (v : IpRepr) → IsIp tested bytes v → ⊥
+refused-v4 tested bytes viewed same first none (Ip.Ipv4 v) is = none v (subst (λ xs. Ipv4.IsIpv4 tested xs v) (sym same) is)
+refused-v4 tested bytes viewed same first none (Ip.Ipv6 v) is = absurd (omega (arith, first, is.version))
+
+-- bytes of version 6 that aren't an IPv6 packet are no packet
+pub refused-v6 : (tested : Bool) (bytes viewed : List ℕ) → viewed ≡ bytes → slice_index bytes 0 / 16 ≡ 6 → ((v : Ipv6Repr) → Ipv6.IsIpv6 viewed v → ⊥) → (v : IpRepr) → IsIp tested bytes v → ⊥
+refused-v6 tested bytes viewed same first none (Ip.Ipv4 v) is = absurd (omega (arith, first, is.version))
+refused-v6 tested bytes viewed same first none (Ip.Ipv6 v) is = none v (subst (λ xs. Ipv6.IsIpv6 xs v) (sym same) is)

@@ -1,0 +1,107 @@
+-- Quoted headers and what spells them.
+use Rattle.std.proofs.Common.{◌≡◌, ℕ, ◌+◌, ◌-◌, ◌<◌, ◌≤◌, zero, suc, Bool, true, false, List, [], ◌∷◌, ◌++◌, length, get_or, take, drop, refl, sym, ◌∙◌, ap, subst, arith, length-append}
+use Rattle.std.proofs.lemmas.List.{get_or-drop}
+use Rattle.std.specs.Prelude.{slice_index, slice_range}
+use Rattle.ip_address.specs.Fields.{IsBytes}
+use Rattle.ip_address.specs.Protocol.{protocol_number, protocol_of}
+use Rattle.ip_address.specs.declared.ip.IpProtocol.{IpProtocol}
+use Rattle.ip_packet.specs.Ipv4 as Ipv4
+use Rattle.ip_packet.specs.Ipv6 as Ipv6
+use Rattle.ip_packet.specs.declared.ipv4.Ipv4Repr.{Ipv4Repr}
+use Rattle.ip_packet.specs.declared.ipv6.Ipv6Repr.{Ipv6Repr}
+use Rattle.ip_packet.proofs.Ipv4Laws as V4
+use Rattle.ip_packet.proofs.Ipv6Laws as V6
+use Rattle.ip_packet.proofs.Peel.{length-slice_range}
+use Rattle.ip_packet.proofs.Protocols.{protocol_number-protocol_of}
+
+-- a header with any checksum
+IsQuoted-spelling : (v : Ipv4Repr) (check : ℕ) (rest : List ℕ) → Ipv4.Fits v → Ipv4.IsValue v → Ipv4.IsQuoted (Ipv4.spelling v (Ipv4.sent_fields check) ++ rest) (Ipv4.normal v) 20
+IsQuoted-spelling v check rest fits value =
+    let all : length (Ipv4.spelling v (Ipv4.sent_fields check) ++ rest) ≡ 20 + length rest =
+    length-append (Ipv4.spelling v (Ipv4.sent_fields check)) rest ∙ ap (λ n. n + length rest) (V4.length-spelling v check value)
+    in
+    record {
+      room = omega (arith, all);
+      version = refl;
+      header = refl;
+      least = omega arith;
+      within = omega (arith, all);
+      source = V4.take-first v.src_addr.0 v.dst_addr.0 rest value.source.0;
+      destination = V4.take-second v.src_addr.0 v.dst_addr.0 rest value.source.0 value.destination.0;
+      protocol = refl;
+      payload = omega (arith, fits);
+      hops = refl;
+    }
+
+-- an emitted IPv4 header is read in its normal form, whatever follows it
+pub IsQuoted-v4 : (sealed : Bool) (v : Ipv4Repr) (rest : List ℕ) → Ipv4.Fits v → Ipv4.IsValue v → Ipv4.IsQuoted (Ipv4.written sealed v ++ rest) (Ipv4.normal v) 20
+IsQuoted-v4 false v rest fits value = IsQuoted-spelling v 0 rest fits value
+IsQuoted-v4 true v rest fits value = IsQuoted-spelling v _ rest fits value
+
+-- an emitted IPv6 header is read in its normal form, whatever follows it
+pub IsQuoted-v6 : (v : Ipv6Repr) (rest : List ℕ) → Ipv6.Fits v → Ipv6.IsValue v → Ipv6.IsQuoted (Ipv6.written v ++ rest) (Ipv6.normal v) 40
+IsQuoted-v6 v rest fits value =
+    let all : length (Ipv6.written v ++ rest) ≡ 40 + length rest =
+    omega (arith, value.source.0, value.destination.0, length-append (v.src_addr.0 ++ v.dst_addr.0) rest, length-append v.src_addr.0 v.dst_addr.0)
+    in
+    record {
+      room = omega (arith, all);
+      version = refl;
+      header = refl;
+      source = V6.take-first v.src_addr.0 v.dst_addr.0 rest value.source.0;
+      destination = V6.take-second v.src_addr.0 v.dst_addr.0 rest value.source.0 value.destination.0;
+      protocol = refl;
+      payload = omega (arith, fits);
+      hops = refl;
+    }
+
+-- a part of bytes is bytes
+IsBytes-take : (n : ℕ) (bytes : List ℕ) → IsBytes bytes → IsBytes (take n bytes)
+IsBytes-take zero bytes small i = omega arith
+IsBytes-take (suc n) [] small i = omega arith
+IsBytes-take (suc n) (b ∷ bytes) small zero = small 0
+IsBytes-take (suc n) (b ∷ bytes) small (suc i) = IsBytes-take n bytes (λ j. small (suc j)) i
+
+IsBytes-part : (bytes : List ℕ) (i k : ℕ) → IsBytes bytes → IsBytes (slice_range bytes i k)
+IsBytes-part bytes i k small =
+    IsBytes-take (k - i) (drop i bytes) (λ j. subst (λ b. b < 256) (sym (get_or-drop i bytes j 0)) (small (i + j)))
+
+-- the bytes between two places, as a field
+part : (bytes field : List ℕ) (i k n : ℕ) → IsBytes bytes → i + n ≡ k → k ≤ length bytes → field ≡ slice_range bytes i k → (length field ≡ n) × IsBytes field
+part bytes field i k n small len room is =
+    (omega (arith, len, room, ap length is, length-slice_range bytes i k (omega (arith, len)) room), subst IsBytes (sym is) (IsBytes-part bytes i k small))
+
+-- a number that was read of a byte
+numbered : (bytes : List ℕ) (i : ℕ) (p : IpProtocol) → IsBytes bytes → p ≡ protocol_of (slice_index bytes i) → protocol_number p < 256
+numbered bytes i p small is =
+    let b : get_or bytes i 0 < 256 = small i in
+    omega (arith, ap protocol_number is, protocol_number-protocol_of (slice_index bytes i), b)
+
+-- a header that was read can be written
+pub fits-v4 : (bytes : List ℕ) (v : Ipv4Repr) (header_len : ℕ) → IsBytes bytes → Ipv4.IsQuoted bytes v header_len → Ipv4.Fits v × Ipv4.IsValue v
+fits-v4 bytes v header_len small is =
+    let high : get_or bytes 2 0 < 256 = small 2 in
+    let low : get_or bytes 3 0 < 256 = small 3 in
+    let hops : get_or bytes 8 0 < 256 = small 8 in (
+      omega (arith, is.payload, is.least),
+      record {
+        source = part bytes v.src_addr.0 12 16 4 small refl (omega (arith, is.room)) is.source;
+        destination = part bytes v.dst_addr.0 16 20 4 small refl is.room is.destination;
+        protocol = numbered bytes 9 v.next_header small is.protocol;
+        hops = omega (arith, is.hops);
+      },
+    )
+
+pub fits-v6 : (bytes : List ℕ) (v : Ipv6Repr) (header_len : ℕ) → IsBytes bytes → Ipv6.IsQuoted bytes v header_len → Ipv6.Fits v × Ipv6.IsValue v
+fits-v6 bytes v header_len small is =
+    let high : get_or bytes 4 0 < 256 = small 4 in
+    let low : get_or bytes 5 0 < 256 = small 5 in
+    let hops : get_or bytes 7 0 < 256 = small 7 in (
+      omega (arith, is.payload),
+      record {
+        source = part bytes v.src_addr.0 8 24 16 small refl (omega (arith, is.room)) is.source;
+        destination = part bytes v.dst_addr.0 24 40 16 small refl is.room is.destination;
+        protocol = numbered bytes 6 v.next_header small is.protocol;
+        hops = omega (arith, is.hops);
+      },
+    )
