@@ -1,6 +1,6 @@
 -- Headers as values.
-use Rattle.std.proofs.Common.{◌≡◌, ℕ, Bool, List, refl}
-use Rattle.std.specs.Prelude.{Option, Result, Ok}
+use Rattle.std.proofs.Common.{◌≡◌, ℕ, Bool, refl}
+use Rattle.std.specs.Prelude.{Option}
 use Rattle.ip_address.specs.declared.seq_number.SeqNumber.{SeqNumber}
 use Rattle.ip_tcp.specs.Control.{control_of}
 use Rattle.ip_tcp.specs.declared.control.TcpControl.{TcpControl}

@@ -1,5 +1,11 @@
+pub mod Grammar
 pub mod Headers
+pub mod Kept
+pub mod Read
 pub mod Sealed
 pub mod Sent
+pub mod Spelled
 pub mod Steps
+pub mod Told
+pub mod Widths
 pub mod Written

@@ -1,14 +1,16 @@
 -- Checksums over the pseudo header and the segment.
-use Rattle.std.proofs.Common.{◌≡◌, ◌≢◌, ℕ, ◌+◌, ◌-◌, ◌*◌, ◌/◌, ◌%◌, ◌<◌, List, refl, sym, ◌∙◌, ap, arith, ◌↔◌, IsTrue}
+use Rattle.std.proofs.Common.{refl, ◌≤◌, ◌<◌, true, length, subst, ◌≡◌, ◌≢◌, ℕ, ◌+◌, ◌-◌, ◌/◌, ◌%◌, List, sym, ◌∙◌, ap, arith, ◌↔◌, IsTrue}
 use Rattle.std.specs.Prelude.{◌==◌}
 use Rattle.std.proofs.lemmas.Bool.{eqb-true, eq-eqb}
 use Rattle.std.proofs.lemmas.List.{set-set, set_comm}
-use Rattle.std.proofs.Math.ListN.{set}
-use Rattle.ip_address.proofs.Sums.{ChecksumHolds-folded}
-use Rattle.ip_address.specs.Fields.{put16}
-use Rattle.ip_address.specs.Sum.{folded, ChecksumHolds}
+use Rattle.std.proofs.Math.ListN.{set, length-set}
+use Rattle.ip_address.proofs.Sums.{ChecksumHolds-folded, ChecksumHolds-put16}
+use Rattle.ip_address.specs.Fields.{be16, put16}
+use Rattle.ip_address.specs.Sum.{word_sum, folded, ChecksumHolds}
+use Rattle.ip_address.specs.Pseudo.{pseudo_of}
 use Rattle.ip_address.specs.declared.ip.IpAddress.{IpAddress}
-use Rattle.ip_tcp.specs.Tcp.{covered, with_checksum}
+use Rattle.ip_tcp.specs.Tcp.{IsChecked, IsTcp, covered, with_checksum}
+use Rattle.ip_tcp.specs.declared.header.TcpHeader.{TcpHeader}
 
 -- the sum is all ones exactly where the checksum holds
 pub all_ones-holds : (sum total : ℕ) → sum ≡ folded total → IsTrue (sum == 65535) ↔ ChecksumHolds total
@@ -33,3 +35,13 @@ with_checksum-steps source destination old cleared new sum first sums last =
     last ∙ ap (λ n. put16 cleared 16 (65535 - n)) sums
     ∙ ap (λ xs. put16 xs 16 (65535 - folded (covered source destination xs))) first
     ∙ put16-put16 old 16 0 (65535 - folded (covered source destination (put16 old 16 0)))
+
+-- a segment whose checksum holds isn't read once one aligned word is changed to a number of another class
+pub IsTcp-put16 : (source destination : IpAddress) (bytes : List ℕ) (i n : ℕ) (v : TcpHeader) → IsChecked source destination bytes → i % 2 ≡ 0 → i + 2 ≤ length bytes → n < 65536
+    → be16 bytes i % 65535 ≢ n % 65535 → IsTcp source destination true (put16 bytes i n) v → ⊥
+IsTcp-put16 source destination bytes i n v checked even within small other is =
+    let len : length (put16 bytes i n) ≡ length bytes = simp length-set in
+    let header : ℕ → ℕ = λ k. word_sum (pseudo_of source destination 6 k) in
+    ChecksumHolds-put16 (header (length bytes)) bytes i n even within small other checked (
+    subst (λ k. ChecksumHolds (header k + word_sum (put16 bytes i n))) len (is.checked refl)
+    )

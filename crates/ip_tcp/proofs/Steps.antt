@@ -1,8 +1,9 @@
 -- Options read one by one.
-use Rattle.std.proofs.Common.{◌≡◌, ◌≢◌, ℕ, ◌+◌, ◌-◌, ◌*◌, ◌%◌, ◌<◌, ◌≤◌, zero, suc, Bool, true, false, List, [], ◌∷◌, ◌++◌, length, take, drop, refl, sym, ◌∙◌, ap, subst, arith, ◌↔◌, inl, inr, length-drop, take_all}
-use Rattle.std.specs.Prelude.{Option, Some, None, slice_index, slice_range, ◌==◌, if◌then◌else◌, nat_le}
+use Rattle.std.proofs.Common.{◌≡◌, ◌≢◌, ℕ, ◌-◌, ◌<◌, ◌≤◌, true, false, List, [], ◌∷◌, length, take, drop, refl, sym, ◌∙◌, ap, subst, arith, ◌↔◌, inl, inr, length-drop, take_all}
+use Rattle.std.specs.Prelude.{Option, Some, None, slice_index, slice_range}
 use Rattle.std.proofs.lemmas.Bool.Decides.{eqb_tells, leb_tells}
-use Rattle.ip_tcp.specs.Options.{OptionValue, EndOfList, First, first_option, first_long, before, inside, is_end, Spells, Says, taken, all_taken}
+use Rattle.ip_tcp.proofs.Grammar.{before-read, empty, first_option-spelled}
+use Rattle.ip_tcp.specs.Options.{OptionValue, EndOfList, First, first_option, first_long, inside, is_end, Begins, Spells, Says, taken, all_taken}
 use Rattle.ip_tcp.specs.declared.option.TcpOptions.{TcpOptions}
 
 -- what a reader answered, with the end of options and nothing for a refusal
@@ -23,43 +24,47 @@ same_rest : (o p : OptionValue) (r s : List ℕ) (answer : Option First) → ans
 unfolding rest_or
 same_rest o p r s answer a b = ap rest_or (sym a ∙ b)
 
--- no bytes have no first option
-none_first : (bytes : List ℕ) (f : First) → bytes ≡ [] → first_option bytes ≡ Some f → ⊥
-none_first bytes f none is = let e : first_option bytes ≡ None = ap first_option none in cc
+-- no bytes begin with no option
+none_first : (bytes : List ℕ) (o : OptionValue) (r : List ℕ) → bytes ≡ [] → Begins bytes o r → ⊥
+none_first bytes o r none begins =
+    let is : first_option bytes ≡ Some (record { option = o; rest = r }) = (first_option-spelled bytes r o).1 begins in
+    let e : first_option bytes ≡ None = ap first_option none in
+    cc
 
 -- bytes that are no option spell none
 pub Spells-none : (os : List OptionValue) (bytes : List ℕ) → bytes ≢ [] → first_option bytes ≡ None → Spells os bytes → ⊥
 Spells-none [] bytes some is s = some s
-Spells-none (EndOfList ∷ os) bytes some is s = let e = s.1 in cc
-Spells-none (o ∷ os) bytes some is s = let e = s.1 in cc
+Spells-none (EndOfList ∷ os) bytes some is s = let e = (first_option-spelled bytes s.0 EndOfList).1 s.1 in cc
+Spells-none (o ∷ os) bytes some is s = let e = (first_option-spelled bytes s.0 o).1 s.1 in cc
 
 -- no bytes spell no options
 Spells-empty : (os : List OptionValue) (bytes : List ℕ) → bytes ≡ [] → Spells os bytes → os ≡ []
 Spells-empty [] bytes none s = refl
-Spells-empty (EndOfList ∷ os) bytes none s = absurd (none_first bytes _ none s.1)
-Spells-empty (o ∷ os) bytes none s = absurd (none_first bytes _ none s.1)
+Spells-empty (EndOfList ∷ os) bytes none s = absurd (none_first bytes EndOfList s.0 none s.1)
+Spells-empty (o ∷ os) bytes none s = absurd (none_first bytes o s.0 none s.1)
 
 -- what bytes spell that begin with the end of options
 pub Spells-end : (os : List OptionValue) (bytes : List ℕ) (o : OptionValue) (r : List ℕ) → first_option bytes ≡ Some (record { option = o; rest = r }) → is_end o ≡ true
     → (so_far : TcpOptions) → Spells os bytes → all_taken so_far os ≡ so_far
 Spells-end [] bytes o r is end so_far s = refl
 Spells-end (EndOfList ∷ os) bytes o r is end so_far s = ap (all_taken so_far) s.2
-Spells-end (p ∷ os) bytes o r is end so_far s = let e = same_option o p r s.0 (first_option bytes) is s.1 in let f = ap is_end e in cc
+Spells-end (p ∷ os) bytes o r is end so_far s = let e = same_option o p r s.0 (first_option bytes) is ((first_option-spelled bytes s.0 p).1 s.1) in let f = ap is_end e in cc
 
 -- the option at the front of what is spelled
 Says-unfold : (so_far v : TcpOptions) (os : List OptionValue) (bytes : List ℕ) (o : OptionValue) (r : List ℕ) → first_option bytes ≡ Some (record { option = o; rest = r }) → is_end o ≡ false
     → Spells os bytes → v ≡ all_taken so_far os → Says (taken so_far o) r v
-Says-unfold so_far v [] bytes o r is more s all = absurd (none_first bytes _ s is)
-Says-unfold so_far v (EndOfList ∷ os) bytes o r is more s all = absurd (let e = same_option o EndOfList r s.0 (first_option bytes) is s.1 in let f = ap is_end e in cc)
+Says-unfold so_far v [] bytes o r is more s all = absurd (none_first bytes o r s ((first_option-spelled bytes r o).0 is))
+Says-unfold so_far v (EndOfList ∷ os) bytes o r is more s all = absurd (let e = same_option o EndOfList r s.0 (first_option bytes) is ((first_option-spelled bytes s.0 EndOfList).1 s.1) in let f = ap is_end e in cc)
 Says-unfold so_far v (p ∷ os) bytes o r is more s all =
-    let e = same_option o p r s.0 (first_option bytes) is s.1 in
-    let f = same_rest o p r s.0 (first_option bytes) is s.1 in
+    let next = (first_option-spelled bytes s.0 p).1 s.1 in
+    let e = same_option o p r s.0 (first_option bytes) is next in
+    let f = same_rest o p r s.0 (first_option bytes) is next in
     (os, subst (Spells os) (sym f) s.2, all ∙ ap (λ q. all_taken (taken so_far q) os) (sym e))
 
 pub Says-fold : (so_far v : TcpOptions) (bytes : List ℕ) (o : OptionValue) (r : List ℕ) → first_option bytes ≡ Some (record { option = o; rest = r }) → is_end o ≡ false
     → Says (taken so_far o) r v → Says so_far bytes v
 Says-fold so_far v bytes EndOfList r is more says = absurd (cc more)
-Says-fold so_far v bytes o r is more says = (o ∷ says.0, (r, is, says.1), says.2)
+Says-fold so_far v bytes o r is more says = (o ∷ says.0, (r, (first_option-spelled bytes r o).0 is, says.1), says.2)
 
 -- one option more
 pub Says-step : (so_far v : TcpOptions) (bytes : List ℕ) (o : OptionValue) (r : List ℕ) → first_option bytes ≡ Some (record { option = o; rest = r }) → is_end o ≡ false
@@ -74,7 +79,7 @@ Says-next so_far next v bytes o r is more made = rw made (Says-step so_far v byt
 
 -- the end of options
 Says-at_end : (so_far : TcpOptions) (bytes : List ℕ) (o : OptionValue) (r : List ℕ) → first_option bytes ≡ Some (record { option = o; rest = r }) → is_end o ≡ true → Says so_far bytes so_far
-Says-at_end so_far bytes EndOfList r is end = (EndOfList ∷ [], (r, is, refl), refl)
+Says-at_end so_far bytes EndOfList r is end = (EndOfList ∷ [], (r, (first_option-spelled bytes r EndOfList).0 is, refl), refl)
 Says-at_end so_far bytes o r is end = absurd (cc end)
 
 pub Says-end : (so_far v : TcpOptions) (bytes : List ℕ) (o : OptionValue) (r : List ℕ) → first_option bytes ≡ Some (record { option = o; rest = r }) → is_end o ≡ true
@@ -83,10 +88,6 @@ Says-end so_far v bytes o r is end =
     (Says-at_end so_far bytes o r is end, λ says. sym (says.2 ∙ Spells-end says.0 bytes o r is end so_far says.1))
 
 -- no bytes are left
-empty : (bytes : List ℕ) → length bytes ≡ 0 → bytes ≡ []
-empty [] none = refl
-empty (b ∷ bytes) none = absurd (omega arith)
-
 pub Says-nothing : (so_far : TcpOptions) (bytes : List ℕ) → length bytes ≡ 0 → Says so_far bytes so_far
 Says-nothing so_far bytes none = ([], empty bytes none, refl)
 
@@ -105,12 +106,6 @@ first_option-long (kind ∷ xs) rest room is not_end not_nop =
       | inr miss ↦ elim (eqb_tells kind 1) [ inl hit ↦ absurd (not_nop hit.1) | inr other ↦ rw (miss.0, other.0, same) refl ]
     ]
 
--- what is behind an option that is read is what it was put before
-before-rest : (m : Option OptionValue) (xs : List ℕ) (f : First) → before m xs ≡ Some f → f.rest ≡ xs
-unfolding rest_or
-before-rest None xs f is = absurd (cc is)
-before-rest (Some o) xs f is = sym (ap rest_or is)
-
 -- an option has at least one byte
 first_long-shorter : (bytes : List ℕ) (n : ℕ) (f : First) → first_long bytes n ≡ Some f → length f.rest < length bytes
 first_long-shorter bytes n f is =
@@ -119,7 +114,7 @@ first_long-shorter bytes n f is =
       | inl least ↦ elim (leb_tells n (length bytes)) [
         | inr miss ↦ absurd (let e = rw (least.0, miss.0) at is in cc e)
         | inl within ↦
-            let rest : f.rest ≡ drop n bytes = before-rest (inside (slice_index bytes 0) (slice_range bytes 2 n)) (drop n bytes) f (rw (least.0, within.0) at is) in
+            let rest : f.rest ≡ drop n bytes = (before-read (inside (slice_index bytes 0) (slice_range bytes 2 n)) (drop n bytes) f (rw (least.0, within.0) at is)).1 in
             let e : length f.rest ≡ length (drop n bytes) = ap length rest in
             omega (arith, e, length-drop n bytes, least.1, within.1)
       ]

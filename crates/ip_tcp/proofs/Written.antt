@@ -1,17 +1,17 @@
 -- A segment that was sent, read back.
-use Rattle.std.proofs.Common.{◌≡◌, ◌≢◌, ℕ, ◌+◌, ◌-◌, ◌*◌, ◌/◌, ◌%◌, ◌<◌, ◌≤◌, ◌^◌, Bool, true, false, IsTrue, List, ◌++◌, length, take, drop, replicate, refl, sym, ◌∙◌, ap, subst, arith, length-append}
-use Rattle.std.specs.Prelude.{Option, Some, None, slice_index, ◌==◌, if◌then◌else◌}
+use Rattle.std.proofs.Common.{◌≡◌, ℕ, ◌+◌, ◌-◌, ◌*◌, ◌/◌, ◌%◌, ◌<◌, ◌≤◌, ◌^◌, Bool, true, false, IsTrue, List, ◌++◌, length, replicate, refl, sym, ap, subst, arith, length-append}
+use Rattle.std.specs.Prelude.{Option, Some, None, ◌==◌, if◌then◌else◌}
 use Rattle.std.specs.Int.{w32, to_be_bytes}
 use Rattle.std.proofs.lemmas.List.{take_at, drop_at, length-replicate}
 use Rattle.ip_address.proofs.Sums.{ChecksumHolds-complement}
-use Rattle.ip_address.specs.Fields.{be16, be32}
+use Rattle.ip_address.specs.Fields.{be32}
 use Rattle.ip_address.specs.Sum.{word_sum, folded, ChecksumHolds}
 use Rattle.ip_address.specs.declared.ip.IpAddress.{IpAddress}
 use Rattle.ip_address.specs.declared.seq_number.SeqNumber.{SeqNumber}
 use Rattle.ip_tcp.proofs.Sent.{Says-area}
 use Rattle.ip_tcp.specs.Control.{control_of, control_bits}
 use Rattle.ip_tcp.specs.Options.{Says, no_options, options_area, options_room, options_bytes, permitted_options, range_options, sack_options, size_options, scale_options, stamp_options, padded, sent_bytes, normal_options}
-use Rattle.ip_tcp.specs.Tcp.{IsTcp, IsWhole, IsChecked, IsValue, IsAck, Fits, covered, spelling, fixed_fields, written, header_len, header_len_of, options_of, payload_of, control_in, acknowledged, acknowledges, sent_ack, sent_flags, normal}
+use Rattle.ip_tcp.specs.Tcp.{IsTcp, IsChecked, IsValue, IsAck, covered, spelling, fixed_fields, sent_fields, written, header_len_of, options_of, payload_of, acknowledges, sent_ack, normal}
 use Rattle.ip_tcp.specs.declared.control.TcpControl.{TcpControl}
 use Rattle.ip_tcp.specs.declared.control.TcpControl.TheVariants as Control
 use Rattle.ip_tcp.specs.declared.header.TcpHeader.{TcpHeader}
@@ -138,7 +138,7 @@ payload_of-spelling v payload check =
     let area : List ℕ = options_area acks v.options in
     let len : length area ≡ padded (options_room v.options) = length-options_area acks v.options in
     let head : header_len_of (spelling v check payload) ≡ 20 + padded (options_room v.options) = len-read (options_room v.options) in
-    drop_at (fixed_fields v check ++ area) payload (header_len_of (spelling v check payload)) (omega (arith, head, len))
+    drop_at (fixed_fields v (sent_fields v check) ++ area) payload (header_len_of (spelling v check payload)) (omega (arith, head, len))
 
 pub payload_of-written : (source destination : IpAddress) (sealed : Bool) (v : TcpHeader) (payload : List ℕ) → payload_of (written source destination sealed v payload) ≡ payload
 payload_of-written source destination false v payload = payload_of-spelling v payload 0

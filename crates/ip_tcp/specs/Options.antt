@@ -1,7 +1,7 @@
 -- TCP options (RFC 9293, section 3.2; RFC 7323, sections 2.2 and 3.2; RFC 2018, sections 2 and 3). The end of
 -- the options and a no-operation are one byte. All others are their kind, their length with these two bytes,
 -- and what is inside.
-use Rattle.std.specs.Prelude.{◌≡◌, ◌==◌, ℕ, ◌+◌, ◌%◌, ◌<◌, ◌^◌, Bool, true, false, nat_le, if◌then◌else◌, Option, Some, None, List, [], ◌∷◌, ◌++◌, length, take, drop, slice_index, slice_range, min, replicate, ◌-◌, ◌*◌, ◌/◌}
+use Rattle.std.specs.Prelude.{◌≡◌, ◌≢◌, ◌==◌, ℕ, ◌+◌, ◌%◌, ◌<◌, ◌^◌, Bool, true, false, nat_le, if◌then◌else◌, Option, Some, None, List, [], ◌∷◌, ◌++◌, length, take, drop, slice_index, slice_range, min, replicate, ◌-◌, ◌*◌, ◌/◌}
 use Rattle.std.specs.Int.{w16, w32, to_be_bytes}
 use Rattle.ip_address.specs.Fields.{be16, be32}
 use Rattle.ip_tcp.specs.declared.option.TcpOption.{TcpOption}
@@ -77,11 +77,40 @@ abbrev pub is_end : OptionValue → Bool
 is_end EndOfList = true
 is_end _ = false
 
--- the bytes are these options; what is behind the end of the options is not looked at
+-- an option of more than one byte: its kind, its length with these two bytes, and what is inside
+abbrev pub long_option : ℕ → List ℕ → List ℕ
+long_option kind inner = kind ∷ (2 + length inner) ∷ inner
+
+-- a kind of option that is skipped
+pub record IsOtherKind (kind : ℕ) : Type 0 where
+  pub end : kind ≢ 0
+  pub no_operation : kind ≢ 1
+  pub size : kind ≢ 2
+  pub scale : kind ≢ 3
+  pub permitted : kind ≢ 4
+  pub ranges : kind ≢ 5
+  pub stamp : kind ≢ 8
+
+-- the bytes spell the option
+abbrev pub IsOption : OptionValue → List ℕ → Type 0
+IsOption EndOfList bytes = bytes ≡ 0 ∷ []
+IsOption NoOperation bytes = bytes ≡ 1 ∷ []
+IsOption (MaxSegmentSize n) bytes = (inner : List ℕ) × (bytes ≡ long_option 2 inner) × (length inner ≡ 2) × (n ≡ be16 inner 0)
+IsOption (WindowScale n) bytes = (inner : List ℕ) × (bytes ≡ long_option 3 inner) × (length inner ≡ 1) × (n ≡ slice_index inner 0)
+IsOption SackPermitted bytes = bytes ≡ long_option 4 []
+IsOption (SackRange ranges) bytes = (inner : List ℕ) × (bytes ≡ long_option 5 inner) × (length inner % 8 ≡ 0) × (ranges ≡ ranges_of inner)
+IsOption (TimeStamp tsval tsecr) bytes = (inner : List ℕ) × (bytes ≡ long_option 8 inner) × (length inner ≡ 8) × (tsval ≡ be32 inner 0) × (tsecr ≡ be32 inner 4)
+IsOption (Unknown kind inner) bytes = (bytes ≡ long_option kind inner) × IsOtherKind kind
+
+-- the option stands at the front of the bytes, before the rest
+abbrev pub Begins : List ℕ → OptionValue → List ℕ → Type 0
+Begins bytes o rest = (front : List ℕ) × IsOption o front × (bytes ≡ front ++ rest)
+
+-- the bytes are these options, one after another; what is behind the end of the options is not looked at
 abbrev pub Spells : List OptionValue → List ℕ → Type 0
 Spells [] bytes = bytes ≡ []
-Spells (EndOfList ∷ os) bytes = (rest : List ℕ) × (first_option bytes ≡ Some (record { option = EndOfList; rest = rest })) × (os ≡ [])
-Spells (o ∷ os) bytes = (rest : List ℕ) × (first_option bytes ≡ Some (record { option = o; rest = rest })) × Spells os rest
+Spells (EndOfList ∷ os) bytes = (rest : List ℕ) × Begins bytes EndOfList rest × (os ≡ [])
+Spells (o ∷ os) bytes = (rest : List ℕ) × Begins bytes o rest × Spells os rest
 
 -- no options
 abbrev pub no_options : TcpOptions
@@ -174,6 +203,11 @@ sent_bytes acknowledges v =
     options_bytes (size_options v.max_seg_size) ++ options_bytes (scale_options v.window_scale)
     ++ options_bytes (sack_options v.sack_permitted acknowledges v.sack_ranges) ++ options_bytes (stamp_options v.timestamp)
 
+-- the same for SACK permitted and the ranges, each of which counts
+abbrev pub sack_room : TcpOptions → ℕ
+sack_room v =
+    length (options_bytes (permitted_options v.sack_permitted)) + length (options_bytes (range_options v.sack_ranges))
+
 -- how many bytes room is made for: ranges count also where they aren't sent
 abbrev pub options_room : TcpOptions → ℕ
 options_room v =
@@ -220,6 +254,11 @@ abbrev pub normal_options : Bool → TcpOptions → TcpOptions
 normal_options acknowledges v =
     record v { window_scale = read_scale v.window_scale; sack_ranges = sent_ranges v.sack_permitted acknowledges v.sack_ranges }
 
+-- options as a reader gives them: the scale ends at 14, and the ranges are closed up
+pub record AreRead (v : TcpOptions) : Type 0 where
+  pub scale : read_scale v.window_scale ≡ v.window_scale
+  pub ranges : closed_up v.sack_ranges ≡ v.sack_ranges
+
 -- each field is a number of its width
 abbrev pub IsNumber : ℕ → Option ℕ → Type 0
 IsNumber width None = Unit {0}
@@ -242,3 +281,17 @@ pub record AreOptions (v : TcpOptions) : Type 0 where
   pub scale : IsNumber 256 v.window_scale
   pub ranges : AreRanges v.sack_ranges
   pub stamp : IsStamp v.timestamp
+
+-- an option whose numbers have the widths of their fields, and that isn't a known one under the name of an unknown
+abbrev pub IsOptionValue : OptionValue → Type 0
+IsOptionValue (MaxSegmentSize n) = n < 2 ^ 16
+IsOptionValue (WindowScale n) = n < 256
+IsOptionValue (SackRange ranges) = AreRanges ranges
+IsOptionValue (TimeStamp tsval tsecr) = (tsval < 2 ^ 32) × (tsecr < 2 ^ 32)
+IsOptionValue (Unknown kind inner) = IsOtherKind kind
+IsOptionValue _ = Unit {0}
+
+-- what a reader makes of an option that was sent
+abbrev pub normal_option : OptionValue → OptionValue
+normal_option (SackRange ranges) = SackRange (closed_up ranges)
+normal_option o = o

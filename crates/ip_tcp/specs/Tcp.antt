@@ -2,19 +2,20 @@
 -- acknowledgement number, four bytes each; header length in units of four bytes, reserved bits and flags, in
 -- two bytes; window, checksum and urgent pointer, two bytes each; options up to the header's length; then
 -- the payload, up to the end.
-use Rattle.std.specs.Prelude.{◌≡◌, ◌≢◌, ◌==◌, IsTrue, Option, Some, None, ℕ, ◌+◌, ◌-◌, ◌*◌, ◌/◌, ◌%◌, ◌<◌, ◌≤◌, Bool, if◌then◌else◌, ◌^◌, true, false, List, [], ◌∷◌, ◌++◌, length, drop, slice_index, slice_range}
+use Rattle.std.specs.Prelude.{◌≡◌, ◌≢◌, ◌==◌, IsTrue, Option, Some, None, ℕ, ◌+◌, ◌-◌, ◌*◌, ◌/◌, ◌%◌, ◌<◌, ◌≤◌, Bool, if◌then◌else◌, ◌^◌, true, false, List, ◌∷◌, ◌++◌, length, drop, slice_index, slice_range}
 use Rattle.std.specs.Int.{w16, w32, to_be_bytes}
 use Rattle.std.specs.Borrow.{GName}
 use Rattle.ip_address.specs.Address.{version_of}
-use Rattle.ip_address.specs.Fields.{be16, be32, put16}
+use Rattle.ip_address.specs.Fields.{be16, be32, put8, put16}
 use Rattle.ip_address.specs.Pseudo.{pseudo_of}
 use Rattle.ip_address.specs.Sum.{word_sum, folded, ChecksumHolds}
 use Rattle.ip_address.specs.declared.ip.IpAddress.{IpAddress}
 use Rattle.ip_address.specs.declared.seq_number.SeqNumber.{SeqNumber}
-use Rattle.ip_tcp.specs.Control.{control_of, control_bits}
+use Rattle.ip_tcp.specs.Control.{control_of, control_bits, is_quiet}
 use Rattle.ip_tcp.specs.Options.{Says, no_options, padded, options_room, options_area, normal_options, AreOptions}
 use Rattle.ip_tcp.specs.declared.control.TcpControl.{TcpControl}
 use Rattle.ip_tcp.specs.declared.header.TcpHeader.{TcpHeader}
+use Rattle.ip_tcp.specs.declared.option.TcpOptions.{TcpOptions}
 use Rattle.ip_tcp.specs.declared.repr.TcpRepr.{TcpRepr}
 use Rattle.ip_tcp.specs.declared.packet.TcpPacket.{TcpPacket}
 use Rattle.ip_tcp.specs.declared.packet_mut.TcpPacketMut.{TcpPacketMut}
@@ -48,6 +49,10 @@ flag bytes i weight = slice_index bytes i / weight % 2 == 1
 -- the bit of this weight set so in a byte, and all others as they were
 abbrev pub with_flag : ℕ → ℕ → Bool → ℕ
 with_flag byte weight value = byte / (2 * weight) * (2 * weight) + (if value then weight else 0) + byte % weight
+
+-- the bytes with the bit of this weight in the byte at i set so
+abbrev pub put_flag : List ℕ → ℕ → ℕ → Bool → List ℕ
+put_flag bytes i weight value = put8 bytes i (with_flag (slice_index bytes i) weight value)
 
 -- the options, with what is behind their end
 abbrev pub options_of : List ℕ → List ℕ
@@ -88,6 +93,10 @@ control_in bytes = control_of (flag bytes 13 2) (flag bytes 13 1) (flag bytes 13
 abbrev pub acknowledged : List ℕ → Option SeqNumber
 acknowledged bytes = if flag bytes 13 16 then Some (record { 0 = be32 bytes 8 }) else None
 
+-- the header's options make these
+abbrev pub HasOptions : List ℕ → TcpOptions → Type 0
+HasOptions bytes v = Says no_options (options_of bytes) v
+
 -- the bytes are a segment with this header; all behind the header is payload
 pub record IsTcp (source destination : IpAddress) (tested : Bool) (bytes : List ℕ) (v : TcpHeader) : Type 0 where
   pub whole : IsWhole bytes
@@ -100,7 +109,7 @@ pub record IsTcp (source destination : IpAddress) (tested : Bool) (bytes : List 
   pub sequence : v.seq_number ≡ record { 0 = be32 bytes 4 }
   pub acknowledgement : v.ack_number ≡ acknowledged bytes
   pub window : v.window_len ≡ be16 bytes 14
-  pub options : Says no_options (options_of bytes) v.options
+  pub options : HasOptions bytes v.options
 
 -- the header of a segment with a payload
 abbrev pub header_of : TcpRepr → TcpHeader
@@ -138,14 +147,52 @@ sent_ack (Some n) = n.0
 abbrev pub sent_flags : TcpHeader → ℕ
 sent_flags v = control_bits v.control + (if acknowledges v.ack_number then 16 else 0)
 
--- the fixed fields of a header with this checksum
-abbrev pub fixed_fields : TcpHeader → ℕ → List ℕ
-fixed_fields v check =
-    to_be_bytes w16 v.src_port ++ (to_be_bytes w16 v.dst_port ++ (to_be_bytes w32 v.seq_number.0 ++ (to_be_bytes w32 (sent_ack v.ack_number) ++ ((header_len v / 4 * 16) ∷ sent_flags v ∷ (to_be_bytes w16 v.window_len ++ (to_be_bytes w16 check ++ (0 ∷ 0 ∷ [])))))))
+-- what the fixed fields of a header hold beside the ports, the sequence number and the window of its value
+pub record Free : Type 0 where
+  pub acknowledgement : ℕ
+  pub length_and_reserved : ℕ
+  pub flags : ℕ
+  pub checksum : ℕ
+  pub urgent : ℕ
+
+-- the fixed fields of a header
+abbrev pub fixed_fields : TcpHeader → Free → List ℕ
+fixed_fields v free =
+    to_be_bytes w16 v.src_port ++ (to_be_bytes w16 v.dst_port ++ (to_be_bytes w32 v.seq_number.0 ++ (to_be_bytes w32 free.acknowledgement ++ (free.length_and_reserved ∷ free.flags ∷ (to_be_bytes w16 v.window_len ++ (to_be_bytes w16 free.checksum ++ to_be_bytes w16 free.urgent))))))
+
+-- these fields as they are sent: the reserved bits, the other flags and the urgent pointer are 0
+abbrev pub sent_fields : TcpHeader → ℕ → Free
+sent_fields v check = record {
+  acknowledgement = sent_ack v.ack_number;
+  length_and_reserved = header_len v / 4 * 16;
+  flags = sent_flags v;
+  checksum = check;
+  urgent = 0;
+}
+
+-- the acknowledgement number, or what stands in its field where there is none
+abbrev pub ack_field : Option SeqNumber → ℕ → ℕ
+ack_field None field = field
+ack_field (Some n) field = n.0
+
+-- the flags that a value doesn't keep: CWR, ECE and URG, and PSH beside SYN, FIN or RST
+abbrev pub unread_flags : TcpControl → ℕ → ℕ
+unread_flags control flags = flags / 32 * 32 + (if is_quiet control then 0 else 8 * (flags / 8 % 2))
+
+-- these fields of a segment with this header
+abbrev pub read_fields : TcpHeader → List ℕ → Free
+read_fields v bytes = record {
+  acknowledgement = ack_field v.ack_number (be32 bytes 8);
+  length_and_reserved = (20 + length (options_of bytes)) / 4 * 16 + slice_index bytes 12 % 16;
+  flags = sent_flags v + unread_flags v.control (slice_index bytes 13);
+  checksum = be16 bytes 16;
+  urgent = be16 bytes 18;
+}
 
 -- a segment with this header, checksum and payload
 abbrev pub spelling : TcpHeader → ℕ → List ℕ → List ℕ
-spelling v check payload = fixed_fields v check ++ (options_area (acknowledges v.ack_number) v.options ++ payload)
+spelling v check payload =
+    fixed_fields v (sent_fields v check) ++ (options_area (acknowledges v.ack_number) v.options ++ payload)
 
 -- what is sent: with a checksum that holds, or with 0
 abbrev pub written : IpAddress → IpAddress → Bool → TcpHeader → List ℕ → List ℕ

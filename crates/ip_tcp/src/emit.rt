@@ -1,7 +1,7 @@
 //! Options written.
 ghost use Rattle.std.specs.Prelude.{◌≡◌, ℕ, ◌+◌, ◌-◌, ◌*◌, ◌<◌, ◌≤◌, ◌==◌, ◌++◌, Option, IsSome, List, length, take, drop, replicate, if◌then◌else◌};
 ghost use Rattle.ip_tcp.specs.Extends.{Extends};
-ghost use Rattle.ip_tcp.specs.Options.{value_of, option_bytes, options_bytes, ranges_bytes, FitsOption, size_options, scale_options, permitted_options, range_options, stamp_options, sack_options, options_room, padded, options_area};
+ghost use Rattle.ip_tcp.specs.Options.{value_of, option_bytes, options_bytes, ranges_bytes, FitsOption, size_options, scale_options, permitted_options, range_options, stamp_options, sack_options, sack_room, options_room, padded, options_area};
 ghost use Rattle.ip_tcp.specs.Options.{SackRange, TimeStamp, Unknown};
 
 use crate::field;
@@ -30,7 +30,9 @@ impl<'a> TcpOption<'a> {
     pub fn emit(&self, buffer: &mut [u8]) -> usize
         requires fits { FitsOption (value_of self.now) }
         requires room { length (option_bytes (value_of self.now)) ≤ length buffer.old }
-        ensures bytes { buffer.new ≡ option_bytes (value_of self.now) ++ drop (length (option_bytes (value_of self.now))) buffer.old }
+        ensures bytes { buffer.new
+            ≡ option_bytes (value_of self.now)
+            ++ drop (length (option_bytes (value_of self.now))) buffer.old }
         ensures len { result ≡ length (option_bytes (value_of self.now)) }
     {
         let length = self.buffer_len();
@@ -205,9 +207,11 @@ fn put_scale(area: &mut [u8], at: usize, scale: Option<u8>) -> usize
 }
 
 fn put_sack(area: &mut [u8], at: usize, options: &TcpOptions, acknowledges: bool) -> usize
-    requires { at + length (options_bytes (permitted_options options.now.sack_permitted)) + length (options_bytes (range_options options.now.sack_ranges)) ≤ length area.old }
-    ensures written { Extends area.old at area.new result (options_bytes (sack_options options.now.sack_permitted acknowledges options.now.sack_ranges)) }
-    ensures within { result ≤ at + length (options_bytes (permitted_options options.now.sack_permitted)) + length (options_bytes (range_options options.now.sack_ranges)) }
+    requires { at + sack_room options.now ≤ length area.old }
+    ensures written { Extends area.old at area.new result
+        (options_bytes
+        (sack_options options.now.sack_permitted acknowledges options.now.sack_ranges)) }
+    ensures within { result ≤ at + sack_room options.now }
 {
     if options.sack_permitted {
         put_option(area, at, &TcpOption::SackPermitted)

@@ -4,7 +4,7 @@ ghost use Rattle.ip_address.specs.Address.{version_of};
 ghost use Rattle.net_devices.specs.Capabilities.{verifies, computes};
 ghost use Rattle.ip_address.specs.Fields.{put16};
 ghost use Rattle.ip_address.specs.Sum.{folded};
-ghost use Rattle.ip_tcp.specs.Tcp.{IsTcp, IsWhole, Fits, bytes_of, bytes_in, name_of, acknowledged, acknowledges, sent_ack, sent_flags, covered, header_len, fixed_fields, spelling, written};
+ghost use Rattle.ip_tcp.specs.Tcp.{IsTcp, IsWhole, Fits, bytes_of, bytes_in, name_of, acknowledged, acknowledges, sent_ack, sent_flags, covered, header_len, fixed_fields, sent_fields, spelling, written};
 ghost use Rattle.ip_tcp.specs.declared.header.TcpHeader.{TcpHeader};
 
 use crate::control::TcpControl;
@@ -41,8 +41,11 @@ impl TcpHeader {
     ) -> Result<TcpHeader, Error>
         requires family { version_of source.now ≡ version_of destination.now }
         requires fits { length (bytes_of packet.now) < 2 ^ 16 }
-        ensures found { IfOk result (λ v. IsTcp source.now destination.now (verifies checksum_caps.now.tcp) (bytes_of packet.now) v) }
-        ensures only { (v : TcpHeader) → IsTcp source.now destination.now (verifies checksum_caps.now.tcp) (bytes_of packet.now) v → result ≡ Ok v }
+        ensures found { IfOk result
+            (λ v. IsTcp source.now destination.now (verifies checksum_caps.now.tcp) (bytes_of packet.now) v) }
+        ensures only { (v : TcpHeader)
+            → IsTcp source.now destination.now (verifies checksum_caps.now.tcp) (bytes_of packet.now) v
+            → result ≡ Ok v }
     {
         packet.check_len()?;
         if packet.src_port() == 0 || packet.dst_port() == 0 {
@@ -89,7 +92,8 @@ impl TcpHeader {
         requires room { length (bytes_in packet.old) ≡ header_len self.now + length payload.now }
         requires fits { Fits source.now destination.now self.now payload.now }
         ensures same_reference { name_of packet.new ≡ name_of packet.old }
-        ensures bytes { bytes_in packet.new ≡ written source.now destination.now (computes checksum_caps.now.tcp) self.now payload.now }
+        ensures bytes { bytes_in packet.new
+            ≡ written source.now destination.now (computes checksum_caps.now.tcp) self.now payload.now }
     {
         self.spell(packet.buffer, payload);
         if checksum_caps.tcp.tx() {
@@ -113,7 +117,7 @@ impl TcpHeader {
     /// The fixed fields, with 0 for the checksum.
     fn fixed_fields(&self) -> [u8; 20]
         requires { header_len self.now ≤ 60 }
-        ensures { result ≡ fixed_fields self.now 0 }
+        ensures { result ≡ fixed_fields self.now (sent_fields self.now 0) }
     {
         let [source_high, source_low] = self.src_port.to_be_bytes();
         let [destination_high, destination_low] = self.dst_port.to_be_bytes();
@@ -184,7 +188,8 @@ fn seal(bytes: &mut [u8], source: &IpAddress, destination: &IpAddress)
     requires header { 20 ≤ length bytes.old }
     requires fits { length bytes.old < 2 ^ 16 }
     requires family { version_of source.now ≡ version_of destination.now }
-    ensures { bytes.new ≡ put16 bytes.old 16 (65535 - folded (covered source.now destination.now bytes.old)) }
+    ensures { bytes.new
+        ≡ put16 bytes.old 16 (65535 - folded (covered source.now destination.now bytes.old)) }
 {
     let sum = TcpPacket::new_unchecked(bytes).sum(source, destination);
     write_u16(bytes, field::CHECKSUM.start, 0xffff - sum);

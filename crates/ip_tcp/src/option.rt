@@ -14,7 +14,7 @@ pub const MAX_WINDOW_SCALE: u8 = 14;
 
 /// One option. The ranges of `SackRange` are the first three that a segment holds, each from its
 /// first number to the number behind its last.
-#[derive(Clone, Copy, Debug)]
+#[derive(Clone, Copy, Debug, PartialEq, Eq)]
 pub enum TcpOption<'a> {
     EndOfList,
     NoOperation,

@@ -3,9 +3,11 @@ ghost use Rattle.std.specs.Prelude.{◌≡◌, ◌==◌, ◌↔◌, ℕ, ◌+◌
 ghost use Rattle.ip_address.specs.Address.{version_of};
 ghost use Rattle.ip_address.specs.Fields.{be16, be32};
 ghost use Rattle.ip_address.specs.Sum.{folded};
-ghost use Rattle.ip_tcp.specs.Tcp.{IsWhole, IsChecked, bytes_of, flag, header_len_of, options_of, payload_of, covered, sequence_len};
+ghost use Rattle.ip_tcp.specs.Tcp.{IsWhole, IsChecked, HasOptions, bytes_of, flag, header_len_of, options_of, payload_of, covered, sequence_len};
+ghost use Rattle.ip_tcp.specs.declared.option.TcpOptions.{TcpOptions};
 
 use crate::field;
+use crate::option::TcpOptions;
 use ip_address::network_order::{read_u16, read_u32};
 use ip_address::{Error, IpAddress, IpProtocol, SeqNumber, checksum};
 
@@ -201,6 +203,34 @@ impl<'a> TcpPacket<'a> {
             length += 1;
         }
         length
+    }
+
+    /// Whether the options permit selective acknowledgement (RFC 2018, section 2). An error says
+    /// that the options are malformed.
+    pub fn selective_ack_permitted(&self) -> Result<bool, Error>
+        requires { IsWhole (bytes_of self.now) }
+        ensures found { IfOk result
+            (λ permitted. (v : TcpOptions) × HasOptions (bytes_of self.now) v
+            × (permitted ≡ v.sack_permitted)) }
+        ensures only { (v : TcpOptions) → HasOptions (bytes_of self.now) v
+            → result ≡ Ok v.sack_permitted }
+    {
+        let options = TcpOptions::parse(self.options())?;
+        Ok(options.sack_permitted)
+    }
+
+    /// The ranges of the options (RFC 2018, section 3), up to three, none where there is no such
+    /// option. An error says that the options are malformed.
+    pub fn selective_ack_ranges(&self) -> Result<[Option<(u32, u32)>; 3], Error>
+        requires { IsWhole (bytes_of self.now) }
+        ensures found { IfOk result
+            (λ ranges. (v : TcpOptions) × HasOptions (bytes_of self.now) v
+            × (ranges ≡ v.sack_ranges)) }
+        ensures only { (v : TcpOptions) → HasOptions (bytes_of self.now) v
+            → result ≡ Ok v.sack_ranges }
+    {
+        let options = TcpOptions::parse(self.options())?;
+        Ok(options.sack_ranges)
     }
 
     /// The options, with what is behind their end.

@@ -3,7 +3,8 @@ ghost use Rattle.std.specs.Prelude.{◌≡◌, ◌==◌, ◌↔◌, ℕ, ◌+◌
 ghost use Rattle.ip_address.specs.Address.{version_of};
 ghost use Rattle.ip_address.specs.Fields.{be16, be32, put8, put16, put32};
 ghost use Rattle.ip_address.specs.Sum.{folded};
-ghost use Rattle.ip_tcp.specs.Tcp.{IsWhole, IsChecked, bytes_in, name_of, flag, with_flag, header_len_of, options_of, payload_of, covered, sequence_len, with_checksum};
+ghost use Rattle.ip_tcp.specs.Tcp.{IsWhole, IsChecked, HasOptions, bytes_in, name_of, flag, put_flag, header_len_of, options_of, payload_of, covered, sequence_len, with_checksum};
+ghost use Rattle.ip_tcp.specs.declared.option.TcpOptions.{TcpOptions};
 
 use crate::field;
 use crate::packet::TcpPacket;
@@ -191,6 +192,32 @@ impl<'a> TcpPacketMut<'a> {
         TcpPacket::new_unchecked(self.buffer).segment_len()
     }
 
+    /// Whether the options permit selective acknowledgement (RFC 2018, section 2). An error says
+    /// that the options are malformed.
+    pub fn selective_ack_permitted(&self) -> Result<bool, Error>
+        requires { IsWhole (bytes_in self.now) }
+        ensures found { IfOk result
+            (λ permitted. (v : TcpOptions) × HasOptions (bytes_in self.now) v
+            × (permitted ≡ v.sack_permitted)) }
+        ensures only { (v : TcpOptions) → HasOptions (bytes_in self.now) v
+            → result ≡ Ok v.sack_permitted }
+    {
+        TcpPacket::new_unchecked(self.buffer).selective_ack_permitted()
+    }
+
+    /// The ranges of the options (RFC 2018, section 3), up to three, none where there is no such
+    /// option. An error says that the options are malformed.
+    pub fn selective_ack_ranges(&self) -> Result<[Option<(u32, u32)>; 3], Error>
+        requires { IsWhole (bytes_in self.now) }
+        ensures found { IfOk result
+            (λ ranges. (v : TcpOptions) × HasOptions (bytes_in self.now) v
+            × (ranges ≡ v.sack_ranges)) }
+        ensures only { (v : TcpOptions) → HasOptions (bytes_in self.now) v
+            → result ≡ Ok v.sack_ranges }
+    {
+        TcpPacket::new_unchecked(self.buffer).selective_ack_ranges()
+    }
+
     /// The options, with what is behind their end.
     pub fn options(&self) -> &[u8]
         requires { IsWhole (bytes_in self.now) }
@@ -261,7 +288,8 @@ impl<'a> TcpPacketMut<'a> {
     pub fn clear_flags(&mut self)
         requires { 20 ≤ length (bytes_in self.old) }
         ensures same_reference { name_of self.new ≡ name_of self.old }
-        ensures bytes { bytes_in self.new ≡ put8 (put8 (bytes_in self.old) 12 (slice_index (bytes_in self.old) 12 / 16 * 16)) 13 0 }
+        ensures bytes { bytes_in self.new
+            ≡ put8 (put8 (bytes_in self.old) 12 (slice_index (bytes_in self.old) 12 / 16 * 16)) 13 0 }
     {
         let old = self.buffer[field::FLAGS.start];
         self.buffer[field::FLAGS.start] = (old >> 4) << 4;
@@ -271,7 +299,7 @@ impl<'a> TcpPacketMut<'a> {
     pub fn set_fin(&mut self, value: bool)
         requires { 20 ≤ length (bytes_in self.old) }
         ensures same_reference { name_of self.new ≡ name_of self.old }
-        ensures bytes { bytes_in self.new ≡ put8 (bytes_in self.old) 13 (with_flag (slice_index (bytes_in self.old) 13) 1 value) }
+        ensures bytes { bytes_in self.new ≡ put_flag (bytes_in self.old) 13 1 value }
     {
         let old = self.buffer[field::FLAGS.start + 1];
         self.buffer[field::FLAGS.start + 1] = ((old >> 1) << 1) + weight(value, 0x01);
@@ -280,7 +308,7 @@ impl<'a> TcpPacketMut<'a> {
     pub fn set_syn(&mut self, value: bool)
         requires { 20 ≤ length (bytes_in self.old) }
         ensures same_reference { name_of self.new ≡ name_of self.old }
-        ensures bytes { bytes_in self.new ≡ put8 (bytes_in self.old) 13 (with_flag (slice_index (bytes_in self.old) 13) 2 value) }
+        ensures bytes { bytes_in self.new ≡ put_flag (bytes_in self.old) 13 2 value }
     {
         let old = self.buffer[field::FLAGS.start + 1];
         self.buffer[field::FLAGS.start + 1] = ((old >> 2) << 2)
@@ -291,7 +319,7 @@ impl<'a> TcpPacketMut<'a> {
     pub fn set_rst(&mut self, value: bool)
         requires { 20 ≤ length (bytes_in self.old) }
         ensures same_reference { name_of self.new ≡ name_of self.old }
-        ensures bytes { bytes_in self.new ≡ put8 (bytes_in self.old) 13 (with_flag (slice_index (bytes_in self.old) 13) 4 value) }
+        ensures bytes { bytes_in self.new ≡ put_flag (bytes_in self.old) 13 4 value }
     {
         let old = self.buffer[field::FLAGS.start + 1];
         self.buffer[field::FLAGS.start + 1] = ((old >> 3) << 3)
@@ -302,7 +330,7 @@ impl<'a> TcpPacketMut<'a> {
     pub fn set_psh(&mut self, value: bool)
         requires { 20 ≤ length (bytes_in self.old) }
         ensures same_reference { name_of self.new ≡ name_of self.old }
-        ensures bytes { bytes_in self.new ≡ put8 (bytes_in self.old) 13 (with_flag (slice_index (bytes_in self.old) 13) 8 value) }
+        ensures bytes { bytes_in self.new ≡ put_flag (bytes_in self.old) 13 8 value }
     {
         let old = self.buffer[field::FLAGS.start + 1];
         self.buffer[field::FLAGS.start + 1] = ((old >> 4) << 4)
@@ -313,7 +341,7 @@ impl<'a> TcpPacketMut<'a> {
     pub fn set_ack(&mut self, value: bool)
         requires { 20 ≤ length (bytes_in self.old) }
         ensures same_reference { name_of self.new ≡ name_of self.old }
-        ensures bytes { bytes_in self.new ≡ put8 (bytes_in self.old) 13 (with_flag (slice_index (bytes_in self.old) 13) 16 value) }
+        ensures bytes { bytes_in self.new ≡ put_flag (bytes_in self.old) 13 16 value }
     {
         let old = self.buffer[field::FLAGS.start + 1];
         self.buffer[field::FLAGS.start + 1] = ((old >> 5) << 5)
@@ -324,7 +352,7 @@ impl<'a> TcpPacketMut<'a> {
     pub fn set_urg(&mut self, value: bool)
         requires { 20 ≤ length (bytes_in self.old) }
         ensures same_reference { name_of self.new ≡ name_of self.old }
-        ensures bytes { bytes_in self.new ≡ put8 (bytes_in self.old) 13 (with_flag (slice_index (bytes_in self.old) 13) 32 value) }
+        ensures bytes { bytes_in self.new ≡ put_flag (bytes_in self.old) 13 32 value }
     {
         let old = self.buffer[field::FLAGS.start + 1];
         self.buffer[field::FLAGS.start + 1] = ((old >> 6) << 6)
@@ -335,7 +363,7 @@ impl<'a> TcpPacketMut<'a> {
     pub fn set_ece(&mut self, value: bool)
         requires { 20 ≤ length (bytes_in self.old) }
         ensures same_reference { name_of self.new ≡ name_of self.old }
-        ensures bytes { bytes_in self.new ≡ put8 (bytes_in self.old) 13 (with_flag (slice_index (bytes_in self.old) 13) 64 value) }
+        ensures bytes { bytes_in self.new ≡ put_flag (bytes_in self.old) 13 64 value }
     {
         let old = self.buffer[field::FLAGS.start + 1];
         self.buffer[field::FLAGS.start + 1] = ((old >> 7) << 7)
@@ -346,7 +374,7 @@ impl<'a> TcpPacketMut<'a> {
     pub fn set_cwr(&mut self, value: bool)
         requires { 20 ≤ length (bytes_in self.old) }
         ensures same_reference { name_of self.new ≡ name_of self.old }
-        ensures bytes { bytes_in self.new ≡ put8 (bytes_in self.old) 13 (with_flag (slice_index (bytes_in self.old) 13) 128 value) }
+        ensures bytes { bytes_in self.new ≡ put_flag (bytes_in self.old) 13 128 value }
     {
         let old = self.buffer[field::FLAGS.start + 1];
         self.buffer[field::FLAGS.start + 1] = weight(value, 0x80) + (old & 0x7f);
@@ -355,7 +383,7 @@ impl<'a> TcpPacketMut<'a> {
     pub fn set_ns(&mut self, value: bool)
         requires { 20 ≤ length (bytes_in self.old) }
         ensures same_reference { name_of self.new ≡ name_of self.old }
-        ensures bytes { bytes_in self.new ≡ put8 (bytes_in self.old) 12 (with_flag (slice_index (bytes_in self.old) 12) 1 value) }
+        ensures bytes { bytes_in self.new ≡ put_flag (bytes_in self.old) 12 1 value }
     {
         let old = self.buffer[field::FLAGS.start];
         self.buffer[field::FLAGS.start] = ((old >> 1) << 1) + weight(value, 0x01);
@@ -365,7 +393,8 @@ impl<'a> TcpPacketMut<'a> {
     pub fn set_header_len(&mut self, value: u8)
         requires { 20 ≤ length (bytes_in self.old) }
         ensures same_reference { name_of self.new ≡ name_of self.old }
-        ensures bytes { bytes_in self.new ≡ put8 (bytes_in self.old) 12 (value / 4 % 16 * 16 + slice_index (bytes_in self.old) 12 % 16) }
+        ensures bytes { bytes_in self.new
+            ≡ put8 (bytes_in self.old) 12 (value / 4 % 16 * 16 + slice_index (bytes_in self.old) 12 % 16) }
     {
         let old = self.buffer[field::FLAGS.start];
         self.buffer[field::FLAGS.start] = (((value >> 2) & 0x0f) << 4) + (old & 0x0f);
@@ -402,7 +431,8 @@ impl<'a> TcpPacketMut<'a> {
         requires family { version_of source.now ≡ version_of destination.now }
         requires fits { length (bytes_in self.old) < 2 ^ 16 }
         ensures same_reference { name_of self.new ≡ name_of self.old }
-        ensures bytes { bytes_in self.new ≡ with_checksum source.now destination.now (bytes_in self.old) }
+        ensures bytes { bytes_in self.new
+            ≡ with_checksum source.now destination.now (bytes_in self.old) }
     {
         self.set_checksum(0);
         let sum = self.sum(source, destination);

@@ -16,7 +16,7 @@ use ip_address::{Error, IpAddress, SeqNumber};
 use net_devices::ChecksumCapabilities;
 
 /// A segment: its header, its options and its payload.
-#[derive(Clone, Copy, Debug)]
+#[derive(Clone, Copy, Debug, PartialEq, Eq)]
 pub struct TcpRepr<'a> {
     pub src_port: u16,
     pub dst_port: u16,
@@ -88,9 +88,12 @@ impl<'a> TcpRepr<'a> {
     ) -> Result<TcpRepr<'a>, Error>
         requires family { version_of source.now ≡ version_of destination.now }
         requires fits { length (bytes_of packet.now) < 2 ^ 16 }
-        ensures found { IfOk result (λ v. IsTcp source.now destination.now (verifies checksum_caps.now.tcp) (bytes_of packet.now) (header_of v)) }
+        ensures found { IfOk result
+            (λ v. IsTcp source.now destination.now (verifies checksum_caps.now.tcp) (bytes_of packet.now) (header_of v)) }
         ensures payload { IfOk result (λ v. v.payload.now ≡ payload_of (bytes_of packet.now)) }
-        ensures only { (v : TcpHeader) → IsTcp source.now destination.now (verifies checksum_caps.now.tcp) (bytes_of packet.now) v → IsOk result × IfOk result (λ r. header_of r ≡ v) }
+        ensures only { (v : TcpHeader)
+            → IsTcp source.now destination.now (verifies checksum_caps.now.tcp) (bytes_of packet.now) v
+            → IsOk result × IfOk result (λ r. header_of r ≡ v) }
     {
         let header = TcpHeader::parse(packet, source, destination, checksum_caps)?;
         Ok(TcpRepr::new(&header, packet.payload()))
@@ -121,10 +124,12 @@ impl<'a> TcpRepr<'a> {
         destination: &IpAddress,
         checksum_caps: &ChecksumCapabilities,
     )
-        requires room { length (bytes_in packet.old) ≡ header_len (header_of self.now) + length self.now.payload.now }
+        requires room { length (bytes_in packet.old)
+            ≡ header_len (header_of self.now) + length self.now.payload.now }
         requires fits { Fits source.now destination.now (header_of self.now) self.now.payload.now }
         ensures same_reference { name_of packet.new ≡ name_of packet.old }
-        ensures bytes { bytes_in packet.new ≡ written source.now destination.now (computes checksum_caps.now.tcp) (header_of self.now) self.now.payload.now }
+        ensures bytes { bytes_in packet.new
+            ≡ written source.now destination.now (computes checksum_caps.now.tcp) (header_of self.now) self.now.payload.now }
     {
         self.header()
             .emit(packet, source, destination, self.payload, checksum_caps);

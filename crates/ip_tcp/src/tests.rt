@@ -1,7 +1,9 @@
-ghost use Rattle.std.specs.Prelude.{◌≡◌};
+ghost use Rattle.std.specs.Prelude.{◌≡◌, ◌<◌, ◌^◌, length};
 ghost use Rattle.ip_address.specs.Address.{version_of};
 ghost use Rattle.ip_tcp.specs.Options.{no_options};
+ghost use Rattle.ip_tcp.specs.Tcp.{header_len};
 
+use crate::laws::*;
 use crate::*;
 use ip_address::{Error, IpAddress, SeqNumber};
 use net_devices::ChecksumCapabilities;
@@ -28,7 +30,15 @@ fn no_options() -> TcpOptions
 }
 
 fn syn_header() -> TcpHeader
-    ensures { result ≡ record { src_port = 48896; dst_port = 80; control = TcpControl.Syn; seq_number = record { 0 = 0x01234567 }; ack_number = None; window_len = 0x0123; options = no_options } }
+    ensures { result ≡ record {
+      src_port = 48896;
+      dst_port = 80;
+      control = TcpControl.Syn;
+      seq_number = record { 0 = 0x01234567 };
+      ack_number = None;
+      window_len = 0x0123;
+      options = no_options;
+    } }
 {
     TcpHeader {
         src_port: 48896,
@@ -137,6 +147,38 @@ fn reads_every_field(rt: HostRuntime) {
     assert_eq!(rt; packet.into_inner(), SYN_BYTES.as_slice());
 }
 
+// RFC 9293, section 3.1; the last three flags by RFC 3168, section 6.1, and RFC 3540, section 9.
+#[test]
+fn names_places_flags_and_kinds(rt: HostRuntime) {
+    assert_eq!(rt; field::SRC_PORT, 0..2);
+    assert_eq!(rt; field::DST_PORT, 2..4);
+    assert_eq!(rt; field::SEQ_NUM, 4..8);
+    assert_eq!(rt; field::ACK_NUM, 8..12);
+    assert_eq!(rt; field::FLAGS, 12..14);
+    assert_eq!(rt; field::WIN_SIZE, 14..16);
+    assert_eq!(rt; field::CHECKSUM, 16..18);
+    assert_eq!(rt; field::URGENT, 18..20);
+    assert_eq!(rt; field::HEADER_LEN, 20);
+    assert_eq!(rt; field::OPTIONS(28), 20..28);
+    assert_eq!(rt; field::FLG_FIN, 1);
+    assert_eq!(rt; field::FLG_SYN, 2);
+    assert_eq!(rt; field::FLG_RST, 4);
+    assert_eq!(rt; field::FLG_PSH, 8);
+    assert_eq!(rt; field::FLG_ACK, 16);
+    assert_eq!(rt; field::FLG_URG, 32);
+    assert_eq!(rt; field::FLG_ECE, 64);
+    assert_eq!(rt; field::FLG_CWR, 128);
+    assert_eq!(rt; field::FLG_NS, 256);
+    assert_eq!(rt; field::OPT_END, 0);
+    assert_eq!(rt; field::OPT_NOP, 1);
+    assert_eq!(rt; field::OPT_MSS, 2);
+    assert_eq!(rt; field::OPT_WS, 3);
+    assert_eq!(rt; field::OPT_SACKPERM, 4);
+    assert_eq!(rt; field::OPT_SACKRNG, 5);
+    assert_eq!(rt; field::OPT_TSTAMP, 8);
+    assert_eq!(rt; MAX_WINDOW_SCALE, 14);
+}
+
 #[test]
 fn writes_every_field(rt: HostRuntime) {
     let (source, destination) = addresses();
@@ -168,8 +210,8 @@ fn writes_every_field(rt: HostRuntime) {
     assert_eq!(rt; written, wanted.as_slice());
 }
 
-// The formats of RFC 9293, section 3.2, RFC 7323, sections 2.2 and 3.2, and RFC 2018, sections 2 and
-// 3, and the first range of its section 4.
+// The formats of RFC 9293, section 3.2, RFC 7323, sections 2.2 and 3.2, and RFC 2018, sections 2
+// and 3, and the first range of its section 4.
 #[test]
 fn reads_options(rt: HostRuntime) -> Result<(), Error> {
     let area = [
@@ -195,6 +237,25 @@ fn counts_the_last_of_a_kind_and_caps_the_scale(rt: HostRuntime) -> Result<(), E
     Ok(())
 }
 
+// What is behind the end isn't looked at, and of four ranges, which a header has room for, the
+// first three count.
+#[test]
+fn reads_up_to_the_end(rt: HostRuntime) -> Result<(), Error> {
+    let options = TcpOptions::parse(&[4, 2, 0, 2, 4, 1, 0, 9])?;
+    assert!(rt; options.sack_permitted);
+    assert_eq!(rt; options.max_seg_size, None);
+    let four = [
+        5, 34, 0, 0, 0, 1, 0, 0, 0, 2, 0, 0, 0, 3, 0, 0, 0, 4, 0, 0, 0, 5, 0, 0, 0, 6, 0, 0, 0, 7,
+        0, 0, 0, 8,
+    ];
+    let wanted = [Some((1, 2)), Some((3, 4)), Some((5, 6))];
+    assert_eq!(rt; TcpOptions::parse(&four)?.sack_ranges, wanted);
+    let (behind, option) = TcpOption::parse(&[3, 3, 15, 1])?;
+    assert_eq!(rt; option, TcpOption::WindowScale(15));
+    assert_eq!(rt; behind, [1].as_slice());
+    Ok(())
+}
+
 #[test]
 fn refuses_malformed_options(rt: HostRuntime) {
     assert_eq!(rt; TcpOptions::parse(&[2]), Err(Error));
@@ -206,6 +267,165 @@ fn refuses_malformed_options(rt: HostRuntime) {
     assert_eq!(rt; TcpOptions::parse(&[4, 3, 0]), Err(Error));
     assert_eq!(rt; TcpOptions::parse(&[5, 6, 0, 0, 0, 0]), Err(Error));
     assert_eq!(rt; TcpOptions::parse(&[8, 6, 0, 0, 0, 0]), Err(Error));
+}
+
+// A SYN that is acknowledged, with every option that a SYN may have. These bytes and those below
+// were put together from the formats of RFC 9293, section 3.1, RFC 7323, sections 2.2 and 3.2, and
+// RFC 2018, sections 2 and 3, by another program.
+const ANSWER: [u8; 40] = [
+    0x00, 0x50, 0xc1, 0x5c, 0xff, 0xff, 0xff, 0xfe, 0x80, 0x00, 0x00, 0x00, 0xa0, 0x12, 0xff, 0xff,
+    0x68, 0xe7, 0x00, 0x00, 0x02, 0x04, 0x05, 0xb4, 0x03, 0x03, 0x07, 0x04, 0x02, 0x08, 0x0a, 0x01,
+    0x02, 0x03, 0x04, 0x05, 0x06, 0x07, 0x08, 0x00,
+];
+
+fn answer_header() -> TcpHeader
+    ensures { header_len result ≡ 40 }
+{
+    TcpHeader {
+        src_port: 80,
+        dst_port: 49500,
+        control: TcpControl::Syn,
+        seq_number: SeqNumber(0xffff_fffe),
+        ack_number: Some(SeqNumber(0x8000_0000)),
+        window_len: 0xffff,
+        options: TcpOptions {
+            max_seg_size: Some(1460),
+            window_scale: Some(7),
+            sack_permitted: true,
+            sack_ranges: [None; 3],
+            timestamp: Some(TcpTimestampRepr::new(0x0102_0304, 0x0506_0708)),
+        },
+    }
+}
+
+#[test]
+fn reads_and_writes_an_answer(rt: HostRuntime) -> Result<(), Error> {
+    let (source, destination) = addresses();
+    let caps = ChecksumCapabilities::default();
+    let packet = TcpPacket::new_checked(&ANSWER)?;
+    assert_eq!(rt; packet.selective_ack_permitted(), Ok(true));
+    assert_eq!(rt; packet.selective_ack_ranges(), Ok([None; 3]));
+    assert_eq!(rt; packet.payload(), [].as_slice());
+    assert_eq!(rt; read(&ANSWER, &caps), Ok(answer_header()));
+    let mut buffer = [0xa5; 40];
+    let mut frame = TcpPacketMut::new_unchecked(&mut buffer);
+    answer_header().emit(&mut frame, &source, &destination, &[], &caps);
+    assert_eq!(rt; buffer, ANSWER);
+    Ok(())
+}
+
+// The last row of the third case of RFC 2018, section 4, over IPv6 with timestamps: 5500 is
+// acknowledged, and three ranges behind it have come.
+const RANGES: [u8; 59] = [
+    0xc1, 0x5c, 0x00, 0x50, 0x00, 0x00, 0x00, 0x64, 0x00, 0x00, 0x15, 0x7c, 0xe0, 0x10, 0x03, 0xe8,
+    0x32, 0xb0, 0x00, 0x00, 0x05, 0x1a, 0x00, 0x00, 0x1f, 0x40, 0x00, 0x00, 0x21, 0x34, 0x00, 0x00,
+    0x1b, 0x58, 0x00, 0x00, 0x1d, 0x4c, 0x00, 0x00, 0x17, 0x70, 0x00, 0x00, 0x19, 0x64, 0x08, 0x0a,
+    0x00, 0x00, 0x00, 0x07, 0x00, 0x00, 0x00, 0x09, 0x61, 0x62, 0xff,
+];
+
+fn ranges_header() -> TcpHeader
+    ensures { header_len result ≡ 56 }
+{
+    TcpHeader {
+        src_port: 49500,
+        dst_port: 80,
+        control: TcpControl::None,
+        seq_number: SeqNumber(100),
+        ack_number: Some(SeqNumber(5500)),
+        window_len: 1000,
+        options: TcpOptions {
+            max_seg_size: None,
+            window_scale: None,
+            sack_permitted: false,
+            sack_ranges: [Some((8000, 8500)), Some((7000, 7500)), Some((6000, 6500))],
+            timestamp: Some(TcpTimestampRepr::new(7, 9)),
+        },
+    }
+}
+
+#[test]
+fn reads_and_writes_ranges(rt: HostRuntime) -> Result<(), Error> {
+    let source = IpAddress::v6(0xfd00, 0, 0, 0, 0, 0, 0, 1);
+    let destination = IpAddress::v6(0xfd00, 0, 0, 0, 0, 0, 0, 2);
+    let caps = ChecksumCapabilities::default();
+    let packet = TcpPacket::new_checked(&RANGES)?;
+    let wanted = ranges_header();
+    assert_eq!(rt; packet.selective_ack_permitted(), Ok(false));
+    assert_eq!(rt;
+        packet.selective_ack_ranges(),
+        Ok(wanted.options.sack_ranges)
+    );
+    assert_eq!(rt; packet.segment_len(), 3);
+    let segment = TcpRepr::parse(&packet, &source, &destination, &caps)?;
+    assert_eq!(rt; segment, TcpRepr::new(&wanted, b"ab\xff"));
+    let mut buffer = [0xa5; 59];
+    let mut frame = TcpPacketMut::new_unchecked(&mut buffer);
+    wanted.emit(&mut frame, &source, &destination, segment.payload, &caps);
+    assert_eq!(rt; buffer, RANGES);
+    Ok(())
+}
+
+// A FIN with all that a value doesn't keep: reserved bits, CWR, ECE, URG, PSH, the number where ACK
+// isn't set and the urgent pointer. Its range wouldn't be sent without an acknowledgement.
+const ODD: [u8; 32] = [
+    0x00, 0x01, 0x00, 0x02, 0x00, 0x00, 0x00, 0x03, 0x00, 0x00, 0x00, 0x04, 0x8f, 0xe9, 0x00, 0x05,
+    0xb5, 0xa7, 0x00, 0x06, 0x01, 0x01, 0x05, 0x0a, 0x00, 0x00, 0x17, 0x70, 0x00, 0x00, 0x19, 0x64,
+];
+
+#[test]
+fn reads_what_is_not_sent(rt: HostRuntime) -> Result<(), Error> {
+    let header = read(&ODD, &ChecksumCapabilities::default())?;
+    assert_eq!(rt; header.control, TcpControl::Fin);
+    assert_eq!(rt; header.ack_number, None);
+    assert_eq!(rt;
+        header.options.sack_ranges,
+        [Some((6000, 6500)), None, None]
+    );
+    assert_eq!(rt; header.header_len(), 32);
+    tcp_spelled();
+    tcp_no_longer();
+    tcp_written_again();
+    tcp_one_value();
+    tcp_normal();
+    Ok(())
+}
+
+fn unsent_header() -> TcpHeader
+    ensures { header_len result ≡ 32 }
+{
+    TcpHeader {
+        src_port: 1,
+        dst_port: 2,
+        control: TcpControl::Fin,
+        seq_number: SeqNumber(3),
+        ack_number: None,
+        window_len: 5,
+        options: TcpOptions {
+            max_seg_size: None,
+            window_scale: None,
+            sack_permitted: false,
+            sack_ranges: [None, Some((6000, 6500)), None],
+            timestamp: None,
+        },
+    }
+}
+
+// Room is made for ranges also where they aren't sent, and holds zeros.
+#[test]
+fn leaves_out_ranges_without_acknowledgement(rt: HostRuntime) {
+    let (source, destination) = addresses();
+    let mut buffer = [0xa5; 32];
+    let mut frame = TcpPacketMut::new_unchecked(&mut buffer);
+    let ignored = ChecksumCapabilities::ignored();
+    unsent_header().emit(&mut frame, &source, &destination, &[], &ignored);
+    let wanted = [
+        0x00, 0x01, 0x00, 0x02, 0x00, 0x00, 0x00, 0x03, 0x00, 0x00, 0x00, 0x00, 0x80, 0x01, 0x00,
+        0x05, 0x00, 0x00, 0x00, 0x00, 0x00, 0x00, 0x00, 0x00, 0x00, 0x00, 0x00, 0x00, 0x00, 0x00,
+        0x00, 0x00,
+    ];
+    assert_eq!(rt; buffer, wanted);
+    tcp_reads_back();
+    tcp_told_apart();
 }
 
 #[test]
@@ -237,50 +457,95 @@ fn writes_options(rt: HostRuntime) {
         buffer,
         [0xfd, 4, 1, 2, 0x15, 0x7c, 0, 0, 0x17, 0x70, 0xff, 0xff]
     );
+    option_spelled();
+    option_reads_back();
 }
 
-// Each input differs from the SYN in one place, and the checksum isn't tested but in the last.
+/// The SYN with one byte changed.
+fn changed(at: usize, byte: u8) -> [u8; 24]
+    requires { at < 24 }
+    ensures { length result ≡ 24 }
+{
+    let mut bytes = SYN_BYTES;
+    bytes[at] = byte;
+    bytes
+}
+
+fn read(bytes: &[u8], caps: &ChecksumCapabilities) -> Result<TcpHeader, Error>
+    requires { length bytes.now < 2 ^ 16 }
+{
+    let (source, destination) = addresses();
+    TcpHeader::parse(
+        &TcpPacket::new_unchecked(bytes),
+        &source,
+        &destination,
+        caps,
+    )
+}
+
 #[test]
 fn refuses_what_is_no_segment(rt: HostRuntime) {
-    let (source, destination) = addresses();
-    let ignored = ChecksumCapabilities::ignored();
-    let short = TcpPacket::new_unchecked(&SYN_BYTES[..19]);
+    let unverified = ChecksumCapabilities::ignored();
     assert_eq!(rt;
-        TcpHeader::parse(&short, &source, &destination, &ignored),
-        Err(Error)
+        read(&SYN_BYTES[..19], &unverified),
+        Err(Error),
+        "no header"
     );
-    for (place, byte) in [(12, 0x40), (12, 0x70), (13, 0x03), (13, 0x06), (13, 0x05)] {
-        let mut bytes = SYN_BYTES;
-        bytes[place] = byte;
-        let packet = TcpPacket::new_unchecked(&bytes);
-        assert_eq!(rt;
-            TcpHeader::parse(&packet, &source, &destination, &ignored),
-            Err(Error)
-        );
+    assert!(rt; TcpPacket::new_checked(&SYN_BYTES[..19]).is_err());
+    for (at, byte, why) in [
+        (12, 0x40, "a header under 20 bytes"),
+        (12, 0x70, "a header past the bytes"),
+        (13, 0x03, "SYN and FIN"),
+        (13, 0x06, "SYN and RST"),
+        (13, 0x05, "RST and FIN"),
+        (13, 0x07, "SYN, RST and FIN"),
+    ] {
+        assert_eq!(rt; read(&changed(at, byte), &unverified), Err(Error), "{why}");
     }
     let mut bytes = SYN_BYTES;
     bytes[0] = 0;
-    let packet = TcpPacket::new_unchecked(&bytes);
+    assert_eq!(rt; read(&bytes, &unverified), Err(Error), "from port 0");
+    assert_eq!(rt; read(&changed(3, 0), &unverified), Err(Error), "to port 0");
+    let damaged = changed(23, 0xfe);
+    assert!(rt; read(&damaged, &unverified).is_ok());
     assert_eq!(rt;
-        TcpHeader::parse(&packet, &source, &destination, &ignored),
-        Err(Error)
+        read(&damaged, &ChecksumCapabilities::default()),
+        Err(Error),
+        "a wrong checksum"
     );
-    let mut bytes = SYN_BYTES;
-    bytes[3] = 0;
-    let packet = TcpPacket::new_unchecked(&bytes);
-    assert_eq!(rt;
-        TcpHeader::parse(&packet, &source, &destination, &ignored),
-        Err(Error)
-    );
-    let mut bytes = SYN_BYTES;
-    bytes[23] = 0xfe;
-    let packet = TcpPacket::new_unchecked(&bytes);
-    assert!(rt; TcpHeader::parse(&packet, &source, &destination, &ignored).is_ok());
-    let all = ChecksumCapabilities::default();
-    assert_eq!(rt;
-        TcpHeader::parse(&packet, &source, &destination, &all),
-        Err(Error)
-    );
+    tcp_damaged();
+}
+
+/// The SYN with options in the place of its payload.
+fn with_options(options: &[u8; 4]) -> [u8; 24]
+    ensures { length result ≡ 24 }
+{
+    let mut bytes = changed(12, 0x60);
+    bytes[20] = options[0];
+    bytes[21] = options[1];
+    bytes[22] = options[2];
+    bytes[23] = options[3];
+    bytes
+}
+
+// The end of the options may stand anywhere, and the header then ends with any bytes.
+#[test]
+fn refuses_malformed_headers(rt: HostRuntime) {
+    let unverified = ChecksumCapabilities::ignored();
+    for (options, read_as) in [
+        ([0xaa, 0x00, 0x00, 0xff], Err(Error)),
+        ([0x02, 0x04, 0x05, 0xb4], Ok(Some(1460))),
+        ([0x00, 0x04, 0x05, 0xb4], Ok(None)),
+        ([0x01, 0x02, 0x04, 0x05], Err(Error)),
+        ([0x01, 0x01, 0x01, 0x02], Err(Error)),
+        ([0xfe, 0x04, 0x05, 0xb4], Ok(None)),
+    ] {
+        let bytes = with_options(&options);
+        assert_eq!(rt;
+            read(&bytes, &unverified).map(|header| header.options.max_seg_size),
+            read_as
+        );
+    }
 }
 
 #[test]
@@ -298,9 +563,73 @@ fn answers_timestamps(rt: HostRuntime) {
 
 #[test]
 fn counts_flags(rt: HostRuntime) {
-    assert_eq!(rt; TcpControl::Syn.len(), 1);
-    assert_eq!(rt; TcpControl::Fin.len(), 1);
-    assert_eq!(rt; TcpControl::Rst.len(), 0);
-    assert_eq!(rt; TcpControl::Psh.quash_psh(), TcpControl::None);
-    assert_eq!(rt; TcpControl::Fin.quash_psh(), TcpControl::Fin);
+    for (control, len) in [
+        (TcpControl::None, 0),
+        (TcpControl::Psh, 0),
+        (TcpControl::Syn, 1),
+        (TcpControl::Fin, 1),
+        (TcpControl::Rst, 0),
+    ] {
+        assert_eq!(rt; control.len(), len);
+        let quashed = if control == TcpControl::Psh {
+            TcpControl::None
+        } else {
+            control
+        };
+        assert_eq!(rt; control.quash_psh(), quashed);
+    }
+}
+
+#[test]
+fn counts_sequence_numbers(rt: HostRuntime) {
+    for (control, len, empty) in [
+        (TcpControl::None, 0, true),
+        (TcpControl::Psh, 0, true),
+        (TcpControl::Syn, 1, false),
+        (TcpControl::Fin, 1, false),
+        (TcpControl::Rst, 0, false),
+    ] {
+        let header = TcpHeader {
+            control,
+            ..syn_header()
+        };
+        let bare = TcpRepr::new(&header, &[]);
+        assert_eq!(rt; bare.segment_len(), len);
+        assert_eq!(rt; bare.is_empty(), empty);
+        let full = TcpRepr::new(&header, &PAYLOAD);
+        assert_eq!(rt; full.segment_len(), len + 4);
+        assert!(rt; !full.is_empty());
+    }
+}
+
+// RFC 9293, section 3.1, and RFC 3540, section 9: the bits of bytes 12 and 13.
+#[test]
+fn sets_each_flag(rt: HostRuntime) {
+    let mut buffer = [0; 20];
+    let mut packet = TcpPacketMut::new_unchecked(&mut buffer);
+    packet.set_fin(true);
+    assert!(rt; packet.fin());
+    packet.set_syn(true);
+    assert!(rt; packet.syn());
+    packet.set_rst(true);
+    assert!(rt; packet.rst());
+    packet.set_psh(true);
+    assert!(rt; packet.psh());
+    packet.set_ack(true);
+    assert!(rt; packet.ack());
+    packet.set_urg(true);
+    assert!(rt; packet.urg());
+    packet.set_ece(true);
+    assert!(rt; packet.ece());
+    packet.set_cwr(true);
+    assert!(rt; packet.cwr());
+    packet.set_ns(true);
+    assert!(rt; packet.ns());
+    packet.set_syn(false);
+    packet.set_urg(false);
+    packet.set_header_len(63);
+    assert_eq!(rt; packet.header_len(), 60);
+    let written: &[u8] = packet.into_inner();
+    assert_eq!(rt; written[12], 0xf1);
+    assert_eq!(rt; written[13], 0xdd);
 }

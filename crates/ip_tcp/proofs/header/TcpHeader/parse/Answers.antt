@@ -1,8 +1,7 @@
 use Rattle.std.proofs.Common.{rules, ◌≡◌, ◌∙◌, sym, ap, subst, arith}
 use Rattle.std.specs.Prelude.{Some, Ok}
 use Rattle.ip_tcp.specs.Options.{Says, no_options}
-use Rattle.ip_tcp.specs.Tcp.{IsTcp, bytes_of, control_in}
-use Rattle.ip_tcp.specs.declared.header.TcpHeader.{TcpHeader}
+use Rattle.ip_tcp.specs.Tcp.{bytes_of, control_in}
 use Rattle.ip_tcp.proofs.Headers.{control_of-same, header-same}
 use Rattle.ip_tcp.proofs.header.TcpHeader.parse.Goals as goal
 use Rattle.ip_tcp.proofs.header.TcpHeader.parse.Goals.{else-rx-via-then-rx+else-not-verify_checksum, else-rx-via-else-rx}

@@ -1,4 +1,4 @@
-use Rattle.std.proofs.Common.{◌≡◌, ◌∙◌, sym, refl, arith}
+use Rattle.std.proofs.Common.{◌∙◌, sym, refl, arith}
 use Rattle.ip_tcp.proofs.Steps.{first_option-long}
 use Rattle.ip_tcp.proofs.option.TcpOption.parse.Goals as goal
 

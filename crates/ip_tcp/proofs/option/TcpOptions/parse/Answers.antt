@@ -1,4 +1,4 @@
-use Rattle.std.proofs.Common.{◌≡◌, ◌≢◌, ◌∙◌, sym, ap, [], length, arith}
+use Rattle.std.proofs.Common.{◌≢◌, ◌∙◌, sym, ap, [], length, arith}
 use Rattle.std.proofs.lemmas.Bool.{eqb-true}
 use Rattle.ip_tcp.specs.Seen.{seen_first}
 use Rattle.ip_tcp.proofs.Steps.{Spells-none, Says-end, Says-empty, Says-nothing, Says-next, first_option-shorter}

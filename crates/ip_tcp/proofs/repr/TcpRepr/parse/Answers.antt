@@ -1,5 +1,4 @@
-use Rattle.std.proofs.Common.{◌≡◌, ◌∙◌, refl}
-use Rattle.ip_tcp.specs.Tcp.{header_of}
+use Rattle.std.proofs.Common.{◌∙◌, refl}
 use Rattle.ip_tcp.proofs.repr.TcpRepr.parse.Goals as goal
 
 pub returns-clause-only : goal.returns-clause-only
