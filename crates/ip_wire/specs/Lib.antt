@@ -1,5 +1,8 @@
 -- What contracts of the members cite, for the crates above: `Rattle.ip_wire.specs.Udp`,
 -- `Rattle.ip_wire.specs.UdpRepr.{UdpRepr}`, `Rattle.ip_wire.specs.IpAddress.TheVariants.{Ipv4}`.
+pub mod Ethernet
+pub mod Arp
+pub mod Fragment
 pub use Rattle.ip_address.specs.Fields
 pub use Rattle.ip_address.specs.Sum
 pub use Rattle.ip_address.specs.Address
@@ -15,9 +18,6 @@ pub use Rattle.ip_packet.specs.Udp
 pub use Rattle.ip_packet.specs.Ipv4
 pub use Rattle.ip_packet.specs.Ipv6
 pub use Rattle.ip_packet.specs.Ip
-pub use Rattle.ip_link.specs.Ethernet
-pub use Rattle.ip_link.specs.Arp
-pub use Rattle.ip_link.specs.Fragment
 pub use Rattle.ip_tcp.specs.Control
 pub use Rattle.ip_tcp.specs.Options
 pub use Rattle.ip_tcp.specs.Tcp
@@ -48,17 +48,6 @@ pub use Rattle.ip_packet.specs.declared.ipv6.Ipv6Packet
 pub use Rattle.ip_packet.specs.declared.ipv6.Ipv6PacketMut
 pub use Rattle.ip_packet.specs.declared.ipv6.Ipv6Repr
 pub use Rattle.ip_packet.specs.declared.ip.IpRepr
-pub use Rattle.ip_link.specs.declared.ethernet.EthernetFrame
-pub use Rattle.ip_link.specs.declared.ethernet.EthernetFrameMut
-pub use Rattle.ip_link.specs.declared.ethernet.EthernetRepr
-pub use Rattle.ip_link.specs.declared.arp.ArpHardware
-pub use Rattle.ip_link.specs.declared.arp.ArpOperation
-pub use Rattle.ip_link.specs.declared.arp.ArpPacket
-pub use Rattle.ip_link.specs.declared.arp.ArpPacketMut
-pub use Rattle.ip_link.specs.declared.arp.ArpRepr
-pub use Rattle.ip_link.specs.declared.ipv6_fragment.Ipv6FragmentHeader
-pub use Rattle.ip_link.specs.declared.ipv6_fragment.Ipv6FragmentHeaderMut
-pub use Rattle.ip_link.specs.declared.ipv6_fragment.Ipv6FragmentRepr
 pub use Rattle.ip_tcp.specs.declared.control.TcpControl
 pub use Rattle.ip_tcp.specs.declared.header.TcpHeader
 pub use Rattle.ip_tcp.specs.declared.option.TcpOption

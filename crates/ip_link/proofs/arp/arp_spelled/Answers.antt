@@ -1,5 +1,0 @@
-use Rattle.ip_link.proofs.ArpLaws.{bytes-written}
-use Rattle.ip_link.proofs.arp.arp_spelled.Goals as goal
-
-pub returns : goal.returns
-returns c = bytes-written

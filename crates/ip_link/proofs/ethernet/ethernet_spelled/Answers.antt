@@ -1,5 +1,0 @@
-use Rattle.ip_link.proofs.EthernetLaws.{bytes-written}
-use Rattle.ip_link.proofs.ethernet.ethernet_spelled.Goals as goal
-
-pub returns : goal.returns
-returns c = bytes-written

@@ -1,3 +1,0 @@
-pub mod Ethernet
-pub mod Arp
-pub mod Fragment

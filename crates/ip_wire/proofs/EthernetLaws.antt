@@ -1,0 +1,53 @@
+-- A frame's header and what spells it.
+use Rattle.std.proofs.Common.{◌≡◌, ℕ, ◌+◌, ◌/◌, ◌%◌, ◌<◌, ◌≤◌, ◌^◌, List, ◌++◌, length, get_or, take, drop, refl, sym, ◌∙◌, ap, arith, length-append, append_assoc}
+use Rattle.std.proofs.lemmas.List.{take_at, drop_at, get_or-drop}
+use Rattle.std.specs.Int.{w16, to_be_bytes}
+use Rattle.ip_address.specs.Fields.{be16, IsBytes}
+use Rattle.ip_address.specs.Protocol.{ether_number, ether_of}
+use Rattle.ip_wire.specs.Ethernet.{IsEthernet, IsWhole, IsValue, written, normal}
+use Rattle.ip_wire.specs.declared.ethernet.EthernetRepr.{EthernetRepr}
+use Rattle.ip_packet.proofs.Peel.{peel16, peel_to}
+use Rattle.ip_wire.proofs.Numbers.{ether_number-ether_of}
+
+-- a frame is spelled by its header, and then come payload and padding
+pub bytes-written : (bytes : List ℕ) (v : EthernetRepr) → IsBytes bytes → IsEthernet bytes v → bytes ≡ written v ++ drop 14 bytes
+bytes-written bytes v small is =
+    let whole : IsWhole bytes = is.whole in
+    let carried : ether_number v.ethertype ≡ be16 bytes 12 = ap ether_number is.carried ∙ ether_number-ether_of (be16 bytes 12) in
+    let last : List ℕ = to_be_bytes w16 (ether_number v.ethertype) in
+    let joined : (v.dst_addr.0 ++ (v.src_addr.0 ++ last)) ++ drop 14 bytes ≡ v.dst_addr.0 ++ (v.src_addr.0 ++ (last ++ drop 14 bytes)) =
+    append_assoc v.dst_addr.0 (v.src_addr.0 ++ last) (drop 14 bytes) ∙ ap (λ xs. v.dst_addr.0 ++ xs) (append_assoc v.src_addr.0 last (drop 14 bytes))
+    in
+    peel_to bytes 0 6 v.dst_addr.0 (v.src_addr.0 ++ (last ++ drop 14 bytes)) (omega arith) is.destination (
+    peel_to bytes 6 12 v.src_addr.0 (last ++ drop 14 bytes) (omega arith) is.source (
+    peel16 bytes 12 (ether_number v.ethertype) (drop 14 bytes) small (omega (arith, whole.header)) carried refl
+    )
+    )
+    ∙ sym joined
+
+-- two addresses before a number, read
+parts : (destination source rest : List ℕ) (n : ℕ) → length destination ≡ 6 → length source ≡ 6 → n < 2 ^ 16
+    → let frame : List ℕ = (destination ++ (source ++ to_be_bytes w16 n)) ++ rest in (destination ≡ take 6 frame) × (source ≡ take 6 (drop 6 frame)) × (be16 frame 12 ≡ n) × (14 ≤ length frame)
+parts destination source rest n first second small =
+    let frame : List ℕ = (destination ++ (source ++ to_be_bytes w16 n)) ++ rest in
+    let joined : frame ≡ destination ++ (source ++ (to_be_bytes w16 n ++ rest)) =
+    append_assoc destination (source ++ to_be_bytes w16 n) rest ∙ ap (λ xs. destination ++ xs) (append_assoc source (to_be_bytes w16 n) rest)
+    in
+    let behind6 : drop 6 frame ≡ source ++ (to_be_bytes w16 n ++ rest) = ap (drop 6) joined ∙ drop_at destination (source ++ (to_be_bytes w16 n ++ rest)) 6 first in
+    let six : length (destination ++ source) ≡ 12 = omega (arith, length-append destination source) in
+    let joined12 : frame ≡ (destination ++ source) ++ (to_be_bytes w16 n ++ rest) = joined ∙ sym (append_assoc destination source (to_be_bytes w16 n ++ rest)) in
+    let behind12 : drop 12 frame ≡ to_be_bytes w16 n ++ rest = ap (drop 12) joined12 ∙ drop_at (destination ++ source) (to_be_bytes w16 n ++ rest) 12 six in
+    let high : get_or frame 12 0 ≡ n / 256 % 256 = sym (get_or-drop 12 frame 0 0) ∙ ap (λ xs. get_or xs 0 0) behind12 in
+    let low : get_or frame 13 0 ≡ n % 256 = sym (get_or-drop 12 frame 1 0) ∙ ap (λ xs. get_or xs 1 0) behind12 in
+    let all : length frame ≡ 14 + length rest = ap length joined12 ∙ omega (arith, six, length-append (destination ++ source) (to_be_bytes w16 n ++ rest)) in (
+      sym (ap (take 6) joined ∙ take_at destination (source ++ (to_be_bytes w16 n ++ rest)) 6 first),
+      sym (ap (take 6) behind6 ∙ take_at source (to_be_bytes w16 n ++ rest) 6 second),
+      omega (arith, high, low),
+      omega (arith, all),
+    )
+
+-- a frame whose header was emitted is read back in its normal form, whatever follows
+pub IsEthernet-written : (v : EthernetRepr) (rest : List ℕ) → IsValue v → IsEthernet (written v ++ rest) (normal v)
+IsEthernet-written v rest value =
+    let all = parts v.dst_addr.0 v.src_addr.0 rest (ether_number v.ethertype) value.destination.0 value.source.0 value.carried in
+    record { whole = record { header = all.3 }; destination = all.0; source = all.1; carried = sym (ap ether_of all.2) }
