@@ -1,0 +1,25 @@
+//! Control messages of the Internet protocols.
+//!
+//! It holds nothing of its own: it passes on the items of its members, `icmpv4` and `icmpv6`. A crate
+//! above names `control_wire` alone, in `crates.txt` and in its code, as `control_wire::Icmpv4Repr`.
+//! In clauses, `specs/` and `proofs/` the members' definitions are `Rattle.control_wire.specs.Icmpv4`,
+//! `.Icmpv6`, `.Ndisc` and so on, and each type that a definition names is a module of its own name,
+//! as `Rattle.control_wire.specs.Icmpv4Header.{Icmpv4Header}`.
+#![tactic(auto)]
+
+pub use icmpv4::laws::{
+    icmpv4_fits, icmpv4_no_longer, icmpv4_normal, icmpv4_reads_back, icmpv4_spelled,
+};
+pub use icmpv4::{
+    Icmpv4DstUnreachable, Icmpv4Header, Icmpv4Message, Icmpv4Packet, Icmpv4PacketMut, Icmpv4Repr,
+    Icmpv4TimeExceeded, field as icmpv4_field,
+};
+pub use icmpv6::laws::{
+    icmpv6_fits, icmpv6_no_longer, icmpv6_normal, icmpv6_reads_back, icmpv6_spelled,
+};
+pub use icmpv6::ndisc::{ndisc_no_longer, ndisc_reads_back, ndisc_spelled};
+pub use icmpv6::{
+    Icmpv6DstUnreachable, Icmpv6Header, Icmpv6Message, Icmpv6Packet, Icmpv6PacketMut,
+    Icmpv6ParamProblem, Icmpv6Repr, Icmpv6TimeExceeded, NdiscNeighborFlags, NdiscRepr,
+    field as icmpv6_field,
+};

@@ -1,0 +1,5 @@
+pub mod Checks
+pub mod Codes
+pub mod Messages
+pub mod Normal
+pub mod Written

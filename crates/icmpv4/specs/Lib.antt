@@ -1,0 +1,2 @@
+pub mod Icmpv4Codes
+pub mod Icmpv4

@@ -1,0 +1,48 @@
+//! Laws of the format.
+ghost use Rattle.std.specs.Prelude.{◌≡◌, ◌+◌, ◌≤◌, ℕ, Bool, IsTrue, List, length};
+ghost use Rattle.ip_address.specs.Fields.{IsBytes};
+ghost use Rattle.icmpv4.specs.Icmpv4.{IsIcmpv4, IsValue, Fits, free_fields, spelling, written, header_len, normal};
+ghost use Rattle.icmpv4.specs.declared.header.Icmpv4Header.{Icmpv4Header};
+
+/// Law: a message is spelled by its value, with what a value doesn't keep, and its data.
+pub fn icmpv4_spelled()
+    ensures { (tested : Bool) (bytes : List ℕ) (v : Icmpv4Header) (payload : List ℕ)
+        → IsBytes bytes
+        → IsIcmpv4 tested bytes v payload
+        → bytes ≡ spelling v (free_fields v bytes) payload }
+{}
+
+/// Law: a message that was read can be written again: its lengths fit, and each field is a number of
+/// its width.
+pub fn icmpv4_fits()
+    ensures { (tested : Bool) (bytes : List ℕ) (v : Icmpv4Header) (payload : List ℕ)
+        → IsBytes bytes
+        → IsIcmpv4 tested bytes v payload
+        → Fits v × IsValue v }
+{}
+
+/// Law: a message that was read is written again in no more bytes; options of a quoted header are
+/// left out.
+pub fn icmpv4_no_longer()
+    ensures { (tested : Bool) (bytes : List ℕ) (v : Icmpv4Header) (payload : List ℕ)
+        → IsIcmpv4 tested bytes v payload
+        → header_len v + length payload ≤ length bytes }
+{}
+
+/// Law: a message that was emitted is read back in its normal form, with its data, where a checksum
+/// that is tested was also written.
+pub fn icmpv4_reads_back()
+    ensures { (tested quote_sealed sealed : Bool) (v : Icmpv4Header) (payload : List ℕ)
+        → IsValue v
+        → Fits v
+        → (IsTrue tested → IsTrue sealed)
+        → IsIcmpv4 tested (written quote_sealed sealed v payload) (normal v) payload }
+{}
+
+/// Law: a message that was read is in its normal form, and so is the normal form of any other.
+pub fn icmpv4_normal()
+    ensures read { (tested : Bool) (bytes : List ℕ) (v : Icmpv4Header) (payload : List ℕ)
+        → IsIcmpv4 tested bytes v payload
+        → normal v ≡ v }
+    ensures again { (v : Icmpv4Header) → normal (normal v) ≡ normal v }
+{}

@@ -1,0 +1,12 @@
+pub mod Errors
+pub mod NdiscNormal
+pub mod Normal
+pub mod Reasons
+pub mod NdiscKinds
+pub mod NdiscLaws
+pub mod NdiscSpelled
+pub mod NdiscSteps
+pub mod Sealed
+pub mod Spelled
+pub mod Types
+pub mod Written

@@ -1,0 +1,5 @@
+use Rattle.icmpv6.proofs.Sealed.{all_ones-holds}
+use Rattle.icmpv6.proofs.packet.Icmpv6Packet.verify_checksum.Goals as goal
+
+pub returns : goal.returns
+returns c = all_ones-holds _ _ c.sum.ensures

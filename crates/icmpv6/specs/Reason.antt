@@ -1,0 +1,57 @@
+-- Codes of ICMPv6 errors (RFC 4443, sections 3.1, 3.3 and 3.4).
+use Rattle.std.specs.Prelude.{ℕ, ◌==◌, if◌then◌else◌}
+use Rattle.icmpv6.specs.declared.reason.Icmpv6DstUnreachable.{Icmpv6DstUnreachable}
+use Rattle.icmpv6.specs.declared.reason.Icmpv6DstUnreachable.TheVariants as Unreachable
+use Rattle.icmpv6.specs.declared.reason.Icmpv6TimeExceeded.{Icmpv6TimeExceeded}
+use Rattle.icmpv6.specs.declared.reason.Icmpv6TimeExceeded.TheVariants as Exceeded
+use Rattle.icmpv6.specs.declared.reason.Icmpv6ParamProblem.{Icmpv6ParamProblem}
+use Rattle.icmpv6.specs.declared.reason.Icmpv6ParamProblem.TheVariants as Problem
+
+-- the code of a reason for destination unreachable
+abbrev pub unreachable_code : Icmpv6DstUnreachable → ℕ
+unreachable_code Unreachable.NoRoute = 0
+unreachable_code Unreachable.AdminProhibit = 1
+unreachable_code Unreachable.BeyondScope = 2
+unreachable_code Unreachable.AddrUnreachable = 3
+unreachable_code Unreachable.PortUnreachable = 4
+unreachable_code Unreachable.FailedPolicy = 5
+unreachable_code Unreachable.RejectRoute = 6
+unreachable_code (Unreachable.Unknown code) = code
+
+-- the reason of a code
+abbrev pub unreachable_of : ℕ → Icmpv6DstUnreachable
+unreachable_of code =
+    if code == 0 then Unreachable.NoRoute
+    else (if code == 1 then Unreachable.AdminProhibit
+    else (if code == 2 then Unreachable.BeyondScope
+    else (if code == 3 then Unreachable.AddrUnreachable
+    else (if code == 4 then Unreachable.PortUnreachable
+    else (if code == 5 then Unreachable.FailedPolicy
+    else (if code == 6 then Unreachable.RejectRoute
+    else Unreachable.Unknown code))))))
+
+-- the code of a reason for time exceeded
+abbrev pub exceeded_code : Icmpv6TimeExceeded → ℕ
+exceeded_code Exceeded.HopLimitExceeded = 0
+exceeded_code Exceeded.FragReassemExceeded = 1
+exceeded_code (Exceeded.Unknown code) = code
+
+-- the reason of a code
+abbrev pub exceeded_of : ℕ → Icmpv6TimeExceeded
+exceeded_of code =
+    if code == 0 then Exceeded.HopLimitExceeded
+    else (if code == 1 then Exceeded.FragReassemExceeded else Exceeded.Unknown code)
+
+-- the code of a parameter problem
+abbrev pub problem_code : Icmpv6ParamProblem → ℕ
+problem_code Problem.ErroneousHdrField = 0
+problem_code Problem.UnrecognizedNxtHdr = 1
+problem_code Problem.UnrecognizedOption = 2
+problem_code (Problem.Unknown code) = code
+
+-- the problem of a code
+abbrev pub problem_of : ℕ → Icmpv6ParamProblem
+problem_of code =
+    if code == 0 then Problem.ErroneousHdrField
+    else (if code == 1 then Problem.UnrecognizedNxtHdr
+    else (if code == 2 then Problem.UnrecognizedOption else Problem.Unknown code))

@@ -1,0 +1,53 @@
+//! Laws of the format.
+ghost use Rattle.std.specs.Prelude.{◌≡◌, ℕ, ◌+◌, ◌≤◌, Bool, IsTrue, List, length};
+ghost use Rattle.ip_address.specs.Fields.{IsBytes};
+ghost use Rattle.ip_address.specs.declared.ipv6.Ipv6Address.{Ipv6Address};
+ghost use Rattle.icmpv6.specs.Icmpv6.{MessageValue, IsIcmpv6, IsValue, Fits, CanCarry, KeepsAll, carried_in, free_in, header_len, normal, spelling, written};
+
+/// Law: an error or echo message is spelled by what it says and carries, with the fields that a value
+/// doesn't keep.
+pub fn icmpv6_spelled()
+    ensures { (source destination : Ipv6Address) (tested : Bool) (message : List ℕ) (v : MessageValue)
+        → IsBytes message
+        → KeepsAll v
+        → IsIcmpv6 source destination tested message v
+        → message ≡ spelling v (free_in message) (carried_in message v) }
+{}
+
+/// Law: a message that was read is written again in no more bytes.
+pub fn icmpv6_no_longer()
+    ensures { (source destination : Ipv6Address) (tested : Bool) (message : List ℕ) (v : MessageValue)
+        → IsIcmpv6 source destination tested message v
+        → header_len v + length (carried_in message v) ≤ length message }
+{}
+
+/// Law: a message that was read can be sent again, with the bytes that it carries: its lengths fit,
+/// and each field is a number of its width.
+pub fn icmpv6_fits()
+    ensures value { (source destination : Ipv6Address) (tested : Bool) (message : List ℕ) (v : MessageValue)
+        → IsBytes message
+        → IsIcmpv6 source destination tested message v
+        → Fits v × IsValue v }
+    ensures bytes { (message : List ℕ) (v : MessageValue) → CanCarry v (carried_in message v) }
+{}
+
+/// Law: a message that was emitted is read back in its normal form, with the bytes that it carries,
+/// where a checksum that is tested was also written.
+pub fn icmpv6_reads_back()
+    ensures header { (source destination : Ipv6Address) (tested sealed : Bool) (v : MessageValue) (carried : List ℕ)
+        → IsValue v
+        → Fits v
+        → (IsTrue tested → IsTrue sealed)
+        → IsIcmpv6 source destination tested (written source destination sealed v carried) (normal v) }
+    ensures bytes { (source destination : Ipv6Address) (sealed : Bool) (v : MessageValue) (carried : List ℕ)
+        → IsValue v
+        → CanCarry v carried
+        → carried_in (written source destination sealed v carried) (normal v) ≡ carried }
+{}
+
+/// Law: a message that was read is in its normal form.
+pub fn icmpv6_normal()
+    ensures { (source destination : Ipv6Address) (tested : Bool) (message : List ℕ) (v : MessageValue)
+        → IsIcmpv6 source destination tested message v
+        → normal v ≡ v }
+{}
