@@ -9,7 +9,7 @@ use Rattle.lan_machine.specs.declared.event.Event.TheVariants.{Bind, SendTo, Rec
 use Rattle.lan_machine.specs.declared.event.Answer.{Answer}
 use Rattle.lan_machine.specs.declared.event.Answer.TheVariants.{Done}
 use Rattle.lan_machine.specs.declared.event.Refused.{Refused}
-use Rattle.lan_machine.specs.Packet.{Packet, packet_of}
+use Rattle.lan_machine.specs.Packet.{Packet, Carries}
 use Rattle.lan_machine.specs.Values.{StationValue}
 use Rattle.lan_machine.specs.Laws.{IsEventInRange, HasSocket}
 use Rattle.lan.specs.Link.{Stations, station, other, delivered, frame_sent}
@@ -104,7 +104,7 @@ module _ (w : WorldValue) (event : Event) (answer : Answer) (next : Stations) (o
     left_alone : (side : Side) → IsSideOk (e ∷ w.history) side (station w.hosts side)
     left_alone side = rests e w.history side (station w.hosts side) (apart side) (ok.sides side)
 
-    handed : (from : Side) (k : ℕ) (padding : List ℕ) → k < length (station w.hosts from).sent → (p : Packet) → packet_of (frame_sent w.hosts from k ++ padding) ≡ Some p → WasSpelled (e ∷ w.history) from p
+    handed : (from : Side) (k : ℕ) (padding : List ℕ) → k < length (station w.hosts from).sent → (p : Packet) → Carries (frame_sent w.hosts from k ++ padding) p → WasSpelled (e ∷ w.history) from p
     handed from k padding there p is = (left_alone from).sent (frame_sent w.hosts from k) (member_at (station w.hosts from).sent k [] there) padding p is
 
     handed_sides : (from : Side) (k : ℕ) (padding : List ℕ) → k < length (station w.hosts from).sent → (side : Side) → IsSideOk (e ∷ w.history) side (station (delivered w.hosts from k padding) side)

@@ -1,5 +1,5 @@
 -- Lemmas on the lines of a script and on what they write.
-use Rattle.std.proofs.Common.{◌≡◌, ℕ, zero, suc, ◌+◌, ◌-◌, ◌<◌, ◌≤◌, Bool, true, false, not, cond, eqb, ltb, List, [], ◌∷◌, ◌++◌, length, take, drop, refl, sym, ap, subst, inl, inr, append_assoc, append-nil, add-one, arith, Option, Some, None, ◌⊎◌, IfSome}
+use Rattle.std.proofs.Common.{◌≡◌, ℕ, zero, suc, ◌+◌, ◌-◌, ◌<◌, ◌≤◌, Bool, true, false, not, cond, eqb, ltb, List, [], ◌∷◌, ◌++◌, length, take, drop, refl, sym, ap, subst, inl, inr, append_assoc, append-nil, add-one, arith, Option, Some, None, Result, Ok, Err, IfOk, IfErr, ◌⊎◌, IfSome}
 use Rattle.std.specs.List.{position_or_len, position}
 use Rattle.std.specs.Io.KnownBytes.{Consumes, IsAtEnd}
 use Rattle.std.proofs.KnownBytes.{Consumes-trans, Consumes-whole}
@@ -9,9 +9,10 @@ use Rattle.std.proofs.lemmas.Bool.Decides.{nat_tests}
 use Rattle.std.proofs.lemmas.Grind.{common_steps}
 use Rattle.lan.specs.declared.script.answer.End.{End}
 use Rattle.lan.specs.declared.script.session.Session.{Session}
-use Rattle.lan.specs.ScriptLines.{line_of, lines_of}
+use Rattle.lan.specs.declared.script.line.Line.{Line}
+use Rattle.lan.specs.ScriptLines.{SaysLine, lines_of}
 use Rattle.lan.specs.ScriptAnswers.{end_line}
-use Rattle.lan.specs.ScriptRuns.{end_of, Leads, Ends, Replays, IsReplay}
+use Rattle.lan.specs.ScriptRuns.{end_of, Ends, Leads, LineLeads, LineEnds, Replays, IsReplay}
 
 -- LINES
 
@@ -107,23 +108,23 @@ replay_ends script n session (b ∷ bs) output h e = absurd (omega (arith, none_
 
 -- the first of the lines that are left ends the run
 pub replay_ends_early : (script : List ℕ) (n : ℕ) (session : Session) (rest output line after : List ℕ) (end : End) → Completes script n session rest output
-    → lines_of rest ≡ line ∷ lines_of after → Ends session (line_of line) end → IsReplay script (output ++ end_line n end) 1
+    → lines_of rest ≡ line ∷ lines_of after → LineEnds session line end → IsReplay script (output ++ end_line n end) 1
 replay_ends_early script n session rest output line after end h lines why =
     h (end_line n end) 1 (subst (λ ls. Replays n session ls (end_line n end) 1) (sym lines) (inl (end, why, refl, refl)))
 
 -- the first of the lines that are left leads on
 pub replay_goes_on : (script : List ℕ) (n : ℕ) (session : Session) (rest output line after text : List ℕ) (next : Session) → Completes script n session rest output
-    → lines_of rest ≡ line ∷ lines_of after → end_of session (line_of line) ≡ None → Leads session (line_of line) text next
+    → lines_of rest ≡ line ∷ lines_of after → LineLeads session line text next
     → Completes script (n + 1) next after (output ++ text)
-replay_goes_on script n session rest output line after text next h lines allowed leads more status replays =
+replay_goes_on script n session rest output line after text next h lines leads more status replays =
     subst (λ o. IsReplay script o status) (sym (append_assoc output text more))
-    (h (text ++ more) status (subst (λ ls. Replays n session ls (text ++ more) status) (sym lines) (inr (text, next, more, allowed, leads, replays, refl))))
+    (h (text ++ more) status (subst (λ ls. Replays n session ls (text ++ more) status) (sym lines) (inr (text, next, more, leads, replays, refl))))
 
 -- a run has the status 0 or 1
 pub status-le : (n : ℕ) (session : Session) (lines : List (List ℕ)) (output : List ℕ) (status : ℕ) → Replays n session lines output status → status ≤ 1
 status-le n session [] output status h = omega (arith, h.1)
 status-le n session (line ∷ lines) output status (inl early) = omega (arith, early.3)
-status-le n session (line ∷ lines) output status (inr on) = status-le (n + 1) on.1 lines on.2 status on.5
+status-le n session (line ∷ lines) output status (inr on) = status-le (n + 1) on.1 lines on.2 status on.4
 
 -- READING
 
@@ -131,3 +132,15 @@ status-le n session (line ∷ lines) output status (inr on) = status-le (n + 1) 
 pub all_read : (start now end : Option (List ℕ)) (bytes : List ℕ) → Consumes start now bytes → Consumes now end [] → IsAtEnd end → IfSome start (λ input. bytes ≡ input)
 all_read start now end bytes taken none over =
     Consumes-whole start end (bytes ++ []) (λ input. bytes ≡ input) (Consumes-trans start now end bytes [] taken none) over (sym (append-nil bytes))
+
+-- LINES THAT WERE READ
+
+-- what a line says leads on, or ends the run
+pub said_leads : {R : Type 0} (output : R → List ℕ) (next : R → Session) (session : Session) (text : List ℕ) (line : Line) (r : Result R End) → SaysLine text line
+    → IfOk r (λ _. end_of session (Some line) ≡ None) → IfOk r (λ x. Leads session (Some line) (output x) (next x)) → IfOk r (λ x. LineLeads session text (output x) (next x))
+said_leads output next session text line (Ok x) says allowed leads = (Some line, says, allowed, leads)
+said_leads output next session text line (Err end) says allowed leads = allowed
+
+pub said_ends : {R : Type 0} (session : Session) (text : List ℕ) (line : Line) (r : Result R End) → SaysLine text line → IfErr r (Ends session (Some line)) → IfErr r (LineEnds session text)
+said_ends session text line (Ok x) says ends = ends
+said_ends session text line (Err end) says ends = (Some line, says, ends)

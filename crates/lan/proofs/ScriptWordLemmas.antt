@@ -15,7 +15,7 @@ use Rattle.std.proofs.lemmas.List.Sums.{AllPass-from_list_all, list_all-from_All
 use Rattle.hex.specs.declared.error.FromHexError.{FromHexError}
 use Rattle.hex.specs.Hex.{is_hex_digit, decode_of}
 use Rattle.hex.proofs.HexLemmas.{decode_of-ok, decode_of-digits}
-use Rattle.lan.specs.ScriptWords.{words_of, words_left, number_of, micros_of, octet_of, first_as, four, ◌>>=◌}
+use Rattle.lan.specs.ScriptWords.{words_of, words_left, number_of, micros_of, first_as, four, ◌>>=◌}
 use Rattle.lan.specs.ScriptLines.{at_end, within}
 
 -- WORDS
@@ -85,9 +85,6 @@ number_of_parsed {E} k word (Err e) parsed digits =
     let facts = parse_digits digit_words {E = E} k word (Err e) parsed digits in
     sym (number_of_no (2 ^ k) word facts)
 
-pub octet_of_short : (word : List ℕ) → length word ≤ 3 → octet_of word ≡ number_of 256 word
-octet_of_short word short = grind (arith, nat_tests)
-
 pub micros_of_parsed : {E : Type 0} → (word : List ℕ) (r : Result ℤ E) → ParsesSigned w64 10 word r → list_all is_ascii_digit word ≡ true → result_ok r ≡ micros_of word
 micros_of_parsed {E} word (Ok x) parsed digits =
     let facts = parse_signed_digits digit_words {E = E} w64 word (Ok x) parsed digits in
@@ -154,23 +151,3 @@ digits_decode word false h even = only_digits_decode word (decode_of word) refl 
 -- pairs of digits are what decodes
 pub list_all-hex : (word : List ℕ) → length word % 2 ≡ 0 → list_all is_ascii_hexdigit word ≡ is_ok (decode_of word)
 list_all-hex word even = digits_decode word (list_all is_ascii_hexdigit word) (sym (same_digits word)) even
-
--- FOUR WORDS READ
-
-pub within_some : {X : Type 0} (said : Option X) (x : X) → Ok x ≡ within said → said ≡ Some x
-within_some None x h = cc
-within_some (Some y) x h = cc
-
-at_end_some : {X : Type 0} (words : List (List ℕ)) (x : X) (u : Unit {0}) → at_end tt words ≡ Some u → at_end x words ≡ Some x
-at_end_some [] x u h = refl
-at_end_some (word ∷ words) x u h = cc
-
--- what four readers found, each behind the word of the one before, and nothing behind them
-pub four_read : {P Q R S T : Type 0} (f : List ℕ → Option P) (g : List ℕ → Option Q) (h : List ℕ → Option R) (i : List ℕ → Option S) (make : P → Q → R → S → T)
-    (w0 w1 w2 w3 w4 : List (List ℕ)) (p : P) (q : Q) (r : R) (s : S) (u : Unit {0})
-    → w1 ≡ drop 1 w0 → w2 ≡ drop 1 w1 → w3 ≡ drop 1 w2 → w4 ≡ drop 1 w3
-    → Ok p ≡ within (first_as f w0) → Ok q ≡ within (first_as g w1) → Ok r ≡ within (first_as h w2) → Ok s ≡ within (first_as i w3) → Ok u ≡ within (at_end tt w4)
-    → four f g h i make w0 ≡ Some (make p q r s)
-four_read f g h i make w0 w1 w2 w3 w4 p q r s u e1 e2 e3 e4 fp gq hr is end =
-    rw (four_by_steps f g h i make w0, ← e1, ← e2, ← e3, ← e4, within_some _ _ fp, within_some _ _ gq, within_some _ _ hr, within_some _ _ is)
-    (at_end_some w4 (make p q r s) u (within_some (at_end tt w4) u end))

@@ -5,7 +5,7 @@ use Rattle.lan_machine.specs.declared.event.Side.TheVariants.{A, B}
 use Rattle.lan_machine.proofs.Members.{member_of_append}
 use Rattle.lan_machine.specs.Members.{◌∈◌}
 use Rattle.lan_machine.specs.Values.{StationValue}
-use Rattle.lan_machine.specs.Packet.{Packet, packet_of}
+use Rattle.lan_machine.specs.Packet.{Packet, Carries}
 use Rattle.lan.specs.Link.{other, with_waiting}
 use Rattle.lan.specs.Reads.{Entry, same_side, is_of}
 use Rattle.lan.specs.Invariant.{WasAccepted, WasSpelled, IsSideOk}
@@ -57,7 +57,7 @@ rests e h side s apart ok =
     }
 
 -- a frame that joins those that wait
-pub joined : (h : List Entry) (side : Side) (s : StationValue) (frame : List ℕ) → ((p : Packet) → packet_of frame ≡ Some p → WasSpelled h (other side) p) → IsSideOk h side s → IsSideOk h side (with_waiting s frame)
+pub joined : (h : List Entry) (side : Side) (s : StationValue) (frame : List ℕ) → ((p : Packet) → Carries frame p → WasSpelled h (other side) p) → IsSideOk h side s → IsSideOk h side (with_waiting s frame)
 joined h side s frame says ok =
     record {
       in_range = ok.in_range;

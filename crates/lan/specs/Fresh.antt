@@ -1,5 +1,6 @@
 -- A host that was never used, and a world that was just made.
-use Rattle.std.specs.Prelude.{◌≡◌, Bool, ◌&&◌, nat_le, if◌then◌else◌, [], length, All, Option, Some, None}
+use Rattle.std.specs.Prelude.{◌≡◌, Bool, ◌&&◌, nat_le, if◌then◌else◌, [], All, Option, Some, None}
+use Rattle.ip_wire.specs.Address.{IsIpv4Address}
 use Rattle.lan_machine.specs.Values.{SocketValue, StationValue}
 use Rattle.lan.specs.Runs.{WorldValue}
 use Rattle.lan.specs.declared.world.WorldError.{WorldError}
@@ -13,7 +14,7 @@ pub record IsUnused (s : SocketValue) : Type 0 where
 
 -- a host with an IPv4 address that has sent nothing, that nothing waits for, and whose sockets are unused
 pub record IsFresh (s : StationValue) : Type 0 where
-  pub address : length s.host.address ≡ 4
+  pub address : IsIpv4Address s.host.address
   pub sockets : All IsUnused s.host.sockets
   pub waiting : s.waiting ≡ []
   pub sent : s.sent ≡ []

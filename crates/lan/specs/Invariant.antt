@@ -6,7 +6,7 @@ use Rattle.lan_machine.specs.declared.event.Event.TheVariants.{Deliver}
 use Rattle.lan_machine.specs.declared.event.Answer.{Answer}
 use Rattle.lan_machine.specs.Members.{◌∈◌}
 use Rattle.lan_machine.specs.Values.{DatagramValue, HostValue, StationValue, socket_at}
-use Rattle.lan_machine.specs.Packet.{Packet, packet_of}
+use Rattle.lan_machine.specs.Packet.{Packet, Carries}
 use Rattle.lan_machine.specs.Laws.{IsInRange}
 use Rattle.lan.specs.Link.{station, other}
 use Rattle.lan.specs.Reads.{Entry, Accepted, same_side, bound_port}
@@ -21,7 +21,7 @@ pub record WasAccepted (history : List Entry) (sender : Side) (source destinatio
 
 -- the datagram that a packet carries was accepted
 abbrev pub WasSpelled : List Entry → Side → Packet → Type 0
-WasSpelled history sender p = WasAccepted history sender p.source_port p.destination_port p.payload
+WasSpelled history sender p = WasAccepted history sender p.udp.src_port p.udp.dst_port p.payload
 
 pub record IsSideOk (history : List Entry) (side : Side) (s : StationValue) : Type 0 where
   pub in_range : IsInRange s.host
@@ -29,8 +29,8 @@ pub record IsSideOk (history : List Entry) (side : Side) (s : StationValue) : Ty
   pub received : (i : ℕ) (d : DatagramValue) → d ∈ (socket_at s.host i).received → WasAccepted history (other side) d.remote.port (socket_at s.host i).port d.bytes
   pub queued : (i : ℕ) (d : DatagramValue) → d ∈ (socket_at s.host i).queued → WasAccepted history side (socket_at s.host i).port d.remote.port d.bytes
   -- whatever padding the link puts behind it
-  pub sent : (frame : List ℕ) → frame ∈ s.sent → (padding : List ℕ) (p : Packet) → packet_of (frame ++ padding) ≡ Some p → WasSpelled history side p
-  pub waiting : (frame : List ℕ) → frame ∈ s.waiting → (p : Packet) → packet_of frame ≡ Some p → WasSpelled history (other side) p
+  pub sent : (frame : List ℕ) → frame ∈ s.sent → (padding : List ℕ) (p : Packet) → Carries (frame ++ padding) p → WasSpelled history side p
+  pub waiting : (frame : List ℕ) → frame ∈ s.waiting → (p : Packet) → Carries frame p → WasSpelled history (other side) p
 
 -- a frame that an event hands to a host is among so many
 abbrev pub IsKnown : Side → Event → ℕ → Type 0

@@ -2,7 +2,7 @@
 use Rattle.std.specs.Prelude.{◌≡◌, ℕ, Bool, true, false, if◌then◌else◌, List, [], ◌∷◌, ◌⊎◌}
 use Rattle.lan_machine.specs.declared.event.Side.{Side}
 use Rattle.lan_machine.specs.declared.event.Side.TheVariants.{A, B}
-use Rattle.lan_machine.specs.declared.event.Endpoint.{Endpoint}
+use Rattle.ip_wire.specs.IpEndpoint.{IpEndpoint}
 use Rattle.lan_machine.specs.declared.event.Event.{Event}
 use Rattle.lan_machine.specs.declared.event.Event.TheVariants.{Bind, SendTo, RecvFrom, Poll, Deliver}
 use Rattle.lan_machine.specs.declared.event.Answer.{Answer}
@@ -38,7 +38,7 @@ bound_port (e ∷ past) side i =
 -- a host accepted a datagram of these bytes to a destination port, from a socket that was bound to the source port then
 pub record Accepts (past : List Entry) (e : Entry) (sender : Side) (source destination : ℕ) (bytes : List ℕ) : Type 0 where
   pub socket : ℕ
-  pub remote : Endpoint
+  pub remote : IpEndpoint
   pub was_sent : e.event ≡ SendTo sender socket remote bytes
   pub was_done : e.answer ≡ Done
   pub to_port : remote.port ≡ destination

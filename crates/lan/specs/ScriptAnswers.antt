@@ -10,7 +10,7 @@ use Rattle.lan_machine.specs.declared.event.Fault.{Fault}
 use Rattle.lan_machine.specs.declared.event.Fault.TheVariants.{InvalidState, Unaddressable, BufferFull, Exhausted, Truncated}
 use Rattle.lan_machine.specs.declared.event.Refused.{Refused}
 use Rattle.lan_machine.specs.declared.event.Refused.TheVariants.{NoSocket, NoFrame, Moment, Memory}
-use Rattle.lan_machine.specs.Texts.{endpoint_text}
+use Rattle.ip_wire.specs.Text.{endpoint_text}
 use Rattle.lan.specs.declared.script.answer.End.{End}
 use Rattle.lan.specs.declared.script.answer.End.TheVariants.{BadEvent, Refusal, Mtu}
 

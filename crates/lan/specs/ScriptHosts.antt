@@ -1,5 +1,6 @@
 -- The hosts that the header of a script asks for.
 use Rattle.std.specs.Prelude.{ℕ, if◌then◌else◌, List, [], ◌∷◌}
+use Rattle.ip_wire.specs.Ipv4Address.{Ipv4Address}
 use Rattle.lan_machine.specs.declared.event.Side.{Side}
 use Rattle.lan_machine.specs.declared.event.Side.TheVariants.{A, B}
 use Rattle.lan_machine.specs.Values.{SocketValue, StationValue}
@@ -12,9 +13,9 @@ pub record HeaderValue : Type 0 where
   pub mtu : ℕ
   pub sockets : List (Side × SocketSizes)
 
-abbrev pub address : Side → List ℕ
-address A = 192 ∷ 168 ∷ 1 ∷ 1 ∷ []
-address B = 192 ∷ 168 ∷ 1 ∷ 2 ∷ []
+abbrev pub address : Side → Ipv4Address
+address A = record { 0 = 192 ∷ 168 ∷ 1 ∷ 1 ∷ [] }
+address B = record { 0 = 192 ∷ 168 ∷ 1 ∷ 2 ∷ [] }
 
 abbrev pub new_socket : SocketSizes → SocketValue
 new_socket sizes = fresh_socket sizes.receive_packets sizes.receive_bytes sizes.send_packets sizes.send_bytes

@@ -1,7 +1,10 @@
 -- The lines of a script, and what each says.
-use Rattle.std.specs.Prelude.{ℕ, nat_lt, ◌==◌, if◌then◌else◌, List, [], ◌∷◌, codes, Option, Some, None, Result, Ok, Err, option_map}
+use Rattle.std.specs.Prelude.{◌≡◌, ℕ, nat_lt, IsTrue, ◌⊎◌, ◌==◌, if◌then◌else◌, List, [], ◌∷◌, codes, Option, Some, None, Result, Ok, Err, option_map}
 use Rattle.std.specs.List.{list_all}
 use Rattle.std.specs.Str.{bytes_eq}
+use Rattle.ip_wire.specs.IpEndpoint.{IpEndpoint}
+use Rattle.ip_wire.specs.Text.{IsEndpointText}
+use Rattle.lan_machine.specs.declared.event.Side.{Side}
 use Rattle.lan_machine.specs.declared.event.Event.{Event}
 use Rattle.lan_machine.specs.declared.event.Event.TheVariants.{Bind, SendTo, RecvFrom, Poll, Deliver}
 use Rattle.lan.specs.declared.script.line.Line.{Line}
@@ -9,7 +12,7 @@ use Rattle.lan.specs.declared.script.line.Line.TheVariants.{World, Socket, Start
 use Rattle.lan.specs.declared.script.line.SocketSizes.{SocketSizes}
 use Rattle.lan.specs.declared.script.line.LineError.{LineError}
 use Rattle.lan.specs.declared.script.line.LineError.TheVariants.{Outside}
-use Rattle.lan.specs.ScriptWords.{words_of, size_of, short_of, micros_of, side_of, bytes_of, endpoint_of, exactly, two, three, four, ◌>>=◌}
+use Rattle.lan.specs.ScriptWords.{words_of, size_of, short_of, micros_of, side_of, bytes_of, exactly, two, three, four, ◌>>=◌}
 
 -- the lines of a script: a line ends at the byte 0a, and the last may end without it
 abbrev pub onto_line : ℕ → List (List ℕ) → List (List ℕ)
@@ -34,15 +37,35 @@ at_end x (word ∷ words) = None
 abbrev pub sizes_of : List (List ℕ) → Option SocketSizes
 sizes_of = four size_of size_of size_of size_of (λ p q r s. record { receive_packets = p; receive_bytes = q; send_packets = r; send_bytes = s })
 
--- an event: its verb, and the words behind it
+-- an event that names no endpoint: its verb, and the words behind it
 abbrev pub event_of : List ℕ → List (List ℕ) → Option Event
 event_of verb words =
     if bytes_eq verb (codes "bind") then three side_of size_of short_of Bind words
-    else if bytes_eq verb (codes "sendto") then four side_of size_of endpoint_of bytes_of SendTo words
     else if bytes_eq verb (codes "recvfrom") then three side_of size_of size_of RecvFrom words
     else if bytes_eq verb (codes "poll") then three side_of micros_of short_of Poll words
     else if bytes_eq verb (codes "deliver") then three side_of size_of bytes_of Deliver words
     else None
+
+-- `H S ENDPOINT HEX`, behind the verb `sendto`
+pub record IsSendTo (words : List (List ℕ)) (event : Event) : Type 0 where
+  pub host : List ℕ
+  pub place : List ℕ
+  pub endpoint : List ℕ
+  pub hex : List ℕ
+  pub side : Side
+  pub socket : ℕ
+  pub remote : IpEndpoint
+  pub bytes : List ℕ
+  pub joined : words ≡ host ∷ place ∷ endpoint ∷ hex ∷ []
+  pub of_host : side_of host ≡ Some side
+  pub of_place : size_of place ≡ Some socket
+  pub of_endpoint : IsEndpointText endpoint remote
+  pub of_hex : bytes_of hex ≡ Some bytes
+  pub says : event ≡ SendTo side socket remote bytes
+
+-- what the words of an event say
+abbrev pub SaysEvent : List ℕ → List (List ℕ) → Event → Type 0
+SaysEvent verb words event = (event_of verb words ≡ Some event) ⊎ ((verb ≡ codes "sendto") × IsSendTo words event)
 
 -- `world ip MTU`
 abbrev pub world_of : List (List ℕ) → Option Line
@@ -57,7 +80,7 @@ socket_of (host ∷ kind ∷ sizes) = do
   Some (Socket side capacities)
 socket_of _ = None
 
--- a line of these words
+-- a line that names no endpoint: what its words say
 abbrev pub line_of_words : List (List ℕ) → Option Line
 line_of_words [] = None
 line_of_words (verb ∷ words) =
@@ -66,11 +89,18 @@ line_of_words (verb ∷ words) =
     else if bytes_eq verb (codes "start") then at_end Start words
     else option_map Happening (event_of verb words)
 
--- what a line of a script says: ASCII text, its words one blank apart
-abbrev pub line_of : List ℕ → Option Line
-line_of text = if list_all (λ b. nat_lt b 128) text then line_of_words (words_of 32 text) else None
+-- what the words of a line say
+abbrev pub SaysWords : List (List ℕ) → Line → Type 0
+SaysWords [] line = ⊥
+SaysWords (verb ∷ words) line =
+    (line_of_words (verb ∷ words) ≡ Some line)
+    ⊎ ((verb ≡ codes "sendto") × (event : Event) × (line ≡ Happening event) × IsSendTo words event)
 
--- a line says an event: it alone may name bytes
-abbrev pub SaysEvent : Option Line → Type 0
-SaysEvent (Some (Happening event)) = Unit {0}
-SaysEvent _ = ⊥
+-- what a line of a script says: ASCII text, its words one blank apart
+abbrev pub SaysLine : List ℕ → Line → Type 0
+SaysLine text line = IsTrue (list_all (λ b. nat_lt b 128) text) × SaysWords (words_of 32 text) line
+
+-- what a line says, if it says anything
+abbrev pub Said : List ℕ → Option Line → Type 0
+Said text (Some line) = SaysLine text line
+Said text None = (line : Line) → SaysLine text line → ⊥

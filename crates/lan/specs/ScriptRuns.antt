@@ -14,7 +14,7 @@ use Rattle.lan.specs.Link.{Stations, station}
 use Rattle.lan.specs.Steps.{refusal}
 use Rattle.lan.specs.Runs.{WorldValue, Step}
 use Rattle.lan.specs.Fresh.{new_refusal, new_world}
-use Rattle.lan.specs.ScriptLines.{line_of, lines_of}
+use Rattle.lan.specs.ScriptLines.{Said, lines_of}
 use Rattle.lan.specs.ScriptAnswers.{answer_line, sent_lines, end_line}
 use Rattle.lan.specs.ScriptEnds.{world_end}
 use Rattle.lan.specs.ScriptHosts.{host_of}
@@ -53,16 +53,24 @@ Leads (Running world) (Some (Happening event)) text next =
     (answer : Answer) × (new : WorldValue) × Step world event answer new × (text ≡ event_text world answer new) × (next ≡ Running new)
 Leads _ _ text next = ⊥
 
+-- a line ends the run
+abbrev pub LineEnds : Session → List ℕ → End → Type 0
+LineEnds session text end = (line : Option Line) × Said text line × Ends session line end
+
+-- a line leads on, and writes this
+abbrev pub LineLeads : Session → List ℕ → List ℕ → Session → Type 0
+LineLeads session text output next =
+    (line : Option Line) × Said text line × (end_of session line ≡ None) × Leads session line output next
+
 -- RUNS
 
 -- what the lines from line n on write, and the status: 0 at the end of the script, 1 after the line that ended the run
 abbrev pub Replays : ℕ → Session → List (List ℕ) → List ℕ → ℕ → Type 0
 Replays n session [] output status = (output ≡ []) × (status ≡ 0)
 Replays n session (line ∷ lines) output status =
-    ((end : End) × Ends session (line_of line) end × (output ≡ end_line n end) × (status ≡ 1))
+    ((end : End) × LineEnds session line end × (output ≡ end_line n end) × (status ≡ 1))
     ⊎ ((text : List ℕ) × (next : Session) × (rest : List ℕ)
-    × (end_of session (line_of line) ≡ None) × Leads session (line_of line) text next
-    × Replays (n + 1) next lines rest status × (output ≡ text ++ rest))
+    × LineLeads session line text next × Replays (n + 1) next lines rest status × (output ≡ text ++ rest))
 
 -- what a script writes, and its status
 abbrev pub IsReplay : List ℕ → List ℕ → ℕ → Type 0

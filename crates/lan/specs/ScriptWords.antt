@@ -1,5 +1,5 @@
 -- The words of a script, and what each class of them says.
-use Rattle.std.specs.Prelude.{ℕ, ℤ, pos, ◌^◌, ◌&&◌, nat_lt, nat_le, ◌==◌, if◌then◌else◌, List, [], ◌∷◌, length, slice_get, codes, Option, Some, None}
+use Rattle.std.specs.Prelude.{ℕ, ℤ, pos, ◌^◌, ◌&&◌, nat_lt, ◌==◌, if◌then◌else◌, List, [], ◌∷◌, length, slice_get, codes, Option, Some, None}
 use Rattle.std.specs.List.{slice_split, list_all}
 use Rattle.std.specs.Char.{is_ascii_digit}
 use Rattle.std.specs.Str.{bytes_eq}
@@ -8,7 +8,6 @@ use Rattle.std.specs.Result.{result_ok, result_unwrap_or, IsOk}
 use Rattle.hex.specs.Hex.{decode_of}
 use Rattle.lan_machine.specs.declared.event.Side.{Side}
 use Rattle.lan_machine.specs.declared.event.Side.TheVariants.{A, B}
-use Rattle.lan_machine.specs.declared.event.Endpoint.{Endpoint}
 use denote.Ref.{Bor}
 
 -- the words of a text: what stands between its separators, one word more than there are separators
@@ -74,6 +73,11 @@ exactly name word = if bytes_eq word name then Some tt else None
 abbrev pub first_as : {X : Type 0} → (List ℕ → Option X) → List (List ℕ) → Option X
 first_as class words = slice_get words 0 >>= class
 
+-- the first of these words is a text of this value
+abbrev pub FirstIs : {X : Type 0} → (List ℕ → X → Type 0) → List (List ℕ) → X → Type 0
+FirstIs IsTextOf [] x = ⊥
+FirstIs IsTextOf (word ∷ words) x = IsTextOf word x
+
 -- SO MANY WORDS, EACH OF ITS CLASS
 
 abbrev pub two : {P Q R : Type 0} → (List ℕ → Option P) → (List ℕ → Option Q) → (P → Q → R) → List (List ℕ) → Option R
@@ -99,17 +103,3 @@ four f g h i make (a ∷ b ∷ c ∷ d ∷ []) = do
   s ← i d
   Some (make p q r s)
 four f g h i make _ = None
-
--- ADDRESSES
-
--- a part of a dotted address: a number of one to three digits, at most 255
-abbrev pub octet_of : List ℕ → Option ℕ
-octet_of word = if nat_le (length word) 3 then number_of 256 word else None
-
--- an address of four parts, as in 192.168.1.1
-abbrev pub address_of : List ℕ → Option (List ℕ)
-address_of word = four octet_of octet_of octet_of octet_of (λ p q r s. p ∷ q ∷ r ∷ s ∷ []) (words_of 46 word)
-
--- an address and a port, as in 192.168.1.1:53
-abbrev pub endpoint_of : List ℕ → Option Endpoint
-endpoint_of word = two address_of short_of (λ a p. record { address = a; port = p }) (words_of 58 word)

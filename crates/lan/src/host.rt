@@ -3,7 +3,9 @@ ghost use Rattle.net_base.specs.Capabilities.{ip_mtu};
 ghost use Rattle.lan_host.specs.Station.{fresh_station, fresh_socket, with_new_socket};
 ghost use Rattle.lan.specs.Fresh.{IsFresh, has_mtu};
 
+use ip_wire::Ipv4Address;
 use lan_host::Station;
+use lan_machine::laws::ipv4_in_range;
 use net_base::DeviceCapabilities;
 use std::alloc::{AllocError, Global};
 use std::marker::Model;
@@ -27,9 +29,10 @@ impl Model for Host {
 
 impl Host {
     /// A host of this IPv4 address without sockets, over a device of these capabilities.
-    pub fn new(alloc: Global, address: [u8; 4], capabilities: DeviceCapabilities) -> Host
+    pub fn new(alloc: Global, address: Ipv4Address, capabilities: DeviceCapabilities) -> Host
         ensures { result ≡ fresh_station address (ip_mtu capabilities) }
     {
+        ipv4_in_range(address);
         Host {
             station: Station::new(alloc, address, capabilities),
         }

@@ -7,7 +7,7 @@ mod script;
 mod world;
 
 pub use host::Host;
-pub use lan_machine::{Answer, Bytes, Endpoint, Event, Fault, Refused, Side};
+pub use lan_machine::{Answer, Bytes, Event, Fault, Refused, Side};
 pub use lan_port::Port;
 pub use script::replay::replay;
 pub use world::{World, WorldError};

@@ -1,11 +1,18 @@
--- The datagram that the code finds in a frame is the one that the frame carries.
-use Rattle.std.proofs.Common.{◌≡◌, ◌+◌, ◌-◌, ◌≤◌, ℕ, Bool, true, nat_eq, List, length, take, drop, slice_index_or, slice_range, Some, None, cond, refl, sym, ap, ◌∙◌, subst, arith, leb-true}
-use Rattle.std.proofs.lemmas.Bool.{and_parts, and_from}
+-- What the code finds in a frame is what the frame carries.
+use Rattle.std.proofs.Common.{◌≡◌, ◌+◌, ◌-◌, ◌≤◌, ℕ, true, List, length, take, drop, slice_range, Result, Ok, None, sym, ap, ◌∙◌, subst, arith}
 use Rattle.std.proofs.lemmas.List.{drop-take, take-take, drop-drop, length-take}
-use Rattle.lan_machine.specs.Packet.{Packet, be16, header_length, is_ipv4, is_whole, is_udp, source_address, destination_address, ipv4_payload, carries_datagram, packet_of}
+use Rattle.ip_wire.specs.Fields.{be16}
+use Rattle.ip_wire.specs.Ipv4 as Ipv4
+use Rattle.ip_wire.specs.Udp as Udp
+use Rattle.ip_wire.specs.IpAddress.TheVariants as Address
+use Rattle.ip_wire.specs.IpProtocol.TheVariants as Protocol
+use Rattle.ip_wire.specs.Ipv4Repr.{Ipv4Repr}
+use Rattle.ip_wire.specs.UdpRepr.{UdpRepr}
+use Rattle.lan_machine.specs.Packet.{Carries, IsContent, IsUncut}
+use Rattle.lan_machine.proofs.Frames.{one_header}
 
 -- a part of a part of a list is a part of the list
-pub slice_range-slice_range : (xs : List ℕ) (from to start end : ℕ) → start ≤ end → from + end ≤ to → slice_range (slice_range xs from to) start end ≡ slice_range xs (from + start) (from + end)
+slice_range-slice_range : (xs : List ℕ) (from to start end : ℕ) → start ≤ end → from + end ≤ to → slice_range (slice_range xs from to) start end ≡ slice_range xs (from + start) (from + end)
 slice_range-slice_range xs from to start end ordered within =
     let e : to - from ≡ start + (to - from - start) = omega arith in
     let lhs : drop start (take (to - from) (drop from xs)) ≡ take (to - from - start) (drop start (drop from xs)) =
@@ -17,74 +24,38 @@ slice_range-slice_range xs from to start end ordered within =
     ∙ ap (take (end - start)) (drop-drop start from xs)
     ∙ ap (λ n. take n (drop (from + start) xs)) size
 
-abbrev pub packet : List ℕ → List ℕ → ℕ → ℕ → List ℕ → Packet
-packet s d p q x = record { source = s; destination = d; source_port = p; destination_port = q; payload = x }
+-- a frame whose header is refused
+pub no_header : {E : Type 0} (frame bytes : List ℕ) (r : Result Ipv4Repr E) → bytes ≡ frame → ((v : Ipv4Repr) → Ipv4.IsIpv4 true bytes v → r ≡ Ok v) → ((v : Ipv4Repr) → r ≡ Ok v → ⊥)
+    → IsContent frame None
+no_header frame bytes r same only refused p c = refused p.ip (only p.ip (subst (λ (b : List ℕ). Ipv4.IsIpv4 true b p.ip) (sym same) c.ipv4))
 
--- what a frame carries, once each test of it has passed
-abbrev pub carried : List ℕ → Packet
-carried frame =
-    let datagram = ipv4_payload frame in
+-- a frame with this header, whose datagram is refused
+pub no_datagram : {E : Type 0} (frame bytes : List ℕ) (ip : Ipv4Repr) (r : Result UdpRepr E) → Ipv4.IsIpv4 true frame ip → bytes ≡ Ipv4.payload_of frame
+    → ((v : UdpRepr) → Udp.IsUdp (Address.Ipv4 ip.src_addr) (Address.Ipv4 ip.dst_addr) true bytes v → r ≡ Ok v) → ((v : UdpRepr) → r ≡ Ok v → ⊥)
+    → IsContent frame None
+no_datagram frame bytes ip r is same only refused p c =
+    let header : p.ip ≡ ip = one_header frame p.ip ip c.ipv4 is in
+    let there = subst (λ (b : List ℕ). Udp.IsUdp (Address.Ipv4 p.ip.src_addr) (Address.Ipv4 p.ip.dst_addr) true b p.udp) (sym same) c.udp in
+    refused p.udp (only p.udp (subst (λ (v : Ipv4Repr). Udp.IsUdp (Address.Ipv4 v.src_addr) (Address.Ipv4 v.dst_addr) true bytes p.udp) header there))
+
+-- a frame with these headers, whose payload lies between them and the end of the datagram
+pub found_packet : (frame bytes : List ℕ) (ip : Ipv4Repr) (udp : UdpRepr) (header len : ℕ) → Ipv4.IsIpv4 true frame ip → IsUncut frame → ip.next_header ≡ Protocol.Udp
+    → Udp.IsUdp (Address.Ipv4 ip.src_addr) (Address.Ipv4 ip.dst_addr) true bytes udp → bytes ≡ Ipv4.payload_of frame → header ≡ Ipv4.header_len_of frame → len ≡ be16 bytes 4
+    → Carries frame (record { ip = ip; udp = udp; payload = slice_range frame (header + 8) (header + len) })
+found_packet frame bytes ip udp header len is uncut protocol datagram same start size =
+    let from : ℕ = Ipv4.header_len_of frame in
+    let to : ℕ = be16 frame 2 in
+    let inside : Udp.IsUdp (Address.Ipv4 ip.src_addr) (Address.Ipv4 ip.dst_addr) true (Ipv4.payload_of frame) udp =
+    subst (λ (b : List ℕ). Udp.IsUdp (Address.Ipv4 ip.src_addr) (Address.Ipv4 ip.dst_addr) true b udp) same datagram in
+    let size_inside : len ≡ be16 (Ipv4.payload_of frame) 4 = size ∙ ap (λ (b : List ℕ). be16 b 4) same in
+    let short : length (Ipv4.payload_of frame) ≤ to - from = omega (arith, length-take (to - from) (drop from frame)) in
+    let within : from + be16 (Ipv4.payload_of frame) 4 ≤ to = omega (arith, inside.whole.within, inside.whole.least, short) in
     record {
-      source = source_address frame;
-      destination = destination_address frame;
-      source_port = be16 datagram 0;
-      destination_port = be16 datagram 2;
-      payload = slice_range datagram 8 (be16 datagram 4);
+      ipv4 = is;
+      uncut = uncut;
+      protocol = protocol;
+      udp = inside;
+      payload =
+          ap (λ (n : ℕ). slice_range frame (n + 8) (n + len)) start ∙ ap (λ (n : ℕ). slice_range frame (from + 8) (from + n)) size_inside
+          ∙ sym (slice_range-slice_range frame from to 8 (be16 (Ipv4.payload_of frame) 4) inside.whole.least within);
     }
-
-pub packet_of-carried : (frame : List ℕ) → is_ipv4 frame ≡ true → is_whole frame ≡ true → nat_eq (slice_index_or frame 9 0) 17 ≡ true
-    → is_udp (source_address frame) (destination_address frame) (ipv4_payload frame) ≡ true → packet_of frame ≡ Some (carried frame)
-packet_of-carried frame ipv4 whole udp datagram =
-    let all : carries_datagram frame ≡ true = and_from _ _ (and_from _ _ (and_from _ _ ipv4 whole) udp) datagram in
-    subst (λ (b : Bool). cond b (Some (carried frame)) None ≡ Some (carried frame)) (sym all) refl
-
--- a UDP datagram's length is at least its header's, and within the payload
-pub udp_length : (source destination bytes : List ℕ) → is_udp source destination bytes ≡ true → (8 ≤ be16 bytes 4) × (be16 bytes 4 ≤ length bytes)
-udp_length source destination bytes udp =
-    let most = (and_parts _ _ udp).0 in
-    let lengths = (and_parts _ _ most).0 in
-    let within = and_parts _ _ lengths in
-    let least = and_parts _ _ within.0 in
-    (leb-true _ _ least.1, leb-true _ _ within.1)
-
-same_range : (xs : List ℕ) (from from' to to' : ℕ) → from ≡ from' → to ≡ to' → slice_range xs from to ≡ slice_range xs from' to'
-same_range xs from from' to to' e f = cc
-
-same_part : (xs ys : List ℕ) (from to to' : ℕ) → xs ≡ ys → to ≡ to' → slice_range xs from to ≡ slice_range ys from to'
-same_part xs ys from to to' e f = cc
-
-same_test : (s s' d d' bytes bytes' : List ℕ) → s ≡ s' → d ≡ d' → bytes ≡ bytes' → is_udp s d bytes ≡ is_udp s' d' bytes'
-same_test s s' d d' bytes bytes' e f g = rw (e, f, g) refl
-
-same_packet : (s s' d d' : List ℕ) (p p' q q' : ℕ) (x x' : List ℕ) → s ≡ s' → d ≡ d' → p ≡ p' → q ≡ q' → x ≡ x'
-    → Some (packet s d p q x) ≡ Some (packet s' d' p' q' x')
-same_packet s s' d d' p p' q q' x x' e f g h i = rw (e, f, g, h, i) refl
-
--- the packet that the code puts together from its reads of a frame
-pub packet_of-found : (frame source destination : List ℕ) (header total source_port destination_port len : ℕ)
-    → is_ipv4 frame ≡ true → is_whole frame ≡ true → slice_index_or frame 9 0 ≡ 17
-    → source ≡ source_address frame → destination ≡ destination_address frame
-    → header ≡ header_length frame → total ≡ be16 frame 2
-    → is_udp source destination (slice_range frame header total) ≡ true
-    → source_port ≡ be16 (slice_range frame header total) 0
-    → destination_port ≡ be16 (slice_range frame header total) 2
-    → len ≡ be16 (slice_range frame header total) 4
-    → Some (record {
-      source = source;
-      destination = destination;
-      source_port = source_port;
-      destination_port = destination_port;
-      payload = slice_range frame (header + 8) (header + len);
-    }) ≡ packet_of frame
-packet_of-found frame source destination header total source_port destination_port len ipv4 whole udp es ed eh et datagram esp edp el =
-    let bytes : slice_range frame header total ≡ ipv4_payload frame = same_range frame _ _ _ _ eh et in
-    let length_field = udp_length source destination (slice_range frame header total) datagram in
-    let start : 8 ≤ len = omega (arith, length_field.0, el) in
-    let short : length (slice_range frame header total) ≤ total - header = omega (arith, length-take (total - header) (drop header frame)) in
-    let end : header + len ≤ total = omega (arith, length_field.1, el, short) in
-    let payload : slice_range frame (header + 8) (header + len) ≡ slice_range (ipv4_payload frame) 8 (be16 (ipv4_payload frame) 4) =
-    sym (slice_range-slice_range frame header total 8 len start end) ∙ same_part _ _ 8 _ _ bytes (el ∙ ap (λ (b : List ℕ). be16 b 4) bytes) in
-    let checked : is_udp (source_address frame) (destination_address frame) (ipv4_payload frame) ≡ true =
-    sym (same_test _ _ _ _ _ _ es ed bytes) ∙ datagram in
-    same_packet _ _ _ _ _ _ _ _ _ _ es ed (esp ∙ ap (λ (b : List ℕ). be16 b 0) bytes) (edp ∙ ap (λ (b : List ℕ). be16 b 2) bytes) payload
-    ∙ sym (packet_of-carried frame ipv4 whole (rw udp refl) checked)

@@ -3,4 +3,4 @@ pub mod Found
 pub mod Passes
 pub mod Prepared
 pub mod Queues
-pub mod Sums
+pub mod Unspecified

@@ -1,46 +1,37 @@
 -- What an offer, a pass and the passes of a poll send.
-use Rattle.std.proofs.Common.{◌≡◌, ◌+◌, ◌-◌, ◌<◌, ◌≤◌, IsTrue, ℕ, zero, suc, max, Bool, true, false, cond, ◌&&◌, ◌||◌, nat_lt, List, [], ◌∷◌, ◌++◌, length, take, drop, map, All, refl, sym, ap, ◌∙◌, subst, arith, append_assoc, append-nil, length-append}
+use Rattle.std.proofs.Common.{◌≡◌, ◌+◌, ◌-◌, ◌<◌, ◌≤◌, IsTrue, ℕ, zero, suc, max, Bool, true, false, ◌&&◌, ◌||◌, nat_lt, List, [], ◌∷◌, ◌++◌, length, take, drop, map, All, Option, Some, None, refl, sym, ap, ◌∙◌, subst, arith, append_assoc, append-nil, length-append}
 use Rattle.std.specs.List.{fold, list_any}
 use Rattle.std.proofs.Math.ListN.{get_or, set, length-map}
 use Rattle.std.proofs.lemmas.List.{length-take-le, take_more, take-append-drop, get_or-append_right, get_or-drop}
 use Rattle.std.proofs.lemmas.Bool.Decides.{nat_tests}
 use Rattle.std.proofs.lemmas.List.Edits.{map_over_more}
 use Rattle.std.proofs.lemmas.List.Folds.{list_any-append}
+use Rattle.ip_wire.specs.Ipv4Address.{Ipv4Address}
 use Rattle.lan_machine.specs.Values.{DatagramValue, SocketValue}
-use Rattle.lan_machine.specs.Machine.{fits, offered, offer_after, pass_frames, pass_after, passes_frames, passes_after, has_queued, without_first}
+use Rattle.lan_machine.specs.Packet.{Packet, spelling}
+use Rattle.lan_machine.specs.Machine.{goes_to, packet_from, frames_to, offered, offer_after, pass_frames, pass_after, passes_frames, passes_after, has_queued, without_first}
 use Rattle.net_base.specs.Device.{gives_tokens}
-use Rattle.lan_host.specs.Frame.{frame_between}
-use Rattle.lan_host.specs.Queue.{frame_length, longest_frame}
+use Rattle.lan_host.specs.Frame.{packet_of, frame_of}
+use Rattle.lan_host.specs.declared.frame.Headers.{Headers}
+use Rattle.lan_host.specs.Queue.{length_to, frame_length, longest_frame}
 use Rattle.lan_host.specs.Sends.{CanSend, Sends}
 use Rattle.lan_port.specs.Port.{PortValue, LinkEnd}
 
--- the frame of a datagram that fits
-pub offered-fits : (address : List ℕ) (mtu : ℕ) (s : SocketValue) (d : DatagramValue) (ds : List DatagramValue) → fits mtu d ≡ true
-    → frame_between (record { address = address; port = s.port }) d.remote d.bytes ∷ [] ≡ offered address mtu s (d ∷ ds)
-unfolding frame_between
-offered-fits address mtu s d ds fit =
-    subst (λ (b : Bool). frame_between (record { address = address; port = s.port }) d.remote d.bytes ∷ []
-    ≡ cond b (frame_between (record { address = address; port = s.port }) d.remote d.bytes ∷ []) []) (sym fit) refl
+-- the frame of a datagram that goes out under these headers
+pub offered-frame : (address : Ipv4Address) (mtu port : ℕ) (headers : Headers) (destination : Ipv4Address) (d : DatagramValue) (ds : List DatagramValue) → goes_to mtu d ≡ Some destination
+    → packet_of headers d.bytes ≡ packet_from address port d destination
+    → frame_of headers d.bytes ∷ [] ≡ offered address mtu port (d ∷ ds)
+unfolding frame_of
+offered-frame address mtu port headers destination d ds goes is =
+    ap (λ (p : Packet). spelling p ∷ []) is ∙ ap (λ (to : Option Ipv4Address). frames_to to address port d) (sym goes)
 
--- a datagram that doesn't fit sends nothing
-pub offered-dropped : (address : List ℕ) (mtu : ℕ) (s : SocketValue) (d : DatagramValue) (ds : List DatagramValue) → fits mtu d ≡ false
-    → [] ≡ offered address mtu s (d ∷ ds)
-offered-dropped address mtu s d ds fit = rw fit refl
+-- a datagram that is dropped sends nothing
+pub offered-dropped : (address : Ipv4Address) (mtu port : ℕ) (d : DatagramValue) (ds : List DatagramValue) → goes_to mtu d ≡ None
+    → [] ≡ offered address mtu port (d ∷ ds)
+offered-dropped address mtu port d ds none = ap (λ (to : Option Ipv4Address). frames_to to address port d) (sym none)
 
--- a frame's length tells whether the datagram fits
-chosen : (b : Bool) (n : ℕ) → 0 < cond b n 0 → (b ≡ true) × (cond b n 0 ≡ n)
-chosen true n some = (refl, refl)
-chosen false n some = absurd (omega arith)
-
-not_chosen : (b : Bool) (n : ℕ) → cond b (28 + n) 0 ≤ 0 → b ≡ false
-not_chosen true n none = absurd (omega arith)
-not_chosen false n none = refl
-
-pub frame_length-fits : (mtu : ℕ) (d : DatagramValue) → 0 < frame_length mtu d → (fits mtu d ≡ true) × (frame_length mtu d ≡ 28 + length d.bytes)
-frame_length-fits mtu d some = chosen (fits mtu d) (28 + length d.bytes) some
-
-pub frame_length-dropped : (mtu : ℕ) (d : DatagramValue) → frame_length mtu d ≤ 0 → fits mtu d ≡ false
-frame_length-dropped mtu d none = not_chosen (fits mtu d) (length d.bytes) none
+pub frame_length-goes : (mtu : ℕ) (d : DatagramValue) (destination : Ipv4Address) → goes_to mtu d ≡ Some destination → frame_length mtu d ≡ 28 + length d.bytes
+frame_length-goes mtu d destination goes = ap (λ (to : Option Ipv4Address). length_to to d) goes
 
 -- the longest is no shorter than the first
 pub fold-first : (mtu : ℕ) (ds : List DatagramValue) (longest : ℕ) → longest ≤ fold (λ longest d. max longest (frame_length mtu d)) longest ds
@@ -50,25 +41,26 @@ fold-first mtu (d ∷ ds) longest = omega (arith, fold-first mtu ds (max longest
 pub longest_frame-first : (mtu : ℕ) (d : DatagramValue) (ds : List DatagramValue) → frame_length mtu d ≤ longest_frame mtu (d ∷ ds)
 longest_frame-first mtu d ds = omega (arith, fold-first mtu ds (max 0 (frame_length mtu d)))
 
--- the first of the queue, where it fits, needs no more than the longest
-pub first-size : (mtu size : ℕ) (queued : List DatagramValue) (d : DatagramValue) (ds : List DatagramValue) → queued ≡ d ∷ ds
-    → longest_frame mtu queued ≤ size → 0 < frame_length mtu d → 28 + length d.bytes ≤ size
-first-size mtu size queued d ds first short some =
+-- the first of the queue, where it goes out, needs no more than the longest
+pub first-size : (mtu size : ℕ) (queued : List DatagramValue) (d : DatagramValue) (ds : List DatagramValue) (destination : Ipv4Address) → queued ≡ d ∷ ds
+    → longest_frame mtu queued ≤ size → goes_to mtu d ≡ Some destination → 28 + length d.bytes ≤ size
+first-size mtu size queued d ds destination first short goes =
     let long : longest_frame mtu (d ∷ ds) ≤ size = subst (λ (q : List DatagramValue). longest_frame mtu q ≤ size) first short in
-    omega (arith, longest_frame-first mtu d ds, (frame_length-fits mtu d some).1, long)
+    omega (arith, longest_frame-first mtu d ds, frame_length-goes mtu d destination goes, long)
 
 -- an offer's frames, as the code comes upon them
-pub offered-sent : (address : List ℕ) (mtu port : ℕ) (s : SocketValue) (d : DatagramValue) (ds : List DatagramValue) → s.queued ≡ d ∷ ds → port ≡ s.port → 0 < frame_length mtu d
-    → frame_between (record { address = address; port = port }) d.remote d.bytes ∷ [] ≡ offered address mtu s s.queued
-offered-sent address mtu port s d ds first own some =
-    ap (λ (p : ℕ). frame_between (record { address = address; port = p }) d.remote d.bytes ∷ []) own
-    ∙ offered-fits address mtu s d ds (frame_length-fits mtu d some).0
-    ∙ ap (offered address mtu s) (sym first)
+pub offered-sent : (address : Ipv4Address) (mtu port : ℕ) (s : SocketValue) (headers : Headers) (destination : Ipv4Address) (d : DatagramValue) (ds : List DatagramValue) → s.queued ≡ d ∷ ds
+    → port ≡ s.port → goes_to mtu d ≡ Some destination → packet_of headers d.bytes ≡ packet_from address port d destination
+    → frame_of headers d.bytes ∷ [] ≡ offered address mtu s.port s.queued
+offered-sent address mtu port s headers destination d ds first own goes is =
+    offered-frame address mtu port headers destination d ds goes is
+    ∙ ap (λ (p : ℕ). offered address mtu p (d ∷ ds)) own
+    ∙ ap (offered address mtu s.port) (sym first)
 
-pub offered-none : (address : List ℕ) (mtu : ℕ) (s : SocketValue) (d : DatagramValue) (ds : List DatagramValue) → s.queued ≡ d ∷ ds → frame_length mtu d ≤ 0
-    → [] ≡ offered address mtu s s.queued
+pub offered-none : (address : Ipv4Address) (mtu : ℕ) (s : SocketValue) (d : DatagramValue) (ds : List DatagramValue) → s.queued ≡ d ∷ ds → goes_to mtu d ≡ None
+    → [] ≡ offered address mtu s.port s.queued
 offered-none address mtu s d ds first none =
-    offered-dropped address mtu s d ds (frame_length-dropped mtu d none) ∙ ap (offered address mtu s) (sym first)
+    offered-dropped address mtu s.port d ds none ∙ ap (offered address mtu s.port) (sym first)
 
 -- sending nothing, and one run of frames after another
 pub sends-none : (port : PortValue) → Sends port port []
@@ -85,12 +77,12 @@ sends-append old mid new frames more first then =
 
 -- A PASS, socket by socket
 
-pub pass_frames-append : (address : List ℕ) (mtu : ℕ) (ss ts : List SocketValue)
+pub pass_frames-append : (address : Ipv4Address) (mtu : ℕ) (ss ts : List SocketValue)
     → pass_frames address mtu (ss ++ ts) ≡ pass_frames address mtu ss ++ pass_frames address mtu ts
 pass_frames-append address mtu [] ts = refl
 pass_frames-append address mtu (s ∷ ss) ts =
-    ap (λ (frames : List (List ℕ)). offered address mtu s s.queued ++ frames) (pass_frames-append address mtu ss ts)
-    ∙ sym (append_assoc (offered address mtu s s.queued) (pass_frames address mtu ss) (pass_frames address mtu ts))
+    ap (λ (frames : List (List ℕ)). offered address mtu s.port s.queued ++ frames) (pass_frames-append address mtu ss ts)
+    ∙ sym (append_assoc (offered address mtu s.port s.queued) (pass_frames address mtu ss) (pass_frames address mtu ts))
 
 pub pass_after-map : (ss : List SocketValue) → pass_after ss ≡ map offer_after ss
 pass_after-map [] = refl
@@ -122,18 +114,18 @@ pub still_tokens : (old new : PortValue) (frames : List (List ℕ)) → Sends ol
 still_tokens old new frames sends tokens = subst (λ (l : LinkEnd). IsTrue (gives_tokens l.refusals)) (sym sends.link) tokens
 
 -- a pass's frames: those of the sockets before the i-th, its own, and those of the others
-pub pass_frames-split : (address : List ℕ) (mtu : ℕ) (ss : List SocketValue) (i : ℕ) (d : SocketValue) → i < length ss
-    → pass_frames address mtu (take (i + 1) ss) ≡ pass_frames address mtu (take i ss) ++ offered address mtu (get_or ss i d) (get_or ss i d).queued
+pub pass_frames-split : (address : Ipv4Address) (mtu : ℕ) (ss : List SocketValue) (i : ℕ) (d : SocketValue) → i < length ss
+    → pass_frames address mtu (take (i + 1) ss) ≡ pass_frames address mtu (take i ss) ++ offered address mtu (get_or ss i d).port (get_or ss i d).queued
 pass_frames-split address mtu ss i d within =
     ap (pass_frames address mtu) (take_more ss i d within)
     ∙ pass_frames-append address mtu (take i ss) (get_or ss i d ∷ [])
-    ∙ ap (λ (frames : List (List ℕ)). pass_frames address mtu (take i ss) ++ frames) (append-nil (offered address mtu (get_or ss i d) (get_or ss i d).queued))
+    ∙ ap (λ (frames : List (List ℕ)). pass_frames address mtu (take i ss) ++ frames) (append-nil (offered address mtu (get_or ss i d).port (get_or ss i d).queued))
 
-pub can_offer : (address : List ℕ) (mtu : ℕ) (old port : PortValue) (init items : List SocketValue) (i : ℕ) (d : SocketValue) → i < length init
+pub can_offer : (address : Ipv4Address) (mtu : ℕ) (old port : PortValue) (init items : List SocketValue) (i : ℕ) (d : SocketValue) → i < length init
     → CanSend old mtu init (pass_frames address mtu init)
     → items ≡ map offer_after (take i init) ++ drop i init
     → Sends old port (pass_frames address mtu (take i init))
-    → CanSend port mtu (get_or items i d ∷ []) (offered address mtu (get_or items i d) (get_or items i d).queued)
+    → CanSend port mtu (get_or items i d ∷ []) (offered address mtu (get_or items i d).port (get_or items i d).queued)
 can_offer address mtu old port init items i d within can so_far sends =
     let here : SocketValue = get_or init i d in
     let before : List (List ℕ) = pass_frames address mtu (take i init) in
@@ -142,15 +134,15 @@ can_offer address mtu old port init items i d within can so_far sends =
     ap (λ (ss : List SocketValue). length (pass_frames address mtu ss)) (sym (take-append-drop (i + 1) init))
     ∙ ap length (pass_frames-append address mtu (take (i + 1) init) (drop (i + 1) init))
     ∙ length-append (pass_frames address mtu (take (i + 1) init)) behind in
-    let to_here : length (pass_frames address mtu (take (i + 1) init)) ≡ length before + length (offered address mtu here here.queued) =
-    ap length (pass_frames-split address mtu init i d within) ∙ length-append before (offered address mtu here here.queued) in
-    let needs : CanSend port mtu (here ∷ []) (offered address mtu here here.queued) =
+    let to_here : length (pass_frames address mtu (take (i + 1) init)) ≡ length before + length (offered address mtu here.port here.queued) =
+    ap length (pass_frames-split address mtu init i d within) ∙ length-append before (offered address mtu here.port here.queued) in
+    let needs : CanSend port mtu (here ∷ []) (offered address mtu here.port here.queued) =
     record {
       tokens = still_tokens old port before sends can.tokens;
       ready = omega (arith, all, to_here, sends.ready, can.ready);
       sizes = single (λ (s : SocketValue). longest_frame mtu s.queued ≤ port.size) here (rw sends.size (can.sizes i d within));
     } in
-    subst (λ (s : SocketValue). CanSend port mtu (s ∷ []) (offered address mtu s s.queued)) (sym (unchanged-at init items i d within so_far)) needs
+    subst (λ (s : SocketValue). CanSend port mtu (s ∷ []) (offered address mtu s.port s.queued)) (sym (unchanged-at init items i d within so_far)) needs
 
 -- one more socket of a pass
 pub passed-sockets : (init items : List SocketValue) (i : ℕ) (x after : SocketValue) → i < length init
@@ -159,16 +151,16 @@ pub passed-sockets : (init items : List SocketValue) (i : ℕ) (x after : Socket
 passed-sockets init items i x after within so_far is offers =
     ap (set items i) (offers ∙ ap offer_after (sym is)) ∙ map_over_more offer_after init items i x within so_far is
 
-pub passed-frames : (address : List ℕ) (mtu : ℕ) (old port next : PortValue) (init items : List SocketValue) (i : ℕ) (d : SocketValue) → i < length init
+pub passed-frames : (address : Ipv4Address) (mtu : ℕ) (old port next : PortValue) (init items : List SocketValue) (i : ℕ) (d : SocketValue) → i < length init
     → items ≡ map offer_after (take i init) ++ drop i init
     → Sends old port (pass_frames address mtu (take i init))
-    → Sends port next (offered address mtu (get_or items i d) (get_or items i d).queued)
+    → Sends port next (offered address mtu (get_or items i d).port (get_or items i d).queued)
     → Sends old next (pass_frames address mtu (take (i + 1) init))
 passed-frames address mtu old port next init items i d within so_far sends then =
-    let here : Sends port next (offered address mtu (get_or init i d) (get_or init i d).queued) =
-    subst (λ (s : SocketValue). Sends port next (offered address mtu s s.queued)) (unchanged-at init items i d within so_far) then in
+    let here : Sends port next (offered address mtu (get_or init i d).port (get_or init i d).queued) =
+    subst (λ (s : SocketValue). Sends port next (offered address mtu s.port s.queued)) (unchanged-at init items i d within so_far) then in
     subst (Sends old next) (sym (pass_frames-split address mtu init i d within))
-    (sends-append old port next (pass_frames address mtu (take i init)) (offered address mtu (get_or init i d) (get_or init i d).queued) sends here)
+    (sends-append old port next (pass_frames address mtu (take i init)) (offered address mtu (get_or init i d).port (get_or init i d).queued) sends here)
 
 pub passed-changed : (init items : List SocketValue) (i : ℕ) (d : SocketValue) (changed more : Bool) → i < length init
     → items ≡ map offer_after (take i init) ++ drop i init
@@ -183,7 +175,7 @@ passed-changed init items i d changed more within so_far any queued =
 
 -- THE PASSES
 
-pub passes-step : (address : List ℕ) (mtu left : ℕ) (ss : List SocketValue) → 0 < left
+pub passes-step : (address : Ipv4Address) (mtu left : ℕ) (ss : List SocketValue) → 0 < left
     → (passes_frames address mtu left ss ≡ pass_frames address mtu ss ++ passes_frames address mtu (left - 1) (pass_after ss))
     × (passes_after left ss ≡ passes_after (left - 1) (pass_after ss))
 passes-step address mtu zero ss some = absurd (omega arith)
@@ -205,7 +197,7 @@ pass-sizes mtu size (s ∷ ss) all zero d within = omega (arith, all 0 s (omega 
 pass-sizes mtu size (s ∷ ss) all (suc k) d within = pass-sizes mtu size ss (λ j e below. all (suc j) e (omega arith)) k d (omega arith)
 
 -- after a pass the port takes the frames of the passes that are left
-pub still_ready : (address : List ℕ) (mtu left : ℕ) (old new : PortValue) (ss after : List SocketValue) → 0 < left
+pub still_ready : (address : Ipv4Address) (mtu left : ℕ) (old new : PortValue) (ss after : List SocketValue) → 0 < left
     → CanSend old mtu ss (passes_frames address mtu left ss)
     → Sends old new (pass_frames address mtu ss)
     → after ≡ pass_after ss
@@ -223,7 +215,7 @@ still_ready address mtu left old new ss after some can sends passed =
     subst (λ (ts : List SocketValue). CanSend new mtu ts (passes_frames address mtu (left - 1) ts)) (sym passed) needs
 
 -- the frames so far, and those that are left, after one more pass
-pub passed_on : (address : List ℕ) (mtu left : ℕ) (done all : List (List ℕ)) (ss after : List SocketValue) → 0 < left
+pub passed_on : (address : Ipv4Address) (mtu left : ℕ) (done all : List (List ℕ)) (ss after : List SocketValue) → 0 < left
     → done ++ passes_frames address mtu left ss ≡ all → after ≡ pass_after ss
     → (done ++ pass_frames address mtu ss) ++ passes_frames address mtu (left - 1) after ≡ all
 passed_on address mtu left done all ss after some so_far passed =

@@ -5,9 +5,10 @@ use Rattle.std.specs.Str.{bytes_eq}
 use Rattle.std.proofs.lemmas.List.Sums.{sum_by-cons}
 use Rattle.net_base.specs.Device.{gives_tokens}
 use Rattle.lan_port.specs.Port.{PortValue}
+use Rattle.ip_wire.specs.Ipv4Address.{Ipv4Address}
 use Rattle.lan_machine.specs.Values.{DatagramValue, SocketValue}
-use Rattle.lan_machine.specs.Packet.{Packet, packet_of, spelling}
-use Rattle.lan_machine.specs.Machine.{take_in, deliver, deliver_if, arrivals, datagram_of, fits, packet_from, offer_after, offered, pass_frames, pass_after, passes_frames, has_queued, without_first}
+use Rattle.lan_machine.specs.Packet.{Packet}
+use Rattle.lan_machine.specs.Machine.{take_in, deliver, deliver_if, arrivals, datagram_of, goes_to, frames_to, offer_after, offered, pass_frames, pass_after, passes_frames, has_queued, without_first}
 use Rattle.lan_machine.proofs.Sockets.{take_in_cases}
 use Rattle.lan_host.specs.Queue.{longest_frame}
 use Rattle.lan_host.specs.Sends.{CanSend, IsPrepared, frames_needed}
@@ -35,14 +36,14 @@ queues-own : (b : Bool) (p : Packet) (ss : List SocketValue) → queues (cond b 
 queues-own true p ss = queues-deliver p ss
 queues-own false p ss = refl
 
-queues-deliver_if : (address : List ℕ) (carried : Option Packet) (ss : List SocketValue) → queues (deliver_if address carried ss) ≡ queues ss
+queues-deliver_if : (address : Ipv4Address) (carried : Option Packet) (ss : List SocketValue) → queues (deliver_if address carried ss) ≡ queues ss
 queues-deliver_if address None ss = refl
-queues-deliver_if address (Some p) ss = queues-own (bytes_eq p.destination address) p ss
+queues-deliver_if address (Some p) ss = queues-own (bytes_eq p.ip.dst_addr.0 address.0) p ss
 
-pub queues-arrivals : (address : List ℕ) (frames : List (List ℕ)) (ss : List SocketValue) → queues (arrivals address frames ss) ≡ queues ss
+pub queues-arrivals : (address : Ipv4Address) (contents : List (Option Packet)) (ss : List SocketValue) → queues (arrivals address contents ss) ≡ queues ss
 queues-arrivals address [] ss = refl
-queues-arrivals address (frame ∷ frames) ss =
-    queues-arrivals address frames (deliver_if address (packet_of frame) ss) ∙ queues-deliver_if address (packet_of frame) ss
+queues-arrivals address (content ∷ contents) ss =
+    queues-arrivals address contents (deliver_if address content ss) ∙ queues-deliver_if address content ss
 
 -- WHAT THE QUEUES TELL
 
@@ -71,30 +72,30 @@ queues-sizes mtu size (s ∷ ss) (t ∷ ts) same short (suc k) d within =
 
 -- HOW MANY FRAMES THE PASSES SEND
 
-chosen-length : (b : Bool) (frame : List ℕ) → length (cond b (frame ∷ []) []) ≤ 1
-chosen-length true frame = omega arith
-chosen-length false frame = omega arith
+one_frame : (to : Option Ipv4Address) (address : Ipv4Address) (port : ℕ) (d : DatagramValue) → length (frames_to to address port d) ≤ 1
+one_frame None address port d = omega arith
+one_frame (Some destination) address port d = omega arith
 
 -- an offer sends no more than one frame, and takes one datagram out
-offer-needed : (address : List ℕ) (mtu budget : ℕ) (s : SocketValue) (q : List DatagramValue)
-    → length (offered address mtu s q) + min (length (without_first q)) budget ≤ min (length q) (suc budget)
-offer-needed address mtu budget s [] = omega arith
-offer-needed address mtu budget s (d ∷ ds) = omega (arith, chosen-length (fits mtu d) (spelling (packet_from address s d)))
+offer-needed : (address : Ipv4Address) (mtu budget port : ℕ) (q : List DatagramValue)
+    → length (offered address mtu port q) + min (length (without_first q)) budget ≤ min (length q) (suc budget)
+offer-needed address mtu budget port [] = omega arith
+offer-needed address mtu budget port (d ∷ ds) = omega (arith, one_frame (goes_to mtu d) address port d)
 
-pass-needed : (address : List ℕ) (mtu budget : ℕ) (ss : List SocketValue)
+pass-needed : (address : Ipv4Address) (mtu budget : ℕ) (ss : List SocketValue)
     → length (pass_frames address mtu ss) + frames_needed budget (pass_after ss) ≤ frames_needed (suc budget) ss
 pass-needed address mtu budget [] = omega arith
 pass-needed address mtu budget (s ∷ ss) =
     omega (
       arith,
       pass-needed address mtu budget ss,
-      offer-needed address mtu budget s s.queued,
-      length-append (offered address mtu s s.queued) (pass_frames address mtu ss),
+      offer-needed address mtu budget s.port s.queued,
+      length-append (offered address mtu s.port s.queued) (pass_frames address mtu ss),
       sum_by-cons (λ (s : SocketValue). min (length s.queued) budget) (offer_after s) (pass_after ss),
       sum_by-cons (λ (s : SocketValue). min (length s.queued) (suc budget)) s ss,
     )
 
-pub passes-needed : (address : List ℕ) (mtu budget : ℕ) (ss : List SocketValue) → length (passes_frames address mtu budget ss) ≤ frames_needed budget ss
+pub passes-needed : (address : Ipv4Address) (mtu budget : ℕ) (ss : List SocketValue) → length (passes_frames address mtu budget ss) ≤ frames_needed budget ss
 passes-needed address mtu zero ss = omega arith
 passes-needed address mtu (suc budget) ss =
     omega (
@@ -105,10 +106,10 @@ passes-needed address mtu (suc budget) ss =
     )
 
 -- the room that was made before the arrivals
-pub prepared : (address : List ℕ) (mtu budget : ℕ) (port : PortValue) (frames : List (List ℕ)) (ss ts : List SocketValue) → IsTrue (gives_tokens port.link.refusals)
-    → IsPrepared port mtu budget ss → ts ≡ arrivals address frames ss → CanSend port mtu ts (passes_frames address mtu budget ts)
-prepared address mtu budget port frames ss ts tokens room arrived =
-    let same : queues ts ≡ queues ss = ap queues arrived ∙ queues-arrivals address frames ss in
+pub prepared : (address : Ipv4Address) (mtu budget : ℕ) (port : PortValue) (contents : List (Option Packet)) (ss ts : List SocketValue) → IsTrue (gives_tokens port.link.refusals)
+    → IsPrepared port mtu budget ss → ts ≡ arrivals address contents ss → CanSend port mtu ts (passes_frames address mtu budget ts)
+prepared address mtu budget port contents ss ts tokens room arrived =
+    let same : queues ts ≡ queues ss = ap queues arrived ∙ queues-arrivals address contents ss in
     let needed : frames_needed budget ts ≡ frames_needed budget ss =
     sym (queues-needed budget ts) ∙ ap (sum_by (λ (q : List DatagramValue). min (length q) budget)) same ∙ queues-needed budget ss in
     record {
@@ -116,8 +117,3 @@ prepared address mtu budget port frames ss ts tokens room arrived =
       ready = omega (arith, passes-needed address mtu budget ts, needed, room.ready);
       sizes = queues-sizes mtu port.size ss ts same room.sizes;
     }
-
--- arrivals leave it open whether a socket has something to send
-pub arrivals-any : (address : List ℕ) (frames : List (List ℕ)) (ss : List SocketValue) → list_any has_queued (arrivals address frames ss) ≡ list_any has_queued ss
-arrivals-any address frames ss =
-    sym (queues-any (arrivals address frames ss)) ∙ ap (list_any (λ (q : List DatagramValue). nat_lt 0 (length q))) (queues-arrivals address frames ss) ∙ queues-any ss

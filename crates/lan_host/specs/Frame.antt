@@ -1,32 +1,18 @@
--- A frame's UDP datagram, as the code holds its parts.
+-- The headers of a datagram in its frame, and what was found in a frame.
 use Rattle.std.specs.Prelude.{ℕ, List, slice_range, Option, Some, None}
 use Rattle.lan_machine.specs.Packet.{Packet, spelling}
-use Rattle.lan_machine.specs.declared.event.Endpoint.{Endpoint}
 use Rattle.lan_host.specs.declared.frame.Found.{Found}
+use Rattle.lan_host.specs.declared.frame.Headers.{Headers}
 
--- the packet that was found in the frame
-abbrev pub packet_at : List ℕ → Option Found → Option Packet
-packet_at frame None = None
-packet_at frame (Some found) =
-    Some (record {
-      source = found.source.address;
-      destination = found.destination.address;
-      source_port = found.source.port;
-      destination_port = found.destination.port;
-      payload = slice_range frame found.start found.end;
-    })
+-- the packet of these headers and this payload
+abbrev pub packet_of : Headers → List ℕ → Packet
+packet_of headers payload = record { ip = headers.ip; udp = headers.udp; payload = payload }
 
--- the packet of a datagram between these endpoints
-abbrev pub packet_between : Endpoint → Endpoint → List ℕ → Packet
-packet_between source destination payload =
-    record {
-      source = source.address;
-      destination = destination.address;
-      source_port = source.port;
-      destination_port = destination.port;
-      payload = payload;
-    }
+-- its frame
+unfoldable pub frame_of : Headers → List ℕ → List ℕ
+frame_of headers payload = spelling (packet_of headers payload)
 
--- the frame of a datagram between these endpoints
-unfoldable pub frame_between : Endpoint → Endpoint → List ℕ → List ℕ
-frame_between source destination payload = spelling (packet_between source destination payload)
+-- the packet that was found in the frame, if one was
+abbrev pub content_at : List ℕ → Option Found → Option Packet
+content_at frame None = None
+content_at frame (Some found) = Some (packet_of found.headers (slice_range frame found.start found.end))

@@ -1,7 +1,8 @@
 -- A datagram queue with its capacities.
-use Rattle.std.specs.Prelude.{ℕ, ◌+◌, max, if◌then◌else◌, List, [], ◌∷◌, ◌++◌, length, fold}
+use Rattle.std.specs.Prelude.{ℕ, ◌+◌, max, List, [], ◌∷◌, ◌++◌, length, fold, Option, Some, None}
+use Rattle.ip_wire.specs.Ipv4Address.{Ipv4Address}
 use Rattle.lan_machine.specs.Values.{DatagramValue}
-use Rattle.lan_machine.specs.Machine.{fits}
+use Rattle.lan_machine.specs.Machine.{goes_to}
 
 pub record QueueValue : Type 0 where
   pub max_packets : ℕ
@@ -15,9 +16,13 @@ empty_queue max_packets max_bytes = record { max_packets = max_packets; max_byte
 abbrev pub joined : QueueValue → DatagramValue → QueueValue
 joined q d = record q { datagrams = q.datagrams ++ d ∷ [] }
 
--- the length of the frame that a datagram fills, 0 where it is dropped
+-- the length of the frame that a datagram fills on its way to this address, 0 where it is dropped
+abbrev pub length_to : Option Ipv4Address → DatagramValue → ℕ
+length_to None d = 0
+length_to (Some destination) d = 28 + length d.bytes
+
 abbrev pub frame_length : ℕ → DatagramValue → ℕ
-frame_length mtu d = if fits mtu d then 28 + length d.bytes else 0
+frame_length mtu d = length_to (goes_to mtu d) d
 
 -- the length of the longest frame that one of these datagrams fills
 abbrev pub longest_frame : ℕ → List DatagramValue → ℕ

@@ -1,13 +1,15 @@
 -- A host at the link: how it begins, and what an event makes of it.
-use Rattle.std.specs.Prelude.{◌≡◌, ℕ, pos, ◌<◌, List, [], ◌∷◌, ◌++◌, length}
+use Rattle.std.specs.Prelude.{◌≡◌, ℕ, pos, ◌<◌, List, [], ◌∷◌, ◌++◌, length, Option}
+use Rattle.ip_wire.specs.Ipv4Address.{Ipv4Address}
 use Rattle.lan_machine.specs.declared.event.Event.{Event}
 use Rattle.lan_machine.specs.declared.event.Event.TheVariants.{Bind, SendTo, RecvFrom, Poll, Deliver}
 use Rattle.lan_machine.specs.declared.event.Answer.{Answer}
+use Rattle.lan_machine.specs.Packet.{Packet, AreContents}
 use Rattle.lan_machine.specs.Values.{SocketValue, StationValue}
 use Rattle.lan_machine.specs.Machine.{taken_by, answer_of, host_after, frames_of}
 
 -- a host without sockets that nothing has happened to
-abbrev pub fresh_station : List ℕ → ℕ → StationValue
+abbrev pub fresh_station : Ipv4Address → ℕ → StationValue
 fresh_station address mtu =
     record { host = record { address = address; mtu = mtu; moment = pos 0; sockets = [] }; waiting = []; sent = [] }
 
@@ -39,8 +41,11 @@ CanAct s (Deliver side k padding) = ⊥
 abbrev pub answer_at : StationValue → Event → Answer
 answer_at s event = answer_of s.host event (taken_by event s.waiting)
 
--- the host is what its machine says, the frames that it took don't wait any more, and those that it sent joined the others
+-- the host is what its machine says, by the contents of the frames that it took; these don't wait any more, and those that it
+-- sent joined the others
 pub record Acted (old : StationValue) (event : Event) (new : StationValue) : Type 0 where
-  pub host : new.host ≡ host_after old.host event (taken_by event old.waiting)
+  pub contents : List (Option Packet)
+  pub reads : AreContents (taken_by event old.waiting) contents
+  pub host : new.host ≡ host_after old.host event contents
   pub waiting : old.waiting ≡ taken_by event old.waiting ++ new.waiting
-  pub sent : new.sent ≡ old.sent ++ frames_of old.host event (taken_by event old.waiting)
+  pub sent : new.sent ≡ old.sent ++ frames_of old.host event contents

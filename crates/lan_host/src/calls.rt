@@ -3,7 +3,8 @@ ghost use Rattle.lan_machine.specs.Machine.{bind_answer, bind_after, send_answer
 ghost use Rattle.lan_host.specs.Socket.{answered};
 
 use crate::socket::Socket;
-use lan_machine::{Answer, Bytes, Endpoint, Fault};
+use ip_wire::IpEndpoint;
+use lan_machine::{Answer, Bytes, Fault};
 use std::alloc::{AllocError, Global};
 
 /// An answer and its twin, which the caller may keep.
@@ -33,7 +34,7 @@ pub fn bind(socket: &mut Socket, port: u16) -> Twins
 pub fn send_to(
     alloc: Global,
     socket: &mut Socket,
-    remote: &Endpoint,
+    remote: &IpEndpoint,
     bytes: &Bytes,
 ) -> Result<Twins, AllocError>
     ensures first { IfOk result (λ r. r.0 ≡ send_answer socket.old remote.now bytes.now) }

@@ -1,15 +1,15 @@
 ghost use Rattle.std.specs.Prelude.{◌≡◌, ◌<◌, ◌+◌, ◌^◌, ◌≤◌, ◌&&◌, max, nat_lt, IsTrue, IfSome, OnOk, [], ◌∷◌, length};
 ghost use Rattle.std.specs.List.{list_any, fold};
-ghost use Rattle.lan_machine.specs.Machine.{offered, offer_after, pass_frames, pass_after, passes_frames, passes_after, has_queued};
+ghost use Rattle.lan_machine.specs.Machine.{packet_from, offered, offer_after, pass_frames, pass_after, passes_frames, passes_after, has_queued};
 ghost use Rattle.net_base.specs.Device.{gives_tokens};
-ghost use Rattle.lan_host.specs.Frame.{frame_between};
+ghost use Rattle.lan_host.specs.Frame.{packet_of, frame_of};
 ghost use Rattle.lan_host.specs.Sends.{CanSend, Sends, IsPrepared, frames_needed};
 ghost use Rattle.lan_host.specs.Queue.{longest_frame};
 
-use crate::frame;
+use crate::frame::{self, Headers};
 use crate::queue::Datagram;
 use crate::socket::Socket;
-use lan_machine::Endpoint;
+use ip_wire::{IpProtocol, Ipv4Address, Ipv4Repr, UDP_HEADER_LEN, UdpRepr};
 use lan_port::Port;
 use net_base::{Device, Instant};
 use std::alloc::AllocError;
@@ -52,7 +52,7 @@ fn longest_frame(mtu: usize, sockets: &[Socket]) -> usize
 /// Sends the queued datagrams in passes, each of one datagram of each socket, until a pass takes
 /// none out of its queue. Says whether one left its queue.
 pub fn passes(
-    address: &[u8; 4],
+    address: &Ipv4Address,
     mtu: usize,
     moment: Instant,
     budget: u16,
@@ -78,7 +78,7 @@ pub fn passes(
 
 /// Offers one datagram of each socket, in order.
 fn pass(
-    address: &[u8; 4],
+    address: &Ipv4Address,
     mtu: usize,
     moment: Instant,
     sockets: &mut Vec<Socket>,
@@ -96,49 +96,71 @@ fn pass(
     changed
 }
 
-/// Takes the first datagram out of a socket's queue, and sends it unless the device or the length
-/// fields can't take its packet.
+/// Takes the first datagram out of a socket's queue, and sends it unless it is dropped.
 fn offer(
-    address: &[u8; 4],
+    address: &Ipv4Address,
     mtu: usize,
     moment: Instant,
     socket: &mut Socket,
     port: &mut Port,
 ) -> bool
-    requires { CanSend port.old mtu (socket.old ∷ []) (offered address.now mtu socket.old socket.old.queued) }
+    requires { CanSend port.old mtu (socket.old ∷ []) (offered address.now mtu socket.old.port socket.old.queued) }
     ensures socket { socket.new ≡ offer_after socket.old }
-    ensures frames { Sends port.old port.new (offered address.now mtu socket.old socket.old.queued) }
+    ensures frames { Sends port.old port.new (offered address.now mtu socket.old.port socket.old.queued) }
     ensures changed { result ≡ has_queued socket.old }
 {
-    let source = Endpoint {
-        address: *address,
-        port: socket.port(),
-    };
+    let local_port = socket.port();
     let Some(datagram) = socket.pop_queued() else {
         return false;
     };
-    if datagram.frame_len(mtu) > 0 {
-        send(&source, &datagram, moment, port);
+    if let Some(destination) = datagram.goes_to(mtu) {
+        let headers = headers(*address, local_port, &datagram, destination);
+        send(headers, datagram.bytes().as_slice(), moment, port);
     }
     true
 }
 
+/// The headers of the packet that takes a datagram from this address and port to the other address.
+fn headers(
+    address: Ipv4Address,
+    local_port: u16,
+    datagram: &Datagram,
+    destination: Ipv4Address,
+) -> Headers
+    requires { 8 + length datagram.now.bytes < 2 ^ 64 }
+    ensures { packet_of result datagram.now.bytes ≡ packet_from address local_port datagram.now destination }
+{
+    Headers {
+        ip: Ipv4Repr {
+            src_addr: address,
+            dst_addr: destination,
+            next_header: IpProtocol::Udp,
+            payload_len: UDP_HEADER_LEN + datagram.bytes().len(),
+            hop_limit: 64,
+        },
+        udp: UdpRepr {
+            src_port: local_port,
+            dst_port: datagram.remote().port,
+        },
+    }
+}
+
 /// Sends a datagram in a frame that is written in the device's own buffer.
-fn send(source: &Endpoint, datagram: &Datagram, moment: Instant, port: &mut Port)
-    requires fits { 28 + length datagram.now.bytes < 2 ^ 16 }
+fn send(headers: Headers, payload: &[u8], moment: Instant, port: &mut Port)
+    requires covers { headers.ip.payload_len ≡ 8 + length payload.now }
+    requires fits { 28 + length payload.now < 2 ^ 16 }
     requires tokens { IsTrue (gives_tokens port.old.link.refusals) }
     requires ready { 0 < port.old.ready }
-    requires size { 28 + length datagram.now.bytes ≤ port.old.size }
-    ensures { Sends port.old port.new (frame_between source.now datagram.now.remote datagram.now.bytes ∷ []) }
+    requires size { 28 + length payload.now ≤ port.old.size }
+    ensures { Sends port.old port.new (frame_of headers payload.now ∷ []) }
 {
-    let payload = datagram.bytes().as_slice();
     let Some(token) = port.transmit(moment) else {
         unreachable!();
     };
     let sent = port.send(
         token,
         frame::HEADERS_LEN + payload.len(),
-        |buffer: &mut [u8]| { frame::write(buffer, source, datagram.remote(), payload) },
+        |buffer: &mut [u8]| { frame::write(buffer, &headers, payload) },
     );
     prove!(sent.is_ok());
 }

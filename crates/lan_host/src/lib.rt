@@ -6,7 +6,6 @@
 #![tactic(auto)]
 
 mod calls;
-mod checksum;
 mod egress;
 mod frame;
 mod ingress;

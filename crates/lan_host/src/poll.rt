@@ -1,11 +1,12 @@
 ghost use Rattle.std.specs.Prelude.{◌≡◌, ◌&&◌, ◌||◌, IsTrue, IfOk, OnOk, OnErr, length, take, nat_lt};
 ghost use Rattle.std.specs.List.{list_any};
 ghost use Rattle.net_base.specs.Device.{gives_tokens};
-ghost use Rattle.lan_machine.specs.Machine.{arrivals, passes_after, has_queued};
-ghost use Rattle.lan_host.specs.Polls.{polled};
+ghost use Rattle.lan_machine.specs.Machine.{has_queued};
+ghost use Rattle.lan_host.specs.Polls.{Polls};
 
 use crate::socket::Socket;
 use crate::{egress, ingress};
+use ip_wire::Ipv4Address;
 use lan_port::Port;
 use net_base::Instant;
 use std::alloc::AllocError;
@@ -15,7 +16,7 @@ use std::alloc::AllocError;
 ///
 /// All memory is taken first: where there is none, nothing has changed.
 pub fn poll(
-    address: &[u8; 4],
+    address: &Ipv4Address,
     mtu: usize,
     moment: Instant,
     budget: u16,
@@ -23,8 +24,7 @@ pub fn poll(
     port: &mut Port,
 ) -> Result<bool, AllocError>
     requires { IsTrue (gives_tokens port.old.link.refusals) }
-    ensures sockets { OnOk result (sockets.new.items ≡ passes_after budget (arrivals address.now (take budget port.old.link.waiting) sockets.old.items)) }
-    ensures port { OnOk result (port.new.link ≡ polled address.now mtu budget sockets.old.items port.old.link) }
+    ensures polls { OnOk result (Polls address.now mtu budget sockets.old.items sockets.new.items port.old.link port.new.link) }
     ensures changed { IfOk result (λ changed. changed ≡ (nat_lt 0 (length (take budget port.old.link.waiting)) || (nat_lt 0 budget && list_any has_queued sockets.old.items))) }
     ensures sockets_stay { OnErr result (sockets.new.items ≡ sockets.old.items) }
     ensures port_stays { OnErr result (port.new.link ≡ port.old.link) }

@@ -1,10 +1,11 @@
 ghost use Rattle.std.specs.Prelude.{◌≡◌, ◌+◌, ◌<◌, ◌≤◌, [], ◌∷◌, ◌++◌, length, false, IfOk, IfSome, IfNone};
 ghost use Rattle.lan_machine.specs.Values.{DatagramValue, bytes_held, is_full};
-ghost use Rattle.lan_machine.specs.Machine.{without_first};
+ghost use Rattle.lan_machine.specs.Machine.{without_first, goes_to};
 ghost use Rattle.lan_host.specs.Queue.{empty_queue, joined, frame_length, longest_frame};
 
 use crate::frame::HEADERS_LEN;
-use lan_machine::{Bytes, Endpoint};
+use ip_wire::{IpAddress, IpEndpoint, Ipv4Address};
+use lan_machine::Bytes;
 use std::alloc::{AllocError, Global};
 use std::collections::VecDeque;
 use std::marker::Model;
@@ -12,7 +13,7 @@ use std::marker::Model;
 /// A datagram with its remote endpoint.
 #[derive(Drop)]
 pub struct Datagram {
-    remote: Endpoint,
+    remote: IpEndpoint,
     bytes: Bytes,
 }
 
@@ -25,13 +26,13 @@ impl Model for Datagram {
 }
 
 impl Datagram {
-    pub fn new(remote: Endpoint, bytes: Bytes) -> Datagram
+    pub fn new(remote: IpEndpoint, bytes: Bytes) -> Datagram
         ensures { result ≡ record { remote = remote; bytes = bytes } }
     {
         Datagram { remote, bytes }
     }
 
-    pub fn remote(&self) -> &Endpoint
+    pub fn remote(&self) -> &IpEndpoint
         ensures { result.now ≡ self.now.remote }
     {
         &self.remote
@@ -43,16 +44,28 @@ impl Datagram {
         &self.bytes
     }
 
-    /// The length of the frame that this datagram fills, 0 where the device or the length fields
-    /// can't take it.
+    /// The IPv4 address that this datagram goes to. There is none for an IPv6 address, and where
+    /// the device or the length fields can't take the packet: then the datagram is dropped.
+    pub fn goes_to(&self, mtu: usize) -> Option<Ipv4Address>
+        ensures { result ≡ goes_to mtu self.now }
+    {
+        let len = self.bytes.len();
+        if len >= 0x1_0000 - HEADERS_LEN || HEADERS_LEN + len > mtu {
+            return None;
+        }
+        match self.remote.addr {
+            IpAddress::Ipv4(address) => Some(address),
+            IpAddress::Ipv6(_) => None,
+        }
+    }
+
+    /// The length of the frame that this datagram fills, 0 where it is dropped.
     pub fn frame_len(&self, mtu: usize) -> usize
         ensures { result ≡ frame_length mtu self.now }
     {
-        let len = self.bytes.len();
-        if len < 0x1_0000 - HEADERS_LEN && HEADERS_LEN + len <= mtu {
-            HEADERS_LEN + len
-        } else {
-            0
+        match self.goes_to(mtu) {
+            Some(_) => HEADERS_LEN + self.bytes.len(),
+            None => 0,
         }
     }
 

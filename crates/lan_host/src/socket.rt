@@ -1,12 +1,13 @@
 ghost use Rattle.std.specs.Prelude.{◌≡◌, ◌==◌, ℕ, List, ◌∷◌, length, IfOk, IfSome, IfNone, [], if◌then◌else◌};
 ghost use Rattle.lan_machine.specs.declared.event.Answer.TheVariants.{Done};
-ghost use Rattle.lan_machine.specs.Machine.{bind_answer, bind_after, send_answer, send_after, without_first, recv_after, take_in, offer_after, has_queued};
+ghost use Rattle.lan_machine.specs.Machine.{bind_answer, bind_after, send_answer, send_after, is_unspecified, without_first, recv_after, take_in, offer_after, has_queued};
 ghost use Rattle.lan_host.specs.Queue.{longest_frame};
 ghost use Rattle.lan_host.specs.Socket.{answered};
 ghost use Rattle.lan_host.specs.Station.{fresh_socket};
 
 use crate::queue::{Datagram, Queue};
-use lan_machine::{Answer, Bytes, Endpoint, Fault};
+use ip_wire::{IpAddress, IpEndpoint};
+use lan_machine::{Bytes, Fault};
 use std::alloc::{AllocError, Global};
 use std::marker::Model;
 
@@ -67,10 +68,10 @@ impl Socket {
     }
 
     /// Whether a datagram of this size may be queued for this endpoint.
-    pub fn check_send(&self, remote: &Endpoint, size: usize) -> Result<(), Fault>
+    pub fn check_send(&self, remote: &IpEndpoint, size: usize) -> Result<(), Fault>
         ensures { (bytes : List ℕ) → length bytes ≡ size → answered result ≡ send_answer self.now remote.now bytes }
     {
-        if self.port == 0 || remote.port == 0 || remote.address == [0, 0, 0, 0] {
+        if self.port == 0 || remote.port == 0 || is_unspecified(&remote.addr) {
             return Err(Fault::Unaddressable);
         }
         if self.queued.is_full(size) {
@@ -80,7 +81,7 @@ impl Socket {
     }
 
     /// Queues a datagram that may be queued.
-    pub fn send(&mut self, remote: Endpoint, bytes: Bytes)
+    pub fn send(&mut self, remote: IpEndpoint, bytes: Bytes)
         requires { send_answer self.old remote bytes ≡ Done }
         ensures { self.new ≡ send_after self.old remote bytes }
     {
@@ -135,4 +136,12 @@ impl Socket {
     {
         self.queued.pop()
     }
+}
+
+/// Whether this is the unspecified address of its family.
+#[tactic(auto, using(crate::proofs::Unspecified::unspecified))]
+fn is_unspecified(address: &IpAddress) -> bool
+    ensures { result ≡ is_unspecified address.now }
+{
+    address.is_unspecified()
 }

@@ -5,6 +5,7 @@ ghost use Rattle.lan_host.specs.Station.{fresh_station, fresh_socket, with_new_s
 
 use crate::socket::Socket;
 use crate::{calls, poll};
+use ip_wire::Ipv4Address;
 use lan_machine::{Answer, Event};
 use lan_port::Port;
 use net_base::{Device, DeviceCapabilities, Instant};
@@ -19,7 +20,7 @@ use std::marker::Model;
 #[derive(Drop)]
 pub struct Station {
     alloc: Global,
-    address: [u8; 4],
+    address: Ipv4Address,
     mtu: usize,
     moment: Instant,
     sockets: Vec<Socket>,
@@ -40,7 +41,7 @@ impl Model for Station {
 impl Station {
     /// A host of this address without sockets, over a port of these capabilities. Its last moment
     /// is 0. It allocates nothing: `alloc` serves later calls.
-    pub fn new(alloc: Global, address: [u8; 4], capabilities: DeviceCapabilities) -> Station
+    pub fn new(alloc: Global, address: Ipv4Address, capabilities: DeviceCapabilities) -> Station
         ensures { result ≡ fresh_station address (ip_mtu capabilities) }
     {
         Station {

@@ -2,15 +2,16 @@
 // which is a worked example.
 
 use crate::Station;
-use lan_machine::{Answer, Bytes, Endpoint, Event, Side};
+use ip_wire::{IpAddress, IpEndpoint, Ipv4Address, Ipv6Address};
+use lan_machine::{Answer, Bytes, Event, Side};
 use net_base::{ChecksumCapabilities, DeviceCapabilities, Instant, Medium};
 use std::alloc::{AllocError, Global};
 use std::process::Abort;
 use std::test::Fail;
 
-const LEFT: [u8; 4] = [192, 168, 1, 1];
+const LEFT: Ipv4Address = Ipv4Address([192, 168, 1, 1]);
 
-const RIGHT: [u8; 4] = [192, 168, 1, 2];
+const RIGHT: Ipv4Address = Ipv4Address([192, 168, 1, 2]);
 
 /// From 192.168.1.1:48896 to 192.168.1.2:53, the bytes aa 00 00 ff.
 const FRAME: &str = "45000020000040004011b779c0a80101c0a80102bf000035000c124daa0000ff";
@@ -121,9 +122,9 @@ const NO_ZERO: &str = "4500001e000040004011b77bc0a80101c0a80102bf000035000affffb
 #[derive(Clone, Copy)]
 enum Call {
     Bind(usize, u16),
-    SendTo(usize, Endpoint, &'static [u8]),
+    SendTo(usize, IpEndpoint, &'static [u8]),
     /// A datagram of so many bytes.
-    SendLong(usize, Endpoint, usize),
+    SendLong(usize, IpEndpoint, usize),
     RecvFrom(usize, usize),
     Poll(u16),
     /// A frame in hex comes, with so many zeros behind it.
@@ -136,14 +137,18 @@ enum Call {
 
 use Call::{Bind, LastSent, Poll, Push, RecvFrom, SendLong, SendTo, SentCount};
 
-const fn remote(address: [u8; 4], port: u16) -> Endpoint {
-    Endpoint { address, port }
+const fn remote(address: Ipv4Address, port: u16) -> IpEndpoint {
+    IpEndpoint::new(IpAddress::Ipv4(address), port)
+}
+
+const fn remote_v6(address: Ipv6Address, port: u16) -> IpEndpoint {
+    IpEndpoint::new(IpAddress::Ipv6(address), port)
 }
 
 /// A host with sockets whose queues take so many datagrams and bytes to read, and to send.
 fn host(
     alloc: Global,
-    address: [u8; 4],
+    address: Ipv4Address,
     mtu: usize,
     sockets: &[(usize, usize, usize, usize)],
 ) -> Result<Station, AllocError> {
@@ -391,7 +396,18 @@ fn refuses_to_bind_and_to_send(rt: HostRuntime) -> Result<(), Fail> {
             (Bind(0, 48896), "invalid state"),
             (Bind(0, 0), "unaddressable"),
             (SendTo(0, remote(RIGHT, 0), &[1]), "unaddressable"),
-            (SendTo(0, remote([0, 0, 0, 0], 53), &[1]), "unaddressable"),
+            (
+                SendTo(0, remote(Ipv4Address::UNSPECIFIED, 53), &[1]),
+                "unaddressable",
+            ),
+            (
+                SendTo(0, remote_v6(Ipv6Address::UNSPECIFIED, 53), &[1]),
+                "unaddressable",
+            ),
+            (
+                SendTo(0, remote_v6(Ipv6Address::LOCALHOST, 0), &[1]),
+                "unaddressable",
+            ),
             (SendLong(0, remote(RIGHT, 53), 65), "buffer full"),
             (SendLong(0, remote(RIGHT, 53), 64), "ok"),
             (SendTo(0, remote(RIGHT, 53), &[]), "buffer full"),
@@ -413,6 +429,25 @@ fn drops_a_datagram_longer_than_the_mtu(rt: HostRuntime) -> Result<(), Fail> {
             (SentCount, "0"),
             (Poll(1), "changed"),
             (SentCount, "1"),
+            (Poll(1), "none"),
+        ],
+    )
+}
+
+#[test]
+fn drops_a_datagram_for_an_ipv6_address(rt: HostRuntime) -> Result<(), Fail> {
+    let mut left = host(rt.alloc(), LEFT, 1500, &[(0, 0, 2, 64)])?;
+    play(
+        &rt,
+        &mut left,
+        &[
+            (Bind(0, 48896), "ok"),
+            (SendTo(0, remote_v6(Ipv6Address::LOCALHOST, 53), &[1]), "ok"),
+            (SendTo(0, remote(RIGHT, 53), &[0xaa, 0, 0, 0xff]), "ok"),
+            (Poll(1), "changed"),
+            (SentCount, "0"),
+            (Poll(1), "changed"),
+            (LastSent, FRAME),
             (Poll(1), "none"),
         ],
     )

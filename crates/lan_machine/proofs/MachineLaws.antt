@@ -1,10 +1,14 @@
 -- The laws of the host machine (specs/Laws).
-use Rattle.std.proofs.Common.{◌≡◌, ◌≢◌, ℕ, ◌+◌, ◌<◌, ◌≤◌, ◌^◌, Bool, true, false, cond, List, [], ◌∷◌, ◌++◌, Some, length, get_or, ◌⊎◌, inl, inr, refl, sym, ◌∙◌, ap, subst, arith}
+use Rattle.std.proofs.Common.{◌≡◌, ◌≢◌, ℕ, ◌+◌, ◌<◌, ◌≤◌, ◌^◌, Bool, true, false, cond, List, [], ◌∷◌, ◌++◌, length, get_or, Option, Some, None, ◌⊎◌, inl, inr, refl, sym, ◌∙◌, ap, subst, arith}
 use Rattle.std.specs.Prelude.{nat_le, nat_lt}
 use Rattle.std.proofs.lemmas.Bool.{cases_lt, cases_eq, ne_eqb, and_parts, ltb-true}
 use Rattle.std.proofs.lemmas.List.{get_or_past, length-set, get_or-set_same, get_or-set_other}
 use Rattle.lan_machine.specs.declared.event.Side.{Side}
-use Rattle.lan_machine.specs.declared.event.Endpoint.{Endpoint}
+use Rattle.ip_wire.specs.Address.{IsIpAddress, IsIpv4Address}
+use Rattle.ip_wire.specs.IpAddress.{IpAddress}
+use Rattle.ip_wire.specs.IpAddress.TheVariants as Address
+use Rattle.ip_wire.specs.IpEndpoint.{IpEndpoint}
+use Rattle.ip_wire.specs.Ipv4Address.{Ipv4Address}
 use Rattle.lan_machine.specs.declared.event.Event.{Event}
 use Rattle.lan_machine.specs.declared.event.Event.TheVariants.{Bind, SendTo, RecvFrom, Poll, Deliver}
 use Rattle.lan_machine.specs.declared.event.Answer.{Answer}
@@ -12,17 +16,18 @@ use Rattle.lan_machine.specs.declared.event.Answer.TheVariants.{Done, FromEndpoi
 use Rattle.lan_machine.specs.declared.event.Fault.TheVariants.{Truncated}
 use Rattle.lan_machine.specs.Members.{◌∈◌}
 use Rattle.lan_machine.specs.Values.{DatagramValue, SocketValue, HostValue, no_socket, socket_at}
-use Rattle.lan_machine.specs.Packet.{spelling, packet_of}
-use Rattle.lan_machine.specs.Machine.{fits, packet_from, read_answer, bind_after, bind_answer, send_after, recv_after, arrivals, passes_after, with_socket, host_after}
-use Rattle.lan_machine.proofs.Frames.{padded}
-use Rattle.lan_machine.specs.Laws.{ArrivalsLaw, UnusedLaw, IsSocketInRange, PaddedLaw, SentLaw, ExampleLaw, IsSpellable, ReadLaw, QueuedLaw, IsAccepted, ReceivedLaw, FramesLaw, IsQueuedFrame, port_after, PortLaw, IsSameHost, SameLaw, IsRemote, IsInRange, IsEventInRange, RangeLaw, IdleLaw}
+use Rattle.lan_machine.specs.Packet.{Packet, AreContents, Carries, spelling}
+use Rattle.lan_machine.specs.Machine.{fits, ipv4_address, goes_to, packet_from, read_answer, bind_after, bind_answer, send_after, recv_after, arrivals, passes_after, with_socket, answer_of, host_after, frames_of}
+use Rattle.lan_machine.proofs.Frames.{one_content, one_list, padded}
+use Rattle.lan_machine.proofs.Example.{example}
+use Rattle.lan_machine.specs.Laws.{ArrivalsLaw, ContentLaw, StepLaw, UnusedLaw, IsSocketInRange, PaddedLaw, SentLaw, ExampleLaw, IsSpellable, ReadLaw, QueuedLaw, IsAccepted, ReceivedLaw, FramesLaw, IsQueuedFrame, port_after, PortLaw, IsSameHost, SameLaw, IsRemote, IsInRange, IsEventInRange, RangeLaw, IdleLaw}
 use Rattle.lan_machine.proofs.Members.{member_of_push, written_or_old}
-use Rattle.lan_machine.proofs.Sockets.{bound_port, bound_queue, bound_received, bound_or_same, send_cases, addressable, sent_port, sent_received, Receives, arrived_at, arrived_queues, length-arrivals}
-use Rattle.lan_machine.proofs.Polls.{member_of_rest, Sends, sent_at, passes_from, packet_at, idle_passes, length-passes_after}
+use Rattle.lan_machine.proofs.Sockets.{bound_port, bound_queue, bound_received, bound_or_same, send_cases, addressable, sent_port, sent_received, Keeps, kept_at, arrived_from, arrived_queues, length-arrivals}
+use Rattle.lan_machine.proofs.Polls.{member_of_rest, Sends, sent_at, passes_from, idle_passes, length-passes_after}
 
 -- READ
 
-abbrev datagram : Endpoint → List ℕ → DatagramValue
+abbrev datagram : IpEndpoint → List ℕ → DatagramValue
 datagram remote bytes = record { remote = remote; bytes = bytes }
 
 read_by :
@@ -31,7 +36,7 @@ read_by :
 read_by limit q qs d true e =
     let remote : d.remote ≡ q.remote = cc in
     let bytes : d.bytes ≡ q.bytes = cc in
-    inl (ap (λ (r : Endpoint). datagram r d.bytes) remote ∙ ap (λ (b : List ℕ). datagram q.remote b) bytes)
+    inl (ap (λ (r : IpEndpoint). datagram r d.bytes) remote ∙ ap (λ (b : List ℕ). datagram q.remote b) bytes)
 read_by limit q qs d false e = cc
 
 -- the first datagram of a queue is what a read answers
@@ -56,16 +61,16 @@ by_place h j s P named i other =
       | inr same ↦ subst (P i) (sym same) other
     ]
 
--- what a poll takes in at a place, and what it then sends from there
+-- what a poll leaves at a place as it takes frames in, and what it then sends from there
 came_at :
-    (h : HostValue) (taken : List (List ℕ)) (i : ℕ) →
-    Receives h.address taken (socket_at h i) (get_or (arrivals h.address taken h.sockets) i no_socket)
-came_at h taken i = arrived_at h.address taken h.sockets i
+    (h : HostValue) (contents : List (Option Packet)) (i : ℕ) →
+    Keeps (socket_at h i) (get_or (arrivals h.address contents h.sockets) i no_socket)
+came_at h contents i = kept_at h.address contents h.sockets i
 
 left_at :
-    (h : HostValue) (budget : ℕ) (taken : List (List ℕ)) (i : ℕ) →
-    Sends (get_or (arrivals h.address taken h.sockets) i no_socket) (get_or (passes_after budget (arrivals h.address taken h.sockets)) i no_socket)
-left_at h budget taken i = sent_at budget (arrivals h.address taken h.sockets) i
+    (h : HostValue) (budget : ℕ) (contents : List (Option Packet)) (i : ℕ) →
+    Sends (get_or (arrivals h.address contents h.sockets) i no_socket) (get_or (passes_after budget (arrivals h.address contents h.sockets)) i no_socket)
+left_at h budget contents i = sent_at budget (arrivals h.address contents h.sockets) i
 
 -- QUEUED
 
@@ -94,18 +99,18 @@ sender_queue h side j e taken d member =
     ]
 
 pub queued_law : QueuedLaw
-queued_law h (Bind side j port) taken i d member =
+queued_law h (Bind side j port) taken contents i d member =
     let same = bound_queue (socket_at h j) port in
     by_place h j (bind_after (socket_at h j) port) (IsQueuedOrAccepted h (Bind side j port) taken d)
     (λ here. inl (subst (λ (q : List DatagramValue). d ∈ q) same here)) i (λ old. inl old) member
-queued_law h (SendTo side j remote bytes) taken i d member =
+queued_law h (SendTo side j remote bytes) taken contents i d member =
     by_place h j (send_after (socket_at h j) remote bytes) (IsQueuedOrAccepted h (SendTo side j remote bytes) taken d)
     (sender_queue h side j (record { remote = remote; bytes = bytes }) taken d) i (λ old. inl old) member
-queued_law h (RecvFrom side j limit) taken i d member =
+queued_law h (RecvFrom side j limit) taken contents i d member =
     by_place h j (recv_after (socket_at h j)) (IsQueuedOrAccepted h (RecvFrom side j limit) taken d) (λ old. inl old) i (λ old. inl old) member
-queued_law h (Poll side moment budget) taken i d member =
-    inl (subst (λ (q : List DatagramValue). d ∈ q) (came_at h taken i).queued ((left_at h budget taken i).queued d member))
-queued_law h (Deliver side k padding) taken i d member = inl member
+queued_law h (Poll side moment budget) taken contents i d member =
+    inl (subst (λ (q : List DatagramValue). d ∈ q) (came_at h contents i).queued ((left_at h budget contents i).queued d member))
+queued_law h (Deliver side k padding) taken contents i d member = inl member
 
 -- RECEIVED
 
@@ -113,42 +118,43 @@ abbrev IsOld : HostValue → DatagramValue → ℕ → SocketValue → Type 0
 IsOld h d i s = d ∈ s.received → d ∈ (socket_at h i).received
 
 pub received_law : ReceivedLaw
-received_law h (Bind side j port) taken i d member =
+received_law h (Bind side j port) taken contents i d are member =
     let same = bound_received (socket_at h j) port in
     inl (by_place h j (bind_after (socket_at h j) port) (IsOld h d) (λ here. subst (λ (q : List DatagramValue). d ∈ q) same here) i (λ old. old) member)
-received_law h (SendTo side j remote bytes) taken i d member =
+received_law h (SendTo side j remote bytes) taken contents i d are member =
     let same = sent_received (socket_at h j) (record { remote = remote; bytes = bytes }) in
     inl (by_place h j (send_after (socket_at h j) remote bytes) (IsOld h d) (λ here. subst (λ (q : List DatagramValue). d ∈ q) same here) i (λ old. old) member)
-received_law h (RecvFrom side j limit) taken i d member =
+received_law h (RecvFrom side j limit) taken contents i d are member =
     inl (by_place h j (recv_after (socket_at h j)) (IsOld h d) (λ left. member_of_rest d (socket_at h j).received left) i (λ old. old) member)
-received_law h (Poll side moment budget) taken i d member =
-    (came_at h taken i).received d (subst (λ (q : List DatagramValue). d ∈ q) (left_at h budget taken i).received member)
-received_law h (Deliver side k padding) taken i d member = inl member
+received_law h (Poll side moment budget) taken contents i d are member =
+    arrived_from h.address taken contents h.sockets i d are (subst (λ (q : List DatagramValue). d ∈ q) (left_at h budget contents i).received member)
+received_law h (Deliver side k padding) taken contents i d are member = inl member
 
 -- FRAMES
 
 -- an arrival changes no queue of datagrams to send, and no port
 before_arrivals :
-    (h : HostValue) (taken : List (List ℕ)) (frame : List ℕ) →
-    IsQueuedFrame h.address h.mtu (arrivals h.address taken h.sockets) frame →
+    (h : HostValue) (contents : List (Option Packet)) (frame : List ℕ) →
+    IsQueuedFrame h.address h.mtu (arrivals h.address contents h.sockets) frame →
     IsQueuedFrame h.address h.mtu h.sockets frame
-before_arrivals h taken frame q =
-    let came = came_at h taken q.place in
+before_arrivals h contents frame q =
+    let came = came_at h contents q.place in
     record {
       place = q.place;
       datagram = q.datagram;
+      destination = q.destination;
+      goes = q.goes;
       queued = subst (λ (queue : List DatagramValue). q.datagram ∈ queue) came.queued q.queued;
-      fitting = q.fitting;
-      spells = q.spells ∙ ap (λ (port : ℕ). spelling (packet_at h.address port q.datagram)) came.port;
+      spells = q.spells ∙ ap (λ (port : ℕ). spelling (packet_from h.address port q.datagram q.destination)) came.port;
     }
 
 pub frames_law : FramesLaw
-frames_law h (Bind side j port) taken frame none = absurd none
-frames_law h (SendTo side j remote bytes) taken frame none = absurd none
-frames_law h (RecvFrom side j limit) taken frame none = absurd none
-frames_law h (Poll side moment budget) taken frame member =
-    before_arrivals h taken frame (passes_from h.address h.mtu frame budget (arrivals h.address taken h.sockets) member)
-frames_law h (Deliver side k padding) taken frame none = absurd none
+frames_law h (Bind side j port) contents frame none = absurd none
+frames_law h (SendTo side j remote bytes) contents frame none = absurd none
+frames_law h (RecvFrom side j limit) contents frame none = absurd none
+frames_law h (Poll side moment budget) contents frame member =
+    before_arrivals h contents frame (passes_from h.address h.mtu frame budget (arrivals h.address contents h.sockets) member)
+frames_law h (Deliver side k padding) contents frame none = absurd none
 
 -- PORTS
 
@@ -180,11 +186,11 @@ port_by_bind h side j port i within =
     ]
 
 pub port_law : PortLaw
-port_law h (Bind side j port) taken i within = port_by_bind h side j port i within
-port_law h (SendTo side j remote bytes) taken i within = port_kept h j i (send_after (socket_at h j) remote bytes) (sent_port (socket_at h j) (record { remote = remote; bytes = bytes }))
-port_law h (RecvFrom side j limit) taken i within = port_kept h j i (recv_after (socket_at h j)) refl
-port_law h (Poll side moment budget) taken i within = (left_at h budget taken i).port ∙ (came_at h taken i).port
-port_law h (Deliver side k padding) taken i within = refl
+port_law h (Bind side j port) taken contents i within = port_by_bind h side j port i within
+port_law h (SendTo side j remote bytes) taken contents i within = port_kept h j i (send_after (socket_at h j) remote bytes) (sent_port (socket_at h j) (record { remote = remote; bytes = bytes }))
+port_law h (RecvFrom side j limit) taken contents i within = port_kept h j i (recv_after (socket_at h j)) refl
+port_law h (Poll side moment budget) taken contents i within = (left_at h budget contents i).port ∙ (came_at h contents i).port
+port_law h (Deliver side k padding) taken contents i within = refl
 
 -- THE SAME HOST
 
@@ -192,41 +198,41 @@ with_socket_same : (h : HostValue) (j : ℕ) (s : SocketValue) → IsSameHost h 
 with_socket_same h j s = record { address = refl; mtu = refl; sockets = length-set h.sockets j s }
 
 pub same_law : SameLaw
-same_law h (Bind side j port) taken = with_socket_same h j (bind_after (socket_at h j) port)
-same_law h (SendTo side j remote bytes) taken = with_socket_same h j (send_after (socket_at h j) remote bytes)
-same_law h (RecvFrom side j limit) taken = with_socket_same h j (recv_after (socket_at h j))
-same_law h (Poll side moment budget) taken =
-    record { address = refl; mtu = refl; sockets = length-passes_after budget (arrivals h.address taken h.sockets) ∙ length-arrivals h.address taken h.sockets }
-same_law h (Deliver side k padding) taken = record { address = refl; mtu = refl; sockets = refl }
+same_law h (Bind side j port) contents = with_socket_same h j (bind_after (socket_at h j) port)
+same_law h (SendTo side j remote bytes) contents = with_socket_same h j (send_after (socket_at h j) remote bytes)
+same_law h (RecvFrom side j limit) contents = with_socket_same h j (recv_after (socket_at h j))
+same_law h (Poll side moment budget) contents =
+    record { address = refl; mtu = refl; sockets = length-passes_after budget (arrivals h.address contents h.sockets) ∙ length-arrivals h.address contents h.sockets }
+same_law h (Deliver side k padding) contents = record { address = refl; mtu = refl; sockets = refl }
 
 -- RANGES
 
 -- each event leaves a socket's port, or binds it
 port_range :
-    (h : HostValue) (event : Event) (taken : List (List ℕ)) (i : ℕ) → IsInRange h → IsEventInRange event →
-    (socket_at (host_after h event taken) i).port < 2 ^ 16
-port_range h (Bind side j port) taken i range event =
+    (h : HostValue) (event : Event) (contents : List (Option Packet)) (i : ℕ) → IsInRange h → IsEventInRange event →
+    (socket_at (host_after h event contents) i).port < 2 ^ 16
+port_range h (Bind side j port) contents i range event =
     let named : (bind_after (socket_at h j) port).port < 2 ^ 16 =
     elim (bound_or_same (socket_at h j) port) [
       | inl bound ↦ subst (λ (n : ℕ). n < 2 ^ 16) (sym bound) event
       | inr same ↦ subst (λ (n : ℕ). n < 2 ^ 16) (sym same) ((range.sockets j).port)
     ] in
     by_place h j (bind_after (socket_at h j) port) (λ k t. t.port < 2 ^ 16) named i ((range.sockets i).port)
-port_range h (SendTo side j remote bytes) taken i range event =
+port_range h (SendTo side j remote bytes) contents i range event =
     let same = sent_port (socket_at h j) (record { remote = remote; bytes = bytes }) in
     subst (λ (n : ℕ). n < 2 ^ 16) (sym (port_kept h j i (send_after (socket_at h j) remote bytes) same)) ((range.sockets i).port)
-port_range h (RecvFrom side j limit) taken i range event =
+port_range h (RecvFrom side j limit) contents i range event =
     subst (λ (n : ℕ). n < 2 ^ 16) (sym (port_kept h j i (recv_after (socket_at h j)) refl)) ((range.sockets i).port)
-port_range h (Poll side moment budget) taken i range event =
-    subst (λ (n : ℕ). n < 2 ^ 16) (sym ((left_at h budget taken i).port ∙ (came_at h taken i).port)) ((range.sockets i).port)
-port_range h (Deliver side k padding) taken i range event = (range.sockets i).port
+port_range h (Poll side moment budget) contents i range event =
+    subst (λ (n : ℕ). n < 2 ^ 16) (sym ((left_at h budget contents i).port ∙ (came_at h contents i).port)) ((range.sockets i).port)
+port_range h (Deliver side k padding) contents i range event = (range.sockets i).port
 
 -- an accepted datagram goes to a remote endpoint in range
 queue_range :
-    (h : HostValue) (event : Event) (taken : List (List ℕ)) (i : ℕ) → IsInRange h → IsEventInRange event →
-    (d : DatagramValue) → d ∈ (socket_at (host_after h event taken) i).queued → IsRemote d.remote
-queue_range h event taken i range in_range d member =
-    elim (queued_law h event taken i d member) [
+    (h : HostValue) (event : Event) (contents : List (Option Packet)) (i : ℕ) → IsInRange h → IsEventInRange event →
+    (d : DatagramValue) → d ∈ (socket_at (host_after h event contents) i).queued → IsRemote d.remote
+queue_range h event contents i range in_range d member =
+    elim (queued_law h event [] contents i d member) [
       | inl old ↦ (range.sockets i).queued d old
       | inr accepted ↦
           let numbers : IsEventInRange (SendTo accepted.side i d.remote d.bytes) = subst IsEventInRange accepted.sends in_range in
@@ -234,10 +240,10 @@ queue_range h event taken i range in_range d member =
     ]
 
 pub range_law : RangeLaw
-range_law h event taken range in_range =
+range_law h event contents range in_range =
     record {
-      address = ap (λ (bytes : List ℕ). length bytes) (same_law h event taken).address ∙ range.address;
-      sockets = λ i. record { port = port_range h event taken i range in_range; queued = queue_range h event taken i range in_range };
+      address = subst IsIpv4Address (sym (same_law h event contents).address) range.address;
+      sockets = λ i. record { port = port_range h event contents i range in_range; queued = queue_range h event contents i range in_range };
     }
 
 -- a place where a host has no socket is in range
@@ -267,37 +273,62 @@ arrivals_law = arrived_queues
 
 -- FRAMES AND PACKETS
 
+pub content_law : ContentLaw
+content_law = one_content
+
+pub step_law : StepLaw
+step_law h turn other next after event taken one also =
+    let contents : one.contents ≡ also.contents = one_list turn.taken one.contents also.contents one.reads (subst (λ (frames : List (List ℕ)). AreContents frames also.contents) (sym taken) also.reads) in (
+      one.answers ∙ ap (λ (e : Event). answer_of h e turn.taken) event ∙ ap (answer_of h other.event) taken ∙ sym also.answers,
+      one.sends ∙ ap (λ (e : Event). frames_of h e one.contents) event ∙ ap (frames_of h other.event) contents ∙ sym also.sends,
+      one.becomes ∙ ap (λ (e : Event). host_after h e one.contents) event ∙ ap (host_after h other.event) contents ∙ sym also.becomes,
+    )
+
 pub padded_law : PaddedLaw
 padded_law = padded
 
--- a queued datagram that the device takes can be spelled
+-- a datagram that goes to an address fits, and the address is its own
+goes_by : (b : Bool) (a : IpAddress) (destination : Ipv4Address) → cond b (ipv4_address a) None ≡ Some destination → (b ≡ true) × (a ≡ Address.Ipv4 destination)
+goes_by true (Address.Ipv4 a) destination e = let same : a ≡ destination = cc in (refl, ap (λ (x : Ipv4Address). Address.Ipv4 x) same)
+goes_by true (Address.Ipv6 a) destination e = cc
+goes_by false a destination e = cc
+
+-- a queued datagram that goes out can be spelled
 spellable :
-    (h : HostValue) (i : ℕ) (d : DatagramValue) → IsInRange h → d ∈ (socket_at h i).queued → fits h.mtu d ≡ true →
-    IsSpellable (packet_from h.address (socket_at h i) d)
-spellable h i d range member fitting =
+    (h : HostValue) (i : ℕ) (d : DatagramValue) (destination : Ipv4Address) → IsInRange h → d ∈ (socket_at h i).queued →
+    goes_to h.mtu d ≡ Some destination → IsSpellable (packet_from h.address (socket_at h i).port d destination)
+spellable h i d destination range member goes =
     let remote = (range.sockets i).queued d member in
-    let parts = and_parts (nat_le (28 + length d.bytes) h.mtu) (nat_lt (28 + length d.bytes) (2 ^ 16)) fitting in
+    let where_to = goes_by (fits h.mtu d) d.remote.addr destination goes in
+    let parts = and_parts (nat_le (28 + length d.bytes) h.mtu) (nat_lt (28 + length d.bytes) (2 ^ 16)) where_to.0 in
     record {
-      source = range.address;
-      destination = remote.address;
-      source_port = (range.sockets i).port;
-      destination_port = remote.port;
-      specified = remote.specified;
-      short = ltb-true _ _ parts.1;
+      header = record {
+        source = range.address;
+        destination = subst IsIpAddress where_to.1 remote.address;
+        protocol = omega arith;
+        hops = omega arith;
+      };
+      protocol = refl;
+      payload = refl;
+      short = omega (arith, ltb-true _ _ parts.1);
+      ports = record { source_port = (range.sockets i).port; destination_port = remote.port; nonzero = remote.specified };
     }
 
 pub sent_law : SentLaw
-sent_law h event taken frame range member =
-    let q = frames_law h event taken frame member in
+sent_law h event contents frame range member =
+    let q = frames_law h event contents frame member in
+    let packet : Packet = packet_from h.address (socket_at h q.place).port q.datagram q.destination in
     record {
       place = q.place;
       datagram = q.datagram;
+      destination = q.destination;
       queued = q.queued;
-      carries = λ padding. subst (λ (bytes : List ℕ). packet_of (bytes ++ padding) ≡ Some (packet_from h.address (socket_at h q.place) q.datagram)) (sym q.spells)
-          (padded (packet_from h.address (socket_at h q.place) q.datagram) padding (spellable h q.place q.datagram range q.queued q.fitting));
+      to = (goes_by (fits h.mtu q.datagram) q.datagram.remote.addr q.destination q.goes).1;
+      carries = λ padding. subst (λ (bytes : List ℕ). Carries (bytes ++ padding) packet) (sym q.spells)
+          (padded packet padding (spellable h q.place q.datagram q.destination range q.queued q.goes));
     }
 
 -- A WORKED EXAMPLE
 
 pub example_law : ExampleLaw
-example_law = record { spelled = refl; padded = refl; unchecked = refl; changed = refl; first_fragment = refl; later_fragment = refl; other_protocol = refl }
+example_law = example

@@ -1,12 +1,13 @@
 -- What passes over the sockets send and leave.
-use Rattle.std.proofs.Common.{◌≡◌, ℕ, zero, suc, ◌≤◌, Bool, true, false, cond, List, [], ◌∷◌, length, get_or, inl, inr, refl, sym, ◌∙◌, ap, subst, arith}
+use Rattle.std.proofs.Common.{◌≡◌, ℕ, zero, suc, ◌≤◌, false, List, [], ◌∷◌, length, get_or, Option, Some, None, inl, inr, refl, sym, ◌∙◌, ap, subst, arith}
 use Rattle.std.specs.List.{list_any}
 use Rattle.std.specs.Prelude.{nat_lt}
 use Rattle.std.proofs.lemmas.Bool.{ltb-false, or_parts}
+use Rattle.ip_wire.specs.Ipv4Address.{Ipv4Address}
 use Rattle.lan_machine.specs.Members.{◌∈◌}
 use Rattle.lan_machine.specs.Values.{DatagramValue, SocketValue, no_socket}
-use Rattle.lan_machine.specs.Packet.{Packet, spelling}
-use Rattle.lan_machine.specs.Machine.{without_first, fits, packet_from, offered, offer_after, pass_frames, pass_after, passes_frames, passes_after, has_queued}
+use Rattle.lan_machine.specs.Packet.{spelling}
+use Rattle.lan_machine.specs.Machine.{without_first, packet_from, goes_to, frames_to, offered, offer_after, pass_frames, pass_after, passes_frames, passes_after, has_queued}
 use Rattle.lan_machine.specs.Laws.{IsQueuedFrame}
 use Rattle.lan_machine.proofs.Members.{member_of_append}
 
@@ -41,63 +42,64 @@ sent_at (suc n) ss i = both_send _ _ _ (one_pass _ _ (passed_at ss i)) (sent_at 
 
 -- WHAT IS SENT
 
--- `packet_from` looks at the socket's port alone
-abbrev pub packet_at : List ℕ → ℕ → DatagramValue → Packet
-packet_at address port d = record { source = address; destination = d.remote.address; source_port = port; destination_port = d.remote.port; payload = d.bytes }
-
 -- the frame spells a datagram of this queue
-abbrev SpellsOneOf : List ℕ → ℕ → List ℕ → SocketValue → List DatagramValue → Type 0
-SpellsOneOf address mtu frame s queue = (d : DatagramValue) × (d ∈ queue) × (fits mtu d ≡ true) × (frame ≡ spelling (packet_from address s d))
+record SpellsOneOf (address : Ipv4Address) (mtu : ℕ) (frame : List ℕ) (port : ℕ) (queue : List DatagramValue) : Type 0 where
+  datagram : DatagramValue
+  destination : Ipv4Address
+  queued : datagram ∈ queue
+  goes : goes_to mtu datagram ≡ Some destination
+  spells : frame ≡ spelling (packet_from address port datagram destination)
 
-module _ (address : List ℕ) (mtu : ℕ) (frame : List ℕ) where
+module _ (address : Ipv4Address) (mtu : ℕ) (frame : List ℕ) where
   offered_by :
-      (s : SocketValue) (d : DatagramValue) (ds : List DatagramValue) (b : Bool) → fits mtu d ≡ b →
-      frame ∈ cond b (spelling (packet_from address s d) ∷ []) [] → SpellsOneOf address mtu frame s (d ∷ ds)
-  offered_by s d ds true fitting (inl same) = (d, inl refl, fitting, same)
-  offered_by s d ds true fitting (inr none) = absurd none
-  offered_by s d ds false fitting none = absurd none
+      (port : ℕ) (d : DatagramValue) (ds : List DatagramValue) (to : Option Ipv4Address) → goes_to mtu d ≡ to →
+      frame ∈ frames_to to address port d → SpellsOneOf address mtu frame port (d ∷ ds)
+  offered_by port d ds None goes none = absurd none
+  offered_by port d ds (Some destination) goes (inl same) = record { datagram = d; destination = destination; queued = inl refl; goes = goes; spells = same }
+  offered_by port d ds (Some destination) goes (inr none) = absurd none
 
   offered_from :
-      (s : SocketValue) (queue : List DatagramValue) → frame ∈ offered address mtu s queue →
-      SpellsOneOf address mtu frame s queue
-  offered_from s [] none = absurd none
-  offered_from s (d ∷ ds) member = offered_by s d ds (fits mtu d) refl member
+      (port : ℕ) (queue : List DatagramValue) → frame ∈ offered address mtu port queue →
+      SpellsOneOf address mtu frame port queue
+  offered_from port [] none = absurd none
+  offered_from port (d ∷ ds) member = offered_by port d ds (goes_to mtu d) refl member
 
   one_place_on :
       (s : SocketValue) (ss : List SocketValue) → IsQueuedFrame address mtu ss frame →
       IsQueuedFrame address mtu (s ∷ ss) frame
-  one_place_on s ss q = record { place = suc q.place; datagram = q.datagram; queued = q.queued; fitting = q.fitting; spells = q.spells }
+  one_place_on s ss q = record { place = suc q.place; datagram = q.datagram; destination = q.destination; queued = q.queued; goes = q.goes; spells = q.spells }
 
   first_place :
-      (s : SocketValue) (ss : List SocketValue) → SpellsOneOf address mtu frame s s.queued →
+      (s : SocketValue) (ss : List SocketValue) → SpellsOneOf address mtu frame s.port s.queued →
       IsQueuedFrame address mtu (s ∷ ss) frame
-  first_place s ss found = record { place = zero; datagram = found.0; queued = found.1; fitting = found.2; spells = found.3 }
+  first_place s ss found = record { place = zero; datagram = found.datagram; destination = found.destination; queued = found.queued; goes = found.goes; spells = found.spells }
 
   pass_from : (ss : List SocketValue) → frame ∈ pass_frames address mtu ss → IsQueuedFrame address mtu ss frame
   pass_from [] none = absurd none
   pass_from (s ∷ ss) member =
-      elim (member_of_append frame (offered address mtu s s.queued) (pass_frames address mtu ss) member) [
-        | inl here ↦ first_place s ss (offered_from s s.queued here)
+      elim (member_of_append frame (offered address mtu s.port s.queued) (pass_frames address mtu ss) member) [
+        | inl here ↦ first_place s ss (offered_from s.port s.queued here)
         | inr there ↦ one_place_on s ss (pass_from ss there)
       ]
 
   -- a datagram that was queued after a pass was queued before it
   queued_before :
-      (ss : List SocketValue) (place : ℕ) (d : DatagramValue) (t : SocketValue) →
-      t ≡ offer_after (get_or ss place no_socket) → d ∈ t.queued → fits mtu d ≡ true →
-      frame ≡ spelling (packet_from address t d) → IsQueuedFrame address mtu ss frame
-  queued_before ss place d t is queued fitting spells =
+      (ss : List SocketValue) (place : ℕ) (d : DatagramValue) (destination : Ipv4Address) (t : SocketValue) →
+      t ≡ offer_after (get_or ss place no_socket) → d ∈ t.queued → goes_to mtu d ≡ Some destination →
+      frame ≡ spelling (packet_from address t.port d destination) → IsQueuedFrame address mtu ss frame
+  queued_before ss place d destination t is queued goes spells =
       let sends = one_pass (get_or ss place no_socket) t is in
       record {
         place = place;
         datagram = d;
+        destination = destination;
         queued = sends.queued d queued;
-        fitting = fitting;
-        spells = spells ∙ ap (λ (port : ℕ). spelling (packet_at address port d)) sends.port;
+        goes = goes;
+        spells = spells ∙ ap (λ (port : ℕ). spelling (packet_from address port d destination)) sends.port;
       }
 
   before_pass : (ss : List SocketValue) → IsQueuedFrame address mtu (pass_after ss) frame → IsQueuedFrame address mtu ss frame
-  before_pass ss q = queued_before ss q.place q.datagram (get_or (pass_after ss) q.place no_socket) (passed_at ss q.place) q.queued q.fitting q.spells
+  before_pass ss q = queued_before ss q.place q.datagram q.destination (get_or (pass_after ss) q.place no_socket) (passed_at ss q.place) q.queued q.goes q.spells
 
   pub passes_from :
       (budget : ℕ) (ss : List SocketValue) → frame ∈ passes_frames address mtu budget ss →
@@ -123,21 +125,21 @@ idle_socket : (s : SocketValue) → has_queued s ≡ false → offer_after s ≡
 idle_socket s e = ap (λ (queue : List DatagramValue). record s { queued = queue }) (same_rest s.queued (nothing_queued s.queued e))
 
 idle_offer :
-    (address : List ℕ) (mtu : ℕ) (s : SocketValue) (queue : List DatagramValue) → queue ≡ [] →
-    offered address mtu s queue ≡ []
-idle_offer address mtu s queue e = rw e refl
+    (address : Ipv4Address) (mtu port : ℕ) (queue : List DatagramValue) → queue ≡ [] →
+    offered address mtu port queue ≡ []
+idle_offer address mtu port queue e = rw e refl
 
 pub idle_pass :
-    (address : List ℕ) (mtu : ℕ) (ss : List SocketValue) → list_any has_queued ss ≡ false →
+    (address : Ipv4Address) (mtu : ℕ) (ss : List SocketValue) → list_any has_queued ss ≡ false →
     (pass_frames address mtu ss ≡ []) × (pass_after ss ≡ ss)
 idle_pass address mtu [] e = (refl, refl)
 idle_pass address mtu (s ∷ ss) e =
     let parts = or_parts (has_queued s) (list_any has_queued ss) e in
     let rest = idle_pass address mtu ss parts.1 in
-    (rw (idle_offer address mtu s s.queued (nothing_queued s.queued parts.0)) rest.0, rw (idle_socket s parts.0, rest.1) refl)
+    (rw (idle_offer address mtu s.port s.queued (nothing_queued s.queued parts.0)) rest.0, rw (idle_socket s parts.0, rest.1) refl)
 
 pub idle_passes :
-    (address : List ℕ) (mtu budget : ℕ) (ss : List SocketValue) → list_any has_queued ss ≡ false →
+    (address : Ipv4Address) (mtu budget : ℕ) (ss : List SocketValue) → list_any has_queued ss ≡ false →
     (passes_frames address mtu budget ss ≡ []) × (passes_after budget ss ≡ ss)
 idle_passes address mtu zero ss e = (refl, refl)
 idle_passes address mtu (suc n) ss e =

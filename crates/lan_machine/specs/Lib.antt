@@ -2,6 +2,5 @@ pub mod Values
 pub mod Packet
 pub mod Machine
 pub mod Steps
-pub mod Texts
 pub mod Members
 pub mod Laws

@@ -1,15 +1,19 @@
 -- The host machine: what a host answers, sends and becomes at each event.
-use Rattle.std.specs.Prelude.{ℕ, zero, suc, ◌+◌, ◌^◌, Bool, ◌&&◌, ◌||◌, nat_le, nat_lt, ◌==◌, if◌then◌else◌, List, [], ◌∷◌, ◌++◌, length, take, slice_set, Option, Some, None}
+use Rattle.std.specs.Prelude.{ℕ, zero, suc, ◌+◌, ◌^◌, Bool, ◌&&◌, ◌||◌, nat_le, nat_lt, ◌==◌, if◌then◌else◌, List, [], ◌∷◌, ◌++◌, length, take, replicate, slice_set, Option, Some, None}
 use Rattle.std.specs.List.{list_any}
 use Rattle.std.specs.Str.{bytes_eq}
-use Rattle.lan_machine.specs.declared.event.Endpoint.{Endpoint}
+use Rattle.ip_wire.specs.IpAddress.{IpAddress}
+use Rattle.ip_wire.specs.IpAddress.TheVariants as Address
+use Rattle.ip_wire.specs.IpProtocol.TheVariants as Protocol
+use Rattle.ip_wire.specs.IpEndpoint.{IpEndpoint}
+use Rattle.ip_wire.specs.Ipv4Address.{Ipv4Address}
 use Rattle.lan_machine.specs.declared.event.Event.{Event}
 use Rattle.lan_machine.specs.declared.event.Event.TheVariants.{Bind, SendTo, RecvFrom, Poll, Deliver}
 use Rattle.lan_machine.specs.declared.event.Answer.{Answer}
 use Rattle.lan_machine.specs.declared.event.Answer.TheVariants.{Done, FromEndpoint, Poll as Polled, Error}
 use Rattle.lan_machine.specs.declared.event.Fault.TheVariants.{InvalidState, Unaddressable, BufferFull, Exhausted, Truncated}
 use Rattle.lan_machine.specs.Values.{DatagramValue, SocketValue, HostValue, is_full, socket_at}
-use Rattle.lan_machine.specs.Packet.{Packet, packet_of, spelling}
+use Rattle.lan_machine.specs.Packet.{Packet, spelling}
 
 -- BIND
 
@@ -21,17 +25,22 @@ bind_after s port = if s.port == 0 then record s { port = port } else s
 
 -- SEND
 
--- a datagram cannot be addressed from an unbound socket, nor to port 0 or to 0.0.0.0
-abbrev pub is_unaddressable : SocketValue → Endpoint → Bool
-is_unaddressable s remote = (s.port == 0) || (remote.port == 0) || bytes_eq remote.address (0 ∷ 0 ∷ 0 ∷ 0 ∷ [])
+-- 0.0.0.0 and ::
+abbrev pub is_unspecified : IpAddress → Bool
+is_unspecified (Address.Ipv4 a) = bytes_eq a.0 (replicate 4 0)
+is_unspecified (Address.Ipv6 a) = bytes_eq a.0 (replicate 16 0)
 
-abbrev pub send_answer : SocketValue → Endpoint → List ℕ → Answer
+-- a datagram cannot be addressed from an unbound socket, nor to port 0 or to the unspecified address
+abbrev pub is_unaddressable : SocketValue → IpEndpoint → Bool
+is_unaddressable s remote = (s.port == 0) || (remote.port == 0) || is_unspecified remote.addr
+
+abbrev pub send_answer : SocketValue → IpEndpoint → List ℕ → Answer
 send_answer s remote bytes =
     if is_unaddressable s remote then Error Unaddressable
     else if is_full s.send_packets s.send_bytes s.queued (length bytes) then Error BufferFull
     else Done
 
-abbrev pub send_after : SocketValue → Endpoint → List ℕ → SocketValue
+abbrev pub send_after : SocketValue → IpEndpoint → List ℕ → SocketValue
 send_after s remote bytes =
     if is_unaddressable s remote || is_full s.send_packets s.send_bytes s.queued (length bytes) then s
     else record s { queued = s.queued ++ record { remote = remote; bytes = bytes } ∷ [] }
@@ -59,61 +68,79 @@ take_in s d =
     else record s { received = s.received ++ d ∷ [] }
 
 abbrev pub datagram_of : Packet → DatagramValue
-datagram_of p = record { remote = record { address = p.source; port = p.source_port }; bytes = p.payload }
+datagram_of p = record { remote = record { addr = Address.Ipv4 p.ip.src_addr; port = p.udp.src_port }; bytes = p.payload }
 
 -- the first socket that is bound to the packet's destination port takes it
 abbrev pub deliver : Packet → List SocketValue → List SocketValue
 deliver p [] = []
-deliver p (s ∷ ss) = if s.port == p.destination_port then take_in s (datagram_of p) ∷ ss else s ∷ deliver p ss
+deliver p (s ∷ ss) = if s.port == p.udp.dst_port then take_in s (datagram_of p) ∷ ss else s ∷ deliver p ss
 
 -- a packet to another address is dropped
-abbrev pub deliver_own : List ℕ → Packet → List SocketValue → List SocketValue
-deliver_own address p ss = if bytes_eq p.destination address then deliver p ss else ss
+abbrev pub deliver_own : Ipv4Address → Packet → List SocketValue → List SocketValue
+deliver_own address p ss = if bytes_eq p.ip.dst_addr.0 address.0 then deliver p ss else ss
 
--- what carries no datagram is dropped
-abbrev pub deliver_if : List ℕ → Option Packet → List SocketValue → List SocketValue
+-- a frame without such a packet is dropped
+abbrev pub deliver_if : Ipv4Address → Option Packet → List SocketValue → List SocketValue
 deliver_if address None ss = ss
 deliver_if address (Some p) ss = deliver_own address p ss
 
--- the sockets of the host of this address after these frames have arrived
-abbrev pub arrivals : List ℕ → List (List ℕ) → List SocketValue → List SocketValue
+-- the sockets of the host of this address after frames of these contents have arrived
+abbrev pub arrivals : Ipv4Address → List (Option Packet) → List SocketValue → List SocketValue
 arrivals address [] ss = ss
-arrivals address (frame ∷ frames) ss = arrivals address frames (deliver_if address (packet_of frame) ss)
+arrivals address (content ∷ contents) ss = arrivals address contents (deliver_if address content ss)
 
 -- EGRESS
 
--- a datagram goes where its packet is no longer than the device takes and than the length fields can say
+-- a datagram's packet is no longer than the device takes and than the length fields can say
 abbrev pub fits : ℕ → DatagramValue → Bool
 fits mtu d = nat_le (28 + length d.bytes) mtu && nat_lt (28 + length d.bytes) (2 ^ 16)
 
-abbrev pub packet_from : List ℕ → SocketValue → DatagramValue → Packet
-packet_from address s d =
+abbrev pub ipv4_address : IpAddress → Option Ipv4Address
+ipv4_address (Address.Ipv4 a) = Some a
+ipv4_address (Address.Ipv6 a) = None
+
+-- the IPv4 address that a datagram goes to; one that doesn't fit or is for an IPv6 address is dropped
+abbrev pub goes_to : ℕ → DatagramValue → Option Ipv4Address
+goes_to mtu d = if fits mtu d then ipv4_address d.remote.addr else None
+
+-- the packet that takes a datagram from this address and port to the other address
+abbrev pub packet_from : Ipv4Address → ℕ → DatagramValue → Ipv4Address → Packet
+packet_from address port d destination =
     record {
-      source = address;
-      destination = d.remote.address;
-      source_port = s.port;
-      destination_port = d.remote.port;
+      ip = record {
+        src_addr = address;
+        dst_addr = destination;
+        next_header = Protocol.Udp;
+        payload_len = 8 + length d.bytes;
+        hop_limit = 64;
+      };
+      udp = record { src_port = port; dst_port = d.remote.port };
       payload = d.bytes;
     }
 
--- the frames of one offer of a socket: that of its first queued datagram, unless this is dropped
-abbrev pub offered : List ℕ → ℕ → SocketValue → List DatagramValue → List (List ℕ)
-offered address mtu s [] = []
-offered address mtu s (d ∷ ds) = if fits mtu d then spelling (packet_from address s d) ∷ [] else []
+-- the frames of a datagram that goes to this address, if it isn't dropped
+abbrev pub frames_to : Option Ipv4Address → Ipv4Address → ℕ → DatagramValue → List (List ℕ)
+frames_to None address port d = []
+frames_to (Some destination) address port d = spelling (packet_from address port d destination) ∷ []
+
+-- the frames of one offer of a socket of this port: that of its first queued datagram, unless this is dropped
+abbrev pub offered : Ipv4Address → ℕ → ℕ → List DatagramValue → List (List ℕ)
+offered address mtu port [] = []
+offered address mtu port (d ∷ ds) = frames_to (goes_to mtu d) address port d
 
 abbrev pub offer_after : SocketValue → SocketValue
 offer_after s = record s { queued = without_first s.queued }
 
 -- one pass offers one datagram of each socket, in order
-abbrev pub pass_frames : List ℕ → ℕ → List SocketValue → List (List ℕ)
+abbrev pub pass_frames : Ipv4Address → ℕ → List SocketValue → List (List ℕ)
 pass_frames address mtu [] = []
-pass_frames address mtu (s ∷ ss) = offered address mtu s s.queued ++ pass_frames address mtu ss
+pass_frames address mtu (s ∷ ss) = offered address mtu s.port s.queued ++ pass_frames address mtu ss
 
 abbrev pub pass_after : List SocketValue → List SocketValue
 pass_after [] = []
 pass_after (s ∷ ss) = offer_after s ∷ pass_after ss
 
-abbrev pub passes_frames : List ℕ → ℕ → ℕ → List SocketValue → List (List ℕ)
+abbrev pub passes_frames : Ipv4Address → ℕ → ℕ → List SocketValue → List (List ℕ)
 passes_frames address mtu zero ss = []
 passes_frames address mtu (suc n) ss = pass_frames address mtu ss ++ passes_frames address mtu n (pass_after ss)
 
@@ -146,19 +173,19 @@ answer_of h (Poll side moment budget) taken =
     Polled (nat_lt 0 (length taken) || (nat_lt 0 budget && list_any has_queued h.sockets))
 answer_of h (Deliver side k padding) taken = Done
 
--- what the host is then
-abbrev pub host_after : HostValue → Event → List (List ℕ) → HostValue
-host_after h (Bind side i port) taken = with_socket h i (bind_after (socket_at h i) port)
-host_after h (SendTo side i remote bytes) taken = with_socket h i (send_after (socket_at h i) remote bytes)
-host_after h (RecvFrom side i limit) taken = with_socket h i (recv_after (socket_at h i))
-host_after h (Poll side moment budget) taken =
-    record h { moment = moment; sockets = passes_after budget (arrivals h.address taken h.sockets) }
-host_after h (Deliver side k padding) taken = h
+-- what the host is after an event that takes frames of these contents
+abbrev pub host_after : HostValue → Event → List (Option Packet) → HostValue
+host_after h (Bind side i port) contents = with_socket h i (bind_after (socket_at h i) port)
+host_after h (SendTo side i remote bytes) contents = with_socket h i (send_after (socket_at h i) remote bytes)
+host_after h (RecvFrom side i limit) contents = with_socket h i (recv_after (socket_at h i))
+host_after h (Poll side moment budget) contents =
+    record h { moment = moment; sockets = passes_after budget (arrivals h.address contents h.sockets) }
+host_after h (Deliver side k padding) contents = h
 
 -- the frames that it sends
-abbrev pub frames_of : HostValue → Event → List (List ℕ) → List (List ℕ)
-frames_of h (Bind side i port) taken = []
-frames_of h (SendTo side i remote bytes) taken = []
-frames_of h (RecvFrom side i limit) taken = []
-frames_of h (Poll side moment budget) taken = passes_frames h.address h.mtu budget (arrivals h.address taken h.sockets)
-frames_of h (Deliver side k padding) taken = []
+abbrev pub frames_of : HostValue → Event → List (Option Packet) → List (List ℕ)
+frames_of h (Bind side i port) contents = []
+frames_of h (SendTo side i remote bytes) contents = []
+frames_of h (RecvFrom side i limit) contents = []
+frames_of h (Poll side moment budget) contents = passes_frames h.address h.mtu budget (arrivals h.address contents h.sockets)
+frames_of h (Deliver side k padding) contents = []

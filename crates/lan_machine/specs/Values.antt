@@ -1,10 +1,11 @@
 -- A host as a value: its address, its sockets with their queues, and the moment of its last poll.
 use Rattle.std.specs.Prelude.{ℕ, ℤ, ◌+◌, List, [], ◌∷◌, length, Bool, ◌||◌, nat_lt, slice_index_or}
-use Rattle.lan_machine.specs.declared.event.Endpoint.{Endpoint}
+use Rattle.ip_wire.specs.IpEndpoint.{IpEndpoint}
+use Rattle.ip_wire.specs.Ipv4Address.{Ipv4Address}
 
 -- a datagram in a queue: its remote endpoint and its payload
 pub record DatagramValue : Type 0 where
-  pub remote : Endpoint
+  pub remote : IpEndpoint
   pub bytes : List ℕ
 
 -- a UDP socket (RFC 768): its local port, 0 while it is unbound; the datagrams that wait to be read
@@ -19,7 +20,7 @@ pub record SocketValue : Type 0 where
   pub send_bytes : ℕ
 
 pub record HostValue : Type 0 where
-  pub address : List ℕ
+  pub address : Ipv4Address
   pub mtu : ℕ  -- the longest IP packet that its device takes
   pub moment : ℤ  -- of its last poll, in microseconds; 0 at first
   pub sockets : List SocketValue

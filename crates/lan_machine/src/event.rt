@@ -1,6 +1,6 @@
 use crate::bytes::Bytes;
+use ip_wire::IpEndpoint;
 use net_time::Instant;
-use std::fmt;
 use thiserror::Error;
 
 /// One of the two hosts.
@@ -10,25 +10,6 @@ pub enum Side {
     B,
 }
 
-/// An IPv4 address and a port: where a datagram goes, or came from.
-#[derive(Clone, Copy, Debug, PartialEq, Eq, Drop)]
-pub struct Endpoint {
-    pub address: [u8; 4],
-    pub port: u16,
-}
-
-impl fmt::Display for Endpoint {
-    ghost use Rattle.std.specs.Prelude.{Some};
-    ghost use Rattle.lan_machine.specs.Texts.{endpoint_text};
-
-    ghost output = { λ e. Some (endpoint_text e) };
-
-    fn fmt<W: fmt::Write>(&self, f: &mut fmt::Formatter<W>) -> fmt::Result {
-        let [a, b, c, d] = self.address;
-        write!(f, "{a}.{b}.{c}.{d}:{}", self.port)
-    }
-}
-
 /// What happens to a world: a call of an application on a host's socket, a poll of a host, or a
 /// delivery by the link. A socket is named by its place in its host's list.
 #[derive(Debug, Drop)]
@@ -36,7 +17,7 @@ pub enum Event {
     /// Binds a UDP socket to a local port.
     Bind(Side, usize, u16),
     /// Queues a datagram for an endpoint.
-    SendTo(Side, usize, Endpoint, Bytes),
+    SendTo(Side, usize, IpEndpoint, Bytes),
     /// Reads one datagram of at most so many bytes.
     RecvFrom(Side, usize, usize),
     /// Polls a host at a moment, with a budget of frames taken and of passes over the sockets.
@@ -51,7 +32,7 @@ pub enum Event {
 pub enum Answer {
     Done,
     /// A datagram, and the endpoint that it came from.
-    FromEndpoint(Endpoint, Bytes),
+    FromEndpoint(IpEndpoint, Bytes),
     /// Of a poll: whether a frame was taken or a datagram left its queue.
     Poll(bool),
     /// The call's own refusal.

@@ -1,10 +1,12 @@
 //! The laws of the host machine. Each is a function that does nothing, whose clause is the law: its
 //! statement stands in `specs/Laws.antt`, and the lemma that a proof of a crate above applies in
 //! `proofs/MachineLaws.antt`.
-ghost use Rattle.std.specs.Prelude.{◌≡◌, ◌<◌, ◌^◌, length};
-ghost use Rattle.lan_machine.specs.Laws.{IsEventInRange, ReadLaw, QueuedLaw, ReceivedLaw, FramesLaw, PortLaw, SameLaw, RangeLaw, UnusedLaw, IdleLaw, ArrivalsLaw, PaddedLaw, SentLaw, ExampleLaw};
+ghost use Rattle.std.specs.Prelude.{◌<◌, ◌^◌};
+ghost use Rattle.ip_wire.specs.Address.{IsIpv4Address, IsIpv6Address, IsIpAddress};
+ghost use Rattle.lan_machine.specs.Laws.{IsEventInRange, ReadLaw, QueuedLaw, ReceivedLaw, FramesLaw, PortLaw, SameLaw, RangeLaw, UnusedLaw, IdleLaw, ArrivalsLaw, ContentLaw, StepLaw, PaddedLaw, SentLaw, ExampleLaw};
 
-use crate::event::{Endpoint, Event};
+use crate::event::Event;
+use ip_wire::{IpAddress, IpEndpoint, Ipv4Address, Ipv6Address};
 
 /// The numbers of an event are those of its types: where a host takes an event, a call of this
 /// gives what `RangeLaw` asks of it.
@@ -20,11 +22,30 @@ pub fn in_range(event: &Event)
     }
 }
 
-/// An endpoint's address has four bytes, and its port 16 bits.
-pub fn endpoint_in_range(endpoint: Endpoint)
-    ensures address { length endpoint.address ≡ 4 }
+/// An endpoint's address has the bytes of its family, and its port 16 bits.
+pub fn endpoint_in_range(endpoint: IpEndpoint)
+    ensures address { IsIpAddress endpoint.addr }
     ensures port { endpoint.port < 2 ^ 16 }
-{}
+{
+    match endpoint.addr {
+        IpAddress::Ipv4(address) => ipv4_in_range(address),
+        IpAddress::Ipv6(address) => ipv6_in_range(address),
+    }
+}
+
+/// An IPv4 address has four bytes.
+pub fn ipv4_in_range(address: Ipv4Address)
+    ensures { IsIpv4Address address }
+{
+    let _octets = address.0;
+}
+
+/// An IPv6 address has sixteen bytes.
+pub fn ipv6_in_range(address: Ipv6Address)
+    ensures { IsIpv6Address address }
+{
+    let _octets = address.0;
+}
 
 /// What a socket reads had been received by it.
 pub fn reads()
@@ -74,6 +95,12 @@ pub fn idles()
 /// An arrival leaves what is queued to be sent.
 pub fn arrives()
     ensures { ArrivalsLaw }
+{}
+
+/// A frame carries one packet, or none, and so the frames that a host takes determine its step.
+pub fn determines()
+    ensures content { ContentLaw }
+    ensures step { StepLaw }
 {}
 
 /// A frame that spells a packet carries it, whatever padding is behind it.

@@ -1,8 +1,11 @@
 //! The lines of a script.
 ghost use Rattle.std.specs.Prelude.{◌≡◌, None, Some, Err, IfOk, IsSome};
-ghost use Rattle.lan.specs.ScriptLines.{line_of, line_of_words, event_of, world_of, socket_of, sizes_of, within, SaysEvent};
-ghost use Rattle.lan.specs.ScriptWords.{two, three, four, side_of, size_of, short_of, micros_of, bytes_of, endpoint_of};
-ghost use Rattle.lan_machine.specs.declared.event.Event.TheVariants.{Bind, SendTo, RecvFrom, Poll, Deliver};
+ghost use Rattle.lan.specs.ScriptLines.{Said, SaysLine, SaysWords, SaysEvent, IsSendTo, world_of, socket_of, sizes_of, within};
+ghost use Rattle.lan.specs.ScriptWords.{two, three, four, side_of, size_of, short_of, micros_of, bytes_of};
+ghost use Rattle.lan_machine.specs.declared.event.Event.{Event};
+ghost use Rattle.lan_machine.specs.declared.event.Event.TheVariants.{Bind, RecvFrom, Poll, Deliver};
+ghost use Rattle.lan.specs.declared.script.line.Line.{Line};
+ghost use Rattle.lan.specs.declared.script.line.Line.TheVariants.{Event as Happening};
 ghost use Rattle.lan.specs.declared.script.line.LineError.TheVariants.{Outside, Memory};
 
 use super::words::Words;
@@ -56,9 +59,9 @@ impl From<AllocError> for LineError {
 impl Line {
     /// What a line says, without the byte 0a that ends it.
     pub fn read(alloc: Global, text: &[u8]) -> Result<Line, LineError>
-        ensures found { IfOk result (λ line. line_of text.now ≡ Some line) }
-        ensures only { result ≡ Err Outside → line_of text.now ≡ None }
-        ensures memory { result ≡ Err Memory → SaysEvent (line_of text.now) }
+        ensures found { IfOk result (λ line. SaysLine text.now line) }
+        ensures only { result ≡ Err Outside → (line : Line) → SaysLine text.now line → ⊥ }
+        ensures memory { result ≡ Err Memory → (event : Event) × SaysLine text.now (Happening event) }
     {
         if !text.is_ascii() {
             return Err(LineError::Outside);
@@ -71,9 +74,9 @@ impl Line {
 }
 
 fn from_words(alloc: Global, words: &mut Words<'_>) -> Result<Line, LineError>
-    ensures found { IfOk result (λ line. line_of_words words.old ≡ Some line) }
-    ensures only { result ≡ Err Outside → line_of_words words.old ≡ None }
-    ensures memory { result ≡ Err Memory → SaysEvent (line_of_words words.old) }
+    ensures found { IfOk result (λ line. SaysWords words.old line) }
+    ensures only { result ≡ Err Outside → (line : Line) → SaysWords words.old line → ⊥ }
+    ensures memory { result ≡ Err Memory → (event : Event) × SaysWords words.old (Happening event) }
 {
     let verb = words.word().ok_or(LineError::Outside)?;
     match verb {
@@ -118,9 +121,9 @@ fn sizes(words: &mut Words<'_>) -> Result<SocketSizes, LineError>
 }
 
 fn event(alloc: Global, verb: &str, words: &mut Words<'_>) -> Result<Event, LineError>
-    ensures found { IfOk result (λ event. event_of verb.now words.old ≡ Some event) }
-    ensures only { result ≡ Err Outside → event_of verb.now words.old ≡ None }
-    ensures memory { result ≡ Err Memory → IsSome (event_of verb.now words.old) }
+    ensures found { IfOk result (λ event. SaysEvent verb.now words.old event) }
+    ensures only { result ≡ Err Outside → (event : Event) → SaysEvent verb.now words.old event → ⊥ }
+    ensures memory { result ≡ Err Memory → (event : Event) × SaysEvent verb.now words.old event }
 {
     match verb {
         "bind" => bind(words),
@@ -140,11 +143,10 @@ fn bind(words: &mut Words<'_>) -> Result<Event, LineError>
     Ok(event)
 }
 
-#[tactic(auto, using(crate::proofs::ScriptWordLemmas::four_by_steps))]
 fn send_to(alloc: Global, words: &mut Words<'_>) -> Result<Event, LineError>
-    ensures found { IfOk result (λ event. four side_of size_of endpoint_of bytes_of SendTo words.old ≡ Some event) }
-    ensures only { result ≡ Err Outside → four side_of size_of endpoint_of bytes_of SendTo words.old ≡ None }
-    ensures memory { result ≡ Err Memory → IsSome (four side_of size_of endpoint_of bytes_of SendTo words.old) }
+    ensures found { IfOk result (IsSendTo words.old) }
+    ensures only { result ≡ Err Outside → (event : Event) → IsSendTo words.old event → ⊥ }
+    ensures memory { result ≡ Err Memory → (event : Event) × IsSendTo words.old event }
 {
     let side = words.side()?;
     let socket = words.size()?;

@@ -17,6 +17,7 @@ use super::answer::{End, answer_line, push_sent};
 use super::line::{Line, LineError, SocketSizes};
 use crate::host::Host;
 use crate::world::World;
+use ip_wire::Ipv4Address;
 use lan_machine::{Event, Refused, Side};
 use net_base::{ChecksumCapabilities, DeviceCapabilities, Medium};
 use std::alloc::{AllocError, Global};
@@ -49,23 +50,30 @@ impl Model for Header {
 }
 
 impl Session {
-    ghost use Rattle.std.specs.Prelude.{◌≡◌, None, IfOk, IfErr, Option};
+    ghost use Rattle.std.specs.Prelude.{◌≡◌, None, Some, IfOk, IfErr};
     ghost use Rattle.std.specs.String.{string_bytes};
-    ghost use Rattle.lan.specs.declared.script.line.Line.{Line};
-    ghost use Rattle.lan.specs.ScriptLines.{line_of, SaysEvent};
-    ghost use Rattle.lan.specs.ScriptRuns.{end_of, Leads, Ends};
+    ghost use Rattle.lan_machine.specs.declared.event.Event.{Event};
+    ghost use Rattle.lan.specs.declared.script.line.Line.TheVariants.{Event as Happening};
+    ghost use Rattle.lan.specs.ScriptRuns.{end_of, Leads, LineLeads, LineEnds, Ends};
 
     /// Takes one line, without the byte 0a that ends it: what it leads to, and what it writes.
     pub fn take_line(self, alloc: Global, text: &[u8]) -> Result<(Session, String), End>
-        ensures allowed { IfOk result (λ r. end_of self (line_of text.now) ≡ None) }
-        ensures leads { IfOk result (λ r. Leads self (line_of text.now) (string_bytes r.1) r.0) }
-        ensures ends { IfErr result (Ends self (line_of text.now)) }
+        ensures leads { IfOk result (λ r. LineLeads self text.now (string_bytes r.1) r.0) }
+        ensures ends { IfErr result (LineEnds self text.now) }
     {
-        let line = match Line::read(alloc, text) {
-            Ok(line) => line,
-            Err(LineError::Outside) => return Err(End::BadEvent),
-            Err(LineError::Memory) => return Err(self.end_without_memory()),
-        };
+        match Line::read(alloc, text) {
+            Ok(line) => self.take(alloc, line),
+            Err(LineError::Outside) => Err(End::BadEvent),
+            Err(LineError::Memory) => Err(self.end_without_memory()),
+        }
+    }
+
+    // Takes what a line says.
+    fn take(self, alloc: Global, line: Line) -> Result<(Session, String), End>
+        ensures allowed { IfOk result (λ r. end_of self (Some line) ≡ None) }
+        ensures leads { IfOk result (λ r. Leads self (Some line) (string_bytes r.1) r.0) }
+        ensures ends { IfErr result (Ends self (Some line)) }
+    {
         match (self, line) {
             (Session::Begun, Line::World(mtu)) => {
                 Ok((Session::Header(Header::new(alloc, mtu)), String::new(alloc)))
@@ -88,7 +96,7 @@ impl Session {
 
     // How the run ends at an event that finds no memory: events are in order once the hosts run.
     fn end_without_memory(&self) -> End
-        ensures { (line : Option Line) → SaysEvent line → Ends self.now line result }
+        ensures { (event : Event) → Ends self.now (Some (Happening event)) result }
     {
         match self {
             Session::Running(_) => End::Refusal(Refused::Memory),
@@ -128,12 +136,12 @@ impl Header {
     }
 }
 
-fn address(side: Side) -> [u8; 4]
+fn address(side: Side) -> Ipv4Address
     ensures { result ≡ address side }
 {
     match side {
-        Side::A => [192, 168, 1, 1],
-        Side::B => [192, 168, 1, 2],
+        Side::A => Ipv4Address::new(192, 168, 1, 1),
+        Side::B => Ipv4Address::new(192, 168, 1, 2),
     }
 }
 

@@ -1,20 +1,21 @@
 //! The words of a line, and the classes that they come in.
-ghost use Rattle.std.specs.Prelude.{◌≡◌, ℕ, ◌^◌, ◌<◌, List, drop, slice_get, option_copied, IfOk, length, ◌==◌};
+ghost use Rattle.std.specs.Prelude.{◌≡◌, ℕ, ◌^◌, ◌<◌, List, drop, slice_get, option_copied, Ok, IfOk, IfErr, length, ◌==◌};
 ghost use Rattle.std.specs.List.{list_all};
 ghost use Rattle.std.specs.Char.{is_ascii_digit, is_ascii_hexdigit};
-ghost use Rattle.lan.specs.ScriptWords.{words_of, size_of, short_of, micros_of, side_of, bytes_of, octet_of, address_of, endpoint_of, exactly, first_as};
+ghost use Rattle.lan.specs.ScriptWords.{words_of, size_of, short_of, micros_of, side_of, bytes_of, exactly, first_as, FirstIs};
 ghost use Rattle.std.specs.Result.{is_ok};
 ghost use Rattle.hex.specs.Hex.{decode_of};
+ghost use Rattle.ip_wire.specs.IpEndpoint.{IpEndpoint};
+ghost use Rattle.ip_wire.specs.Text.{IsEndpointText};
 ghost use Rattle.lan.specs.ScriptLines.{within, at_end};
+ghost use Rattle.lan.specs.declared.script.line.LineError.TheVariants.{Outside};
 
 use super::line::LineError;
-use lan_machine::{Bytes, Endpoint, Side};
+use ip_wire::IpEndpoint;
+use lan_machine::{Bytes, Side};
 use net_base::Instant;
 use std::alloc::{AllocError, Global};
 use std::marker::Model;
-
-/// A part of a dotted address has at most so many digits.
-const OCTET_DIGITS: usize = 3;
 
 /// What is left of the words of a text, where each two have one separator between them.
 #[derive(Drop)]
@@ -127,11 +128,14 @@ impl<'a> Words<'a> {
     }
 
     /// An address and a port.
-    pub fn endpoint(&mut self) -> Result<Endpoint, LineError>
-        ensures value { result ≡ within (first_as endpoint_of self.old) }
+    pub fn endpoint(&mut self) -> Result<IpEndpoint, LineError>
+        ensures found { IfOk result (FirstIs IsEndpointText self.old) }
+        ensures only { (remote : IpEndpoint) → FirstIs IsEndpointText self.old remote → result ≡ Ok remote }
+        ensures refused { IfErr result (λ error. error ≡ Outside) }
         ensures rest { self.new ≡ drop 1 self.old }
     {
-        self.word().and_then(endpoint).ok_or(LineError::Outside)
+        let word = self.word().ok_or(LineError::Outside)?;
+        word.parse().map_err(|()| LineError::Outside)
     }
 
     /// Bytes in hex.
@@ -220,39 +224,6 @@ fn moment(word: &str) -> Option<Instant>
     } else {
         None
     }
-}
-
-fn octet(word: &str) -> Option<u8>
-    ensures { result ≡ octet_of word.now }
-{
-    if word.len() <= OCTET_DIGITS && is_digits(word) {
-        word.parse().ok()
-    } else {
-        None
-    }
-}
-
-#[tactic(auto, using(crate::proofs::ScriptWordLemmas::four_by_steps))]
-fn address(word: &str) -> Option<[u8; 4]>
-    ensures { result ≡ address_of word.now }
-{
-    let mut parts = Words::new(word, '.');
-    let a = octet(parts.word()?)?;
-    let b = octet(parts.word()?)?;
-    let c = octet(parts.word()?)?;
-    let d = octet(parts.word()?)?;
-    parts.end().ok()?;
-    Some([a, b, c, d])
-}
-
-fn endpoint(word: &str) -> Option<Endpoint>
-    ensures { result ≡ endpoint_of word.now }
-{
-    let mut parts = Words::new(word, ':');
-    let address = address(parts.word()?)?;
-    let port = short(parts.word()?)?;
-    parts.end().ok()?;
-    Some(Endpoint { address, port })
 }
 
 fn bytes(word: &str) -> Option<Hex<'_>>

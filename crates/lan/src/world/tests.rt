@@ -1,5 +1,6 @@
 use super::*;
-use lan_machine::{Endpoint, Fault};
+use ip_wire::{IpAddress, IpEndpoint, Ipv4Address};
+use lan_machine::Fault;
 use net_base::{ChecksumCapabilities, DeviceCapabilities, Instant, Medium};
 use std::process::Abort;
 use std::test::Fail;
@@ -15,7 +16,8 @@ fn capabilities(mtu: usize) -> DeviceCapabilities {
 }
 
 fn host(alloc: Global, last: u8, packets: usize) -> Result<Host, AllocError> {
-    let mut host = Host::new(alloc, [192, 168, 1, last], capabilities(1500));
+    let address = Ipv4Address::new(192, 168, 1, last);
+    let mut host = Host::new(alloc, address, capabilities(1500));
     host.add_udp_socket(packets, 64, packets, 64)?;
     Ok(host)
 }
@@ -35,10 +37,7 @@ fn poll(side: Side, micros: i64) -> Event {
 
 // Binds both sockets, queues aa0000ff at A for B's, and polls A.
 fn sent(alloc: Global) -> Result<Vec<Event>, AllocError> {
-    let remote = Endpoint {
-        address: [192, 168, 1, 2],
-        port: 53,
-    };
+    let remote = IpEndpoint::new(IpAddress::v4(192, 168, 1, 2), 53);
     let payload = bytes(alloc, &[0xaa, 0, 0, 0xff])?;
     Ok(vec![in alloc;
         Event::Bind(Side::A, 0, 48896),
@@ -54,10 +53,7 @@ fn deliver(alloc: Global, padding: &[u8]) -> Result<Event, AllocError> {
 
 // Whether the datagram was read, as B sees it.
 fn is_datagram(answer: &Answer) -> bool {
-    let from = Endpoint {
-        address: [192, 168, 1, 1],
-        port: 48896,
-    };
+    let from = IpEndpoint::new(IpAddress::v4(192, 168, 1, 1), 48896);
     match answer {
         Answer::FromEndpoint(source, content) => {
             *source == from && content.as_slice() == [0xaa, 0, 0, 0xff].as_slice()
@@ -191,8 +187,8 @@ fn runs_up_to_the_first_refusal(rt: HostRuntime) -> Result<(), Fail> {
 fn asks_for_an_mtu_in_range(rt: HostRuntime) {
     let alloc = rt.alloc();
     for (mtu, taken) in [(575, false), (576, true), (65535, true), (65536, false)] {
-        let a = Host::new(alloc, [10, 0, 0, 1], capabilities(mtu));
-        let b = Host::new(alloc, [10, 0, 0, 2], capabilities(1500));
+        let a = Host::new(alloc, Ipv4Address::new(10, 0, 0, 1), capabilities(mtu));
+        let b = Host::new(alloc, Ipv4Address::new(10, 0, 0, 2), capabilities(1500));
         match World::new(alloc, a, b) {
             Ok(_) => assert!(rt; taken, "{mtu}"),
             Err(error) => {

@@ -22,7 +22,7 @@ loop-rest-preserved g c =
         written.0 ++ string_bytes c.in-Ok.text,
         Appends-trans _ _ _ _ _ written.1 (rw (← c.as_bytes.ensures.value) c.in_ok-write_all-in-Ok.ensures.bytes),
         replay_goes_on c.args.script.now c.loop-rest.number c.loop-rest.session c.loop-rest.rest.now written.0 c.split_line.result.0.now c.split_line.result.1.now (string_bytes c.in-Ok.text) c.in-Ok.next
-            written.2 c.split_line.ensures.lines c.in-Ok.ensures.allowed c.in-Ok.ensures.leads,
+            written.2 c.split_line.ensures.lines c.in-Ok.ensures.leads,
       );
       numbered = omega (arith, c.split_line.ensures.shorter, c.loop-rest.invariant.numbered);
     }

@@ -1,5 +1,7 @@
 use Rattle.std.proofs.lemmas.Str.{IsUtf8-from_ascii}
-use Rattle.lan.proofs.ScriptLineLemmas.{line_of_ascii}
+use Rattle.lan.specs.ScriptWords.{words_of}
+use Rattle.lan.specs.ScriptLines.{SaysWords}
+use Rattle.lan.proofs.ScriptLineLemmas.{list_all_ascii, IfOk-and}
 use Rattle.lan.proofs.script.line.Line.read.Goals as goal
 
 -- ASCII is UTF-8
@@ -9,8 +11,9 @@ returns-in_default-clause-only c =
 
 pub returns-clause-found : goal.returns-clause-found
 returns-clause-found c =
-    rw (line_of_ascii c.args.text.now c.if-not-is_ascii.ensures.cases, ← c.in-Ok.ensures.cases.0, ← c.new.ensures) c.from_words.ensures.found
+    IfOk-and (SaysWords (words_of 32 c.args.text.now)) c.from_words.result (list_all_ascii c.args.text.now c.if-not-is_ascii.ensures.cases) (rw (← c.in-Ok.ensures.cases.0, ← c.new.ensures) c.from_words.ensures.found)
 
 pub returns-clause-memory : goal.returns-clause-memory
-returns-clause-memory c =
-    rw (line_of_ascii c.args.text.now c.if-not-is_ascii.ensures.cases, ← c.in-Ok.ensures.cases.0, ← c.new.ensures) c.from_words.ensures.memory
+returns-clause-memory c memory =
+    let event = c.from_words.ensures.memory memory in
+    (event.0, (list_all_ascii c.args.text.now c.if-not-is_ascii.ensures.cases, rw (← c.in-Ok.ensures.cases.0, ← c.new.ensures) event.1))
