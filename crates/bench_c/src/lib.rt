@@ -4,7 +4,10 @@
 ghost use Rattle.std.specs.Prelude.{◌≡◌};
 ghost use Rattle.ip_address.specs.Sum.{word_sum, folded};
 
+use ip_address::{Error, IpAddress, IpProtocol, Ipv4Address};
+use ip_packet::{Ipv4Packet, Ipv4PacketMut, Ipv4Repr, UdpPacket, UdpPacketMut, UdpRepr};
 use net_containers::{ManagedSlice, RingBuffer};
+use net_devices::ChecksumCapabilities;
 use std::alloc::Global;
 
 /// Passes a piece through a ring of `capacity` bytes so many times: one `enqueue_slice` and one
@@ -36,4 +39,70 @@ pub extern "C" fn bench_checksum(bytes: &[u8]) -> u16
     ensures { result ≡ folded (word_sum bytes.now) }
 {
     ip_address::checksum::data(bytes)
+}
+
+/// Reads an IPv4 packet and the datagram in it, both checksums tested, and copies the payload to
+/// the front of `out`. The answer has the source port, the destination port and the length of the
+/// payload, 16 bits each from the highest on; it is 0 where a packet is refused or `out` is short.
+#[unsafe(no_mangle)]
+pub extern "C" fn bench_parse(bytes: &[u8], out: &mut [u8]) -> u64 {
+    match payload_of(bytes) {
+        Ok((header, payload)) if payload.len() <= out.len() => {
+            out[..payload.len()].copy_from_slice(payload);
+            (header.src_port as u64) << 32
+                | (header.dst_port as u64) << 16
+                | (payload.len() as u64 & 0xffff)
+        }
+        _ => 0,
+    }
+}
+
+/// The header and the payload of the datagram in an IPv4 packet.
+fn payload_of(bytes: &[u8]) -> Result<(UdpRepr, &[u8]), Error> {
+    let checksums = ChecksumCapabilities::default();
+    let packet = Ipv4Packet::new_unchecked(bytes);
+    let ip = Ipv4Repr::parse(&packet, &checksums)?;
+    if ip.next_header != IpProtocol::Udp {
+        return Err(Error);
+    }
+    let datagram = UdpPacket::new_unchecked(packet.payload());
+    let (source, destination) = (IpAddress::Ipv4(ip.src_addr), IpAddress::Ipv4(ip.dst_addr));
+    let udp = UdpRepr::parse(&datagram, &source, &destination, &checksums)?;
+    Ok((udp, datagram.payload()))
+}
+
+/// Writes an IPv4 packet with a datagram of the payload to the front of `out`, both checksums
+/// computed. The answer is its length, 0 where it doesn't fit `out` or the length fields.
+#[unsafe(no_mangle)]
+pub extern "C" fn bench_emit(
+    out: &mut [u8],
+    payload: &[u8],
+    source: u32,
+    destination: u32,
+    src_port: u16,
+    dst_port: u16,
+) -> usize {
+    if payload.len() > 65507 || out.len() < payload.len() + 28 {
+        return 0;
+    }
+    let checksums = ChecksumCapabilities::default();
+    let ip = Ipv4Repr {
+        src_addr: Ipv4Address(source.to_be_bytes()),
+        dst_addr: Ipv4Address(destination.to_be_bytes()),
+        next_header: IpProtocol::Udp,
+        payload_len: payload.len() + 8,
+        hop_limit: 64,
+    };
+    let udp = UdpRepr { src_port, dst_port };
+    let (header, rest) = out.split_at_mut(20);
+    let (datagram, _behind) = rest.split_at_mut(payload.len() + 8);
+    ip.emit(&mut Ipv4PacketMut::new_unchecked(header), &checksums);
+    udp.emit(
+        &mut UdpPacketMut::new_unchecked(datagram),
+        &IpAddress::Ipv4(ip.src_addr),
+        &IpAddress::Ipv4(ip.dst_addr),
+        payload,
+        &checksums,
+    );
+    payload.len() + 28
 }

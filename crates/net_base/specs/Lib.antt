@@ -10,6 +10,8 @@ pub use Rattle.net_containers.specs.Assembler
 pub use Rattle.net_containers.specs.Contigs
 pub use Rattle.net_containers.specs.Entries
 pub use Rattle.net_containers.specs.ManagedSlice
+pub use Rattle.net_containers.specs.PacketCalls
+pub use Rattle.net_containers.specs.PacketLends
 pub use Rattle.net_containers.specs.Packets
 pub use Rattle.net_containers.specs.Ring
 pub use Rattle.net_containers.specs.RingLends

@@ -10,7 +10,7 @@
 
 pub use net_containers::{
     Assembler, AssemblerIter, Empty, Full, ManagedSlice, PacketBuffer, PacketMetadata, Resettable,
-    RingBuffer, TooManyHolesError,
+    RingBuffer, TooManyHolesError, laws as container_laws,
 };
 pub use net_devices::{
     Checksum, ChecksumCapabilities, Device, DeviceCapabilities, IPV4_FRAGMENT_PAYLOAD_ALIGNMENT,
