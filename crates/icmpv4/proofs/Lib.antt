@@ -1,4 +1,3 @@
-pub mod Checks
 pub mod Codes
 pub mod Messages
 pub mod Normal

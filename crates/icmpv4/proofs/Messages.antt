@@ -6,7 +6,7 @@ use Rattle.ip_address.specs.Fields.{be16, IsBytes}
 use Rattle.ip_packet.specs.Ipv4 as Ipv4
 use Rattle.ip_packet.specs.declared.ipv4.Ipv4Repr.{Ipv4Repr}
 use Rattle.ip_packet.proofs.QuotedLaws.{fits-v4}
-use Rattle.ip_packet.proofs.Peel.{peel8, peel16, peel_to}
+use Rattle.ip_address.proofs.Peel.{peel8, peel16, peel_to}
 use Rattle.icmpv4.specs.Icmpv4Codes.{message_of, unreachable_number, exceeded_number}
 use Rattle.icmpv4.specs.declared.message.Icmpv4Message.{Icmpv4Message}
 use Rattle.icmpv4.specs.declared.message.Icmpv4Message.TheVariants as Message

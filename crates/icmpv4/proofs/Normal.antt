@@ -3,7 +3,7 @@ use Rattle.std.proofs.Common.{◌≡◌, ℕ, Bool, List, refl, sym, ◌∙◌, 
 use Rattle.std.specs.Prelude.{slice_index}
 use Rattle.ip_address.specs.Protocol.{protocol_number, protocol_of}
 use Rattle.ip_address.specs.declared.ip.IpProtocol.{IpProtocol}
-use Rattle.ip_packet.proofs.Protocols.{protocol_number-protocol_of}
+use Rattle.ip_address.proofs.Numbers.{protocol_number-protocol_of}
 use Rattle.ip_packet.specs.Ipv4 as Ipv4
 use Rattle.ip_packet.specs.declared.ipv4.Ipv4Repr.{Ipv4Repr}
 use Rattle.icmpv4.specs.Icmpv4Codes.{unreachable_number, unreachable_of, exceeded_number, exceeded_of}

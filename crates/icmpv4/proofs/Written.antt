@@ -2,8 +2,7 @@
 use Rattle.std.proofs.Common.{◌≡◌, ℕ, ◌+◌, ◌<◌, Bool, true, false, IsTrue, List, [], ◌++◌, drop, refl, sym, subst, arith, length-append}
 use Rattle.std.proofs.lemmas.List.{drop_at}
 use Rattle.ip_address.proofs.Sums.{ChecksumHolds-complement}
-use Rattle.ip_address.specs.Sum.{word_sum, ChecksumHolds}
-use Rattle.ip_packet.specs.Covered.{complement}
+use Rattle.ip_address.specs.Sum.{word_sum, ChecksumHolds, complement}
 use Rattle.ip_packet.specs.Ipv4 as Ipv4
 use Rattle.ip_packet.specs.declared.ipv4.Ipv4Repr.{Ipv4Repr}
 use Rattle.ip_packet.proofs.QuotedLaws.{IsQuoted-v4}

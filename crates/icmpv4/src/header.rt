@@ -1,9 +1,8 @@
 //! What a message says, without its data, as a value.
 ghost use Rattle.std.specs.Prelude.{◌≡◌, ◌+◌, ◌-◌, ◌≤◌, List, [], ◌∷◌, ◌++◌, length};
 ghost use Rattle.ip_address.specs.Fields.{put16};
-ghost use Rattle.ip_address.specs.Sum.{word_sum};
+ghost use Rattle.ip_address.specs.Sum.{word_sum, complement};
 ghost use Rattle.net_devices.specs.Capabilities.{computes};
-ghost use Rattle.ip_packet.specs.Covered.{complement};
 ghost use Rattle.ip_packet.specs.Ipv4 as Ipv4;
 ghost use Rattle.icmpv4.specs.Icmpv4Codes.{message_number};
 ghost use Rattle.icmpv4.specs.Icmpv4.{Fits, bytes_in, name_of, kind_of, code_of, four_of, sent_fields, spelling, written, header_len};

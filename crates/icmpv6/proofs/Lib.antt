@@ -6,7 +6,6 @@ pub mod NdiscKinds
 pub mod NdiscLaws
 pub mod NdiscSpelled
 pub mod NdiscSteps
-pub mod Sealed
 pub mod Spelled
 pub mod Types
 pub mod Written

@@ -9,7 +9,7 @@ use Rattle.ip_address.specs.Fields.{be16, IsBytes}
 use Rattle.icmpv6.specs.Ndisc.{NeighborMessage, Solicitation, Advertisement, IsNdisc, buffer_len, spelling, word_of, flag_bits}
 use Rattle.icmpv6.specs.NdiscOption.{OptionValue, IsOption, units, option_bytes, options_bytes, AreOptions, links, HasLink, link_len, link_option}
 use Rattle.icmpv6.specs.declared.message.Icmpv6Message.TheVariants as Message
-use Rattle.ip_packet.proofs.Peel.{peel8, peel16, peel_to}
+use Rattle.ip_address.proofs.Peel.{peel8, peel16, peel_to}
 use Rattle.icmpv6.proofs.NdiscLaws.{padded-same}
 use Rattle.icmpv6.proofs.Types.{first-number}
 use Rattle.icmpv6.proofs.NdiscSteps.{links-this, links-other, empty}

@@ -4,7 +4,7 @@ use Rattle.std.specs.Prelude.{slice_index}
 use Rattle.ip_address.specs.Fields.{be16, be32, IsBytes}
 use Rattle.ip_address.specs.Protocol.{protocol_number, protocol_of}
 use Rattle.ip_address.specs.declared.ipv6.Ipv6Address.{Ipv6Address}
-use Rattle.ip_packet.proofs.Protocols.{protocol_number-protocol_of}
+use Rattle.ip_address.proofs.Numbers.{protocol_number-protocol_of}
 use Rattle.ip_packet.proofs.QuotedLaws.{fits-v6}
 use Rattle.ip_packet.specs.Ipv6 as Ipv6
 use Rattle.ip_packet.specs.declared.ipv6.Ipv6Repr.{Ipv6Repr}

@@ -5,7 +5,7 @@ use Rattle.std.proofs.lemmas.List.{drop-drop, get_or-drop}
 use Rattle.ip_address.specs.Fields.{be16, be32, IsBytes}
 use Rattle.ip_address.specs.declared.ipv6.Ipv6Address.{Ipv6Address}
 use Rattle.ip_packet.proofs.Ipv6Laws.{header-spelling}
-use Rattle.ip_packet.proofs.Peel.{peel8, peel16, peel32}
+use Rattle.ip_address.proofs.Peel.{peel8, peel16, peel32}
 use Rattle.ip_packet.specs.Ipv6 as Ipv6
 use Rattle.ip_packet.specs.declared.ipv6.Ipv6Repr.{Ipv6Repr}
 use Rattle.icmpv6.proofs.Reasons.{unreachable_code-unreachable_of, exceeded_code-exceeded_of, problem_code-problem_of}

@@ -1,10 +1,10 @@
 -- What stands in each ICMPv6 message: type and code, of one byte each, a checksum of two bytes, and the rest,
 -- which the type decides (RFC 4443, section 2.1).
-use Rattle.std.specs.Prelude.{ℕ, ◌+◌, ◌-◌, ◌≤◌, List, length, drop, slice_index}
+use Rattle.std.specs.Prelude.{ℕ, ◌+◌, ◌≤◌, List, length, drop, slice_index}
 use Rattle.std.specs.Borrow.{GName}
 use Rattle.ip_address.specs.Fields.{put16}
 use Rattle.ip_address.specs.Pseudo.{pseudo_v6}
-use Rattle.ip_address.specs.Sum.{word_sum, folded, ChecksumHolds}
+use Rattle.ip_address.specs.Sum.{word_sum, ChecksumHolds, complement}
 use Rattle.ip_address.specs.declared.ipv6.Ipv6Address.{Ipv6Address}
 use Rattle.icmpv6.specs.Message.{message_of, header_len_of, IsKnown}
 use Rattle.icmpv6.specs.declared.message.Icmpv6Message.{Icmpv6Message}
@@ -47,7 +47,7 @@ IsChecked source destination bytes = ChecksumHolds (covered source destination b
 
 -- the complement of the sum of a message whose checksum field holds 0
 abbrev pub checksum_of : Ipv6Address → Ipv6Address → List ℕ → ℕ
-checksum_of source destination bytes = 65535 - folded (covered source destination bytes)
+checksum_of source destination bytes = complement (covered source destination bytes)
 
 -- the bytes with the message's checksum in its field
 abbrev pub with_checksum : Ipv6Address → Ipv6Address → List ℕ → List ℕ

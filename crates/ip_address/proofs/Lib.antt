@@ -1,6 +1,7 @@
 pub mod Sums
 pub mod Covered
 pub mod Puts
+pub mod Peel
 pub mod Numbers
 pub mod Orders
 pub mod Masks

@@ -6,7 +6,7 @@ ghost use Rattle.ip_address.specs.Fields.{be16, put16};
 ghost use Rattle.ip_address.specs.LowFirst.{low_first};
 ghost use Rattle.ip_address.specs.Protocol.{protocol_number};
 ghost use Rattle.ip_address.specs.Pseudo.{FitsPseudo, covered, pseudo_of, pseudo_v4, pseudo_v6};
-ghost use Rattle.ip_address.specs.Sum.{word_sum, folded, ChecksumHolds};
+ghost use Rattle.ip_address.specs.Sum.{word_sum, folded, ChecksumHolds, complement};
 
 use crate::ip::{IpAddress, IpProtocol};
 use crate::ipv4::Ipv4Address;
@@ -228,7 +228,7 @@ pub fn holds_at_all_ones()
 
 /// Law: with the complement of the sum of all else in its field a checksum holds.
 pub fn complement_holds()
-    ensures { (sum : ℕ) → ChecksumHolds (sum + (65535 - folded sum)) }
+    ensures { (sum : ℕ) → ChecksumHolds (sum + complement sum) }
 {}
 
 /// Law: a checksum that holds fails once one aligned word that it covers is replaced by a number

@@ -1,7 +1,8 @@
 //! Numbers in network order inside byte slices. Every format reads and writes its fields by these
 //! calls, so that all contracts speak of numbers in bytes in one way.
-ghost use Rattle.std.specs.Prelude.{◌≡◌, ◌+◌, ◌≤◌, length};
-ghost use Rattle.ip_address.specs.Fields.{be16, be32, put16, put32};
+ghost use Rattle.std.specs.Prelude.{◌≡◌, ℕ, ◌+◌, ◌<◌, ◌≤◌, List, ◌∷◌, ◌++◌, length, drop, slice_index, slice_range};
+ghost use Rattle.std.specs.Int.{w16, w32, to_be_bytes};
+ghost use Rattle.ip_address.specs.Fields.{be16, be32, put16, put32, IsBytes};
 
 use byteorder::{BigEndian, ByteOrder};
 
@@ -46,3 +47,16 @@ pub fn write_u32(bytes: &mut [u8], at: usize, value: u32)
     bytes[at + 2] = third;
     bytes[at + 3] = fourth;
 }
+
+/// Law: of two numbers written at one place the second counts.
+pub fn second_write_counts()
+    ensures { (bytes : List ℕ) (at first second : ℕ) → put16 (put16 bytes at first) at second ≡ put16 bytes at second }
+{}
+
+/// Law: what stands from a place on is the bytes of the field there, then what stands behind it.
+pub fn fields_stand_in_turn()
+    ensures one { (bytes : List ℕ) (at value : ℕ) (rest : List ℕ) → at < length bytes → value ≡ slice_index bytes at → drop (at + 1) bytes ≡ rest → drop at bytes ≡ value ∷ rest }
+    ensures two { (bytes : List ℕ) (at value : ℕ) (rest : List ℕ) → IsBytes bytes → at + 2 ≤ length bytes → value ≡ be16 bytes at → drop (at + 2) bytes ≡ rest → drop at bytes ≡ to_be_bytes w16 value ++ rest }
+    ensures four { (bytes : List ℕ) (at value : ℕ) (rest : List ℕ) → IsBytes bytes → at + 4 ≤ length bytes → value ≡ be32 bytes at → drop (at + 4) bytes ≡ rest → drop at bytes ≡ to_be_bytes w32 value ++ rest }
+    ensures run { (bytes : List ℕ) (at end : ℕ) (field rest : List ℕ) → at ≤ end → field ≡ slice_range bytes at end → drop end bytes ≡ rest → drop at bytes ≡ field ++ rest }
+{}

@@ -1,25 +1,9 @@
--- Checksums over a pseudo header and a packet.
-use Rattle.std.proofs.Common.{◌≡◌, ℕ, ◌+◌, ◌*◌, ◌<◌, ◌^◌, zero, suc, arith, sym, ◌∙◌, inl, inr, lit<, ◌↔◌, IsTrue}
-use Rattle.std.specs.Prelude.{◌==◌}
-use Rattle.std.proofs.lemmas.Bool.{eqb-true, eq-eqb}
+-- The checksum of a datagram, which is never sent as 0.
+use Rattle.std.proofs.Common.{◌≡◌, ℕ, ◌+◌, ◌*◌, ◌<◌, zero, suc, arith, inl, inr, lit<}
 use Rattle.std.proofs.lemmas.Bool.Decides.{eqb_tells}
 use Rattle.ip_address.proofs.Sums.{ChecksumHolds-folded, ChecksumHolds-complement}
-use Rattle.ip_address.specs.Pseudo.{FitsPseudo}
-use Rattle.ip_address.specs.Sum.{folded, ChecksumHolds}
-use Rattle.ip_address.specs.declared.ip.IpAddress.{IpAddress}
-use Rattle.ip_address.specs.declared.ip.IpAddress.TheVariants as Ip
-use Rattle.ip_packet.specs.Covered.{complement, nonzero_complement}
-
--- a length of 16 bits fits the pseudo header of either family
-pub FitsPseudo-small : (a : IpAddress) (n : ℕ) → n < 2 ^ 16 → FitsPseudo a n
-FitsPseudo-small (Ip.Ipv4 a) n small = small
-FitsPseudo-small (Ip.Ipv6 a) n small = omega arith
-
--- the sum is all ones exactly where the checksum holds
-pub all_ones-holds : (sum total : ℕ) → sum ≡ folded total → IsTrue (sum == 65535) ↔ ChecksumHolds total
-all_ones-holds sum total is =
-    let both : (folded total ≡ 65535) ↔ ChecksumHolds total = ChecksumHolds-folded total in
-    (λ yes. both.0 (sym is ∙ eqb-true sum 65535 yes), λ holds. eq-eqb sum 65535 (is ∙ both.1 holds))
+use Rattle.ip_address.specs.Sum.{folded, ChecksumHolds, complement}
+use Rattle.ip_packet.specs.Udp.{nonzero_complement}
 
 -- a complement of 0 is that of all ones
 ones-complement : (n : ℕ) → complement n ≡ 0 → folded n ≡ 65535

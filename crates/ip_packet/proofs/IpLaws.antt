@@ -10,7 +10,7 @@ use Rattle.ip_packet.specs.declared.ipv4.Ipv4Repr.{Ipv4Repr}
 use Rattle.ip_packet.specs.declared.ipv6.Ipv6Repr.{Ipv6Repr}
 use Rattle.ip_packet.proofs.Ipv4Laws.{IsIpv4-written}
 use Rattle.ip_packet.proofs.Ipv6Laws.{IsIpv6-written}
-use Rattle.ip_packet.proofs.Protocols.{protocol_of-again}
+use Rattle.ip_address.proofs.Numbers.{protocol_of-again}
 
 -- a packet and its header take no more room than the bytes that they were read from
 pub within : (tested : Bool) (bytes : List ℕ) (v : IpRepr) → IsIp tested bytes v → header_len_in v + payload_len_in v ≤ length bytes

@@ -3,15 +3,13 @@ use Rattle.std.proofs.Common.{◌≡◌, ℕ, ◌+◌, ◌-◌, ◌/◌, ◌<◌
 use Rattle.std.specs.Prelude.{slice_range, slice_index}
 use Rattle.std.proofs.lemmas.List.{take_at, drop_at}
 use Rattle.ip_address.proofs.Sums.{ChecksumHolds-complement}
-use Rattle.ip_address.specs.Fields.{be16, put16, IsBytes}
+use Rattle.ip_address.specs.Fields.{be16, IsBytes}
 use Rattle.ip_address.specs.Protocol.{protocol_number}
-use Rattle.ip_address.specs.Sum.{word_sum, folded, ChecksumHolds}
-use Rattle.ip_packet.specs.Covered.{complement}
-use Rattle.ip_packet.specs.Ipv4.{IsIpv4, IsQuoted, IsValue, Fits, spelling, sent_fields, free_fields, written, header_len_of, header_of, with_checksum, normal}
+use Rattle.ip_address.specs.Sum.{word_sum, ChecksumHolds, complement}
+use Rattle.ip_packet.specs.Ipv4.{IsIpv4, IsQuoted, IsValue, Fits, spelling, sent_fields, free_fields, written, header_len_of, normal}
 use Rattle.ip_packet.specs.declared.ipv4.Ipv4Repr.{Ipv4Repr}
-use Rattle.ip_packet.proofs.Peel.{peel8, peel16, peel_to, length-slice_range}
-use Rattle.ip_packet.proofs.Protocols.{protocol_number-protocol_of}
-use Rattle.ip_packet.proofs.Puts.{put16-put16}
+use Rattle.ip_address.proofs.Peel.{peel8, peel16, peel_to, length-slice_range}
+use Rattle.ip_address.proofs.Numbers.{protocol_number-protocol_of}
 
 -- the header of a packet that was read is one that can be quoted
 pub IsQuoted-whole : (tested : Bool) (bytes : List ℕ) (v : Ipv4Repr) → IsIpv4 tested bytes v → IsQuoted bytes v (header_len_of bytes)
@@ -117,10 +115,3 @@ pub IsIpv4-written : (tested sealed : Bool) (v : Ipv4Repr) (rest : List ℕ) →
 IsIpv4-written tested false v rest fits value within both = IsIpv4-spelling tested v 0 rest fits value within (λ t. absurd (cc (both t)))
 IsIpv4-written tested true v rest fits value within both =
     IsIpv4-spelling tested v (complement (word_sum (spelling v (sent_fields 0)))) rest fits value within (λ _. ChecksumHolds-written v)
-
--- the checksum of the header with 0 in the field, put into the field
-pub with_checksum-steps : (old cleared new : List ℕ) (sum : ℕ) → cleared ≡ put16 old 10 0 → sum ≡ folded (word_sum (header_of cleared)) → new ≡ put16 cleared 10 (65535 - sum) → new ≡ with_checksum old
-with_checksum-steps old cleared new sum first sums last =
-    last ∙ ap (λ n. put16 cleared 10 (65535 - n)) sums
-    ∙ ap (λ xs. put16 xs 10 (complement (word_sum (header_of xs)))) first
-    ∙ put16-put16 old 10 0 (complement (word_sum (header_of (put16 old 10 0))))

@@ -6,8 +6,8 @@ use Rattle.ip_address.specs.Fields.{be32, IsBytes}
 use Rattle.ip_address.specs.Protocol.{protocol_number}
 use Rattle.ip_packet.specs.Ipv6.{IsIpv6, IsQuoted, IsValue, Fits, spelling, written, class_and_flow, normal}
 use Rattle.ip_packet.specs.declared.ipv6.Ipv6Repr.{Ipv6Repr}
-use Rattle.ip_packet.proofs.Peel.{peel8, peel16, peel32, peel_to}
-use Rattle.ip_packet.proofs.Protocols.{protocol_number-protocol_of}
+use Rattle.ip_address.proofs.Peel.{peel8, peel16, peel32, peel_to}
+use Rattle.ip_address.proofs.Numbers.{protocol_number-protocol_of}
 
 -- the first four bytes of a packet of version 6
 first_word : (bytes : List ℕ) → IsBytes bytes → get_or bytes 0 0 / 16 ≡ 6 → 6 * 2 ^ 28 + class_and_flow bytes ≡ be32 bytes 0

@@ -11,8 +11,8 @@ use Rattle.ip_packet.specs.declared.ipv4.Ipv4Repr.{Ipv4Repr}
 use Rattle.ip_packet.specs.declared.ipv6.Ipv6Repr.{Ipv6Repr}
 use Rattle.ip_packet.proofs.Ipv4Laws as V4
 use Rattle.ip_packet.proofs.Ipv6Laws as V6
-use Rattle.ip_packet.proofs.Peel.{length-slice_range}
-use Rattle.ip_packet.proofs.Protocols.{protocol_number-protocol_of}
+use Rattle.ip_address.proofs.Peel.{length-slice_range}
+use Rattle.ip_address.proofs.Numbers.{protocol_number-protocol_of}
 
 -- a header with any checksum
 IsQuoted-spelling : (v : Ipv4Repr) (check : ℕ) (rest : List ℕ) → Ipv4.Fits v → Ipv4.IsValue v → Ipv4.IsQuoted (Ipv4.spelling v (Ipv4.sent_fields check) ++ rest) (Ipv4.normal v) 20

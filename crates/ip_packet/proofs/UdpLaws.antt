@@ -1,15 +1,14 @@
 -- A datagram and what spells it.
-use Rattle.std.proofs.Common.{◌≡◌, ◌≤◌, ℕ, ◌+◌, ◌<◌, ◌^◌, Bool, true, false, IsTrue, List, ◌++◌, length, drop, refl, sym, ◌∙◌, ap, subst, inr, arith, length-append}
+use Rattle.std.proofs.Common.{◌≡◌, ◌≤◌, ℕ, ◌+◌, ◌<◌, ◌^◌, Bool, true, false, IsTrue, List, ◌++◌, length, drop, refl, sym, ap, subst, inr, arith, length-append}
 use Rattle.std.proofs.lemmas.List.{take_at}
-use Rattle.ip_address.specs.Fields.{be16, put16, IsBytes}
-use Rattle.ip_address.specs.Sum.{word_sum, folded, ChecksumHolds}
+use Rattle.ip_address.specs.Fields.{be16, IsBytes}
+use Rattle.ip_address.specs.Sum.{word_sum, ChecksumHolds}
 use Rattle.ip_address.specs.declared.ip.IpAddress.{IpAddress}
-use Rattle.ip_packet.specs.Covered.{covered, nonzero_complement}
-use Rattle.ip_packet.specs.Udp.{IsUdp, IsWhole, IsAccepted, Fits, spelling, written, payload_of, datagram_of, with_checksum}
+use Rattle.ip_address.specs.Pseudo.{covered}
+use Rattle.ip_packet.specs.Udp.{IsUdp, IsWhole, IsAccepted, Fits, spelling, written, payload_of, datagram_of, nonzero_complement}
 use Rattle.ip_packet.specs.declared.udp.UdpRepr.{UdpRepr}
 use Rattle.ip_packet.proofs.CoveredSums.{ChecksumHolds-nonzero_complement, nonzero_complement-small}
-use Rattle.ip_packet.proofs.Puts.{put16-put16}
-use Rattle.ip_packet.proofs.Peel.{peel16, peel_to, length-slice_range}
+use Rattle.ip_address.proofs.Peel.{peel16, peel_to, length-slice_range}
 
 -- a datagram is spelled by its header and payload, and then comes padding
 pub bytes-spelling : (source destination : IpAddress) (tested : Bool) (bytes : List ℕ) (v : UdpRepr) → IsBytes bytes → IsUdp source destination tested bytes v
@@ -67,15 +66,6 @@ IsUdp-written source destination tested true v payload rest fits accepted both =
   destination_port = omega (arith, accepted.destination_port);
   accepted = λ none. accepted.nonzero (omega (arith, accepted.destination_port));
 }
-
--- the checksum of the datagram with 0 in the field, put into the field
-pub with_checksum-steps : (source destination : IpAddress) (old cleared new : List ℕ) (sum value : ℕ) → cleared ≡ put16 old 6 0 → sum ≡ folded (covered source destination 17 (datagram_of cleared))
-    → ((total : ℕ) → sum ≡ folded total → value ≡ nonzero_complement total) → new ≡ put16 cleared 6 value → new ≡ with_checksum source destination old
-with_checksum-steps source destination old cleared new sum value first sums sealed last =
-    let same : value ≡ nonzero_complement (covered source destination 17 (datagram_of cleared)) = sealed _ sums in
-    last ∙ ap (λ n. put16 cleared 6 n) same
-    ∙ ap (λ xs. put16 xs 6 (nonzero_complement (covered source destination 17 (datagram_of xs)))) first
-    ∙ put16-put16 old 6 0 (nonzero_complement (covered source destination 17 (datagram_of (put16 old 6 0))))
 
 -- a datagram and its header take no more room than the bytes that they were read from
 pub within : (source destination : IpAddress) (tested : Bool) (bytes : List ℕ) (v : UdpRepr) → IsUdp source destination tested bytes v → 8 + length (payload_of bytes) ≤ length bytes

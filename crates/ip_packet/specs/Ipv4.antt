@@ -8,9 +8,8 @@ use Rattle.std.specs.Borrow.{GName}
 use Rattle.ip_address.specs.Address.{IsIpv4Address}
 use Rattle.ip_address.specs.Fields.{be16, put16}
 use Rattle.ip_address.specs.Protocol.{protocol_number, protocol_of}
-use Rattle.ip_address.specs.Sum.{word_sum, ChecksumHolds}
+use Rattle.ip_address.specs.Sum.{word_sum, ChecksumHolds, complement}
 use Rattle.ip_address.specs.declared.ipv4.Ipv4FragKey.{Ipv4FragKey}
-use Rattle.ip_packet.specs.Covered.{complement}
 use Rattle.ip_packet.specs.declared.ipv4.Ipv4Packet.{Ipv4Packet}
 use Rattle.ip_packet.specs.declared.ipv4.Ipv4PacketMut.{Ipv4PacketMut}
 use Rattle.ip_packet.specs.declared.ipv4.Ipv4Repr.{Ipv4Repr}

@@ -1,4 +1,3 @@
-pub mod Covered
 pub mod Parts
 pub mod Udp
 pub mod Ipv4

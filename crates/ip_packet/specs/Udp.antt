@@ -1,14 +1,14 @@
 -- User datagrams (RFC 768): source port, destination port, length and checksum, of two bytes each, then
 -- the payload, which ends where the length says. What lies behind it is padding.
-use Rattle.std.specs.Prelude.{◌≡◌, ◌≢◌, ℕ, ◌+◌, ◌<◌, ◌≤◌, ◌^◌, Bool, IsTrue, ◌⊎◌, if◌then◌else◌, List, ◌++◌, length, take, slice_range}
+use Rattle.std.specs.Prelude.{◌≡◌, ◌≢◌, ℕ, ◌+◌, ◌<◌, ◌≤◌, ◌^◌, ◌==◌, Bool, IsTrue, ◌⊎◌, if◌then◌else◌, List, ◌++◌, length, take, slice_range}
 use Rattle.std.specs.Int.{w16, to_be_bytes}
 use Rattle.std.specs.Borrow.{GName}
 use Rattle.ip_address.specs.Address.{version_of}
 use Rattle.ip_address.specs.Fields.{be16, put16}
-use Rattle.ip_address.specs.Sum.{ChecksumHolds}
+use Rattle.ip_address.specs.Sum.{ChecksumHolds, complement}
 use Rattle.ip_address.specs.declared.ip.IpAddress.{IpAddress}
 use Rattle.ip_address.specs.declared.ip.IpAddress.TheVariants as Ip
-use Rattle.ip_packet.specs.Covered.{covered, nonzero_complement}
+use Rattle.ip_address.specs.Pseudo.{covered}
 use Rattle.ip_packet.specs.declared.udp.UdpPacket.{UdpPacket}
 use Rattle.ip_packet.specs.declared.udp.UdpPacketMut.{UdpPacketMut}
 use Rattle.ip_packet.specs.declared.udp.UdpRepr.{UdpRepr}
@@ -38,6 +38,10 @@ datagram_of bytes = take (be16 bytes 4) bytes
 -- what the datagram carries
 abbrev pub payload_of : List ℕ → List ℕ
 payload_of bytes = slice_range bytes 8 (be16 bytes 4)
+
+-- what a datagram carries for the complement of its sum: ffff in place of 0, which would mean no checksum (RFC 768)
+abbrev pub nonzero_complement : ℕ → ℕ
+nonzero_complement sum = if complement sum == 0 then 65535 else complement sum
 
 -- over IPv4 a checksum of 0 means that there is none (RFC 768); over IPv6 there is always one (RFC 8200,
 -- section 8.1)

@@ -2,9 +2,8 @@
 ghost use Rattle.std.specs.Prelude.{◌≡◌, ◌↔◌, ℕ, ◌+◌, ◌*◌, ◌/◌, ◌%◌, ◌<◌, ◌≤◌, ◌^◌, Bool, IsTrue, IsOk, IfOk, List, ◌++◌, length, drop, take, slice_index, slice_range, if◌then◌else◌};
 ghost use Rattle.ip_address.specs.Fields.{be16, put8, put16, IsBytes};
 ghost use Rattle.ip_address.specs.Protocol.{protocol_number, protocol_of};
-ghost use Rattle.ip_address.specs.Sum.{word_sum, folded};
+ghost use Rattle.ip_address.specs.Sum.{word_sum, folded, complement};
 ghost use Rattle.net_devices.specs.Capabilities.{verifies, computes};
-ghost use Rattle.ip_packet.specs.Covered.{complement};
 ghost use Rattle.ip_packet.specs.Parts.{put_run, with_flag};
 ghost use Rattle.ip_packet.specs.Ipv4.{IsWhole, IsChecked, IsIpv4, IsValue, IsKeyOf, Fits, bytes_of, bytes_in, name_of, header_len_of, header_of, payload_of, free_fields, sent_fields, spelling, written, with_checksum, normal};
 ghost use Rattle.ip_packet.specs.declared.ipv4.Ipv4Repr.{Ipv4Repr};

@@ -3,7 +3,8 @@ ghost use Rattle.std.specs.Prelude.{◌≡◌, ◌↔◌, ◌<◌, ◌^◌, IsTr
 ghost use Rattle.ip_address.specs.Address.{version_of};
 ghost use Rattle.ip_address.specs.Protocol.{protocol_number};
 ghost use Rattle.ip_address.specs.Sum.{folded, ChecksumHolds};
-ghost use Rattle.ip_packet.specs.Covered.{covered, nonzero_complement};
+ghost use Rattle.ip_address.specs.Pseudo.{covered};
+ghost use Rattle.ip_packet.specs.Udp.{nonzero_complement};
 
 use ip_address::{IpAddress, IpProtocol, checksum};
 

@@ -5,9 +5,9 @@ ghost use Rattle.ip_address.specs.Address.{version_of};
 ghost use Rattle.ip_address.specs.Fields.{be16, put16, IsBytes};
 ghost use Rattle.ip_address.specs.Sum.{folded};
 ghost use Rattle.ip_address.specs.declared.ip.IpAddress.{IpAddress};
+ghost use Rattle.ip_address.specs.Pseudo.{covered};
 ghost use Rattle.net_devices.specs.Capabilities.{verifies, computes};
-ghost use Rattle.ip_packet.specs.Covered.{covered, nonzero_complement};
-ghost use Rattle.ip_packet.specs.Udp.{IsWhole, IsChecked, IsUdp, IsAccepted, Fits, bytes_of, bytes_in, name_of, payload_of, datagram_of, spelling, written, with_checksum};
+ghost use Rattle.ip_packet.specs.Udp.{IsWhole, IsChecked, IsUdp, IsAccepted, Fits, bytes_of, bytes_in, name_of, payload_of, datagram_of, spelling, written, with_checksum, nonzero_complement};
 ghost use Rattle.ip_packet.specs.declared.udp.UdpRepr.{UdpRepr};
 
 use crate::sealed;

@@ -2,13 +2,13 @@
 -- acknowledgement number, four bytes each; header length in units of four bytes, reserved bits and flags, in
 -- two bytes; window, checksum and urgent pointer, two bytes each; options up to the header's length; then
 -- the payload, up to the end.
-use Rattle.std.specs.Prelude.{◌≡◌, ◌≢◌, ◌==◌, IsTrue, Option, Some, None, ℕ, ◌+◌, ◌-◌, ◌*◌, ◌/◌, ◌%◌, ◌<◌, ◌≤◌, Bool, if◌then◌else◌, ◌^◌, true, false, List, ◌∷◌, ◌++◌, length, drop, slice_index, slice_range}
+use Rattle.std.specs.Prelude.{◌≡◌, ◌≢◌, ◌==◌, IsTrue, Option, Some, None, ℕ, ◌+◌, ◌*◌, ◌/◌, ◌%◌, ◌<◌, ◌≤◌, Bool, if◌then◌else◌, ◌^◌, true, false, List, ◌∷◌, ◌++◌, length, drop, slice_index, slice_range}
 use Rattle.std.specs.Int.{w16, w32, to_be_bytes}
 use Rattle.std.specs.Borrow.{GName}
 use Rattle.ip_address.specs.Address.{version_of}
 use Rattle.ip_address.specs.Fields.{be16, be32, put8, put16}
 use Rattle.ip_address.specs.Pseudo.{pseudo_of}
-use Rattle.ip_address.specs.Sum.{word_sum, folded, ChecksumHolds}
+use Rattle.ip_address.specs.Sum.{word_sum, ChecksumHolds, complement}
 use Rattle.ip_address.specs.declared.ip.IpAddress.{IpAddress}
 use Rattle.ip_address.specs.declared.seq_number.SeqNumber.{SeqNumber}
 use Rattle.ip_tcp.specs.Control.{control_of, control_bits, is_quiet}
@@ -83,7 +83,7 @@ IsChecked source destination bytes = ChecksumHolds (covered source destination b
 -- the bytes with the segment's checksum in its field
 abbrev pub with_checksum : IpAddress → IpAddress → List ℕ → List ℕ
 with_checksum source destination bytes =
-    put16 bytes 16 (65535 - folded (covered source destination (put16 bytes 16 0)))
+    put16 bytes 16 (complement (covered source destination (put16 bytes 16 0)))
 
 -- what the flags of the segment say, if it has not two of SYN, FIN and RST
 abbrev pub control_in : List ℕ → Option TcpControl
@@ -197,7 +197,7 @@ spelling v check payload =
 -- what is sent: with a checksum that holds, or with 0
 abbrev pub written : IpAddress → IpAddress → Bool → TcpHeader → List ℕ → List ℕ
 written source destination sealed v payload =
-    spelling v (if sealed then 65535 - folded (covered source destination (spelling v 0 payload)) else 0) payload
+    spelling v (if sealed then complement (covered source destination (spelling v 0 payload)) else 0) payload
 
 -- what can be sent: header and segment fit their length fields, and the addresses are of one family
 pub record Fits (source destination : IpAddress) (v : TcpHeader) (payload : List ℕ) : Type 0 where

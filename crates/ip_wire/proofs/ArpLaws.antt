@@ -5,7 +5,7 @@ use Rattle.ip_address.specs.Fields.{be16, IsBytes}
 use Rattle.ip_wire.specs.Arp.{IsArp, IsValue, written, normal, operation_number, operation_of}
 use Rattle.ip_wire.specs.declared.arp.ArpRepr.{ArpRepr}
 use Rattle.ip_wire.specs.declared.arp.ArpRepr.TheVariants as Arp
-use Rattle.ip_packet.proofs.Peel.{peel8, peel16, peel_to}
+use Rattle.ip_address.proofs.Peel.{peel8, peel16, peel_to}
 use Rattle.ip_wire.proofs.Numbers.{operation_number-operation_of}
 
 -- four runs of bytes, and what is behind them, joined one way or the other

@@ -6,8 +6,8 @@ use Rattle.ip_address.specs.Fields.{be16, IsBytes}
 use Rattle.ip_address.specs.Protocol.{ether_number, ether_of}
 use Rattle.ip_wire.specs.Ethernet.{IsEthernet, IsWhole, IsValue, written, normal}
 use Rattle.ip_wire.specs.declared.ethernet.EthernetRepr.{EthernetRepr}
-use Rattle.ip_packet.proofs.Peel.{peel16, peel_to}
-use Rattle.ip_wire.proofs.Numbers.{ether_number-ether_of}
+use Rattle.ip_address.proofs.Peel.{peel16, peel_to}
+use Rattle.ip_address.proofs.Numbers.{ether_number-ether_of}
 
 -- a frame is spelled by its header, and then come payload and padding
 pub bytes-written : (bytes : List ℕ) (v : EthernetRepr) → IsBytes bytes → IsEthernet bytes v → bytes ≡ written v ++ drop 14 bytes

@@ -6,7 +6,7 @@ use Rattle.std.proofs.lemmas.Bool.Decides.{eqb_tells}
 use Rattle.ip_address.specs.Fields.{be16, IsBytes}
 use Rattle.ip_wire.specs.Fragment.{IsFragment, IsWhole, IsValue, spelling, written, normal, reserved_of}
 use Rattle.ip_wire.specs.declared.ipv6_fragment.Ipv6FragmentRepr.{Ipv6FragmentRepr}
-use Rattle.ip_packet.proofs.Peel.{peel16, peel32}
+use Rattle.ip_address.proofs.Peel.{peel16, peel32}
 
 -- a flag as a number is the bit that it was read from
 bit : (b : ℕ) (flag : Bool) → flag ≡ (b % 2 == 1) → (if flag then 1 else 0) ≡ b % 2

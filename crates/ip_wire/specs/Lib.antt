@@ -12,7 +12,6 @@ pub use Rattle.ip_address.specs.Pseudo
 pub use Rattle.ip_address.specs.Seq
 pub use Rattle.ip_address.specs.Hardware
 pub use Rattle.ip_address.specs.Text
-pub use Rattle.ip_packet.specs.Covered
 pub use Rattle.ip_packet.specs.Parts
 pub use Rattle.ip_packet.specs.Udp
 pub use Rattle.ip_packet.specs.Ipv4

@@ -1,4 +1,4 @@
-use Rattle.ip_packet.proofs.CoveredSums.{all_ones-holds}
+use Rattle.ip_address.proofs.Covered.{all_ones-holds}
 use Rattle.ip_packet.proofs.sealed.holds.Goals as goal
 
 pub returns : goal.returns

@@ -1,4 +1,4 @@
-use Rattle.icmpv6.proofs.Sealed.{all_ones-holds}
+use Rattle.ip_address.proofs.Covered.{all_ones-holds}
 use Rattle.icmpv6.proofs.packet.Icmpv6Packet.verify_checksum.Goals as goal
 
 pub returns : goal.returns

@@ -1,4 +1,4 @@
-use Rattle.ip_tcp.proofs.Sealed.{all_ones-holds}
+use Rattle.ip_address.proofs.Covered.{all_ones-holds}
 use Rattle.ip_tcp.proofs.packet.TcpPacket.verify_checksum.Goals as goal
 
 pub returns : goal.returns
