@@ -4,6 +4,7 @@ pub mod Puts
 pub mod Peel
 pub mod Numbers
 pub mod Orders
+pub mod Keys
 pub mod Masks
 pub mod Blocks
 pub mod Texts

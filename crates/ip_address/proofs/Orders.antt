@@ -1,12 +1,13 @@
 -- When comparisons and hashes agree with equality.
-use Rattle.std.proofs.Common.{◌≡◌, ◌≤◌, ◌↔◌, ℕ, List, IsTrue, ap}
+use Rattle.std.proofs.Common.{◌≡◌, ◌≤◌, ◌↔◌, ℕ, List, IsTrue, ap, sym, subst}
 use mathlib.Core.HLevel.{is_prop→PathP}
 use native.Mathlib.Bridge.{le_prop}
-use Rattle.std.specs.Prelude.{◌==◌, ◌&&◌, bytes_eq}
+use Rattle.std.specs.Prelude.{◌==◌, ◌&&◌, ◌-◌, ◌++◌, length, take, replicate, bytes_eq}
 use Rattle.std.specs.Bool.{Decides}
 use Rattle.std.specs.declared.cmp.Ordering.TheVariants.{Equal}
 use Rattle.std.proofs.lemmas.Bool.Decides.{Decides-and, Decides-eqb}
 use Rattle.std.proofs.lemmas.Slice.Eq.{bytes_eq-Decides}
+use Rattle.std.proofs.Math.Seq.{take-append_seam}
 use Rattle.ip_address.specs.Order.{Agree}
 use Rattle.ip_address.specs.contracts.ip.IpCidrPartialEq.TheImpl.{ghosts}
 use Rattle.ip_address.specs.declared.ip.IpCidr.{IpCidr}
@@ -65,3 +66,18 @@ Decides-block (Block.Ipv4 a) (Block.Ipv6 b) = (λ yes. absurd (cc), λ e. absurd
 Decides-block (Block.Ipv6 a) (Block.Ipv4 b) = (λ yes. absurd (cc), λ e. absurd (cc))
 Decides-block (Block.Ipv6 a) (Block.Ipv6 b) =
     let same = Decides-v6 a b in (λ yes. ap Block.Ipv6 (same.0 yes), λ e. same.1 (cc))
+
+-- lists that begin alike and are as long are the same
+same_front : (a b x y : List ℕ) → length a ≡ length b → a ++ x ≡ b ++ y → a ≡ b
+same_front a b x y len e =
+    let P : List ℕ → Type 0 = λ l. take (length a) l ≡ b in
+    let Q : ℕ → Type 0 = λ n. take n (b ++ y) ≡ b in
+    subst (λ l. l ≡ b) (take-append_seam a x) (subst P (sym e) (subst Q (sym len) (take-append_seam b y)))
+
+-- of raw addresses all six bytes, with zeros behind those of the address, and the lengths are compared
+pub Decides-raw : (a b : List ℕ) → Decides (bytes_eq (a ++ replicate (6 - length a) 0) (b ++ replicate (6 - length b) 0) && (length a == length b)) (a ≡ b)
+Decides-raw a b =
+    let both = Decides-and _ _ (bytes_eq-Decides (a ++ replicate (6 - length a) 0) (b ++ replicate (6 - length b) 0)) (Decides-eqb (length a) (length b)) in (
+      λ yes. same_front a b _ _ (both.0 yes).1 (both.0 yes).0,
+      λ same. both.1 (ap (λ l. l ++ replicate (6 - length l) 0) same, ap length same),
+    )

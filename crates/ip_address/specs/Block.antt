@@ -1,6 +1,6 @@
 -- A block is the set of the addresses of one family whose first bits are those of its address (RFC 4632, section 3.1).
-use Rattle.std.specs.Prelude.{◌≡◌, ℕ, ◌+◌, ◌-◌, ◌/◌, ◌%◌, ◌^◌}
-use Rattle.ip_address.specs.Address.{v4_number, v6_number, IsIpv4Address, IsIpv6Address}
+use Rattle.std.specs.Prelude.{◌≡◌, ℕ, ◌+◌, ◌-◌, ◌/◌, ◌%◌, ◌^◌, List}
+use Rattle.ip_address.specs.Address.{address_bytes, v4_number, v6_number, IsIpv4Address, IsIpv6Address}
 use Rattle.ip_address.specs.declared.ipv4.Ipv4Address.{Ipv4Address}
 use Rattle.ip_address.specs.declared.ipv4.Ipv4Cidr.{Ipv4Cidr}
 use Rattle.ip_address.specs.declared.ipv6.Ipv6Address.{Ipv6Address}
@@ -24,6 +24,10 @@ block_address (Block.Ipv6 b) = Ip.Ipv6 b.address
 abbrev pub block_prefix_len : IpCidr → ℕ
 block_prefix_len (Block.Ipv4 b) = b.prefix_len
 block_prefix_len (Block.Ipv6 b) = b.prefix_len
+
+-- the block of an address of these bytes and this prefix length
+abbrev pub IsBlock : IpCidr → List ℕ → ℕ → Type 0
+IsBlock b bytes len = (address_bytes (block_address b) ≡ bytes) × (block_prefix_len b ≡ len)
 
 -- the block holds the address: the first prefix_len bits of both agree
 abbrev pub IsInV4 : Ipv4Cidr → Ipv4Address → Type 0

@@ -25,11 +25,11 @@ pub enum IpVersion {
 impl IpVersion {
     /// The family of a packet, by the first four bits of its bytes: an `Error` where they are
     /// neither 4 nor 6, or where there are no bytes.
-    pub fn of_packet(bytes: &[u8]) -> Result<IpVersion, Error>
+    pub const fn of_packet(bytes: &[u8]) -> Result<IpVersion, Error>
         ensures ipv4 { (result ≡ Ok IpVersion.Ipv4) ↔ (slice_index bytes.now 0 / 16 ≡ 4) }
         ensures ipv6 { (result ≡ Ok IpVersion.Ipv6) ↔ (slice_index bytes.now 0 / 16 ≡ 6) }
     {
-        let Some(first) = bytes.first() else {
+        let [first, ..] = bytes else {
             return Err(Error);
         };
         match *first >> 4 {
@@ -145,7 +145,7 @@ impl IpAddress {
     }
 
     /// The IPv6 address `a:b:c:d:e:f:g:h`.
-    pub fn v6(a: u16, b: u16, c: u16, d: u16, e: u16, f: u16, g: u16, h: u16) -> IpAddress
+    pub const fn v6(a: u16, b: u16, c: u16, d: u16, e: u16, f: u16, g: u16, h: u16) -> IpAddress
         ensures { result ≡ IpAddress.Ipv6 (record { 0 = octets_of (a ∷ b ∷ c ∷ d ∷ e ∷ f ∷ g ∷ h ∷ []) }) }
     {
         IpAddress::Ipv6(Ipv6Address::new(a, b, c, d, e, f, g, h))
@@ -172,7 +172,7 @@ impl IpAddress {
     }
 
     /// Whether this is the address of a group.
-    pub fn is_multicast(&self) -> bool
+    pub const fn is_multicast(&self) -> bool
         ensures { IsTrue result ↔ IsMulticast self.now }
     {
         match self {

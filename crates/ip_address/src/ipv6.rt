@@ -38,7 +38,7 @@ impl Ipv6Address {
     ]);
 
     /// The address `a:b:c:d:e:f:g:h`.
-    pub fn new(a: u16, b: u16, c: u16, d: u16, e: u16, f: u16, g: u16, h: u16) -> Ipv6Address
+    pub const fn new(a: u16, b: u16, c: u16, d: u16, e: u16, f: u16, g: u16, h: u16) -> Ipv6Address
         ensures { result.0 ≡ octets_of (a ∷ b ∷ c ∷ d ∷ e ∷ f ∷ g ∷ h ∷ []) }
     {
         let [a0, a1] = halves(a);

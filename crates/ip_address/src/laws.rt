@@ -1,14 +1,24 @@
 //! What the comparisons and hashes of addresses, blocks and endpoints mean: two values are equal
-//! exactly where they are the same value, and orders and hashes agree with that.
-ghost use Rattle.std.specs.Prelude.{◌≡◌, ◌↔◌, IsTrue};
+//! exactly where they are the same value, and orders and hashes agree with that. And what the
+//! constants are.
+ghost use Rattle.std.specs.Prelude.{◌≡◌, ◌↔◌, IsTrue, ◌∷◌, ◌++◌, []};
 ghost use Rattle.std.specs.Cmp.{IsTotalOrder};
+ghost use Rattle.std.specs.Net.Addr.{octets_of};
+ghost use Rattle.ip_address.specs.Address.{IsEthernetBroadcast, IsUnspecifiedV4, IsBroadcastV4, IsUnspecifiedV6, IsLoopbackV6, solicited_prefix};
+ghost use Rattle.ip_address.specs.Block.{IsBlock};
 ghost use Rattle.ip_address.specs.Order.{Agree, hash_after};
 
-use crate::ethernet::EthernetAddress;
-use crate::hardware::HardwareAddress;
-use crate::ip::{IpAddress, IpCidr, IpEndpoint, IpListenEndpoint};
-use crate::ipv4::{Ipv4Address, Ipv4Cidr};
-use crate::ipv6::{Ipv6Address, Ipv6Cidr};
+use crate::ethernet::{EthernetAddress, EthernetProtocol};
+use crate::hardware::{HardwareAddress, MAX_HARDWARE_ADDRESS_LEN, RawHardwareAddress};
+use crate::ip::{IpAddress, IpCidr, IpEndpoint, IpListenEndpoint, IpProtocol, IpVersion};
+use crate::ipv4::{
+    IPV4_MIN_MTU, IPV4_MULTICAST_ALL_ROUTERS, IPV4_MULTICAST_ALL_SYSTEMS, Ipv4Address, Ipv4Cidr,
+    Ipv4FragKey,
+};
+use crate::ipv6::{
+    IPV6_LINK_LOCAL_ALL_MLDV2_ROUTERS, IPV6_LINK_LOCAL_ALL_NODES, IPV6_LINK_LOCAL_ALL_ROUTERS,
+    IPV6_MIN_MTU, Ipv6Address, Ipv6Cidr,
+};
 use crate::seq_number::SeqNumber;
 use std::cmp::Ordering;
 use std::hash::{DefaultHasher, Hash, Hasher};
@@ -63,6 +73,14 @@ pub fn compare_ethernet_addresses(a: &EthernetAddress, b: &EthernetAddress) -> C
 pub fn compare_hardware_addresses(a: &HardwareAddress, b: &HardwareAddress) -> Comparison
     ensures agree { Agree a.now b.now result }
     ensures order { result.order ≡ ⟦<HardwareAddress as Ord>⟧.cmp a.now b.now }
+{
+    compare(a, b)
+}
+
+/// Compares hardware addresses of any kind.
+pub fn compare_raw_hardware_addresses(a: &RawHardwareAddress, b: &RawHardwareAddress) -> Comparison
+    ensures agree { Agree a.now b.now result }
+    ensures order { result.order ≡ ⟦<RawHardwareAddress as Ord>⟧.cmp a.now b.now }
 {
     compare(a, b)
 }
@@ -131,6 +149,38 @@ pub fn compare_listen_endpoints(a: &IpListenEndpoint, b: &IpListenEndpoint) -> C
     compare(a, b)
 }
 
+/// Compares what tells the pieces of one cut packet from those of others.
+pub fn compare_fragment_keys(a: &Ipv4FragKey, b: &Ipv4FragKey) -> Comparison
+    ensures agree { Agree a.now b.now result }
+    ensures order { result.order ≡ ⟦<Ipv4FragKey as Ord>⟧.cmp a.now b.now }
+{
+    compare(a, b)
+}
+
+/// Compares what IP packets carry: a known number by its variant and as `Unknown` are two values.
+pub fn compare_ip_protocols(a: &IpProtocol, b: &IpProtocol) -> Comparison
+    ensures agree { Agree a.now b.now result }
+    ensures order { result.order ≡ ⟦<IpProtocol as Ord>⟧.cmp a.now b.now }
+{
+    compare(a, b)
+}
+
+/// Compares what Ethernet frames carry, in the same way.
+pub fn compare_ethernet_protocols(a: &EthernetProtocol, b: &EthernetProtocol) -> Comparison
+    ensures agree { Agree a.now b.now result }
+    ensures order { result.order ≡ ⟦<EthernetProtocol as Ord>⟧.cmp a.now b.now }
+{
+    compare(a, b)
+}
+
+/// Compares families.
+pub fn compare_versions(a: &IpVersion, b: &IpVersion) -> Comparison
+    ensures agree { Agree a.now b.now result }
+    ensures order { result.order ≡ ⟦<IpVersion as Ord>⟧.cmp a.now b.now }
+{
+    compare(a, b)
+}
+
 /// Compares sequence numbers by `==` and by their hashes. They go round, so they have no `cmp`.
 pub fn compare_sequence_numbers(a: SeqNumber, b: SeqNumber) -> (bool, u64, u64)
     ensures same { IsTrue result.0 ↔ (a ≡ b) }
@@ -139,4 +189,38 @@ pub fn compare_sequence_numbers(a: SeqNumber, b: SeqNumber) -> (bool, u64, u64)
     ensures alike { a ≡ b → result.1 ≡ result.2 }
 {
     (a == b, hash_of(&a), hash_of(&b))
+}
+
+/// Law: the values of the constants of hardware addresses.
+pub fn hardware_constants()
+    ensures most { MAX_HARDWARE_ADDRESS_LEN ≡ 6 }
+    ensures broadcast { IsEthernetBroadcast EthernetAddress.BROADCAST }
+{}
+
+/// Law: the values of the constants of IPv4.
+pub fn ipv4_constants()
+    ensures min_mtu { IPV4_MIN_MTU ≡ 576 }
+    ensures all_systems { IPV4_MULTICAST_ALL_SYSTEMS.0 ≡ 224 ∷ 0 ∷ 0 ∷ 1 ∷ [] }
+    ensures all_routers { IPV4_MULTICAST_ALL_ROUTERS.0 ≡ 224 ∷ 0 ∷ 0 ∷ 2 ∷ [] }
+    ensures unspecified { IsUnspecifiedV4 Ipv4Address.UNSPECIFIED }
+    ensures localhost { Ipv4Address.LOCALHOST.0 ≡ 127 ∷ 0 ∷ 0 ∷ 1 ∷ [] }
+    ensures broadcast { IsBroadcastV4 Ipv4Address.BROADCAST }
+{}
+
+/// Law: the values of the constants of IPv6.
+pub fn ipv6_constants()
+    ensures min_mtu { IPV6_MIN_MTU ≡ 1280 }
+    ensures all_nodes { IPV6_LINK_LOCAL_ALL_NODES.0 ≡ octets_of (0xff02 ∷ 0 ∷ 0 ∷ 0 ∷ 0 ∷ 0 ∷ 0 ∷ 1 ∷ []) }
+    ensures all_routers { IPV6_LINK_LOCAL_ALL_ROUTERS.0 ≡ octets_of (0xff02 ∷ 0 ∷ 0 ∷ 0 ∷ 0 ∷ 0 ∷ 0 ∷ 2 ∷ []) }
+    ensures all_mldv2_routers { IPV6_LINK_LOCAL_ALL_MLDV2_ROUTERS.0 ≡ octets_of (0xff02 ∷ 0 ∷ 0 ∷ 0 ∷ 0 ∷ 0 ∷ 0 ∷ 0x16 ∷ []) }
+    ensures unspecified { IsUnspecifiedV6 Ipv6Address.UNSPECIFIED }
+    ensures localhost { IsLoopbackV6 Ipv6Address.LOCALHOST }
+{}
+
+/// The blocks that have a constant: of solicited-node addresses, and of link-local ones.
+pub fn ipv6_prefixes() -> (Ipv6Cidr, Ipv6Cidr)
+    ensures solicited_node { IsBlock (IpCidr.Ipv6 result.0) (solicited_prefix ++ 0 ∷ 0 ∷ 0 ∷ []) 104 }
+    ensures link_local { IsBlock (IpCidr.Ipv6 result.1) (octets_of (0xfe80 ∷ 0 ∷ 0 ∷ 0 ∷ 0 ∷ 0 ∷ 0 ∷ 0 ∷ [])) 10 }
+{
+    (Ipv6Cidr::SOLICITED_NODE_PREFIX, Ipv6Cidr::LINK_LOCAL_PREFIX)
 }

@@ -18,6 +18,7 @@ fn prints_ipv6(rt: HostRuntime) -> Result<(), Fail> {
         ("2001:0db8::0001", "2001:db8::1"),
         ("2001:db8:0:0:0:0:2:1", "2001:db8::2:1"),
         ("2001:db8:0:1:1:1:1:1", "2001:db8:0:1:1:1:1:1"),
+        ("2001:db8::1:1:1:1:1", "2001:db8:0:1:1:1:1:1"),
         ("2001:0:0:1:0:0:0:1", "2001:0:0:1::1"),
         ("2001:db8:0:0:1:0:0:1", "2001:db8::1:0:0:1"),
     ] {
@@ -305,6 +306,7 @@ fn prints_endpoints(rt: HostRuntime) -> Result<(), Fail> {
     assert_eq!(rt; shown.as_str(), "fd00::1:53 *:80");
     assert!(rt; listening.is_specified() && !IpListenEndpoint::default().is_specified());
     assert_eq!(rt; IpListenEndpoint::from((there, 53)), listening);
+    assert_eq!(rt; IpListenEndpoint::default(), IpListenEndpoint::from(0));
     Ok(())
 }
 
@@ -344,7 +346,16 @@ fn compares_addresses(rt: HostRuntime) {
     let other = Ipv6Address::UNSPECIFIED;
     let (first, second) = (IpAddress::from(low), IpAddress::from(other));
     let (here, there) = (IpEndpoint::new(first, 2), IpEndpoint::new(first, 10));
+    let raw = RawHardwareAddress::from(STATION);
+    let longer = RawHardwareAddress::from_bytes(&[0xde, 0xad, 0xbe, 0xef, 0x01]);
     for said in [
+        laws::compare_raw_hardware_addresses(&raw, &longer),
+        laws::compare_versions(&IpVersion::Ipv4, &IpVersion::Ipv6),
+        laws::compare_ip_protocols(&IpProtocol::Udp, &IpProtocol::Unknown(17)),
+        laws::compare_ethernet_protocols(
+            &EthernetProtocol::Ipv6,
+            &EthernetProtocol::Unknown(0x86dd),
+        ),
         laws::compare_ethernet_addresses(&STATION, &EthernetAddress::BROADCAST),
         laws::compare_hardware_addresses(&HardwareAddress::Ip, &HardwareAddress::from(STATION)),
         laws::compare_ipv4_addresses(&low, &high),
@@ -360,9 +371,40 @@ fn compares_addresses(rt: HostRuntime) {
     }
     let said = laws::compare_endpoints(&here, &here);
     assert!(rt; said.equal && said.order.is_eq() && said.hashes.0 == said.hashes.1);
+    // The bytes and not what stands behind them: a zero more is another address.
+    let (two, three) = (
+        RawHardwareAddress::from_bytes(&[1, 2]),
+        RawHardwareAddress::from_bytes(&[1, 2, 0]),
+    );
+    assert!(rt; !laws::compare_raw_hardware_addresses(&two, &three).equal);
+    assert!(rt;
+        laws::compare_raw_hardware_addresses(&raw, &RawHardwareAddress::from(STATION)).equal
+    );
     let next = SeqNumber(7) + 1;
     let (equal, first, second) = laws::compare_sequence_numbers(SeqNumber(8), next);
     assert!(rt; equal && first == second);
+}
+
+// RFC 791, section 3.2: pieces of one packet have the same of all four.
+#[test]
+fn tells_cut_packets_apart(rt: HostRuntime) {
+    let key = Ipv4FragKey {
+        id: 7,
+        src_addr: Ipv4Address::new(10, 0, 0, 1),
+        dst_addr: Ipv4Address::new(10, 0, 0, 2),
+        protocol: IpProtocol::Udp,
+    };
+    let (mut id, mut source, mut destination, mut protocol) = (key, key, key, key);
+    id.id = 8;
+    source.src_addr = Ipv4Address::new(10, 0, 0, 3);
+    destination.dst_addr = Ipv4Address::new(10, 0, 0, 3);
+    protocol.protocol = IpProtocol::Icmpv6;
+    for other in [id, source, destination, protocol] {
+        let said = laws::compare_fragment_keys(&key, &other);
+        assert!(rt; !said.equal && said.order.is_lt(), "{other:?}");
+    }
+    let said = laws::compare_fragment_keys(&key, &key);
+    assert!(rt; said.equal && said.hashes.0 == said.hashes.1);
 }
 
 // RFC 4632 and RFC 919: blocks, their masks and their ends.
@@ -514,19 +556,32 @@ fn tells_versions_by_the_first_bits(rt: HostRuntime) {
     }
 }
 
-// IANA, "Protocol Numbers" and "IEEE 802 Numbers".
+// IANA, "Protocol Numbers".
 #[test]
 fn numbers_name_protocols(rt: HostRuntime) {
     for (number, protocol) in [
+        (0, IpProtocol::HopByHop),
         (1, IpProtocol::Icmp),
+        (2, IpProtocol::Igmp),
         (6, IpProtocol::Tcp),
         (17, IpProtocol::Udp),
+        (43, IpProtocol::Ipv6Route),
+        (44, IpProtocol::Ipv6Frag),
+        (50, IpProtocol::IpSecEsp),
+        (51, IpProtocol::IpSecAh),
         (58, IpProtocol::Icmpv6),
+        (59, IpProtocol::Ipv6NoNxt),
+        (60, IpProtocol::Ipv6Opts),
         (200, IpProtocol::Unknown(200)),
     ] {
         assert_eq!(rt; IpProtocol::from(number), protocol);
         assert_eq!(rt; u8::from(protocol), number);
     }
+}
+
+// IANA, "IEEE 802 Numbers".
+#[test]
+fn numbers_name_ethernet_protocols(rt: HostRuntime) {
     for (number, protocol) in [
         (0x0800, EthernetProtocol::Ipv4),
         (0x0806, EthernetProtocol::Arp),
@@ -536,6 +591,43 @@ fn numbers_name_protocols(rt: HostRuntime) {
         assert_eq!(rt; EthernetProtocol::from(number), protocol);
         assert_eq!(rt; u16::from(protocol), number);
     }
+}
+
+// IANA's registries of multicast addresses; RFC 791, 8200, 4291 and 3810.
+#[test]
+fn constants_have_their_values(rt: HostRuntime) {
+    laws::hardware_constants();
+    laws::ipv4_constants();
+    laws::ipv6_constants();
+    for (text, address) in [
+        ("224.0.0.1", IpAddress::Ipv4(IPV4_MULTICAST_ALL_SYSTEMS)),
+        ("224.0.0.2", IpAddress::Ipv4(IPV4_MULTICAST_ALL_ROUTERS)),
+        ("0.0.0.0", IpAddress::Ipv4(Ipv4Address::UNSPECIFIED)),
+        ("127.0.0.1", IpAddress::Ipv4(Ipv4Address::LOCALHOST)),
+        ("255.255.255.255", IpAddress::Ipv4(Ipv4Address::BROADCAST)),
+        ("ff02::1", IpAddress::Ipv6(IPV6_LINK_LOCAL_ALL_NODES)),
+        ("ff02::2", IpAddress::Ipv6(IPV6_LINK_LOCAL_ALL_ROUTERS)),
+        (
+            "ff02::16",
+            IpAddress::Ipv6(IPV6_LINK_LOCAL_ALL_MLDV2_ROUTERS),
+        ),
+        ("::", IpAddress::Ipv6(Ipv6Address::UNSPECIFIED)),
+        ("::1", IpAddress::Ipv6(Ipv6Address::LOCALHOST)),
+    ] {
+        assert_eq!(rt; text.parse(), Ok(address), "at {text}");
+    }
+    let (solicited, local) = laws::ipv6_prefixes();
+    for (text, block) in [("fe80::/10", local), ("ff02::1:ff00:0/104", solicited)] {
+        assert_eq!(rt; text.parse(), Ok(block), "at {text}");
+        assert_eq!(rt;
+            IpCidr::from(block).address(),
+            IpAddress::from(block.address())
+        );
+    }
+    assert_eq!(rt;
+        (IPV4_MIN_MTU, IPV6_MIN_MTU, MAX_HARDWARE_ADDRESS_LEN),
+        (576, 1280, 6)
+    );
 }
 
 #[test]
