@@ -1,13 +1,11 @@
 -- When the keys of fragments are equal.
-use Rattle.std.proofs.Common.{rules, ◌≡◌, ℕ, List, ap}
-use Rattle.std.specs.Prelude.{Bool}
+use Rattle.std.proofs.Common.{rules, ◌≡◌, ap}
 use Rattle.std.specs.Bool.{Decides}
 use Rattle.std.proofs.lemmas.Bool.Decides.{Decides-and, Decides-eqb}
 use Rattle.std.proofs.lemmas.Slice.Eq.{bytes_eq-Decides}
 use Rattle.ip_address.specs.contracts.ip.IpProtocolPartialEq.TheImpl as Protocol
 use Rattle.ip_address.specs.contracts.ipv4.Ipv4FragKeyPartialEq.TheImpl as Key
 use Rattle.ip_address.specs.declared.ip.IpProtocol.{IpProtocol}
-use Rattle.ip_address.specs.declared.ipv4.Ipv4Address.{Ipv4Address}
 use Rattle.ip_address.specs.declared.ipv4.Ipv4FragKey.{Ipv4FragKey}
 
 -- protocols are compared whole
