@@ -1,4 +1,4 @@
-use Rattle.std.proofs.Common.{◌≡◌, ◌+◌, ◌%◌, length, ◌∙◌, arith}
+use Rattle.std.proofs.Common.{◌≡◌, ◌+◌, ◌%◌, length, arith}
 use Rattle.net_containers.proofs.Rings.{sees, part_of, ends_within}
 use Rattle.net_containers.proofs.ring_buffer.RingBuffer.part.Goals as goal
 
