@@ -178,7 +178,7 @@ fn take_entry<H>(metadata: &mut RingBuffer<PacketMetadata<H>>) -> Result<(H, usi
 }
 
 impl<H> PacketBuffer<H> {
-    ghost use Rattle.net_containers.specs.PacketLends.{EndsUnpadded};
+    ghost use Rattle.net_containers.specs.PacketLends.{EndsUnpadded, EndsTaken};
 
     /// Returns how many bytes of padding a packet of `size` bytes needs before it.
     fn padding_for(&self, size: usize) -> Result<usize, Full>
@@ -336,6 +336,22 @@ impl<H> PacketBuffer<H> {
         let (header, count) = take_entry(&mut self.metadata)?;
         self.payload.dequeue_allocated(count);
         Ok(header)
+    }
+
+    /// Gives up the first packet, and hands out its bytes for reading where they lie. `peek` shows the header before.
+    pub fn take_bytes(&mut self) -> Result<&[u8], Empty>
+    where
+        H: Drop,
+        ensures* ends { sem 𝓛 (EndsTaken H.row self.entry result) }
+        ensures empty { IsErr result ↔ (self.old.packets ≡ []) }
+        ensures first { IfOk result (λ bytes. (header : H) × (first self.old ≡ Some (header, bytes.now))) }
+    {
+        self.dequeue_padding();
+        let (header, size) = take_entry(&mut self.metadata)?;
+        drop(header);
+        let from = self.payload.capacity() - size;
+        self.payload.dequeue_allocated(size);
+        Ok(self.payload.part(from, size))
     }
 
     /// Returns the first packet's header and bytes, and gives up the padding before it.

@@ -150,6 +150,16 @@ impl<T> RingBuffer<T> {
         self.storage.slice_mut(at..at + size)
     }
 
+    /// Returns the elements from `offset` on, counted from the read place.
+    pub(crate) fn part(&self, offset: usize, size: usize) -> &[T]
+        requires within { offset + size ≤ capacity self.now }
+        requires unbroken { size ≤ until_end self.now offset }
+        ensures { result.now ≡ take size (drop offset (self.now.queue ++ self.now.free)) }
+    {
+        let at = place(self.read_at, offset, self.storage.len());
+        &self.storage.as_slice()[at..at + size]
+    }
+
     /// Lends the element at `offset`, counted from the read place.
     fn element_mut(&mut self, offset: usize) -> &mut T
         requires { offset < capacity self.old }

@@ -338,6 +338,32 @@ fn offers_and_settles(queue: &mut PacketBuffer<u16>) -> Result<usize, Empty>
     Ok(size)
 }
 
+/// A packet read where it lies.
+fn takes(queue: &mut PacketBuffer<u16>, bytes: &[u8]) -> Result<bool, Empty>
+    ensures taken { OnOk result (queue.new ≡ without_first queue.old) }
+    ensures refused { OnErr result (queue.new ≡ queue.old) }
+{
+    let taken = queue.take_bytes()?;
+    Ok(taken == bytes)
+}
+
+#[test]
+fn reads_packets_where_they_lie(rt: HostRuntime) -> Result<(), Fail> {
+    let mut queue = queue_of(&rt, 4, 8)?;
+    assert_eq!(rt; takes(&mut queue, b""), Err(Empty));
+    assert_eq!(rt; queue.enqueue_slice(1, b"abcde"), Ok(()));
+    assert_eq!(rt; queue.enqueue_slice(2, b"fg"), Ok(()));
+    assert_eq!(rt; takes(&mut queue, b"abcde"), Ok(true));
+    // One byte of padding comes before it.
+    assert_eq!(rt; queue.enqueue_slice(3, b"hij"), Ok(()));
+    assert_eq!(rt; queue.payload_bytes_count(), 6);
+    assert_eq!(rt; takes(&mut queue, b"fg"), Ok(true));
+    assert!(rt; shows(&mut queue, 3, b"hij"));
+    assert_eq!(rt; takes(&mut queue, b"hij"), Ok(true));
+    assert_eq!(rt; queue.payload_bytes_count(), 0);
+    Ok(())
+}
+
 #[test]
 fn copies_packets(rt: HostRuntime) -> Result<(), Fail> {
     let mut queue = queue_of(&rt, 3, 8)?;
