@@ -27,6 +27,14 @@ heard Listen opening irs c fits = absurd c
 heard SynSent opening irs c fits = absurd c
 heard Ended opening irs c fits = absurd c
 
+pub fits_connected : (phase : Phase) (opening : Opening) (irs : ℕ) → IsConnected phase → 2 ^ 32 ≤ irs → FitsPhase phase opening irs
+fits_connected SynReceived opening irs c low = low
+fits_connected Synchronized opening irs c low = low
+fits_connected Unopened opening irs c low = absurd c
+fits_connected Listen opening irs c low = absurd c
+fits_connected SynSent opening irs c low = absurd c
+fits_connected Ended opening irs c low = absurd c
+
 pub fits_at : (s : Side) (phase : Phase) → IsWellFormed s → s.phase ≡ phase → FitsPhase phase s.opening s.irs
 fits_at s phase well e = subst (λ (p : Phase). FitsPhase p s.opening s.irs) e well.phase
 

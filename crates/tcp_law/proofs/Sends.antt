@@ -7,7 +7,7 @@ use Rattle.tcp_law.specs.Side.{Side, rcv_next}
 use Rattle.tcp_law.specs.Side.Phase.{SynSent, Synchronized}
 use Rattle.tcp_law.specs.Move.{sends, syn, syn_ack, bare_ack, data_segment, keep_alive, bytes_from}
 use Rattle.tcp_law.specs.Move.Move.{SendsSyn, SendsSynAck, SendsAck, SendsData, SendsKeepAlive, SendsReset}
-use Rattle.tcp_law.specs.Invariant.{IsLate, IsBelow, HasReached, IsHonest, IsInStep, IsSilent, IsWellFormed, OneWay}
+use Rattle.tcp_law.specs.Invariant.{IsLate, IsBelow, HasReached, IsHonest, IsInStep, IsSilent, OneWay}
 use Rattle.tcp_law.proofs.Lists.{Begins-take, AllByRecursion-push}
 use Rattle.tcp_law.proofs.Grows.{Grows-same, IsWellFormed-same, IsHonest-own, OneWay-own, OneWay-same}
 use Rattle.tcp_law.proofs.Calls.{Keeps, same_sync, heard, fits_at}

@@ -1,5 +1,5 @@
 -- Bytes and a FIN that a side takes keep the invariant.
-use Rattle.std.proofs.Common.{◌≡◌, ◌⊎◌, inl, inr, ℕ, suc, ◌+◌, ◌-◌, ◌^◌, ◌<◌, ◌≤◌, Bool, true, false, List, [], ◌++◌, length, drop, Option, refl, sym, ap, ◌∙◌, subst, arith, append_assoc, length-append, drop-drop, drop_of_length-le}
+use Rattle.std.proofs.Common.{◌≡◌, ◌⊎◌, inl, inr, ℕ, suc, ◌+◌, ◌-◌, ◌^◌, ◌<◌, ◌≤◌, true, false, List, [], ◌++◌, length, drop, Option, sym, ap, ◌∙◌, subst, arith, append_assoc, length-append, drop-drop, drop_of_length-le}
 use Rattle.tcp_law.specs.ReceiveMap.{Begins, AgreesWith, store, front, behind}
 use Rattle.tcp_law.specs.Numbers.{wire, IsNear}
 use Rattle.tcp_law.specs.Segment.{Segment, IsData}
@@ -8,7 +8,7 @@ use Rattle.tcp_law.specs.Side.{Side, taken_in, rcv_next, one_if}
 use Rattle.tcp_law.specs.Side.Phase.{Synchronized}
 use Rattle.tcp_law.specs.Move.{after, laid}
 use Rattle.tcp_law.specs.Move.Move.{TakesBytes, TakesFin}
-use Rattle.tcp_law.specs.Invariant.{IsEarly, IsPiece, IsBelow, IsPlain, IsSyn, IsHonest, IsWellFormed, IsInStep, IsSilent, IsComplete, OneWay}
+use Rattle.tcp_law.specs.Invariant.{IsEarly, IsPiece, IsBelow, IsPlain, IsSyn, IsHonest, IsInStep, IsSilent, IsComplete, OneWay}
 use Rattle.tcp_law.proofs.Lists.{Begins-append, Begins-drop, Begins-front, Begins-length, Begins-nothing, Begins-whole, AgreesWith-store, AgreesWith-behind, store-nothing, drop-nothing, drop-twice}
 use Rattle.tcp_law.proofs.Calls.{Keeps, keeps_received, one_if-small, fits_at}
 use Rattle.tcp_law.proofs.Opening.{honest}
