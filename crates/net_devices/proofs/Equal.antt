@@ -1,5 +1,5 @@
 -- What a device says of itself is equal where each part is.
-use Rattle.std.proofs.Common.{rules, ◌≡◌, ◌↔◌, IsTrue, ℕ, Bool, true, false, refl, ap, sym, ◌∙◌, subst, ◌&&◌, nat_eq}
+use Rattle.std.proofs.Common.{rules, ◌≡◌, ◌↔◌, IsTrue, ℕ, Bool, true, false, refl, ◌&&◌, nat_eq}
 use denote.Enum.Bare.{sameb}
 use Rattle.net_devices.specs.contracts.capabilities.Checksum.{the_type}
 use Rattle.net_devices.specs.contracts.capabilities.Medium as medium

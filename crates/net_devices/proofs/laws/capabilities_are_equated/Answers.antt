@@ -1,4 +1,4 @@
-use Rattle.std.proofs.Common.{◌≡◌, subst, IsTrue}
+use Rattle.std.proofs.Common.{subst, IsTrue}
 use Rattle.net_devices.proofs.Equal.{equal_checksums, equal_capabilities, same_checksums, checksums_reflexive, same_capabilities, capabilities_reflexive}
 use Rattle.net_devices.proofs.laws.capabilities_are_equated.Goals as goal
 
