@@ -1,5 +1,5 @@
 -- A port: one host's end of the link, as two lists of frames.
-use Rattle.std.specs.Prelude.{◌≡◌, ℕ, ◌+◌, ◌≤◌, IsTrue, List, [], ◌∷◌, ◌++◌, length}
+use Rattle.std.specs.Prelude.{◌≡◌, ℕ, ◌+◌, ◌≤◌, nat_le, if◌then◌else◌, IsTrue, List, [], ◌∷◌, ◌++◌, length}
 use Rattle.net_base.specs.Device.{Move, Took, Empty, Allowed, Emitted, Denied, gives_tokens}
 use Rattle.net_base.specs.DeviceCapabilities.{DeviceCapabilities}
 use Rattle.lan_port.specs.Pool.{ready_left}
@@ -25,6 +25,10 @@ unused_end said = record { waiting = []; sent = []; refusals = 0; capabilities =
 -- a frame comes to the end of a link, and waits behind the others
 abbrev pub arrived : LinkEnd → List ℕ → LinkEnd
 arrived link frame = record link { waiting = link.waiting ++ frame ∷ [] }
+
+-- how many of the buffers that lie ready fit frames of this length
+abbrev pub ready_for : PortValue → ℕ → ℕ
+ready_for port len = if nat_le len port.size then port.ready else 0
 
 -- how many buffers lie ready once a frame of this length was sent
 abbrev pub ready_after : PortValue → ℕ → ℕ

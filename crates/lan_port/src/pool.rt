@@ -1,4 +1,4 @@
-ghost use Rattle.std.specs.Prelude.{◌≡◌, ◌+◌, ◌-◌, ◌<◌, ◌≤◌, vec_len, vec_capacity, [], ◌∷◌, ◌++◌, All, IfSome, IfNone, OnSome, IfOk, OnOk};
+ghost use Rattle.std.specs.Prelude.{◌≡◌, ◌+◌, ◌-◌, ◌<◌, ◌≤◌, vec_len, vec_capacity, [], ◌∷◌, ◌++◌, max, All, IfSome, IfNone, OnSome, IfOk, OnOk, OnErr};
 ghost use Rattle.net_base.specs.Device.{frames_of};
 ghost use Rattle.lan_port.specs.Pool.{Pool, ready_left};
 
@@ -15,7 +15,8 @@ pub(crate) fn fill(
     requires { Pool sent.old ready.old size }
     ensures pool { Pool sent.new ready.new size }
     ensures frames { sent.new.items ≡ sent.old.items }
-    ensures ok { OnOk result (count ≤ vec_len ready.new) }
+    ensures ok { OnOk result (vec_len ready.new ≡ max count (vec_len ready.old)) }
+    ensures err { OnErr result ((vec_len ready.old ≤ vec_len ready.new) × (vec_len ready.new < count)) }
 {
     if count <= ready.len() {
         return Ok(());

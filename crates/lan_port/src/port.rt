@@ -1,6 +1,6 @@
-ghost use Rattle.std.specs.Prelude.{◌≡◌, ◌≤◌, [], ◌∷◌, ◌++◌, OnOk, OnErr};
+ghost use Rattle.std.specs.Prelude.{◌≡◌, ◌<◌, ◌≤◌, max, [], ◌∷◌, ◌++◌, OnOk, OnErr};
 ghost use Rattle.net_base.specs.Device.{frames_of};
-ghost use Rattle.lan_port.specs.Port.{unused_end, arrived};
+ghost use Rattle.lan_port.specs.Port.{unused_end, arrived, ready_for};
 
 use crate::pool::{fill, keep, take_buffer};
 use net_base::{Device, DeviceCapabilities, Instant, OwnedRxToken, SendRefused, TxToken};
@@ -98,8 +98,9 @@ impl Port {
     /// them, or until a longer frame is asked for.
     pub fn prepare(&mut self, count: usize, size: usize) -> Result<(), AllocError>
         ensures link { self.new.link ≡ self.old.link }
-        ensures ready { OnOk result (count ≤ self.new.ready) }
-        ensures size { OnOk result (size ≤ self.new.size) }
+        ensures ready { OnOk result (self.new.ready ≡ max count (ready_for self.old size)) }
+        ensures short { OnErr result ((ready_for self.old size ≤ self.new.ready) × (self.new.ready < count)) }
+        ensures size { self.new.size ≡ max self.old.size size }
     {
         if self.frame_size < size {
             self.spare.truncate(0);

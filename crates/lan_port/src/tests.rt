@@ -114,3 +114,21 @@ fn prepared_frames_are_not_refused(rt: HostRuntime) -> Result<(), Fail> {
     assert_eq!(rt; port.sent().len(), 2);
     Ok(())
 }
+
+#[test]
+fn many_and_long_frames_are_not_refused(rt: HostRuntime) -> Result<(), Fail> {
+    let mut port = ip_port(rt.alloc());
+    for _ in 0..300 {
+        port.push(b"ping".to_vec(rt.alloc())?)?;
+    }
+    for _ in 0..300 {
+        assert!(rt; echo(&mut port));
+    }
+    for length in [0, 65_535, 70_000] {
+        let leave = port.transmit(Instant::ZERO).ok_or("leave to send")?;
+        port.send(leave, length, |buffer: &mut [u8]| buffer.fill(7))?;
+    }
+    assert_eq!(rt; port.sent().len(), 303);
+    assert_eq!(rt; port.refusals(), 0);
+    Ok(())
+}

@@ -15,5 +15,6 @@ pub use net_containers::{
 pub use net_devices::{
     Checksum, ChecksumCapabilities, Device, DeviceCapabilities, IPV4_FRAGMENT_PAYLOAD_ALIGNMENT,
     Loopback, LoopbackTxToken, Medium, OwnedRxToken, PacketMeta, RxToken, SendRefused, TxToken,
+    laws as device_laws,
 };
 pub use net_time::{Duration, Instant, Rand, laws};

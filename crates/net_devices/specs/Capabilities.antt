@@ -38,3 +38,8 @@ ip_mtu c = c.max_transmission_unit - frame_header c.medium
 -- count in units of 8 bytes (RFC 791, section 3.2)
 abbrev pub fragment_size : DeviceCapabilities → ℕ → ℕ
 fragment_size c header = (ip_mtu c - header) / 8 * 8
+
+-- what a device says of itself by default
+abbrev pub default_capabilities : DeviceCapabilities
+default_capabilities =
+    record { medium = Ethernet; max_transmission_unit = 0; checksum = all_checksums checksum.Both }

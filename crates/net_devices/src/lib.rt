@@ -3,6 +3,7 @@
 
 mod capabilities;
 mod device;
+pub mod laws;
 mod loopback;
 mod owned;
 #[cfg(test)]

@@ -4,9 +4,10 @@ use std::test::Fail;
 
 /// Sends the bytes, by a device that is known by its bound alone.
 fn send_bytes<D: Device>(device: &mut D, bytes: &[u8]) -> bool {
-    let Some(token) = device.transmit(Instant::ZERO) else {
+    let Some(mut token) = device.transmit(Instant::ZERO) else {
         return false;
     };
+    token.set_meta(PacketMeta::default());
     device
         .send(token, bytes.len(), |buffer: &mut [u8]| {
             buffer.copy_from_slice(bytes)
@@ -17,6 +18,7 @@ fn send_bytes<D: Device>(device: &mut D, bytes: &[u8]) -> bool {
 /// The length of the next frame, by a device that is known by its bound alone.
 fn next_length<D: Device>(device: &mut D) -> Option<usize> {
     let (token, _leave) = device.receive(Instant::ZERO)?;
+    let _meta = token.meta();
     Some(token.consume(|frame: &[u8]| frame.len()))
 }
 
@@ -105,4 +107,26 @@ fn checksums_say_which_way(rt: HostRuntime) {
     }
     assert!(rt; ChecksumCapabilities::default().tcp.rx());
     assert!(rt; !ChecksumCapabilities::ignored().icmpv6.tx());
+}
+
+#[test]
+fn loopback_takes_many_and_long_frames(rt: HostRuntime) -> Result<(), Fail> {
+    let mut device = Loopback::new(rt.alloc(), Medium::Ip);
+    // One is longer than the capabilities say.
+    let lengths = [0, 1, 1500, 65_535, 70_000];
+    for length in lengths {
+        let leave = device.transmit(Instant::ZERO).ok_or("leave to send")?;
+        device.send(leave, length, |buffer: &mut [u8]| buffer.fill(7))?;
+    }
+    for length in lengths {
+        assert_eq!(rt; next_length(&mut device), Some(length));
+    }
+    for _ in 0..300 {
+        assert!(rt; send_bytes(&mut device, b"again"));
+    }
+    for _ in 0..300 {
+        assert_eq!(rt; next_length(&mut device), Some(5));
+    }
+    assert_eq!(rt; device.refusals(), 0);
+    Ok(())
 }

@@ -1,9 +1,10 @@
-//! What the comparisons of instants and durations mean.
-ghost use Rattle.std.specs.Prelude.{◌≡◌, ◌↔◌, ℕ, ℤ, IsTrue};
+//! What the comparisons, constants and defaults of instants and durations mean.
+ghost use Rattle.std.specs.Prelude.{◌≡◌, ◌↔◌, ℕ, ℤ, pos, IsTrue};
 ghost use Rattle.std.specs.Cmp.{IsTotalOrder};
 ghost use Rattle.std.specs.Hash as fed;
 ghost use Rattle.std.specs.Ordering.{nat_cmp, int_cmp};
 ghost use Rattle.std.specs.declared.cmp.Ordering.TheVariants.{Equal};
+ghost use Rattle.net_time.specs.Time.{longest};
 
 use crate::duration::Duration;
 use crate::instant::Instant;
@@ -56,4 +57,19 @@ pub fn durations_are_ordered()
     ensures hashed { (a : ℕ) → ⟦<Duration as Hash>⟧.hash_input a ≡ fed.u64 a }
     ensures alike { (a b : ℕ) → IsTrue (⟦<Duration as PartialEq>⟧.eq a b)
         → ⟦<Duration as Hash>⟧.hash_input a ≡ ⟦<Duration as Hash>⟧.hash_input b }
+{}
+
+/// The constants are the start, no time, and the longest duration.
+pub fn constants() -> (Instant, Duration, Duration)
+    ensures start { result.0 ≡ pos 0 }
+    ensures no_time { result.1 ≡ 0 }
+    ensures longest { result.2 ≡ longest }
+{
+    (Instant::ZERO, Duration::ZERO, Duration::MAX)
+}
+
+/// By default an instant is the start, and a duration no time.
+pub fn defaults_are_zero()
+    ensures instants { (t : ℤ) → ⟦<Instant as Default>⟧.is_default t → t ≡ pos 0 }
+    ensures durations { (d : ℕ) → ⟦<Duration as Default>⟧.is_default d → d ≡ 0 }
 {}

@@ -157,4 +157,12 @@ fn laws_name_what_comparisons_say(rt: HostRuntime) {
     let (short, long) = (Duration::from_micros(3), Duration::from_micros(7));
     assert!(rt; laws::orders_durations(short, long).is_lt());
     assert!(rt; !laws::equates_durations(short, long));
+    assert_eq!(rt;
+        laws::constants(),
+        (
+            Instant::default(),
+            Duration::default(),
+            Duration::from_micros(u64::MAX)
+        )
+    );
 }

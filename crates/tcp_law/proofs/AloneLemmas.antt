@@ -1,17 +1,16 @@
 -- A side whose partner isn't opened has nothing, and any partner that isn't opened will do.
-use Rattle.std.proofs.Common.{◌≡◌, ◌⊎◌, inl, inr, ℕ, ◌^◌, ◌≤◌, Bool, true, false, List, [], length, drop, refl, sym, ap, ◌∙◌, subst, arith, le_refl}
+use Rattle.std.proofs.Common.{◌≡◌, ◌⊎◌, inl, inr, ℕ, ◌^◌, ◌≤◌, Bool, true, false, List, [], length, drop, refl, sym, ap, ◌∙◌, subst, arith}
 use Rattle.tcp_law.specs.ReceiveMap.{Begins, AgreesWith}
 use Rattle.tcp_law.specs.Numbers.{wire}
 use Rattle.tcp_law.specs.Segment.{Segment}
-use Rattle.tcp_law.specs.Segment.Control.{Rst}
 use Rattle.tcp_law.specs.Side.{Side, taken_in}
-use Rattle.tcp_law.specs.Side.Phase.{Unopened, Synchronized}
-use Rattle.tcp_law.specs.Side.Opening.{NotYet, Passive, Active}
+use Rattle.tcp_law.specs.Side.Phase.{Unopened}
+use Rattle.tcp_law.specs.Side.Opening.{NotYet, Active}
 use Rattle.tcp_law.specs.Alone.{HasNothing, AreResets, unopened}
 use Rattle.tcp_law.specs.Invariant.{IsPiece, IsBelow, IsPlain, IsSyn, HasReached, IsHonest, IsInStep, IsSilent, OneWay}
 use Rattle.tcp_law.proofs.Lists.{Begins-nothing, AgreesWith-space, AllByRecursion-map}
 use Rattle.tcp_law.proofs.Calls.{fits_at, early_at}
-use Rattle.tcp_law.proofs.Theorem.{freed-reached}
+use Rattle.tcp_law.proofs.Theorem.{freed-reached, OneWay-from_unopened}
 
 module _ (s t : Side) (out : OneWay s t) (back : OneWay t s) (phase : t.phase ≡ Unopened) where
   no_stream : (t.written ≡ []) × (taken_in t ≡ []) × (t.closed ≡ false) × (t.took_fin ≡ false)
@@ -70,22 +69,8 @@ module _ (s t : Side) (out : OneWay s t) (back : OneWay t s) (phase : t.phase �
       listener (inl none) = inl none
       listener (inr heard) = absurd (let unset = (fits_at t Unopened back.well_formed phase).0 in let clash : NotYet ≡ Active = sym unset ∙ heard.1 in cc)
 
-    pub OneWay-from_unopened : OneWay (unopened capacity resets) s
-    OneWay-from_unopened = record {
-      well_formed =
-          record {
-            phase = (refl, refl);
-            early = λ _. (refl, refl, refl, refl);
-            iss = (omega arith, omega arith);
-            una_low = le_refl _;
-            una_high = omega arith;
-            short = omega arith;
-            irs = omega arith;
-          };
-      sync = inr (record { unwritten = refl; closed = λ (e : Unopened ≡ Synchronized). absurd (cc); una = inl refl });
-      received = subst (λ (ys : List ℕ). Begins (taken_in s) ys) no_stream.0 back.received;
-      held = subst (λ (ys : List ℕ). AgreesWith s.window (drop (length (taken_in s)) ys)) no_stream.0 back.held;
-      fin = λ e. absurd (let still = unfinished s.took_fin refl in let clash : false ≡ true = sym still ∙ e in cc);
-      listener = λ (e : NotYet ≡ Passive). absurd (cc);
-      sent = AllByRecursion-map (λ x. x.control ≡ Rst) (IsHonest (unopened capacity resets) s) (λ x reset. inl reset) resets are_resets;
-    }
+    pub OneWay-unopened_to : OneWay (unopened capacity resets) s
+    OneWay-unopened_to =
+        let received : Begins (taken_in s) [] = subst (λ (ys : List ℕ). Begins (taken_in s) ys) no_stream.0 back.received in
+        OneWay-from_unopened capacity resets s are_resets (Begins-nothing (taken_in s) received) (unfinished s.took_fin refl)
+        (subst (λ (ys : List ℕ). AgreesWith s.window (drop (length (taken_in s)) ys)) no_stream.0 back.held)

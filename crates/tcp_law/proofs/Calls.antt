@@ -1,15 +1,15 @@
 -- The calls of a user, the end of a connection and the fallback of a listener keep the invariant.
-use Rattle.std.proofs.Common.{◌≡◌, ◌⊎◌, inl, inr, ℕ, ◌+◌, ◌^◌, ◌≤◌, Bool, true, false, List, [], ◌++◌, length, take, drop, refl, sym, ap, ◌∙◌, subst, arith, length-append, append-nil, append_assoc, take-append-drop, le_refl}
+use Rattle.std.proofs.Common.{◌≡◌, ◌⊎◌, inl, inr, ℕ, ◌+◌, ◌^◌, ◌≤◌, Bool, true, false, List, [], ◌++◌, length, take, drop, Option, refl, sym, ap, ◌∙◌, subst, arith, length-append, append-nil, append_assoc, take-append-drop, le_refl}
 use Rattle.tcp_law.specs.Numbers.{wire}
-use Rattle.tcp_law.specs.ReceiveMap.{Begins, AgreesWith}
-use Rattle.tcp_law.specs.Side.{Phase, Opening, Side, taken_in, one_if, IsConnected}
+use Rattle.tcp_law.specs.ReceiveMap.{Begins, AgreesWith, space}
+use Rattle.tcp_law.specs.Side.{Phase, Opening, Side, taken_in, rcv_next, one_if, IsConnected}
 use Rattle.tcp_law.specs.Side.Phase.{Unopened, Listen, SynSent, SynReceived, Synchronized, Ended}
 use Rattle.tcp_law.specs.Side.Opening.{NotYet, Passive, Active}
 use Rattle.tcp_law.specs.Move.{Move, May, after}
 use Rattle.tcp_law.specs.Move.Move.{Listens, Connects, Writes, Reads, Closes, Ends, FallsBack}
-use Rattle.tcp_law.specs.Invariant.{IsLate, IsEarly, FitsPhase, IsWellFormed, IsInStep, IsSilent, OneWay, HasReached}
+use Rattle.tcp_law.specs.Invariant.{IsLate, IsEarly, FitsPhase, HasNoStream, IsWellFormed, IsInStep, IsSilent, IsComplete, OneWay, HasReached}
 use Rattle.tcp_law.proofs.Lists.{AgreesWith-room, AgreesWith-space}
-use Rattle.tcp_law.proofs.Grows.{Grows, IsInStep-same, IsComplete-same, OneWay-own, OneWay-other}
+use Rattle.tcp_law.proofs.Grows.{Grows, Grows-same, IsWellFormed-same, IsInStep-same, IsComplete-same, OneWay-own, OneWay-other, OneWay-same}
 
 -- a move of s keeps both streams
 abbrev pub Keeps : Side → Side → Move → Type 0
@@ -27,6 +27,14 @@ heard Listen opening irs c fits = absurd c
 heard SynSent opening irs c fits = absurd c
 heard Ended opening irs c fits = absurd c
 
+pub fits_connected : (phase : Phase) (opening : Opening) (irs : ℕ) → IsConnected phase → 2 ^ 32 ≤ irs → FitsPhase phase opening irs
+fits_connected SynReceived opening irs c low = low
+fits_connected Synchronized opening irs c low = low
+fits_connected Unopened opening irs c low = absurd c
+fits_connected Listen opening irs c low = absurd c
+fits_connected SynSent opening irs c low = absurd c
+fits_connected Ended opening irs c low = absurd c
+
 pub fits_at : (s : Side) (phase : Phase) → IsWellFormed s → s.phase ≡ phase → FitsPhase phase s.opening s.irs
 fits_at s phase well e = subst (λ (p : Phase). FitsPhase p s.opening s.irs) e well.phase
 
@@ -36,21 +44,43 @@ early_at s phase e early = subst IsEarly (sym e) early
 pub not_late : {A : Type 0} (s : Side) (phase : Phase) → s.phase ≡ phase → (IsLate phase → ⊥) → IsLate s.phase → A
 not_late s phase e early late = absurd (early (subst IsLate e late))
 
+pub one_if-small : (b : Bool) → one_if b ≤ 1
+one_if-small true = omega arith
+one_if-small false = omega arith
+
 -- where nothing of the stream to the partner changes
-pub same_sync : (s new t : Side) → new.iss ≡ s.iss → new.una ≡ s.una → new.written ≡ s.written → new.phase ≡ s.phase → new.closed ≡ s.closed → IsInStep s t ⊎ IsSilent s t → IsInStep new t ⊎ IsSilent new t
-same_sync s new t iss una written phase closed (inl in_step) = inl (IsInStep-same s new t iss una in_step)
-same_sync s new t iss una written phase closed (inr silent) = inr (record { unwritten = written ∙ silent.unwritten; closed = λ e. closed ∙ silent.closed (sym phase ∙ e); una = by silent.una }) where
+pub same_sync :
+    (s new t : Side) → new.iss ≡ s.iss → new.una ≡ s.una → new.written ≡ s.written
+    → ((s.phase ≡ Synchronized → s.closed ≡ true) → new.phase ≡ Synchronized → new.closed ≡ true)
+    → IsInStep s t ⊎ IsSilent s t
+    → IsInStep new t ⊎ IsSilent new t
+same_sync s new t iss una written closed (inl in_step) = inl (IsInStep-same s new t iss una in_step)
+same_sync s new t iss una written closed (inr silent) = inr (record { unwritten = written ∙ silent.unwritten; closed = closed silent.closed; una = by silent.una }) where
   by : (s.una ≡ s.iss) ⊎ HasReached t (wire s.una) → (new.una ≡ new.iss) ⊎ HasReached t (wire new.una)
   by (inl first) = inl (una ∙ (first ∙ sym iss))
   by (inr reached) = inr (subst (λ (p : ℕ). HasReached t (wire p)) (sym una) reached)
+
+-- where only what the side took in changes
+pub keeps_received :
+    (s t : Side) (read waiting : List ℕ) (window : List (Option ℕ)) (fin : Bool) → let new : Side = record s { read = read; waiting = waiting; window = window; took_fin = fin } in
+    OneWay s t → OneWay t s → rcv_next s ≤ rcv_next new → (IsEarly s.phase → HasNoStream new)
+    → Begins (taken_in new) t.written → AgreesWith window (drop (length (taken_in new)) t.written) → (fin ≡ true → IsComplete t new)
+    → OneWay new t × OneWay t new
+keeps_received s t read waiting window fin out back further early received held complete =
+    let new : Side = record s { read = read; waiting = waiting; window = window; took_fin = fin } in
+    let well = out.well_formed in
+    let grows = Grows-same s new (λ late. late) refl refl (λ e. e) refl (λ _. (refl, further)) in
+    let well' = IsWellFormed-same s new well refl refl refl (le_refl _) refl well.phase early in (
+      OneWay-own s new grows t out well' (same_sync s new t refl refl refl (λ h. h) out.sync) out.listener (λ sent. sent),
+      OneWay-other s new grows t back received held complete,
+    )
 
 pub keeps_listens : (s t : Side) → Keeps s t Listens
 keeps_listens s t out back may =
     let new = after s Listens in
     let well = out.well_formed in
-    let fits = fits_at s Unopened well may in
-    let unset = fits.0 in
-    let none = fits.1 in
+    let unset = (fits_at s Unopened well may).0 in
+    let no_stream = well.early (early_at s Unopened may tt) in
     let grows : Grows s new = record {
       late = not_late s Unopened may (λ late. late);
       written = same_bytes s.written;
@@ -58,23 +88,11 @@ keeps_listens s t out back may =
       active = λ e. absurd (let clash : NotYet ≡ Active = sym unset ∙ e in cc);
       taken = λ _. (refl, le_refl _);
     } in
-    let well' : IsWellFormed new = record {
-      phase = refl;
-      early = λ _. well.early (early_at s Unopened may tt);
-      iss = well.iss;
-      una_low = well.una_low;
-      una_high = well.una_high;
-      short = well.short;
-      irs = well.irs;
-    } in
-    let no_stream = well.early (early_at s Unopened may tt) in (
-      OneWay-own s new grows t out well' (sync no_stream.0 out.sync) (λ _. inl none) (λ sent. sent),
-      OneWay-other s new grows t back back.received back.held (λ e. IsComplete-same t s new refl refl (back.fin e)),
+    let well' = IsWellFormed-same s new well refl refl refl (le_refl _) refl refl (λ _. no_stream) in (
+      OneWay-own s new grows t out well' (same_sync s new t refl refl refl (λ _ (e : Listen ≡ Synchronized). absurd (cc)) out.sync)
+          (λ _. inl (fits_at s Unopened well may).1) (λ sent. sent),
+      OneWay-same s new grows t back refl refl refl refl,
     )
-  where
-    sync : s.written ≡ [] → IsInStep s t ⊎ IsSilent s t → IsInStep (after s Listens) t ⊎ IsSilent (after s Listens) t
-    sync nothing (inl in_step) = inl (IsInStep-same s (after s Listens) t refl refl in_step)
-    sync nothing (inr silent) = inr (record { unwritten = silent.unwritten; closed = λ (e : Listen ≡ Synchronized). absurd (cc); una = silent.una })
 
 pub keeps_connects : (s t : Side) (iss : ℕ) → Keeps s t (Connects iss)
 keeps_connects s t iss out back may =
@@ -101,7 +119,7 @@ keeps_connects s t iss out back may =
       irs = well.irs;
     } in (
       OneWay-own s new grows t out well' (inr (record { unwritten = no_stream.0; closed = λ (e : SynSent ≡ Synchronized). absurd (cc); una = inl refl })) (λ (e : Active ≡ Passive). absurd (cc)) (λ sent. sent),
-      OneWay-other s new grows t back back.received back.held (λ e. IsComplete-same t s new refl refl (back.fin e)),
+      OneWay-same s new grows t back refl refl refl refl,
     )
 
 pub keeps_writes : (s t : Side) (bytes : List ℕ) → Keeps s t (Writes bytes)
@@ -128,7 +146,7 @@ keeps_writes s t bytes out back may =
       irs = well.irs;
     } in (
       OneWay-own s new grows t out well' (sync out.sync) out.listener (λ sent. sent),
-      OneWay-other s new grows t back back.received back.held (λ e. IsComplete-same t s new refl refl (back.fin e)),
+      OneWay-same s new grows t back refl refl refl refl,
     )
   where
     sync : IsInStep s t ⊎ IsSilent s t → IsInStep (after s (Writes bytes)) t ⊎ IsSilent (after s (Writes bytes)) t
@@ -141,95 +159,35 @@ taken_in-reads s count = append_assoc s.read (take count s.waiting) (drop count 
 
 pub keeps_reads : (s t : Side) (count : ℕ) → Keeps s t (Reads count)
 keeps_reads s t count out back may =
-    let new = after s (Reads count) in
-    let well = out.well_formed in
+    let given = take count s.waiting in
     let same = taken_in-reads s count in
     let same_length = ap length same in
-    let grows : Grows s new = record {
-      late = λ late. (late, refl);
-      written = same_bytes s.written;
-      closed = λ e. (e, refl);
-      active = λ e. (e, refl);
-      taken = λ _. (refl, omega arith);
-    } in
-    let well' : IsWellFormed new = record {
-      phase = well.phase;
-      early = λ early. let none = well.early early in (none.0, same ∙ none.1, none.2, none.3);
-      iss = well.iss;
-      una_low = well.una_low;
-      una_high = well.una_high;
-      short = well.short;
-      irs = well.irs;
-    } in (
-      OneWay-own s new grows t out well' (same_sync s new t refl refl refl refl refl out.sync) out.listener (λ sent. sent),
-      OneWay-other s new grows t back
-          (subst (λ (bytes : List ℕ). Begins bytes t.written) (sym same) back.received)
-          (subst (λ (bytes : List ℕ). AgreesWith new.window (drop (length bytes) t.written)) (sym same)
-          (AgreesWith-room s.window (length (take count s.waiting)) (drop (length (taken_in s)) t.written) back.held))
-          (λ e. IsComplete-same t s new same refl (back.fin e)),
-    )
+    keeps_received s t (s.read ++ given) (drop count s.waiting) (s.window ++ space (length given)) s.took_fin out back
+    (omega arith)
+    (λ early. let none = out.well_formed.early early in (none.0, same ∙ none.1, none.2, none.3))
+    (subst (λ (bytes : List ℕ). Begins bytes t.written) (sym same) back.received)
+    (subst (λ (bytes : List ℕ). AgreesWith (s.window ++ space (length given)) (drop (length bytes) t.written)) (sym same)
+    (AgreesWith-room s.window (length given) (drop (length (taken_in s)) t.written) back.held))
+    (λ e. IsComplete-same t s (after s (Reads count)) same refl (back.fin e))
 
 pub keeps_closes : (s t : Side) → Keeps s t Closes
 keeps_closes s t out back may =
     let new = after s Closes in
     let well = out.well_formed in
-    let high = well.una_high in
-    let bit : one_if s.closed ≤ 1 = at_most_one s.closed in
-    let grows : Grows s new = record {
-      late = λ late. (tt, refl);
-      written = same_bytes s.written;
-      closed = λ e. (refl, refl);
-      active = λ e. (e, refl);
-      taken = λ _. (refl, le_refl _);
-    } in
-    let well' : IsWellFormed new = record {
-      phase = heard s.phase s.opening s.irs may well.phase;
-      early = λ early. absurd early;
-      iss = well.iss;
-      una_low = well.una_low;
-      una_high = omega arith;
-      short = well.short;
-      irs = well.irs;
-    } in (
-      OneWay-own s new grows t out well' (sync out.sync) out.listener (λ sent. sent),
-      OneWay-other s new grows t back back.received back.held (λ e. IsComplete-same t s new refl refl (back.fin e)),
+    let grows = Grows-same s new (λ _. tt) refl refl (λ _. refl) refl (λ _. (refl, le_refl _)) in
+    let well' = IsWellFormed-same s new well refl refl refl (one_if-small s.closed) refl (heard s.phase s.opening s.irs may well.phase) (λ early. absurd early) in (
+      OneWay-own s new grows t out well' (same_sync s new t refl refl refl (λ _ _. refl) out.sync) out.listener (λ sent. sent),
+      OneWay-same s new grows t back refl refl refl refl,
     )
-  where
-    at_most_one : (b : Bool) → one_if b ≤ 1
-    at_most_one true = omega arith
-    at_most_one false = omega arith
-
-    sync : IsInStep s t ⊎ IsSilent s t → IsInStep (after s Closes) t ⊎ IsSilent (after s Closes) t
-    sync (inl in_step) = inl (IsInStep-same s (after s Closes) t refl refl in_step)
-    sync (inr silent) = inr (record { unwritten = silent.unwritten; closed = λ _. refl; una = silent.una })
 
 pub keeps_ends : (s t : Side) → Keeps s t Ends
 keeps_ends s t out back may =
     let new = after s Ends in
-    let well = out.well_formed in
-    let grows : Grows s new = record {
-      late = λ late. (tt, refl);
-      written = same_bytes s.written;
-      closed = λ e. (e, refl);
-      active = λ e. (e, refl);
-      taken = λ _. (refl, le_refl _);
-    } in
-    let well' : IsWellFormed new = record {
-      phase = tt;
-      early = λ early. absurd early;
-      iss = well.iss;
-      una_low = well.una_low;
-      una_high = well.una_high;
-      short = well.short;
-      irs = well.irs;
-    } in (
-      OneWay-own s new grows t out well' (sync out.sync) out.listener (λ sent. sent),
-      OneWay-other s new grows t back back.received back.held (λ e. IsComplete-same t s new refl refl (back.fin e)),
+    let grows = Grows-same s new (λ _. tt) refl refl (λ e. e) refl (λ _. (refl, le_refl _)) in
+    let well' = IsWellFormed-same s new out.well_formed refl refl refl (le_refl _) refl tt (λ early. absurd early) in (
+      OneWay-own s new grows t out well' (same_sync s new t refl refl refl (λ _ (e : Ended ≡ Synchronized). absurd (cc)) out.sync) out.listener (λ sent. sent),
+      OneWay-same s new grows t back refl refl refl refl,
     )
-  where
-    sync : IsInStep s t ⊎ IsSilent s t → IsInStep (after s Ends) t ⊎ IsSilent (after s Ends) t
-    sync (inl in_step) = inl (IsInStep-same s (after s Ends) t refl refl in_step)
-    sync (inr silent) = inr (record { unwritten = silent.unwritten; closed = λ (e : Ended ≡ Synchronized). absurd (cc); una = silent.una })
 
 pub keeps_falls_back : (s t : Side) → Keeps s t FallsBack
 keeps_falls_back s t out back may =

@@ -9,7 +9,8 @@ use Rattle.tcp_law.specs.Move.{Comes}
 use Rattle.tcp_law.specs.Invariant.{IsPiece, IsBelow, IsPlain, IsSyn, IsHonest, IsInStep, OneWay}
 use Rattle.tcp_law.specs.Decoded.{IsAtItsPlace, IsAckedSoFar}
 use Rattle.tcp_law.proofs.Lists.{Begins-length}
-use Rattle.tcp_law.proofs.Opening.{honest, acked, one_if-small}
+use Rattle.tcp_law.proofs.Calls.{one_if-small}
+use Rattle.tcp_law.proofs.Opening.{honest, acked}
 
 pub nearest-wire : (reference position : ℕ) → 2 ^ 31 ≤ reference → IsNear reference position → nearest reference (wire position) ≡ position
 nearest-wire reference position low near = let ahead_of = near.0 in let behind_it = near.1 in grind (arith, nat_tests)

@@ -1,13 +1,13 @@
 -- What never goes back on one side, and what of the invariant it alone keeps.
-use Rattle.std.proofs.Common.{◌≡◌, ◌⊎◌, inl, inr, ℕ, suc, ◌+◌, ◌-◌, ◌^◌, ◌≤◌, true, List, [], ◌++◌, length, drop, Some, None, sym, ap, ◌∙◌, arith, length-append}
+use Rattle.std.proofs.Common.{◌≡◌, ◌⊎◌, inl, inr, ℕ, suc, ◌+◌, ◌-◌, ◌^◌, ◌≤◌, true, List, [], ◌++◌, length, drop, Option, Some, None, sym, ap, ◌∙◌, subst, arith, length-append, append-nil}
 use Rattle.std.specs.List.{AllByRecursion}
 use Rattle.tcp_law.specs.ReceiveMap.{Begins, AgreesWith}
-use Rattle.tcp_law.specs.Numbers.{wire}
+use Rattle.tcp_law.specs.Numbers.{wire, IsFirst}
 use Rattle.tcp_law.specs.Segment.{Segment}
-use Rattle.tcp_law.specs.Side.{Phase, Side, taken_in, rcv_next}
+use Rattle.tcp_law.specs.Side.{Phase, Side, taken_in, rcv_next, one_if}
 use Rattle.tcp_law.specs.Side.Phase.{Unopened, Listen, SynSent, SynReceived, Synchronized, Ended}
 use Rattle.tcp_law.specs.Side.Opening.{Passive, Active}
-use Rattle.tcp_law.specs.Invariant.{IsLate, IsEarly, IsWellFormed, IsPiece, IsBelow, IsPlain, IsSyn, HasReached, IsHonest, IsInStep, IsSilent, IsComplete, OneWay}
+use Rattle.tcp_law.specs.Invariant.{IsLate, IsEarly, FitsPhase, HasNoStream, IsWellFormed, IsPiece, IsBelow, IsPlain, IsSyn, HasReached, IsHonest, IsInStep, IsSilent, IsComplete, OneWay}
 use Rattle.tcp_law.proofs.Lists.{Begins-grow, Begins-drop-grow, AgreesWith-drop-grow, AllByRecursion-map}
 
 pub record Grows (s new : Side) : Type 0 where
@@ -16,6 +16,39 @@ pub record Grows (s new : Side) : Type 0 where
   pub closed : s.closed ≡ true → (new.closed ≡ true) × (new.written ≡ s.written)
   pub active : s.opening ≡ Active → (new.opening ≡ Active) × (new.iss ≡ s.iss)
   pub taken : 2 ^ 32 ≤ s.irs → (new.irs ≡ s.irs) × (rcv_next s ≤ rcv_next new)
+
+-- where its ISS, its stream and its IRS stay
+pub Grows-same :
+    (s new : Side) → (IsLate s.phase → IsLate new.phase) → new.iss ≡ s.iss → new.written ≡ s.written → (s.closed ≡ true → new.closed ≡ true)
+    → new.opening ≡ s.opening → (2 ^ 32 ≤ s.irs → (new.irs ≡ s.irs) × (rcv_next s ≤ rcv_next new))
+    → Grows s new
+Grows-same s new late iss written closed opening taken = record {
+  late = λ was. (late was, iss);
+  written = ([], written ∙ sym (append-nil s.written));
+  closed = λ e. (closed e, written);
+  active = λ e. (opening ∙ e, iss);
+  taken = taken;
+}
+
+pub IsWellFormed-same :
+    (s new : Side) → IsWellFormed s → new.iss ≡ s.iss → new.una ≡ s.una → new.written ≡ s.written → one_if s.closed ≤ one_if new.closed → new.irs ≡ s.irs
+    → FitsPhase new.phase new.opening new.irs → (IsEarly new.phase → HasNoStream new)
+    → IsWellFormed new
+IsWellFormed-same s new well iss una written closed irs phase early =
+    let low = well.una_low in
+    let high = well.una_high in
+    let short = well.short in
+    let irs_high = well.irs in
+    let same_length = ap length written in
+    record {
+      phase = phase;
+      early = early;
+      iss = subst IsFirst (sym iss) well.iss;
+      una_low = omega arith;
+      una_high = omega arith;
+      short = omega arith;
+      irs = omega arith;
+    }
 
 late_or_early : (phase : Phase) → IsLate phase ⊎ IsEarly phase
 late_or_early Unopened = inr tt
@@ -172,3 +205,12 @@ module _ (s new : Side) (grows : Grows s new) where
     listener : (t.irs ≡ 0) ⊎ ((t.irs ≡ s.iss) × (s.opening ≡ Active)) → (t.irs ≡ 0) ⊎ ((t.irs ≡ new.iss) × (new.opening ≡ Active))
     listener (inl none) = inl none
     listener (inr heard) = let a = grows.active heard.1 in inr (heard.0 ∙ sym a.1, a.0)
+
+  -- where it took in nothing
+  pub OneWay-same : (t : Side) → OneWay t s → taken_in new ≡ taken_in s → new.window ≡ s.window → new.took_fin ≡ s.took_fin → new.irs ≡ s.irs → OneWay t new
+  OneWay-same t out bytes window fin irs =
+      OneWay-other t out
+      (subst (λ (ys : List ℕ). Begins ys t.written) (sym bytes) out.received)
+      (subst (λ (map : List (Option ℕ)). AgreesWith map (drop (length (taken_in new)) t.written)) (sym window)
+      (subst (λ (ys : List ℕ). AgreesWith s.window (drop (length ys) t.written)) (sym bytes) out.held))
+      (λ e. IsComplete-same t s new bytes irs (out.fin (sym fin ∙ e)))

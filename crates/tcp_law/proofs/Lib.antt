@@ -7,4 +7,5 @@ pub mod Taking
 pub mod Theorem
 pub mod AloneLemmas
 pub mod DecodedLemmas
+pub mod Freed
 mod Came

@@ -11,8 +11,8 @@ use Rattle.tcp_law.specs.Move.{after, Comes}
 use Rattle.tcp_law.specs.Move.Move.{TakesSyn, TakesCrossedSyn, TakesSynAck, TakesAck}
 use Rattle.tcp_law.specs.Invariant.{IsPiece, IsPlain, IsSyn, HasReached, IsHonest, HasNoStream, IsWellFormed, IsInStep, IsSilent, OneWay}
 use Rattle.tcp_law.proofs.Lists.{AllByRecursion-at, Begins-length, Begins-nothing}
-use Rattle.tcp_law.proofs.Grows.{Grows, IsInStep-same, IsComplete-same, OneWay-own, OneWay-other}
-use Rattle.tcp_law.proofs.Calls.{Keeps, same_bytes, heard, fits_at, early_at, not_late}
+use Rattle.tcp_law.proofs.Grows.{Grows, Grows-same, OneWay-own, OneWay-other, OneWay-same}
+use Rattle.tcp_law.proofs.Calls.{Keeps, same_bytes, same_sync, one_if-small, heard, fits_connected, fits_at, early_at, not_late}
 
 -- what came is honest
 pub honest : (t s : Side) (x : Segment) → OneWay t s → Comes t x → IsHonest t s x
@@ -107,74 +107,54 @@ keeps_takes_syn s t x iss out back may =
     taken counts low (inl none) = absurd (omega arith)
     taken counts low (inr same) = let again = same.0 in (omega arith, omega arith)
 
-pub keeps_takes_crossed_syn : (s t : Side) (x : Segment) → Keeps s t (TakesCrossedSyn x)
-keeps_takes_crossed_syn s t x out back may =
-    let new = after s (TakesCrossedSyn x) in
+-- a SYN that a side in SYN-SENT takes, acknowledged or not
+keeps_asking :
+    (s t : Side) (x : Segment) (phase : Phase) (una : ℕ) → let new : Side = record s { phase = phase; irs = 2 ^ 32 + x.seq; una = una } in
+    OneWay s t → OneWay t s → s.phase ≡ SynSent → Comes t x → x.control ≡ Syn
+    → IsConnected phase → s.iss ≤ una → una ≤ suc s.iss → IsInStep new t ⊎ IsSilent new t
+    → OneWay new t × OneWay t new
+keeps_asking s t x phase una out back asking comes syn connected low high sync =
+    let new : Side = record s { phase = phase; irs = 2 ^ 32 + x.seq; una = una } in
     let well = out.well_formed in
-    let fits = fits_at s SynSent well may.asking in
+    let fits = fits_at s SynSent well asking in
     let active = fits.0 in
     let none = fits.1 in
-    let no_stream = well.early (early_at s SynSent may.asking tt) in
-    let its_syn = syn_of t s x may.syn (honest t s x back may.comes) in
+    let no_stream = well.early (early_at s SynSent asking tt) in
+    let its_syn = syn_of t s x syn (honest t s x back comes) in
     let position = syn_position its_syn.at x.seq its_syn.first its_syn.seq in
-    let high = its_syn.first.1 in
-    let grows : Grows s new = record {
-      late = not_late s SynSent may.asking (λ late. late);
-      written = same_bytes s.written;
-      closed = λ e. (e, refl);
-      active = λ e. (e, refl);
-      taken = λ low. absurd (omega arith);
-    } in
+    let below = its_syn.first.1 in
+    let grows = Grows-same s new (not_late s SynSent asking (λ late. late)) refl refl (λ e. e) refl (λ heard_before. absurd (omega arith)) in
     let well' : IsWellFormed new = record {
-      phase = omega arith;
+      phase = fits_connected phase s.opening (2 ^ 32 + x.seq) connected (omega arith);
       early = λ _. no_stream;
       iss = well.iss;
-      una_low = well.una_low;
-      una_high = well.una_high;
-      short = well.short;
-      irs = omega arith;
-    } in (
-      OneWay-own s new grows t out well' (sync out.sync) (λ e. absurd (let clash : Active ≡ Passive = sym active ∙ e in cc)) (λ sent. sent),
-      OneWay-other s new grows t back back.received back.held (λ e. absurd (let no_fin : false ≡ true = sym no_stream.3 ∙ e in cc)),
-    )
-  where
-    sync : IsInStep s t ⊎ IsSilent s t → IsInStep (after s (TakesCrossedSyn x)) t ⊎ IsSilent (after s (TakesCrossedSyn x)) t
-    sync (inl in_step) = inl (IsInStep-same s (after s (TakesCrossedSyn x)) t refl refl in_step)
-    sync (inr silent) = inr (record { unwritten = silent.unwritten; closed = λ (e : SynReceived ≡ Synchronized). absurd (cc); una = silent.una })
-
-pub keeps_takes_syn_ack : (s t : Side) (x : Segment) → Keeps s t (TakesSynAck x)
-keeps_takes_syn_ack s t x out back may =
-    let new = after s (TakesSynAck x) in
-    let well = out.well_formed in
-    let fits = fits_at s SynSent well may.asking in
-    let active = fits.0 in
-    let none = fits.1 in
-    let no_stream = well.early (early_at s SynSent may.asking tt) in
-    let came = honest t s x back may.comes in
-    let its_syn = syn_of t s x may.syn came in
-    let position = syn_position its_syn.at x.seq its_syn.first its_syn.seq in
-    let low = its_syn.first.0 in
-    let high = its_syn.first.1 in
-    let in_step = opened s t out back no_stream (acked t s x (wire (suc s.iss)) (subst IsNoReset (sym may.syn) tt) may.acks_syn came) in
-    let grows : Grows s new = record {
-      late = not_late s SynSent may.asking (λ late. late);
-      written = same_bytes s.written;
-      closed = λ e. (e, refl);
-      active = λ e. (e, refl);
-      taken = λ low. absurd (omega arith);
-    } in
-    let well' : IsWellFormed new = record {
-      phase = omega arith;
-      early = λ early. absurd early;
-      iss = well.iss;
-      una_low = omega arith;
+      una_low = low;
       una_high = omega arith;
       short = well.short;
       irs = omega arith;
     } in (
-      OneWay-own s new grows t out well' (inl (record { counts = in_step.0; opened = le_refl _; reached = in_step.1 })) (λ e. absurd (let clash : Active ≡ Passive = sym active ∙ e in cc)) (λ sent. sent),
+      OneWay-own s new grows t out well' sync (λ e. absurd (let clash : Active ≡ Passive = sym active ∙ e in cc)) (λ sent. sent),
       OneWay-other s new grows t back back.received back.held (λ e. absurd (let no_fin : false ≡ true = sym no_stream.3 ∙ e in cc)),
     )
+
+pub keeps_takes_crossed_syn : (s t : Side) (x : Segment) → Keeps s t (TakesCrossedSyn x)
+keeps_takes_crossed_syn s t x out back may =
+    let well = out.well_formed in
+    let no_stream = well.early (early_at s SynSent may.asking tt) in
+    let low = well.una_low in
+    let high = well.una_high in
+    let unwritten = ap length no_stream.0 in
+    let unclosed = ap one_if no_stream.2 in
+    keeps_asking s t x SynReceived s.una out back may.asking may.comes may.syn tt low (omega arith)
+    (same_sync s (after s (TakesCrossedSyn x)) t refl refl refl (λ _ (e : SynReceived ≡ Synchronized). absurd (cc)) out.sync)
+
+pub keeps_takes_syn_ack : (s t : Side) (x : Segment) → Keeps s t (TakesSynAck x)
+keeps_takes_syn_ack s t x out back may =
+    let no_stream = out.well_formed.early (early_at s SynSent may.asking tt) in
+    let number = acked t s x (wire (suc s.iss)) (subst IsNoReset (sym may.syn) tt) may.acks_syn (honest t s x back may.comes) in
+    let in_step = opened s t out back no_stream number in
+    keeps_asking s t x Synchronized (suc s.iss) out back may.asking may.comes may.syn tt (omega arith) (le_refl _)
+    (inl (record { counts = in_step.0; opened = le_refl _; reached = in_step.1 }))
 
 connected_cases : (phase : Phase) → IsConnected phase → (phase ≡ SynReceived) ⊎ (phase ≡ Synchronized)
 connected_cases SynReceived c = inl refl
@@ -184,10 +164,6 @@ connected_cases Listen c = absurd c
 connected_cases SynSent c = absurd c
 connected_cases Ended c = absurd c
 
-pub one_if-small : (b : Bool) → one_if b ≤ 1
-one_if-small true = omega arith
-one_if-small false = omega arith
-
 pub keeps_takes_ack : (s t : Side) (x : Segment) (at : ℕ) → Keeps s t (TakesAck x at)
 keeps_takes_ack s t x at out back may =
     let new = after s (TakesAck x at) in
@@ -195,13 +171,7 @@ keeps_takes_ack s t x at out back may =
     let low = well.una_low in
     let further = may.low in
     let reached = acked t s x (wire at) may.no_reset may.number (honest t s x back may.comes) in
-    let grows : Grows s new = record {
-      late = λ late. (tt, refl);
-      written = same_bytes s.written;
-      closed = λ e. (e, refl);
-      active = λ e. (e, refl);
-      taken = λ _. (refl, le_refl _);
-    } in
+    let grows = Grows-same s new (λ _. tt) refl refl (λ e. e) refl (λ _. (refl, le_refl _)) in
     let well' : IsWellFormed new = record {
       phase = heard s.phase s.opening s.irs may.connected well.phase;
       early = λ early. absurd early;
@@ -212,7 +182,7 @@ keeps_takes_ack s t x at out back may =
       irs = well.irs;
     } in (
       OneWay-own s new grows t out well' (sync reached (connected_cases s.phase may.connected)) out.listener (λ sent. sent),
-      OneWay-other s new grows t back back.received back.held (λ e. IsComplete-same t s new refl refl (back.fin e)),
+      OneWay-same s new grows t back refl refl refl refl,
     )
   where
     running : HasReached t (wire at) → s.phase ≡ Synchronized → IsInStep s t ⊎ IsSilent s t → IsInStep (after s (TakesAck x at)) t ⊎ IsSilent (after s (TakesAck x at)) t

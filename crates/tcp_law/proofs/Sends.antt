@@ -7,37 +7,20 @@ use Rattle.tcp_law.specs.Side.{Side, rcv_next}
 use Rattle.tcp_law.specs.Side.Phase.{SynSent, Synchronized}
 use Rattle.tcp_law.specs.Move.{sends, syn, syn_ack, bare_ack, data_segment, keep_alive, bytes_from}
 use Rattle.tcp_law.specs.Move.Move.{SendsSyn, SendsSynAck, SendsAck, SendsData, SendsKeepAlive, SendsReset}
-use Rattle.tcp_law.specs.Invariant.{IsLate, IsBelow, HasReached, IsHonest, IsInStep, IsSilent, IsWellFormed, OneWay}
+use Rattle.tcp_law.specs.Invariant.{IsLate, IsBelow, HasReached, IsHonest, IsInStep, IsSilent, OneWay}
 use Rattle.tcp_law.proofs.Lists.{Begins-take, AllByRecursion-push}
-use Rattle.tcp_law.proofs.Grows.{Grows, IsComplete-same, IsHonest-own, OneWay-own, OneWay-other}
-use Rattle.tcp_law.proofs.Calls.{Keeps, same_sync, same_bytes, heard, fits_at}
-
-grows_sends : (s : Side) (x : Segment) → Grows s (sends s x)
-grows_sends s x = record {
-  late = λ late. (late, refl);
-  written = same_bytes s.written;
-  closed = λ e. (e, refl);
-  active = λ e. (e, refl);
-  taken = λ _. (refl, le_refl _);
-}
+use Rattle.tcp_law.proofs.Grows.{Grows-same, IsWellFormed-same, IsHonest-own, OneWay-own, OneWay-same}
+use Rattle.tcp_law.proofs.Calls.{Keeps, same_sync, heard, fits_at}
 
 -- one more honest segment
 keeps_sent : (s t : Side) (x : Segment) → OneWay s t → OneWay t s → IsHonest s t x → OneWay (sends s x) t × OneWay t (sends s x)
 keeps_sent s t x out back honest =
     let new = sends s x in
-    let grows = grows_sends s x in
     let well = out.well_formed in
-    let well' : IsWellFormed new = record {
-      phase = well.phase;
-      early = well.early;
-      iss = well.iss;
-      una_low = well.una_low;
-      una_high = well.una_high;
-      short = well.short;
-      irs = well.irs;
-    } in (
-      OneWay-own s new grows t out well' (same_sync s new t refl refl refl refl refl out.sync) out.listener (λ sent. AllByRecursion-push (IsHonest new t) s.sent x sent (IsHonest-own s new grows t x honest)),
-      OneWay-other s new grows t back back.received back.held (λ e. IsComplete-same t s new refl refl (back.fin e)),
+    let grows = Grows-same s new (λ late. late) refl refl (λ e. e) refl (λ _. (refl, le_refl _)) in
+    let well' = IsWellFormed-same s new well refl refl refl (le_refl _) refl well.phase well.early in (
+      OneWay-own s new grows t out well' (same_sync s new t refl refl refl (λ h. h) out.sync) out.listener (λ sent. AllByRecursion-push (IsHonest new t) s.sent x sent (IsHonest-own s new grows t x honest)),
+      OneWay-same s new grows t back refl refl refl refl,
     )
 
 -- an acknowledgement of what it took

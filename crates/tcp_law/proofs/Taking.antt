@@ -1,5 +1,5 @@
 -- Bytes and a FIN that a side takes keep the invariant.
-use Rattle.std.proofs.Common.{◌≡◌, ◌⊎◌, inl, inr, ℕ, suc, ◌+◌, ◌-◌, ◌^◌, ◌<◌, ◌≤◌, Bool, true, false, List, [], ◌++◌, length, drop, Option, refl, sym, ap, ◌∙◌, subst, arith, append_assoc, length-append, drop-drop, drop_of_length-le}
+use Rattle.std.proofs.Common.{◌≡◌, ◌⊎◌, inl, inr, ℕ, suc, ◌+◌, ◌-◌, ◌^◌, ◌<◌, ◌≤◌, true, false, List, [], ◌++◌, length, drop, Option, sym, ap, ◌∙◌, subst, arith, append_assoc, length-append, drop-drop, drop_of_length-le}
 use Rattle.tcp_law.specs.ReceiveMap.{Begins, AgreesWith, store, front, behind}
 use Rattle.tcp_law.specs.Numbers.{wire, IsNear}
 use Rattle.tcp_law.specs.Segment.{Segment, IsData}
@@ -8,10 +8,9 @@ use Rattle.tcp_law.specs.Side.{Side, taken_in, rcv_next, one_if}
 use Rattle.tcp_law.specs.Side.Phase.{Synchronized}
 use Rattle.tcp_law.specs.Move.{after, laid}
 use Rattle.tcp_law.specs.Move.Move.{TakesBytes, TakesFin}
-use Rattle.tcp_law.specs.Invariant.{IsEarly, IsPiece, IsBelow, IsPlain, IsSyn, IsHonest, IsWellFormed, IsInStep, IsSilent, IsComplete, OneWay}
+use Rattle.tcp_law.specs.Invariant.{IsEarly, IsPiece, IsBelow, IsPlain, IsSyn, IsHonest, IsInStep, IsSilent, IsComplete, OneWay}
 use Rattle.tcp_law.proofs.Lists.{Begins-append, Begins-drop, Begins-front, Begins-length, Begins-nothing, Begins-whole, AgreesWith-store, AgreesWith-behind, store-nothing, drop-nothing, drop-twice}
-use Rattle.tcp_law.proofs.Grows.{Grows, OneWay-own, OneWay-other}
-use Rattle.tcp_law.proofs.Calls.{Keeps, same_sync, same_bytes, fits_at}
+use Rattle.tcp_law.proofs.Calls.{Keeps, keeps_received, one_if-small, fits_at}
 use Rattle.tcp_law.proofs.Opening.{honest}
 
 -- so many bytes were taken in, and RCV.NXT is one past them, while no FIN is taken
@@ -35,12 +34,8 @@ module _ (s t : Side) (x : Segment) (out : OneWay s t) (back : OneWay t s) where
   rcv_next-short =
       let shorter = Begins-length (taken_in s) t.written back.received in
       let short = back.well_formed.short in
-      let fin = small s.took_fin in
+      let fin = one_if-small s.took_fin in
       omega arith
-    where
-      small : (b : Bool) → one_if b ≤ 1
-      small true = omega arith
-      small false = omega arith
 
   -- a piece lies at its place in the receive map
   laid_piece : (at : ℕ) → s.took_fin ≡ false → x.seq ≡ wire at → IsNear (rcv_next s) at → IsPiece t x → s.irs ≡ t.iss → AgreesWith (laid s at x.bytes) (drop (length (taken_in s)) t.written)
@@ -131,7 +126,6 @@ not_early s e early = absurd (subst IsEarly e early)
 pub keeps_takes_bytes : (s t : Side) (x : Segment) (at : ℕ) → Keeps s t (TakesBytes x at)
 keeps_takes_bytes s t x at out back may =
     let new = after s (TakesBytes x at) in
-    let well = out.well_formed in
     let map = laid s at x.bytes in
     let agrees = laid_agrees s t x out back at may.unfinished may.kind may.number may.near (honest t s x back may.comes) in
     let longer : taken_in new ≡ taken_in s ++ front map = sym (append_assoc s.read s.waiting (front map)) in
@@ -139,52 +133,21 @@ keeps_takes_bytes s t x at out back may =
     let rest = drop (length (taken_in s)) t.written in
     let behind_them : drop (length (front map)) rest ≡ drop (length (taken_in new)) t.written =
     drop-drop (length (front map)) (length (taken_in s)) t.written ∙ ap (λ (k : ℕ). drop k t.written) (sym more) in
-    let grows : Grows s new = record {
-      late = λ late. (late, refl);
-      written = same_bytes s.written;
-      closed = λ e. (e, refl);
-      active = λ e. (e, refl);
-      taken = λ _. (refl, omega arith);
-    } in
-    let well' : IsWellFormed new = record {
-      phase = well.phase;
-      early = not_early s may.running;
-      iss = well.iss;
-      una_low = well.una_low;
-      una_high = well.una_high;
-      short = well.short;
-      irs = well.irs;
-    } in (
-      OneWay-own s new grows t out well' (same_sync s new t refl refl refl refl refl out.sync) out.listener (λ sent. sent),
-      OneWay-other s new grows t back
-          (subst (λ (bytes : List ℕ). Begins bytes t.written) (sym longer) (Begins-append (taken_in s) (front map) t.written back.received (Begins-front map rest agrees)))
-          (subst (λ (ys : List ℕ). AgreesWith (behind map) ys) behind_them (AgreesWith-behind map rest agrees))
-          (λ e. absurd (let clash : false ≡ true = sym may.unfinished ∙ e in cc)),
-    )
+    keeps_received s t s.read (s.waiting ++ front map) (behind map) s.took_fin out back
+    (omega arith)
+    (not_early s may.running)
+    (subst (λ (bytes : List ℕ). Begins bytes t.written) (sym longer) (Begins-append (taken_in s) (front map) t.written back.received (Begins-front map rest agrees)))
+    (subst (λ (ys : List ℕ). AgreesWith (behind map) ys) behind_them (AgreesWith-behind map rest agrees))
+    (λ e. absurd (let clash : false ≡ true = sym may.unfinished ∙ e in cc))
 
 pub keeps_takes_fin : (s t : Side) (x : Segment) → Keeps s t (TakesFin x)
 keeps_takes_fin s t x out back may =
-    let new = after s (TakesFin x) in
-    let well = out.well_formed in
-    let low : 2 ^ 32 ≤ s.irs = fits_at s Synchronized well may.running in
+    let low : 2 ^ 32 ≤ s.irs = fits_at s Synchronized out.well_formed may.running in
     let next = rcv_next-open s may.unfinished in
     let ends = complete s t x out back may.unfinished low may.fin may.next (fin_of s t x out back may.fin (honest t s x back may.comes)) in
-    let grows : Grows s new = record {
-      late = λ late. (late, refl);
-      written = same_bytes s.written;
-      closed = λ e. (e, refl);
-      active = λ e. (e, refl);
-      taken = λ _. (refl, omega arith);
-    } in
-    let well' : IsWellFormed new = record {
-      phase = well.phase;
-      early = not_early s may.running;
-      iss = well.iss;
-      una_low = well.una_low;
-      una_high = well.una_high;
-      short = well.short;
-      irs = well.irs;
-    } in (
-      OneWay-own s new grows t out well' (same_sync s new t refl refl refl refl refl out.sync) out.listener (λ sent. sent),
-      OneWay-other s new grows t back back.received back.held (λ _. record { closed = ends.closed; whole = ends.whole; counts = ends.counts }),
-    )
+    keeps_received s t s.read s.waiting s.window true out back
+    (omega arith)
+    (not_early s may.running)
+    back.received
+    back.held
+    (λ _. record { closed = ends.closed; whole = ends.whole; counts = ends.counts })

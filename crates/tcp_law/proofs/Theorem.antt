@@ -1,5 +1,5 @@
 -- Each move keeps the invariant, the invariant is safe, and so is each run from two fresh sides.
-use Rattle.std.proofs.Common.{◌≡◌, ◌⊎◌, inl, inr, ℕ, suc, ◌-◌, ◌≤◌, Bool, true, false, List, [], ◌∷◌, length, drop, refl, ap, arith, le_refl, length-drop}
+use Rattle.std.proofs.Common.{◌≡◌, ◌⊎◌, inl, inr, ℕ, suc, ◌-◌, ◌≤◌, Bool, true, false, List, [], ◌∷◌, length, drop, refl, sym, ap, ◌∙◌, subst, arith, le_refl, length-drop}
 use Rattle.tcp_law.specs.Side.{Side, taken_in, freed, fresh, one_if}
 use Rattle.tcp_law.specs.Side.Phase.{Unopened, Synchronized}
 use Rattle.tcp_law.specs.Side.Opening.{NotYet, Passive}
@@ -8,8 +8,12 @@ use Rattle.tcp_law.specs.Move.Move.{Listens, Connects, Writes, Reads, Closes, En
 use Rattle.tcp_law.specs.Run.{World, Event, MayHappen, happens, IsRun, run, start}
 use Rattle.tcp_law.specs.Run.Event.{A, B}
 use Rattle.tcp_law.specs.Safe.{IsSafe, AreSafe}
-use Rattle.tcp_law.specs.Invariant.{IsInStep, IsSilent, OneWay, Kept, HoldsBetween}
-use Rattle.tcp_law.proofs.Lists.{Begins-prefix, AgreesWith-space}
+use Rattle.tcp_law.specs.Alone.{AreResets, unopened}
+use Rattle.tcp_law.specs.ReceiveMap.{Begins, AgreesWith}
+use Rattle.tcp_law.specs.Segment.{Segment}
+use Rattle.tcp_law.specs.Segment.Control.{Rst}
+use Rattle.tcp_law.specs.Invariant.{IsHonest, IsInStep, IsSilent, OneWay, Kept, HoldsBetween}
+use Rattle.tcp_law.proofs.Lists.{Begins-prefix, AgreesWith-space, AllByRecursion-map}
 use Rattle.tcp_law.proofs.Calls.{Keeps, keeps_listens, keeps_connects, keeps_writes, keeps_reads, keeps_closes, keeps_ends, keeps_falls_back}
 use Rattle.tcp_law.proofs.Sends.{keeps_sends_syn, keeps_sends_syn_ack, keeps_sends_ack, keeps_sends_data, keeps_sends_keep_alive, keeps_sends_reset}
 use Rattle.tcp_law.proofs.Opening.{keeps_takes_syn, keeps_takes_crossed_syn, keeps_takes_syn_ack, keeps_takes_ack}
@@ -47,8 +51,12 @@ pub Kept-happens : (w : World) (event : Event) → Kept w → MayHappen w event 
 Kept-happens w (A move) kept may = let both = keeps w.a w.b move kept.0 kept.1 may in (both.0, both.1)
 Kept-happens w (B move) kept may = let both = keeps w.b w.a move kept.1 kept.0 may in (both.1, both.0)
 
-fresh_one_way : (m n : ℕ) → OneWay (fresh m) (fresh n)
-fresh_one_way m n = record {
+-- an unopened side, whose host may have sent resets, towards one that took nothing in
+pub OneWay-from_unopened :
+    (capacity : ℕ) (resets : List Segment) (t : Side) → AreResets resets → taken_in t ≡ [] → t.took_fin ≡ false
+    → AgreesWith t.window (drop (length (taken_in t)) [])
+    → OneWay (unopened capacity resets) t
+OneWay-from_unopened capacity resets t are_resets nothing unfinished held = record {
   well_formed =
       record {
         phase = (refl, refl);
@@ -60,12 +68,15 @@ fresh_one_way m n = record {
         irs = omega arith;
       };
   sync = inr (record { unwritten = refl; closed = λ (e : Unopened ≡ Synchronized). absurd (cc); una = inl refl });
-  received = tt;
-  held = AgreesWith-space n [];
-  fin = λ (e : false ≡ true). absurd (cc);
+  received = subst (λ (bytes : List ℕ). Begins bytes []) (sym nothing) tt;
+  held = held;
+  fin = λ e. absurd (let clash : false ≡ true = sym unfinished ∙ e in cc);
   listener = λ (e : NotYet ≡ Passive). absurd (cc);
-  sent = tt;
+  sent = AllByRecursion-map (λ x. x.control ≡ Rst) (IsHonest (unopened capacity resets) t) (λ x reset. inl reset) resets are_resets;
 }
+
+fresh_one_way : (m n : ℕ) → OneWay (fresh m) (fresh n)
+fresh_one_way m n = OneWay-from_unopened m [] (fresh n) tt refl refl (AgreesWith-space n [])
 
 pub HoldsBetween-fresh : (m n : ℕ) → HoldsBetween (fresh m) (fresh n)
 HoldsBetween-fresh m n = (fresh_one_way m n, fresh_one_way n m)

@@ -10,7 +10,7 @@ ghost use Rattle.std.specs.Prelude.{Some, ℕ, List, [], ◌<◌, ◌≤◌, ◌
 ghost use Rattle.tcp_law.specs.Numbers.{wire, nearest, IsNear};
 ghost use Rattle.tcp_law.specs.Segment.{Segment, IsData, IsNoReset};
 ghost use Rattle.tcp_law.specs.Segment.Control.{Rst};
-ghost use Rattle.tcp_law.specs.Side.{Side, fresh};
+ghost use Rattle.tcp_law.specs.Side.{Side, fresh, freed};
 ghost use Rattle.tcp_law.specs.Side.Phase.{Unopened, SynReceived};
 ghost use Rattle.tcp_law.specs.Side.Opening.{Passive};
 ghost use Rattle.tcp_law.specs.Move.{Move, Comes, May, sends, after, MayAll, after_all};
@@ -40,6 +40,11 @@ pub fn moves_keep_the_invariant()
         → HoldsBetween (after_all s moves) t }
     ensures events { (w : World) (event : Event) → Kept w → MayHappen w event → Kept (happens w event) }
     ensures safe { (s t : Side) → HoldsBetween s t → IsSafe s t }
+{}
+
+/// What is freed stays freed, since no acknowledgement goes back.
+pub fn what_is_freed_stays_freed()
+    ensures freed { (s t : Side) (move : Move) → HoldsBetween s t → May s t move → freed s ≤ freed (after s move) }
 {}
 
 /// A reset keeps the invariant, whoever sent it, whatever numbers it has, and whenever it is sent or taken.

@@ -1,4 +1,4 @@
-use Rattle.tcp_law.proofs.AloneLemmas.{OneWay-to_unopened, OneWay-from_unopened}
+use Rattle.tcp_law.proofs.AloneLemmas.{OneWay-to_unopened, OneWay-unopened_to}
 use Rattle.tcp_law.proofs.an_unopened_partner_may_be_any.Goals as goal
 
 pub returns : goal.returns
@@ -6,6 +6,6 @@ returns c = record {
   exchanged =
       λ s t space resets holds phase are_resets. (
         OneWay-to_unopened s t holds.0 holds.1 phase space resets are_resets,
-        OneWay-from_unopened s t holds.0 holds.1 phase space resets are_resets,
+        OneWay-unopened_to s t holds.0 holds.1 phase space resets are_resets,
       );
 }

@@ -9,6 +9,8 @@ invariant-loop-ready l = record {
   frames : l.sent.items ≡ l.initial.sent.items;
   places : vec_len l.sent + l.count ≤ vec_capacity l.sent;
   table : l.count ≤ vec_capacity l.ready;
+  more : vec_len l.initial.ready ≤ vec_len l.ready;
+  within : vec_len l.ready ≤ l.count;
 }
 
 abbrev pub decreases-loop-ready : goal.decreases-loop-ready
