@@ -1,18 +1,13 @@
 -- Quoted headers and what spells them.
-use Rattle.std.proofs.Common.{◌≡◌, ℕ, ◌+◌, ◌-◌, ◌<◌, ◌≤◌, zero, suc, Bool, true, false, List, [], ◌∷◌, ◌++◌, length, get_or, take, drop, refl, sym, ◌∙◌, ap, subst, arith, length-append}
-use Rattle.std.proofs.lemmas.List.{get_or-drop}
-use Rattle.std.specs.Prelude.{slice_index, slice_range}
+use Rattle.std.proofs.Common.{◌≡◌, ℕ, ◌+◌, ◌<◌, Bool, true, false, List, ◌++◌, length, get_or, refl, ◌∙◌, ap, arith, length-append}
 use Rattle.ip_address.specs.Fields.{IsBytes}
-use Rattle.ip_address.specs.Protocol.{protocol_number, protocol_of}
-use Rattle.ip_address.specs.declared.ip.IpProtocol.{IpProtocol}
 use Rattle.ip_packet.specs.Ipv4 as Ipv4
 use Rattle.ip_packet.specs.Ipv6 as Ipv6
 use Rattle.ip_packet.specs.declared.ipv4.Ipv4Repr.{Ipv4Repr}
 use Rattle.ip_packet.specs.declared.ipv6.Ipv6Repr.{Ipv6Repr}
 use Rattle.ip_packet.proofs.Ipv4Laws as V4
 use Rattle.ip_packet.proofs.Ipv6Laws as V6
-use Rattle.ip_address.proofs.Peel.{length-slice_range}
-use Rattle.ip_address.proofs.Numbers.{protocol_number-protocol_of}
+use Rattle.ip_packet.proofs.Runs.{part, numbered}
 
 -- a header with any checksum
 IsQuoted-spelling : (v : Ipv4Repr) (check : ℕ) (rest : List ℕ) → Ipv4.Fits v → Ipv4.IsValue v → Ipv4.IsQuoted (Ipv4.spelling v (Ipv4.sent_fields check) ++ rest) (Ipv4.normal v) 20
@@ -54,28 +49,6 @@ IsQuoted-v6 v rest fits value =
       payload = omega (arith, fits);
       hops = refl;
     }
-
--- a part of bytes is bytes
-IsBytes-take : (n : ℕ) (bytes : List ℕ) → IsBytes bytes → IsBytes (take n bytes)
-IsBytes-take zero bytes small i = omega arith
-IsBytes-take (suc n) [] small i = omega arith
-IsBytes-take (suc n) (b ∷ bytes) small zero = small 0
-IsBytes-take (suc n) (b ∷ bytes) small (suc i) = IsBytes-take n bytes (λ j. small (suc j)) i
-
-IsBytes-part : (bytes : List ℕ) (i k : ℕ) → IsBytes bytes → IsBytes (slice_range bytes i k)
-IsBytes-part bytes i k small =
-    IsBytes-take (k - i) (drop i bytes) (λ j. subst (λ b. b < 256) (sym (get_or-drop i bytes j 0)) (small (i + j)))
-
--- the bytes between two places, as a field
-part : (bytes field : List ℕ) (i k n : ℕ) → IsBytes bytes → i + n ≡ k → k ≤ length bytes → field ≡ slice_range bytes i k → (length field ≡ n) × IsBytes field
-part bytes field i k n small len room is =
-    (omega (arith, len, room, ap length is, length-slice_range bytes i k (omega (arith, len)) room), subst IsBytes (sym is) (IsBytes-part bytes i k small))
-
--- a number that was read of a byte
-numbered : (bytes : List ℕ) (i : ℕ) (p : IpProtocol) → IsBytes bytes → p ≡ protocol_of (slice_index bytes i) → protocol_number p < 256
-numbered bytes i p small is =
-    let b : get_or bytes i 0 < 256 = small i in
-    omega (arith, ap protocol_number is, protocol_number-protocol_of (slice_index bytes i), b)
 
 -- a header that was read can be written
 pub fits-v4 : (bytes : List ℕ) (v : Ipv4Repr) (header_len : ℕ) → IsBytes bytes → Ipv4.IsQuoted bytes v header_len → Ipv4.Fits v × Ipv4.IsValue v

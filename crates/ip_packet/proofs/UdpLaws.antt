@@ -1,6 +1,7 @@
 -- A datagram and what spells it.
-use Rattle.std.proofs.Common.{◌≡◌, ◌≤◌, ℕ, ◌+◌, ◌<◌, ◌^◌, Bool, true, false, IsTrue, List, ◌++◌, length, drop, refl, sym, ap, subst, inr, arith, length-append}
+use Rattle.std.proofs.Common.{◌≡◌, ◌≤◌, ℕ, ◌+◌, ◌<◌, ◌^◌, Bool, true, false, IsTrue, List, ◌++◌, length, get_or, drop, refl, sym, ◌∙◌, subst, inr, arith, length-append}
 use Rattle.std.proofs.lemmas.List.{take_at}
+use Rattle.ip_address.specs.Address.{version_of}
 use Rattle.ip_address.specs.Fields.{be16, IsBytes}
 use Rattle.ip_address.specs.Sum.{word_sum, ChecksumHolds}
 use Rattle.ip_address.specs.declared.ip.IpAddress.{IpAddress}
@@ -72,3 +73,22 @@ pub within : (source destination : IpAddress) (tested : Bool) (bytes : List ℕ)
 within source destination tested bytes v is =
     let whole : IsWhole bytes = is.whole in
     omega (arith, whole.within, length-slice_range bytes 8 (be16 bytes 4) whole.least whole.within)
+
+-- a datagram that was read can be written again
+pub fits : (source destination : IpAddress) (tested : Bool) (bytes : List ℕ) (v : UdpRepr) → version_of source ≡ version_of destination → IsBytes bytes → IsUdp source destination tested bytes v
+    → Fits source destination (payload_of bytes) × IsAccepted v
+fits source destination tested bytes v family small is =
+    let whole : IsWhole bytes = is.whole in
+    let b0 : get_or bytes 0 0 < 256 = small 0 in
+    let b1 : get_or bytes 1 0 < 256 = small 1 in
+    let b2 : get_or bytes 2 0 < 256 = small 2 in
+    let b3 : get_or bytes 3 0 < 256 = small 3 in
+    let b4 : get_or bytes 4 0 < 256 = small 4 in
+    let b5 : get_or bytes 5 0 < 256 = small 5 in (
+      record { len = omega (arith, length-slice_range bytes 8 (be16 bytes 4) whole.least whole.within); family = family },
+      record {
+        source_port = omega (arith, is.source_port);
+        destination_port = omega (arith, is.destination_port);
+        nonzero = λ none. is.accepted (sym is.destination_port ∙ none);
+      },
+    )

@@ -1,6 +1,7 @@
 //! IP headers of either family.
 ghost use Rattle.std.specs.Prelude.{◌≡◌, ℕ, ◌+◌, ◌≤◌, ◌<◌, ◌^◌, Bool, IsTrue, IfOk, List, ◌++◌, length, drop};
 ghost use Rattle.ip_address.specs.Address.{version_of};
+ghost use Rattle.ip_address.specs.Fields.{IsBytes};
 ghost use Rattle.net_devices.specs.Capabilities.{verifies, computes};
 ghost use Rattle.ip_packet.specs.Ip.{version_in, source_in, destination_in, carried_in, payload_len_in, hops_in, header_len_in, with_payload_len, IsIp, IsValue, Fits, written, normal};
 ghost use Rattle.ip_packet.specs.declared.ip.IpRepr.{IpRepr};
@@ -196,6 +197,21 @@ pub fn ip_no_longer()
     ensures { (tested : Bool) (bytes : List ℕ) (v : IpRepr)
         → IsIp tested bytes v
         → header_len_in v + payload_len_in v ≤ length bytes }
+{}
+
+/// Law: a header that was read can be written again.
+pub fn ip_fits()
+    ensures { (tested : Bool) (bytes : List ℕ) (v : IpRepr)
+        → IsBytes bytes
+        → IsIp tested bytes v
+        → Fits v × IsValue v }
+{}
+
+/// Law: a header that was read is in its normal form.
+pub fn ip_normal()
+    ensures { (tested : Bool) (bytes : List ℕ) (v : IpRepr)
+        → IsIp tested bytes v
+        → normal v ≡ v }
 {}
 
 /// Law: a packet whose header was emitted is read back in its normal form, whatever follows the

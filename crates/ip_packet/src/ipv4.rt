@@ -739,6 +739,21 @@ pub fn ipv4_no_longer()
         → 20 + v.payload_len ≤ length bytes }
 {}
 
+/// Law: a header that was read can be written again.
+pub fn ipv4_fits()
+    ensures { (tested : Bool) (bytes : List ℕ) (v : Ipv4Repr)
+        → IsBytes bytes
+        → IsIpv4 tested bytes v
+        → Fits v × IsValue v }
+{}
+
+/// Law: a header that was read is in its normal form.
+pub fn ipv4_normal()
+    ensures { (tested : Bool) (bytes : List ℕ) (v : Ipv4Repr)
+        → IsIpv4 tested bytes v
+        → normal v ≡ v }
+{}
+
 /// Law: a packet whose header was emitted is read back in its normal form, whatever follows the
 /// payload, where a checksum that is tested was also written.
 pub fn ipv4_reads_back()

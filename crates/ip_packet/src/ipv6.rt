@@ -470,6 +470,19 @@ pub fn ipv6_no_longer()
     ensures { (bytes : List ℕ) (v : Ipv6Repr) → IsIpv6 bytes v → 40 + v.payload_len ≤ length bytes }
 {}
 
+/// Law: a header that was read can be written again.
+pub fn ipv6_fits()
+    ensures { (bytes : List ℕ) (v : Ipv6Repr)
+        → IsBytes bytes
+        → IsIpv6 bytes v
+        → Fits v × IsValue v }
+{}
+
+/// Law: a header that was read is in its normal form.
+pub fn ipv6_normal()
+    ensures { (bytes : List ℕ) (v : Ipv6Repr) → IsIpv6 bytes v → normal v ≡ v }
+{}
+
 /// Law: a packet whose header was emitted is read back in its normal form, whatever follows the
 /// payload.
 pub fn ipv6_reads_back()

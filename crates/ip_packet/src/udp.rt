@@ -477,6 +477,15 @@ pub fn udp_no_longer()
         → 8 + length (payload_of bytes) ≤ length bytes }
 {}
 
+/// Law: a datagram that was read can be written again.
+pub fn udp_fits()
+    ensures { (source destination : IpAddress) (tested : Bool) (bytes : List ℕ) (v : UdpRepr)
+        → version_of source ≡ version_of destination
+        → IsBytes bytes
+        → IsUdp source destination tested bytes v
+        → Fits source destination (payload_of bytes) × IsAccepted v }
+{}
+
 /// Law: a datagram that was emitted is read back, whatever follows it, where a checksum that is
 /// tested was also written.
 pub fn udp_reads_back()

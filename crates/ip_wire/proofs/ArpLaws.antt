@@ -1,11 +1,12 @@
 -- An ARP packet and what spells it.
-use Rattle.std.proofs.Common.{◌≡◌, ℕ, ◌+◌, ◌*◌, ◌/◌, ◌%◌, ◌<◌, ◌^◌, List, ◌++◌, length, get_or, take, drop, refl, sym, ◌∙◌, ap, arith, length-append, append_assoc}
+use Rattle.std.proofs.Common.{◌≡◌, ℕ, ◌+◌, ◌*◌, ◌/◌, ◌%◌, ◌<◌, ◌≤◌, ◌^◌, List, ◌++◌, length, get_or, take, drop, refl, sym, ◌∙◌, ap, arith, length-append, append_assoc}
 use Rattle.std.proofs.lemmas.List.{take_at, drop_at, drop-drop}
 use Rattle.ip_address.specs.Fields.{be16, IsBytes}
 use Rattle.ip_wire.specs.Arp.{IsArp, IsValue, written, normal, operation_number, operation_of}
 use Rattle.ip_wire.specs.declared.arp.ArpRepr.{ArpRepr}
 use Rattle.ip_wire.specs.declared.arp.ArpRepr.TheVariants as Arp
 use Rattle.ip_address.proofs.Peel.{peel8, peel16, peel_to}
+use Rattle.ip_packet.proofs.Runs.{part, named-again}
 use Rattle.ip_wire.proofs.Numbers.{operation_number-operation_of}
 
 -- four runs of bytes, and what is behind them, joined one way or the other
@@ -82,3 +83,29 @@ IsArp-written (Arp.EthernetIpv4 operation sha spa tha tpa) rest value =
       target_hardware_is = sym (ap (take 6) after10 ∙ take_at c _ 6 lc);
       target_protocol_is = sym (ap (take 4) after16 ∙ take_at d _ 4 ld);
     }
+
+-- a packet takes no more room than the bytes that it was read from
+pub within : (bytes : List ℕ) (v : ArpRepr) → IsArp bytes v → 28 ≤ length bytes
+within bytes (Arp.EthernetIpv4 operation sha spa tha tpa) is = is.room
+
+-- a packet that was read can be written again
+pub fits : (bytes : List ℕ) (v : ArpRepr) → IsBytes bytes → IsArp bytes v → IsValue v
+fits bytes (Arp.EthernetIpv4 operation sha spa tha tpa) small is =
+    let b6 : get_or bytes 6 0 < 256 = small 6 in
+    let b7 : get_or bytes 7 0 < 256 = small 7 in (
+      omega (arith, ap operation_number is.operation_is, operation_number-operation_of (be16 bytes 6)),
+      part bytes sha.0 8 14 6 small refl (omega (arith, is.room)) is.source_hardware_is,
+      part bytes spa.0 14 18 4 small refl (omega (arith, is.room)) is.source_protocol_is,
+      part bytes tha.0 18 24 6 small refl (omega (arith, is.room)) is.target_hardware_is,
+      part bytes tpa.0 24 28 4 small refl is.room is.target_protocol_is,
+    )
+
+-- a packet that was read is in its normal form
+pub read : (bytes : List ℕ) (v : ArpRepr) → IsArp bytes v → normal v ≡ v
+read bytes (Arp.EthernetIpv4 operation sha spa tha tpa) is =
+    ap (λ p. Arp.EthernetIpv4 p sha spa tha tpa) (named-again operation_number operation_of operation_number-operation_of operation (be16 bytes 6) is.operation_is)
+
+-- the normal form of a normal form is itself
+pub normal-again : (v : ArpRepr) → normal (normal v) ≡ normal v
+normal-again (Arp.EthernetIpv4 operation sha spa tha tpa) =
+    ap (λ p. Arp.EthernetIpv4 p sha spa tha tpa) (ap operation_of (operation_number-operation_of (operation_number operation)))

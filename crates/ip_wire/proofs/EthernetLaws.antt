@@ -8,6 +8,7 @@ use Rattle.ip_wire.specs.Ethernet.{IsEthernet, IsWhole, IsValue, written, normal
 use Rattle.ip_wire.specs.declared.ethernet.EthernetRepr.{EthernetRepr}
 use Rattle.ip_address.proofs.Peel.{peel16, peel_to}
 use Rattle.ip_address.proofs.Numbers.{ether_number-ether_of}
+use Rattle.ip_packet.proofs.Runs.{part, named-again}
 
 -- a frame is spelled by its header, and then come payload and padding
 pub bytes-written : (bytes : List ℕ) (v : EthernetRepr) → IsBytes bytes → IsEthernet bytes v → bytes ≡ written v ++ drop 14 bytes
@@ -51,3 +52,25 @@ pub IsEthernet-written : (v : EthernetRepr) (rest : List ℕ) → IsValue v → 
 IsEthernet-written v rest value =
     let all = parts v.dst_addr.0 v.src_addr.0 rest (ether_number v.ethertype) value.destination.0 value.source.0 value.carried in
     record { whole = record { header = all.3 }; destination = all.0; source = all.1; carried = sym (ap ether_of all.2) }
+
+-- a header that was read can be written again
+pub fits : (bytes : List ℕ) (v : EthernetRepr) → IsBytes bytes → IsEthernet bytes v → IsValue v
+fits bytes v small is =
+    let whole : IsWhole bytes = is.whole in
+    let b12 : get_or bytes 12 0 < 256 = small 12 in
+    let b13 : get_or bytes 13 0 < 256 = small 13 in
+    record {
+      source = part bytes v.src_addr.0 6 12 6 small refl (omega (arith, whole.header)) is.source;
+      destination = part bytes v.dst_addr.0 0 6 6 small refl (omega (arith, whole.header)) is.destination;
+      carried = omega (arith, ap ether_number is.carried, ether_number-ether_of (be16 bytes 12));
+    }
+
+-- a header that was read is in its normal form
+pub read : (bytes : List ℕ) (v : EthernetRepr) → IsEthernet bytes v → normal v ≡ v
+read bytes v is =
+    ap (λ p. record v { ethertype = p }) (named-again ether_number ether_of ether_number-ether_of v.ethertype (be16 bytes 12) is.carried)
+
+-- the normal form of a normal form is itself
+pub normal-again : (v : EthernetRepr) → normal (normal v) ≡ normal v
+normal-again v =
+    ap (λ p. record v { ethertype = p }) (ap ether_of (ether_number-ether_of (ether_number v.ethertype)))

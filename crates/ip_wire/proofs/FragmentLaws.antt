@@ -1,5 +1,5 @@
 -- A fragment header and what spells it.
-use Rattle.std.proofs.Common.{◌≡◌, ℕ, ◌+◌, ◌*◌, ◌%◌, ◌<◌, Bool, true, false, List, ◌++◌, get_or, drop, refl, sym, inl, inr, arith}
+use Rattle.std.proofs.Common.{◌≡◌, ℕ, ◌+◌, ◌*◌, ◌%◌, ◌<◌, ◌^◌, Bool, true, false, List, ◌++◌, get_or, drop, refl, sym, ap, inl, inr, arith}
 use Rattle.std.specs.Prelude.{◌==◌, ◌⊎◌, if◌then◌else◌}
 use Rattle.std.proofs.lemmas.Bool.{eq-eqb, ne_eqb}
 use Rattle.std.proofs.lemmas.Bool.Decides.{eqb_tells}
@@ -50,3 +50,28 @@ IsFragment-written v rest value =
         identification = omega (arith, value.identification);
       }
     ]
+
+-- a header that was read can be written again
+pub fits : (bytes : List ℕ) (v : Ipv6FragmentRepr) → IsBytes bytes → IsFragment bytes v → IsValue v
+fits bytes v small is =
+    let b0 : get_or bytes 0 0 < 256 = small 0 in
+    let b1 : get_or bytes 1 0 < 256 = small 1 in
+    let b2 : get_or bytes 2 0 < 256 = small 2 in
+    let b3 : get_or bytes 3 0 < 256 = small 3 in
+    let b4 : get_or bytes 4 0 < 256 = small 4 in
+    let b5 : get_or bytes 5 0 < 256 = small 5 in
+    record { offset = omega (arith, is.offset); identification = omega (arith, is.identification) }
+
+-- a header that was read is in its normal form
+pub read : (bytes : List ℕ) (v : Ipv6FragmentRepr) → IsBytes bytes → IsFragment bytes v → normal v ≡ v
+read bytes v small is =
+    let b0 : get_or bytes 0 0 < 256 = small 0 in
+    let b1 : get_or bytes 1 0 < 256 = small 1 in
+    let cut : v.frag_offset % 2 ^ 13 ≡ v.frag_offset = omega (arith, is.offset) in
+    ap (λ n. record v { frag_offset = n }) cut
+
+-- the normal form of a normal form is itself
+pub normal-again : (v : Ipv6FragmentRepr) → normal (normal v) ≡ normal v
+normal-again v =
+    let cut : v.frag_offset % 2 ^ 13 % 2 ^ 13 ≡ v.frag_offset % 2 ^ 13 = omega arith in
+    ap (λ n. record v { frag_offset = n }) cut

@@ -592,6 +592,26 @@ pub fn arp_spelled()
         → bytes ≡ written v ++ drop 28 bytes }
 {}
 
+/// Law: a packet that was read is written again in no more bytes.
+pub fn arp_no_longer()
+    ensures { (bytes : List ℕ) (v : ArpRepr) → IsArp bytes v → 28 ≤ length bytes }
+{}
+
+/// Law: a packet that was read can be written again: each field is a number of its width.
+pub fn arp_fits()
+    ensures { (bytes : List ℕ) (v : ArpRepr) → IsBytes bytes → IsArp bytes v → IsValue v }
+{}
+
+/// Law: a packet that was read is in its normal form.
+pub fn arp_normal()
+    ensures { (bytes : List ℕ) (v : ArpRepr) → IsArp bytes v → normal v ≡ v }
+{}
+
+/// Law: the normal form of a normal form is itself.
+pub fn arp_normal_again()
+    ensures { (v : ArpRepr) → normal (normal v) ≡ normal v }
+{}
+
 /// Law: a packet that was emitted is read back in its normal form, whatever follows.
 pub fn arp_reads_back()
     ensures { (v : ArpRepr) (rest : List ℕ) → IsValue v → IsArp (written v ++ rest) (normal v) }

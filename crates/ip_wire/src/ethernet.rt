@@ -306,6 +306,28 @@ pub fn ethernet_spelled()
         → bytes ≡ written v ++ drop 14 bytes }
 {}
 
+/// Law: a header that was read is written again, with what follows it, in no more bytes.
+pub fn ethernet_no_longer()
+    ensures { (bytes : List ℕ) (v : EthernetRepr)
+        → IsEthernet bytes v
+        → 14 + length (payload_of bytes) ≤ length bytes }
+{}
+
+/// Law: a header that was read can be written again: each field is a number of its width.
+pub fn ethernet_fits()
+    ensures { (bytes : List ℕ) (v : EthernetRepr) → IsBytes bytes → IsEthernet bytes v → IsValue v }
+{}
+
+/// Law: a header that was read is in its normal form.
+pub fn ethernet_normal()
+    ensures { (bytes : List ℕ) (v : EthernetRepr) → IsEthernet bytes v → normal v ≡ v }
+{}
+
+/// Law: the normal form of a normal form is itself.
+pub fn ethernet_normal_again()
+    ensures { (v : EthernetRepr) → normal (normal v) ≡ normal v }
+{}
+
 /// Law: a frame whose header was emitted is read back in its normal form, whatever follows.
 pub fn ethernet_reads_back()
     ensures { (v : EthernetRepr) (rest : List ℕ)

@@ -286,6 +286,32 @@ pub fn ipv6_fragment_spelled()
         → bytes ≡ spelling v (reserved_of bytes) ++ drop 6 bytes }
 {}
 
+/// Law: a fragment header that was read is written again in no more bytes.
+pub fn ipv6_fragment_no_longer()
+    ensures { (bytes : List ℕ) (v : Ipv6FragmentRepr) → IsFragment bytes v → 6 ≤ length bytes }
+{}
+
+/// Law: a fragment header that was read can be written again: each field is a number of its width.
+pub fn ipv6_fragment_fits()
+    ensures { (bytes : List ℕ) (v : Ipv6FragmentRepr)
+        → IsBytes bytes
+        → IsFragment bytes v
+        → IsValue v }
+{}
+
+/// Law: a fragment header that was read is in its normal form.
+pub fn ipv6_fragment_normal()
+    ensures { (bytes : List ℕ) (v : Ipv6FragmentRepr)
+        → IsBytes bytes
+        → IsFragment bytes v
+        → normal v ≡ v }
+{}
+
+/// Law: the normal form of a normal form is itself.
+pub fn ipv6_fragment_normal_again()
+    ensures { (v : Ipv6FragmentRepr) → normal (normal v) ≡ normal v }
+{}
+
 /// Law: a fragment header that was emitted is read back in its normal form, whatever follows.
 pub fn ipv6_fragment_reads_back()
     ensures { (v : Ipv6FragmentRepr) (rest : List ℕ)

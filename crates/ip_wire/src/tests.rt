@@ -57,6 +57,10 @@ fn frame_is_read(rt: HostRuntime) {
         Err(Error)
     );
     ethernet::ethernet_spelled();
+    ethernet::ethernet_no_longer();
+    ethernet::ethernet_fits();
+    ethernet::ethernet_normal();
+    ethernet::ethernet_normal_again();
     ethernet::ethernet_reads_back();
 }
 
@@ -66,7 +70,6 @@ fn frame_is_written(rt: HostRuntime) {
     let mut frame = EthernetFrameMut::new_unchecked(&mut bytes);
     header().emit(&mut frame);
     assert_eq!(rt; frame.payload(), [0xa5; 6].as_slice());
-    assert_eq!(rt; frame.payload_mut().len(), 6);
     assert_eq!(rt; &bytes[..14], &FRAME[..14]);
     let mut frame = EthernetFrameMut::new_checked(&mut bytes).expect(&rt, "whole");
     frame.set_dst_addr(SENDER);
@@ -77,6 +80,68 @@ fn frame_is_written(rt: HostRuntime) {
     assert_eq!(rt; frame.src_addr(), EthernetAddress::BROADCAST);
     assert_eq!(rt; frame.ethertype(), EthernetProtocol::Ipv6);
     assert_eq!(rt; &frame.into_inner()[12..14], [0x86, 0xdd].as_slice());
+}
+
+#[test]
+fn payload_alone_is_lent(rt: HostRuntime) {
+    let mut bytes = [0xa5; 20];
+    bytes[..14].copy_from_slice(&FRAME[..14]);
+    let mut frame = EthernetFrameMut::new_checked(&mut bytes).expect(&rt, "whole");
+    frame.payload_mut().fill(7);
+    assert!(rt; starts_with(&bytes, &FRAME[..14]));
+    assert!(rt; bytes.ends_with(&[7; 6]));
+}
+
+#[test]
+fn known_numbers_are_read_by_name(rt: HostRuntime) {
+    let mut bytes = [0; 42];
+    let (front, behind) = bytes.split_at_mut(14);
+    let unnamed = EthernetRepr {
+        ethertype: EthernetProtocol::Unknown(0x0806),
+        ..header()
+    };
+    let mut frame = EthernetFrameMut::new_unchecked(front);
+    unnamed.emit(&mut frame);
+    let reply = ArpRepr::EthernetIpv4 {
+        operation: ArpOperation::Unknown(1),
+        source_hardware_addr: SENDER,
+        source_protocol_addr: Ipv4Address::new(192, 168, 1, 1),
+        target_hardware_addr: EthernetAddress([0; 6]),
+        target_protocol_addr: Ipv4Address::new(192, 168, 1, 2),
+    };
+    let mut packet = ArpPacketMut::new_unchecked(behind);
+    reply.emit(&mut packet);
+    assert!(rt; starts_with(&FRAME, &bytes));
+    let frame = EthernetFrame::new_unchecked(&bytes);
+    assert_eq!(rt; EthernetRepr::parse(&frame), Ok(header()));
+    let packet = ArpPacket::new_unchecked(&bytes[14..]);
+    assert_eq!(rt; ArpRepr::parse(&packet), Ok(request()));
+}
+
+#[test]
+fn fields_stand_where_the_standards_say(rt: HostRuntime) {
+    assert_eq!(rt; ethernet_field::DESTINATION, 0..6);
+    assert_eq!(rt; ethernet_field::SOURCE, 6..12);
+    assert_eq!(rt; ethernet_field::ETHERTYPE, 12..14);
+    assert_eq!(rt; ethernet_field::PAYLOAD, 14..);
+    assert_eq!(rt; arp_field::HTYPE, 0..2);
+    assert_eq!(rt; arp_field::PTYPE, 2..4);
+    assert_eq!(rt; arp_field::HLEN, 4);
+    assert_eq!(rt; arp_field::PLEN, 5);
+    assert_eq!(rt; arp_field::OPER, 6..8);
+    assert_eq!(rt; arp_field::SHA(6, 4), 8..14);
+    assert_eq!(rt; arp_field::SPA(6, 4), 14..18);
+    assert_eq!(rt; arp_field::THA(6, 4), 18..24);
+    assert_eq!(rt; arp_field::TPA(6, 4), 24..28);
+    assert_eq!(rt; ipv6_fragment_field::FR_OF_M, 0..2);
+    assert_eq!(rt; ipv6_fragment_field::M, 1);
+    assert_eq!(rt; ipv6_fragment_field::IDENT, 2..6);
+    assert_eq!(rt; ETHERNET_HEADER_LEN, 14);
+    assert_eq!(rt; IPV4_HEADER_LEN, 20);
+    assert_eq!(rt; IPV6_HEADER_LEN, 40);
+    assert_eq!(rt; IPV6_FRAGMENT_HEADER_LEN, 6);
+    assert_eq!(rt; UDP_HEADER_LEN, 8);
+    assert_eq!(rt; TCP_HEADER_LEN, 20);
 }
 
 #[test]
@@ -97,6 +162,10 @@ fn request_is_read(rt: HostRuntime) {
     assert_eq!(rt; request().buffer_len(), 28);
     assert_eq!(rt; packet.into_inner().len(), 46);
     arp::arp_spelled();
+    arp::arp_no_longer();
+    arp::arp_fits();
+    arp::arp_normal();
+    arp::arp_normal_again();
     arp::arp_reads_back();
 }
 
@@ -198,5 +267,9 @@ fn fragment_header_is_read_and_written(rt: HostRuntime) {
     header.clear_reserved();
     assert_eq!(rt; out[1], 0xf9);
     ipv6_fragment::ipv6_fragment_spelled();
+    ipv6_fragment::ipv6_fragment_no_longer();
+    ipv6_fragment::ipv6_fragment_fits();
+    ipv6_fragment::ipv6_fragment_normal();
+    ipv6_fragment::ipv6_fragment_normal_again();
     ipv6_fragment::ipv6_fragment_reads_back();
 }
