@@ -6,7 +6,8 @@ use Rattle.ip_address.specs.Fields.{be32}
 use Rattle.ip_tcp.proofs.Steps.{Says-fold}
 use Rattle.ip_tcp.proofs.Grammar.{first_option-spelled}
 use Rattle.std.proofs.lemmas.List.{append-nil}
-use Rattle.ip_tcp.specs.Options.{OptionValue, EndOfList, NoOperation, MaxSegmentSize, WindowScale, SackPermitted, SackRange, TimeStamp, Unknown, first_option, is_end, IsOption, IsOptionValue, normal_option, option_bytes, ranges_bytes, taken, Says, no_options, options_bytes, size_options, scale_options, sack_options, range_options, stamp_options, sent_bytes, options_room, padded, options_area, normal_options, sent_ranges, closed_up, no_ranges, read_scale, IsNumber, IsRange, IsStamp, AreRanges, AreOptions}
+use Rattle.ip_tcp.specs.Options.{OptionValue, Begins, EndOfList, NoOperation, MaxSegmentSize, WindowScale, SackPermitted, SackRange, TimeStamp, Unknown, IsOption, IsOptionValue, normal_option, option_bytes, ranges_bytes, taken, Says, no_options, options_bytes, size_options, scale_options, sack_options, range_options, stamp_options, sent_bytes, options_room, padded, options_area, normal_options, sent_ranges, closed_up, no_ranges, read_scale, IsNumber, IsRange, IsStamp, AreRanges, AreOptions}
+use Rattle.ip_tcp.specs.Seen.{first_option, is_end}
 use Rattle.ip_tcp.specs.declared.option.TcpOptions.{TcpOptions}
 use Rattle.ip_tcp.specs.declared.timestamp.TcpTimestampRepr.{TcpTimestampRepr}
 
@@ -73,14 +74,14 @@ option-spelled (TimeStamp tsval tsecr) value = (to_be_bytes w32 tsval ++ to_be_b
 option-spelled (Unknown kind inner) value = (refl, value)
 
 -- an option that was sent is read back
-pub option-read : (o : OptionValue) (rest : List ℕ) → IsOptionValue o → first_option (option_bytes o ++ rest) ≡ Some (record { option = normal_option o; rest = rest })
-option-read o rest value = (first_option-spelled (option_bytes o ++ rest) rest (normal_option o)).1 (option_bytes o, option-spelled o value, refl)
+pub option-read : (o : OptionValue) (rest : List ℕ) → IsOptionValue o → Begins (option_bytes o ++ rest) (normal_option o) rest
+option-read o rest value = (option_bytes o, option-spelled o value, refl)
 
 -- an option before what is read
 Says-option : (o : OptionValue) (so_far v : TcpOptions) (rest : List ℕ) → IsOptionValue o → is_end (normal_option o) ≡ false → Says (taken so_far (normal_option o)) rest v
     → Says so_far (options_bytes (o ∷ []) ++ rest) v
 Says-option o so_far v rest value more says =
-    Says-fold so_far v (options_bytes (o ∷ []) ++ rest) (normal_option o) rest (ap (λ xs. first_option (xs ++ rest)) (append-nil (option_bytes o)) ∙ option-read o rest value) more says
+    Says-fold so_far v (options_bytes (o ∷ []) ++ rest) (normal_option o) rest (ap (λ xs. first_option (xs ++ rest)) (append-nil (option_bytes o)) ∙ (first_option-spelled (option_bytes o ++ rest) rest (normal_option o)).1 (option-read o rest value)) more says
 
 -- a maximum segment size before what is read
 Says-size : (m : Option ℕ) (v : TcpOptions) (rest : List ℕ) → IsNumber (2 ^ 16) m → Says (state m None false no_ranges None) rest v → Says no_options (options_bytes (size_options m) ++ rest) v

@@ -1,9 +1,13 @@
 -- Options read one by one.
 use Rattle.std.proofs.Common.{◌≡◌, ◌≢◌, ℕ, ◌-◌, ◌<◌, ◌≤◌, true, false, List, [], ◌∷◌, length, take, drop, refl, sym, ◌∙◌, ap, subst, arith, ◌↔◌, inl, inr, length-drop, take_all}
-use Rattle.std.specs.Prelude.{Option, Some, None, slice_index, slice_range}
+use Rattle.std.specs.Prelude.{Option, Some, None, Result, Ok, Err, IsOk, IfOk, slice_index, slice_range}
+use denote.Ref.{Bor}
 use Rattle.std.proofs.lemmas.Bool.Decides.{eqb_tells, leb_tells}
 use Rattle.ip_tcp.proofs.Grammar.{before-read, empty, first_option-spelled}
-use Rattle.ip_tcp.specs.Options.{OptionValue, EndOfList, First, first_option, first_long, inside, is_end, Begins, Spells, Says, taken, all_taken}
+use Rattle.ip_address.specs.declared.Error.{Error}
+use Rattle.ip_tcp.specs.Options.{OptionValue, value_of, EndOfList, Begins, Spells, Says, taken, all_taken}
+use Rattle.ip_tcp.specs.Seen.{First, first_option, first_long, inside, is_end, seen_first}
+use Rattle.ip_tcp.specs.declared.option.TcpOption.{TcpOption}
 use Rattle.ip_tcp.specs.declared.option.TcpOptions.{TcpOptions}
 
 -- what a reader answered, with the end of options and nothing for a refusal
@@ -23,6 +27,35 @@ same_option o p r s answer a b = ap option_or (sym a ∙ b)
 same_rest : (o p : OptionValue) (r s : List ℕ) (answer : Option First) → answer ≡ Some (record { option = o; rest = r }) → answer ≡ Some (record { option = p; rest = s }) → r ≡ s
 unfolding rest_or
 same_rest o p r s answer a b = ap rest_or (sym a ∙ b)
+
+-- one option at most stands at the front
+pub Begins-one : (bytes rest behind : List ℕ) (o p : OptionValue) → Begins bytes o rest → Begins bytes p behind → (o ≡ p) × (rest ≡ behind)
+Begins-one bytes rest behind o p first second =
+    let a = (first_option-spelled bytes rest o).1 first in
+    let b = (first_option-spelled bytes behind p).1 second in
+    (same_option o p rest behind (first_option bytes) a b, same_rest o p rest behind (first_option bytes) a b)
+
+-- a reader that answers what is read at the front finds an option that stands there, and finds it wherever one does
+pub seen-found : (bytes : List ℕ) (result : Result (Bor (List ℕ) × TcpOption) Error) → seen_first result ≡ first_option bytes → IfOk result (λ p. Begins bytes (value_of p.1) p.0.now)
+seen-found bytes (Ok p) is = (first_option-spelled bytes p.0.now (value_of p.1)).0 (sym is)
+seen-found bytes (Err e) is = tt
+
+pub seen-only : (bytes : List ℕ) (result : Result (Bor (List ℕ) × TcpOption) Error) → seen_first result ≡ first_option bytes → (o : OptionValue) (rest : List ℕ) → Begins bytes o rest
+    → IsOk result × IfOk result (λ p. (value_of p.1 ≡ o) × (p.0.now ≡ rest))
+seen-only bytes (Ok p) is o rest begins = (refl, Begins-one bytes p.0.now rest (value_of p.1) o ((first_option-spelled bytes p.0.now (value_of p.1)).0 (sym is)) begins)
+seen-only bytes (Err e) is o rest begins = let some = (first_option-spelled bytes rest o).1 begins in absurd (cc (is, some))
+
+-- and the other way round
+none-first : (answer : Option First) → ((f : First) → answer ≡ Some f → ⊥) → None ≡ answer
+none-first None no_answer = refl
+none-first (Some f) no_answer = absurd (no_answer f refl)
+
+pub found-seen : (bytes : List ℕ) (result : Result (Bor (List ℕ) × TcpOption) Error) → IfOk result (λ p. Begins bytes (value_of p.1) p.0.now)
+    → ((o : OptionValue) (rest : List ℕ) → Begins bytes o rest → IsOk result × IfOk result (λ p. (value_of p.1 ≡ o) × (p.0.now ≡ rest)))
+    → seen_first result ≡ first_option bytes
+found-seen bytes (Ok p) found only = sym ((first_option-spelled bytes p.0.now (value_of p.1)).1 found)
+found-seen bytes (Err e) found only =
+    none-first (first_option bytes) (λ f is. let ok = (only f.option f.rest ((first_option-spelled bytes f.rest f.option).0 is)).0 in absurd (cc ok))
 
 -- no bytes begin with no option
 none_first : (bytes : List ℕ) (o : OptionValue) (r : List ℕ) → bytes ≡ [] → Begins bytes o r → ⊥

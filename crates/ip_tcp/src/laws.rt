@@ -1,9 +1,9 @@
 //! Laws of the format.
-ghost use Rattle.std.specs.Prelude.{◌≡◌, ◌≢◌, ◌%◌, true, ◌↔◌, ◌<◌, ◌≤◌, ◌^◌, ℕ, ◌+◌, Some, Bool, IsTrue, List, ◌++◌, length};
+ghost use Rattle.std.specs.Prelude.{◌≡◌, ◌≢◌, ◌%◌, true, ◌<◌, ◌≤◌, ◌^◌, ℕ, ◌+◌, Bool, IsTrue, List, ◌++◌, length};
 ghost use Rattle.ip_address.specs.Address.{version_of};
 ghost use Rattle.ip_address.specs.Fields.{be16, put16, IsBytes};
 ghost use Rattle.ip_address.specs.declared.ip.IpAddress.{IpAddress};
-ghost use Rattle.ip_tcp.specs.Options.{OptionValue, first_option, Begins, IsOptionValue, option_bytes, normal_option, AreRead, sent_ranges};
+ghost use Rattle.ip_tcp.specs.Options.{OptionValue, Begins, IsOptionValue, option_bytes, normal_option, AreRead, sent_ranges};
 ghost use Rattle.ip_tcp.specs.Tcp.{IsChecked, IsTcp, IsValue, Fits, acknowledges, fixed_fields, header_len, header_len_of, normal, options_of, payload_of, read_fields, written};
 ghost use Rattle.ip_tcp.specs.declared.header.TcpHeader.{TcpHeader};
 
@@ -23,18 +23,19 @@ pub fn tcp_reads_back()
         → payload_of (written source destination sealed v payload) ≡ payload }
 {}
 
-/// Law: an option is read at the front of bytes exactly where its spelling stands there.
+/// Law: one option at most is spelled at the front of bytes, and what follows it is told by it.
 pub fn option_spelled()
-    ensures { (bytes rest : List ℕ) (o : OptionValue)
-        → (first_option bytes ≡ Some (record { option = o; rest = rest })) ↔ Begins bytes o rest }
+    ensures { (bytes rest behind : List ℕ) (o p : OptionValue)
+        → Begins bytes o rest
+        → Begins bytes p behind
+        → (o ≡ p) × (rest ≡ behind) }
 {}
 
 /// Law: an option that was emitted is read back, its ranges closed up, whatever follows it.
 pub fn option_reads_back()
     ensures { (o : OptionValue) (rest : List ℕ)
         → IsOptionValue o
-        → first_option (option_bytes o ++ rest)
-        ≡ Some (record { option = normal_option o; rest = rest }) }
+        → Begins (option_bytes o ++ rest) (normal_option o) rest }
 {}
 
 /// Law: what was read is written again in no more bytes: neither header nor segment grows longer.

@@ -1,7 +1,7 @@
 //! TCP options: read one by one, read as a whole, and written.
-ghost use Rattle.std.specs.Prelude.{◌≡◌, ◌<◌, ◌≤◌, ◌^◌, IfOk, length};
-ghost use Rattle.ip_tcp.specs.Options.{value_of, inside, first_option, first_long, range_at, no_options, taken, is_end, Says};
-ghost use Rattle.ip_tcp.specs.Seen.{seen, seen_first};
+ghost use Rattle.std.specs.Prelude.{◌≡◌, ℕ, ◌<◌, ◌≤◌, ◌^◌, IsOk, IfOk, List, length};
+ghost use Rattle.ip_tcp.specs.Options.{OptionValue, value_of, range_at, no_options, taken, Begins, Says};
+ghost use Rattle.ip_tcp.specs.Seen.{inside, first_long, is_end, seen, seen_first};
 ghost use Rattle.ip_tcp.specs.declared.option.TcpOptions.{TcpOptions};
 
 use crate::field;
@@ -31,7 +31,9 @@ pub enum TcpOption<'a> {
 impl<'a> TcpOption<'a> {
     /// The bytes behind the option at the front, and the option.
     pub fn parse(buffer: &'a [u8]) -> Result<(&'a [u8], TcpOption<'a>), Error>
-        ensures { seen_first result ≡ first_option buffer.now }
+        ensures found { IfOk result (λ p. Begins buffer.now (value_of p.1) p.0.now) }
+        ensures only { (o : OptionValue) (rest : List ℕ) → Begins buffer.now o rest
+            → IsOk result × IfOk result (λ p. (value_of p.1 ≡ o) × (p.0.now ≡ rest)) }
     {
         let [kind, rest @ ..] = buffer else {
             return Err(Error);

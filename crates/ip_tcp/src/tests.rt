@@ -147,6 +147,61 @@ fn reads_every_field(rt: HostRuntime) {
     assert_eq!(rt; packet.into_inner(), SYN_BYTES.as_slice());
 }
 
+// The same fields through the writing view, and those of a segment with ranges.
+#[test]
+fn reads_what_it_can_write(rt: HostRuntime) -> Result<(), Error> {
+    let mut buffer = RANGES;
+    let packet = TcpPacketMut::new_checked(&mut buffer)?;
+    assert_eq!(rt; packet.check_len(), Ok(()));
+    assert_eq!(rt; packet.src_port(), 49500);
+    assert_eq!(rt; packet.dst_port(), 80);
+    assert_eq!(rt; packet.seq_number(), SeqNumber(100));
+    assert_eq!(rt; packet.ack_number(), SeqNumber(5500));
+    assert_eq!(rt; packet.header_len(), 56);
+    assert_eq!(rt; packet.window_len(), 1000);
+    assert_eq!(rt; packet.checksum(), 0x32b0);
+    assert_eq!(rt; packet.urgent_at(), 0);
+    assert_eq!(rt; packet.segment_len(), 3);
+    assert_eq!(rt; packet.selective_ack_permitted(), Ok(false));
+    assert_eq!(rt;
+        packet.selective_ack_ranges(),
+        Ok([Some((8000, 8500)), Some((7000, 7500)), Some((6000, 6500))])
+    );
+    assert_eq!(rt; packet.options(), &RANGES[20..56]);
+    assert_eq!(rt; packet.payload(), b"ab\xff".as_slice());
+    Ok(())
+}
+
+#[test]
+fn writes_through_the_options(rt: HostRuntime) -> Result<(), Error> {
+    let mut buffer = RANGES;
+    let mut packet = TcpPacketMut::new_checked(&mut buffer)?;
+    packet.options_mut().fill(1);
+    assert_eq!(rt; &buffer[..20], &RANGES[..20]);
+    assert_eq!(rt; &buffer[20..56], [1; 36].as_slice());
+    assert_eq!(rt; &buffer[56..], &RANGES[56..]);
+    Ok(())
+}
+
+#[test]
+fn writes_through_the_payload(rt: HostRuntime) -> Result<(), Error> {
+    let mut buffer = RANGES;
+    let mut packet = TcpPacketMut::new_checked(&mut buffer)?;
+    packet.payload_mut().fill(2);
+    let mut wanted = RANGES;
+    wanted[56] = 2;
+    wanted[57] = 2;
+    wanted[58] = 2;
+    assert_eq!(rt; buffer, wanted);
+    Ok(())
+}
+
+#[test]
+fn refuses_to_write_too_few_bytes(rt: HostRuntime) {
+    let mut short = [0x50; 19];
+    assert!(rt; TcpPacketMut::new_checked(&mut short).is_err());
+}
+
 // RFC 9293, section 3.1; the last three flags by RFC 3168, section 6.1, and RFC 3540, section 9.
 #[test]
 fn names_places_flags_and_kinds(rt: HostRuntime) {
@@ -459,6 +514,72 @@ fn writes_options(rt: HostRuntime) {
     );
     option_spelled();
     option_reads_back();
+}
+
+// Each option by itself, as RFC 9293, section 3.2, RFC 7323, sections 2.2 and 3.2, and RFC 2018,
+// sections 2 and 3, spell it; 253 is a kind for experiments (RFC 4727, section 7.2).
+#[test]
+fn reads_each_option(rt: HostRuntime) -> Result<(), Error> {
+    let rest: &[u8] = &[9];
+    assert_eq!(rt; TcpOption::parse(&[0, 9])?, (rest, TcpOption::EndOfList));
+    assert_eq!(rt; TcpOption::parse(&[1, 9])?, (rest, TcpOption::NoOperation));
+    assert_eq!(rt;
+        TcpOption::parse(&[2, 4, 0x05, 0xdc, 9])?,
+        (rest, TcpOption::MaxSegmentSize(1500))
+    );
+    assert_eq!(rt;
+        TcpOption::parse(&[3, 3, 12, 9])?,
+        (rest, TcpOption::WindowScale(12))
+    );
+    assert_eq!(rt;
+        TcpOption::parse(&[4, 2, 9])?,
+        (rest, TcpOption::SackPermitted)
+    );
+    assert_eq!(rt;
+        TcpOption::parse(&[5, 10, 0, 0, 0x01, 0xf4, 0, 0, 0x05, 0xdc, 9])?,
+        (rest, TcpOption::SackRange([Some((500, 1500)), None, None]))
+    );
+    assert_eq!(rt;
+        TcpOption::parse(&[8, 10, 1, 2, 3, 4, 5, 6, 7, 8, 9])?,
+        (
+            rest,
+            TcpOption::TimeStamp {
+                tsval: 0x0102_0304,
+                tsecr: 0x0506_0708
+            }
+        )
+    );
+    assert_eq!(rt;
+        TcpOption::parse(&[0xfd, 4, 1, 2, 9])?,
+        (
+            rest,
+            TcpOption::Unknown {
+                kind: 0xfd,
+                bytes: &[1, 2]
+            }
+        )
+    );
+    Ok(())
+}
+
+// The same options, but for those of `writes_options`.
+#[test]
+fn writes_each_option(rt: HostRuntime) {
+    let mut buffer = [0xff; 12];
+    let clock = TcpOption::TimeStamp {
+        tsval: 0x0102_0304,
+        tsecr: 0x0506_0708,
+    };
+    assert_eq!(rt; clock.emit(&mut buffer), 10);
+    assert_eq!(rt; buffer, [8, 10, 1, 2, 3, 4, 5, 6, 7, 8, 0xff, 0xff]);
+    assert_eq!(rt; TcpOption::WindowScale(12).emit(&mut buffer), 3);
+    assert_eq!(rt; buffer, [3, 3, 12, 2, 3, 4, 5, 6, 7, 8, 0xff, 0xff]);
+    assert_eq!(rt; TcpOption::SackPermitted.emit(&mut buffer), 2);
+    assert_eq!(rt; buffer, [4, 2, 12, 2, 3, 4, 5, 6, 7, 8, 0xff, 0xff]);
+    assert_eq!(rt; TcpOption::NoOperation.emit(&mut buffer), 1);
+    assert_eq!(rt; buffer, [1, 2, 12, 2, 3, 4, 5, 6, 7, 8, 0xff, 0xff]);
+    assert_eq!(rt; TcpOption::EndOfList.emit(&mut buffer), 1);
+    assert_eq!(rt; buffer, [0, 2, 12, 2, 3, 4, 5, 6, 7, 8, 0xff, 0xff]);
 }
 
 /// The SYN with one byte changed.

@@ -1,32 +1,32 @@
 use Rattle.std.proofs.Common.{◌≢◌, ◌∙◌, sym, ap, [], length, arith}
 use Rattle.std.proofs.lemmas.Bool.{eqb-true}
 use Rattle.ip_tcp.specs.Seen.{seen_first}
-use Rattle.ip_tcp.proofs.Steps.{Spells-none, Says-end, Says-empty, Says-nothing, Says-next, first_option-shorter}
+use Rattle.ip_tcp.proofs.Steps.{found-seen, Spells-none, Says-end, Says-empty, Says-nothing, Says-next, first_option-shorter}
 use Rattle.ip_tcp.proofs.option.TcpOptions.parse.Goals as goal
 
 pub returns-in_err-behind-clause-only : goal.returns-in_err-behind-clause-only
 returns-in_err-behind-clause-only c = λ v says.
     let here = (c.loop-rest.invariant v).1 says in
     let some : c.loop-rest.rest.now ≢ [] = λ e. let n = ap length e in absurd (grind (arith, n)) in
-    absurd (Spells-none here.0 c.loop-rest.rest.now some (sym c.parse.ensures ∙ ap seen_first c.in_err-behind.was) here.1)
+    absurd (Spells-none here.0 c.loop-rest.rest.now some (sym (found-seen _ _ c.parse.ensures.found c.parse.ensures.only) ∙ ap seen_first c.in_err-behind.was) here.1)
 
 pub returns-then-is_end-clause-found : goal.returns-then-is_end-clause-found
 returns-then-is_end-clause-found c =
     (c.loop-rest.invariant c.loop-rest.options).0
-    (Says-end c.loop-rest.options c.loop-rest.options c.loop-rest.rest.now _ _ (sym c.parse.ensures ∙ ap seen_first c.in_ok-behind.was) (sym c.is_end.ensures ∙ c.if-is_end.true)).0
+    (Says-end c.loop-rest.options c.loop-rest.options c.loop-rest.rest.now _ _ (sym (found-seen _ _ c.parse.ensures.found c.parse.ensures.only) ∙ ap seen_first c.in_ok-behind.was) (sym c.is_end.ensures ∙ c.if-is_end.true)).0
 
 pub returns-then-is_end-clause-only : goal.returns-then-is_end-clause-only
 returns-then-is_end-clause-only c = λ v says.
     let here = (c.loop-rest.invariant v).1 says in
-    let same = (Says-end c.loop-rest.options v c.loop-rest.rest.now _ _ (sym c.parse.ensures ∙ ap seen_first c.in_ok-behind.was) (sym c.is_end.ensures ∙ c.if-is_end.true)).1 here in
+    let same = (Says-end c.loop-rest.options v c.loop-rest.rest.now _ _ (sym (found-seen _ _ c.parse.ensures.found c.parse.ensures.only) ∙ ap seen_first c.in_ok-behind.was) (sym c.is_end.ensures ∙ c.if-is_end.true)).1 here in
     cc same
 
 pub loop-rest-smaller : goal.loop-rest-smaller
-loop-rest-smaller c = first_option-shorter _ _ (sym c.parse.ensures ∙ ap seen_first c.in_ok-behind.was)
+loop-rest-smaller c = first_option-shorter _ _ (sym (found-seen _ _ c.parse.ensures.found c.parse.ensures.only) ∙ ap seen_first c.in_ok-behind.was)
 
 pub loop-rest-preserved : goal.loop-rest-preserved
 loop-rest-preserved c = λ v.
-    let next = Says-next c.loop-rest.options c.with-options.result v c.loop-rest.rest.now _ _ (sym c.parse.ensures ∙ ap seen_first c.in_ok-behind.was) (sym c.is_end.ensures ∙ c.if-is_end.false) c.with-options.ensures in
+    let next = Says-next c.loop-rest.options c.with-options.result v c.loop-rest.rest.now _ _ (sym (found-seen _ _ c.parse.ensures.found c.parse.ensures.only) ∙ ap seen_first c.in_ok-behind.was) (sym c.is_end.ensures ∙ c.if-is_end.false) c.with-options.ensures in
     (λ says. (c.loop-rest.invariant v).0 (next.0 says), λ says. next.1 ((c.loop-rest.invariant v).1 says))
 
 pub returns-clause-found : goal.returns-clause-found
