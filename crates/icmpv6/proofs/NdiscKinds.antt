@@ -8,7 +8,7 @@ use Rattle.icmpv6.specs.NdiscOption.{HasLink}
 use Rattle.icmpv6.specs.Packet.{type_of, payload_of}
 use Rattle.icmpv6.specs.declared.message.Icmpv6Message.{Icmpv6Message}
 use Rattle.icmpv6.specs.declared.message.Icmpv6Message.TheVariants as Message
-use Rattle.icmpv6.specs.declared.ndisc.NdiscNeighborFlags.{NdiscNeighborFlags}
+use Rattle.icmpv6.specs.declared.ndisc_flags.NdiscNeighborFlags.{NdiscNeighborFlags}
 
 -- the options stand behind the header
 options-behind : (bytes options : List ℕ) (kind : Icmpv6Message) → type_of bytes ≡ kind → options ≡ payload_of bytes → options ≡ drop (header_len_of kind) bytes

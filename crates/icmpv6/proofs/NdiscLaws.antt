@@ -7,7 +7,7 @@ use Rattle.std.proofs.Math.Seq.{take-append_seam, drop-append_seam}
 use Rattle.ip_address.specs.Sum.{word_sum}
 use Rattle.icmpv6.specs.Ndisc.{NeighborMessage, Solicitation, Advertisement, IsNdisc, IsValue, IsLink, Fits, FitsLink, buffer_len, spelling, normal, flag_bits, flags_of}
 use Rattle.icmpv6.specs.NdiscOption.{OptionValue, units, option_bytes, options_bytes, AreOptions, links, HasLink, padded, link_len, link_option, read_link}
-use Rattle.icmpv6.specs.declared.ndisc.NdiscNeighborFlags.{NdiscNeighborFlags}
+use Rattle.icmpv6.specs.declared.ndisc_flags.NdiscNeighborFlags.{NdiscNeighborFlags}
 use Rattle.icmpv6.proofs.NdiscSteps.{links-this}
 
 -- a list of 16 before another
@@ -72,9 +72,14 @@ IsNdisc-written (Advertisement flags target link) check value = record {
   target_link = subst (λ xs. HasLink 2 None xs (read_link link)) (sym (back-16 target.0 (link_option 2 link) value.0.0)) (HasLink-written 2 link value.1);
 }
 
--- a link address of six bytes isn't padded
+-- a link address of six bytes isn't padded, nor is a longer one
+padded-long : (address : List ℕ) → 6 ≤ length address → padded address ≡ address
+padded-long address long =
+    let none : 6 - length address ≡ 0 = omega (arith, long) in
+    ap (λ n. address ++ replicate n 0) none ∙ append-nil address
+
 pub padded-same : (address : List ℕ) → length address ≡ 6 → padded address ≡ address
-padded-same address six = ap (λ n. address ++ replicate (6 - n) 0) six ∙ append-nil address
+padded-same address six = padded-long address (omega (arith, six))
 
 read_link-same : (link : Option (List ℕ)) → FitsLink link → read_link link ≡ link
 read_link-same None fits = refl
@@ -83,6 +88,19 @@ read_link-same (Some address) fits = ap Some (padded-same address fits)
 pub normal-same : (m : NeighborMessage) → Fits m → normal m ≡ m
 normal-same (Solicitation target link) fits = ap (Solicitation target) (read_link-same link fits)
 normal-same (Advertisement flags target link) fits = ap (Advertisement flags target) (read_link-same link fits)
+
+-- one that was padded isn't padded again
+padded-padded : (address : List ℕ) → padded (padded address) ≡ padded address
+padded-padded address = padded-long (padded address) (omega (arith, length-append address (replicate (6 - length address) 0), length-replicate {A = ℕ} (6 - length address) 0))
+
+read_link-again : (link : Option (List ℕ)) → read_link (read_link link) ≡ read_link link
+read_link-again None = refl
+read_link-again (Some address) = ap Some (padded-padded address)
+
+-- a normal form is in its normal form
+pub normal-normal : (m : NeighborMessage) → normal (normal m) ≡ normal m
+normal-normal (Solicitation target link) = ap (Solicitation target) (read_link-again link)
+normal-normal (Advertisement flags target link) = ap (Advertisement flags target) (read_link-again link)
 
 -- a link address fills a unit at least
 some-option : (kind : ℕ) (address : List ℕ) (bytes : List ℕ) (os : List OptionValue) → bytes ≡ options_bytes os → AreOptions kind os → Some address ≡ last_or None (links kind os) → 8 ≤ length bytes

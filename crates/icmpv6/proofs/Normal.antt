@@ -8,6 +8,7 @@ use Rattle.ip_address.proofs.Numbers.{protocol_number-protocol_of}
 use Rattle.ip_packet.proofs.QuotedLaws.{fits-v6}
 use Rattle.ip_packet.specs.Ipv6 as Ipv6
 use Rattle.ip_packet.specs.declared.ipv6.Ipv6Repr.{Ipv6Repr}
+use Rattle.icmpv6.proofs.NdiscLaws as Neighbor
 use Rattle.icmpv6.proofs.NdiscNormal.{IsNdisc-value, IsNdisc-normal}
 use Rattle.icmpv6.proofs.Reasons.{unreachable_code-unreachable_of, exceeded_code-exceeded_of, problem_code-problem_of}
 use Rattle.icmpv6.proofs.Spelled.{IsBytes-drop}
@@ -107,3 +108,26 @@ Says-normal message (Ndisc neighbor) says = ap Ndisc (IsNdisc-normal message nei
 
 pub normal-read : (source destination : Ipv6Address) (tested : Bool) (message : List ℕ) (v : MessageValue) → IsIcmpv6 source destination tested message v → normal v ≡ v
 normal-read source destination tested message v is = Says-normal message v is.says
+
+-- the parts of a normal form
+quote-again : (header : Ipv6Repr) → Ipv6.normal (Ipv6.normal header) ≡ Ipv6.normal header
+quote-again header = protocol-normal (Ipv6.normal header) (protocol_number header.next_header) refl
+
+unreachable-again : (reason : Icmpv6DstUnreachable) → unreachable_of (unreachable_code (unreachable_of (unreachable_code reason))) ≡ unreachable_of (unreachable_code reason)
+unreachable-again reason = unreachable-normal (unreachable_of (unreachable_code reason)) (unreachable_code reason) refl
+
+exceeded-again : (reason : Icmpv6TimeExceeded) → exceeded_of (exceeded_code (exceeded_of (exceeded_code reason))) ≡ exceeded_of (exceeded_code reason)
+exceeded-again reason = exceeded-normal (exceeded_of (exceeded_code reason)) (exceeded_code reason) refl
+
+problem-again : (reason : Icmpv6ParamProblem) → problem_of (problem_code (problem_of (problem_code reason))) ≡ problem_of (problem_code reason)
+problem-again reason = problem-normal (problem_of (problem_code reason)) (problem_code reason) refl
+
+-- a normal form is in its normal form
+pub normal-normal : (v : MessageValue) → normal (normal v) ≡ normal v
+normal-normal (DstUnreachable reason header) = ap (λ r. DstUnreachable r _) (unreachable-again reason) ∙ ap (DstUnreachable _) (quote-again header)
+normal-normal (PktTooBig mtu header) = ap (PktTooBig mtu) (quote-again header)
+normal-normal (TimeExceeded reason header) = ap (λ r. TimeExceeded r _) (exceeded-again reason) ∙ ap (TimeExceeded _) (quote-again header)
+normal-normal (ParamProblem reason pointer header) = ap (λ r. ParamProblem r pointer _) (problem-again reason) ∙ ap (ParamProblem _ pointer) (quote-again header)
+normal-normal (EchoRequest ident seq_no) = refl
+normal-normal (EchoReply ident seq_no) = refl
+normal-normal (Ndisc neighbor) = ap Ndisc (Neighbor.normal-normal neighbor)

@@ -9,7 +9,7 @@ use Rattle.icmpv6.specs.NdiscOption.{HasLink, link_bytes, link_len, link_option,
 use Rattle.icmpv6.specs.Message.{message_number}
 use Rattle.icmpv6.specs.Packet.{type_of}
 use Rattle.icmpv6.specs.declared.message.Icmpv6Message.TheVariants as Message
-use Rattle.icmpv6.specs.declared.ndisc.NdiscNeighborFlags.{NdiscNeighborFlags}
+use Rattle.icmpv6.specs.declared.ndisc_flags.NdiscNeighborFlags.{NdiscNeighborFlags}
 use Rattle.icmpv6.specs.declared.ndisc.NdiscRepr.{NdiscRepr}
 use Rattle.icmpv6.specs.declared.ndisc.NdiscRepr.TheVariants as Ndisc
 

@@ -1,8 +1,10 @@
 //! Laws of the format.
-ghost use Rattle.std.specs.Prelude.{◌≡◌, ℕ, ◌+◌, ◌≤◌, Bool, IsTrue, List, length};
-ghost use Rattle.ip_address.specs.Fields.{IsBytes};
+ghost use Rattle.std.specs.Prelude.{◌≡◌, ℕ, ◌+◌, ◌≤◌, Bool, IsTrue, List, length, slice_range};
+ghost use Rattle.ip_address.specs.Fields.{be16, IsBytes};
 ghost use Rattle.ip_address.specs.declared.ipv6.Ipv6Address.{Ipv6Address};
 ghost use Rattle.icmpv6.specs.Icmpv6.{MessageValue, IsIcmpv6, IsValue, Fits, CanCarry, KeepsAll, carried_in, free_in, header_len, normal, spelling, written};
+ghost use Rattle.icmpv6.specs.Ndisc as Neighbor;
+ghost use Rattle.icmpv6.specs.Ndisc.{NeighborMessage, IsNdisc};
 
 /// Law: an error or echo message is spelled by what it says and carries, with the fields that a value
 /// doesn't keep.
@@ -45,9 +47,40 @@ pub fn icmpv6_reads_back()
         → carried_in (written source destination sealed v carried) (normal v) ≡ carried }
 {}
 
-/// Law: a message that was read is in its normal form.
+/// Law: a message that was read is in its normal form, and so is the normal form of any other.
 pub fn icmpv6_normal()
-    ensures { (source destination : Ipv6Address) (tested : Bool) (message : List ℕ) (v : MessageValue)
+    ensures read { (source destination : Ipv6Address) (tested : Bool) (message : List ℕ) (v : MessageValue)
         → IsIcmpv6 source destination tested message v
         → normal v ≡ v }
+    ensures again { (v : MessageValue) → normal (normal v) ≡ normal v }
+{}
+
+/// Law: a neighbour message with zeros where it is reserved and with no option but the link address
+/// is spelled by its value.
+pub fn ndisc_spelled()
+    ensures { (bytes : List ℕ) (m : NeighborMessage)
+        → IsBytes bytes
+        → IsNdisc bytes m
+        → slice_range bytes 4 8 ≡ Neighbor.word_of m
+        → length bytes ≡ Neighbor.buffer_len m
+        → bytes ≡ Neighbor.spelling m (be16 bytes 2) }
+{}
+
+/// Law: a neighbour message that was emitted is read back in its normal form, which is the message
+/// itself where its link address has six bytes.
+pub fn ndisc_reads_back()
+    ensures found { (m : NeighborMessage) (check : ℕ) → Neighbor.IsValue m → IsNdisc (Neighbor.spelling m check) (Neighbor.normal m) }
+    ensures same { (m : NeighborMessage) → Neighbor.Fits m → Neighbor.normal m ≡ m }
+{}
+
+/// Law: a neighbour message that was read is emitted in no more bytes.
+pub fn ndisc_no_longer()
+    ensures { (bytes : List ℕ) (m : NeighborMessage) → IsNdisc bytes m → Neighbor.buffer_len m ≤ length bytes }
+{}
+
+/// Law: a neighbour message that was read is in its normal form, and so is the normal form of any
+/// other, with a link address of any length.
+pub fn ndisc_normal()
+    ensures read { (bytes : List ℕ) (m : NeighborMessage) → IsNdisc bytes m → Neighbor.normal m ≡ m }
+    ensures again { (m : NeighborMessage) → Neighbor.normal (Neighbor.normal m) ≡ Neighbor.normal m }
 {}

@@ -76,9 +76,10 @@ fn neighbour_messages_are_read(rt: HostRuntime) {
     assert!(rt; packet.verify_checksum(&host(1), &host(2)));
     assert_eq!(rt; packet.target_addr(), host(1));
     assert_eq!(rt; packet.neighbor_flags(), NdiscNeighborFlags::SOLICITED);
-    ndisc::ndisc_spelled();
-    ndisc::ndisc_reads_back();
-    ndisc::ndisc_no_longer();
+    laws::ndisc_spelled();
+    laws::ndisc_reads_back();
+    laws::ndisc_no_longer();
+    laws::ndisc_normal();
 }
 
 #[test]
