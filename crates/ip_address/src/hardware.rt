@@ -8,6 +8,7 @@ use crate::ethernet::EthernetAddress;
 use crate::text::HexPair;
 use net_devices::Medium;
 use std::fmt;
+use std::marker::Model;
 
 /// The most bytes that a hardware address has.
 pub const MAX_HARDWARE_ADDRESS_LEN: usize = 6;
@@ -78,16 +79,28 @@ impl fmt::Display for HardwareAddress {
 pub struct RawHardwareAddress {
     bytes: [u8; MAX_HARDWARE_ADDRESS_LEN],
     len: u8,
-    ghost in_range: { len ≤ 6 },
+}
+
+/// Contracts see the list of its bytes.
+impl Model for RawHardwareAddress {
+    ghost use Rattle.std.specs.Prelude.{◌≡◌, ℕ, ◌-◌, ◌≤◌, List, ◌++◌, length, take, replicate};
+
+    ghost Value = { List ℕ };
+
+    ghost view = { λ a. take a.len a.bytes };
+
+    // Behind the address stand zeros, so that equal addresses have equal fields.
+    ghost invariant = { λ a. (length (take a.len a.bytes) ≡ a.len)
+        × (take a.len a.bytes ++ replicate (6 - a.len) 0 ≡ a.bytes) };
+
+    ghost inverse = { λ d. record { bytes = d ++ replicate (6 - length d) 0; len = length d } };
 }
 
 impl RawHardwareAddress {
-    ghost use Rattle.ip_address.specs.Hardware.{raw_bytes};
-
     /// The address of these bytes.
     pub fn from_bytes(from: &[u8]) -> RawHardwareAddress
         requires { length from.now ≤ MAX_HARDWARE_ADDRESS_LEN }
-        ensures { raw_bytes result ≡ from.now }
+        ensures { result ≡ from.now }
     {
         let mut bytes = [0; MAX_HARDWARE_ADDRESS_LEN];
         bytes[..from.len()].copy_from_slice(from);
@@ -99,21 +112,23 @@ impl RawHardwareAddress {
 
     /// The bytes of the address.
     pub fn as_bytes(&self) -> &[u8]
-        ensures { result.now ≡ raw_bytes self.now }
+        ensures all { result.now ≡ self.now }
+        ensures at_most { length self.now ≤ MAX_HARDWARE_ADDRESS_LEN }
     {
         &self.bytes[..self.len as usize]
     }
 
     /// How many bytes the address has.
     pub const fn len(&self) -> usize
-        ensures { result ≡ length (raw_bytes self.now) }
+        ensures count { result ≡ length self.now }
+        ensures at_most { result ≤ MAX_HARDWARE_ADDRESS_LEN }
     {
         self.len as usize
     }
 
     /// Whether the address has no bytes.
     pub const fn is_empty(&self) -> bool
-        ensures { IsTrue result ↔ (raw_bytes self.now ≡ []) }
+        ensures { IsTrue result ↔ (self.now ≡ []) }
     {
         self.len == 0
     }
@@ -121,8 +136,8 @@ impl RawHardwareAddress {
     /// The address that these bytes are on the medium: an `Error` on a medium without addresses,
     /// or unless they are six.
     pub fn parse(&self, medium: Medium) -> Result<HardwareAddress, Error>
-        ensures found { IfOk result (λ a. hardware_bytes a ≡ raw_bytes self.now) }
-        ensures only { IsOk result ↔ ((medium ≡ Medium.Ethernet) × (length (raw_bytes self.now) ≡ 6)) }
+        ensures found { IfOk result (λ a. hardware_bytes a ≡ self.now) }
+        ensures only { IsOk result ↔ ((medium ≡ Medium.Ethernet) × (length self.now ≡ 6)) }
     {
         match medium {
             Medium::Ethernet if self.len() == 6 => Ok(HardwareAddress::Ethernet(
@@ -134,9 +149,7 @@ impl RawHardwareAddress {
 }
 
 impl From<EthernetAddress> for RawHardwareAddress {
-    ghost use Rattle.ip_address.specs.Hardware.{raw_bytes};
-
-    ghost from_gives = { λ a raw. raw_bytes raw ≡ a.0 };
+    ghost from_gives = { λ a raw. raw ≡ a.0 };
 
     fn from(value: EthernetAddress) -> RawHardwareAddress {
         RawHardwareAddress::from_bytes(value.as_bytes())
@@ -144,9 +157,7 @@ impl From<EthernetAddress> for RawHardwareAddress {
 }
 
 impl From<HardwareAddress> for RawHardwareAddress {
-    ghost use Rattle.ip_address.specs.Hardware.{raw_bytes};
-
-    ghost from_gives = { λ a raw. raw_bytes raw ≡ hardware_bytes a };
+    ghost from_gives = { λ a raw. raw ≡ hardware_bytes a };
 
     fn from(value: HardwareAddress) -> RawHardwareAddress {
         RawHardwareAddress::from_bytes(value.as_bytes())
@@ -154,10 +165,9 @@ impl From<HardwareAddress> for RawHardwareAddress {
 }
 
 impl fmt::Display for RawHardwareAddress {
-    ghost use Rattle.ip_address.specs.Hardware.{raw_bytes};
     ghost use Rattle.ip_address.specs.Text.{raw_hardware_text};
 
-    ghost output = { λ a. Some (raw_hardware_text (raw_bytes a)) };
+    ghost output = { λ a. Some (raw_hardware_text a) };
 
     fn fmt<W: fmt::Write>(&self, f: &mut fmt::Formatter<W>) -> fmt::Result {
         match self.as_bytes() {
