@@ -1,10 +1,10 @@
 //! Neighbour messages from outside, read and written. Their checksums were computed by another
 //! program.
 ghost use Rattle.std.specs.Prelude.{◌≡◌, ◌≤◌};
-ghost use Rattle.icmpv6.specs.Ndisc.{neighbor_message, buffer_len};
+ghost use Rattle.icmpv6.specs.Ndisc.{buffer_len};
 
 use super::*;
-use ip_address::{Error, Ipv6Address, RawHardwareAddress};
+use ip_address::{Error, EthernetAddress, Ipv6Address, RawHardwareAddress};
 use net_devices::ChecksumCapabilities;
 
 /// A solicitation for fd00::1 from fd00::2, with its link address, to ff02::1:ff00:1.
@@ -31,7 +31,7 @@ fn host(last: u16) -> Ipv6Address {
 }
 
 fn solicitation() -> NdiscRepr
-    ensures { buffer_len (neighbor_message result) ≡ 32 }
+    ensures { buffer_len result ≡ 32 }
 {
     NdiscRepr::NeighborSolicit {
         target_addr: host(1),
@@ -40,7 +40,7 @@ fn solicitation() -> NdiscRepr
 }
 
 fn advertisement() -> NdiscRepr
-    ensures { buffer_len (neighbor_message result) ≡ 32 }
+    ensures { buffer_len result ≡ 32 }
 {
     NdiscRepr::NeighborAdvert {
         flags: NdiscNeighborFlags::SOLICITED,
@@ -50,7 +50,7 @@ fn advertisement() -> NdiscRepr
 }
 
 fn announcement() -> NdiscRepr
-    ensures { buffer_len (neighbor_message result) ≡ 24 }
+    ensures { buffer_len result ≡ 24 }
 {
     NdiscRepr::NeighborAdvert {
         flags: NdiscNeighborFlags::ROUTER | NdiscNeighborFlags::OVERRIDE,
@@ -163,6 +163,10 @@ fn neighbour_messages_are_refused(rt: HostRuntime) {
     assert!(rt; !is_read(133, 0, &NO_OPTIONS, 24), "a router solicitation");
     assert!(rt; !is_read(128, 0, &NO_OPTIONS, 24), "an echo request");
     assert!(rt; !is_read(138, 0, &NO_OPTIONS, 24), "an unknown type");
+}
+
+#[test]
+fn options_are_refused(rt: HostRuntime) {
     let mut options = [1, 1, 2, 0, 0, 0, 0, 2, 14, 1, 7, 7, 7, 7, 7, 7];
     assert!(rt; is_read(135, 0, &options, 40));
     assert!(rt;
@@ -241,6 +245,17 @@ fn flags_are_read_and_written(rt: HostRuntime) {
     assert_eq!(rt; packet.target_addr(), host(9));
     assert_eq!(rt; &bytes[4..8], [0x20, 0xff, 0xff, 0xff].as_slice());
     assert_eq!(rt; bytes[23], 9);
+}
+
+// Through the conversion of Ethernet's addresses, as a host makes its own.
+#[test]
+fn an_ethernet_address_is_a_link_address(rt: HostRuntime) {
+    let from = RawHardwareAddress::from(EthernetAddress([2, 0, 0, 0, 0, 2]));
+    let message = NdiscRepr::NeighborSolicit {
+        target_addr: host(1),
+        lladdr: Some(from),
+    };
+    assert_eq!(rt; message, solicitation());
 }
 
 #[test]
