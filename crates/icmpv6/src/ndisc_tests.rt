@@ -108,8 +108,12 @@ fn neighbour_messages_are_written(rt: HostRuntime) {
 fn neighbour_messages_have_a_checksum(rt: HostRuntime) {
     let caps = ChecksumCapabilities::default();
     let all = Ipv6Address::new(0xff02, 0, 0, 0, 0, 1, 0xff00, 1);
-    let packet = Icmpv6Packet::new_unchecked(&SOLICITATION);
     let message = Icmpv6Repr::Ndisc(solicitation());
+    let mut bytes = [0xa5; 32];
+    let mut packet = Icmpv6PacketMut::new_unchecked(&mut bytes);
+    message.emit(&host(2), &all, &mut packet, &caps);
+    assert_eq!(rt; bytes, SOLICITATION);
+    let packet = Icmpv6Packet::new_unchecked(&SOLICITATION);
     assert_eq!(rt;
         Icmpv6Repr::parse(&host(2), &all, &packet, &caps),
         Ok(message)
@@ -118,20 +122,16 @@ fn neighbour_messages_have_a_checksum(rt: HostRuntime) {
         Icmpv6Repr::parse(&host(3), &all, &packet, &caps),
         Err(Error)
     );
-    let mut bytes = [0xa5; 32];
-    let mut packet = Icmpv6PacketMut::new_unchecked(&mut bytes);
-    message.emit(&host(2), &all, &mut packet, &caps);
-    assert_eq!(rt; bytes, SOLICITATION);
-    let packet = Icmpv6Packet::new_unchecked(&ADVERTISEMENT);
     let message = Icmpv6Repr::Ndisc(advertisement());
-    assert_eq!(rt;
-        Icmpv6Repr::parse(&host(1), &host(2), &packet, &caps),
-        Ok(message)
-    );
     let mut bytes = [0x5a; 32];
     let mut packet = Icmpv6PacketMut::new_unchecked(&mut bytes);
     message.emit(&host(1), &host(2), &mut packet, &caps);
     assert_eq!(rt; bytes, ADVERTISEMENT);
+    let packet = Icmpv6Packet::new_unchecked(&ADVERTISEMENT);
+    assert_eq!(rt;
+        Icmpv6Repr::parse(&host(1), &host(2), &packet, &caps),
+        Ok(message)
+    );
 }
 
 /// A message of this type and code about fd00::1 with all reserved bits set, then these options.
