@@ -377,3 +377,13 @@ fn message_is_set(rt: HostRuntime) {
     assert_eq!(rt; packet.data(), b"abc".as_slice());
     assert_eq!(rt; &*packet.into_inner(), ODD_REQUEST.as_slice());
 }
+
+// RFC 792.
+#[test]
+fn fields_are_in_their_places(rt: HostRuntime) {
+    assert_eq!(rt; [field::TYPE, field::CODE, field::HEADER_END], [0, 1, 8]);
+    assert_eq!(rt; field::CHECKSUM, 2..4);
+    assert_eq!(rt; field::ECHO_IDENT, 4..6);
+    assert_eq!(rt; field::ECHO_SEQNO, 6..8);
+    assert_eq!(rt; field::DATA, 8..);
+}

@@ -445,3 +445,17 @@ fn headers_are_kept(rt: HostRuntime) {
     laws::icmpv6_reads_back();
     laws::icmpv6_normal();
 }
+
+// RFC 4443, sections 2.1, 3 and 4; RFC 4861, section 4.4.
+#[test]
+fn fields_are_in_their_places(rt: HostRuntime) {
+    assert_eq!(rt; [field::TYPE, field::CODE, field::HEADER_END], [0, 1, 8]);
+    assert_eq!(rt; field::CHECKSUM, 2..4);
+    assert_eq!(rt; field::UNUSED, 4..8);
+    assert_eq!(rt; field::MTU, 4..8);
+    assert_eq!(rt; field::POINTER, 4..8);
+    assert_eq!(rt; field::ECHO_IDENT, 4..6);
+    assert_eq!(rt; field::ECHO_SEQNO, 6..8);
+    assert_eq!(rt; field::ND_FLAGS, 4);
+    assert_eq!(rt; field::TARGET_ADDR, 8..24);
+}
