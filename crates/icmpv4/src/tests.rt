@@ -359,6 +359,8 @@ fn message_is_set(rt: HostRuntime) {
     let mut bytes = [0xa5; 11];
     let mut packet = Icmpv4PacketMut::new_unchecked(&mut bytes);
     packet.data_mut().copy_from_slice(b"abc");
+    assert_eq!(rt; &bytes[..8], [0xa5; 8].as_slice(), "the header stays");
+    assert_eq!(rt; &bytes[8..], b"abc".as_slice());
     let mut packet = Icmpv4PacketMut::new_checked(&mut bytes).expect(&rt, "whole");
     packet.set_msg_type(Icmpv4Message::EchoRequest);
     packet.set_msg_code(0);
