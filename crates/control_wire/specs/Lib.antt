@@ -17,7 +17,7 @@ pub use Rattle.icmpv6.specs.Ndisc
 pub use Rattle.icmpv6.specs.Icmpv6
 pub use Rattle.icmpv6.specs.declared.header.Icmpv6Header
 pub use Rattle.icmpv6.specs.declared.message.Icmpv6Message
-pub use Rattle.icmpv6.specs.declared.ndisc.NdiscNeighborFlags
+pub use Rattle.icmpv6.specs.declared.ndisc_flags.NdiscNeighborFlags
 pub use Rattle.icmpv6.specs.declared.ndisc.NdiscRepr
 pub use Rattle.icmpv6.specs.declared.packet.Icmpv6Packet
 pub use Rattle.icmpv6.specs.declared.packet_mut.Icmpv6PacketMut

@@ -16,8 +16,8 @@ pub use icmpv4::{
 };
 pub use icmpv6::laws::{
     icmpv6_fits, icmpv6_no_longer, icmpv6_normal, icmpv6_reads_back, icmpv6_spelled,
+    ndisc_no_longer, ndisc_normal, ndisc_reads_back, ndisc_spelled,
 };
-pub use icmpv6::ndisc::{ndisc_no_longer, ndisc_reads_back, ndisc_spelled};
 pub use icmpv6::{
     Icmpv6DstUnreachable, Icmpv6Header, Icmpv6Message, Icmpv6Packet, Icmpv6PacketMut,
     Icmpv6ParamProblem, Icmpv6Repr, Icmpv6TimeExceeded, NdiscNeighborFlags, NdiscRepr,

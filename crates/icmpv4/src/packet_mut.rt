@@ -1,9 +1,8 @@
 //! A message in a buffer, read and written in place.
 ghost use Rattle.std.specs.Prelude.{◌≡◌, ◌↔◌, ℕ, ◌≤◌, IsTrue, IsOk, IfOk, length, slice_index};
 ghost use Rattle.ip_address.specs.Fields.{be16, put8, put16};
-ghost use Rattle.ip_address.specs.Sum.{word_sum, folded};
 ghost use Rattle.icmpv4.specs.Icmpv4Codes.{message_of, message_number};
-ghost use Rattle.icmpv4.specs.Icmpv4.{IsWhole, IsChecked, bytes_in, name_of, behind, with_checksum};
+ghost use Rattle.icmpv4.specs.Icmpv4.{IsWhole, IsChecked, bytes_of, bytes_in, name_of, behind, with_checksum};
 
 use crate::field;
 use crate::message::Icmpv4Message;
@@ -36,11 +35,18 @@ impl<'a> Icmpv4PacketMut<'a> {
         Ok(Icmpv4PacketMut { buffer })
     }
 
+    /// The bytes, to be read.
+    const fn as_packet(&self) -> Icmpv4Packet
+        ensures { bytes_of result ≡ bytes_in self.now }
+    {
+        Icmpv4Packet::new_unchecked(self.buffer)
+    }
+
     /// Whether the header is there.
     pub fn check_len(&self) -> Result<(), Error>
         ensures { IsOk result ↔ IsWhole (bytes_in self.now) }
     {
-        Icmpv4Packet::new_unchecked(self.buffer).check_len()
+        self.as_packet().check_len()
     }
 
     /// The bytes viewed, with all that was written.
@@ -56,21 +62,21 @@ impl<'a> Icmpv4PacketMut<'a> {
         requires { IsWhole (bytes_in self.now) }
         ensures { result ≡ message_of (slice_index (bytes_in self.now) 0) }
     {
-        Icmpv4Packet::new_unchecked(self.buffer).msg_type()
+        self.as_packet().msg_type()
     }
 
     pub fn msg_code(&self) -> u8
         requires { IsWhole (bytes_in self.now) }
         ensures { result ≡ slice_index (bytes_in self.now) 1 }
     {
-        Icmpv4Packet::new_unchecked(self.buffer).msg_code()
+        self.as_packet().msg_code()
     }
 
     pub fn checksum(&self) -> u16
         requires { IsWhole (bytes_in self.now) }
         ensures { result ≡ be16 (bytes_in self.now) 2 }
     {
-        Icmpv4Packet::new_unchecked(self.buffer).checksum()
+        self.as_packet().checksum()
     }
 
     /// Of an echo message: the number that its sender gave to all echoes of one kind.
@@ -78,7 +84,7 @@ impl<'a> Icmpv4PacketMut<'a> {
         requires { IsWhole (bytes_in self.now) }
         ensures { result ≡ be16 (bytes_in self.now) 4 }
     {
-        Icmpv4Packet::new_unchecked(self.buffer).echo_ident()
+        self.as_packet().echo_ident()
     }
 
     /// Of an echo message: its number among those of one identifier.
@@ -86,7 +92,7 @@ impl<'a> Icmpv4PacketMut<'a> {
         requires { IsWhole (bytes_in self.now) }
         ensures { result ≡ be16 (bytes_in self.now) 6 }
     {
-        Icmpv4Packet::new_unchecked(self.buffer).echo_seq_no()
+        self.as_packet().echo_seq_no()
     }
 
     /// The length of the header, the same for all messages.
@@ -96,18 +102,11 @@ impl<'a> Icmpv4PacketMut<'a> {
         field::HEADER_END
     }
 
-    /// The sum that the checksum covers, itself included.
-    fn sum(&self) -> u16
-        ensures { result ≡ folded (word_sum (bytes_in self.now)) }
-    {
-        Icmpv4Packet::new_unchecked(self.buffer).sum()
-    }
-
     /// Whether the checksum holds.
     pub fn verify_checksum(&self) -> bool
         ensures { IsTrue result ↔ IsChecked (bytes_in self.now) }
     {
-        Icmpv4Packet::new_unchecked(self.buffer).verify_checksum()
+        self.as_packet().verify_checksum()
     }
 
     /// What lies behind the header: the data of an echo message, the quoted packet of an error.
@@ -115,7 +114,7 @@ impl<'a> Icmpv4PacketMut<'a> {
         requires { IsWhole (bytes_in self.now) }
         ensures { result.now ≡ behind (bytes_in self.now) }
     {
-        Icmpv4Packet::new_unchecked(self.buffer).data()
+        self.as_packet().data()
     }
 
     pub fn set_msg_type(&mut self, value: Icmpv4Message)
@@ -167,7 +166,7 @@ impl<'a> Icmpv4PacketMut<'a> {
         ensures bytes { bytes_in self.new ≡ with_checksum (bytes_in self.old) }
     {
         self.set_checksum(0);
-        self.set_checksum(!self.sum());
+        self.set_checksum(!self.as_packet().sum());
     }
 
     /// What lies behind the header, to be written.

@@ -359,6 +359,8 @@ fn message_is_set(rt: HostRuntime) {
     let mut bytes = [0xa5; 11];
     let mut packet = Icmpv4PacketMut::new_unchecked(&mut bytes);
     packet.data_mut().copy_from_slice(b"abc");
+    assert_eq!(rt; &bytes[..8], [0xa5; 8].as_slice(), "the header stays");
+    assert_eq!(rt; &bytes[8..], b"abc".as_slice());
     let mut packet = Icmpv4PacketMut::new_checked(&mut bytes).expect(&rt, "whole");
     packet.set_msg_type(Icmpv4Message::EchoRequest);
     packet.set_msg_code(0);
@@ -376,4 +378,14 @@ fn message_is_set(rt: HostRuntime) {
     assert_eq!(rt; packet.header_len(), 8);
     assert_eq!(rt; packet.data(), b"abc".as_slice());
     assert_eq!(rt; &*packet.into_inner(), ODD_REQUEST.as_slice());
+}
+
+// RFC 792.
+#[test]
+fn fields_are_in_their_places(rt: HostRuntime) {
+    assert_eq!(rt; [field::TYPE, field::CODE, field::HEADER_END], [0, 1, 8]);
+    assert_eq!(rt; field::CHECKSUM, 2..4);
+    assert_eq!(rt; field::ECHO_IDENT, 4..6);
+    assert_eq!(rt; field::ECHO_SEQNO, 6..8);
+    assert_eq!(rt; field::DATA, 8..);
 }

@@ -1,6 +1,4 @@
 //! Where the fields of a message stand.
-ghost use Rattle.std.specs.Prelude.{◌≡◌};
-
 use std::ops::Range;
 
 /// The places of a field in a message.

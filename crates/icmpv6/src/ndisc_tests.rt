@@ -1,10 +1,10 @@
 //! Neighbour messages from outside, read and written. Their checksums were computed by another
 //! program.
 ghost use Rattle.std.specs.Prelude.{◌≡◌, ◌≤◌};
-ghost use Rattle.icmpv6.specs.Ndisc.{neighbor_message, buffer_len};
+ghost use Rattle.icmpv6.specs.Ndisc.{buffer_len};
 
 use super::*;
-use ip_address::{Error, Ipv6Address, RawHardwareAddress};
+use ip_address::{Error, EthernetAddress, Ipv6Address, RawHardwareAddress};
 use net_devices::ChecksumCapabilities;
 
 /// A solicitation for fd00::1 from fd00::2, with its link address, to ff02::1:ff00:1.
@@ -31,7 +31,7 @@ fn host(last: u16) -> Ipv6Address {
 }
 
 fn solicitation() -> NdiscRepr
-    ensures { buffer_len (neighbor_message result) ≡ 32 }
+    ensures { buffer_len result ≡ 32 }
 {
     NdiscRepr::NeighborSolicit {
         target_addr: host(1),
@@ -40,7 +40,7 @@ fn solicitation() -> NdiscRepr
 }
 
 fn advertisement() -> NdiscRepr
-    ensures { buffer_len (neighbor_message result) ≡ 32 }
+    ensures { buffer_len result ≡ 32 }
 {
     NdiscRepr::NeighborAdvert {
         flags: NdiscNeighborFlags::SOLICITED,
@@ -50,7 +50,7 @@ fn advertisement() -> NdiscRepr
 }
 
 fn announcement() -> NdiscRepr
-    ensures { buffer_len (neighbor_message result) ≡ 24 }
+    ensures { buffer_len result ≡ 24 }
 {
     NdiscRepr::NeighborAdvert {
         flags: NdiscNeighborFlags::ROUTER | NdiscNeighborFlags::OVERRIDE,
@@ -76,9 +76,10 @@ fn neighbour_messages_are_read(rt: HostRuntime) {
     assert!(rt; packet.verify_checksum(&host(1), &host(2)));
     assert_eq!(rt; packet.target_addr(), host(1));
     assert_eq!(rt; packet.neighbor_flags(), NdiscNeighborFlags::SOLICITED);
-    ndisc::ndisc_spelled();
-    ndisc::ndisc_reads_back();
-    ndisc::ndisc_no_longer();
+    laws::ndisc_spelled();
+    laws::ndisc_reads_back();
+    laws::ndisc_no_longer();
+    laws::ndisc_normal();
 }
 
 #[test]
@@ -107,8 +108,12 @@ fn neighbour_messages_are_written(rt: HostRuntime) {
 fn neighbour_messages_have_a_checksum(rt: HostRuntime) {
     let caps = ChecksumCapabilities::default();
     let all = Ipv6Address::new(0xff02, 0, 0, 0, 0, 1, 0xff00, 1);
-    let packet = Icmpv6Packet::new_unchecked(&SOLICITATION);
     let message = Icmpv6Repr::Ndisc(solicitation());
+    let mut bytes = [0xa5; 32];
+    let mut packet = Icmpv6PacketMut::new_unchecked(&mut bytes);
+    message.emit(&host(2), &all, &mut packet, &caps);
+    assert_eq!(rt; bytes, SOLICITATION);
+    let packet = Icmpv6Packet::new_unchecked(&SOLICITATION);
     assert_eq!(rt;
         Icmpv6Repr::parse(&host(2), &all, &packet, &caps),
         Ok(message)
@@ -117,20 +122,16 @@ fn neighbour_messages_have_a_checksum(rt: HostRuntime) {
         Icmpv6Repr::parse(&host(3), &all, &packet, &caps),
         Err(Error)
     );
-    let mut bytes = [0xa5; 32];
-    let mut packet = Icmpv6PacketMut::new_unchecked(&mut bytes);
-    message.emit(&host(2), &all, &mut packet, &caps);
-    assert_eq!(rt; bytes, SOLICITATION);
-    let packet = Icmpv6Packet::new_unchecked(&ADVERTISEMENT);
     let message = Icmpv6Repr::Ndisc(advertisement());
-    assert_eq!(rt;
-        Icmpv6Repr::parse(&host(1), &host(2), &packet, &caps),
-        Ok(message)
-    );
     let mut bytes = [0x5a; 32];
     let mut packet = Icmpv6PacketMut::new_unchecked(&mut bytes);
     message.emit(&host(1), &host(2), &mut packet, &caps);
     assert_eq!(rt; bytes, ADVERTISEMENT);
+    let packet = Icmpv6Packet::new_unchecked(&ADVERTISEMENT);
+    assert_eq!(rt;
+        Icmpv6Repr::parse(&host(1), &host(2), &packet, &caps),
+        Ok(message)
+    );
 }
 
 /// A message of this type and code about fd00::1 with all reserved bits set, then these options.
@@ -162,6 +163,10 @@ fn neighbour_messages_are_refused(rt: HostRuntime) {
     assert!(rt; !is_read(133, 0, &NO_OPTIONS, 24), "a router solicitation");
     assert!(rt; !is_read(128, 0, &NO_OPTIONS, 24), "an echo request");
     assert!(rt; !is_read(138, 0, &NO_OPTIONS, 24), "an unknown type");
+}
+
+#[test]
+fn options_are_refused(rt: HostRuntime) {
     let mut options = [1, 1, 2, 0, 0, 0, 0, 2, 14, 1, 7, 7, 7, 7, 7, 7];
     assert!(rt; is_read(135, 0, &options, 40));
     assert!(rt;
@@ -240,6 +245,17 @@ fn flags_are_read_and_written(rt: HostRuntime) {
     assert_eq!(rt; packet.target_addr(), host(9));
     assert_eq!(rt; &bytes[4..8], [0x20, 0xff, 0xff, 0xff].as_slice());
     assert_eq!(rt; bytes[23], 9);
+}
+
+// Through the conversion of Ethernet's addresses, as a host makes its own.
+#[test]
+fn an_ethernet_address_is_a_link_address(rt: HostRuntime) {
+    let from = RawHardwareAddress::from(EthernetAddress([2, 0, 0, 0, 0, 2]));
+    let message = NdiscRepr::NeighborSolicit {
+        target_addr: host(1),
+        lladdr: Some(from),
+    };
+    assert_eq!(rt; message, solicitation());
 }
 
 #[test]

@@ -1,12 +1,14 @@
 //! A message in a buffer, read in place.
-ghost use Rattle.std.specs.Prelude.{◌≡◌, ◌↔◌, ℕ, ◌+◌, ◌<◌, ◌≤◌, ◌^◌, IsTrue, IsOk, IfOk, length, slice_index};
+ghost use Rattle.std.specs.Prelude.{◌≡◌, ◌↔◌, ℕ, ◌+◌, ◌<◌, ◌≤◌, ◌^◌, IsTrue, IsOk, IfOk, length, slice_index, slice_range};
 ghost use Rattle.ip_address.specs.Fields.{be16, be32};
 ghost use Rattle.ip_address.specs.Sum.{folded};
 ghost use Rattle.icmpv6.specs.Message.{header_len_of, message_number};
+ghost use Rattle.icmpv6.specs.Ndisc.{flags_of};
 ghost use Rattle.icmpv6.specs.Packet.{IsWhole, IsChecked, bytes_of, type_of, payload_of, covered};
 
 use crate::field;
 use crate::message::Icmpv6Message;
+use crate::ndisc_flags::NdiscNeighborFlags;
 use ip_address::network_order::{read_u16, read_u32};
 use ip_address::{Error, IpProtocol, Ipv6Address, checksum};
 
@@ -107,6 +109,25 @@ impl<'a> Icmpv6Packet<'a> {
         ensures { result ≡ be32 (bytes_of self.now) 4 }
     {
         read_u32(self.buffer, field::POINTER.start)
+    }
+
+    /// The address that a neighbour message is about.
+    pub fn target_addr(&self) -> Ipv6Address
+        requires { 24 ≤ length (bytes_of self.now) }
+        ensures { result.0 ≡ slice_range (bytes_of self.now) 8 24 }
+    {
+        let place = field::TARGET_ADDR;
+        let mut octets = [0; 16];
+        octets.copy_from_slice(&self.buffer[place.start..place.end]);
+        Ipv6Address(octets)
+    }
+
+    /// The flags of a neighbour advertisement.
+    pub fn neighbor_flags(&self) -> NdiscNeighborFlags
+        requires { 24 ≤ length (bytes_of self.now) }
+        ensures { result ≡ flags_of (slice_index (bytes_of self.now) 4) }
+    {
+        NdiscNeighborFlags::from_bits_truncate(self.buffer[field::ND_FLAGS])
     }
 
     /// The length of the header of a message of this type: 4 where the type isn't known.

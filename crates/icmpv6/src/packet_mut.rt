@@ -1,12 +1,14 @@
 //! A message in a buffer, read and written in place.
-ghost use Rattle.std.specs.Prelude.{◌≡◌, ◌↔◌, ℕ, ◌+◌, ◌<◌, ◌≤◌, ◌^◌, IsTrue, IsOk, IfOk, length, slice_index};
+ghost use Rattle.std.specs.Prelude.{◌≡◌, ◌↔◌, ℕ, ◌+◌, ◌<◌, ◌≤◌, ◌^◌, IsTrue, IsOk, IfOk, length, slice_index, slice_range};
 ghost use Rattle.ip_address.specs.Fields.{be16, be32, put8, put16, put32};
-ghost use Rattle.ip_address.specs.Sum.{folded};
+ghost use Rattle.ip_packet.specs.Parts.{put_run};
 ghost use Rattle.icmpv6.specs.Message.{message_number, header_len_of};
-ghost use Rattle.icmpv6.specs.Packet.{IsWhole, IsChecked, bytes_in, name_of, type_of, payload_of, covered, with_checksum};
+ghost use Rattle.icmpv6.specs.Ndisc.{flag_bits, flags_of};
+ghost use Rattle.icmpv6.specs.Packet.{IsWhole, IsChecked, bytes_of, bytes_in, name_of, type_of, payload_of, with_checksum};
 
 use crate::field;
 use crate::message::Icmpv6Message;
+use crate::ndisc_flags::NdiscNeighborFlags;
 use crate::packet::Icmpv6Packet;
 use ip_address::network_order::{write_u16, write_u32};
 use ip_address::{Error, Ipv6Address};
@@ -36,11 +38,18 @@ impl<'a> Icmpv6PacketMut<'a> {
         Ok(Icmpv6PacketMut { buffer })
     }
 
+    /// The bytes, to be read.
+    const fn as_packet(&self) -> Icmpv6Packet
+        ensures { bytes_of result ≡ bytes_in self.now }
+    {
+        Icmpv6Packet::new_unchecked(self.buffer)
+    }
+
     /// Whether the type is a known one and the bytes hold its header.
     pub fn check_len(&self) -> Result<(), Error>
         ensures { IsOk result ↔ IsWhole (bytes_in self.now) }
     {
-        Icmpv6Packet::new_unchecked(self.buffer).check_len()
+        self.as_packet().check_len()
     }
 
     /// The bytes viewed, with all that was written.
@@ -56,21 +65,21 @@ impl<'a> Icmpv6PacketMut<'a> {
         ensures kind { result ≡ type_of (bytes_in self.now) }
         ensures number { message_number result ≡ slice_index (bytes_in self.now) 0 }
     {
-        Icmpv6Packet::new_unchecked(self.buffer).msg_type()
+        self.as_packet().msg_type()
     }
 
     pub fn msg_code(&self) -> u8
         requires { 4 ≤ length (bytes_in self.now) }
         ensures { result ≡ slice_index (bytes_in self.now) 1 }
     {
-        Icmpv6Packet::new_unchecked(self.buffer).msg_code()
+        self.as_packet().msg_code()
     }
 
     pub fn checksum(&self) -> u16
         requires { 4 ≤ length (bytes_in self.now) }
         ensures { result ≡ be16 (bytes_in self.now) 2 }
     {
-        Icmpv6Packet::new_unchecked(self.buffer).checksum()
+        self.as_packet().checksum()
     }
 
     /// The identifier of an echo message.
@@ -78,7 +87,7 @@ impl<'a> Icmpv6PacketMut<'a> {
         requires { 8 ≤ length (bytes_in self.now) }
         ensures { result ≡ be16 (bytes_in self.now) 4 }
     {
-        Icmpv6Packet::new_unchecked(self.buffer).echo_ident()
+        self.as_packet().echo_ident()
     }
 
     /// The sequence number of an echo message.
@@ -86,7 +95,7 @@ impl<'a> Icmpv6PacketMut<'a> {
         requires { 8 ≤ length (bytes_in self.now) }
         ensures { result ≡ be16 (bytes_in self.now) 6 }
     {
-        Icmpv6Packet::new_unchecked(self.buffer).echo_seq_no()
+        self.as_packet().echo_seq_no()
     }
 
     /// How long a packet may be, in bytes, for the next link, of packet too big.
@@ -94,7 +103,7 @@ impl<'a> Icmpv6PacketMut<'a> {
         requires { 8 ≤ length (bytes_in self.now) }
         ensures { result ≡ be32 (bytes_in self.now) 4 }
     {
-        Icmpv6Packet::new_unchecked(self.buffer).pkt_too_big_mtu()
+        self.as_packet().pkt_too_big_mtu()
     }
 
     /// The place in the quoted packet, counted from 0, at which a parameter problem was found.
@@ -102,7 +111,23 @@ impl<'a> Icmpv6PacketMut<'a> {
         requires { 8 ≤ length (bytes_in self.now) }
         ensures { result ≡ be32 (bytes_in self.now) 4 }
     {
-        Icmpv6Packet::new_unchecked(self.buffer).param_problem_ptr()
+        self.as_packet().param_problem_ptr()
+    }
+
+    /// The address that a neighbour message is about.
+    pub fn target_addr(&self) -> Ipv6Address
+        requires { 24 ≤ length (bytes_in self.now) }
+        ensures { result.0 ≡ slice_range (bytes_in self.now) 8 24 }
+    {
+        self.as_packet().target_addr()
+    }
+
+    /// The flags of a neighbour advertisement.
+    pub fn neighbor_flags(&self) -> NdiscNeighborFlags
+        requires { 24 ≤ length (bytes_in self.now) }
+        ensures { result ≡ flags_of (slice_index (bytes_in self.now) 4) }
+    {
+        self.as_packet().neighbor_flags()
     }
 
     /// The length of the header of a message of this type: 4 where the type isn't known.
@@ -110,7 +135,7 @@ impl<'a> Icmpv6PacketMut<'a> {
         requires { 4 ≤ length (bytes_in self.now) }
         ensures { result ≡ header_len_of (type_of (bytes_in self.now)) }
     {
-        Icmpv6Packet::new_unchecked(self.buffer).header_len()
+        self.as_packet().header_len()
     }
 
     /// What stands behind the header.
@@ -118,15 +143,7 @@ impl<'a> Icmpv6PacketMut<'a> {
         requires { IsWhole (bytes_in self.now) }
         ensures { result.now ≡ payload_of (bytes_in self.now) }
     {
-        Icmpv6Packet::new_unchecked(self.buffer).payload()
-    }
-
-    /// The sum of all that the checksum covers, itself included, not complemented.
-    fn sum(&self, src_addr: &Ipv6Address, dst_addr: &Ipv6Address) -> u16
-        requires { length (bytes_in self.now) < 2 ^ 32 }
-        ensures { result ≡ folded (covered src_addr.now dst_addr.now (bytes_in self.now)) }
-    {
-        Icmpv6Packet::new_unchecked(self.buffer).sum(src_addr, dst_addr)
+        self.as_packet().payload()
     }
 
     /// Whether the checksum holds.
@@ -134,7 +151,7 @@ impl<'a> Icmpv6PacketMut<'a> {
         requires { length (bytes_in self.now) < 2 ^ 32 }
         ensures { IsTrue result ↔ IsChecked src_addr.now dst_addr.now (bytes_in self.now) }
     {
-        Icmpv6Packet::new_unchecked(self.buffer).verify_checksum(src_addr, dst_addr)
+        self.as_packet().verify_checksum(src_addr, dst_addr)
     }
 
     pub fn set_msg_type(&mut self, value: Icmpv6Message)
@@ -202,6 +219,24 @@ impl<'a> Icmpv6PacketMut<'a> {
         write_u32(self.buffer, field::POINTER.start, value);
     }
 
+    /// Sets the address that a neighbour message is about.
+    pub fn set_target_addr(&mut self, value: Ipv6Address)
+        requires { 24 ≤ length (bytes_in self.old) }
+        ensures same_reference { name_of self.new ≡ name_of self.old }
+        ensures bytes { bytes_in self.new ≡ put_run (bytes_in self.old) 8 16 value.0 }
+    {
+        put_address(self.buffer, &value.0);
+    }
+
+    /// Sets the byte of a neighbour advertisement's flags, with zeros for its other bits.
+    pub fn set_neighbor_flags(&mut self, value: NdiscNeighborFlags)
+        requires { 24 ≤ length (bytes_in self.old) }
+        ensures same_reference { name_of self.new ≡ name_of self.old }
+        ensures bytes { bytes_in self.new ≡ put8 (bytes_in self.old) 4 (flag_bits value) }
+    {
+        self.buffer[field::ND_FLAGS] = value.bits();
+    }
+
     /// Writes the checksum of the message as it stands.
     pub fn fill_checksum(&mut self, src_addr: &Ipv6Address, dst_addr: &Ipv6Address)
         requires room { 4 ≤ length (bytes_in self.old) }
@@ -210,7 +245,7 @@ impl<'a> Icmpv6PacketMut<'a> {
         ensures bytes { bytes_in self.new ≡ with_checksum src_addr.now dst_addr.now (bytes_in self.old) }
     {
         self.set_checksum(0);
-        let sum = self.sum(src_addr, dst_addr);
+        let sum = self.as_packet().sum(src_addr, dst_addr);
         self.set_checksum(0xffff - sum);
     }
 
@@ -223,4 +258,13 @@ impl<'a> Icmpv6PacketMut<'a> {
         let (_header, payload) = self.buffer.split_at_mut(start);
         payload
     }
+}
+
+/// Writes the target's address.
+fn put_address(bytes: &mut [u8], from: &[u8; 16])
+    requires { 24 ≤ length bytes.old }
+    ensures { bytes.new ≡ put_run bytes.old 8 16 from.now }
+{
+    let place = field::TARGET_ADDR;
+    bytes[place.start..place.end].copy_from_slice(from);
 }

@@ -1,9 +1,9 @@
 //! Messages from outside, read and written. Their checksums were computed by another program.
 ghost use Rattle.std.specs.Prelude.{◌≡◌, ◌+◌, ◌<◌, ◌≤◌, ◌^◌, length};
-ghost use Rattle.icmpv6.specs.Icmpv6.{Fits, value_of, header_of, carried_by, header_len};
+ghost use Rattle.icmpv6.specs.Icmpv6.{Fits, header_of, carried_by, header_len};
 
 use super::*;
-use ip_address::{Error, EthernetAddress, IpProtocol, Ipv6Address, RawHardwareAddress};
+use ip_address::{Error, IpProtocol, Ipv6Address};
 use ip_packet::Ipv6Repr;
 use net_devices::ChecksumCapabilities;
 
@@ -41,18 +41,6 @@ const REQUEST: [u8; 12] = [
 /// A reply from fd00::2 to fd00::1, with an odd number of bytes.
 const REPLY: [u8; 11] = [
     0x81, 0x00, 0x1c, 0xb3, 0x12, 0x34, 0xab, 0xcd, 0xaa, 0x00, 0x00,
-];
-
-/// A solicitation from fd00::2 to ff02::1:ff00:1 that asks for fd00::1.
-const SOLICITATION: [u8; 32] = [
-    0x87, 0x00, 0x7d, 0x97, 0, 0, 0, 0, 0xfd, 0, 0, 0, 0, 0, 0, 0, 0, 0, 0, 0, 0, 0, 0, 1, 1, 1, 2,
-    0, 0, 0, 0, 2,
-];
-
-/// The advertisement from fd00::1 to fd00::2 that answers it.
-const ADVERTISEMENT: [u8; 32] = [
-    0x88, 0x00, 0x3c, 0x9c, 0x40, 0, 0, 0, 0xfd, 0, 0, 0, 0, 0, 0, 0, 0, 0, 0, 0, 0, 0, 0, 1, 2, 1,
-    2, 0, 0, 0, 0, 1,
 ];
 
 /// An error with these eight bytes at its front, about the whole datagram.
@@ -94,9 +82,9 @@ fn read_untested<'a>(message: &'a [u8]) -> Result<Icmpv6Repr<'a>, Error>
 
 /// Writes a message from fd00::2 to fd00::1.
 fn put(message: &mut [u8], repr: &Icmpv6Repr)
-    requires room { length message.old ≡ header_len (value_of (header_of repr.now)) + length (carried_by repr.now) }
+    requires room { length message.old ≡ header_len (header_of repr.now) + length (carried_by repr.now) }
     requires small { length message.old < 2 ^ 32 }
-    requires fits { Fits (value_of (header_of repr.now)) }
+    requires fits { Fits (header_of repr.now) }
 {
     repr.emit(
         &RIGHT,
@@ -239,65 +227,61 @@ fn reasons_are_codes(rt: HostRuntime) {
     assert_eq!(rt; Icmpv6ParamProblem::from(3), Icmpv6ParamProblem::Unknown(3));
 }
 
+/// Whether the error with this front, about the whole datagram, is read as the message, and whether
+/// the message is written as it.
+fn is_error(front: &[u8; 8], message: &Icmpv6Repr) -> bool
+    requires room { header_len (header_of message.now) + length (carried_by message.now) ≡ 60 }
+    requires fits { Fits (header_of message.now) }
+{
+    let bytes = error(front);
+    let mut written = [0xa5; 60];
+    put(&mut written, message);
+    let is_read = match read(&bytes) {
+        Ok(found) => found == *message,
+        Err(Error) => false,
+    };
+    is_read && written == bytes && message.buffer_len() == 60
+}
+
 #[test]
-fn unreachable_port(rt: HostRuntime) {
-    let message = error(&[0x01, 0x04, 0x93, 0x51, 0, 0, 0, 0]);
-    let want = Icmpv6Repr::DstUnreachable {
+fn errors(rt: HostRuntime) {
+    let port = Icmpv6Repr::DstUnreachable {
         reason: Icmpv6DstUnreachable::PortUnreachable,
         header: HEADER,
         bytes: &DATAGRAM,
     };
-    assert_eq!(rt; read(&message), Ok(want));
-    assert_eq!(rt; want.buffer_len(), 60);
-    let mut bytes = [0xa5; 60];
-    put(&mut bytes, &want);
-    assert_eq!(rt; bytes, message);
-}
-
-#[test]
-fn packet_too_big(rt: HostRuntime) {
-    let message = error(&[0x02, 0x00, 0x8d, 0x55, 0, 0, 0x05, 0x00]);
-    let want = Icmpv6Repr::PktTooBig {
+    assert!(rt;
+        is_error(&[0x01, 0x04, 0x93, 0x51, 0, 0, 0, 0], &port),
+        "port"
+    );
+    let too_big = Icmpv6Repr::PktTooBig {
         mtu: 1280,
         header: HEADER,
         bytes: &DATAGRAM,
     };
-    assert_eq!(rt; read(&message), Ok(want));
-    assert_eq!(rt; want.buffer_len(), 60);
-    let mut bytes = [0xa5; 60];
-    put(&mut bytes, &want);
-    assert_eq!(rt; bytes, message);
-}
-
-#[test]
-fn hop_limit_exceeded(rt: HostRuntime) {
-    let message = error(&[0x03, 0x00, 0x91, 0x55, 0, 0, 0, 0]);
-    let want = Icmpv6Repr::TimeExceeded {
+    assert!(rt;
+        is_error(&[0x02, 0x00, 0x8d, 0x55, 0, 0, 0x05, 0x00], &too_big),
+        "too big"
+    );
+    let expired = Icmpv6Repr::TimeExceeded {
         reason: Icmpv6TimeExceeded::HopLimitExceeded,
         header: HEADER,
         bytes: &DATAGRAM,
     };
-    assert_eq!(rt; read(&message), Ok(want));
-    assert_eq!(rt; want.buffer_len(), 60);
-    let mut bytes = [0xa5; 60];
-    put(&mut bytes, &want);
-    assert_eq!(rt; bytes, message);
-}
-
-#[test]
-fn unknown_next_header(rt: HostRuntime) {
-    let message = error(&[0x04, 0x01, 0x90, 0x2c, 0, 0, 0, 40]);
-    let want = Icmpv6Repr::ParamProblem {
+    assert!(rt;
+        is_error(&[0x03, 0x00, 0x91, 0x55, 0, 0, 0, 0], &expired),
+        "hop limit"
+    );
+    let problem = Icmpv6Repr::ParamProblem {
         reason: Icmpv6ParamProblem::UnrecognizedNxtHdr,
         pointer: 40,
         header: HEADER,
         bytes: &DATAGRAM,
     };
-    assert_eq!(rt; read(&message), Ok(want));
-    assert_eq!(rt; want.buffer_len(), 60);
-    let mut bytes = [0xa5; 60];
-    put(&mut bytes, &want);
-    assert_eq!(rt; bytes, message);
+    assert!(rt;
+        is_error(&[0x04, 0x01, 0x90, 0x2c, 0, 0, 0, 40], &problem),
+        "next header"
+    );
 }
 
 #[test]
@@ -309,10 +293,10 @@ fn quotes_without_payload(rt: HostRuntime) {
         header: HEADER,
         bytes: &[],
     };
-    assert_eq!(rt; read(message), Ok(want));
     let mut bytes = [0xa5; 48];
     put(&mut bytes, &want);
     assert_eq!(rt; bytes.as_slice(), message);
+    assert_eq!(rt; read(message), Ok(want));
 }
 
 #[test]
@@ -332,28 +316,28 @@ fn unused_fields_are_ignored(rt: HostRuntime) {
 
 #[test]
 fn echo_is_read_and_written(rt: HostRuntime) {
-    let packet = Icmpv6Packet::new_unchecked(&REQUEST);
     let caps = ChecksumCapabilities::default();
     let want = Icmpv6Repr::EchoRequest {
         ident: 0x1234,
         seq_no: 0xabcd,
         bytes: &[0xaa, 0x00, 0x00, 0xff],
     };
-    assert_eq!(rt; Icmpv6Repr::parse(&LEFT, &RIGHT, &packet, &caps), Ok(want));
     assert_eq!(rt; want.buffer_len(), 12);
     let mut bytes = [0xa5; 12];
     let mut packet = Icmpv6PacketMut::new_unchecked(&mut bytes);
     want.emit(&LEFT, &RIGHT, &mut packet, &caps);
     assert_eq!(rt; bytes, REQUEST);
+    let packet = Icmpv6Packet::new_unchecked(&REQUEST);
+    assert_eq!(rt; Icmpv6Repr::parse(&LEFT, &RIGHT, &packet, &caps), Ok(want));
     let reply = Icmpv6Repr::EchoReply {
         ident: 0x1234,
         seq_no: 0xabcd,
         bytes: &[0xaa, 0x00, 0x00],
     };
-    assert_eq!(rt; read(&REPLY), Ok(reply));
     let mut bytes = [0xa5; 11];
     put(&mut bytes, &reply);
     assert_eq!(rt; bytes, REPLY);
+    assert_eq!(rt; read(&REPLY), Ok(reply));
     let empty = Icmpv6Repr::EchoRequest {
         ident: 0x1234,
         seq_no: 1,
@@ -366,43 +350,7 @@ fn echo_is_read_and_written(rt: HostRuntime) {
 }
 
 #[test]
-fn neighbors_are_read_and_written(rt: HostRuntime) {
-    let caps = ChecksumCapabilities::default();
-    let group = Ipv6Address::new(0xff02, 0, 0, 0, 0, 1, 0xff00, 1);
-    let asked = Icmpv6Repr::Ndisc(NdiscRepr::NeighborSolicit {
-        target_addr: LEFT,
-        lladdr: Some(RawHardwareAddress::from(EthernetAddress([2, 0, 0, 0, 0, 2]))),
-    });
-    let packet = Icmpv6Packet::new_unchecked(&SOLICITATION);
-    assert_eq!(rt;
-        Icmpv6Repr::parse(&RIGHT, &group, &packet, &caps),
-        Ok(asked)
-    );
-    assert_eq!(rt; asked.buffer_len(), 32);
-    let answer = Icmpv6Repr::Ndisc(NdiscRepr::NeighborAdvert {
-        flags: NdiscNeighborFlags::SOLICITED,
-        target_addr: LEFT,
-        lladdr: Some(RawHardwareAddress::from(EthernetAddress([2, 0, 0, 0, 0, 1]))),
-    });
-    let packet = Icmpv6Packet::new_unchecked(&ADVERTISEMENT);
-    assert_eq!(rt;
-        Icmpv6Repr::parse(&LEFT, &RIGHT, &packet, &caps),
-        Ok(answer)
-    );
-    let mut bytes = [0xa5; 32];
-    if asked.buffer_len() == 32 {
-        let mut packet = Icmpv6PacketMut::new_unchecked(&mut bytes);
-        asked.emit(&RIGHT, &group, &mut packet, &caps);
-        assert_eq!(rt; bytes, SOLICITATION);
-    }
-    assert_eq!(rt; answer.buffer_len(), 32);
-    let mut packet = Icmpv6PacketMut::new_unchecked(&mut bytes);
-    answer.emit(&LEFT, &RIGHT, &mut packet, &caps);
-    assert_eq!(rt; bytes, ADVERTISEMENT);
-}
-
-#[test]
-fn messages_are_refused(rt: HostRuntime) {
+fn echoes_are_refused(rt: HostRuntime) {
     assert_eq!(rt; read_untested(&REQUEST[..7]), Err(Error), "no header");
     assert_eq!(rt;
         read(&[0x80, 0x01, 0x73, 0x82, 0x12, 0x34, 0, 1]),
@@ -428,6 +376,10 @@ fn messages_are_refused(rt: HostRuntime) {
         Err(Error),
         "the checksum of other addresses"
     );
+}
+
+#[test]
+fn errors_are_refused(rt: HostRuntime) {
     let short = error(&[0x01, 0x04, 0, 0, 0, 0, 0, 0]);
     assert!(rt; read_untested(cut(&short, 48)).is_ok());
     assert_eq!(rt;
@@ -484,12 +436,26 @@ fn headers_are_kept(rt: HostRuntime) {
     let unsealed = [0x81, 0, 0, 0, 0x12, 0x34, 0xab, 0xcd, 0xaa, 0, 0];
     assert_eq!(rt; bytes, unsealed, "no checksum where the device computes it");
     let repr = Icmpv6Repr::new(&header, &[0xaa, 0x00, 0x00]);
-    assert_eq!(rt; read_untested(&unsealed), Ok(repr));
     assert_eq!(rt; repr.header(), header);
     assert_eq!(rt; repr.bytes(), [0xaa, 0x00, 0x00].as_slice());
+    assert_eq!(rt; read_untested(&unsealed), Ok(repr));
     laws::icmpv6_spelled();
     laws::icmpv6_no_longer();
     laws::icmpv6_fits();
     laws::icmpv6_reads_back();
     laws::icmpv6_normal();
+}
+
+// RFC 4443, sections 2.1, 3 and 4; RFC 4861, section 4.4.
+#[test]
+fn fields_are_in_their_places(rt: HostRuntime) {
+    assert_eq!(rt; [field::TYPE, field::CODE, field::HEADER_END], [0, 1, 8]);
+    assert_eq!(rt; field::CHECKSUM, 2..4);
+    assert_eq!(rt; field::UNUSED, 4..8);
+    assert_eq!(rt; field::MTU, 4..8);
+    assert_eq!(rt; field::POINTER, 4..8);
+    assert_eq!(rt; field::ECHO_IDENT, 4..6);
+    assert_eq!(rt; field::ECHO_SEQNO, 6..8);
+    assert_eq!(rt; field::ND_FLAGS, 4);
+    assert_eq!(rt; field::TARGET_ADDR, 8..24);
 }

@@ -1,5 +1,5 @@
 use Rattle.icmpv6.proofs.NdiscLaws.{buffer_len-room}
-use Rattle.icmpv6.proofs.ndisc.ndisc_no_longer.Goals as goal
+use Rattle.icmpv6.proofs.laws.ndisc_no_longer.Goals as goal
 
 pub returns : goal.returns
 returns c = buffer_len-room
