@@ -1,4 +1,4 @@
-use Rattle.std.proofs.Common.{◌≡◌, List, ℕ, subst, sym, ap, ◌∙◌, drop}
+use Rattle.std.proofs.Common.{◌≡◌, List, ℕ, refl, subst, sym, ap, ◌∙◌, drop}
 use Rattle.ip_wire.specs.Text.{IsEndpointText}
 use Rattle.lan.specs.ScriptWords.{FirstIs}
 use Rattle.lan.specs.ScriptLines.{IsSendTo}
@@ -17,6 +17,7 @@ returns-in_err-remote-clause-only c outside event is =
 pub returns-in_err-decode-clause-memory : goal.returns-in_err-decode-clause-memory
 returns-in_err-decode-clause-memory c memory = (
   SendTo c.in_ok-side.side c.in_ok-socket.socket c.in_ok-remote.remote c.in_ok-bytes.bytes,
+  refl,
   send_to_read c.args.words.now c.in_ok-side.side c.in_ok-socket.socket c.in_ok-remote.remote c.in_ok-bytes.bytes c.in_ok-end.field-0
       (within_some _ _ c.in_ok-side.ensures.value)
       (rw (← c.side.ensures.rest) (within_some _ _ c.in_ok-socket.ensures.value))
