@@ -11,3 +11,4 @@ pub mod ScriptRunLemmas
 pub mod Histories
 pub mod Running
 pub mod Beginnings
+pub mod Outcomes
