@@ -12,3 +12,4 @@ pub mod Histories
 pub mod Running
 pub mod Beginnings
 pub mod Outcomes
+pub mod ScriptReadings
