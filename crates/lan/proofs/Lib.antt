@@ -13,3 +13,4 @@ pub mod Running
 pub mod Beginnings
 pub mod Outcomes
 pub mod ScriptReadings
+pub mod ScriptOutcomes

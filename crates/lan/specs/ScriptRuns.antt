@@ -88,3 +88,13 @@ Replays n session (line ∷ lines) output status =
 -- what a script writes, and its status
 abbrev pub IsReplay : List ℕ → List ℕ → ℕ → Type 0
 IsReplay script output status = Replays 1 Begun (lines_of script) output status
+
+-- ONE OUTCOME
+
+-- the last line that was written says that memory was wanting
+abbrev pub EndsForMemory : List ℕ → Type 0
+EndsForMemory output = (before : List ℕ) × (n : ℕ) × (output ≡ before ++ end_line n (Refusal Memory))
+
+-- two outputs with their statuses are the same, unless memory was wanting in either run
+abbrev pub IsSameReplay : List ℕ → ℕ → List ℕ → ℕ → Type 0
+IsSameReplay output status other last = ((output ≡ other) × (status ≡ last)) ⊎ (EndsForMemory output ⊎ EndsForMemory other)

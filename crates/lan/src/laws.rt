@@ -4,6 +4,7 @@ ghost use Rattle.lan_machine.specs.declared.event.Event.{Event};
 ghost use Rattle.lan.specs.declared.script.line.Line.{Line};
 ghost use Rattle.lan.specs.Runs.{WorldValue, Steps};
 ghost use Rattle.lan.specs.ScriptLines.{SaysLine};
+ghost use Rattle.lan.specs.ScriptRuns.{IsReplay, IsSameReplay};
 
 /// The events that a world takes determine all that becomes of it: each answer, each frame, and
 /// what the hosts are then.
@@ -14,4 +15,9 @@ pub fn runs_have_one_outcome()
 /// A line of a script says one thing, if it says anything.
 pub fn lines_say_one_thing()
     ensures { (text : List ℕ) (one other : Line) → SaysLine text one → SaysLine text other → one ≡ other }
+{}
+
+/// What a script writes, and its status, are determined, unless memory was wanting.
+pub fn scripts_have_one_outcome()
+    ensures { (script output other : List ℕ) (status last : ℕ) → IsReplay script output status → IsReplay script other last → IsSameReplay output status other last }
 {}
