@@ -1,8 +1,6 @@
 use Rattle.std.proofs.Common.{◌≡◌, List, ℕ, refl, subst, sym, ap, ◌∙◌, drop}
 use Rattle.ip_wire.specs.Text.{IsEndpointText}
 use Rattle.lan.specs.ScriptWords.{FirstIs}
-use Rattle.lan.specs.ScriptLines.{IsSendTo}
-use Rattle.lan.specs.declared.script.line.LineError.TheVariants.{Memory}
 use Rattle.lan_machine.specs.declared.event.Event.TheVariants.{SendTo}
 use Rattle.lan.proofs.ScriptLineLemmas.{err_is_no_value, within_some, send_to_read, send_to_steps}
 use Rattle.lan.proofs.script.line.send_to.Goals as goal
