@@ -1,5 +1,5 @@
 -- Each step that is allowed leads from a world that is safe to one that is.
-use Rattle.std.proofs.Common.{◌≡◌, ℕ, ◌<◌, Bool, true, false, nat_lt, List, [], ◌∷◌, ◌++◌, length, Some, None, refl, sym, ◌∙◌, ap, subst, arith}
+use Rattle.std.proofs.Common.{◌≡◌, ℕ, ◌<◌, Bool, true, false, nat_lt, List, [], ◌∷◌, ◌++◌, length, None, refl, sym, ◌∙◌, ap, subst, arith}
 use Rattle.std.proofs.lemmas.Bool.Decides.{nat_tests}
 use Rattle.std.proofs.lemmas.List.{append-nil, length-append}
 use Rattle.lan_machine.specs.declared.event.Side.{Side}
@@ -96,6 +96,10 @@ module _ (w : WorldValue) (event : Event) (answer : Answer) (next : Stations) (o
         (acting w.history s (station w.hosts s) (station next s) event answer (ok.sides s) step.acts of fits has)
         (subst (λ (t : StationValue). IsSideOk new.history (other s) t) (sym step.rests) (rests (record { event = event; answer = answer }) w.history (other s) (station w.hosts (other s)) apart (ok.sides (other s))))
 
+    -- each host stays what a world keeps of it, and what was read was accepted
+    acted : Happens w.hosts event answer next → ReadWasAccepted w.history event answer → IsWorldOk new
+    acted happens reads = kept happens reads acted_runs acted_known acted_sides
+
   -- a host that a delivery leaves as it was, and one that a frame now waits for
   module _ (apart : (side : Side) → is_of side event ≡ false) where
     abbrev e : Entry
@@ -154,28 +158,13 @@ module _ (w : WorldValue) (from : Side) (k : ℕ) (padding : List ℕ) (answer :
 pub keeps : (w : WorldValue) (event : Event) (answer : Answer) (next : Stations) → IsWorldOk w → refusal w.hosts event ≡ None → Happens w.hosts event answer next → IsEventInRange event
     → IsWorldOk (next_world w event answer next)
 keeps w (Bind s i port) answer next ok allowed happens fits =
-    let has : i < length (station w.hosts s).host.sockets = below i _ (present _ _ allowed) in
-    kept w (Bind s i port) answer next ok allowed happens tt
-    (acted_runs w (Bind s i port) answer next ok allowed s (same_side_refl s) (same_side_other s) fits has (λ side sent. refl) (λ side n. tt) happens)
-    (acted_known w (Bind s i port) answer next ok allowed s (same_side_refl s) (same_side_other s) fits has (λ side sent. refl) (λ side n. tt) happens)
-    (acted_sides w (Bind s i port) answer next ok allowed s (same_side_refl s) (same_side_other s) fits has (λ side sent. refl) (λ side n. tt) happens)
+    acted w (Bind s i port) answer next ok allowed s (same_side_refl s) (same_side_other s) fits (below i _ (present _ _ allowed)) (λ side sent. refl) (λ side n. tt) happens happens tt
 keeps w (SendTo s i remote bytes) answer next ok allowed happens fits =
-    let has : i < length (station w.hosts s).host.sockets = below i _ (present _ _ allowed) in
-    kept w (SendTo s i remote bytes) answer next ok allowed happens tt
-    (acted_runs w (SendTo s i remote bytes) answer next ok allowed s (same_side_refl s) (same_side_other s) fits has (λ side sent. refl) (λ side n. tt) happens)
-    (acted_known w (SendTo s i remote bytes) answer next ok allowed s (same_side_refl s) (same_side_other s) fits has (λ side sent. refl) (λ side n. tt) happens)
-    (acted_sides w (SendTo s i remote bytes) answer next ok allowed s (same_side_refl s) (same_side_other s) fits has (λ side sent. refl) (λ side n. tt) happens)
+    acted w (SendTo s i remote bytes) answer next ok allowed s (same_side_refl s) (same_side_other s) fits (below i _ (present _ _ allowed)) (λ side sent. refl) (λ side n. tt) happens happens tt
 keeps w (RecvFrom s i limit) answer next ok allowed happens fits =
-    let has : i < length (station w.hosts s).host.sockets = below i _ (present _ _ allowed) in
-    kept w (RecvFrom s i limit) answer next ok allowed happens
+    acted w (RecvFrom s i limit) answer next ok allowed s (same_side_refl s) (same_side_other s) fits (below i _ (present _ _ allowed)) (λ side sent. refl) (λ side n. tt) happens happens
     (read_accepted w.history s i limit (station w.hosts s) answer [] (ok.sides s) (sym happens.acts.step.answers))
-    (acted_runs w (RecvFrom s i limit) answer next ok allowed s (same_side_refl s) (same_side_other s) fits has (λ side sent. refl) (λ side n. tt) happens)
-    (acted_known w (RecvFrom s i limit) answer next ok allowed s (same_side_refl s) (same_side_other s) fits has (λ side sent. refl) (λ side n. tt) happens)
-    (acted_sides w (RecvFrom s i limit) answer next ok allowed s (same_side_refl s) (same_side_other s) fits has (λ side sent. refl) (λ side n. tt) happens)
 keeps w (Poll s moment budget) answer next ok allowed happens fits =
-    kept w (Poll s moment budget) answer next ok allowed happens tt
-    (acted_runs w (Poll s moment budget) answer next ok allowed s (same_side_refl s) (same_side_other s) fits tt (λ side sent. refl) (λ side n. tt) happens)
-    (acted_known w (Poll s moment budget) answer next ok allowed s (same_side_refl s) (same_side_other s) fits tt (λ side sent. refl) (λ side n. tt) happens)
-    (acted_sides w (Poll s moment budget) answer next ok allowed s (same_side_refl s) (same_side_other s) fits tt (λ side sent. refl) (λ side n. tt) happens)
+    acted w (Poll s moment budget) answer next ok allowed s (same_side_refl s) (same_side_other s) fits tt (λ side sent. refl) (λ side n. tt) happens happens tt
 keeps w (Deliver from k padding) answer next ok allowed happens fits =
     delivery_keeps w from k padding answer ok allowed next happens.1 happens.0

@@ -11,3 +11,6 @@ pub mod ScriptRunLemmas
 pub mod Histories
 pub mod Running
 pub mod Beginnings
+pub mod Outcomes
+pub mod ScriptReadings
+pub mod ScriptOutcomes

@@ -9,9 +9,9 @@ use Rattle.ip_wire.specs.IpEndpoint.{IpEndpoint}
 use Rattle.ip_wire.specs.Text.{IsEndpointText}
 use Rattle.lan_machine.specs.declared.event.Side.{Side}
 use Rattle.lan_machine.specs.declared.event.Event.{Event}
-use Rattle.lan_machine.specs.declared.event.Event.TheVariants.{SendTo}
-use Rattle.lan.specs.ScriptWords.{side_of, size_of, bytes_of, first_as, FirstIs}
-use Rattle.lan.specs.ScriptLines.{SaysEvent, SaysWords, IsSendTo, line_of_words, socket_of, within, at_end}
+use Rattle.lan_machine.specs.declared.event.Event.TheVariants.{SendTo, Deliver}
+use Rattle.lan.specs.ScriptWords.{side_of, size_of, bytes_of, first_as, FirstIs, three, ◌>>=◌}
+use Rattle.lan.specs.ScriptLines.{SaysEvent, SaysWords, IsSendTo, has_bytes, line_of_words, socket_of, within, at_end}
 use Rattle.lan.specs.declared.script.line.Line.{Line}
 use Rattle.lan.specs.declared.script.line.Line.TheVariants.{Start}
 use Rattle.std.specs.Str.{bytes_eq}
@@ -111,6 +111,22 @@ false_is_not_true same = cc
 pub IsSome-is : {X : Type 0} (o : Option X) → IsSome o → (x : X) × (o ≡ Some x)
 IsSome-is None some = absurd (false_is_not_true some)
 IsSome-is (Some x) some = (x, refl)
+
+made_of_three : {P Q R X : Type 0} (p : Option P) (q : Option Q) (r : Option R) (make : P → Q → R → X) (x : X) (Holds : X → Type 0)
+    → ((a : P) (b : Q) (c : R) → Holds (make a b c)) → (p >>= λ a. q >>= λ b. r >>= λ c. Some (make a b c)) ≡ Some x → Holds x
+made_of_three None q r make x Holds all is = cc
+made_of_three (Some a) None r make x Holds all is = cc
+made_of_three (Some a) (Some b) None make x Holds all is = cc
+made_of_three (Some a) (Some b) (Some c) make x Holds all is = let same : make a b c ≡ x = cc in subst Holds same (all a b c)
+
+-- what the verb `deliver` says has bytes
+pub deliver_has_bytes : (words : List (List ℕ)) (event : Event) → three side_of size_of bytes_of Deliver words ≡ Some event → has_bytes event ≡ true
+deliver_has_bytes [] event is = cc
+deliver_has_bytes (a ∷ []) event is = cc
+deliver_has_bytes (a ∷ b ∷ []) event is = cc
+deliver_has_bytes (a ∷ b ∷ c ∷ []) event is =
+    made_of_three (side_of a) (size_of b) (bytes_of c) Deliver event (λ e. has_bytes e ≡ true) (λ from k padding. refl) is
+deliver_has_bytes (a ∷ b ∷ c ∷ d ∷ rest) event is = cc
 
 -- what the verb `sendto` says
 pub says_send_to : (verb : List ℕ) (words : List (List ℕ)) (event : Event) → verb ≡ codes "sendto" → SaysEvent verb words event → IsSendTo words event

@@ -16,7 +16,7 @@ use Rattle.hex.specs.declared.error.FromHexError.{FromHexError}
 use Rattle.hex.specs.Hex.{is_hex_digit, decode_of}
 use Rattle.hex.proofs.HexLemmas.{decode_of-ok, decode_of-digits}
 use Rattle.lan.specs.ScriptWords.{words_of, words_left, number_of, micros_of, first_as, four, ◌>>=◌}
-use Rattle.lan.specs.ScriptLines.{at_end, within}
+use Rattle.lan.specs.ScriptLines.{at_end}
 
 -- WORDS
 

@@ -1,5 +1,5 @@
 -- Each step keeps what a world knows of one host.
-use Rattle.std.proofs.Common.{◌≡◌, ℕ, zero, suc, ◌<◌, true, false, List, [], ◌∷◌, ◌++◌, length, get_or, Some, ◌⊎◌, inl, inr, refl, arith}
+use Rattle.std.proofs.Common.{◌≡◌, ℕ, zero, suc, ◌<◌, true, false, List, [], ◌∷◌, ◌++◌, length, get_or, inl, inr, refl, arith}
 use Rattle.lan_machine.specs.declared.event.Side.{Side}
 use Rattle.lan_machine.specs.declared.event.Side.TheVariants.{A, B}
 use Rattle.lan_machine.proofs.Members.{member_of_append}

@@ -1,5 +1,5 @@
 -- The lines of a script, and what each says.
-use Rattle.std.specs.Prelude.{◌≡◌, ℕ, nat_lt, IsTrue, ◌⊎◌, ◌==◌, if◌then◌else◌, List, [], ◌∷◌, codes, Option, Some, None, Result, Ok, Err, option_map}
+use Rattle.std.specs.Prelude.{◌≡◌, ℕ, nat_lt, Bool, true, false, IsTrue, ◌⊎◌, ◌==◌, if◌then◌else◌, List, [], ◌∷◌, codes, Option, Some, None, Result, Ok, Err, option_map}
 use Rattle.std.specs.List.{list_all}
 use Rattle.std.specs.Str.{bytes_eq}
 use Rattle.ip_wire.specs.IpEndpoint.{IpEndpoint}
@@ -45,6 +45,14 @@ event_of verb words =
     else if bytes_eq verb (codes "poll") then three side_of micros_of short_of Poll words
     else if bytes_eq verb (codes "deliver") then three side_of size_of bytes_of Deliver words
     else None
+
+-- whether an event has bytes of its own, which take memory before the world is asked
+abbrev pub has_bytes : Event → Bool
+has_bytes (Bind side i port) = false
+has_bytes (SendTo side i remote bytes) = true
+has_bytes (RecvFrom side i limit) = false
+has_bytes (Poll side moment budget) = false
+has_bytes (Deliver from k padding) = true
 
 -- `H S ENDPOINT HEX`, behind the verb `sendto`
 pub record IsSendTo (words : List (List ℕ)) (event : Event) : Type 0 where

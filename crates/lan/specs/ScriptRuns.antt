@@ -1,5 +1,5 @@
 -- A run of a script: what each line does and writes, and what the whole writes.
-use Rattle.std.specs.Prelude.{◌≡◌, ◌≢◌, ℕ, ◌+◌, List, [], ◌∷◌, ◌++◌, length, drop, codes, ◌⊎◌, Option, Some, None, option_map}
+use Rattle.std.specs.Prelude.{◌≡◌, ◌≢◌, ℕ, ◌+◌, Bool, true, false, List, [], ◌∷◌, ◌++◌, length, drop, codes, ◌⊎◌, Option, Some, None, option_map}
 use Rattle.lan_machine.specs.declared.event.Side.{Side}
 use Rattle.lan_machine.specs.declared.event.Side.TheVariants.{A, B}
 use Rattle.lan_machine.specs.declared.event.Answer.{Answer}
@@ -14,7 +14,7 @@ use Rattle.lan.specs.Link.{Stations, station}
 use Rattle.lan.specs.Steps.{refusal}
 use Rattle.lan.specs.Runs.{WorldValue, Step}
 use Rattle.lan.specs.Fresh.{new_refusal, new_world}
-use Rattle.lan.specs.ScriptLines.{Said, lines_of}
+use Rattle.lan.specs.ScriptLines.{Said, has_bytes, lines_of}
 use Rattle.lan.specs.ScriptAnswers.{answer_line, sent_lines, end_line}
 use Rattle.lan.specs.ScriptEnds.{world_end}
 use Rattle.lan.specs.ScriptHosts.{host_of}
@@ -39,9 +39,22 @@ end_of (Header h) (Some Start) = option_map world_end (new_refusal (host_of h A)
 end_of (Running world) (Some (Happening event)) = option_map Refusal (refusal world.hosts event)
 end_of _ _ = Some BadEvent
 
--- why a line ends the run: memory may be wanting at each line that is neither outside the grammar nor out of order
+-- whether a line takes memory before it is known whether it is refused: for the hosts, or for the bytes of an event
+abbrev pub takes_memory_first : Option Line → Bool
+takes_memory_first (Some (World mtu)) = false
+takes_memory_first (Some (Socket side sizes)) = false
+takes_memory_first (Some Start) = true
+takes_memory_first (Some (Happening event)) = has_bytes event
+takes_memory_first None = false
+
+-- memory may be wanting at a line that isn't refused, and at one that takes memory first, unless that is a bad event
+abbrev pub MayWantMemory : Session → Option Line → Type 0
+MayWantMemory session line =
+    (end_of session line ≡ None) ⊎ ((takes_memory_first line ≡ true) × (end_of session line ≢ Some BadEvent))
+
+-- why a line ends the run
 abbrev pub Ends : Session → Option Line → End → Type 0
-Ends session line end = (end_of session line ≡ Some end) ⊎ ((end ≡ Refusal Memory) × (end_of session line ≢ Some BadEvent))
+Ends session line end = (end_of session line ≡ Some end) ⊎ ((end ≡ Refusal Memory) × MayWantMemory session line)
 
 -- where else a line leads, and what it writes
 abbrev pub Leads : Session → Option Line → List ℕ → Session → Type 0
@@ -75,3 +88,13 @@ Replays n session (line ∷ lines) output status =
 -- what a script writes, and its status
 abbrev pub IsReplay : List ℕ → List ℕ → ℕ → Type 0
 IsReplay script output status = Replays 1 Begun (lines_of script) output status
+
+-- ONE OUTCOME
+
+-- the last line that was written says that memory was wanting
+abbrev pub EndsForMemory : List ℕ → Type 0
+EndsForMemory output = (before : List ℕ) × (n : ℕ) × (output ≡ before ++ end_line n (Refusal Memory))
+
+-- two outputs with their statuses are the same, unless memory was wanting in either run
+abbrev pub IsSameReplay : List ℕ → ℕ → List ℕ → ℕ → Type 0
+IsSameReplay output status other last = ((output ≡ other) × (status ≡ last)) ⊎ (EndsForMemory output ⊎ EndsForMemory other)

@@ -33,9 +33,9 @@ refusal hosts (RecvFrom side i limit) = unless_absent (has_socket (station hosts
 refusal hosts (Poll side moment budget) = unless_absent (can_be_polled (station hosts side) moment) Moment
 refusal hosts (Deliver from k padding) = unless_absent (nat_lt k (length (station hosts from).sent)) NoFrame
 
--- a refusal of an event: that which it must have, or want of memory
+-- a refusal of an event: that which it must have, or want of memory where it must have none
 abbrev pub MayRefuse : Stations → Event → Refused → Type 0
-MayRefuse hosts event refused = (refusal hosts event ≡ Some refused) ⊎ (refused ≡ Memory)
+MayRefuse hosts event refused = (refusal hosts event ≡ Some refused) ⊎ ((refusal hosts event ≡ None) × (refused ≡ Memory))
 
 -- STEPS
 

@@ -38,8 +38,8 @@ impl Host {
         }
     }
 
-    /// Adds an unbound UDP socket, whose place is one past that of the last. Its queues hold at most
-    /// so many datagrams, and so many bytes of payload.
+    /// Adds an unbound UDP socket. Sockets are numbered from 0 in the order in which they were added;
+    /// its queues hold at most so many datagrams, and so many bytes of payload.
     pub fn add_udp_socket(
         &mut self,
         receive_packets: usize,

@@ -3,6 +3,7 @@
 
 mod host;
 mod kept;
+pub mod laws;
 mod script;
 mod world;
 

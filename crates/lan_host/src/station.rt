@@ -54,8 +54,8 @@ impl Station {
         }
     }
 
-    /// Adds an unbound UDP socket, whose place is one past that of the last. Its queues take so
-    /// many datagrams, and so many bytes of payload.
+    /// Gives the host one UDP socket more, behind those that it has: unbound, and its queues limited
+    /// as said. Where there is no memory for the queues' places, nothing has changed.
     pub fn add_udp_socket(
         &mut self,
         receive_packets: usize,

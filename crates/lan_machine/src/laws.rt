@@ -1,6 +1,6 @@
 //! The laws of the host machine. Each is a function that does nothing, whose clause is the law: its
 //! statement stands in `specs/Laws.antt`, and the lemma that a proof of a crate above applies in
-//! `proofs/MachineLaws.antt`.
+//! `proofs/MachineLaws.antt`. The first four are laws of types, for a caller to call.
 ghost use Rattle.std.specs.Prelude.{◌<◌, ◌^◌};
 ghost use Rattle.ip_wire.specs.Address.{IsIpv4Address, IsIpv6Address, IsIpAddress};
 ghost use Rattle.lan_machine.specs.Laws.{IsEventInRange, ReadLaw, QueuedLaw, ReceivedLaw, FramesLaw, PortLaw, SameLaw, RangeLaw, UnusedLaw, IdleLaw, ArrivalsLaw, ContentLaw, StepLaw, PaddedLaw, SentLaw, ExampleLaw};
@@ -36,16 +36,12 @@ pub fn endpoint_in_range(endpoint: IpEndpoint)
 /// An IPv4 address has four bytes.
 pub fn ipv4_in_range(address: Ipv4Address)
     ensures { IsIpv4Address address }
-{
-    let _octets = address.0;
-}
+{}
 
 /// An IPv6 address has sixteen bytes.
 pub fn ipv6_in_range(address: Ipv6Address)
     ensures { IsIpv6Address address }
-{
-    let _octets = address.0;
-}
+{}
 
 /// What a socket reads had been received by it.
 pub fn reads()

@@ -1,6 +1,6 @@
 //! The lines of a script.
-ghost use Rattle.std.specs.Prelude.{◌≡◌, None, Some, Err, IfOk, IsSome};
-ghost use Rattle.lan.specs.ScriptLines.{Said, SaysLine, SaysWords, SaysEvent, IsSendTo, world_of, socket_of, sizes_of, within};
+ghost use Rattle.std.specs.Prelude.{◌≡◌, true, None, Some, Err, IfOk, IsSome};
+ghost use Rattle.lan.specs.ScriptLines.{Said, SaysLine, SaysWords, SaysEvent, IsSendTo, has_bytes, world_of, socket_of, sizes_of, within};
 ghost use Rattle.lan.specs.ScriptWords.{two, three, four, side_of, size_of, short_of, micros_of, bytes_of};
 ghost use Rattle.lan_machine.specs.declared.event.Event.{Event};
 ghost use Rattle.lan_machine.specs.declared.event.Event.TheVariants.{Bind, RecvFrom, Poll, Deliver};
@@ -61,7 +61,7 @@ impl Line {
     pub fn read(alloc: Global, text: &[u8]) -> Result<Line, LineError>
         ensures found { IfOk result (λ line. SaysLine text.now line) }
         ensures only { result ≡ Err Outside → (line : Line) → SaysLine text.now line → ⊥ }
-        ensures memory { result ≡ Err Memory → (event : Event) × SaysLine text.now (Happening event) }
+        ensures memory { result ≡ Err Memory → (event : Event) × (has_bytes event ≡ true) × SaysLine text.now (Happening event) }
     {
         if !text.is_ascii() {
             return Err(LineError::Outside);
@@ -76,7 +76,7 @@ impl Line {
 fn from_words(alloc: Global, words: &mut Words<'_>) -> Result<Line, LineError>
     ensures found { IfOk result (λ line. SaysWords words.old line) }
     ensures only { result ≡ Err Outside → (line : Line) → SaysWords words.old line → ⊥ }
-    ensures memory { result ≡ Err Memory → (event : Event) × SaysWords words.old (Happening event) }
+    ensures memory { result ≡ Err Memory → (event : Event) × (has_bytes event ≡ true) × SaysWords words.old (Happening event) }
 {
     let verb = words.word().ok_or(LineError::Outside)?;
     match verb {
@@ -123,7 +123,7 @@ fn sizes(words: &mut Words<'_>) -> Result<SocketSizes, LineError>
 fn event(alloc: Global, verb: &str, words: &mut Words<'_>) -> Result<Event, LineError>
     ensures found { IfOk result (λ event. SaysEvent verb.now words.old event) }
     ensures only { result ≡ Err Outside → (event : Event) → SaysEvent verb.now words.old event → ⊥ }
-    ensures memory { result ≡ Err Memory → (event : Event) × SaysEvent verb.now words.old event }
+    ensures memory { result ≡ Err Memory → (event : Event) × (has_bytes event ≡ true) × SaysEvent verb.now words.old event }
 {
     match verb {
         "bind" => bind(words),
@@ -146,7 +146,7 @@ fn bind(words: &mut Words<'_>) -> Result<Event, LineError>
 fn send_to(alloc: Global, words: &mut Words<'_>) -> Result<Event, LineError>
     ensures found { IfOk result (IsSendTo words.old) }
     ensures only { result ≡ Err Outside → (event : Event) → IsSendTo words.old event → ⊥ }
-    ensures memory { result ≡ Err Memory → (event : Event) × IsSendTo words.old event }
+    ensures memory { result ≡ Err Memory → (event : Event) × (has_bytes event ≡ true) × IsSendTo words.old event }
 {
     let side = words.side()?;
     let socket = words.size()?;

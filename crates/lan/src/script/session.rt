@@ -50,10 +50,11 @@ impl Model for Header {
 }
 
 impl Session {
-    ghost use Rattle.std.specs.Prelude.{◌≡◌, None, Some, IfOk, IfErr};
+    ghost use Rattle.std.specs.Prelude.{◌≡◌, true, None, Some, IfOk, IfErr};
     ghost use Rattle.std.specs.String.{string_bytes};
     ghost use Rattle.lan_machine.specs.declared.event.Event.{Event};
     ghost use Rattle.lan.specs.declared.script.line.Line.TheVariants.{Event as Happening};
+    ghost use Rattle.lan.specs.ScriptLines.{has_bytes};
     ghost use Rattle.lan.specs.ScriptRuns.{end_of, Leads, LineLeads, LineEnds, Ends};
 
     /// Takes one line, without the byte 0a that ends it: what it leads to, and what it writes.
@@ -94,9 +95,9 @@ impl Session {
         }
     }
 
-    // How the run ends at an event that finds no memory: events are in order once the hosts run.
+    // How the run ends at an event whose bytes find no memory: events are in order once the hosts run.
     fn end_without_memory(&self) -> End
-        ensures { (event : Event) → Ends self.now (Some (Happening event)) result }
+        ensures { (event : Event) → has_bytes event ≡ true → Ends self.now (Some (Happening event)) result }
     {
         match self {
             Session::Running(_) => End::Refusal(Refused::Memory),
@@ -177,7 +178,7 @@ fn make_host(
 // Takes one event: what it writes.
 fn take_event(alloc: Global, world: &mut World, event: Event) -> Result<String, End>
     ensures takes { IfOk result (λ text. (answer : Answer) × Step world.old event answer world.new × (string_bytes text ≡ event_text world.old answer world.new)) }
-    ensures ends { IfErr result (λ end. (option_map Refusal (refusal world.old.hosts event) ≡ Some end) ⊎ (end ≡ Refusal Memory)) }
+    ensures ends { IfErr result (λ end. (option_map Refusal (refusal world.old.hosts event) ≡ Some end) ⊎ ((refusal world.old.hosts event ≡ None) × (end ≡ Refusal Memory))) }
 {
     let sent_by_a = world.sent(Side::A).len();
     let sent_by_b = world.sent(Side::B).len();

@@ -1,5 +1,5 @@
 use Rattle.std.proofs.Common.{inl}
-use Rattle.lan.proofs.ScriptLineLemmas.{IsSome-is, says_send_to}
+use Rattle.lan.proofs.ScriptLineLemmas.{IsSome-is, deliver_has_bytes, says_send_to}
 use Rattle.lan.proofs.script.line.event.Goals as goal
 
 pub returns-in-sendto-clause-only : goal.returns-in-sendto-clause-only
@@ -9,4 +9,4 @@ returns-in-sendto-clause-only c outside event says =
 pub returns-in-deliver-clause-memory : goal.returns-in-deliver-clause-memory
 returns-in-deliver-clause-memory c memory =
     let event = IsSome-is _ (c.deliver.ensures.memory memory) in
-    (event.0, inl (rw c.in-deliver.is event.1))
+    (event.0, deliver_has_bytes c.args.words.now event.0 event.1, inl (rw c.in-deliver.is event.1))

@@ -1,8 +1,6 @@
-use Rattle.std.proofs.Common.{◌≡◌, List, ℕ, subst, sym, ap, ◌∙◌, drop}
+use Rattle.std.proofs.Common.{◌≡◌, List, ℕ, refl, subst, sym, ap, ◌∙◌, drop}
 use Rattle.ip_wire.specs.Text.{IsEndpointText}
 use Rattle.lan.specs.ScriptWords.{FirstIs}
-use Rattle.lan.specs.ScriptLines.{IsSendTo}
-use Rattle.lan.specs.declared.script.line.LineError.TheVariants.{Memory}
 use Rattle.lan_machine.specs.declared.event.Event.TheVariants.{SendTo}
 use Rattle.lan.proofs.ScriptLineLemmas.{err_is_no_value, within_some, send_to_read, send_to_steps}
 use Rattle.lan.proofs.script.line.send_to.Goals as goal
@@ -17,6 +15,7 @@ returns-in_err-remote-clause-only c outside event is =
 pub returns-in_err-decode-clause-memory : goal.returns-in_err-decode-clause-memory
 returns-in_err-decode-clause-memory c memory = (
   SendTo c.in_ok-side.side c.in_ok-socket.socket c.in_ok-remote.remote c.in_ok-bytes.bytes,
+  refl,
   send_to_read c.args.words.now c.in_ok-side.side c.in_ok-socket.socket c.in_ok-remote.remote c.in_ok-bytes.bytes c.in_ok-end.field-0
       (within_some _ _ c.in_ok-side.ensures.value)
       (rw (← c.side.ensures.rest) (within_some _ _ c.in_ok-socket.ensures.value))

@@ -16,4 +16,4 @@ returns-clause-found c =
 pub returns-clause-memory : goal.returns-clause-memory
 returns-clause-memory c memory =
     let event = c.from_words.ensures.memory memory in
-    (event.0, (list_all_ascii c.args.text.now c.if-not-is_ascii.ensures.cases, rw (← c.in-Ok.ensures.cases.0, ← c.new.ensures) event.1))
+    (event.0, event.1, (list_all_ascii c.args.text.now c.if-not-is_ascii.ensures.cases, rw (← c.in-Ok.ensures.cases.0, ← c.new.ensures) event.2))

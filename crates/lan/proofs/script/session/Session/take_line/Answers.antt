@@ -11,8 +11,8 @@ returns-in-Ok-clause-leads c =
 pub returns-in-Ok-clause-ends : goal.returns-in-Ok-clause-ends
 returns-in-Ok-clause-ends c = said_ends c.args.self c.args.text.now c.in-Ok.line c.take.result c.in-Ok.ensures.found c.take.ensures.ends
 
--- an event alone finds no memory
+-- the bytes of an event found no memory
 pub returns-clause-ends : goal.returns-clause-ends
 returns-clause-ends c =
     let event = c.read.ensures.memory (c.in-Err-Memory.is ∙ ap Err c.in-Err-Memory.field-0-is) in
-    (Some (Happening event.0), event.1, c.end_without_memory.ensures event.0)
+    (Some (Happening event.0), event.2, c.end_without_memory.ensures event.0 event.1)
