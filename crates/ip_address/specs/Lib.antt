@@ -6,6 +6,5 @@ pub mod Block
 pub mod Protocol
 pub mod Pseudo
 pub mod Seq
-pub mod Hardware
 pub mod Text
 pub mod Order
