@@ -1,0 +1,5 @@
+//! Sockets whose queues hold datagrams.
+#![tactic(auto)]
+
+mod header;
+pub mod udp;
