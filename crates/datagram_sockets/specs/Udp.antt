@@ -1,5 +1,5 @@
 -- A UDP socket as a value, and what its calls answer and leave.
-use Rattle.std.specs.Prelude.{ℕ, ◌+◌, ◌==◌, nat_lt, nat_le, not, ◌&&◌, ◌||◌, Bool, true, false, if◌then◌else◌, List, [], ◌∷◌, ◌++◌, length, drop, Option, None, Some, is_some, Result, Ok, Err, is_ok, refl}
+use Rattle.std.specs.Prelude.{◌≡◌, ℕ, ◌+◌, ◌==◌, nat_lt, nat_le, not, ◌&&◌, ◌||◌, Bool, true, false, if◌then◌else◌, List, [], ◌∷◌, ◌++◌, length, drop, Option, None, Some, is_some, Result, Ok, Err, is_ok, refl}
 use Rattle.std.specs.Coded.{Coded, code_by, coded×, coded_ℕ, coded_option}
 use Rattle.net_base.specs.Packets.{Packets, packets_in, packets_code, used_places, is_full_for, appended, unpadded, first, without_first}
 use Rattle.ip_wire.specs.IpAddress.{IpAddress}
@@ -14,6 +14,7 @@ use Rattle.socket_base.specs.Context.{ContextValue}
 use Rattle.socket_base.specs.Offers.{Offered, offered_as}
 use Rattle.socket_base.specs.Packet as Carried
 use Rattle.socket_base.specs.declared.packet.Packet.{Packet}
+use Rattle.socket_base.specs.declared.poll_at.Offer as Answer
 use Rattle.socket_base.specs.declared.poll_at.Offer.TheVariants as Offer
 use Rattle.socket_base.specs.declared.poll_at.PollAt.{PollAt}
 use Rattle.socket_base.specs.declared.poll_at.PollAt.TheVariants as At
@@ -218,3 +219,11 @@ poll_of v = if has_packets v.queued then At.Now else At.Ingress
 abbrev pub option_value : Option Packet → Option Carried.PacketValue
 option_value None = None
 option_value (Some p) = Some (Carried.packet_value p)
+
+-- a packet is offered exactly where the answer says so
+abbrev pub has_packet : Answer.Offer → Bool
+has_packet (Offer.Packet changed) = true
+has_packet (Offer.Silent changed) = false
+
+abbrev pub HasPacket : Offered UdpValue → Type 0
+HasPacket o = is_some (packet_of o.socket) ≡ has_packet o.answer

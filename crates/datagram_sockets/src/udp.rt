@@ -1,12 +1,17 @@
 //! Sockets for user datagrams (RFC 768).
-ghost use Rattle.std.specs.Prelude.{◌≡◌, ◌≢◌, ◌+◌, ◌<◌, ◌≤◌, ◌^◌, ℕ, List, length, take, false, IfOk, OnErr, Err, if◌then◌else◌};
+ghost use Rattle.std.specs.Prelude.{◌≡◌, ◌≢◌, ◌+◌, ◌<◌, ◌≤◌, ◌^◌, ℕ, List, length, take, false, IfOk, IsErr, OnErr, Err, None, Some, IsSome, ◌↔◌, if◌then◌else◌};
+ghost use Rattle.std.specs.Borrow.{sem};
 ghost use Rattle.std.specs.Fn.{FnOnceTakesAtMut, FnOnceReturnsAtMut};
-ghost use Rattle.net_base.specs.Packets.{used_room, without_first};
+ghost use Rattle.net_base.specs.Packets.{used_room, without_first, first};
 ghost use Rattle.socket_base.specs.Offers.{IsBefore, offered_as};
 ghost use Rattle.socket_base.specs.Context.{ContextValue};
+ghost use Rattle.socket_base.specs.Packet.{PacketValue, PayloadFits, payload_len};
+ghost use Rattle.ip_wire.specs.Ip as Ip;
+ghost use Rattle.ip_wire.specs.Ip.{payload_len_in};
 ghost use Rattle.socket_base.specs.declared.poll_at.Offer.TheVariants as Answer;
-ghost use Rattle.datagram_sockets.specs.Udp.{fresh, metadata_to, is_open, bind_answer, bind_after, closed, with_hop_limit, can_send, can_recv, UdpValue, is_unaddressable, send_answer, send_after, with_queued, is_done, recv_answer, recv_after, recv_written, accepts, process_after, header_for, offer_of, option_value, packet_of, settled, poll_of};
+ghost use Rattle.datagram_sockets.specs.Udp.{fresh, metadata_to, is_open, bind_answer, bind_after, closed, with_hop_limit, can_send, can_recv, UdpValue, is_unaddressable, send_answer, send_after, with_queued, is_done, recv_answer, recv_after, recv_written, accepts, process_after, header_for, offer_of, option_value, packet_of, settled, poll_of, HasPacket};
 ghost use Rattle.datagram_sockets.specs.declared.udp.SendError.TheVariants as Send;
+ghost use Rattle.datagram_sockets.specs.declared.udp.RecvError.TheVariants as Recv;
 
 use crate::header::header_between;
 use ip_wire::{IpAddress, IpEndpoint, IpListenEndpoint, IpProtocol, IpRepr, UDP_HEADER_LEN, UdpRepr};
@@ -240,7 +245,9 @@ fn drop_first(queue: &mut PacketBuffer)
 }
 
 impl Socket {
-    /// Whether a datagram of this size may be queued for this endpoint.
+    ghost use Rattle.datagram_sockets.specs.UdpLends.{EndsPeeked};
+
+    /// Whether a datagram may be sent to this endpoint.
     fn check_send(&self, metadata: &UdpMetadata) -> Result<(), SendError>
         ensures { result ≡ (if is_unaddressable self.now metadata.now then Err Send.Unaddressable else Ok tt) }
     {
@@ -292,6 +299,7 @@ impl Socket {
 
     /// Reads the first datagram into the slice. One that is longer than the slice is gone, and the slice
     /// is as it was.
+    #[tactic(auto, using(crate::proofs::Queues::queues))]
     pub fn recv_slice(&mut self, data: &mut [u8]) -> Result<(usize, UdpMetadata), RecvError>
         ensures answer { result ≡ recv_answer self.old (length «data».old) }
         ensures state { self.new ≡ recv_after self.old }
@@ -307,6 +315,20 @@ impl Socket {
         }
         match self.rx_buffer.dequeue_slice(data) {
             Ok((metadata, size)) => Ok((size, metadata)),
+            Err(_) => Err(RecvError::Exhausted),
+        }
+    }
+
+    /// Returns the first datagram, which stays.
+    pub fn peek(&mut self) -> Result<(&[u8], &UdpMetadata), RecvError>
+        ensures* ends { sem 𝓛 (EndsPeeked self.entry) }
+        ensures exhausted { IsErr result ↔ (first self.old.received ≡ None) }
+        ensures refused { OnErr result (result ≡ Err Recv.Exhausted) }
+        ensures first { IfOk result (λ p. first self.old.received ≡ Some (p.1.now, p.0.now)) }
+    {
+        self.offered = None;
+        match self.rx_buffer.peek() {
+            Ok((metadata, bytes)) => Ok((bytes, metadata)),
             Err(_) => Err(RecvError::Exhausted),
         }
     }
@@ -371,6 +393,7 @@ impl Socket {
 
     /// Offers the first queued datagram. One that can't be sent is dropped: it has no source, or one of
     /// another family, or it is longer than a length field can say.
+    #[tactic(auto, using(crate::proofs::Queues::queues))]
     pub fn offer<C: Context>(&mut self, cx: &C) -> Offer
         ensures answer { result ≡ (offer_of (C.context cx.now) self.old).answer }
         ensures state { self.new ≡ (offer_of (C.context cx.now) self.old).socket }
@@ -418,4 +441,22 @@ impl Socket {
 pub fn silence()
     ensures { (cx : ContextValue) (v : UdpValue) → IsBefore cx.moment (poll_of v)
         → offer_of cx v ≡ offered_as (Answer.Silent false) (settled false v) }
+{}
+
+/// Law: a packet is offered exactly where the answer says so, and one whose offer is settled as not sent is
+/// offered again as it was.
+pub fn unsent_is_offered_again()
+    ensures packet { (cx : ContextValue) (v : UdpValue) → HasPacket (offer_of cx v) }
+    ensures again { (cx : ContextValue) (v : UdpValue)
+        → IsSome (packet_of (offer_of cx v).socket)
+        → packet_of (offer_of cx (settled false (offer_of cx v).socket)).socket ≡ packet_of (offer_of cx v).socket }
+    ensures settled { (cx : ContextValue) (v : UdpValue) → offer_of cx (settled false v) ≡ offer_of cx v }
+{}
+
+/// Law: a packet that is offered can be sent. Its lengths fit their fields, its addresses are of one family,
+/// and its header has the length of what it carries.
+pub fn offered_fits()
+    ensures { (cx : ContextValue) (v : UdpValue) (p : PacketValue)
+        → packet_of (offer_of cx v).socket ≡ Some p
+        → Ip.Fits p.header × PayloadFits p.header p.payload × (payload_len_in p.header ≡ payload_len p.payload) }
 {}
