@@ -53,7 +53,7 @@ is_open v = not (v.endpoint.port == 0)
 abbrev pub settled : Bool → UdpValue → UdpValue
 settled sent v = record v {
   queued = if sent && is_some v.offered then without_first v.queued else v.queued;
-  offered = None
+  offered = None;
 }
 
 -- CALLS. Each of them first settles an open offer as not sent.
@@ -68,7 +68,7 @@ bind_answer v endpoint =
 abbrev pub bind_after : UdpValue → IpListenEndpoint → UdpValue
 bind_after v endpoint = record v {
   endpoint = if is_ok (bind_answer v endpoint) then endpoint else v.endpoint;
-  offered = None
+  offered = None;
 }
 
 abbrev pub emptied : Packets UdpMetadata → Packets UdpMetadata
@@ -156,14 +156,14 @@ abbrev pub metadata_of : IpRepr → UdpRepr → UdpMetadata
 metadata_of ip udp = record {
   endpoint = record { addr = source_in ip; port = udp.src_port };
   local_address = Some (destination_in ip);
-  meta = record {}
+  meta = record {};
 }
 
 -- a datagram that arrives is dropped where the queue is full
 abbrev pub process_after : UdpValue → IpRepr → UdpRepr → List ℕ → UdpValue
 process_after v ip udp bytes = record v {
   received = if is_full_for v.received (length bytes) then v.received else appended v.received (length bytes) (metadata_of ip udp) bytes;
-  offered = None
+  offered = None;
 }
 
 -- OFFER

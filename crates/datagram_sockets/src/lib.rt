@@ -2,4 +2,6 @@
 #![tactic(auto)]
 
 mod header;
+#[cfg(test)]
+mod tests;
 pub mod udp;

@@ -1,5 +1,5 @@
 //! Sockets for user datagrams (RFC 768).
-ghost use Rattle.std.specs.Prelude.{◌≡◌, ◌≢◌, ◌+◌, ◌<◌, ◌≤◌, ◌^◌, ℕ, List, length, take, false, IfOk, IsErr, OnErr, Err, None, Some, IsSome, ◌↔◌, if◌then◌else◌};
+ghost use Rattle.std.specs.Prelude.{◌≡◌, ◌≢◌, ◌+◌, ◌<◌, ◌≤◌, ◌^◌, ℕ, List, length, take, false, IfOk, IfErr, IsErr, OnErr, Ok, Err, None, Some, IsSome, ◌↔◌, if◌then◌else◌};
 ghost use Rattle.std.specs.Borrow.{sem};
 ghost use Rattle.std.specs.Fn.{FnOnceTakesAtMut, FnOnceReturnsAtMut};
 ghost use Rattle.net_base.specs.Packets.{used_room, without_first, first};
@@ -10,11 +10,14 @@ ghost use Rattle.ip_wire.specs.Ip as Ip;
 ghost use Rattle.ip_wire.specs.Ip.{payload_len_in};
 ghost use Rattle.socket_base.specs.declared.poll_at.Offer.TheVariants as Answer;
 ghost use Rattle.datagram_sockets.specs.Udp.{fresh, metadata_to, is_open, bind_answer, bind_after, closed, with_hop_limit, can_send, can_recv, UdpValue, is_unaddressable, send_answer, send_after, with_queued, is_done, recv_answer, recv_after, recv_written, accepts, process_after, header_for, offer_of, option_value, packet_of, settled, poll_of, HasPacket};
+ghost use Rattle.datagram_sockets.specs.UdpDispatch.{TakesOffered, Dispatches};
 ghost use Rattle.datagram_sockets.specs.declared.udp.SendError.TheVariants as Send;
 ghost use Rattle.datagram_sockets.specs.declared.udp.RecvError.TheVariants as Recv;
 
 use crate::header::header_between;
-use ip_wire::{IpAddress, IpEndpoint, IpListenEndpoint, IpProtocol, IpRepr, UDP_HEADER_LEN, UdpRepr};
+use ip_wire::{
+    IpAddress, IpEndpoint, IpListenEndpoint, IpProtocol, IpRepr, UDP_HEADER_LEN, UdpRepr,
+};
 use net_base::PacketMeta;
 use socket_base::addresses::{is_multicast, is_same_address, is_unspecified};
 use socket_base::{Context, IpPayload, Offer, Packet, PollAt};
@@ -291,7 +294,10 @@ impl Socket {
     {
         self.offered = None;
         self.check_send(&metadata)?;
-        match self.tx_buffer.enqueue_with_infallible(max_size, metadata, f) {
+        match self
+            .tx_buffer
+            .enqueue_with_infallible(max_size, metadata, f)
+        {
             Ok(size) => Ok(size),
             Err(_) => Err(SendError::BufferFull),
         }
@@ -331,6 +337,25 @@ impl Socket {
             Ok((metadata, bytes)) => Ok((bytes, metadata)),
             Err(_) => Err(RecvError::Exhausted),
         }
+    }
+
+    /// Copies the first datagram into the slice; it stays. Where it is longer than the slice, that is as it
+    /// was.
+    pub fn peek_slice(&mut self, data: &mut [u8]) -> Result<(usize, &UdpMetadata), RecvError>
+        ensures* ends { sem 𝓛 (EndsPeeked self.entry) }
+        ensures found { IfOk result (λ p. recv_answer self.old (length «data».old) ≡ Ok (p.0, p.1.now)) }
+        ensures refused { IfErr result (λ e. recv_answer self.old (length «data».old) ≡ Err e) }
+        ensures read { «data».new ≡ recv_written self.old «data».old }
+    {
+        self.offered = None;
+        let Ok((metadata, bytes)) = self.rx_buffer.peek() else {
+            return Err(RecvError::Exhausted);
+        };
+        if data.len() < bytes.len() {
+            return Err(RecvError::Truncated);
+        }
+        data[..bytes.len()].copy_from_slice(bytes);
+        Ok((bytes.len(), metadata))
     }
 
     /// Whether this datagram is for the socket.
@@ -388,7 +413,13 @@ impl Socket {
             (None, None) => cx.get_source_address(&destination)?,
         };
         let hop_limit = self.hop_limit.unwrap_or(DEFAULT_HOP_LIMIT);
-        header_between(&source, &destination, IpProtocol::Udp, UDP_HEADER_LEN + size, hop_limit)
+        header_between(
+            &source,
+            &destination,
+            IpProtocol::Udp,
+            UDP_HEADER_LEN + size,
+            hop_limit,
+        )
     }
 
     /// Offers the first queued datagram. One that can't be sent is dropped: it has no source, or one of
@@ -433,6 +464,27 @@ impl Socket {
             drop_first(&mut self.tx_buffer);
         }
         self.offered = None;
+    }
+
+    /// Offers a datagram and hands the packet to `emit`. Where that answers `Ok` the datagram leaves its
+    /// queue, else it stays first.
+    pub fn dispatch<C: Context, E, F: FnOnce(Packet<'_>) -> Result<(), E>>(
+        &mut self,
+        cx: &C,
+        emit: F,
+    ) -> Result<(), E>
+    where
+        F: Drop,
+        requires { TakesOffered F.FnOnce emit (offer_of (C.context cx.now) self.old).socket }
+        ensures { Dispatches F.FnOnce emit (offer_of (C.context cx.now) self.old).socket result self.new }
+    {
+        self.offer(cx);
+        let Some(packet) = self.offered() else {
+            return Ok(());
+        };
+        let answer = emit(packet);
+        self.settle(answer.is_ok());
+        answer
     }
 }
 

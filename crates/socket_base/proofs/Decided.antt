@@ -2,7 +2,6 @@
 use Rattle.std.proofs.Common.{◌≡◌, ◌↔◌, Bool, IsTrue}
 use Rattle.std.proofs.lemmas.Bool.Decides.{same_from_decides, Decides-eqb}
 use Rattle.std.proofs.lemmas.Slice.Eq.{bytes_eq-Decides}
-
 use Rattle.ip_wire.specs.Address.{IsUnspecified, IsMulticast}
 use Rattle.ip_wire.specs.IpAddress.{IpAddress}
 use Rattle.ip_wire.specs.IpAddress.TheVariants as Address

@@ -79,7 +79,12 @@ impl<'a> IpPayload<'a> {
                     unreachable!()
                 };
                 let mut packet = Icmpv6PacketMut::new_unchecked(buffer);
-                message.emit(&header.src_addr, &header.dst_addr, &mut packet, checksum_caps);
+                message.emit(
+                    &header.src_addr,
+                    &header.dst_addr,
+                    &mut packet,
+                    checksum_caps,
+                );
             }
             IpPayload::Raw(bytes) => buffer.copy_from_slice(bytes),
             IpPayload::Udp(header, bytes) => {
