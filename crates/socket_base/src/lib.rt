@@ -10,3 +10,6 @@ mod poll_at;
 pub use context::Context;
 pub use packet::{IpPayload, Packet};
 pub use poll_at::{Offer, PollAt};
+
+#[cfg(test)]
+mod tests;
