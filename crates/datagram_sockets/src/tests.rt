@@ -1,7 +1,7 @@
 use crate::udp::{
     BindError, PacketBuffer, PacketMetadata, RecvError, SendError, Socket, UdpMetadata,
 };
-use ip_wire::{IpAddress, IpEndpoint, IpListenEndpoint, IpRepr, UdpRepr};
+use ip_wire::{IpAddress, IpEndpoint, IpRepr, UdpRepr};
 use net_base::{ChecksumCapabilities, Instant, ManagedSlice, PacketMeta, Rand};
 use socket_base::{Context, IpPayload, Offer, Packet, PollAt};
 use std::test::Fail;
@@ -90,8 +90,8 @@ fn arrives(socket: &mut Socket) {
     socket.process(PacketMeta {}, &header, &repr, b"abcdef");
 }
 
-fn to(address: IpAddress) -> UdpMetadata {
-    UdpMetadata::from(IpEndpoint::new(address, 53))
+fn to(address: IpAddress) -> IpEndpoint {
+    IpEndpoint::new(address, 53)
 }
 
 fn first_offered(packet: &Packet<'_>, bytes: &[u8]) -> bool {
@@ -152,9 +152,9 @@ fn an_unsent_datagram_stays_first(rt: HostRuntime) -> Result<(), Fail> {
     let cx = context();
     let remote = to(IpAddress::v4(192, 168, 1, 2));
     assert!(rt; socket.send_slice(b"abc", remote) == Err(SendError::Unaddressable));
-    assert!(rt; socket.bind(IpListenEndpoint::from(0)) == Err(BindError::Unaddressable));
-    assert!(rt; socket.bind(IpListenEndpoint::from(48896)).is_ok());
-    assert!(rt; socket.bind(IpListenEndpoint::from(1)) == Err(BindError::InvalidState));
+    assert!(rt; socket.bind(0) == Err(BindError::Unaddressable));
+    assert!(rt; socket.bind(48896).is_ok());
+    assert!(rt; socket.bind(1) == Err(BindError::InvalidState));
     assert!(rt; socket.poll_at() == PollAt::Ingress);
     assert!(rt; socket.offer(&cx) == (Offer::Silent { changed: false }));
     assert!(rt; socket.send_slice(b"abc", remote).is_ok());
@@ -184,7 +184,7 @@ fn what_no_length_holds_is_dropped(rt: HostRuntime) -> Result<(), Fail> {
     let mut socket = socket(&rt, 65_536)?;
     let cx = context();
     let bytes = vec![in rt.alloc(); 7; 65_508]?;
-    assert!(rt; socket.bind(IpListenEndpoint::from(48896)).is_ok());
+    assert!(rt; socket.bind(48896).is_ok());
     let ipv4 = to(IpAddress::v4(192, 168, 1, 2));
     let ipv6 = to(IpAddress::v6(0xfd00, 0, 0, 0, 0, 0, 0, 2));
     assert!(rt; socket.send_slice(&bytes, ipv4).is_ok());

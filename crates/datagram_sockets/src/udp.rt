@@ -10,6 +10,8 @@ ghost use Rattle.ip_wire.specs.Ip as Ip;
 ghost use Rattle.ip_wire.specs.Ip.{payload_len_in};
 ghost use Rattle.socket_base.specs.declared.poll_at.Offer.TheVariants as Answer;
 ghost use Rattle.datagram_sockets.specs.Udp.{fresh, metadata_to, is_open, bind_answer, bind_after, closed, with_hop_limit, can_send, can_recv, UdpValue, is_unaddressable, send_answer, send_after, with_queued, is_done, recv_answer, recv_after, recv_written, accepts, process_after, header_for, offer_of, option_value, packet_of, settled, poll_of, HasPacket};
+ghost use Rattle.ip_wire.specs.IpListenEndpoint.{IpListenEndpoint};
+ghost use Rattle.datagram_sockets.specs.declared.udp.UdpMetadata.{UdpMetadata};
 ghost use Rattle.datagram_sockets.specs.UdpDispatch.{TakesOffered, Dispatches};
 ghost use Rattle.datagram_sockets.specs.declared.udp.SendError.TheVariants as Send;
 ghost use Rattle.datagram_sockets.specs.declared.udp.RecvError.TheVariants as Recv;
@@ -214,7 +216,14 @@ impl Socket {
     }
 
     /// Binds the socket to an endpoint. Without an address it takes the datagrams to all.
-    pub fn bind(&mut self, endpoint: IpListenEndpoint) -> Result<(), BindError>
+    pub fn bind<T: Into<IpListenEndpoint>>(&mut self, endpoint: T) -> Result<(), BindError>
+        ensures { (to : IpListenEndpoint) × T.converts endpoint to
+            × (result ≡ bind_answer self.old to) × (self.new ≡ bind_after self.old to) }
+    {
+        self.bind_to(endpoint.into())
+    }
+
+    fn bind_to(&mut self, endpoint: IpListenEndpoint) -> Result<(), BindError>
         ensures answer { result ≡ bind_answer self.old endpoint }
         ensures state { self.new ≡ bind_after self.old endpoint }
     {
@@ -262,7 +271,19 @@ impl Socket {
     }
 
     /// Queues a datagram of these bytes.
-    pub fn send_slice(&mut self, data: &[u8], metadata: UdpMetadata) -> Result<(), SendError>
+    pub fn send_slice<M: Into<UdpMetadata>>(
+        &mut self,
+        data: &[u8],
+        meta: M,
+    ) -> Result<(), SendError>
+        ensures { (metadata : UdpMetadata) × M.converts meta metadata
+            × (result ≡ send_answer self.old metadata (length «data».now))
+            × (self.new ≡ send_after self.old metadata «data».now) }
+    {
+        self.send_to(data, meta.into())
+    }
+
+    fn send_to(&mut self, data: &[u8], metadata: UdpMetadata) -> Result<(), SendError>
         ensures answer { result ≡ send_answer self.old metadata (length «data».now) }
         ensures state { self.new ≡ send_after self.old metadata «data».now }
     {
@@ -276,7 +297,27 @@ impl Socket {
 
     /// Queues a datagram of the bytes that `f` writes: it is lent `max_size` bytes, and answers how many
     /// from the first on are the datagram's.
-    pub fn send_with<F: FnOnce(&mut [u8]) -> usize>(
+    pub fn send_with<M: Into<UdpMetadata>, F: FnOnce(&mut [u8]) -> usize>(
+        &mut self,
+        max_size: usize,
+        meta: M,
+        f: F,
+    ) -> Result<usize, SendError>
+    where
+        F: Drop,
+        requires callable { (bytes : List ℕ) → length bytes ≡ max_size → FnOnceTakesAtMut F.FnOnce f bytes }
+        requires within { (bytes left : List ℕ) (size : ℕ) → length bytes ≡ max_size → FnOnceReturnsAtMut F.FnOnce f bytes size left → size ≤ max_size }
+        ensures { (metadata : UdpMetadata) × M.converts meta metadata
+            × (is_done result ≡ send_answer self.old metadata max_size)
+            × OnErr result (self.new ≡ settled false self.old)
+            × IfOk result (λ size. (bytes : List ℕ) × (left : List ℕ) × (length bytes ≡ max_size) × (length left ≡ max_size)
+            × FnOnceReturnsAtMut F.FnOnce f bytes size left
+            × (self.new ≡ with_queued self.old metadata max_size (take size left))) }
+    {
+        self.send_written(max_size, meta.into(), f)
+    }
+
+    fn send_written<F: FnOnce(&mut [u8]) -> usize>(
         &mut self,
         max_size: usize,
         metadata: UdpMetadata,
