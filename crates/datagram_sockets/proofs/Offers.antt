@@ -1,14 +1,13 @@
 -- An offered packet can be sent.
-use Rattle.std.proofs.Common.{◌≡◌, ◌≢◌, ℕ, ◌+◌, ◌<◌, ◌≤◌, ◌^◌, List, length, refl, sym, ap, ◌∙◌, subst, Bool, Option, None, Some, true, false, nat_lt, if◌then◌else◌, inl, inr, arith}
+use Rattle.std.proofs.Common.{◌≡◌, ℕ, ◌+◌, ◌<◌, ◌^◌, List, length, refl, sym, ap, ◌∙◌, subst, Bool, Option, None, Some, true, false, nat_lt, if◌then◌else◌, arith}
 use Rattle.std.proofs.lemmas.Bool.{ltb-true}
 use Rattle.std.proofs.lemmas.Option.{none-some}
-use Rattle.net_base.specs.Packets.{Packets, first, unpadded}
+use Rattle.net_base.specs.Packets.{first}
 use Rattle.net_containers.proofs.PacketSteps.{first-unpadded}
 use Rattle.ip_wire.specs.IpAddress.{IpAddress}
 use Rattle.ip_wire.specs.IpAddress.TheVariants as Address
 use Rattle.ip_wire.specs.IpProtocol.{IpProtocol}
 use Rattle.ip_wire.specs.IpRepr.{IpRepr}
-use Rattle.ip_wire.specs.IpRepr.TheVariants as Header
 use Rattle.ip_wire.specs.Ip as Ip
 use Rattle.ip_wire.specs.Udp as Datagram
 use Rattle.socket_base.specs.Context.{ContextValue}

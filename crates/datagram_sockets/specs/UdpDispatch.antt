@@ -1,5 +1,5 @@
 -- A packet that is handed to a closure.
-use Rattle.std.specs.Prelude.{◌≡◌, Option, Some, Result, Ok, is_ok, MatchOption}
+use Rattle.std.specs.Prelude.{◌≡◌, Some, Result, Ok, is_ok, MatchOption}
 use Rattle.std.specs.Fn.{Once}
 use Rattle.socket_base.specs.Packet.{PacketValue, packet_value}
 use Rattle.socket_base.specs.declared.packet.Packet.{Packet}
