@@ -1,5 +1,5 @@
 -- Tests of addresses, as truth values.
-use Rattle.std.specs.Prelude.{ℕ, ◌/◌, ◌==◌, Bool, true, false, replicate, slice_index}
+use Rattle.std.specs.Prelude.{◌/◌, ◌==◌, Bool, true, false, replicate, slice_index}
 use Rattle.std.specs.Str.{bytes_eq}
 use Rattle.ip_wire.specs.IpAddress.{IpAddress}
 use Rattle.ip_wire.specs.IpAddress.TheVariants as Ip
