@@ -364,8 +364,8 @@ impl<H> PacketBuffer<H> {
         self.front()
     }
 
-    /// Returns the header and the bytes of a first packet with no padding before it.
-    fn front(&self) -> Result<(&H, &[u8]), Empty>
+    /// Returns the header and the bytes of a first packet with no padding before it, as `peek` leaves it.
+    pub fn front(&self) -> Result<(&H, &[u8]), Empty>
         requires { unpadded self.now ≡ self.now }
         ensures empty { IsErr result ↔ (self.now.packets ≡ []) }
         ensures first { IfOk result (λ p. first self.now ≡ Some (p.0.now, p.1.now)) }

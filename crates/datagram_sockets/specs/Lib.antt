@@ -1,0 +1,4 @@
+pub mod Header
+pub mod Udp
+pub mod UdpDispatch
+pub mod UdpLends

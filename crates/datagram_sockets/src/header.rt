@@ -1,0 +1,46 @@
+ghost use Rattle.std.specs.Prelude.{◌≡◌};
+ghost use Rattle.datagram_sockets.specs.Header.{header_between};
+
+use ip_wire::{IPV4_HEADER_LEN, IpAddress, IpProtocol, IpRepr, Ipv4Repr, Ipv6Repr};
+
+const LAST_LENGTH: usize = 65_535;
+
+/// The header of a packet between these addresses. There is none where they are of two families, or where
+/// the header's length field can't hold the packet's length.
+pub fn header_between(
+    source: &IpAddress,
+    destination: &IpAddress,
+    next_header: IpProtocol,
+    payload_len: usize,
+    hop_limit: u8,
+) -> Option<IpRepr>
+    ensures { result ≡ header_between source.now destination.now next_header payload_len hop_limit }
+{
+    match (*source, *destination) {
+        (IpAddress::Ipv4(src_addr), IpAddress::Ipv4(dst_addr)) => {
+            if payload_len > LAST_LENGTH - IPV4_HEADER_LEN {
+                return None;
+            }
+            Some(IpRepr::Ipv4(Ipv4Repr {
+                src_addr,
+                dst_addr,
+                next_header,
+                payload_len,
+                hop_limit,
+            }))
+        }
+        (IpAddress::Ipv6(src_addr), IpAddress::Ipv6(dst_addr)) => {
+            if payload_len > LAST_LENGTH {
+                return None;
+            }
+            Some(IpRepr::Ipv6(Ipv6Repr {
+                src_addr,
+                dst_addr,
+                next_header,
+                payload_len,
+                hop_limit,
+            }))
+        }
+        _ => None,
+    }
+}

@@ -1,0 +1,21 @@
+-- What sockets know of the interface that they work for.
+use Rattle.std.specs.Prelude.{ℕ, ℤ, Bool, Option}
+use Rattle.net_base.specs.RandomWords.{next_state}
+use Rattle.net_base.specs.ChecksumCapabilities.{ChecksumCapabilities}
+use Rattle.ip_wire.specs.IpAddress.{IpAddress}
+
+-- The moment in microseconds, the interface's addresses, the source that it takes for a destination, the broadcast
+-- addresses of its network, the longest IP packet that a frame holds, the checksums that the stack handles itself, and
+-- the state of the random words.
+pub record ContextValue : Type 0 where
+  pub moment : ℤ
+  pub has_ip_addr : IpAddress → Bool
+  pub source_for : IpAddress → Option IpAddress
+  pub is_broadcast : IpAddress → Bool
+  pub ip_mtu : ℕ
+  pub checksums : ChecksumCapabilities
+  pub random : ℕ
+
+-- after a random word was drawn
+abbrev pub next_random : ContextValue → ContextValue
+next_random cx = record cx { random = next_state cx.random }

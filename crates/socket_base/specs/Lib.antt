@@ -1,0 +1,4 @@
+pub mod Addresses
+pub mod Context
+pub mod Offers
+pub mod Packet

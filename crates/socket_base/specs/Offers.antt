@@ -1,0 +1,19 @@
+-- What a socket answers when it is asked for a packet, and when it wants to be polled.
+use Rattle.std.specs.Prelude.{ℤ, ◌<ℤ◌}
+use Rattle.socket_base.specs.declared.poll_at.Offer.{Offer}
+use Rattle.socket_base.specs.declared.poll_at.PollAt.{PollAt}
+use Rattle.socket_base.specs.declared.poll_at.PollAt.TheVariants as At
+
+-- the answer to an offer, and the socket after it
+pub record Offered (S : Type 0) : Type 0 where
+  pub answer : Offer
+  pub socket : S
+
+abbrev pub offered_as : {S : Type 0} → Offer → S → Offered S
+offered_as answer socket = record { answer = answer; socket = socket }
+
+-- the socket doesn't want to be polled at this moment yet
+abbrev pub IsBefore : ℤ → PollAt → Type 0
+IsBefore now At.Now = ⊥
+IsBefore now (At.Time moment) = now <ℤ moment
+IsBefore now At.Ingress = Unit {0}

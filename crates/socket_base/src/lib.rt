@@ -1,0 +1,15 @@
+//! What the sockets share with the interface that polls them: what they may ask of it, the packets that
+//! they offer, and when they want to be polled.
+#![tactic(auto)]
+
+pub mod addresses;
+mod context;
+mod packet;
+mod poll_at;
+
+pub use context::Context;
+pub use packet::{IpPayload, Packet};
+pub use poll_at::{Offer, PollAt};
+
+#[cfg(test)]
+mod tests;
