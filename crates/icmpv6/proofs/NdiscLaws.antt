@@ -5,9 +5,7 @@ use Rattle.std.specs.List.{last_or}
 use Rattle.std.proofs.lemmas.List.{append-nil, length-append, length-drop, length-replicate}
 use Rattle.std.proofs.Math.Seq.{take-append_seam, drop-append_seam}
 use Rattle.ip_address.specs.Sum.{word_sum}
-use Rattle.icmpv6.specs.Ndisc.{IsNdisc, IsValue, IsLink, Fits, FitsLink, buffer_len, spelling, normal, flag_bits, flags_of}
-use Rattle.icmpv6.specs.declared.ndisc.NdiscRepr.{NdiscRepr}
-use Rattle.icmpv6.specs.declared.ndisc.NdiscRepr.TheVariants as Ndisc
+use Rattle.icmpv6.specs.Ndisc.{NeighborMessage, Solicitation, Advertisement, IsNdisc, IsValue, IsLink, Fits, FitsLink, buffer_len, spelling, normal, flag_bits, flags_of}
 use Rattle.icmpv6.specs.NdiscOption.{OptionValue, units, option_bytes, options_bytes, AreOptions, links, HasLink, padded, link_len, link_option, read_link}
 use Rattle.icmpv6.specs.declared.ndisc_flags.NdiscNeighborFlags.{NdiscNeighborFlags}
 use Rattle.icmpv6.proofs.NdiscSteps.{links-this}
@@ -57,15 +55,15 @@ bits-same false false false = refl
 flags-same : (flags : NdiscNeighborFlags) → flags ≡ flags_of (flag_bits flags)
 flags-same flags = bits-same flags.router flags.solicited flags.overrides
 
-pub IsNdisc-written : (m : NdiscRepr) (check : ℕ) → IsValue m → IsNdisc (spelling m check) (normal m)
-IsNdisc-written (Ndisc.NeighborSolicit target link) check value = record {
+pub IsNdisc-written : (m : NeighborMessage) (check : ℕ) → IsValue m → IsNdisc (spelling m check) (normal m)
+IsNdisc-written (Solicitation target link) check value = record {
   header = omega (arith, length-append target.0 (link_option 1 link), value.0.0);
   kind = refl;
   code = refl;
   target_is = front-16 target.0 (link_option 1 link) value.0.0;
   source_link = subst (λ xs. HasLink 1 None xs (read_link link)) (sym (back-16 target.0 (link_option 1 link) value.0.0)) (HasLink-written 1 link value.1);
 }
-IsNdisc-written (Ndisc.NeighborAdvert flags target link) check value = record {
+IsNdisc-written (Advertisement flags target link) check value = record {
   header = omega (arith, length-append target.0 (link_option 2 link), value.0.0);
   kind = refl;
   code = refl;
@@ -87,9 +85,9 @@ read_link-same : (link : Option (List ℕ)) → FitsLink link → read_link link
 read_link-same None fits = refl
 read_link-same (Some address) fits = ap Some (padded-same address fits)
 
-pub normal-same : (m : NdiscRepr) → Fits m → normal m ≡ m
-normal-same (Ndisc.NeighborSolicit target link) fits = ap (Ndisc.NeighborSolicit target) (read_link-same link fits)
-normal-same (Ndisc.NeighborAdvert flags target link) fits = ap (Ndisc.NeighborAdvert flags target) (read_link-same link fits)
+pub normal-same : (m : NeighborMessage) → Fits m → normal m ≡ m
+normal-same (Solicitation target link) fits = ap (Solicitation target) (read_link-same link fits)
+normal-same (Advertisement flags target link) fits = ap (Advertisement flags target) (read_link-same link fits)
 
 -- one that was padded isn't padded again
 padded-padded : (address : List ℕ) → padded (padded address) ≡ padded address
@@ -100,9 +98,9 @@ read_link-again None = refl
 read_link-again (Some address) = ap Some (padded-padded address)
 
 -- a normal form is in its normal form
-pub normal-normal : (m : NdiscRepr) → normal (normal m) ≡ normal m
-normal-normal (Ndisc.NeighborSolicit target link) = ap (Ndisc.NeighborSolicit target) (read_link-again link)
-normal-normal (Ndisc.NeighborAdvert flags target link) = ap (Ndisc.NeighborAdvert flags target) (read_link-again link)
+pub normal-normal : (m : NeighborMessage) → normal (normal m) ≡ normal m
+normal-normal (Solicitation target link) = ap (Solicitation target) (read_link-again link)
+normal-normal (Advertisement flags target link) = ap (Advertisement flags target) (read_link-again link)
 
 -- a link address fills a unit at least
 some-option : (kind : ℕ) (address : List ℕ) (bytes : List ℕ) (os : List OptionValue) → bytes ≡ options_bytes os → AreOptions kind os → Some address ≡ last_or None (links kind os) → 8 ≤ length bytes
@@ -113,20 +111,20 @@ HasLink-room : (kind : ℕ) (bytes : List ℕ) (link : Option (List ℕ)) → Ha
 HasLink-room kind bytes None has = omega arith
 HasLink-room kind bytes (Some address) has = some-option kind address bytes has.0 has.1 has.2 has.3
 
-pub buffer_len-room : (bytes : List ℕ) (m : NdiscRepr) → IsNdisc bytes m → buffer_len m ≤ length bytes
-buffer_len-room bytes (Ndisc.NeighborSolicit target link) is = omega (arith, is.header, HasLink-room 1 (drop 24 bytes) link is.source_link, length-drop 24 bytes)
-buffer_len-room bytes (Ndisc.NeighborAdvert flags target link) is = omega (arith, is.header, HasLink-room 2 (drop 24 bytes) link is.target_link, length-drop 24 bytes)
+pub buffer_len-room : (bytes : List ℕ) (m : NeighborMessage) → IsNdisc bytes m → buffer_len m ≤ length bytes
+buffer_len-room bytes (Solicitation target link) is = omega (arith, is.header, HasLink-room 1 (drop 24 bytes) link is.source_link, length-drop 24 bytes)
+buffer_len-room bytes (Advertisement flags target link) is = omega (arith, is.header, HasLink-room 2 (drop 24 bytes) link is.target_link, length-drop 24 bytes)
 
 -- the length of a message
 length-link_option : (kind : ℕ) (link : Option (List ℕ)) → IsLink link → length (link_option kind link) ≡ link_len link
 length-link_option kind None small = refl
 length-link_option kind (Some address) small = omega (arith, length-padded address small.0)
 
-pub length-spelling : (m : NdiscRepr) (check : ℕ) → IsValue m → length (spelling m check) ≡ buffer_len m
-length-spelling (Ndisc.NeighborSolicit target link) check value = omega (arith, length-append target.0 (link_option 1 link), length-link_option 1 link value.1, value.0.0)
-length-spelling (Ndisc.NeighborAdvert flags target link) check value = omega (arith, length-append target.0 (link_option 2 link), length-link_option 2 link value.1, value.0.0)
+pub length-spelling : (m : NeighborMessage) (check : ℕ) → IsValue m → length (spelling m check) ≡ buffer_len m
+length-spelling (Solicitation target link) check value = omega (arith, length-append target.0 (link_option 1 link), length-link_option 1 link value.1, value.0.0)
+length-spelling (Advertisement flags target link) check value = omega (arith, length-append target.0 (link_option 2 link), length-link_option 2 link value.1, value.0.0)
 
 -- the checksum's part of a word sum
-pub word_sum-spelling : (m : NdiscRepr) (check : ℕ) → check < 65536 → word_sum (spelling m check) ≡ word_sum (spelling m 0) + check
-word_sum-spelling (Ndisc.NeighborSolicit target link) check small = omega (arith, small)
-word_sum-spelling (Ndisc.NeighborAdvert flags target link) check small = omega (arith, small)
+pub word_sum-spelling : (m : NeighborMessage) (check : ℕ) → check < 65536 → word_sum (spelling m check) ≡ word_sum (spelling m 0) + check
+word_sum-spelling (Solicitation target link) check small = omega (arith, small)
+word_sum-spelling (Advertisement flags target link) check small = omega (arith, small)

@@ -8,9 +8,7 @@ use Rattle.ip_address.specs.Fields.{IsBytes}
 use Rattle.icmpv6.proofs.NdiscLaws.{normal-same}
 use Rattle.icmpv6.proofs.NdiscSteps.{links-this, links-other}
 use Rattle.icmpv6.proofs.Spelled.{IsBytes-drop}
-use Rattle.icmpv6.specs.Ndisc.{IsNdisc, IsValue, IsLink, FitsLink, normal}
-use Rattle.icmpv6.specs.declared.ndisc.NdiscRepr.{NdiscRepr}
-use Rattle.icmpv6.specs.declared.ndisc.NdiscRepr.TheVariants as Ndisc
+use Rattle.icmpv6.specs.Ndisc.{NeighborMessage, Solicitation, Advertisement, IsNdisc, IsValue, IsLink, FitsLink, normal}
 use Rattle.icmpv6.specs.NdiscOption.{OptionValue, option_bytes, options_bytes, AreOptions, links, HasLink}
 
 -- the bytes of a link address, if there is one, are bytes
@@ -70,17 +68,17 @@ target-read bytes small len = (
   front-bytes (take 16 (drop 8 bytes)) (drop 16 (drop 8 bytes)) (subst IsBytes (sym (take-append-drop 16 (drop 8 bytes))) (IsBytes-drop 8 bytes small)),
 )
 
-pub IsNdisc-value : (bytes : List ℕ) (m : NdiscRepr) → IsBytes bytes → IsNdisc bytes m → IsValue m
-IsNdisc-value bytes (Ndisc.NeighborSolicit target link) small is = (
+pub IsNdisc-value : (bytes : List ℕ) (m : NeighborMessage) → IsBytes bytes → IsNdisc bytes m → IsValue m
+IsNdisc-value bytes (Solicitation target link) small is = (
   subst (λ xs. (length xs ≡ 16) × IsBytes xs) (sym is.target_is) (target-read bytes small is.header),
   link-read 1 (drop 24 bytes) link (IsBytes-drop 24 bytes small) is.source_link,
 )
-IsNdisc-value bytes (Ndisc.NeighborAdvert flags target link) small is = (
+IsNdisc-value bytes (Advertisement flags target link) small is = (
   subst (λ xs. (length xs ≡ 16) × IsBytes xs) (sym is.target_is) (target-read bytes small is.header),
   link-read 2 (drop 24 bytes) link (IsBytes-drop 24 bytes small) is.target_link,
 )
 
 -- a message that was read is in its normal form
-pub IsNdisc-normal : (bytes : List ℕ) (m : NdiscRepr) → IsNdisc bytes m → normal m ≡ m
-IsNdisc-normal bytes (Ndisc.NeighborSolicit target link) is = normal-same (Ndisc.NeighborSolicit target link) (link-six 1 (drop 24 bytes) link is.source_link)
-IsNdisc-normal bytes (Ndisc.NeighborAdvert flags target link) is = normal-same (Ndisc.NeighborAdvert flags target link) (link-six 2 (drop 24 bytes) link is.target_link)
+pub IsNdisc-normal : (bytes : List ℕ) (m : NeighborMessage) → IsNdisc bytes m → normal m ≡ m
+IsNdisc-normal bytes (Solicitation target link) is = normal-same (Solicitation target link) (link-six 1 (drop 24 bytes) link is.source_link)
+IsNdisc-normal bytes (Advertisement flags target link) is = normal-same (Advertisement flags target link) (link-six 2 (drop 24 bytes) link is.target_link)

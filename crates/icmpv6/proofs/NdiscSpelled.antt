@@ -6,9 +6,7 @@ use Rattle.std.specs.List.{last_or}
 use Rattle.std.proofs.lemmas.Bool.Decides.{eqb_tells}
 use Rattle.std.proofs.lemmas.List.{append-nil, length-append, length-drop}
 use Rattle.ip_address.specs.Fields.{be16, IsBytes}
-use Rattle.icmpv6.specs.Ndisc.{IsNdisc, buffer_len, spelling, word_of, flag_bits}
-use Rattle.icmpv6.specs.declared.ndisc.NdiscRepr.{NdiscRepr}
-use Rattle.icmpv6.specs.declared.ndisc.NdiscRepr.TheVariants as Ndisc
+use Rattle.icmpv6.specs.Ndisc.{NeighborMessage, Solicitation, Advertisement, IsNdisc, buffer_len, spelling, word_of, flag_bits}
 use Rattle.icmpv6.specs.NdiscOption.{OptionValue, IsOption, units, option_bytes, options_bytes, AreOptions, links, HasLink, link_len, link_option}
 use Rattle.icmpv6.specs.declared.message.Icmpv6Message.TheVariants as Message
 use Rattle.ip_address.proofs.Peel.{peel8, peel16, peel_to}
@@ -59,12 +57,12 @@ fields bytes word target options number small room kind code reserved there behi
     )
     )
 
-pub spelling-of : (bytes : List ℕ) (m : NdiscRepr) → IsBytes bytes → IsNdisc bytes m → slice_range bytes 4 8 ≡ word_of m → length bytes ≡ buffer_len m → bytes ≡ spelling m (be16 bytes 2)
-spelling-of bytes (Ndisc.NeighborSolicit target link) small is reserved len =
+pub spelling-of : (bytes : List ℕ) (m : NeighborMessage) → IsBytes bytes → IsNdisc bytes m → slice_range bytes 4 8 ≡ word_of m → length bytes ≡ buffer_len m → bytes ≡ spelling m (be16 bytes 2)
+spelling-of bytes (Solicitation target link) small is reserved len =
     fields bytes (0 ∷ 0 ∷ 0 ∷ 0 ∷ []) target.0 (link_option 1 link) 135 small is.header (sym (first-number bytes Message.NeighborSolicit is.kind)) (sym is.code) (sym reserved) is.target_is (
     HasLink-exact 1 (drop 24 bytes) link is.source_link (omega (arith, len, length-drop {A = ℕ} 24 bytes))
     )
-spelling-of bytes (Ndisc.NeighborAdvert flags target link) small is reserved len =
+spelling-of bytes (Advertisement flags target link) small is reserved len =
     fields bytes (flag_bits flags ∷ 0 ∷ 0 ∷ 0 ∷ []) target.0 (link_option 2 link) 136 small is.header (sym (first-number bytes Message.NeighborAdvert is.kind)) (sym is.code) (sym reserved) is.target_is (
     HasLink-exact 2 (drop 24 bytes) link is.target_link (omega (arith, len, length-drop {A = ℕ} 24 bytes))
     )

@@ -16,22 +16,20 @@ use Rattle.icmpv6.specs.Reason.{unreachable_code, unreachable_of, exceeded_code,
 use Rattle.icmpv6.specs.declared.reason.Icmpv6DstUnreachable.{Icmpv6DstUnreachable}
 use Rattle.icmpv6.specs.declared.reason.Icmpv6TimeExceeded.{Icmpv6TimeExceeded}
 use Rattle.icmpv6.specs.declared.reason.Icmpv6ParamProblem.{Icmpv6ParamProblem}
-use Rattle.icmpv6.specs.Icmpv6.{IsIcmpv6, IsValue, Says, Fits, CanCarry, carried_in, code_in, normal}
-use Rattle.icmpv6.specs.declared.header.Icmpv6Header.{Icmpv6Header}
-use Rattle.icmpv6.specs.declared.header.Icmpv6Header.TheVariants as Header
+use Rattle.icmpv6.specs.Icmpv6.{MessageValue, DstUnreachable, PktTooBig, TimeExceeded, ParamProblem, EchoRequest, EchoReply, Ndisc, IsIcmpv6, IsValue, Says, Fits, CanCarry, carried_in, code_in, normal}
 
 -- a quoted header can be sent
 quote-fits : (message : List ℕ) (header : Ipv6Repr) → IsBytes message → Ipv6.IsQuoted (drop 8 message) header 40 → Ipv6.Fits header × Ipv6.IsValue header
 quote-fits message header small is = fits-v6 (drop 8 message) header 40 (IsBytes-drop 8 message small) is
 
-Says-fits : (message : List ℕ) (v : Icmpv6Header) → IsBytes message → Says message v → Fits v
-Says-fits message (Header.DstUnreachable reason header) small says = (quote-fits message header small says.1.quoted).0
-Says-fits message (Header.PktTooBig mtu header) small says = (quote-fits message header small says.2.quoted).0
-Says-fits message (Header.TimeExceeded reason header) small says = (quote-fits message header small says.1.quoted).0
-Says-fits message (Header.ParamProblem reason pointer header) small says = (quote-fits message header small says.2.quoted).0
-Says-fits message (Header.EchoRequest ident seq_no) small says = tt
-Says-fits message (Header.EchoReply ident seq_no) small says = tt
-Says-fits message (Header.Ndisc neighbor) small says = tt
+Says-fits : (message : List ℕ) (v : MessageValue) → IsBytes message → Says message v → Fits v
+Says-fits message (DstUnreachable reason header) small says = (quote-fits message header small says.1.quoted).0
+Says-fits message (PktTooBig mtu header) small says = (quote-fits message header small says.2.quoted).0
+Says-fits message (TimeExceeded reason header) small says = (quote-fits message header small says.1.quoted).0
+Says-fits message (ParamProblem reason pointer header) small says = (quote-fits message header small says.2.quoted).0
+Says-fits message (EchoRequest ident seq_no) small says = tt
+Says-fits message (EchoReply ident seq_no) small says = tt
+Says-fits message (Ndisc neighbor) small says = tt
 
 -- the code of a reason that was read is a byte
 below : (code n : ℕ) → code ≡ n → n < 256 → code < 256
@@ -45,35 +43,35 @@ word-small : (bytes : List ℕ) (n : ℕ) → IsBytes bytes → n ≡ be32 bytes
 word-small bytes n small is = omega (arith, is, half-small bytes 4 (be16 bytes 4) small refl, half-small bytes 6 (be16 bytes 6) small refl)
 
 -- each field is a number of its width
-Says-value : (message : List ℕ) (v : Icmpv6Header) → IsBytes message → Says message v → IsValue v
-Says-value message (Header.DstUnreachable reason header) small says =
+Says-value : (message : List ℕ) (v : MessageValue) → IsBytes message → Says message v → IsValue v
+Says-value message (DstUnreachable reason header) small says =
     (below _ _ (ap unreachable_code says.0 ∙ unreachable_code-unreachable_of (code_in message)) (small 1), (quote-fits message header small says.1.quoted).1)
-Says-value message (Header.PktTooBig mtu header) small says =
+Says-value message (PktTooBig mtu header) small says =
     (word-small message mtu small says.1, (quote-fits message header small says.2.quoted).1)
-Says-value message (Header.TimeExceeded reason header) small says =
+Says-value message (TimeExceeded reason header) small says =
     (below _ _ (ap exceeded_code says.0 ∙ exceeded_code-exceeded_of (code_in message)) (small 1), (quote-fits message header small says.1.quoted).1)
-Says-value message (Header.ParamProblem reason pointer header) small says = (
+Says-value message (ParamProblem reason pointer header) small says = (
   below _ _ (ap problem_code says.0 ∙ problem_code-problem_of (code_in message)) (small 1),
   word-small message pointer small says.1,
   (quote-fits message header small says.2.quoted).1,
 )
-Says-value message (Header.EchoRequest ident seq_no) small says = (half-small message 4 ident small says.identifier, half-small message 6 seq_no small says.sequence)
-Says-value message (Header.EchoReply ident seq_no) small says = (half-small message 4 ident small says.identifier, half-small message 6 seq_no small says.sequence)
-Says-value message (Header.Ndisc neighbor) small says = IsNdisc-value message neighbor small says
+Says-value message (EchoRequest ident seq_no) small says = (half-small message 4 ident small says.identifier, half-small message 6 seq_no small says.sequence)
+Says-value message (EchoReply ident seq_no) small says = (half-small message 4 ident small says.identifier, half-small message 6 seq_no small says.sequence)
+Says-value message (Ndisc neighbor) small says = IsNdisc-value message neighbor small says
 
 -- a message that was read can be sent again
-pub fits : (source destination : Ipv6Address) (tested : Bool) (message : List ℕ) (v : Icmpv6Header) → IsBytes message → IsIcmpv6 source destination tested message v → Fits v × IsValue v
+pub fits : (source destination : Ipv6Address) (tested : Bool) (message : List ℕ) (v : MessageValue) → IsBytes message → IsIcmpv6 source destination tested message v → Fits v × IsValue v
 fits source destination tested message v small is = (Says-fits message v small is.says, Says-value message v small is.says)
 
 -- with the bytes that it carries
-pub can_carry : (message : List ℕ) (v : Icmpv6Header) → CanCarry v (carried_in message v)
-can_carry message (Header.DstUnreachable reason header) = tt
-can_carry message (Header.PktTooBig mtu header) = tt
-can_carry message (Header.TimeExceeded reason header) = tt
-can_carry message (Header.ParamProblem reason pointer header) = tt
-can_carry message (Header.EchoRequest ident seq_no) = tt
-can_carry message (Header.EchoReply ident seq_no) = tt
-can_carry message (Header.Ndisc neighbor) = refl
+pub can_carry : (message : List ℕ) (v : MessageValue) → CanCarry v (carried_in message v)
+can_carry message (DstUnreachable reason header) = tt
+can_carry message (PktTooBig mtu header) = tt
+can_carry message (TimeExceeded reason header) = tt
+can_carry message (ParamProblem reason pointer header) = tt
+can_carry message (EchoRequest ident seq_no) = tt
+can_carry message (EchoReply ident seq_no) = tt
+can_carry message (Ndisc neighbor) = refl
 
 -- a quoted header that was read is in its normal form
 protocol-normal : (header : Ipv6Repr) (n : ℕ) → header.next_header ≡ protocol_of n → Ipv6.normal header ≡ header
@@ -96,19 +94,19 @@ problem-normal : (reason : Icmpv6ParamProblem) (n : ℕ) → reason ≡ problem_
 problem-normal reason n is = ap (λ r. problem_of (problem_code r)) is ∙ ap problem_of (problem_code-problem_of n) ∙ sym is
 
 -- what was read is in its normal form
-Says-normal : (message : List ℕ) (v : Icmpv6Header) → Says message v → normal v ≡ v
-Says-normal message (Header.DstUnreachable reason header) says =
+Says-normal : (message : List ℕ) (v : MessageValue) → Says message v → normal v ≡ v
+Says-normal message (DstUnreachable reason header) says =
     let a = unreachable-normal reason (code_in message) says.0 in let b = quote-normal message header says.1.quoted in rw (a, b) refl
-Says-normal message (Header.PktTooBig mtu header) says = ap (Header.PktTooBig mtu) (quote-normal message header says.2.quoted)
-Says-normal message (Header.TimeExceeded reason header) says =
+Says-normal message (PktTooBig mtu header) says = ap (PktTooBig mtu) (quote-normal message header says.2.quoted)
+Says-normal message (TimeExceeded reason header) says =
     let a = exceeded-normal reason (code_in message) says.0 in let b = quote-normal message header says.1.quoted in rw (a, b) refl
-Says-normal message (Header.ParamProblem reason pointer header) says =
+Says-normal message (ParamProblem reason pointer header) says =
     let a = problem-normal reason (code_in message) says.0 in let b = quote-normal message header says.2.quoted in rw (a, b) refl
-Says-normal message (Header.EchoRequest ident seq_no) says = refl
-Says-normal message (Header.EchoReply ident seq_no) says = refl
-Says-normal message (Header.Ndisc neighbor) says = ap Header.Ndisc (IsNdisc-normal message neighbor says)
+Says-normal message (EchoRequest ident seq_no) says = refl
+Says-normal message (EchoReply ident seq_no) says = refl
+Says-normal message (Ndisc neighbor) says = ap Ndisc (IsNdisc-normal message neighbor says)
 
-pub normal-read : (source destination : Ipv6Address) (tested : Bool) (message : List ℕ) (v : Icmpv6Header) → IsIcmpv6 source destination tested message v → normal v ≡ v
+pub normal-read : (source destination : Ipv6Address) (tested : Bool) (message : List ℕ) (v : MessageValue) → IsIcmpv6 source destination tested message v → normal v ≡ v
 normal-read source destination tested message v is = Says-normal message v is.says
 
 -- the parts of a normal form
@@ -125,14 +123,14 @@ problem-again : (reason : Icmpv6ParamProblem) → problem_of (problem_code (prob
 problem-again reason = problem-normal (problem_of (problem_code reason)) (problem_code reason) refl
 
 -- a normal form is in its normal form
-pub normal-normal : (v : Icmpv6Header) → normal (normal v) ≡ normal v
-normal-normal (Header.DstUnreachable reason header) =
-    ap (λ r. Header.DstUnreachable r (Ipv6.normal (Ipv6.normal header))) (unreachable-again reason) ∙ ap (Header.DstUnreachable (unreachable_of (unreachable_code reason))) (quote-again header)
-normal-normal (Header.PktTooBig mtu header) = ap (Header.PktTooBig mtu) (quote-again header)
-normal-normal (Header.TimeExceeded reason header) =
-    ap (λ r. Header.TimeExceeded r (Ipv6.normal (Ipv6.normal header))) (exceeded-again reason) ∙ ap (Header.TimeExceeded (exceeded_of (exceeded_code reason))) (quote-again header)
-normal-normal (Header.ParamProblem reason pointer header) =
-    ap (λ r. Header.ParamProblem r pointer (Ipv6.normal (Ipv6.normal header))) (problem-again reason) ∙ ap (Header.ParamProblem (problem_of (problem_code reason)) pointer) (quote-again header)
-normal-normal (Header.EchoRequest ident seq_no) = refl
-normal-normal (Header.EchoReply ident seq_no) = refl
-normal-normal (Header.Ndisc neighbor) = ap Header.Ndisc (Neighbor.normal-normal neighbor)
+pub normal-normal : (v : MessageValue) → normal (normal v) ≡ normal v
+normal-normal (DstUnreachable reason header) =
+    ap (λ r. DstUnreachable r (Ipv6.normal (Ipv6.normal header))) (unreachable-again reason) ∙ ap (DstUnreachable (unreachable_of (unreachable_code reason))) (quote-again header)
+normal-normal (PktTooBig mtu header) = ap (PktTooBig mtu) (quote-again header)
+normal-normal (TimeExceeded reason header) =
+    ap (λ r. TimeExceeded r (Ipv6.normal (Ipv6.normal header))) (exceeded-again reason) ∙ ap (TimeExceeded (exceeded_of (exceeded_code reason))) (quote-again header)
+normal-normal (ParamProblem reason pointer header) =
+    ap (λ r. ParamProblem r pointer (Ipv6.normal (Ipv6.normal header))) (problem-again reason) ∙ ap (ParamProblem (problem_of (problem_code reason)) pointer) (quote-again header)
+normal-normal (EchoRequest ident seq_no) = refl
+normal-normal (EchoReply ident seq_no) = refl
+normal-normal (Ndisc neighbor) = ap Ndisc (Neighbor.normal-normal neighbor)

@@ -11,9 +11,7 @@ use Rattle.ip_packet.specs.declared.ipv6.Ipv6Repr.{Ipv6Repr}
 use Rattle.icmpv6.proofs.Reasons.{unreachable_code-unreachable_of, exceeded_code-exceeded_of, problem_code-problem_of}
 use Rattle.icmpv6.specs.Reason.{unreachable_code, exceeded_code, problem_code}
 use Rattle.icmpv6.proofs.NdiscLaws.{buffer_len-room}
-use Rattle.icmpv6.specs.Icmpv6.{IsIcmpv6, IsEcho, Says, KeepsAll, carried_in, code_in, free_in, header_len, echo_spelling, error_spelling, spelling}
-use Rattle.icmpv6.specs.declared.header.Icmpv6Header.{Icmpv6Header}
-use Rattle.icmpv6.specs.declared.header.Icmpv6Header.TheVariants as Header
+use Rattle.icmpv6.specs.Icmpv6.{MessageValue, DstUnreachable, PktTooBig, TimeExceeded, ParamProblem, EchoRequest, EchoReply, Ndisc, IsIcmpv6, IsEcho, Says, KeepsAll, carried_in, code_in, free_in, header_len, echo_spelling, error_spelling, spelling}
 
 -- all bytes behind a place are bytes
 pub IsBytes-drop : (n : ℕ) (bytes : List ℕ) → IsBytes bytes → IsBytes (drop n bytes)
@@ -51,20 +49,20 @@ echo-spelling message number ident seq_no small len is =
     )
 
 -- a message that says this is spelled so
-Says-spelled : (message : List ℕ) (v : Icmpv6Header) → IsBytes message → KeepsAll v → 8 ≤ length message → Says message v → message ≡ spelling v (free_in message) (carried_in message v)
-Says-spelled message (Header.DstUnreachable reason header) small keeps len says =
+Says-spelled : (message : List ℕ) (v : MessageValue) → IsBytes message → KeepsAll v → 8 ≤ length message → Says message v → message ≡ spelling v (free_in message) (carried_in message v)
+Says-spelled message (DstUnreachable reason header) small keeps len says =
     error-spelling message 1 (unreachable_code reason) (be32 message 4) header small (sym says.1.kind) (ap unreachable_code says.0 ∙ unreachable_code-unreachable_of (code_in message)) refl says.1.quoted
-Says-spelled message (Header.PktTooBig mtu header) small keeps len says = error-spelling message 2 0 mtu header small (sym says.2.kind) (sym says.0) says.1 says.2.quoted
-Says-spelled message (Header.TimeExceeded reason header) small keeps len says =
+Says-spelled message (PktTooBig mtu header) small keeps len says = error-spelling message 2 0 mtu header small (sym says.2.kind) (sym says.0) says.1 says.2.quoted
+Says-spelled message (TimeExceeded reason header) small keeps len says =
     error-spelling message 3 (exceeded_code reason) (be32 message 4) header small (sym says.1.kind) (ap exceeded_code says.0 ∙ exceeded_code-exceeded_of (code_in message)) refl says.1.quoted
-Says-spelled message (Header.ParamProblem reason pointer header) small keeps len says =
+Says-spelled message (ParamProblem reason pointer header) small keeps len says =
     error-spelling message 4 (problem_code reason) pointer header small (sym says.2.kind) (ap problem_code says.0 ∙ problem_code-problem_of (code_in message)) says.1 says.2.quoted
-Says-spelled message (Header.EchoRequest ident seq_no) small keeps len says = echo-spelling message 128 ident seq_no small len says
-Says-spelled message (Header.EchoReply ident seq_no) small keeps len says = echo-spelling message 129 ident seq_no small len says
-Says-spelled message (Header.Ndisc neighbor) small keeps len says = absurd keeps
+Says-spelled message (EchoRequest ident seq_no) small keeps len says = echo-spelling message 128 ident seq_no small len says
+Says-spelled message (EchoReply ident seq_no) small keeps len says = echo-spelling message 129 ident seq_no small len says
+Says-spelled message (Ndisc neighbor) small keeps len says = absurd keeps
 
 -- a message is spelled by what it says and carries
-pub message-spelling : (source destination : Ipv6Address) (tested : Bool) (message : List ℕ) (v : Icmpv6Header) → IsBytes message → KeepsAll v → IsIcmpv6 source destination tested message v
+pub message-spelling : (source destination : Ipv6Address) (tested : Bool) (message : List ℕ) (v : MessageValue) → IsBytes message → KeepsAll v → IsIcmpv6 source destination tested message v
     → message ≡ spelling v (free_in message) (carried_in message v)
 message-spelling source destination tested message v small keeps is = Says-spelled message v small keeps is.whole is.says
 
@@ -73,15 +71,15 @@ error-room : (message : List ℕ) (header : Ipv6Repr) → Ipv6.IsQuoted (drop 8 
 error-room message header is = omega (arith, is.room, length-drop {A = ℕ} 8 message, length-drop {A = ℕ} 48 message)
 
 -- what was read is written again in no more bytes
-Says-room : (message : List ℕ) (v : Icmpv6Header) → 8 ≤ length message → Says message v → header_len v + length (carried_in message v) ≤ length message
-Says-room message (Header.DstUnreachable reason header) len says = error-room message header says.1.quoted
-Says-room message (Header.PktTooBig mtu header) len says = error-room message header says.2.quoted
-Says-room message (Header.TimeExceeded reason header) len says = error-room message header says.1.quoted
-Says-room message (Header.ParamProblem reason pointer header) len says = error-room message header says.2.quoted
-Says-room message (Header.EchoRequest ident seq_no) len says = omega (arith, length-drop {A = ℕ} 8 message)
-Says-room message (Header.EchoReply ident seq_no) len says = omega (arith, length-drop {A = ℕ} 8 message)
-Says-room message (Header.Ndisc neighbor) len says = omega (arith, buffer_len-room message neighbor says)
+Says-room : (message : List ℕ) (v : MessageValue) → 8 ≤ length message → Says message v → header_len v + length (carried_in message v) ≤ length message
+Says-room message (DstUnreachable reason header) len says = error-room message header says.1.quoted
+Says-room message (PktTooBig mtu header) len says = error-room message header says.2.quoted
+Says-room message (TimeExceeded reason header) len says = error-room message header says.1.quoted
+Says-room message (ParamProblem reason pointer header) len says = error-room message header says.2.quoted
+Says-room message (EchoRequest ident seq_no) len says = omega (arith, length-drop {A = ℕ} 8 message)
+Says-room message (EchoReply ident seq_no) len says = omega (arith, length-drop {A = ℕ} 8 message)
+Says-room message (Ndisc neighbor) len says = omega (arith, buffer_len-room message neighbor says)
 
-pub no_longer : (source destination : Ipv6Address) (tested : Bool) (message : List ℕ) (v : Icmpv6Header) → IsIcmpv6 source destination tested message v
+pub no_longer : (source destination : Ipv6Address) (tested : Bool) (message : List ℕ) (v : MessageValue) → IsIcmpv6 source destination tested message v
     → header_len v + length (carried_in message v) ≤ length message
 no_longer source destination tested message v is = Says-room message v is.whole is.says

@@ -10,35 +10,33 @@ use Rattle.ip_packet.specs.Ipv6 as Ipv6
 use Rattle.ip_packet.specs.declared.ipv6.Ipv6Repr.{Ipv6Repr}
 use Rattle.icmpv6.specs.Packet.{IsChecked, covered, checksum_of}
 use Rattle.icmpv6.proofs.NdiscLaws.{IsNdisc-written, word_sum-spelling}
-use Rattle.icmpv6.specs.Icmpv6.{IsIcmpv6, IsValue, CanCarry, Says, Fits, carried_in, normal, sent_free, spelling, written}
-use Rattle.icmpv6.specs.declared.header.Icmpv6Header.{Icmpv6Header}
-use Rattle.icmpv6.specs.declared.header.Icmpv6Header.TheVariants as Header
-use Rattle.icmpv6.specs.declared.ndisc.NdiscRepr.TheVariants as Ndisc
+use Rattle.icmpv6.specs.Ndisc as Neighbor
+use Rattle.icmpv6.specs.Icmpv6.{MessageValue, DstUnreachable, PktTooBig, TimeExceeded, ParamProblem, EchoRequest, EchoReply, Ndisc, IsIcmpv6, IsValue, CanCarry, Says, Fits, carried_in, normal, sent_free, spelling, written}
 
 -- a number in the checksum field adds itself to the word sum
-word_sum-check : (v : Icmpv6Header) (carried : List ℕ) (check : ℕ) → check < 65536
+word_sum-check : (v : MessageValue) (carried : List ℕ) (check : ℕ) → check < 65536
     → word_sum (spelling v (sent_free check) carried) ≡ word_sum (spelling v (sent_free 0) carried) + check
-word_sum-check (Header.DstUnreachable reason header) carried check small = omega arith
-word_sum-check (Header.PktTooBig mtu header) carried check small = omega arith
-word_sum-check (Header.TimeExceeded reason header) carried check small = omega arith
-word_sum-check (Header.ParamProblem reason pointer header) carried check small = omega arith
-word_sum-check (Header.EchoRequest ident seq_no) carried check small = omega arith
-word_sum-check (Header.EchoReply ident seq_no) carried check small = omega arith
-word_sum-check (Header.Ndisc neighbor) carried check small = word_sum-spelling neighbor check small
+word_sum-check (DstUnreachable reason header) carried check small = omega arith
+word_sum-check (PktTooBig mtu header) carried check small = omega arith
+word_sum-check (TimeExceeded reason header) carried check small = omega arith
+word_sum-check (ParamProblem reason pointer header) carried check small = omega arith
+word_sum-check (EchoRequest ident seq_no) carried check small = omega arith
+word_sum-check (EchoReply ident seq_no) carried check small = omega arith
+word_sum-check (Ndisc neighbor) carried check small = word_sum-spelling neighbor check small
 
 -- the checksum's value doesn't change the length
-length-check : (v : Icmpv6Header) (carried : List ℕ) (check : ℕ) → length (spelling v (sent_free check) carried) ≡ length (spelling v (sent_free 0) carried)
-length-check (Header.DstUnreachable reason header) carried check = refl
-length-check (Header.PktTooBig mtu header) carried check = refl
-length-check (Header.TimeExceeded reason header) carried check = refl
-length-check (Header.ParamProblem reason pointer header) carried check = refl
-length-check (Header.EchoRequest ident seq_no) carried check = refl
-length-check (Header.EchoReply ident seq_no) carried check = refl
-length-check (Header.Ndisc (Ndisc.NeighborSolicit target link)) carried check = refl
-length-check (Header.Ndisc (Ndisc.NeighborAdvert flags target link)) carried check = refl
+length-check : (v : MessageValue) (carried : List ℕ) (check : ℕ) → length (spelling v (sent_free check) carried) ≡ length (spelling v (sent_free 0) carried)
+length-check (DstUnreachable reason header) carried check = refl
+length-check (PktTooBig mtu header) carried check = refl
+length-check (TimeExceeded reason header) carried check = refl
+length-check (ParamProblem reason pointer header) carried check = refl
+length-check (EchoRequest ident seq_no) carried check = refl
+length-check (EchoReply ident seq_no) carried check = refl
+length-check (Ndisc (Neighbor.Solicitation target link)) carried check = refl
+length-check (Ndisc (Neighbor.Advertisement flags target link)) carried check = refl
 
 -- a message whose checksum was written holds it
-IsChecked-written : (source destination : Ipv6Address) (v : Icmpv6Header) (carried : List ℕ) → IsChecked source destination (written source destination true v carried)
+IsChecked-written : (source destination : Ipv6Address) (v : MessageValue) (carried : List ℕ) → IsChecked source destination (written source destination true v carried)
 IsChecked-written source destination v carried =
     let total : ℕ = covered source destination (spelling v (sent_free 0) carried) in
     let sums : word_sum (spelling v (sent_free (65535 - folded total)) carried) ≡ word_sum (spelling v (sent_free 0) carried) + (65535 - folded total) =
@@ -51,32 +49,32 @@ IsChecked-written source destination v carried =
     subst ChecksumHolds (sym same) (ChecksumHolds-complement total)
 
 -- what was sent is said
-Says-spelling : (v : Icmpv6Header) (check : ℕ) (carried : List ℕ) → IsValue v → Fits v → Says (spelling v (sent_free check) carried) (normal v)
-Says-spelling (Header.DstUnreachable reason header) check carried value fits = (refl, record { kind = refl; quoted = IsQuoted-v6 header carried fits value.1 })
-Says-spelling (Header.PktTooBig mtu header) check carried value fits =
+Says-spelling : (v : MessageValue) (check : ℕ) (carried : List ℕ) → IsValue v → Fits v → Says (spelling v (sent_free check) carried) (normal v)
+Says-spelling (DstUnreachable reason header) check carried value fits = (refl, record { kind = refl; quoted = IsQuoted-v6 header carried fits value.1 })
+Says-spelling (PktTooBig mtu header) check carried value fits =
     (refl, omega (arith, value.0), record { kind = refl; quoted = IsQuoted-v6 header carried fits value.1 })
-Says-spelling (Header.TimeExceeded reason header) check carried value fits = (refl, record { kind = refl; quoted = IsQuoted-v6 header carried fits value.1 })
-Says-spelling (Header.ParamProblem reason pointer header) check carried value fits =
+Says-spelling (TimeExceeded reason header) check carried value fits = (refl, record { kind = refl; quoted = IsQuoted-v6 header carried fits value.1 })
+Says-spelling (ParamProblem reason pointer header) check carried value fits =
     (refl, omega (arith, value.1), record { kind = refl; quoted = IsQuoted-v6 header carried fits value.2 })
-Says-spelling (Header.EchoRequest ident seq_no) check carried value fits =
+Says-spelling (EchoRequest ident seq_no) check carried value fits =
     record { kind = refl; code = refl; identifier = omega (arith, value.0); sequence = omega (arith, value.1) }
-Says-spelling (Header.EchoReply ident seq_no) check carried value fits =
+Says-spelling (EchoReply ident seq_no) check carried value fits =
     record { kind = refl; code = refl; identifier = omega (arith, value.0); sequence = omega (arith, value.1) }
-Says-spelling (Header.Ndisc neighbor) check carried value fits = IsNdisc-written neighbor check value
+Says-spelling (Ndisc neighbor) check carried value fits = IsNdisc-written neighbor check value
 
 -- its first eight bytes are there
-whole-spelling : (v : Icmpv6Header) (check : ℕ) (carried : List ℕ) → IsValue v → 8 ≤ length (spelling v (sent_free check) carried)
-whole-spelling (Header.DstUnreachable reason header) check carried value = omega arith
-whole-spelling (Header.PktTooBig mtu header) check carried value = omega arith
-whole-spelling (Header.TimeExceeded reason header) check carried value = omega arith
-whole-spelling (Header.ParamProblem reason pointer header) check carried value = omega arith
-whole-spelling (Header.EchoRequest ident seq_no) check carried value = omega arith
-whole-spelling (Header.EchoReply ident seq_no) check carried value = omega arith
-whole-spelling (Header.Ndisc (Ndisc.NeighborSolicit target link)) check carried value = omega arith
-whole-spelling (Header.Ndisc (Ndisc.NeighborAdvert flags target link)) check carried value = omega arith
+whole-spelling : (v : MessageValue) (check : ℕ) (carried : List ℕ) → IsValue v → 8 ≤ length (spelling v (sent_free check) carried)
+whole-spelling (DstUnreachable reason header) check carried value = omega arith
+whole-spelling (PktTooBig mtu header) check carried value = omega arith
+whole-spelling (TimeExceeded reason header) check carried value = omega arith
+whole-spelling (ParamProblem reason pointer header) check carried value = omega arith
+whole-spelling (EchoRequest ident seq_no) check carried value = omega arith
+whole-spelling (EchoReply ident seq_no) check carried value = omega arith
+whole-spelling (Ndisc (Neighbor.Solicitation target link)) check carried value = omega arith
+whole-spelling (Ndisc (Neighbor.Advertisement flags target link)) check carried value = omega arith
 
 -- a message that was sent is read back in its normal form
-pub IsIcmpv6-written : (source destination : Ipv6Address) (tested sealed : Bool) (v : Icmpv6Header) (carried : List ℕ) → IsValue v → Fits v → (IsTrue tested → IsTrue sealed)
+pub IsIcmpv6-written : (source destination : Ipv6Address) (tested sealed : Bool) (v : MessageValue) (carried : List ℕ) → IsValue v → Fits v → (IsTrue tested → IsTrue sealed)
     → IsIcmpv6 source destination tested (written source destination sealed v carried) (normal v)
 IsIcmpv6-written source destination tested false v carried value fits both =
     record { whole = whole-spelling v 0 carried value; checked = λ t. absurd (cc (both t)); says = Says-spelling v 0 carried value fits }
@@ -89,17 +87,17 @@ behind : (header : Ipv6Repr) (carried : List ℕ) → Ipv6.IsValue header → dr
 behind header carried value =
     drop_at (Ipv6.written header) carried 40 (omega (arith, value.source.0, value.destination.0, length-append header.src_addr.0 header.dst_addr.0))
 
-carried_in-spelling : (v : Icmpv6Header) (check : ℕ) (carried : List ℕ) → IsValue v → CanCarry v carried → carried_in (spelling v (sent_free check) carried) (normal v) ≡ carried
-carried_in-spelling (Header.DstUnreachable reason header) check carried value can = behind header carried value.1
-carried_in-spelling (Header.PktTooBig mtu header) check carried value can = behind header carried value.1
-carried_in-spelling (Header.TimeExceeded reason header) check carried value can = behind header carried value.1
-carried_in-spelling (Header.ParamProblem reason pointer header) check carried value can = behind header carried value.2
-carried_in-spelling (Header.EchoRequest ident seq_no) check carried value can = refl
-carried_in-spelling (Header.EchoReply ident seq_no) check carried value can = refl
-carried_in-spelling (Header.Ndisc neighbor) check carried value can = sym can
+carried_in-spelling : (v : MessageValue) (check : ℕ) (carried : List ℕ) → IsValue v → CanCarry v carried → carried_in (spelling v (sent_free check) carried) (normal v) ≡ carried
+carried_in-spelling (DstUnreachable reason header) check carried value can = behind header carried value.1
+carried_in-spelling (PktTooBig mtu header) check carried value can = behind header carried value.1
+carried_in-spelling (TimeExceeded reason header) check carried value can = behind header carried value.1
+carried_in-spelling (ParamProblem reason pointer header) check carried value can = behind header carried value.2
+carried_in-spelling (EchoRequest ident seq_no) check carried value can = refl
+carried_in-spelling (EchoReply ident seq_no) check carried value can = refl
+carried_in-spelling (Ndisc neighbor) check carried value can = sym can
 
 -- the bytes that it carries are read back
-pub carried_in-written : (source destination : Ipv6Address) (sealed : Bool) (v : Icmpv6Header) (carried : List ℕ) → IsValue v → CanCarry v carried
+pub carried_in-written : (source destination : Ipv6Address) (sealed : Bool) (v : MessageValue) (carried : List ℕ) → IsValue v → CanCarry v carried
     → carried_in (written source destination sealed v carried) (normal v) ≡ carried
 carried_in-written source destination false v carried value can = carried_in-spelling v 0 carried value can
 carried_in-written source destination true v carried value can = carried_in-spelling v (checksum_of source destination (spelling v (sent_free 0) carried)) carried value can

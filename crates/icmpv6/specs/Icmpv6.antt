@@ -11,8 +11,31 @@ use Rattle.icmpv6.specs.Packet.{IsChecked, checksum_of}
 use Rattle.icmpv6.specs.Reason.{unreachable_code, unreachable_of, exceeded_code, exceeded_of, problem_code, problem_of}
 use Rattle.icmpv6.specs.declared.header.Icmpv6Header.{Icmpv6Header}
 use Rattle.icmpv6.specs.declared.header.Icmpv6Header.TheVariants as Header
+use Rattle.icmpv6.specs.declared.reason.Icmpv6DstUnreachable.{Icmpv6DstUnreachable}
+use Rattle.icmpv6.specs.declared.reason.Icmpv6TimeExceeded.{Icmpv6TimeExceeded}
+use Rattle.icmpv6.specs.declared.reason.Icmpv6ParamProblem.{Icmpv6ParamProblem}
 use Rattle.icmpv6.specs.declared.repr.Icmpv6Repr.{Icmpv6Repr}
 use Rattle.icmpv6.specs.declared.repr.Icmpv6Repr.TheVariants as Repr
+
+-- what a message says, but for the bytes that it carries
+pub data MessageValue : Type 0 where
+  DstUnreachable : Icmpv6DstUnreachable → Ipv6Repr → MessageValue
+  PktTooBig : ℕ → Ipv6Repr → MessageValue
+  TimeExceeded : Icmpv6TimeExceeded → Ipv6Repr → MessageValue
+  ParamProblem : Icmpv6ParamProblem → ℕ → Ipv6Repr → MessageValue
+  EchoRequest : ℕ → ℕ → MessageValue
+  EchoReply : ℕ → ℕ → MessageValue
+  Ndisc : Neighbor.NeighborMessage → MessageValue
+
+-- what the header of a message says
+abbrev pub value_of : Icmpv6Header → MessageValue
+value_of (Header.DstUnreachable reason header) = DstUnreachable reason header
+value_of (Header.PktTooBig mtu header) = PktTooBig mtu header
+value_of (Header.TimeExceeded reason header) = TimeExceeded reason header
+value_of (Header.ParamProblem reason pointer header) = ParamProblem reason pointer header
+value_of (Header.EchoRequest ident seq_no) = EchoRequest ident seq_no
+value_of (Header.EchoReply ident seq_no) = EchoReply ident seq_no
+value_of (Header.Ndisc message) = Ndisc (Neighbor.neighbor_message message)
 
 -- a message but for the bytes that it carries
 abbrev pub header_of : Icmpv6Repr → Icmpv6Header
@@ -35,8 +58,8 @@ carried_by (Repr.EchoReply ident seq_no bytes) = bytes.now
 carried_by (Repr.Ndisc message) = []
 
 -- the bytes fit what the message says: a neighbour message carries none
-abbrev pub CanCarry : Icmpv6Header → List ℕ → Type 0
-CanCarry (Header.Ndisc message) carried = carried ≡ []
+abbrev pub CanCarry : MessageValue → List ℕ → Type 0
+CanCarry (Ndisc message) carried = carried ≡ []
 CanCarry _ carried = Unit {0}
 
 -- the code of a message
@@ -57,41 +80,41 @@ pub record IsEcho (number : ℕ) (message : List ℕ) (ident seq_no : ℕ) : Typ
 
 -- the message says this. In an error the code is the reason; in packet too big it is 0, as in an echo message.
 -- What some errors have at place 4 and don't use isn't looked at.
-abbrev pub Says : List ℕ → Icmpv6Header → Type 0
-Says message (Header.DstUnreachable reason header) = (reason ≡ unreachable_of (code_in message)) × IsError 1 message header
-Says message (Header.PktTooBig mtu header) = (code_in message ≡ 0) × (mtu ≡ be32 message 4) × IsError 2 message header
-Says message (Header.TimeExceeded reason header) = (reason ≡ exceeded_of (code_in message)) × IsError 3 message header
-Says message (Header.ParamProblem reason pointer header) =
+abbrev pub Says : List ℕ → MessageValue → Type 0
+Says message (DstUnreachable reason header) = (reason ≡ unreachable_of (code_in message)) × IsError 1 message header
+Says message (PktTooBig mtu header) = (code_in message ≡ 0) × (mtu ≡ be32 message 4) × IsError 2 message header
+Says message (TimeExceeded reason header) = (reason ≡ exceeded_of (code_in message)) × IsError 3 message header
+Says message (ParamProblem reason pointer header) =
     (reason ≡ problem_of (code_in message)) × (pointer ≡ be32 message 4) × IsError 4 message header
-Says message (Header.EchoRequest ident seq_no) = IsEcho 128 message ident seq_no
-Says message (Header.EchoReply ident seq_no) = IsEcho 129 message ident seq_no
-Says message (Header.Ndisc neighbor) = Neighbor.IsNdisc message neighbor
+Says message (EchoRequest ident seq_no) = IsEcho 128 message ident seq_no
+Says message (EchoReply ident seq_no) = IsEcho 129 message ident seq_no
+Says message (Ndisc neighbor) = Neighbor.IsNdisc message neighbor
 
 -- the bytes are a message that says this
-pub record IsIcmpv6 (source destination : Ipv6Address) (tested : Bool) (message : List ℕ) (v : Icmpv6Header) : Type 0 where
+pub record IsIcmpv6 (source destination : Ipv6Address) (tested : Bool) (message : List ℕ) (v : MessageValue) : Type 0 where
   pub whole : 8 ≤ length message
   pub checked : IsTrue tested → IsChecked source destination message
   pub says : Says message v
 
 -- how many bytes of a message that is sent stand before those that it carries: its header, and in an error a
 -- quoted one; a neighbour message whole
-abbrev pub header_len : Icmpv6Header → ℕ
-header_len (Header.DstUnreachable reason header) = 48
-header_len (Header.PktTooBig mtu header) = 48
-header_len (Header.TimeExceeded reason header) = 48
-header_len (Header.ParamProblem reason pointer header) = 48
-header_len (Header.EchoRequest ident seq_no) = 8
-header_len (Header.EchoReply ident seq_no) = 8
-header_len (Header.Ndisc neighbor) = Neighbor.buffer_len neighbor
+abbrev pub header_len : MessageValue → ℕ
+header_len (DstUnreachable reason header) = 48
+header_len (PktTooBig mtu header) = 48
+header_len (TimeExceeded reason header) = 48
+header_len (ParamProblem reason pointer header) = 48
+header_len (EchoRequest ident seq_no) = 8
+header_len (EchoReply ident seq_no) = 8
+header_len (Ndisc neighbor) = Neighbor.buffer_len neighbor
 
 -- the bytes that a message which says this carries: all that follows
-abbrev pub carried_in : List ℕ → Icmpv6Header → List ℕ
-carried_in message (Header.Ndisc neighbor) = []
+abbrev pub carried_in : List ℕ → MessageValue → List ℕ
+carried_in message (Ndisc neighbor) = []
 carried_in message v = drop (header_len v) message
 
 -- all of the message counts: of a neighbour message options of other types don't
-abbrev pub KeepsAll : Icmpv6Header → Type 0
-KeepsAll (Header.Ndisc neighbor) = ⊥
+abbrev pub KeepsAll : MessageValue → Type 0
+KeepsAll (Ndisc neighbor) = ⊥
 KeepsAll _ = Unit {0}
 
 -- what a message has beside what it says and carries: the checksum, the four bytes that some errors don't use,
@@ -120,45 +143,45 @@ echo_spelling number ident seq_no free carried =
     number ∷ 0 ∷ (to_be_bytes w16 free.checksum ++ (to_be_bytes w16 ident ++ (to_be_bytes w16 seq_no ++ carried)))
 
 -- a message that says this and carries these bytes
-abbrev pub spelling : Icmpv6Header → Free → List ℕ → List ℕ
-spelling (Header.DstUnreachable reason header) free carried = error_spelling 1 (unreachable_code reason) free.unused header free carried
-spelling (Header.PktTooBig mtu header) free carried = error_spelling 2 0 mtu header free carried
-spelling (Header.TimeExceeded reason header) free carried = error_spelling 3 (exceeded_code reason) free.unused header free carried
-spelling (Header.ParamProblem reason pointer header) free carried = error_spelling 4 (problem_code reason) pointer header free carried
-spelling (Header.EchoRequest ident seq_no) free carried = echo_spelling 128 ident seq_no free carried
-spelling (Header.EchoReply ident seq_no) free carried = echo_spelling 129 ident seq_no free carried
-spelling (Header.Ndisc neighbor) free carried = Neighbor.spelling neighbor free.checksum
+abbrev pub spelling : MessageValue → Free → List ℕ → List ℕ
+spelling (DstUnreachable reason header) free carried = error_spelling 1 (unreachable_code reason) free.unused header free carried
+spelling (PktTooBig mtu header) free carried = error_spelling 2 0 mtu header free carried
+spelling (TimeExceeded reason header) free carried = error_spelling 3 (exceeded_code reason) free.unused header free carried
+spelling (ParamProblem reason pointer header) free carried = error_spelling 4 (problem_code reason) pointer header free carried
+spelling (EchoRequest ident seq_no) free carried = echo_spelling 128 ident seq_no free carried
+spelling (EchoReply ident seq_no) free carried = echo_spelling 129 ident seq_no free carried
+spelling (Ndisc neighbor) free carried = Neighbor.spelling neighbor free.checksum
 
 -- what is sent: with a checksum that holds, or with 0
-abbrev pub written : Ipv6Address → Ipv6Address → Bool → Icmpv6Header → List ℕ → List ℕ
+abbrev pub written : Ipv6Address → Ipv6Address → Bool → MessageValue → List ℕ → List ℕ
 written source destination sealed v carried =
     spelling v (sent_free (if sealed then checksum_of source destination (spelling v (sent_free 0) carried) else 0)) carried
 
 -- what can be sent: the payload length of a quoted header fits its field
-abbrev pub Fits : Icmpv6Header → Type 0
-Fits (Header.DstUnreachable reason header) = Ipv6.Fits header
-Fits (Header.PktTooBig mtu header) = Ipv6.Fits header
-Fits (Header.TimeExceeded reason header) = Ipv6.Fits header
-Fits (Header.ParamProblem reason pointer header) = Ipv6.Fits header
+abbrev pub Fits : MessageValue → Type 0
+Fits (DstUnreachable reason header) = Ipv6.Fits header
+Fits (PktTooBig mtu header) = Ipv6.Fits header
+Fits (TimeExceeded reason header) = Ipv6.Fits header
+Fits (ParamProblem reason pointer header) = Ipv6.Fits header
 Fits _ = Unit {0}
 
 -- each field is a number of its width
-abbrev pub IsValue : Icmpv6Header → Type 0
-IsValue (Header.DstUnreachable reason header) = (unreachable_code reason < 256) × Ipv6.IsValue header
-IsValue (Header.PktTooBig mtu header) = (mtu < 2 ^ 32) × Ipv6.IsValue header
-IsValue (Header.TimeExceeded reason header) = (exceeded_code reason < 256) × Ipv6.IsValue header
-IsValue (Header.ParamProblem reason pointer header) = (problem_code reason < 256) × (pointer < 2 ^ 32) × Ipv6.IsValue header
-IsValue (Header.EchoRequest ident seq_no) = (ident < 2 ^ 16) × (seq_no < 2 ^ 16)
-IsValue (Header.EchoReply ident seq_no) = (ident < 2 ^ 16) × (seq_no < 2 ^ 16)
-IsValue (Header.Ndisc neighbor) = Neighbor.IsValue neighbor
+abbrev pub IsValue : MessageValue → Type 0
+IsValue (DstUnreachable reason header) = (unreachable_code reason < 256) × Ipv6.IsValue header
+IsValue (PktTooBig mtu header) = (mtu < 2 ^ 32) × Ipv6.IsValue header
+IsValue (TimeExceeded reason header) = (exceeded_code reason < 256) × Ipv6.IsValue header
+IsValue (ParamProblem reason pointer header) = (problem_code reason < 256) × (pointer < 2 ^ 32) × Ipv6.IsValue header
+IsValue (EchoRequest ident seq_no) = (ident < 2 ^ 16) × (seq_no < 2 ^ 16)
+IsValue (EchoReply ident seq_no) = (ident < 2 ^ 16) × (seq_no < 2 ^ 16)
+IsValue (Ndisc neighbor) = Neighbor.IsValue neighbor
 
 -- what a reader makes of a value that was sent: a reason by its code is that reason, a protocol by its number that
 -- protocol, and a short link address is padded
-abbrev pub normal : Icmpv6Header → Icmpv6Header
-normal (Header.DstUnreachable reason header) = Header.DstUnreachable (unreachable_of (unreachable_code reason)) (Ipv6.normal header)
-normal (Header.PktTooBig mtu header) = Header.PktTooBig mtu (Ipv6.normal header)
-normal (Header.TimeExceeded reason header) = Header.TimeExceeded (exceeded_of (exceeded_code reason)) (Ipv6.normal header)
-normal (Header.ParamProblem reason pointer header) = Header.ParamProblem (problem_of (problem_code reason)) pointer (Ipv6.normal header)
-normal (Header.EchoRequest ident seq_no) = Header.EchoRequest ident seq_no
-normal (Header.EchoReply ident seq_no) = Header.EchoReply ident seq_no
-normal (Header.Ndisc neighbor) = Header.Ndisc (Neighbor.normal neighbor)
+abbrev pub normal : MessageValue → MessageValue
+normal (DstUnreachable reason header) = DstUnreachable (unreachable_of (unreachable_code reason)) (Ipv6.normal header)
+normal (PktTooBig mtu header) = PktTooBig mtu (Ipv6.normal header)
+normal (TimeExceeded reason header) = TimeExceeded (exceeded_of (exceeded_code reason)) (Ipv6.normal header)
+normal (ParamProblem reason pointer header) = ParamProblem (problem_of (problem_code reason)) pointer (Ipv6.normal header)
+normal (EchoRequest ident seq_no) = EchoRequest ident seq_no
+normal (EchoReply ident seq_no) = EchoReply ident seq_no
+normal (Ndisc neighbor) = Ndisc (Neighbor.normal neighbor)

@@ -5,13 +5,23 @@ use Rattle.std.specs.Int.{w16, to_be_bytes}
 use Rattle.ip_address.specs.Address.{IsIpv6Address}
 use Rattle.ip_address.specs.Fields.{IsBytes}
 use Rattle.ip_address.specs.declared.ipv6.Ipv6Address.{Ipv6Address}
-use Rattle.icmpv6.specs.NdiscOption.{HasLink, link_len, link_option, read_link}
+use Rattle.icmpv6.specs.NdiscOption.{HasLink, link_bytes, link_len, link_option, read_link}
 use Rattle.icmpv6.specs.Message.{message_number}
 use Rattle.icmpv6.specs.Packet.{type_of}
 use Rattle.icmpv6.specs.declared.message.Icmpv6Message.TheVariants as Message
 use Rattle.icmpv6.specs.declared.ndisc_flags.NdiscNeighborFlags.{NdiscNeighborFlags}
 use Rattle.icmpv6.specs.declared.ndisc.NdiscRepr.{NdiscRepr}
 use Rattle.icmpv6.specs.declared.ndisc.NdiscRepr.TheVariants as Ndisc
+
+-- a message as a value, whose link address is a list of bytes
+pub data NeighborMessage : Type 0 where
+  Solicitation : Ipv6Address → Option (List ℕ) → NeighborMessage
+  Advertisement : NdiscNeighborFlags → Ipv6Address → Option (List ℕ) → NeighborMessage
+
+-- the value of a message
+abbrev pub neighbor_message : NdiscRepr → NeighborMessage
+neighbor_message (Ndisc.NeighborSolicit target link) = Solicitation target (link_bytes link)
+neighbor_message (Ndisc.NeighborAdvert flags target link) = Advertisement flags target (link_bytes link)
 
 -- the flags in their byte, whose other bits are zero
 abbrev pub flag_bits : NdiscNeighborFlags → ℕ
@@ -39,25 +49,25 @@ pub record IsAdvertisement (bytes : List ℕ) (flags : NdiscNeighborFlags) (targ
   pub target_link : HasLink 2 None (drop 24 bytes) link
 
 -- the bytes are this message
-abbrev pub IsNdisc : List ℕ → NdiscRepr → Type 0
-IsNdisc bytes (Ndisc.NeighborSolicit target link) = IsSolicitation bytes target link
-IsNdisc bytes (Ndisc.NeighborAdvert flags target link) = IsAdvertisement bytes flags target link
+abbrev pub IsNdisc : List ℕ → NeighborMessage → Type 0
+IsNdisc bytes (Solicitation target link) = IsSolicitation bytes target link
+IsNdisc bytes (Advertisement flags target link) = IsAdvertisement bytes flags target link
 
 -- the length of a message
-abbrev pub buffer_len : NdiscRepr → ℕ
-buffer_len (Ndisc.NeighborSolicit target link) = 24 + link_len link
-buffer_len (Ndisc.NeighborAdvert flags target link) = 24 + link_len link
+abbrev pub buffer_len : NeighborMessage → ℕ
+buffer_len (Solicitation target link) = 24 + link_len link
+buffer_len (Advertisement flags target link) = 24 + link_len link
 
 -- the four bytes behind the checksum as they are sent, with zeros for what is reserved
-abbrev pub word_of : NdiscRepr → List ℕ
-word_of (Ndisc.NeighborSolicit target link) = 0 ∷ 0 ∷ 0 ∷ 0 ∷ []
-word_of (Ndisc.NeighborAdvert flags target link) = flag_bits flags ∷ 0 ∷ 0 ∷ 0 ∷ []
+abbrev pub word_of : NeighborMessage → List ℕ
+word_of (Solicitation target link) = 0 ∷ 0 ∷ 0 ∷ 0 ∷ []
+word_of (Advertisement flags target link) = flag_bits flags ∷ 0 ∷ 0 ∷ 0 ∷ []
 
 -- the message with this value and this checksum
-abbrev pub spelling : NdiscRepr → ℕ → List ℕ
-spelling (Ndisc.NeighborSolicit target link) check =
+abbrev pub spelling : NeighborMessage → ℕ → List ℕ
+spelling (Solicitation target link) check =
     message_number Message.NeighborSolicit ∷ 0 ∷ (to_be_bytes w16 check ++ 0 ∷ 0 ∷ 0 ∷ 0 ∷ (target.0 ++ link_option 1 link))
-spelling (Ndisc.NeighborAdvert flags target link) check =
+spelling (Advertisement flags target link) check =
     message_number Message.NeighborAdvert ∷ 0 ∷ (to_be_bytes w16 check ++ flag_bits flags ∷ 0 ∷ 0 ∷ 0 ∷ (target.0 ++ link_option 2 link))
 
 -- a link address has at most six bytes
@@ -66,14 +76,14 @@ IsLink None = Unit {0}
 IsLink (Some address) = (length address ≤ 6) × IsBytes address
 
 -- each field is a number of its width
-abbrev pub IsValue : NdiscRepr → Type 0
-IsValue (Ndisc.NeighborSolicit target link) = IsIpv6Address target × IsLink link
-IsValue (Ndisc.NeighborAdvert flags target link) = IsIpv6Address target × IsLink link
+abbrev pub IsValue : NeighborMessage → Type 0
+IsValue (Solicitation target link) = IsIpv6Address target × IsLink link
+IsValue (Advertisement flags target link) = IsIpv6Address target × IsLink link
 
 -- what a reader makes of a message that was sent: a shorter link address is padded to six bytes
-abbrev pub normal : NdiscRepr → NdiscRepr
-normal (Ndisc.NeighborSolicit target link) = Ndisc.NeighborSolicit target (read_link link)
-normal (Ndisc.NeighborAdvert flags target link) = Ndisc.NeighborAdvert flags target (read_link link)
+abbrev pub normal : NeighborMessage → NeighborMessage
+normal (Solicitation target link) = Solicitation target (read_link link)
+normal (Advertisement flags target link) = Advertisement flags target (read_link link)
 
 -- a link address is one of Ethernet
 abbrev pub FitsLink : Option (List ℕ) → Type 0
@@ -81,6 +91,6 @@ FitsLink None = Unit {0}
 FitsLink (Some address) = length address ≡ 6
 
 -- a message that is read as it was sent
-abbrev pub Fits : NdiscRepr → Type 0
-Fits (Ndisc.NeighborSolicit target link) = FitsLink link
-Fits (Ndisc.NeighborAdvert flags target link) = FitsLink link
+abbrev pub Fits : NeighborMessage → Type 0
+Fits (Solicitation target link) = FitsLink link
+Fits (Advertisement flags target link) = FitsLink link

@@ -3,6 +3,8 @@
 use Rattle.std.specs.Prelude.{◌≡◌, ◌==◌, ℕ, ◌+◌, ◌-◌, ◌*◌, ◌/◌, ◌<◌, Option, Some, None, List, [], ◌∷◌, ◌++◌, length, replicate, map}
 use Rattle.std.specs.List.{filter, last_or}
 use Rattle.std.specs.Option.{option_map}
+use Rattle.ip_address.specs.Hardware.{raw_bytes}
+use Rattle.ip_address.specs.declared.hardware.RawHardwareAddress.{RawHardwareAddress}
 use Rattle.icmpv6.specs.declared.ndisc_option.NdiscOption.{NdiscOption}
 
 -- an option as a value
@@ -49,6 +51,10 @@ links kind os = map (λ o. o.inside) (filter (λ o. o.kind == kind) os)
 -- the bytes are options whose last link address of this type is this one; it is the one so far where there is none
 abbrev pub HasLink : ℕ → Option (List ℕ) → List ℕ → Option (List ℕ) → Type 0
 HasLink kind so_far bytes link = (os : List OptionValue) × (bytes ≡ options_bytes os) × AreOptions kind os × (link ≡ last_or so_far (links kind os))
+
+-- the bytes of a link address, if there is one
+abbrev pub link_bytes : Option RawHardwareAddress → Option (List ℕ)
+link_bytes a = option_map raw_bytes a
 
 -- how many bytes the option of a link address fills
 abbrev pub link_len : Option (List ℕ) → ℕ

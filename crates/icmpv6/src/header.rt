@@ -7,8 +7,7 @@ ghost use Rattle.ip_packet.specs.declared.ipv6.Ipv6Repr.{Ipv6Repr};
 ghost use Rattle.net_devices.specs.Capabilities.{verifies, computes};
 ghost use Rattle.icmpv6.specs.Message.{message_number};
 ghost use Rattle.icmpv6.specs.Packet.{IsWhole, bytes_of, bytes_in, name_of, checksum_of};
-ghost use Rattle.icmpv6.specs.declared.header.Icmpv6Header.{Icmpv6Header};
-ghost use Rattle.icmpv6.specs.Icmpv6.{IsIcmpv6, Says, Fits, CanCarry, header_len, sent_free, echo_spelling, spelling, written};
+ghost use Rattle.icmpv6.specs.Icmpv6.{MessageValue, IsIcmpv6, Says, Fits, CanCarry, value_of, header_len, sent_free, echo_spelling, spelling, written};
 
 use crate::field;
 use crate::message::Icmpv6Message;
@@ -68,10 +67,10 @@ impl Icmpv6Header {
         checksum_caps: &ChecksumCapabilities,
     ) -> Result<Icmpv6Header, Error>
         requires { length (bytes_of packet.now) < 2 ^ 32 }
-        ensures found { IfOk result (λ h. IsIcmpv6 src_addr.now dst_addr.now (verifies checksum_caps.now.icmpv6) (bytes_of packet.now) h) }
-        ensures only { (v : Icmpv6Header)
+        ensures found { IfOk result (λ h. IsIcmpv6 src_addr.now dst_addr.now (verifies checksum_caps.now.icmpv6) (bytes_of packet.now) (value_of h)) }
+        ensures only { (v : MessageValue)
             → IsIcmpv6 src_addr.now dst_addr.now (verifies checksum_caps.now.icmpv6) (bytes_of packet.now) v
-            → result ≡ Ok v }
+            → IsOk result × IfOk result (λ h. value_of h ≡ v) }
     {
         packet.check_len()?;
         if checksum_caps.icmpv6.rx() && !packet.verify_checksum(src_addr, dst_addr) {
@@ -83,8 +82,8 @@ impl Icmpv6Header {
     /// What a message of a known type says, if it is read here.
     fn read(packet: &Icmpv6Packet) -> Result<Icmpv6Header, Error>
         requires { IsWhole (bytes_of packet.now) }
-        ensures found { IfOk result (λ h. Says (bytes_of packet.now) h) }
-        ensures only { (v : Icmpv6Header) → Says (bytes_of packet.now) v → result ≡ Ok v }
+        ensures found { IfOk result (λ h. Says (bytes_of packet.now) (value_of h)) }
+        ensures only { (v : MessageValue) → Says (bytes_of packet.now) v → IsOk result × IfOk result (λ h. value_of h ≡ v) }
     {
         match (packet.msg_type(), packet.msg_code()) {
             (Icmpv6Message::DstUnreachable, code) => Ok(Icmpv6Header::DstUnreachable {
@@ -119,7 +118,7 @@ impl Icmpv6Header {
     /// How many bytes of the message stand before those that it carries: its header of 8 bytes, and
     /// in an error a quoted one of 40. A neighbour message is counted whole.
     pub fn header_len(&self) -> usize
-        ensures { result ≡ header_len self.now }
+        ensures { result ≡ header_len (value_of self.now) }
     {
         match self {
             Icmpv6Header::DstUnreachable { .. }
@@ -142,13 +141,13 @@ impl Icmpv6Header {
         bytes: &[u8],
         checksum_caps: &ChecksumCapabilities,
     )
-        requires room { length (bytes_in packet.old) ≡ header_len self.now + length bytes.now }
+        requires room { length (bytes_in packet.old) ≡ header_len (value_of self.now) + length bytes.now }
         requires small { length (bytes_in packet.old) < 2 ^ 32 }
-        requires fits { Fits self.now }
-        requires carried { CanCarry self.now bytes.now }
+        requires fits { Fits (value_of self.now) }
+        requires carried { CanCarry (value_of self.now) bytes.now }
         ensures same_reference { name_of packet.new ≡ name_of packet.old }
         ensures bytes { bytes_in packet.new
-            ≡ written src_addr.now dst_addr.now (computes checksum_caps.now.icmpv6) self.now bytes.now }
+            ≡ written src_addr.now dst_addr.now (computes checksum_caps.now.icmpv6) (value_of self.now) bytes.now }
     {
         self.spell(packet.buffer, bytes);
         if checksum_caps.icmpv6.tx() {
@@ -158,10 +157,10 @@ impl Icmpv6Header {
 
     /// Writes the message with 0 for its checksum.
     fn spell(&self, message: &mut [u8], bytes: &[u8])
-        requires room { length message.old ≡ header_len self.now + length bytes.now }
-        requires fits { Fits self.now }
-        requires carried { CanCarry self.now bytes.now }
-        ensures { message.new ≡ spelling self.now (sent_free 0) bytes.now }
+        requires room { length message.old ≡ header_len (value_of self.now) + length bytes.now }
+        requires fits { Fits (value_of self.now) }
+        requires carried { CanCarry (value_of self.now) bytes.now }
+        ensures { message.new ≡ spelling (value_of self.now) (sent_free 0) bytes.now }
     {
         match self {
             Icmpv6Header::DstUnreachable { reason, header } => {

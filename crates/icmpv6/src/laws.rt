@@ -2,16 +2,14 @@
 ghost use Rattle.std.specs.Prelude.{◌≡◌, ℕ, ◌+◌, ◌≤◌, Bool, IsTrue, List, length, slice_range};
 ghost use Rattle.ip_address.specs.Fields.{be16, IsBytes};
 ghost use Rattle.ip_address.specs.declared.ipv6.Ipv6Address.{Ipv6Address};
-ghost use Rattle.icmpv6.specs.Icmpv6.{IsIcmpv6, IsValue, Fits, CanCarry, KeepsAll, carried_in, free_in, header_len, normal, spelling, written};
+ghost use Rattle.icmpv6.specs.Icmpv6.{MessageValue, IsIcmpv6, IsValue, Fits, CanCarry, KeepsAll, carried_in, free_in, header_len, normal, spelling, written};
 ghost use Rattle.icmpv6.specs.Ndisc as Neighbor;
-ghost use Rattle.icmpv6.specs.Ndisc.{IsNdisc};
-ghost use Rattle.icmpv6.specs.declared.header.Icmpv6Header.{Icmpv6Header};
-ghost use Rattle.icmpv6.specs.declared.ndisc.NdiscRepr.{NdiscRepr};
+ghost use Rattle.icmpv6.specs.Ndisc.{NeighborMessage, IsNdisc};
 
 /// Law: an error or echo message is spelled by what it says and carries, with the fields that a value
 /// doesn't keep.
 pub fn icmpv6_spelled()
-    ensures { (source destination : Ipv6Address) (tested : Bool) (message : List ℕ) (v : Icmpv6Header)
+    ensures { (source destination : Ipv6Address) (tested : Bool) (message : List ℕ) (v : MessageValue)
         → IsBytes message
         → KeepsAll v
         → IsIcmpv6 source destination tested message v
@@ -20,7 +18,7 @@ pub fn icmpv6_spelled()
 
 /// Law: a message that was read is written again in no more bytes.
 pub fn icmpv6_no_longer()
-    ensures { (source destination : Ipv6Address) (tested : Bool) (message : List ℕ) (v : Icmpv6Header)
+    ensures { (source destination : Ipv6Address) (tested : Bool) (message : List ℕ) (v : MessageValue)
         → IsIcmpv6 source destination tested message v
         → header_len v + length (carried_in message v) ≤ length message }
 {}
@@ -28,22 +26,22 @@ pub fn icmpv6_no_longer()
 /// Law: a message that was read can be sent again, with the bytes that it carries: its lengths fit,
 /// and each field is a number of its width.
 pub fn icmpv6_fits()
-    ensures value { (source destination : Ipv6Address) (tested : Bool) (message : List ℕ) (v : Icmpv6Header)
+    ensures value { (source destination : Ipv6Address) (tested : Bool) (message : List ℕ) (v : MessageValue)
         → IsBytes message
         → IsIcmpv6 source destination tested message v
         → Fits v × IsValue v }
-    ensures bytes { (message : List ℕ) (v : Icmpv6Header) → CanCarry v (carried_in message v) }
+    ensures bytes { (message : List ℕ) (v : MessageValue) → CanCarry v (carried_in message v) }
 {}
 
 /// Law: a message that was emitted is read back in its normal form, with the bytes that it carries,
 /// where a checksum that is tested was also written.
 pub fn icmpv6_reads_back()
-    ensures header { (source destination : Ipv6Address) (tested sealed : Bool) (v : Icmpv6Header) (carried : List ℕ)
+    ensures header { (source destination : Ipv6Address) (tested sealed : Bool) (v : MessageValue) (carried : List ℕ)
         → IsValue v
         → Fits v
         → (IsTrue tested → IsTrue sealed)
         → IsIcmpv6 source destination tested (written source destination sealed v carried) (normal v) }
-    ensures bytes { (source destination : Ipv6Address) (sealed : Bool) (v : Icmpv6Header) (carried : List ℕ)
+    ensures bytes { (source destination : Ipv6Address) (sealed : Bool) (v : MessageValue) (carried : List ℕ)
         → IsValue v
         → CanCarry v carried
         → carried_in (written source destination sealed v carried) (normal v) ≡ carried }
@@ -51,16 +49,16 @@ pub fn icmpv6_reads_back()
 
 /// Law: a message that was read is in its normal form, and so is the normal form of any other.
 pub fn icmpv6_normal()
-    ensures read { (source destination : Ipv6Address) (tested : Bool) (message : List ℕ) (v : Icmpv6Header)
+    ensures read { (source destination : Ipv6Address) (tested : Bool) (message : List ℕ) (v : MessageValue)
         → IsIcmpv6 source destination tested message v
         → normal v ≡ v }
-    ensures again { (v : Icmpv6Header) → normal (normal v) ≡ normal v }
+    ensures again { (v : MessageValue) → normal (normal v) ≡ normal v }
 {}
 
 /// Law: a neighbour message with zeros where it is reserved and with no option but the link address
 /// is spelled by its value.
 pub fn ndisc_spelled()
-    ensures { (bytes : List ℕ) (m : NdiscRepr)
+    ensures { (bytes : List ℕ) (m : NeighborMessage)
         → IsBytes bytes
         → IsNdisc bytes m
         → slice_range bytes 4 8 ≡ Neighbor.word_of m
@@ -71,18 +69,18 @@ pub fn ndisc_spelled()
 /// Law: a neighbour message that was emitted is read back in its normal form, which is the message
 /// itself where its link address has six bytes.
 pub fn ndisc_reads_back()
-    ensures found { (m : NdiscRepr) (check : ℕ) → Neighbor.IsValue m → IsNdisc (Neighbor.spelling m check) (Neighbor.normal m) }
-    ensures same { (m : NdiscRepr) → Neighbor.Fits m → Neighbor.normal m ≡ m }
+    ensures found { (m : NeighborMessage) (check : ℕ) → Neighbor.IsValue m → IsNdisc (Neighbor.spelling m check) (Neighbor.normal m) }
+    ensures same { (m : NeighborMessage) → Neighbor.Fits m → Neighbor.normal m ≡ m }
 {}
 
 /// Law: a neighbour message that was read is emitted in no more bytes.
 pub fn ndisc_no_longer()
-    ensures { (bytes : List ℕ) (m : NdiscRepr) → IsNdisc bytes m → Neighbor.buffer_len m ≤ length bytes }
+    ensures { (bytes : List ℕ) (m : NeighborMessage) → IsNdisc bytes m → Neighbor.buffer_len m ≤ length bytes }
 {}
 
 /// Law: a neighbour message that was read is in its normal form, and so is the normal form of any
 /// other, with a link address of any length.
 pub fn ndisc_normal()
-    ensures read { (bytes : List ℕ) (m : NdiscRepr) → IsNdisc bytes m → Neighbor.normal m ≡ m }
-    ensures again { (m : NdiscRepr) → Neighbor.normal (Neighbor.normal m) ≡ Neighbor.normal m }
+    ensures read { (bytes : List ℕ) (m : NeighborMessage) → IsNdisc bytes m → Neighbor.normal m ≡ m }
+    ensures again { (m : NeighborMessage) → Neighbor.normal (Neighbor.normal m) ≡ Neighbor.normal m }
 {}

@@ -1,10 +1,9 @@
 //! Neighbour solicitations and advertisements (RFC 4861, sections 4.3 and 4.4).
 ghost use Rattle.std.specs.Prelude.{◌≡◌, ℕ, ◌+◌, ◌<◌, ◌≤◌, IsOk, IfOk, List, [], ◌∷◌, ◌++◌, length};
 ghost use Rattle.icmpv6.specs.Message.{message_number};
-ghost use Rattle.icmpv6.specs.NdiscOption.{link_len, link_option};
-ghost use Rattle.icmpv6.specs.Ndisc.{flag_bits, IsNdisc, buffer_len, spelling};
+ghost use Rattle.icmpv6.specs.NdiscOption.{link_bytes, link_len, link_option};
+ghost use Rattle.icmpv6.specs.Ndisc.{NeighborMessage, neighbor_message, flag_bits, IsNdisc, buffer_len, spelling};
 ghost use Rattle.icmpv6.specs.Packet.{bytes_of, bytes_in, name_of};
-ghost use Rattle.icmpv6.specs.declared.ndisc.NdiscRepr.{NdiscRepr};
 
 use crate::field;
 use crate::message::Icmpv6Message;
@@ -38,10 +37,10 @@ pub enum NdiscRepr {
 impl NdiscRepr {
     /// The neighbour message in the bytes, up to their end. Its checksum isn't looked at.
     pub fn parse(packet: &Icmpv6Packet) -> Result<NdiscRepr, Error>
-        ensures found { IfOk result (λ v. IsNdisc (bytes_of packet.now) v) }
-        ensures only { (v : NdiscRepr)
+        ensures found { IfOk result (λ v. IsNdisc (bytes_of packet.now) (neighbor_message v)) }
+        ensures only { (v : NeighborMessage)
             → IsNdisc (bytes_of packet.now) v
-            → result ≡ Ok v }
+            → IsOk result × IfOk result (λ r. neighbor_message r ≡ v) }
     {
         packet.check_len()?;
         if packet.msg_code() != 0 {
@@ -63,7 +62,7 @@ impl NdiscRepr {
 
     /// The length of the message.
     pub fn buffer_len(&self) -> usize
-        ensures { result ≡ buffer_len self.now }
+        ensures { result ≡ buffer_len (neighbor_message self.now) }
     {
         match self {
             NdiscRepr::NeighborSolicit { lladdr, .. } | NdiscRepr::NeighborAdvert { lladdr, .. } =>
@@ -74,9 +73,9 @@ impl NdiscRepr {
     /// Writes the message over the whole buffer, with zeros in the place of the checksum.
     pub fn emit(&self, packet: &mut Icmpv6PacketMut)
         requires room { length (bytes_in packet.old)
-            ≡ buffer_len self.now }
+            ≡ buffer_len (neighbor_message self.now) }
         ensures same_reference { name_of packet.new ≡ name_of packet.old }
-        ensures bytes { bytes_in packet.new ≡ spelling self.now 0 }
+        ensures bytes { bytes_in packet.new ≡ spelling (neighbor_message self.now) 0 }
     {
         match self {
             NdiscRepr::NeighborSolicit {
@@ -116,9 +115,9 @@ fn put_message(
     option_type: u8,
     lladdr: &Option<RawHardwareAddress>,
 )
-    requires { length bytes.old ≡ 24 + link_len lladdr.now }
+    requires { length bytes.old ≡ 24 + link_len (link_bytes lladdr.now) }
     ensures { bytes.new
-        ≡ header.now ++ (target_addr.now ++ link_option option_type lladdr.now) }
+        ≡ header.now ++ (target_addr.now ++ link_option option_type (link_bytes lladdr.now)) }
 {
     let (front, rest) = bytes.split_at_mut(field::HEADER_END);
     front.copy_from_slice(header);

@@ -1,6 +1,7 @@
 //! Options of neighbour messages (RFC 4861, section 4.6).
 ghost use Rattle.std.specs.Prelude.{◌≡◌, ◌↔◌, ℕ, IsOk, IfOk, Option, Some, None, List, length};
-ghost use Rattle.icmpv6.specs.NdiscOption.{OptionValue, value_of, Begins, HasLink, link_len, link_option};
+ghost use Rattle.ip_address.specs.Hardware.{raw_bytes};
+ghost use Rattle.icmpv6.specs.NdiscOption.{OptionValue, value_of, Begins, HasLink, link_bytes, link_len, link_option};
 
 use ip_address::{Error, RawHardwareAddress};
 
@@ -44,7 +45,7 @@ impl<'a> NdiscOption<'a> {
 
     /// The link address in an option of such a type: the six bytes of Ethernet.
     fn link_layer_addr(&self) -> Result<RawHardwareAddress, Error>
-        ensures found { IfOk result (λ a. a ≡ self.now.bytes.now) }
+        ensures found { IfOk result (λ a. raw_bytes a ≡ self.now.bytes.now) }
         ensures only { IsOk result ↔ (length self.now.bytes.now ≡ 6) }
     {
         if self.bytes.len() == 6 {
@@ -60,10 +61,10 @@ pub(crate) fn parse_link_layer_addr(
     options: &[u8],
     option_type: u8,
 ) -> Result<Option<RawHardwareAddress>, Error>
-    ensures found { IfOk result (λ a. HasLink option_type None options.now a) }
+    ensures found { IfOk result (λ a. HasLink option_type None options.now (link_bytes a)) }
     ensures only { (link : Option (List ℕ))
         → HasLink option_type None options.now link
-        → result ≡ Ok link }
+        → IsOk result × IfOk result (λ a. link_bytes a ≡ link) }
 {
     let mut address = None;
     let mut rest = options;
@@ -79,7 +80,7 @@ pub(crate) fn parse_link_layer_addr(
 
 /// The length of the option of a link address.
 pub(crate) fn link_layer_addr_len(address: &Option<RawHardwareAddress>) -> usize
-    ensures { result ≡ link_len address.now }
+    ensures { result ≡ link_len (link_bytes address.now) }
 {
     match address {
         None => 0,
@@ -93,8 +94,8 @@ pub(crate) fn emit_link_layer_addr(
     option_type: u8,
     address: &Option<RawHardwareAddress>,
 )
-    requires { length bytes.old ≡ link_len address.now }
-    ensures { bytes.new ≡ link_option option_type address.now }
+    requires { length bytes.old ≡ link_len (link_bytes address.now) }
+    ensures { bytes.new ≡ link_option option_type (link_bytes address.now) }
 {
     if let Some(address) = address {
         let (head, body) = bytes.split_at_mut(2);

@@ -1,7 +1,7 @@
 //! Neighbour messages from outside, read and written. Their checksums were computed by another
 //! program.
 ghost use Rattle.std.specs.Prelude.{◌≡◌, ◌≤◌};
-ghost use Rattle.icmpv6.specs.Ndisc.{buffer_len};
+ghost use Rattle.icmpv6.specs.Ndisc.{buffer_len, neighbor_message};
 
 use super::*;
 use ip_address::{Error, EthernetAddress, Ipv6Address, RawHardwareAddress};
@@ -31,7 +31,7 @@ fn host(last: u16) -> Ipv6Address {
 }
 
 fn solicitation() -> NdiscRepr
-    ensures { buffer_len result ≡ 32 }
+    ensures { buffer_len (neighbor_message result) ≡ 32 }
 {
     NdiscRepr::NeighborSolicit {
         target_addr: host(1),
@@ -40,7 +40,7 @@ fn solicitation() -> NdiscRepr
 }
 
 fn advertisement() -> NdiscRepr
-    ensures { buffer_len result ≡ 32 }
+    ensures { buffer_len (neighbor_message result) ≡ 32 }
 {
     NdiscRepr::NeighborAdvert {
         flags: NdiscNeighborFlags::SOLICITED,
@@ -50,7 +50,7 @@ fn advertisement() -> NdiscRepr
 }
 
 fn announcement() -> NdiscRepr
-    ensures { buffer_len result ≡ 24 }
+    ensures { buffer_len (neighbor_message result) ≡ 24 }
 {
     NdiscRepr::NeighborAdvert {
         flags: NdiscNeighborFlags::ROUTER | NdiscNeighborFlags::OVERRIDE,

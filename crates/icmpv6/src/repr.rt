@@ -2,7 +2,7 @@
 ghost use Rattle.std.specs.Prelude.{◌≡◌, ◌+◌, ◌<◌, ◌≤◌, ◌^◌, IsOk, IfOk, length, drop};
 ghost use Rattle.net_devices.specs.Capabilities.{verifies, computes};
 ghost use Rattle.icmpv6.specs.Packet.{bytes_of, bytes_in, name_of};
-ghost use Rattle.icmpv6.specs.Icmpv6.{IsIcmpv6, Fits, CanCarry, header_len, header_of, carried_by, carried_in, written};
+ghost use Rattle.icmpv6.specs.Icmpv6.{MessageValue, IsIcmpv6, Fits, CanCarry, value_of, header_len, header_of, carried_by, carried_in, written};
 ghost use Rattle.icmpv6.specs.declared.header.Icmpv6Header.{Icmpv6Header};
 
 use crate::header::Icmpv6Header;
@@ -57,7 +57,7 @@ pub enum Icmpv6Repr<'a> {
 impl<'a> Icmpv6Repr<'a> {
     /// The message of this header that carries these bytes. A neighbour message carries none.
     pub const fn new(header: &Icmpv6Header, bytes: &'a [u8]) -> Icmpv6Repr<'a>
-        requires { CanCarry header.now bytes.now }
+        requires { CanCarry (value_of header.now) bytes.now }
         ensures header { header_of result ≡ header.now }
         ensures bytes { carried_by result ≡ bytes.now }
     {
@@ -157,11 +157,11 @@ impl<'a> Icmpv6Repr<'a> {
         checksum_caps: &ChecksumCapabilities,
     ) -> Result<Icmpv6Repr<'a>, Error>
         requires { length (bytes_of packet.now) < 2 ^ 32 }
-        ensures found { IfOk result (λ r. IsIcmpv6 src_addr.now dst_addr.now (verifies checksum_caps.now.icmpv6) (bytes_of packet.now) (header_of r)) }
-        ensures bytes { IfOk result (λ r. carried_by r ≡ carried_in (bytes_of packet.now) (header_of r)) }
-        ensures only { (v : Icmpv6Header)
+        ensures found { IfOk result (λ r. IsIcmpv6 src_addr.now dst_addr.now (verifies checksum_caps.now.icmpv6) (bytes_of packet.now) (value_of (header_of r))) }
+        ensures bytes { IfOk result (λ r. carried_by r ≡ carried_in (bytes_of packet.now) (value_of (header_of r))) }
+        ensures only { (v : MessageValue)
             → IsIcmpv6 src_addr.now dst_addr.now (verifies checksum_caps.now.icmpv6) (bytes_of packet.now) v
-            → IsOk result × IfOk result (λ r. header_of r ≡ v) }
+            → IsOk result × IfOk result (λ r. value_of (header_of r) ≡ v) }
     {
         let header = Icmpv6Header::parse(src_addr, dst_addr, packet, checksum_caps)?;
         if let Icmpv6Header::Ndisc(neighbor) = header {
@@ -173,7 +173,7 @@ impl<'a> Icmpv6Repr<'a> {
 
     /// The length of the message.
     pub fn buffer_len(&self) -> usize
-        ensures { result ≡ header_len (header_of self.now) + length (carried_by self.now) }
+        ensures { result ≡ header_len (value_of (header_of self.now)) + length (carried_by self.now) }
     {
         self.header().header_len() + self.bytes().len()
     }
@@ -188,12 +188,12 @@ impl<'a> Icmpv6Repr<'a> {
         checksum_caps: &ChecksumCapabilities,
     )
         requires room { length (bytes_in packet.old)
-            ≡ header_len (header_of self.now) + length (carried_by self.now) }
-        requires fits { Fits (header_of self.now) }
+            ≡ header_len (value_of (header_of self.now)) + length (carried_by self.now) }
+        requires fits { Fits (value_of (header_of self.now)) }
         requires small { length (bytes_in packet.old) < 2 ^ 32 }
         ensures same_reference { name_of packet.new ≡ name_of packet.old }
         ensures bytes { bytes_in packet.new
-            ≡ written src_addr.now dst_addr.now (computes checksum_caps.now.icmpv6) (header_of self.now) (carried_by self.now) }
+            ≡ written src_addr.now dst_addr.now (computes checksum_caps.now.icmpv6) (value_of (header_of self.now)) (carried_by self.now) }
     {
         self.header()
             .emit(src_addr, dst_addr, packet, self.bytes(), checksum_caps);

@@ -1,6 +1,6 @@
 //! Messages from outside, read and written. Their checksums were computed by another program.
 ghost use Rattle.std.specs.Prelude.{◌≡◌, ◌+◌, ◌<◌, ◌≤◌, ◌^◌, length};
-ghost use Rattle.icmpv6.specs.Icmpv6.{Fits, header_of, carried_by, header_len};
+ghost use Rattle.icmpv6.specs.Icmpv6.{Fits, value_of, header_of, carried_by, header_len};
 
 use super::*;
 use ip_address::{Error, IpProtocol, Ipv6Address};
@@ -82,9 +82,9 @@ fn read_untested<'a>(message: &'a [u8]) -> Result<Icmpv6Repr<'a>, Error>
 
 /// Writes a message from fd00::2 to fd00::1.
 fn put(message: &mut [u8], repr: &Icmpv6Repr)
-    requires room { length message.old ≡ header_len (header_of repr.now) + length (carried_by repr.now) }
+    requires room { length message.old ≡ header_len (value_of (header_of repr.now)) + length (carried_by repr.now) }
     requires small { length message.old < 2 ^ 32 }
-    requires fits { Fits (header_of repr.now) }
+    requires fits { Fits (value_of (header_of repr.now)) }
 {
     repr.emit(
         &RIGHT,
@@ -230,8 +230,8 @@ fn reasons_are_codes(rt: HostRuntime) {
 /// Whether the error with this front, about the whole datagram, is read as the message, and whether
 /// the message is written as it.
 fn is_error(front: &[u8; 8], message: &Icmpv6Repr) -> bool
-    requires room { header_len (header_of message.now) + length (carried_by message.now) ≡ 60 }
-    requires fits { Fits (header_of message.now) }
+    requires room { header_len (value_of (header_of message.now)) + length (carried_by message.now) ≡ 60 }
+    requires fits { Fits (value_of (header_of message.now)) }
 {
     let bytes = error(front);
     let mut written = [0xa5; 60];

@@ -1,5 +1,5 @@
 -- When comparisons and hashes agree with equality.
-use Rattle.std.proofs.Common.{◌≡◌, ◌≤◌, ◌↔◌, ℕ, List, IsTrue, ap, sym, subst}
+use Rattle.std.proofs.Common.{◌≡◌, ◌≤◌, ◌↔◌, ℕ, List, IsTrue, ap, sym, ◌∙◌}
 use mathlib.Core.HLevel.{is_prop→PathP}
 use native.Mathlib.Bridge.{le_prop}
 use Rattle.std.specs.Prelude.{◌==◌, ◌&&◌, ◌-◌, ◌++◌, length, take, replicate, bytes_eq}
@@ -7,9 +7,10 @@ use Rattle.std.specs.Bool.{Decides}
 use Rattle.std.specs.declared.cmp.Ordering.TheVariants.{Equal}
 use Rattle.std.proofs.lemmas.Bool.Decides.{Decides-and, Decides-eqb}
 use Rattle.std.proofs.lemmas.Slice.Eq.{bytes_eq-Decides}
-use Rattle.std.proofs.Math.Seq.{take-append_seam}
+use Rattle.ip_address.specs.Hardware.{raw_bytes}
 use Rattle.ip_address.specs.Order.{Agree}
 use Rattle.ip_address.specs.contracts.ip.IpCidrPartialEq.TheImpl.{ghosts}
+use Rattle.ip_address.specs.declared.hardware.RawHardwareAddress.{RawHardwareAddress}
 use Rattle.ip_address.specs.declared.ip.IpCidr.{IpCidr}
 use Rattle.ip_address.specs.declared.laws.Comparison.{Comparison}
 use Rattle.ip_address.specs.declared.ip.IpCidr.TheVariants as Block
@@ -67,17 +68,13 @@ Decides-block (Block.Ipv6 a) (Block.Ipv4 b) = (λ yes. absurd (cc), λ e. absurd
 Decides-block (Block.Ipv6 a) (Block.Ipv6 b) =
     let same = Decides-v6 a b in (λ yes. ap Block.Ipv6 (same.0 yes), λ e. same.1 (cc))
 
--- lists that begin alike and are as long are the same
-same_front : (a b x y : List ℕ) → length a ≡ length b → a ++ x ≡ b ++ y → a ≡ b
-same_front a b x y len e =
-    let P : List ℕ → Type 0 = λ l. take (length a) l ≡ b in
-    let Q : ℕ → Type 0 = λ n. take n (b ++ y) ≡ b in
-    subst (λ l. l ≡ b) (take-append_seam a x) (subst P (sym e) (subst Q (sym len) (take-append_seam b y)))
-
 -- of raw addresses all six bytes, with zeros behind those of the address, and the lengths are compared
-pub Decides-raw : (a b : List ℕ) → Decides (bytes_eq (a ++ replicate (6 - length a) 0) (b ++ replicate (6 - length b) 0) && (length a == length b)) (a ≡ b)
+pub Decides-raw : (a b : RawHardwareAddress) → Decides (bytes_eq a.bytes b.bytes && (a.len == b.len)) (raw_bytes a ≡ raw_bytes b)
 Decides-raw a b =
-    let both = Decides-and _ _ (bytes_eq-Decides (a ++ replicate (6 - length a) 0) (b ++ replicate (6 - length b) 0)) (Decides-eqb (length a) (length b)) in (
-      λ yes. same_front a b _ _ (both.0 yes).1 (both.0 yes).0,
-      λ same. both.1 (ap (λ l. l ++ replicate (6 - length l) 0) same, ap length same),
+    let both = Decides-and _ _ (bytes_eq-Decides a.bytes b.bytes) (Decides-eqb a.len b.len) in (
+      λ yes. ap (λ n. take n a.bytes) (both.0 yes).1 ∙ ap (λ xs. take b.len xs) (both.0 yes).0,
+      λ same.
+          let len : a.len ≡ b.len = sym a.whole ∙ ap length same ∙ b.whole in
+          let bytes : a.bytes ≡ b.bytes = sym a.zeros ∙ ap (λ xs. xs ++ replicate (6 - a.len) 0) same ∙ ap (λ n. raw_bytes b ++ replicate (6 - n) 0) len ∙ b.zeros in
+          both.1 (bytes, len),
     )

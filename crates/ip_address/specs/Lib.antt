@@ -6,5 +6,6 @@ pub mod Block
 pub mod Protocol
 pub mod Pseudo
 pub mod Seq
+pub mod Hardware
 pub mod Text
 pub mod Order

@@ -1,5 +1,5 @@
 //! Addresses of the medium below IP.
-ghost use Rattle.std.specs.Prelude.{◌≡◌, ◌↔◌, ◌≤◌, [], length, IsTrue, IfOk, IsOk, Some};
+ghost use Rattle.std.specs.Prelude.{◌≡◌, ◌↔◌, ◌-◌, ◌≤◌, [], ◌++◌, length, take, replicate, IsTrue, IfOk, IsOk, Some};
 ghost use Rattle.ip_address.specs.declared.hardware.HardwareAddress.TheVariants as Hardware;
 ghost use Rattle.ip_address.specs.Address.{hardware_bytes, IsHardwareUnicast, IsHardwareBroadcast};
 
@@ -8,7 +8,6 @@ use crate::ethernet::EthernetAddress;
 use crate::text::HexPair;
 use net_devices::Medium;
 use std::fmt;
-use std::marker::Model;
 
 /// The most bytes that a hardware address has.
 pub const MAX_HARDWARE_ADDRESS_LEN: usize = 6;
@@ -79,28 +78,19 @@ impl fmt::Display for HardwareAddress {
 pub struct RawHardwareAddress {
     bytes: [u8; MAX_HARDWARE_ADDRESS_LEN],
     len: u8,
-}
-
-/// Contracts see the list of its bytes.
-impl Model for RawHardwareAddress {
-    ghost use Rattle.std.specs.Prelude.{◌≡◌, ℕ, ◌-◌, ◌≤◌, List, ◌++◌, length, take, replicate};
-
-    ghost Value = { List ℕ };
-
-    ghost view = { λ a. take a.len a.bytes };
-
+    ghost in_range: { len ≤ 6 },
+    ghost whole: { length (take len bytes) ≡ len },
     // Behind the address stand zeros, so that equal addresses have equal fields.
-    ghost invariant = { λ a. (length (take a.len a.bytes) ≡ a.len)
-        × (take a.len a.bytes ++ replicate (6 - a.len) 0 ≡ a.bytes) };
-
-    ghost inverse = { λ d. record { bytes = d ++ replicate (6 - length d) 0; len = length d } };
+    ghost zeros: { take len bytes ++ replicate (6 - len) 0 ≡ bytes },
 }
 
 impl RawHardwareAddress {
+    ghost use Rattle.ip_address.specs.Hardware.{raw_bytes};
+
     /// The address of these bytes.
     pub fn from_bytes(from: &[u8]) -> RawHardwareAddress
         requires { length from.now ≤ MAX_HARDWARE_ADDRESS_LEN }
-        ensures { result ≡ from.now }
+        ensures { raw_bytes result ≡ from.now }
     {
         let mut bytes = [0; MAX_HARDWARE_ADDRESS_LEN];
         bytes[..from.len()].copy_from_slice(from);
@@ -112,23 +102,21 @@ impl RawHardwareAddress {
 
     /// The bytes of the address.
     pub fn as_bytes(&self) -> &[u8]
-        ensures all { result.now ≡ self.now }
-        ensures at_most { length self.now ≤ MAX_HARDWARE_ADDRESS_LEN }
+        ensures { result.now ≡ raw_bytes self.now }
     {
         &self.bytes[..self.len as usize]
     }
 
     /// How many bytes the address has.
     pub const fn len(&self) -> usize
-        ensures count { result ≡ length self.now }
-        ensures at_most { result ≤ MAX_HARDWARE_ADDRESS_LEN }
+        ensures { result ≡ length (raw_bytes self.now) }
     {
         self.len as usize
     }
 
     /// Whether the address has no bytes.
     pub const fn is_empty(&self) -> bool
-        ensures { IsTrue result ↔ (self.now ≡ []) }
+        ensures { IsTrue result ↔ (raw_bytes self.now ≡ []) }
     {
         self.len == 0
     }
@@ -136,8 +124,8 @@ impl RawHardwareAddress {
     /// The address that these bytes are on the medium: an `Error` on a medium without addresses,
     /// or unless they are six.
     pub fn parse(&self, medium: Medium) -> Result<HardwareAddress, Error>
-        ensures found { IfOk result (λ a. hardware_bytes a ≡ self.now) }
-        ensures only { IsOk result ↔ ((medium ≡ Medium.Ethernet) × (length self.now ≡ 6)) }
+        ensures found { IfOk result (λ a. hardware_bytes a ≡ raw_bytes self.now) }
+        ensures only { IsOk result ↔ ((medium ≡ Medium.Ethernet) × (length (raw_bytes self.now) ≡ 6)) }
     {
         match medium {
             Medium::Ethernet if self.len() == 6 => Ok(HardwareAddress::Ethernet(
@@ -149,7 +137,9 @@ impl RawHardwareAddress {
 }
 
 impl From<EthernetAddress> for RawHardwareAddress {
-    ghost from_gives = { λ a raw. raw ≡ a.0 };
+    ghost use Rattle.ip_address.specs.Hardware.{raw_bytes};
+
+    ghost from_gives = { λ a raw. raw_bytes raw ≡ a.0 };
 
     fn from(value: EthernetAddress) -> RawHardwareAddress {
         RawHardwareAddress::from_bytes(value.as_bytes())
@@ -157,7 +147,9 @@ impl From<EthernetAddress> for RawHardwareAddress {
 }
 
 impl From<HardwareAddress> for RawHardwareAddress {
-    ghost from_gives = { λ a raw. raw ≡ hardware_bytes a };
+    ghost use Rattle.ip_address.specs.Hardware.{raw_bytes};
+
+    ghost from_gives = { λ a raw. raw_bytes raw ≡ hardware_bytes a };
 
     fn from(value: HardwareAddress) -> RawHardwareAddress {
         RawHardwareAddress::from_bytes(value.as_bytes())
@@ -165,9 +157,10 @@ impl From<HardwareAddress> for RawHardwareAddress {
 }
 
 impl fmt::Display for RawHardwareAddress {
+    ghost use Rattle.ip_address.specs.Hardware.{raw_bytes};
     ghost use Rattle.ip_address.specs.Text.{raw_hardware_text};
 
-    ghost output = { λ a. Some (raw_hardware_text a) };
+    ghost output = { λ a. Some (raw_hardware_text (raw_bytes a)) };
 
     fn fmt<W: fmt::Write>(&self, f: &mut fmt::Formatter<W>) -> fmt::Result {
         match self.as_bytes() {

@@ -6,6 +6,7 @@ ghost use Rattle.std.specs.Cmp.{IsTotalOrder};
 ghost use Rattle.std.specs.Net.Addr.{octets_of};
 ghost use Rattle.ip_address.specs.Address.{IsEthernetBroadcast, IsUnspecifiedV4, IsBroadcastV4, IsUnspecifiedV6, IsLoopbackV6, solicited_prefix};
 ghost use Rattle.ip_address.specs.Block.{IsBlock};
+ghost use Rattle.ip_address.specs.Hardware.{raw_bytes};
 ghost use Rattle.ip_address.specs.Order.{Agree, hash_after};
 
 use crate::ethernet::{EthernetAddress, EthernetProtocol};
@@ -79,7 +80,7 @@ pub fn compare_hardware_addresses(a: &HardwareAddress, b: &HardwareAddress) -> C
 
 /// Compares hardware addresses of any kind.
 pub fn compare_raw_hardware_addresses(a: &RawHardwareAddress, b: &RawHardwareAddress) -> Comparison
-    ensures agree { Agree a.now b.now result }
+    ensures agree { Agree (raw_bytes a.now) (raw_bytes b.now) result }
     ensures order { result.order ≡ ⟦<RawHardwareAddress as Ord>⟧.cmp a.now b.now }
 {
     compare(a, b)

@@ -10,6 +10,7 @@ pub use Rattle.ip_address.specs.Block
 pub use Rattle.ip_address.specs.Protocol
 pub use Rattle.ip_address.specs.Pseudo
 pub use Rattle.ip_address.specs.Seq
+pub use Rattle.ip_address.specs.Hardware
 pub use Rattle.ip_address.specs.Text
 pub use Rattle.ip_packet.specs.Parts
 pub use Rattle.ip_packet.specs.Udp

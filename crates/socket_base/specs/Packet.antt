@@ -12,7 +12,6 @@ use Rattle.ip_wire.specs.TcpHeader.{TcpHeader}
 use Rattle.control_wire.specs.Icmpv4 as Icmpv4
 use Rattle.control_wire.specs.Icmpv4Header.{Icmpv4Header}
 use Rattle.control_wire.specs.Icmpv6 as Icmpv6
-use Rattle.control_wire.specs.Icmpv6Header.{Icmpv6Header}
 use Rattle.socket_base.specs.declared.packet.IpPayload.{IpPayload}
 use Rattle.socket_base.specs.declared.packet.IpPayload.TheVariants as Payload
 use Rattle.socket_base.specs.declared.packet.Packet.{Packet}
@@ -20,7 +19,7 @@ use Rattle.socket_base.specs.declared.packet.Packet.{Packet}
 -- what a packet carries: a header or a message, and bytes
 pub data PayloadValue : Type 0 where
   ControlV4 : Icmpv4Header → List ℕ → PayloadValue
-  ControlV6 : Icmpv6Header → List ℕ → PayloadValue
+  ControlV6 : Icmpv6.MessageValue → List ℕ → PayloadValue
   Bytes : List ℕ → PayloadValue
   Datagram : UdpRepr → List ℕ → PayloadValue
   Segment : TcpHeader → List ℕ → PayloadValue
@@ -35,7 +34,7 @@ packet_of header payload = record { header = header; payload = payload }
 
 abbrev pub payload_value : IpPayload → PayloadValue
 payload_value (Payload.Icmpv4 message) = ControlV4 (Icmpv4.header_of message) (Icmpv4.payload_of message)
-payload_value (Payload.Icmpv6 message) = ControlV6 (Icmpv6.header_of message) (Icmpv6.carried_by message)
+payload_value (Payload.Icmpv6 message) = ControlV6 (Icmpv6.value_of (Icmpv6.header_of message)) (Icmpv6.carried_by message)
 payload_value (Payload.Raw bytes) = Bytes bytes.now
 payload_value (Payload.Udp header bytes) = Datagram header bytes.now
 payload_value (Payload.Tcp segment) = Segment (Tcp.header_of segment) segment.payload.now
@@ -52,7 +51,7 @@ payload_len (Datagram header bytes) = 8 + length bytes
 payload_len (Segment header bytes) = Tcp.header_len header + length bytes
 
 -- an ICMPv6 message can be sent behind an IPv6 header alone
-abbrev pub ControlV6Fits : IpRepr → Icmpv6Header → List ℕ → Type 0
+abbrev pub ControlV6Fits : IpRepr → Icmpv6.MessageValue → List ℕ → Type 0
 ControlV6Fits (Ip.Ipv4 header) message bytes = ⊥
 ControlV6Fits (Ip.Ipv6 header) message bytes = Icmpv6.Fits message × (Icmpv6.header_len message + length bytes < 2 ^ 32)
 
@@ -64,7 +63,7 @@ PayloadFits ip (Bytes bytes) = Unit {0}
 PayloadFits ip (Datagram header bytes) = Udp.Fits (source_in ip) (destination_in ip) bytes
 PayloadFits ip (Segment header bytes) = Tcp.Fits (source_in ip) (destination_in ip) header bytes
 
-abbrev pub control_v6_written : ChecksumCapabilities → IpRepr → Icmpv6Header → List ℕ → List ℕ
+abbrev pub control_v6_written : ChecksumCapabilities → IpRepr → Icmpv6.MessageValue → List ℕ → List ℕ
 control_v6_written caps (Ip.Ipv4 header) message bytes = bytes
 control_v6_written caps (Ip.Ipv6 header) message bytes =
     Icmpv6.written header.src_addr header.dst_addr (computes caps.icmpv6) message bytes

@@ -32,4 +32,4 @@ pub returns-clause-only : goal.returns-clause-only
 returns-clause-only c = λ link has.
     let here = (c.loop-rest.invariant link).1 has in
     let same = HasLink-empty c.args.option_type _ link c.loop-rest.rest.now (eqb-true (length c.loop-rest.rest.now) 0 (sym c.is_empty.ensures ∙ c.loop-rest-test.false)) here in
-    cc same
+    (cc, same)
