@@ -198,3 +198,25 @@ fn asks_for_an_mtu_in_range(rt: HostRuntime) {
         }
     }
 }
+
+#[test]
+fn refusals_say_why(rt: HostRuntime) -> Result<(), Fail> {
+    let alloc = rt.alloc();
+    let said = format!(in alloc;
+        "{}; {}; {}; {}",
+        Refused::NoSocket,
+        Refused::NoFrame,
+        Refused::Moment,
+        Refused::Memory
+    )?;
+    assert_eq!(rt;
+        said.as_str(),
+        "no such socket; no such frame; no moment, or before the host's last; out of memory"
+    );
+    let said = format!(in alloc; "{}; {}", WorldError::Mtu, WorldError::Memory)?;
+    assert_eq!(rt;
+        said.as_str(),
+        "an IP MTU is out of 576 to 65535 bytes; out of memory"
+    );
+    Ok(())
+}
