@@ -11,11 +11,10 @@ use Rattle.ip_wire.specs.Ipv6 as Ipv6
 use Rattle.socket_base.specs.Addresses.{is_unspecified}
 use Rattle.socket_base.specs.Offers.{Offered, offered_as}
 use Rattle.socket_base.specs.Packet as Carried
-use Rattle.socket_base.specs.declared.packet.Packet.{Packet}
-use Rattle.socket_base.specs.declared.poll_at.Offer as Answer
 use Rattle.socket_base.specs.declared.poll_at.Offer.TheVariants as Offer
 use Rattle.socket_base.specs.declared.poll_at.PollAt.{PollAt}
 use Rattle.socket_base.specs.declared.poll_at.PollAt.TheVariants as At
+use Rattle.datagram_sockets.specs.Udp.{has_packet}
 use Rattle.datagram_sockets.specs.declared.raw.SendError.{SendError}
 use Rattle.datagram_sockets.specs.declared.raw.SendError.TheVariants as Send
 use Rattle.datagram_sockets.specs.declared.raw.RecvError.{RecvError}
@@ -177,15 +176,6 @@ IsOpen (Some header) q = (unpadded q ≡ q) × IsHeaderOf (first q) header
 abbrev pub poll_of : RawValue → PollAt
 poll_of v = if has_packets v.queued then At.Now else At.Ingress
 
--- a lent packet, wherever its bytes lie
-abbrev pub option_value : Option Packet → Option Carried.PacketValue
-option_value None = None
-option_value (Some p) = Some (Carried.packet_value p)
-
 -- a packet is offered exactly where the answer says so
-abbrev pub has_packet : Answer.Offer → Bool
-has_packet (Offer.Packet changed) = true
-has_packet (Offer.Silent changed) = false
-
 abbrev pub HasPacket : Offered RawValue → Type 0
 HasPacket o = is_some (packet_of o.socket) ≡ has_packet o.answer

@@ -8,7 +8,8 @@ ghost use Rattle.socket_base.specs.Context.{ContextValue};
 ghost use Rattle.socket_base.specs.Packet.{PacketValue, PayloadFits, payload_len};
 ghost use Rattle.ip_wire.specs.Ip as Ip;
 ghost use Rattle.socket_base.specs.declared.poll_at.Offer.TheVariants as Answer;
-ghost use Rattle.datagram_sockets.specs.Raw.{RawValue, fresh, settled, can_send, can_recv, send_answer, is_done, with_queued, send_after, recv_answer, recv_after, recv_written, peeked, Passes, fits, arrived, process_after, IsChosen, Offers, carried_by, packet_of, poll_of, option_value, HasPacket};
+ghost use Rattle.datagram_sockets.specs.Raw.{RawValue, fresh, settled, can_send, can_recv, send_answer, is_done, with_queued, send_after, recv_answer, recv_after, recv_written, peeked, Passes, fits, arrived, process_after, IsChosen, Offers, carried_by, packet_of, poll_of, HasPacket};
+ghost use Rattle.datagram_sockets.specs.Udp.{option_value};
 ghost use Rattle.datagram_sockets.specs.RawDispatch.{TakesOffered, Dispatches};
 ghost use Rattle.datagram_sockets.specs.declared.raw.RecvError.TheVariants as Recv;
 
