@@ -8,7 +8,7 @@ use std::test::Fail;
 
 /// A context of one moment that has no address and takes every destination's own address as the source.
 #[derive(Drop)]
-struct Echoes {
+pub(crate) struct Echoes {
     words: Rand,
 }
 
@@ -53,7 +53,7 @@ impl Context for Echoes {
     ghost drawn_context = { λ c. refl };
 }
 
-fn context() -> Echoes {
+pub(crate) fn context() -> Echoes {
     Echoes {
         words: Rand::new(1),
     }
