@@ -1,2 +1,3 @@
+pub mod Messages
 pub mod Queues
 pub mod Offers

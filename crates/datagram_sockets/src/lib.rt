@@ -2,6 +2,7 @@
 #![tactic(auto)]
 
 mod header;
+pub mod icmp;
 #[cfg(test)]
 mod tests;
 pub mod udp;
