@@ -5,18 +5,15 @@ ghost use Rattle.net_base.specs.Packets.{used_room, without_first};
 ghost use Rattle.socket_base.specs.Addresses.{is_unspecified};
 ghost use Rattle.socket_base.specs.Offers.{IsBefore};
 ghost use Rattle.socket_base.specs.Context.{ContextValue};
-ghost use Rattle.socket_base.specs.Packet.{PacketValue, PayloadFits, payload_len, payload_value, payload_written};
+ghost use Rattle.socket_base.specs.Packet.{PacketValue, PayloadFits, payload_len};
 ghost use Rattle.ip_wire.specs.Ip as Ip;
-ghost use Rattle.ip_wire.specs.Ip.{source_in};
-ghost use Rattle.net_base.specs.Capabilities.{all_checksums};
-ghost use Rattle.net_base.specs.Checksum.TheVariants as Checksums;
 ghost use Rattle.ip_wire.specs.IpAddress.TheVariants as Address;
 ghost use Rattle.control_wire.specs.Icmpv4 as Icmpv4;
 ghost use Rattle.control_wire.specs.Icmpv6 as Icmpv6;
 ghost use Rattle.socket_base.specs.declared.poll_at.Offer as Answer;
 ghost use Rattle.socket_base.specs.declared.poll_at.Offer.TheVariants as Answers;
 ghost use Rattle.datagram_sockets.specs.Udp.{option_value, has_packet, hops};
-ghost use Rattle.datagram_sockets.specs.Icmp.{IcmpValue, fresh, is_specified, is_open, with_hop_limit, bind_answer, bind_after, can_send, can_recv, send_answer, send_after, with_queued, is_done, recv_answer, recv_after, recv_written, takes_echo, takes_quoted, takes_error, accepts_v4, accepts_v6, process_after, process_v4_after, process_v6_after, IsPacketFrom, IsSendable, Offers, settled, poll_of};
+ghost use Rattle.datagram_sockets.specs.Icmp.{IcmpValue, fresh, is_specified, is_open, with_hop_limit, bind_answer, bind_after, can_send, can_recv, send_answer, send_after, with_queued, is_done, recv_answer, recv_after, recv_written, takes_echo, takes_quoted, takes_error, accepts_v4, accepts_v6, process_v4_after, process_v6_after, IsPacketFrom, IsSendable, Offers, settled, poll_of};
 ghost use Rattle.datagram_sockets.specs.IcmpKept.{MayKeepFor};
 ghost use Rattle.datagram_sockets.specs.IcmpDispatch.{TakesOffered, Dispatches};
 ghost use Rattle.datagram_sockets.specs.declared.icmp.Endpoint as Bound;
@@ -24,7 +21,8 @@ ghost use Rattle.datagram_sockets.specs.declared.icmp.SendError.TheVariants as S
 
 use crate::header::header_between;
 use control_wire::{
-    Icmpv4Header, Icmpv4Packet, Icmpv4Repr, Icmpv6Header, Icmpv6Packet, Icmpv6Repr,
+    Icmpv4Header, Icmpv4Packet, Icmpv4PacketMut, Icmpv4Repr, Icmpv6Header, Icmpv6Packet,
+    Icmpv6PacketMut, Icmpv6Repr,
 };
 use ip_wire::{
     IpAddress, IpListenEndpoint, IpProtocol, IpRepr, Ipv4Address, Ipv4Repr, Ipv6Address, Ipv6Repr,
@@ -360,6 +358,35 @@ fn takes_quoted(bound: &IpListenEndpoint, destination: &IpAddress, bytes: &[u8])
     bytes.len() >= QUOTED_LEN && u16::from_be_bytes([bytes[0], bytes[1]]) == bound.port
 }
 
+/// Writes a message over the whole buffer, with checksums that hold.
+fn write_v4(message: &Icmpv4Header, payload: &[u8], buffer: &mut [u8])
+    requires room { length buffer.old ≡ Icmpv4.header_len message.now + length payload.now }
+    requires fits { Icmpv4.Fits message.now }
+    ensures { buffer.new ≡ Icmpv4.written true true message.now payload.now }
+{
+    let mut packet = Icmpv4PacketMut::new_unchecked(buffer);
+    message.emit(&mut packet, payload, &ChecksumCapabilities::default());
+}
+
+/// Writes a message over the whole buffer, with a checksum that holds between these addresses.
+fn write_v6(
+    source: &Ipv6Address,
+    destination: &Ipv6Address,
+    message: &Icmpv6Header,
+    carried: &[u8],
+    buffer: &mut [u8],
+)
+    requires room { length buffer.old ≡ Icmpv6.header_len (Icmpv6.value_of message.now) + length carried.now }
+    requires fits { Icmpv6.Fits (Icmpv6.value_of message.now) }
+    requires small { length buffer.old < 2 ^ 32 }
+    requires carried { Icmpv6.CanCarry (Icmpv6.value_of message.now) carried.now }
+    ensures { buffer.new ≡ Icmpv6.written source.now destination.now true (Icmpv6.value_of message.now) carried.now }
+{
+    let mut packet = Icmpv6PacketMut::new_unchecked(buffer);
+    let caps = ChecksumCapabilities::default();
+    message.emit(source, destination, &mut packet, carried, &caps);
+}
+
 impl Socket {
     /// Whether echo messages of this identifier are for the socket.
     fn takes_echo(&self, ident: u16) -> bool
@@ -426,7 +453,16 @@ impl Socket {
         requires { Icmpv4.Fits (Icmpv4.header_of icmp_repr.now) }
         ensures { self.new ≡ process_v4_after self.old ip_repr.now (Icmpv4.header_of icmp_repr.now) (Icmpv4.payload_of icmp_repr.now) }
     {
-        self.queue(&IpRepr::Ipv4(*ip_repr), &IpPayload::Icmpv4(*icmp_repr));
+        self.offered = None;
+        let sender = IpAddress::Ipv4(ip_repr.src_addr);
+        let (message, payload) = (icmp_repr.header(), icmp_repr.bytes());
+        let size = icmp_repr.buffer_len();
+        let _ = self
+            .rx_buffer
+            .enqueue_with_infallible(size, sender, |bytes: &mut [u8]| {
+                write_v4(&message, payload, bytes);
+                size
+            });
     }
 
     /// A message for the socket arrives. It is dropped where the queue is full.
@@ -435,27 +471,15 @@ impl Socket {
         requires small { Icmpv6.header_len (Icmpv6.value_of (Icmpv6.header_of icmp_repr.now)) + length (Icmpv6.carried_by icmp_repr.now) < 2 ^ 32 }
         ensures { self.new ≡ process_v6_after self.old ip_repr.now (Icmpv6.value_of (Icmpv6.header_of icmp_repr.now)) (Icmpv6.carried_by icmp_repr.now) }
     {
-        self.queue(&IpRepr::Ipv6(*ip_repr), &IpPayload::Icmpv6(*icmp_repr));
-    }
-
-    /// Queues a message as it is sent, with checksums that hold.
-    fn queue(&mut self, ip_repr: &IpRepr, message: &IpPayload)
-        requires { PayloadFits ip_repr.now (payload_value message.now) }
-        ensures { self.new ≡ process_after self.old (source_in ip_repr.now) (payload_written (all_checksums Checksums.Both) ip_repr.now (payload_value message.now)) (payload_len (payload_value message.now)) }
-    {
         self.offered = None;
-        let size = message.buffer_len();
-        let sender = ip_repr.src_addr();
+        let sender = IpAddress::Ipv6(ip_repr.src_addr);
+        let (source, destination) = (ip_repr.src_addr, ip_repr.dst_addr);
+        let (message, carried) = (icmp_repr.header(), icmp_repr.bytes());
+        let size = icmp_repr.buffer_len();
         let _ = self
             .rx_buffer
-            .enqueue_with_infallible(size, sender, move |bytes: &mut [u8]|
-                requires room { length bytes.old ≡ size }
-                requires whole { size ≡ payload_len (payload_value message.now) }
-                requires fits { PayloadFits ip_repr.now (payload_value message.now) }
-                ensures count { result ≡ size }
-                ensures written { bytes.new ≡ payload_written (all_checksums Checksums.Both) ip_repr.entry.now (payload_value message.entry.now) }
-            {
-                message.emit(ip_repr, bytes, &ChecksumCapabilities::default());
+            .enqueue_with_infallible(size, sender, |bytes: &mut [u8]| {
+                write_v6(&source, &destination, &message, carried, bytes);
                 size
             });
     }
