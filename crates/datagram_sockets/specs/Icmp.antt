@@ -220,11 +220,12 @@ IsPacketFor cx v q p = IsPacketFrom (cx.source_for q.0) q.0 q.1 (hops v.hop_limi
 abbrev pub IsSendable : PacketValue → Type 0
 IsSendable p = Ip.Fits p.header × PayloadFits p.header p.payload × (Ip.payload_len_in p.header ≡ payload_len p.payload)
 
--- the first queued message is offered in this packet
+-- the first queued message is offered in this packet, the only one that takes it
 pub record IsOffered (cx : ContextValue) (v : IcmpValue) (q : IpAddress × List ℕ) (p : PacketValue) (answer : Answer.Offer) (v' : IcmpValue) : Type 0 where
   pub answered : answer ≡ Offer.Packet false
   pub state : v' ≡ record v { queued = unpadded v.queued; offered = Some p }
   pub packet : IsPacketFor cx v q p
+  pub only : (other : PacketValue) → IsPacketFor cx v q other → other ≡ p
   pub sendable : IsSendable p
 
 -- it is dropped, since no packet can take it

@@ -42,10 +42,12 @@ abbrev pub AreHeld : Option Kept → Packets IpAddress → Type 0
 AreHeld None queue = Unit {0}
 AreHeld (Some k) queue = (unpadded queue ≡ queue) × IsHeldFirst k (first queue)
 
--- the packet can be sent, and takes these bytes from this source to this address
+-- the packet can be sent, and it alone takes these bytes from this source to this address
 abbrev pub IsKeptFor : Option IpAddress → IpAddress → List ℕ → ℕ → Kept → Type 0
 IsKeptFor source remote bytes limit k =
-    IsHeldIn k bytes × IsPacketFrom source remote bytes limit (packet_kept k bytes) × IsSendable (packet_kept k bytes)
+    IsHeldIn k bytes × IsPacketFrom source remote bytes limit (packet_kept k bytes)
+    × ((other : PacketValue) → IsPacketFrom source remote bytes limit other → other ≡ packet_kept k bytes)
+    × IsSendable (packet_kept k bytes)
 
 abbrev pub MayKeepFor : Option IpAddress → IpAddress → List ℕ → ℕ → Option Kept → Type 0
 MayKeepFor source remote bytes limit found = MatchOption found (Unit {0}) (λ k. IsKeptFor source remote bytes limit k)

@@ -640,6 +640,15 @@ pub fn silence()
         → (answer ≡ Answers.Silent false) × (v' ≡ settled false v) }
 {}
 
+/// Law: what an offer answers and leaves is determined. There is at most one packet that takes a queued
+/// message.
+pub fn offers_in_one_way()
+    ensures { (cx : ContextValue) (v left right : IcmpValue) (answer other : Answer.Offer)
+        → Offers cx v answer left
+        → Offers cx v other right
+        → (answer ≡ other) × (left ≡ right) }
+{}
+
 /// Law: a packet is offered exactly where the answer says so, and one whose offer is settled as not sent is
 /// offered again as it was.
 pub fn unsent_is_offered_again()

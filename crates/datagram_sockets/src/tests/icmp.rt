@@ -78,7 +78,7 @@ fn port_unreachable(bytes: &[u8]) -> Icmpv4Repr<'_> {
 
 fn bound(rt: &HostRuntime, endpoint: Endpoint) -> Result<Socket, Fail> {
     let mut socket = socket(rt)?;
-    assert!(rt; socket.bind(endpoint).is_ok());
+    socket.bind(endpoint)?;
     Ok(socket)
 }
 
