@@ -1,5 +1,5 @@
 -- Messages in a queue, and the packets that take them.
-use Rattle.std.proofs.Common.{◌≡◌, ℕ, ◌+◌, ◌-◌, ◌<◌, ◌≤◌, ◌^◌, List, [], length, drop, refl, sym, ap, ◌∙◌, subst, inl, inr, Bool, true, false, IsTrue, Option, None, Some, nat_lt, arith, length-drop}
+use Rattle.std.proofs.Common.{◌≡◌, ℕ, ◌+◌, ◌-◌, ◌<◌, ◌^◌, List, [], length, drop, refl, sym, ap, ◌∙◌, subst, inl, inr, Bool, false, Option, Some, nat_lt, arith, length-drop}
 use Rattle.std.proofs.lemmas.Bool.{cases_lt, ltb-true}
 use Rattle.std.proofs.lemmas.List.{drop-drop, drop_all}
 use Rattle.ip_address.specs.Fields.{IsBytes}
@@ -23,8 +23,7 @@ use Rattle.socket_base.specs.Packet as Carried
 use Rattle.socket_base.specs.Packet.{PacketValue, PayloadFits}
 use Rattle.datagram_sockets.specs.Header.{header_between}
 use Rattle.datagram_sockets.specs.Icmp.{IsPacketFrom, IsSendable}
-use Rattle.datagram_sockets.specs.IcmpKept.{IsKeptFor, packet_kept}
-use Rattle.datagram_sockets.specs.declared.icmp.Kept.{Kept}
+use Rattle.datagram_sockets.specs.IcmpKept.{IsKeptFor}
 use Rattle.datagram_sockets.specs.declared.icmp.Message.TheVariants as Says
 use Rattle.datagram_sockets.proofs.Offers.{some_same, some_when}
 

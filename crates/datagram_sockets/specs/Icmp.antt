@@ -1,5 +1,5 @@
 -- An ICMP socket as a value, and what its calls answer and leave.
-use Rattle.std.specs.Prelude.{◌≡◌, ℕ, ◌+◌, ◌<◌, ◌^◌, ◌==◌, nat_lt, nat_le, not, ◌&&◌, Bool, true, false, if◌then◌else◌, List, ◌++◌, length, drop, Option, None, Some, is_some, IsSome, MatchOption, Result, Ok, Err, is_ok}
+use Rattle.std.specs.Prelude.{◌≡◌, ℕ, ◌+◌, ◌<◌, ◌^◌, ◌==◌, nat_lt, nat_le, not, ◌&&◌, Bool, true, false, if◌then◌else◌, List, ◌++◌, length, drop, Option, None, Some, is_some, MatchOption, Result, Ok, Err, is_ok}
 use Rattle.net_base.specs.Packets.{Packets, used_places, is_full_for, appended, unpadded, first, without_first}
 use Rattle.ip_wire.specs.Fields.{be16}
 use Rattle.ip_wire.specs.Ip as Ip

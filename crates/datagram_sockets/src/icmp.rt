@@ -1,5 +1,5 @@
 //! Sockets for control messages (RFC 792, RFC 4443).
-ghost use Rattle.std.specs.Prelude.{◌≡◌, ◌≢◌, ◌↔◌, ℕ, ◌+◌, ◌<◌, ◌≤◌, ◌^◌, ◌==◌, ◌&&◌, Bool, List, length, take, drop, true, false, IfOk, OnErr, Ok, Err, None, Some, IsSome, is_some, MatchOption, if◌then◌else◌, nat_le};
+ghost use Rattle.std.specs.Prelude.{◌≡◌, ◌≢◌, ◌↔◌, ℕ, ◌+◌, ◌<◌, ◌≤◌, ◌^◌, List, length, take, true, false, IfOk, OnErr, Ok, Err, None, Some, IsSome, is_some, if◌then◌else◌};
 ghost use Rattle.std.specs.Fn.{FnOnceTakesAtMut, FnOnceReturnsAtMut};
 ghost use Rattle.net_base.specs.Packets.{used_room, without_first};
 ghost use Rattle.socket_base.specs.Addresses.{is_unspecified};
@@ -12,8 +12,8 @@ ghost use Rattle.control_wire.specs.Icmpv4 as Icmpv4;
 ghost use Rattle.control_wire.specs.Icmpv6 as Icmpv6;
 ghost use Rattle.socket_base.specs.declared.poll_at.Offer as Answer;
 ghost use Rattle.socket_base.specs.declared.poll_at.Offer.TheVariants as Answers;
-ghost use Rattle.datagram_sockets.specs.Udp.{option_value, has_packet, hops};
-ghost use Rattle.datagram_sockets.specs.Icmp.{IcmpValue, fresh, is_specified, is_open, with_hop_limit, bind_answer, bind_after, can_send, can_recv, send_answer, send_after, with_queued, is_done, recv_answer, recv_after, recv_written, takes_echo, takes_quoted, takes_error, accepts_v4, accepts_v6, process_v4_after, process_v6_after, IsPacketFrom, IsSendable, Offers, settled, poll_of};
+ghost use Rattle.datagram_sockets.specs.Udp.{option_value, has_packet};
+ghost use Rattle.datagram_sockets.specs.Icmp.{IcmpValue, fresh, is_specified, is_open, with_hop_limit, bind_answer, bind_after, can_send, can_recv, send_answer, send_after, with_queued, is_done, recv_answer, recv_after, recv_written, takes_echo, takes_quoted, takes_error, accepts_v4, accepts_v6, process_v4_after, process_v6_after, IsPacketFrom, Offers, settled, poll_of};
 ghost use Rattle.datagram_sockets.specs.IcmpKept.{MayKeepFor};
 ghost use Rattle.datagram_sockets.specs.IcmpDispatch.{TakesOffered, Dispatches};
 ghost use Rattle.datagram_sockets.specs.declared.icmp.Endpoint as Bound;
@@ -404,10 +404,12 @@ impl Socket {
     {
         match self.endpoint {
             Endpoint::Tcp(bound) => {
-                u8::from(protocol) == 6 && takes_quoted(&bound, destination, bytes)
+                u8::from(protocol) == u8::from(IpProtocol::Tcp)
+                    && takes_quoted(&bound, destination, bytes)
             }
             Endpoint::Udp(bound) => {
-                u8::from(protocol) == 17 && takes_quoted(&bound, destination, bytes)
+                u8::from(protocol) == u8::from(IpProtocol::Udp)
+                    && takes_quoted(&bound, destination, bytes)
             }
             Endpoint::Unspecified | Endpoint::Ident(_) => false,
         }
@@ -442,9 +444,8 @@ impl Socket {
             | Icmpv6Repr::TimeExceeded { header, bytes, .. } => {
                 self.takes_error(&destination, header.next_header, bytes)
             }
-            Icmpv6Repr::PktTooBig { .. }
-            | Icmpv6Repr::ParamProblem { .. }
-            | Icmpv6Repr::Ndisc(_) => false,
+            Icmpv6Repr::PktTooBig { .. } | Icmpv6Repr::ParamProblem { .. } | Icmpv6Repr::Ndisc(_) =>
+                false,
         }
     }
 

@@ -1,4 +1,6 @@
 //! Messages of other programs, sent and received by a socket.
+ghost use Rattle.control_wire.specs.Icmpv4.{Fits, header_of};
+
 use super::context;
 use crate::icmp::{
     BindError, Endpoint, PacketBuffer, PacketMetadata, RecvError, SendError, Socket,
@@ -53,7 +55,9 @@ fn header(next_header: IpProtocol, payload_len: usize) -> Ipv4Repr {
     }
 }
 
-fn reply(ident: u16) -> Icmpv4Repr<'static> {
+fn reply(ident: u16) -> Icmpv4Repr<'static>
+    ensures { Fits (header_of result) }
+{
     Icmpv4Repr::EchoReply {
         ident,
         seq_no: 1,
@@ -84,11 +88,13 @@ fn bound(rt: &HostRuntime, endpoint: Endpoint) -> Result<Socket, Fail> {
 
 fn is_request(packet: &Packet<'_>) -> bool {
     match packet.payload() {
-        IpPayload::Icmpv4(Icmpv4Repr::EchoRequest {
-            ident,
-            seq_no,
-            bytes,
-        }) => *ident == 0x1234 && *seq_no == 1 && bytes.is_empty(),
+        IpPayload::Icmpv4(
+            Icmpv4Repr::EchoRequest {
+                ident,
+                seq_no,
+                bytes,
+            },
+        ) => *ident == 0x1234 && *seq_no == 1 && bytes.is_empty(),
         _ => false,
     }
 }
@@ -208,7 +214,11 @@ fn an_unsent_message_stays_first(rt: HostRuntime) -> Result<(), Fail> {
 fn what_is_no_message_is_dropped(rt: HostRuntime) -> Result<(), Fail> {
     let mut socket = socket(&rt)?;
     let cx = context();
-    assert!(rt; socket.send_slice(&REQUEST[..7], IpAddress::v4(192, 168, 1, 2)).is_ok());
+    assert!(rt;
+        socket
+            .send_slice(&REQUEST[..7], IpAddress::v4(192, 168, 1, 2))
+            .is_ok()
+    );
     assert!(rt; socket.offer(&cx) == (Offer::Silent { changed: true }));
     assert!(rt; socket.poll_at() == PollAt::Ingress);
     let ipv6 = IpAddress::v6(0xfd00, 0, 0, 0, 0, 0, 0, 2);

@@ -23,9 +23,9 @@ returns-clause-found c =
     let carried = c.in-Ok.ensures.bytes ∙ ap (λ xs. V6.carried_in xs (V6.value_of m)) c.new_unchecked-packet.ensures in
     let short : length c.args.bytes.now < 2 ^ 32 = omega (arith, c.if-bytes-gt4294967295.false) in
     let same = λ (m' : V6.MessageValue) (is : V6.IsIcmpv6 c.args.source c.args.remote false c.args.bytes.now m').
-        let read = subst (λ xs. V6.IsIcmpv6 c.args.source c.args.remote false xs m') (sym c.new_unchecked-packet.ensures) is in
-        let tested = subst (λ caps. V6.IsIcmpv6 c.args.source c.args.remote (verifies caps.icmpv6) (bytes_of c.new_unchecked-packet.result) m') (sym c.ignored-unchecked.ensures) read in
-        (c.in-Ok.ensures.only m' tested).1
+    let read = subst (λ xs. V6.IsIcmpv6 c.args.source c.args.remote false xs m') (sym c.new_unchecked-packet.ensures) is in
+    let tested = subst (λ caps. V6.IsIcmpv6 c.args.source c.args.remote (verifies caps.icmpv6) (bytes_of c.new_unchecked-packet.result) m') (sym c.ignored-unchecked.ensures) read in
+    (c.in-Ok.ensures.only m' tested).1
     in
     let between = subst (λ n. header_between (Address.Ipv6 c.args.source) (Address.Ipv6 c.args.remote) Protocol.Icmpv6 n c.args.hop_limit ≡ Some c.in_ok-header.header) c.buffer_len.ensures (sym c.header_between.ensures ∙ c.in_ok-header.was) in
     rw (c.header.ensures, c.bytes.ensures) (keeps_v6 c.args.source c.args.remote c.args.bytes.now c.args.hop_limit m (V6.carried_by c.in-Ok.message) c.in_ok-header.header (λ i. (c.type_inv.bytes i).fits) short found carried same between)
