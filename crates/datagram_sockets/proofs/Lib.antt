@@ -1,3 +1,4 @@
+pub mod Messages
 pub mod Queues
 pub mod Offers
 pub mod RawOffers

@@ -25,10 +25,10 @@ Takes bytes header =
 abbrev pub IsSendable : PacketValue → Type 0
 IsSendable p = Ip.Fits p.header × PayloadFits p.header p.payload × (Ip.payload_len_in p.header ≡ payload_len p.payload)
 
-some_same : {A : Type 0} (x y : A) → Some x ≡ Some y → x ≡ y
+pub some_same : {A : Type 0} (x y : A) → Some x ≡ Some y → x ≡ y
 some_same {A} x y is = ap (λ o. elim o as (λ _. A) [ None ↦ x | Some z ↦ z ]) is
 
-some_when : (b : Bool) (x y : IpRepr) → (if b then Some x else None) ≡ Some y → (b ≡ true) × (x ≡ y)
+pub some_when : (b : Bool) (x y : IpRepr) → (if b then Some x else None) ≡ Some y → (b ≡ true) × (x ≡ y)
 some_when true x y is = (refl, some_same x y is)
 some_when false x y is = absurd (none-some y is)
 

@@ -3,6 +3,7 @@
 
 mod header;
 pub mod raw;
+pub mod icmp;
 #[cfg(test)]
 mod tests;
 pub mod udp;

@@ -1,3 +1,5 @@
+mod icmp;
+
 use crate::udp::{
     BindError, PacketBuffer, PacketMetadata, RecvError, SendError, Socket, UdpMetadata,
 };
