@@ -1,10 +1,10 @@
 pub mod Header
-pub mod Raw
-pub mod RawDispatch
-pub mod RawLends
-pub mod Icmp
-pub mod IcmpDispatch
-pub mod IcmpKept
 pub mod Udp
 pub mod UdpDispatch
 pub mod UdpLends
+pub mod Icmp
+pub mod IcmpDispatch
+pub mod IcmpKept
+pub mod Raw
+pub mod RawDispatch
+pub mod RawLends

@@ -2,8 +2,8 @@
 #![tactic(auto)]
 
 mod header;
-pub mod raw;
 pub mod icmp;
+pub mod raw;
 #[cfg(test)]
 mod tests;
 pub mod udp;
