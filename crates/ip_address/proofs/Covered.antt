@@ -1,17 +1,11 @@
 -- Checksums over a pseudo header and a packet.
-use Rattle.std.proofs.Common.{◌≡◌, ℕ, ◌+◌, ◌<◌, ◌^◌, ◌↔◌, IsTrue, List, sym, ◌∙◌, ap, length, arith}
+use Rattle.std.proofs.Common.{◌≡◌, ℕ, ◌+◌, ◌↔◌, IsTrue, List, sym, ◌∙◌, ap, length, arith}
 use Rattle.std.specs.Prelude.{◌==◌}
 use Rattle.std.proofs.lemmas.Bool.{eqb-true, eq-eqb}
 use Rattle.ip_address.proofs.Sums.{folded-folded, ChecksumHolds-folded}
-use Rattle.ip_address.specs.Pseudo.{FitsPseudo, pseudo_of, covered}
+use Rattle.ip_address.specs.Pseudo.{pseudo_of, covered}
 use Rattle.ip_address.specs.Sum.{word_sum, folded, ChecksumHolds}
 use Rattle.ip_address.specs.declared.ip.IpAddress.{IpAddress}
-use Rattle.ip_address.specs.declared.ip.IpAddress.TheVariants as Ip
-
--- a length of 16 bits fits the pseudo header of either family
-pub FitsPseudo-small : (a : IpAddress) (n : ℕ) → n < 2 ^ 16 → FitsPseudo a n
-FitsPseudo-small (Ip.Ipv4 a) n small = small
-FitsPseudo-small (Ip.Ipv6 a) n small = omega arith
 
 -- the combination of two sums
 pub folded-combined : (a b : ℕ) → folded (folded a + folded b) ≡ folded (a + b)

@@ -177,9 +177,6 @@ push_held room count end start stop cs h free le lt fits runs =
       small = fits;
     }
 
-pub empty_held : (room : ℕ) (cs : List Contig) → 1 ≤ room → length cs ≡ room → AreHeld room 0 0 cs
-empty_held room cs some e = record { some_room = some; within = omega arith; places = e; runs = tt; ends = refl; small = lit< tt }
-
 pub length_view : (room count end : ℕ) (cs : List Contig) → AreHeld room count end cs → length (runs_from 0 (take count cs)) ≡ count
 length_view room count end cs h = length-runs_from 0 (take count cs) ∙ length-take-le count cs (omega (arith, h.places, h.within))
 
