@@ -93,36 +93,6 @@ micros_of_parsed {E} word (Err e) parsed digits =
     let facts = parse_signed_digits digit_words {E = E} w64 word (Err e) parsed digits in
     rw (number_of_no (2 ^ 63) word facts) refl
 
--- WORDS READ ONE AFTER ANOTHER
-
-none_after_one : {P S : Type 0} (o : Option P) → ◌≡◌ {A = Option S} None (o >>= λ _. None)
-none_after_one None = refl
-none_after_one (Some p) = refl
-
-none_after_two : {P Q S : Type 0} (o : Option P) (second : Option Q) → ◌≡◌ {A = Option S} None (o >>= λ _. second >>= λ _. None)
-none_after_two None second = refl
-none_after_two (Some p) second = none_after_one second
-
-none_after_three : {P Q R S : Type 0} (o : Option P) (second : Option Q) (third : Option R) → ◌≡◌ {A = Option S} None (o >>= λ _. second >>= λ _. third >>= λ _. None)
-none_after_three None second third = refl
-none_after_three (Some p) second third = none_after_two second third
-
-none_after_four : {P Q R S T : Type 0} (o : Option P) (second : Option Q) (third : Option R) (fourth : Option S) → ◌≡◌ {A = Option T} None (o >>= λ _. second >>= λ _. third >>= λ _. fourth >>= λ _. None)
-none_after_four None second third fourth = refl
-none_after_four (Some p) second third fourth = none_after_three second third fourth
-
--- four words are read one after another
-pub four_by_steps : {P Q R S T : Type 0} (f : List ℕ → Option P) (g : List ℕ → Option Q) (h : List ℕ → Option R) (i : List ℕ → Option S) (make : P → Q → R → S → T) (words : List (List ℕ))
-    → four f g h i make words
-    ≡ (first_as f words >>= λ p. first_as g (drop 1 words) >>= λ q. first_as h (drop 1 (drop 1 words)) >>= λ r. first_as i (drop 1 (drop 1 (drop 1 words))) >>= λ s.
-    at_end (make p q r s) (drop 1 (drop 1 (drop 1 (drop 1 words)))))
-four_by_steps f g h i make [] = refl
-four_by_steps f g h i make (a ∷ []) = none_after_one (f a)
-four_by_steps f g h i make (a ∷ b ∷ []) = none_after_two (f a) (g b)
-four_by_steps f g h i make (a ∷ b ∷ c ∷ []) = none_after_three (f a) (g b) (h c)
-four_by_steps f g h i make (a ∷ b ∷ c ∷ d ∷ []) = refl
-four_by_steps f g h i make (a ∷ b ∷ c ∷ d ∷ e ∷ rest) = none_after_four (f a) (g b) (h c) (i d)
-
 -- HEX
 
 some_of_three : {X : Type 0} (p q r : Bool) (x y z : X) → ((r || p) || q) ≡ is_some (cond p (Some x) (cond q (Some y) (cond r (Some z) None)))
