@@ -1,0 +1,2 @@
+pub mod Reno
+pub mod RoundTrip
