@@ -1,7 +1,7 @@
 use Rattle.std.proofs.Common.{◌≡◌, ◌∙◌, ap, append_assoc, List, ◌++◌, drop, ℕ}
 use Rattle.ip_packet.proofs.Fronts.{whole-front}
 use Rattle.ip_wire.proofs.Joined.{joined-three}
-use Rattle.ip_wire.proofs.arp.put_packet.Goals as goal
+use Rattle.ip_wire.proofs.arp.repr.put_packet.Goals as goal
 
 -- the two pairs of addresses in a row
 in_a_row : (header a b c d rest new : List ℕ) → new ≡ (header ++ ((a ++ b) ++ (c ++ d))) ++ rest → new ≡ (header ++ (a ++ (b ++ (c ++ d)))) ++ rest

@@ -1,5 +1,5 @@
 use Rattle.ip_wire.proofs.EthernetLaws.{fits}
-use Rattle.ip_wire.proofs.ethernet.ethernet_fits.Goals as goal
+use Rattle.ip_wire.proofs.ethernet.laws.ethernet_fits.Goals as goal
 
 pub returns : goal.returns
 returns c = fits

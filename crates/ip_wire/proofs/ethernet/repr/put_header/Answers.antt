@@ -1,7 +1,7 @@
 use Rattle.std.proofs.Common.{◌∙◌}
 use Rattle.ip_packet.proofs.Fronts.{whole-front}
 use Rattle.ip_wire.proofs.Joined.{joined-three}
-use Rattle.ip_wire.proofs.ethernet.put_header.Goals as goal
+use Rattle.ip_wire.proofs.ethernet.repr.put_header.Goals as goal
 
 pub returns-clause-front : goal.returns-clause-front
 returns-clause-front c =
