@@ -219,6 +219,8 @@ example_packet =
         next_header = Protocol.Udp;
         payload_len = 12;
         hop_limit = 64;
+        ident = 0;
+        dont_frag = true;
       };
       udp = record { src_port = 48896; dst_port = 53 };
       payload = 0xaa ∷ 0 ∷ 0 ∷ 0xff ∷ [];
