@@ -743,10 +743,10 @@ impl Ipv4Repr {
         ensures same_reference { name_of packet.new ≡ name_of packet.old }
         ensures bytes { bytes_in packet.new
             ≡ written_piece (computes checksum_caps.now.ipv4) self.now offset more
-                ++ drop 20 (bytes_in packet.old) }
+            ++ drop 20 (bytes_in packet.old) }
         ensures exact { length (bytes_in packet.old) ≡ 20
             → bytes_in packet.new
-                ≡ written_piece (computes checksum_caps.now.ipv4) self.now offset more }
+            ≡ written_piece (computes checksum_caps.now.ipv4) self.now offset more }
     {
         let piece = Ipv4Piece { offset, more };
         let check = self.sent_checksum(piece, checksum_caps.ipv4.tx());
@@ -869,7 +869,7 @@ pub fn ipv4_piece_reads_back()
         → v.payload_len ≤ length rest
         → (IsTrue tested → IsTrue sealed)
         → IsIpv4 tested (written_piece sealed v piece.offset piece.more ++ rest) (normal v)
-            × (piece_of (written_piece sealed v piece.offset piece.more ++ rest) ≡ piece) }
+        × (piece_of (written_piece sealed v piece.offset piece.more ++ rest) ≡ piece) }
 {}
 
 /// Law: what the pieces of one datagram have in common stands in each piece's header.
