@@ -6,7 +6,7 @@ use Rattle.net_base.specs.Ring.{Ring, anchored, enqueued}
 use Rattle.ip_wire.specs.IpAddress.{IpAddress}
 use Rattle.ip_wire.specs.IpEndpoint.{IpEndpoint}
 use Rattle.ip_wire.specs.IpListenEndpoint.{IpListenEndpoint}
-use Rattle.socket_base.specs.Addresses.{is_unspecified}
+use Rattle.ip_wire.specs.AddressTests.{is_unspecified}
 use Rattle.socket_base.specs.Context.{ContextValue, next_random}
 use Rattle.tcp_law.specs.ReceiveMap.{space}
 use Rattle.tcp_model.specs.declared.block.AddressPair.{AddressPair}

@@ -11,7 +11,7 @@ use Rattle.ip_wire.specs.TcpControl.{TcpControl}
 use Rattle.ip_wire.specs.TcpControl.TheVariants as Control
 use Rattle.ip_wire.specs.TcpHeader.{TcpHeader}
 use Rattle.ip_wire.specs.SeqNumber.{SeqNumber}
-use Rattle.socket_base.specs.Addresses.{is_same_address}
+use Rattle.ip_wire.specs.AddressTests.{is_same_address}
 use Rattle.tcp_model.specs.declared.block.AddressPair.{AddressPair}
 use Rattle.tcp_model.specs.declared.block.AddressPair.TheVariants as Pair
 use Rattle.tcp_model.specs.declared.block.Block.{Block}
