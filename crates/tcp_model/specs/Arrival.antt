@@ -48,8 +48,8 @@ abbrev pub continued : ContextValue → Block → TcpValue → IpRepr → TcpHea
 continued cx old v ip header bytes by =
     if is_closed v.block.state then dropped v
     else finished cx v.block
-      (with_text (with_block v (counted (window_set v.block header) old header (length bytes) by)) header bytes)
-      ip header (length bytes)
+    (with_text (with_block v (counted (window_set v.block header) old header (length bytes) by)) header bytes)
+    ip header (length bytes)
 
 -- an accepted segment; where it ends LAST-ACK nothing more is done
 abbrev pub taken : ContextValue → TcpValue → IpRepr → TcpHeader → List ℕ → ℕ → Arrived

@@ -22,3 +22,5 @@ pub mod Rules
 pub mod Offers
 pub mod Settled
 pub mod Due
+pub mod Examples
+pub mod Runs
