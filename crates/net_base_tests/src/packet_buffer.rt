@@ -62,121 +62,183 @@ fn shows(queue: &mut PacketBuffer<u16>, header: u16, bytes: &[u8]) -> bool {
     }
 }
 
+/// One step of a queue's life, and what it must answer.
+#[derive(Clone, Copy)]
+enum Step<'a> {
+    /// A packet of this header and these bytes is queued.
+    Puts(u16, &'a [u8]),
+    /// There is no room for it.
+    Refuses(u16, &'a [u8]),
+    /// The first packet is this one, and it stays.
+    Shows(u16, &'a [u8]),
+    /// The first packet is this one, and it is taken.
+    Gives(u16, &'a [u8]),
+    /// There is no packet.
+    IsEmpty,
+    /// No entry is free.
+    IsFull,
+    /// So many bytes are taken, padding among them.
+    Counts(usize),
+}
+
+/// Whether the step goes as it says.
+fn goes(queue: &mut PacketBuffer<u16>, step: &Step) -> bool {
+    match step {
+        Step::Puts(header, bytes) => put(queue, *header, bytes),
+        Step::Refuses(header, bytes) => !put(queue, *header, bytes),
+        Step::Shows(header, bytes) => shows(queue, *header, bytes),
+        Step::Gives(header, bytes) => gives(queue, *header, bytes),
+        Step::IsEmpty => queue.is_empty() && queue.peek().is_err() && queue.dequeue().is_err(),
+        Step::IsFull => queue.is_full(),
+        Step::Counts(bytes) => queue.payload_bytes_count() == *bytes,
+    }
+}
+
+/// The first of the steps that doesn't go as it says, counted from 0.
+fn first_wrong(queue: &mut PacketBuffer<u16>, steps: &[Step]) -> Option<usize> {
+    for (i, step) in steps.iter().enumerate() {
+        if !goes(queue, step) {
+            return Some(i);
+        }
+    }
+    None
+}
+
 #[test]
 fn pads_at_the_end(rt: HostRuntime) -> Result<(), Fail> {
     let mut queue = queue_of(&rt, 4, 16)?;
-    assert!(rt; queue.peek().is_err());
-    assert!(rt; put(&mut queue, 1, b"abcdef"));
-    assert!(rt; shows(&mut queue, 1, b"abcdef"));
-    assert!(rt; put(&mut queue, 2, b"12345678"));
-    assert!(rt; gives(&mut queue, 1, b"abcdef"));
-    assert!(rt; put(&mut queue, 3, b"abcd"));
-    // Two bytes of padding lie between.
-    assert_eq!(rt; queue.payload_bytes_count(), 14);
-    assert!(rt; !queue.is_full());
-    assert!(rt; put(&mut queue, 4, b""));
-    assert!(rt; queue.is_full());
-    assert!(rt; gives(&mut queue, 2, b"12345678"));
-    assert!(rt; shows(&mut queue, 3, b"abcd"));
-    assert_eq!(rt; queue.payload_bytes_count(), 4);
-    assert!(rt; gives(&mut queue, 3, b"abcd"));
-    assert!(rt; gives(&mut queue, 4, b""));
-    assert!(rt; queue.is_empty());
-    assert!(rt; queue.dequeue().is_err());
-    assert!(rt; put(&mut queue, 5, b"abcdefghijklmno"));
-    assert!(rt; gives(&mut queue, 5, b"abcdefghijklmno"));
-    assert!(rt; put(&mut queue, 6, b"0123456789abcdef"));
+    let steps = [
+        Step::IsEmpty,
+        Step::Puts(1, b"abcdef"),
+        Step::Shows(1, b"abcdef"),
+        Step::Puts(2, b"12345678"),
+        Step::Gives(1, b"abcdef"),
+        Step::Puts(3, b"abcd"),
+        // Two bytes of padding lie between.
+        Step::Counts(14),
+        Step::Puts(4, b""),
+        Step::IsFull,
+        Step::Gives(2, b"12345678"),
+        Step::Shows(3, b"abcd"),
+        Step::Counts(4),
+        Step::Gives(3, b"abcd"),
+        Step::Gives(4, b""),
+        Step::IsEmpty,
+        Step::Puts(5, b"abcdefghijklmno"),
+        Step::Gives(5, b"abcdefghijklmno"),
+        Step::Puts(6, b"0123456789abcdef"),
+    ];
+    assert_eq!(rt; first_wrong(&mut queue, &steps), None);
     queue.reset();
-    assert!(rt; queue.is_empty());
-    assert_eq!(rt; queue.payload_bytes_count(), 0);
+    assert_eq!(rt;
+        first_wrong(&mut queue, &[Step::IsEmpty, Step::Counts(0)]),
+        None
+    );
     Ok(())
 }
 
 #[test]
 fn refuses_what_has_no_room(rt: HostRuntime) -> Result<(), Fail> {
     let mut queue = queue_of(&rt, 2, 16)?;
-    assert!(rt; !put(&mut queue, 1, b"0123456789abcdefg"));
-    assert!(rt; put(&mut queue, 1, b"abcdef"));
-    assert!(rt; !put(&mut queue, 2, b"0123456789a"));
-    assert!(rt; put(&mut queue, 2, b"12345678"));
-    assert!(rt; !put(&mut queue, 3, b""));
-    assert!(rt; gives(&mut queue, 1, b"abcdef"));
-    // Padding would need an entry of its own.
-    assert!(rt; !put(&mut queue, 3, b"abc"));
-    assert_eq!(rt; queue.payload_bytes_count(), 8);
-    assert!(rt; put(&mut queue, 3, b"ab"));
-    assert!(rt; gives(&mut queue, 2, b"12345678"));
-    assert!(rt; gives(&mut queue, 3, b"ab"));
-    // The rest behind the padding would be too short.
-    let mut short = queue_of(&rt, 4, 16)?;
-    assert!(rt; put(&mut short, 1, b"abcd"));
-    assert!(rt; put(&mut short, 2, b"12345678"));
-    assert!(rt; gives(&mut short, 1, b"abcd"));
-    assert!(rt; !put(&mut short, 3, b"abcdefgh"));
-    assert!(rt; !put(&mut short, 3, b"abcde"));
-    assert!(rt; put(&mut short, 3, b"abcd"));
-    assert!(rt; put(&mut short, 4, b"efgh"));
-    assert_eq!(rt; short.payload_bytes_count(), 16);
-    assert!(rt; gives(&mut short, 2, b"12345678"));
-    assert!(rt; gives(&mut short, 3, b"abcd"));
-    assert!(rt; gives(&mut short, 4, b"efgh"));
+    let steps = [
+        Step::Refuses(1, b"0123456789abcdefg"),
+        Step::Puts(1, b"abcdef"),
+        Step::Refuses(2, b"0123456789a"),
+        Step::Puts(2, b"12345678"),
+        Step::Refuses(3, b""),
+        Step::Gives(1, b"abcdef"),
+        // Padding would need an entry of its own.
+        Step::Refuses(3, b"abc"),
+        Step::Counts(8),
+        Step::Puts(3, b"ab"),
+        Step::Gives(2, b"12345678"),
+        Step::Gives(3, b"ab"),
+    ];
+    assert_eq!(rt; first_wrong(&mut queue, &steps), None);
+    Ok(())
+}
+
+#[test]
+fn refuses_what_the_padding_leaves_no_room_for(rt: HostRuntime) -> Result<(), Fail> {
+    let mut queue = queue_of(&rt, 4, 16)?;
+    let steps = [
+        Step::Puts(1, b"abcd"),
+        Step::Puts(2, b"12345678"),
+        Step::Gives(1, b"abcd"),
+        Step::Refuses(3, b"abcdefgh"),
+        Step::Refuses(3, b"abcde"),
+        Step::Puts(3, b"abcd"),
+        Step::Puts(4, b"efgh"),
+        Step::Counts(16),
+        Step::Gives(2, b"12345678"),
+        Step::Gives(3, b"abcd"),
+        Step::Gives(4, b"efgh"),
+    ];
+    assert_eq!(rt; first_wrong(&mut queue, &steps), None);
     Ok(())
 }
 
 #[test]
 fn keeps_the_queue_where_it_refuses(rt: HostRuntime) -> Result<(), Fail> {
     let mut queue = queue_of(&rt, 2, 16)?;
-    assert!(rt; put(&mut queue, 1, b"abcdef"));
-    // There is no room for so many bytes, and then no entry.
-    assert!(rt; !put(&mut queue, 2, b"0123456789a"));
-    assert!(rt; shows(&mut queue, 1, b"abcdef"));
-    assert_eq!(rt; queue.payload_bytes_count(), 6);
-    assert!(rt; put(&mut queue, 2, b"ghi"));
-    assert!(rt; !put(&mut queue, 3, b""));
-    assert_eq!(rt; queue.payload_bytes_count(), 9);
-    assert!(rt; gives(&mut queue, 1, b"abcdef"));
-    assert!(rt; gives(&mut queue, 2, b"ghi"));
-    assert!(rt; queue.dequeue().is_err());
-    assert!(rt; queue.is_empty());
+    let steps = [
+        Step::Puts(1, b"abcdef"),
+        // There is no room for so many bytes, and then no entry.
+        Step::Refuses(2, b"0123456789a"),
+        Step::Shows(1, b"abcdef"),
+        Step::Counts(6),
+        Step::Puts(2, b"ghi"),
+        Step::Refuses(3, b""),
+        Step::Counts(9),
+        Step::Gives(1, b"abcdef"),
+        Step::Gives(2, b"ghi"),
+        Step::IsEmpty,
+        Step::Puts(4, b"0123456789abcdef"),
+        Step::Gives(4, b"0123456789abcdef"),
+    ];
+    assert_eq!(rt; first_wrong(&mut queue, &steps), None);
     assert_eq!(rt;
         (queue.packet_capacity(), queue.payload_capacity()),
         (2, 16)
     );
-    assert!(rt; put(&mut queue, 4, b"0123456789abcdef"));
-    assert!(rt; gives(&mut queue, 4, b"0123456789abcdef"));
     Ok(())
+}
+
+/// A queue whose first packet has two bytes of padding before it.
+fn padded_queue(rt: &HostRuntime) -> Result<PacketBuffer<u16>, Fail> {
+    let mut queue = queue_of(rt, 4, 16)?;
+    let steps = [
+        Step::Puts(1, b"abcdef"),
+        Step::Puts(2, b"12345678"),
+        Step::Gives(1, b"abcdef"),
+        Step::Puts(3, b"wxy"),
+        Step::Gives(2, b"12345678"),
+        Step::Counts(5),
+    ];
+    match first_wrong(&mut queue, &steps) {
+        Some(_) => Err(Fail::from("the queue isn't laid out so")),
+        None => Ok(queue),
+    }
 }
 
 #[test]
 fn queues_what_closures_write(rt: HostRuntime) -> Result<(), Fail> {
-    let mut queue = queue_of(&rt, 4, 16)?;
-    assert!(rt; put(&mut queue, 1, b"abcdef"));
-    assert!(rt; put(&mut queue, 2, b"12345678"));
-    assert!(rt; gives(&mut queue, 1, b"abcdef"));
+    let mut queue = queue_of(&rt, 2, 4)?;
     let size = queue.enqueue_with_infallible(4, 3, |bytes: &mut [u8]| {
         bytes.copy_from_slice(b"wxyz");
         3
     });
     assert_eq!(rt; size, Ok(3));
-    assert_eq!(rt; queue.payload_bytes_count(), 13);
     let size = queue.enqueue_with_infallible(4, 4, |_bytes: &mut [u8]| 0);
     assert_eq!(rt; size, Err(Full));
-    assert!(rt; gives(&mut queue, 2, b"12345678"));
-    // Two bytes of padding come before the third.
-    assert_eq!(rt; queue.payload_bytes_count(), 5);
-    assert!(rt; gives(&mut queue, 3, b"wxy"));
+    let steps = [Step::Counts(3), Step::Gives(3, b"wxy"), Step::IsEmpty];
+    assert_eq!(rt; first_wrong(&mut queue, &steps), None);
     Ok(())
 }
 
 #[test]
 fn keeps_what_a_closure_refused(rt: HostRuntime) -> Result<(), Fail> {
-    let mut queue = queue_of(&rt, 4, 16)?;
-    assert!(rt; put(&mut queue, 1, b"abcdef"));
-    assert!(rt; put(&mut queue, 2, b"12345678"));
-    assert!(rt; gives(&mut queue, 1, b"abcdef"));
-    assert!(rt; put(&mut queue, 3, b"wxy"));
-    assert!(rt; gives(&mut queue, 2, b"12345678"));
-    assert_eq!(rt; queue.payload_bytes_count(), 5);
+    let mut queue = padded_queue(&rt)?;
     let kept: Result<Result<(), u8>, Empty> = queue.dequeue_with(
         |header: &mut u16, bytes: &mut [u8]| {
             *header = 7;
@@ -187,12 +249,18 @@ fn keeps_what_a_closure_refused(rt: HostRuntime) -> Result<(), Fail> {
         },
     );
     assert_eq!(rt; kept, Ok(Err(9)));
-    assert_eq!(rt; queue.payload_bytes_count(), 3);
-    assert!(rt; shows(&mut queue, 7, b"Wxy"));
+    let steps = [Step::Counts(3), Step::Shows(7, b"Wxy")];
+    assert_eq!(rt; first_wrong(&mut queue, &steps), None);
+    Ok(())
+}
+
+#[test]
+fn gives_up_what_a_closure_took(rt: HostRuntime) -> Result<(), Fail> {
+    let mut queue = padded_queue(&rt)?;
     let taken: Result<Result<(u16, usize), ()>, Empty> = queue.dequeue_with(
         |header: &mut u16, bytes: &mut [u8]| Ok((*header, bytes.len())),
     );
-    assert_eq!(rt; taken, Ok(Ok((7, 3))));
+    assert_eq!(rt; taken, Ok(Ok((3, 3))));
     assert!(rt; queue.is_empty());
     let none: Result<Result<(), ()>, Empty> = queue.dequeue_with(
         |_header: &mut u16, _bytes: &mut [u8]| Ok(()),
