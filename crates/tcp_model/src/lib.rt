@@ -3,6 +3,7 @@
 
 mod block;
 mod error;
+pub mod examples;
 mod offer;
 mod reno;
 mod round_trip;
