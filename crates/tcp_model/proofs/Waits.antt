@@ -8,16 +8,16 @@ use Rattle.socket_base.specs.declared.poll_at.PollAt.TheVariants as At
 use Rattle.tcp_model.specs.declared.block.Block.{Block}
 use Rattle.tcp_model.specs.declared.block.EndpointPair.{EndpointPair}
 use Rattle.tcp_model.specs.Due.{wishes, moments, any, earlier_of, earliest, at_moment, poll_open, poll_between, poll_with, poll_of}
-use Rattle.tcp_model.specs.Moments.{is_due, earlier}
+use Rattle.tcp_model.specs.Moments.{is_due, earlier, timeout_from}
 use Rattle.tcp_model.specs.Offers.{silent, first_rules, last_rules, backed_off, offer_between, offer_with, offer_of}
 use Rattle.tcp_model.specs.Quiet.{IsQuiet, AreLater}
 use Rattle.tcp_model.specs.declared.state.State.{State}
 use Rattle.tcp_model.specs.declared.state.State.TheVariants as In
-use Rattle.tcp_model.specs.Probing.{probe_started}
+use Rattle.tcp_model.specs.Probing.{probe_started, with_probe_at}
 use Rattle.tcp_model.specs.Rules.{time_wait_end}
 use Rattle.tcp_model.specs.States.{is_closed, is_time_wait}
 use Rattle.tcp_model.specs.Settled.{settled}
-use Rattle.tcp_model.specs.Timeout.{timeout_started, timeout_end, end_by, waits_for_remote}
+use Rattle.tcp_model.specs.Timeout.{timeout_started, with_timeout_since, timeout_end, end_by, waits_for_remote}
 use Rattle.tcp_model.specs.Value.{TcpValue, with_block, unoffered, queued_in, window_of}
 
 not_due : (now moment : ℤ) → now <ℤ moment → int_le moment now ≡ false
@@ -80,7 +80,8 @@ quiet_last cx v pair q =
     if_not _ _ _ q.probe ∙ (if_not _ _ _ q.ack ∙ (if_not _ _ _ q.window_update ∙ if_not _ _ _ q.keep_alive))
 
 no_probe_set : (cx : ContextValue) (v : TcpValue) (pair : EndpointPair) → IsQuiet cx v pair → probe_started cx.moment (queued_in v) v.block ≡ v.block
-no_probe_set cx v pair q = if_not _ _ _ q.probe_set
+no_probe_set cx v pair q =
+    ap (λ (unset : Bool). with_probe_at v.block (if unset then Some (timeout_from cx.moment v.block.round_trip) else v.block.timers.probe_at)) q.probe_set
 
 quiet_first : (cx : ContextValue) (v : TcpValue) (pair : EndpointPair) → IsQuiet cx v pair → first_rules cx v pair ≡ silent false v
 quiet_first cx v pair q =
@@ -88,7 +89,8 @@ quiet_first cx v pair q =
     ∙ (ap (λ (b : Block). last_rules cx (with_block v b) pair) (no_probe_set cx v pair q) ∙ quiet_last cx v pair q)))
 
 no_moment_set : (cx : ContextValue) (v : TcpValue) (pair : EndpointPair) → IsQuiet cx v pair → backed_off cx.moment (timeout_started cx.moment (queued_in v) v.block) ≡ v.block
-no_moment_set cx v pair q = ap (λ (b : Block). backed_off cx.moment b) (if_not _ _ _ q.timeout_set) ∙ if_not _ _ _ q.retransmission
+no_moment_set cx v pair q = ap (λ (unset : Bool). backed_off cx.moment (with_timeout_since v.block (if unset then Some cx.moment else v.block.timers.timeout_since))) q.timeout_set
+    ∙ if_not _ _ _ q.retransmission
 
 quiet_open : (cx : ContextValue) (v : TcpValue) (pair : EndpointPair) → is_closed v.block.state ≡ false → IsQuiet cx v pair → offer_between cx v pair ≡ silent false v
 quiet_open cx v pair e q =
