@@ -95,6 +95,7 @@ impl Station {
                 calls::recv_from(self.alloc, &mut self.sockets[*i], *limit)
             }
             Event::Poll(_, moment, budget) => {
+                self.port.set_room(usize::MAX);
                 let changed = poll::poll(
                     &self.address,
                     self.mtu,

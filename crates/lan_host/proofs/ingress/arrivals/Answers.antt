@@ -1,10 +1,17 @@
-use Rattle.std.proofs.Common.{◌≡◌, [], ◌∷◌, ◌∙◌, ap, refl, sym, subst, arith, take, List, ℕ, IsTrue}
+use Rattle.std.proofs.Common.{◌≡◌, ◌<◌, ◌&&◌, Bool, true, nat_lt, [], ◌∷◌, ◌∙◌, ap, refl, sym, subst, arith, take, List, ℕ, IsTrue}
 use Rattle.net_base.specs.Device.{gives_tokens}
-use Rattle.lan_port.specs.Port.{PortValue}
+use Rattle.lan_port.specs.Port.{PortValue, has_leave}
+use Rattle.std.proofs.lemmas.Bool.Decides.{nat_tests}
 use Rattle.lan_machine.specs.Packet.{AreContents}
 use Rattle.lan_host.specs.Arrivals.{FrameArrives}
 use Rattle.lan_host.proofs.Delivered.{none_taken, arrivals-step, waiting-step, changed-step}
 use Rattle.lan_host.proofs.ingress.arrivals.Goals as goal
+
+both : (room : ℕ) (tokens : Bool) → tokens ≡ true → 0 < room → nat_lt 0 room && tokens ≡ true
+both room tokens gives some = grind (arith, nat_tests)
+
+leave : (port : PortValue) → IsTrue (gives_tokens port.link.refusals) → 0 < port.link.room → IsTrue (has_leave port.link)
+leave port tokens some = both port.link.room (gives_tokens port.link.refusals) tokens some
 
 pub loop-left-init : goal.loop-left-init
 loop-left-init c =
@@ -38,5 +45,5 @@ returns-after-loop-left-clause-sockets c =
 
 pub returns-in_default-clause-sockets : goal.returns-in_default-clause-sockets
 returns-in_default-clause-sockets c =
-    let tokens = subst (λ (p : PortValue). IsTrue (gives_tokens p.link.refusals)) (sym c.loop-left.invariant.port) c.requires in
+    let tokens = subst (λ (p : PortValue). IsTrue (has_leave p.link)) (sym c.loop-left.invariant.port) (leave c.args.port.now c.requires.tokens c.requires.room) in
     c.loop-left.invariant.sockets [] (none_taken c.loop-left.left c.loop-left.port.link.waiting (c.in_default.ensures.moves.1 tokens))
