@@ -41,15 +41,15 @@ fn try_replay<R: Read, W: Write>(alloc: Global, reader: &mut R, writer: &mut W) 
 {
     let mut run = Run::new(alloc);
     let mut piece = [0; PIECE];
-    for _ in 0..MOST_READS {
+    for count in 0..MOST_READS {
         match reader.read(&mut piece) {
             Ok(0) => {
                 let status = run.finish(alloc, writer)?;
                 writer.flush()?;
                 return Ok(status);
             }
-            Ok(count) => {
-                let led = run.take_piece(alloc, &piece[..count], writer)?;
+            Ok(len) => {
+                let led = run.take_piece(alloc, &piece[..len], writer)?;
                 writer.flush()?;
                 let Some(next) = led else {
                     return Ok(1);

@@ -73,13 +73,13 @@ impl Run {
             × Appends (W.contents writer.old) (W.contents writer.new) output
             × Replays self.number self.session (lines_of self.begun.items) output status) }
     {
-        if self.begun.is_empty() {
+        if self.begun.as_slice().is_empty() {
             return Ok(0);
         }
-        match self.take_line(alloc, writer)? {
-            Some(_) => Ok(0),
-            None => Ok(1),
-        }
+        let Some(_) = self.take_line(alloc, writer)? else {
+            return Ok(1);
+        };
+        Ok(0)
     }
 
     // More of the line that was begun.
