@@ -2,11 +2,13 @@
 //! segment, a frame with one word exchanged, and a frame cut in two pieces.
 #![tactic(auto)]
 
+mod cut;
 pub mod laws;
 mod names;
 mod part;
 mod word;
 
+pub use cut::{cut_frame, ipv4_part};
 pub use names::names_tcp_or_udp;
 pub use part::{Part, tcp_part};
 pub use word::damage;

@@ -44,7 +44,7 @@ pub fn tcp_part(medium: Medium, frame: &[u8]) -> Option<Part>
 }
 
 // The packet that a frame carries; none where the frame has no room for its own header.
-fn packet_in(medium: Medium, frame: &[u8]) -> &[u8]
+pub(crate) fn packet_in(medium: Medium, frame: &[u8]) -> &[u8]
     ensures { result.now ≡ packet_in medium frame.now }
 {
     let header = match medium {
@@ -58,13 +58,29 @@ fn packet_in(medium: Medium, frame: &[u8]) -> &[u8]
     }
 }
 
-fn may_carry(medium: Medium, number: u16, frame: &[u8]) -> bool
+pub(crate) fn may_carry(medium: Medium, number: u16, frame: &[u8]) -> bool
     ensures { result ≡ may_carry medium number frame.now }
 {
     match medium {
         Medium::Ethernet => ethertype(frame) == number,
         Medium::Ip => true,
     }
+}
+
+// An IPv4 header whose lengths fit the bytes.
+pub(crate) fn is_ipv4(packet: &[u8]) -> bool
+    ensures value { result ≡ is_ipv4 packet.now }
+    ensures room { OnTrue result (20 ≤ length packet.now) }
+    ensures least { OnTrue result (header_len_of packet.now ≤ be16 packet.now 2) }
+    ensures within { OnTrue result (be16 packet.now 2 ≤ length packet.now) }
+{
+    if packet.len() < 20 || packet[0] / 16 != 4 {
+        return false;
+    }
+    let view = Ipv4Packet::new_unchecked(packet);
+    let header = view.header_len() as usize;
+    let total = view.total_len() as usize;
+    20 <= header && header <= total && total <= packet.len()
 }
 
 // An IPv4 packet that nobody cut, with a TCP segment.
@@ -74,15 +90,7 @@ fn is_tcp_over_ipv4(packet: &[u8]) -> bool
     ensures least { OnTrue result (header_len_of packet.now ≤ be16 packet.now 2) }
     ensures within { OnTrue result (be16 packet.now 2 ≤ length packet.now) }
 {
-    if packet.len() < 20 || packet[0] / 16 != 4 {
-        return false;
-    }
-    let header = Ipv4Packet::new_unchecked(packet).header_len() as usize;
-    let total = read_u16(packet, 2) as usize;
-    if header < 20 || total < header || packet.len() < total {
-        return false;
-    }
-    read_u16(packet, 6) % 0x4000 == 0 && packet[9] == 6
+    is_ipv4(packet) && read_u16(packet, 6) % 0x4000 == 0 && packet[9] == 6
 }
 
 // An IPv6 packet with a TCP segment right behind its header.
