@@ -1,18 +1,12 @@
 -- Lemmas on the lines of a script and on what they write.
-use Rattle.std.proofs.Common.{◌≡◌, ℕ, zero, suc, ◌+◌, ◌-◌, ◌<◌, ◌≤◌, Bool, true, false, not, cond, eqb, ltb, List, [], ◌∷◌, ◌++◌, length, take, drop, refl, sym, ap, subst, inl, inr, append_assoc, append-nil, add-one, arith, Option, Some, None, Result, Ok, Err, IfOk, IfErr, ◌⊎◌, IfSome}
-use Rattle.std.specs.List.{position_or_len, position}
+use Rattle.std.proofs.Common.{◌≡◌, ℕ, ◌+◌, ◌≤◌, List, [], ◌∷◌, ◌++◌, sym, inl, inr, append-nil, arith, Option, Some, None, Result, Ok, Err, IfOk, IfErr, IfSome}
 use Rattle.std.specs.Io.KnownBytes.{Consumes, IsAtEnd}
 use Rattle.std.proofs.KnownBytes.{Consumes-trans, Consumes-whole}
-use Rattle.std.proofs.lemmas.Bool.{cases_lt}
-use Rattle.std.proofs.lemmas.List.Sums.{prefix_len-le-length}
-use Rattle.std.proofs.lemmas.Bool.Decides.{nat_tests}
-use Rattle.std.proofs.lemmas.Grind.{common_steps}
 use Rattle.lan.specs.declared.script.answer.End.{End}
 use Rattle.lan.specs.declared.script.session.Session.{Session}
 use Rattle.lan.specs.declared.script.line.Line.{Line}
-use Rattle.lan.specs.ScriptLines.{SaysLine, lines_of}
-use Rattle.lan.specs.ScriptAnswers.{end_line}
-use Rattle.lan.specs.ScriptRuns.{end_of, Ends, Leads, LineLeads, LineEnds, Replays, IsReplay}
+use Rattle.lan.specs.ScriptLines.{SaysLine}
+use Rattle.lan.specs.ScriptRuns.{end_of, Ends, Leads, LineLeads, LineEnds, Replays}
 
 -- RUNS
 

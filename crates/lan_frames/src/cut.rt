@@ -1,8 +1,6 @@
-ghost use Rattle.std.specs.Prelude.{◌≡◌, ◌+◌, ◌<◌, ◌≤◌, ◌^◌, ◌++◌, IsSome, IfSome, IfOk, length, take};
+ghost use Rattle.std.specs.Prelude.{◌≡◌, ◌+◌, ◌<◌, ◌≤◌, ◌^◌, ◌++◌, true, IsSome, IfSome, IfOk, length};
 ghost use Rattle.std.specs.Option.{ForSome};
-ghost use Rattle.net_devices.specs.Capabilities.{frame_header};
 ghost use Rattle.ip_packet.specs.Ipv4 as ipv4;
-ghost use Rattle.lan_frames.specs.Carried.{packet_in};
 ghost use Rattle.lan_frames.specs.Cuts.{ipv4_part, header_for, piece_with, first_piece, second_piece};
 
 use crate::part::{Part, is_ipv4, may_carry, packet_in};

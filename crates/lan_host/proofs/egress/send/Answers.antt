@@ -1,4 +1,3 @@
-use Rattle.std.proofs.Common.{arith}
 use Rattle.lan_host.proofs.Leave.{leave_with_room}
 use Rattle.lan_host.proofs.egress.send.Goals as goal
 

@@ -1,4 +1,4 @@
-use Rattle.std.proofs.Common.{◌≡◌, ◌++◌, ◌<◌, length, refl, arith}
+use Rattle.std.proofs.Common.{◌++◌, ◌<◌, length, refl, arith}
 use Rattle.std.proofs.lemmas.List.{length-take}
 use Rattle.std.proofs.KnownBytes.{Appends-trans, Appends-kept, Consumes-trans, Consumes-kept}
 use Rattle.lan.specs.declared.script.session.Session.TheVariants.{Begun}
@@ -29,7 +29,7 @@ returns-in_default g c =
     let read = rw c.in-Ok.is at c.read.ensures.bytes in
     let ran = rw c.in_default.is at c.in_ok-led-in-Ok.ensures.runs in
     let ended = script_ends_early (g.R.Read.remaining c.args.reader.now) (g.R.Read.remaining c.loop-count.reader) (g.R.Read.remaining c.read.new.self)
-        before.0 c.loop-count.run.begun.items _ before.1 ran.0 c.loop-count.run.number c.loop-count.run.session before.2 read.0 before.4 ran.2 in (
+    before.0 c.loop-count.run.begun.items _ before.1 ran.0 c.loop-count.run.number c.loop-count.run.session before.2 read.0 before.4 ran.2 in (
       ended.0,
       before.1 ++ ran.0,
       ended.1,

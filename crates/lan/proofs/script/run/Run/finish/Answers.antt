@@ -1,6 +1,5 @@
-use Rattle.std.proofs.Common.{[], refl}
+use Rattle.std.proofs.Common.{[]}
 use Rattle.std.proofs.KnownBytes.{Appends-nil}
-use Rattle.lan.specs.ScriptAnswers.{end_line}
 use Rattle.lan.proofs.ScriptPieceLemmas.{nothing_left, something_left, last_leads, last_ends}
 use Rattle.lan.proofs.script.run.Run.finish.Goals as goal
 

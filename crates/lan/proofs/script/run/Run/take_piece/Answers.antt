@@ -1,4 +1,4 @@
-use Rattle.std.proofs.Common.{◌≡◌, ℕ, ◌+◌, ◌++◌, List, [], ◌∷◌, take, drop, length-drop, refl, sym, ap, ◌∙◌, subst, arith}
+use Rattle.std.proofs.Common.{◌≡◌, ℕ, ◌+◌, ◌++◌, List, [], ◌∷◌, take, length-drop, refl, sym, ap, ◌∙◌, subst, arith}
 use Rattle.std.proofs.KnownBytes.{Appends-nil, Appends-trans}
 use Rattle.lan.specs.declared.script.session.Session.{Session}
 use Rattle.lan.specs.ScriptAnswers.{end_line}
@@ -37,9 +37,9 @@ returns-in_default-2-clause-runs g c =
       before.1 ++ ran.0,
       Appends-trans _ _ _ _ _ before.2 ran.1,
       subst (λ (t : List ℕ). RunsOut c.args.self.number c.args.self.session (c.args.self.begun.items ++ c.args.piece.now) (before.1 ++ t)) (sym text)
-      (line_goes_out c.args.self.number c.loop-end.run.number c.args.self.session c.loop-end.run.session c.args.self.begun.items c.args.piece.now before.0
-      c.loop-end.rest.now before.1 c.loop-end.run.begun.items c.begin.new.self.begun.items c.in-Some.end ran.2.0
-      before.3 before.4 (sym c.in-Some.ensures.place) c.in_ok-begin.ensures.begun c.begin.new.self.unbroken ends),
+          (line_goes_out c.args.self.number c.loop-end.run.number c.args.self.session c.loop-end.run.session c.args.self.begun.items c.args.piece.now before.0
+          c.loop-end.rest.now before.1 c.loop-end.run.begun.items c.begin.new.self.begun.items c.in-Some.end ran.2.0
+          before.3 before.4 (sym c.in-Some.ensures.place) c.in_ok-begin.ensures.begun c.begin.new.self.unbroken ends),
     )
 
 pub loop-end-preserved : goal.loop-end-preserved
