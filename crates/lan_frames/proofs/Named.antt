@@ -58,4 +58,4 @@ ether_is n m same = sym (ether_number-ether_of n) ∙ ap ether_number same ∙ e
 
 -- a byte behind the link header
 pub byte_behind : (bytes : List ℕ) (n i : ℕ) → slice_index (drop n bytes) i ≡ slice_index bytes (n + i)
-byte_behind bytes n i = get_or-drop bytes n i 0
+byte_behind bytes n i = get_or-drop n bytes i 0

@@ -1,7 +1,7 @@
 //! Laws of what the link does to frames. Each is a function that does nothing, whose clauses are the
 //! law.
 ghost use Rattle.std.specs.Prelude.{◌≡◌, ◌≢◌, ℕ, ◌+◌, ◌%◌, ◌^◌, ◌<◌, ◌≤◌, Bool, true, false, List, length, Some};
-ghost use Rattle.net_devices.specs.Medium.TheVariants.{Ethernet, Ip};
+ghost use Rattle.net_devices.specs.declared.capabilities.Medium.TheVariants.{Ethernet, Ip};
 ghost use Rattle.ip_address.specs.Fields.{be16};
 ghost use Rattle.ip_address.specs.declared.ip.IpAddress.{IpAddress};
 ghost use Rattle.ip_address.specs.declared.ip.IpProtocol.TheVariants.{Tcp, Udp};
