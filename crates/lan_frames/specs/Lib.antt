@@ -1,3 +1,0 @@
-pub mod Carried
-pub mod Parts
-pub mod Cuts
