@@ -3,6 +3,7 @@
 
 mod block;
 mod error;
+pub mod examples;
 mod moments;
 mod offer;
 mod offsets;

@@ -6,17 +6,19 @@ ghost use Rattle.tcp_model.specs.Moments.{later, later_by, timeout_from, time_wa
 use crate::RoundTrip;
 use net_base::{Duration, Instant};
 
-/// The longest that a duration counts as where it is added to a moment.
-const LONGEST: Duration = Duration::from_micros(1 << 61);
-const TIME_WAIT: Duration = Duration::from_micros(10_000_000);
-const BETWEEN_DRAWS: Duration = Duration::from_micros(1_000_000);
+/// The longest that a duration counts as where it is added to a moment, in microseconds.
+const LONGEST: u64 = 1 << 61;
+/// How long TIME-WAIT lasts, in microseconds.
+const TIME_WAIT: u64 = 10_000_000;
+/// How long after an answer to a segment that isn't acceptable no other goes, in microseconds.
+const BETWEEN_DRAWS: u64 = 1_000_000;
 
 /// The moment after a duration that the user set.
 pub fn later(now: Instant, duration: Duration) -> Instant
     requires { IsMoment now }
     ensures { result ≡ later now duration }
 {
-    now + duration.min(LONGEST)
+    now + Duration::from_micros(duration.total_micros().min(LONGEST))
 }
 
 /// The moment after a duration that may be set.
@@ -43,7 +45,7 @@ pub fn time_wait_from(now: Instant) -> Instant
     requires { IsMoment now }
     ensures { result ≡ time_wait_from now }
 {
-    now + TIME_WAIT
+    now + Duration::from_micros(TIME_WAIT)
 }
 
 /// When an answer to a segment that isn't acceptable may go again after one that goes now.
@@ -51,7 +53,7 @@ pub fn next_draw_from(now: Instant) -> Instant
     requires { IsMoment now }
     ensures { result ≡ next_draw_from now }
 {
-    now + BETWEEN_DRAWS
+    now + Duration::from_micros(BETWEEN_DRAWS)
 }
 
 /// Whether the moment has come.

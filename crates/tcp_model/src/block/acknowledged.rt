@@ -7,11 +7,8 @@ use super::opening::{is_fin, or_recent};
 use crate::moments::{time_wait_from, timeout_from};
 use crate::offsets::behind_by;
 use crate::{Block, State};
-use ip_wire::TcpHeader;
+use ip_wire::{MAX_WINDOW_SCALE, TcpHeader};
 use net_base::Instant;
-
-/// The largest shift that a window field may have.
-const MOST_SCALE: u8 = 14;
 
 /// What a window field means.
 fn scaled(scale: Option<u8>, field: u16) -> u32
@@ -19,7 +16,7 @@ fn scaled(scale: Option<u8>, field: u16) -> u32
 {
     match scale {
         None => field as u32,
-        Some(scale) => (field as u32) << scale.min(MOST_SCALE),
+        Some(scale) => (field as u32) << scale.min(MAX_WINDOW_SCALE),
     }
 }
 

@@ -7,17 +7,14 @@ use crate::{
     Block, CongestionControl, Names, Peer, Receiver, Reno, RoundTrip, Sender, Settings, State,
     Timers,
 };
-use ip_wire::{IpListenEndpoint, SeqNumber};
+use ip_wire::{IpListenEndpoint, MAX_WINDOW_SCALE, SeqNumber};
 use net_base::Duration;
 
-/// The delay of an acknowledgement, if no other is set.
-const ACK_DELAY: Duration = Duration::from_micros(10_000);
+/// The delay of an acknowledgement, if no other is set, in microseconds.
+const ACK_DELAY: u64 = 10_000;
 
 /// The largest payload that a remote takes that names none.
 pub const DEFAULT_MSS: u16 = 536;
-
-/// The largest shift of a window field.
-const MOST_SCALE: u8 = 14;
 
 impl Names {
     /// No names.
@@ -54,7 +51,7 @@ impl Settings {
     {
         Settings {
             timeout: None,
-            ack_delay: Some(ACK_DELAY),
+            ack_delay: Some(Duration::from_micros(ACK_DELAY)),
             keep_alive: None,
             keep_alive_at: None,
             nagle: true,
@@ -153,7 +150,7 @@ pub fn own_scale(capacity: usize) -> u8
     ensures value { result ≡ own_scale capacity }
     ensures small { result ≤ 14 }
 {
-    scale_for(MOST_SCALE, capacity)
+    scale_for(MAX_WINDOW_SCALE, capacity)
 }
 
 /// The least shift, at most so large, that brings a count into 16 bits.
