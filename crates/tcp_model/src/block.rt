@@ -141,7 +141,7 @@ mod acknowledged;
 mod checks;
 mod due;
 mod fresh;
-mod names;
+mod endpoints;
 mod opening;
 mod rules;
 mod segments;
@@ -150,7 +150,7 @@ mod text;
 mod timeout;
 
 pub use checks::Verdict;
-pub use names::is_same_listener;
+pub use endpoints::is_same_listener;
 pub use opening::{is_fin, is_first_syn, is_rst, is_syn, is_void_syn};
 pub use rules::{PROBE, Part};
 pub use segments::{reply_to, rst_reply};

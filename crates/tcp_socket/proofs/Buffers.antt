@@ -12,6 +12,8 @@ use Rattle.held_bytes.proofs.Places.{length-map_from, map_from-space, map_from-m
 use Rattle.held_bytes.proofs.Storing.{held-store, overlay-overwritten, length-overlay, EndsBy-union}
 use Rattle.held_bytes.proofs.Fronts.{takes_front}
 use Rattle.held_bytes.proofs.RunsOf.{runs_of-held}
+use Rattle.tcp_model.specs.Calls.{read_from}
+use Rattle.tcp_model.specs.Answers.{run_at}
 use Rattle.tcp_socket.specs.Receive as buffer
 use Rattle.tcp_socket.specs.Receive.{received, IsHeldBy, most_bytes}
 use Rattle.tcp_model.specs.Value.{Received, received_of, room_of, emptied}
@@ -44,10 +46,10 @@ cleared-new r =
         map_from-nothing (storage_of r) ∙ ap space (length-rotated (capacity r - r.start) (r.queue ++ r.free) ∙ length-append r.queue r.free) in
     λ i. record { waiting = []; map = map i; start = 0 }
 
-pub released-received : (r : Ring ℕ) (held : List (ℕ × ℕ)) (n : ℕ) → IsHeldBy r held → n ≤ length r.queue → received (released r n) held ≡ buffer.read (received r held) n
+pub released-received : (r : Ring ℕ) (held : List (ℕ × ℕ)) (n : ℕ) → IsHeldBy r held → n ≤ length r.queue → received (released r n) held ≡ read_from (received r held) n
 released-received r held n is fits =
-    let map : map_from held 0 (r.free ++ take n r.queue) ≡ map_from held 0 r.free ++ space n =
-        map_from-more held r.free (take n r.queue) is.ends ∙ ap (λ k. map_from held 0 r.free ++ space k) (length-take-le n r.queue fits) in
+    let map : map_from held 0 (r.free ++ take n r.queue) ≡ map_from held 0 r.free ++ space (length (take n r.queue)) =
+        map_from-more held r.free (take n r.queue) is.ends in
     let start : (r.start + n) % capacity r ≡ (r.start + n) % room_of (received r held) = ap (λ k. (r.start + n) % k) (capacity-received r held) in
     λ i. record { waiting = drop n r.queue; map = map i; start = start i }
 
@@ -179,6 +181,6 @@ does_hold r held v past bytes n laid runs is by far fits union few n_is laid_is 
       value = rw (laid_at, runs_is, ← is, test) value;
     }
 
-pub run_held : (r : Ring ℕ) (held : List (ℕ × ℕ)) (v : Received) (place : ℕ) → received r held ≡ v → IsHeldBy r held → buffer.run_with place held ≡ buffer.run_with place (runs_of v.map)
+pub run_held : (r : Ring ℕ) (held : List (ℕ × ℕ)) (v : Received) (place : ℕ) → received r held ≡ v → IsHeldBy r held → run_at held place ≡ run_at (runs_of v.map) place
 run_held r held v place is by =
-    rw (← is) (ap (buffer.run_with place) (sym (runs_of-held held r.free by.runs by.ends)))
+    rw (← is) (ap (λ rs. run_at rs place) (sym (runs_of-held held r.free by.runs by.ends)))

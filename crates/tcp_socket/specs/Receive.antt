@@ -1,5 +1,5 @@
 -- What came to a socket: the bytes that wait to be read, and the receive map behind them.
-use Rattle.std.specs.Prelude.{ℕ, ◌+◌, ◌-◌, ◌%◌, ◌^◌, ◌≤◌, nat_le, nat_lt, ◌&&◌, min, Bool, List, [], ◌∷◌, ◌++◌, length, take, drop, find, Option, if◌then◌else◌}
+use Rattle.std.specs.Prelude.{ℕ, ◌+◌, ◌-◌, ◌%◌, ◌^◌, ◌≤◌, nat_le, nat_lt, ◌&&◌, min, Bool, List, [], ◌∷◌, ◌++◌, length, take, drop, Option, if◌then◌else◌}
 use Rattle.net_base.specs.Ring.{Ring}
 use Rattle.net_base.specs.Assembler.{AreRuns, Holds}
 use Rattle.tcp_law.specs.ReceiveMap.{space, store, front, behind}
@@ -36,19 +36,6 @@ can_hold r past bytes = nat_le (length (runs_of (store r.map past bytes))) most_
 
 abbrev pub early : Received → ℕ → List ℕ → Received
 early r past bytes = if can_hold r past bytes then record r { map = store r.map past bytes } else r
-
--- the run with this place
-abbrev pub run_with : ℕ → List (ℕ × ℕ) → Option (ℕ × ℕ)
-run_with place runs = find (λ (r : ℕ × ℕ). nat_le r.0 place && nat_lt place r.1) runs
-
--- the first bytes are read
-abbrev pub read : Received → ℕ → Received
-read r count =
-    record {
-      waiting = drop count r.waiting;
-      map = r.map ++ space count;
-      start = (r.start + count) % room_of r;
-    }
 
 -- how many waiting bytes from the offset on lie behind one another, of at most so many
 abbrev pub unbroken : Received → ℕ → ℕ → ℕ

@@ -1,7 +1,9 @@
 //! The receive buffer of a socket.
 ghost use Rattle.std.specs.Prelude.{◌≡◌, is_ok, ◌+◌, ◌-◌, ◌<◌, ◌≤◌, ◌^◌, ◌++◌, length, take, drop, min, List, []};
-ghost use Rattle.tcp_socket.specs.Receive.{most_bytes, in_order, can_hold, early, run_with, read, unbroken};
+ghost use Rattle.tcp_socket.specs.Receive.{most_bytes, in_order, can_hold, early, unbroken};
 ghost use Rattle.tcp_model.specs.Value.{received_of, room_of, emptied};
+ghost use Rattle.tcp_model.specs.Calls.{read_from};
+ghost use Rattle.tcp_model.specs.Answers.{run_at};
 ghost use Rattle.tcp_law.specs.ReceiveMap.{space, store, front};
 ghost use Rattle.held_bytes.specs.Held.{runs_of};
 
@@ -90,7 +92,7 @@ impl ReceiveBuffer {
     /// Gives up the first waiting bytes.
     pub fn release(&mut self, count: usize)
         requires { count ≤ length self.old.waiting }
-        ensures { self.new ≡ read self.old count }
+        ensures { self.new ≡ read_from self.old count }
     {
         self.ring.dequeue_allocated(count);
     }
@@ -122,16 +124,16 @@ impl ReceiveBuffer {
     }
 
     /// The run of held bytes with this place, from its first place to the one behind its last.
-    pub fn run_with(&self, place: usize) -> Option<(usize, usize)>
-        ensures { result ≡ run_with place (runs_of self.now.map) }
+    pub fn run_at(&self, place: usize) -> Option<(usize, usize)>
+        ensures { result ≡ run_at (runs_of self.now.map) place }
     {
-        run_with(&self.held, place)
+        run_at(&self.held, place)
     }
 }
 
 /// The run with this place.
-fn run_with(held: &Assembler<4>, place: usize) -> Option<(usize, usize)>
-    ensures { result ≡ run_with place held.now }
+fn run_at(held: &Assembler<4>, place: usize) -> Option<(usize, usize)>
+    ensures { result ≡ run_at held.now place }
 {
     for (start, end) in held.iter_data() {
         if start <= place && place < end {

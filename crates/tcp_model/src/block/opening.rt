@@ -1,5 +1,5 @@
 //! A segment comes in LISTEN or SYN-SENT.
-ghost use Rattle.std.specs.Prelude.{◌≡◌, ◌≤◌, ◌^◌, ◌==◌, ◌&&◌, not};
+ghost use Rattle.std.specs.Prelude.{◌≡◌, ◌≤◌, ◌^◌, ◌==◌, ◌&&◌, not, false};
 ghost use Rattle.net_base.specs.Time.{IsMoment};
 ghost use Rattle.tcp_model.specs.Controls.{is_syn, is_fin, is_rst, or_mss, is_zero, capped_scale, or_recent};
 ghost use Rattle.tcp_model.specs.Opening.{peer_of, took_syn, is_first_syn, answering, acks_syn, connected, crossed, syn_answered};

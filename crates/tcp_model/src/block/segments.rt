@@ -121,9 +121,14 @@ impl Block {
         requires { IsMoment now }
         ensures { result ≡ sack_segment self.now pair.now now window range }
     {
-        let mut header = self.ack_segment(pair, now, window);
-        header.options.sack_ranges = [range, None, None];
-        header
+        let header = self.ack_segment(pair, now, window);
+        TcpHeader {
+            options: TcpOptions {
+                sack_ranges: [range, None, None],
+                ..header.options
+            },
+            ..header
+        }
     }
 
     /// The options of a SYN: a first one asks for all, and an answer only for what the other SYN had.

@@ -3,7 +3,7 @@ use Rattle.tcp_socket.proofs.Buffers.{capacity-received, map_from-nothing, nothi
 use Rattle.held_bytes.proofs.Places.{length-map_from}
 use Rattle.tcp_law.specs.ReceiveMap.{space}
 use Rattle.tcp_model.specs.Value.{Received}
-use Rattle.tcp_socket.proofs.receive_buffer.ReceiveBuffer.run_with.Goals as goal
+use Rattle.tcp_socket.proofs.receive_buffer.ReceiveBuffer.run_at.Goals as goal
 
 pub returns : goal.returns
-returns c = c.run_with.ensures ∙ run_held c.self.inside.ring c.self.inside.held c.args.self.now c.args.place c.self.view_is c.self.invariant
+returns c = c.run_at.ensures ∙ run_held c.self.inside.ring c.self.inside.held c.args.self.now c.args.place c.self.view_is c.self.invariant
