@@ -22,6 +22,7 @@ pub mod Rules
 pub mod Offers
 pub mod Settled
 pub mod Due
+pub mod Quiet
 pub mod Examples
 pub mod Runs
 pub mod Checked

@@ -4,6 +4,7 @@
 mod block;
 mod error;
 pub mod examples;
+pub mod laws;
 mod moments;
 mod offer;
 mod offsets;

@@ -158,8 +158,9 @@ impl Socket {
             return None;
         }
         let header = &incoming.header;
+        let duplicates = old.duplicates_after(header, incoming.bytes.len(), by);
         self.block.set_window(header);
-        self.block.count(&old, header, incoming.bytes.len(), by);
+        self.block.count(duplicates);
         self.take_content(now, incoming)
     }
 

@@ -51,7 +51,7 @@ impl Socket {
         if self.block.owes_syn() {
             return self.offer_syn(now, ip_mtu, pair);
         }
-        if self.block.sender.resend {
+        if self.block.resends() {
             let part = self.resend_part(&pair.addresses, ip_mtu);
             return self.offer_part(OfferKind::FastRetransmission, now, pair, &part);
         }
@@ -66,7 +66,7 @@ impl Socket {
     fn offer_last(&mut self, now: Instant, pair: &EndpointPair) -> Offer {
         if is_due(now, self.block.probe_moment(self.queued.len())) {
             self.offer_part(OfferKind::Probe, now, pair, &PROBE)
-        } else if is_due(now, self.block.timers.ack_at) {
+        } else if is_due(now, self.block.ack_moment()) {
             self.offer_ack(OfferKind::Ack, now, pair)
         } else if self.block.updates_window(self.window()) {
             self.offer_ack(OfferKind::WindowUpdate, now, pair)

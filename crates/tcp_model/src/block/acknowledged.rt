@@ -1,7 +1,7 @@
 //! The acknowledgement and the window of an accepted segment.
 ghost use Rattle.std.specs.Prelude.{◌≡◌, ◌≤◌, ◌<◌, ◌^◌, IfSome};
 ghost use Rattle.net_base.specs.Time.{IsMoment};
-ghost use Rattle.tcp_model.specs.Acknowledged.{freed_by, sender_moved, retransmit_after, una_moved, acks_fin, state_after_ack, in_state, block_acknowledged, scaled, window_set, is_duplicate, duplicate_counted, counted};
+ghost use Rattle.tcp_model.specs.Acknowledged.{freed_by, sender_moved, retransmit_after, una_moved, acks_fin, state_after_ack, in_state, block_acknowledged, scaled, window_set, is_duplicate, duplicates_after, reno_counted, counted};
 
 use super::opening::{is_fin, or_recent};
 use crate::moments::{time_wait_from, timeout_from};
@@ -117,30 +117,27 @@ impl Block {
             && self.sender.in_flight != 0
     }
 
-    /// Counts a duplicate, where there were so many before.
-    fn count_duplicate(&mut self, earlier: u8)
-        ensures { self.new ≡ duplicate_counted self.old earlier }
+    /// The duplicates in a row after a segment, counted up to 4.
+    pub fn duplicates_after(&self, header: &TcpHeader, size: usize, by: u32) -> u8
+        ensures { result ≡ duplicates_after self.now header.now size by }
     {
-        if earlier == 2 {
-            self.sender.duplicates = 3;
-            self.sender.resend = true;
-            self.reno.lost(self.sender.in_flight);
-        } else if earlier < 2 {
-            self.sender.duplicates = earlier + 1;
+        if self.is_duplicate(header, size, by) {
+            self.sender.duplicates.min(3) + 1
         } else {
-            self.sender.duplicates = 4;
-            self.reno.inflate();
+            0
         }
     }
 
-    /// Counts the duplicates in a row. `old` is the block as the segment found it.
-    pub fn count(&mut self, old: &Block, header: &TcpHeader, size: usize, by: u32)
-        ensures { self.new ≡ counted self.old old.now header.now size by }
+    /// There were so many duplicates in a row. At the third the segment at SND.UNA is to go again.
+    pub fn count(&mut self, count: u8)
+        ensures { self.new ≡ counted self.old count }
     {
-        if old.is_duplicate(header, size, by) {
-            self.count_duplicate(old.sender.duplicates);
-        } else {
-            self.sender.duplicates = 0;
+        match count {
+            3 => self.reno.lost(self.sender.in_flight),
+            4 => self.reno.inflate(),
+            _ => {}
         }
+        self.sender.duplicates = count;
+        self.sender.resend = self.sender.resend || count == 3;
     }
 }

@@ -72,6 +72,8 @@ impl AddressPair {
                 next_header: IpProtocol::Tcp,
                 payload_len,
                 hop_limit,
+                ident: 0,
+                dont_frag: false,
             }),
             AddressPair::Ipv6 { local, remote } => IpRepr::Ipv6(Ipv6Repr {
                 src_addr: local,

@@ -1,14 +1,14 @@
 //! A segment comes in LISTEN or SYN-SENT.
 ghost use Rattle.std.specs.Prelude.{◌≡◌, ◌≤◌, ◌^◌, ◌==◌, ◌&&◌, not, false};
 ghost use Rattle.net_base.specs.Time.{IsMoment};
-ghost use Rattle.tcp_model.specs.Controls.{is_syn, is_fin, is_rst, or_mss, is_zero, capped_scale, or_recent};
+ghost use Rattle.tcp_model.specs.Controls.{is_syn, is_fin, is_rst, or_mss, is_zero, or_recent};
 ghost use Rattle.tcp_model.specs.Opening.{peer_of, took_syn, is_first_syn, answering, acks_syn, connected, crossed, syn_answered};
 ghost use Rattle.tcp_model.specs.Arrival.{is_void_syn};
 
 use super::fresh::DEFAULT_MSS;
 use crate::offsets::behind_by;
 use crate::{Block, EndpointPair, Peer, Sender, State};
-use ip_wire::{IpRepr, MAX_WINDOW_SCALE, SeqNumber, TcpControl, TcpHeader, TcpTimestampRepr};
+use ip_wire::{IpRepr, SeqNumber, TcpControl, TcpHeader, TcpTimestampRepr};
 use net_base::Instant;
 
 /// Whether this is a SYN.
@@ -65,15 +65,6 @@ fn or_mss(mss: Option<u16>) -> u16
     }
 }
 
-fn capped_scale(scale: Option<u8>) -> Option<u8>
-    ensures { result ≡ capped_scale scale }
-{
-    match scale {
-        None => None,
-        Some(scale) => Some(scale.min(MAX_WINDOW_SCALE)),
-    }
-}
-
 /// The timestamp that came last.
 pub fn or_recent(stamp: Option<TcpTimestampRepr>, recent: u32) -> u32
     ensures { result ≡ or_recent stamp recent }
@@ -92,7 +83,7 @@ impl Peer {
         Peer {
             window: header.window_len as u32,
             mss: or_mss(header.options.max_seg_size),
-            scale: capped_scale(header.options.window_scale),
+            scale: header.options.window_scale,
             sack: header.options.sack_permitted,
             timestamps: header.options.timestamp.is_some(),
             recent: or_recent(header.options.timestamp, 0),

@@ -1,6 +1,6 @@
 //! What a socket offers: a test for each rule, and what the rules for text may send.
 ghost use Rattle.std.specs.Prelude.{◌≡◌, ◌+◌, ◌≤◌, ◌<◌, ◌^◌, min};
-ghost use Rattle.tcp_model.specs.Rules.{time_wait_end, owes_syn, Choice, stamp_len, size_limit, congestion_limit, window_limit, next_place, fin_goes, text_of_size, is_sendable, sends_choice, first_text, probe_choice, control_for, updates_window, keep_alive_moment, backed_off_now};
+ghost use Rattle.tcp_model.specs.Rules.{time_wait_end, owes_syn, resends, ack_moment, Choice, stamp_len, size_limit, congestion_limit, window_limit, next_place, fin_goes, text_of_size, is_sendable, sends_choice, first_text, probe_choice, control_for, updates_window, keep_alive_moment, backed_off_now};
 ghost use Rattle.tcp_model.specs.Offers.{number_at, backed_off};
 ghost use Rattle.tcp_model.specs.Choices.{choice_of};
 
@@ -61,6 +61,24 @@ impl Block {
             && !(self.state.is_answering() && self.settings.synack_paused)
             && self.sender.syn_unacked
             && self.sender.in_flight == 0
+    }
+
+    /// Whether the third duplicate came, and the segment at SND.UNA is to go again.
+    pub fn resends(&self) -> bool
+        ensures { result ≡ resends self.now }
+    {
+        self.state.sends_text() && self.sender.resend
+    }
+
+    /// When an acknowledgement is due, where there is something to acknowledge.
+    pub fn ack_moment(&self) -> Option<Instant>
+        ensures { result ≡ ack_moment self.now }
+    {
+        if self.receiver.took_syn {
+            self.timers.ack_at
+        } else {
+            None
+        }
     }
 
     /// The length of the timestamps option with its padding.

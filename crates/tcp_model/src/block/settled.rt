@@ -1,30 +1,23 @@
 //! What an offer is told.
 ghost use Rattle.std.specs.Prelude.{◌≡◌, ◌+◌, ◌≤◌, ◌<◌, ◌^◌};
 ghost use Rattle.net_base.specs.Time.{IsMoment};
-ghost use Rattle.tcp_model.specs.Settled.{field_recorded, recorded, end_of, nxt_moved, timer_started, went, syn_went, resent, probed, sent_as};
+ghost use Rattle.tcp_model.specs.Settled.{recorded, end_of, nxt_moved, timer_started, went, syn_went, resent, probed, sent_as};
 
 use crate::moments::{later_by, timeout_from};
 use crate::{Block, OfferKind, OpenOffer};
 use net_base::Instant;
 
 impl Block {
-    /// Records the window field of a segment that went, and its acknowledgement, if it has one.
-    fn record_field(&mut self, offer: &OpenOffer)
-        ensures { self.new ≡ field_recorded self.old offer.now }
-    {
-        if offer.segment.ack_number.is_some() {
-            self.record_ack(offer.segment.window_len);
-        } else {
-            self.receiver.advertised = offer.segment.window_len;
-        }
-    }
-
     /// Records what each segment that went counts for.
     fn record(&mut self, offer: &OpenOffer)
         requires { IsMoment offer.now.moment }
         ensures { self.new ≡ recorded self.old offer.now }
     {
-        self.record_field(offer);
+        self.receiver.advertised = offer.segment.window_len;
+        if offer.segment.ack_number.is_some() {
+            self.timers.ack_at = None;
+            self.timers.text_unacked = false;
+        }
         self.settings.keep_alive_at = later_by(offer.moment, self.settings.keep_alive);
     }
 

@@ -2,7 +2,7 @@
 ghost use Rattle.std.specs.Prelude.{◌≡◌, ◌+◌, ◌≤◌, ◌<◌, ◌^◌};
 ghost use Rattle.net_base.specs.Time.{IsMoment};
 ghost use Rattle.tcp_model.specs.Text.{with_next, is_at_fin, takes_fin, fin_taken, with_fin};
-ghost use Rattle.tcp_model.specs.Answers.{ack_recorded, may_draw, delayed, sooner, ack_due_at, ack_due, numbers_of};
+ghost use Rattle.tcp_model.specs.Answers.{ack_recorded, may_draw, delayed, sooner, ack_moment_after, ack_due, numbers_of};
 ghost use Rattle.tcp_model.specs.Arrival.{timers_moved};
 
 use super::opening::is_fin;
@@ -84,15 +84,26 @@ impl Block {
         requires { IsMoment now }
         ensures { self.new ≡ ack_due self.old header.now size now }
     {
+        self.timers.ack_at = self.ack_moment_after(header, size, now);
+        self.timers.text_unacked = self.timers.text_unacked || size != 0;
+    }
+
+    /// When an acknowledgement is due after a segment with so many bytes.
+    fn ack_moment_after(&self, header: &TcpHeader, size: usize, now: Instant) -> Option<Instant>
+        requires { IsMoment now }
+        ensures { result ≡ ack_moment_after self.now header.now size now }
+    {
         if is_fin(header.control) {
-            self.timers.ack_at = Some(now);
-        } else if size != 0 {
-            self.timers.ack_at = Some(if self.timers.text_unacked {
-                now
-            } else {
-                sooner(self.timers.ack_at, delayed(now, self.settings.ack_delay))
-            });
-            self.timers.text_unacked = true;
+            Some(now)
+        } else if size == 0 {
+            self.timers.ack_at
+        } else if self.timers.text_unacked {
+            Some(now)
+        } else {
+            Some(sooner(
+                self.timers.ack_at,
+                delayed(now, self.settings.ack_delay),
+            ))
         }
     }
 }

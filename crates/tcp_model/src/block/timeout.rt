@@ -97,7 +97,7 @@ impl Block {
     pub fn is_probing(&self, queued: usize) -> bool
         ensures { result ≡ is_probing self.now queued }
     {
-        !self.state.is_closed()
+        self.state.sends_text()
             && self.peer.window == 0
             && queued != 0
             && self.sender.in_flight == 0
@@ -107,9 +107,7 @@ impl Block {
     pub fn keep_probe(&mut self, queued: usize)
         ensures { self.new ≡ probe_kept self.old queued }
     {
-        if !self.is_probing(queued) {
-            self.timers.probe_at = None;
-        }
+        self.timers.probe_at = self.probe_moment(queued);
     }
 
     /// Whether the window is probed and no probe has a moment.
