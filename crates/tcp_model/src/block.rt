@@ -140,8 +140,8 @@ pub struct Block {
 mod acknowledged;
 mod checks;
 mod due;
-mod fresh;
 mod endpoints;
+mod fresh;
 mod opening;
 mod rules;
 mod segments;

@@ -14,9 +14,9 @@ mod state;
 mod states;
 
 pub use block::{
-    AddressPair, Block, CongestionControl, EndpointPair, Names, PROBE, Part, Peer, Receiver, Sender,
-    Settings, Timers, Verdict, is_fin, is_first_syn, is_rst, is_same_listener, is_syn, is_void_syn,
-    numbers_of, reply_to, rst_reply,
+    AddressPair, Block, CongestionControl, EndpointPair, Names, PROBE, Part, Peer, Receiver,
+    Sender, Settings, Timers, Verdict, is_fin, is_first_syn, is_rst, is_same_listener, is_syn,
+    is_void_syn, numbers_of, reply_to, rst_reply,
 };
 pub use error::{ConnectError, ListenError, RecvError, SendError};
 pub use moments::{is_due, next_draw_from, time_wait_from};

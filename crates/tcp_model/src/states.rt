@@ -86,7 +86,10 @@ impl State {
     pub const fn keeps_alive(self) -> bool
         ensures { result ≡ keeps_alive self }
     {
-        matches!(self, State::Established | State::FinWait2 | State::CloseWait)
+        matches!(
+            self,
+            State::Established | State::FinWait2 | State::CloseWait
+        )
     }
 
     /// The state once the own SYN is acknowledged.

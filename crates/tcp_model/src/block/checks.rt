@@ -4,8 +4,8 @@ ghost use Rattle.tcp_model.specs.Checks.{opening_check, synchronized_check, ack_
 ghost use Rattle.tcp_model.specs.Checked.{check_of};
 
 use super::opening::is_rst;
-use crate::offsets::{before_by, meets_window, past_by};
 use crate::Block;
+use crate::offsets::{before_by, meets_window, past_by};
 use ip_wire::{SeqNumber, TcpHeader};
 
 /// What becomes of a segment.

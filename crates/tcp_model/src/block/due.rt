@@ -6,8 +6,8 @@ ghost use Rattle.tcp_model.specs.Rules.{owes_syn, resends, updates_window};
 ghost use Rattle.tcp_model.specs.Timeout.{is_timeout_unset};
 ghost use Rattle.tcp_model.specs.Probing.{is_probe_unset};
 
-use crate::moments::earlier;
 use crate::Block;
+use crate::moments::earlier;
 use net_base::Instant;
 
 /// The earlier of two moments, if there are any.

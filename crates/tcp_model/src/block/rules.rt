@@ -196,10 +196,7 @@ impl Block {
         requires { place < 2 ^ 63 }
         ensures { result ≡ number_at self.now place }
     {
-        behind_by(
-            self.sender.una,
-            self.sender.syn_unacked as usize + place,
-        )
+        behind_by(self.sender.una, self.sender.syn_unacked as usize + place)
     }
 
     /// Whether the window field would be at least twice what was sent last.

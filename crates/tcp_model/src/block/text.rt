@@ -6,9 +6,9 @@ ghost use Rattle.tcp_model.specs.Answers.{ack_recorded, may_draw, delayed, soone
 ghost use Rattle.tcp_model.specs.Arrival.{timers_moved};
 
 use super::opening::is_fin;
+use crate::Block;
 use crate::moments::{earlier, is_due, later};
 use crate::offsets::{before_by, behind_by, past_by};
-use crate::Block;
 use ip_wire::{SeqNumber, TcpHeader};
 use net_base::{Duration, Instant};
 
@@ -100,10 +100,7 @@ impl Block {
         } else if self.timers.text_unacked {
             Some(now)
         } else {
-            Some(sooner(
-                self.timers.ack_at,
-                delayed(now, self.settings.ack_delay),
-            ))
+            Some(sooner(self.timers.ack_at, delayed(now, self.settings.ack_delay)))
         }
     }
 }

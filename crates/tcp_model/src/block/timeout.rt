@@ -25,9 +25,7 @@ impl Block {
         requires { queued ≤ 2 ^ 30 }
         ensures { result ≡ timeout_runs self.now queued }
     {
-        self.settings.timeout.is_some()
-            && !self.state.is_closed()
-            && self.waits_for_remote(queued)
+        self.settings.timeout.is_some() && !self.state.is_closed() && self.waits_for_remote(queued)
     }
 
     /// An accepted segment starts the user timeout again, if it still runs.
