@@ -1,2 +1,0 @@
-pub mod Receive
-pub mod Socket
