@@ -3,6 +3,7 @@
 
 mod containers;
 mod packets;
+mod simulation;
 
 use anyhow::Result;
 
