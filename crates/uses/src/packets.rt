@@ -6,18 +6,21 @@ ghost use Rattle.ip_wire.specs.Address.{version_of};
 use ip_wire::{IpAddress, UdpPacket, UdpPacketMut, UdpRepr};
 use net_base::ChecksumCapabilities;
 
-/// Writes a datagram over the whole buffer, with its checksum.
-pub fn write_datagram(
+/// Writes a datagram from port 48896 to port 53 over the whole buffer, with its checksum.
+pub fn write_query(
     packet: &mut [u8],
-    header: UdpRepr,
     source: &IpAddress,
     destination: &IpAddress,
     payload: &[u8],
 )
     requires room { length packet.old ≡ 8 + length payload.now }
     requires fits { Udp.Fits source.now destination.now payload.now }
-    ensures { packet.new ≡ Udp.written source.now destination.now true header payload.now }
+    ensures { packet.new ≡ Udp.written source.now destination.now true (record { src_port = 48896; dst_port = 53 }) payload.now }
 {
+    let header = UdpRepr {
+        src_port: 48896,
+        dst_port: 53,
+    };
     let mut datagram = UdpPacketMut::new_unchecked(packet);
     header.emit(
         &mut datagram,

@@ -43,10 +43,10 @@ pub fn delivered_twice(alloc: Global, text: &[u8]) -> Result<World>
         Event::RecvFrom(Side::B, 0, 64),
         Event::RecvFrom(Side::B, 0, 64),
     ]?;
-    for event in events {
-        world.step(event)?;
+    match world.run(events) {
+        Ok(()) => Ok(world),
+        Err((_place, refused)) => Err(refused.into()),
     }
-    Ok(world)
 }
 
 /// Says what a read answered, as text.
