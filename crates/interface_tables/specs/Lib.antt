@@ -1,0 +1,2 @@
+pub mod Neighbor
+pub mod Reassembly

@@ -1,0 +1,149 @@
+//! Datagrams that are put together from their pieces (RFC 791, section 3.2; RFC 815).
+ghost use Rattle.std.specs.Prelude.{◌≡◌, ◌≤◌, ◌↔◌, length, IsTrue, IsErr, IfOk, IfSome, IsSome, Some, codes};
+
+use net_base::{Assembler, Instant};
+use std::fmt;
+use std::marker::Model;
+
+/// A piece doesn't fit: it lies past the slot's bytes, or ends the datagram elsewhere than an earlier one.
+#[derive(Clone, Copy, Debug, PartialEq, Eq)]
+pub struct AssemblerError;
+
+impl fmt::Display for AssemblerError {
+    ghost output = { λ _. Some (codes "AssemblerError") };
+
+    fn fmt<W: fmt::Write>(&self, f: &mut fmt::Formatter<W>) -> fmt::Result {
+        write!(f, "AssemblerError")
+    }
+}
+
+impl std::error::Error for AssemblerError {}
+
+/// Each slot holds pieces of another datagram.
+#[derive(Clone, Copy, Debug, PartialEq, Eq)]
+pub struct AssemblerFullError;
+
+impl fmt::Display for AssemblerFullError {
+    ghost output = { λ _. Some (codes "AssemblerFullError") };
+
+    fn fmt<W: fmt::Write>(&self, f: &mut fmt::Formatter<W>) -> fmt::Result {
+        write!(f, "AssemblerFullError")
+    }
+}
+
+impl std::error::Error for AssemblerFullError {}
+
+/// The pieces of one datagram of at most `SIZE` bytes, which are kept in at most `HOLES` runs.
+#[derive(Drop)]
+pub struct PacketAssembler<K, const SIZE: usize, const HOLES: usize> {
+    key: Option<K>,
+    buffer: [u8; SIZE],
+    assembler: Assembler<HOLES>,
+    total_size: Option<usize>,
+    expires_at: Instant,
+}
+
+impl<K, const SIZE: usize, const HOLES: usize> Model for PacketAssembler<K, SIZE, HOLES> {
+    ghost use Rattle.interface_tables.specs.Reassembly.{SlotValue, slot, slot_code};
+
+    ghost Value = { SlotValue K };
+
+    ghost coded = { slot_code K.code };
+
+    ghost view = { λ a. slot a.key a.buffer a.assembler a.total_size a.expires_at };
+}
+
+impl<K: Drop, const SIZE: usize, const HOLES: usize> PacketAssembler<K, SIZE, HOLES> {
+    ghost use Rattle.interface_tables.specs.Reassembly.{fresh, freed, takes_total, with_total, takes_piece, with_piece, is_complete, completed, is_free, placed};
+
+    /// A free slot.
+    pub fn new() -> PacketAssembler<K, SIZE, HOLES>
+        requires { 1 ≤ HOLES }
+        ensures { result ≡ fresh SIZE }
+    {
+        PacketAssembler {
+            key: None,
+            buffer: [0; SIZE],
+            assembler: Assembler::new(),
+            total_size: None,
+            expires_at: Instant::ZERO,
+        }
+    }
+
+    /// Frees the slot.
+    pub fn reset(&mut self)
+        ensures { self.new ≡ freed self.old }
+    {
+        self.key = None;
+        self.assembler.clear();
+        self.total_size = None;
+        self.expires_at = Instant::ZERO;
+    }
+
+    /// Learns the datagram's length, if it fits and no other is known.
+    pub fn set_total_size(&mut self, size: usize) -> Result<(), AssemblerError>
+        ensures after { self.new ≡ with_total self.old size }
+        ensures ok { IsOk result ↔ IsTrue (takes_total self.old size) }
+    {
+        if self.total_size.is_some_and(|total| total != size) || SIZE < size {
+            return Err(AssemblerError);
+        }
+        self.total_size = Some(size);
+        Ok(())
+    }
+
+    /// Writes a piece over what came before, if it fits. A piece that would leave more than `HOLES` runs is not marked as come.
+    pub fn add(&mut self, piece: &[u8], offset: usize) -> Result<(), AssemblerError>
+        ensures after { self.new ≡ with_piece HOLES self.old piece.now offset }
+        ensures ok { IsOk result ↔ IsTrue (takes_piece self.old piece.now offset) }
+    {
+        if piece.len() > SIZE || offset > SIZE - piece.len() {
+            return Err(AssemblerError);
+        }
+        self.buffer[offset..offset + piece.len()].copy_from_slice(piece);
+        let _ = self.assembler.add(offset, piece.len());
+        Ok(())
+    }
+
+    /// Takes in a piece, which ends the datagram unless more come behind it.
+    pub fn insert(
+        &mut self,
+        piece: &[u8],
+        offset: usize,
+        more_frags: bool,
+    ) -> Result<(), AssemblerError>
+        ensures after { self.new ≡ placed HOLES self.old piece.now offset more_frags }
+    {
+        if piece.len() > SIZE || offset > SIZE - piece.len() {
+            return Err(AssemblerError);
+        }
+        if !more_frags {
+            self.set_total_size(offset + piece.len())?;
+        }
+        self.add(piece, offset)
+    }
+
+    /// Whether every byte of the datagram came.
+    pub fn is_complete(&self) -> bool
+        ensures { result ≡ is_complete self.now }
+    {
+        self.total_size == Some(self.assembler.peek_front())
+    }
+
+    /// When the slot is given up.
+    pub fn expires_at(&self) -> Instant
+        ensures { result ≡ self.now.expires }
+    {
+        self.expires_at
+    }
+
+    /// The datagram, if every byte of it came.
+    pub fn completed(&self) -> Option<&[u8]>
+        ensures { option_map (λ (bytes : Bor (List ℕ)). bytes.now) result ≡ completed self.now }
+    {
+        if !self.is_complete() {
+            return None;
+        }
+        Some(&self.buffer[..self.assembler.peek_front()])
+    }
+}
