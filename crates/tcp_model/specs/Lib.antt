@@ -1,0 +1,4 @@
+pub mod Reno
+pub mod RoundTrip
+pub mod Value
+pub mod States
