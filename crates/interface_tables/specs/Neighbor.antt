@@ -1,11 +1,11 @@
 -- What an interface knows of its neighbours, as a value (RFC 826; RFC 1122, section 2.3.2; RFC 4861, section 5.1).
-use Rattle.std.specs.Prelude.{ℕ, ◌*◌, ℤ, pos, ◌+ℤ◌, int_lt, Bool, true, false, not, nat_lt, if◌then◌else◌, List, [], ◌∷◌, ◌++◌, length, slice_get, slice_set, remove, Option, None, Some, position, unwrap_or}
-use Rattle.std.specs.List.{list_any}
+use Rattle.std.specs.Prelude.{ℕ, ◌*◌, ℤ, pos, ◌+ℤ◌, int_lt, Bool, true, false, nat_lt, if◌then◌else◌, List, [], ◌∷◌, ◌++◌, length, slice_get, slice_set, remove, Option, None, Some, position}
 use Rattle.std.specs.Str.{bytes_eq}
 use Rattle.ip_wire.specs.Address.{hardware_bytes}
 use Rattle.ip_wire.specs.HardwareAddress.{HardwareAddress}
 use Rattle.ip_wire.specs.IpAddress.{IpAddress}
 use Rattle.ip_wire.specs.IpAddress.TheVariants as Ip
+use Rattle.interface_tables.specs.Best.{place_of_first_best}
 use Rattle.interface_tables.specs.declared.neighbor.Neighbor.{Neighbor}
 use Rattle.interface_tables.specs.declared.neighbor.Answer.{Answer}
 use Rattle.interface_tables.specs.declared.neighbor.Answer.TheVariants as Known
@@ -68,11 +68,8 @@ abbrev pub expires_before : Neighbor → Neighbor → Bool
 expires_before a b = int_lt a.expires_at b.expires_at
 
 -- where the entry stands that makes room: the first of those than which none expires before
-abbrev pub victim_of : List Neighbor → Option ℕ
-victim_of entries = position (λ entry. not (list_any (λ other. expires_before other entry) entries)) entries
-
 abbrev pub victim : List Neighbor → ℕ
-victim entries = unwrap_or (victim_of entries) 0
+victim entries = place_of_first_best expires_before entries
 
 -- An entry of the address is replaced where it stands. Else the new one comes last, and in a full table the victim goes.
 abbrev pub filled_at : Option ℕ → ℕ → List Neighbor → Neighbor → List Neighbor
@@ -88,12 +85,14 @@ filled room c new = record c { entries = filled_at (place_of c.entries new.proto
 abbrev pub is_hardware : HardwareAddress → HardwareAddress → Bool
 is_hardware a b = bytes_eq (hardware_bytes a) (hardware_bytes b)
 
--- an entry of the address and the hardware address is believed anew, and stays where it stands
+-- an entry that has the hardware address is believed anew
+abbrev pub renewed_entry : Neighbor → HardwareAddress → ℤ → Neighbor
+renewed_entry entry hardware moment =
+    if is_hardware entry.hardware_addr hardware then record entry { expires_at = moment +ℤ pos entry_lifetime } else entry
+
+-- it stays where it stands
 abbrev pub renewed_at : Option ℕ → Option Neighbor → List Neighbor → HardwareAddress → ℤ → List Neighbor
-renewed_at (Some at) (Some entry) entries hardware moment =
-    if is_hardware entry.hardware_addr hardware
-    then slice_set entries at (record entry { expires_at = moment +ℤ pos entry_lifetime })
-    else entries
+renewed_at (Some at) (Some entry) entries hardware moment = slice_set entries at (renewed_entry entry hardware moment)
 renewed_at place entry entries hardware moment = entries
 
 abbrev pub renewed : CacheValue → IpAddress → HardwareAddress → ℤ → CacheValue

@@ -1,12 +1,17 @@
 //! Which hardware address each neighbour has (RFC 826; RFC 4861, section 5.1).
 ghost use Rattle.std.specs.Prelude.{◌≡◌, ◌≤◌, ◌<◌, ◌+◌, [], pos, ◌+ℤ◌, length, IfSome};
 ghost use Rattle.net_base.specs.Time.{IsMoment};
-ghost use Rattle.interface_tables.specs.Neighbor.{fresh, lookup, filled, renewed, silenced, flushed, is_found, place_of, victim, is_same_address, entry_lifetime, silent_time};
+ghost use Rattle.interface_tables.specs.Neighbor.{fresh, lookup, filled, renewed, renewed_entry, silenced, flushed, is_found, place_of, victim, is_same_address, is_hardware, entry_lifetime, silent_time};
 
 use arrayvec::ArrayVec;
 use ip_wire::{HardwareAddress, IpAddress, Ipv4Address};
 use net_base::{Duration, Instant};
 use std::marker::Model;
+
+/// How long no other request goes out after one, and how long an entry is believed, in milliseconds.
+const SILENT_MILLIS: u64 = 1_000;
+
+const LIFETIME_MILLIS: u64 = 60_000;
 
 /// A neighbour: its hardware address, and the instant from which on that isn't believed any more.
 #[derive(Clone, Copy, Debug)]
@@ -14,6 +19,22 @@ pub struct Neighbor {
     pub protocol_addr: IpAddress,
     pub hardware_addr: HardwareAddress,
     pub expires_at: Instant,
+}
+
+impl Neighbor {
+    /// The entry, believed for its lifetime from this moment on where it has this hardware address.
+    fn renewed(self, hardware_addr: &HardwareAddress, timestamp: Instant) -> Neighbor
+        requires { IsMoment timestamp }
+        ensures { result ≡ renewed_entry self hardware_addr.now timestamp }
+    {
+        if !is_same_hardware(&self.hardware_addr, hardware_addr) {
+            return self;
+        }
+        Neighbor {
+            expires_at: timestamp + Duration::from_millis(LIFETIME_MILLIS),
+            ..self
+        }
+    }
 }
 
 /// What stands in an unused place of a table.
@@ -67,10 +88,10 @@ impl<const N: usize> Model for Cache<N> {
 
 impl<const N: usize> Cache<N> {
     /// How long no other request goes out after one.
-    pub const SILENT_TIME: Duration = Duration::from_millis(1_000);
+    pub const SILENT_TIME: Duration = Duration::from_millis(SILENT_MILLIS);
 
     /// How long an entry is believed.
-    pub const ENTRY_LIFETIME: Duration = Duration::from_millis(60_000);
+    pub const ENTRY_LIFETIME: Duration = Duration::from_millis(LIFETIME_MILLIS);
 
     /// An empty cache.
     pub fn new() -> Cache<N>
@@ -113,7 +134,7 @@ impl<const N: usize> Cache<N> {
         self.fill_with_expiration(
             protocol_addr,
             hardware_addr,
-            timestamp + Self::ENTRY_LIFETIME,
+            timestamp + Duration::from_millis(LIFETIME_MILLIS),
         );
     }
 
@@ -154,9 +175,7 @@ impl<const N: usize> Cache<N> {
         ensures { self.new ≡ renewed self.old protocol_addr source_hardware_addr timestamp }
     {
         if let Some(at) = place_of(self.storage.as_slice(), &protocol_addr) {
-            if self.storage[at].hardware_addr.as_bytes() == source_hardware_addr.as_bytes() {
-                self.storage[at].expires_at = timestamp + Self::ENTRY_LIFETIME;
-            }
+            self.storage[at] = self.storage[at].renewed(&source_hardware_addr, timestamp);
         }
     }
 
@@ -165,7 +184,7 @@ impl<const N: usize> Cache<N> {
         requires { IsMoment timestamp }
         ensures { self.new ≡ silenced self.old timestamp }
     {
-        self.silent_until = timestamp + Self::SILENT_TIME;
+        self.silent_until = timestamp + Duration::from_millis(SILENT_MILLIS);
     }
 
     /// Forgets every neighbour. A time of silence goes on.
@@ -209,4 +228,11 @@ pub fn is_same_address(one: &IpAddress, other: &IpAddress) -> bool
         (IpAddress::Ipv6(one), IpAddress::Ipv6(other)) => one.octets() == other.octets(),
         _ => false,
     }
+}
+
+/// Whether the two are one hardware address.
+fn is_same_hardware(one: &HardwareAddress, other: &HardwareAddress) -> bool
+    ensures { result ≡ is_hardware one.now other.now }
+{
+    one.as_bytes() == other.as_bytes()
 }
