@@ -6,6 +6,7 @@ pub mod Fragment
 pub use Rattle.ip_address.specs.Fields
 pub use Rattle.ip_address.specs.Sum
 pub use Rattle.ip_address.specs.Address
+pub use Rattle.ip_address.specs.AddressTests
 pub use Rattle.ip_address.specs.Block
 pub use Rattle.ip_address.specs.Protocol
 pub use Rattle.ip_address.specs.Pseudo
