@@ -1,1 +1,3 @@
 pub mod BestOf
+pub mod Orders
+pub mod Renewed

@@ -1,11 +1,9 @@
 -- What an interface knows of its neighbours, as a value (RFC 826; RFC 1122, section 2.3.2; RFC 4861, section 5.1).
-use Rattle.std.specs.Prelude.{ℕ, ◌*◌, ℤ, pos, ◌+ℤ◌, int_lt, Bool, true, false, nat_lt, if◌then◌else◌, List, [], ◌∷◌, ◌++◌, length, slice_get, slice_set, remove, Option, None, Some, position}
-use Rattle.std.specs.Str.{bytes_eq}
-use Rattle.ip_wire.specs.Address.{hardware_bytes}
+use Rattle.std.specs.Prelude.{ℕ, ◌*◌, ℤ, pos, ◌+ℤ◌, int_lt, Bool, true, false, nat_lt, if◌then◌else◌, List, [], ◌∷◌, ◌++◌, length, slice_set, remove, Option, None, Some, position}
 use Rattle.ip_wire.specs.HardwareAddress.{HardwareAddress}
 use Rattle.ip_wire.specs.IpAddress.{IpAddress}
-use Rattle.ip_wire.specs.IpAddress.TheVariants as Ip
-use Rattle.interface_tables.specs.Best.{place_of_first_best}
+use Rattle.ip_wire.specs.AddressTests.{is_same_address, is_same_hardware}
+use Rattle.interface_tables.specs.Best.{at_place, place_of_first_best}
 use Rattle.interface_tables.specs.declared.neighbor.Neighbor.{Neighbor}
 use Rattle.interface_tables.specs.declared.neighbor.Answer.{Answer}
 use Rattle.interface_tables.specs.declared.neighbor.Answer.TheVariants as Known
@@ -25,12 +23,6 @@ entry_lifetime = 60_000_000
 abbrev pub fresh : CacheValue
 fresh = record { entries = []; silent = pos 0 }
 
--- TEMPORARY
-abbrev pub is_same_address : IpAddress → IpAddress → Bool
-is_same_address (Ip.Ipv4 a) (Ip.Ipv4 b) = bytes_eq a.0 b.0
-is_same_address (Ip.Ipv6 a) (Ip.Ipv6 b) = bytes_eq a.0 b.0
-is_same_address a b = false
-
 -- LOOKUP
 
 abbrev pub is_of : IpAddress → Neighbor → Bool
@@ -39,10 +31,6 @@ is_of address entry = is_same_address entry.protocol_addr address
 -- where the entry of an address stands
 abbrev pub place_of : List Neighbor → IpAddress → Option ℕ
 place_of entries address = position (is_of address) entries
-
-abbrev pub entry_at : Option ℕ → List Neighbor → Option Neighbor
-entry_at None entries = None
-entry_at (Some at) entries = slice_get entries at
 
 -- what is known of an address without an entry that is believed
 abbrev pub missing : CacheValue → ℤ → Answer
@@ -55,7 +43,7 @@ answer_by (Some entry) c moment =
     if int_lt moment entry.expires_at then Known.Found entry.hardware_addr else missing c moment
 
 abbrev pub lookup : CacheValue → IpAddress → ℤ → Answer
-lookup c address moment = answer_by (entry_at (place_of c.entries address) c.entries) c moment
+lookup c address moment = answer_by (at_place (place_of c.entries address) c.entries) c moment
 
 abbrev pub is_found : Answer → Bool
 is_found (Known.Found hardware) = true
@@ -82,13 +70,10 @@ filled room c new = record c { entries = filled_at (place_of c.entries new.proto
 
 -- RENEWAL, SILENCE
 
-abbrev pub is_hardware : HardwareAddress → HardwareAddress → Bool
-is_hardware a b = bytes_eq (hardware_bytes a) (hardware_bytes b)
-
 -- an entry that has the hardware address is believed anew
 abbrev pub renewed_entry : Neighbor → HardwareAddress → ℤ → Neighbor
 renewed_entry entry hardware moment =
-    if is_hardware entry.hardware_addr hardware then record entry { expires_at = moment +ℤ pos entry_lifetime } else entry
+    if is_same_hardware entry.hardware_addr hardware then record entry { expires_at = moment +ℤ pos entry_lifetime } else entry
 
 -- it stays where it stands
 abbrev pub renewed_at : Option ℕ → Option Neighbor → List Neighbor → HardwareAddress → ℤ → List Neighbor
@@ -97,7 +82,7 @@ renewed_at place entry entries hardware moment = entries
 
 abbrev pub renewed : CacheValue → IpAddress → HardwareAddress → ℤ → CacheValue
 renewed c address hardware moment = record c {
-  entries = renewed_at (place_of c.entries address) (entry_at (place_of c.entries address) c.entries) c.entries hardware moment;
+  entries = renewed_at (place_of c.entries address) (at_place (place_of c.entries address) c.entries) c.entries hardware moment;
 }
 
 -- after a request at this moment

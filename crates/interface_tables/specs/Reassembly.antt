@@ -13,6 +13,30 @@ pub record SlotValue (K : Type 0) : Type 0 where
   pub total : Option ℕ
   pub expires : ℤ
 
+-- TOTALS, BYTES AND RUNS
+
+-- the datagram can have this length: it fits, and no other length is known
+abbrev pub is_known_as : Option ℕ → ℕ → Bool
+is_known_as None size = true
+is_known_as (Some total) size = total == size
+
+-- the bytes with a piece written over them
+abbrev pub overwritten : List ℕ → ℕ → List ℕ → List ℕ
+overwritten bytes offset piece = take offset bytes ++ piece ++ drop (offset + length piece) bytes
+
+-- the runs with the places of a piece, where they aren't more than an assembler keeps
+abbrev pub marked : ℕ → List (ℕ × ℕ) → ℕ → ℕ → List (ℕ × ℕ)
+marked holes runs offset size = if nat_le (length (added runs offset size)) holes then added runs offset size else runs
+
+-- the datagram ends here
+abbrev pub ends_at : Option ℕ → ℕ → Bool
+ends_at None size = false
+ends_at (Some total) size = total == size
+
+abbrev pub or_else : Option ℕ → Option ℕ → Option ℕ
+or_else (Some i) other = Some i
+or_else None other = other
+
 module _ {K : Type 0} where
   abbrev pub slot : Option K → List ℕ → List (ℕ × ℕ) → Option ℕ → ℤ → SlotValue K
   slot key bytes runs total expires =
@@ -36,24 +60,11 @@ module _ {K : Type 0} where
 
   -- ONE PIECE
 
-  -- the datagram can have this length: it fits, and no other length is known
-  abbrev pub is_known_as : Option ℕ → ℕ → Bool
-  is_known_as None size = true
-  is_known_as (Some total) size = total == size
-
   abbrev pub takes_total : SlotValue K → ℕ → Bool
   takes_total s size = is_known_as s.total size && nat_le size (length s.bytes)
 
   abbrev pub with_total : SlotValue K → ℕ → SlotValue K
   with_total s size = if takes_total s size then record s { total = Some size } else s
-
-  -- the bytes with a piece written over them
-  abbrev pub overwritten : List ℕ → ℕ → List ℕ → List ℕ
-  overwritten bytes offset piece = take offset bytes ++ piece ++ drop (offset + length piece) bytes
-
-  -- the runs with the places of a piece, where they aren't more than an assembler keeps
-  abbrev pub marked : ℕ → List (ℕ × ℕ) → ℕ → ℕ → List (ℕ × ℕ)
-  marked holes runs offset size = if nat_le (length (added runs offset size)) holes then added runs offset size else runs
 
   abbrev pub takes_piece : SlotValue K → List ℕ → ℕ → Bool
   takes_piece s piece offset = nat_le (offset + length piece) (length s.bytes)
@@ -78,10 +89,6 @@ module _ {K : Type 0} where
 
   -- WHOLE DATAGRAMS
 
-  abbrev pub ends_at : Option ℕ → ℕ → Bool
-  ends_at None size = false
-  ends_at (Some total) size = total == size
-
   -- every byte from the first to the last came
   abbrev pub is_complete : SlotValue K → Bool
   is_complete s = ends_at s.total (front s.runs)
@@ -102,9 +109,5 @@ module _ {K : Type 0} where
   is_of same key s = is_key same s.key key
 
   -- the slot for a datagram's pieces: its own, else the first free one
-  abbrev pub or_else : Option ℕ → Option ℕ → Option ℕ
-  or_else (Some i) other = Some i
-  or_else None other = other
-
   abbrev pub place_for : (K → K → Bool) → List (SlotValue K) → K → Option ℕ
   place_for same slots key = or_else (position (is_of same key) slots) (position is_free slots)

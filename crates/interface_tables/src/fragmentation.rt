@@ -1,5 +1,7 @@
 //! Datagrams that are put together from their pieces (RFC 791, section 3.2; RFC 815).
-ghost use Rattle.std.specs.Prelude.{◌≡◌, ◌≤◌, ◌↔◌, length, IsTrue, IsErr, IfOk, IfSome, IsSome, Some, codes};
+ghost use Rattle.std.specs.Prelude.{◌≡◌, ◌+◌, ◌≤◌, ◌↔◌, length, IsTrue, IsOk, Some, codes};
+ghost use Rattle.std.specs.Option.{option_copied};
+ghost use Rattle.interface_tables.specs.Reassembly.{is_known_as, overwritten};
 
 use net_base::{Assembler, Instant};
 use std::fmt;
@@ -44,6 +46,8 @@ pub struct PacketAssembler<K, const SIZE: usize, const HOLES: usize> {
 }
 
 impl<K, const SIZE: usize, const HOLES: usize> Model for PacketAssembler<K, SIZE, HOLES> {
+    ghost use Rattle.std.specs.Prelude.{◌≤◌};
+    ghost use Rattle.std.specs.Option.{ForSome};
     ghost use Rattle.interface_tables.specs.Reassembly.{SlotValue, slot, slot_code};
 
     ghost Value = { SlotValue K };
@@ -51,6 +55,8 @@ impl<K, const SIZE: usize, const HOLES: usize> Model for PacketAssembler<K, SIZE
     ghost coded = { slot_code K.code };
 
     ghost view = { λ a. slot a.key a.buffer a.assembler a.total_size a.expires_at };
+
+    ghost invariant = { λ a. ForSome a.total_size (λ total. total ≤ SIZE) };
 }
 
 impl<K: Drop, const SIZE: usize, const HOLES: usize> PacketAssembler<K, SIZE, HOLES> {
@@ -85,7 +91,7 @@ impl<K: Drop, const SIZE: usize, const HOLES: usize> PacketAssembler<K, SIZE, HO
         ensures after { self.new ≡ with_total self.old size }
         ensures ok { IsOk result ↔ IsTrue (takes_total self.old size) }
     {
-        if self.total_size.is_some_and(|total| total != size) || SIZE < size {
+        if !is_known_as(self.total_size, size) || SIZE < size {
             return Err(AssemblerError);
         }
         self.total_size = Some(size);
@@ -100,7 +106,7 @@ impl<K: Drop, const SIZE: usize, const HOLES: usize> PacketAssembler<K, SIZE, HO
         if piece.len() > SIZE || offset > SIZE - piece.len() {
             return Err(AssemblerError);
         }
-        self.buffer[offset..offset + piece.len()].copy_from_slice(piece);
+        write_at(&mut self.buffer, offset, piece);
         let _ = self.assembler.add(offset, piece.len());
         Ok(())
     }
@@ -127,7 +133,10 @@ impl<K: Drop, const SIZE: usize, const HOLES: usize> PacketAssembler<K, SIZE, HO
     pub fn is_complete(&self) -> bool
         ensures { result ≡ is_complete self.now }
     {
-        self.total_size == Some(self.assembler.peek_front())
+        match self.total_size {
+            Some(total) => total == self.assembler.peek_front(),
+            None => false,
+        }
     }
 
     /// When the slot is given up.
@@ -139,11 +148,32 @@ impl<K: Drop, const SIZE: usize, const HOLES: usize> PacketAssembler<K, SIZE, HO
 
     /// The datagram, if every byte of it came.
     pub fn completed(&self) -> Option<&[u8]>
-        ensures { option_map (λ (bytes : Bor (List ℕ)). bytes.now) result ≡ completed self.now }
+        ensures { option_copied result ≡ completed self.now }
     {
         if !self.is_complete() {
             return None;
         }
-        Some(&self.buffer[..self.assembler.peek_front()])
+        let bytes: &[u8] = &self.buffer;
+        Some(&bytes[..self.assembler.peek_front()])
     }
+}
+
+/// Whether the datagram can have this length, by what is known of it.
+fn is_known_as(total: Option<usize>, size: usize) -> bool
+    ensures { result ≡ is_known_as total size }
+{
+    match total {
+        Some(total) => total == size,
+        None => true,
+    }
+}
+
+/// Writes a piece over the bytes from the offset on.
+fn write_at(bytes: &mut [u8], offset: usize, piece: &[u8])
+    requires { offset + length piece.now ≤ length bytes.old }
+    ensures { bytes.new ≡ overwritten bytes.old offset piece.now }
+{
+    let (_, rest) = bytes.split_at_mut(offset);
+    let (target, _) = rest.split_at_mut(piece.len());
+    target.copy_from_slice(piece);
 }

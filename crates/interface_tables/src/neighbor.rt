@@ -1,11 +1,14 @@
 //! Which hardware address each neighbour has (RFC 826; RFC 4861, section 5.1).
-ghost use Rattle.std.specs.Prelude.{◌≡◌, ◌≤◌, ◌<◌, ◌+◌, [], pos, ◌+ℤ◌, length, IfSome};
+ghost use Rattle.std.specs.Prelude.{◌≡◌, ◌≤◌, ◌<◌, ◌+◌, [], pos, ◌+ℤ◌, length, slice_get, Some};
+ghost use Rattle.std.specs.Option.{ForSome};
 ghost use Rattle.net_base.specs.Time.{IsMoment};
-ghost use Rattle.interface_tables.specs.Neighbor.{fresh, lookup, filled, renewed, renewed_entry, silenced, flushed, is_found, place_of, victim, is_same_address, is_hardware, entry_lifetime, silent_time};
+ghost use Rattle.ip_wire.specs.AddressTests.{is_same_hardware};
+ghost use Rattle.interface_tables.specs.Neighbor.{fresh, lookup, filled, renewed, renewed_entry, silenced, flushed, is_found, place_of, victim, entry_lifetime, silent_time};
 
 use arrayvec::ArrayVec;
 use ip_wire::{HardwareAddress, IpAddress, Ipv4Address};
 use net_base::{Duration, Instant};
+use socket_base::addresses::is_same_address;
 use std::marker::Model;
 
 /// How long no other request goes out after one, and how long an entry is believed, in milliseconds.
@@ -175,7 +178,8 @@ impl<const N: usize> Cache<N> {
         ensures { self.new ≡ renewed self.old protocol_addr source_hardware_addr timestamp }
     {
         if let Some(at) = place_of(self.storage.as_slice(), &protocol_addr) {
-            self.storage[at] = self.storage[at].renewed(&source_hardware_addr, timestamp);
+            let entry = entry_at(self.storage.as_slice(), at);
+            self.storage[at] = entry.renewed(&source_hardware_addr, timestamp);
         }
     }
 
@@ -195,9 +199,17 @@ impl<const N: usize> Cache<N> {
     }
 }
 
+fn entry_at(entries: &[Neighbor], at: usize) -> Neighbor
+    requires { at < length entries.now }
+    ensures { slice_get entries.now at ≡ Some result }
+{
+    entries[at]
+}
+
 /// Where the entry of this address stands.
 fn place_of(entries: &[Neighbor], address: &IpAddress) -> Option<usize>
-    ensures { result ≡ place_of entries.now address.now }
+    ensures place { result ≡ place_of entries.now address.now }
+    ensures in_range { ForSome result (λ at. at < length entries.now) }
 {
     entries
         .iter()
@@ -219,20 +231,13 @@ fn victim(entries: &[Neighbor]) -> usize
     at
 }
 
-/// Whether the two are one address.
-pub fn is_same_address(one: &IpAddress, other: &IpAddress) -> bool
-    ensures { result ≡ is_same_address one.now other.now }
-{
-    match (one, other) {
-        (IpAddress::Ipv4(one), IpAddress::Ipv4(other)) => one.octets() == other.octets(),
-        (IpAddress::Ipv6(one), IpAddress::Ipv6(other)) => one.octets() == other.octets(),
-        _ => false,
-    }
-}
-
 /// Whether the two are one hardware address.
 fn is_same_hardware(one: &HardwareAddress, other: &HardwareAddress) -> bool
-    ensures { result ≡ is_hardware one.now other.now }
+    ensures { result ≡ is_same_hardware one.now other.now }
 {
-    one.as_bytes() == other.as_bytes()
+    match (one, other) {
+        (HardwareAddress::Ip, HardwareAddress::Ip) => true,
+        (HardwareAddress::Ethernet(one), HardwareAddress::Ethernet(other)) => one.0 == other.0,
+        _ => false,
+    }
 }
