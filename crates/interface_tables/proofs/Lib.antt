@@ -1,3 +1,4 @@
 pub mod BestOf
 pub mod Orders
+pub mod Rebuilt
 pub mod Renewed

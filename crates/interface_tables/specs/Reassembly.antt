@@ -80,6 +80,9 @@ module _ {K : Type 0} where
   abbrev pub takes_end : SlotValue K → List ℕ → ℕ → Bool → Bool
   takes_end s piece offset more = more || takes_total s (offset + length piece)
 
+  abbrev pub is_placed : SlotValue K → List ℕ → ℕ → Bool → Bool
+  is_placed s piece offset more = takes_end s piece offset more && takes_piece s piece offset
+
   abbrev pub with_end : SlotValue K → List ℕ → ℕ → Bool → SlotValue K
   with_end s piece offset more = if more then s else with_total s (offset + length piece)
 

@@ -1,5 +1,5 @@
 //! Datagrams that are put together from their pieces (RFC 791, section 3.2; RFC 815).
-ghost use Rattle.std.specs.Prelude.{◌≡◌, ◌+◌, ◌≤◌, ◌↔◌, length, IsTrue, IsOk, Some, codes};
+ghost use Rattle.std.specs.Prelude.{◌≡◌, ◌+◌, ◌≤◌, ◌↔◌, nat_le, length, IsTrue, is_ok, Some, codes};
 ghost use Rattle.std.specs.Option.{option_copied};
 ghost use Rattle.interface_tables.specs.Reassembly.{is_known_as, overwritten};
 
@@ -60,7 +60,7 @@ impl<K, const SIZE: usize, const HOLES: usize> Model for PacketAssembler<K, SIZE
 }
 
 impl<K: Drop, const SIZE: usize, const HOLES: usize> PacketAssembler<K, SIZE, HOLES> {
-    ghost use Rattle.interface_tables.specs.Reassembly.{fresh, freed, takes_total, with_total, takes_piece, with_piece, is_complete, completed, is_free, placed};
+    ghost use Rattle.interface_tables.specs.Reassembly.{fresh, freed, takes_total, with_total, takes_piece, with_piece, is_complete, completed, placed, is_placed};
 
     /// A free slot.
     pub fn new() -> PacketAssembler<K, SIZE, HOLES>
@@ -89,7 +89,7 @@ impl<K: Drop, const SIZE: usize, const HOLES: usize> PacketAssembler<K, SIZE, HO
     /// Learns the datagram's length, if it fits and no other is known.
     pub fn set_total_size(&mut self, size: usize) -> Result<(), AssemblerError>
         ensures after { self.new ≡ with_total self.old size }
-        ensures ok { IsOk result ↔ IsTrue (takes_total self.old size) }
+        ensures ok { is_ok result ≡ takes_total self.old size }
     {
         if !is_known_as(self.total_size, size) || SIZE < size {
             return Err(AssemblerError);
@@ -101,9 +101,9 @@ impl<K: Drop, const SIZE: usize, const HOLES: usize> PacketAssembler<K, SIZE, HO
     /// Writes a piece over what came before, if it fits. A piece that would leave more than `HOLES` runs is not marked as come.
     pub fn add(&mut self, piece: &[u8], offset: usize) -> Result<(), AssemblerError>
         ensures after { self.new ≡ with_piece HOLES self.old piece.now offset }
-        ensures ok { IsOk result ↔ IsTrue (takes_piece self.old piece.now offset) }
+        ensures ok { is_ok result ≡ takes_piece self.old piece.now offset }
     {
-        if piece.len() > SIZE || offset > SIZE - piece.len() {
+        if !fits(offset, piece.len(), self.buffer.len()) {
             return Err(AssemblerError);
         }
         write_at(&mut self.buffer, offset, piece);
@@ -119,14 +119,18 @@ impl<K: Drop, const SIZE: usize, const HOLES: usize> PacketAssembler<K, SIZE, HO
         more_frags: bool,
     ) -> Result<(), AssemblerError>
         ensures after { self.new ≡ placed HOLES self.old piece.now offset more_frags }
+        ensures ok { is_ok result ≡ is_placed self.old piece.now offset more_frags }
     {
-        if piece.len() > SIZE || offset > SIZE - piece.len() {
+        if more_frags {
+            return self.add(piece, offset);
+        }
+        if !fits(offset, piece.len(), self.buffer.len()) {
             return Err(AssemblerError);
         }
-        if !more_frags {
-            self.set_total_size(offset + piece.len())?;
+        match self.set_total_size(offset + piece.len()) {
+            Ok(()) => self.add(piece, offset),
+            Err(error) => Err(error),
         }
-        self.add(piece, offset)
     }
 
     /// Whether every byte of the datagram came.
@@ -165,6 +169,17 @@ fn is_known_as(total: Option<usize>, size: usize) -> bool
     match total {
         Some(total) => total == size,
         None => true,
+    }
+}
+
+/// Whether so many bytes from the offset on lie within this many.
+fn fits(offset: usize, len: usize, size: usize) -> bool
+    ensures value { result ≡ nat_le (offset + len) size }
+    ensures fits { IsTrue result → offset + len ≤ size }
+{
+    match offset.checked_add(len) {
+        Some(end) => end <= size,
+        None => false,
     }
 }
 

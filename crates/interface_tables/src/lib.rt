@@ -3,6 +3,7 @@
 #![tactic(auto)]
 
 mod fragmentation;
+pub mod laws;
 mod neighbor;
 mod route;
 pub mod source;

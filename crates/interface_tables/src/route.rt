@@ -168,7 +168,7 @@ impl<const N: usize> Routes<N> {
     ) -> Result<Option<Route>, RouteTableFull>
         ensures ok { IsOk result ↔ IsTrue (has_room N is_gateway_v4 self.old) }
         ensures replaced { IfOk result (λ old. old ≡ first_that is_gateway_v4 self.old) }
-        ensures added { IfOk result (λ old. IsAdded is_gateway_v4 (λ r. IsGateway r (replicate 4 0) (Address.Ipv4 gateway)) self.old self.new) }
+        ensures added { OnOk result (IsAdded is_gateway_v4 (λ r. IsGateway r (replicate 4 0) (Address.Ipv4 gateway)) self.old self.new) }
         ensures err { OnErr result (self.new ≡ self.old) }
     {
         let place = place_of_ipv4_gateway(self.storage.as_slice());
@@ -182,7 +182,7 @@ impl<const N: usize> Routes<N> {
     ) -> Result<Option<Route>, RouteTableFull>
         ensures ok { IsOk result ↔ IsTrue (has_room N is_gateway_v6 self.old) }
         ensures replaced { IfOk result (λ old. old ≡ first_that is_gateway_v6 self.old) }
-        ensures added { IfOk result (λ old. IsAdded is_gateway_v6 (λ r. IsGateway r (replicate 16 0) (Address.Ipv6 gateway)) self.old self.new) }
+        ensures added { OnOk result (IsAdded is_gateway_v6 (λ r. IsGateway r (replicate 16 0) (Address.Ipv6 gateway)) self.old self.new) }
         ensures err { OnErr result (self.new ≡ self.old) }
     {
         let place = place_of_ipv6_gateway(self.storage.as_slice());
@@ -253,11 +253,12 @@ impl<const N: usize> Routes<N> {
         ensures added { OnOk result (self.new ≡ without_at place self.old ++ route ∷ []) }
         ensures err { OnErr result (self.new ≡ self.old) }
     {
+        let _ = self.storage.len();
         match place {
             Some(at) => {
-                let old = self.storage.remove(at);
+                let old = self.storage.pop_at(at);
                 self.storage.push(route);
-                Ok(Some(old))
+                Ok(old)
             }
             None => {
                 self.push(route)?;

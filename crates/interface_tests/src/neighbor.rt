@@ -3,8 +3,11 @@ use ip_wire::{EthernetAddress, HardwareAddress, IpAddress};
 use net_base::{Duration, Instant};
 
 const HARDWARE_A: HardwareAddress = HardwareAddress::Ethernet(EthernetAddress([0, 0, 0, 0, 0, 1]));
+
 const HARDWARE_B: HardwareAddress = HardwareAddress::Ethernet(EthernetAddress([0, 0, 0, 0, 0, 2]));
+
 const HARDWARE_C: HardwareAddress = HardwareAddress::Ethernet(EthernetAddress([0, 0, 0, 0, 0, 3]));
+
 const HARDWARE_D: HardwareAddress = HardwareAddress::Ethernet(EthernetAddress([0, 0, 0, 0, 0, 4]));
 
 fn host(last: u8) -> IpAddress {
@@ -105,5 +108,8 @@ fn is_silent_for_a_second(rt: HostRuntime) {
 #[test]
 fn times_are_a_second_and_a_minute(rt: HostRuntime) {
     assert_eq!(rt; Cache::<4>::SILENT_TIME, Duration::from_micros(1_000_000));
-    assert_eq!(rt; Cache::<4>::ENTRY_LIFETIME, Duration::from_micros(60_000_000));
+    assert_eq!(rt;
+        Cache::<4>::ENTRY_LIFETIME,
+        Duration::from_micros(60_000_000)
+    );
 }

@@ -26,7 +26,10 @@ fn chooses_by_scope(rt: HostRuntime) {
         let destination = address(destination).expect(&rt, "an address");
         assert_eq!(rt; Some(source_ipv6(&own, &destination)), address(source));
     }
-    assert_eq!(rt; source_for(&own, &IpAddress::Ipv6(Ipv6Address::UNSPECIFIED)), None);
+    assert_eq!(rt;
+        source_for(&own, &IpAddress::Ipv6(Ipv6Address::UNSPECIFIED)),
+        None
+    );
     assert_eq!(rt; source_for(&own, &IpAddress::v4(192, 0, 2, 1)), None);
 }
 
@@ -59,9 +62,18 @@ fn chooses_by_network(rt: HostRuntime) {
         block("10.0.0.1/8").expect(&rt, "a block"),
         block("192.168.1.1/24").expect(&rt, "a block"),
     ];
-    let (first, second) = (Ipv4Address::new(10, 0, 0, 1), Ipv4Address::new(192, 168, 1, 1));
-    assert_eq!(rt; source_ipv4(&own, &Ipv4Address::new(192, 168, 1, 2)), Some(second));
-    assert_eq!(rt; source_ipv4(&own, &Ipv4Address::new(8, 8, 8, 8)), Some(first));
+    let (first, second) = (
+        Ipv4Address::new(10, 0, 0, 1),
+        Ipv4Address::new(192, 168, 1, 1),
+    );
+    assert_eq!(rt;
+        source_ipv4(&own, &Ipv4Address::new(192, 168, 1, 2)),
+        Some(second)
+    );
+    assert_eq!(rt;
+        source_ipv4(&own, &Ipv4Address::new(8, 8, 8, 8)),
+        Some(first)
+    );
     let none: [IpCidr; 0] = [];
     assert_eq!(rt; source_ipv4(&none, &Ipv4Address::new(8, 8, 8, 8)), None);
 }
