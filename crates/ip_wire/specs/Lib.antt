@@ -43,6 +43,7 @@ pub use Rattle.ip_packet.specs.declared.udp.UdpPacketMut
 pub use Rattle.ip_packet.specs.declared.udp.UdpRepr
 pub use Rattle.ip_packet.specs.declared.ipv4.Ipv4Packet
 pub use Rattle.ip_packet.specs.declared.ipv4.Ipv4PacketMut
+pub use Rattle.ip_packet.specs.declared.ipv4.Ipv4Piece
 pub use Rattle.ip_packet.specs.declared.ipv4.Ipv4Repr
 pub use Rattle.ip_packet.specs.declared.ipv6.Ipv6Packet
 pub use Rattle.ip_packet.specs.declared.ipv6.Ipv6PacketMut
