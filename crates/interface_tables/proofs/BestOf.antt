@@ -1,7 +1,7 @@
 -- A search that keeps the best element so far finds the first of the best.
-use Rattle.std.proofs.Common.{◌≡◌, ℕ, ◌<◌, ◌≤◌, Bool, true, false, not, cond, ap, ◌∙◌, refl, sym, List, [], ◌∷◌, length, get_or, Option, None, Some, arith}
+use Rattle.std.proofs.Common.{◌≡◌, ℕ, Bool, true, false, not, cond, ap, ◌∙◌, refl, sym, List, [], ◌∷◌, length, get_or, Option, None, Some, arith}
 use Rattle.std.specs.Cmp.{IsStrictWeakOrder}
-use Rattle.std.specs.List.{IsFirstBest, best_of, list_any, position_or_len, fold, filter_map, cons_option, slice_get, find}
+use Rattle.std.specs.List.{IsFirstBest, best_of, fold, filter_map, cons_option, slice_get}
 use Rattle.std.proofs.lemmas.List.MinMax.{IsFirstBest-from_best_of}
 use Rattle.std.proofs.lemmas.Option.{slice_get-get_or}
 use Rattle.std.proofs.lemmas.List.Folds.{list_any_none, list_any_at, find_at}

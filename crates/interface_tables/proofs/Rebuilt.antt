@@ -1,18 +1,17 @@
 -- A slot that took in pieces of one payload alone holds bytes of it alone.
-use Rattle.std.proofs.Common.{◌≡◌, ℕ, ℤ, suc, zero, ◌+◌, ◌<◌, ◌≤◌, Bool, true, false, cond, List, [], ◌∷◌, ◌++◌, length, take, drop, Option, Some, None, refl, sym, ap, subst, ◌∙◌, append_assoc, length-append, arith}
-use Rattle.std.specs.Prelude.{nat_le, nat_lt, ◌==◌, ◌&&◌, ◌||◌}
+use Rattle.std.proofs.Common.{◌≡◌, ℕ, ℤ, suc, zero, ◌+◌, ◌<◌, ◌≤◌, Bool, true, false, cond, List, [], ◌∷◌, ◌++◌, length, take, drop, Option, Some, None, refl, sym, ap, subst, ◌∙◌, append_assoc, arith}
+use Rattle.std.specs.Prelude.{nat_le}
 use Rattle.std.proofs.lemmas.List.{length-take, length-drop, drop-drop, take-append-drop, length-take-le}
 use Rattle.std.proofs.lemmas.Bool.Decides.{nat_tests}
-use Rattle.net_containers.specs.Assembler.{AreRuns, Holds, added, front}
+use Rattle.net_containers.specs.Assembler.{AreRuns, added, front}
 use Rattle.net_containers.proofs.Runs.{added-IsUnion}
-use Rattle.tcp_law.specs.ReceiveMap.{AgreesWith, Begins, store}
-use Rattle.tcp_law.specs.ReceiveMap as receive
+use Rattle.tcp_law.specs.ReceiveMap.{AgreesWith, Begins}
 use Rattle.tcp_law.proofs.Lists.{AgreesWith-store, Begins-front, Begins-whole}
 use Rattle.held_bytes.specs.Held.{map_from, overlay, EndsBy}
 use Rattle.held_bytes.proofs.Storing.{held-added, overlay-spliced, length-overlay, EndsBy-union}
 use Rattle.held_bytes.proofs.Fronts.{front-held, front-EndsBy}
 use Rattle.held_bytes.proofs.Refused.{map_from-refused}
-use Rattle.interface_tables.specs.Reassembly.{SlotValue, taken, placed, overwritten, marked, completed, with_piece, with_end, with_total, takes_total, takes_piece, takes_end, is_complete, ends_at}
+use Rattle.interface_tables.specs.Reassembly.{SlotValue, taken, placed, overwritten, marked, completed, with_piece, with_total, takes_total, is_complete, ends_at}
 use Rattle.interface_tables.specs.Pieces.{Piece, piece_at, IsSliceOf, HoldsSlicesOf}
 
 -- PIECES OF A PAYLOAD

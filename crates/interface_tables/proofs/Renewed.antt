@@ -1,5 +1,5 @@
 -- An entry that is renewed where it stands.
-use Rattle.std.proofs.Common.{◌≡◌, ℕ, ℤ, List, length, ◌++◌, drop, take, refl, Some, arith}
+use Rattle.std.proofs.Common.{◌≡◌, ℕ, ℤ, List, length, refl, Some, arith}
 use Rattle.std.specs.Prelude.{slice_get, slice_set}
 use Rattle.std.specs.List.{refill}
 use Rattle.std.proofs.lemmas.List.{drop_all, take_all, append-nil}

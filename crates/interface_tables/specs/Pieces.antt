@@ -1,5 +1,5 @@
 -- The pieces of a payload (RFC 791, section 3.2).
-use Rattle.std.specs.Prelude.{◌≡◌, ℕ, ◌+◌, ◌≤◌, nat_lt, Bool, false, List, length, take, drop, Option, Some}
+use Rattle.std.specs.Prelude.{◌≡◌, ℕ, ◌+◌, ◌≤◌, nat_lt, Bool, false, List, length, take, drop, Some}
 use Rattle.net_containers.specs.Assembler.{AreRuns}
 use Rattle.held_bytes.specs.Held.{map_from, EndsBy}
 use Rattle.tcp_law.specs.ReceiveMap.{AgreesWith, Begins}

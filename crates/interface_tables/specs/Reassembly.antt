@@ -1,6 +1,6 @@
 -- Datagrams that are put together from their pieces (RFC 791, section 3.2; RFC 815): what a slot holds of one datagram, and
 -- what a piece makes of it.
-use Rattle.std.specs.Prelude.{ℕ, ◌+◌, ◌==◌, nat_lt, nat_le, not, ◌&&◌, ◌||◌, Bool, true, false, if◌then◌else◌, ℤ, pos, int_lt, List, [], ◌∷◌, ◌++◌, length, take, drop, map, position, slice_get, slice_set, replicate, Option, None, Some, is_none, refl}
+use Rattle.std.specs.Prelude.{ℕ, ◌+◌, ◌==◌, nat_le, ◌&&◌, ◌||◌, Bool, true, false, if◌then◌else◌, ℤ, pos, List, [], ◌++◌, length, take, drop, position, replicate, Option, None, Some, is_none, refl}
 use Rattle.std.specs.Coded.{Coded, code_by, coded×, coded_list, coded_option, coded_ℕ, coded_ℤ}
 use Rattle.net_containers.specs.Assembler.{added, front}
 

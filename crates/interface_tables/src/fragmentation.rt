@@ -103,7 +103,7 @@ impl<K: Drop, const SIZE: usize, const HOLES: usize> PacketAssembler<K, SIZE, HO
         ensures after { self.new ≡ with_piece HOLES self.old piece.now offset }
         ensures ok { is_ok result ≡ takes_piece self.old piece.now offset }
     {
-        if !fits(offset, piece.len(), self.buffer.len()) {
+        if !fits(offset, piece.len(), self.buffer.as_slice().len()) {
             return Err(AssemblerError);
         }
         write_at(&mut self.buffer, offset, piece);
@@ -124,7 +124,7 @@ impl<K: Drop, const SIZE: usize, const HOLES: usize> PacketAssembler<K, SIZE, HO
         if more_frags {
             return self.add(piece, offset);
         }
-        if !fits(offset, piece.len(), self.buffer.len()) {
+        if !fits(offset, piece.len(), self.buffer.as_slice().len()) {
             return Err(AssemblerError);
         }
         match self.set_total_size(offset + piece.len()) {

@@ -93,8 +93,10 @@ fn passes_over_bad_routers(rt: HostRuntime) {
     let broadcast = Route::new_ipv4_gateway(Ipv4Address::BROADCAST);
     assert_eq!(rt; routes.push(broadcast), Ok(()));
     let foreign = Route {
+        cidr: IpCidr::Ipv4(Ipv4Cidr::new(Ipv4Address::UNSPECIFIED, 0)),
         via_router: v6(ADDR_1A),
-        ..broadcast
+        preferred_until: None,
+        expires_at: None,
     };
     assert_eq!(rt; routes.push(foreign), Ok(()));
     assert_eq!(rt;

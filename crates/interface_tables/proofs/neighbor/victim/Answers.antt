@@ -1,4 +1,4 @@
-use Rattle.std.proofs.Common.{arith, ◌≡◌, ℕ, length, subst, sym, ◌≤◌}
+use Rattle.std.proofs.Common.{arith, ◌≡◌, length, subst, sym}
 use Rattle.std.specs.List.{IsFirstBest}
 use Rattle.interface_tables.specs.Neighbor.{expires_before}
 use Rattle.interface_tables.proofs.BestOf.{place_of_first_best-is}

@@ -1,4 +1,4 @@
-use Rattle.std.proofs.Common.{◌≡◌, ◌∙◌}
+use Rattle.std.proofs.Common.{◌∙◌}
 use Rattle.std.specs.Prelude.{reverse}
 use Rattle.interface_tables.specs.Route.{serving, is_longer}
 use Rattle.interface_tables.proofs.BestOf.{fold_better_of}

@@ -1,4 +1,4 @@
-use Rattle.std.proofs.Common.{◌≡◌, ◌∙◌}
+use Rattle.std.proofs.Common.{◌∙◌}
 use Rattle.interface_tables.specs.Source.{candidate, better_for}
 use Rattle.interface_tables.proofs.BestOf.{fold_better_of}
 use Rattle.interface_tables.proofs.Orders.{IsStrictWeakOrder-better_for}

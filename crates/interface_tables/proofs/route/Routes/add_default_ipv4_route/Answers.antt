@@ -1,4 +1,4 @@
-use Rattle.std.proofs.Common.{◌≡◌, ◌∙◌, ap, Option, ℕ}
+use Rattle.std.proofs.Common.{◌≡◌, ◌∙◌, ap}
 use Rattle.std.specs.Prelude.{position}
 use Rattle.std.proofs.lemmas.Result.{on_ok_weaker}
 use Rattle.interface_tables.specs.Route.{is_gateway_v4}
