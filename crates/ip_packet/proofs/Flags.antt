@@ -5,7 +5,7 @@ use Rattle.std.specs.Prelude.{slice_index}
 use Rattle.ip_address.specs.Fields.{be16, IsBytes}
 use Rattle.ip_packet.specs.Ipv4.{flags_and_offset, piece_of}
 use Rattle.ip_packet.specs.Parts.{has_flag}
-use Rattle.ip_packet.specs.declared.ipv4.Ipv4Piece.{Ipv4Piece}
+use Rattle.ip_packet.specs.declared.ipv4.piece.Ipv4Piece.{Ipv4Piece}
 
 -- a set bit counts with its weight
 weighs : (n weight : ℕ) → (if n % 2 == 1 then weight else 0) ≡ n % 2 * weight
