@@ -155,6 +155,6 @@ key-read tested bytes v key is shows =
 -- what a packet carries is as much of what comes behind its header as the header says
 pub payload_of-written : (sealed : Bool) (v : Ipv4Repr) (rest : List ℕ) → Fits v → IsValue v → payload_of (written sealed v ++ rest) ≡ take v.payload_len rest
 payload_of-written sealed v rest fits value =
-    let header : length (written sealed v) ≡ 20 = length-spelling v (record { offset = 0; more = false }) _ value in
+    let header : length (written sealed v) ≡ 20 = omega (arith, value.source.0, value.destination.0, length-append v.src_addr.0 (v.dst_addr.0 ++ []), length-append v.dst_addr.0 []) in
     let size : be16 (written sealed v ++ rest) 2 - 20 ≡ v.payload_len = omega (arith, fits) in
     ap (λ n. take n (drop 20 (written sealed v ++ rest))) size ∙ ap (take v.payload_len) (drop_at (written sealed v) rest 20 header)

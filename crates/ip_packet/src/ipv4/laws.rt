@@ -5,7 +5,10 @@ ghost use Rattle.ip_address.specs.Protocol.{protocol_number, protocol_of};
 ghost use Rattle.ip_packet.specs.Parts.{put_run, has_flag, with_flag};
 ghost use Rattle.ip_packet.specs.Ipv4.{IsIpv4, IsQuoted, IsValue, IsKeyOf, Fits, key_of, piece_of, header_len_of, payload_of, free_fields, spelling, written_piece, written, normal};
 
-use super::field;
+use super::field::{
+    CHECKSUM, DSCP_ECN, DST_ADDR, FLG_OFF, HEADER_LEN, IDENT, LENGTH, PROTOCOL, SRC_ADDR, TTL,
+    VER_IHL,
+};
 use super::piece::Ipv4Piece;
 use super::repr::Ipv4Repr;
 use ip_address::{IpProtocol, Ipv4FragKey};
@@ -132,17 +135,17 @@ pub fn ipv4_equal()
 
 /// Law: where the fields stand (RFC 791, section 3.1).
 pub fn ipv4_fields()
-    ensures ver_ihl { field.VER_IHL ≡ 0 }
-    ensures dscp_ecn { field.DSCP_ECN ≡ 1 }
-    ensures length { field.LENGTH ≡ record { start = 2; end = 4 } }
-    ensures ident { field.IDENT ≡ record { start = 4; end = 6 } }
-    ensures flg_off { field.FLG_OFF ≡ record { start = 6; end = 8 } }
-    ensures ttl { field.TTL ≡ 8 }
-    ensures protocol { field.PROTOCOL ≡ 9 }
-    ensures checksum { field.CHECKSUM ≡ record { start = 10; end = 12 } }
-    ensures src_addr { field.SRC_ADDR ≡ record { start = 12; end = 16 } }
-    ensures dst_addr { field.DST_ADDR ≡ record { start = 16; end = 20 } }
-    ensures header_len { field.HEADER_LEN ≡ 20 }
+    ensures ver_ihl { VER_IHL ≡ 0 }
+    ensures dscp_ecn { DSCP_ECN ≡ 1 }
+    ensures length { LENGTH ≡ record { start = 2; end = 4 } }
+    ensures ident { IDENT ≡ record { start = 4; end = 6 } }
+    ensures flg_off { FLG_OFF ≡ record { start = 6; end = 8 } }
+    ensures ttl { TTL ≡ 8 }
+    ensures protocol { PROTOCOL ≡ 9 }
+    ensures checksum { CHECKSUM ≡ record { start = 10; end = 12 } }
+    ensures src_addr { SRC_ADDR ≡ record { start = 12; end = 16 } }
+    ensures dst_addr { DST_ADDR ≡ record { start = 16; end = 20 } }
+    ensures header_len { HEADER_LEN ≡ 20 }
 {}
 
 /// Law: what was set in a part of a field is read there, cut to the part's width. Fields of whole

@@ -5,7 +5,7 @@ ghost use Rattle.ip_address.specs.Protocol.{protocol_number, protocol_of};
 ghost use Rattle.ip_packet.specs.Parts.{put_run};
 ghost use Rattle.ip_packet.specs.Ipv6.{IsIpv6, IsQuoted, IsValue, Fits, payload_of, class_and_flow, spelling, written, normal};
 
-use super::field;
+use super::field::{DST_ADDR, HEADER_LEN, HOP_LIMIT, LENGTH, NXT_HDR, SRC_ADDR, VER_TC_FLOW};
 use super::repr::Ipv6Repr;
 use ip_address::IpProtocol;
 
@@ -100,13 +100,13 @@ pub fn ipv6_equal()
 
 /// Law: where the fields stand (RFC 8200, section 3).
 pub fn ipv6_fields()
-    ensures ver_tc_flow { field.VER_TC_FLOW ≡ record { start = 0; end = 4 } }
-    ensures length { field.LENGTH ≡ record { start = 4; end = 6 } }
-    ensures nxt_hdr { field.NXT_HDR ≡ 6 }
-    ensures hop_limit { field.HOP_LIMIT ≡ 7 }
-    ensures src_addr { field.SRC_ADDR ≡ record { start = 8; end = 24 } }
-    ensures dst_addr { field.DST_ADDR ≡ record { start = 24; end = 40 } }
-    ensures header_len { field.HEADER_LEN ≡ 40 }
+    ensures ver_tc_flow { VER_TC_FLOW ≡ record { start = 0; end = 4 } }
+    ensures length { LENGTH ≡ record { start = 4; end = 6 } }
+    ensures nxt_hdr { NXT_HDR ≡ 6 }
+    ensures hop_limit { HOP_LIMIT ≡ 7 }
+    ensures src_addr { SRC_ADDR ≡ record { start = 8; end = 24 } }
+    ensures dst_addr { DST_ADDR ≡ record { start = 24; end = 40 } }
+    ensures header_len { HEADER_LEN ≡ 40 }
 {}
 
 /// Law: what was set in a part of a field is read there, cut to the part's width. Fields of whole

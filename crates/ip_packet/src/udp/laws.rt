@@ -4,7 +4,7 @@ ghost use Rattle.ip_address.specs.Address.{version_of};
 ghost use Rattle.ip_address.specs.Fields.{be16, IsBytes};
 ghost use Rattle.ip_packet.specs.Udp.{IsUdp, IsAccepted, Fits, payload_of, spelling, written};
 
-use super::field;
+use super::field::{CHECKSUM, DST_PORT, HEADER_LEN, LENGTH, SRC_PORT};
 use super::repr::UdpRepr;
 use ip_address::IpAddress;
 
@@ -52,9 +52,9 @@ pub fn udp_equal()
 
 /// Law: where the fields stand (RFC 768).
 pub fn udp_fields()
-    ensures src_port { field.SRC_PORT ≡ record { start = 0; end = 2 } }
-    ensures dst_port { field.DST_PORT ≡ record { start = 2; end = 4 } }
-    ensures length { field.LENGTH ≡ record { start = 4; end = 6 } }
-    ensures checksum { field.CHECKSUM ≡ record { start = 6; end = 8 } }
-    ensures header_len { field.HEADER_LEN ≡ 8 }
+    ensures src_port { SRC_PORT ≡ record { start = 0; end = 2 } }
+    ensures dst_port { DST_PORT ≡ record { start = 2; end = 4 } }
+    ensures length { LENGTH ≡ record { start = 4; end = 6 } }
+    ensures checksum { CHECKSUM ≡ record { start = 6; end = 8 } }
+    ensures header_len { HEADER_LEN ≡ 8 }
 {}
