@@ -1,7 +1,7 @@
 //! What the comparisons and hashes of addresses, blocks and endpoints mean: two values are equal
 //! exactly where they are the same value, and orders and hashes agree with that. And what the
 //! constants are.
-ghost use Rattle.std.specs.Prelude.{◌≡◌, ◌↔◌, IsTrue, ◌∷◌, ◌++◌, []};
+ghost use Rattle.std.specs.Prelude.{◌≡◌, ◌↔◌, IsTrue, None, ◌∷◌, ◌++◌, []};
 ghost use Rattle.std.specs.Cmp.{IsTotalOrder};
 ghost use Rattle.std.specs.Net.Addr.{octets_of};
 ghost use Rattle.ip_address.specs.Address.{IsEthernetBroadcast, IsEthernetMulticast, IsEthernetUnicast, IsHardwareUnicast, version_of, IsUnspecified, IsMulticast, IsBroadcast, IsUnicast, IsUnspecifiedV4, IsLoopbackV4, IsBroadcastV4, IsUnspecifiedV6, IsLoopbackV6, solicited_prefix};
@@ -242,6 +242,20 @@ pub fn ipv6_constants()
     ensures unspecified { IsUnspecifiedV6 Ipv6Address.UNSPECIFIED }
     ensures localhost { IsLoopbackV6 Ipv6Address.LOCALHOST }
 {}
+
+/// The listen endpoint that a default is: no address and no port.
+pub fn default_listen_endpoint() -> IpListenEndpoint
+    ensures { result ≡ record { addr = None; port = 0 } }
+{
+    IpListenEndpoint::default()
+}
+
+/// The sequence number that a default is: 0.
+pub fn default_sequence_number() -> SeqNumber
+    ensures { result.0 ≡ 0 }
+{
+    SeqNumber::default()
+}
 
 /// The blocks that have a constant: of solicited-node addresses, and of link-local ones.
 pub fn ipv6_prefixes() -> (Ipv6Cidr, Ipv6Cidr)

@@ -1,4 +1,5 @@
 pub mod Numbers
+pub mod Placed
 pub mod Joined
 pub mod EthernetLaws
 pub mod FragmentLaws

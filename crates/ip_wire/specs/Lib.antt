@@ -58,3 +58,14 @@ pub use Rattle.ip_tcp.specs.declared.packet_mut.TcpPacketMut
 pub use Rattle.ip_tcp.specs.declared.repr.TcpRepr
 pub use Rattle.ip_tcp.specs.declared.timestamp.TcpTimestampGenerator
 pub use Rattle.ip_tcp.specs.declared.timestamp.TcpTimestampRepr
+pub use Rattle.ip_wire.specs.declared.arp.kinds.ArpHardware
+pub use Rattle.ip_wire.specs.declared.arp.kinds.ArpOperation
+pub use Rattle.ip_wire.specs.declared.arp.packet.ArpPacket
+pub use Rattle.ip_wire.specs.declared.arp.packet_mut.ArpPacketMut
+pub use Rattle.ip_wire.specs.declared.arp.repr.ArpRepr
+pub use Rattle.ip_wire.specs.declared.ethernet.packet.EthernetFrame
+pub use Rattle.ip_wire.specs.declared.ethernet.packet_mut.EthernetFrameMut
+pub use Rattle.ip_wire.specs.declared.ethernet.repr.EthernetRepr
+pub use Rattle.ip_wire.specs.declared.ipv6_fragment.packet.Ipv6FragmentHeader
+pub use Rattle.ip_wire.specs.declared.ipv6_fragment.packet_mut.Ipv6FragmentHeaderMut
+pub use Rattle.ip_wire.specs.declared.ipv6_fragment.repr.Ipv6FragmentRepr

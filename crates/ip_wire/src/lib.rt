@@ -5,38 +5,31 @@
 //! above names `ip_wire` alone, in `crates.txt` and in its code, as `ip_wire::Ipv4Packet`. In clauses,
 //! `specs/` and `proofs/` all definitions are `Rattle.ip_wire.specs.Udp`, `.Ipv4`, `.Address` and so
 //! on, one file a format, and each type of a member that a definition names is a module of its own
-//! name, as `Rattle.ip_wire.specs.UdpRepr.{UdpRepr}` and `Rattle.ip_wire.specs.IpAddress.TheVariants`;
-//! a type of its own is `Rattle.ip_wire.specs.declared.arp.ArpRepr.{ArpRepr}`.
+//! name, as `Rattle.ip_wire.specs.UdpRepr.{UdpRepr}` and `Rattle.ip_wire.specs.IpAddress.TheVariants`.
 #![tactic(auto)]
 
 pub mod arp;
 pub mod ethernet;
 pub mod ipv6_fragment;
+pub mod laws;
 mod parts;
 
-pub use arp::ArpHardware;
-pub use arp::ArpOperation;
-pub use arp::ArpPacket;
-pub use arp::ArpPacketMut;
-pub use arp::ArpRepr;
-pub use arp::arp_fits;
-pub use arp::arp_no_longer;
-pub use arp::arp_normal;
-pub use arp::arp_normal_again;
-pub use arp::arp_reads_back;
-pub use arp::arp_spelled;
 pub use arp::field as arp_field;
-pub use ethernet::EthernetFrame;
-pub use ethernet::EthernetFrameMut;
-pub use ethernet::EthernetRepr;
-pub use ethernet::HEADER_LEN as ETHERNET_HEADER_LEN;
-pub use ethernet::ethernet_fits;
-pub use ethernet::ethernet_no_longer;
-pub use ethernet::ethernet_normal;
-pub use ethernet::ethernet_normal_again;
-pub use ethernet::ethernet_reads_back;
-pub use ethernet::ethernet_spelled;
+pub use arp::laws as arp_laws;
+pub use arp::{ArpHardware, ArpOperation, ArpPacket, ArpPacketMut, ArpRepr};
 pub use ethernet::field as ethernet_field;
+pub use ethernet::field::HEADER_LEN as ETHERNET_HEADER_LEN;
+pub use ethernet::laws as ethernet_laws;
+pub use ethernet::{EthernetFrame, EthernetFrameMut, EthernetRepr};
+pub use ip_address::laws as address_laws;
+pub use ip_address::{checksum, network_order, seq_number, text};
+pub use ip_tcp::field as tcp_field;
+pub use ip_tcp::field::HEADER_LEN as TCP_HEADER_LEN;
+pub use ip_tcp::laws as tcp_laws;
+pub use ipv6_fragment::field as ipv6_fragment_field;
+pub use ipv6_fragment::field::HEADER_LEN as IPV6_FRAGMENT_HEADER_LEN;
+pub use ipv6_fragment::laws as ipv6_fragment_laws;
+pub use ipv6_fragment::{Ipv6FragmentHeader, Ipv6FragmentHeaderMut, Ipv6FragmentRepr};
 pub use ip_address::AddressExt;
 pub use ip_address::Error;
 pub use ip_address::EthernetAddress;
@@ -63,8 +56,6 @@ pub use ip_address::Ipv6Cidr;
 pub use ip_address::MAX_HARDWARE_ADDRESS_LEN;
 pub use ip_address::RawHardwareAddress;
 pub use ip_address::SeqNumber;
-pub use ip_address::checksum;
-pub use ip_address::network_order;
 pub use ip_packet::IpRepr;
 pub use ip_packet::Ipv4Packet;
 pub use ip_packet::Ipv4PacketMut;
@@ -96,29 +87,6 @@ pub use ip_tcp::TcpPacketMut;
 pub use ip_tcp::TcpRepr;
 pub use ip_tcp::TcpTimestampGenerator;
 pub use ip_tcp::TcpTimestampRepr;
-pub use ip_tcp::field as tcp_field;
-pub use ip_tcp::field::HEADER_LEN as TCP_HEADER_LEN;
-pub use ip_tcp::laws::option_reads_back as tcp_option_reads_back;
-pub use ip_tcp::laws::option_spelled as tcp_option_spelled;
-pub use ip_tcp::laws::tcp_damaged;
-pub use ip_tcp::laws::tcp_no_longer;
-pub use ip_tcp::laws::tcp_normal;
-pub use ip_tcp::laws::tcp_one_value;
-pub use ip_tcp::laws::tcp_reads_back;
-pub use ip_tcp::laws::tcp_spelled;
-pub use ip_tcp::laws::tcp_told_apart;
-pub use ip_tcp::laws::tcp_written_again;
-pub use ipv6_fragment::HEADER_LEN as IPV6_FRAGMENT_HEADER_LEN;
-pub use ipv6_fragment::Ipv6FragmentHeader;
-pub use ipv6_fragment::Ipv6FragmentHeaderMut;
-pub use ipv6_fragment::Ipv6FragmentRepr;
-pub use ipv6_fragment::field as ipv6_fragment_field;
-pub use ipv6_fragment::ipv6_fragment_fits;
-pub use ipv6_fragment::ipv6_fragment_no_longer;
-pub use ipv6_fragment::ipv6_fragment_normal;
-pub use ipv6_fragment::ipv6_fragment_normal_again;
-pub use ipv6_fragment::ipv6_fragment_reads_back;
-pub use ipv6_fragment::ipv6_fragment_spelled;
 use std::ops::Range;
 use std::ops::RangeFrom;
 
@@ -126,6 +94,3 @@ use std::ops::RangeFrom;
 pub type Field = Range<usize>;
 /// The places behind a header.
 pub type Rest = RangeFrom<usize>;
-
-#[cfg(test)]
-mod tests;
