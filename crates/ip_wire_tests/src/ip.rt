@@ -1,6 +1,9 @@
 //! Headers of either family, and the places of all fields.
 use crate::samples::{HEADER, LEFT, OVER_V6, RIGHT, ipv4_header, unverified};
-use ip_wire::{Error, IpProtocol, IpRepr, IpVersion, Ipv6Packet, Ipv6Repr, ip_laws, ipv4_laws, ipv6_laws, udp_field, udp_laws};
+use ip_wire::{
+    Error, IpProtocol, IpRepr, IpVersion, Ipv6Packet, Ipv6Repr, ip_laws, ipv4_laws, ipv6_laws,
+    udp_field, udp_laws,
+};
 use net_base::ChecksumCapabilities;
 
 #[test]

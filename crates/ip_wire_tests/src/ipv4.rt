@@ -5,7 +5,10 @@ ghost use Rattle.ip_wire.specs.Ipv4 as Ipv4;
 ghost use Rattle.ip_wire.specs.Udp as Udp;
 
 use crate::samples::{DATAGRAM, HEADER, WITH_OPTION, ipv4_header, starts_with, unverified};
-use ip_wire::{Error, IpAddress, IpProtocol, Ipv4Address, Ipv4Packet, Ipv4PacketMut, Ipv4Piece, Ipv4Repr, UdpPacketMut, UdpRepr, ipv4_laws};
+use ip_wire::{
+    Error, IpAddress, IpProtocol, Ipv4Address, Ipv4Packet, Ipv4PacketMut, Ipv4Piece, Ipv4Repr,
+    UdpPacketMut, UdpRepr, ipv4_laws,
+};
 use net_base::{Checksum, ChecksumCapabilities};
 
 #[test]

@@ -1,6 +1,9 @@
 //! IPv6 packets, and their headers as error messages quote them.
 use crate::samples::{OVER_V6, starts_with};
-use ip_wire::{Error, IPV6_LINK_LOCAL_ALL_NODES, IpProtocol, Ipv6Address, Ipv6Packet, Ipv6PacketMut, Ipv6Repr, ipv6_laws};
+use ip_wire::{
+    Error, IPV6_LINK_LOCAL_ALL_NODES, IpProtocol, Ipv6Address, Ipv6Packet, Ipv6PacketMut, Ipv6Repr,
+    ipv6_laws,
+};
 
 #[test]
 fn ipv6_is_read(rt: HostRuntime) {
