@@ -83,6 +83,6 @@ fn fields_and_equality(rt: HostRuntime) {
     ipv4_laws::ipv4_equal();
     ipv6_laws::ipv6_equal();
     ip_laws::ip_equal();
-    ipv4_laws::ipv4_set_fields_are_read();
-    ipv6_laws::ipv6_set_fields_are_read();
+    ipv4_laws::ipv4_written_fields_are_read();
+    ipv6_laws::ipv6_written_fields_are_read();
 }

@@ -148,9 +148,9 @@ pub fn ipv4_fields()
     ensures header_len { HEADER_LEN ≡ 20 }
 {}
 
-/// Law: what was set in a part of a field is read there, cut to the part's width. Fields of whole
+/// Law: what was written into a part of a field is read there, cut to its width. Fields of whole
 /// bytes are read as they were written (`network_order`).
-pub fn ipv4_set_fields_are_read()
+pub fn ipv4_written_fields_are_read()
     ensures version { (bytes : List ℕ) (n : ℕ)
         → 20 ≤ length bytes
         → slice_index (put8 bytes 0 (n % 16 * 16 + slice_index bytes 0 % 16)) 0 / 16 ≡ n % 16 }

@@ -109,9 +109,9 @@ pub fn ipv6_fields()
     ensures header_len { HEADER_LEN ≡ 40 }
 {}
 
-/// Law: what was set in a part of a field is read there, cut to the part's width. Fields of whole
+/// Law: what was written into a part of a field is read there, cut to its width. Fields of whole
 /// bytes are read as they were written (`network_order`).
-pub fn ipv6_set_fields_are_read()
+pub fn ipv6_written_fields_are_read()
     ensures version { (bytes : List ℕ) (n : ℕ)
         → 40 ≤ length bytes
         → slice_index (put8 bytes 0 (n % 16 * 16 + slice_index bytes 0 % 16)) 0 / 16 ≡ n % 16 }

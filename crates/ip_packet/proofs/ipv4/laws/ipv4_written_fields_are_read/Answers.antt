@@ -1,6 +1,6 @@
 use Rattle.std.proofs.Common.{arith}
 use Rattle.ip_packet.proofs.Sets.{version-set, header_len-set, dscp-set, ecn-set, dont_frag-set, more_frags-set, offset-set, protocol-set, run-set}
-use Rattle.ip_packet.proofs.ipv4.laws.ipv4_set_fields_are_read.Goals as goal
+use Rattle.ip_packet.proofs.ipv4.laws.ipv4_written_fields_are_read.Goals as goal
 
 pub returns-clause-version : goal.returns-clause-version
 returns-clause-version c = λ bytes n room. version-set bytes n (omega (arith, room))
