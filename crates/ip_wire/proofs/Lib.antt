@@ -1,5 +1,4 @@
 pub mod Numbers
-pub mod Placed
 pub mod Joined
 pub mod EthernetLaws
 pub mod FragmentLaws

@@ -12,11 +12,19 @@ mod facade;
 #[cfg(test)]
 mod hardware;
 #[cfg(test)]
+mod ip;
+#[cfg(test)]
+mod ipv4;
+#[cfg(test)]
+mod ipv6;
+#[cfg(test)]
 mod ipv6_fragment;
 #[cfg(test)]
 mod link;
 #[cfg(test)]
 mod numbers;
+#[cfg(test)]
+mod samples;
 #[cfg(test)]
 mod tcp_options;
 #[cfg(test)]
@@ -25,3 +33,5 @@ mod tcp_segments;
 mod tcp_views;
 #[cfg(test)]
 mod texts;
+#[cfg(test)]
+mod udp;
