@@ -1,0 +1,2 @@
+pub mod AnySocket
+pub mod Socket
