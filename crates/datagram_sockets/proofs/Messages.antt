@@ -135,6 +135,6 @@ keeps_v6 source remote bytes limit m carried h small short is carried_is same be
     let P = λ (xs : List ℕ). V6.CanCarry v xs × IsOnly (IsPacketFrom (Some (Address.Ipv6 source)) (Address.Ipv6 remote) bytes limit) (Carried.packet_of h (Carried.ControlV6 v xs)) in
     let carries : V6.CanCarry v carried = subst (λ xs. V6.CanCarry v xs) (sym carried_is) (V6Laws.can_carry bytes v) in
     let only = λ (other : PacketValue) (has : IsPacketFrom (Some (Address.Ipv6 source)) (Address.Ipv6 remote) bytes limit other). only_v6 source remote bytes limit v carried h same carried_is between other.header other.payload has in
-    let whole : P carried = (carries, record { takes = ((short, is, carried_is), between); only = only; sendable = record { header = sent.0; payload = sent.1.0; len = sent.1.1 } }) in
+    let whole : P carried = (carries, record { takes = ((short, is, carried_is), between); only = only; sendable = record { header = sent.0; payload = sent.1; len = sent.2 } }) in
     let at : P (drop (length bytes - length carried) bytes) = subst P (sym (carried_v6 bytes v carried carried_is)) whole in
     ((omega arith, at.0), at.1)

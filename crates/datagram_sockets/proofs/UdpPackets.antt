@@ -52,7 +52,7 @@ found_in : (cx : ContextValue) (s : UdpSettings) (q : UdpMetadata × List ℕ) (
 found_in cx s q None is = λ p takes. absurd (none-some p.header (sym is ∙ takes.0))
 found_in cx s q (Some header) is =
     let sent = from_takes (source_for cx s q.0) s q.0.endpoint.addr q.1 header is in
-    record { takes = (is, refl); only = only_one cx s q header is; sendable = record { header = sent.0; payload = sent.1.0; len = sent.1.1 } }
+    record { takes = (is, refl); only = only_one cx s q header is; sendable = record { header = sent.0; payload = sent.1; len = sent.2 } }
 
 pub found : (cx : ContextValue) (s : UdpSettings) (metadata : UdpMetadata) (bytes : List ℕ) (header : Option IpRepr) → header ≡ header_for cx s metadata (length bytes) → IsHeaderToSend cx s (metadata, bytes) header
 found cx s metadata bytes header is = found_in cx s (metadata, bytes) header (sym is)

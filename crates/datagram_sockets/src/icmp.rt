@@ -21,7 +21,6 @@ ghost use Rattle.datagram_sockets.specs.declared.error.SendError.TheVariants as 
 ghost use Rattle.datagram_sockets.specs.declared.error.RecvError.TheVariants as Recv;
 
 pub use crate::error::{BindError, RecvError, SendError};
-
 use crate::header::{DEFAULT_HOP_LIMIT, LAST_LENGTH, header_between};
 use crate::queues::{Queues, drop_first};
 use control_wire::{
@@ -285,10 +284,15 @@ impl Socket {
     {
         self.offered = None;
         check_send(&endpoint)?;
-        Ok(self.queues.queued.enqueue_with_infallible(max_size, endpoint, f)?)
+        Ok(
+            self.queues
+                .queued
+                .enqueue_with_infallible(max_size, endpoint, f)?,
+        )
     }
 
     /// Returns the first message and its sender; it leaves its queue.
+    #[tactic(auto, using(crate::proofs::PacketQueues::queues))]
     pub fn recv(&mut self) -> Result<(&[u8], IpAddress), RecvError>
         ensures* ends { sem 𝓛 (EndsAs the_row self.entry (recv_after self.old)) }
         ensures exhausted { IsErr result ↔ (first self.old.received ≡ None) }
@@ -300,10 +304,10 @@ impl Socket {
             return Err(RecvError::Exhausted);
         };
         let remote = *remote;
-        match self.queues.received.take_bytes() {
-            Ok(bytes) => Ok((bytes, remote)),
-            Err(_) => Err(RecvError::Exhausted),
-        }
+        let Ok(bytes) = self.queues.received.take_bytes() else {
+            return Err(RecvError::Exhausted);
+        };
+        Ok((bytes, remote))
     }
 
     /// Reads the first message into the slice. One that is longer than the slice is gone, and the slice
@@ -461,13 +465,13 @@ impl Socket {
             return;
         }
         let size = icmp_repr.buffer_len();
-        let _ =
-            self.queues
-                .received
-                .enqueue_with_infallible(size, sender, |bytes: &mut [u8]| {
-                    write_v4(&message, payload, bytes);
-                    size
-                });
+        let _ = self
+            .queues
+            .received
+            .enqueue_with_infallible(size, sender, |bytes: &mut [u8]| {
+                write_v4(&message, payload, bytes);
+                size
+            });
     }
 
     /// A message for the socket arrives. It is dropped where the queue is full, where the length of the
@@ -483,13 +487,13 @@ impl Socket {
         if !fits_v6(&message) || size > LONGEST_MESSAGE {
             return;
         }
-        let _ =
-            self.queues
-                .received
-                .enqueue_with_infallible(size, sender, |bytes: &mut [u8]| {
-                    write_v6(&source, &destination, &message, carried, bytes);
-                    size
-                });
+        let _ = self
+            .queues
+            .received
+            .enqueue_with_infallible(size, sender, |bytes: &mut [u8]| {
+                write_v6(&source, &destination, &message, carried, bytes);
+                size
+            });
     }
 
     /// When the socket wants to be polled: at once where a message is queued.

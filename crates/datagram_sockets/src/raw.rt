@@ -18,12 +18,9 @@ ghost use Rattle.datagram_sockets.specs.declared.raw.SendError.TheVariants as Se
 ghost use Rattle.datagram_sockets.specs.declared.error.RecvError.TheVariants as Recv;
 
 pub use crate::error::RecvError;
-
 use crate::header::LAST_LENGTH;
 use crate::queues::{Queues, drop_first};
-use ip_wire::{
-    IPV4_HEADER_LEN, IpProtocol, IpRepr, IpVersion, Ipv4Packet, Ipv6Packet,
-};
+use ip_wire::{IPV4_HEADER_LEN, IpProtocol, IpRepr, IpVersion, Ipv4Packet, Ipv6Packet};
 use net_base::{ChecksumCapabilities, Full};
 use socket_base::addresses::is_unspecified;
 use socket_base::{Context, IpPayload, Offer, Packet, PollAt};

@@ -16,7 +16,6 @@ ghost use Rattle.datagram_sockets.specs.declared.error.SendError.TheVariants as 
 ghost use Rattle.datagram_sockets.specs.declared.error.RecvError.TheVariants as Recv;
 
 pub use crate::error::{BindError, RecvError, SendError};
-
 use crate::header::{DEFAULT_HOP_LIMIT, header_between};
 use crate::queues::{Queues, drop_first};
 use ip_wire::{
@@ -304,10 +303,15 @@ impl Socket {
     {
         self.offered = None;
         self.check_send(&meta)?;
-        Ok(self.queues.queued.enqueue_with_infallible(max_size, meta, f)?)
+        Ok(
+            self.queues
+                .queued
+                .enqueue_with_infallible(max_size, meta, f)?,
+        )
     }
 
     /// Returns the first datagram, which leaves its queue.
+    #[tactic(auto, using(crate::proofs::PacketQueues::queues))]
     pub fn recv(&mut self) -> Result<(&[u8], UdpMetadata), RecvError>
         ensures* ends { sem 𝓛 (EndsAs the_row self.entry (recv_after self.old)) }
         ensures exhausted { IsErr result ↔ (first self.old.received ≡ None) }
@@ -319,10 +323,10 @@ impl Socket {
             return Err(RecvError::Exhausted);
         };
         let metadata = *metadata;
-        match self.queues.received.take_bytes() {
-            Ok(bytes) => Ok((bytes, metadata)),
-            Err(_) => Err(RecvError::Exhausted),
-        }
+        let Ok(bytes) = self.queues.received.take_bytes() else {
+            return Err(RecvError::Exhausted);
+        };
+        Ok((bytes, metadata))
     }
 
     /// Reads the first datagram into the slice. One that is longer than the slice is gone, and the slice
