@@ -92,6 +92,8 @@ pub extern "C" fn bench_emit(
         next_header: IpProtocol::Udp,
         payload_len: payload.len() + 8,
         hop_limit: 64,
+        ident: 0,
+        dont_frag: true,
     };
     let udp = UdpRepr { src_port, dst_port };
     let (header, rest) = out.split_at_mut(20);

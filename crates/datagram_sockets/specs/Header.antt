@@ -1,5 +1,5 @@
 -- The IP header of a packet that a socket offers.
-use Rattle.std.specs.Prelude.{ℕ, ◌+◌, ◌^◌, nat_lt, if◌then◌else◌, Option, None, Some}
+use Rattle.std.specs.Prelude.{ℕ, ◌+◌, ◌^◌, nat_lt, false, if◌then◌else◌, Option, None, Some}
 use Rattle.ip_wire.specs.IpAddress.{IpAddress}
 use Rattle.ip_wire.specs.IpAddress.TheVariants as Address
 use Rattle.ip_wire.specs.IpProtocol.{IpProtocol}
@@ -7,11 +7,11 @@ use Rattle.ip_wire.specs.IpRepr.{IpRepr}
 use Rattle.ip_wire.specs.IpRepr.TheVariants as Ip
 
 -- The addresses are of one family, and the length fits its field: over IPv4 that of header and payload, over IPv6 that
--- of the payload.
+-- of the payload. An IPv4 header has identification 0 and may be cut.
 abbrev pub header_between : IpAddress → IpAddress → IpProtocol → ℕ → ℕ → Option IpRepr
 header_between (Address.Ipv4 source) (Address.Ipv4 destination) protocol len hops =
     if nat_lt (20 + len) (2 ^ 16)
-    then Some (Ip.Ipv4 (record { src_addr = source; dst_addr = destination; next_header = protocol; payload_len = len; hop_limit = hops }))
+    then Some (Ip.Ipv4 (record { src_addr = source; dst_addr = destination; next_header = protocol; payload_len = len; hop_limit = hops; ident = 0; dont_frag = false }))
     else None
 header_between (Address.Ipv6 source) (Address.Ipv6 destination) protocol len hops =
     if nat_lt len (2 ^ 16)

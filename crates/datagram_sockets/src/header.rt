@@ -31,6 +31,8 @@ pub fn header_between(
                 next_header,
                 payload_len,
                 hop_limit,
+                ident: 0,
+                dont_frag: false,
             }))
         }
         (IpAddress::Ipv6(src_addr), IpAddress::Ipv6(dst_addr)) => {

@@ -46,7 +46,7 @@ const FRAG_EXPIRED: [u8; 28] = [
 ];
 
 /// A message with a next-hop MTU in the bytes that say nothing. It quotes a header with options,
-/// services, an identification, other flags and a wrong checksum.
+/// services, an identification and a wrong checksum.
 const WITH_OPTIONS: [u8; 40] = [
     0x03, 0x04, 0x20, 0x93, 0x00, 0x00, 0x05, 0xdc, 0x46, 0x10, 0x00, 0x20, 0x43, 0x21, 0x00, 0x00,
     0x05, 0x11, 0xff, 0xff, 0x0a, 0x00, 0x00, 0x07, 0xcb, 0x00, 0x71, 0x09, 0x01, 0x01, 0x01, 0x00,
@@ -55,8 +55,8 @@ const WITH_OPTIONS: [u8; 40] = [
 
 /// What is written for it.
 const WITHOUT_OPTIONS: [u8; 36] = [
-    0x03, 0x04, 0xfc, 0xe3, 0x00, 0x00, 0x00, 0x00, 0x45, 0x00, 0x00, 0x1c, 0x00, 0x00, 0x40, 0x00,
-    0x05, 0x11, 0x2f, 0xc1, 0x0a, 0x00, 0x00, 0x07, 0xcb, 0x00, 0x71, 0x09, 0x00, 0x07, 0x00, 0x09,
+    0x03, 0x04, 0xfc, 0xe3, 0x00, 0x00, 0x00, 0x00, 0x45, 0x00, 0x00, 0x1c, 0x43, 0x21, 0x00, 0x00,
+    0x05, 0x11, 0x2c, 0xa0, 0x0a, 0x00, 0x00, 0x07, 0xcb, 0x00, 0x71, 0x09, 0x00, 0x07, 0x00, 0x09,
     0x00, 0x08, 0x00, 0x00,
 ];
 
@@ -85,6 +85,8 @@ fn tcp_header(hop_limit: u8) -> Ipv4Repr
         next_header: IpProtocol::Tcp,
         payload_len: 40,
         hop_limit,
+        ident: 0,
+        dont_frag: true,
     }
 }
 
@@ -97,6 +99,8 @@ fn udp_header(payload_len: usize, hop_limit: u8) -> Ipv4Repr
         next_header: IpProtocol::Udp,
         payload_len,
         hop_limit,
+        ident: 0,
+        dont_frag: true,
     }
 }
 
@@ -109,6 +113,8 @@ fn datagram_header() -> Ipv4Repr
         next_header: IpProtocol::Udp,
         payload_len: 12,
         hop_limit: 64,
+        ident: 0,
+        dont_frag: true,
     }
 }
 
@@ -228,7 +234,11 @@ fn errors(rt: HostRuntime) {
 fn quoted_headers(rt: HostRuntime) {
     let cut = Icmpv4Header::DstUnreachable {
         reason: Icmpv4DstUnreachable::FragRequired,
-        header: udp_header(8, 5),
+        header: Ipv4Repr {
+            ident: 0x4321,
+            dont_frag: false,
+            ..udp_header(8, 5)
+        },
     };
     let payload = &WITH_OPTIONS[32..];
     assert!(rt; is_read(&WITH_OPTIONS, &cut, payload), "with options");

@@ -3,6 +3,7 @@ pub mod Sum
 pub mod LowFirst
 pub mod Address
 pub mod Block
+pub mod AddressTests
 pub mod Protocol
 pub mod Pseudo
 pub mod Seq

@@ -1,6 +1,7 @@
 //! Ethernet addresses and the numbers of what a frame carries.
 ghost use Rattle.std.specs.Prelude.{◌≡◌, ◌↔◌, IsTrue, Some, length};
 ghost use Rattle.ip_address.specs.Address.{IsEthernetBroadcast, IsEthernetMulticast, IsEthernetLocal, IsEthernetUnicast};
+ghost use Rattle.ip_address.specs.AddressTests.{is_ethernet_broadcast, is_ethernet_multicast, is_ethernet_local, is_ethernet_unicast};
 ghost use Rattle.ip_address.specs.Protocol.{ether_number, ether_of};
 ghost use Rattle.ip_address.specs.Text.{Reads, IsEthernetText, ethernet_text};
 
@@ -35,28 +36,32 @@ impl EthernetAddress {
 
     /// Whether the address is that of all stations.
     pub fn is_broadcast(&self) -> bool
-        ensures { IsTrue result ↔ IsEthernetBroadcast self.now }
+        ensures value { result ≡ is_ethernet_broadcast self.now }
+        ensures meaning { IsTrue result ↔ IsEthernetBroadcast self.now }
     {
         self.0 == [0xff; 6]
     }
 
     /// Whether the address names a group of stations; all stations are one.
     pub const fn is_multicast(&self) -> bool
-        ensures { IsTrue result ↔ IsEthernetMulticast self.now }
+        ensures value { result ≡ is_ethernet_multicast self.now }
+        ensures meaning { IsTrue result ↔ IsEthernetMulticast self.now }
     {
         self.0[0] & 0x01 == 1
     }
 
     /// Whether the address was given by a network's own hand and not by a maker.
     pub const fn is_local(&self) -> bool
-        ensures { IsTrue result ↔ IsEthernetLocal self.now }
+        ensures value { result ≡ is_ethernet_local self.now }
+        ensures meaning { IsTrue result ↔ IsEthernetLocal self.now }
     {
         (self.0[0] >> 1) & 0x01 == 1
     }
 
     /// Whether the address names one station.
     pub fn is_unicast(&self) -> bool
-        ensures { IsTrue result ↔ IsEthernetUnicast self.now }
+        ensures value { result ≡ is_ethernet_unicast self.now }
+        ensures meaning { IsTrue result ↔ IsEthernetUnicast self.now }
     {
         !(self.is_broadcast() || self.is_multicast())
     }

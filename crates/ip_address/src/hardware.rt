@@ -1,6 +1,7 @@
 //! Addresses of the medium below IP.
 ghost use Rattle.std.specs.Prelude.{◌≡◌, ◌↔◌, ◌-◌, ◌≤◌, [], ◌++◌, length, take, replicate, IsTrue, IfOk, IsOk, Some};
 ghost use Rattle.ip_address.specs.declared.hardware.HardwareAddress.TheVariants as Hardware;
+ghost use Rattle.ip_address.specs.AddressTests.{is_hardware_unicast, is_hardware_broadcast};
 ghost use Rattle.ip_address.specs.Address.{hardware_bytes, IsHardwareUnicast, IsHardwareBroadcast};
 
 use crate::Error;
@@ -33,7 +34,8 @@ impl HardwareAddress {
 
     /// Whether the address names one station.
     pub fn is_unicast(&self) -> bool
-        ensures { IsTrue result ↔ IsHardwareUnicast self.now }
+        ensures value { result ≡ is_hardware_unicast self.now }
+        ensures meaning { IsTrue result ↔ IsHardwareUnicast self.now }
     {
         match self {
             HardwareAddress::Ip => false,
@@ -43,7 +45,8 @@ impl HardwareAddress {
 
     /// Whether the address is that of all stations.
     pub fn is_broadcast(&self) -> bool
-        ensures { IsTrue result ↔ IsHardwareBroadcast self.now }
+        ensures value { result ≡ is_hardware_broadcast self.now }
+        ensures meaning { IsTrue result ↔ IsHardwareBroadcast self.now }
     {
         match self {
             HardwareAddress::Ip => false,

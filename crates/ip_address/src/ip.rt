@@ -1,9 +1,10 @@
 //! What holds for both families: versions, protocol numbers, addresses, blocks and endpoints.
-ghost use Rattle.std.specs.Prelude.{◌≡◌, ◌≢◌, ◌↔◌, ℕ, ◌/◌, ◌≤◌, ◌∷◌, slice_index, [], IsTrue, IfSome, Some, None};
+ghost use Rattle.std.specs.Prelude.{◌≡◌, ◌≢◌, ◌↔◌, Bool, ℕ, ◌/◌, ◌≤◌, ◌∷◌, slice_index, [], IsTrue, IfSome, Some, None};
 ghost use Rattle.std.specs.Net.Addr.{octets_of};
 ghost use Rattle.ip_address.specs.declared.ip.IpAddress.TheVariants as Address;
 ghost use Rattle.ip_address.specs.declared.ip.IpCidr.TheVariants as Block;
 ghost use Rattle.ip_address.specs.Address.{version_of, IsUnspecified, IsMulticast, IsBroadcast, IsUnicast, IsMask};
+ghost use Rattle.ip_address.specs.AddressTests.{is_unspecified, is_multicast, is_broadcast, is_unicast, is_in_block};
 ghost use Rattle.ip_address.specs.Block.{width_of, block_address, block_prefix_len, IsIn, IsWithin};
 ghost use Rattle.ip_address.specs.Protocol.{ether_number, ether_of, protocol_number, protocol_of};
 ghost use Rattle.ip_address.specs.Text.{Reads, IsIpText, ReadsIpBlock, IsEndpointText, ip_text, block_text, endpoint_text, listen_endpoint_text};
@@ -115,12 +116,16 @@ pub trait AddressExt {
     /// the address of one host
     ghost is_unicast: { Self → Type 0 };
 
+    /// the same as a truth value
+    ghost unicast: { Self → Bool };
+
     /// so many ones, then zeros
     ghost is_mask: { Self → ℕ → Type 0 };
 
     /// Whether this is the address of one host.
     fn x_is_unicast(&self) -> bool
-        ensures { IsTrue result ↔ is_unicast self.now };
+        ensures value { result ≡ unicast self.now }
+        ensures meaning { IsTrue result ↔ is_unicast self.now };
 
     /// How many ones the address has, if they come before all zeros: the length of the prefix
     /// that it stands for as a network mask.
@@ -163,7 +168,8 @@ impl IpAddress {
 
     /// Whether this is the address of one host.
     pub fn is_unicast(&self) -> bool
-        ensures { IsTrue result ↔ IsUnicast self.now }
+        ensures value { result ≡ is_unicast self.now }
+        ensures meaning { IsTrue result ↔ IsUnicast self.now }
     {
         match self {
             IpAddress::Ipv4(address) => address.x_is_unicast(),
@@ -173,7 +179,8 @@ impl IpAddress {
 
     /// Whether this is the address of a group.
     pub const fn is_multicast(&self) -> bool
-        ensures { IsTrue result ↔ IsMulticast self.now }
+        ensures value { result ≡ is_multicast self.now }
+        ensures meaning { IsTrue result ↔ IsMulticast self.now }
     {
         match self {
             IpAddress::Ipv4(address) => address.is_multicast(),
@@ -183,7 +190,8 @@ impl IpAddress {
 
     /// Whether this is the address of all hosts of the local network, which IPv4 alone has.
     pub fn is_broadcast(&self) -> bool
-        ensures { IsTrue result ↔ IsBroadcast self.now }
+        ensures value { result ≡ is_broadcast self.now }
+        ensures meaning { IsTrue result ↔ IsBroadcast self.now }
     {
         match self {
             IpAddress::Ipv4(address) => address.is_broadcast(),
@@ -193,7 +201,8 @@ impl IpAddress {
 
     /// Whether this is the unspecified address of its family.
     pub fn is_unspecified(&self) -> bool
-        ensures { IsTrue result ↔ IsUnspecified self.now }
+        ensures value { result ≡ is_unspecified self.now }
+        ensures meaning { IsTrue result ↔ IsUnspecified self.now }
     {
         match self {
             IpAddress::Ipv4(address) => address.is_unspecified(),
@@ -295,7 +304,8 @@ impl IpCidr {
 
     /// Whether the address is in the block.
     pub fn contains_addr(&self, address: &IpAddress) -> bool
-        ensures { IsTrue result ↔ IsIn self.now address.now }
+        ensures value { result ≡ is_in_block self.now address.now }
+        ensures meaning { IsTrue result ↔ IsIn self.now address.now }
     {
         match (self, address) {
             (IpCidr::Ipv4(block), IpAddress::Ipv4(address)) => block.contains_addr(address),

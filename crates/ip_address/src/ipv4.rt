@@ -1,5 +1,5 @@
 //! IPv4 addresses and blocks of them.
-ghost use Rattle.std.specs.Prelude.{◌≡◌, ◌↔◌, ℕ, ◌+◌, ◌-◌, ◌/◌, ◌^◌, ◌<◌, ◌≤◌, ◌∷◌, [], IsTrue, IfOk, IsOk, IfSome, IsNone, Some};
+ghost use Rattle.std.specs.Prelude.{◌≡◌, ◌↔◌, ℕ, ◌+◌, ◌-◌, ◌/◌, ◌^◌, ◌<◌, ◌≤◌, ◌==◌, ◌∷◌, [], IsTrue, IfOk, IsOk, IfSome, IsNone, Some};
 ghost use Rattle.byteorder.specs.Endian.{big_bytes};
 ghost use Rattle.ip_address.specs.Address.{v4_number, IsIpv4Address, IsUnspecifiedV4, IsLoopbackV4, IsMulticastV4, IsBroadcastV4, IsUnicastV4, IsMaskV4};
 
@@ -22,6 +22,8 @@ pub const IPV4_MULTICAST_ALL_ROUTERS: Ipv4Address = Ipv4Address([224, 0, 0, 2]);
 pub struct Ipv4Address(pub [u8; 4]);
 
 impl Ipv4Address {
+    ghost use Rattle.ip_address.specs.AddressTests.{is_unspecified_v4, is_loopback_v4, is_multicast_v4, is_broadcast_v4};
+
     /// `0.0.0.0`, which a host without an address sends from.
     pub const UNSPECIFIED: Ipv4Address = Ipv4Address([0; 4]);
     /// `127.0.0.1`.
@@ -45,28 +47,32 @@ impl Ipv4Address {
 
     /// Whether this is `0.0.0.0`.
     pub fn is_unspecified(&self) -> bool
-        ensures { IsTrue result ↔ IsUnspecifiedV4 self.now }
+        ensures value { result ≡ is_unspecified_v4 self.now }
+        ensures meaning { IsTrue result ↔ IsUnspecifiedV4 self.now }
     {
         self.0 == [0; 4]
     }
 
     /// Whether this is an address by which a host reaches itself.
     pub const fn is_loopback(&self) -> bool
-        ensures { IsTrue result ↔ IsLoopbackV4 self.now }
+        ensures value { result ≡ is_loopback_v4 self.now }
+        ensures meaning { IsTrue result ↔ IsLoopbackV4 self.now }
     {
         self.0[0] == 127
     }
 
     /// Whether this is the address of a group.
     pub const fn is_multicast(&self) -> bool
-        ensures { IsTrue result ↔ IsMulticastV4 self.now }
+        ensures value { result ≡ is_multicast_v4 self.now }
+        ensures meaning { IsTrue result ↔ IsMulticastV4 self.now }
     {
         self.0[0] >> 4 == 14
     }
 
     /// Whether this is `255.255.255.255`.
     pub fn is_broadcast(&self) -> bool
-        ensures { IsTrue result ↔ IsBroadcastV4 self.now }
+        ensures value { result ≡ is_broadcast_v4 self.now }
+        ensures meaning { IsTrue result ↔ IsBroadcastV4 self.now }
     {
         self.0 == [255; 4]
     }
@@ -88,7 +94,11 @@ impl Ipv4Address {
 }
 
 impl AddressExt for Ipv4Address {
+    ghost use Rattle.ip_address.specs.AddressTests.{is_unicast_v4};
+
     ghost is_unicast = { IsUnicastV4 };
+
+    ghost unicast = { is_unicast_v4 };
 
     ghost is_mask = { IsMaskV4 };
 
@@ -150,6 +160,7 @@ pub struct Ipv4Cidr {
 
 impl Ipv4Cidr {
     ghost use Rattle.ip_address.specs.Block.{IsInV4, IsWithinV4, network_number, broadcast_number, netmask_number};
+    ghost use Rattle.ip_address.specs.AddressTests.{is_in_v4, broadcast_in};
 
     /// The block of the addresses that begin with the first `prefix_len` bits of `address`.
     pub const fn new(address: Ipv4Address, prefix_len: u8) -> Ipv4Cidr
@@ -208,6 +219,7 @@ impl Ipv4Cidr {
     /// The address of all hosts of the block: its host bits are one. Blocks of one or two
     /// addresses have none.
     pub fn broadcast(&self) -> Option<Ipv4Address>
+        ensures value { result ≡ broadcast_in self.now }
         ensures none { IsNone result ↔ (31 ≤ self.now.prefix_len) }
         ensures address { IfSome result (λ a. a.0 ≡ big_bytes 4 (broadcast_number self.now)) }
     {
@@ -221,7 +233,8 @@ impl Ipv4Cidr {
 
     /// Whether the address is in the block.
     pub fn contains_addr(&self, address: &Ipv4Address) -> bool
-        ensures { IsTrue result ↔ IsInV4 self.now address.now }
+        ensures value { result ≡ is_in_v4 self.now address.now }
+        ensures meaning { IsTrue result ↔ IsInV4 self.now address.now }
     {
         self.contains_bits(address.to_bits())
     }
@@ -236,7 +249,8 @@ impl Ipv4Cidr {
 
     /// Whether the address that is this number is in the block.
     fn contains_bits(&self, bits: u32) -> bool
-        ensures { IsTrue result ↔ (bits / 2 ^ (32 - self.now.prefix_len) ≡ v4_number self.now.address / 2 ^ (32 - self.now.prefix_len)) }
+        ensures value { result ≡ bits / 2 ^ (32 - self.now.prefix_len) == v4_number self.now.address / 2 ^ (32 - self.now.prefix_len) }
+        ensures meaning { IsTrue result ↔ (bits / 2 ^ (32 - self.now.prefix_len) ≡ v4_number self.now.address / 2 ^ (32 - self.now.prefix_len)) }
     {
         let host = 32 - self.prefix_len;
         u64::from(bits) >> host == u64::from(self.address.to_bits()) >> host

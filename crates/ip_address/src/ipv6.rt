@@ -1,5 +1,5 @@
 //! IPv6 addresses and blocks of them.
-ghost use Rattle.std.specs.Prelude.{◌≡◌, ◌↔◌, ◌-◌, ◌^◌, ◌≤◌, ◌/◌, ◌%◌, ◌∷◌, [], IsTrue, Some};
+ghost use Rattle.std.specs.Prelude.{◌≡◌, ◌↔◌, ◌-◌, ◌^◌, ◌≤◌, ◌==◌, ◌/◌, ◌%◌, ◌∷◌, [], IsTrue, Some};
 ghost use Rattle.std.specs.Net.Addr.{octets_of};
 ghost use Rattle.ip_address.specs.Address.{v6_number, IsIpv6Address, IsUnspecifiedV6, IsLoopbackV6, IsMulticastV6, IsLinkLocal, IsUnicastV6, IsMaskV6, scope_of, IsSolicitedNode, solicited_of};
 
@@ -30,6 +30,8 @@ pub const IPV6_LINK_LOCAL_ALL_MLDV2_ROUTERS: Ipv6Address = Ipv6Address([
 pub struct Ipv6Address(pub [u8; 16]);
 
 impl Ipv6Address {
+    ghost use Rattle.ip_address.specs.AddressTests.{is_unspecified_v6, is_loopback_v6, is_multicast_v6, is_link_local, is_solicited_node, common_prefix_len};
+
     /// `::`, which a host without an address sends from.
     pub const UNSPECIFIED: Ipv6Address = Ipv6Address([0; 16]);
     /// `::1`.
@@ -63,28 +65,32 @@ impl Ipv6Address {
 
     /// Whether this is `::`.
     pub fn is_unspecified(&self) -> bool
-        ensures { IsTrue result ↔ IsUnspecifiedV6 self.now }
+        ensures value { result ≡ is_unspecified_v6 self.now }
+        ensures meaning { IsTrue result ↔ IsUnspecifiedV6 self.now }
     {
         *self == Ipv6Address::UNSPECIFIED
     }
 
     /// Whether this is `::1`, by which a host reaches itself.
     pub fn is_loopback(&self) -> bool
-        ensures { IsTrue result ↔ IsLoopbackV6 self.now }
+        ensures value { result ≡ is_loopback_v6 self.now }
+        ensures meaning { IsTrue result ↔ IsLoopbackV6 self.now }
     {
         *self == Ipv6Address::LOCALHOST
     }
 
     /// Whether this is the address of a group.
     pub const fn is_multicast(&self) -> bool
-        ensures { IsTrue result ↔ IsMulticastV6 self.now }
+        ensures value { result ≡ is_multicast_v6 self.now }
+        ensures meaning { IsTrue result ↔ IsMulticastV6 self.now }
     {
         self.0[0] == 0xff
     }
 
     /// Whether the address is one of `fe80::/10`, which no router passes on.
     pub const fn is_link_local(&self) -> bool
-        ensures { IsTrue result ↔ IsLinkLocal self.now }
+        ensures value { result ≡ is_link_local self.now }
+        ensures meaning { IsTrue result ↔ IsLinkLocal self.now }
     {
         self.0[0] == 0xfe && self.0[1] >> 6 == 2
     }
@@ -105,7 +111,8 @@ impl Ipv6Address {
 
     /// Whether neighbours' solicitations go to this address.
     pub fn is_solicited_node_multicast(&self) -> bool
-        ensures { IsTrue result ↔ IsSolicitedNode self.now }
+        ensures value { result ≡ is_solicited_node self.now }
+        ensures meaning { IsTrue result ↔ IsSolicitedNode self.now }
     {
         self.0[..13] == [0xff, 2, 0, 0, 0, 0, 0, 0, 0, 0, 0, 1, 0xff]
     }
@@ -119,6 +126,14 @@ impl Ipv6Address {
         Ipv6Address([0xff, 2, 0, 0, 0, 0, 0, 0, 0, 0, 0, 1, 0xff, a, b, c])
     }
 
+    /// How many first bits the two addresses have in common.
+    pub fn common_prefix_len(&self, other: &Ipv6Address) -> u8
+        ensures value { result ≡ common_prefix_len self.now other.now }
+        ensures in_range { result ≤ 128 }
+    {
+        (self.to_bits() ^ other.to_bits()).leading_zeros() as u8
+    }
+
     /// The address as a number, its first byte the most significant.
     pub(crate) fn to_bits(self) -> u128
         ensures value { result ≡ v6_number self }
@@ -129,7 +144,11 @@ impl Ipv6Address {
 }
 
 impl AddressExt for Ipv6Address {
+    ghost use Rattle.ip_address.specs.AddressTests.{is_unicast_v6};
+
     ghost is_unicast = { IsUnicastV6 };
+
+    ghost unicast = { is_unicast_v6 };
 
     ghost is_mask = { IsMaskV6 };
 
@@ -204,6 +223,7 @@ pub struct Ipv6Cidr {
 
 impl Ipv6Cidr {
     ghost use Rattle.ip_address.specs.Block.{IsInV6, IsWithinV6};
+    ghost use Rattle.ip_address.specs.AddressTests.{is_in_v6};
 
     /// The block of all solicited-node addresses, `ff02::1:ff00:0/104`.
     pub const SOLICITED_NODE_PREFIX: Ipv6Cidr = Ipv6Cidr {
@@ -245,7 +265,8 @@ impl Ipv6Cidr {
 
     /// Whether the address is in the block.
     pub fn contains_addr(&self, address: &Ipv6Address) -> bool
-        ensures { IsTrue result ↔ IsInV6 self.now address.now }
+        ensures value { result ≡ is_in_v6 self.now address.now }
+        ensures meaning { IsTrue result ↔ IsInV6 self.now address.now }
     {
         self.contains_bits(address.to_bits())
     }
@@ -260,7 +281,8 @@ impl Ipv6Cidr {
 
     /// Whether the address that is this number is in the block.
     fn contains_bits(&self, bits: u128) -> bool
-        ensures { IsTrue result ↔ (bits / 2 ^ (128 - self.now.prefix_len) ≡ v6_number self.now.address / 2 ^ (128 - self.now.prefix_len)) }
+        ensures value { result ≡ bits / 2 ^ (128 - self.now.prefix_len) == v6_number self.now.address / 2 ^ (128 - self.now.prefix_len) }
+        ensures meaning { IsTrue result ↔ (bits / 2 ^ (128 - self.now.prefix_len) ≡ v6_number self.now.address / 2 ^ (128 - self.now.prefix_len)) }
     {
         leading_bits(bits, self.prefix_len) == leading_bits(self.address.to_bits(), self.prefix_len)
     }

@@ -4,8 +4,9 @@
 ghost use Rattle.std.specs.Prelude.{◌≡◌, ◌↔◌, IsTrue, ◌∷◌, ◌++◌, []};
 ghost use Rattle.std.specs.Cmp.{IsTotalOrder};
 ghost use Rattle.std.specs.Net.Addr.{octets_of};
-ghost use Rattle.ip_address.specs.Address.{IsEthernetBroadcast, IsUnspecifiedV4, IsBroadcastV4, IsUnspecifiedV6, IsLoopbackV6, solicited_prefix};
-ghost use Rattle.ip_address.specs.Block.{IsBlock};
+ghost use Rattle.ip_address.specs.Address.{IsEthernetBroadcast, IsEthernetMulticast, IsEthernetUnicast, IsHardwareUnicast, version_of, IsUnspecified, IsMulticast, IsBroadcast, IsUnicast, IsUnspecifiedV4, IsLoopbackV4, IsBroadcastV4, IsUnspecifiedV6, IsLoopbackV6, solicited_prefix};
+ghost use Rattle.ip_address.specs.AddressTests.{is_ethernet_broadcast, is_ethernet_multicast, is_ethernet_unicast, is_hardware_unicast, is_same_hardware, is_unspecified, is_multicast, is_broadcast, is_unicast, is_loopback, is_in_block, are_of_one_family, is_same_address};
+ghost use Rattle.ip_address.specs.Block.{IsBlock, IsIn};
 ghost use Rattle.ip_address.specs.Hardware.{raw_bytes};
 ghost use Rattle.ip_address.specs.Order.{Agree, hash_after};
 
@@ -191,6 +192,30 @@ pub fn compare_sequence_numbers(a: SeqNumber, b: SeqNumber) -> (bool, u64, u64)
 {
     (a == b, hash_of(&a), hash_of(&b))
 }
+
+/// Law: what the tests of hardware addresses, as truth values, mean.
+pub fn hardware_tests()
+    ensures broadcast { (a : EthernetAddress) → IsTrue (is_ethernet_broadcast a) ↔ IsEthernetBroadcast a }
+    ensures multicast { (a : EthernetAddress) → IsTrue (is_ethernet_multicast a) ↔ IsEthernetMulticast a }
+    ensures unicast { (a : EthernetAddress) → IsTrue (is_ethernet_unicast a) ↔ IsEthernetUnicast a }
+    ensures hardware_unicast { (a : HardwareAddress) → IsTrue (is_hardware_unicast a) ↔ IsHardwareUnicast a }
+    ensures equal { (a b : HardwareAddress) → ⟦<HardwareAddress as PartialEq>⟧.eq a b ≡ is_same_hardware a b }
+    ensures same { (a b : HardwareAddress) → IsTrue (is_same_hardware a b) ↔ (a ≡ b) }
+{}
+
+/// Law: what the tests of addresses of both families, as truth values, mean.
+pub fn address_tests()
+    ensures unspecified { (a : IpAddress) → IsTrue (is_unspecified a) ↔ IsUnspecified a }
+    ensures multicast { (a : IpAddress) → IsTrue (is_multicast a) ↔ IsMulticast a }
+    ensures broadcast { (a : IpAddress) → IsTrue (is_broadcast a) ↔ IsBroadcast a }
+    ensures unicast { (a : IpAddress) → IsTrue (is_unicast a) ↔ IsUnicast a }
+    ensures loopback_v4 { (a : Ipv4Address) → IsTrue (is_loopback (IpAddress.Ipv4 a)) ↔ IsLoopbackV4 a }
+    ensures loopback_v6 { (a : Ipv6Address) → IsTrue (is_loopback (IpAddress.Ipv6 a)) ↔ IsLoopbackV6 a }
+    ensures in_block { (b : IpCidr) (a : IpAddress) → IsTrue (is_in_block b a) ↔ IsIn b a }
+    ensures family { (a b : IpAddress) → IsTrue (are_of_one_family a b) ↔ (version_of a ≡ version_of b) }
+    ensures equal { (a b : IpAddress) → ⟦<IpAddress as PartialEq>⟧.eq a b ≡ is_same_address a b }
+    ensures same { (a b : IpAddress) → IsTrue (is_same_address a b) ↔ (a ≡ b) }
+{}
 
 /// Law: the values of the constants of hardware addresses.
 pub fn hardware_constants()

@@ -1,13 +1,17 @@
 -- A packet's header and what spells it.
-use Rattle.std.proofs.Common.{◌≡◌, ℕ, ◌+◌, ◌/◌, ◌<◌, ◌≤◌, Bool, true, false, IsTrue, List, [], ◌++◌, length, take, drop, refl, sym, ◌∙◌, ap, subst, arith, length-append, append_assoc}
+use Rattle.std.proofs.Common.{◌≡◌, ℕ, ◌+◌, ◌/◌, ◌<◌, ◌≤◌, ◌%◌, ◌^◌, Bool, true, false, IsTrue, List, [], ◌++◌, length, take, drop, refl, sym, ◌∙◌, ap, subst, arith, length-append, append_assoc}
 use Rattle.std.specs.Prelude.{slice_range, slice_index}
 use Rattle.std.proofs.lemmas.List.{take_at, drop_at}
 use Rattle.ip_address.proofs.Sums.{ChecksumHolds-complement}
 use Rattle.ip_address.specs.Fields.{be16, IsBytes}
 use Rattle.ip_address.specs.Protocol.{protocol_number}
 use Rattle.ip_address.specs.Sum.{word_sum, ChecksumHolds, complement}
-use Rattle.ip_packet.specs.Ipv4.{IsIpv4, IsQuoted, IsValue, Fits, spelling, sent_fields, free_fields, written, header_len_of, normal}
+use Rattle.ip_packet.specs.Ipv4.{IsIpv4, IsQuoted, IsValue, IsKeyOf, Fits, key_of, piece_of, spelling, sent_fields, free_fields, written_as, written, header_len_of, normal}
+use Rattle.ip_packet.proofs.Flags.{field-read, dont_frag-sent, more-sent, offset-sent}
+use Rattle.ip_packet.specs.declared.ipv4.Ipv4Piece.{Ipv4Piece}
 use Rattle.ip_packet.specs.declared.ipv4.Ipv4Repr.{Ipv4Repr}
+use Rattle.ip_address.specs.declared.ip.IpProtocol.{IpProtocol}
+use Rattle.ip_address.specs.declared.ipv4.Ipv4FragKey.{Ipv4FragKey}
 use Rattle.ip_address.proofs.Peel.{peel8, peel16, peel_to, length-slice_range}
 use Rattle.ip_address.proofs.Numbers.{protocol_number-protocol_of}
 
@@ -19,6 +23,8 @@ IsQuoted-whole tested bytes v is = record {
   header = refl;
   least = is.whole.header;
   within = omega (arith, is.whole.least, is.whole.within);
+  identification = is.identification;
+  dont_frag = is.dont_frag;
   source = is.source;
   destination = is.destination;
   protocol = is.protocol;
@@ -39,8 +45,8 @@ header-spelling bytes v header_len small is least =
     peel8 bytes 0 (64 + (20 + length options) / 4) _ (omega (arith, is.room)) (omega (arith, len, is.version)) (
     peel8 bytes 1 (slice_index bytes 1) _ (omega (arith, is.room)) refl (
     peel16 bytes 2 (20 + length options + v.payload_len) _ small (omega (arith, is.room)) total (
-    peel16 bytes 4 (be16 bytes 4) _ small (omega (arith, is.room)) refl (
-    peel16 bytes 6 (be16 bytes 6) _ small (omega (arith, is.room)) refl (
+    peel16 bytes 4 v.ident _ small (omega (arith, is.room)) is.identification (
+    peel16 bytes 6 _ _ small (omega (arith, is.room)) (field-read bytes v.dont_frag small is.dont_frag) (
     peel8 bytes 8 v.hop_limit _ (omega (arith, is.room)) is.hops (
     peel8 bytes 9 (protocol_number v.next_header) _ (omega (arith, is.room)) protocol (
     peel16 bytes 10 (be16 bytes 10) _ small (omega (arith, is.room)) refl (
@@ -65,18 +71,18 @@ bytes-spelling tested bytes v small is =
     header-spelling bytes v (header_len_of bytes) small (IsQuoted-whole tested bytes v is) (omega (arith, is.payload))
 
 -- a number in the checksum field adds itself to the word sum
-word_sum-check : (v : Ipv4Repr) (check : ℕ) → check < 65536 → word_sum (spelling v (sent_fields check)) ≡ word_sum (spelling v (sent_fields 0)) + check
-word_sum-check v check small = omega arith
+word_sum-check : (v : Ipv4Repr) (piece : Ipv4Piece) (check : ℕ) → check < 65536 → word_sum (spelling v (sent_fields piece check)) ≡ word_sum (spelling v (sent_fields piece 0)) + check
+word_sum-check v piece check small = omega arith
 
 -- a header whose checksum was written holds it
-ChecksumHolds-written : (v : Ipv4Repr) → ChecksumHolds (word_sum (written true v))
-ChecksumHolds-written v =
-    let total : ℕ = word_sum (spelling v (sent_fields 0)) in
-    subst ChecksumHolds (sym (word_sum-check v (complement total) (omega arith))) (ChecksumHolds-complement total)
+ChecksumHolds-written : (v : Ipv4Repr) (piece : Ipv4Piece) → ChecksumHolds (word_sum (written_as true v piece))
+ChecksumHolds-written v piece =
+    let total : ℕ = word_sum (spelling v (sent_fields piece 0)) in
+    subst ChecksumHolds (sym (word_sum-check v piece (complement total) (omega arith))) (ChecksumHolds-complement total)
 
 -- how long a header is that is sent
-pub length-spelling : (v : Ipv4Repr) (check : ℕ) → IsValue v → length (spelling v (sent_fields check)) ≡ 20
-length-spelling v check value =
+pub length-spelling : (v : Ipv4Repr) (piece : Ipv4Piece) (check : ℕ) → IsValue v → length (spelling v (sent_fields piece check)) ≡ 20
+length-spelling v piece check value =
     omega (arith, value.source.0, value.destination.0, length-append v.src_addr.0 (v.dst_addr.0 ++ []), length-append v.dst_addr.0 [])
 
 -- addresses behind the first twelve bytes, read
@@ -94,15 +100,17 @@ take-second source destination rest first second =
     )
 
 -- a packet whose header was emitted, up to its checksum
-IsIpv4-spelling : (tested : Bool) (v : Ipv4Repr) (check : ℕ) (rest : List ℕ) → Fits v → IsValue v → v.payload_len ≤ length rest → (IsTrue tested → ChecksumHolds (word_sum (spelling v (sent_fields check))))
-    → IsIpv4 tested (spelling v (sent_fields check) ++ rest) (normal v)
-IsIpv4-spelling tested v check rest fits value within holds =
-    let header : length (spelling v (sent_fields check)) ≡ 20 = length-spelling v check value in
-    let all : length (spelling v (sent_fields check) ++ rest) ≡ 20 + length rest = length-append (spelling v (sent_fields check)) rest ∙ ap (λ n. n + length rest) header in
+IsIpv4-spelling : (tested : Bool) (v : Ipv4Repr) (piece : Ipv4Piece) (check : ℕ) (rest : List ℕ) → Fits v → IsValue v → piece.offset < 2 ^ 16 → v.payload_len ≤ length rest → (IsTrue tested → ChecksumHolds (word_sum (spelling v (sent_fields piece check))))
+    → IsIpv4 tested (spelling v (sent_fields piece check) ++ rest) (normal v)
+IsIpv4-spelling tested v piece check rest fits value short within holds =
+    let header : length (spelling v (sent_fields piece check)) ≡ 20 = length-spelling v piece check value in
+    let all : length (spelling v (sent_fields piece check) ++ rest) ≡ 20 + length rest = length-append (spelling v (sent_fields piece check)) rest ∙ ap (λ n. n + length rest) header in
     record {
       whole = record { room = omega (arith, all); header = omega arith; least = omega (arith, fits); within = omega (arith, all, fits, within) };
       version = refl;
-      checked = λ t. subst (λ xs. ChecksumHolds (word_sum xs)) (sym (take_at (spelling v (sent_fields check)) rest 20 header)) (holds t);
+      checked = λ t. subst (λ xs. ChecksumHolds (word_sum xs)) (sym (take_at (spelling v (sent_fields piece check)) rest 20 header)) (holds t);
+      identification = omega (arith, value.identification);
+      dont_frag = dont_frag-sent v.dont_frag piece.more piece.offset short;
       source = take-first v.src_addr.0 v.dst_addr.0 rest value.source.0;
       destination = take-second v.src_addr.0 v.dst_addr.0 rest value.source.0 value.destination.0;
       protocol = refl;
@@ -110,8 +118,36 @@ IsIpv4-spelling tested v check rest fits value within holds =
       hops = refl;
     }
 
--- a packet whose header was emitted is read back in its normal form, whatever follows the payload
+-- the header of a piece that was emitted is read back in its normal form, whatever follows the payload
+IsIpv4-piece : (tested sealed : Bool) (v : Ipv4Repr) (piece : Ipv4Piece) (rest : List ℕ) → Fits v → IsValue v → piece.offset < 2 ^ 16 → v.payload_len ≤ length rest → (IsTrue tested → IsTrue sealed)
+    → IsIpv4 tested (written_as sealed v piece ++ rest) (normal v)
+IsIpv4-piece tested false v piece rest fits value short within both = IsIpv4-spelling tested v piece 0 rest fits value short within (λ t. absurd (cc (both t)))
+IsIpv4-piece tested true v piece rest fits value short within both =
+    IsIpv4-spelling tested v piece (complement (word_sum (spelling v (sent_fields piece 0)))) rest fits value short within (λ _. ChecksumHolds-written v piece)
+
+-- so is that of a datagram that nobody cut
 pub IsIpv4-written : (tested sealed : Bool) (v : Ipv4Repr) (rest : List ℕ) → Fits v → IsValue v → v.payload_len ≤ length rest → (IsTrue tested → IsTrue sealed) → IsIpv4 tested (written sealed v ++ rest) (normal v)
-IsIpv4-written tested false v rest fits value within both = IsIpv4-spelling tested v 0 rest fits value within (λ t. absurd (cc (both t)))
-IsIpv4-written tested true v rest fits value within both =
-    IsIpv4-spelling tested v (complement (word_sum (spelling v (sent_fields 0)))) rest fits value within (λ _. ChecksumHolds-written v)
+IsIpv4-written tested sealed v rest fits value within both = IsIpv4-piece tested sealed v (record { offset = 0; more = false }) rest fits value (omega arith) within both
+
+-- which piece it is stands in the header
+abbrev piece-at : ℕ → Bool → Ipv4Piece
+piece-at offset more = record { offset = offset; more = more }
+
+pub piece_of-written : (sealed : Bool) (v : Ipv4Repr) (piece : Ipv4Piece) (rest : List ℕ) → piece.offset < 2 ^ 16 → piece.offset % 8 ≡ 0 → piece_of (written_as sealed v piece ++ rest) ≡ piece
+piece_of-written sealed v piece rest short whole =
+    ap (λ n. piece-at n (piece_of (written_as sealed v piece ++ rest)).more) (offset-sent v.dont_frag piece.more piece.offset short whole)
+    ∙ ap (λ b. piece-at piece.offset b) (more-sent v.dont_frag piece.more piece.offset short)
+
+pub reads-back : (tested sealed : Bool) (v : Ipv4Repr) (piece : Ipv4Piece) (rest : List ℕ) → Fits v → IsValue v → piece.offset < 2 ^ 16 → piece.offset % 8 ≡ 0 → v.payload_len ≤ length rest → (IsTrue tested → IsTrue sealed)
+    → IsIpv4 tested (written_as sealed v piece ++ rest) (normal v) × (piece_of (written_as sealed v piece ++ rest) ≡ piece)
+reads-back tested sealed v piece rest fits value short whole within both =
+    (IsIpv4-piece tested sealed v piece rest fits value short within both, piece_of-written sealed v piece rest short whole)
+
+-- the key that the bytes show is that of the header
+key-same : (id id' : ℕ) (source source' destination destination' : List ℕ) (p p' : IpProtocol) → id ≡ id' → source ≡ source' → destination ≡ destination' → p ≡ p'
+    → (let k : Ipv4FragKey = record { id = id; src_addr = record { 0 = source }; dst_addr = record { 0 = destination }; protocol = p } in k) ≡ record { id = id'; src_addr = record { 0 = source' }; dst_addr = record { 0 = destination' }; protocol = p' }
+key-same id id' source source' destination destination' p p' a b c d = rw (a, b, c, d) refl
+
+pub key-read : (tested : Bool) (bytes : List ℕ) (v : Ipv4Repr) (key : Ipv4FragKey) → IsIpv4 tested bytes v → IsKeyOf bytes key → key ≡ key_of v
+key-read tested bytes v key is shows =
+    key-same _ _ _ _ _ _ _ _ (shows.identification ∙ sym is.identification) (shows.source ∙ sym is.source) (shows.destination ∙ sym is.destination) (shows.protocol ∙ sym is.protocol)

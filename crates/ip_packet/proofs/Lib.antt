@@ -1,5 +1,6 @@
 pub mod CoveredSums
 pub mod UdpLaws
+pub mod Flags
 pub mod Ipv4Laws
 pub mod Ipv6Laws
 pub mod Fronts

@@ -1,8 +1,10 @@
 -- Quoted headers and what spells them.
-use Rattle.std.proofs.Common.{◌≡◌, ℕ, ◌+◌, ◌<◌, Bool, true, false, List, ◌++◌, length, get_or, refl, ◌∙◌, ap, arith, length-append}
+use Rattle.std.proofs.Common.{◌≡◌, ℕ, ◌+◌, ◌<◌, ◌^◌, Bool, true, false, List, ◌++◌, length, get_or, refl, ◌∙◌, ap, arith, length-append}
 use Rattle.ip_address.specs.Fields.{IsBytes}
 use Rattle.ip_packet.specs.Ipv4 as Ipv4
 use Rattle.ip_packet.specs.Ipv6 as Ipv6
+use Rattle.ip_packet.proofs.Flags.{dont_frag-sent}
+use Rattle.ip_packet.specs.declared.ipv4.Ipv4Piece.{Ipv4Piece}
 use Rattle.ip_packet.specs.declared.ipv4.Ipv4Repr.{Ipv4Repr}
 use Rattle.ip_packet.specs.declared.ipv6.Ipv6Repr.{Ipv6Repr}
 use Rattle.ip_packet.proofs.Ipv4Laws as V4
@@ -10,10 +12,10 @@ use Rattle.ip_packet.proofs.Ipv6Laws as V6
 use Rattle.ip_packet.proofs.Runs.{part, numbered}
 
 -- a header with any checksum
-IsQuoted-spelling : (v : Ipv4Repr) (check : ℕ) (rest : List ℕ) → Ipv4.Fits v → Ipv4.IsValue v → Ipv4.IsQuoted (Ipv4.spelling v (Ipv4.sent_fields check) ++ rest) (Ipv4.normal v) 20
-IsQuoted-spelling v check rest fits value =
-    let all : length (Ipv4.spelling v (Ipv4.sent_fields check) ++ rest) ≡ 20 + length rest =
-    length-append (Ipv4.spelling v (Ipv4.sent_fields check)) rest ∙ ap (λ n. n + length rest) (V4.length-spelling v check value)
+IsQuoted-spelling : (v : Ipv4Repr) (piece : Ipv4Piece) (check : ℕ) (rest : List ℕ) → Ipv4.Fits v → Ipv4.IsValue v → piece.offset < 2 ^ 16 → Ipv4.IsQuoted (Ipv4.spelling v (Ipv4.sent_fields piece check) ++ rest) (Ipv4.normal v) 20
+IsQuoted-spelling v piece check rest fits value short =
+    let all : length (Ipv4.spelling v (Ipv4.sent_fields piece check) ++ rest) ≡ 20 + length rest =
+    length-append (Ipv4.spelling v (Ipv4.sent_fields piece check)) rest ∙ ap (λ n. n + length rest) (V4.length-spelling v piece check value)
     in
     record {
       room = omega (arith, all);
@@ -21,6 +23,8 @@ IsQuoted-spelling v check rest fits value =
       header = refl;
       least = omega arith;
       within = omega (arith, all);
+      identification = omega (arith, value.identification);
+      dont_frag = dont_frag-sent v.dont_frag piece.more piece.offset short;
       source = V4.take-first v.src_addr.0 v.dst_addr.0 rest value.source.0;
       destination = V4.take-second v.src_addr.0 v.dst_addr.0 rest value.source.0 value.destination.0;
       protocol = refl;
@@ -30,8 +34,8 @@ IsQuoted-spelling v check rest fits value =
 
 -- an emitted IPv4 header is read in its normal form, whatever follows it
 pub IsQuoted-v4 : (sealed : Bool) (v : Ipv4Repr) (rest : List ℕ) → Ipv4.Fits v → Ipv4.IsValue v → Ipv4.IsQuoted (Ipv4.written sealed v ++ rest) (Ipv4.normal v) 20
-IsQuoted-v4 false v rest fits value = IsQuoted-spelling v 0 rest fits value
-IsQuoted-v4 true v rest fits value = IsQuoted-spelling v _ rest fits value
+IsQuoted-v4 false v rest fits value = IsQuoted-spelling v (record { offset = 0; more = false }) 0 rest fits value (omega arith)
+IsQuoted-v4 true v rest fits value = IsQuoted-spelling v (record { offset = 0; more = false }) _ rest fits value (omega arith)
 
 -- an emitted IPv6 header is read in its normal form, whatever follows it
 pub IsQuoted-v6 : (v : Ipv6Repr) (rest : List ℕ) → Ipv6.Fits v → Ipv6.IsValue v → Ipv6.IsQuoted (Ipv6.written v ++ rest) (Ipv6.normal v) 40
@@ -55,11 +59,14 @@ pub fits-v4 : (bytes : List ℕ) (v : Ipv4Repr) (header_len : ℕ) → IsBytes b
 fits-v4 bytes v header_len small is =
     let high : get_or bytes 2 0 < 256 = small 2 in
     let low : get_or bytes 3 0 < 256 = small 3 in
+    let first : get_or bytes 4 0 < 256 = small 4 in
+    let second : get_or bytes 5 0 < 256 = small 5 in
     let hops : get_or bytes 8 0 < 256 = small 8 in (
       omega (arith, is.payload, is.least),
       record {
         source = part bytes v.src_addr.0 12 16 4 small refl (omega (arith, is.room)) is.source;
         destination = part bytes v.dst_addr.0 16 20 4 small refl is.room is.destination;
+        identification = omega (arith, is.identification, first, second);
         protocol = numbered bytes 9 v.next_header small is.protocol;
         hops = omega (arith, is.hops);
       },

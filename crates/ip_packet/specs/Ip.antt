@@ -1,5 +1,5 @@
 -- IP headers of either family.
-use Rattle.std.specs.Prelude.{ℕ, Bool, List}
+use Rattle.std.specs.Prelude.{◌≡◌, ℕ, Bool, false, List}
 use Rattle.ip_address.specs.declared.ip.IpAddress.{IpAddress}
 use Rattle.ip_address.specs.declared.ip.IpAddress.TheVariants as Address
 use Rattle.ip_address.specs.declared.ip.IpProtocol.{IpProtocol}
@@ -39,6 +39,11 @@ payload_len_in (Ip.Ipv6 v) = v.payload_len
 abbrev pub hops_in : IpRepr → ℕ
 hops_in (Ip.Ipv4 v) = v.hop_limit
 hops_in (Ip.Ipv6 v) = v.hop_limit
+
+-- an IPv4 header has identification 0 and may be cut
+abbrev pub IsUnnumbered : IpRepr → Type 0
+IsUnnumbered (Ip.Ipv4 v) = (v.ident ≡ 0) × (v.dont_frag ≡ false)
+IsUnnumbered (Ip.Ipv6 v) = Unit {0}
 
 -- how long the header is that is written
 abbrev pub header_len_in : IpRepr → ℕ

@@ -2,7 +2,7 @@
 -- length, identification, flags and offset in units of eight bytes, time to live, protocol, checksum, the
 -- addresses and options; then the payload, which ends where the total length says. What lies behind it is
 -- padding.
-use Rattle.std.specs.Prelude.{◌≡◌, ℕ, ◌+◌, ◌-◌, ◌*◌, ◌/◌, ◌%◌, ◌<◌, ◌≤◌, ◌^◌, Bool, IsTrue, if◌then◌else◌, List, [], ◌∷◌, ◌++◌, length, take, slice_index, slice_range}
+use Rattle.std.specs.Prelude.{◌≡◌, ℕ, ◌+◌, ◌-◌, ◌*◌, ◌/◌, ◌%◌, ◌<◌, ◌≤◌, ◌^◌, Bool, false, IsTrue, if◌then◌else◌, List, [], ◌∷◌, ◌++◌, length, take, slice_index, slice_range}
 use Rattle.std.specs.Int.{w16, to_be_bytes}
 use Rattle.std.specs.Borrow.{GName}
 use Rattle.ip_address.specs.Address.{IsIpv4Address}
@@ -10,8 +10,10 @@ use Rattle.ip_address.specs.Fields.{be16, put16}
 use Rattle.ip_address.specs.Protocol.{protocol_number, protocol_of}
 use Rattle.ip_address.specs.Sum.{word_sum, ChecksumHolds, complement}
 use Rattle.ip_address.specs.declared.ipv4.Ipv4FragKey.{Ipv4FragKey}
+use Rattle.ip_packet.specs.Parts.{has_flag}
 use Rattle.ip_packet.specs.declared.ipv4.Ipv4Packet.{Ipv4Packet}
 use Rattle.ip_packet.specs.declared.ipv4.Ipv4PacketMut.{Ipv4PacketMut}
+use Rattle.ip_packet.specs.declared.ipv4.Ipv4Piece.{Ipv4Piece}
 use Rattle.ip_packet.specs.declared.ipv4.Ipv4Repr.{Ipv4Repr}
 
 -- the bytes that a view reads
@@ -54,6 +56,8 @@ pub record IsIpv4 (tested : Bool) (bytes : List ℕ) (v : Ipv4Repr) : Type 0 whe
   pub whole : IsWhole bytes
   pub version : slice_index bytes 0 / 16 ≡ 4
   pub checked : IsTrue tested → IsChecked bytes
+  pub identification : v.ident ≡ be16 bytes 4
+  pub dont_frag : v.dont_frag ≡ has_flag (slice_index bytes 6) 64
   pub source : v.src_addr.0 ≡ slice_range bytes 12 16
   pub destination : v.dst_addr.0 ≡ slice_range bytes 16 20
   pub protocol : v.next_header ≡ protocol_of (slice_index bytes 9)
@@ -68,6 +72,8 @@ pub record IsQuoted (bytes : List ℕ) (v : Ipv4Repr) (header_len : ℕ) : Type 
   pub header : header_len ≡ header_len_of bytes
   pub least : 20 ≤ header_len
   pub within : header_len ≤ length bytes
+  pub identification : v.ident ≡ be16 bytes 4
+  pub dont_frag : v.dont_frag ≡ has_flag (slice_index bytes 6) 64
   pub source : v.src_addr.0 ≡ slice_range bytes 12 16
   pub destination : v.dst_addr.0 ≡ slice_range bytes 16 20
   pub protocol : v.next_header ≡ protocol_of (slice_index bytes 9)
@@ -81,11 +87,23 @@ pub record IsKeyOf (bytes : List ℕ) (key : Ipv4FragKey) : Type 0 where
   pub destination : key.dst_addr.0 ≡ slice_range bytes 16 20
   pub protocol : key.protocol ≡ protocol_of (slice_index bytes 9)
 
+-- what the pieces of a datagram with this header have in common
+abbrev pub key_of : Ipv4Repr → Ipv4FragKey
+key_of v = record { id = v.ident; src_addr = v.src_addr; dst_addr = v.dst_addr; protocol = v.next_header }
+
+-- which piece of its datagram the packet is: at this offset in bytes, and whether more pieces follow
+abbrev pub piece_of : List ℕ → Ipv4Piece
+piece_of bytes = record { offset = 8 * (be16 bytes 6 % 2 ^ 13); more = has_flag (slice_index bytes 6) 32 }
+
+-- the field of the flags, reserved, don't-fragment and more-fragments, and of the offset in units of eight bytes
+abbrev pub flags_and_offset : Bool → Bool → Ipv4Piece → ℕ
+flags_and_offset reserved dont_frag piece = (if reserved then 2 ^ 15 else 0) + (if dont_frag then 2 ^ 14 else 0) + (if piece.more then 2 ^ 13 else 0) + piece.offset / 8
+
 -- what a header has beside its value
 pub record Free : Type 0 where
   pub services : ℕ
-  pub identification : ℕ
-  pub flags_and_offset : ℕ
+  pub reserved : Bool
+  pub piece : Ipv4Piece
   pub checksum : ℕ
   pub options : List ℕ
 
@@ -93,24 +111,32 @@ pub record Free : Type 0 where
 abbrev pub free_fields : List ℕ → Free
 free_fields bytes = record {
   services = slice_index bytes 1;
-  identification = be16 bytes 4;
-  flags_and_offset = be16 bytes 6;
+  reserved = has_flag (slice_index bytes 6) 128;
+  piece = piece_of bytes;
   checksum = be16 bytes 10;
   options = slice_range bytes 20 (header_len_of bytes);
 }
 
--- these fields as they are sent: don't-fragment set, and else zeros
-abbrev pub sent_fields : ℕ → Free
-sent_fields check = record { services = 0; identification = 0; flags_and_offset = 0x4000; checksum = check; options = [] }
+-- these fields as they are sent: which piece it is, the checksum, and else zeros
+abbrev pub sent_fields : Ipv4Piece → ℕ → Free
+sent_fields piece check = record { services = 0; reserved = false; piece = piece; checksum = check; options = [] }
 
 -- a header with this value
 abbrev pub spelling : Ipv4Repr → Free → List ℕ
 spelling v free =
-    (64 + (20 + length free.options) / 4) ∷ free.services ∷ (to_be_bytes w16 (20 + length free.options + v.payload_len) ++ (to_be_bytes w16 free.identification ++ (to_be_bytes w16 free.flags_and_offset ++ v.hop_limit ∷ protocol_number v.next_header ∷ (to_be_bytes w16 free.checksum ++ (v.src_addr.0 ++ (v.dst_addr.0 ++ free.options))))))
+    (64 + (20 + length free.options) / 4) ∷ free.services ∷ (to_be_bytes w16 (20 + length free.options + v.payload_len) ++ (to_be_bytes w16 v.ident ++ (to_be_bytes w16 (flags_and_offset free.reserved v.dont_frag free.piece) ++ v.hop_limit ∷ protocol_number v.next_header ∷ (to_be_bytes w16 free.checksum ++ (v.src_addr.0 ++ (v.dst_addr.0 ++ free.options))))))
 
--- the header that is sent: with a checksum that holds, or with 0
+-- the header of a piece that is sent: with a checksum that holds, or with 0
+abbrev pub written_as : Bool → Ipv4Repr → Ipv4Piece → List ℕ
+written_as sealed v piece = spelling v (sent_fields piece (if sealed then complement (word_sum (spelling v (sent_fields piece 0))) else 0))
+
+-- the header of the piece at this offset in bytes, that more pieces follow or not
+abbrev pub written_piece : Bool → Ipv4Repr → ℕ → Bool → List ℕ
+written_piece sealed v offset more = written_as sealed v (record { offset = offset; more = more })
+
+-- the header that is sent of a datagram that nobody cut
 abbrev pub written : Bool → Ipv4Repr → List ℕ
-written sealed v = spelling v (sent_fields (if sealed then complement (word_sum (spelling v (sent_fields 0))) else 0))
+written sealed v = written_piece sealed v 0 false
 
 -- the bytes with the header's checksum in its field
 abbrev pub with_checksum : List ℕ → List ℕ
@@ -124,6 +150,7 @@ Fits v = 20 + v.payload_len < 2 ^ 16
 pub record IsValue (v : Ipv4Repr) : Type 0 where
   pub source : IsIpv4Address v.src_addr
   pub destination : IsIpv4Address v.dst_addr
+  pub identification : v.ident < 2 ^ 16
   pub protocol : protocol_number v.next_header < 256
   pub hops : v.hop_limit < 256
 

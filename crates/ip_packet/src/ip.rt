@@ -3,7 +3,7 @@ ghost use Rattle.std.specs.Prelude.{◌≡◌, ℕ, ◌+◌, ◌≤◌, ◌<◌,
 ghost use Rattle.ip_address.specs.Address.{version_of};
 ghost use Rattle.ip_address.specs.Fields.{IsBytes};
 ghost use Rattle.net_devices.specs.Capabilities.{verifies, computes};
-ghost use Rattle.ip_packet.specs.Ip.{version_in, source_in, destination_in, carried_in, payload_len_in, hops_in, header_len_in, with_payload_len, IsIp, IsValue, Fits, written, normal};
+ghost use Rattle.ip_packet.specs.Ip.{version_in, source_in, destination_in, carried_in, payload_len_in, hops_in, IsUnnumbered, header_len_in, with_payload_len, IsIp, IsValue, Fits, written, normal};
 ghost use Rattle.ip_packet.specs.declared.ip.IpRepr.{IpRepr};
 ghost use Rattle.ip_packet.specs.declared.ip.IpRepr.TheVariants as Either;
 
@@ -40,7 +40,8 @@ impl IpRepr {
         }
     }
 
-    /// The header of the family of both addresses.
+    /// The header of the family of both addresses; an IPv4 one has identification 0 and may be
+    /// cut.
     pub const fn new(
         src_addr: IpAddress,
         dst_addr: IpAddress,
@@ -54,6 +55,7 @@ impl IpRepr {
         ensures protocol { carried_in result ≡ next_header }
         ensures payload { payload_len_in result ≡ payload_len }
         ensures hops { hops_in result ≡ hop_limit }
+        ensures unnumbered { IsUnnumbered result }
     {
         match (src_addr, dst_addr) {
             (IpAddress::Ipv4(src_addr), IpAddress::Ipv4(dst_addr)) => IpRepr::Ipv4(Ipv4Repr {
@@ -62,6 +64,8 @@ impl IpRepr {
                 next_header,
                 payload_len,
                 hop_limit,
+                ident: 0,
+                dont_frag: false,
             }),
             (IpAddress::Ipv6(src_addr), IpAddress::Ipv6(dst_addr)) => IpRepr::Ipv6(Ipv6Repr {
                 src_addr,

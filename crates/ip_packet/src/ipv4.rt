@@ -1,12 +1,14 @@
 //! IPv4 packets (RFC 791). Options are read past and never written.
-ghost use Rattle.std.specs.Prelude.{◌≡◌, ◌↔◌, ℕ, ◌+◌, ◌*◌, ◌/◌, ◌%◌, ◌<◌, ◌≤◌, ◌^◌, Bool, IsTrue, IsOk, IfOk, List, ◌++◌, length, drop, take, slice_index, slice_range, if◌then◌else◌};
+ghost use Rattle.std.specs.Prelude.{◌≡◌, ◌↔◌, ℕ, ◌+◌, ◌*◌, ◌/◌, ◌%◌, ◌<◌, ◌≤◌, ◌^◌, Bool, IsTrue, IsOk, IfOk, List, ◌++◌, false, length, drop, take, slice_index, slice_range, if◌then◌else◌};
 ghost use Rattle.ip_address.specs.Fields.{be16, put8, put16, IsBytes};
 ghost use Rattle.ip_address.specs.Protocol.{protocol_number, protocol_of};
 ghost use Rattle.ip_address.specs.Sum.{word_sum, folded, complement};
 ghost use Rattle.net_devices.specs.Capabilities.{verifies, computes};
-ghost use Rattle.ip_packet.specs.Parts.{put_run, with_flag};
-ghost use Rattle.ip_packet.specs.Ipv4.{IsWhole, IsChecked, IsIpv4, IsValue, IsKeyOf, Fits, bytes_of, bytes_in, name_of, header_len_of, header_of, payload_of, free_fields, sent_fields, spelling, written, with_checksum, normal};
+ghost use Rattle.ip_packet.specs.Parts.{put_run, has_flag, with_flag};
+ghost use Rattle.ip_packet.specs.Ipv4.{IsWhole, IsChecked, IsIpv4, IsValue, IsKeyOf, Fits, key_of, piece_of, flags_and_offset, bytes_of, bytes_in, name_of, header_len_of, header_of, payload_of, free_fields, sent_fields, spelling, written_as, written_piece, written, with_checksum, normal};
+ghost use Rattle.ip_packet.specs.declared.ipv4.Ipv4Piece.{Ipv4Piece};
 ghost use Rattle.ip_packet.specs.declared.ipv4.Ipv4Repr.{Ipv4Repr};
+ghost use Rattle.ip_address.specs.declared.ipv4.Ipv4FragKey.{Ipv4FragKey};
 
 use crate::parts::{put_header, put4};
 use ip_address::network_order::{read_u16, write_u16};
@@ -137,7 +139,8 @@ impl<'a> Ipv4Packet<'a> {
     /// Whether the packet may not be cut.
     pub fn dont_frag(&self) -> bool
         requires { 20 ≤ length (bytes_of self.now) }
-        ensures { IsTrue result ↔ (slice_index (bytes_of self.now) 6 / 64 % 2 ≡ 1) }
+        ensures set { IsTrue result ↔ (slice_index (bytes_of self.now) 6 / 64 % 2 ≡ 1) }
+        ensures flag { result ≡ has_flag (slice_index (bytes_of self.now) 6) 64 }
     {
         (self.buffer[field::FLG_OFF.start] >> 6) & 1 == 1
     }
@@ -145,7 +148,8 @@ impl<'a> Ipv4Packet<'a> {
     /// Whether a later piece of the same datagram follows.
     pub fn more_frags(&self) -> bool
         requires { 20 ≤ length (bytes_of self.now) }
-        ensures { IsTrue result ↔ (slice_index (bytes_of self.now) 6 / 32 % 2 ≡ 1) }
+        ensures set { IsTrue result ↔ (slice_index (bytes_of self.now) 6 / 32 % 2 ≡ 1) }
+        ensures flag { result ≡ has_flag (slice_index (bytes_of self.now) 6) 32 }
     {
         (self.buffer[field::FLG_OFF.start] >> 5) & 1 == 1
     }
@@ -209,6 +213,17 @@ impl<'a> Ipv4Packet<'a> {
             src_addr: self.src_addr(),
             dst_addr: self.dst_addr(),
             protocol: self.next_header(),
+        }
+    }
+
+    /// Which piece of its datagram the packet is.
+    pub fn piece(&self) -> Ipv4Piece
+        requires { 20 ≤ length (bytes_of self.now) }
+        ensures { result ≡ piece_of (bytes_of self.now) }
+    {
+        Ipv4Piece {
+            offset: self.frag_offset(),
+            more: self.more_frags(),
         }
     }
 
@@ -336,7 +351,8 @@ impl<'a> Ipv4PacketMut<'a> {
     /// Whether the packet may not be cut.
     pub fn dont_frag(&self) -> bool
         requires { 20 ≤ length (bytes_in self.now) }
-        ensures { IsTrue result ↔ (slice_index (bytes_in self.now) 6 / 64 % 2 ≡ 1) }
+        ensures set { IsTrue result ↔ (slice_index (bytes_in self.now) 6 / 64 % 2 ≡ 1) }
+        ensures flag { result ≡ has_flag (slice_index (bytes_in self.now) 6) 64 }
     {
         Ipv4Packet::new_unchecked(self.buffer).dont_frag()
     }
@@ -344,7 +360,8 @@ impl<'a> Ipv4PacketMut<'a> {
     /// Whether a later piece of the same datagram follows.
     pub fn more_frags(&self) -> bool
         requires { 20 ≤ length (bytes_in self.now) }
-        ensures { IsTrue result ↔ (slice_index (bytes_in self.now) 6 / 32 % 2 ≡ 1) }
+        ensures set { IsTrue result ↔ (slice_index (bytes_in self.now) 6 / 32 % 2 ≡ 1) }
+        ensures flag { result ≡ has_flag (slice_index (bytes_in self.now) 6) 32 }
     {
         Ipv4Packet::new_unchecked(self.buffer).more_frags()
     }
@@ -400,6 +417,14 @@ impl<'a> Ipv4PacketMut<'a> {
         ensures { IsKeyOf (bytes_in self.now) result }
     {
         Ipv4Packet::new_unchecked(self.buffer).get_key()
+    }
+
+    /// Which piece of its datagram the packet is.
+    pub fn piece(&self) -> Ipv4Piece
+        requires { 20 ≤ length (bytes_in self.now) }
+        ensures { result ≡ piece_of (bytes_in self.now) }
+    {
+        Ipv4Packet::new_unchecked(self.buffer).piece()
     }
 
     /// The flags and the offset in units of eight bytes.
@@ -615,6 +640,16 @@ const fn with_more_frags(byte: u8, value: bool) -> u8
     ((byte >> 6) << 6) + (if value { 32 } else { 0 }) + (byte & 0x1f)
 }
 
+/// Which piece of a datagram a packet carries (RFC 791, section 3.2). A datagram that nobody cut is
+/// a piece at 0 that none follows.
+#[derive(Clone, Copy, Debug, PartialEq, Eq)]
+pub struct Ipv4Piece {
+    /// Where its payload stands in the datagram's, in bytes.
+    pub offset: u16,
+    /// Whether more pieces follow.
+    pub more: bool,
+}
+
 /// The header of a packet; the total length and the checksum follow from it.
 #[derive(Clone, Copy, Debug, PartialEq, Eq)]
 pub struct Ipv4Repr {
@@ -623,6 +658,10 @@ pub struct Ipv4Repr {
     pub next_header: IpProtocol,
     pub payload_len: usize,
     pub hop_limit: u8,
+    /// The identification, which the pieces of one datagram share.
+    pub ident: u16,
+    /// Whether the packet may not be cut.
+    pub dont_frag: bool,
 }
 
 impl Ipv4Repr {
@@ -651,6 +690,8 @@ impl Ipv4Repr {
             next_header: packet.next_header(),
             payload_len: packet.total_len() as usize - packet.header_len() as usize,
             hop_limit: packet.hop_limit(),
+            ident: packet.ident(),
+            dont_frag: packet.dont_frag(),
         })
     }
 
@@ -659,6 +700,18 @@ impl Ipv4Repr {
         ensures { result ≡ 20 }
     {
         HEADER_LEN
+    }
+
+    /// What the pieces of a datagram with this header have in common.
+    pub fn key(&self) -> Ipv4FragKey
+        ensures { result ≡ key_of self.now }
+    {
+        Ipv4FragKey {
+            id: self.ident,
+            src_addr: self.src_addr,
+            dst_addr: self.dst_addr,
+            protocol: self.next_header,
+        }
     }
 
     /// Writes the header, of 20 bytes, and leaves what lies behind it. The checksum is written
@@ -672,28 +725,54 @@ impl Ipv4Repr {
         ensures exact { length (bytes_in packet.old) ≡ 20
             → bytes_in packet.new ≡ written (computes checksum_caps.now.ipv4) self.now }
     {
-        let check = self.sent_checksum(checksum_caps.ipv4.tx());
-        put_header(packet.buffer, &self.header(check));
+        self.emit_piece(packet, 0, false, checksum_caps);
     }
 
-    /// The header with this checksum.
-    fn header(&self, check: u16) -> [u8; 20]
+    /// Writes the header of a piece of a datagram: `payload_len` is the piece's, `offset` says in
+    /// bytes where it stands in the datagram's payload, cut to a multiple of eight, and `more` that
+    /// more pieces follow.
+    pub fn emit_piece(
+        &self,
+        packet: &mut Ipv4PacketMut,
+        offset: u16,
+        more: bool,
+        checksum_caps: &ChecksumCapabilities,
+    )
+        requires room { 20 ≤ length (bytes_in packet.old) }
+        requires fits { Fits self.now }
+        ensures same_reference { name_of packet.new ≡ name_of packet.old }
+        ensures bytes { bytes_in packet.new
+            ≡ written_piece (computes checksum_caps.now.ipv4) self.now offset more
+            ++ drop 20 (bytes_in packet.old) }
+        ensures exact { length (bytes_in packet.old) ≡ 20
+            → bytes_in packet.new
+            ≡ written_piece (computes checksum_caps.now.ipv4) self.now offset more }
+    {
+        let piece = Ipv4Piece { offset, more };
+        let check = self.sent_checksum(piece, checksum_caps.ipv4.tx());
+        put_header(packet.buffer, &self.header(piece, check));
+    }
+
+    /// The header of this piece with this checksum.
+    fn header(&self, piece: Ipv4Piece, check: u16) -> [u8; 20]
         requires { Fits self.now }
-        ensures { result ≡ spelling self.now (sent_fields check) }
+        ensures { result ≡ spelling self.now (sent_fields piece check) }
     {
         let [source0, source1, source2, source3] = self.src_addr.0;
         let [destination0, destination1, destination2, destination3] = self.dst_addr.0;
         let [length_high, length_low] = ((HEADER_LEN + self.payload_len) as u16).to_be_bytes();
+        let [ident_high, ident_low] = self.ident.to_be_bytes();
+        let [flags_high, flags_low] = flags_and_offset(self.dont_frag, piece).to_be_bytes();
         let [check_high, check_low] = check.to_be_bytes();
         [
             0x45,
             0,
             length_high,
             length_low,
-            0,
-            0,
-            0x40,
-            0,
+            ident_high,
+            ident_low,
+            flags_high,
+            flags_low,
             self.hop_limit,
             self.next_header.into(),
             check_high,
@@ -710,17 +789,26 @@ impl Ipv4Repr {
     }
 
     /// The checksum that goes out: a right one, or 0 where none is computed.
-    fn sent_checksum(&self, sealed: bool) -> u16
+    fn sent_checksum(&self, piece: Ipv4Piece, sealed: bool) -> u16
         requires { Fits self.now }
         ensures { result
-            ≡ (if sealed then complement (word_sum (spelling self.now (sent_fields 0))) else 0) }
+            ≡ (if sealed then complement (word_sum (spelling self.now (sent_fields piece 0))) else 0) }
     {
         if sealed {
-            !checksum::data(&self.header(0))
+            !checksum::data(&self.header(piece, 0))
         } else {
             0
         }
     }
+}
+
+/// The field of the flags and the offset, the reserved flag clear.
+const fn flags_and_offset(dont_frag: bool, piece: Ipv4Piece) -> u16
+    ensures { result ≡ flags_and_offset false dont_frag piece }
+{
+    let dont = if dont_frag { 0x4000 } else { 0 };
+    let more = if piece.more { 0x2000 } else { 0 };
+    dont + more + piece.offset / 8
 }
 
 /// Law: a packet is spelled by its header, with what a value doesn't keep, and then come payload
@@ -768,4 +856,26 @@ pub fn ipv4_reads_back()
 /// Law: the normal form of a normal form is itself.
 pub fn ipv4_normal_again()
     ensures { (v : Ipv4Repr) → normal (normal v) ≡ normal v }
+{}
+
+/// Law: the header of a piece that was emitted is read back in its normal form, and so is which
+/// piece it is, where its offset is a multiple of eight.
+pub fn ipv4_piece_reads_back()
+    ensures { (tested sealed : Bool) (v : Ipv4Repr) (piece : Ipv4Piece) (rest : List ℕ)
+        → Fits v
+        → IsValue v
+        → piece.offset < 2 ^ 16
+        → piece.offset % 8 ≡ 0
+        → v.payload_len ≤ length rest
+        → (IsTrue tested → IsTrue sealed)
+        → IsIpv4 tested (written_piece sealed v piece.offset piece.more ++ rest) (normal v)
+        × (piece_of (written_piece sealed v piece.offset piece.more ++ rest) ≡ piece) }
+{}
+
+/// Law: what the pieces of one datagram have in common stands in each piece's header.
+pub fn ipv4_key()
+    ensures { (tested : Bool) (bytes : List ℕ) (v : Ipv4Repr) (key : Ipv4FragKey)
+        → IsIpv4 tested bytes v
+        → IsKeyOf bytes key
+        → key ≡ key_of v }
 {}

@@ -10,7 +10,7 @@ mod sealed;
 pub mod udp;
 
 pub use ip::IpRepr;
-pub use ipv4::{Ipv4Packet, Ipv4PacketMut, Ipv4Repr};
+pub use ipv4::{Ipv4Packet, Ipv4PacketMut, Ipv4Piece, Ipv4Repr};
 pub use ipv6::{Ipv6Packet, Ipv6PacketMut, Ipv6Repr};
 use std::ops::Range;
 pub use udp::{UdpPacket, UdpPacketMut, UdpRepr};

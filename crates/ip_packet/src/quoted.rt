@@ -33,6 +33,8 @@ impl Ipv4Repr {
             next_header: packet.next_header(),
             payload_len: (packet.total_len() as usize).saturating_sub(header_len),
             hop_limit: packet.hop_limit(),
+            ident: packet.ident(),
+            dont_frag: packet.dont_frag(),
         };
         Ok((header, header_len))
     }

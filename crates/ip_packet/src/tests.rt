@@ -55,5 +55,7 @@ pub fn ipv4_header(next_header: IpProtocol, payload_len: usize) -> Ipv4Repr
         next_header,
         payload_len,
         hop_limit: 64,
+        ident: 0,
+        dont_frag: true,
     }
 }

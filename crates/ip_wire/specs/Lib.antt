@@ -6,6 +6,7 @@ pub mod Fragment
 pub use Rattle.ip_address.specs.Fields
 pub use Rattle.ip_address.specs.Sum
 pub use Rattle.ip_address.specs.Address
+pub use Rattle.ip_address.specs.AddressTests
 pub use Rattle.ip_address.specs.Block
 pub use Rattle.ip_address.specs.Protocol
 pub use Rattle.ip_address.specs.Pseudo
@@ -42,6 +43,7 @@ pub use Rattle.ip_packet.specs.declared.udp.UdpPacketMut
 pub use Rattle.ip_packet.specs.declared.udp.UdpRepr
 pub use Rattle.ip_packet.specs.declared.ipv4.Ipv4Packet
 pub use Rattle.ip_packet.specs.declared.ipv4.Ipv4PacketMut
+pub use Rattle.ip_packet.specs.declared.ipv4.Ipv4Piece
 pub use Rattle.ip_packet.specs.declared.ipv4.Ipv4Repr
 pub use Rattle.ip_packet.specs.declared.ipv6.Ipv6Packet
 pub use Rattle.ip_packet.specs.declared.ipv6.Ipv6PacketMut

@@ -137,6 +137,8 @@ fn headers(
             next_header: IpProtocol::Udp,
             payload_len: UDP_HEADER_LEN + datagram.bytes().len(),
             hop_limit: 64,
+            ident: 0,
+            dont_frag: true,
         },
         udp: UdpRepr {
             src_port: local_port,

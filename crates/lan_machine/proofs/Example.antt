@@ -14,6 +14,8 @@ header_is rest room =
       whole = record { room = omega arith; header = omega arith; least = omega arith; within = omega arith };
       version = refl;
       checked = λ _. (3, omega arith, refl);
+      identification = refl;
+      dont_frag = refl;
       source = refl;
       destination = refl;
       protocol = refl;

@@ -1,5 +1,5 @@
 -- What frames carry.
-use Rattle.std.proofs.Common.{◌≡◌, ℕ, ◌+◌, ◌-◌, ◌^◌, ◌<◌, true, List, [], ◌∷◌, ◌++◌, length, take, drop, Option, Some, None, refl, sym, ◌∙◌, ap, subst, arith, length-append, append_assoc, append-nil}
+use Rattle.std.proofs.Common.{◌≡◌, ℕ, ◌+◌, ◌-◌, ◌^◌, ◌<◌, ◌*◌, ◌/◌, ◌%◌, Bool, true, false, List, [], ◌∷◌, ◌++◌, length, take, drop, Option, Some, None, refl, sym, ◌∙◌, ap, subst, arith, length-append, append_assoc, append-nil}
 use Rattle.std.proofs.lemmas.List.{take_at, take_all, drop_at}
 use Rattle.ip_packet.proofs.Ipv4Laws.{IsIpv4-written}
 use Rattle.ip_packet.proofs.UdpLaws.{IsUdp-written}
@@ -17,14 +17,15 @@ use Rattle.lan_machine.specs.Laws.{ContentLaw, PaddedLaw, IsSpellable}
 
 -- ONE CONTENT
 
-abbrev header : List ℕ → List ℕ → IpProtocol → ℕ → ℕ → Ipv4Repr
-header source destination protocol len hops =
-    record { src_addr = record { 0 = source }; dst_addr = record { 0 = destination }; next_header = protocol; payload_len = len; hop_limit = hops }
+abbrev header : List ℕ → List ℕ → IpProtocol → ℕ → ℕ → ℕ → Bool → Ipv4Repr
+header source destination protocol len hops id dont =
+    record { src_addr = record { 0 = source }; dst_addr = record { 0 = destination }; next_header = protocol; payload_len = len; hop_limit = hops; ident = id; dont_frag = dont }
 
 same_header :
-    (s s' d d' : List ℕ) (p p' : IpProtocol) (n n' h h' : ℕ) → s ≡ s' → d ≡ d' → p ≡ p' → n ≡ n' → h ≡ h' →
-    header s d p n h ≡ header s' d' p' n' h'
-same_header s s' d d' p p' n n' h h' source destination protocol len hops = rw (source, destination, protocol, len, hops) refl
+    (s s' d d' : List ℕ) (p p' : IpProtocol) (n n' h h' i i' : ℕ) (f f' : Bool) → s ≡ s' → d ≡ d' → p ≡ p' → n ≡ n' → h ≡ h' → i ≡ i' → f ≡ f' →
+    header s d p n h i f ≡ header s' d' p' n' h' i' f'
+same_header s s' d d' p p' n n' h h' i i' f f' source destination protocol len hops identification dont_frag =
+    rw (source, destination, protocol, len, hops, identification, dont_frag) refl
 
 same_packet :
     (ip ip' : Ipv4Repr) (a a' b b' : ℕ) (x x' : List ℕ) → ip ≡ ip' → a ≡ a' → b ≡ b' → x ≡ x' →
@@ -35,7 +36,8 @@ same_packet ip ip' a a' b b' x x' header source destination payload = rw (header
 pub one_header : (frame : List ℕ) (v w : Ipv4Repr) → Ipv4.IsIpv4 true frame v → Ipv4.IsIpv4 true frame w → v ≡ w
 one_header frame v w one other =
     let len : v.payload_len ≡ w.payload_len = omega (arith, one.payload, other.payload) in
-    same_header _ _ _ _ _ _ _ _ _ _ (one.source ∙ sym other.source) (one.destination ∙ sym other.destination) (one.protocol ∙ sym other.protocol) len (one.hops ∙ sym other.hops)
+    same_header _ _ _ _ _ _ _ _ _ _ _ _ _ _ (one.source ∙ sym other.source) (one.destination ∙ sym other.destination) (one.protocol ∙ sym other.protocol) len (one.hops ∙ sym other.hops)
+    (one.identification ∙ sym other.identification) (one.dont_frag ∙ sym other.dont_frag)
 
 -- a frame carries no two packets
 pub one_packet : (frame : List ℕ) (p q : Packet) → Carries frame p → Carries frame q → p ≡ q
@@ -79,6 +81,18 @@ payload_of-datagram :
     Udp.payload_of (Udp.written source destination true v payload) ≡ payload
 payload_of-datagram source destination v payload short = take_all _ payload (omega arith)
 
+-- a header that is sent of a datagram that nobody cut says so
+abbrev flags : Bool → ℕ
+flags dont = Ipv4.flags_and_offset false dont (record { offset = 0; more = false })
+
+first-piece : (dont : Bool) → (256 * (flags dont / 256 % 256) + flags dont % 256) % 2 ^ 13 ≡ 0
+first-piece true = refl
+first-piece false = refl
+
+last-piece : (dont : Bool) → flags dont / 256 % 256 / 32 % 2 ≡ 0
+last-piece true = refl
+last-piece false = refl
+
 -- UDP is read as what it was written as
 normal-udp : (p : Packet) (padding : List ℕ) → IsSpellable p → Ipv4.normal p.ip ≡ p.ip
 normal-udp p padding spellable =
@@ -121,7 +135,7 @@ module _ (p : Packet) (padding : List ℕ) (spellable : IsSpellable p) where
       subst (λ (bytes : List ℕ). Carries bytes p) (sym (append_assoc (Ipv4.written true p.ip) datagram padding))
       (record {
         ipv4 = ipv4_is;
-        uncut = record { first = refl; last = refl };
+        uncut = record { first = first-piece p.ip.dont_frag; last = last-piece p.ip.dont_frag };
         protocol = spellable.protocol;
         udp = udp_is;
         payload = sym (ap Udp.payload_of datagram_is ∙ payload_of-datagram source destination p.udp p.payload short);

@@ -305,6 +305,7 @@ spellable h i d destination range member goes =
       header = record {
         source = range.address;
         destination = subst IsIpAddress where_to.1 remote.address;
+        identification = omega arith;
         protocol = omega arith;
         hops = omega arith;
       };

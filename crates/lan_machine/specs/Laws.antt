@@ -1,7 +1,7 @@
 -- The laws of the host machine, each a type whose proof is the lemma named beside it in proofs/MachineLaws. A proof of a
 -- crate above imports the lemma, as `use Rattle.lan_machine.proofs.MachineLaws.{queued_law}`, and applies it to its own
 -- values.
-use Rattle.std.specs.Prelude.{◌≡◌, ◌≢◌, ◌⊎◌, ⊤, ℕ, ◌+◌, ◌<◌, ◌^◌, false, ◌==◌, if◌then◌else◌, List, [], ◌∷◌, ◌++◌, length, replicate, slice_index_or, Option, Some, None}
+use Rattle.std.specs.Prelude.{◌≡◌, ◌≢◌, ◌⊎◌, ⊤, ℕ, ◌+◌, ◌<◌, ◌^◌, false, true, ◌==◌, if◌then◌else◌, List, [], ◌∷◌, ◌++◌, length, replicate, slice_index_or, Option, Some, None}
 use Rattle.std.specs.List.{list_any}
 use Rattle.std.specs.Int.{to_be_bytes, w16}
 use Rattle.lan_machine.specs.declared.event.Side.{Side}
@@ -219,6 +219,8 @@ example_packet =
         next_header = Protocol.Udp;
         payload_len = 12;
         hop_limit = 64;
+        ident = 0;
+        dont_frag = true;
       };
       udp = record { src_port = 48896; dst_port = 53 };
       payload = 0xaa ∷ 0 ∷ 0 ∷ 0xff ∷ [];

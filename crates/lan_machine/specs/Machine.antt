@@ -1,5 +1,5 @@
 -- The host machine: what a host answers, sends and becomes at each event.
-use Rattle.std.specs.Prelude.{ℕ, zero, suc, ◌+◌, ◌^◌, Bool, ◌&&◌, ◌||◌, nat_le, nat_lt, ◌==◌, if◌then◌else◌, List, [], ◌∷◌, ◌++◌, length, take, replicate, slice_set, Option, Some, None}
+use Rattle.std.specs.Prelude.{ℕ, zero, suc, ◌+◌, ◌^◌, Bool, ◌&&◌, ◌||◌, nat_le, nat_lt, ◌==◌, true, if◌then◌else◌, List, [], ◌∷◌, ◌++◌, length, take, replicate, slice_set, Option, Some, None}
 use Rattle.std.specs.List.{list_any}
 use Rattle.std.specs.Str.{bytes_eq}
 use Rattle.ip_wire.specs.IpAddress.{IpAddress}
@@ -113,6 +113,8 @@ packet_from address port d destination =
         next_header = Protocol.Udp;
         payload_len = 8 + length d.bytes;
         hop_limit = 64;
+        ident = 0;
+        dont_frag = true;
       };
       udp = record { src_port = port; dst_port = d.remote.port };
       payload = d.bytes;

@@ -36,6 +36,8 @@ fn header(next_header: IpProtocol, payload_len: usize) -> Ipv4Repr {
         next_header,
         payload_len,
         hop_limit: 64,
+        ident: 0,
+        dont_frag: false,
     }
 }
 
@@ -57,6 +59,8 @@ fn port_unreachable(bytes: &[u8]) -> Icmpv4Repr<'_> {
             next_header: IpProtocol::Udp,
             payload_len: 12,
             hop_limit: 64,
+            ident: 0,
+            dont_frag: false,
         },
         bytes,
     }

@@ -1,5 +1,5 @@
 use crate::common::{context, queue};
-use ip_wire::{IpAddress, IpProtocol, IpRepr, IpVersion};
+use ip_wire::{IpAddress, IpProtocol, IpRepr, IpVersion, Ipv4Address, Ipv4Repr};
 use sockets::raw::{RecvError, SendError, Socket};
 use sockets::{IpPayload, Offer, Packet, PollAt};
 use std::test::Fail;
@@ -52,13 +52,15 @@ fn offers(socket: &Socket, hops: u8, destination: IpAddress, bytes: &[u8]) -> bo
 #[test]
 fn a_received_packet_begins_with_its_header(rt: HostRuntime) -> Result<(), Fail> {
     let mut socket = socket(&rt, Some(IpVersion::Ipv4), Some(IpProtocol::Udp))?;
-    let header = IpRepr::new(
-        IpAddress::v4(192, 168, 0, 1),
-        IpAddress::v4(192, 168, 0, 199),
-        IpProtocol::Udp,
-        95,
-        64,
-    );
+    let header = IpRepr::Ipv4(Ipv4Repr {
+        src_addr: Ipv4Address::new(192, 168, 0, 1),
+        dst_addr: Ipv4Address::new(192, 168, 0, 199),
+        next_header: IpProtocol::Udp,
+        payload_len: 95,
+        hop_limit: 64,
+        ident: 0,
+        dont_frag: true,
+    });
     assert!(rt; socket.accepts(&header));
     assert!(rt; !socket.can_recv());
     socket.process(&header, &[0xab; 95]);

@@ -5,7 +5,7 @@ ghost use Rattle.ip_packet.specs.Ipv4 as Ipv4;
 ghost use Rattle.ip_packet.specs.Udp as Udp;
 
 use super::{DATAGRAM, HEADER, WITH_OPTION, ipv4_header, starts_with, unverified};
-use crate::{Ipv4Packet, Ipv4PacketMut, Ipv4Repr, UdpPacketMut, UdpRepr, ipv4, quoted};
+use crate::{Ipv4Packet, Ipv4PacketMut, Ipv4Piece, Ipv4Repr, UdpPacketMut, UdpRepr, ipv4, quoted};
 use ip_address::{Error, IpAddress, IpProtocol, Ipv4Address};
 use net_devices::{Checksum, ChecksumCapabilities};
 
@@ -32,8 +32,17 @@ fn ipv4_is_read(rt: HostRuntime) {
     assert_eq!(rt; packet.dst_addr(), Ipv4Address::new(224, 0, 0, 22));
     assert_eq!(rt; packet.payload(), [1, 2, 3, 4, 5, 6, 7, 8].as_slice());
     assert_eq!(rt; packet.get_key().id, 0x1234);
+    assert_eq!(rt;
+        packet.piece(),
+        Ipv4Piece {
+            offset: 0x828,
+            more: true
+        }
+    );
     let header = Ipv4Repr::parse(&packet, &ChecksumCapabilities::default()).expect(&rt, "valid");
     assert_eq!(rt; header.payload_len, 8);
+    assert_eq!(rt; header.ident, 0x1234);
+    assert!(rt; !header.dont_frag);
     assert_eq!(rt; header.buffer_len(), 20);
     assert_eq!(rt; packet.into_inner().len(), 34);
     ipv4::ipv4_spelled();
@@ -216,18 +225,88 @@ fn frame_is_written_in_place(rt: HostRuntime) {
         next_header: IpProtocol::Udp,
         payload_len: 12,
         hop_limit: 64,
+        ident: 0xc24d,
+        dont_frag: false,
     };
     let udp = UdpRepr {
         src_port: 48896,
         dst_port: 53,
     };
     emit_datagram(&mut frame, &ip, &udp, &[0xaa, 0x00, 0x00, 0xff]);
+    let header = [
+        0x45, 0x00, 0x00, 0x20, 0xc2, 0x4d, 0x00, 0x00, 0x40, 0x11, 0x35, 0x2c, 0xc0, 0xa8, 0x01,
+        0x01, 0xc0, 0xa8, 0x01, 0x02,
+    ];
+    assert_eq!(rt; &frame[14..34], header.as_slice());
     assert_eq!(rt; &frame[34..], DATAGRAM.as_slice());
     let packet = Ipv4Packet::new_checked(&frame[14..]).expect(&rt, "whole");
     assert_eq!(rt;
         Ipv4Repr::parse(&packet, &ChecksumCapabilities::default()),
         Ok(ip)
     );
+}
+
+/// The header of a piece of that datagram.
+fn piece_header(payload_len: usize, offset: u16, more: bool) -> [u8; 20]
+    requires { payload_len ≤ 12 }
+    ensures { length result ≡ 20 }
+{
+    let mut header = [0xa5; 20];
+    let ip = Ipv4Repr {
+        src_addr: Ipv4Address::new(192, 168, 1, 1),
+        dst_addr: Ipv4Address::new(192, 168, 1, 2),
+        next_header: IpProtocol::Udp,
+        payload_len,
+        hop_limit: 64,
+        ident: 0xc24d,
+        dont_frag: false,
+    };
+    let mut packet = Ipv4PacketMut::new_unchecked(&mut header);
+    ip.emit_piece(&mut packet, offset, more, &ChecksumCapabilities::default());
+    header
+}
+
+#[test]
+fn pieces_are_written_and_read(rt: HostRuntime) {
+    let first = piece_header(8, 0, true);
+    assert_eq!(rt;
+        first,
+        [
+            0x45, 0x00, 0x00, 0x1c, 0xc2, 0x4d, 0x20, 0x00, 0x40, 0x11, 0x15, 0x30, 0xc0, 0xa8,
+            0x01, 0x01, 0xc0, 0xa8, 0x01, 0x02,
+        ]
+    );
+    let last = piece_header(4, 8, false);
+    assert_eq!(rt;
+        last,
+        [
+            0x45, 0x00, 0x00, 0x18, 0xc2, 0x4d, 0x00, 0x01, 0x40, 0x11, 0x35, 0x33, 0xc0, 0xa8,
+            0x01, 0x01, 0xc0, 0xa8, 0x01, 0x02,
+        ]
+    );
+    let first = Ipv4Packet::new_unchecked(&first);
+    let last = Ipv4Packet::new_unchecked(&last);
+    assert_eq!(rt;
+        first.piece(),
+        Ipv4Piece {
+            offset: 0,
+            more: true
+        }
+    );
+    assert_eq!(rt;
+        last.piece(),
+        Ipv4Piece {
+            offset: 8,
+            more: false
+        }
+    );
+    assert_eq!(rt; first.get_key(), last.get_key());
+    let (header, _) = Ipv4Repr::parse_quoted(last.into_inner()).expect(&rt, "a header");
+    assert_eq!(rt; header.key(), last.get_key());
+    assert_eq!(rt; header.ident, 0xc24d);
+    assert!(rt; !header.dont_frag);
+    ipv4::ipv4_piece_reads_back();
+    ipv4::ipv4_key();
 }
 
 #[test]

@@ -8,8 +8,8 @@ pub returns-then-self-subnet : goal.returns-then-self-subnet
 returns-then-self-subnet c =
     let fits : v6_number c.args.subnet.now.address < 2 ^ 128 = omega (arith, c.to_bits-bits.ensures.value) in
     let number = ap (λ n. n / 2 ^ (128 - c.args.self.now.prefix_len)) c.to_bits-bits.ensures.value in (
-      λ yes. IsWithinV6-of c.args.self.now c.args.subnet.now c.if-self-subnet.true (sym number ∙ c.contains_bits.ensures.0 yes),
-      λ all. c.contains_bits.ensures.1 (number ∙ (IsWithinV6-only c.args.self.now c.args.subnet.now fits c.to_bits-bits.ensures.whole all).1),
+      λ yes. IsWithinV6-of c.args.self.now c.args.subnet.now c.if-self-subnet.true (sym number ∙ c.contains_bits.ensures.meaning.0 yes),
+      λ all. c.contains_bits.ensures.meaning.1 (number ∙ (IsWithinV6-only c.args.self.now c.args.subnet.now fits c.to_bits-bits.ensures.whole all).1),
     )
 
 pub returns-else-self-subnet : goal.returns-else-self-subnet

@@ -1,0 +1,47 @@
+-- The runs of a map of held bytes are those that it was made of.
+use Rattle.std.proofs.Common.{◌≡◌, ℕ, suc, ◌+◌, ◌<◌, ◌≤◌, inl, inr, List, [], ◌∷◌, length, Option, Some, None, arith}
+use Rattle.std.specs.Prelude.{◌↔◌}
+use Rattle.net_containers.specs.Assembler.{Holds, AreRuns, AreRunsFrom}
+use Rattle.net_containers.proofs.Runs.{AreRuns-joined, AreRunsFrom-lower, Holds-joined, same_runs}
+use Rattle.held_bytes.specs.Held.{map_from, runs_from, runs_of, EndsBy}
+use Rattle.held_bytes.proofs.Places.{is_held-tells}
+use Rattle.std.proofs.lemmas.Bool.{cases_lt}
+
+pub AreRuns-runs_from : (p : ℕ) (map : List (Option ℕ)) → AreRunsFrom p (runs_from p map)
+AreRuns-runs_from p [] = tt
+AreRuns-runs_from p (None ∷ map) = AreRunsFrom-lower p (suc p) (runs_from (suc p) map) (omega arith) (AreRuns-runs_from (suc p) map)
+AreRuns-runs_from p (Some byte ∷ map) =
+    AreRuns-joined p (runs_from (suc p) map) p (suc p) (AreRunsFrom-lower p (suc p) (runs_from (suc p) map) (omega arith) (AreRuns-runs_from (suc p) map)) (omega arith) (omega arith)
+
+-- they hold the held places of the bytes
+Holds-runs_from : (rs : List (ℕ × ℕ)) (p : ℕ) (xs : List ℕ) (q : ℕ) → Holds (runs_from p (map_from rs p xs)) q ↔ (Holds rs q × ((p ≤ q) × (q < p + length xs)))
+Holds-runs_from rs p [] q = (λ h. absurd h, λ h. absurd (omega (arith, h.1.0, h.1.1)))
+Holds-runs_from rs p (x ∷ xs) q =
+    let rest = Holds-runs_from rs (suc p) xs q in
+    elim (is_held-tells rs p) [
+      | inl held ↦ rw held.0 (
+          let behind = runs_from (suc p) (map_from rs (suc p) xs) in
+          let both = Holds-joined behind (suc p) p (suc p) q (AreRuns-runs_from (suc p) (map_from rs (suc p) xs)) (omega arith) in (
+            λ h. elim (both.0 h) [
+              | inl y ↦ let there = rest.0 y in (there.0, (omega (arith, there.1.0), omega (arith, there.1.1)))
+              | inr z ↦ let same : q ≡ p = omega (arith, z.0, z.1) in (rw same held.1, (z.0, omega (arith, z.1)))
+            ],
+            λ h. elim (cases_lt p q) [
+              | inl later ↦ both.1 (inl (rest.1 (h.0, (omega arith, omega (arith, h.1.1)))))
+              | inr here ↦ both.1 (inr (h.1.0, omega arith))
+            ],
+          ))
+      | inr free ↦ rw free.0 (
+        λ h. let there = rest.0 h in (there.0, (omega (arith, there.1.0), omega (arith, there.1.1))),
+        λ h. elim (cases_lt p q) [
+          | inl later ↦ rest.1 (h.0, (omega arith, omega (arith, h.1.1)))
+          | inr here ↦ let same : q ≡ p = omega (arith, h.1.0) in absurd (free.1 (rw same at h.0))
+        ],
+      )
+    ]
+
+-- where all that is held lies within the bytes
+pub runs_of-held : (rs : List (ℕ × ℕ)) (free : List ℕ) → AreRuns rs → EndsBy rs (length free) → runs_of (map_from rs 0 free) ≡ rs
+runs_of-held rs free runs ends =
+    same_runs 0 0 (runs_of (map_from rs 0 free)) rs (AreRuns-runs_from 0 (map_from rs 0 free)) runs (λ q. let both = Holds-runs_from rs 0 free q in
+    (λ h. (both.0 h).0, λ h. both.1 (h, (omega arith, omega (arith, ends q h)))))

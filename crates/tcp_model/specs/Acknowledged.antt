@@ -1,0 +1,115 @@
+-- The acknowledgement and the window of an accepted segment (RFC 9293, 3.10.7.4, fifth): SND.UNA rises by so much, and so many
+-- bytes are queued before that.
+use Rattle.std.specs.Prelude.{ℕ, ◌+◌, ◌-◌, ◌*◌, ◌^◌, ◌==◌, nat_lt, not, ◌&&◌, ◌||◌, min, ℤ, Bool, true, false, if◌then◌else◌, List, length, Option, Some, None}
+use Rattle.ip_wire.specs.TcpControl.{TcpControl}
+use Rattle.ip_wire.specs.TcpControl.TheVariants as Control
+use Rattle.ip_wire.specs.TcpHeader.{TcpHeader}
+use Rattle.net_base.specs.Ring.{released}
+use Rattle.tcp_model.specs.declared.block.Block.{Block}
+use Rattle.tcp_model.specs.declared.block.Sender.{Sender}
+use Rattle.tcp_model.specs.declared.block.Timers.{Timers}
+use Rattle.tcp_model.specs.declared.state.State.{State}
+use Rattle.tcp_model.specs.Blocks.{one_if, unacked, forgotten}
+use Rattle.tcp_model.specs.Controls.{or_recent, is_fin}
+use Rattle.tcp_model.specs.Moments.{timeout_from, time_wait_from}
+use Rattle.tcp_model.specs.Offsets.{behind_by}
+use Rattle.tcp_model.specs.Reno as reno
+use Rattle.tcp_model.specs.RoundTrip as round_trip
+use Rattle.tcp_model.specs.RoundTrip.{RoundTripValue}
+use Rattle.tcp_model.specs.States.{is_closed, is_time_wait, owes_fin, after_ack, after_ack_of_fin}
+use Rattle.tcp_model.specs.Value.{TcpValue, queued_in}
+
+-- how many bytes of the send queue are acknowledged
+abbrev pub freed_by : Block → ℕ → ℕ → ℕ
+freed_by b by queued = min (by - one_if b.sender.syn_unacked) queued
+
+abbrev pub sender_moved : Sender → ℕ → Sender
+sender_moved s by = record s {
+  una = behind_by s.una by;
+  syn_unacked = s.syn_unacked && (by == 0);
+  in_flight = s.in_flight - by;
+  resend = s.resend && (by == 0);
+}
+
+-- a new acknowledgement restarts the retransmission timer, or ends it where nothing is in flight (RFC 6298, 5.2 and 5.3)
+abbrev pub retransmit_after : Timers → ℕ → ℕ → ℤ → RoundTripValue → Option ℤ
+retransmit_after t by flight now r =
+    if by == 0 then t.retransmit_at else if flight == 0 then None else Some (timeout_from now r)
+
+-- SND.UNA rises: sender, retransmission timer, round trip and congestion
+abbrev pub una_moved : Block → ℕ → ℕ → ℤ → Block
+una_moved b by queued now = record b {
+  sender = sender_moved b.sender by;
+  timers = record b.timers {
+    retransmit_at = retransmit_after b.timers by (b.sender.in_flight - by) now (round_trip.advanced b.round_trip by now);
+  };
+  round_trip = round_trip.advanced b.round_trip by now;
+  reno = reno.acknowledged b.reno (freed_by b by queued);
+}
+
+-- the FIN is acknowledged
+abbrev pub acks_fin : Block → ℕ → ℕ → Bool
+acks_fin b by queued = owes_fin b.state && (by == unacked b queued)
+
+abbrev pub state_after_ack : Block → ℕ → ℕ → State
+state_after_ack b by queued = if acks_fin b by queued then after_ack_of_fin b.state else after_ack b.state
+
+-- TIME-WAIT begins where this leads to it
+abbrev pub in_state : Block → State → ℤ → Block
+in_state b state now =
+    record b {
+      state = state;
+      timers = record b.timers { time_wait_ends = if is_time_wait state && not (is_time_wait b.state) then Some (time_wait_from now) else b.timers.time_wait_ends };
+    }
+
+-- the end of LAST-ACK
+abbrev pub ended_if : Bool → Block → Block
+ended_if true b = forgotten b
+ended_if false b = b
+
+abbrev pub block_acknowledged : Block → ℕ → ℕ → ℤ → Block
+block_acknowledged b by queued now =
+    ended_if (is_closed (state_after_ack b by queued)) (in_state (una_moved b by queued now) (state_after_ack b by queued) now)
+
+abbrev pub acknowledged : TcpValue → ℕ → ℤ → TcpValue
+acknowledged v by now = record v {
+  block = block_acknowledged v.block by (queued_in v) now;
+  queued = released v.queued (freed_by v.block by (queued_in v));
+}
+
+-- THE WINDOW
+
+-- what a window field means (RFC 7323, 2.3)
+abbrev pub scaled : Option ℕ → ℕ → ℕ
+scaled None field = field
+scaled (Some scale) field = field * 2 ^ scale
+
+abbrev pub window_set : Block → TcpHeader → Block
+window_set b header = record b {
+  peer = record b.peer {
+    window = scaled b.peer.scale header.window_len;
+    recent = or_recent header.options.timestamp b.peer.recent;
+  };
+}
+
+-- DUPLICATES (RFC 5681, 2 and 3.2)
+
+-- a segment that only acknowledges SND.UNA again, with the same window, while something is in flight
+abbrev pub is_duplicate : Block → TcpHeader → ℕ → ℕ → Bool
+is_duplicate b header size by =
+    ((by == 0) && (size == 0)) && (not (is_fin header.control) && ((scaled b.peer.scale header.window_len == b.peer.window) && not (b.sender.in_flight == 0)))
+
+abbrev pub with_duplicates : Block → ℕ → Block
+with_duplicates b count = record b { sender = record b.sender { duplicates = count } }
+
+-- the third says that the segment at SND.UNA was lost, and it is to go again; each further one that a segment has left
+abbrev pub duplicate_counted : Block → ℕ → Block
+duplicate_counted b earlier =
+    if earlier == 2 then record b { sender = record b.sender { duplicates = 3; resend = true }; reno = reno.lost b.reno b.sender.in_flight }
+    else if nat_lt earlier 2 then with_duplicates b (earlier + 1)
+    else record b { sender = record b.sender { duplicates = 4 }; reno = reno.inflated b.reno }
+
+-- `old` is the block as the segment found it
+abbrev pub counted : Block → Block → TcpHeader → ℕ → ℕ → Block
+counted b old header size by =
+    if is_duplicate old header size by then duplicate_counted b old.sender.duplicates else with_duplicates b 0

@@ -1,0 +1,85 @@
+-- What answers a segment, and which acknowledgement becomes due (RFC 9293, 3.8.6.3 and 3.10.7.4; RFC 5961, 5; RFC 2018).
+use Rattle.std.specs.Prelude.{ℕ, ◌+◌, ◌==◌, nat_le, nat_lt, not, ◌&&◌, ℤ, Bool, true, false, if◌then◌else◌, List, [], ◌∷◌, length, Option, Some, None}
+use Rattle.held_bytes.specs.Held.{runs_of}
+use Rattle.ip_wire.specs.IpRepr.{IpRepr}
+use Rattle.ip_wire.specs.SeqNumber.{SeqNumber}
+use Rattle.ip_wire.specs.TcpHeader.{TcpHeader}
+use Rattle.socket_base.specs.Context.{ContextValue}
+use Rattle.tcp_model.specs.declared.block.Block.{Block}
+use Rattle.tcp_model.specs.declared.offer.Reply.{Reply}
+use Rattle.tcp_model.specs.Controls.{is_fin}
+use Rattle.tcp_model.specs.Moments.{is_due, later, earlier, next_draw_from}
+use Rattle.tcp_model.specs.Names.{pair_in}
+use Rattle.tcp_model.specs.Offsets.{behind_by}
+use Rattle.tcp_model.specs.Segments.{ack_segment, sack_segment, reply_to, hops_of}
+use Rattle.tcp_model.specs.Text.{Texted}
+use Rattle.tcp_model.specs.Value.{TcpValue, Arrived, with_block, dropped, answered_with, window_of}
+
+-- an acknowledgement of all that came went out, with this window field: none is due any more
+abbrev pub ack_recorded : Block → ℕ → Block
+ack_recorded b window = record b {
+  receiver = record b.receiver { advertised = window };
+  timers = record b.timers { ack_at = None; text_unacked = false };
+}
+
+-- an acknowledgement answers the segment
+abbrev pub acked : ContextValue → TcpValue → IpRepr → TcpHeader → Option (ℕ × ℕ) → Arrived
+acked cx v ip header range =
+    answered_with
+    (with_block v (ack_recorded v.block (window_of v)))
+    (reply_to ip (hops_of v.block.settings.hop_limit) (sack_segment v.block (pair_in ip header) cx.moment (window_of v) range))
+
+-- DRAWN: at most once a second
+
+abbrev pub may_draw : ℤ → Option ℤ → Bool
+may_draw now None = true
+may_draw now (Some from) = is_due now (Some from)
+
+abbrev pub with_draw : TcpValue → ℤ → TcpValue
+with_draw v now = with_block v (record v.block { timers = record v.block.timers { draws_from = Some (next_draw_from now) } })
+
+abbrev pub drawn : ContextValue → TcpValue → IpRepr → TcpHeader → Arrived
+drawn cx v ip header =
+    if may_draw cx.moment v.block.timers.draws_from then acked cx (with_draw v cx.moment) ip header None else dropped v
+
+-- DUE
+
+-- after the delay, if one is set
+abbrev pub delayed : ℤ → Option ℕ → ℤ
+delayed now None = now
+delayed now (Some delay) = later now delay
+
+abbrev pub sooner : Option ℤ → ℤ → ℤ
+sooner None moment = moment
+sooner (Some other) moment = earlier other moment
+
+abbrev pub ack_due_at : Block → ℤ → Bool → Block
+ack_due_at b moment text_unacked = record b { timers = record b.timers { ack_at = Some moment; text_unacked = text_unacked } }
+
+-- a FIN, or a second segment with text, makes an acknowledgement due at once, a first such segment after the delay
+abbrev pub ack_due : Block → TcpHeader → ℕ → ℤ → Block
+ack_due b header size now =
+    if is_fin header.control then ack_due_at b now b.timers.text_unacked
+    else if size == 0 then b
+    else if b.timers.text_unacked then ack_due_at b now true
+    else ack_due_at b (sooner b.timers.ack_at (delayed now b.settings.ack_delay)) true
+
+-- HELD
+
+-- the run that a place lies in
+abbrev pub run_at : List (ℕ × ℕ) → ℕ → Option (ℕ × ℕ)
+run_at [] place = None
+run_at (run ∷ runs) place = if nat_le run.0 place && nat_lt place run.1 then Some run else run_at runs place
+
+-- its numbers, where the first place has this one
+abbrev pub numbers_of : SeqNumber → Option (ℕ × ℕ) → Option (ℕ × ℕ)
+numbers_of next None = None
+numbers_of next (Some run) = Some ((behind_by next run.0).0, (behind_by next run.1).0)
+
+-- the run that is held with its first byte at a place, if both SYNs permitted to tell it (RFC 2018, 4)
+abbrev pub range_held : TcpValue → ℕ → Option (ℕ × ℕ)
+range_held v place = if v.block.peer.sack then numbers_of v.block.receiver.next (run_at (runs_of v.received.map) place) else None
+
+abbrev pub answer_for : ContextValue → TcpValue → IpRepr → TcpHeader → ℕ → Option ℕ → Arrived
+answer_for cx v ip header size (Some place) = acked cx v ip header (range_held v place)
+answer_for cx v ip header size None = dropped (with_block v (ack_due v.block header size cx.moment))

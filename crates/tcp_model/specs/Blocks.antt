@@ -1,0 +1,119 @@
+-- The control block (RFC 9293, 3.3.1): a fresh one, and what follows from its fields. `queued` is the length of the send queue,
+-- which begins at the first byte that isn't acknowledged.
+use Rattle.std.specs.Prelude.{◌≡◌, ℕ, zero, suc, ◌+◌, ◌-◌, ◌/◌, ◌^◌, ◌==◌, nat_le, nat_lt, not, ◌&&◌, ◌||◌, min, Bool, true, false, if◌then◌else◌, Option, Some, None, is_some}
+use Rattle.ip_wire.specs.IpListenEndpoint.{IpListenEndpoint}
+use Rattle.ip_wire.specs.SeqNumber.{SeqNumber}
+use Rattle.tcp_model.specs.declared.block.Block.{Block}
+use Rattle.tcp_model.specs.declared.block.EndpointPair.{EndpointPair}
+use Rattle.tcp_model.specs.declared.block.Names.{Names}
+use Rattle.tcp_model.specs.declared.block.Peer.{Peer}
+use Rattle.tcp_model.specs.declared.block.Receiver.{Receiver}
+use Rattle.tcp_model.specs.declared.block.Sender.{Sender}
+use Rattle.tcp_model.specs.declared.block.Settings.{Settings}
+use Rattle.tcp_model.specs.declared.block.Timers.{Timers}
+use Rattle.tcp_model.specs.declared.block.CongestionControl.TheVariants as Congestion
+use Rattle.tcp_model.specs.declared.state.State.TheVariants as In
+use Rattle.tcp_model.specs.Offsets.{behind_by}
+use Rattle.tcp_model.specs.Reno as reno
+use Rattle.tcp_model.specs.RoundTrip as round_trip
+use Rattle.tcp_model.specs.States.{is_closed, owes_fin}
+
+abbrev pub one_if : Bool → ℕ
+one_if false = 0
+one_if true = 1
+
+abbrev pub no_number : SeqNumber
+no_number = record { 0 = 0 }
+
+-- listening on nothing
+abbrev pub nowhere : IpListenEndpoint
+nowhere = record { addr = None; port = 0 }
+
+abbrev pub no_names : Names
+no_names = record { listen = nowhere; pair = None }
+
+-- a sender whose SYN will have this number, or without one
+abbrev pub fresh_sender : SeqNumber → Bool → Sender
+fresh_sender una syn_unacked =
+    record { una = una; syn_unacked = syn_unacked; in_flight = 0; duplicates = 0; resend = false; stamped = false; reset_due = false }
+
+abbrev pub fresh_receiver : Receiver
+fresh_receiver = record { next = no_number; took_syn = false; took_fin = false; advertised = 0 }
+
+-- the largest payload is 536 bytes where the remote names none (3.7.1)
+abbrev pub fresh_peer : Peer
+fresh_peer = record { window = 0; mss = 536; scale = None; sack = false; timestamps = false; recent = 0 }
+
+abbrev pub fresh_timers : Timers
+fresh_timers = record {
+  retransmit_at = None;
+  probe_at = None;
+  ack_at = None;
+  text_unacked = false;
+  draws_from = None;
+  time_wait_ends = None;
+  timeout_since = None;
+}
+
+-- nothing is set: the delay of an acknowledgement is 10 milliseconds
+abbrev pub default_settings : Settings
+default_settings = record {
+  timeout = None;
+  ack_delay = Some 10_000;
+  keep_alive = None;
+  keep_alive_at = None;
+  nagle = true;
+  hop_limit = None;
+  timestamps = None;
+  congestion_control = Congestion.Reno;
+  synack_paused = false;
+}
+
+-- no connection, and nothing left of an earlier one
+abbrev pub fresh_block : Settings → Block
+fresh_block settings = record {
+  state = In.Closed;
+  names = no_names;
+  sender = fresh_sender no_number false;
+  receiver = fresh_receiver;
+  peer = fresh_peer;
+  timers = fresh_timers;
+  round_trip = round_trip.fresh;
+  reno = reno.fresh;
+  settings = settings;
+}
+
+-- the endpoints are forgotten, and no reset is due
+abbrev pub forgotten : Block → Block
+forgotten b = record b { state = In.Closed; names = no_names; sender = record b.sender { reset_due = false } }
+
+-- how far past SND.UNA the last position lies that may be acknowledged: the SYN, the send queue and the FIN
+abbrev pub unacked : Block → ℕ → ℕ
+unacked b queued = one_if b.sender.syn_unacked + queued + one_if (owes_fin b.state)
+
+-- SND.NXT
+abbrev pub nxt : Block → SeqNumber
+nxt b = behind_by b.sender.una b.sender.in_flight
+
+-- THE WINDOW FIELD (RFC 7323, 2.3)
+
+-- the least shift, at most so large, that brings a count into 16 bits
+abbrev pub scale_for : ℕ → ℕ → ℕ
+scale_for zero count = 0
+scale_for (suc most) count = if nat_lt count (2 ^ 16) then 0 else suc (scale_for most (count / 2))
+
+-- the shift of the own window fields, if both SYNs have the option
+abbrev pub own_scale : ℕ → ℕ
+own_scale capacity = scale_for 14 capacity
+
+abbrev pub shift_of : Option ℕ → ℕ → ℕ
+shift_of None scale = 0
+shift_of (Some n) scale = scale
+
+-- what a window field says of so much space
+abbrev pub field_of : ℕ → ℕ
+field_of space = min space 65_535
+
+-- of a receive buffer with this capacity and so much free space, but on a SYN
+abbrev pub window_field : Block → ℕ → ℕ → ℕ
+window_field b capacity free = field_of (free / 2 ^ shift_of b.peer.scale (own_scale capacity))

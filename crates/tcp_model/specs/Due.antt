@@ -1,0 +1,71 @@
+-- When a socket wants to be polled. The answer doesn't depend on the moment: `poll_of` has none among its arguments.
+use Rattle.std.specs.Prelude.{ℕ, not, ◌||◌, ℤ, Bool, true, false, if◌then◌else◌, List, [], ◌∷◌, Option, Some, None}
+use Rattle.net_base.specs.Ring.{Ring}
+use Rattle.socket_base.specs.declared.poll_at.PollAt.{PollAt}
+use Rattle.socket_base.specs.declared.poll_at.PollAt.TheVariants as At
+use Rattle.tcp_model.specs.declared.block.AddressPair.{AddressPair}
+use Rattle.tcp_model.specs.declared.block.Block.{Block}
+use Rattle.tcp_model.specs.declared.block.EndpointPair.{EndpointPair}
+use Rattle.tcp_model.specs.Moments.{earlier}
+use Rattle.tcp_model.specs.Probing.{is_probe_unset, probe_moment}
+use Rattle.tcp_model.specs.Rules.{time_wait_end, owes_syn, has_text, updates_window, keep_alive_moment}
+use Rattle.tcp_model.specs.States.{is_closed}
+use Rattle.tcp_model.specs.Timeout.{timeout_end, is_timeout_unset}
+use Rattle.tcp_model.specs.Value.{TcpValue, queued_in, window_of}
+
+-- what makes it want to be polled at once: a segment that may go, or a moment that is to be set
+abbrev pub wishes : Block → AddressPair → ℕ → Ring ℕ → ℕ → ℕ → List Bool
+wishes b addresses ip_mtu ring queued window =
+    owes_syn b
+    ∷ b.sender.resend
+    ∷ has_text b addresses ip_mtu ring
+    ∷ updates_window b window
+    ∷ is_timeout_unset b queued
+    ∷ is_probe_unset b queued
+    ∷ []
+
+-- when something is due
+abbrev pub moments : Block → ℕ → List (Option ℤ)
+moments b queued =
+    time_wait_end b
+    ∷ timeout_end b queued
+    ∷ b.timers.retransmit_at
+    ∷ probe_moment b queued
+    ∷ b.timers.ack_at
+    ∷ keep_alive_moment b
+    ∷ []
+
+abbrev pub any : List Bool → Bool
+any [] = false
+any (wish ∷ more) = wish || any more
+
+abbrev pub earlier_of : Option ℤ → Option ℤ → Option ℤ
+earlier_of None other = other
+earlier_of (Some moment) None = Some moment
+earlier_of (Some moment) (Some other) = Some (earlier moment other)
+
+abbrev pub earliest : List (Option ℤ) → Option ℤ
+earliest [] = None
+earliest (moment ∷ more) = earlier_of moment (earliest more)
+
+abbrev pub at_moment : Option ℤ → PollAt
+at_moment None = At.Ingress
+at_moment (Some moment) = At.Time moment
+
+-- of a socket that isn't closed
+abbrev pub poll_open : ℕ → TcpValue → EndpointPair → PollAt
+poll_open ip_mtu v pair =
+    if any (wishes v.block pair.addresses ip_mtu v.queued (queued_in v) (window_of v)) then At.Now
+    else at_moment (earliest (moments v.block (queued_in v)))
+
+-- CLOSED has nothing but a reset to send
+abbrev pub poll_between : ℕ → TcpValue → EndpointPair → PollAt
+poll_between ip_mtu v pair =
+    if is_closed v.block.state then (if v.block.sender.reset_due then At.Now else At.Ingress) else poll_open ip_mtu v pair
+
+abbrev pub poll_with : Option EndpointPair → ℕ → TcpValue → PollAt
+poll_with None ip_mtu v = At.Ingress
+poll_with (Some pair) ip_mtu v = poll_between ip_mtu v pair
+
+abbrev pub poll_of : ℕ → TcpValue → PollAt
+poll_of ip_mtu v = poll_with v.block.names.pair ip_mtu v

@@ -1,0 +1,34 @@
+-- Moments, and when something is due.
+use Rattle.std.specs.Prelude.{ℕ, ◌*◌, min, ℤ, pos, ◌+ℤ◌, int_le, int_lt, Bool, true, false, if◌then◌else◌, Option, Some, None}
+use Rattle.net_base.specs.Time.{last_moment}
+use Rattle.tcp_model.specs.RoundTrip.{RoundTripValue}
+
+-- after a duration that the user set, which counts as at most 2 ^ 61 microseconds
+abbrev pub later : ℤ → ℕ → ℤ
+later now duration = now +ℤ pos (min duration last_moment)
+
+-- after a duration that may be set
+abbrev pub later_by : ℤ → Option ℕ → Option ℤ
+later_by now None = None
+later_by now (Some duration) = Some (later now duration)
+
+-- after the retransmission timeout (RFC 6298)
+abbrev pub timeout_from : ℤ → RoundTripValue → ℤ
+timeout_from now r = now +ℤ pos (r.timeout * 1000)
+
+-- ten seconds for twice the longest life of a segment: how long TIME-WAIT lasts (RFC 9293, 3.3.2)
+abbrev pub time_wait_from : ℤ → ℤ
+time_wait_from now = now +ℤ pos 10_000_000
+
+-- a second lies between two answers to segments that aren't acceptable (RFC 5961, 7)
+abbrev pub next_draw_from : ℤ → ℤ
+next_draw_from now = now +ℤ pos 1_000_000
+
+-- the moment has come
+abbrev pub is_due : ℤ → Option ℤ → Bool
+is_due now None = false
+is_due now (Some moment) = int_le moment now
+
+-- the earlier of two moments
+abbrev pub earlier : ℤ → ℤ → ℤ
+earlier a b = if int_lt b a then b else a

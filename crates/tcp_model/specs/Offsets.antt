@@ -1,0 +1,24 @@
+-- Numbers of 32 bits as counts (RFC 9293, 3.4). Of all positions that a number may mean it means the one nearest to a reference,
+-- the lower at distance 2 ^ 31: so it lies past the reference, or before it.
+use Rattle.std.specs.Prelude.{ℕ, ◌+◌, ◌-◌, ◌^◌, ◌==◌, nat_lt, nat_le, not, ◌&&◌, Bool, true, false, if◌then◌else◌, Option, Some, None}
+use Rattle.ip_wire.specs.SeqNumber.{SeqNumber}
+use Rattle.ip_wire.specs.Seq.{distance_of, advanced}
+
+-- so far past the reference, 0 where it lies before it
+abbrev pub past_by : SeqNumber → SeqNumber → ℕ
+past_by reference number = if nat_lt (distance_of reference number) (2 ^ 31) then distance_of reference number else 0
+
+-- so far before the reference, 0 where it lies past it
+abbrev pub before_by : SeqNumber → SeqNumber → ℕ
+before_by reference number = if nat_lt (distance_of reference number) (2 ^ 31) then 0 else 2 ^ 32 - distance_of reference number
+
+-- the number so many behind this one
+abbrev pub behind_by : SeqNumber → ℕ → SeqNumber
+behind_by number count = record { 0 = advanced number count }
+
+-- A segment of so many positions meets the window of so much space from the reference on (3.4; 3.10.7.4, first). One without
+-- length does at the reference or inside the window; with a closed window no other does.
+abbrev pub meets_window : ℕ → ℕ → ℕ → ℕ → Bool
+meets_window before past size space =
+    if size == 0 then (before == 0) && (if past == 0 then true else nat_lt past space)
+    else nat_lt past space && nat_lt before size

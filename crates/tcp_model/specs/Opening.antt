@@ -1,0 +1,96 @@
+-- A segment comes in LISTEN or SYN-SENT (RFC 9293, 3.10.7.2 and 3.10.7.3). A payload on a SYN is ignored.
+use Rattle.std.specs.Prelude.{ℕ, ◌+◌, ◌==◌, ◌<◌, nat_lt, not, ◌&&◌, ◌||◌, min, ℤ, Bool, true, false, if◌then◌else◌, List, length, Option, Some, None, is_some}
+use Rattle.net_base.specs.RandomWords.{word}
+use Rattle.ip_wire.specs.IpRepr.{IpRepr}
+use Rattle.ip_wire.specs.Options.{capped}
+use Rattle.ip_wire.specs.Seq.{distance_of}
+use Rattle.ip_wire.specs.SeqNumber.{SeqNumber}
+use Rattle.ip_wire.specs.TcpControl.{TcpControl}
+use Rattle.ip_wire.specs.TcpControl.TheVariants as Control
+use Rattle.ip_wire.specs.TcpHeader.{TcpHeader}
+use Rattle.ip_wire.specs.TcpTimestampRepr.{TcpTimestampRepr}
+use Rattle.socket_base.specs.Context.{ContextValue, next_random}
+use Rattle.tcp_model.specs.declared.block.Block.{Block}
+use Rattle.tcp_model.specs.declared.block.Peer.{Peer}
+use Rattle.tcp_model.specs.declared.state.State.TheVariants as In
+use Rattle.tcp_model.specs.Acknowledged.{una_moved}
+use Rattle.tcp_model.specs.Blocks.{fresh_sender}
+use Rattle.tcp_model.specs.Controls.{is_syn, is_rst, or_mss, capped_scale, or_recent}
+use Rattle.tcp_model.specs.Names.{pair_in}
+use Rattle.tcp_model.specs.Offsets.{behind_by}
+use Rattle.tcp_model.specs.Reno.{with_mss}
+use Rattle.tcp_model.specs.Segments.{rst_reply}
+use Rattle.tcp_model.specs.Timeout.{timeout_restarted}
+use Rattle.tcp_model.specs.Value.{TcpValue, Arrived, with_block, dropped, answered_with, ended, queued_in}
+
+-- what the remote's SYN says of it; its window field isn't shifted (RFC 7323, 2.2)
+abbrev pub peer_of : TcpHeader → Peer
+peer_of header = record {
+  window = header.window_len;
+  mss = or_mss header.options.max_seg_size;
+  scale = capped_scale header.options.window_scale;
+  sack = header.options.sack_permitted;
+  timestamps = is_some header.options.timestamp;
+  recent = or_recent header.options.timestamp 0;
+}
+
+-- the remote's SYN is taken: IRS and what it says of the remote
+abbrev pub took_syn : Block → TcpHeader → Block
+took_syn b header = record b {
+  receiver = record b.receiver { next = behind_by header.seq_number 1; took_syn = true };
+  peer = peer_of header;
+  reno = with_mss b.reno (or_mss header.options.max_seg_size);
+}
+
+-- a SYN without ACK
+abbrev pub is_first_syn : TcpHeader → Bool
+is_first_syn header = is_syn header.control && not (is_some header.ack_number)
+
+-- LISTEN takes a SYN: the connection has names, and its own first number is this
+abbrev pub answering : Block → IpRepr → TcpHeader → ℕ → Block
+answering b ip header number =
+    record (took_syn b header) {
+      state = In.SynReceived;
+      names = record b.names { pair = Some (pair_in ip header) };
+      sender = fresh_sender (record { 0 = number }) true;
+    }
+
+abbrev pub opens : ContextValue → TcpValue → IpRepr → TcpHeader → Arrived
+opens cx v ip header =
+    if is_first_syn header
+    then record {
+      socket = with_block v (timeout_restarted (answering v.block ip header (word (next_random cx).random)) cx.moment 0);
+      answer = None;
+      draws = true;
+    }
+    else dropped v
+
+-- whether this acknowledges the own SYN and nothing else
+abbrev pub acks_syn : SeqNumber → Option SeqNumber → Bool
+acks_syn una None = false
+acks_syn una (Some n) = distance_of una n == 1
+
+-- SYN-SENT takes a SYN that acknowledges its own: an acknowledgement of it is due at once
+abbrev pub connected : Block → TcpHeader → ℤ → Block
+connected b header now =
+    record (una_moved (took_syn b header) 1 0 now) {
+      state = In.Established;
+      timers = record (una_moved (took_syn b header) 1 0 now).timers { ack_at = Some now };
+    }
+
+-- SYN-SENT takes a SYN without ACK: both sides open at once (3.5)
+abbrev pub crossed : Block → TcpHeader → Block
+crossed b header = record (took_syn b header) { state = In.SynReceived }
+
+abbrev pub syn_answered : Block → TcpHeader → ℤ → Block
+syn_answered b header now = if is_some header.ack_number then connected b header now else crossed b header
+
+-- a reset counts if it acknowledges the SYN; then an acknowledgement of anything else is answered by a reset; then a SYN is taken
+abbrev pub takes_answer : ContextValue → TcpValue → IpRepr → TcpHeader → List ℕ → Arrived
+takes_answer cx v ip header bytes =
+    if is_rst header.control then (if acks_syn v.block.sender.una header.ack_number then dropped (ended v) else dropped v)
+    else if is_some header.ack_number && not (acks_syn v.block.sender.una header.ack_number)
+    then answered_with v (rst_reply ip header (length bytes))
+    else if is_syn header.control
+    then dropped (with_block v (timeout_restarted (syn_answered v.block header cx.moment) cx.moment (queued_in v)))
+    else dropped v

@@ -1,0 +1,64 @@
+-- Congestion control by slow start, congestion avoidance, fast retransmit and fast recovery (RFC 5681). All counts are bytes.
+use Rattle.std.specs.Prelude.{ℕ, ◌+◌, ◌*◌, ◌/◌, ◌^◌, ◌==◌, ◌≤◌, nat_lt, min, max, Bool, true, false, if◌then◌else◌}
+
+pub record RenoValue : Type 0 where
+  pub mss : ℕ  -- SMSS
+  pub cwnd : ℕ
+  pub ssthresh : ℕ
+  pub recovers : Bool  -- in fast recovery (3.2)
+  pub timed_out : Bool  -- the retransmission timer ran out, and no new data was acknowledged since
+
+-- neither cwnd nor ssthresh rises above it
+abbrev pub most : ℕ
+most = 2 ^ 30
+
+-- the bounds of a connection's numbers
+pub record IsBounded (r : RenoValue) : Type 0 where
+  pub mss : 1 ≤ r.mss
+  pub cwnd_low : 1 ≤ r.cwnd
+  pub cwnd_high : r.cwnd ≤ most
+  pub ssthresh_low : 1 ≤ r.ssthresh
+  pub ssthresh_high : r.ssthresh ≤ most
+
+-- of a new connection
+abbrev pub fresh : RenoValue
+fresh = record { mss = 1024; cwnd = 2048; ssthresh = most; recovers = false; timed_out = false }
+
+abbrev pub with_mss : RenoValue → ℕ → RenoValue
+with_mss r mss = record r { mss = mss }
+
+-- how much cwnd grows by, where so many bytes are acknowledged: in slow start, else in congestion avoidance (3.1, equations 2 and 3)
+abbrev pub growth : RenoValue → ℕ → ℕ
+growth r count = if nat_lt r.cwnd r.ssthresh then min count r.mss else max 1 (r.mss * r.mss / r.cwnd)
+
+-- what ssthresh becomes at a loss, with so much in flight (3.1, equation 4)
+abbrev pub halved : RenoValue → ℕ → ℕ
+halved r flight = min most (max (flight / 2) (2 * r.mss))
+
+-- so many bytes were acknowledged; the first of them end fast recovery (3.2, step 6)
+abbrev pub acknowledged : RenoValue → ℕ → RenoValue
+acknowledged r count =
+    if count == 0 then r
+    else record r {
+      cwnd = (if r.recovers then r.ssthresh else min most (r.cwnd + growth r count));
+      recovers = false;
+      timed_out = false;
+    }
+
+-- the third duplicate came (3.2, steps 2 and 3)
+abbrev pub lost : RenoValue → ℕ → RenoValue
+lost r flight = record r { ssthresh = halved r flight; cwnd = min most (halved r flight + 3 * r.mss); recovers = true }
+
+-- a duplicate beyond the third came (3.2, step 4)
+abbrev pub inflated : RenoValue → RenoValue
+inflated r = record r { cwnd = min most (r.cwnd + r.mss) }
+
+-- the retransmission timer ran out (3.1, equation 4 and the text below it)
+abbrev pub timed_out : RenoValue → ℕ → RenoValue
+timed_out r flight =
+    record r {
+      ssthresh = (if r.timed_out then r.ssthresh else halved r flight);
+      cwnd = r.mss;
+      recovers = false;
+      timed_out = true;
+    }

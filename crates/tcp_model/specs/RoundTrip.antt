@@ -1,0 +1,77 @@
+-- The retransmission timeout (RFC 6298), in whole milliseconds: each division drops its rest.
+use Rattle.std.specs.Prelude.{ℕ, ◌+◌, ◌-◌, ◌*◌, ◌/◌, ◌^◌, ◌<◌, ◌≤◌, nat_le, min, max, ℤ, ◌-ℤ◌, unsigned_abs, int_lt, Option, Some, None, IfSome, if◌then◌else◌}
+use Rattle.net_base.specs.Time.{IsMoment}
+use Rattle.tcp_model.specs.declared.round_trip.Estimate.{Estimate}
+use Rattle.tcp_model.specs.declared.round_trip.Sample.{Sample}
+
+pub record RoundTripValue : Type 0 where
+  pub estimate : Option Estimate  -- none before the first sample
+  pub timeout : ℕ  -- RTO
+  pub sample : Option Sample  -- the segment that is timed
+
+abbrev pub least_timeout : ℕ
+least_timeout = 1000
+
+abbrev pub most_timeout : ℕ
+most_timeout = 60_000
+
+-- the estimates lie below 2^52, and the segment that is timed was sent at a moment
+pub record IsTimed (r : RoundTripValue) : Type 0 where
+  pub estimate : IfSome r.estimate (λ e. (e.smoothed < 2 ^ 52) × (e.variation < 2 ^ 52))
+  pub timeout : (least_timeout ≤ r.timeout) × (r.timeout ≤ most_timeout)
+  pub sample : IfSome r.sample (λ s. IsMoment s.since)
+
+-- of a new connection (2.1)
+abbrev pub fresh : RoundTripValue
+fresh = record { estimate = None; timeout = least_timeout; sample = None }
+
+abbrev pub distance : ℕ → ℕ → ℕ
+distance a b = (a - b) + (b - a)
+
+-- SRTT and RTTVAR after a round trip of so many milliseconds (2.2 and 2.3)
+abbrev pub smoothed : Option Estimate → ℕ → Estimate
+smoothed None millis = record { smoothed = millis; variation = millis / 2 }
+smoothed (Some e) millis =
+    record {
+      smoothed = (7 * e.smoothed + millis) / 8;
+      variation = (3 * e.variation + distance e.smoothed millis) / 4;
+    }
+
+-- the timeout that they give (2.3 to 2.5)
+abbrev pub timeout_of : Estimate → ℕ
+timeout_of e = min most_timeout (max least_timeout (e.smoothed + 4 * e.variation))
+
+-- a round trip of so many milliseconds was measured
+abbrev pub measured : RoundTripValue → ℕ → RoundTripValue
+measured r millis =
+    record { estimate = Some (smoothed r.estimate millis); timeout = timeout_of (smoothed r.estimate millis); sample = None }
+
+-- the whole milliseconds from one moment to another, none where that isn't later
+abbrev pub millis_between : ℤ → ℤ → ℕ
+millis_between since now = if int_lt since now then unsigned_abs (now -ℤ since) / 1000 else 0
+
+-- SND.UNA rose by so much: the segment that is timed is acknowledged, or ends that much nearer
+abbrev pub advanced_with : RoundTripValue → ℕ → ℤ → Option Sample → RoundTripValue
+advanced_with r by now None = r
+advanced_with r by now (Some s) =
+    if nat_le s.ends by then measured r (millis_between s.since now)
+    else record r { sample = Some (record s { ends = s.ends - by }) }
+
+abbrev pub advanced : RoundTripValue → ℕ → ℤ → RoundTripValue
+advanced r by now = advanced_with r by now r.sample
+
+-- a segment that ends so far past SND.UNA was sent now: it is timed, if none is
+abbrev pub timing_with : RoundTripValue → ℕ → ℤ → Option Sample → RoundTripValue
+timing_with r ends now None = record r { sample = Some (record { ends = ends; since = now }) }
+timing_with r ends now (Some s) = r
+
+abbrev pub timing : RoundTripValue → ℕ → ℤ → RoundTripValue
+timing r ends now = timing_with r ends now r.sample
+
+-- what is timed is sent again: no sample may be taken of it (3)
+abbrev pub untimed : RoundTripValue → RoundTripValue
+untimed r = record r { sample = None }
+
+-- the timer ran out: the timeout is doubled (5.5)
+abbrev pub backed_off : RoundTripValue → RoundTripValue
+backed_off r = record r { timeout = min most_timeout (2 * r.timeout) }

@@ -1,0 +1,128 @@
+-- What a socket offers: a test for each rule, and what the rules for text may send. `queued` is the length of the send queue,
+-- and `unbroken` says how many of its bytes from a place on lie before the end of the storage.
+use Rattle.std.specs.Prelude.{ℕ, ◌+◌, ◌-◌, ◌*◌, ◌/◌, ◌==◌, nat_lt, nat_le, not, ◌&&◌, ◌||◌, min, ℤ, Bool, true, false, if◌then◌else◌, List, [], ◌∷◌, length, Option, Some, None, is_some}
+use Rattle.net_base.specs.Ring.{Ring, until_end}
+use Rattle.ip_wire.specs.Options.{no_options}
+use Rattle.ip_wire.specs.TcpControl.{TcpControl}
+use Rattle.ip_wire.specs.TcpControl.TheVariants as Control
+use Rattle.tcp_model.specs.declared.block.AddressPair.{AddressPair}
+use Rattle.tcp_model.specs.declared.block.Block.{Block}
+use Rattle.tcp_model.specs.declared.block.CongestionControl.{CongestionControl}
+use Rattle.tcp_model.specs.declared.block.CongestionControl.TheVariants as Congestion
+use Rattle.tcp_model.specs.declared.state.State.{State}
+use Rattle.tcp_model.specs.Blocks.{one_if, unacked}
+use Rattle.tcp_model.specs.Names.{ip_header_len}
+use Rattle.tcp_model.specs.Reno as reno
+use Rattle.tcp_model.specs.RoundTrip as round_trip
+use Rattle.tcp_model.specs.States.{is_closed, is_answering, is_time_wait, owes_fin, sends_text, sends_syn, takes_text, keeps_alive}
+
+-- the end of TIME-WAIT (3.10.8)
+abbrev pub time_wait_end : Block → Option ℤ
+time_wait_end b = if is_time_wait b.state then b.timers.time_wait_ends else None
+
+-- THE SYN
+
+-- the own SYN is to go: nothing of it did, or it is sent again; its answer may be paused
+abbrev pub owes_syn : Block → Bool
+owes_syn b =
+    (sends_syn b.state && not (is_answering b.state && b.settings.synack_paused)) && (b.sender.syn_unacked && (b.sender.in_flight == 0))
+
+-- TEXT
+
+-- how much of the send queue is to go, from which place, and whether the FIN goes with it
+pub record Choice : Type 0 where
+  pub place : ℕ
+  pub len : ℕ
+  pub fin : Bool
+
+-- the length of the timestamps option with its padding (RFC 7323, 3.2 and appendix A)
+abbrev pub stamp_len : Block → ℕ
+stamp_len b = if (b.peer.timestamps && b.sender.stamped) && is_some b.settings.timestamps then 12 else 0
+
+-- what the remote takes in one segment, and a packet holds behind its headers (3.7.1; RFC 6691)
+abbrev pub size_limit : Block → AddressPair → ℕ → ℕ
+size_limit b addresses ip_mtu = min b.peer.mss (ip_mtu - ip_header_len addresses - (20 + stamp_len b))
+
+abbrev pub congestion_limit : CongestionControl → ℕ → ℕ → ℕ
+congestion_limit Congestion.None cwnd size = size
+congestion_limit Congestion.Reno cwnd size = min cwnd size
+
+-- what both windows leave of so many bytes (3.8.6; RFC 5681)
+abbrev pub window_limit : Block → ℕ → ℕ
+window_limit b size =
+    congestion_limit b.settings.congestion_control (b.reno.cwnd - b.sender.in_flight) (min (b.peer.window - b.sender.in_flight) size)
+
+-- how many queued bytes from a place on lie before the end of the storage
+abbrev pub unbroken : Ring ℕ → ℕ → ℕ
+unbroken queued place = min (length queued.queue - place) (until_end queued place)
+
+-- where SND.NXT stands in the send queue
+abbrev pub next_place : Block → ℕ
+next_place b = b.sender.in_flight - one_if b.sender.syn_unacked
+
+-- the FIN goes with the last byte or behind it
+abbrev pub fin_goes : Block → ℕ → ℕ → Bool
+fin_goes b queued end = owes_fin b.state && (end == queued)
+
+-- so many bytes from SND.NXT on
+abbrev pub text_of_size : Block → ℕ → ℕ → Choice
+text_of_size b queued len = record { place = next_place b; len = len; fin = fin_goes b queued (next_place b + len) }
+
+-- what may go from SND.NXT
+abbrev pub text_choice : Block → AddressPair → ℕ → Ring ℕ → Choice
+text_choice b addresses ip_mtu queued =
+    text_of_size b (length queued.queue) (window_limit b (min (size_limit b addresses ip_mtu) (unbroken queued (next_place b))))
+
+-- something goes, and Nagle's rule doesn't hold back a small segment while others are in flight (3.7.4)
+abbrev pub is_sendable : Block → ℕ → Choice → Bool
+is_sendable b limit c =
+    c.fin || (not (c.len == 0) && not (b.settings.nagle && (nat_lt c.len limit && not (b.sender.in_flight == 0))))
+
+-- bytes or a FIN are to go from SND.NXT, and what may go is worth it
+abbrev pub sends_choice : Block → ℕ → ℕ → Choice → Bool
+sends_choice b queued limit c =
+    sends_text b.state && (nat_le (one_if b.sender.syn_unacked) b.sender.in_flight && (nat_lt b.sender.in_flight (unacked b queued) && is_sendable b limit c))
+
+abbrev pub has_text : Block → AddressPair → ℕ → Ring ℕ → Bool
+has_text b addresses ip_mtu queued =
+    sends_choice b (length queued.queue) (size_limit b addresses ip_mtu) (text_choice b addresses ip_mtu queued)
+
+-- the segment at SND.UNA again: no window limits it
+abbrev pub first_text : Block → ℕ → ℕ → Choice
+first_text b queued len = record { place = 0; len = len; fin = fin_goes b queued len }
+
+abbrev pub resend_choice : Block → AddressPair → ℕ → Ring ℕ → Choice
+resend_choice b addresses ip_mtu queued =
+    first_text b (length queued.queue) (min (size_limit b addresses ip_mtu) (unbroken queued 0))
+
+-- the byte at SND.UNA, which probes a closed window
+abbrev pub probe_choice : Choice
+probe_choice = record { place = 0; len = 1; fin = false }
+
+-- what a segment with this part of the send queue says: the last byte is pushed
+abbrev pub control_for : Choice → ℕ → TcpControl
+control_for c queued =
+    if c.fin then Control.Fin
+    else if not (c.len == 0) && (c.place + c.len == queued) then Control.Psh
+    else Control.None
+
+-- WINDOW UPDATE AND KEEP-ALIVE
+
+-- the window field would be at least twice what was sent last (3.8.6.2.2)
+abbrev pub updates_window : Block → ℕ → Bool
+updates_window b window = takes_text b.state && (not (window == 0) && nat_le b.receiver.advertised (window / 2))
+
+-- while nothing is in flight (3.8.4)
+abbrev pub keep_alive_moment : Block → Option ℤ
+keep_alive_moment b = if keeps_alive b.state && (b.sender.in_flight == 0) then b.settings.keep_alive_at else None
+
+-- THE RETRANSMISSION TIMER (RFC 6298, 5.4 to 5.6; RFC 5681, 3.1)
+
+-- SND.NXT goes back to SND.UNA, and the timer is off until a segment goes
+abbrev pub backed_off_now : Block → Block
+backed_off_now b = record b {
+  sender = record b.sender { in_flight = 0 };
+  timers = record b.timers { retransmit_at = None };
+  round_trip = round_trip.untimed (round_trip.backed_off b.round_trip);
+  reno = reno.timed_out b.reno b.sender.in_flight;
+}

@@ -1,0 +1,131 @@
+-- The segments that a socket makes (RFC 9293, 3.1, with options of RFC 7323 and RFC 2018).
+use Rattle.std.specs.Prelude.{ℕ, ◌+◌, ◌-◌, ◌^◌, ◌==◌, ◌&&◌, ◌||◌, not, min, suc, ℤ, Bool, true, false, if◌then◌else◌, List, [], ◌∷◌, Option, Some, None, is_some}
+use Rattle.ip_wire.specs.Ip.{source_in, destination_in}
+use Rattle.ip_wire.specs.IpRepr.{IpRepr}
+use Rattle.ip_wire.specs.SeqNumber.{SeqNumber}
+use Rattle.ip_wire.specs.Control.{control_len}
+use Rattle.ip_wire.specs.Options.{no_options}
+use Rattle.ip_wire.specs.Tcp.{header_len}
+use Rattle.ip_wire.specs.TcpControl.{TcpControl}
+use Rattle.ip_wire.specs.TcpControl.TheVariants as Control
+use Rattle.ip_wire.specs.TcpHeader.{TcpHeader}
+use Rattle.ip_wire.specs.TcpOptions.{TcpOptions}
+use Rattle.ip_wire.specs.TcpTimestampGenerator.{TcpTimestampGenerator}
+use Rattle.ip_wire.specs.TcpTimestampRepr.{TcpTimestampRepr}
+use Rattle.ip_wire.specs.Timestamp.{value_at}
+use Rattle.tcp_model.specs.declared.block.AddressPair.{AddressPair}
+use Rattle.tcp_model.specs.declared.block.Block.{Block}
+use Rattle.tcp_model.specs.declared.block.EndpointPair.{EndpointPair}
+use Rattle.tcp_model.specs.declared.offer.Reply.{Reply}
+use Rattle.tcp_model.specs.Blocks.{nxt, own_scale, field_of, window_field}
+use Rattle.tcp_model.specs.Names.{pair_of, addresses_in, pair_in, header_for, ip_header_len}
+use Rattle.tcp_model.specs.Offsets.{behind_by}
+
+-- the hop limit that is set, or 64
+abbrev pub hops_of : Option ℕ → ℕ
+hops_of None = 64
+hops_of (Some n) = n
+
+-- the generator's value at a moment, with the last value that came
+abbrev pub stamp_by : Option TcpTimestampGenerator → ℤ → ℕ → Option TcpTimestampRepr
+stamp_by None now recent = None
+stamp_by (Some generator) now recent = Some (record { tsval = value_at generator now; tsecr = recent })
+
+-- the timestamps of a segment, which hold if both SYNs have them (RFC 7323, 3.2)
+abbrev pub stamp_of : Block → ℤ → Option TcpTimestampRepr
+stamp_of b now = if b.peer.timestamps && b.sender.stamped then stamp_by b.settings.timestamps now b.peer.recent else None
+
+abbrev pub no_ranges : List (Option (ℕ × ℕ))
+no_ranges = None ∷ None ∷ None ∷ []
+
+-- a segment between these endpoints that acknowledges all that came: each but a first SYN and a reset
+abbrev pub segment : Block → EndpointPair → ℤ → ℕ → TcpControl → SeqNumber → TcpHeader
+segment b pair now window control seq = record {
+  src_port = pair.local_port;
+  dst_port = pair.remote_port;
+  control = control;
+  seq_number = seq;
+  ack_number = Some b.receiver.next;
+  window_len = window;
+  options = record no_options { timestamp = stamp_of b now };
+}
+
+-- a bare acknowledgement, at SND.NXT
+abbrev pub ack_segment : Block → EndpointPair → ℤ → ℕ → TcpHeader
+ack_segment b pair now window = segment b pair now window Control.None (nxt b)
+
+-- the same with a range that is held out of order (RFC 2018)
+abbrev pub sack_segment : Block → EndpointPair → ℤ → ℕ → Option (ℕ × ℕ) → TcpHeader
+sack_segment b pair now window range =
+    record (ack_segment b pair now window) { options = record no_options { timestamp = stamp_of b now; sack_ranges = range ∷ None ∷ None ∷ [] } }
+
+-- the largest payload that an IP packet holds behind a header without options; the field has 16 bits (3.7.1)
+abbrev pub mss_for : ℕ → ℕ → ℕ
+mss_for ip_mtu ip_header = min (ip_mtu - ip_header - 20) 65_535
+
+-- The options of a SYN. A first one asks for all, and an answer only for what the other SYN had.
+abbrev pub syn_options : Block → ℕ → ℤ → ℕ → TcpOptions
+syn_options b mss now scale = record {
+  max_seg_size = Some mss;
+  window_scale = if not b.receiver.took_syn || is_some b.peer.scale then Some scale else None;
+  sack_permitted = not b.receiver.took_syn || b.peer.sack;
+  sack_ranges = no_ranges;
+  timestamp = if not b.receiver.took_syn || b.peer.timestamps then stamp_by b.settings.timestamps now b.peer.recent else None;
+}
+
+-- where a SYN was taken
+abbrev pub next_if_heard : Block → Option SeqNumber
+next_if_heard b = if b.receiver.took_syn then Some b.receiver.next else None
+
+-- the own SYN, at SND.UNA, which acknowledges the other if it came; its window field isn't shifted
+abbrev pub syn_segment : Block → EndpointPair → ℤ → ℕ → ℕ → ℕ → TcpHeader
+syn_segment b pair now ip_mtu capacity free = record {
+  src_port = pair.local_port;
+  dst_port = pair.remote_port;
+  control = Control.Syn;
+  seq_number = b.sender.una;
+  ack_number = next_if_heard b;
+  window_len = field_of free;
+  options = syn_options b (mss_for ip_mtu (ip_header_len pair.addresses)) now (own_scale capacity);
+}
+
+-- the reset after an abort or a user timeout (3.10.5)
+abbrev pub reset_segment : Block → EndpointPair → ℤ → ℕ → TcpHeader
+reset_segment b pair now window = record (segment b pair now window Control.Rst (nxt b)) { ack_number = next_if_heard b }
+
+-- one byte 0 below SND.UNA (3.8.4)
+abbrev pub keep_alive_segment : Block → EndpointPair → ℤ → ℕ → TcpHeader
+keep_alive_segment b pair now window = segment b pair now window Control.None (behind_by b.sender.una (2 ^ 32 - 1))
+
+-- how many positions a segment takes (3.4)
+abbrev pub segment_len : TcpHeader → ℕ → ℕ
+segment_len header size = size + control_len header.control
+
+-- the packet that answers one that came, behind its header and between its endpoints, exchanged
+abbrev pub reply_to : IpRepr → ℕ → TcpHeader → Reply
+reply_to ip hops segment = record { header = header_for (addresses_in ip) hops (header_len segment); segment = segment }
+
+-- a reset's sequence number: the acknowledgement that it answers, or 0
+abbrev pub reset_seq : Option SeqNumber → SeqNumber
+reset_seq None = record { 0 = 0 }
+reset_seq (Some n) = n
+
+-- a reset acknowledges a SYN that came without ACK, one past its end
+abbrev pub reset_ack : Option SeqNumber → TcpControl → SeqNumber → ℕ → Option SeqNumber
+reset_ack None Control.Syn seq size = Some (behind_by seq (suc size))
+reset_ack ack control seq size = None
+
+-- the reset that answers a segment which no socket takes, or whose acknowledgement can't be (3.10.7.1; 3.5.2)
+abbrev pub reset_for : TcpHeader → ℕ → TcpHeader
+reset_for header size = record {
+  src_port = header.dst_port;
+  dst_port = header.src_port;
+  control = Control.Rst;
+  seq_number = reset_seq header.ack_number;
+  ack_number = reset_ack header.ack_number header.control header.seq_number size;
+  window_len = 0;
+  options = no_options;
+}
+
+abbrev pub rst_reply : IpRepr → TcpHeader → ℕ → Reply
+rst_reply ip header size = reply_to ip 64 (reset_for header size)

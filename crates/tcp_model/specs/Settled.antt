@@ -1,0 +1,76 @@
+-- What an offer is told. A segment that was sent is recorded; one that wasn't leaves all as it is.
+use Rattle.std.specs.Prelude.{ℕ, ◌+◌, ◌==◌, nat_lt, not, ◌&&◌, ℤ, Bool, true, false, if◌then◌else◌, Option, Some, None, is_some}
+use Rattle.ip_wire.specs.Control.{control_len}
+use Rattle.ip_wire.specs.Seq.{distance_of}
+use Rattle.tcp_model.specs.declared.block.Block.{Block}
+use Rattle.tcp_model.specs.declared.offer.OfferKind.{OfferKind}
+use Rattle.tcp_model.specs.declared.offer.OfferKind.TheVariants as Kind
+use Rattle.tcp_model.specs.declared.offer.OpenOffer.{OpenOffer}
+use Rattle.tcp_model.specs.Answers.{ack_recorded}
+use Rattle.tcp_model.specs.Blocks.{forgotten}
+use Rattle.tcp_model.specs.Moments.{later_by, timeout_from}
+use Rattle.tcp_model.specs.Probing.{probe_kept, with_probe_at}
+use Rattle.tcp_model.specs.RoundTrip as round_trip
+use Rattle.tcp_model.specs.Value.{TcpValue, with_block, unoffered, queued_in}
+
+-- its window field, and its acknowledgement, if it has one
+abbrev pub field_recorded : Block → OpenOffer → Block
+field_recorded b o =
+    if is_some o.segment.ack_number then ack_recorded b o.segment.window_len
+    else record b { receiver = record b.receiver { advertised = o.segment.window_len } }
+
+-- the next keep-alive is counted from each segment (3.8.4)
+abbrev pub recorded : Block → OpenOffer → Block
+recorded b o = record (field_recorded b o) { settings = record b.settings { keep_alive_at = later_by o.moment b.settings.keep_alive } }
+
+-- how far past SND.UNA the segment ends
+abbrev pub end_of : Block → OpenOffer → ℕ
+end_of b o = distance_of b.sender.una o.segment.seq_number + (o.len + control_len o.segment.control)
+
+-- SND.NXT moves past the segment, if that is higher; then its round trip is timed, if none is
+abbrev pub nxt_moved : Block → ℕ → ℤ → Block
+nxt_moved b end now =
+    if nat_lt b.sender.in_flight end
+    then record b { sender = record b.sender { in_flight = end }; round_trip = round_trip.timing b.round_trip end now }
+    else b
+
+abbrev pub timer_started : Block → ℤ → Block
+timer_started b now =
+    if is_some b.timers.retransmit_at then b
+    else record b { timers = record b.timers { retransmit_at = Some (timeout_from now b.round_trip) } }
+
+-- a segment from the send queue, or a SYN, went: the retransmission timer runs (RFC 6298, 5.1)
+abbrev pub went : Block → OpenOffer → ℕ → Block
+went b o queued = probe_kept (timer_started (nxt_moved b (end_of b o) o.moment) o.moment) queued
+
+-- its SYN has timestamps, or has none
+abbrev pub syn_went : Block → OpenOffer → Block
+syn_went b o = record b { sender = record b.sender { stamped = is_some o.segment.options.timestamp } }
+
+-- the segment at SND.UNA went again: it can't be timed (RFC 6298, 3)
+abbrev pub resent : Block → Block
+resent b = record b { sender = record b.sender { resend = false }; round_trip = round_trip.untimed b.round_trip }
+
+-- the next probe waits twice as long (3.8.6.1)
+abbrev pub probed : Block → ℤ → Block
+probed b now =
+    record b {
+      timers = record b.timers { probe_at = Some (timeout_from now (round_trip.backed_off b.round_trip)) };
+      round_trip = round_trip.backed_off b.round_trip;
+    }
+
+abbrev pub sent_as : OfferKind → Block → OpenOffer → ℕ → Block
+sent_as Kind.Reset b o queued = forgotten b
+sent_as Kind.Syn b o queued = went (syn_went b o) o queued
+sent_as Kind.FastRetransmission b o queued = went (resent b) o queued
+sent_as Kind.Text b o queued = went b o queued
+sent_as Kind.Probe b o queued = probed b o.moment
+sent_as kind b o queued = b
+
+abbrev pub sent_off : Option OpenOffer → TcpValue → TcpValue
+sent_off None v = v
+sent_off (Some o) v = with_block v (sent_as o.kind (recorded v.block o) o (queued_in v))
+
+abbrev pub settled : Bool → TcpValue → TcpValue
+settled false v = unoffered v
+settled true v = sent_off v.offered (unoffered v)

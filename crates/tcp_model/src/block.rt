@@ -1,0 +1,138 @@
+//! The control block of a connection (RFC 9293, section 3.3.1): all that a socket knows but for its bytes.
+use crate::{Reno, RoundTrip, State};
+use ip_wire::{IpListenEndpoint, Ipv4Address, Ipv6Address, SeqNumber, TcpTimestampGenerator};
+use net_base::{Duration, Instant};
+
+/// The two addresses of a connection, of one family.
+#[derive(Clone, Copy, Debug, PartialEq, Eq)]
+pub enum AddressPair {
+    Ipv4 {
+        local: Ipv4Address,
+        remote: Ipv4Address,
+    },
+    Ipv6 {
+        local: Ipv6Address,
+        remote: Ipv6Address,
+    },
+}
+
+/// The two endpoints of a connection.
+#[derive(Clone, Copy, Debug, PartialEq, Eq)]
+pub struct EndpointPair {
+    pub addresses: AddressPair,
+    pub local_port: u16,
+    pub remote_port: u16,
+}
+
+/// What the socket is named by.
+#[derive(Clone, Copy, Debug, PartialEq, Eq)]
+pub struct Names {
+    /// What it listens on, or listened on before a SYN came; port 0 for nothing.
+    pub listen: IpListenEndpoint,
+    pub pair: Option<EndpointPair>,
+}
+
+/// The way out. Counts are distances from `una`.
+#[derive(Clone, Copy, Debug, PartialEq, Eq)]
+pub struct Sender {
+    /// SND.UNA, the first number that isn't acknowledged.
+    pub una: SeqNumber,
+    /// Whether that is the SYN's.
+    pub syn_unacked: bool,
+    /// SND.NXT less SND.UNA.
+    pub in_flight: u32,
+    /// Duplicate acknowledgements of SND.UNA in a row, at most 4.
+    pub duplicates: u8,
+    /// Whether the segment at SND.UNA is to go again at once, since the third duplicate came.
+    pub resend: bool,
+    /// Whether its SYN, as it went last, had timestamps.
+    pub stamped: bool,
+    /// Whether a reset is to go.
+    pub reset_due: bool,
+}
+
+/// The way in.
+#[derive(Clone, Copy, Debug, PartialEq, Eq)]
+pub struct Receiver {
+    /// RCV.NXT, the next number to receive.
+    pub next: SeqNumber,
+    pub took_syn: bool,
+    pub took_fin: bool,
+    /// The window field sent last.
+    pub advertised: u16,
+}
+
+/// What the remote said of itself.
+#[derive(Clone, Copy, Debug, PartialEq, Eq)]
+pub struct Peer {
+    /// SND.WND, scaled already.
+    pub window: u32,
+    /// The largest payload that it takes.
+    pub mss: u16,
+    /// The shift of its window fields, if its SYN had the option.
+    pub scale: Option<u8>,
+    /// Whether its SYN permitted selective acknowledgements.
+    pub sack: bool,
+    /// Whether its SYN had timestamps.
+    pub timestamps: bool,
+    /// TS.Recent, the timestamp that came last.
+    pub recent: u32,
+}
+
+/// The moments at which something is due.
+#[derive(Clone, Copy, Debug, PartialEq, Eq)]
+pub struct Timers {
+    pub retransmit_at: Option<Instant>,
+    /// The next probe of a closed window.
+    pub probe_at: Option<Instant>,
+    /// The acknowledgement that is due.
+    pub ack_at: Option<Instant>,
+    /// Whether a segment with payload waits for it.
+    pub text_unacked: bool,
+    /// When an answer to a segment that isn't acceptable may be drawn again.
+    pub draws_from: Option<Instant>,
+    pub time_wait_ends: Option<Instant>,
+    /// Since when the user timeout runs.
+    pub timeout_since: Option<Instant>,
+}
+
+/// How what is sent is held back where congestion may be.
+#[derive(Clone, Copy, Debug, PartialEq, Eq)]
+pub enum CongestionControl {
+    /// Not at all.
+    None,
+    /// As RFC 5681 says.
+    Reno,
+}
+
+/// What the user set. A new connection keeps it.
+#[derive(Clone, Copy, Debug, PartialEq, Eq)]
+pub struct Settings {
+    /// The user timeout.
+    pub timeout: Option<Duration>,
+    pub ack_delay: Option<Duration>,
+    pub keep_alive: Option<Duration>,
+    /// When a keep-alive is due.
+    pub keep_alive_at: Option<Instant>,
+    pub nagle: bool,
+    /// The hop limit, if it isn't 64.
+    pub hop_limit: Option<u8>,
+    pub timestamps: Option<TcpTimestampGenerator>,
+    pub congestion_control: CongestionControl,
+    /// Whether the answer to a SYN waits.
+    pub synack_paused: bool,
+}
+
+/// The control block.
+#[derive(Clone, Copy, Debug, PartialEq, Eq)]
+pub struct Block {
+    pub state: State,
+    pub names: Names,
+    pub sender: Sender,
+    pub receiver: Receiver,
+    pub peer: Peer,
+    pub timers: Timers,
+    pub round_trip: RoundTrip,
+    pub reno: Reno,
+    pub settings: Settings,
+}

@@ -1,0 +1,145 @@
+//! Congestion control by slow start, congestion avoidance, fast retransmit and fast recovery (RFC 5681).
+ghost use Rattle.std.specs.Prelude.{◌≡◌, ◌≤◌, ℕ, true};
+ghost use Rattle.tcp_model.specs.Reno.{RenoValue, IsBounded, fresh, with_mss, growth, halved, acknowledged, lost, inflated, timed_out};
+
+use std::marker::Model;
+
+/// Neither the congestion window nor the slow start threshold rises above it.
+const MOST: u32 = 1 << 30;
+
+const FIRST_MSS: u16 = 1024;
+
+const FIRST_WINDOW: u32 = 2048;
+
+/// The congestion window of a connection, and what it depends on. All counts are bytes.
+#[derive(Clone, Copy, Debug, PartialEq, Eq)]
+pub struct Reno {
+    mss: u16,
+    cwnd: u32,
+    ssthresh: u32,
+    recovers: bool,
+    timed_out: bool,
+}
+
+impl Model for Reno {
+    ghost use Rattle.tcp_model.specs.Reno.{RenoValue, IsBounded};
+
+    ghost Value = { RenoValue };
+
+    ghost view = { λ r. record { mss = r.mss; cwnd = r.cwnd; ssthresh = r.ssthresh; recovers = r.recovers; timed_out = r.timed_out } };
+
+    ghost invariant = { λ r. IsBounded (record { mss = r.mss; cwnd = r.cwnd; ssthresh = r.ssthresh; recovers = r.recovers; timed_out = r.timed_out }) };
+
+    ghost inverse = { λ v. record { mss = v.mss; cwnd = v.cwnd; ssthresh = v.ssthresh; recovers = v.recovers; timed_out = v.timed_out } };
+}
+
+impl Reno {
+    /// The state at the start of a connection: a segment size of 1,024, a window of two of them, no threshold.
+    pub const fn new() -> Reno
+        ensures { result ≡ fresh }
+    {
+        Reno {
+            mss: FIRST_MSS,
+            cwnd: FIRST_WINDOW,
+            ssthresh: MOST,
+            recovers: false,
+            timed_out: false,
+        }
+    }
+
+    /// The congestion window.
+    pub const fn window(&self) -> u32
+        ensures value { result ≡ self.now.cwnd }
+        ensures bounded { IsBounded self.now }
+    {
+        self.cwnd
+    }
+
+    /// Sets the largest payload of a segment.
+    pub const fn set_mss(&mut self, mss: u16)
+        requires { 1 ≤ mss }
+        ensures { self.new ≡ with_mss self.old mss }
+    {
+        self.mss = mss;
+    }
+
+    /// So many bytes were acknowledged.
+    pub fn acknowledged(&mut self, count: usize)
+        ensures { self.new ≡ acknowledged self.old count }
+    {
+        if count == 0 {
+            return;
+        }
+        self.cwnd = if self.recovers {
+            self.ssthresh
+        } else {
+            (self.cwnd + self.growth(count)).min(MOST)
+        };
+        self.recovers = false;
+        self.timed_out = false;
+    }
+
+    /// The third duplicate came while so much was in flight.
+    pub fn lost(&mut self, flight: u32)
+        ensures { self.new ≡ lost self.old flight }
+    {
+        self.ssthresh = self.halved(flight);
+        self.cwnd = (self.ssthresh + 3 * self.mss as u32).min(MOST);
+        self.recovers = true;
+    }
+
+    /// A duplicate beyond the third came.
+    pub fn inflate(&mut self)
+        ensures { self.new ≡ inflated self.old }
+    {
+        self.cwnd = (self.cwnd + self.mss as u32).min(MOST);
+    }
+
+    /// The retransmission timer ran out while so much was in flight.
+    pub fn timed_out(&mut self, flight: u32)
+        ensures { self.new ≡ timed_out self.old flight }
+    {
+        if !self.timed_out {
+            self.ssthresh = self.halved(flight);
+        }
+        self.cwnd = self.mss as u32;
+        self.recovers = false;
+        self.timed_out = true;
+    }
+
+    /// How much the window grows by where so many bytes are acknowledged.
+    fn growth(&self, count: usize) -> u32
+        ensures value { result ≡ growth self.now count }
+        ensures small { result ≤ 4_294_836_225 }
+    {
+        if self.cwnd < self.ssthresh {
+            count.min(self.mss as usize) as u32
+        } else {
+            (self.mss as u32 * self.mss as u32 / self.cwnd).max(1)
+        }
+    }
+
+    /// What the threshold becomes at a loss.
+    fn halved(&self, flight: u32) -> u32
+        ensures { result ≡ halved self.now flight }
+    {
+        (flight / 2).max(2 * self.mss as u32).min(MOST)
+    }
+}
+
+/// Runs on numerals: slow start, a loss with half of the window in flight, the end of recovery, and a
+/// timeout twice.
+pub fn congestion_windows()
+    ensures slow_start { acknowledged (acknowledged fresh 1024) 5000 ≡ record fresh { cwnd = 4096 } }
+    ensures avoidance { acknowledged (record fresh { cwnd = 4096; ssthresh = 4096 }) 1024 ≡ record fresh { cwnd = 4352; ssthresh = 4096 } }
+    ensures loss { lost (record fresh { cwnd = 32768 }) 16384 ≡ record fresh { cwnd = 11264; ssthresh = 8192; recovers = true } }
+    ensures recovery { acknowledged (inflated (lost (record fresh { cwnd = 32768 }) 16384)) 1 ≡ record fresh { cwnd = 8192; ssthresh = 8192 } }
+    ensures timeouts { timed_out (timed_out (record fresh { cwnd = 32768 }) 16384) 1024 ≡ record fresh { cwnd = 1024; ssthresh = 8192; timed_out = true } }
+{}
+
+/// An acknowledgement of no bytes changes nothing, and a second timeout without new data acknowledged
+/// leaves the threshold.
+pub fn congestion_laws()
+    ensures nothing { (r : RenoValue) → acknowledged r 0 ≡ r }
+    ensures second { (r : RenoValue) (flight other : ℕ) → (timed_out (timed_out r flight) other).ssthresh ≡ (timed_out r flight).ssthresh }
+{}

@@ -1,0 +1,166 @@
+//! The retransmission timeout (RFC 6298), in whole milliseconds.
+ghost use Rattle.std.specs.Prelude.{◌≡◌, ◌<◌, ◌^◌, pos, Some};
+ghost use Rattle.net_base.specs.Time.{IsMoment};
+ghost use Rattle.tcp_model.specs.RoundTrip.{IsTimed, fresh, smoothed, timeout_of, measured, millis_between, advanced, timing, untimed, backed_off};
+
+use net_base::Instant;
+use std::marker::Model;
+
+/// The smoothed round trip and its variation, in milliseconds.
+#[derive(Clone, Copy, Debug, PartialEq, Eq)]
+pub struct Estimate {
+    pub smoothed: u64,
+    pub variation: u64,
+}
+
+/// The segment that is timed: how far past SND.UNA it ends, and when it was sent.
+#[derive(Clone, Copy, Debug, PartialEq, Eq)]
+pub struct Sample {
+    pub ends: u32,
+    pub since: Instant,
+}
+
+/// The round trip of a connection as far as it is known, and the timeout that it gives. One segment
+/// at a time is timed.
+#[derive(Clone, Copy, Debug, PartialEq, Eq)]
+pub struct RoundTrip {
+    estimate: Option<Estimate>,
+    timeout: u16,
+    sample: Option<Sample>,
+}
+
+impl Model for RoundTrip {
+    ghost use Rattle.tcp_model.specs.RoundTrip.{RoundTripValue, IsTimed};
+
+    ghost Value = { RoundTripValue };
+
+    ghost view = { λ r. record { estimate = r.estimate; timeout = r.timeout; sample = r.sample } };
+
+    ghost invariant = { λ r. IsTimed (record { estimate = r.estimate; timeout = r.timeout; sample = r.sample }) };
+
+    ghost inverse = { λ v. record { estimate = v.estimate; timeout = v.timeout; sample = v.sample } };
+}
+
+const LEAST_TIMEOUT: u16 = 1000;
+
+const MOST_TIMEOUT: u16 = 60_000;
+
+impl RoundTrip {
+    /// Nothing is known at the start of a connection: the timeout is a second.
+    pub const fn new() -> RoundTrip
+        ensures { result ≡ fresh }
+    {
+        RoundTrip {
+            estimate: None,
+            timeout: LEAST_TIMEOUT,
+            sample: None,
+        }
+    }
+
+    /// The retransmission timeout in milliseconds.
+    pub const fn timeout(&self) -> u16
+        ensures value { result ≡ self.now.timeout }
+        ensures timed { IsTimed self.now }
+    {
+        self.timeout
+    }
+
+    /// SND.UNA rose by so much.
+    pub fn advance(&mut self, by: u32, now: Instant)
+        requires { IsMoment now }
+        ensures { self.new ≡ advanced self.old by now }
+    {
+        let Some(sample) = self.sample else {
+            return;
+        };
+        if sample.ends <= by {
+            self.measure(millis_between(sample.since, now));
+        } else {
+            self.sample = Some(Sample {
+                ends: sample.ends - by,
+                since: sample.since,
+            });
+        }
+    }
+
+    /// A segment that ends so far past SND.UNA is sent: it is timed, if none is.
+    pub fn time(&mut self, ends: u32, now: Instant)
+        requires { IsMoment now }
+        ensures { self.new ≡ timing self.old ends now }
+    {
+        if self.sample.is_none() {
+            self.sample = Some(Sample { ends, since: now });
+        }
+    }
+
+    /// What was sent is sent again: it is timed no longer.
+    pub const fn forget_sample(&mut self)
+        ensures { self.new ≡ untimed self.old }
+    {
+        self.sample = None;
+    }
+
+    /// Doubles the timeout.
+    pub fn back_off(&mut self)
+        ensures { self.new ≡ backed_off self.old }
+    {
+        self.timeout = (2 * self.timeout as u32).min(MOST_TIMEOUT as u32) as u16;
+    }
+
+    /// Takes a round trip of so many milliseconds into account.
+    fn measure(&mut self, millis: u64)
+        requires { millis < 2 ^ 52 }
+        ensures { self.new ≡ measured self.old millis }
+    {
+        let estimate = match self.estimate {
+            None => Estimate {
+                smoothed: millis,
+                variation: millis / 2,
+            },
+            Some(old) => Estimate {
+                smoothed: (7 * old.smoothed + millis) / 8,
+                variation: (3 * old.variation + old.smoothed.abs_diff(millis)) / 4,
+            },
+        };
+        self.timeout = timeout_of(&estimate);
+        self.estimate = Some(estimate);
+        self.sample = None;
+    }
+}
+
+/// The timeout that an estimate gives.
+fn timeout_of(estimate: &Estimate) -> u16
+    requires { (estimate.now.smoothed < 2 ^ 52) × (estimate.now.variation < 2 ^ 52) }
+    ensures { result ≡ timeout_of estimate.now }
+{
+    (estimate.smoothed + 4 * estimate.variation)
+        .max(LEAST_TIMEOUT as u64)
+        .min(MOST_TIMEOUT as u64) as u16
+}
+
+/// The whole milliseconds from one moment to another, none where that isn't later.
+fn millis_between(since: Instant, now: Instant) -> u64
+    requires { IsMoment since × IsMoment now }
+    ensures value { result ≡ millis_between since now }
+    ensures small { result < 2 ^ 52 }
+{
+    if since < now {
+        (now - since).total_millis()
+    } else {
+        0
+    }
+}
+
+/// Runs on numerals: the timeout doubles up to a minute, and follows the round trips.
+pub fn timeouts()
+    ensures first { fresh.timeout ≡ 1000 }
+    ensures doubled { (backed_off fresh).timeout ≡ 2000 }
+    ensures twice { (backed_off (backed_off fresh)).timeout ≡ 4000 }
+    ensures fifth { (backed_off (backed_off (backed_off (backed_off (backed_off fresh))))).timeout ≡ 32_000 }
+    ensures last { (backed_off (backed_off (backed_off (backed_off (backed_off (backed_off fresh)))))).timeout ≡ 60_000 }
+    ensures short { (measured fresh 100).timeout ≡ 1000 }
+    ensures long { (measured fresh 801).timeout ≡ 2401 }
+    ensures second { measured (measured fresh 801) 700 ≡ record fresh { estimate = Some (record { smoothed = 788; variation = 325 }); timeout = 2088 } }
+    ensures whole { millis_between (pos 1_500) (pos 4_499) ≡ 2 }
+    ensures timed { advanced (advanced (timing fresh 10 (pos 0)) 4 (pos 500_000)) 6 (pos 801_999) ≡ measured fresh 801 }
+{}
