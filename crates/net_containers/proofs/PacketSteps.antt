@@ -7,7 +7,7 @@ use Rattle.std.proofs.lemmas.List.{length-take-le, take_at, drop_at, take_all, d
 use Rattle.std.proofs.Math.Nat.{mod-add-mod, mod-le, mod-eq_of_lt, mod_self, zero-mod, add-zero}
 use Rattle.std.proofs.Math.Dec.{eqb-suc-zero}
 use Rattle.net_containers.specs.Ring.{Ring, ring, ring_in, capacity, until_end, contiguous, anchored, extended, released, rewritten, overwritten, enqueued, laid_from, unbroken_free, unbroken_queued, storage_of, place_of, rotated, laid_over}
-use Rattle.net_containers.specs.Packets.{Packet, Packets, packet, packets_in, used_places, used_room, window, start_of, unbroken, padding_for, is_full_for, appended, unpadded, first, first_by, without_first, with_first}
+use Rattle.net_containers.specs.Packets.{QueuedPacket, Packets, packet, packets_in, used_places, used_room, window, start_of, unbroken, padding_for, is_full_for, appended, unpadded, first, first_by, without_first, with_first}
 use Rattle.net_containers.specs.Entries.{entry, padded, padding_first, packets_of, BeginsWithPacket, AreLaid, size_of, AreEntries, packets_seen}
 use Rattle.net_containers.specs.declared.packet_buffer.PacketMetadata.{PacketMetadata}
 use Rattle.net_containers.proofs.Rotations.{length-rotated, length-laid_over}
@@ -131,18 +131,18 @@ module _ {X : Type 0} where
 
 module _ {H : Type 0} where
   -- the padding before the first packet
-  abbrev leading : List (Packet H) → ℕ
+  abbrev leading : List (QueuedPacket H) → ℕ
   leading [] = 0
   leading (p ∷ ps) = p.padding
 
-  first-unpadded_in : (ps : List (Packet H)) (start places room : ℕ) → first (unpadded (packets_in ps start places room)) ≡ first (packets_in ps start places room)
+  first-unpadded_in : (ps : List (QueuedPacket H)) (start places room : ℕ) → first (unpadded (packets_in ps start places room)) ≡ first (packets_in ps start places room)
   first-unpadded_in [] start places room = refl
   first-unpadded_in (p ∷ ps) start places room = elim (eqb_tells p.padding 0) [ inl none ↦ rw none.0 refl | inr some ↦ rw some.0 refl ]
 
   pub first-unpadded : (q : Packets H) → first (unpadded q) ≡ first q
   first-unpadded q = first-unpadded_in q.packets q.start q.places q.room
 
-  without_first-unpadded_in : (ps : List (Packet H)) (start places room : ℕ) → without_first (unpadded (packets_in ps start places room)) ≡ without_first (packets_in ps start places room)
+  without_first-unpadded_in : (ps : List (QueuedPacket H)) (start places room : ℕ) → without_first (unpadded (packets_in ps start places room)) ≡ without_first (packets_in ps start places room)
   without_first-unpadded_in [] start places room = refl
   without_first-unpadded_in (p ∷ ps) start places room = elim (eqb_tells p.padding 0) [
     | inl none ↦ rw none.0 refl
@@ -154,7 +154,7 @@ module _ {H : Type 0} where
   pub without_first-unpadded : (q : Packets H) → without_first (unpadded q) ≡ without_first q
   without_first-unpadded q = without_first-unpadded_in q.packets q.start q.places q.room
 
-  unpadded-of_none_in : (ps : List (Packet H)) (start places room : ℕ) → leading ps ≡ 0 → unpadded (packets_in ps start places room) ≡ packets_in ps start places room
+  unpadded-of_none_in : (ps : List (QueuedPacket H)) (start places room : ℕ) → leading ps ≡ 0 → unpadded (packets_in ps start places room) ≡ packets_in ps start places room
   unpadded-of_none_in [] start places room e = refl
   unpadded-of_none_in (p ∷ ps) start places room e = elim (eqb_tells p.padding 0) [ inl none ↦ rw none.0 refl | inr some ↦ absurd (some.1 e) ]
 
@@ -162,7 +162,7 @@ module _ {H : Type 0} where
   pub unpadded-of_none : (q : Packets H) → leading q.packets ≡ 0 → unpadded q ≡ q
   unpadded-of_none q e = unpadded-of_none_in q.packets q.start q.places q.room e
 
-  leading-unpadded_in : (ps : List (Packet H)) (start places room : ℕ) → leading (unpadded (packets_in ps start places room)).packets ≡ 0
+  leading-unpadded_in : (ps : List (QueuedPacket H)) (start places room : ℕ) → leading (unpadded (packets_in ps start places room)).packets ≡ 0
   leading-unpadded_in [] start places room = refl
   leading-unpadded_in (p ∷ ps) start places room = elim (eqb_tells p.padding 0) [ inl none ↦ rw none.0 none.1 | inr some ↦ rw some.0 refl ]
 
@@ -172,7 +172,7 @@ module _ {H : Type 0} where
   pub unpadded-unpadded : (q : Packets H) → unpadded (unpadded q) ≡ unpadded q
   unpadded-unpadded q = unpadded-of_none (unpadded q) (leading-unpadded q)
 
-  nil-unpadded_in : (ps : List (Packet H)) (start places room : ℕ) → (unpadded (packets_in ps start places room)).packets ≡ [] → ps ≡ []
+  nil-unpadded_in : (ps : List (QueuedPacket H)) (start places room : ℕ) → (unpadded (packets_in ps start places room)).packets ≡ [] → ps ≡ []
   nil-unpadded_in [] start places room e = refl
   nil-unpadded_in (p ∷ ps) start places room e = elim (eqb_tells p.padding 0) [ inl none ↦ rw none.0 at e | inr some ↦ absurd (let h = rw some.0 at e in cc) ]
 
@@ -276,7 +276,7 @@ module _ {H : Type 0} where
   pub packets_seen-with_first : (metadata : Ring (PacketMetadata H)) (payload : Ring ℕ) (size : ℕ) (header header' : H) (ws : List ℕ) → AreEntries metadata payload → slice_get metadata.queue 0 ≡ Some (entry size (Some header)) → length ws ≡ size → packets_seen (rewritten metadata (entry size (Some header') ∷ [])) (rewritten payload ws) ≡ with_first (packets_seen metadata payload) header' ws
   packets_seen-with_first metadata payload size header header' ws ok e long =
       let f = fronts metadata payload size header ok e in
-      let rest : List (Packet H) = packets_of 0 (drop 1 metadata.queue) (drop size payload.queue) in
+      let rest : List (QueuedPacket H) = packets_of 0 (drop 1 metadata.queue) (drop size payload.queue) in
       let tail = drop (length ws) payload.queue in
       let same : length (ws ++ tail) ≡ length payload.queue = omega (arith, length-append ws tail, length-drop (length ws) payload.queue, f.sizes) in
       let places : length (entry size (Some header') ∷ drop 1 metadata.queue) ≡ length metadata.queue = sym (ap length f.split) in

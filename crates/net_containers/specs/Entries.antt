@@ -1,7 +1,7 @@
 -- How a `PacketBuffer` keeps its packets: an entry for each packet and for each padding, and the bytes of all in a ring.
 use Rattle.std.specs.Prelude.{◌≡◌, ℕ, ◌+◌, ◌%◌, ◌<◌, ◌≤◌, ◌==◌, if◌then◌else◌, List, [], ◌∷◌, length, take, drop, Option, None, Some, IsSome}
 use Rattle.net_containers.specs.Ring.{Ring, capacity, enqueued, IsPlaced}
-use Rattle.net_containers.specs.Packets.{Packet, Packets, packet, packets_in}
+use Rattle.net_containers.specs.Packets.{QueuedPacket, Packets, packet, packets_in}
 use Rattle.net_containers.specs.declared.packet_buffer.PacketMetadata.{PacketMetadata}
 
 module _ {H : Type 0} where
@@ -13,9 +13,9 @@ module _ {H : Type 0} where
   padded metadata size = if size == 0 then metadata else enqueued metadata (entry size None ∷ [])
 
   -- the packets, where so much padding was passed
-  abbrev pub packets_of : ℕ → List (PacketMetadata H) → List ℕ → List (Packet H)
+  abbrev pub packets_of : ℕ → List (PacketMetadata H) → List ℕ → List (QueuedPacket H)
   packets_of skipped [] bytes = []
-  packets_of skipped (m ∷ ms) bytes = elim m.header as (λ _. List (Packet H)) [
+  packets_of skipped (m ∷ ms) bytes = elim m.header as (λ _. List (QueuedPacket H)) [
     | None ↦ packets_of (skipped + m.size) ms (drop m.size bytes)
     | Some h ↦ packet skipped h (take m.size bytes) ∷ packets_of 0 ms (drop m.size bytes)
   ]

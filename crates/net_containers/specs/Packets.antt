@@ -3,7 +3,7 @@ use Rattle.std.specs.Prelude.{ℕ, ◌+◌, ◌-◌, ◌%◌, ◌==◌, nat_lt, 
 use Rattle.std.specs.Coded.{Coded, code_by, coded×, coded_list, coded_ℕ}
 
 -- A packet in its place. `padding` counts the bytes that were skipped before it at the end of the storage.
-pub record Packet (H : Type 0) : Type 0 where
+pub record QueuedPacket (H : Type 0) : Type 0 where
   pub padding : ℕ
   pub header : H
   pub bytes : List ℕ
@@ -11,43 +11,43 @@ pub record Packet (H : Type 0) : Type 0 where
 -- The packets in the order they came in. `start` is the place of the first byte that is taken, `places` the most entries
 -- for headers and padding, and `room` the most bytes.
 pub record Packets (H : Type 0) : Type 0 where
-  pub packets : List (Packet H)
+  pub packets : List (QueuedPacket H)
   pub start : ℕ
   pub places : ℕ
   pub room : ℕ
 
 module _ {H : Type 0} where
-  abbrev pub packet : ℕ → H → List ℕ → Packet H
+  abbrev pub packet : ℕ → H → List ℕ → QueuedPacket H
   packet padding header bytes = record { padding = padding; header = header; bytes = bytes }
 
-  abbrev pub packet_code : Coded H → Coded (Packet H)
+  abbrev pub packet_code : Coded H → Coded (QueuedPacket H)
   packet_code c =
       code_by (ℕ × (H × List ℕ)) (coded× coded_ℕ (coded× c (coded_list coded_ℕ))) (λ p. (p.padding, (p.header, p.bytes))) (λ p. packet p.0 p.1.0 p.1.1) (λ _. refl)
 
-  abbrev pub packets_in : List (Packet H) → ℕ → ℕ → ℕ → Packets H
+  abbrev pub packets_in : List (QueuedPacket H) → ℕ → ℕ → ℕ → Packets H
   packets_in packets start places room = record { packets = packets; start = start; places = places; room = room }
 
   abbrev pub packets_code : Coded H → Coded (Packets H)
   packets_code c =
-      code_by (List (Packet H) × (ℕ × (ℕ × ℕ))) (coded× (coded_list (packet_code c)) (coded× coded_ℕ (coded× coded_ℕ coded_ℕ))) (λ q. (q.packets, (q.start, (q.places, q.room)))) (λ p. packets_in p.0 p.1.0 p.1.1.0 p.1.1.1) (λ _. refl)
+      code_by (List (QueuedPacket H) × (ℕ × (ℕ × ℕ))) (coded× (coded_list (packet_code c)) (coded× coded_ℕ (coded× coded_ℕ coded_ℕ))) (λ q. (q.packets, (q.start, (q.places, q.room)))) (λ p. packets_in p.0 p.1.0 p.1.1.0 p.1.1.1) (λ _. refl)
 
   -- the headers and bytes in order, without their places
   abbrev pub contents : Packets H → List (H × List ℕ)
   contents q = map (λ p. (p.header, p.bytes)) q.packets
 
   -- the entries that a packet takes: padding has one of its own
-  abbrev pub entries : Packet H → ℕ
+  abbrev pub entries : QueuedPacket H → ℕ
   entries p = if p.padding == 0 then 1 else 2
 
-  abbrev pub used_places : List (Packet H) → ℕ
+  abbrev pub used_places : List (QueuedPacket H) → ℕ
   used_places [] = 0
   used_places (p ∷ ps) = entries p + used_places ps
 
   -- the bytes that it takes
-  abbrev pub taken : Packet H → ℕ
+  abbrev pub taken : QueuedPacket H → ℕ
   taken p = p.padding + length p.bytes
 
-  abbrev pub used_room : List (Packet H) → ℕ
+  abbrev pub used_room : List (QueuedPacket H) → ℕ
   used_room [] = 0
   used_room (p ∷ ps) = taken p + used_room ps
 
@@ -77,7 +77,7 @@ module _ {H : Type 0} where
   appended q size header bytes =
       packets_in (q.packets ++ packet (padding_for q size) header bytes ∷ []) (start_of q) q.places q.room
 
-  abbrev pub unpadded_by : List (Packet H) → Packets H → Packets H
+  abbrev pub unpadded_by : List (QueuedPacket H) → Packets H → Packets H
   unpadded_by [] q = q
   unpadded_by (p ∷ ps) q =
       if p.padding == 0 then q
@@ -87,7 +87,7 @@ module _ {H : Type 0} where
   abbrev pub unpadded : Packets H → Packets H
   unpadded q = unpadded_by q.packets q
 
-  abbrev pub first_by : List (Packet H) → Option (H × List ℕ)
+  abbrev pub first_by : List (QueuedPacket H) → Option (H × List ℕ)
   first_by [] = None
   first_by (p ∷ ps) = Some (p.header, p.bytes)
 
@@ -95,7 +95,7 @@ module _ {H : Type 0} where
   abbrev pub first : Packets H → Option (H × List ℕ)
   first q = first_by q.packets
 
-  abbrev pub without_first_by : List (Packet H) → Packets H → Packets H
+  abbrev pub without_first_by : List (QueuedPacket H) → Packets H → Packets H
   without_first_by [] q = q
   without_first_by (p ∷ ps) q = packets_in ps ((q.start + p.padding + length p.bytes) % q.room) q.places q.room
 

@@ -11,6 +11,3 @@ pub use assembler::{Assembler, AssemblerIter, TooManyHolesError};
 pub use managed::ManagedSlice;
 pub use packet_buffer::{PacketBuffer, PacketMetadata};
 pub use ring_buffer::{Empty, Full, Resettable, RingBuffer};
-
-#[cfg(test)]
-mod tests;

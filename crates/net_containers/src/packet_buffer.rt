@@ -43,7 +43,7 @@ impl<H> PacketMetadata<H> {
 
 /// A queue of packets. The bytes of each lie unbroken in the storage, so padding is left where they wouldn't fit before its
 /// end.
-#[derive(Drop)]
+#[derive(Debug, Drop)]
 pub struct PacketBuffer<H> {
     metadata: RingBuffer<PacketMetadata<H>>,
     payload: RingBuffer<u8>,

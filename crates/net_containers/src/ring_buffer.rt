@@ -26,7 +26,7 @@ pub trait Resettable {
 
 /// A ring buffer. The elements that are queued lie behind one another from the read place on, and round the end of the
 /// storage; the free ones lie behind them.
-#[derive(Drop)]
+#[derive(Debug, Drop)]
 pub struct RingBuffer<T> {
     storage: Vec<T>,
     read_at: usize,

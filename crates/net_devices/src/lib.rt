@@ -6,8 +6,6 @@ mod device;
 pub mod laws;
 mod loopback;
 mod owned;
-#[cfg(test)]
-mod tests;
 
 pub use capabilities::{
     Checksum, ChecksumCapabilities, DeviceCapabilities, IPV4_FRAGMENT_PAYLOAD_ALIGNMENT, Medium,

@@ -5,8 +5,6 @@ mod duration;
 mod instant;
 pub mod laws;
 mod rand;
-#[cfg(test)]
-mod tests;
 mod text;
 
 pub use duration::Duration;

@@ -1,5 +1,7 @@
-use super::*;
-use net_time::Instant;
+use net_base::{
+    Checksum, ChecksumCapabilities, Device, DeviceCapabilities, IPV4_FRAGMENT_PAYLOAD_ALIGNMENT,
+    Instant, Loopback, Medium, PacketMeta, RxToken, TxToken,
+};
 use std::test::Fail;
 
 /// Sends the bytes, by a device that is known by its bound alone.

@@ -1,4 +1,4 @@
-use super::*;
+use net_base::{Duration, Instant, Rand, laws};
 use std::test::Fail;
 use std::time;
 
