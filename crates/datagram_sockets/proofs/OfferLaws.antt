@@ -1,6 +1,6 @@
 -- An offer that changes nothing.
 use Rattle.std.proofs.Common.{◌≡◌, ℕ, ◌+◌, ◌%◌, ◌==◌, List, [], ◌∷◌, refl, sym, ap, subst, Bool, true, false, if◌then◌else◌, Option, None, Some}
-use Rattle.net_base.specs.Packets.{Packet, Packets, packets_in, contents, unpadded, first}
+use Rattle.net_base.specs.Packets.{QueuedPacket, Packets, packets_in, contents, unpadded, first}
 use Rattle.socket_base.specs.Packet.{PacketValue}
 use Rattle.socket_base.specs.declared.offer.Offer as Answer
 use Rattle.datagram_sockets.specs.SocketValue.{SocketValue, settled}
@@ -13,7 +13,7 @@ pub true-false : true ≡ false → ⊥
 true-false is = cc
 
 module _ {H : Type 0} where
-  by_padding : (b : Bool) (p : Packet H) (ps : List (Packet H)) (start places room : ℕ) (q : Packets H) → contents q ≡ (p.header, p.bytes) ∷ contents (packets_in ps start places room) → q.places ≡ places → q.room ≡ room
+  by_padding : (b : Bool) (p : QueuedPacket H) (ps : List (QueuedPacket H)) (start places room : ℕ) (q : Packets H) → contents q ≡ (p.header, p.bytes) ∷ contents (packets_in ps start places room) → q.places ≡ places → q.room ≡ room
       → (contents (if b then q else packets_in (record { padding = 0; header = p.header; bytes = p.bytes } ∷ ps) start places room) ≡ contents q)
       × ((if b then q else packets_in (record { padding = 0; header = p.header; bytes = p.bytes } ∷ ps) start places room).places ≡ places)
       × ((if b then q else packets_in (record { padding = 0; header = p.header; bytes = p.bytes } ∷ ps) start places room).room ≡ room)
@@ -21,7 +21,7 @@ module _ {H : Type 0} where
   by_padding false p ps start places room q is at in_room = (sym is, refl, refl)
 
   -- a queue without padding holds the same datagrams
-  unpadded_in : (ps : List (Packet H)) (start places room : ℕ)
+  unpadded_in : (ps : List (QueuedPacket H)) (start places room : ℕ)
       → (contents (unpadded (packets_in ps start places room)) ≡ contents (packets_in ps start places room))
       × ((unpadded (packets_in ps start places room)).places ≡ places) × ((unpadded (packets_in ps start places room)).room ≡ room)
   unpadded_in [] start places room = (refl, refl, refl)

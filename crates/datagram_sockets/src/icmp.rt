@@ -92,7 +92,7 @@ struct Kept {
 }
 
 /// An ICMP socket: what it is bound to, and a queue for each way.
-#[derive(Drop)]
+#[derive(Debug, Drop)]
 pub struct Socket {
     endpoint: Endpoint,
     hop_limit: Option<u8>,

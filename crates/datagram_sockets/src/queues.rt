@@ -8,7 +8,7 @@ use net_base::PacketBuffer;
 use socket_base::PollAt;
 
 /// The datagrams that a socket received, and those that it is to send.
-#[derive(Drop)]
+#[derive(Debug, Drop)]
 pub struct Queues<H> {
     pub received: PacketBuffer<H>,
     pub queued: PacketBuffer<H>,

@@ -126,7 +126,7 @@ fn write_packet(buffer: &mut [u8], header: &IpRepr, payload: &[u8])
 }
 
 /// A raw socket: a family and a protocol that it is for, and a queue of packets for each way.
-#[derive(Drop)]
+#[derive(Debug, Drop)]
 pub struct Socket {
     ip_version: Option<IpVersion>,
     ip_protocol: Option<IpProtocol>,

@@ -58,7 +58,7 @@ const UNBOUND: IpListenEndpoint = IpListenEndpoint {
 };
 
 /// A UDP socket: the endpoint that it is bound to, and a queue for each way.
-#[derive(Drop)]
+#[derive(Debug, Drop)]
 pub struct Socket {
     endpoint: IpListenEndpoint,
     hop_limit: Option<u8>,

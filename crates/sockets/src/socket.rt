@@ -6,7 +6,7 @@ use datagram_sockets::{icmp, raw, udp};
 use socket_base::{Context, Offer, Packet, PollAt};
 
 /// A socket of any kind.
-#[derive(Drop)]
+#[derive(Debug, Drop)]
 pub enum Socket {
     Raw(raw::Socket),
     Icmp(icmp::Socket),
