@@ -88,7 +88,7 @@ fn a_datagram_is_read(rt: HostRuntime) -> Result<(), Fail> {
 #[test]
 fn a_datagram_is_lent(rt: HostRuntime) -> Result<(), Fail> {
     let mut socket = socket(&rt, 64)?;
-    assert!(rt; socket.recv() == Err(RecvError::Exhausted));
+    assert!(rt; matches!(socket.recv(), Err(RecvError::Exhausted)));
     arrives(&mut socket);
     let (bytes, metadata) = socket.recv()?;
     assert!(rt; bytes == b"abcdef".as_slice());
@@ -101,9 +101,9 @@ fn a_datagram_is_lent(rt: HostRuntime) -> Result<(), Fail> {
 fn a_lent_room_is_queued(rt: HostRuntime) -> Result<(), Fail> {
     let mut socket = socket(&rt, 6)?;
     let remote = to(IpAddress::v4(192, 168, 1, 2));
-    assert!(rt; socket.send(3, remote) == Err(SendError::Unaddressable));
+    assert!(rt; matches!(socket.send(3, remote), Err(SendError::Unaddressable)));
     assert!(rt; socket.bind(port(48896)).is_ok());
-    assert!(rt; socket.send(7, remote) == Err(SendError::BufferFull));
+    assert!(rt; matches!(socket.send(7, remote), Err(SendError::BufferFull)));
     socket.send(3, remote)?.copy_from_slice(b"abc");
     assert_eq!(rt; socket.send_queue(), 3);
     assert!(rt; socket.offer(&context()) == (Offer::Packet { changed: false }));
