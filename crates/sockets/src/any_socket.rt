@@ -9,7 +9,7 @@ ghost use Rattle.sockets.specs.contracts.socket.Socket.{the_row};
 use crate::socket::Socket;
 use datagram_sockets::{icmp, raw, udp};
 
-/// A socket of some kind, or of any.
+/// A socket of some kind.
 pub trait AnySocket: Sized {
     /// the socket as one of any kind
     ghost upcast_of: { Self → Any.Socket };
@@ -113,28 +113,6 @@ impl AnySocket for udp::Socket {
             Socket::Udp(socket) => Some(socket),
             _ => None,
         }
-    }
-
-    ghost given_back = { λ s. refl };
-}
-
-impl AnySocket for Socket {
-    ghost use Rattle.std.specs.Prelude.{refl};
-
-    ghost upcast_of = { λ s. s };
-
-    ghost downcast_of = { λ s. Some s };
-
-    fn upcast(self) -> Socket {
-        self
-    }
-
-    fn downcast(socket: &Socket) -> Option<&Socket> {
-        Some(socket)
-    }
-
-    fn downcast_mut(socket: &mut Socket) -> Option<&mut Socket> {
-        Some(socket)
     }
 
     ghost given_back = { λ s. refl };
