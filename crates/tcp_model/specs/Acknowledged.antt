@@ -1,8 +1,7 @@
 -- The acknowledgement and the window of an accepted segment (RFC 9293, 3.10.7.4, fifth): SND.UNA rises by so much, and so many
 -- bytes are queued before that.
 use Rattle.std.specs.Prelude.{ℕ, ◌+◌, ◌-◌, ◌*◌, ◌^◌, ◌==◌, nat_lt, not, ◌&&◌, ◌||◌, min, ℤ, Bool, true, false, if◌then◌else◌, List, length, Option, Some, None}
-use Rattle.ip_wire.specs.TcpControl.{TcpControl}
-use Rattle.ip_wire.specs.TcpControl.TheVariants as Control
+use Rattle.ip_wire.specs.Options.{capped}
 use Rattle.ip_wire.specs.TcpHeader.{TcpHeader}
 use Rattle.net_base.specs.Ring.{released}
 use Rattle.tcp_model.specs.declared.block.Block.{Block}
@@ -14,6 +13,7 @@ use Rattle.tcp_model.specs.Controls.{or_recent, is_fin}
 use Rattle.tcp_model.specs.Moments.{timeout_from, time_wait_from}
 use Rattle.tcp_model.specs.Offsets.{behind_by}
 use Rattle.tcp_model.specs.Reno as reno
+use Rattle.tcp_model.specs.Reno.{RenoValue}
 use Rattle.tcp_model.specs.RoundTrip as round_trip
 use Rattle.tcp_model.specs.RoundTrip.{RoundTripValue}
 use Rattle.tcp_model.specs.States.{is_closed, is_time_wait, owes_fin, after_ack, after_ack_of_fin}
@@ -79,10 +79,10 @@ acknowledged v by now = record v {
 
 -- THE WINDOW
 
--- what a window field means (RFC 7323, 2.3)
+-- what a window field means; the shift is at most 14 (RFC 7323, 2.3)
 abbrev pub scaled : Option ℕ → ℕ → ℕ
 scaled None field = field
-scaled (Some scale) field = field * 2 ^ scale
+scaled (Some scale) field = field * 2 ^ capped scale
 
 abbrev pub window_set : Block → TcpHeader → Block
 window_set b header = record b {
@@ -99,17 +99,17 @@ abbrev pub is_duplicate : Block → TcpHeader → ℕ → ℕ → Bool
 is_duplicate b header size by =
     ((by == 0) && (size == 0)) && (not (is_fin header.control) && ((scaled b.peer.scale header.window_len == b.peer.window) && not (b.sender.in_flight == 0)))
 
-abbrev pub with_duplicates : Block → ℕ → Block
-with_duplicates b count = record b { sender = record b.sender { duplicates = count } }
+-- the duplicates in a row, counted up to 4. `old` is the block as the segment found it.
+abbrev pub duplicates_after : Block → TcpHeader → ℕ → ℕ → ℕ
+duplicates_after old header size by = if is_duplicate old header size by then min (old.sender.duplicates + 1) 4 else 0
 
--- the third says that the segment at SND.UNA was lost, and it is to go again; each further one that a segment has left
-abbrev pub duplicate_counted : Block → ℕ → Block
-duplicate_counted b earlier =
-    if earlier == 2 then record b { sender = record b.sender { duplicates = 3; resend = true }; reno = reno.lost b.reno b.sender.in_flight }
-    else if nat_lt earlier 2 then with_duplicates b (earlier + 1)
-    else record b { sender = record b.sender { duplicates = 4 }; reno = reno.inflated b.reno }
+-- the third says that a segment was lost, each further one that a segment has left
+abbrev pub reno_counted : RenoValue → ℕ → ℕ → RenoValue
+reno_counted r count flight = if count == 3 then reno.lost r flight else if count == 4 then reno.inflated r else r
 
--- `old` is the block as the segment found it
-abbrev pub counted : Block → Block → TcpHeader → ℕ → ℕ → Block
-counted b old header size by =
-    if is_duplicate old header size by then duplicate_counted b old.sender.duplicates else with_duplicates b 0
+-- at the third the segment at SND.UNA is to go again
+abbrev pub counted : Block → ℕ → Block
+counted b count = record b {
+  sender = record b.sender { duplicates = count; resend = b.sender.resend || (count == 3) };
+  reno = reno_counted b.reno count b.sender.in_flight;
+}

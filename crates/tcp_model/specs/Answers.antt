@@ -1,5 +1,5 @@
 -- What answers a segment, and which acknowledgement becomes due (RFC 9293, 3.8.6.3 and 3.10.7.4; RFC 5961, 5; RFC 2018).
-use Rattle.std.specs.Prelude.{ℕ, ◌+◌, ◌==◌, nat_le, nat_lt, not, ◌&&◌, ℤ, Bool, true, false, if◌then◌else◌, List, [], ◌∷◌, length, Option, Some, None}
+use Rattle.std.specs.Prelude.{ℕ, ◌+◌, ◌==◌, nat_le, nat_lt, not, ◌&&◌, ◌||◌, ℤ, Bool, true, false, if◌then◌else◌, List, [], ◌∷◌, length, Option, Some, None}
 use Rattle.held_bytes.specs.Held.{runs_of}
 use Rattle.ip_wire.specs.IpRepr.{IpRepr}
 use Rattle.ip_wire.specs.SeqNumber.{SeqNumber}
@@ -53,16 +53,18 @@ abbrev pub sooner : Option ℤ → ℤ → ℤ
 sooner None moment = moment
 sooner (Some other) moment = earlier other moment
 
-abbrev pub ack_due_at : Block → ℤ → Bool → Block
-ack_due_at b moment text_unacked = record b { timers = record b.timers { ack_at = Some moment; text_unacked = text_unacked } }
+-- when an acknowledgement is due after a segment: at once for a FIN, or a second one with text, and after the delay for a first
+abbrev pub ack_moment_after : Block → TcpHeader → ℕ → ℤ → Option ℤ
+ack_moment_after b header size now =
+    if is_fin header.control then Some now
+    else if size == 0 then b.timers.ack_at
+    else if b.timers.text_unacked then Some now
+    else Some (sooner b.timers.ack_at (delayed now b.settings.ack_delay))
 
--- a FIN, or a second segment with text, makes an acknowledgement due at once, a first such segment after the delay
 abbrev pub ack_due : Block → TcpHeader → ℕ → ℤ → Block
-ack_due b header size now =
-    if is_fin header.control then ack_due_at b now b.timers.text_unacked
-    else if size == 0 then b
-    else if b.timers.text_unacked then ack_due_at b now true
-    else ack_due_at b (sooner b.timers.ack_at (delayed now b.settings.ack_delay)) true
+ack_due b header size now = record b {
+  timers = record b.timers { ack_at = ack_moment_after b header size now; text_unacked = b.timers.text_unacked || not (size == 0) };
+}
 
 -- HELD
 

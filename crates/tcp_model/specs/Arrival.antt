@@ -6,7 +6,7 @@ use Rattle.socket_base.specs.Context.{ContextValue}
 use Rattle.tcp_model.specs.declared.block.Block.{Block}
 use Rattle.tcp_model.specs.declared.state.State.{State}
 use Rattle.tcp_model.specs.declared.state.State.TheVariants as In
-use Rattle.tcp_model.specs.Acknowledged.{acknowledged, window_set, counted, in_state}
+use Rattle.tcp_model.specs.Acknowledged.{acknowledged, window_set, counted, duplicates_after}
 use Rattle.tcp_model.specs.Answers.{drawn, answer_for}
 use Rattle.tcp_model.specs.Checks.{Check, acknowledgement_check, is_in_window, taken_down}
 use Rattle.tcp_model.specs.Checks.Check.{Passes, Drops, Draws, Resets}
@@ -21,11 +21,13 @@ use Rattle.tcp_model.specs.Timeout.{timeout_restarted}
 use Rattle.tcp_model.specs.Value.{TcpValue, Arrived, with_block, dropped, answered_with, unoffered, queued_in, free_in}
 
 -- a FIN that comes again in TIME-WAIT restarts it
+abbrev pub time_wait_after : Block → TcpHeader → ℤ → Option ℤ
+time_wait_after b header now =
+    if is_time_wait b.state && is_fin header.control then Some (time_wait_from now) else b.timers.time_wait_ends
+
 abbrev pub waiting_anew : TcpValue → TcpHeader → ℤ → TcpValue
 waiting_anew v header now =
-    if is_time_wait v.block.state && is_fin header.control
-    then with_block v (record v.block { timers = record v.block.timers { time_wait_ends = Some (time_wait_from now) } })
-    else v
+    with_block v (record v.block { timers = record v.block.timers { time_wait_ends = time_wait_after v.block header now } })
 
 -- outside the window: an answer may be drawn, but for a reset
 abbrev pub outside : ContextValue → TcpValue → IpRepr → TcpHeader → Arrived
@@ -48,7 +50,7 @@ abbrev pub continued : ContextValue → Block → TcpValue → IpRepr → TcpHea
 continued cx old v ip header bytes by =
     if is_closed v.block.state then dropped v
     else finished cx v.block
-    (with_text (with_block v (counted (window_set v.block header) old header (length bytes) by)) header bytes)
+    (with_text (with_block v (counted (window_set v.block header) (duplicates_after old header (length bytes) by))) header bytes)
     ip header (length bytes)
 
 -- an accepted segment; where it ends LAST-ACK nothing more is done

@@ -1,6 +1,5 @@
 -- What a segment's control and options say.
 use Rattle.std.specs.Prelude.{◌≡◌, ℕ, ◌==◌, Bool, true, false, Option, Some, None}
-use Rattle.ip_wire.specs.Options.{capped}
 use Rattle.ip_wire.specs.TcpControl.{TcpControl}
 use Rattle.ip_wire.specs.TcpControl.TheVariants as Control
 use Rattle.ip_wire.specs.TcpTimestampRepr.{TcpTimestampRepr}
@@ -26,10 +25,6 @@ or_mss (Some mss) = mss
 abbrev pub is_zero : Option ℕ → Bool
 is_zero None = false
 is_zero (Some n) = n == 0
-
-abbrev pub capped_scale : Option ℕ → Option ℕ
-capped_scale None = None
-capped_scale (Some scale) = Some (capped scale)
 
 -- the timestamp that came last
 abbrev pub or_recent : Option TcpTimestampRepr → ℕ → ℕ

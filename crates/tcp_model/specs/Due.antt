@@ -8,7 +8,7 @@ use Rattle.tcp_model.specs.declared.block.Block.{Block}
 use Rattle.tcp_model.specs.declared.block.EndpointPair.{EndpointPair}
 use Rattle.tcp_model.specs.Moments.{earlier}
 use Rattle.tcp_model.specs.Probing.{is_probe_unset, probe_moment}
-use Rattle.tcp_model.specs.Rules.{time_wait_end, owes_syn, has_text, updates_window, keep_alive_moment}
+use Rattle.tcp_model.specs.Rules.{time_wait_end, owes_syn, resends, ack_moment, has_text, updates_window, keep_alive_moment}
 use Rattle.tcp_model.specs.States.{is_closed}
 use Rattle.tcp_model.specs.Timeout.{timeout_end, is_timeout_unset}
 use Rattle.tcp_model.specs.Value.{TcpValue, queued_in, window_of}
@@ -17,7 +17,7 @@ use Rattle.tcp_model.specs.Value.{TcpValue, queued_in, window_of}
 abbrev pub wishes : Block → AddressPair → ℕ → Ring ℕ → ℕ → ℕ → List Bool
 wishes b addresses ip_mtu ring queued window =
     owes_syn b
-    ∷ b.sender.resend
+    ∷ resends b
     ∷ has_text b addresses ip_mtu ring
     ∷ updates_window b window
     ∷ is_timeout_unset b queued
@@ -31,7 +31,7 @@ moments b queued =
     ∷ timeout_end b queued
     ∷ b.timers.retransmit_at
     ∷ probe_moment b queued
-    ∷ b.timers.ack_at
+    ∷ ack_moment b
     ∷ keep_alive_moment b
     ∷ []
 

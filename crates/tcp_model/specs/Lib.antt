@@ -22,5 +22,6 @@ pub mod Rules
 pub mod Offers
 pub mod Settled
 pub mod Due
+pub mod Quiet
 pub mod Examples
 pub mod Runs

@@ -45,7 +45,15 @@ pair_in ip header = record { addresses = addresses_in ip; local_port = header.ds
 -- the header of a packet of a connection, for a payload of this length
 abbrev pub header_for : AddressPair → ℕ → ℕ → IpRepr
 header_for (Pair.Ipv4 local remote) hops len =
-    Ip.Ipv4 (record { src_addr = local; dst_addr = remote; next_header = Protocol.Tcp; payload_len = len; hop_limit = hops })
+    Ip.Ipv4 (record {
+      src_addr = local;
+      dst_addr = remote;
+      next_header = Protocol.Tcp;
+      payload_len = len;
+      hop_limit = hops;
+      ident = 0;
+      dont_frag = false;
+    })
 header_for (Pair.Ipv6 local remote) hops len =
     Ip.Ipv6 (record { src_addr = local; dst_addr = remote; next_header = Protocol.Tcp; payload_len = len; hop_limit = hops })
 

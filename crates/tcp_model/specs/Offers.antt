@@ -19,7 +19,7 @@ use Rattle.tcp_model.specs.Moments.{is_due}
 use Rattle.tcp_model.specs.Names.{header_for}
 use Rattle.tcp_model.specs.Offsets.{behind_by}
 use Rattle.tcp_model.specs.Probing.{probe_started, probe_moment}
-use Rattle.tcp_model.specs.Rules.{Choice, time_wait_end, owes_syn, has_text, text_choice, resend_choice, probe_choice, control_for, updates_window, keep_alive_moment, backed_off_now}
+use Rattle.tcp_model.specs.Rules.{Choice, time_wait_end, owes_syn, resends, ack_moment, has_text, text_choice, resend_choice, probe_choice, control_for, updates_window, keep_alive_moment, backed_off_now}
 use Rattle.tcp_model.specs.Segments.{segment, ack_segment, syn_segment, reset_segment, keep_alive_segment, hops_of}
 use Rattle.tcp_model.specs.States.{is_closed}
 use Rattle.tcp_model.specs.Timeout.{timeout_end, timeout_started, timed_out}
@@ -73,7 +73,7 @@ offer_keep_alive cx v pair = offer_segment Kind.KeepAlive cx v pair (keep_alive_
 abbrev pub last_rules : ContextValue → TcpValue → EndpointPair → Offered TcpValue
 last_rules cx v pair =
     if is_due cx.moment (probe_moment v.block (queued_in v)) then offer_choice Kind.Probe cx v pair probe_choice
-    else if is_due cx.moment v.block.timers.ack_at then offer_ack Kind.Ack cx v pair
+    else if is_due cx.moment (ack_moment v.block) then offer_ack Kind.Ack cx v pair
     else if updates_window v.block (window_of v) then offer_ack Kind.WindowUpdate cx v pair
     else if is_due cx.moment (keep_alive_moment v.block) then offer_keep_alive cx v pair
     else silent false v
@@ -82,7 +82,7 @@ last_rules cx v pair =
 abbrev pub first_rules : ContextValue → TcpValue → EndpointPair → Offered TcpValue
 first_rules cx v pair =
     if owes_syn v.block then offer_syn cx v pair
-    else if v.block.sender.resend then offer_choice Kind.FastRetransmission cx v pair (resend_choice v.block pair.addresses cx.ip_mtu v.queued)
+    else if resends v.block then offer_choice Kind.FastRetransmission cx v pair (resend_choice v.block pair.addresses cx.ip_mtu v.queued)
     else if has_text v.block pair.addresses cx.ip_mtu v.queued then offer_choice Kind.Text cx v pair (text_choice v.block pair.addresses cx.ip_mtu v.queued)
     else last_rules cx (with_block v (probe_started cx.moment (queued_in v) v.block)) pair
 

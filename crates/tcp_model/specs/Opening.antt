@@ -15,7 +15,7 @@ use Rattle.tcp_model.specs.declared.block.Peer.{Peer}
 use Rattle.tcp_model.specs.declared.state.State.TheVariants as In
 use Rattle.tcp_model.specs.Acknowledged.{una_moved}
 use Rattle.tcp_model.specs.Blocks.{fresh_sender}
-use Rattle.tcp_model.specs.Controls.{is_syn, is_rst, or_mss, capped_scale, or_recent}
+use Rattle.tcp_model.specs.Controls.{is_syn, is_rst, or_mss, or_recent}
 use Rattle.tcp_model.specs.Names.{pair_in}
 use Rattle.tcp_model.specs.Offsets.{behind_by}
 use Rattle.tcp_model.specs.Reno.{with_mss}
@@ -28,7 +28,7 @@ abbrev pub peer_of : TcpHeader → Peer
 peer_of header = record {
   window = header.window_len;
   mss = or_mss header.options.max_seg_size;
-  scale = capped_scale header.options.window_scale;
+  scale = header.options.window_scale;
   sack = header.options.sack_permitted;
   timestamps = is_some header.options.timestamp;
   recent = or_recent header.options.timestamp 0;

@@ -87,7 +87,11 @@ abbrev pub has_text : Block → AddressPair → ℕ → Ring ℕ → Bool
 has_text b addresses ip_mtu queued =
     sends_choice b (length queued.queue) (size_limit b addresses ip_mtu) (text_choice b addresses ip_mtu queued)
 
--- the segment at SND.UNA again: no window limits it
+-- the third duplicate came: the segment at SND.UNA is to go again (RFC 5681, 3.2)
+abbrev pub resends : Block → Bool
+resends b = sends_text b.state && b.sender.resend
+
+-- no window limits it
 abbrev pub first_text : Block → ℕ → ℕ → Choice
 first_text b queued len = record { place = 0; len = len; fin = fin_goes b queued len }
 
@@ -106,7 +110,11 @@ control_for c queued =
     else if not (c.len == 0) && (c.place + c.len == queued) then Control.Psh
     else Control.None
 
--- WINDOW UPDATE AND KEEP-ALIVE
+-- ACKNOWLEDGEMENT, WINDOW UPDATE AND KEEP-ALIVE
+
+-- when an acknowledgement is due, where there is something to acknowledge (3.8.6.3)
+abbrev pub ack_moment : Block → Option ℤ
+ack_moment b = if b.receiver.took_syn then b.timers.ack_at else None
 
 -- the window field would be at least twice what was sent last (3.8.6.2.2)
 abbrev pub updates_window : Block → ℕ → Bool

@@ -1,27 +1,28 @@
 -- What an offer is told. A segment that was sent is recorded; one that wasn't leaves all as it is.
-use Rattle.std.specs.Prelude.{ℕ, ◌+◌, ◌==◌, nat_lt, not, ◌&&◌, ℤ, Bool, true, false, if◌then◌else◌, Option, Some, None, is_some}
+use Rattle.std.specs.Prelude.{ℕ, ◌+◌, ◌==◌, nat_lt, max, not, ◌&&◌, ℤ, Bool, true, false, if◌then◌else◌, Option, Some, None, is_some}
 use Rattle.ip_wire.specs.Control.{control_len}
 use Rattle.ip_wire.specs.Seq.{distance_of}
 use Rattle.tcp_model.specs.declared.block.Block.{Block}
 use Rattle.tcp_model.specs.declared.offer.OfferKind.{OfferKind}
 use Rattle.tcp_model.specs.declared.offer.OfferKind.TheVariants as Kind
 use Rattle.tcp_model.specs.declared.offer.OpenOffer.{OpenOffer}
-use Rattle.tcp_model.specs.Answers.{ack_recorded}
 use Rattle.tcp_model.specs.Blocks.{forgotten}
 use Rattle.tcp_model.specs.Moments.{later_by, timeout_from}
 use Rattle.tcp_model.specs.Probing.{probe_kept, with_probe_at}
 use Rattle.tcp_model.specs.RoundTrip as round_trip
 use Rattle.tcp_model.specs.Value.{TcpValue, with_block, unoffered, queued_in}
 
--- its window field, and its acknowledgement, if it has one
-abbrev pub field_recorded : Block → OpenOffer → Block
-field_recorded b o =
-    if is_some o.segment.ack_number then ack_recorded b o.segment.window_len
-    else record b { receiver = record b.receiver { advertised = o.segment.window_len } }
-
--- the next keep-alive is counted from each segment (3.8.4)
+-- Its window field is recorded, and its acknowledgement, if it has one: none is due any more. The next keep-alive is counted from
+-- each segment (3.8.4).
 abbrev pub recorded : Block → OpenOffer → Block
-recorded b o = record (field_recorded b o) { settings = record b.settings { keep_alive_at = later_by o.moment b.settings.keep_alive } }
+recorded b o = record b {
+  receiver = record b.receiver { advertised = o.segment.window_len };
+  timers = record b.timers {
+    ack_at = if is_some o.segment.ack_number then None else b.timers.ack_at;
+    text_unacked = not (is_some o.segment.ack_number) && b.timers.text_unacked;
+  };
+  settings = record b.settings { keep_alive_at = later_by o.moment b.settings.keep_alive };
+}
 
 -- how far past SND.UNA the segment ends
 abbrev pub end_of : Block → OpenOffer → ℕ
@@ -29,17 +30,17 @@ end_of b o = distance_of b.sender.una o.segment.seq_number + (o.len + control_le
 
 -- SND.NXT moves past the segment, if that is higher; then its round trip is timed, if none is
 abbrev pub nxt_moved : Block → ℕ → ℤ → Block
-nxt_moved b end now =
-    if nat_lt b.sender.in_flight end
-    then record b { sender = record b.sender { in_flight = end }; round_trip = round_trip.timing b.round_trip end now }
-    else b
+nxt_moved b end now = record b {
+  sender = record b.sender { in_flight = max b.sender.in_flight end };
+  round_trip = if nat_lt b.sender.in_flight end then round_trip.timing b.round_trip end now else b.round_trip;
+}
 
+-- the retransmission timer runs from now, if it doesn't yet (RFC 6298, 5.1)
 abbrev pub timer_started : Block → ℤ → Block
 timer_started b now =
-    if is_some b.timers.retransmit_at then b
-    else record b { timers = record b.timers { retransmit_at = Some (timeout_from now b.round_trip) } }
+    record b { timers = record b.timers { retransmit_at = if is_some b.timers.retransmit_at then b.timers.retransmit_at else Some (timeout_from now b.round_trip) } }
 
--- a segment from the send queue, or a SYN, went: the retransmission timer runs (RFC 6298, 5.1)
+-- a segment from the send queue, or a SYN, went
 abbrev pub went : Block → OpenOffer → ℕ → Block
 went b o queued = probe_kept (timer_started (nxt_moved b (end_of b o) o.moment) o.moment) queued
 

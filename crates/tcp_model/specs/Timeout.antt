@@ -31,7 +31,8 @@ abbrev pub is_timeout_unset : Block → ℕ → Bool
 is_timeout_unset b queued = timeout_runs b queued && is_none b.timers.timeout_since
 
 abbrev pub timeout_started : ℤ → ℕ → Block → Block
-timeout_started now queued b = if is_timeout_unset b queued then with_timeout_since b (Some now) else b
+timeout_started now queued b =
+    with_timeout_since b (if is_timeout_unset b queued then Some now else b.timers.timeout_since)
 
 abbrev pub end_by : Option ℤ → Option ℕ → Option ℤ
 end_by (Some since) (Some timeout) = Some (later since timeout)

@@ -4,6 +4,7 @@
 mod block;
 mod error;
 pub mod examples;
+pub mod laws;
 mod offer;
 mod reno;
 mod round_trip;

@@ -1,0 +1,40 @@
+//! Laws of the rules.
+
+ghost use Rattle.std.specs.Prelude.{◌≡◌, ◌+◌, ◌^◌, ◌≤◌, ℕ, true, false};
+ghost use Rattle.ip_wire.specs.SeqNumber.{SeqNumber};
+ghost use Rattle.socket_base.specs.Context.{ContextValue};
+ghost use Rattle.socket_base.specs.Offers.{IsBefore, offered_as};
+ghost use Rattle.socket_base.specs.declared.poll_at.Offer.TheVariants as Answer;
+ghost use Rattle.tcp_law.specs.Numbers.{wire, nearest};
+ghost use Rattle.tcp_model.specs.declared.block.EndpointPair.{EndpointPair};
+ghost use Rattle.tcp_model.specs.Due.{poll_open, poll_of};
+ghost use Rattle.tcp_model.specs.Offers.{offer_of};
+ghost use Rattle.tcp_model.specs.Offsets.{past_by, before_by};
+ghost use Rattle.tcp_model.specs.Quiet.{IsQuiet};
+ghost use Rattle.tcp_model.specs.Settled.{settled};
+ghost use Rattle.tcp_model.specs.Value.{TcpValue};
+
+/// Silence: before the due moment an offer is silent and changes nothing but an open offer, so the due moment stays the same at each
+/// later moment before it; and it depends on nothing of the context but the longest packet.
+#[tactic(auto, using(crate::proofs::Waits::silence, crate::proofs::Waits::silence_stays))]
+pub fn nothing_is_offered_before_the_due_moment()
+    ensures silent { (cx : ContextValue) (v : TcpValue) → IsBefore cx.moment (poll_of cx.ip_mtu v)
+        → offer_of cx v ≡ offered_as (Answer.Silent false) (settled false v) }
+    ensures stays { (cx : ContextValue) (v : TcpValue) → IsBefore cx.moment (poll_of cx.ip_mtu v)
+        → poll_of cx.ip_mtu (offer_of cx v).socket ≡ poll_of cx.ip_mtu v }
+{}
+
+/// Of each rule: before the due moment it doesn't apply, and it sets no moment.
+#[tactic(auto, using(crate::proofs::Waits::is_quiet))]
+pub fn no_rule_applies_before_the_due_moment()
+    ensures quiet { (cx : ContextValue) (v : TcpValue) (pair : EndpointPair)
+        → IsBefore cx.moment (poll_open cx.ip_mtu v pair) → IsQuiet cx v pair }
+{}
+
+/// What the definitions read of a number, so far past the reference or so far before it, is the position nearest to the reference,
+/// whatever positions have these numbers.
+#[tactic(auto, using(crate::proofs::Positions::offsets_nearest))]
+pub fn offsets_are_positions()
+    ensures positions { (r : ℕ) (reference number : SeqNumber) → 2 ^ 31 ≤ r → reference.0 ≡ wire r
+        → nearest r number.0 + before_by reference number ≡ r + past_by reference number }
+{}
