@@ -7,19 +7,12 @@
 //! as `Rattle.control_wire.specs.Icmpv4Header.{Icmpv4Header}`.
 #![tactic(auto)]
 
-pub use icmpv4::laws::{
-    icmpv4_fits, icmpv4_no_longer, icmpv4_normal, icmpv4_reads_back, icmpv4_spelled,
-};
 pub use icmpv4::{
     Icmpv4DstUnreachable, Icmpv4Header, Icmpv4Message, Icmpv4Packet, Icmpv4PacketMut, Icmpv4Repr,
-    Icmpv4TimeExceeded, field as icmpv4_field,
-};
-pub use icmpv6::laws::{
-    icmpv6_fits, icmpv6_no_longer, icmpv6_normal, icmpv6_reads_back, icmpv6_spelled,
-    ndisc_no_longer, ndisc_normal, ndisc_reads_back, ndisc_spelled,
+    Icmpv4TimeExceeded, field as icmpv4_field, laws as icmpv4_laws,
 };
 pub use icmpv6::{
     Icmpv6DstUnreachable, Icmpv6Header, Icmpv6Message, Icmpv6Packet, Icmpv6PacketMut,
     Icmpv6ParamProblem, Icmpv6Repr, Icmpv6TimeExceeded, NdiscNeighborFlags, NdiscRepr,
-    field as icmpv6_field,
+    field as icmpv6_field, laws as icmpv6_laws,
 };

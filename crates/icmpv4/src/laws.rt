@@ -1,8 +1,30 @@
-//! Laws of the format.
-ghost use Rattle.std.specs.Prelude.{◌≡◌, ◌+◌, ◌≤◌, ℕ, Bool, IsTrue, List, length};
+//! Laws of the format: where its fields stand, what equality means, and what is read back.
+ghost use Rattle.std.specs.Prelude.{◌≡◌, ◌↔◌, ◌+◌, ◌≤◌, ℕ, Bool, IsTrue, List, length};
 ghost use Rattle.ip_address.specs.Fields.{IsBytes};
 ghost use Rattle.icmpv4.specs.Icmpv4.{IsIcmpv4, IsValue, Fits, free_fields, spelling, written, header_len, normal};
 ghost use Rattle.icmpv4.specs.declared.header.Icmpv4Header.{Icmpv4Header};
+ghost use Rattle.icmpv4.specs.declared.message.Icmpv4DstUnreachable.{Icmpv4DstUnreachable};
+ghost use Rattle.icmpv4.specs.declared.message.Icmpv4Message.{Icmpv4Message};
+ghost use Rattle.icmpv4.specs.declared.message.Icmpv4TimeExceeded.{Icmpv4TimeExceeded};
+
+use crate::field::{CHECKSUM, CODE, DATA, ECHO_IDENT, ECHO_SEQNO, HEADER_END, TYPE};
+use crate::message::{Icmpv4DstUnreachable, Icmpv4Message, Icmpv4TimeExceeded};
+
+/// Law: where the fields of a message stand (RFC 792).
+pub fn icmpv4_fields()
+    ensures kind { (TYPE ≡ 0) × (CODE ≡ 1) }
+    ensures checksum { (CHECKSUM.start ≡ 2) × (CHECKSUM.end ≡ 4) }
+    ensures echo_ident { (ECHO_IDENT.start ≡ 4) × (ECHO_IDENT.end ≡ 6) }
+    ensures echo_seq_no { (ECHO_SEQNO.start ≡ 6) × (ECHO_SEQNO.end ≡ 8) }
+    ensures header { (HEADER_END ≡ 8) × (DATA.start ≡ 8) }
+{}
+
+/// Law: `==` says of two types, and of two reasons, whether they are the same.
+pub fn icmpv4_equated()
+    ensures messages { (a b : Icmpv4Message) → IsTrue (⟦<Icmpv4Message as PartialEq>⟧.eq a b) ↔ (a ≡ b) }
+    ensures unreachable { (a b : Icmpv4DstUnreachable) → IsTrue (⟦<Icmpv4DstUnreachable as PartialEq>⟧.eq a b) ↔ (a ≡ b) }
+    ensures exceeded { (a b : Icmpv4TimeExceeded) → IsTrue (⟦<Icmpv4TimeExceeded as PartialEq>⟧.eq a b) ↔ (a ≡ b) }
+{}
 
 /// Law: a message is spelled by its value, with what a value doesn't keep, and its data.
 pub fn icmpv4_spelled()

@@ -8,8 +8,6 @@ mod message;
 mod packet;
 mod packet_mut;
 mod repr;
-#[cfg(test)]
-mod tests;
 
 pub use header::Icmpv4Header;
 pub use message::{Icmpv4DstUnreachable, Icmpv4Message, Icmpv4TimeExceeded};

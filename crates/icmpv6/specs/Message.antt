@@ -1,5 +1,5 @@
 -- Types of ICMPv6 messages (IANA, "ICMPv6 type Numbers").
-use Rattle.std.specs.Prelude.{ℕ, ◌==◌, if◌then◌else◌}
+use Rattle.std.specs.Prelude.{ℕ, Bool, ◌==◌, ◌&&◌, nat_le, if◌then◌else◌}
 use Rattle.icmpv6.specs.declared.message.Icmpv6Message.{Icmpv6Message}
 use Rattle.icmpv6.specs.declared.message.Icmpv6Message.TheVariants as Message
 
@@ -45,14 +45,10 @@ abbrev pub IsKnown : Icmpv6Message → Type 0
 IsKnown (Message.Unknown n) = ⊥
 IsKnown _ = Unit {0}
 
--- a message of neighbour discovery (RFC 4861, section 4)
-abbrev pub IsNeighbor : Icmpv6Message → Type 0
-IsNeighbor Message.RouterSolicit = Unit {0}
-IsNeighbor Message.RouterAdvert = Unit {0}
-IsNeighbor Message.NeighborSolicit = Unit {0}
-IsNeighbor Message.NeighborAdvert = Unit {0}
-IsNeighbor Message.Redirect = Unit {0}
-IsNeighbor _ = ⊥
+-- the types of neighbour discovery: router and neighbour solicitations and advertisements, and redirects (RFC 4861,
+-- section 4)
+abbrev pub is_neighbor_number : ℕ → Bool
+is_neighbor_number n = nat_le 133 n && nat_le n 137
 
 -- how many bytes stand before what varies in length: type, code, checksum and four bytes (RFC 4443, sections 3
 -- and 4); in messages of neighbour discovery (RFC 4861, section 4) and in queries for listeners (RFC 3810,

@@ -1,10 +1,54 @@
-//! Laws of the format.
-ghost use Rattle.std.specs.Prelude.{◌≡◌, ℕ, ◌+◌, ◌≤◌, Bool, IsTrue, List, length, slice_range};
+//! Laws of the format: where its fields stand, what equality means, and what is read back.
+ghost use Rattle.std.specs.Prelude.{◌≡◌, ◌↔◌, true, false, ℕ, ◌+◌, ◌≤◌, Bool, IsTrue, List, length, slice_range};
 ghost use Rattle.ip_address.specs.Fields.{be16, IsBytes};
 ghost use Rattle.ip_address.specs.declared.ipv6.Ipv6Address.{Ipv6Address};
 ghost use Rattle.icmpv6.specs.Icmpv6.{MessageValue, IsIcmpv6, IsValue, Fits, CanCarry, KeepsAll, carried_in, free_in, header_len, normal, spelling, written};
 ghost use Rattle.icmpv6.specs.Ndisc as Neighbor;
 ghost use Rattle.icmpv6.specs.Ndisc.{NeighborMessage, IsNdisc};
+ghost use Rattle.icmpv6.specs.declared.message.Icmpv6Message.{Icmpv6Message};
+ghost use Rattle.icmpv6.specs.declared.ndisc_flags.NdiscNeighborFlags.{NdiscNeighborFlags};
+ghost use Rattle.icmpv6.specs.declared.reason.Icmpv6DstUnreachable.{Icmpv6DstUnreachable};
+ghost use Rattle.icmpv6.specs.declared.reason.Icmpv6ParamProblem.{Icmpv6ParamProblem};
+ghost use Rattle.icmpv6.specs.declared.reason.Icmpv6TimeExceeded.{Icmpv6TimeExceeded};
+
+use crate::field::{
+    CHECKSUM, CODE, ECHO_IDENT, ECHO_SEQNO, HEADER_END, MTU, ND_FLAGS, POINTER, TARGET_ADDR, TYPE,
+    UNUSED,
+};
+use crate::message::Icmpv6Message;
+use crate::ndisc_flags::NdiscNeighborFlags;
+use crate::reason::{Icmpv6DstUnreachable, Icmpv6ParamProblem, Icmpv6TimeExceeded};
+
+/// Law: where the fields of a message stand (RFC 4443, sections 2.1, 3 and 4; RFC 4861, sections 4.3
+/// and 4.4).
+pub fn icmpv6_fields()
+    ensures kind { (TYPE ≡ 0) × (CODE ≡ 1) }
+    ensures checksum { (CHECKSUM.start ≡ 2) × (CHECKSUM.end ≡ 4) }
+    ensures unused { (UNUSED.start ≡ 4) × (UNUSED.end ≡ 8) }
+    ensures mtu { (MTU.start ≡ 4) × (MTU.end ≡ 8) }
+    ensures pointer { (POINTER.start ≡ 4) × (POINTER.end ≡ 8) }
+    ensures echo_ident { (ECHO_IDENT.start ≡ 4) × (ECHO_IDENT.end ≡ 6) }
+    ensures echo_seq_no { (ECHO_SEQNO.start ≡ 6) × (ECHO_SEQNO.end ≡ 8) }
+    ensures flags { ND_FLAGS ≡ 4 }
+    ensures target { (TARGET_ADDR.start ≡ 8) × (TARGET_ADDR.end ≡ 24) }
+    ensures header { HEADER_END ≡ 8 }
+{}
+
+/// Law: each named flag of a neighbour advertisement is one alone, and `==` says of two sets of flags whether they are the same.
+pub fn ndisc_flags()
+    ensures router { NdiscNeighborFlags.ROUTER ≡ record { router = true; solicited = false; overrides = false } }
+    ensures solicited { NdiscNeighborFlags.SOLICITED ≡ record { router = false; solicited = true; overrides = false } }
+    ensures overrides { NdiscNeighborFlags.OVERRIDE ≡ record { router = false; solicited = false; overrides = true } }
+    ensures equated { (a b : NdiscNeighborFlags) → IsTrue (⟦<NdiscNeighborFlags as PartialEq>⟧.eq a b) ↔ (a ≡ b) }
+{}
+
+/// Law: `==` says of two types, and of two reasons, whether they are the same.
+pub fn icmpv6_equated()
+    ensures messages { (a b : Icmpv6Message) → IsTrue (⟦<Icmpv6Message as PartialEq>⟧.eq a b) ↔ (a ≡ b) }
+    ensures unreachable { (a b : Icmpv6DstUnreachable) → IsTrue (⟦<Icmpv6DstUnreachable as PartialEq>⟧.eq a b) ↔ (a ≡ b) }
+    ensures problem { (a b : Icmpv6ParamProblem) → IsTrue (⟦<Icmpv6ParamProblem as PartialEq>⟧.eq a b) ↔ (a ≡ b) }
+    ensures exceeded { (a b : Icmpv6TimeExceeded) → IsTrue (⟦<Icmpv6TimeExceeded as PartialEq>⟧.eq a b) ↔ (a ≡ b) }
+{}
 
 /// Law: an error or echo message is spelled by what it says and carries, with the fields that a value
 /// doesn't keep.

@@ -9,14 +9,10 @@ mod message;
 mod ndisc;
 mod ndisc_flags;
 mod ndisc_option;
-#[cfg(test)]
-mod ndisc_tests;
 mod packet;
 mod packet_mut;
 mod reason;
 mod repr;
-#[cfg(test)]
-mod tests;
 
 pub use header::Icmpv6Header;
 pub use message::Icmpv6Message;

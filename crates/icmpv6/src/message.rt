@@ -1,6 +1,6 @@
 //! What a message is for.
 ghost use Rattle.std.specs.Prelude.{◌≡◌, ◌<◌, ◌↔◌, IsTrue};
-ghost use Rattle.icmpv6.specs.Message.{message_number, message_of, header_len_of, IsKnown, IsNeighbor};
+ghost use Rattle.icmpv6.specs.Message.{message_number, message_of, header_len_of, IsKnown, is_neighbor_number};
 
 /// What a message is for, by its type.
 #[derive(Clone, Copy, Debug, PartialEq, Eq, PartialOrd, Ord, Hash)]
@@ -33,9 +33,10 @@ impl Icmpv6Message {
         u8::from(*self) < 0x80
     }
 
-    /// Whether this is a message of neighbour discovery.
+    /// Whether this is a message of neighbour discovery, whatever it is called by: `Unknown(135)` is a
+    /// neighbour solicitation too.
     pub const fn is_ndisc(&self) -> bool
-        ensures { IsTrue result ↔ IsNeighbor self.now }
+        ensures { result ≡ is_neighbor_number (message_number self.now) }
     {
         match self {
             Icmpv6Message::RouterSolicit
@@ -43,6 +44,7 @@ impl Icmpv6Message {
             | Icmpv6Message::NeighborSolicit
             | Icmpv6Message::NeighborAdvert
             | Icmpv6Message::Redirect => true,
+            Icmpv6Message::Unknown(number) => *number >= 133 && *number <= 137,
             _ => false,
         }
     }

@@ -1,18 +1,16 @@
 -- What answers a segment, and which acknowledgement becomes due (RFC 9293, 3.8.6.3 and 3.10.7.4; RFC 5961, 5; RFC 2018).
-use Rattle.std.specs.Prelude.{ℕ, ◌+◌, ◌==◌, nat_le, nat_lt, not, ◌&&◌, ◌||◌, ℤ, Bool, true, false, if◌then◌else◌, List, [], ◌∷◌, length, Option, Some, None}
+use Rattle.std.specs.Prelude.{ℕ, ◌==◌, nat_le, nat_lt, not, ◌&&◌, ◌||◌, ℤ, Bool, true, false, if◌then◌else◌, List, [], ◌∷◌, Option, Some, None}
 use Rattle.held_bytes.specs.Held.{runs_of}
 use Rattle.ip_wire.specs.IpRepr.{IpRepr}
 use Rattle.ip_wire.specs.SeqNumber.{SeqNumber}
 use Rattle.ip_wire.specs.TcpHeader.{TcpHeader}
 use Rattle.socket_base.specs.Context.{ContextValue}
 use Rattle.tcp_model.specs.declared.block.Block.{Block}
-use Rattle.tcp_model.specs.declared.offer.Reply.{Reply}
 use Rattle.tcp_model.specs.Controls.{is_fin}
 use Rattle.tcp_model.specs.Moments.{is_due, later, earlier, next_draw_from}
 use Rattle.tcp_model.specs.Names.{pair_in}
 use Rattle.tcp_model.specs.Offsets.{behind_by}
-use Rattle.tcp_model.specs.Segments.{ack_segment, sack_segment, reply_to, hops_of}
-use Rattle.tcp_model.specs.Text.{Texted}
+use Rattle.tcp_model.specs.Segments.{sack_segment, reply_to, hops_of}
 use Rattle.tcp_model.specs.Value.{TcpValue, Arrived, with_block, dropped, answered_with, window_of}
 
 -- an acknowledgement of all that came went out, with this window field: none is due any more

@@ -1,10 +1,9 @@
 -- The control block (RFC 9293, 3.3.1): a fresh one, and what follows from its fields. `queued` is the length of the send queue,
 -- which begins at the first byte that isn't acknowledged.
-use Rattle.std.specs.Prelude.{◌≡◌, ℕ, zero, suc, ◌+◌, ◌-◌, ◌/◌, ◌^◌, ◌==◌, nat_le, nat_lt, not, ◌&&◌, ◌||◌, min, Bool, true, false, if◌then◌else◌, Option, Some, None, is_some}
+use Rattle.std.specs.Prelude.{ℕ, zero, suc, ◌+◌, ◌/◌, ◌^◌, nat_lt, min, Bool, true, false, if◌then◌else◌, Option, Some, None}
 use Rattle.ip_wire.specs.IpListenEndpoint.{IpListenEndpoint}
 use Rattle.ip_wire.specs.SeqNumber.{SeqNumber}
 use Rattle.tcp_model.specs.declared.block.Block.{Block}
-use Rattle.tcp_model.specs.declared.block.EndpointPair.{EndpointPair}
 use Rattle.tcp_model.specs.declared.block.Names.{Names}
 use Rattle.tcp_model.specs.declared.block.Peer.{Peer}
 use Rattle.tcp_model.specs.declared.block.Receiver.{Receiver}
@@ -16,7 +15,7 @@ use Rattle.tcp_model.specs.declared.state.State.TheVariants as In
 use Rattle.tcp_model.specs.Offsets.{behind_by}
 use Rattle.tcp_model.specs.Reno as reno
 use Rattle.tcp_model.specs.RoundTrip as round_trip
-use Rattle.tcp_model.specs.States.{is_closed, owes_fin}
+use Rattle.tcp_model.specs.States.{owes_fin}
 
 abbrev pub one_if : Bool → ℕ
 one_if false = 0

@@ -1,6 +1,6 @@
 -- The calls of a user (RFC 9293, 3.9.1 and 3.10.1 to 3.10.5): what each answers and leaves. Each of them first settles an open
 -- offer as not sent.
-use Rattle.std.specs.Prelude.{ℕ, ◌+◌, ◌%◌, ◌==◌, not, ◌&&◌, ◌||◌, min, Bool, true, false, if◌then◌else◌, List, [], ◌++◌, length, take, drop, Option, Some, None, is_some, Result, Ok, Err, is_ok}
+use Rattle.std.specs.Prelude.{ℕ, ◌+◌, ◌%◌, ◌==◌, not, ◌&&◌, ◌||◌, min, Bool, true, false, if◌then◌else◌, List, ◌++◌, length, take, drop, Option, Some, None, is_some, Result, Ok, Err, is_ok}
 use Rattle.net_base.specs.RandomWords.{word}
 use Rattle.net_base.specs.Ring.{Ring, anchored, enqueued}
 use Rattle.ip_wire.specs.IpAddress.{IpAddress}
@@ -20,9 +20,8 @@ use Rattle.tcp_model.specs.declared.error.RecvError.{RecvError}
 use Rattle.tcp_model.specs.declared.error.RecvError.TheVariants as Recv
 use Rattle.tcp_model.specs.declared.error.SendError.{SendError}
 use Rattle.tcp_model.specs.declared.error.SendError.TheVariants as Send
-use Rattle.tcp_model.specs.declared.state.State.{State}
 use Rattle.tcp_model.specs.declared.state.State.TheVariants as In
-use Rattle.tcp_model.specs.Blocks.{fresh_block, fresh_sender, no_names, nowhere}
+use Rattle.tcp_model.specs.Blocks.{fresh_block, fresh_sender, nowhere}
 use Rattle.tcp_model.specs.Names.{pair_of, is_same_listener}
 use Rattle.tcp_model.specs.States.{is_closed, is_listening, is_opening, takes_writes, takes_text, after_close}
 use Rattle.tcp_model.specs.Value.{TcpValue, Received, received_of, with_block, unoffered, ended, opened, room_of}

@@ -1,17 +1,15 @@
 -- Whether a segment is acceptable, from SYN-RECEIVED on (RFC 9293, 3.10.7.4, first to fifth).
-use Rattle.std.specs.Prelude.{ℕ, ◌+◌, ◌==◌, ◌^◌, nat_lt, nat_le, not, ◌&&◌, ◌||◌, Bool, true, false, if◌then◌else◌, Option, Some, None}
+use Rattle.std.specs.Prelude.{ℕ, ◌==◌, ◌^◌, nat_lt, not, ◌&&◌, ◌||◌, Bool, if◌then◌else◌, Option, Some, None}
 use Rattle.ip_wire.specs.Seq.{distance_of}
 use Rattle.ip_wire.specs.SeqNumber.{SeqNumber}
 use Rattle.ip_wire.specs.TcpHeader.{TcpHeader}
 use Rattle.tcp_model.specs.declared.block.Block.{Block}
-use Rattle.tcp_model.specs.declared.state.State.{State}
-use Rattle.tcp_model.specs.declared.state.State.TheVariants as In
-use Rattle.tcp_model.specs.Blocks.{unacked, fresh_block}
+use Rattle.tcp_model.specs.Blocks.{unacked}
 use Rattle.tcp_model.specs.Controls.{is_rst}
 use Rattle.tcp_model.specs.Offsets.{past_by, before_by, meets_window}
 use Rattle.tcp_model.specs.Segments.{segment_len}
 use Rattle.tcp_model.specs.States.{is_answering}
-use Rattle.tcp_model.specs.Value.{TcpValue, opened, ended, queued_in}
+use Rattle.tcp_model.specs.Value.{TcpValue, ended}
 use Rattle.tcp_model.specs.Calls.{listening}
 
 -- what becomes of a segment: it is taken and SND.UNA rises by so much, it is dropped, an acknowledgement answers it, or a reset

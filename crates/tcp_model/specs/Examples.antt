@@ -1,10 +1,8 @@
 -- Runs on numerals: two sockets with room for 8 bytes each way hand each other their segments. Socket a sends from number 100 on,
 -- socket b from 300 on.
-use Rattle.std.specs.Prelude.{ℕ, ℤ, pos, ◌+◌, ◌^◌, Bool, true, false, List, [], ◌∷◌, length, replicate, Option, Some, None}
+use Rattle.std.specs.Prelude.{ℕ, ℤ, true, false, [], ◌∷◌, replicate, Option, Some, None}
 use Rattle.ip_wire.specs.Ipv4Address.{Ipv4Address}
-use Rattle.ip_wire.specs.IpListenEndpoint.{IpListenEndpoint}
 use Rattle.ip_wire.specs.IpRepr.{IpRepr}
-use Rattle.ip_wire.specs.TcpHeader.{TcpHeader}
 use Rattle.net_base.specs.Capabilities.{all_checksums}
 use Rattle.net_base.specs.Checksum.TheVariants as Checksum
 use Rattle.net_base.specs.Ring.{ring}
@@ -17,7 +15,7 @@ use Rattle.tcp_model.specs.Arrival.{arrives}
 use Rattle.tcp_model.specs.Calls.{connecting, listening}
 use Rattle.tcp_model.specs.Offers.{offer_of, offered_packet}
 use Rattle.tcp_model.specs.Settled.{settled}
-use Rattle.tcp_model.specs.Value.{TcpValue, Arrived, new_socket, dropped, unoffered}
+use Rattle.tcp_model.specs.Value.{TcpValue, Arrived, new_socket, dropped}
 
 -- at this moment, over a link that holds packets of 1500 bytes
 abbrev pub at : ℤ → ContextValue

@@ -25,3 +25,5 @@ pub mod Due
 pub mod Quiet
 pub mod Examples
 pub mod Runs
+pub mod Checked
+pub mod Choices

@@ -1,5 +1,5 @@
 -- Moments, and when something is due.
-use Rattle.std.specs.Prelude.{ℕ, ◌*◌, min, ℤ, pos, ◌+ℤ◌, int_le, int_lt, Bool, true, false, if◌then◌else◌, Option, Some, None}
+use Rattle.std.specs.Prelude.{ℕ, ◌*◌, min, ℤ, pos, ◌+ℤ◌, int_le, int_lt, Bool, false, if◌then◌else◌, Option, Some, None}
 use Rattle.net_base.specs.Time.{last_moment}
 use Rattle.tcp_model.specs.RoundTrip.{RoundTripValue}
 

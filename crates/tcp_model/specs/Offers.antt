@@ -1,5 +1,5 @@
 -- What a socket offers when it is asked for a segment: the first rule that applies (RFC 9293, 3.8 and 3.10.8).
-use Rattle.std.specs.Prelude.{ℕ, ◌+◌, ◌==◌, nat_lt, not, ◌&&◌, ◌||◌, ℤ, Bool, true, false, if◌then◌else◌, List, [], ◌∷◌, length, take, drop, Option, Some, None}
+use Rattle.std.specs.Prelude.{ℕ, ◌+◌, ℤ, Bool, true, false, if◌then◌else◌, List, [], ◌∷◌, take, drop, Option, Some, None}
 use Rattle.ip_wire.specs.SeqNumber.{SeqNumber}
 use Rattle.ip_wire.specs.Tcp.{header_len}
 use Rattle.ip_wire.specs.TcpHeader.{TcpHeader}
@@ -7,7 +7,6 @@ use Rattle.socket_base.specs.Context.{ContextValue}
 use Rattle.socket_base.specs.Offers.{Offered, offered_as}
 use Rattle.socket_base.specs.Packet.{PacketValue, packet_of}
 use Rattle.socket_base.specs.Packet as Carried
-use Rattle.socket_base.specs.declared.offer.Offer.{Offer}
 use Rattle.socket_base.specs.declared.offer.Offer.TheVariants as Answer
 use Rattle.tcp_model.specs.declared.block.Block.{Block}
 use Rattle.tcp_model.specs.declared.block.EndpointPair.{EndpointPair}

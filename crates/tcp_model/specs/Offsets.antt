@@ -1,6 +1,6 @@
 -- Numbers of 32 bits as counts (RFC 9293, 3.4). Of all positions that a number may mean it means the one nearest to a reference,
 -- the lower at distance 2 ^ 31: so it lies past the reference, or before it.
-use Rattle.std.specs.Prelude.{ℕ, ◌+◌, ◌-◌, ◌^◌, ◌==◌, nat_lt, nat_le, not, ◌&&◌, Bool, true, false, if◌then◌else◌, Option, Some, None}
+use Rattle.std.specs.Prelude.{ℕ, ◌-◌, ◌^◌, ◌==◌, nat_lt, ◌&&◌, Bool, true, if◌then◌else◌}
 use Rattle.ip_wire.specs.SeqNumber.{SeqNumber}
 use Rattle.ip_wire.specs.Seq.{distance_of, advanced}
 

@@ -1,14 +1,10 @@
 -- A segment comes in LISTEN or SYN-SENT (RFC 9293, 3.10.7.2 and 3.10.7.3). A payload on a SYN is ignored.
-use Rattle.std.specs.Prelude.{ℕ, ◌+◌, ◌==◌, ◌<◌, nat_lt, not, ◌&&◌, ◌||◌, min, ℤ, Bool, true, false, if◌then◌else◌, List, length, Option, Some, None, is_some}
+use Rattle.std.specs.Prelude.{ℕ, ◌==◌, not, ◌&&◌, ℤ, Bool, true, false, if◌then◌else◌, List, length, Option, Some, None, is_some}
 use Rattle.net_base.specs.RandomWords.{word}
 use Rattle.ip_wire.specs.IpRepr.{IpRepr}
-use Rattle.ip_wire.specs.Options.{capped}
 use Rattle.ip_wire.specs.Seq.{distance_of}
 use Rattle.ip_wire.specs.SeqNumber.{SeqNumber}
-use Rattle.ip_wire.specs.TcpControl.{TcpControl}
-use Rattle.ip_wire.specs.TcpControl.TheVariants as Control
 use Rattle.ip_wire.specs.TcpHeader.{TcpHeader}
-use Rattle.ip_wire.specs.TcpTimestampRepr.{TcpTimestampRepr}
 use Rattle.socket_base.specs.Context.{ContextValue, next_random}
 use Rattle.tcp_model.specs.declared.block.Block.{Block}
 use Rattle.tcp_model.specs.declared.block.Peer.{Peer}

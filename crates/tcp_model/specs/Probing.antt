@@ -1,5 +1,5 @@
 -- Probes of a closed window (RFC 9293, 3.8.6.1).
-use Rattle.std.specs.Prelude.{ℕ, ◌==◌, not, ◌&&◌, ◌||◌, ℤ, Bool, true, false, if◌then◌else◌, Option, Some, None, is_none}
+use Rattle.std.specs.Prelude.{ℕ, ◌==◌, not, ◌&&◌, ℤ, Bool, if◌then◌else◌, Option, Some, None, is_none}
 use Rattle.tcp_model.specs.declared.block.Block.{Block}
 use Rattle.tcp_model.specs.Moments.{timeout_from}
 use Rattle.tcp_model.specs.States.{sends_text}

@@ -1,8 +1,6 @@
 -- A socket that has nothing to offer at a moment.
-use Rattle.std.specs.Prelude.{◌≡◌, ℕ, ℤ, Bool, false, List, [], ◌∷◌, Option}
+use Rattle.std.specs.Prelude.{◌≡◌, ℤ, false, List, [], ◌∷◌, Option}
 use Rattle.socket_base.specs.Context.{ContextValue}
-use Rattle.tcp_model.specs.declared.block.AddressPair.{AddressPair}
-use Rattle.tcp_model.specs.declared.block.Block.{Block}
 use Rattle.tcp_model.specs.declared.block.EndpointPair.{EndpointPair}
 use Rattle.tcp_model.specs.Moments.{is_due}
 use Rattle.tcp_model.specs.Probing.{is_probe_unset, probe_moment}

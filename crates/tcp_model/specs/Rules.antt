@@ -1,20 +1,18 @@
 -- What a socket offers: a test for each rule, and what the rules for text may send. `queued` is the length of the send queue,
 -- and `unbroken` says how many of its bytes from a place on lie before the end of the storage.
-use Rattle.std.specs.Prelude.{ℕ, ◌+◌, ◌-◌, ◌*◌, ◌/◌, ◌==◌, nat_lt, nat_le, not, ◌&&◌, ◌||◌, min, ℤ, Bool, true, false, if◌then◌else◌, List, [], ◌∷◌, length, Option, Some, None, is_some}
+use Rattle.std.specs.Prelude.{ℕ, ◌+◌, ◌-◌, ◌/◌, ◌==◌, nat_lt, nat_le, not, ◌&&◌, ◌||◌, min, ℤ, Bool, false, if◌then◌else◌, length, Option, None, is_some}
 use Rattle.net_base.specs.Ring.{Ring, until_end}
-use Rattle.ip_wire.specs.Options.{no_options}
 use Rattle.ip_wire.specs.TcpControl.{TcpControl}
 use Rattle.ip_wire.specs.TcpControl.TheVariants as Control
 use Rattle.tcp_model.specs.declared.block.AddressPair.{AddressPair}
 use Rattle.tcp_model.specs.declared.block.Block.{Block}
 use Rattle.tcp_model.specs.declared.block.CongestionControl.{CongestionControl}
 use Rattle.tcp_model.specs.declared.block.CongestionControl.TheVariants as Congestion
-use Rattle.tcp_model.specs.declared.state.State.{State}
 use Rattle.tcp_model.specs.Blocks.{one_if, unacked}
 use Rattle.tcp_model.specs.Names.{ip_header_len}
 use Rattle.tcp_model.specs.Reno as reno
 use Rattle.tcp_model.specs.RoundTrip as round_trip
-use Rattle.tcp_model.specs.States.{is_closed, is_answering, is_time_wait, owes_fin, sends_text, sends_syn, takes_text, keeps_alive}
+use Rattle.tcp_model.specs.States.{is_answering, is_time_wait, owes_fin, sends_text, sends_syn, takes_text, keeps_alive}
 
 -- the end of TIME-WAIT (3.10.8)
 abbrev pub time_wait_end : Block → Option ℤ

@@ -1,13 +1,10 @@
 -- What the sockets of `Examples` do.
-use Rattle.std.specs.Prelude.{◌≡◌, ℕ, ℤ, pos, Bool, true, false, List, [], ◌∷◌, Option, Some, None}
-use Rattle.socket_base.specs.Offers.{Offered}
+use Rattle.std.specs.Prelude.{ℕ, ℤ, pos, false, List, [], ◌∷◌, Option, Some, None}
 use Rattle.tcp_model.specs.declared.offer.OpenOffer.{OpenOffer}
 use Rattle.tcp_model.specs.declared.offer.OfferKind.{OfferKind}
 use Rattle.tcp_model.specs.declared.offer.Reply.{Reply}
-use Rattle.tcp_model.specs.declared.state.State.{State}
-use Rattle.tcp_model.specs.Calls.{send_after, recv_after, close_after}
-use Rattle.tcp_model.specs.Due.{poll_of}
-use Rattle.tcp_model.specs.Examples.{Two, two, at, caller_a, caller_b, listener, sends, packet_at, delivered, exchanged, hands_over, turned}
+use Rattle.tcp_model.specs.Calls.{send_after, close_after}
+use Rattle.tcp_model.specs.Examples.{Two, two, at, caller_a, caller_b, listener, sends, packet_at, delivered, hands_over, turned}
 use Rattle.tcp_model.specs.Offers.{offer_of}
 use Rattle.tcp_model.specs.Settings.{set_nagle_enabled}
 use Rattle.tcp_model.specs.Value.{TcpValue, Arrived}

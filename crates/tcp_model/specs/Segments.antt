@@ -1,6 +1,5 @@
 -- The segments that a socket makes (RFC 9293, 3.1, with options of RFC 7323 and RFC 2018).
-use Rattle.std.specs.Prelude.{ℕ, ◌+◌, ◌-◌, ◌^◌, ◌==◌, ◌&&◌, ◌||◌, not, min, suc, ℤ, Bool, true, false, if◌then◌else◌, List, [], ◌∷◌, Option, Some, None, is_some}
-use Rattle.ip_wire.specs.Ip.{source_in, destination_in}
+use Rattle.std.specs.Prelude.{ℕ, ◌+◌, ◌-◌, ◌^◌, ◌&&◌, ◌||◌, not, min, suc, ℤ, if◌then◌else◌, List, [], ◌∷◌, Option, Some, None, is_some}
 use Rattle.ip_wire.specs.IpRepr.{IpRepr}
 use Rattle.ip_wire.specs.SeqNumber.{SeqNumber}
 use Rattle.ip_wire.specs.Control.{control_len}
@@ -13,12 +12,11 @@ use Rattle.ip_wire.specs.TcpOptions.{TcpOptions}
 use Rattle.ip_wire.specs.TcpTimestampGenerator.{TcpTimestampGenerator}
 use Rattle.ip_wire.specs.TcpTimestampRepr.{TcpTimestampRepr}
 use Rattle.ip_wire.specs.Timestamp.{value_at}
-use Rattle.tcp_model.specs.declared.block.AddressPair.{AddressPair}
 use Rattle.tcp_model.specs.declared.block.Block.{Block}
 use Rattle.tcp_model.specs.declared.block.EndpointPair.{EndpointPair}
 use Rattle.tcp_model.specs.declared.offer.Reply.{Reply}
-use Rattle.tcp_model.specs.Blocks.{nxt, own_scale, field_of, window_field}
-use Rattle.tcp_model.specs.Names.{pair_of, addresses_in, pair_in, header_for, ip_header_len}
+use Rattle.tcp_model.specs.Blocks.{nxt, own_scale, field_of}
+use Rattle.tcp_model.specs.Names.{addresses_in, header_for, ip_header_len}
 use Rattle.tcp_model.specs.Offsets.{behind_by}
 
 -- the hop limit that is set, or 64

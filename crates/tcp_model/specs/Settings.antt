@@ -1,5 +1,5 @@
 -- What a user may set and ask. Each setting first settles an open offer as not sent.
-use Rattle.std.specs.Prelude.{ℕ, ◌+◌, ◌==◌, not, ◌&&◌, ◌||◌, ℤ, pos, Bool, true, false, if◌then◌else◌, length, Option, Some, None, is_some}
+use Rattle.std.specs.Prelude.{ℕ, ◌==◌, not, ◌&&◌, ◌||◌, ℤ, pos, Bool, true, false, if◌then◌else◌, length, Option, Some, None}
 use Rattle.ip_wire.specs.TcpTimestampGenerator.{TcpTimestampGenerator}
 use Rattle.tcp_model.specs.declared.block.Block.{Block}
 use Rattle.tcp_model.specs.declared.block.CongestionControl.{CongestionControl}

@@ -1,5 +1,5 @@
 -- What an offer is told. A segment that was sent is recorded; one that wasn't leaves all as it is.
-use Rattle.std.specs.Prelude.{ℕ, ◌+◌, ◌==◌, nat_lt, max, not, ◌&&◌, ℤ, Bool, true, false, if◌then◌else◌, Option, Some, None, is_some}
+use Rattle.std.specs.Prelude.{ℕ, ◌+◌, nat_lt, max, not, ◌&&◌, ℤ, Bool, true, false, if◌then◌else◌, Option, Some, None, is_some}
 use Rattle.ip_wire.specs.Control.{control_len}
 use Rattle.ip_wire.specs.Seq.{distance_of}
 use Rattle.tcp_model.specs.declared.block.Block.{Block}
@@ -8,7 +8,7 @@ use Rattle.tcp_model.specs.declared.offer.OfferKind.TheVariants as Kind
 use Rattle.tcp_model.specs.declared.offer.OpenOffer.{OpenOffer}
 use Rattle.tcp_model.specs.Blocks.{forgotten}
 use Rattle.tcp_model.specs.Moments.{later_by, timeout_from}
-use Rattle.tcp_model.specs.Probing.{probe_kept, with_probe_at}
+use Rattle.tcp_model.specs.Probing.{probe_kept}
 use Rattle.tcp_model.specs.RoundTrip as round_trip
 use Rattle.tcp_model.specs.Value.{TcpValue, with_block, unoffered, queued_in}
 

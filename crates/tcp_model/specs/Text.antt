@@ -1,5 +1,5 @@
 -- The text and the FIN of an accepted segment (RFC 9293, 3.10.7.4, seventh and eighth).
-use Rattle.std.specs.Prelude.{ℕ, ◌+◌, ◌-◌, ◌==◌, nat_lt, nat_le, not, ◌&&◌, ◌||◌, ℤ, Bool, true, false, if◌then◌else◌, List, ◌++◌, length, drop, Option, Some, None}
+use Rattle.std.specs.Prelude.{ℕ, ◌+◌, ◌==◌, nat_lt, nat_le, not, ◌&&◌, ℤ, Bool, true, if◌then◌else◌, List, ◌++◌, length, drop, Option, Some, None}
 use Rattle.held_bytes.specs.Held.{runs_of}
 use Rattle.ip_wire.specs.TcpHeader.{TcpHeader}
 use Rattle.tcp_law.specs.ReceiveMap.{store, front, behind}
@@ -8,7 +8,7 @@ use Rattle.tcp_model.specs.Acknowledged.{in_state}
 use Rattle.tcp_model.specs.Controls.{is_fin}
 use Rattle.tcp_model.specs.Offsets.{past_by, before_by, behind_by}
 use Rattle.tcp_model.specs.States.{takes_text, after_fin}
-use Rattle.tcp_model.specs.Value.{TcpValue, Received, received_of, free_in}
+use Rattle.tcp_model.specs.Value.{TcpValue, received_of, free_in}
 
 -- the socket with a segment's text; how far RCV.NXT rose; and of text that is held early the place of its first byte
 pub record Texted : Type 0 where

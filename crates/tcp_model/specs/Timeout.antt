@@ -1,10 +1,9 @@
 -- The user timeout (RFC 9293, 3.8.3), as it runs while something waits for the remote.
-use Rattle.std.specs.Prelude.{ℕ, ◌==◌, ◌&&◌, ◌||◌, not, ℤ, Bool, true, false, if◌then◌else◌, Option, Some, None, is_some, is_none}
+use Rattle.std.specs.Prelude.{ℕ, ◌==◌, ◌&&◌, ◌||◌, not, ℤ, Bool, true, if◌then◌else◌, Option, Some, None, is_some, is_none}
 use Rattle.tcp_model.specs.declared.block.Block.{Block}
-use Rattle.tcp_model.specs.declared.state.State.{State}
 use Rattle.tcp_model.specs.declared.state.State.TheVariants as In
 use Rattle.tcp_model.specs.Blocks.{unacked}
-use Rattle.tcp_model.specs.Moments.{is_due, later}
+use Rattle.tcp_model.specs.Moments.{later}
 use Rattle.tcp_model.specs.States.{is_closed, is_opening, is_answering}
 
 -- something isn't acknowledged, the connection isn't there yet, or keep-alives go

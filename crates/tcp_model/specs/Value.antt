@@ -1,5 +1,5 @@
 -- A socket as a value.
-use Rattle.std.specs.Prelude.{ℕ, ◌+◌, Bool, true, false, List, [], length, Option, Some, None}
+use Rattle.std.specs.Prelude.{ℕ, ◌+◌, Bool, false, List, [], length, Option, Some, None}
 use Rattle.net_base.specs.Ring.{Ring, cleared}
 use Rattle.tcp_law.specs.ReceiveMap.{space}
 use Rattle.tcp_model.specs.Blocks.{fresh_block, forgotten, default_settings, window_field}

@@ -136,3 +136,22 @@ pub struct Block {
     pub reno: Reno,
     pub settings: Settings,
 }
+
+mod acknowledged;
+mod checks;
+mod due;
+mod endpoints;
+mod fresh;
+mod opening;
+mod rules;
+mod segments;
+mod settled;
+mod text;
+mod timeout;
+
+pub use checks::Verdict;
+pub use endpoints::is_same_listener;
+pub use opening::{is_fin, is_first_syn, is_rst, is_syn, is_void_syn};
+pub use rules::{PROBE, Part};
+pub use segments::{reply_to, rst_reply};
+pub use text::numbers_of;

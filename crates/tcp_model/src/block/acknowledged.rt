@@ -1,0 +1,143 @@
+//! The acknowledgement and the window of an accepted segment.
+ghost use Rattle.std.specs.Prelude.{◌≡◌, ◌≤◌, ◌<◌, ◌^◌, IfSome};
+ghost use Rattle.net_base.specs.Time.{IsMoment};
+ghost use Rattle.tcp_model.specs.Acknowledged.{freed_by, sender_moved, retransmit_after, una_moved, acks_fin, state_after_ack, in_state, block_acknowledged, scaled, window_set, is_duplicate, duplicates_after, reno_counted, counted};
+
+use super::opening::{is_fin, or_recent};
+use crate::moments::{time_wait_from, timeout_from};
+use crate::offsets::behind_by;
+use crate::{Block, State};
+use ip_wire::{MAX_WINDOW_SCALE, TcpHeader};
+use net_base::Instant;
+
+/// What a window field means.
+fn scaled(scale: Option<u8>, field: u16) -> u32
+    ensures { result ≡ scaled scale field }
+{
+    match scale {
+        None => field as u32,
+        Some(scale) => (field as u32) << scale.min(MAX_WINDOW_SCALE),
+    }
+}
+
+impl Block {
+    /// How many bytes of the send queue are acknowledged.
+    pub fn freed_by(&self, by: u32, queued: usize) -> usize
+        ensures value { result ≡ freed_by self.now by queued }
+        ensures within { result ≤ queued }
+    {
+        (by as usize)
+            .saturating_sub(self.sender.syn_unacked as usize)
+            .min(queued)
+    }
+
+    /// SND.UNA rises by so much, where so many bytes were queued.
+    pub fn move_una(&mut self, by: u32, queued: usize, now: Instant)
+        requires { IsMoment now }
+        ensures { self.new ≡ una_moved self.old by queued now }
+    {
+        let freed = self.freed_by(by, queued);
+        self.reno.acknowledged(freed);
+        self.round_trip.advance(by, now);
+        self.move_sender(by);
+        if by != 0 {
+            self.timers.retransmit_at = if self.sender.in_flight == 0 {
+                None
+            } else {
+                Some(timeout_from(now, &self.round_trip))
+            };
+        }
+    }
+
+    /// SND.UNA and what is counted from it.
+    fn move_sender(&mut self, by: u32)
+        ensures { self.new ≡ record self.old { sender = sender_moved self.old.sender by } }
+    {
+        let stays = by == 0;
+        self.sender.una = behind_by(self.sender.una, by as usize);
+        self.sender.syn_unacked = self.sender.syn_unacked && stays;
+        self.sender.in_flight = self.sender.in_flight.saturating_sub(by);
+        self.sender.resend = self.sender.resend && stays;
+    }
+
+    /// The state after an acknowledgement, which may be of the FIN.
+    fn state_after_ack(&self, by: u32, queued: usize) -> State
+        requires { queued ≤ 2 ^ 30 }
+        ensures { result ≡ state_after_ack self.now by queued }
+    {
+        if self.state.owes_fin() && by as usize == self.unacked(queued) {
+            self.state.after_ack_of_fin()
+        } else {
+            self.state.after_ack()
+        }
+    }
+
+    /// Goes to a state. TIME-WAIT begins where this leads to it.
+    pub fn enter(&mut self, state: State, now: Instant)
+        requires { IsMoment now }
+        ensures { self.new ≡ in_state self.old state now }
+    {
+        if state.is_time_wait() && !self.state.is_time_wait() {
+            self.timers.time_wait_ends = Some(time_wait_from(now));
+        }
+        self.state = state;
+    }
+
+    /// Takes the acknowledgement of an accepted segment.
+    pub fn acknowledge(&mut self, by: u32, queued: usize, now: Instant)
+        requires moment { IsMoment now }
+        requires queued { queued ≤ 2 ^ 30 }
+        ensures { self.new ≡ block_acknowledged self.old by queued now }
+    {
+        let state = self.state_after_ack(by, queued);
+        self.move_una(by, queued, now);
+        self.enter(state, now);
+        if state.is_closed() {
+            self.forget();
+        }
+    }
+
+    /// Takes the window of an accepted segment, and its timestamp.
+    pub fn set_window(&mut self, header: &TcpHeader)
+        ensures { self.new ≡ window_set self.old header.now }
+    {
+        self.peer.window = scaled(self.peer.scale, header.window_len);
+        self.peer.recent = or_recent(header.options.timestamp, self.peer.recent);
+    }
+
+    /// Whether a segment only acknowledges SND.UNA again, with the same window, while something is in
+    /// flight.
+    pub fn is_duplicate(&self, header: &TcpHeader, size: usize, by: u32) -> bool
+        ensures { result ≡ is_duplicate self.now header.now size by }
+    {
+        by == 0
+            && size == 0
+            && !is_fin(header.control)
+            && scaled(self.peer.scale, header.window_len) == self.peer.window
+            && self.sender.in_flight != 0
+    }
+
+    /// The duplicates in a row after a segment, counted up to 4.
+    pub fn duplicates_after(&self, header: &TcpHeader, size: usize, by: u32) -> u8
+        ensures { result ≡ duplicates_after self.now header.now size by }
+    {
+        if self.is_duplicate(header, size, by) {
+            self.sender.duplicates.min(3) + 1
+        } else {
+            0
+        }
+    }
+
+    /// There were so many duplicates in a row. At the third the segment at SND.UNA is to go again.
+    pub fn count(&mut self, count: u8)
+        ensures { self.new ≡ counted self.old count }
+    {
+        match count {
+            3 => self.reno.lost(self.sender.in_flight),
+            4 => self.reno.inflate(),
+            _ => {}
+        }
+        self.sender.duplicates = count;
+        self.sender.resend = self.sender.resend || count == 3;
+    }
+}

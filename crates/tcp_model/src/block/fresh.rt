@@ -1,0 +1,166 @@
+//! A fresh control block, and what follows from its fields.
+ghost use Rattle.std.specs.Prelude.{◌≡◌, ◌+◌, ◌≤◌, ◌^◌};
+ghost use Rattle.tcp_model.specs.Blocks.{default_settings, fresh_sender, fresh_block, forgotten, unacked, nxt, own_scale, scale_for, field_of, window_field};
+
+use crate::offsets::behind_by;
+use crate::{
+    Block, CongestionControl, Names, Peer, Receiver, Reno, RoundTrip, Sender, Settings, State,
+    Timers,
+};
+use ip_wire::{IpListenEndpoint, MAX_WINDOW_SCALE, SeqNumber};
+use net_base::Duration;
+
+/// The delay of an acknowledgement, if no other is set, in microseconds.
+const ACK_DELAY: u64 = 10_000;
+
+/// The largest payload that a remote takes that names none.
+pub const DEFAULT_MSS: u16 = 536;
+
+impl Names {
+    /// No names.
+    pub const NONE: Names = Names {
+        listen: IpListenEndpoint {
+            addr: None,
+            port: 0,
+        },
+        pair: None,
+    };
+}
+
+impl Sender {
+    /// A sender whose SYN will have this number, or without one.
+    pub const fn new(una: SeqNumber, syn_unacked: bool) -> Sender
+        ensures { result ≡ fresh_sender una syn_unacked }
+    {
+        Sender {
+            una,
+            syn_unacked,
+            in_flight: 0,
+            duplicates: 0,
+            resend: false,
+            stamped: false,
+            reset_due: false,
+        }
+    }
+}
+
+impl Settings {
+    /// What holds where nothing is set.
+    pub const fn new() -> Settings
+        ensures { result ≡ default_settings }
+    {
+        Settings {
+            timeout: None,
+            ack_delay: Some(Duration::from_micros(ACK_DELAY)),
+            keep_alive: None,
+            keep_alive_at: None,
+            nagle: true,
+            hop_limit: None,
+            timestamps: None,
+            congestion_control: CongestionControl::Reno,
+            synack_paused: false,
+        }
+    }
+}
+
+impl Block {
+    /// No connection, and nothing left of an earlier one.
+    pub const fn new(settings: Settings) -> Block
+        ensures { result ≡ fresh_block settings }
+    {
+        Block {
+            state: State::Closed,
+            names: Names::NONE,
+            sender: Sender::new(SeqNumber(0), false),
+            receiver: Receiver {
+                next: SeqNumber(0),
+                took_syn: false,
+                took_fin: false,
+                advertised: 0,
+            },
+            peer: Peer {
+                window: 0,
+                mss: DEFAULT_MSS,
+                scale: None,
+                sack: false,
+                timestamps: false,
+                recent: 0,
+            },
+            timers: Timers {
+                retransmit_at: None,
+                probe_at: None,
+                ack_at: None,
+                text_unacked: false,
+                draws_from: None,
+                time_wait_ends: None,
+                timeout_since: None,
+            },
+            round_trip: RoundTrip::new(),
+            reno: Reno::new(),
+            settings,
+        }
+    }
+
+    /// Ends in CLOSED, with the endpoints forgotten and no reset due.
+    pub fn forget(&mut self)
+        ensures { self.new ≡ forgotten self.old }
+    {
+        self.state = State::Closed;
+        self.names = Names::NONE;
+        self.sender.reset_due = false;
+    }
+
+    /// How far past SND.UNA the last position lies that may be acknowledged, where so many bytes are
+    /// queued.
+    pub fn unacked(&self, queued: usize) -> usize
+        requires { queued ≤ 2 ^ 30 }
+        ensures { result ≡ unacked self.now queued }
+    {
+        self.sender.syn_unacked as usize + queued + self.state.owes_fin() as usize
+    }
+
+    /// SND.NXT.
+    pub fn nxt(&self) -> SeqNumber
+        ensures { result ≡ nxt self.now }
+    {
+        behind_by(self.sender.una, self.sender.in_flight as usize)
+    }
+
+    /// The window field for a receive buffer of this capacity and so much free space, but on a SYN.
+    pub fn window_field(&self, capacity: usize, free: usize) -> u16
+        ensures { result ≡ window_field self.now capacity free }
+    {
+        let shift = match self.peer.scale {
+            None => 0,
+            Some(_) => own_scale(capacity),
+        };
+        field_of(free >> shift)
+    }
+}
+
+/// What a window field says of so much space.
+pub fn field_of(space: usize) -> u16
+    ensures { result ≡ field_of space }
+{
+    space.min(u16::MAX as usize) as u16
+}
+
+/// The shift of the own window fields, if both SYNs have the option.
+pub fn own_scale(capacity: usize) -> u8
+    ensures value { result ≡ own_scale capacity }
+    ensures small { result ≤ 14 }
+{
+    scale_for(MAX_WINDOW_SCALE, capacity)
+}
+
+/// The least shift, at most so large, that brings a count into 16 bits.
+fn scale_for(most: u8, count: usize) -> u8
+    ensures value { result ≡ scale_for most count }
+    ensures small { result ≤ most }
+{
+    if most == 0 || count < 1 << 16 {
+        0
+    } else {
+        1 + scale_for(most - 1, count / 2)
+    }
+}

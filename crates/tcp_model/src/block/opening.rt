@@ -1,0 +1,142 @@
+//! A segment comes in LISTEN or SYN-SENT.
+ghost use Rattle.std.specs.Prelude.{◌≡◌, ◌≤◌, ◌^◌, ◌==◌, ◌&&◌, not, false};
+ghost use Rattle.net_base.specs.Time.{IsMoment};
+ghost use Rattle.tcp_model.specs.Controls.{is_syn, is_fin, is_rst, or_mss, is_zero, or_recent};
+ghost use Rattle.tcp_model.specs.Opening.{peer_of, took_syn, is_first_syn, answering, acks_syn, connected, crossed, syn_answered};
+ghost use Rattle.tcp_model.specs.Arrival.{is_void_syn};
+
+use super::fresh::DEFAULT_MSS;
+use crate::offsets::behind_by;
+use crate::{Block, EndpointPair, Peer, Sender, State};
+use ip_wire::{IpRepr, SeqNumber, TcpControl, TcpHeader, TcpTimestampRepr};
+use net_base::Instant;
+
+/// Whether this is a SYN.
+pub const fn is_syn(control: TcpControl) -> bool
+    ensures { result ≡ is_syn control }
+{
+    matches!(control, TcpControl::Syn)
+}
+
+/// Whether this is a FIN.
+pub const fn is_fin(control: TcpControl) -> bool
+    ensures { result ≡ is_fin control }
+{
+    matches!(control, TcpControl::Fin)
+}
+
+/// Whether this is a reset.
+pub const fn is_rst(control: TcpControl) -> bool
+    ensures { result ≡ is_rst control }
+{
+    matches!(control, TcpControl::Rst)
+}
+
+/// Whether a segment is a SYN that names an MSS of 0.
+pub fn is_void_syn(header: &TcpHeader) -> bool
+    ensures { result ≡ is_void_syn header.now }
+{
+    is_syn(header.control) && is_zero(header.options.max_seg_size)
+}
+
+fn is_zero(mss: Option<u16>) -> bool
+    ensures { result ≡ is_zero mss }
+{
+    match mss {
+        None => false,
+        Some(mss) => mss == 0,
+    }
+}
+
+/// Whether a segment is a SYN without ACK.
+pub fn is_first_syn(header: &TcpHeader) -> bool
+    ensures { result ≡ is_first_syn header.now }
+{
+    is_syn(header.control) && header.ack_number.is_none()
+}
+
+/// The largest payload that the remote takes.
+fn or_mss(mss: Option<u16>) -> u16
+    ensures { result ≡ or_mss mss }
+{
+    match mss {
+        None => DEFAULT_MSS,
+        Some(mss) => mss,
+    }
+}
+
+/// The timestamp that came last.
+pub fn or_recent(stamp: Option<TcpTimestampRepr>, recent: u32) -> u32
+    ensures { result ≡ or_recent stamp recent }
+{
+    match stamp {
+        None => recent,
+        Some(stamp) => stamp.tsval,
+    }
+}
+
+impl Peer {
+    /// What the remote's SYN says of it.
+    fn of_syn(header: &TcpHeader) -> Peer
+        ensures { result ≡ peer_of header.now }
+    {
+        Peer {
+            window: header.window_len as u32,
+            mss: or_mss(header.options.max_seg_size),
+            scale: header.options.window_scale,
+            sack: header.options.sack_permitted,
+            timestamps: header.options.timestamp.is_some(),
+            recent: or_recent(header.options.timestamp, 0),
+        }
+    }
+}
+
+impl Block {
+    /// Takes the remote's SYN.
+    fn take_syn(&mut self, header: &TcpHeader)
+        requires { is_zero header.now.options.max_seg_size ≡ false }
+        ensures { self.new ≡ took_syn self.old header.now }
+    {
+        self.receiver.next = behind_by(header.seq_number, 1);
+        self.receiver.took_syn = true;
+        self.peer = Peer::of_syn(header);
+        self.reno.set_mss(self.peer.mss);
+    }
+
+    /// LISTEN takes a SYN; its own first number is this.
+    pub fn answer_syn(&mut self, ip_repr: &IpRepr, header: &TcpHeader, number: u32)
+        requires { is_zero header.now.options.max_seg_size ≡ false }
+        ensures { self.new ≡ answering self.old ip_repr.now header.now number }
+    {
+        self.take_syn(header);
+        self.state = State::SynReceived;
+        self.names.pair = Some(EndpointPair::of_segment(ip_repr, header));
+        self.sender = Sender::new(SeqNumber(number), true);
+    }
+
+    /// Whether this acknowledges the own SYN and nothing else.
+    pub fn is_syn_acked(&self, ack_number: Option<SeqNumber>) -> bool
+        ensures { result ≡ acks_syn self.now.sender.una ack_number }
+    {
+        match ack_number {
+            None => false,
+            Some(number) => self.sender.una.distance(number) == 1,
+        }
+    }
+
+    /// SYN-SENT takes a SYN, which acknowledges its own, or crosses it.
+    pub fn take_answer(&mut self, header: &TcpHeader, now: Instant)
+        requires moment { IsMoment now }
+        requires mss { is_zero header.now.options.max_seg_size ≡ false }
+        ensures { self.new ≡ syn_answered self.old header.now now }
+    {
+        self.take_syn(header);
+        if header.ack_number.is_some() {
+            self.move_una(1, 0, now);
+            self.state = State::Established;
+            self.timers.ack_at = Some(now);
+        } else {
+            self.state = State::SynReceived;
+        }
+    }
+}

@@ -1,0 +1,234 @@
+//! What a socket offers: a test for each rule, and what the rules for text may send.
+ghost use Rattle.std.specs.Prelude.{◌≡◌, ◌+◌, ◌≤◌, ◌<◌, ◌^◌, min};
+ghost use Rattle.tcp_model.specs.Rules.{time_wait_end, owes_syn, resends, ack_moment, Choice, stamp_len, size_limit, congestion_limit, window_limit, next_place, fin_goes, text_of_size, is_sendable, sends_choice, first_text, probe_choice, control_for, updates_window, keep_alive_moment, backed_off_now};
+ghost use Rattle.tcp_model.specs.Offers.{number_at, backed_off};
+ghost use Rattle.tcp_model.specs.Choices.{choice_of};
+
+use crate::moments::is_due;
+use crate::offsets::behind_by;
+use crate::{AddressPair, Block, CongestionControl};
+use ip_wire::{SeqNumber, TcpControl};
+use net_base::Instant;
+
+/// How much of the send queue is to go, from which place, and whether the FIN goes with it.
+#[derive(Clone, Copy, Debug, PartialEq, Eq)]
+pub struct Part {
+    pub place: usize,
+    pub len: usize,
+    pub fin: bool,
+}
+
+/// The byte at SND.UNA, which probes a closed window.
+pub const PROBE: Part = Part {
+    place: 0,
+    len: 1,
+    fin: false,
+};
+
+impl Part {
+    /// What a segment with this part of the send queue says: the last byte is pushed.
+    pub fn control(&self, queued: usize) -> TcpControl
+        requires { self.now.place + self.now.len < 2 ^ 64 }
+        ensures { result ≡ control_for (choice_of self.now) queued }
+    {
+        if self.fin {
+            TcpControl::Fin
+        } else if self.len != 0 && self.place + self.len == queued {
+            TcpControl::Psh
+        } else {
+            TcpControl::None
+        }
+    }
+}
+
+impl Block {
+    /// The end of TIME-WAIT.
+    pub fn time_wait_end(&self) -> Option<Instant>
+        ensures { result ≡ time_wait_end self.now }
+    {
+        if self.state.is_time_wait() {
+            self.timers.time_wait_ends
+        } else {
+            None
+        }
+    }
+
+    /// Whether the own SYN is to go.
+    pub fn owes_syn(&self) -> bool
+        ensures { result ≡ owes_syn self.now }
+    {
+        self.state.sends_syn()
+            && !(self.state.is_answering() && self.settings.synack_paused)
+            && self.sender.syn_unacked
+            && self.sender.in_flight == 0
+    }
+
+    /// Whether the third duplicate came, and the segment at SND.UNA is to go again.
+    pub fn resends(&self) -> bool
+        ensures { result ≡ resends self.now }
+    {
+        self.state.sends_text() && self.sender.resend
+    }
+
+    /// When an acknowledgement is due, where there is something to acknowledge.
+    pub fn ack_moment(&self) -> Option<Instant>
+        ensures { result ≡ ack_moment self.now }
+    {
+        if self.receiver.took_syn {
+            self.timers.ack_at
+        } else {
+            None
+        }
+    }
+
+    /// The length of the timestamps option with its padding.
+    fn stamp_len(&self) -> usize
+        ensures value { result ≡ stamp_len self.now }
+        ensures small { result ≤ 12 }
+    {
+        if self.peer.timestamps && self.sender.stamped && self.settings.timestamps.is_some() {
+            12
+        } else {
+            0
+        }
+    }
+
+    /// What the remote takes in one segment, and a packet holds behind its headers.
+    pub fn size_limit(&self, addresses: &AddressPair, ip_mtu: usize) -> usize
+        ensures value { result ≡ size_limit self.now addresses.now ip_mtu }
+        ensures small { result ≤ 65_535 }
+    {
+        ip_mtu
+            .saturating_sub(addresses.ip_header_len())
+            .saturating_sub(20 + self.stamp_len())
+            .min(self.peer.mss as usize)
+    }
+
+    /// What both windows leave of so many bytes.
+    fn window_limit(&self, size: usize) -> usize
+        ensures value { result ≡ window_limit self.now size }
+        ensures small { result ≤ size }
+    {
+        let flight = self.sender.in_flight;
+        let size = size.min(self.peer.window.saturating_sub(flight) as usize);
+        match self.settings.congestion_control {
+            CongestionControl::None => size,
+            CongestionControl::Reno => {
+                size.min(self.reno.window().saturating_sub(flight) as usize)
+            }
+        }
+    }
+
+    /// Where SND.NXT stands in the send queue.
+    pub fn next_place(&self) -> usize
+        ensures value { result ≡ next_place self.now }
+        ensures small { result < 2 ^ 32 }
+    {
+        (self.sender.in_flight as usize).saturating_sub(self.sender.syn_unacked as usize)
+    }
+
+    /// Whether the FIN goes with the last byte or behind it.
+    fn fin_goes(&self, queued: usize, end: usize) -> bool
+        ensures { result ≡ fin_goes self.now queued end }
+    {
+        self.state.owes_fin() && end == queued
+    }
+
+    /// What may go from SND.NXT on, where so many bytes are queued and so many of them lie there
+    /// behind one another.
+    pub fn text_part(
+        &self,
+        addresses: &AddressPair,
+        ip_mtu: usize,
+        queued: usize,
+        unbroken: usize,
+    ) -> Part
+        ensures { choice_of result ≡ text_of_size self.now queued (window_limit self.now (min (size_limit self.now addresses.now ip_mtu) unbroken)) }
+    {
+        let place = self.next_place();
+        let len = self.window_limit(self.size_limit(addresses, ip_mtu).min(unbroken));
+        let fin = self.fin_goes(queued, place + len);
+        Part { place, len, fin }
+    }
+
+    /// Whether bytes or a FIN are to go from SND.NXT, and what may go is worth it.
+    pub fn sends_part(&self, queued: usize, limit: usize, part: &Part) -> bool
+        requires { queued ≤ 2 ^ 30 }
+        ensures { result ≡ sends_choice self.now queued limit (choice_of part.now) }
+    {
+        let flight = self.sender.in_flight;
+        self.state.sends_text()
+            && self.sender.syn_unacked as u32 <= flight
+            && (flight as usize) < self.unacked(queued)
+            && self.is_sendable(limit, part)
+    }
+
+    /// Whether something goes, and Nagle's rule doesn't hold it back.
+    fn is_sendable(&self, limit: usize, part: &Part) -> bool
+        ensures { result ≡ is_sendable self.now limit (choice_of part.now) }
+    {
+        part.fin
+            || part.len != 0
+                && !(self.settings.nagle && part.len < limit && self.sender.in_flight != 0)
+    }
+
+    /// The segment at SND.UNA again, where so many bytes are queued and so many of them lie there
+    /// behind one another.
+    pub fn first_part(
+        &self,
+        addresses: &AddressPair,
+        ip_mtu: usize,
+        queued: usize,
+        unbroken: usize,
+    ) -> Part
+        ensures { choice_of result ≡ first_text self.now queued (min (size_limit self.now addresses.now ip_mtu) unbroken) }
+    {
+        let len = self.size_limit(addresses, ip_mtu).min(unbroken);
+        Part {
+            place: 0,
+            len,
+            fin: self.fin_goes(queued, len),
+        }
+    }
+
+    /// The number of a place in the send queue.
+    pub fn number_at(&self, place: usize) -> SeqNumber
+        requires { place < 2 ^ 63 }
+        ensures { result ≡ number_at self.now place }
+    {
+        behind_by(self.sender.una, self.sender.syn_unacked as usize + place)
+    }
+
+    /// Whether the window field would be at least twice what was sent last.
+    pub fn updates_window(&self, window: u16) -> bool
+        ensures { result ≡ updates_window self.now window }
+    {
+        self.state.takes_text() && window != 0 && self.receiver.advertised <= window / 2
+    }
+
+    /// When a keep-alive is due.
+    pub fn keep_alive_moment(&self) -> Option<Instant>
+        ensures { result ≡ keep_alive_moment self.now }
+    {
+        if self.state.keeps_alive() && self.sender.in_flight == 0 {
+            self.settings.keep_alive_at
+        } else {
+            None
+        }
+    }
+
+    /// Where the retransmission timer has run out: SND.NXT goes back to SND.UNA, and the timer is off
+    /// until a segment goes.
+    pub fn back_off(&mut self, now: Instant)
+        ensures { self.new ≡ backed_off now self.old }
+    {
+        if !is_due(now, self.timers.retransmit_at) {
+            return;
+        }
+        self.reno.timed_out(self.sender.in_flight);
+        self.sender.in_flight = 0;
+        self.timers.retransmit_at = None;
+        self.round_trip.back_off();
+        self.round_trip.forget_sample();
+    }
+}

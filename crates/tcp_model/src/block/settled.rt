@@ -1,0 +1,96 @@
+//! What an offer is told.
+ghost use Rattle.std.specs.Prelude.{◌≡◌, ◌+◌, ◌≤◌, ◌<◌, ◌^◌};
+ghost use Rattle.net_base.specs.Time.{IsMoment};
+ghost use Rattle.tcp_model.specs.Settled.{recorded, end_of, nxt_moved, timer_started, went, syn_went, resent, probed, sent_as};
+
+use crate::moments::{later_by, timeout_from};
+use crate::{Block, OfferKind, OpenOffer};
+use net_base::Instant;
+
+impl Block {
+    /// Records what each segment that went counts for.
+    fn record(&mut self, offer: &OpenOffer)
+        requires { IsMoment offer.now.moment }
+        ensures { self.new ≡ recorded self.old offer.now }
+    {
+        self.receiver.advertised = offer.segment.window_len;
+        if offer.segment.ack_number.is_some() {
+            self.timers.ack_at = None;
+            self.timers.text_unacked = false;
+        }
+        self.settings.keep_alive_at = later_by(offer.moment, self.settings.keep_alive);
+    }
+
+    /// SND.NXT moves so far past SND.UNA, if that is higher, and the segment's round trip is timed.
+    fn move_nxt(&mut self, end: u32, now: Instant)
+        requires { IsMoment now }
+        ensures { self.new ≡ nxt_moved self.old end now }
+    {
+        if self.sender.in_flight < end {
+            self.sender.in_flight = end;
+            self.round_trip.time(end, now);
+        }
+    }
+
+    fn start_timer(&mut self, now: Instant)
+        requires { IsMoment now }
+        ensures { self.new ≡ timer_started self.old now }
+    {
+        if self.timers.retransmit_at.is_none() {
+            self.timers.retransmit_at = Some(timeout_from(now, &self.round_trip));
+        }
+    }
+
+    /// A segment from the send queue, or a SYN, went.
+    fn went(&mut self, offer: &OpenOffer, queued: usize)
+        requires moment { IsMoment offer.now.moment }
+        requires end { end_of self.old offer.now < 2 ^ 32 }
+        ensures { self.new ≡ went self.old offer.now queued }
+    {
+        let start = self.sender.una.distance(offer.segment.seq_number) as usize;
+        let end = start + offer.len + offer.segment.control.len();
+        self.move_nxt(end as u32, offer.moment);
+        self.start_timer(offer.moment);
+        self.keep_probe(queued);
+    }
+
+    /// The segment at SND.UNA went again.
+    fn resent(&mut self)
+        ensures { self.new ≡ resent self.old }
+    {
+        self.sender.resend = false;
+        self.round_trip.forget_sample();
+    }
+
+    /// A probe went: the next waits twice as long.
+    fn probed(&mut self, now: Instant)
+        requires { IsMoment now }
+        ensures { self.new ≡ probed self.old now }
+    {
+        self.round_trip.back_off();
+        self.timers.probe_at = Some(timeout_from(now, &self.round_trip));
+    }
+
+    /// What was offered went.
+    pub fn sent(&mut self, offer: &OpenOffer, queued: usize)
+        requires moment { IsMoment offer.now.moment }
+        requires end { end_of self.old offer.now < 2 ^ 32 }
+        ensures { self.new ≡ sent_as offer.now.kind (recorded self.old offer.now) offer.now queued }
+    {
+        self.record(offer);
+        match offer.kind {
+            OfferKind::Reset => self.forget(),
+            OfferKind::Syn => {
+                self.sender.stamped = offer.segment.options.timestamp.is_some();
+                self.went(offer, queued);
+            }
+            OfferKind::FastRetransmission => {
+                self.resent();
+                self.went(offer, queued);
+            }
+            OfferKind::Text => self.went(offer, queued),
+            OfferKind::Probe => self.probed(offer.moment),
+            OfferKind::Ack | OfferKind::WindowUpdate | OfferKind::KeepAlive => {}
+        }
+    }
+}
