@@ -8,6 +8,7 @@ pub mod Handed
 pub mod Turns
 pub mod Keeps
 pub mod ScriptRunLemmas
+pub mod ScriptPieceLemmas
 pub mod Histories
 pub mod Running
 pub mod Beginnings

@@ -1,5 +1,5 @@
 -- Lemmas on the words of a script.
-use Rattle.std.proofs.Common.{◌≡◌, ℕ, ℤ, ◌==◌, ◌-◌, ◌%◌, ◌<◌, ◌≤◌, ◌^◌, Bool, true, false, not, cond, eqb, nat_le, ◌&&◌, ◌||◌, List, [], ◌∷◌, length, refl, sym, inl, inr, ap, ◌∙◌, arith, rules, Option, Some, None, Result, Ok, Err, drop}
+use Rattle.std.proofs.Common.{◌≡◌, ℕ, ℤ, ◌==◌, ◌-◌, ◌%◌, ◌<◌, ◌≤◌, ◌^◌, Bool, true, false, not, cond, eqb, nat_le, ◌&&◌, ◌||◌, List, [], ◌∷◌, length, refl, sym, inl, inr, ap, ◌∙◌, arith, rules, Option, Some, None, Result, Ok, Err}
 use Rattle.std.specs.Option.{is_some}
 use Rattle.std.specs.List.{onto_first, position_or_len, list_all, before_first, after_first}
 use Rattle.std.specs.Char.{is_ascii_digit, is_ascii_hexdigit}
@@ -15,8 +15,7 @@ use Rattle.std.proofs.lemmas.List.Sums.{AllPass-from_list_all, list_all-from_All
 use Rattle.hex.specs.declared.error.FromHexError.{FromHexError}
 use Rattle.hex.specs.Hex.{is_hex_digit, decode_of}
 use Rattle.hex.proofs.HexLemmas.{decode_of-ok, decode_of-digits}
-use Rattle.lan.specs.ScriptWords.{words_of, words_left, number_of, micros_of, first_as, four, ◌>>=◌}
-use Rattle.lan.specs.ScriptLines.{at_end}
+use Rattle.lan.specs.ScriptWords.{words_of, words_left, number_of, micros_of}
 
 -- WORDS
 

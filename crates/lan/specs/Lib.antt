@@ -10,4 +10,5 @@ pub mod Invariant
 pub mod ScriptEnds
 pub mod ScriptHosts
 pub mod ScriptRuns
+pub mod ScriptPieces
 pub mod Fresh

@@ -1,5 +1,7 @@
 -- The hosts that the header of a script asks for.
 use Rattle.std.specs.Prelude.{ℕ, if◌then◌else◌, List, [], ◌∷◌}
+use Rattle.net_base.specs.Capabilities.{all_checksums}
+use Rattle.net_base.specs.Checksum.TheVariants.{Both}
 use Rattle.ip_wire.specs.Ipv4Address.{Ipv4Address}
 use Rattle.lan_machine.specs.declared.event.Side.{Side}
 use Rattle.lan_machine.specs.declared.event.Side.TheVariants.{A, B}
@@ -29,6 +31,6 @@ abbrev pub with_sockets : Side → StationValue → List (Side × SocketSizes) �
 with_sockets side s [] = s
 with_sockets side s (socket ∷ sockets) = with_sockets side (with_own_socket side s socket.0 socket.1) sockets
 
--- a host as a script starts it
+-- a host as a script starts it: it verifies and computes every checksum
 abbrev pub host_of : HeaderValue → Side → StationValue
-host_of h side = with_sockets side (fresh_station (address side) h.mtu) h.sockets
+host_of h side = with_sockets side (fresh_station (address side) h.mtu (all_checksums Both)) h.sockets

@@ -30,7 +30,7 @@ impl Model for Host {
 impl Host {
     /// A host of this IPv4 address without sockets, over a device of these capabilities.
     pub fn new(alloc: Global, address: Ipv4Address, capabilities: DeviceCapabilities) -> Host
-        ensures { result ≡ fresh_station address (ip_mtu capabilities) }
+        ensures { result ≡ fresh_station address (ip_mtu capabilities) capabilities.checksum }
     {
         ipv4_in_range(address);
         Host {

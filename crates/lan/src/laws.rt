@@ -1,10 +1,17 @@
 //! The laws of a world and of the script language. Each is a function that does nothing, whose clause is the law.
-ghost use Rattle.std.specs.Prelude.{◌≡◌, ℕ, List};
+ghost use Rattle.std.specs.Prelude.{◌≡◌, ◌^◌, ℕ, List};
 ghost use Rattle.lan_machine.specs.declared.event.Event.{Event};
 ghost use Rattle.lan.specs.declared.script.line.Line.{Line};
 ghost use Rattle.lan.specs.Runs.{WorldValue, Steps};
 ghost use Rattle.lan.specs.ScriptLines.{SaysLine};
 ghost use Rattle.lan.specs.ScriptRuns.{IsReplay, IsSameReplay};
+
+use crate::script::replay::MOST_READS;
+
+/// `replay` reads from its reader 2^32 times at most.
+pub fn reads_have_a_bound()
+    ensures { MOST_READS ≡ 2 ^ 32 }
+{}
 
 /// The events that a world takes determine all that becomes of it: each answer, each frame, and
 /// what the hosts are then.

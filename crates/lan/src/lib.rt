@@ -10,5 +10,5 @@ mod world;
 pub use host::Host;
 pub use lan_machine::{Answer, Bytes, Event, Fault, Refused, Side};
 pub use lan_port::Port;
-pub use script::replay::replay;
+pub use script::replay::{MOST_READS, replay};
 pub use world::{World, WorldError};

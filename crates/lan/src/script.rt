@@ -3,5 +3,6 @@
 mod answer;
 mod line;
 pub mod replay;
+mod run;
 mod session;
 mod words;

@@ -227,6 +227,3 @@ fn play(
         }
     }
 }
-
-#[cfg(test)]
-mod tests;

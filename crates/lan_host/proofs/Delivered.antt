@@ -144,3 +144,18 @@ pub changed-step : (changed all : Bool) (left : ℕ) (waiting rest : List (List 
 changed-step changed all left waiting rest frame some first so_far =
     let one : nat_lt 0 (length (take left waiting)) ≡ true = ap (λ (frames : List (List ℕ)). nat_lt 0 (length frames)) (taken-step left waiting rest frame some first).0 ∙ above_zero (length (take (left - 1) rest)) in
     sym (or_true changed) ∙ ap (λ (b : Bool). changed || b) (sym one) ∙ so_far
+
+-- where nothing waits, nothing is taken
+drop_none : (left : ℕ) (waiting : List (List ℕ)) → waiting ≡ [] → drop left waiting ≡ waiting
+drop_none zero waiting none = refl
+drop_none (suc n) waiting none = rw none refl
+
+pub idle_port : (left : ℕ) (port : PortValue) → port.link.waiting ≡ [] → port ≡ without_waiting port left
+idle_port left port none =
+    ap (λ (waiting : List (List ℕ)). record port { link = record port.link { waiting = waiting } }) (sym (drop_none left port.link.waiting none))
+
+pub idle_changed : (changed all : Bool) (left : ℕ) (waiting : List (List ℕ)) → waiting ≡ []
+    → (changed || nat_lt 0 (length (take left waiting))) ≡ all → changed ≡ all
+idle_changed true all left waiting none so_far = so_far
+idle_changed false all zero waiting none so_far = so_far
+idle_changed false all (suc n) waiting none so_far = let none_taken = rw none at so_far in none_taken

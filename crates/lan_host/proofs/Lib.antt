@@ -4,3 +4,4 @@ pub mod Passes
 pub mod Prepared
 pub mod Queues
 pub mod Unspecified
+pub mod Leave

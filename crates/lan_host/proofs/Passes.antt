@@ -64,13 +64,16 @@ offered-none address mtu s d ds first none =
 
 -- sending nothing, and one run of frames after another
 pub sends-none : (port : PortValue) → Sends port port []
-sends-none port = record { link = rw (append-nil port.link.sent) refl; ready = omega arith; size = refl }
+sends-none port =
+    let none : port.link.room - 0 ≡ port.link.room = omega arith in
+    record { link = rw (append-nil port.link.sent, none) refl; ready = omega arith; size = refl }
 
 pub sends-append : (old mid new : PortValue) (frames more : List (List ℕ)) → Sends old mid frames → Sends mid new more → Sends old new (frames ++ more)
 sends-append old mid new frames more first then =
+    let room : (old.link.room - length frames) - length more ≡ old.link.room - length (frames ++ more) = omega (arith, length-append frames more) in
     record {
-      link = then.link ∙ ap (λ (l : LinkEnd). record l { sent = l.sent ++ more }) first.link
-          ∙ ap (λ (sent : List (List ℕ)). record old.link { sent = sent }) (append_assoc old.link.sent frames more);
+      link = then.link ∙ ap (λ (l : LinkEnd). record l { sent = l.sent ++ more; room = l.room - length more }) first.link
+          ∙ rw (append_assoc old.link.sent frames more, room) refl;
       ready = omega (arith, first.ready, then.ready, length-append frames more);
       size = then.size ∙ first.size;
     }
@@ -113,6 +116,10 @@ or_false false = refl
 pub still_tokens : (old new : PortValue) (frames : List (List ℕ)) → Sends old new frames → IsTrue (gives_tokens old.link.refusals) → IsTrue (gives_tokens new.link.refusals)
 still_tokens old new frames sends tokens = subst (λ (l : LinkEnd). IsTrue (gives_tokens l.refusals)) (sym sends.link) tokens
 
+-- each frame takes room for one
+sent_room : (old new : PortValue) (frames : List (List ℕ)) → Sends old new frames → new.link.room ≡ old.link.room - length frames
+sent_room old new frames sends = ap (λ (l : LinkEnd). l.room) sends.link
+
 -- a pass's frames: those of the sockets before the i-th, its own, and those of the others
 pub pass_frames-split : (address : Ipv4Address) (mtu : ℕ) (ss : List SocketValue) (i : ℕ) (d : SocketValue) → i < length ss
     → pass_frames address mtu (take (i + 1) ss) ≡ pass_frames address mtu (take i ss) ++ offered address mtu (get_or ss i d).port (get_or ss i d).queued
@@ -139,6 +146,7 @@ can_offer address mtu old port init items i d within can so_far sends =
     let needs : CanSend port mtu (here ∷ []) (offered address mtu here.port here.queued) =
     record {
       tokens = still_tokens old port before sends can.tokens;
+      room = omega (arith, all, to_here, sent_room old port before sends, can.room);
       ready = omega (arith, all, to_here, sends.ready, can.ready);
       sizes = single (λ (s : SocketValue). longest_frame mtu s.queued ≤ port.size) here (rw sends.size (can.sizes i d within));
     } in
@@ -209,6 +217,7 @@ still_ready address mtu left old new ss after some can sends passed =
     let needs : CanSend new mtu (pass_after ss) frames =
     record {
       tokens = still_tokens old new (pass_frames address mtu ss) sends can.tokens;
+      room = omega (arith, lengths, sent_room old new (pass_frames address mtu ss) sends, can.room);
       ready = omega (arith, lengths, sends.ready, can.ready);
       sizes = rw sends.size (pass-sizes mtu old.size ss can.sizes);
     } in

@@ -114,6 +114,7 @@ prepared address mtu budget port contents ss ts tokens room arrived =
     sym (queues-needed budget ts) ∙ ap (sum_by (λ (q : List DatagramValue). min (length q) budget)) same ∙ queues-needed budget ss in
     record {
       tokens = tokens;
+      room = omega (arith, passes-needed address mtu budget ts, needed, room.room);
       ready = omega (arith, passes-needed address mtu budget ts, needed, room.ready);
       sizes = queues-sizes mtu port.size ss ts same room.sizes;
     }

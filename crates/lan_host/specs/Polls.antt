@@ -1,5 +1,5 @@
 -- What a poll does to the sockets, and at the host's end of the link.
-use Rattle.std.specs.Prelude.{◌≡◌, ℕ, List, ◌++◌, take, drop, Option}
+use Rattle.std.specs.Prelude.{◌≡◌, ℕ, ◌-◌, List, ◌++◌, length, take, drop, Option}
 use Rattle.ip_wire.specs.Ipv4Address.{Ipv4Address}
 use Rattle.lan_port.specs.Port.{LinkEnd}
 use Rattle.lan_machine.specs.Packet.{Packet, AreContents}
@@ -16,4 +16,5 @@ pub record Polls (address : Ipv4Address) (mtu budget : ℕ) (old new : List Sock
       ≡ record link {
         waiting = drop budget link.waiting;
         sent = link.sent ++ passes_frames address mtu budget (arrivals address contents old);
+        room = link.room - length (passes_frames address mtu budget (arrivals address contents old));
       }

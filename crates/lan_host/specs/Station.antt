@@ -1,5 +1,6 @@
 -- A host at the link: how it begins, and what an event makes of it.
 use Rattle.std.specs.Prelude.{◌≡◌, ℕ, pos, ◌<◌, List, [], ◌∷◌, ◌++◌, length, Option}
+use Rattle.net_base.specs.ChecksumCapabilities.{ChecksumCapabilities}
 use Rattle.ip_wire.specs.Ipv4Address.{Ipv4Address}
 use Rattle.lan_machine.specs.declared.event.Event.{Event}
 use Rattle.lan_machine.specs.declared.event.Event.TheVariants.{Bind, SendTo, RecvFrom, Poll, Deliver}
@@ -8,10 +9,15 @@ use Rattle.lan_machine.specs.Packet.{Packet, AreContents}
 use Rattle.lan_machine.specs.Values.{SocketValue, StationValue}
 use Rattle.lan_machine.specs.Machine.{taken_by, answer_of, host_after, frames_of}
 
--- a host without sockets that nothing has happened to
-abbrev pub fresh_station : Ipv4Address → ℕ → StationValue
-fresh_station address mtu =
-    record { host = record { address = address; mtu = mtu; moment = pos 0; sockets = [] }; waiting = []; sent = [] }
+-- a host without sockets that nothing has happened to, over a device that takes IP packets of this length and leaves
+-- these checksums to it
+abbrev pub fresh_station : Ipv4Address → ℕ → ChecksumCapabilities → StationValue
+fresh_station address mtu checksums =
+    record {
+      host = record { address = address; mtu = mtu; checksums = checksums; moment = pos 0; sockets = [] };
+      waiting = [];
+      sent = [];
+    }
 
 -- an unbound socket with empty queues, which take so many datagrams and bytes
 abbrev pub fresh_socket : ℕ → ℕ → ℕ → ℕ → SocketValue

@@ -1,4 +1,4 @@
-ghost use Rattle.std.specs.Prelude.{◌≡◌, ◌<◌, ◌+◌, ◌^◌, ◌≤◌, ◌&&◌, max, nat_lt, IsTrue, IfSome, OnOk, [], ◌∷◌, length};
+ghost use Rattle.std.specs.Prelude.{◌≡◌, ◌<◌, ◌+◌, ◌-◌, ◌^◌, ◌≤◌, ◌&&◌, max, nat_lt, IsTrue, IfSome, OnOk, [], ◌∷◌, length};
 ghost use Rattle.std.specs.List.{list_any, fold};
 ghost use Rattle.lan_machine.specs.Machine.{packet_from, offered, offer_after, pass_frames, pass_after, passes_frames, passes_after, has_queued};
 ghost use Rattle.net_base.specs.Device.{gives_tokens};
@@ -22,6 +22,7 @@ pub fn prepare(
     sockets: &[Socket],
     port: &mut Port,
 ) -> Result<(), AllocError>
+    requires { port.old.link.room ≡ 2 ^ 64 - 1 }
     ensures link { port.new.link ≡ port.old.link }
     ensures ok { OnOk result (IsPrepared port.new mtu budget sockets.now) }
 {
@@ -152,6 +153,7 @@ fn send(headers: Headers, payload: &[u8], moment: Instant, port: &mut Port)
     requires covers { headers.ip.payload_len ≡ 8 + length payload.now }
     requires fits { 28 + length payload.now < 2 ^ 16 }
     requires tokens { IsTrue (gives_tokens port.old.link.refusals) }
+    requires room { 0 < port.old.link.room }
     requires ready { 0 < port.old.ready }
     requires size { 28 + length payload.now ≤ port.old.size }
     ensures { Sends port.old port.new (frame_of headers payload.now ∷ []) }

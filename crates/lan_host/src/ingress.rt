@@ -1,4 +1,4 @@
-ghost use Rattle.std.specs.Prelude.{◌≡◌, ◌==◌, ◌≤◌, IsTrue, length, take, slice_range, nat_lt};
+ghost use Rattle.std.specs.Prelude.{◌≡◌, ◌==◌, ◌<◌, ◌≤◌, IsTrue, length, take, slice_range, nat_lt};
 ghost use Rattle.std.specs.List.{position_from};
 ghost use Rattle.net_base.specs.Device.{gives_tokens};
 ghost use Rattle.lan_machine.specs.Machine.{datagram_of};
@@ -22,7 +22,8 @@ pub fn arrivals(
     sockets: &mut Vec<Socket>,
     port: &mut Port,
 ) -> bool
-    requires { IsTrue (gives_tokens port.old.link.refusals) }
+    requires tokens { IsTrue (gives_tokens port.old.link.refusals) }
+    requires room { 0 < port.old.link.room }
     ensures sockets { FramesArrive address.now (take budget port.old.link.waiting) sockets.old.items sockets.new.items }
     ensures port { port.new ≡ without_waiting port.old budget }
     ensures changed { result ≡ nat_lt 0 (length (take budget port.old.link.waiting)) }

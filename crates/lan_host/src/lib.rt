@@ -13,7 +13,5 @@ mod poll;
 mod queue;
 mod socket;
 mod station;
-#[cfg(test)]
-mod tests;
 
 pub use station::Station;

@@ -1,4 +1,4 @@
-ghost use Rattle.std.specs.Prelude.{◌≡◌, ◌&&◌, ◌||◌, IsTrue, IfOk, OnOk, OnErr, length, take, nat_lt};
+ghost use Rattle.std.specs.Prelude.{◌≡◌, ◌-◌, ◌^◌, ◌&&◌, ◌||◌, IsTrue, IfOk, OnOk, OnErr, length, take, nat_lt};
 ghost use Rattle.std.specs.List.{list_any};
 ghost use Rattle.net_base.specs.Device.{gives_tokens};
 ghost use Rattle.lan_machine.specs.Machine.{has_queued};
@@ -23,7 +23,8 @@ pub fn poll(
     sockets: &mut Vec<Socket>,
     port: &mut Port,
 ) -> Result<bool, AllocError>
-    requires { IsTrue (gives_tokens port.old.link.refusals) }
+    requires tokens { IsTrue (gives_tokens port.old.link.refusals) }
+    requires room { port.old.link.room ≡ 2 ^ 64 - 1 }
     ensures polls { OnOk result (Polls address.now mtu budget sockets.old.items sockets.new.items port.old.link port.new.link) }
     ensures changed { IfOk result (λ changed. changed ≡ (nat_lt 0 (length (take budget port.old.link.waiting)) || (nat_lt 0 budget && list_any has_queued sockets.old.items))) }
     ensures sockets_stay { OnErr result (sockets.new.items ≡ sockets.old.items) }

@@ -33,7 +33,7 @@ impl Model for Station {
 
     ghost Value = { StationValue };
 
-    ghost view = { λ s. record { host = record { address = s.address; mtu = s.mtu; moment = s.moment; sockets = s.sockets.items }; waiting = s.port.link.waiting; sent = s.port.link.sent } };
+    ghost view = { λ s. record { host = record { address = s.address; mtu = s.mtu; checksums = s.port.link.capabilities.checksum; moment = s.moment; sockets = s.sockets.items }; waiting = s.port.link.waiting; sent = s.port.link.sent } };
 
     ghost invariant = { λ s. s.port.link.refusals ≡ 0 };
 }
@@ -42,7 +42,7 @@ impl Station {
     /// A host of this address without sockets, over a port of these capabilities. Its last moment
     /// is 0. It allocates nothing: `alloc` serves later calls.
     pub fn new(alloc: Global, address: Ipv4Address, capabilities: DeviceCapabilities) -> Station
-        ensures { result ≡ fresh_station address (ip_mtu capabilities) }
+        ensures { result ≡ fresh_station address (ip_mtu capabilities) capabilities.checksum }
     {
         Station {
             alloc,
@@ -95,6 +95,7 @@ impl Station {
                 calls::recv_from(self.alloc, &mut self.sockets[*i], *limit)
             }
             Event::Poll(_, moment, budget) => {
+                self.port.set_room(usize::MAX);
                 let changed = poll::poll(
                     &self.address,
                     self.mtu,

@@ -195,15 +195,15 @@ port_law h (Deliver side k padding) taken contents i within = refl
 -- THE SAME HOST
 
 with_socket_same : (h : HostValue) (j : ℕ) (s : SocketValue) → IsSameHost h (with_socket h j s)
-with_socket_same h j s = record { address = refl; mtu = refl; sockets = length-set h.sockets j s }
+with_socket_same h j s = record { address = refl; mtu = refl; checksums = refl; sockets = length-set h.sockets j s }
 
 pub same_law : SameLaw
 same_law h (Bind side j port) contents = with_socket_same h j (bind_after (socket_at h j) port)
 same_law h (SendTo side j remote bytes) contents = with_socket_same h j (send_after (socket_at h j) remote bytes)
 same_law h (RecvFrom side j limit) contents = with_socket_same h j (recv_after (socket_at h j))
 same_law h (Poll side moment budget) contents =
-    record { address = refl; mtu = refl; sockets = length-passes_after budget (arrivals h.address contents h.sockets) ∙ length-arrivals h.address contents h.sockets }
-same_law h (Deliver side k padding) contents = record { address = refl; mtu = refl; sockets = refl }
+    record { address = refl; mtu = refl; checksums = refl; sockets = length-passes_after budget (arrivals h.address contents h.sockets) ∙ length-arrivals h.address contents h.sockets }
+same_law h (Deliver side k padding) contents = record { address = refl; mtu = refl; checksums = refl; sockets = refl }
 
 -- RANGES
 

@@ -107,9 +107,10 @@ PortLaw =
 pub record IsSameHost (h next : HostValue) : Type 0 where
   pub address : next.address ≡ h.address
   pub mtu : next.mtu ≡ h.mtu
+  pub checksums : next.checksums ≡ h.checksums
   pub sockets : length next.sockets ≡ length h.sockets
 
--- no event changes a host's address, its MTU or how many sockets it has: `same_law`
+-- no event changes a host's address, its MTU, its checksums or how many sockets it has: `same_law`
 abbrev pub SameLaw : Type 0
 SameLaw = (h : HostValue) (event : Event) (contents : List (Option Packet)) → IsSameHost h (host_after h event contents)
 

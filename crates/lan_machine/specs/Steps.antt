@@ -4,7 +4,7 @@ use Rattle.lan_machine.specs.declared.event.Event.{Event}
 use Rattle.lan_machine.specs.declared.event.Answer.{Answer}
 use Rattle.lan_machine.specs.Values.{HostValue}
 use Rattle.lan_machine.specs.Packet.{Packet, AreContents}
-use Rattle.lan_machine.specs.Machine.{answer_of, host_after, frames_of}
+use Rattle.lan_machine.specs.Machine.{taken_by, answer_of, host_after, frames_of}
 
 -- one turn of a host: the event, the frames that it took, its answer, and the frames that it sent
 pub record Turn : Type 0 where
@@ -13,8 +13,10 @@ pub record Turn : Type 0 where
   pub answer : Answer
   pub sent : List (List ℕ)
 
--- the host makes this turn and becomes the next value. The frames that it took determine their contents
+-- the host makes this turn and becomes the next value. A call takes no frame, and a poll no more than its budget; the
+-- frames that it took determine their contents
 pub record HostStep (h : HostValue) (turn : Turn) (next : HostValue) : Type 0 where
+  pub bounded : taken_by turn.event turn.taken ≡ turn.taken
   pub contents : List (Option Packet)
   pub reads : AreContents turn.taken contents
   pub answers : turn.answer ≡ answer_of h turn.event turn.taken

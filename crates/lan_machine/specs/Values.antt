@@ -1,5 +1,6 @@
--- A host as a value: its address, its sockets with their queues, and the moment of its last poll.
+-- A host as a value: its address, its device, its sockets with their queues, and the moment of its last poll.
 use Rattle.std.specs.Prelude.{ℕ, ℤ, ◌+◌, List, [], ◌∷◌, length, Bool, ◌||◌, nat_lt, slice_index_or}
+use Rattle.net_base.specs.ChecksumCapabilities.{ChecksumCapabilities}
 use Rattle.ip_wire.specs.IpEndpoint.{IpEndpoint}
 use Rattle.ip_wire.specs.Ipv4Address.{Ipv4Address}
 
@@ -22,6 +23,7 @@ pub record SocketValue : Type 0 where
 pub record HostValue : Type 0 where
   pub address : Ipv4Address
   pub mtu : ℕ  -- the longest IP packet that its device takes
+  pub checksums : ChecksumCapabilities  -- which of them its device leaves to it
   pub moment : ℤ  -- of its last poll, in microseconds; 0 at first
   pub sockets : List SocketValue
 

@@ -3,7 +3,5 @@
 
 mod pool;
 mod port;
-#[cfg(test)]
-mod tests;
 
 pub use port::{Port, PortTxToken};

@@ -1,6 +1,6 @@
 ghost use Rattle.std.specs.Prelude.{◌≡◌, ◌<◌, ◌≤◌, max, [], ◌∷◌, ◌++◌, OnOk, OnErr};
 ghost use Rattle.net_base.specs.Device.{frames_of};
-ghost use Rattle.lan_port.specs.Port.{unused_end, arrived, ready_for};
+ghost use Rattle.lan_port.specs.Port.{unused_end, arrived, added, ready_for};
 
 use crate::pool::{fill, keep, take_buffer};
 use net_base::{Device, DeviceCapabilities, Instant, OwnedRxToken, SendRefused, TxToken};
@@ -11,14 +11,16 @@ use std::marker::Model;
 /// A host's end of a simulated link.
 ///
 /// Frames that the simulator pushes wait until the host receives them; frames that the host sends
-/// are kept for the simulator. A contract sees both lists of frames, the count of refusals, the
-/// capabilities, and how many buffers lie ready for sends.
+/// are kept for the simulator. The port has room for so many frames more; at room 0 it gives no
+/// token, and so no frame comes or goes. A contract sees both lists of frames, the room, the count of
+/// refusals, the capabilities, and how many buffers lie ready for sends.
 #[derive(Debug, Drop)]
 pub struct Port {
     incoming: VecDeque<Vec<u8>>,
     outgoing: Vec<Vec<u8>>,
     spare: Vec<Vec<u8>>,
     frame_size: usize,
+    left: usize,
     refused: u64,
     described: DeviceCapabilities,
 }
@@ -35,6 +37,7 @@ impl Model for Port {
       link = record {
         waiting = frames_of p.incoming.items;
         sent = frames_of p.outgoing.items;
+        room = p.left;
         refusals = p.refused;
         capabilities = p.described;
       };
@@ -61,6 +64,7 @@ impl Port {
             outgoing: Vec::new(alloc),
             spare: Vec::new(alloc),
             frame_size: 0,
+            left: usize::MAX,
             refused: 0,
             described: capabilities,
         }
@@ -89,6 +93,32 @@ impl Port {
         ensures { frames_of result.now ≡ self.now.link.sent }
     {
         self.outgoing.as_slice()
+    }
+
+    /// The link puts a frame behind the sent ones, whatever the room. It may find no memory for its
+    /// place; then it is lost and nothing else changes.
+    pub fn add(&mut self, frame: Vec<u8>) -> Result<(), AllocError>
+        ensures ok { OnOk result
+            (self.new ≡ record self.old { link = added self.old.link frame.items }) }
+        ensures err { OnErr result (self.new ≡ self.old) }
+    {
+        self.outgoing.reserve(self.spare.len() + 1)?;
+        keep(&mut self.outgoing, frame);
+        Ok(())
+    }
+
+    /// How many frames more the port takes.
+    pub fn room(&self) -> usize
+        ensures { result ≡ self.now.link.room }
+    {
+        self.left
+    }
+
+    /// From now on the port takes so many frames more.
+    pub fn set_room(&mut self, room: usize)
+        ensures { self.new ≡ record self.old { link = record self.old.link { room = room } } }
+    {
+        self.left = room;
     }
 
     /// Makes buffers ready, so that the next `count` sends of frames of at most `size` bytes are
@@ -130,7 +160,7 @@ impl Device for Port {
     }
 
     fn transmit(&mut self, _timestamp: Instant) -> Option<PortTxToken> {
-        if self.refused < u64::MAX {
+        if 0 < self.left && self.refused < u64::MAX {
             Some(PortTxToken {})
         } else {
             None
@@ -150,6 +180,7 @@ impl Device for Port {
         };
         let answer = f(frame.as_mut_slice());
         keep(&mut self.outgoing, frame);
+        self.left = self.left.saturating_sub(1);
         Ok(answer)
     }
 

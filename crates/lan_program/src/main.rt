@@ -1,9 +1,6 @@
 //! Runs a script on standard input, and writes what it answers to standard output.
 #![tactic(auto)]
 
-#[cfg(test)]
-mod tests;
-
 use std::io;
 use std::process::ExitCode;
 

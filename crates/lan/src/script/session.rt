@@ -6,6 +6,8 @@ ghost use Rattle.lan_machine.specs.declared.event.Side.TheVariants.{A, B};
 ghost use Rattle.lan.specs.Steps.{refusal};
 ghost use Rattle.lan.specs.Runs.{Step};
 ghost use Rattle.lan.specs.Fresh.{new_refusal, new_world};
+ghost use Rattle.net_base.specs.Capabilities.{all_checksums};
+ghost use Rattle.net_base.specs.Checksum.TheVariants.{Both};
 ghost use Rattle.lan_host.specs.Station.{fresh_station};
 ghost use Rattle.lan.specs.ScriptHosts.{address, host_of, with_sockets};
 ghost use Rattle.lan.specs.ScriptRuns.{event_text};
@@ -153,7 +155,7 @@ fn make_host(
     mtu: usize,
     sockets: &[(Side, SocketSizes)],
 ) -> Result<Host, AllocError>
-    ensures { IfOk result (λ host. host ≡ with_sockets side (fresh_station (address side) mtu) sockets.now) }
+    ensures { IfOk result (λ host. host ≡ with_sockets side (fresh_station (address side) mtu (all_checksums Both)) sockets.now) }
 {
     let capabilities = DeviceCapabilities {
         medium: Medium::Ip,

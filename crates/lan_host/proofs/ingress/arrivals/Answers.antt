@@ -1,10 +1,11 @@
 use Rattle.std.proofs.Common.{◌≡◌, [], ◌∷◌, ◌∙◌, ap, refl, sym, subst, arith, take, List, ℕ, IsTrue}
-use Rattle.net_base.specs.Device.{gives_tokens}
-use Rattle.lan_port.specs.Port.{PortValue}
+use Rattle.lan_port.specs.Port.{PortValue, has_leave}
+use Rattle.lan_host.proofs.Leave.{leave_with_room}
 use Rattle.lan_machine.specs.Packet.{AreContents}
 use Rattle.lan_host.specs.Arrivals.{FrameArrives}
-use Rattle.lan_host.proofs.Delivered.{none_taken, arrivals-step, waiting-step, changed-step}
+use Rattle.lan_host.proofs.Delivered.{none_taken, idle_port, idle_changed, arrivals-step, waiting-step, changed-step}
 use Rattle.lan_host.proofs.ingress.arrivals.Goals as goal
+use Rattle.lan_host.proofs.ingress.arrivals.Goals.{In_default}
 
 pub loop-left-init : goal.loop-left-init
 loop-left-init c =
@@ -36,7 +37,19 @@ returns-after-loop-left-clause-sockets c =
     let none : c.loop-left.left ≡ 0 = omega arith in
     c.loop-left.invariant.sockets [] (subst (λ (n : ℕ). AreContents (take n c.loop-left.port.link.waiting) []) (sym none) tt)
 
+-- the port gave no token for a frame, so none waits
+none_waits : (c : In_default) → c.loop-left.port.link.waiting ≡ []
+none_waits c =
+    c.in_default.ensures.moves.1 (subst (λ (p : PortValue). IsTrue (has_leave p.link)) (sym c.loop-left.invariant.port) (leave_with_room c.args.port.now.link c.requires.tokens c.requires.room))
+
 pub returns-in_default-clause-sockets : goal.returns-in_default-clause-sockets
 returns-in_default-clause-sockets c =
-    let tokens = subst (λ (p : PortValue). IsTrue (gives_tokens p.link.refusals)) (sym c.loop-left.invariant.port) c.requires in
-    c.loop-left.invariant.sockets [] (none_taken c.loop-left.left c.loop-left.port.link.waiting (c.in_default.ensures.moves.1 tokens))
+    c.loop-left.invariant.sockets [] (none_taken c.loop-left.left c.loop-left.port.link.waiting (none_waits c))
+
+pub returns-in_default-clause-port : goal.returns-in_default-clause-port
+returns-in_default-clause-port c =
+    c.in_default.ensures.moves.0 ∙ idle_port c.loop-left.left c.loop-left.port (none_waits c) ∙ c.loop-left.invariant.port
+
+pub returns-in_default-clause-changed : goal.returns-in_default-clause-changed
+returns-in_default-clause-changed c =
+    idle_changed c.loop-left.changed _ c.loop-left.left c.loop-left.port.link.waiting (none_waits c) c.loop-left.invariant.changed

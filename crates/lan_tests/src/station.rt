@@ -1,8 +1,8 @@
 // Frames in hex were made by a program of its own outside this repository, but for the first,
 // which is a worked example.
 
-use crate::Station;
 use ip_wire::{IpAddress, IpEndpoint, Ipv4Address, Ipv6Address};
+use lan_host::Station;
 use lan_machine::{Answer, Bytes, Event, Side};
 use net_base::{ChecksumCapabilities, DeviceCapabilities, Instant, Medium};
 use std::alloc::{AllocError, Global};

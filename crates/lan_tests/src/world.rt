@@ -1,7 +1,7 @@
-use super::*;
 use ip_wire::{IpAddress, IpEndpoint, Ipv4Address};
-use lan_machine::Fault;
+use lan::{Answer, Bytes, Event, Fault, Host, Refused, Side, World, WorldError};
 use net_base::{ChecksumCapabilities, DeviceCapabilities, Instant, Medium};
+use std::alloc::{AllocError, Global};
 use std::process::Abort;
 use std::test::Fail;
 

@@ -1,14 +1,12 @@
 use lan::replay;
 use std::alloc::Global;
-use std::io;
-use std::io::{ErrorKind, Read, Write};
 use std::process::Abort;
 use std::test::Fail;
 
-const ONE_DATAGRAM: &str =
+pub(crate) const ONE_DATAGRAM: &str =
     "world ip 1500\nsocket A udp 1 64 1 64\nsocket B udp 1 64 1 64\nstart\nbind A 0 48896\nbind B 0 53\nsendto A 0 192.168.1.2:53 aa0000ff\npoll A 0 8\ndeliver A 0 -\npoll B 0 8\nrecvfrom B 0 64\n";
 
-const ITS_ANSWERS: &str =
+pub(crate) const ITS_ANSWERS: &str =
     "ok\nok\nok\nok\nchanged\nsent A 0 45000020000040004011b779c0a80101c0a80102bf000035000c124daa0000ff\nok\nchanged\nfrom 192.168.1.1:48896 aa0000ff\n";
 
 // Asserts the status of a script over memory, and what it writes.
@@ -239,78 +237,6 @@ fn a_frame_comes_with_any_padding_and_any_number_of_times(rt: HostRuntime) -> Re
             0,
             "ok\nok\nok\nok\nchanged\nsent A 0 45000020000040004011b779c0a80101c0a80102bf000035000c124daa0000ff\nok\nok\nchanged\nfrom 192.168.1.1:48896 aa0000ff\nerror Truncated\nerror Exhausted\n",
         )?;
-    }
-    Ok(())
-}
-
-// A reader or a writer that fails after so many calls.
-#[derive(Drop)]
-struct Failing<T> {
-    calls: u32,
-    inner: T,
-}
-
-impl<T> Failing<T> {
-    fn call(&mut self) -> io::Result<()> {
-        if self.calls == 0 {
-            return Err(io::Error::from(ErrorKind::BrokenPipe));
-        }
-        self.calls -= 1;
-        Ok(())
-    }
-}
-
-impl<R: Read> Read for Failing<R> {
-    fn read(&mut self, buf: &mut [u8]) -> io::Result<usize> {
-        self.call()?;
-        let some = buf.len().min(7);
-        self.inner.read(&mut buf[..some])
-    }
-}
-
-impl<W: Write> Write for Failing<W> {
-    fn write(&mut self, buf: &[u8]) -> io::Result<usize> {
-        self.call()?;
-        self.inner.write(buf)
-    }
-
-    fn flush(&mut self) -> io::Result<()> {
-        self.call()?;
-        self.inner.flush()
-    }
-}
-
-#[test]
-fn a_failing_reader_or_writer_is_a_status_of_its_own(rt: HostRuntime) -> Result<(), Fail> {
-    let alloc = rt.alloc();
-    let script = ONE_DATAGRAM.as_bytes();
-    // 26 reads of 7 bytes give the script, and one more its end.
-    for calls in 0..30u32 {
-        let mut reader = Failing {
-            calls,
-            inner: script,
-        };
-        let mut writer = Vec::new(alloc);
-        let status = replay(alloc, &mut reader, &mut writer);
-        assert_eq!(rt;
-            status,
-            if calls < 27 { 2 } else { 0 },
-            "after {calls} reads"
-        );
-    }
-    // Eight lines are answered with one write each, and the end flushes.
-    for calls in 0..12u32 {
-        let mut reader = script;
-        let mut writer = Failing {
-            calls,
-            inner: Vec::new(alloc),
-        };
-        let status = replay(alloc, &mut reader, &mut writer);
-        assert_eq!(rt;
-            status,
-            if calls < 9 { 2 } else { 0 },
-            "after {calls} writes"
-        );
     }
     Ok(())
 }

@@ -1,4 +1,4 @@
-use super::*;
+use lan_port::Port;
 use net_base::{Device, DeviceCapabilities, Instant, Medium, RxToken};
 use std::alloc::Global;
 use std::test::Fail;
@@ -112,6 +112,61 @@ fn prepared_frames_are_not_refused(rt: HostRuntime) -> Result<(), Fail> {
     );
     assert!(rt; port.prepare(1, usize::MAX).is_err());
     assert_eq!(rt; port.sent().len(), 2);
+    Ok(())
+}
+
+/// Sends a frame of no bytes, if there is leave to.
+fn sends_nothing(port: &mut Port) -> bool {
+    let Some(leave) = port.transmit(Instant::ZERO) else {
+        return false;
+    };
+    port.send(leave, 0, |_buffer: &mut [u8]| {}).is_ok()
+}
+
+#[test]
+fn a_port_without_room_gives_no_token(rt: HostRuntime) -> Result<(), Fail> {
+    let alloc = rt.alloc();
+    let mut port = ip_port(alloc);
+    assert_eq!(rt; port.room(), usize::MAX);
+    assert!(rt; sends_nothing(&mut port));
+    assert_eq!(rt; port.room(), usize::MAX - 1);
+
+    port.set_room(2);
+    port.push(b"ping".to_vec(alloc)?)?;
+    assert!(rt; sends_nothing(&mut port));
+    assert_eq!(rt; port.room(), 1);
+    assert!(rt; sends_nothing(&mut port));
+    assert_eq!(rt; port.room(), 0);
+    assert!(rt; port.transmit(Instant::ZERO).is_none());
+    assert!(rt; port.receive(Instant::ZERO).is_none());
+    assert_eq!(rt; port.waiting().len(), 1, "what waits goes on waiting");
+
+    port.set_room(1);
+    let leave = port.transmit(Instant::ZERO).ok_or("leave to send")?;
+    let refused = port.send(leave, usize::MAX, |_buffer: &mut [u8]| {});
+    assert!(rt; refused.is_err());
+    assert_eq!(rt; port.room(), 1, "a refused send takes no room");
+    assert!(rt; echo(&mut port));
+    assert_eq!(rt; port.room(), 0);
+    Ok(())
+}
+
+#[test]
+fn the_link_adds_frames(rt: HostRuntime) -> Result<(), Fail> {
+    let alloc = rt.alloc();
+    let mut port = ip_port(alloc);
+    port.prepare(1, 100)?;
+    assert!(rt; sends_nothing(&mut port));
+    port.set_room(0);
+    port.add(b"piece".to_vec(alloc)?)?;
+    assert_eq!(rt; port.room(), 0);
+    port.set_room(1);
+    assert!(rt; sends_nothing(&mut port));
+    let sent = port.sent();
+    assert_eq!(rt; sent.len(), 3);
+    assert_eq!(rt; sent[0].len(), 0);
+    assert_eq!(rt; sent[1].as_slice(), b"piece".as_slice());
+    assert_eq!(rt; sent[2].len(), 0);
     Ok(())
 }
 
