@@ -1,4 +1,6 @@
 pub mod Messages
-pub mod Queues
-pub mod Offers
-pub mod RawOffers
+pub mod OfferLaws
+pub mod Protocols
+pub mod PacketQueues
+pub mod RawPackets
+pub mod UdpPackets

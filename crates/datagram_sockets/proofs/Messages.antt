@@ -22,10 +22,12 @@ use Rattle.icmpv6.proofs.Spelled as V6Lengths
 use Rattle.socket_base.specs.Packet as Carried
 use Rattle.socket_base.specs.Packet.{PacketValue, PayloadFits}
 use Rattle.datagram_sockets.specs.Header.{header_between}
-use Rattle.datagram_sockets.specs.Icmp.{IsPacketFrom, IsSendable}
-use Rattle.datagram_sockets.specs.IcmpKept.{IsKeptFor}
+use Rattle.datagram_sockets.specs.Icmp.{IsPacketFrom}
+use Rattle.datagram_sockets.specs.IcmpKept.{IsKeptFrom}
+use Rattle.datagram_sockets.specs.Offers.{IsOnly}
 use Rattle.datagram_sockets.specs.declared.icmp.Message.TheVariants as Says
-use Rattle.datagram_sockets.proofs.Offers.{some_same, some_when}
+use Rattle.datagram_sockets.proofs.OfferLaws.{some_same}
+use Rattle.datagram_sockets.proofs.UdpPackets.{some_when}
 
 -- what lies behind a place is found again by its length
 behind_again : (n : ℕ) (bytes : List ℕ) → drop (length bytes - length (drop n bytes)) bytes ≡ drop n bytes
@@ -107,37 +109,32 @@ only_v6 source remote bytes limit m payload h same payload_is between header (Ca
 only_v6 source remote bytes limit m payload h same payload_is between header (Carried.Datagram v xs) is = absurd is.0
 only_v6 source remote bytes limit m payload h same payload_is between header (Carried.Segment v xs) is = absurd is.0
 
--- what holds of the packet of a message whose bytes are taken from a place of a queued one
-abbrev Taken : Option IpAddress → IpAddress → List ℕ → ℕ → PacketValue → Type 0
-Taken source remote bytes limit p =
-    IsPacketFrom source remote bytes limit p × ((other : PacketValue) → IsPacketFrom source remote bytes limit other → other ≡ p) × IsSendable p
-
 -- a message that was read is kept with its header
 pub keeps_v4 : (source remote : Ipv4Address) (bytes : List ℕ) (limit : ℕ) (m : Icmpv4Header) (payload : List ℕ) (h : IpRepr) → IsBytes bytes → V4.IsIcmpv4 false bytes m payload
     → ((m' : Icmpv4Header) (payload' : List ℕ) → V4.IsIcmpv4 false bytes m' payload' → (m ≡ m') × (payload ≡ payload'))
     → header_between (Address.Ipv4 source) (Address.Ipv4 remote) Protocol.Icmp (V4.header_len m + length payload) limit ≡ Some h
-    → IsKeptFor (Some (Address.Ipv4 source)) (Address.Ipv4 remote) bytes limit (record { header = h; message = Says.V4 m; start = length bytes - length payload })
+    → IsKeptFrom (Some (Address.Ipv4 source)) (Address.Ipv4 remote) bytes limit (Some (record { header = h; message = Says.V4 m; start = length bytes - length payload }))
 keeps_v4 source remote bytes limit m payload h small is same between =
     let sent = between_v4 source remote Protocol.Icmp (V4.header_len m + length payload) limit h between in
     let fits = (V4Laws.fits false bytes m payload small is).0 in
-    let P = λ (xs : List ℕ). Taken (Some (Address.Ipv4 source)) (Address.Ipv4 remote) bytes limit (Carried.packet_of h (Carried.ControlV4 m xs)) in
-    let whole : P payload = ((is, between), λ other has. only_v4 source remote bytes limit m payload h same between other.header other.payload has, (sent.0, fits, sent.1)) in
+    let P = λ (xs : List ℕ). IsOnly (IsPacketFrom (Some (Address.Ipv4 source)) (Address.Ipv4 remote) bytes limit) (Carried.packet_of h (Carried.ControlV4 m xs)) in
+    let whole : P payload = record { takes = (is, between); only = λ other has. only_v4 source remote bytes limit m payload h same between other.header other.payload has; sendable = record { header = sent.0; payload = fits; len = sent.1 } } in
     let at : P (drop (length bytes - length payload) bytes) = subst P (sym (payload_v4 false bytes m payload is)) whole in
-    ((omega arith, tt), at.0, at.1, at.2)
+    ((omega arith, tt), at)
 
 pub keeps_v6 : (source remote : Ipv6Address) (bytes : List ℕ) (limit : ℕ) (m : Icmpv6Header) (carried : List ℕ) (h : IpRepr) → IsBytes bytes → length bytes < 2 ^ 32 → V6.IsIcmpv6 source remote false bytes (V6.value_of m) → carried ≡ V6.carried_in bytes (V6.value_of m)
     → ((m' : V6.MessageValue) → V6.IsIcmpv6 source remote false bytes m' → V6.value_of m ≡ m')
     → header_between (Address.Ipv6 source) (Address.Ipv6 remote) Protocol.Icmpv6 (V6.header_len (V6.value_of m) + length carried) limit ≡ Some h
-    → IsKeptFor (Some (Address.Ipv6 source)) (Address.Ipv6 remote) bytes limit (record { header = h; message = Says.V6 m; start = length bytes - length carried })
+    → IsKeptFrom (Some (Address.Ipv6 source)) (Address.Ipv6 remote) bytes limit (Some (record { header = h; message = Says.V6 m; start = length bytes - length carried }))
 keeps_v6 source remote bytes limit m carried h small short is carried_is same between =
     let v = V6.value_of m in
     let no_longer = V6Lengths.no_longer source remote false bytes v is in
     let fits = (V6Laws.fits source remote false bytes v small is).0 in
     let len : length carried ≡ length (V6.carried_in bytes v) = ap length carried_is in
     let sent = between_v6 source remote Protocol.Icmpv6 (V6.header_len v + length carried) limit h v carried fits (omega (arith, no_longer, len, short)) between in
-    let P = λ (xs : List ℕ). V6.CanCarry v xs × Taken (Some (Address.Ipv6 source)) (Address.Ipv6 remote) bytes limit (Carried.packet_of h (Carried.ControlV6 v xs)) in
+    let P = λ (xs : List ℕ). V6.CanCarry v xs × IsOnly (IsPacketFrom (Some (Address.Ipv6 source)) (Address.Ipv6 remote) bytes limit) (Carried.packet_of h (Carried.ControlV6 v xs)) in
     let carries : V6.CanCarry v carried = subst (λ xs. V6.CanCarry v xs) (sym carried_is) (V6Laws.can_carry bytes v) in
     let only = λ (other : PacketValue) (has : IsPacketFrom (Some (Address.Ipv6 source)) (Address.Ipv6 remote) bytes limit other). only_v6 source remote bytes limit v carried h same carried_is between other.header other.payload has in
-    let whole : P carried = (carries, (((short, is, carried_is), between), only, sent)) in
+    let whole : P carried = (carries, record { takes = ((short, is, carried_is), between); only = only; sendable = record { header = sent.0; payload = sent.1; len = sent.2 } }) in
     let at : P (drop (length bytes - length carried) bytes) = subst P (sym (carried_v6 bytes v carried carried_is)) whole in
-    ((omega arith, at.0), at.1.0, at.1.1, at.1.2)
+    ((omega arith, at.0), at.1)

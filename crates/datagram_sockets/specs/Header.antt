@@ -18,3 +18,8 @@ header_between (Address.Ipv6 source) (Address.Ipv6 destination) protocol len hop
     then Some (Ip.Ipv6 (record { src_addr = source; dst_addr = destination; next_header = protocol; payload_len = len; hop_limit = hops }))
     else None
 header_between source destination protocol len hops = None
+
+-- the hop limit, 64 where none was set
+abbrev pub hops : Option ℕ → ℕ
+hops None = 64
+hops (Some n) = n

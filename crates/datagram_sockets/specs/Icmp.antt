@@ -1,8 +1,7 @@
 -- An ICMP socket as a value, and what its calls answer and leave.
-use Rattle.std.specs.Prelude.{◌≡◌, ℕ, ◌+◌, ◌<◌, ◌^◌, ◌==◌, nat_lt, nat_le, not, ◌&&◌, Bool, true, false, if◌then◌else◌, List, ◌++◌, length, drop, Option, None, Some, is_some, MatchOption, Result, Ok, Err, is_ok}
-use Rattle.net_base.specs.Packets.{Packets, used_places, is_full_for, appended, unpadded, first, without_first}
+use Rattle.std.specs.Prelude.{◌≡◌, ℕ, ◌+◌, ◌<◌, ◌^◌, ◌==◌, nat_lt, nat_le, not, ◌&&◌, Bool, true, false, if◌then◌else◌, List, length, Option, None, Some, Result, Ok, Err, is_ok}
+use Rattle.net_base.specs.Packets.{Packets}
 use Rattle.ip_wire.specs.Fields.{be16}
-use Rattle.ip_wire.specs.Ip as Ip
 use Rattle.ip_wire.specs.IpAddress.{IpAddress}
 use Rattle.ip_wire.specs.IpAddress.TheVariants as Address
 use Rattle.ip_wire.specs.IpListenEndpoint.{IpListenEndpoint}
@@ -18,33 +17,28 @@ use Rattle.control_wire.specs.Icmpv6 as Icmpv6
 use Rattle.socket_base.specs.Addresses.{is_unspecified, is_same_address}
 use Rattle.socket_base.specs.Context.{ContextValue}
 use Rattle.socket_base.specs.Packet as Carried
-use Rattle.socket_base.specs.Packet.{PacketValue, PayloadFits, payload_len}
-use Rattle.socket_base.specs.declared.poll_at.Offer as Answer
-use Rattle.socket_base.specs.declared.poll_at.Offer.TheVariants as Offer
-use Rattle.socket_base.specs.declared.poll_at.PollAt.{PollAt}
-use Rattle.socket_base.specs.declared.poll_at.PollAt.TheVariants as At
-use Rattle.datagram_sockets.specs.Header.{header_between}
-use Rattle.datagram_sockets.specs.Udp.{hops}
+use Rattle.socket_base.specs.Packet.{PacketValue, payload_len}
+use Rattle.socket_base.specs.declared.offer.Offer.{Offer}
+use Rattle.datagram_sockets.specs.Header.{header_between, hops}
+use Rattle.datagram_sockets.specs.Offers.{OffersBy}
+use Rattle.datagram_sockets.specs.SocketValue.{SocketValue, fresh, with_settings, settled, send_answer_to, sent_after, arrived}
 use Rattle.datagram_sockets.specs.declared.icmp.Endpoint.{Endpoint}
 use Rattle.datagram_sockets.specs.declared.icmp.Endpoint.TheVariants as Bound
-use Rattle.datagram_sockets.specs.declared.icmp.BindError.{BindError}
-use Rattle.datagram_sockets.specs.declared.icmp.BindError.TheVariants as Bind
-use Rattle.datagram_sockets.specs.declared.icmp.SendError.{SendError}
-use Rattle.datagram_sockets.specs.declared.icmp.SendError.TheVariants as Send
-use Rattle.datagram_sockets.specs.declared.icmp.RecvError.{RecvError}
-use Rattle.datagram_sockets.specs.declared.icmp.RecvError.TheVariants as Recv
+use Rattle.datagram_sockets.specs.declared.error.BindError.{BindError}
+use Rattle.datagram_sockets.specs.declared.error.BindError.TheVariants as Bind
+use Rattle.datagram_sockets.specs.declared.error.SendError.{SendError}
 
--- Both queues, in which each message has the address of the other host, what the socket is bound to, the hop limit if
--- one was set, and the packet of the open offer.
-pub record IcmpValue : Type 0 where
-  pub received : Packets IpAddress
-  pub queued : Packets IpAddress
+-- what the socket is bound to, and the hop limit if one was set
+pub record IcmpSettings : Type 0 where
   pub endpoint : Endpoint
   pub hop_limit : Option ℕ
-  pub offered : Option PacketValue
 
-abbrev pub fresh : Packets IpAddress → Packets IpAddress → IcmpValue
-fresh received queued = record { received = received; queued = queued; endpoint = Bound.Unspecified; hop_limit = None; offered = None }
+-- in the queues each message has the address of the other host
+abbrev pub IcmpValue : Type 0
+IcmpValue = SocketValue IpAddress IcmpSettings
+
+abbrev pub made : Packets IpAddress → Packets IpAddress → IcmpValue
+made received queued = fresh (record { endpoint = Bound.Unspecified; hop_limit = None }) received queued
 
 -- messages can be for it: a port is not 0
 abbrev pub is_specified : Endpoint → Bool
@@ -60,81 +54,28 @@ is_bound (Bound.Tcp endpoint) = true
 is_bound (Bound.Udp endpoint) = true
 
 abbrev pub is_open : IcmpValue → Bool
-is_open v = is_bound v.endpoint
+is_open v = is_bound v.settings.endpoint
 
--- what an offer is told: a message that was sent leaves its queue, another one stays first
-abbrev pub settled : Bool → IcmpValue → IcmpValue
-settled sent v = record v {
-  queued = if sent && is_some v.offered then without_first v.queued else v.queued;
-  offered = None;
-}
-
--- CALLS. Each of them first settles an open offer as not sent.
+-- CALLS
 
 abbrev pub with_hop_limit : IcmpValue → Option ℕ → IcmpValue
-with_hop_limit v hop_limit = record v { hop_limit = hop_limit; offered = None }
+with_hop_limit v hop_limit = with_settings v (record v.settings { hop_limit = hop_limit })
 
 abbrev pub bind_answer : IcmpValue → Endpoint → Result (Unit {0}) BindError
 bind_answer v endpoint =
     if is_specified endpoint then (if is_open v then Err Bind.InvalidState else Ok tt) else Err Bind.Unaddressable
 
 abbrev pub bind_after : IcmpValue → Endpoint → IcmpValue
-bind_after v endpoint = record v {
-  endpoint = if is_ok (bind_answer v endpoint) then endpoint else v.endpoint;
-  offered = None;
-}
-
-abbrev pub has_packets : Packets IpAddress → Bool
-has_packets q = is_some (first q)
-
-abbrev pub can_recv : IcmpValue → Bool
-can_recv v = has_packets v.received
-
-abbrev pub can_send : IcmpValue → Bool
-can_send v = not (nat_le v.queued.places (used_places v.queued.packets))
+bind_after v endpoint =
+    with_settings v (record v.settings { endpoint = if is_ok (bind_answer v endpoint) then endpoint else v.settings.endpoint })
 
 -- SEND
 
 abbrev pub send_answer : IcmpValue → IpAddress → ℕ → Result (Unit {0}) SendError
-send_answer v remote size =
-    if is_unspecified remote then Err Send.Unaddressable
-    else if is_full_for v.queued size then Err Send.BufferFull
-    else Ok tt
-
--- what was answered, but for a count
-abbrev pub is_done : Result ℕ SendError → Result (Unit {0}) SendError
-is_done (Ok n) = Ok tt
-is_done (Err e) = Err e
-
--- with a message behind the others, where there was room for so many bytes
-abbrev pub with_queued : IcmpValue → IpAddress → ℕ → List ℕ → IcmpValue
-with_queued v remote size bytes = record v { queued = appended v.queued size remote bytes; offered = None }
+send_answer v remote size = send_answer_to (is_unspecified remote) v.queued size
 
 abbrev pub send_after : IcmpValue → IpAddress → List ℕ → IcmpValue
-send_after v remote bytes =
-    if is_ok (send_answer v remote (length bytes)) then with_queued v remote (length bytes) bytes else settled false v
-
--- RECV
-
-abbrev pub recv_answer_by : Option (IpAddress × List ℕ) → ℕ → Result (ℕ × IpAddress) RecvError
-recv_answer_by None room = Err Recv.Exhausted
-recv_answer_by (Some p) room = if nat_lt room (length p.1) then Err Recv.Truncated else Ok (length p.1, p.0)
-
--- what is answered where so many bytes can be read
-abbrev pub recv_answer : IcmpValue → ℕ → Result (ℕ × IpAddress) RecvError
-recv_answer v room = recv_answer_by (first v.received) room
-
--- the first message is gone, also where it was truncated
-abbrev pub recv_after : IcmpValue → IcmpValue
-recv_after v = record v { received = without_first v.received; offered = None }
-
-abbrev pub recv_written_by : Option (IpAddress × List ℕ) → List ℕ → List ℕ
-recv_written_by None slice = slice
-recv_written_by (Some p) slice = if nat_lt (length slice) (length p.1) then slice else p.1 ++ drop (length p.1) slice
-
--- the slice after the first message was read into it
-abbrev pub recv_written : IcmpValue → List ℕ → List ℕ
-recv_written v slice = recv_written_by (first v.received) slice
+send_after v remote bytes = sent_after (send_answer v remote (length bytes)) v remote bytes
 
 -- ARRIVAL
 
@@ -175,21 +116,35 @@ accepts_v6 endpoint destination (Icmpv6.DstUnreachable reason header) bytes = ta
 accepts_v6 endpoint destination (Icmpv6.TimeExceeded reason header) bytes = takes_error endpoint destination header.next_header bytes
 accepts_v6 endpoint destination message bytes = false
 
--- a message that arrives is dropped where the queue is full
-abbrev pub process_after : IcmpValue → IpAddress → List ℕ → ℕ → IcmpValue
-process_after v sender bytes size = record v {
-  received = if is_full_for v.received size then v.received else appended v.received size sender bytes;
-  offered = None;
-}
+-- the length of an IPv4 header that is quoted fits its field
+abbrev pub fits_v4 : Icmpv4Header → Bool
+fits_v4 (V4.EchoRequest ident seq_no) = true
+fits_v4 (V4.EchoReply ident seq_no) = true
+fits_v4 (V4.DstUnreachable reason header) = nat_lt (20 + header.payload_len) (2 ^ 16)
+fits_v4 (V4.TimeExceeded reason header) = nat_lt (20 + header.payload_len) (2 ^ 16)
 
--- the queue gets the message as it is sent, with checksums that hold
+-- so does that of an IPv6 header
+abbrev pub fits_v6 : Icmpv6.MessageValue → Bool
+fits_v6 (Icmpv6.DstUnreachable reason header) = nat_lt header.payload_len (2 ^ 16)
+fits_v6 (Icmpv6.PktTooBig mtu header) = nat_lt header.payload_len (2 ^ 16)
+fits_v6 (Icmpv6.TimeExceeded reason header) = nat_lt header.payload_len (2 ^ 16)
+fits_v6 (Icmpv6.ParamProblem reason pointer header) = nat_lt header.payload_len (2 ^ 16)
+fits_v6 message = true
+
+-- The queue gets a message that arrives as it is sent, with checksums that hold. The message is dropped where the queue
+-- is full, and where no message says it: the length of a packet that it is about has to fit its field.
 abbrev pub process_v4_after : IcmpValue → Ipv4Repr → Icmpv4Header → List ℕ → IcmpValue
 process_v4_after v ip message bytes =
-    process_after v (Address.Ipv4 ip.src_addr) (Icmpv4.written true true message bytes) (Icmpv4.header_len message + length bytes)
+    if fits_v4 message
+    then arrived v (Icmpv4.header_len message + length bytes) (Address.Ipv4 ip.src_addr) (Icmpv4.written true true message bytes)
+    else settled false v
 
+-- the same; an ICMPv6 message has fewer than 2^32 bytes, which the pseudo header can say
 abbrev pub process_v6_after : IcmpValue → Ipv6Repr → Icmpv6.MessageValue → List ℕ → IcmpValue
 process_v6_after v ip message bytes =
-    process_after v (Address.Ipv6 ip.src_addr) (Icmpv6.written ip.src_addr ip.dst_addr true message bytes) (Icmpv6.header_len message + length bytes)
+    if fits_v6 message && nat_lt (Icmpv6.header_len message + length bytes) (2 ^ 32)
+    then arrived v (Icmpv6.header_len message + length bytes) (Address.Ipv6 ip.src_addr) (Icmpv6.written ip.src_addr ip.dst_addr true message bytes)
+    else settled false v
 
 -- OFFER
 
@@ -212,37 +167,10 @@ IsPacketFrom (Some source) remote bytes limit p =
     IsMessage source remote bytes p.payload
     × (header_between source remote (protocol_to remote) (payload_len p.payload) limit ≡ Some p.header)
 
--- The packet takes a queued message to its address, from the context's source.
-abbrev pub IsPacketFor : ContextValue → IcmpValue → IpAddress × List ℕ → PacketValue → Type 0
-IsPacketFor cx v q p = IsPacketFrom (cx.source_for q.0) q.0 q.1 (hops v.hop_limit) p
-
--- the lengths fit their fields, and the header has that of what it carries
-abbrev pub IsSendable : PacketValue → Type 0
-IsSendable p = Ip.Fits p.header × PayloadFits p.header p.payload × (Ip.payload_len_in p.header ≡ payload_len p.payload)
-
--- the first queued message is offered in this packet, the only one that takes it
-pub record IsOffered (cx : ContextValue) (v : IcmpValue) (q : IpAddress × List ℕ) (p : PacketValue) (answer : Answer.Offer) (v' : IcmpValue) : Type 0 where
-  pub answered : answer ≡ Offer.Packet false
-  pub state : v' ≡ record v { queued = unpadded v.queued; offered = Some p }
-  pub packet : IsPacketFor cx v q p
-  pub only : (other : PacketValue) → IsPacketFor cx v q other → other ≡ p
-  pub sendable : IsSendable p
-
--- it is dropped, since no packet can take it
-pub record IsDropped (cx : ContextValue) (v : IcmpValue) (q : IpAddress × List ℕ) (answer : Answer.Offer) (v' : IcmpValue) : Type 0 where
-  pub answered : answer ≡ Offer.Silent true
-  pub state : v' ≡ record v { queued = without_first v.queued; offered = None }
-  pub none : (p : PacketValue) → IsPacketFor cx v q p → ⊥
-
-abbrev pub OffersFirst : ContextValue → IcmpValue → Option (IpAddress × List ℕ) → Answer.Offer → IcmpValue → Type 0
-OffersFirst cx v None answer v' = (answer ≡ Offer.Silent false) × (v' ≡ settled false v)
-OffersFirst cx v (Some q) answer v' =
-    MatchOption v'.offered (IsDropped cx v q answer v') (λ p. IsOffered cx v q p answer v')
+-- the packet takes a queued message to its address, from the context's source
+abbrev pub TakesMessage : ContextValue → IcmpSettings → IpAddress × List ℕ → PacketValue → Type 0
+TakesMessage cx s q p = IsPacketFrom (cx.source_for q.0) q.0 q.1 (hops s.hop_limit) p
 
 -- The first queued message is offered. One that no packet can take is dropped.
-abbrev pub Offers : ContextValue → IcmpValue → Answer.Offer → IcmpValue → Type 0
-Offers cx v answer v' = OffersFirst cx v (first v.queued) answer v'
-
--- a socket wants to be polled exactly where a message is queued
-abbrev pub poll_of : IcmpValue → PollAt
-poll_of v = if has_packets v.queued then At.Now else At.Ingress
+abbrev pub Offers : ContextValue → IcmpValue → Offer → IcmpValue → Type 0
+Offers cx v answer v' = OffersBy (TakesMessage cx) v answer v'

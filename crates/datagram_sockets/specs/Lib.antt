@@ -1,10 +1,11 @@
+pub mod SocketValue
+pub mod Offers
+pub mod Dispatch
+pub mod Held
+pub mod Lends
 pub mod Header
 pub mod Udp
-pub mod UdpDispatch
-pub mod UdpLends
 pub mod Icmp
-pub mod IcmpDispatch
 pub mod IcmpKept
+pub mod Same
 pub mod Raw
-pub mod RawDispatch
-pub mod RawLends

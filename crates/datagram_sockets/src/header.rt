@@ -3,7 +3,11 @@ ghost use Rattle.datagram_sockets.specs.Header.{header_between};
 
 use ip_wire::{IPV4_HEADER_LEN, IpAddress, IpProtocol, IpRepr, Ipv4Repr, Ipv6Repr};
 
-const LAST_LENGTH: usize = 65_535;
+/// The hop limit of packets for which none was set.
+pub const DEFAULT_HOP_LIMIT: u8 = 64;
+
+/// The greatest number that a length field of two bytes holds.
+pub const LAST_LENGTH: usize = 65_535;
 
 /// The header of a packet between these addresses. There is none where they are of two families, or where
 /// the header's length field can't hold the packet's length.

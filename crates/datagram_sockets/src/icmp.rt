@@ -1,37 +1,40 @@
 //! Sockets for control messages (RFC 792, RFC 4443).
-ghost use Rattle.std.specs.Prelude.{◌≡◌, ◌≢◌, ◌↔◌, ℕ, ◌+◌, ◌<◌, ◌≤◌, ◌^◌, List, length, take, true, false, IfOk, OnErr, Ok, Err, None, Some, IsSome, is_some, if◌then◌else◌};
+ghost use Rattle.std.specs.Prelude.{◌≡◌, ◌≢◌, ◌↔◌, ℕ, ◌+◌, ◌<◌, ◌≤◌, ◌^◌, List, length, take, true, false, IsTrue, IfOk, IfErr, IsErr, OnErr, Ok, Err, None, Some, IsSome, if◌then◌else◌};
+ghost use Rattle.std.specs.Borrow.{sem};
 ghost use Rattle.std.specs.Fn.{FnOnceTakesAtMut, FnOnceReturnsAtMut};
-ghost use Rattle.net_base.specs.Packets.{used_room, without_first};
+ghost use Rattle.net_base.specs.Packets.{used_room, first};
 ghost use Rattle.socket_base.specs.Addresses.{is_unspecified};
 ghost use Rattle.socket_base.specs.Offers.{IsBefore};
 ghost use Rattle.socket_base.specs.Context.{ContextValue};
-ghost use Rattle.socket_base.specs.Packet.{PacketValue, PayloadFits, payload_len};
-ghost use Rattle.ip_wire.specs.Ip as Ip;
+ghost use Rattle.socket_base.specs.Packet.{PacketValue, IsSendable, option_value};
 ghost use Rattle.ip_wire.specs.IpAddress.TheVariants as Address;
 ghost use Rattle.control_wire.specs.Icmpv4 as Icmpv4;
 ghost use Rattle.control_wire.specs.Icmpv6 as Icmpv6;
-ghost use Rattle.socket_base.specs.declared.poll_at.Offer as Answer;
-ghost use Rattle.socket_base.specs.declared.poll_at.Offer.TheVariants as Answers;
-ghost use Rattle.datagram_sockets.specs.Udp.{option_value, has_packet};
-ghost use Rattle.datagram_sockets.specs.Icmp.{IcmpValue, fresh, is_specified, is_open, with_hop_limit, bind_answer, bind_after, can_send, can_recv, send_answer, send_after, with_queued, is_done, recv_answer, recv_after, recv_written, takes_echo, takes_quoted, takes_error, accepts_v4, accepts_v6, process_v4_after, process_v6_after, IsPacketFrom, Offers, settled, poll_of};
-ghost use Rattle.datagram_sockets.specs.IcmpKept.{MayKeepFor};
-ghost use Rattle.datagram_sockets.specs.IcmpDispatch.{TakesOffered, Dispatches};
-ghost use Rattle.datagram_sockets.specs.declared.icmp.Endpoint as Bound;
-ghost use Rattle.datagram_sockets.specs.declared.icmp.SendError.TheVariants as Send;
+ghost use Rattle.socket_base.specs.declared.offer.Offer.{Offer};
+ghost use Rattle.socket_base.specs.declared.offer.Offer.TheVariants as Answer;
+ghost use Rattle.datagram_sockets.specs.Icmp.{IcmpValue, made, is_specified, is_open, with_hop_limit, bind_answer, bind_after, send_answer, send_after, takes_echo, takes_quoted, takes_error, accepts_v4, accepts_v6, fits_v4, fits_v6, process_v4_after, process_v6_after, IsPacketFrom, Offers};
+ghost use Rattle.datagram_sockets.specs.IcmpKept.{IsKeptFrom};
+ghost use Rattle.datagram_sockets.specs.SocketValue.{can_send, can_recv, with_queued, is_done, recv_answer, recv_after, recv_written, settled, poll_of};
+ghost use Rattle.datagram_sockets.specs.Offers.{HasPacket, IsSameButForPlaces, changed_by};
+ghost use Rattle.datagram_sockets.specs.Dispatch.{TakesOffered, Dispatches};
+ghost use Rattle.datagram_sockets.specs.declared.error.SendError.TheVariants as Send;
+ghost use Rattle.datagram_sockets.specs.declared.error.RecvError.TheVariants as Recv;
 
-use crate::header::header_between;
+pub use crate::error::{BindError, RecvError, SendError};
+use crate::header::{DEFAULT_HOP_LIMIT, LAST_LENGTH, header_between};
+use crate::queues::{Queues, drop_first};
 use control_wire::{
     Icmpv4Header, Icmpv4Packet, Icmpv4PacketMut, Icmpv4Repr, Icmpv6Header, Icmpv6Packet,
     Icmpv6PacketMut, Icmpv6Repr,
 };
 use ip_wire::{
-    IpAddress, IpListenEndpoint, IpProtocol, IpRepr, Ipv4Address, Ipv4Repr, Ipv6Address, Ipv6Repr,
+    IPV4_HEADER_LEN, IpAddress, IpListenEndpoint, IpProtocol, IpRepr, Ipv4Address, Ipv4Repr,
+    Ipv6Address, Ipv6Repr,
 };
 use net_base::ChecksumCapabilities;
 use socket_base::addresses::{is_same_address, is_unspecified};
 use socket_base::{Context, IpPayload, Offer, Packet, PollAt};
 use std::marker::Model;
-use thiserror::Error;
 
 /// What an ICMP socket is bound to: the messages that are for it.
 #[derive(Clone, Copy, Debug, PartialEq, Eq)]
@@ -66,46 +69,14 @@ pub type PacketMetadata = net_base::PacketMetadata<IpAddress>;
 /// A socket's queue.
 pub type PacketBuffer = net_base::PacketBuffer<IpAddress>;
 
-/// Why `bind` refused.
-#[derive(Clone, Copy, Debug, PartialEq, Eq, Error)]
-pub enum BindError {
-    /// The socket is bound already.
-    #[error("invalid state")]
-    InvalidState,
-    /// No message can be for the endpoint.
-    #[error("unaddressable")]
-    Unaddressable,
-}
-
-/// Why a message wasn't queued.
-#[derive(Clone, Copy, Debug, PartialEq, Eq, Error)]
-pub enum SendError {
-    /// The remote address is unspecified.
-    #[error("unaddressable")]
-    Unaddressable,
-    /// The message doesn't fit the queue.
-    #[error("buffer full")]
-    BufferFull,
-}
-
-/// Why no message was read.
-#[derive(Clone, Copy, Debug, PartialEq, Eq, Error)]
-pub enum RecvError {
-    /// No message waits.
-    #[error("exhausted")]
-    Exhausted,
-    /// The message is longer than the slice.
-    #[error("truncated")]
-    Truncated,
-}
-
-const DEFAULT_HOP_LIMIT: u8 = 64;
-
 /// As much of a quoted packet as an error has to have behind the IP header (RFC 792).
 const QUOTED_LEN: usize = 8;
 
+/// The longest ICMPv6 message that a pseudo header can say the length of (RFC 8200, section 8.1).
+const LONGEST_MESSAGE: usize = 0xffff_ffff;
+
 /// A message of either version, but for the bytes that it carries.
-#[derive(Clone, Copy)]
+#[derive(Clone, Copy, Debug)]
 enum Message {
     V4(Icmpv4Header),
     V6(Icmpv6Header),
@@ -113,7 +84,7 @@ enum Message {
 
 /// An offered packet, but for the bytes that its message carries: they begin at this place of the
 /// first queued message, and end with it.
-#[derive(Clone, Copy)]
+#[derive(Clone, Copy, Debug)]
 struct Kept {
     header: IpRepr,
     message: Message,
@@ -121,12 +92,11 @@ struct Kept {
 }
 
 /// An ICMP socket: what it is bound to, and a queue for each way.
-#[derive(Drop)]
+#[derive(Debug, Drop)]
 pub struct Socket {
     endpoint: Endpoint,
-    rx_buffer: PacketBuffer,
-    tx_buffer: PacketBuffer,
     hop_limit: Option<u8>,
+    queues: Queues<IpAddress>,
     /// The packet that is offered. It carries the first queued message.
     offered: Option<Kept>,
 }
@@ -134,25 +104,27 @@ pub struct Socket {
 impl Model for Socket {
     ghost use Rattle.net_base.specs.Packets.{first};
     ghost use Rattle.datagram_sockets.specs.Icmp.{IcmpValue};
-    ghost use Rattle.datagram_sockets.specs.IcmpKept.{kept_in, AreHeld};
+    ghost use Rattle.datagram_sockets.specs.IcmpKept.{offered_in, IsOpen};
 
     ghost Value = { IcmpValue };
 
-    ghost view = { λ s. record { received = s.rx_buffer; queued = s.tx_buffer; endpoint = s.endpoint; hop_limit = s.hop_limit; offered = kept_in s.offered (first s.tx_buffer) } };
+    ghost view = { λ s. record { received = s.queues.received; queued = s.queues.queued; settings = record { endpoint = s.endpoint; hop_limit = s.hop_limit }; offered = offered_in s.offered (first s.queues.queued) } };
 
-    ghost invariant = { λ s. AreHeld s.offered s.tx_buffer };
+    ghost invariant = { λ s. IsOpen s.offered s.queues.queued };
 }
 
 impl Socket {
     /// An unbound socket with these queues.
     pub fn new(rx_buffer: PacketBuffer, tx_buffer: PacketBuffer) -> Socket
-        ensures { result ≡ fresh rx_buffer tx_buffer }
+        ensures { result ≡ made rx_buffer tx_buffer }
     {
         Socket {
             endpoint: Endpoint::Unspecified,
-            rx_buffer,
-            tx_buffer,
             hop_limit: None,
+            queues: Queues {
+                received: rx_buffer,
+                queued: tx_buffer,
+            },
             offered: None,
         }
     }
@@ -169,7 +141,7 @@ impl Socket {
 
     /// The hop limit that was set. Without one it is 64.
     pub fn hop_limit(&self) -> Option<u8>
-        ensures { result ≡ self.now.hop_limit }
+        ensures { result ≡ self.now.settings.hop_limit }
     {
         self.hop_limit
     }
@@ -187,67 +159,60 @@ impl Socket {
     pub fn can_send(&self) -> bool
         ensures { result ≡ can_send self.now }
     {
-        !self.tx_buffer.is_full()
+        self.queues.can_send()
     }
 
     /// Whether a message waits to be read.
     pub fn can_recv(&self) -> bool
         ensures { result ≡ can_recv self.now }
     {
-        !self.rx_buffer.is_empty()
+        self.queues.can_recv()
     }
 
     /// Returns how many entries there are for received messages.
     pub fn packet_recv_capacity(&self) -> usize
         ensures { result ≡ self.now.received.places }
     {
-        self.rx_buffer.packet_capacity()
+        self.queues.packet_recv_capacity()
     }
 
     /// Returns how many entries there are for messages to be sent.
     pub fn packet_send_capacity(&self) -> usize
         ensures { result ≡ self.now.queued.places }
     {
-        self.tx_buffer.packet_capacity()
+        self.queues.packet_send_capacity()
     }
 
     /// Returns how many bytes of received messages there is room for.
     pub fn payload_recv_capacity(&self) -> usize
         ensures { result ≡ self.now.received.room }
     {
-        self.rx_buffer.payload_capacity()
+        self.queues.payload_recv_capacity()
     }
 
     /// Returns how many bytes of messages to be sent there is room for.
     pub fn payload_send_capacity(&self) -> usize
         ensures { result ≡ self.now.queued.room }
     {
-        self.tx_buffer.payload_capacity()
+        self.queues.payload_send_capacity()
     }
 
     /// Returns how many bytes of received messages are taken, those of padding among them.
     pub fn recv_queue(&self) -> usize
         ensures { result ≡ used_room self.now.received.packets }
     {
-        self.rx_buffer.payload_bytes_count()
+        self.queues.recv_queue()
     }
 
     /// Returns how many bytes of messages to be sent are taken, those of padding among them.
     pub fn send_queue(&self) -> usize
         ensures { result ≡ used_room self.now.queued.packets }
     {
-        self.tx_buffer.payload_bytes_count()
+        self.queues.send_queue()
     }
 
     /// Binds the socket: from now on the messages of this endpoint are for it.
-    pub fn bind<T: Into<Endpoint>>(&mut self, endpoint: T) -> Result<(), BindError>
-        ensures { (to : Bound.Endpoint) × T.converts endpoint to
-            × (result ≡ bind_answer self.old to) × (self.new ≡ bind_after self.old to) }
-    {
-        self.bind_to(endpoint.into())
-    }
-
-    fn bind_to(&mut self, endpoint: Endpoint) -> Result<(), BindError>
+    pub fn bind(&mut self, endpoint: Endpoint) -> Result<(), BindError>
         ensures answer { result ≡ bind_answer self.old endpoint }
         ensures state { self.new ≡ bind_after self.old endpoint }
     {
@@ -263,13 +228,6 @@ impl Socket {
     }
 }
 
-/// Gives up the first message of the queue, if there is one.
-fn drop_first(queue: &mut PacketBuffer)
-    ensures { queue.new ≡ without_first queue.old }
-{
-    let _ = queue.discard_first();
-}
-
 /// Whether a message may be sent to this address.
 fn check_send(remote: &IpAddress) -> Result<(), SendError>
     ensures { result ≡ (if is_unspecified remote.now then Err Send.Unaddressable else Ok tt) }
@@ -281,6 +239,20 @@ fn check_send(remote: &IpAddress) -> Result<(), SendError>
 }
 
 impl Socket {
+    ghost use Rattle.datagram_sockets.specs.Lends.{EndsAs};
+    ghost use Rattle.datagram_sockets.specs.contracts.icmp.Socket.{the_row};
+
+    /// Queues a message of so many bytes, and lends these for writing. The contract doesn't say what is
+    /// queued once they are written: those of `send_slice` and `send_with` do.
+    pub fn send(&mut self, size: usize, endpoint: IpAddress) -> Result<&mut [u8], SendError>
+        ensures refused { IfErr result (λ e. send_answer self.old endpoint size ≡ Err e) }
+        ensures room { IfOk result (λ bytes. (send_answer self.old endpoint size ≡ Ok tt) × (length bytes.now ≡ size)) }
+    {
+        self.offered = None;
+        check_send(&endpoint)?;
+        Ok(self.queues.queued.enqueue(size, endpoint)?)
+    }
+
     /// Queues a message of these bytes, checksum and all. The checksum is written anew when it is sent.
     pub fn send_slice(&mut self, data: &[u8], endpoint: IpAddress) -> Result<(), SendError>
         ensures answer { result ≡ send_answer self.old endpoint (length «data».now) }
@@ -288,10 +260,8 @@ impl Socket {
     {
         self.offered = None;
         check_send(&endpoint)?;
-        match self.tx_buffer.enqueue_slice(endpoint, data) {
-            Ok(()) => Ok(()),
-            Err(_) => Err(SendError::BufferFull),
-        }
+        self.queues.queued.enqueue_slice(endpoint, data)?;
+        Ok(())
     }
 
     /// Queues a message of the bytes that `f` writes: it is lent `max_size` bytes, and answers how many
@@ -314,35 +284,41 @@ impl Socket {
     {
         self.offered = None;
         check_send(&endpoint)?;
-        match self
-            .tx_buffer
-            .enqueue_with_infallible(max_size, endpoint, f)
-        {
-            Ok(size) => Ok(size),
-            Err(_) => Err(SendError::BufferFull),
-        }
+        Ok(
+            self.queues
+                .queued
+                .enqueue_with_infallible(max_size, endpoint, f)?,
+        )
+    }
+
+    /// Returns the first message and its sender; it leaves its queue.
+    #[tactic(auto, using(crate::proofs::PacketQueues::queues))]
+    pub fn recv(&mut self) -> Result<(&[u8], IpAddress), RecvError>
+        ensures* ends { sem 𝓛 (EndsAs the_row self.entry (recv_after self.old)) }
+        ensures exhausted { IsErr result ↔ (first self.old.received ≡ None) }
+        ensures refused { OnErr result (result ≡ Err Recv.Exhausted) }
+        ensures first { IfOk result (λ p. first self.old.received ≡ Some (p.1, p.0.now)) }
+    {
+        self.offered = None;
+        let Ok((remote, _)) = self.queues.received.peek() else {
+            return Err(RecvError::Exhausted);
+        };
+        let remote = *remote;
+        let Ok(bytes) = self.queues.received.take_bytes() else {
+            return Err(RecvError::Exhausted);
+        };
+        Ok((bytes, remote))
     }
 
     /// Reads the first message into the slice. One that is longer than the slice is gone, and the slice
     /// is as it was.
-    #[tactic(auto, using(crate::proofs::Queues::queues))]
     pub fn recv_slice(&mut self, data: &mut [u8]) -> Result<(usize, IpAddress), RecvError>
         ensures answer { result ≡ recv_answer self.old (length «data».old) }
         ensures state { self.new ≡ recv_after self.old }
         ensures read { «data».new ≡ recv_written self.old «data».old }
     {
         self.offered = None;
-        let Ok((_, bytes)) = self.rx_buffer.peek() else {
-            return Err(RecvError::Exhausted);
-        };
-        if data.len() < bytes.len() {
-            drop_first(&mut self.rx_buffer);
-            return Err(RecvError::Truncated);
-        }
-        match self.rx_buffer.dequeue_slice(data) {
-            Ok((remote, size)) => Ok((size, remote)),
-            Err(_) => Err(RecvError::Exhausted),
-        }
+        self.queues.recv_slice(data)
     }
 }
 
@@ -356,6 +332,34 @@ fn takes_quoted(bound: &IpListenEndpoint, destination: &IpAddress, bytes: &[u8])
         }
     }
     bytes.len() >= QUOTED_LEN && u16::from_be_bytes([bytes[0], bytes[1]]) == bound.port
+}
+
+/// Whether the length of an IPv4 header that the message quotes fits its field.
+fn fits_v4(message: &Icmpv4Header) -> bool
+    ensures value { result ≡ fits_v4 message.now }
+    ensures means { IsTrue result → Icmpv4.Fits message.now }
+{
+    match message {
+        Icmpv4Header::EchoRequest { .. } | Icmpv4Header::EchoReply { .. } => true,
+        Icmpv4Header::DstUnreachable { header, .. } | Icmpv4Header::TimeExceeded { header, .. } => {
+            header.payload_len <= LAST_LENGTH - IPV4_HEADER_LEN
+        }
+    }
+}
+
+/// Whether the length of an IPv6 header that the message quotes fits its field.
+fn fits_v6(message: &Icmpv6Header) -> bool
+    ensures value { result ≡ fits_v6 (Icmpv6.value_of message.now) }
+    ensures means { IsTrue result → Icmpv6.Fits (Icmpv6.value_of message.now) }
+{
+    match message {
+        Icmpv6Header::DstUnreachable { header, .. }
+        | Icmpv6Header::PktTooBig { header, .. }
+        | Icmpv6Header::TimeExceeded { header, .. }
+        | Icmpv6Header::ParamProblem { header, .. } => header.payload_len <= LAST_LENGTH,
+        Icmpv6Header::EchoRequest { .. } | Icmpv6Header::EchoReply { .. } => true,
+        Icmpv6Header::Ndisc(_) => true,
+    }
 }
 
 /// Writes a message over the whole buffer, with checksums that hold.
@@ -390,7 +394,7 @@ fn write_v6(
 impl Socket {
     /// Whether echo messages of this identifier are for the socket.
     fn takes_echo(&self, ident: u16) -> bool
-        ensures { result ≡ takes_echo self.now.endpoint ident }
+        ensures { result ≡ takes_echo self.now.settings.endpoint ident }
     {
         match self.endpoint {
             Endpoint::Ident(bound) => bound == ident,
@@ -400,7 +404,7 @@ impl Socket {
 
     /// Whether an error about a packet of this protocol, and with these bytes, is for the socket.
     fn takes_error(&self, destination: &IpAddress, protocol: IpProtocol, bytes: &[u8]) -> bool
-        ensures { result ≡ takes_error self.now.endpoint destination.now protocol bytes.now }
+        ensures { result ≡ takes_error self.now.settings.endpoint destination.now protocol bytes.now }
     {
         match self.endpoint {
             Endpoint::Tcp(bound) => {
@@ -417,7 +421,7 @@ impl Socket {
 
     /// Whether this message, in a packet with this header, is for the socket.
     pub fn accepts_v4(&self, ip_repr: &Ipv4Repr, icmp_repr: &Icmpv4Repr) -> bool
-        ensures { result ≡ accepts_v4 self.now.endpoint (Address.Ipv4 ip_repr.now.dst_addr) (Icmpv4.header_of icmp_repr.now) (Icmpv4.payload_of icmp_repr.now) }
+        ensures { result ≡ accepts_v4 self.now.settings.endpoint (Address.Ipv4 ip_repr.now.dst_addr) (Icmpv4.header_of icmp_repr.now) (Icmpv4.payload_of icmp_repr.now) }
     {
         let destination = IpAddress::Ipv4(ip_repr.dst_addr);
         match *icmp_repr {
@@ -433,7 +437,7 @@ impl Socket {
 
     /// Whether this message, in a packet with this header, is for the socket.
     pub fn accepts_v6(&self, ip_repr: &Ipv6Repr, icmp_repr: &Icmpv6Repr) -> bool
-        ensures { result ≡ accepts_v6 self.now.endpoint (Address.Ipv6 ip_repr.now.dst_addr) (Icmpv6.value_of (Icmpv6.header_of icmp_repr.now)) (Icmpv6.carried_by icmp_repr.now) }
+        ensures { result ≡ accepts_v6 self.now.settings.endpoint (Address.Ipv6 ip_repr.now.dst_addr) (Icmpv6.value_of (Icmpv6.header_of icmp_repr.now)) (Icmpv6.carried_by icmp_repr.now) }
     {
         let destination = IpAddress::Ipv6(ip_repr.dst_addr);
         match *icmp_repr {
@@ -449,27 +453,30 @@ impl Socket {
         }
     }
 
-    /// A message for the socket arrives. It is dropped where the queue is full.
+    /// A message for the socket arrives. It is dropped where the queue is full, or where the length of the
+    /// packet that it is about doesn't fit its field.
     pub fn process_v4(&mut self, ip_repr: &Ipv4Repr, icmp_repr: &Icmpv4Repr)
-        requires { Icmpv4.Fits (Icmpv4.header_of icmp_repr.now) }
         ensures { self.new ≡ process_v4_after self.old ip_repr.now (Icmpv4.header_of icmp_repr.now) (Icmpv4.payload_of icmp_repr.now) }
     {
         self.offered = None;
         let sender = IpAddress::Ipv4(ip_repr.src_addr);
         let (message, payload) = (icmp_repr.header(), icmp_repr.bytes());
+        if !fits_v4(&message) {
+            return;
+        }
         let size = icmp_repr.buffer_len();
         let _ = self
-            .rx_buffer
+            .queues
+            .received
             .enqueue_with_infallible(size, sender, |bytes: &mut [u8]| {
                 write_v4(&message, payload, bytes);
                 size
             });
     }
 
-    /// A message for the socket arrives. It is dropped where the queue is full.
+    /// A message for the socket arrives. It is dropped where the queue is full, where the length of the
+    /// packet that it is about doesn't fit its field, or where its own doesn't fit a checksum's.
     pub fn process_v6(&mut self, ip_repr: &Ipv6Repr, icmp_repr: &Icmpv6Repr)
-        requires fits { Icmpv6.Fits (Icmpv6.value_of (Icmpv6.header_of icmp_repr.now)) }
-        requires small { Icmpv6.header_len (Icmpv6.value_of (Icmpv6.header_of icmp_repr.now)) + length (Icmpv6.carried_by icmp_repr.now) < 2 ^ 32 }
         ensures { self.new ≡ process_v6_after self.old ip_repr.now (Icmpv6.value_of (Icmpv6.header_of icmp_repr.now)) (Icmpv6.carried_by icmp_repr.now) }
     {
         self.offered = None;
@@ -477,8 +484,12 @@ impl Socket {
         let (source, destination) = (ip_repr.src_addr, ip_repr.dst_addr);
         let (message, carried) = (icmp_repr.header(), icmp_repr.bytes());
         let size = icmp_repr.buffer_len();
+        if !fits_v6(&message) || size > LONGEST_MESSAGE {
+            return;
+        }
         let _ = self
-            .rx_buffer
+            .queues
+            .received
             .enqueue_with_infallible(size, sender, |bytes: &mut [u8]| {
                 write_v6(&source, &destination, &message, carried, bytes);
                 size
@@ -489,18 +500,13 @@ impl Socket {
     pub fn poll_at(&self) -> PollAt
         ensures { result ≡ poll_of self.now }
     {
-        if self.tx_buffer.is_empty() {
-            PollAt::Ingress
-        } else {
-            PollAt::Now
-        }
+        self.queues.poll_at()
     }
 }
 
 /// The packet that takes a queued ICMPv4 message, if it is one.
 fn kept_v4(source: Ipv4Address, remote: Ipv4Address, bytes: &[u8], hop_limit: u8) -> Option<Kept>
-    ensures found { MayKeepFor (Some (Address.Ipv4 source)) (Address.Ipv4 remote) bytes.now hop_limit result }
-    ensures refused { result ≡ None → (p : PacketValue) → IsPacketFrom (Some (Address.Ipv4 source)) (Address.Ipv4 remote) bytes.now hop_limit p → ⊥ }
+    ensures { IsKeptFrom (Some (Address.Ipv4 source)) (Address.Ipv4 remote) bytes.now hop_limit result }
 {
     let packet = Icmpv4Packet::new_unchecked(bytes);
     let Ok(message) = Icmpv4Repr::parse(&packet, &ChecksumCapabilities::ignored()) else {
@@ -522,11 +528,9 @@ fn kept_v4(source: Ipv4Address, remote: Ipv4Address, bytes: &[u8], hop_limit: u8
 
 /// The packet that takes a queued ICMPv6 message, if it is one.
 fn kept_v6(source: Ipv6Address, remote: Ipv6Address, bytes: &[u8], hop_limit: u8) -> Option<Kept>
-    ensures found { MayKeepFor (Some (Address.Ipv6 source)) (Address.Ipv6 remote) bytes.now hop_limit result }
-    ensures refused { result ≡ None → (p : PacketValue) → IsPacketFrom (Some (Address.Ipv6 source)) (Address.Ipv6 remote) bytes.now hop_limit p → ⊥ }
+    ensures { IsKeptFrom (Some (Address.Ipv6 source)) (Address.Ipv6 remote) bytes.now hop_limit result }
 {
-    // No longer message has a checksum.
-    if bytes.len() > 0xffff_ffff {
+    if bytes.len() > LONGEST_MESSAGE {
         return None;
     }
     let packet = Icmpv6Packet::new_unchecked(bytes);
@@ -550,8 +554,7 @@ fn kept_v6(source: Ipv6Address, remote: Ipv6Address, bytes: &[u8], hop_limit: u8
 
 /// The packet that takes a queued message to this address, if there is one.
 fn kept_for<C: Context>(cx: &C, remote: &IpAddress, bytes: &[u8], hop_limit: u8) -> Option<Kept>
-    ensures found { MayKeepFor ((C.context cx.now).source_for remote.now) remote.now bytes.now hop_limit result }
-    ensures refused { result ≡ None → (p : PacketValue) → IsPacketFrom ((C.context cx.now).source_for remote.now) remote.now bytes.now hop_limit p → ⊥ }
+    ensures { IsKeptFrom ((C.context cx.now).source_for remote.now) remote.now bytes.now hop_limit result }
 {
     let source = cx.get_source_address(remote)?;
     match (source, *remote) {
@@ -568,17 +571,17 @@ fn kept_for<C: Context>(cx: &C, remote: &IpAddress, bytes: &[u8], hop_limit: u8)
 impl Socket {
     /// Offers the first queued message, from the context's source. One that can't be sent is dropped: it
     /// isn't a message that is known, it has no source, or it is longer than a length field can say.
-    #[tactic(auto, using(crate::proofs::Queues::queues))]
+    #[tactic(auto, using(crate::proofs::PacketQueues::queues))]
     pub fn offer<C: Context>(&mut self, cx: &C) -> Offer
         ensures { Offers (C.context cx.now) self.old result self.new }
     {
         self.offered = None;
         let hop_limit = self.hop_limit.unwrap_or(DEFAULT_HOP_LIMIT);
-        let Ok((remote, bytes)) = self.tx_buffer.peek() else {
+        let Ok((remote, bytes)) = self.queues.queued.peek() else {
             return Offer::Silent { changed: false };
         };
         let Some(kept) = kept_for(cx, remote, bytes, hop_limit) else {
-            drop_first(&mut self.tx_buffer);
+            drop_first(&mut self.queues.queued);
             return Offer::Silent { changed: true };
         };
         self.offered = Some(kept);
@@ -590,7 +593,7 @@ impl Socket {
         ensures { option_value result ≡ self.now.offered }
     {
         let kept = self.offered?;
-        let (_, bytes) = self.tx_buffer.front().ok()?;
+        let (_, bytes) = self.queues.queued.front().ok()?;
         let bytes = &bytes[kept.start..];
         let payload = match kept.message {
             Message::V4(message) => IpPayload::Icmpv4(Icmpv4Repr::new(&message, bytes)),
@@ -604,9 +607,7 @@ impl Socket {
     pub fn settle(&mut self, sent: bool)
         ensures { self.new ≡ settled sent self.old }
     {
-        if sent && self.offered.is_some() {
-            drop_first(&mut self.tx_buffer);
-        }
+        self.queues.settle(sent && self.offered.is_some());
         self.offered = None;
     }
 
@@ -619,8 +620,8 @@ impl Socket {
     ) -> Result<(), E>
     where
         F: Drop,
-        requires { TakesOffered F.FnOnce emit (C.context cx.now) self.old }
-        ensures { Dispatches F.FnOnce emit (C.context cx.now) self.old result self.new }
+        requires { TakesOffered F.FnOnce emit (Offers (C.context cx.now) self.old) }
+        ensures { Dispatches F.FnOnce emit (Offers (C.context cx.now) self.old) result self.new }
     {
         self.offer(cx);
         let Some(packet) = self.offered() else {
@@ -635,40 +636,49 @@ impl Socket {
 /// Law: where the socket doesn't want to be polled at a moment yet, an offer at that moment is silent and
 /// changes nothing, but that an open offer is settled as not sent.
 pub fn silence()
-    ensures { (cx : ContextValue) (v v' : IcmpValue) (answer : Answer.Offer)
-        → IsBefore cx.moment (poll_of v)
+    ensures { (cx : ContextValue) (v v' : IcmpValue) (answer : Offer) → IsBefore cx.moment (poll_of v)
         → Offers cx v answer v'
-        → (answer ≡ Answers.Silent false) × (v' ≡ settled false v) }
+        → (answer ≡ Answer.Silent false) × (v' ≡ settled false v) }
 {}
 
-/// Law: what an offer answers and leaves is determined. There is at most one packet that takes a queued
-/// message.
-pub fn offers_in_one_way()
-    ensures { (cx : ContextValue) (v left right : IcmpValue) (answer other : Answer.Offer)
+/// Law: a packet is offered exactly where the answer says so, and one whose offer is settled as not sent is
+/// offered again as it was. An offer that is settled as not sent doesn't change when the socket wants to be
+/// polled.
+pub fn unsent_is_offered_again()
+    ensures packet { (cx : ContextValue) (v v' : IcmpValue) (answer : Offer)
+        → Offers cx v answer v'
+        → HasPacket answer v'.offered }
+    ensures again { (cx : ContextValue) (v v' : IcmpValue) (answer : Offer)
+        → Offers cx v answer v'
+        → IsSome v'.offered
+        → Offers cx (settled false v') answer v' }
+    ensures settled { (cx : ContextValue) (v v' : IcmpValue) (answer : Offer)
+        → Offers cx (settled false v) answer v' ↔ Offers cx v answer v' }
+    ensures due { (v : IcmpValue) → poll_of (settled false v) ≡ poll_of v }
+{}
+
+/// Law: an offer that says that nothing changed, and is settled as not sent, leaves the socket with the same
+/// datagrams in its queues.
+pub fn unchanged()
+    ensures { (cx : ContextValue) (v v' : IcmpValue) (answer : Offer)
+        → Offers cx v answer v'
+        → changed_by answer ≡ false
+        → IsSameButForPlaces v (settled false v') }
+{}
+
+/// Law: what an offer answers and leaves is determined.
+pub fn one_offer()
+    ensures { (cx : ContextValue) (v left right : IcmpValue) (answer other : Offer)
         → Offers cx v answer left
         → Offers cx v other right
         → (answer ≡ other) × (left ≡ right) }
 {}
 
-/// Law: a packet is offered exactly where the answer says so, and one whose offer is settled as not sent is
-/// offered again as it was.
-pub fn unsent_is_offered_again()
-    ensures packet { (cx : ContextValue) (v v' : IcmpValue) (answer : Answer.Offer)
-        → Offers cx v answer v'
-        → is_some v'.offered ≡ has_packet answer }
-    ensures again { (cx : ContextValue) (v v' : IcmpValue) (answer : Answer.Offer)
-        → Offers cx v answer v'
-        → IsSome v'.offered
-        → Offers cx (settled false v') answer v' }
-    ensures settled { (cx : ContextValue) (v v' : IcmpValue) (answer : Answer.Offer)
-        → Offers cx (settled false v) answer v' ↔ Offers cx v answer v' }
-{}
-
 /// Law: a packet that is offered can be sent. Its lengths fit their fields, its addresses are of one family,
 /// and its header has the length of what it carries.
 pub fn offered_fits()
-    ensures { (cx : ContextValue) (v v' : IcmpValue) (answer : Answer.Offer) (p : PacketValue)
+    ensures { (cx : ContextValue) (v v' : IcmpValue) (answer : Offer) (p : PacketValue)
         → Offers cx v answer v'
         → v'.offered ≡ Some p
-        → Ip.Fits p.header × PayloadFits p.header p.payload × (Ip.payload_len_in p.header ≡ payload_len p.payload) }
+        → IsSendable p }
 {}

@@ -1,9 +1,9 @@
 //! Sockets whose queues hold datagrams.
 #![tactic(auto)]
 
+mod error;
 mod header;
 pub mod icmp;
+mod queues;
 pub mod raw;
-#[cfg(test)]
-mod tests;
 pub mod udp;

@@ -1,27 +1,31 @@
 //! Sockets for whole IP packets (RFC 791, RFC 8200).
-ghost use Rattle.std.specs.Prelude.{◌≡◌, ℕ, ◌+◌, ◌≤◌, ◌↔◌, List, ◌++◌, length, take, true, false, IsTrue, IfOk, IsErr, OnErr, Ok, Err, None, Some, IsSome};
+ghost use Rattle.std.specs.Prelude.{◌≡◌, ℕ, ◌+◌, ◌≤◌, ◌↔◌, List, ◌++◌, length, take, true, false, IsTrue, IfOk, IfErr, IsErr, OnErr, Ok, Err, None, Some, IsSome};
 ghost use Rattle.std.specs.Borrow.{sem};
 ghost use Rattle.std.specs.Fn.{FnOnceTakesAtMut, FnOnceReturnsAtMut};
-ghost use Rattle.net_base.specs.Packets.{used_room, without_first, first};
-ghost use Rattle.socket_base.specs.Offers.{Offered, IsBefore, offered_as};
+ghost use Rattle.net_base.specs.Packets.{used_room, first};
+ghost use Rattle.socket_base.specs.Offers.{IsBefore};
 ghost use Rattle.socket_base.specs.Context.{ContextValue};
-ghost use Rattle.socket_base.specs.Packet.{PacketValue, PayloadFits, payload_len};
+ghost use Rattle.socket_base.specs.Packet.{PacketValue, IsSendable, option_value};
 ghost use Rattle.ip_wire.specs.Ip as Ip;
-ghost use Rattle.socket_base.specs.declared.poll_at.Offer.TheVariants as Answer;
-ghost use Rattle.datagram_sockets.specs.Raw.{RawValue, fresh, settled, can_send, can_recv, send_answer, is_done, with_queued, send_after, recv_answer, recv_after, recv_written, peeked, Passes, fits, arrived, process_after, IsChosen, Offers, carried_by, packet_of, poll_of, HasPacket};
-ghost use Rattle.datagram_sockets.specs.Udp.{option_value};
-ghost use Rattle.datagram_sockets.specs.RawDispatch.{TakesOffered, Dispatches};
-ghost use Rattle.datagram_sockets.specs.declared.raw.RecvError.TheVariants as Recv;
+ghost use Rattle.socket_base.specs.declared.offer.Offer.{Offer};
+ghost use Rattle.socket_base.specs.declared.offer.Offer.TheVariants as Answer;
+ghost use Rattle.datagram_sockets.specs.Raw.{RawValue, filters, send_answer, send_after, counted, passes, fits, process_after, may_send, carried_by, IsHeaderToSend, Offers};
+ghost use Rattle.datagram_sockets.specs.Same.{is_version, is_protocol};
+ghost use Rattle.datagram_sockets.specs.SocketValue.{fresh, taken_in, can_send, can_recv, with_queued, is_done, recv_answer, recv_after, recv_written, peeked, settled, poll_of};
+ghost use Rattle.datagram_sockets.specs.Offers.{HasPacket, IsSameButForPlaces, changed_by};
+ghost use Rattle.datagram_sockets.specs.Dispatch.{TakesOffered, Dispatches};
+ghost use Rattle.datagram_sockets.specs.declared.raw.SendError.TheVariants as Send;
+ghost use Rattle.datagram_sockets.specs.declared.error.RecvError.TheVariants as Recv;
 
+pub use crate::error::RecvError;
+use crate::header::LAST_LENGTH;
+use crate::queues::{Queues, drop_first};
 use ip_wire::{IPV4_HEADER_LEN, IpProtocol, IpRepr, IpVersion, Ipv4Packet, Ipv6Packet};
-use net_base::ChecksumCapabilities;
+use net_base::{ChecksumCapabilities, Full};
 use socket_base::addresses::is_unspecified;
 use socket_base::{Context, IpPayload, Offer, Packet, PollAt};
 use std::marker::Model;
 use thiserror::Error;
-
-#[cfg(test)]
-mod tests;
 
 /// An entry of a socket's queue.
 pub type PacketMetadata = net_base::PacketMetadata<()>;
@@ -37,18 +41,13 @@ pub enum SendError {
     BufferFull,
 }
 
-/// Why no packet was read.
-#[derive(Clone, Copy, Debug, PartialEq, Eq, Error)]
-pub enum RecvError {
-    /// No packet waits.
-    #[error("exhausted")]
-    Exhausted,
-    /// The packet is longer than the slice.
-    #[error("truncated")]
-    Truncated,
-}
+impl From<Full> for SendError {
+    ghost from_gives = { λ full error. error ≡ Send.BufferFull };
 
-const LAST_LENGTH: usize = 65_535;
+    fn from(_value: Full) -> SendError {
+        SendError::BufferFull
+    }
+}
 
 /// Whether the packet's length fits the field that says it.
 fn fits(header: &IpRepr) -> bool
@@ -61,34 +60,43 @@ fn fits(header: &IpRepr) -> bool
     }
 }
 
+/// Whether the two protocols are the same.
+#[tactic(auto, using(crate::proofs::Protocols::same))]
+fn is_protocol(one: IpProtocol, other: IpProtocol) -> bool
+    ensures { result ≡ is_protocol one other }
+{
+    one == other
+}
+
 /// Whether the packet is of this family and this protocol, where they are given.
 fn passes(version: Option<IpVersion>, protocol: Option<IpProtocol>, header: &IpRepr) -> bool
-    ensures { IsTrue result ↔ Passes version protocol header.now }
+    ensures { result ≡ passes version protocol header.now }
 {
     let is_of_version = match version {
         Some(version) => version == header.version(),
         None => true,
     };
     let is_of_protocol = match protocol {
-        Some(protocol) => protocol == header.next_header(),
+        Some(protocol) => is_protocol(protocol, header.next_header()),
         None => true,
     };
     is_of_version && is_of_protocol
 }
 
 /// The header of the packet in the bytes, if a socket with these filters may send it. A checksum isn't
-/// tested, since a right one is written where the packet goes out.
+/// tested, since a right one is written where the packet goes out. A header that was read says a length that
+/// fits its field.
 fn header_to_send(
     version: Option<IpVersion>,
     protocol: Option<IpProtocol>,
     bytes: &[u8],
 ) -> Option<IpRepr>
-    ensures { IsChosen version protocol bytes.now result }
+    ensures { IsHeaderToSend (filters version protocol) bytes.now result }
 {
     let Ok(header) = IpRepr::parse(bytes, &ChecksumCapabilities::ignored()) else {
         return None;
     };
-    if passes(version, protocol, &header) && !is_unspecified(&header.dst_addr()) && fits(&header) {
+    if !is_unspecified(&header.dst_addr()) && passes(version, protocol, &header) {
         Some(header)
     } else {
         None
@@ -117,46 +125,25 @@ fn write_packet(buffer: &mut [u8], header: &IpRepr, payload: &[u8])
     rest.copy_from_slice(payload);
 }
 
-/// Queues a packet that arrived, if there is room for it and its header can say its length.
-fn queue_packet(queue: &mut PacketBuffer, header: &IpRepr, payload: &[u8])
-    ensures { queue.new ≡ arrived queue.old header.now payload.now }
-{
-    if !fits(header) {
-        return;
-    }
-    let size = header.header_len() + payload.len();
-    let _ = queue.enqueue_with_infallible(size, (), |bytes: &mut [u8]| {
-        write_packet(bytes, header, payload);
-        size
-    });
-}
-
-/// Gives up the first packet of the queue, if there is one.
-fn drop_first(queue: &mut PacketBuffer)
-    ensures { queue.new ≡ without_first queue.old }
-{
-    let _ = queue.discard_first();
-}
-
 /// A raw socket: a family and a protocol that it is for, and a queue of packets for each way.
-#[derive(Drop)]
+#[derive(Debug, Drop)]
 pub struct Socket {
     ip_version: Option<IpVersion>,
     ip_protocol: Option<IpProtocol>,
-    rx_buffer: PacketBuffer,
-    tx_buffer: PacketBuffer,
+    queues: Queues<()>,
     /// The header of the packet that is offered, the first queued one.
     offered: Option<IpRepr>,
 }
 
 impl Model for Socket {
-    ghost use Rattle.datagram_sockets.specs.Raw.{RawValue, IsOpen};
+    ghost use Rattle.net_base.specs.Packets.{first};
+    ghost use Rattle.datagram_sockets.specs.Raw.{RawValue, filters, IsOpen, offered_in};
 
     ghost Value = { RawValue };
 
-    ghost view = { λ s. record { received = s.rx_buffer; queued = s.tx_buffer; version = s.ip_version; protocol = s.ip_protocol; offered = s.offered } };
+    ghost view = { λ s. record { received = s.queues.received; queued = s.queues.queued; settings = filters s.ip_version s.ip_protocol; offered = offered_in s.offered (first s.queues.queued) } };
 
-    ghost invariant = { λ s. IsOpen s.offered s.tx_buffer };
+    ghost invariant = { λ s. IsOpen s.offered s.queues.queued };
 }
 
 impl Socket {
@@ -168,27 +155,29 @@ impl Socket {
         rx_buffer: PacketBuffer,
         tx_buffer: PacketBuffer,
     ) -> Socket
-        ensures { result ≡ fresh ip_version ip_protocol rx_buffer tx_buffer }
+        ensures { result ≡ fresh (filters ip_version ip_protocol) rx_buffer tx_buffer }
     {
         Socket {
             ip_version,
             ip_protocol,
-            rx_buffer,
-            tx_buffer,
+            queues: Queues {
+                received: rx_buffer,
+                queued: tx_buffer,
+            },
             offered: None,
         }
     }
 
     /// The family that the socket is for, if it is for one alone.
     pub fn ip_version(&self) -> Option<IpVersion>
-        ensures { result ≡ self.now.version }
+        ensures { result ≡ self.now.settings.version }
     {
         self.ip_version
     }
 
     /// The protocol that the socket is for, if it is for one alone.
     pub fn ip_protocol(&self) -> Option<IpProtocol>
-        ensures { result ≡ self.now.protocol }
+        ensures { result ≡ self.now.settings.protocol }
     {
         self.ip_protocol
     }
@@ -197,61 +186,72 @@ impl Socket {
     pub fn can_send(&self) -> bool
         ensures { result ≡ can_send self.now }
     {
-        !self.tx_buffer.is_full()
+        self.queues.can_send()
     }
 
     /// Whether a packet waits to be read.
     pub fn can_recv(&self) -> bool
         ensures { result ≡ can_recv self.now }
     {
-        !self.rx_buffer.is_empty()
+        self.queues.can_recv()
     }
 
     /// Returns how many entries there are for received packets.
     pub fn packet_recv_capacity(&self) -> usize
         ensures { result ≡ self.now.received.places }
     {
-        self.rx_buffer.packet_capacity()
+        self.queues.packet_recv_capacity()
     }
 
     /// Returns how many entries there are for packets to be sent.
     pub fn packet_send_capacity(&self) -> usize
         ensures { result ≡ self.now.queued.places }
     {
-        self.tx_buffer.packet_capacity()
+        self.queues.packet_send_capacity()
     }
 
     /// Returns how many bytes of received packets there is room for.
     pub fn payload_recv_capacity(&self) -> usize
         ensures { result ≡ self.now.received.room }
     {
-        self.rx_buffer.payload_capacity()
+        self.queues.payload_recv_capacity()
     }
 
     /// Returns how many bytes of packets to be sent there is room for.
     pub fn payload_send_capacity(&self) -> usize
         ensures { result ≡ self.now.queued.room }
     {
-        self.tx_buffer.payload_capacity()
+        self.queues.payload_send_capacity()
     }
 
     /// Returns how many bytes of received packets are taken, those of padding among them.
     pub fn recv_queue(&self) -> usize
         ensures { result ≡ used_room self.now.received.packets }
     {
-        self.rx_buffer.payload_bytes_count()
+        self.queues.recv_queue()
     }
 
     /// Returns how many bytes of packets to be sent are taken, those of padding among them.
     pub fn send_queue(&self) -> usize
         ensures { result ≡ used_room self.now.queued.packets }
     {
-        self.tx_buffer.payload_bytes_count()
+        self.queues.send_queue()
     }
 }
 
 impl Socket {
-    ghost use Rattle.datagram_sockets.specs.RawLends.{EndsPeeked};
+    ghost use Rattle.datagram_sockets.specs.Lends.{EndsAs};
+    ghost use Rattle.datagram_sockets.specs.contracts.raw.Socket.{the_row};
+
+    /// Queues a packet of so many bytes, and lends these for writing. The contract doesn't say what is queued
+    /// once they are written: those of `send_slice` and `send_with` do.
+    pub fn send(&mut self, size: usize) -> Result<&mut [u8], SendError>
+        ensures refused { IfErr result (λ e. send_answer self.old size ≡ Err e) }
+        ensures room { IfOk result (λ bytes. (send_answer self.old size ≡ Ok tt) × (length bytes.now ≡ size)) }
+    {
+        self.offered = None;
+        Ok(self.queues.queued.enqueue(size, ())?)
+    }
 
     /// Queues a packet of these bytes, its IP header among them.
     pub fn send_slice(&mut self, data: &[u8]) -> Result<(), SendError>
@@ -259,10 +259,8 @@ impl Socket {
         ensures state { self.new ≡ send_after self.old «data».now }
     {
         self.offered = None;
-        match self.tx_buffer.enqueue_slice((), data) {
-            Ok(()) => Ok(()),
-            Err(_) => Err(SendError::BufferFull),
-        }
+        self.queues.queued.enqueue_slice((), data)?;
+        Ok(())
     }
 
     /// Queues a packet of the bytes that `f` writes, its IP header among them: it is lent `max_size` bytes,
@@ -280,60 +278,61 @@ impl Socket {
         ensures refused { OnErr result (self.new ≡ settled false self.old) }
         ensures queued { IfOk result (λ size. (bytes : List ℕ) × (left : List ℕ) × (length bytes ≡ max_size) × (length left ≡ max_size)
             × FnOnceReturnsAtMut F.FnOnce f bytes size left
-            × (self.new ≡ with_queued self.old max_size (take size left))) }
+            × (self.new ≡ with_queued self.old tt max_size (take size left))) }
     {
         self.offered = None;
-        match self.tx_buffer.enqueue_with_infallible(max_size, (), f) {
-            Ok(size) => Ok(size),
-            Err(_) => Err(SendError::BufferFull),
-        }
+        Ok(self.queues.queued.enqueue_with_infallible(max_size, (), f)?)
     }
 
-    /// Reads the first packet into the slice. One that is longer than the slice is gone, and the slice is as
-    /// it was.
-    #[tactic(auto, using(crate::proofs::Queues::queues))]
-    pub fn recv_slice(&mut self, data: &mut [u8]) -> Result<usize, RecvError>
-        ensures answer { result ≡ recv_answer self.old (length «data».old) }
-        ensures state { self.new ≡ recv_after self.old }
-        ensures read { «data».new ≡ recv_written self.old «data».old }
-    {
-        self.offered = None;
-        let Ok((_, bytes)) = self.rx_buffer.peek() else {
-            return Err(RecvError::Exhausted);
-        };
-        if data.len() < bytes.len() {
-            drop_first(&mut self.rx_buffer);
-            return Err(RecvError::Truncated);
-        }
-        match self.rx_buffer.dequeue_slice(data) {
-            Ok((_, size)) => Ok(size),
-            Err(_) => Err(RecvError::Exhausted),
-        }
-    }
-
-    /// Returns the first packet, which stays.
-    pub fn peek(&mut self) -> Result<&[u8], RecvError>
-        ensures* ends { sem 𝓛 (EndsPeeked self.entry) }
+    /// Returns the first packet, which leaves its queue.
+    pub fn recv(&mut self) -> Result<&[u8], RecvError>
+        ensures* ends { sem 𝓛 (EndsAs the_row self.entry (recv_after self.old)) }
         ensures exhausted { IsErr result ↔ (first self.old.received ≡ None) }
         ensures refused { OnErr result (result ≡ Err Recv.Exhausted) }
         ensures first { IfOk result (λ bytes. first self.old.received ≡ Some (tt, bytes.now)) }
     {
         self.offered = None;
-        match self.rx_buffer.peek() {
+        match self.queues.received.take_bytes() {
+            Ok(bytes) => Ok(bytes),
+            Err(_) => Err(RecvError::Exhausted),
+        }
+    }
+
+    /// Reads the first packet into the slice. One that is longer than the slice is gone, and the slice is as
+    /// it was.
+    pub fn recv_slice(&mut self, data: &mut [u8]) -> Result<usize, RecvError>
+        ensures answer { result ≡ counted (recv_answer self.old (length «data».old)) }
+        ensures state { self.new ≡ recv_after self.old }
+        ensures read { «data».new ≡ recv_written self.old «data».old }
+    {
+        self.offered = None;
+        let (count, ()) = self.queues.recv_slice(data)?;
+        Ok(count)
+    }
+
+    /// Returns the first packet, which stays.
+    pub fn peek(&mut self) -> Result<&[u8], RecvError>
+        ensures* ends { sem 𝓛 (EndsAs the_row self.entry (peeked self.old)) }
+        ensures exhausted { IsErr result ↔ (first self.old.received ≡ None) }
+        ensures refused { OnErr result (result ≡ Err Recv.Exhausted) }
+        ensures first { IfOk result (λ bytes. first self.old.received ≡ Some (tt, bytes.now)) }
+    {
+        self.offered = None;
+        match self.queues.received.peek() {
             Ok((_, bytes)) => Ok(bytes),
             Err(_) => Err(RecvError::Exhausted),
         }
     }
 
     /// Copies the first packet into the slice; it stays. Where it is longer than the slice, that is as it was.
-    #[tactic(auto, using(crate::proofs::Queues::queues))]
+    #[tactic(auto, using(crate::proofs::PacketQueues::queues))]
     pub fn peek_slice(&mut self, data: &mut [u8]) -> Result<usize, RecvError>
-        ensures answer { result ≡ recv_answer self.old (length «data».old) }
+        ensures answer { result ≡ counted (recv_answer self.old (length «data».old)) }
         ensures state { self.new ≡ peeked self.old }
         ensures read { «data».new ≡ recv_written self.old «data».old }
     {
         self.offered = None;
-        let Ok((_, bytes)) = self.rx_buffer.peek() else {
+        let Ok((_, bytes)) = self.queues.received.peek() else {
             return Err(RecvError::Exhausted);
         };
         if data.len() < bytes.len() {
@@ -345,7 +344,7 @@ impl Socket {
 
     /// Whether this packet is for the socket.
     pub fn accepts(&self, ip_repr: &IpRepr) -> bool
-        ensures { IsTrue result ↔ Passes self.now.version self.now.protocol ip_repr.now }
+        ensures { result ≡ passes self.now.settings.version self.now.settings.protocol ip_repr.now }
     {
         passes(self.ip_version, self.ip_protocol, ip_repr)
     }
@@ -356,32 +355,38 @@ impl Socket {
         ensures { self.new ≡ process_after self.old ip_repr.now payload.now }
     {
         self.offered = None;
-        queue_packet(&mut self.rx_buffer, ip_repr, payload);
+        if !fits(ip_repr) {
+            return;
+        }
+        let size = ip_repr.header_len() + payload.len();
+        let _ = self
+            .queues
+            .received
+            .enqueue_with_infallible(size, (), |bytes: &mut [u8]| {
+                write_packet(bytes, ip_repr, payload);
+                size
+            });
     }
 
     /// When the socket wants to be polled: at once where a packet is queued.
     pub fn poll_at(&self) -> PollAt
         ensures { result ≡ poll_of self.now }
     {
-        if self.tx_buffer.is_empty() {
-            PollAt::Ingress
-        } else {
-            PollAt::Now
-        }
+        self.queues.poll_at()
     }
 
     /// Offers the first queued packet. One that may not be sent is dropped: its bytes are no packet, it
     /// doesn't pass the socket's filters, or its destination is unspecified.
-    #[tactic(auto, using(crate::proofs::Queues::queues))]
+    #[tactic(auto, using(crate::proofs::PacketQueues::queues))]
     pub fn offer<C: Context>(&mut self, _cx: &C) -> Offer
-        ensures { Offers self.old (offered_as result self.new) }
+        ensures { Offers (C.context _cx.now) self.old result self.new }
     {
         self.offered = None;
-        let Ok((_, bytes)) = self.tx_buffer.peek() else {
+        let Ok((_, bytes)) = self.queues.queued.peek() else {
             return Offer::Silent { changed: false };
         };
         let Some(header) = header_to_send(self.ip_version, self.ip_protocol, bytes) else {
-            drop_first(&mut self.tx_buffer);
+            drop_first(&mut self.queues.queued);
             return Offer::Silent { changed: true };
         };
         self.offered = Some(header);
@@ -390,10 +395,10 @@ impl Socket {
 
     /// The packet of the open offer.
     pub fn offered(&self) -> Option<Packet<'_>>
-        ensures { option_value result ≡ packet_of self.now }
+        ensures { option_value result ≡ self.now.offered }
     {
         let header = self.offered?;
-        let (_, bytes) = self.tx_buffer.front().ok()?;
+        let (_, bytes) = self.queues.queued.front().ok()?;
         let payload = payload_behind(&header, bytes);
         Some(Packet::new(header, IpPayload::Raw(payload)))
     }
@@ -402,9 +407,7 @@ impl Socket {
     pub fn settle(&mut self, sent: bool)
         ensures { self.new ≡ settled sent self.old }
     {
-        if sent && self.offered.is_some() {
-            drop_first(&mut self.tx_buffer);
-        }
+        self.queues.settle(sent && self.offered.is_some());
         self.offered = None;
     }
 
@@ -417,8 +420,8 @@ impl Socket {
     ) -> Result<(), E>
     where
         F: Drop,
-        requires { TakesOffered F.FnOnce emit self.old }
-        ensures { Dispatches F.FnOnce emit self.old result self.new }
+        requires { TakesOffered F.FnOnce emit (Offers (C.context cx.now) self.old) }
+        ensures { Dispatches F.FnOnce emit (Offers (C.context cx.now) self.old) result self.new }
     {
         self.offer(cx);
         let Some(packet) = self.offered() else {
@@ -433,28 +436,49 @@ impl Socket {
 /// Law: where the socket doesn't want to be polled at a moment yet, an offer at that moment is silent and
 /// changes nothing, but that an open offer is settled as not sent.
 pub fn silence()
-    ensures { (cx : ContextValue) (v : RawValue) (o : Offered RawValue) → IsBefore cx.moment (poll_of v)
-        → Offers v o → o ≡ offered_as (Answer.Silent false) (settled false v) }
+    ensures { (cx : ContextValue) (v v' : RawValue) (answer : Offer) → IsBefore cx.moment (poll_of v)
+        → Offers cx v answer v'
+        → (answer ≡ Answer.Silent false) × (v' ≡ settled false v) }
 {}
 
 /// Law: a packet is offered exactly where the answer says so, and one whose offer is settled as not sent is
-/// offered again as it was.
+/// offered again as it was. An offer that is settled as not sent doesn't change when the socket wants to be
+/// polled.
 pub fn unsent_is_offered_again()
-    ensures packet { (v : RawValue) (o : Offered RawValue) → Offers v o → HasPacket o }
-    ensures again { (v : RawValue) (o : Offered RawValue) → Offers v o
-        → IsSome (packet_of o.socket) → Offers (settled false o.socket) o }
-    ensures settled { (v : RawValue) (o : Offered RawValue) → Offers (settled false v) o ↔ Offers v o }
+    ensures packet { (cx : ContextValue) (v v' : RawValue) (answer : Offer)
+        → Offers cx v answer v'
+        → HasPacket answer v'.offered }
+    ensures again { (cx : ContextValue) (v v' : RawValue) (answer : Offer)
+        → Offers cx v answer v'
+        → IsSome v'.offered
+        → Offers cx (settled false v') answer v' }
+    ensures settled { (cx : ContextValue) (v v' : RawValue) (answer : Offer)
+        → Offers cx (settled false v) answer v' ↔ Offers cx v answer v' }
+    ensures due { (v : RawValue) → poll_of (settled false v) ≡ poll_of v }
 {}
 
-/// Law: a socket has one offer to make.
+/// Law: an offer that says that nothing changed, and is settled as not sent, leaves the socket with the same
+/// datagrams in its queues.
+pub fn unchanged()
+    ensures { (cx : ContextValue) (v v' : RawValue) (answer : Offer)
+        → Offers cx v answer v'
+        → changed_by answer ≡ false
+        → IsSameButForPlaces v (settled false v') }
+{}
+
+/// Law: what an offer answers and leaves is determined.
 pub fn one_offer()
-    ensures { (v : RawValue) (one other : Offered RawValue) → Offers v one → Offers v other → one ≡ other }
+    ensures { (cx : ContextValue) (v left right : RawValue) (answer other : Offer)
+        → Offers cx v answer left
+        → Offers cx v other right
+        → (answer ≡ other) × (left ≡ right) }
 {}
 
-/// Law: a packet that is offered can be sent. Its lengths fit their fields, and its header has the length of
-/// what it carries.
+/// Law: a packet that is offered can be sent. Its lengths fit their fields, its addresses are of one family,
+/// and its header has the length of what it carries.
 pub fn offered_fits()
-    ensures { (v : RawValue) (o : Offered RawValue) (p : PacketValue) → Offers v o
-        → packet_of o.socket ≡ Some p
-        → Ip.Fits p.header × PayloadFits p.header p.payload × (Ip.payload_len_in p.header ≡ payload_len p.payload) }
+    ensures { (cx : ContextValue) (v v' : RawValue) (answer : Offer) (p : PacketValue)
+        → Offers cx v answer v'
+        → v'.offered ≡ Some p
+        → IsSendable p }
 {}

@@ -1,6 +1,6 @@
 -- What a socket answers when it is asked for a packet, and when it wants to be polled.
 use Rattle.std.specs.Prelude.{ℤ, ◌<ℤ◌}
-use Rattle.socket_base.specs.declared.poll_at.Offer.{Offer}
+use Rattle.socket_base.specs.declared.offer.Offer.{Offer}
 use Rattle.socket_base.specs.declared.poll_at.PollAt.{PollAt}
 use Rattle.socket_base.specs.declared.poll_at.PollAt.TheVariants as At
 

@@ -1,9 +1,10 @@
 -- Packets as values, wherever their bytes lie.
-use Rattle.std.specs.Prelude.{ℕ, ◌+◌, ◌<◌, ◌^◌, List, length}
+use Rattle.std.specs.Prelude.{◌≡◌, ℕ, ◌+◌, ◌<◌, ◌^◌, List, length, Option, None, Some}
 use Rattle.net_base.specs.Capabilities.{computes}
 use Rattle.net_base.specs.ChecksumCapabilities.{ChecksumCapabilities}
 use Rattle.ip_wire.specs.IpRepr.{IpRepr}
 use Rattle.ip_wire.specs.IpRepr.TheVariants as Ip
+use Rattle.ip_wire.specs.Ip as Ips
 use Rattle.ip_wire.specs.Ip.{source_in, destination_in}
 use Rattle.ip_wire.specs.Udp as Udp
 use Rattle.ip_wire.specs.UdpRepr.{UdpRepr}
@@ -42,6 +43,11 @@ payload_value (Payload.Tcp segment) = Segment (Tcp.header_of segment) segment.pa
 abbrev pub packet_value : Packet → PacketValue
 packet_value p = packet_of p.header (payload_value p.payload)
 
+-- a lent packet, wherever its bytes lie
+abbrev pub option_value : Option Packet → Option PacketValue
+option_value None = None
+option_value (Some p) = Some (packet_value p)
+
 -- how many bytes it takes behind the IP header
 abbrev pub payload_len : PayloadValue → ℕ
 payload_len (ControlV4 message bytes) = Icmpv4.header_len message + length bytes
@@ -75,3 +81,10 @@ payload_written caps ip (ControlV6 message bytes) = control_v6_written caps ip m
 payload_written caps ip (Bytes bytes) = bytes
 payload_written caps ip (Datagram header bytes) = Udp.written (source_in ip) (destination_in ip) (computes caps.udp) header bytes
 payload_written caps ip (Segment header bytes) = Tcp.written (source_in ip) (destination_in ip) (computes caps.tcp) header bytes
+
+-- a packet that can be sent: its lengths fit their fields, its header can stand before what it carries, and says the
+-- length of that
+pub record IsSendable (p : PacketValue) : Type 0 where
+  pub header : Ips.Fits p.header
+  pub payload : PayloadFits p.header p.payload
+  pub len : Ips.payload_len_in p.header ≡ payload_len p.payload

@@ -4,12 +4,12 @@
 
 pub mod addresses;
 mod context;
+mod offer;
 mod packet;
 mod poll_at;
 
 pub use context::Context;
+pub use offer::Offer;
 pub use packet::{IpPayload, Packet};
-pub use poll_at::{Offer, PollAt};
+pub use poll_at::PollAt;
 
-#[cfg(test)]
-mod tests;

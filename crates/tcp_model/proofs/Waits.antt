@@ -2,7 +2,7 @@
 use Rattle.std.proofs.Common.{◌≡◌, ℕ, Bool, true, false, ◌||◌, ◌&&◌, not, is_some, if◌then◌else◌, ℤ, ◌<ℤ◌, int_lt, int_le, Option, Some, None, List, [], ◌∷◌, refl, sym, ap, ◌∙◌, subst, arith}
 use Rattle.socket_base.specs.Offers.{IsBefore, Offered, offered_as}
 use Rattle.socket_base.specs.Context.{ContextValue}
-use Rattle.socket_base.specs.declared.poll_at.Offer.TheVariants as Answer
+use Rattle.socket_base.specs.declared.offer.Offer.TheVariants as Answer
 use Rattle.socket_base.specs.declared.poll_at.PollAt.{PollAt}
 use Rattle.socket_base.specs.declared.poll_at.PollAt.TheVariants as At
 use Rattle.tcp_model.specs.declared.block.Block.{Block}

@@ -7,7 +7,7 @@ use Rattle.socket_base.specs.Context.{ContextValue}
 use Rattle.socket_base.specs.Offers.{Offered, offered_as}
 use Rattle.socket_base.specs.Packet.{PacketValue, packet_of}
 use Rattle.socket_base.specs.Packet as Carried
-use Rattle.socket_base.specs.declared.poll_at.Offer.TheVariants as Answer
+use Rattle.socket_base.specs.declared.offer.Offer.TheVariants as Answer
 use Rattle.tcp_model.specs.declared.block.Block.{Block}
 use Rattle.tcp_model.specs.declared.block.EndpointPair.{EndpointPair}
 use Rattle.tcp_model.specs.declared.offer.OfferKind.{OfferKind}

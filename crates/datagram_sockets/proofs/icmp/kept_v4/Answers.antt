@@ -8,8 +8,8 @@ use Rattle.datagram_sockets.specs.Header.{header_between}
 use Rattle.datagram_sockets.proofs.Messages.{keeps_v4}
 use Rattle.datagram_sockets.proofs.icmp.kept_v4.Goals as goal
 
-pub returns-clause-found : goal.returns-clause-found
-returns-clause-found c =
+pub returns : goal.returns
+returns c =
     let m = V4.header_of c.in-Ok.message in
     let payload = V4.payload_of c.in-Ok.message in
     let ignored = subst (λ caps. V4.IsIcmpv4 (verifies caps.icmpv4) (V4.bytes_of c.new_unchecked-packet.result) m payload) c.ignored.ensures c.in-Ok.ensures.found in

@@ -15,13 +15,13 @@ overflow_sub-result c =
     let longest = no_longer c.args.source c.args.remote (verifies c.ignored-unchecked.result.icmpv6) (bytes_of c.new_unchecked-packet.result) v c.in-Ok.ensures.found in
     omega (arith, longest, ap length c.in-Ok.ensures.bytes, ap length c.bytes.ensures, ap length c.new_unchecked-packet.ensures)
 
-pub returns-clause-found : goal.returns-clause-found
-returns-clause-found c =
+pub returns : goal.returns
+returns c =
     let m = V6.header_of c.in-Ok.message in
     let ignored = subst (λ caps. V6.IsIcmpv6 c.args.source c.args.remote (verifies caps.icmpv6) (bytes_of c.new_unchecked-packet.result) (V6.value_of m)) c.ignored-unchecked.ensures c.in-Ok.ensures.found in
     let found = subst (λ xs. V6.IsIcmpv6 c.args.source c.args.remote false xs (V6.value_of m)) c.new_unchecked-packet.ensures ignored in
     let carried = c.in-Ok.ensures.bytes ∙ ap (λ xs. V6.carried_in xs (V6.value_of m)) c.new_unchecked-packet.ensures in
-    let short : length c.args.bytes.now < 2 ^ 32 = omega (arith, c.if-bytes-gt4294967295.false) in
+    let short : length c.args.bytes.now < 2 ^ 32 = omega (arith, c.if-bytes-gt-LONGEST_MESSAGE.false) in
     let same = λ (m' : V6.MessageValue) (is : V6.IsIcmpv6 c.args.source c.args.remote false c.args.bytes.now m').
     let read = subst (λ xs. V6.IsIcmpv6 c.args.source c.args.remote false xs m') (sym c.new_unchecked-packet.ensures) is in
     let tested = subst (λ caps. V6.IsIcmpv6 c.args.source c.args.remote (verifies caps.icmpv6) (bytes_of c.new_unchecked-packet.result) m') (sym c.ignored-unchecked.ensures) read in

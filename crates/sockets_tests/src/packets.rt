@@ -1,6 +1,6 @@
-use crate::{IpPayload, Packet};
 use ip_wire::{IpAddress, IpProtocol, IpRepr, UdpRepr};
 use net_base::ChecksumCapabilities;
+use sockets::{IpPayload, Packet};
 
 /// The datagram of a frame that another program made: from 192.168.1.1:48896 to 192.168.1.2:53.
 #[test]

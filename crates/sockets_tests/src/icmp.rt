@@ -1,16 +1,11 @@
 //! Messages of other programs, sent and received by a socket.
-ghost use Rattle.control_wire.specs.Icmpv4.{Fits, header_of};
-
-use super::context;
-use crate::icmp::{
-    BindError, Endpoint, PacketBuffer, PacketMetadata, RecvError, SendError, Socket,
-};
+use crate::common::{context, queue};
 use control_wire::{Icmpv4DstUnreachable, Icmpv4Repr, Icmpv6Repr};
 use ip_wire::{
     IpAddress, IpListenEndpoint, IpProtocol, Ipv4Address, Ipv4Repr, Ipv6Address, Ipv6Repr,
 };
-use net_base::ManagedSlice;
-use socket_base::{IpPayload, Offer, Packet, PollAt};
+use sockets::icmp::{BindError, Endpoint, RecvError, SendError, Socket};
+use sockets::{IpPayload, Offer, Packet, PollAt};
 use std::test::Fail;
 
 /// An echo request with 0 for its checksum, which is e5ca.
@@ -29,19 +24,8 @@ const DATAGRAM: [u8; 12] = [
     0xbf, 0x00, 0x00, 0x35, 0x00, 0x0c, 0x12, 0x4d, 0xaa, 0x00, 0x00, 0xff,
 ];
 
-fn queue(rt: &HostRuntime) -> Result<PacketBuffer, Fail> {
-    let mut entries = Vec::new(rt.alloc());
-    for _ in 0..2 {
-        entries.push(PacketMetadata::EMPTY)?;
-    }
-    Ok(PacketBuffer::new(
-        ManagedSlice::Fixed(entries),
-        ManagedSlice::Fixed(vec![in rt.alloc(); 0; 64]?),
-    ))
-}
-
 fn socket(rt: &HostRuntime) -> Result<Socket, Fail> {
-    Ok(Socket::new(queue(rt)?, queue(rt)?))
+    Ok(Socket::new(queue(rt, 64)?, queue(rt, 64)?))
 }
 
 /// The header of a packet from 192.168.1.2 to 192.168.1.1.
@@ -57,9 +41,7 @@ fn header(next_header: IpProtocol, payload_len: usize) -> Ipv4Repr {
     }
 }
 
-fn reply(ident: u16) -> Icmpv4Repr<'static>
-    ensures { Fits (header_of result) }
-{
+fn reply(ident: u16) -> Icmpv4Repr<'static> {
     Icmpv4Repr::EchoReply {
         ident,
         seq_no: 1,

@@ -1,8 +1,7 @@
-use crate::raw::{PacketBuffer, PacketMetadata, RecvError, SendError, Socket};
-use crate::tests::context;
+use crate::common::{context, queue};
 use ip_wire::{IpAddress, IpProtocol, IpRepr, IpVersion, Ipv4Address, Ipv4Repr};
-use net_base::ManagedSlice;
-use socket_base::{IpPayload, Offer, Packet, PollAt};
+use sockets::raw::{RecvError, SendError, Socket};
+use sockets::{IpPayload, Offer, Packet, PollAt};
 use std::test::Fail;
 
 /// An echo request of identifier 0x1234 and number 1, without data.
@@ -21,23 +20,12 @@ const IPV6_PACKET: [u8; 42] = [
     0, 0, 0, 0, 0, 0, 0, 0, 0, 0, 0, 2, 0xab, 0xcd,
 ];
 
-fn queue(rt: &HostRuntime, packets: usize, bytes: usize) -> Result<PacketBuffer, Fail> {
-    let mut entries = Vec::new(rt.alloc());
-    for _ in 0..packets {
-        entries.push(PacketMetadata::EMPTY)?;
-    }
-    Ok(PacketBuffer::new(
-        ManagedSlice::Fixed(entries),
-        ManagedSlice::Fixed(vec![in rt.alloc(); 0; bytes]?),
-    ))
-}
-
 fn socket(
     rt: &HostRuntime,
     version: Option<IpVersion>,
     protocol: Option<IpProtocol>,
 ) -> Result<Socket, Fail> {
-    Ok(Socket::new(version, protocol, queue(rt, 2, 128)?, queue(rt, 2, 128)?))
+    Ok(Socket::new(version, protocol, queue(rt, 128)?, queue(rt, 128)?))
 }
 
 /// Whether the packet is of so many hops, goes there and carries these bytes.

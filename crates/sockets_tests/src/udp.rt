@@ -1,79 +1,12 @@
-mod icmp;
-
-use crate::udp::{
-    BindError, PacketBuffer, PacketMetadata, RecvError, SendError, Socket, UdpMetadata,
-};
-use ip_wire::{IpAddress, IpEndpoint, IpRepr, UdpRepr};
-use net_base::{ChecksumCapabilities, Instant, ManagedSlice, PacketMeta, Rand};
-use socket_base::{Context, IpPayload, Offer, Packet, PollAt};
+use crate::common::{context, queue};
+use ip_wire::{IpAddress, IpEndpoint, IpListenEndpoint, IpProtocol, IpRepr, UdpRepr};
+use net_base::PacketMeta;
+use sockets::udp::{BindError, RecvError, SendError, Socket, UdpMetadata};
+use sockets::{IpPayload, Offer, Packet, PollAt};
 use std::test::Fail;
 
-/// A context of one moment that has no address and takes every destination's own address as the source.
-#[derive(Drop)]
-pub(crate) struct Echoes {
-    words: Rand,
-}
-
-impl Context for Echoes {
-    ghost use Rattle.std.specs.Prelude.{pos, refl, false, Some};
-    ghost use Rattle.net_base.specs.RandomWords.{next_state};
-    ghost use Rattle.net_base.specs.Capabilities.{all_checksums};
-    ghost use Rattle.net_base.specs.Checksum.TheVariants as checksum;
-
-    ghost context = { λ c. record { moment = pos 0; has_ip_addr = λ a. false; source_for = λ a. Some a; is_broadcast = λ a. false; ip_mtu = 1500; checksums = all_checksums checksum.Both; random = c.words } };
-
-    ghost drawn = { λ c. record c { words = next_state c.words } };
-
-    fn now(&self) -> Instant {
-        Instant::ZERO
-    }
-
-    fn has_ip_addr(&self, _addr: &IpAddress) -> bool {
-        false
-    }
-
-    fn get_source_address(&self, dst_addr: &IpAddress) -> Option<IpAddress> {
-        Some(*dst_addr)
-    }
-
-    fn is_broadcast(&self, _addr: &IpAddress) -> bool {
-        false
-    }
-
-    fn ip_mtu(&self) -> usize {
-        1500
-    }
-
-    fn checksum_caps(&self) -> ChecksumCapabilities {
-        ChecksumCapabilities::default()
-    }
-
-    fn rand_u32(&mut self) -> u32 {
-        self.words.rand_u32()
-    }
-
-    ghost drawn_context = { λ c. refl };
-}
-
-pub(crate) fn context() -> Echoes {
-    Echoes {
-        words: Rand::new(1),
-    }
-}
-
-fn queue(rt: &HostRuntime, packets: usize, bytes: usize) -> Result<PacketBuffer, Fail> {
-    let mut entries = Vec::new(rt.alloc());
-    for _ in 0..packets {
-        entries.push(PacketMetadata::EMPTY)?;
-    }
-    Ok(PacketBuffer::new(
-        ManagedSlice::Fixed(entries),
-        ManagedSlice::Fixed(vec![in rt.alloc(); 0; bytes]?),
-    ))
-}
-
 fn socket(rt: &HostRuntime, bytes: usize) -> Result<Socket, Fail> {
-    Ok(Socket::new(queue(rt, 2, bytes)?, queue(rt, 2, bytes)?))
+    Ok(Socket::new(queue(rt, bytes)?, queue(rt, bytes)?))
 }
 
 /// An IPv4 packet with a datagram of six bytes, from 192.168.1.2:53 to 192.168.1.1:48896.
@@ -81,7 +14,7 @@ fn arrives(socket: &mut Socket) {
     let header = IpRepr::new(
         IpAddress::v4(192, 168, 1, 2),
         IpAddress::v4(192, 168, 1, 1),
-        ip_wire::IpProtocol::Udp,
+        IpProtocol::Udp,
         14,
         64,
     );
@@ -92,8 +25,12 @@ fn arrives(socket: &mut Socket) {
     socket.process(PacketMeta {}, &header, &repr, b"abcdef");
 }
 
-fn to(address: IpAddress) -> IpEndpoint {
-    IpEndpoint::new(address, 53)
+fn to(address: IpAddress) -> UdpMetadata {
+    UdpMetadata::from(IpEndpoint::new(address, 53))
+}
+
+fn port(port: u16) -> IpListenEndpoint {
+    IpListenEndpoint { addr: None, port }
 }
 
 fn first_offered(packet: &Packet<'_>, bytes: &[u8]) -> bool {
@@ -149,14 +86,40 @@ fn a_datagram_is_read(rt: HostRuntime) -> Result<(), Fail> {
 }
 
 #[test]
+fn a_datagram_is_lent(rt: HostRuntime) -> Result<(), Fail> {
+    let mut socket = socket(&rt, 64)?;
+    assert!(rt; matches!(socket.recv(), Err(RecvError::Exhausted)));
+    arrives(&mut socket);
+    let (bytes, metadata) = socket.recv()?;
+    assert!(rt; bytes == b"abcdef".as_slice());
+    assert!(rt; metadata.endpoint == IpEndpoint::new(IpAddress::v4(192, 168, 1, 2), 53));
+    assert!(rt; !socket.can_recv());
+    Ok(())
+}
+
+#[test]
+fn a_lent_room_is_queued(rt: HostRuntime) -> Result<(), Fail> {
+    let mut socket = socket(&rt, 6)?;
+    let remote = to(IpAddress::v4(192, 168, 1, 2));
+    assert!(rt; matches!(socket.send(3, remote), Err(SendError::Unaddressable)));
+    assert!(rt; socket.bind(port(48896)).is_ok());
+    assert!(rt; matches!(socket.send(7, remote), Err(SendError::BufferFull)));
+    socket.send(3, remote)?.copy_from_slice(b"abc");
+    assert_eq!(rt; socket.send_queue(), 3);
+    assert!(rt; socket.offer(&context()) == (Offer::Packet { changed: false }));
+    assert!(rt; offers(&socket, b"abc"));
+    Ok(())
+}
+
+#[test]
 fn an_unsent_datagram_stays_first(rt: HostRuntime) -> Result<(), Fail> {
     let mut socket = socket(&rt, 64)?;
     let cx = context();
     let remote = to(IpAddress::v4(192, 168, 1, 2));
     assert!(rt; socket.send_slice(b"abc", remote) == Err(SendError::Unaddressable));
-    assert!(rt; socket.bind(0) == Err(BindError::Unaddressable));
-    assert!(rt; socket.bind(48896).is_ok());
-    assert!(rt; socket.bind(1) == Err(BindError::InvalidState));
+    assert!(rt; socket.bind(port(0)) == Err(BindError::Unaddressable));
+    assert!(rt; socket.bind(port(48896)).is_ok());
+    assert!(rt; socket.bind(port(1)) == Err(BindError::InvalidState));
     assert!(rt; socket.poll_at() == PollAt::Ingress);
     assert!(rt; socket.offer(&cx) == (Offer::Silent { changed: false }));
     assert!(rt; socket.send_slice(b"abc", remote).is_ok());
@@ -186,7 +149,7 @@ fn what_no_length_holds_is_dropped(rt: HostRuntime) -> Result<(), Fail> {
     let mut socket = socket(&rt, 65_536)?;
     let cx = context();
     let bytes = vec![in rt.alloc(); 7; 65_508]?;
-    assert!(rt; socket.bind(48896).is_ok());
+    assert!(rt; socket.bind(port(48896)).is_ok());
     let ipv4 = to(IpAddress::v4(192, 168, 1, 2));
     let ipv6 = to(IpAddress::v6(0xfd00, 0, 0, 0, 0, 0, 0, 2));
     assert!(rt; socket.send_slice(&bytes, ipv4).is_ok());

@@ -1,0 +1,19 @@
+-- A socket of any kind, taken for one of a kind.
+use Rattle.std.specs.Prelude.{Option, None, Some}
+use Rattle.datagram_sockets.specs.Udp.{UdpValue}
+use Rattle.datagram_sockets.specs.Icmp.{IcmpValue}
+use Rattle.datagram_sockets.specs.Raw.{RawValue}
+use Rattle.sockets.specs.declared.socket.Socket.{Socket}
+use Rattle.sockets.specs.declared.socket.Socket.TheVariants as Kind
+
+abbrev pub as_raw : Socket → Option RawValue
+as_raw (Kind.Raw v) = Some v
+as_raw s = None
+
+abbrev pub as_icmp : Socket → Option IcmpValue
+as_icmp (Kind.Icmp v) = Some v
+as_icmp s = None
+
+abbrev pub as_udp : Socket → Option UdpValue
+as_udp (Kind.Udp v) = Some v
+as_udp s = None

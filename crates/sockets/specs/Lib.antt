@@ -1,0 +1,26 @@
+-- Of sockets of any kind, and what contracts of the members cite, for the crates above: `Rattle.sockets.specs.Udp`,
+-- `Rattle.sockets.specs.UdpMetadata.{UdpMetadata}`.
+pub mod AnySocket
+pub mod Socket
+pub use Rattle.socket_base.specs.Addresses
+pub use Rattle.socket_base.specs.Context
+pub use Rattle.socket_base.specs.Offers as Polling
+pub use Rattle.socket_base.specs.Packet
+pub use Rattle.socket_base.specs.declared.offer.Offer
+pub use Rattle.socket_base.specs.declared.poll_at.PollAt
+pub use Rattle.socket_base.specs.declared.packet.IpPayload
+pub use Rattle.socket_base.specs.declared.packet.Packet as LentPacket
+pub use Rattle.datagram_sockets.specs.SocketValue
+pub use Rattle.datagram_sockets.specs.Offers
+pub use Rattle.datagram_sockets.specs.Dispatch
+pub use Rattle.datagram_sockets.specs.Header
+pub use Rattle.datagram_sockets.specs.Udp
+pub use Rattle.datagram_sockets.specs.Icmp
+pub use Rattle.datagram_sockets.specs.Raw
+pub use Rattle.datagram_sockets.specs.Same
+pub use Rattle.datagram_sockets.specs.declared.udp.UdpMetadata
+pub use Rattle.datagram_sockets.specs.declared.icmp.Endpoint
+pub use Rattle.datagram_sockets.specs.declared.error.BindError
+pub use Rattle.datagram_sockets.specs.declared.error.RecvError
+pub use Rattle.datagram_sockets.specs.declared.error.SendError
+pub use Rattle.datagram_sockets.specs.declared.raw.SendError as RawSendError

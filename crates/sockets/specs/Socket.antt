@@ -1,0 +1,73 @@
+-- A socket of any kind: what it offers, how an offer is settled, when it wants to be polled, and what is for it.
+use Rattle.std.specs.Prelude.{ℕ, Bool, false, List, Option, None, Some}
+use Rattle.ip_wire.specs.IpAddress.{IpAddress}
+use Rattle.ip_wire.specs.IpRepr.{IpRepr}
+use Rattle.ip_wire.specs.UdpRepr.{UdpRepr}
+use Rattle.control_wire.specs.Icmpv4Header.{Icmpv4Header}
+use Rattle.control_wire.specs.Icmpv6.{MessageValue}
+use Rattle.socket_base.specs.Context.{ContextValue}
+use Rattle.socket_base.specs.Packet.{PacketValue, IsSendable}
+use Rattle.socket_base.specs.declared.offer.Offer.{Offer}
+use Rattle.socket_base.specs.declared.poll_at.PollAt.{PollAt}
+use Rattle.datagram_sockets.specs.SocketValue as Datagrams
+use Rattle.datagram_sockets.specs.Offers as Places
+use Rattle.datagram_sockets.specs.Udp as Udps
+use Rattle.datagram_sockets.specs.Icmp as Icmps
+use Rattle.datagram_sockets.specs.Raw as Raws
+use Rattle.sockets.specs.declared.socket.Socket.{Socket}
+use Rattle.sockets.specs.declared.socket.Socket.TheVariants as Kind
+
+-- a socket offers as its kind does, and stays of its kind
+abbrev pub Offers : ContextValue → Socket → Offer → Socket → Type 0
+Offers cx (Kind.Raw v) answer (Kind.Raw v') = Raws.Offers cx v answer v'
+Offers cx (Kind.Icmp v) answer (Kind.Icmp v') = Icmps.Offers cx v answer v'
+Offers cx (Kind.Udp v) answer (Kind.Udp v') = Udps.Offers cx v answer v'
+Offers cx s answer s' = ⊥
+
+-- the packet of the open offer
+abbrev pub offered_by : Socket → Option PacketValue
+offered_by (Kind.Raw v) = v.offered
+offered_by (Kind.Icmp v) = v.offered
+offered_by (Kind.Udp v) = v.offered
+
+-- the packet, if there is one, can be sent
+abbrev pub IfSendable : Option PacketValue → Type 0
+IfSendable None = Unit {0}
+IfSendable (Some p) = IsSendable p
+
+-- what an offer is told: what was sent leaves its queue
+abbrev pub settled : Bool → Socket → Socket
+settled sent (Kind.Raw v) = Kind.Raw (Datagrams.settled sent v)
+settled sent (Kind.Icmp v) = Kind.Icmp (Datagrams.settled sent v)
+settled sent (Kind.Udp v) = Kind.Udp (Datagrams.settled sent v)
+
+-- when the socket wants to be polled
+abbrev pub poll_of : ContextValue → Socket → PollAt
+poll_of cx (Kind.Raw v) = Datagrams.poll_of v
+poll_of cx (Kind.Icmp v) = Datagrams.poll_of v
+poll_of cx (Kind.Udp v) = Datagrams.poll_of v
+
+-- the same socket, with the same datagrams in its queues, of which those to be sent may lie elsewhere
+abbrev pub IsSameButForPlaces : Socket → Socket → Type 0
+IsSameButForPlaces (Kind.Raw v) (Kind.Raw v') = Places.IsSameButForPlaces v v'
+IsSameButForPlaces (Kind.Icmp v) (Kind.Icmp v') = Places.IsSameButForPlaces v v'
+IsSameButForPlaces (Kind.Udp v) (Kind.Udp v') = Places.IsSameButForPlaces v v'
+IsSameButForPlaces s s' = ⊥
+
+-- ARRIVAL. What is for a socket of one kind is for none of another.
+
+abbrev pub accepts_packet : Socket → IpRepr → Bool
+accepts_packet (Kind.Raw v) ip = Raws.passes v.settings.version v.settings.protocol ip
+accepts_packet s ip = false
+
+abbrev pub accepts_icmpv4 : Socket → IpAddress → Icmpv4Header → List ℕ → Bool
+accepts_icmpv4 (Kind.Icmp v) destination message bytes = Icmps.accepts_v4 v.settings.endpoint destination message bytes
+accepts_icmpv4 s destination message bytes = false
+
+abbrev pub accepts_icmpv6 : Socket → IpAddress → MessageValue → List ℕ → Bool
+accepts_icmpv6 (Kind.Icmp v) destination message bytes = Icmps.accepts_v6 v.settings.endpoint destination message bytes
+accepts_icmpv6 s destination message bytes = false
+
+abbrev pub accepts_datagram : ContextValue → Socket → IpRepr → UdpRepr → Bool
+accepts_datagram cx (Kind.Udp v) ip udp = Udps.accepts cx v ip udp
+accepts_datagram cx s ip udp = false

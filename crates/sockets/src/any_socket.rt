@@ -1,0 +1,119 @@
+ghost use Rattle.std.specs.Prelude.{◌≡◌, Option, Some};
+ghost use Rattle.std.specs.Option.{option_copied, option_copied_mut};
+ghost use Rattle.std.specs.Borrow.{sem, LendsIf};
+ghost use Rattle.sockets.specs.AnySocket.{as_raw, as_icmp, as_udp};
+ghost use Rattle.sockets.specs.declared.socket.Socket as Any;
+ghost use Rattle.sockets.specs.declared.socket.Socket.TheVariants as Kind;
+ghost use Rattle.sockets.specs.contracts.socket.Socket.{the_row};
+
+use crate::socket::Socket;
+use datagram_sockets::{icmp, raw, udp};
+
+/// A socket of some kind.
+pub trait AnySocket: Sized {
+    /// the socket as one of any kind
+    ghost upcast_of: { Self → Any.Socket };
+
+    /// the socket, if it is of this kind
+    ghost downcast_of: { Any.Socket → Option Self };
+
+    /// The socket as one of any kind.
+    fn upcast(self) -> Socket
+        ensures { result ≡ upcast_of self };
+
+    /// The socket of this kind, if it is one.
+    fn downcast(socket: &Socket) -> Option<&Self>
+        ensures { option_copied result ≡ downcast_of socket.now };
+
+    /// The socket of this kind for writing, if it is one.
+    fn downcast_mut(socket: &mut Socket) -> Option<&mut Self>
+        ensures* writes_back { sem 𝓛 (LendsIf the_row Self.row socket.entry result upcast_of socket.old) }
+        ensures value { option_copied_mut result ≡ downcast_of socket.old };
+
+    /// an upcast socket is downcast to itself
+    ghost given_back: { (s : Self) → downcast_of (upcast_of s) ≡ Some s };
+}
+
+impl AnySocket for raw::Socket {
+    ghost use Rattle.std.specs.Prelude.{refl};
+
+    ghost upcast_of = { λ s. Kind.Raw s };
+
+    ghost downcast_of = { as_raw };
+
+    fn upcast(self) -> Socket {
+        Socket::Raw(self)
+    }
+
+    fn downcast(socket: &Socket) -> Option<&raw::Socket> {
+        match socket {
+            Socket::Raw(socket) => Some(socket),
+            _ => None,
+        }
+    }
+
+    fn downcast_mut(socket: &mut Socket) -> Option<&mut raw::Socket> {
+        match socket {
+            Socket::Raw(socket) => Some(socket),
+            _ => None,
+        }
+    }
+
+    ghost given_back = { λ s. refl };
+}
+
+impl AnySocket for icmp::Socket {
+    ghost use Rattle.std.specs.Prelude.{refl};
+
+    ghost upcast_of = { λ s. Kind.Icmp s };
+
+    ghost downcast_of = { as_icmp };
+
+    fn upcast(self) -> Socket {
+        Socket::Icmp(self)
+    }
+
+    fn downcast(socket: &Socket) -> Option<&icmp::Socket> {
+        match socket {
+            Socket::Icmp(socket) => Some(socket),
+            _ => None,
+        }
+    }
+
+    fn downcast_mut(socket: &mut Socket) -> Option<&mut icmp::Socket> {
+        match socket {
+            Socket::Icmp(socket) => Some(socket),
+            _ => None,
+        }
+    }
+
+    ghost given_back = { λ s. refl };
+}
+
+impl AnySocket for udp::Socket {
+    ghost use Rattle.std.specs.Prelude.{refl};
+
+    ghost upcast_of = { λ s. Kind.Udp s };
+
+    ghost downcast_of = { as_udp };
+
+    fn upcast(self) -> Socket {
+        Socket::Udp(self)
+    }
+
+    fn downcast(socket: &Socket) -> Option<&udp::Socket> {
+        match socket {
+            Socket::Udp(socket) => Some(socket),
+            _ => None,
+        }
+    }
+
+    fn downcast_mut(socket: &mut Socket) -> Option<&mut udp::Socket> {
+        match socket {
+            Socket::Udp(socket) => Some(socket),
+            _ => None,
+        }
+    }
+
+    ghost given_back = { λ s. refl };
+}

@@ -1,0 +1,54 @@
+//! Laws of sockets of any kind, and those of each kind.
+ghost use Rattle.std.specs.Prelude.{◌≡◌, ◌↔◌, ℤ, false, IsSome};
+ghost use Rattle.socket_base.specs.Context.{ContextValue};
+ghost use Rattle.socket_base.specs.Offers.{IsBefore};
+ghost use Rattle.socket_base.specs.declared.offer.Offer as Answer;
+ghost use Rattle.socket_base.specs.declared.offer.Offer.TheVariants as Offer;
+ghost use Rattle.datagram_sockets.specs.Offers.{HasPacket, changed_by};
+ghost use Rattle.sockets.specs.Socket.{Offers, offered_by, settled, poll_of, IsSameButForPlaces};
+ghost use Rattle.sockets.specs.declared.socket.Socket.{Socket};
+
+/// Law: where the socket doesn't want to be polled at a moment yet, an offer at that moment is silent and
+/// changes nothing, but that an open offer is settled as not sent.
+pub fn silence()
+    ensures { (cx : ContextValue) (s s' : Socket) (answer : Answer.Offer)
+        → IsBefore cx.moment (poll_of cx s)
+        → Offers cx s answer s'
+        → (answer ≡ Offer.Silent false) × (s' ≡ settled false s) }
+{}
+
+/// Law: an offer that is settled as not sent doesn't change when the socket wants to be polled.
+pub fn due_as_before()
+    ensures { (cx : ContextValue) (s : Socket) → poll_of cx (settled false s) ≡ poll_of cx s }
+{}
+
+/// Law: a packet is offered exactly where the answer says so, and one whose offer is settled as not sent is
+/// offered again as it was.
+pub fn unsent_is_offered_again()
+    ensures packet { (cx : ContextValue) (s s' : Socket) (answer : Answer.Offer)
+        → Offers cx s answer s'
+        → HasPacket answer (offered_by s') }
+    ensures again { (cx : ContextValue) (s s' : Socket) (answer : Answer.Offer)
+        → Offers cx s answer s'
+        → IsSome (offered_by s')
+        → Offers cx (settled false s') answer s' }
+    ensures settled { (cx : ContextValue) (s s' : Socket) (answer : Answer.Offer)
+        → Offers cx (settled false s) answer s' ↔ Offers cx s answer s' }
+{}
+
+/// Law: an offer that says that nothing changed, and is settled as not sent, leaves the socket with the same
+/// datagrams in its queues.
+pub fn unchanged()
+    ensures { (cx : ContextValue) (s s' : Socket) (answer : Answer.Offer)
+        → Offers cx s answer s'
+        → changed_by answer ≡ false
+        → IsSameButForPlaces s (settled false s') }
+{}
+
+/// Law: what an offer answers and leaves is determined.
+pub fn one_offer()
+    ensures { (cx : ContextValue) (s left right : Socket) (answer other : Answer.Offer)
+        → Offers cx s answer left
+        → Offers cx s other right
+        → (answer ≡ other) × (left ≡ right) }
+{}
