@@ -2,8 +2,8 @@
 #![tactic(auto)]
 
 #[cfg(test)]
-mod icmpv4;
+mod icmpv4_messages;
 #[cfg(test)]
-mod icmpv6;
+mod icmpv6_messages;
 #[cfg(test)]
-mod ndisc;
+mod neighbor_messages;

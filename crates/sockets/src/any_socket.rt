@@ -2,7 +2,7 @@ ghost use Rattle.std.specs.Prelude.{◌≡◌, Option, Some};
 ghost use Rattle.std.specs.Option.{option_copied, option_copied_mut};
 ghost use Rattle.std.specs.Borrow.{sem, LendsIf};
 ghost use Rattle.sockets.specs.AnySocket.{as_raw, as_icmp, as_udp};
-ghost use Rattle.sockets.specs.declared.socket.Socket as Any;
+ghost use Rattle.sockets.specs.declared.socket.Socket as AnyKind;
 ghost use Rattle.sockets.specs.declared.socket.Socket.TheVariants as Kind;
 ghost use Rattle.sockets.specs.contracts.socket.Socket.{the_row};
 
@@ -12,10 +12,10 @@ use datagram_sockets::{icmp, raw, udp};
 /// A socket of some kind.
 pub trait AnySocket: Sized {
     /// the socket as one of any kind
-    ghost upcast_of: { Self → Any.Socket };
+    ghost upcast_of: { Self → AnyKind.Socket };
 
     /// the socket, if it is of this kind
-    ghost downcast_of: { Any.Socket → Option Self };
+    ghost downcast_of: { AnyKind.Socket → Option Self };
 
     /// The socket as one of any kind.
     fn upcast(self) -> Socket
