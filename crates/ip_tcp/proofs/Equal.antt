@@ -53,7 +53,6 @@ Decides-stamp a b = search rules
 pub Decides-control : (a b : TcpControl) → Decides (Control.ghosts.eq a b) (a ≡ b)
 Decides-control a b = search rules
 
-
 pub Decides-number : (a b : SeqNumber) → Decides (a.0 == b.0) (a ≡ b)
 Decides-number a b =
     let inside = Decides-eqb a.0 b.0 in

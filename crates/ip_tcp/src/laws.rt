@@ -8,9 +8,9 @@ ghost use Rattle.ip_tcp.specs.Tcp.{IsChecked, IsTcp, IsValue, Fits, acknowledges
 
 use crate::control::TcpControl;
 use crate::field::{
-    ACK_NUM, CHECKSUM, DST_PORT, FLAGS, FLG_ACK, FLG_CWR, FLG_ECE, FLG_FIN, FLG_NS, FLG_PSH, FLG_RST,
-    FLG_SYN, FLG_URG, HEADER_LEN, OPT_END, OPT_MSS, OPT_NOP, OPT_SACKPERM, OPT_SACKRNG, OPT_TSTAMP,
-    OPT_WS, SEQ_NUM, SRC_PORT, URGENT, WIN_SIZE,
+    ACK_NUM, CHECKSUM, DST_PORT, FLAGS, FLG_ACK, FLG_CWR, FLG_ECE, FLG_FIN, FLG_NS, FLG_PSH,
+    FLG_RST, FLG_SYN, FLG_URG, HEADER_LEN, OPT_END, OPT_MSS, OPT_NOP, OPT_SACKPERM, OPT_SACKRNG,
+    OPT_TSTAMP, OPT_WS, SEQ_NUM, SRC_PORT, URGENT, WIN_SIZE,
 };
 use crate::header::TcpHeader;
 use crate::option::{MAX_WINDOW_SCALE, TcpOption, TcpOptions};

@@ -12,4 +12,3 @@ pub use context::Context;
 pub use offer::Offer;
 pub use packet::{IpPayload, Packet};
 pub use poll_at::PollAt;
-

@@ -4,6 +4,7 @@
 mod containers;
 mod packets;
 mod simulation;
+mod sockets_in_use;
 
 use anyhow::Result;
 use ip_wire::IpAddress;
@@ -18,7 +19,12 @@ fn main(rt: HostRuntime) -> Result<()> {
     let source = IpAddress::v4(192, 168, 1, 1);
     let destination = IpAddress::v4(192, 168, 1, 2);
     let mut datagram = [0; 12];
-    packets::write_query(&mut datagram, &source, &destination, &[0xaa, 0x00, 0x00, 0xff]);
+    packets::write_query(
+        &mut datagram,
+        &source,
+        &destination,
+        &[0xaa, 0x00, 0x00, 0xff],
+    );
     println!(rt; "datagram: {}", hex::encode(alloc, &datagram)?)?;
 
     let world = simulation::delivered_twice(alloc, b"query")?;

@@ -7,12 +7,7 @@ use ip_wire::{IpAddress, UdpPacket, UdpPacketMut, UdpRepr};
 use net_base::ChecksumCapabilities;
 
 /// Writes a datagram from port 48896 to port 53 over the whole buffer, with its checksum.
-pub fn write_query(
-    packet: &mut [u8],
-    source: &IpAddress,
-    destination: &IpAddress,
-    payload: &[u8],
-)
+pub fn write_query(packet: &mut [u8], source: &IpAddress, destination: &IpAddress, payload: &[u8])
     requires room { length packet.old ≡ 8 + length payload.now }
     requires fits { Udp.Fits source.now destination.now payload.now }
     ensures { packet.new ≡ Udp.written source.now destination.now true (record { src_port = 48896; dst_port = 53 }) payload.now }
@@ -42,7 +37,12 @@ pub fn payload_for<'a>(
     ensures { IfSome result (λ bytes. bytes.now ≡ Udp.payload_of packet.now) }
 {
     let datagram = UdpPacket::new_checked(packet).ok()?;
-    let header = UdpRepr::parse(&datagram, source, destination, &ChecksumCapabilities::default());
+    let header = UdpRepr::parse(
+        &datagram,
+        source,
+        destination,
+        &ChecksumCapabilities::default(),
+    );
     match header {
         Ok(header) if header.dst_port == port => Some(datagram.payload()),
         _ => None,
