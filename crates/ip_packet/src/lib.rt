@@ -5,7 +5,7 @@ pub mod ip;
 pub mod ipv4;
 pub mod ipv6;
 mod parts;
-mod sealed;
+mod pseudo_sums;
 pub mod udp;
 
 pub use ip::IpRepr;

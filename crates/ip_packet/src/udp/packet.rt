@@ -8,7 +8,7 @@ ghost use Rattle.ip_address.specs.Pseudo.{covered};
 ghost use Rattle.ip_packet.specs.Udp.{IsWhole, IsChecked, bytes_of, payload_of, datagram_of};
 
 use super::field::{self, HEADER_LEN};
-use crate::sealed;
+use crate::pseudo_sums;
 use ip_address::network_order::read_u16;
 use ip_address::{Error, IpAddress, IpProtocol};
 
@@ -102,7 +102,7 @@ impl<'a> UdpPacket<'a> {
             ≡ folded (covered source.now destination.now 17 (datagram_of (bytes_of self.now))) }
     {
         let (datagram, _padding) = self.buffer.split_at(self.len() as usize);
-        sealed::sum(source, destination, IpProtocol::Udp, datagram)
+        pseudo_sums::sum(source, destination, IpProtocol::Udp, datagram)
     }
 
     /// Whether the checksum holds, or the datagram has none, as it may over IPv4.
@@ -113,6 +113,6 @@ impl<'a> UdpPacket<'a> {
     {
         let absent = self.checksum() == 0 && matches!(source, IpAddress::Ipv4(_));
         let (datagram, _padding) = self.buffer.split_at(self.len() as usize);
-        absent || sealed::holds(source, destination, IpProtocol::Udp, datagram)
+        absent || pseudo_sums::holds(source, destination, IpProtocol::Udp, datagram)
     }
 }

@@ -9,7 +9,7 @@ ghost use Rattle.ip_packet.specs.Udp.{IsWhole, IsChecked, bytes_in, name_of, pay
 
 use super::field::{self, HEADER_LEN};
 use super::packet::UdpPacket;
-use crate::sealed;
+use crate::pseudo_sums;
 use ip_address::network_order::{read_u16, write_u16};
 use ip_address::{Error, IpAddress};
 
@@ -152,7 +152,7 @@ impl<'a> UdpPacketMut<'a> {
     {
         self.set_checksum(0);
         let sum = self.sum(source, destination);
-        self.set_checksum(sealed::sent_complement(sum));
+        self.set_checksum(pseudo_sums::sent_complement(sum));
     }
 
     /// What the datagram carries, to be written.

@@ -12,7 +12,7 @@ ghost use Rattle.ip_packet.specs.declared.udp.repr.UdpRepr.{UdpRepr};
 use super::field::{self, HEADER_LEN};
 use super::packet::UdpPacket;
 use super::packet_mut::UdpPacketMut;
-use crate::sealed;
+use crate::pseudo_sums;
 use ip_address::network_order::write_u16;
 use ip_address::{Error, IpAddress, IpProtocol};
 use net_devices::ChecksumCapabilities;
@@ -180,6 +180,10 @@ fn seal(bytes: &mut [u8], source: &IpAddress, destination: &IpAddress)
     ensures { bytes.new
         ≡ put16 bytes.old 6 (nonzero_complement (covered source.now destination.now 17 bytes.old)) }
 {
-    let sum = sealed::sum(source, destination, IpProtocol::Udp, bytes);
-    write_u16(bytes, field::CHECKSUM.start, sealed::sent_complement(sum));
+    let sum = pseudo_sums::sum(source, destination, IpProtocol::Udp, bytes);
+    write_u16(
+        bytes,
+        field::CHECKSUM.start,
+        pseudo_sums::sent_complement(sum),
+    );
 }

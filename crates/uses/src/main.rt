@@ -1,0 +1,32 @@
+//! Small callers of the stack. Each shows one use, and its contract says what came of it.
+#![tactic(auto)]
+
+mod containers;
+mod packets;
+mod simulation;
+
+use anyhow::Result;
+use ip_wire::IpAddress;
+use lan::Side;
+
+fn main(rt: HostRuntime) -> Result<()> {
+    let alloc = rt.alloc();
+    let mut front = [b'.'; 8];
+    let count = containers::through_a_ring(alloc, 12, b"abcdefghijkl", &mut front)?;
+    println!(rt; "ring: {count} bytes")?;
+
+    let source = IpAddress::v4(192, 168, 1, 1);
+    let destination = IpAddress::v4(192, 168, 1, 2);
+    let mut datagram = [0; 12];
+    packets::write_query(&mut datagram, &source, &destination, &[0xaa, 0x00, 0x00, 0xff]);
+    println!(rt; "datagram: {}", hex::encode(alloc, &datagram)?)?;
+
+    let world = simulation::delivered_twice(alloc, b"query")?;
+    for frame in world.sent(Side::A) {
+        println!(rt; "frame: {}", hex::encode(alloc, frame.as_slice())?)?;
+    }
+    for answer in world.answers() {
+        println!(rt; "{}", simulation::described(alloc, answer)?)?;
+    }
+    Ok(())
+}
