@@ -1,13 +1,13 @@
 -- The steps of a receive buffer: what they do to its ring and its runs is what the receive map does.
-use Rattle.std.proofs.Common.{◌≡◌, ◌↔◌, ℕ, zero, suc, ◌+◌, ◌-◌, ◌%◌, ◌^◌, ◌<◌, ◌≤◌, nat_le, min, Bool, true, false, List, [], ◌∷◌, ◌++◌, length, take, drop, Result, Ok, Err, IsErr, IsOk, is_ok, IfOk, Option, Some, None, if◌then◌else◌, refl, sym, ap, subst, ◌∙◌, ◌⊎◌, inl, inr, arith, length-append, length-drop}
+use Rattle.std.proofs.Common.{◌≡◌, ◌↔◌, ℕ, ◌+◌, ◌-◌, ◌%◌, ◌^◌, ◌<◌, ◌≤◌, min, true, false, List, [], ◌++◌, length, take, drop, Result, Ok, Err, IsErr, is_ok, IfOk, refl, sym, ap, subst, ◌∙◌, inl, inr, arith, length-append, length-drop}
 use Rattle.std.specs.Result.{result_unwrap_or}
 use Rattle.std.proofs.lemmas.Bool.Decides.{nat_tests}
 use Rattle.std.proofs.lemmas.List.{length-take-le, take_all, length-take}
-use Rattle.net_base.specs.Ring.{Ring, ring, capacity, rotated, storage_of, cleared, overwritten, extended, released}
-use Rattle.net_base.specs.Assembler.{AreRuns, Holds, IsUnion, added, front, without_front}
+use Rattle.net_base.specs.Ring.{Ring, capacity, rotated, storage_of, cleared, overwritten, extended, released}
+use Rattle.net_base.specs.Assembler.{IsUnion, added, front, without_front}
 use Rattle.tcp_law.specs.ReceiveMap as receive
 use Rattle.tcp_law.specs.ReceiveMap.{space, store}
-use Rattle.held_bytes.specs.Held.{map_from, runs_of, overlay, EndsBy, TakesFront}
+use Rattle.held_bytes.specs.Held.{map_from, runs_of, overlay, EndsBy}
 use Rattle.held_bytes.proofs.Places.{length-map_from, map_from-space, map_from-more}
 use Rattle.held_bytes.proofs.Storing.{held-store, overlay-overwritten, length-overlay, EndsBy-union}
 use Rattle.held_bytes.proofs.Fronts.{takes_front}
@@ -36,20 +36,20 @@ length-rotated n xs = rw (length-append, length-drop, length-take) (omega arith)
 pub cleared-received : (r : Ring ℕ) (held : List (ℕ × ℕ)) → received (cleared r) [] ≡ emptied (received r held)
 cleared-received r held =
     let size : length (storage_of r) ≡ room_of (received r held) =
-        length-rotated _ (r.queue ++ r.free) ∙ length-append r.queue r.free ∙ capacity-received r held in
+    length-rotated _ (r.queue ++ r.free) ∙ length-append r.queue r.free ∙ capacity-received r held in
     let map : map_from [] 0 (storage_of r) ≡ space (room_of (received r held)) = map_from-nothing (storage_of r) ∙ ap space size in
     λ i. record { waiting = []; map = map i; start = 0 }
 
 pub cleared-new : (r : Ring ℕ) → received (cleared r) [] ≡ received_of [] (space (length r.queue + length r.free)) 0
 cleared-new r =
     let map : map_from [] 0 (storage_of r) ≡ space (length r.queue + length r.free) =
-        map_from-nothing (storage_of r) ∙ ap space (length-rotated (capacity r - r.start) (r.queue ++ r.free) ∙ length-append r.queue r.free) in
+    map_from-nothing (storage_of r) ∙ ap space (length-rotated (capacity r - r.start) (r.queue ++ r.free) ∙ length-append r.queue r.free) in
     λ i. record { waiting = []; map = map i; start = 0 }
 
 pub released-received : (r : Ring ℕ) (held : List (ℕ × ℕ)) (n : ℕ) → IsHeldBy r held → n ≤ length r.queue → received (released r n) held ≡ read_from (received r held) n
 released-received r held n is fits =
     let map : map_from held 0 (r.free ++ take n r.queue) ≡ map_from held 0 r.free ++ space (length (take n r.queue)) =
-        map_from-more held r.free (take n r.queue) is.ends in
+    map_from-more held r.free (take n r.queue) is.ends in
     let start : (r.start + n) % capacity r ≡ (r.start + n) % room_of (received r held) = ap (λ k. (r.start + n) % k) (capacity-received r held) in
     λ i. record { waiting = drop n r.queue; map = map i; start = start i }
 
@@ -80,9 +80,9 @@ stores r held bytes is short =
     let t = takes_front held r.free 0 bytes is.runs is.ends (omega (arith, short)) in
     let laid = overlay-overwritten r 0 bytes (omega (arith, short)) in
     let waiting : r.queue ++ take n (overwritten r 0 bytes).free ≡ r.queue ++ receive.front (store (map_from held 0 r.free) 0 bytes) =
-        ap (λ xs. r.queue ++ xs) (ap (take n) laid ∙ sym t.taken) in
+    ap (λ xs. r.queue ++ xs) (ap (take n) laid ∙ sym t.taken) in
     let map : map_from rest 0 (drop n (overwritten r 0 bytes).free) ≡ receive.behind (store (map_from held 0 r.free) 0 bytes) =
-        ap (λ xs. map_from rest 0 (drop n xs)) laid ∙ sym t.left in
+    ap (λ xs. map_from rest 0 (drop n xs)) laid ∙ sym t.left in
     record {
       fits = rw laid t.fits;
       kept = record { runs = t.runs; gap = t.gap; ends = rw laid t.ends; small = rw (length-append, laid, length-drop, length-take-le n (overlay r.free 0 bytes) t.fits, t.same_length) (omega (arith, is.small, t.fits, t.same_length)) };
@@ -112,7 +112,6 @@ holds_early r held past bytes is far fits union =
       };
       map = rw laid (sym stored);
     }
-
 
 -- what an assembler answers that isn't refused
 answered : {E : Type 0} (answer : Result ℕ E) (n : ℕ) (Q : Type 0) → (IsErr answer → ⊥) → IfOk answer (λ k. (k ≡ n) × Q) → (result_unwrap_or answer 0 ≡ n) × Q
@@ -174,7 +173,7 @@ does_hold r held v past bytes n laid runs is by far fits union few n_is laid_is 
     let short : length (added held past (length bytes)) ≤ 4 = omega (arith, few) in
     let test : buffer.can_hold (received r held) past bytes ≡ true = rw h.runs (grind (arith, nat_tests, short)) in
     let value : received (overwritten r past bytes) (added held past (length bytes)) ≡ record (received r held) { map = store (received r held).map past bytes } =
-        λ i. record { waiting = r.queue; map = h.map i; start = r.start } in
+    λ i. record { waiting = r.queue; map = h.map i; start = r.start } in
     record {
       kept = rw (laid_at, runs_is) h.kept;
       test = rw (← is) (sym test);

@@ -1,9 +1,8 @@
 -- What came to a socket: the bytes that wait to be read, and the receive map behind them.
-use Rattle.std.specs.Prelude.{ℕ, ◌+◌, ◌-◌, ◌%◌, ◌^◌, ◌≤◌, nat_le, nat_lt, ◌&&◌, min, Bool, List, [], ◌∷◌, ◌++◌, length, take, drop, Option, if◌then◌else◌, Some, None, Result, Ok, Err}
+use Rattle.std.specs.Prelude.{ℕ, ◌+◌, ◌-◌, ◌%◌, ◌^◌, ◌≤◌, nat_le, min, Bool, List, ◌++◌, length, if◌then◌else◌}
 use Rattle.net_base.specs.Ring.{Ring}
 use Rattle.net_base.specs.Assembler.{AreRuns, Holds}
-use Rattle.tcp_law.specs.ReceiveMap.{space, store, front, behind}
-use Rattle.tcp_model.specs.declared.error.RecvError.{RecvError}
+use Rattle.tcp_law.specs.ReceiveMap.{store, front, behind}
 use Rattle.tcp_model.specs.Value.{Received, room_of}
 use Rattle.held_bytes.specs.Held.{map_from, runs_of, EndsBy}
 
@@ -15,12 +14,15 @@ received ring held = record { waiting = ring.queue; map = map_from held 0 ring.f
 abbrev pub most_bytes : ℕ
 most_bytes = 2 ^ 30
 
+abbrev pub FitsBuffer : Ring ℕ → Type 0
+FitsBuffer ring = length ring.queue + length ring.free ≤ most_bytes
+
 -- nothing is held at RCV.NXT, nor past the free space
 pub record IsHeldBy (ring : Ring ℕ) (held : List (ℕ × ℕ)) : Type 0 where
   pub runs : AreRuns held
   pub gap : Holds held 0 → ⊥
   pub ends : EndsBy held (length ring.free)
-  pub small : length ring.queue + length ring.free ≤ most_bytes
+  pub small : FitsBuffer ring
 
 -- bytes at RCV.NXT: they wait to be read, with the held bytes that follow without a gap
 abbrev pub in_order : Received → List ℕ → Received
@@ -42,12 +44,3 @@ early r past bytes = if can_hold r past bytes then record r { map = store r.map 
 abbrev pub unbroken : Received → ℕ → ℕ → ℕ
 unbroken r offset size =
     min size (min (length r.waiting - offset) (room_of r - (r.start + offset) % room_of r))
-
--- what a call lends for reading
-abbrev pub lent : Received → List ℕ
-lent r = take (unbroken r 0 (length r.waiting)) r.waiting
-
--- nothing is refused
-abbrev pub or_done : Option RecvError → Result (Unit {0}) RecvError
-or_done None = Ok tt
-or_done (Some refusal) = Err refusal

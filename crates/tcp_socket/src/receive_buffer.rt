@@ -1,6 +1,6 @@
 //! The receive buffer of a socket.
-ghost use Rattle.std.specs.Prelude.{◌≡◌, is_ok, ◌+◌, ◌-◌, ◌<◌, ◌≤◌, ◌^◌, ◌++◌, length, take, drop, min, List, []};
-ghost use Rattle.tcp_socket.specs.Receive.{most_bytes, in_order, can_hold, early, unbroken};
+ghost use Rattle.std.specs.Prelude.{◌≡◌, ◌↔◌, ◌+◌, ◌≤◌, ◌++◌, IsTrue, is_ok, length, take, drop, min, []};
+ghost use Rattle.tcp_socket.specs.Receive.{most_bytes, FitsBuffer, in_order, can_hold, early, unbroken};
 ghost use Rattle.tcp_model.specs.Value.{received_of, room_of, emptied};
 ghost use Rattle.tcp_model.specs.Calls.{read_from};
 ghost use Rattle.tcp_model.specs.Answers.{run_at};
@@ -10,9 +10,12 @@ ghost use Rattle.held_bytes.specs.Held.{runs_of};
 use net_base::{Assembler, RingBuffer, TooManyHolesError};
 use std::marker::Model;
 
+/// The most bytes that a buffer may hold: the largest window that a shift of 14 can say (RFC 7323, 2.3).
+const MOST_BYTES: usize = 1 << 30;
+
 /// What came to a socket. Bytes that came in order wait in the ring. Those that came out of order
 /// lie in its free places, and the assembler keeps which.
-#[derive(Drop)]
+#[derive(Debug, Drop)]
 pub struct ReceiveBuffer {
     ring: RingBuffer<u8>,
     held: Assembler<4>,
@@ -20,7 +23,6 @@ pub struct ReceiveBuffer {
 
 impl Model for ReceiveBuffer {
     ghost use Rattle.tcp_socket.specs.Receive.{received, IsHeldBy};
-
     ghost use Rattle.tcp_model.specs.Value.{Received};
 
     ghost Value = { Received };
@@ -31,9 +33,16 @@ impl Model for ReceiveBuffer {
 }
 
 impl ReceiveBuffer {
-    /// A buffer over the ring, with nothing in it.
+    /// Whether a buffer can be made of this ring: it has room for at most 2^30 bytes.
+    pub fn fits_buffer(ring: &RingBuffer<u8>) -> bool
+        ensures { IsTrue result ↔ FitsBuffer ring.now }
+    {
+        ring.capacity() <= MOST_BYTES
+    }
+
+    /// A buffer over the ring, with nothing in it. What the ring holds is forgotten.
     pub fn new(mut ring: RingBuffer<u8>) -> ReceiveBuffer
-        requires { length ring.queue + length ring.free ≤ most_bytes }
+        requires { FitsBuffer ring }
         ensures { result ≡ received_of [] (space (length ring.queue + length ring.free)) 0 }
     {
         ring.clear();
