@@ -45,7 +45,7 @@ drop-min zero xs = simp unary_clauses refl
 drop-min (suc k) [] = simp unary_clauses refl
 drop-min (suc k) (x ∷ xs) = simp unary_clauses (drop-min k xs)
 
-acked_syn : (syn : Bool) (by : ℕ) → one_if syn ≤ by → (syn && (by == 0)) ≡ false
+pub acked_syn : (syn : Bool) (by : ℕ) → one_if syn ≤ by → (syn && (by == 0)) ≡ false
 acked_syn false by h = refl
 acked_syn true by h = grind (arith, nat_tests)
 
@@ -94,6 +94,7 @@ takes_ack c s t x n by state comes control number small distance ok leads k hold
           ∙ lists.drop-twice (by - one_if c.syn_unacked) (s.una - suc s.iss) 0 (s.una + by - suc s.iss) s.written (omega arith));
       waiting = k.waiting;
       map = k.map;
+      gap = k.gap;
       listener = k.listener;
     } in
     tied_by _ _ s t (TakesAck x (s.una + by)) holds may refl (connected_fits state (acked_core c state by) _ leads.connected k')

@@ -5,7 +5,7 @@ use Rattle.tcp_law.specs.Invariant.{HoldsBetween}
 use Rattle.tcp_law.specs.Move.{Move, May, after, MayWrite, listening}
 use Rattle.tcp_law.specs.Move.Move.{Listens, Connects, Writes, Reads, Closes, Ends}
 use Rattle.tcp_law.specs.Numbers.{wire, IsFirst}
-use Rattle.tcp_law.specs.ReceiveMap.{space}
+use Rattle.tcp_law.specs.ReceiveMap.{space, front}
 use Rattle.tcp_law.specs.Side.{Side, one_if, rcv_next, fresh, send_queue}
 use Rattle.tcp_law.specs.Side.Phase.{Unopened, Listen, SynSent, SynReceived, Synchronized, Ended}
 use Rattle.tcp_law.specs.Side.Opening.{Passive, Active, NotYet}
@@ -57,6 +57,7 @@ writes c s t bytes e short fits holds =
       queue = ap (λ (queue : List ℕ). queue ++ bytes) k.queue ∙ sym (drop-append-le (s.una - suc s.iss) s.written bytes within);
       waiting = k.waiting;
       map = k.map;
+      gap = k.gap;
       listener = k.listener;
     } in
     tied_by _ _ s t (Writes bytes) holds may refl (connected_fits c.state (with_queued c bytes) _ test.connected k')
@@ -71,6 +72,16 @@ read_waiting w xs count e = ap (λ (bytes : List ℕ). drop count bytes) e
 
 pub read_map : (m n : List (Option ℕ)) (w xs : List ℕ) (count : ℕ) → m ≡ n → w ≡ xs → m ++ space (length (take count w)) ≡ n ++ space (length (take count xs))
 read_map m n w xs count e f = ap (λ (map : List (Option ℕ)). map ++ space (length (take count w))) e ∙ ap (λ (bytes : List ℕ). n ++ space (length (take count bytes))) f
+
+pub front-space : (n : ℕ) → front (space n) ≡ []
+front-space zero = refl
+front-space (suc n) = refl
+
+-- nothing is held at the front, also with more free space behind
+pub front-room : (map : List (Option ℕ)) (n : ℕ) → front map ≡ [] → front (map ++ space n) ≡ []
+front-room [] n e = front-space n
+front-room (None ∷ map) n e = refl
+front-room (Some byte ∷ map) n e = absurd (cc)
 
 -- bytes are read in a connection
 pub reads_connected :
@@ -95,6 +106,7 @@ reads_connected c s t count e fits holds =
       queue = k.queue;
       waiting = read_waiting c.waiting s.waiting count k.waiting;
       map = read_map c.map s.window c.waiting s.waiting count k.map k.waiting;
+      gap = front-room c.map (length (take count c.waiting)) k.gap;
       listener = k.listener;
     } in
     tied_by _ _ s t (Reads count) holds tt refl (connected_fits c.state (with_taken_out c count) _ e k')
@@ -144,6 +156,7 @@ closes_with c s t state e e' phase was closes same owes owed opened k holds =
       queue = k.queue;
       waiting = k.waiting;
       map = k.map;
+      gap = k.gap;
       listener = k.listener;
     } in
     tied_by _ _ s t Closes holds (is_connected_side c s k) refl (connected_fits state (in_core_state c state) _ e' k')
@@ -198,6 +211,7 @@ connects c s t number room pair small all u holds =
       queue = refl;
       waiting = sym (ap (λ (x : Side). x.waiting) u.side);
       map = fresh_window c s u room all;
+      gap = front-space room;
       caller = refl;
     } in
     tied_by _ _ s t (Connects (2 ^ 32 + number)) holds (unopened_phase c s u room all, (omega arith, omega arith)) refl k

@@ -3,3 +3,8 @@ pub mod CallMoves
 pub mod CallLaws
 pub mod PromiseLemmas
 pub mod ArrivalMoves
+pub mod AckLaws
+pub mod TextMoves
+pub mod TextLaws
+pub mod OpeningLaws
+pub mod ArrivalLaws

@@ -6,7 +6,7 @@ use Rattle.ip_wire.specs.TcpControl.TheVariants as Bits
 use Rattle.ip_wire.specs.TcpHeader.{TcpHeader}
 use Rattle.tcp_law.specs.Invariant.{HoldsBetween}
 use Rattle.tcp_law.specs.Numbers.{wire}
-use Rattle.tcp_law.specs.ReceiveMap.{space}
+use Rattle.tcp_law.specs.ReceiveMap.{space, front}
 use Rattle.tcp_law.specs.Segment.{Segment, Control}
 use Rattle.tcp_law.specs.Segment.Control.{Plain, Syn, Fin, Rst}
 use Rattle.tcp_law.specs.Side.{Side, Phase, Opening, rcv_next, send_end, send_queue, one_if, fresh}
@@ -117,7 +117,7 @@ pub record IsListening (c : Core) (s : Side) : Type 0 where
   pub blank : IsBlank c
   pub unnamed : c.pair ≡ None
 
--- SYN-SENT
+-- SYN-SENT. Nothing is held at RCV.NXT, here and later: what is there may be read.
 pub record IsAsking (c : Core) (s : Side) : Type 0 where
   pub phase : s.phase ≡ SynSent
   pub una : c.una ≡ wire s.una
@@ -128,6 +128,7 @@ pub record IsAsking (c : Core) (s : Side) : Type 0 where
   pub queue : c.queue ≡ []
   pub waiting : c.waiting ≡ s.waiting
   pub map : c.map ≡ s.window
+  pub gap : front c.map ≡ []
   pub caller : c.listen_port ≡ 0
 
 abbrev pub phase_of : State → Phase
@@ -168,6 +169,7 @@ pub record IsConnectedAs (c : Core) (s : Side) : Type 0 where
   pub queue : c.queue ≡ send_queue s
   pub waiting : c.waiting ≡ s.waiting
   pub map : c.map ≡ s.window
+  pub gap : front c.map ≡ []
   pub listener : (c.listen_port == 0) ≡ false → s.opening ≡ Passive
 
 -- by state

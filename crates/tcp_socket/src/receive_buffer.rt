@@ -1,0 +1,153 @@
+//! The receive buffer of a socket.
+ghost use Rattle.std.specs.Prelude.{◌≡◌, ◌↔◌, ◌+◌, ◌≤◌, ◌++◌, IsTrue, is_ok, length, take, drop, min, []};
+ghost use Rattle.tcp_socket.specs.Receive.{most_bytes, FitsBuffer, in_order, can_hold, early, unbroken};
+ghost use Rattle.tcp_model.specs.Value.{received_of, room_of, emptied};
+ghost use Rattle.tcp_model.specs.Calls.{read_from};
+ghost use Rattle.tcp_model.specs.Answers.{run_at};
+ghost use Rattle.tcp_law.specs.ReceiveMap.{space, store, front};
+ghost use Rattle.held_bytes.specs.Held.{runs_of};
+
+use net_base::{Assembler, RingBuffer, TooManyHolesError};
+use std::marker::Model;
+
+/// The most bytes that a buffer may hold: the largest window that a shift of 14 can say (RFC 7323, 2.3).
+const MOST_BYTES: usize = 1 << 30;
+
+/// What came to a socket. Bytes that came in order wait in the ring. Those that came out of order
+/// lie in its free places, and the assembler keeps which.
+#[derive(Debug, Drop)]
+pub struct ReceiveBuffer {
+    ring: RingBuffer<u8>,
+    held: Assembler<4>,
+}
+
+impl Model for ReceiveBuffer {
+    ghost use Rattle.tcp_socket.specs.Receive.{received, IsHeldBy};
+    ghost use Rattle.tcp_model.specs.Value.{Received};
+
+    ghost Value = { Received };
+
+    ghost view = { λ b. received b.ring b.held };
+
+    ghost invariant = { λ b. IsHeldBy b.ring b.held };
+}
+
+impl ReceiveBuffer {
+    /// Whether a buffer can be made of this ring: it has room for at most 2^30 bytes.
+    pub fn fits_buffer(ring: &RingBuffer<u8>) -> bool
+        ensures { IsTrue result ↔ FitsBuffer ring.now }
+    {
+        ring.capacity() <= MOST_BYTES
+    }
+
+    /// A buffer over the ring, with nothing in it. What the ring holds is forgotten.
+    pub fn new(mut ring: RingBuffer<u8>) -> ReceiveBuffer
+        requires { FitsBuffer ring }
+        ensures { result ≡ received_of [] (space (length ring.queue + length ring.free)) 0 }
+    {
+        ring.clear();
+        ReceiveBuffer {
+            ring,
+            held: Assembler::new(),
+        }
+    }
+
+    /// Forgets all bytes.
+    pub fn clear(&mut self)
+        ensures { self.new ≡ emptied self.old }
+    {
+        self.ring.clear();
+        self.held.clear();
+    }
+
+    /// How many bytes there is room for in all.
+    pub fn capacity(&self) -> usize
+        ensures value { result ≡ room_of self.now }
+        ensures small { result ≤ most_bytes }
+    {
+        self.ring.capacity()
+    }
+
+    /// How many bytes wait to be read.
+    pub fn len(&self) -> usize
+        ensures { result ≡ length self.now.waiting }
+    {
+        self.ring.len()
+    }
+
+    /// How many bytes there is room for behind those that wait.
+    pub fn window(&self) -> usize
+        ensures value { result ≡ length self.now.map }
+        ensures small { result ≤ most_bytes }
+    {
+        self.ring.window()
+    }
+
+    /// The waiting bytes from the offset on, at most `size` and up to the end of the storage.
+    pub fn get(&self, offset: usize, size: usize) -> &[u8]
+        ensures { result.now ≡ take (unbroken self.now offset size) (drop offset self.now.waiting) }
+    {
+        self.ring.get_allocated(offset, size)
+    }
+
+    /// Copies waiting bytes into the slice, and returns how many.
+    pub fn read(&self, slice: &mut [u8]) -> usize
+        ensures count { result ≡ min (length slice.old) (length self.now.waiting) }
+        ensures read { slice.new ≡ take result self.now.waiting ++ drop result slice.old }
+    {
+        self.ring.read_allocated(0, slice)
+    }
+
+    /// Gives up the first waiting bytes.
+    pub fn release(&mut self, count: usize)
+        requires { count ≤ length self.old.waiting }
+        ensures { self.new ≡ read_from self.old count }
+    {
+        self.ring.dequeue_allocated(count);
+    }
+
+    /// Takes bytes that come in order, and returns how many can be read then: these, and those held
+    /// that follow without a gap.
+    pub fn store(&mut self, bytes: &[u8]) -> usize
+        requires { length bytes.now ≤ length self.old.map }
+        ensures count { result ≡ length (front (store self.old.map 0 bytes.now)) }
+        ensures stored { self.new ≡ in_order self.old bytes.now }
+    {
+        self.ring.write_unallocated(0, bytes);
+        let count = self.held.add_then_remove_front(0, bytes.len()).unwrap_or(0);
+        self.ring.enqueue_unallocated(count);
+        count
+    }
+
+    /// Holds bytes that come so far past the next in order, where not too many runs are held with
+    /// them. Else nothing changes.
+    pub fn hold(&mut self, past: usize, bytes: &[u8]) -> Result<(), TooManyHolesError>
+        requires past { 1 ≤ past }
+        requires fits { past + length bytes.now ≤ length self.old.map }
+        ensures held { is_ok result ≡ can_hold self.old past bytes.now }
+        ensures early { self.new ≡ early self.old past bytes.now }
+    {
+        self.held.add(past, bytes.len())?;
+        self.ring.write_unallocated(past, bytes);
+        Ok(())
+    }
+
+    /// The run of held bytes with this place, from its first place to the one behind its last.
+    pub fn run_at(&self, place: usize) -> Option<(usize, usize)>
+        ensures { result ≡ run_at (runs_of self.now.map) place }
+    {
+        run_at(&self.held, place)
+    }
+}
+
+/// The run with this place.
+fn run_at(held: &Assembler<4>, place: usize) -> Option<(usize, usize)>
+    ensures { result ≡ run_at held.now place }
+{
+    for (start, end) in held.iter_data() {
+        if start <= place && place < end {
+            return Some((start, end));
+        }
+    }
+    None
+}
