@@ -49,7 +49,6 @@ not_above last by e = grind (arith, nat_tests)
 
 module _ (cx : ContextValue) (v : TcpValue) (ip : IpRepr) (header : TcpHeader) (bytes : List ℕ) (p : Past) (t : Side)
     (comes : Comes t (segment_of header bytes)) (r : Tied (core_of v) p t) where
-
   module _ (connected : is_connected v.block.state ≡ true) where
     led_taken :
         (by : ℕ) (n : SeqNumber) → header.ack_number ≡ Some n → by ≡ distance_of v.block.sender.una n → IsAcceptable (core_of v) by

@@ -211,10 +211,11 @@ fins old x header bytes now p t comes connected acked texted =
     let place : (header.seq_number.0 + length bytes) % 2 ^ 32 ≡ x.socket.block.receiver.next.0 =
     fin_place header.seq_number.0 old.block.receiver.next.0 ((header.seq_number.0 + (2 ^ 32 - old.block.receiver.next.0)) % 2 ^ 32) (length bytes) x.advance
     texted.small refl (eqb-true (past_by old.block.receiver.next header.seq_number) 0 places.0)
-    (eqb-true (before_by old.block.receiver.next header.seq_number + x.advance) (length bytes) places.1) ∙ sym texted.next in
-    (subst (λ (p : Past). Tied (core_of (with_block x.socket (fin_taken x.socket.block now))) p t) r.past
-    (moves.takes_fin (core_of x.socket) r.side t (segment_of header bytes) comes (fin_control header.control tests.0) takes (texted.syn ∙ acked) place r.fits r.holds),
-    after_fin_connected x.socket.block.state takes))
+    (eqb-true (before_by old.block.receiver.next header.seq_number + x.advance) (length bytes) places.1) ∙ sym texted.next in (
+      subst (λ (p : Past). Tied (core_of (with_block x.socket (fin_taken x.socket.block now))) p t) r.past
+          (moves.takes_fin (core_of x.socket) r.side t (segment_of header bytes) comes (fin_control header.control tests.0) takes (texted.syn ∙ acked) place r.fits r.holds),
+      after_fin_connected x.socket.block.state takes,
+    ))
     (λ _. (texted.tied, ap is_connected texted.state ∙ connected))
 
 -- text, FIN and answer
