@@ -1,22 +1,20 @@
 -- The acknowledgement of an accepted segment, in the socket's own words.
-use Rattle.std.proofs.Common.{◌≡◌, ◌⊎◌, inl, inr, ℕ, zero, suc, ◌+◌, ◌-◌, ◌%◌, ◌^◌, ◌<◌, ◌≤◌, ◌==◌, ◌&&◌, min, ℤ, Bool, true, false, if◌then◌else◌, List, [], ◌∷◌, Option, Some, None, length, refl, sym, ap, ◌∙◌, subst, arith}
+use Rattle.std.proofs.Common.{◌≡◌, ◌⊎◌, inl, inr, ℕ, ◌+◌, ◌^◌, ◌<◌, ◌≤◌, ◌==◌, ◌&&◌, ℤ, Bool, true, false, if◌then◌else◌, List, Some, length, refl, sym, ap, subst, arith}
 use Rattle.std.proofs.lemmas.Bool.{and_parts, and_cases, eqb-true, eqb-false}
 use Rattle.ip_wire.specs.Seq.{distance_of}
 use Rattle.ip_wire.specs.SeqNumber.{SeqNumber}
 use Rattle.ip_wire.specs.TcpHeader.{TcpHeader}
 use Rattle.net_base.specs.Ring.{released}
-use Rattle.tcp_law.specs.Invariant.{HoldsBetween}
 use Rattle.tcp_law.specs.Move.{Comes}
-use Rattle.tcp_law.specs.Segment.{Segment, IsNoReset}
+use Rattle.tcp_law.specs.Segment.{IsNoReset}
 use Rattle.tcp_law.specs.Side.{Side, one_if}
-use Rattle.tcp_law.specs.Side.Phase.{SynReceived, Synchronized}
 use Rattle.tcp_law.proofs.Opening.{honest, acked}
 use Rattle.tcp_model.specs.declared.state.State.{State}
 use Rattle.tcp_model.specs.declared.state.State.TheVariants as In
 use Rattle.tcp_model.specs.Acknowledged.{acknowledged, state_after_ack, ended_if, in_state, una_moved, freed_by}
 use Rattle.tcp_model.specs.States.{is_closed, owes_fin, after_ack, after_ack_of_fin}
 use Rattle.tcp_model.specs.Value.{TcpValue, queued_in}
-use Rattle.tcp.specs.Tie.{Core, Past, past_of, unsent, FitsIn, phase_of, is_closed_in, is_finished_in, core_of, segment_of, control_of, ack_of}
+use Rattle.tcp.specs.Tie.{Core, Past, past_of, unsent, is_closed_in, is_finished_in, core_of, segment_of, control_of, ack_of}
 use Rattle.tcp.proofs.Tied.{Tied, fits_connected, is_connected}
 use Rattle.tcp.proofs.ArrivalMoves.{acked_core, LeadsTo, IsAcceptable, takes_ack, acked_syn}
 use Rattle.tcp.proofs.CallLaws.{to_closed}

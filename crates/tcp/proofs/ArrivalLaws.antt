@@ -1,5 +1,5 @@
 -- Each segment that the partner sent, when it comes, keeps the invariant.
-use Rattle.std.proofs.Common.{◌≡◌, ◌⊎◌, inl, inr, ℕ, zero, suc, ◌+◌, ◌-◌, ◌%◌, ◌^◌, ◌<◌, ◌≤◌, nat_lt, not, ◌==◌, ◌&&◌, ◌||◌, ℤ, Bool, true, false, if◌then◌else◌, List, [], ◌∷◌, Option, Some, None, slice_get, length, refl, sym, ap, ◌∙◌, subst, arith}
+use Rattle.std.proofs.Common.{◌≡◌, ℕ, zero, suc, ◌^◌, ◌≤◌, nat_lt, not, ◌==◌, ◌&&◌, ◌||◌, Bool, true, false, if◌then◌else◌, List, Option, Some, None, slice_get, length, refl, sym, ap, ◌∙◌, arith}
 use Rattle.std.proofs.lemmas.Bool.{cond_both, eqb-true}
 use Rattle.std.proofs.lemmas.Bool.Decides.{nat_tests}
 use Rattle.ip_wire.specs.IpRepr.{IpRepr}
@@ -10,12 +10,11 @@ use Rattle.socket_base.specs.Context.{ContextValue}
 use Rattle.tcp_law.specs.Move.{Comes}
 use Rattle.tcp_law.specs.Side.{Side, one_if}
 use Rattle.tcp_law.specs.Side.Phase.{SynReceived}
-use Rattle.tcp_model.specs.declared.block.Block.{Block}
 use Rattle.tcp_model.specs.declared.state.State.{State}
 use Rattle.tcp_model.specs.declared.state.State.TheVariants as In
 use Rattle.tcp_model.specs.Acknowledged.{acknowledged, window_set, counted, duplicates_after}
 use Rattle.tcp_model.specs.Answers.{drawn}
-use Rattle.tcp_model.specs.Arrival.{waiting_anew, outside, finished, continued, taken, inside, checked, arrives_in, arrives, is_void_syn}
+use Rattle.tcp_model.specs.Arrival.{waiting_anew, outside, finished, taken, inside, checked, arrives_in, arrives, is_void_syn}
 use Rattle.tcp_model.specs.Blocks.{unacked}
 use Rattle.tcp_model.specs.Checks.{Check, opening_check, synchronized_check, ack_check, acknowledgement_check, is_in_window, taken_down}
 use Rattle.tcp_model.specs.Checks.Check.{Passes, Drops, Draws, Resets}
@@ -23,7 +22,7 @@ use Rattle.tcp_model.specs.Controls.{is_syn, is_rst}
 use Rattle.tcp_model.specs.States.{is_closed, is_answering}
 use Rattle.tcp_model.specs.Text.{with_text}
 use Rattle.tcp_model.specs.Value.{TcpValue, Arrived, with_block, dropped, unoffered, queued_in, free_in}
-use Rattle.tcp.specs.Tie.{Past, past_of, unsent, phase_of, Keeps, core_of, segment_of}
+use Rattle.tcp.specs.Tie.{Past, unsent, phase_of, Keeps, core_of, segment_of}
 use Rattle.tcp.specs.History.{with_answer}
 use Rattle.tcp.proofs.Tied.{Tied, fits_connected, is_connected, keeps_by}
 use Rattle.tcp.proofs.ArrivalMoves.{IsAcceptable}

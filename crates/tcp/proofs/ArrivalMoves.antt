@@ -1,20 +1,19 @@
 -- What a segment of the partner does, step by step: each step is a move.
-use Rattle.std.proofs.Common.{◌≡◌, ◌≢◌, ◌⊎◌, inl, inr, ℕ, zero, suc, ◌+◌, ◌-◌, ◌%◌, ◌^◌, ◌<◌, ◌≤◌, ◌==◌, ◌&&◌, min, Bool, true, false, if◌then◌else◌, List, [], ◌∷◌, ◌++◌, Option, Some, None, length, take, drop, refl, sym, ap, ◌∙◌, subst, arith, length-drop}
+use Rattle.std.proofs.Common.{◌≡◌, ◌⊎◌, inl, inr, ℕ, zero, suc, ◌+◌, ◌-◌, ◌%◌, ◌^◌, ◌<◌, ◌≤◌, ◌==◌, ◌&&◌, min, Bool, true, false, List, [], ◌∷◌, Some, length, drop, refl, sym, ap, ◌∙◌, arith, length-drop}
 use Rattle.std.proofs.lemmas.Bool.Decides.{nat_tests}
 use native.Mathlib.Numerals.{unary_clauses}
 use Rattle.tcp_law.specs.Invariant.{HoldsBetween}
-use Rattle.tcp_law.specs.Move.{Move, May, after, Comes, MayTakeAck}
-use Rattle.tcp_law.specs.Move.Move.{TakesAck, SendsAck, SendsReset}
+use Rattle.tcp_law.specs.Move.{after, Comes, MayTakeAck}
+use Rattle.tcp_law.specs.Move.Move.{TakesAck}
 use Rattle.tcp_law.specs.Numbers.{wire}
 use Rattle.tcp_law.specs.Segment.{Segment, IsNoReset}
-use Rattle.tcp_law.specs.Side.{Side, Phase, one_if, send_end}
-use Rattle.tcp_law.specs.Side.Phase.{Unopened, Listen, SynSent, SynReceived, Synchronized, Ended}
+use Rattle.tcp_law.specs.Side.{Side, one_if, send_end}
+use Rattle.tcp_law.specs.Side.Phase.{SynReceived, Synchronized}
 use Rattle.tcp_law.proofs.Lists as lists
 use Rattle.tcp_model.specs.declared.state.State.{State}
-use Rattle.tcp_model.specs.declared.state.State.TheVariants as In
 use Rattle.tcp_model.specs.States.{owes_fin}
-use Rattle.tcp.specs.Tie.{Core, Past, past_of, unsent, FitsIn, IsConnectedAs, phase_of, is_closed_in, is_finished_in}
-use Rattle.tcp.proofs.Tied.{Tied, tied_by, fits_connected, connected_fits, is_connected, is_connected_side}
+use Rattle.tcp.specs.Tie.{Core, past_of, unsent, IsConnectedAs, phase_of, is_closed_in, is_finished_in}
+use Rattle.tcp.proofs.Tied.{Tied, tied_by, connected_fits, is_connected, is_connected_side}
 
 -- the core after SND.UNA rose by so much
 abbrev pub acked_core : Core → State → ℕ → Core

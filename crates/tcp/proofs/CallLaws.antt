@@ -1,24 +1,21 @@
 -- The invariant between two sockets after each call of a user.
-use Rattle.std.proofs.Common.{◌≡◌, ◌≢◌, ◌⊎◌, inl, inr, ℕ, zero, suc, ◌+◌, ◌-◌, ◌^◌, ◌<◌, ◌≤◌, ◌==◌, Bool, true, false, if◌then◌else◌, List, [], ◌∷◌, ◌++◌, Option, Some, None, length, take, drop, refl, sym, ap, ◌∙◌, subst, arith, append-nil}
+use Rattle.std.proofs.Common.{◌≡◌, ◌⊎◌, inl, inr, ℕ, zero, suc, ◌^◌, ◌<◌, Bool, true, false, if◌then◌else◌, List, [], ◌∷◌, ◌++◌, Option, length, take, drop, refl, sym, ap, ◌∙◌, subst, arith, append-nil}
 use Rattle.ip_wire.specs.IpListenEndpoint.{IpListenEndpoint}
-use Rattle.net_base.specs.Ring.{Ring}
 use Rattle.tcp_law.specs.Invariant.{HoldsBetween}
 use Rattle.tcp_law.specs.ReceiveMap.{space}
-use Rattle.tcp_law.specs.Segment.{Segment}
-use Rattle.tcp_law.specs.Side.{Side, Opening, fresh, one_if}
-use Rattle.tcp_law.specs.Side.Phase.{Unopened, Listen, SynSent, SynReceived, Synchronized, Ended}
-use Rattle.tcp_law.specs.Side.Opening.{Passive, Active, NotYet}
+use Rattle.tcp_law.specs.Side.{Side, fresh, one_if}
+use Rattle.tcp_law.specs.Side.Phase.{SynSent}
+use Rattle.tcp_law.specs.Side.Opening.{NotYet}
 use Rattle.tcp_law.proofs.Lists as lists
 use Rattle.tcp_model.specs.declared.block.EndpointPair.{EndpointPair}
 use Rattle.tcp_model.specs.declared.state.State.{State}
 use Rattle.tcp_model.specs.declared.state.State.TheVariants as In
-use Rattle.tcp_model.specs.Blocks.{forgotten}
 use Rattle.tcp_model.specs.Calls.{listening, connecting, recv_after, close_after, abort_after}
 use Rattle.tcp_model.specs.States.{is_closed, is_opening, after_close, owes_fin, sends_syn}
 use Rattle.tcp_model.specs.Value.{TcpValue, room_of, unoffered, ended, with_block}
-use Rattle.tcp.specs.Tie.{Core, Past, past_of, unsent, FitsIn, IsConnectedAs, IsUnopened, IsEnded, IsListening, IsAsking, Keeps, IsSideOf, core_of, is_closed_in, is_finished_in}
+use Rattle.tcp.specs.Tie.{Core, Past, past_of, unsent, FitsIn, IsUnopened, IsEnded, Keeps, IsSideOf, core_of, is_closed_in, is_finished_in}
 use Rattle.tcp.specs.History.{listened, called, with_read, closes_in, closed_by}
-use Rattle.tcp.proofs.Tied.{Tied, stays, fits_connected, is_connected, no_stream, keeps_by, if_so, if_not}
+use Rattle.tcp.proofs.Tied.{Tied, stays, is_connected, no_stream, keeps_by}
 use Rattle.tcp.proofs.CallMoves.{with_taken_out, reads_connected, reads_ended, in_core_state, closes_with, connects, listens, Kept, kept_connected, kept_listening, kept_asking, ends}
 
 pub closed_state : (state : State) → is_closed state ≡ true → state ≡ In.Closed

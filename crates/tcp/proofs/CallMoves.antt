@@ -1,13 +1,13 @@
 -- Each call of a user is a move, or none.
-use Rattle.std.proofs.Common.{◌≡◌, ◌⊎◌, inl, inr, ℕ, suc, ◌+◌, ◌-◌, ◌^◌, ◌<◌, ◌≤◌, Bool, true, false, List, [], ◌∷◌, ◌++◌, Option, Some, None, ◌≢◌, length, take, drop, zero, refl, sym, ap, ◌∙◌, subst, arith, length-append, append_assoc, take-append-drop, length-take, length-drop}
+use Rattle.std.proofs.Common.{◌≡◌, ◌⊎◌, inr, ℕ, suc, ◌+◌, ◌-◌, ◌^◌, ◌<◌, ◌≤◌, true, false, List, [], ◌∷◌, ◌++◌, Option, Some, None, ◌≢◌, length, take, drop, zero, refl, sym, ap, ◌∙◌, subst, arith, length-append, append_assoc, take-append-drop}
 use Rattle.std.proofs.lemmas.List.{drop-append-le}
 use Rattle.tcp_law.specs.Invariant.{HoldsBetween}
-use Rattle.tcp_law.specs.Move.{Move, May, after, MayWrite, listening}
+use Rattle.tcp_law.specs.Move.{after, MayWrite, listening}
 use Rattle.tcp_law.specs.Move.Move.{Listens, Connects, Writes, Reads, Closes, Ends}
-use Rattle.tcp_law.specs.Numbers.{wire, IsFirst}
+use Rattle.tcp_law.specs.Numbers.{wire}
 use Rattle.tcp_law.specs.ReceiveMap.{space, front}
-use Rattle.tcp_law.specs.Side.{Side, one_if, rcv_next, fresh, send_queue}
-use Rattle.tcp_law.specs.Side.Phase.{Unopened, Listen, SynSent, SynReceived, Synchronized, Ended}
+use Rattle.tcp_law.specs.Side.{Side, one_if, fresh, send_queue}
+use Rattle.tcp_law.specs.Side.Phase.{Unopened, Listen, SynSent, SynReceived, Synchronized}
 use Rattle.tcp_law.specs.Side.Opening.{Passive, Active, NotYet}
 use Rattle.net_base.specs.Ring.{Ring}
 use Rattle.tcp_model.specs.Calls.{sent_more}
@@ -18,9 +18,9 @@ use Rattle.tcp_model.specs.declared.block.EndpointPair.{EndpointPair}
 use Rattle.tcp_model.specs.declared.state.State.{State}
 use Rattle.tcp_model.specs.declared.state.State.TheVariants as In
 use Rattle.tcp_model.specs.States.{takes_writes, owes_fin, sends_syn}
-use Rattle.tcp.specs.Tie.{Core, Past, past_of, unsent, FitsIn, IsConnectedAs, IsUnopened, IsEnded, IsListening, IsAsking, phase_of, is_closed_in, is_finished_in, IsBlank, Keeps, IsSideOf, core_of}
-use Rattle.tcp.specs.History.{listened, called, with_written, with_read, closes_in, closed_by}
-use Rattle.tcp.proofs.Tied.{Tied, tied_by, stays, fits_connected, connected_fits, writes_in, is_connected, is_connected_side, no_stream, keeps_by, if_so}
+use Rattle.tcp.specs.Tie.{Core, Past, past_of, unsent, FitsIn, IsConnectedAs, IsUnopened, IsEnded, IsListening, IsAsking, phase_of, is_closed_in, is_finished_in, IsBlank, Keeps, core_of}
+use Rattle.tcp.specs.History.{listened, called, with_written, with_read, closed_by}
+use Rattle.tcp.proofs.Tied.{Tied, tied_by, fits_connected, connected_fits, writes_in, is_connected, is_connected_side, no_stream, keeps_by}
 
 abbrev pub with_queued : Core → List ℕ → Core
 with_queued c bytes = record c { queue = c.queue ++ bytes }

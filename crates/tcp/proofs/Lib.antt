@@ -8,3 +8,5 @@ pub mod TextMoves
 pub mod TextLaws
 pub mod OpeningLaws
 pub mod ArrivalLaws
+pub mod OfferMoves
+pub mod OfferLaws

@@ -1,6 +1,6 @@
 -- A segment comes in LISTEN or SYN-SENT, and a reset comes later.
-use Rattle.std.proofs.Common.{◌≡◌, ◌≢◌, ◌⊎◌, inl, inr, ℕ, zero, suc, ◌+◌, ◌-◌, ◌%◌, ◌^◌, ◌<◌, ◌≤◌, not, ◌==◌, ◌&&◌, ℤ, Bool, true, false, if◌then◌else◌, List, [], ◌∷◌, ◌++◌, Option, Some, None, is_some, length, drop, refl, sym, ap, ◌∙◌, subst, arith}
-use Rattle.std.proofs.lemmas.Bool.{and_parts, and_cases, cond_both, not-true, not-false, eqb-true, eqb-false}
+use Rattle.std.proofs.Common.{◌≡◌, ◌⊎◌, inl, inr, ℕ, suc, ◌+◌, ◌-◌, ◌%◌, ◌^◌, ◌<◌, not, ◌==◌, ◌&&◌, ℤ, Bool, true, false, if◌then◌else◌, List, [], ◌∷◌, ◌++◌, Option, Some, None, is_some, length, drop, refl, sym, ap, ◌∙◌, subst, arith}
+use Rattle.std.proofs.lemmas.Bool.{and_parts, and_cases, cond_both, not-true, not-false, eqb-true}
 use Rattle.ip_wire.specs.IpRepr.{IpRepr}
 use Rattle.ip_wire.specs.Seq.{distance_of}
 use Rattle.ip_wire.specs.SeqNumber.{SeqNumber}
@@ -10,14 +10,14 @@ use Rattle.ip_wire.specs.TcpHeader.{TcpHeader}
 use Rattle.net_base.specs.RandomWords.{word}
 use Rattle.socket_base.specs.Context.{ContextValue, next_random}
 use Rattle.tcp_law.specs.Invariant.{HoldsBetween}
-use Rattle.tcp_law.specs.Move.{Move, after, Comes, listening}
+use Rattle.tcp_law.specs.Move.{after, Comes, listening}
 use Rattle.tcp_law.specs.Move.Move.{TakesSyn, TakesSynAck, TakesCrossedSyn, FallsBack}
 use Rattle.tcp_law.specs.Numbers.{wire}
 use Rattle.tcp_law.specs.ReceiveMap.{space, front}
 use Rattle.tcp_law.specs.Segment.{Segment, IsNoReset}
-use Rattle.tcp_law.specs.Segment.Control.{Syn, Rst}
+use Rattle.tcp_law.specs.Segment.Control.{Syn}
 use Rattle.tcp_law.specs.Side.{Side, Opening, one_if, taken_in}
-use Rattle.tcp_law.specs.Side.Phase.{Unopened, Listen, SynSent, SynReceived, Synchronized, Ended}
+use Rattle.tcp_law.specs.Side.Phase.{Listen, SynSent, SynReceived}
 use Rattle.tcp_law.specs.Side.Opening.{NotYet, Passive, Active}
 use Rattle.tcp_law.proofs.Calls as law
 use Rattle.tcp_law.proofs.Lists as lists

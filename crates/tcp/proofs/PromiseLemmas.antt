@@ -1,5 +1,5 @@
 -- Two fresh sockets keep the invariant, and it gives what is promised of both streams.
-use Rattle.std.proofs.Common.{◌≡◌, ◌≢◌, ◌⊎◌, inl, inr, ℕ, zero, suc, ◌+◌, ◌-◌, ◌^◌, ◌<◌, ◌≤◌, Bool, true, false, List, [], ◌∷◌, ◌++◌, Option, length, drop, refl, sym, ap, ◌∙◌, subst, arith}
+use Rattle.std.proofs.Common.{◌≡◌, ◌⊎◌, inl, inr, ℕ, Bool, true, false, List, [], ◌++◌, length, refl, sym, ap, ◌∙◌, subst, arith}
 use Rattle.tcp_law.specs.Alone.{AreResets, unopened}
 use Rattle.tcp_law.specs.Invariant.{HoldsBetween}
 use Rattle.tcp_law.specs.ReceiveMap.{space}
@@ -7,22 +7,19 @@ use Rattle.tcp_law.specs.Safe.{IsSafe, IsPrefixOf}
 use Rattle.tcp_law.specs.Segment.{Segment}
 use Rattle.tcp_law.specs.Segment.Control.{Rst}
 use Rattle.tcp_law.specs.Move.Move.{SendsReset}
-use Rattle.tcp_law.specs.Move.{after}
 use Rattle.tcp_law.specs.Side.Phase.{Unopened}
 use Rattle.tcp_law.specs.Side.Opening.{NotYet}
 use Rattle.tcp_law.specs.Alone.{HasNothing}
-use Rattle.tcp_law.specs.Side.{Side, fresh, send_queue, taken_in, freed}
+use Rattle.tcp_law.specs.Side.{Side, fresh, send_queue, taken_in}
 use Rattle.tcp_law.proofs.AloneLemmas as alone
 use Rattle.tcp_law.proofs.Lists as lists
 use Rattle.tcp_law.proofs.Theorem as law
 use Rattle.tcp_model.specs.declared.state.State.{State}
-use Rattle.tcp_model.specs.declared.state.State.TheVariants as In
 use Rattle.tcp_model.specs.States.{is_closed}
 use Rattle.tcp_model.specs.Value.{TcpValue}
 use Rattle.tcp.specs.Tie.{Core, Past, past_of, no_past, unsent, FitsIn, IsUnopened, IsEnded, Keeps, IsSideOf, core_of}
 use Rattle.tcp.specs.History.{with_sent}
 use Rattle.tcp.specs.Promises.{IsFresh, AreSafeSockets, KeepsAlone, HasTakenNothing, read_or_waiting}
-use Rattle.tcp.proofs.CallMoves.{Kept}
 use Rattle.tcp.proofs.CallLaws.{kept_in, closed_state, unopened_of, opening_by}
 use Rattle.tcp.proofs.Tied.{tied_by, keeps_by}
 

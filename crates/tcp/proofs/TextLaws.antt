@@ -1,7 +1,6 @@
 -- The text, the FIN and the answer of an accepted segment, in the socket's own words.
 use Rattle.std.proofs.Common.{◌≡◌, ℕ, zero, suc, ◌+◌, ◌-◌, ◌%◌, ◌^◌, ◌<◌, ◌≤◌, nat_lt, nat_le, not, ◌==◌, ◌&&◌, ℤ, Bool, true, false, if◌then◌else◌, List, [], ◌∷◌, ◌++◌, Option, Some, None, length, drop, refl, sym, ap, ◌∙◌, subst, arith, length-drop, append-nil}
 use Rattle.std.proofs.lemmas.Bool.{and_parts, cond_both, not-true, eqb-true, eqb-false}
-use Rattle.std.proofs.lemmas.Bool.Decides.{nat_tests}
 use Rattle.held_bytes.specs.Held.{runs_of}
 use Rattle.ip_wire.specs.IpRepr.{IpRepr}
 use Rattle.ip_wire.specs.TcpControl.{TcpControl}
@@ -9,24 +8,23 @@ use Rattle.ip_wire.specs.TcpControl.TheVariants as Bits
 use Rattle.ip_wire.specs.TcpHeader.{TcpHeader}
 use Rattle.socket_base.specs.Context.{ContextValue}
 use Rattle.tcp_law.specs.Move.{Comes}
-use Rattle.tcp_law.specs.Numbers.{wire}
 use Rattle.tcp_law.specs.ReceiveMap.{store, front, behind}
-use Rattle.tcp_law.specs.Segment.{Segment, IsData, IsNoReset}
+use Rattle.tcp_law.specs.Segment.{IsData, IsNoReset}
 use Rattle.tcp_law.specs.Segment.Control.{Fin}
 use Rattle.tcp_law.specs.Side.{Side, rcv_next}
 use Rattle.tcp_law.specs.Side.Phase.{Synchronized}
 use Rattle.tcp_law.proofs.Calls as law
 use Rattle.tcp_model.specs.declared.block.Block.{Block}
 use Rattle.tcp_model.specs.declared.state.State.{State}
-use Rattle.tcp_model.specs.Answers.{acked, drawn, with_draw, may_draw, answer_for, range_held, ack_due}
+use Rattle.tcp_model.specs.Answers.{acked, drawn, with_draw, may_draw, answer_for, range_held}
 use Rattle.tcp_model.specs.Arrival.{finished, timers_moved}
 use Rattle.tcp_model.specs.Controls.{is_syn, is_fin, is_rst}
 use Rattle.tcp_model.specs.Offsets.{past_by, before_by}
 use Rattle.tcp_model.specs.States.{takes_text, after_fin}
-use Rattle.tcp_model.specs.Text.{Texted, texted, laid, held_early, taken_in_order, with_bytes_at, has_new_text, with_text_at, with_text, is_at_fin, takes_fin, fin_taken, with_fin}
+use Rattle.tcp_model.specs.Text.{Texted, texted, laid, held_early, taken_in_order, with_bytes_at, has_new_text, with_text, is_at_fin, takes_fin, fin_taken, with_fin}
 use Rattle.tcp_model.specs.Value.{TcpValue, Arrived, with_block, dropped, queued_in, free_in, received_of}
-use Rattle.tcp.specs.Tie.{Core, Past, past_of, unsent, core_of, segment_of, control_of}
-use Rattle.tcp.specs.History.{with_sent, with_answer}
+use Rattle.tcp.specs.Tie.{Core, Past, unsent, core_of, segment_of, control_of}
+use Rattle.tcp.specs.History.{with_answer}
 use Rattle.tcp.proofs.Tied.{Tied, fits_connected, is_connected, takes_in}
 use Rattle.tcp.proofs.TextMoves as moves
 use Rattle.tcp.proofs.TextMoves.{IsPlaced, placed, seq_small, with_received, sends_ack, sends_reset}

@@ -1,20 +1,19 @@
 -- Bytes and a FIN that come are moves, and so are the segments that answer.
-use Rattle.std.proofs.Common.{◌≡◌, ◌⊎◌, inl, inr, ℕ, zero, suc, ◌+◌, ◌-◌, ◌%◌, ◌^◌, ◌<◌, ◌≤◌, nat_lt, ◌==◌, Bool, true, false, if◌then◌else◌, List, [], ◌∷◌, ◌++◌, Option, Some, None, length, drop, refl, sym, ap, ◌∙◌, subst, arith, length-append, append_assoc}
+use Rattle.std.proofs.Common.{◌≡◌, ◌⊎◌, inl, inr, ℕ, ◌+◌, ◌-◌, ◌%◌, ◌^◌, ◌<◌, ◌≤◌, nat_lt, Bool, true, false, if◌then◌else◌, List, [], ◌∷◌, ◌++◌, Option, Some, None, length, drop, refl, sym, ap, ◌∙◌, subst, arith, length-append}
 use Rattle.std.proofs.lemmas.Bool.Decides.{nat_tests}
 use Rattle.tcp_law.specs.Invariant.{HoldsBetween, IsHonest, IsPiece, IsPlain, IsSyn, IsBelow}
-use Rattle.tcp_law.specs.Move.{Move, after, Comes, laid, bare_ack, MayTakeBytes, MayTakeFin}
+use Rattle.tcp_law.specs.Move.{after, Comes, laid, bare_ack, MayTakeBytes, MayTakeFin}
 use Rattle.tcp_law.specs.Move.Move.{TakesBytes, TakesFin, SendsAck, SendsReset}
 use Rattle.tcp_law.specs.Numbers.{wire, IsNear}
 use Rattle.tcp_law.specs.ReceiveMap.{store, front, behind}
 use Rattle.tcp_law.specs.Segment.{Segment, IsData}
-use Rattle.tcp_law.specs.Segment.Control.{Plain, Syn, Fin, Rst}
+use Rattle.tcp_law.specs.Segment.Control.{Plain, Fin, Rst}
 use Rattle.tcp_law.specs.Side.{Side, one_if, rcv_next}
 use Rattle.tcp_law.specs.Side.Phase.{Synchronized, SynReceived}
-use Rattle.tcp_law.proofs.Calls as law
 use Rattle.tcp_law.proofs.Opening.{honest}
 use Rattle.tcp_model.specs.declared.state.State.{State}
 use Rattle.tcp_model.specs.declared.state.State.TheVariants as In
-use Rattle.tcp_model.specs.States.{takes_text, after_fin, owes_fin, sends_syn}
+use Rattle.tcp_model.specs.States.{takes_text, after_fin, owes_fin}
 use Rattle.tcp.specs.Tie.{Core, Past, past_of, unsent, FitsIn, IsConnectedAs, phase_of, is_closed_in, is_finished_in}
 use Rattle.tcp.specs.History.{with_sent}
 use Rattle.tcp.proofs.Tied.{Tied, tied_by, fits_connected, connected_fits, is_connected, is_connected_side, takes_in}

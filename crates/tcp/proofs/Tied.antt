@@ -1,13 +1,13 @@
 -- A socket that is tied to some side beside its partner, and what keeps the tie.
-use Rattle.std.proofs.Common.{◌≡◌, ◌⊎◌, inl, inr, ℕ, suc, ◌+◌, ◌-◌, ◌^◌, ◌<◌, ◌≤◌, Bool, true, false, if◌then◌else◌, List, [], ◌∷◌, ◌++◌, length, refl, sym, ap, ◌∙◌, subst, arith}
+use Rattle.std.proofs.Common.{◌≡◌, Bool, true, false, if◌then◌else◌, refl, sym, ap, subst}
 use Rattle.tcp_law.specs.Invariant.{HoldsBetween, IsEarly, HasNoStream}
 use Rattle.tcp_law.specs.Move.{Move, May, after}
 use Rattle.tcp_law.specs.Side.{Side, Phase, IsConnected}
-use Rattle.tcp_law.specs.Side.Phase.{Unopened, Listen, SynSent, SynReceived, Synchronized, Ended}
+use Rattle.tcp_law.specs.Side.Phase.{Synchronized}
 use Rattle.tcp_law.proofs.Theorem.{HoldsBetween-after}
 use Rattle.tcp_model.specs.declared.state.State.{State}
 use Rattle.tcp_model.specs.declared.state.State.TheVariants as In
-use Rattle.tcp_model.specs.States.{takes_writes, takes_text, sends_text}
+use Rattle.tcp_model.specs.States.{takes_writes, takes_text}
 use Rattle.tcp_model.specs.Value.{TcpValue}
 use Rattle.tcp.specs.Tie.{Core, Past, past_of, unsent, FitsIn, IsConnectedAs, phase_of, is_closed_in, is_finished_in, Keeps, IsSideOf, core_of}
 

@@ -1,10 +1,12 @@
 -- What is added to a socket's past by what it does.
 use Rattle.std.specs.Prelude.{ℕ, Bool, true, false, List, [], ◌∷◌, ◌++◌, Option, Some, None}
 use Rattle.tcp_law.specs.Segment.{Segment}
-use Rattle.tcp_law.specs.Side.Opening.{NotYet, Passive, Active}
+use Rattle.tcp_law.specs.Side.Opening.{Passive, Active}
+use Rattle.tcp_model.specs.declared.offer.OpenOffer.{OpenOffer}
 use Rattle.tcp_model.specs.declared.offer.Reply.{Reply}
 use Rattle.tcp_model.specs.declared.state.State.{State}
 use Rattle.tcp_model.specs.declared.state.State.TheVariants as In
+use Rattle.tcp_model.specs.Offers.{payload_of}
 use Rattle.tcp.specs.Tie.{Past, segment_of}
 
 abbrev pub listened : Past → Past
@@ -37,3 +39,8 @@ closed_by false p = p
 abbrev pub with_answer : Past → Option Reply → Past
 with_answer p None = p
 with_answer p (Some reply) = with_sent p (segment_of reply.segment [])
+
+-- an offer that is settled as sent; the queue is the one that it was made from
+abbrev pub with_offer : Past → Option OpenOffer → List ℕ → Past
+with_offer p None queue = p
+with_offer p (Some offer) queue = with_sent p (segment_of offer.segment (payload_of offer offer.kind queue))

@@ -1,5 +1,5 @@
 -- A socket is a side of the written machine: which side goes with a socket, and what its user and the network saw of it.
-use Rattle.std.specs.Prelude.{◌≡◌, ◌≢◌, ◌⊎◌, ℕ, suc, ◌+◌, ◌-◌, ◌^◌, ◌<◌, ◌==◌, Bool, true, false, List, [], ◌∷◌, ◌++◌, length, Option, Some, None}
+use Rattle.std.specs.Prelude.{◌≡◌, ◌≢◌, ◌⊎◌, ℕ, suc, ◌+◌, ◌-◌, ◌==◌, Bool, true, false, List, [], length, Option, Some, None}
 use Rattle.ip_wire.specs.SeqNumber.{SeqNumber}
 use Rattle.ip_wire.specs.TcpControl.{TcpControl}
 use Rattle.ip_wire.specs.TcpControl.TheVariants as Bits
@@ -10,8 +10,8 @@ use Rattle.tcp_law.specs.ReceiveMap.{space, front}
 use Rattle.tcp_law.specs.Segment.{Segment, Control}
 use Rattle.tcp_law.specs.Segment.Control.{Plain, Syn, Fin, Rst}
 use Rattle.tcp_law.specs.Side.{Side, Phase, Opening, rcv_next, send_end, send_queue, one_if, fresh}
-use Rattle.tcp_law.specs.Side.Phase.{Unopened, Listen, SynSent, SynReceived, Synchronized, Ended}
-use Rattle.tcp_law.specs.Side.Opening.{NotYet, Passive, Active}
+use Rattle.tcp_law.specs.Side.Phase.{SynSent, SynReceived, Synchronized, Ended}
+use Rattle.tcp_law.specs.Side.Opening.{NotYet, Passive}
 use Rattle.tcp_law.specs.Move.{listening}
 use Rattle.tcp_model.specs.declared.block.EndpointPair.{EndpointPair}
 use Rattle.tcp_model.specs.declared.state.State.{State}

@@ -3,4 +3,5 @@
 
 pub mod arrivals;
 pub mod calls;
+pub mod offers;
 pub mod promises;
