@@ -233,10 +233,11 @@ module _ (cx : ContextValue) (v : TcpValue) (pair : EndpointPair) (p : Past) (t 
   -- a reset goes, and the endpoints are forgotten
   led_reset : Tied (core_of v) p t → LedOffer p t (offer_reset cx (unoffered v) pair)
   led_reset r =
-      let gone = sends_reset (core_of v) p t (segment_of (reset_segment v.block pair cx.moment (window_of v)) []) refl r in
-      (subst (λ (p : Past). Tied (core_of (settled true (offer_reset cx (unoffered v) pair).socket)) p t) gone.past
-      (to_closed (core_of v) (core_of (settled true (offer_reset cx (unoffered v) pair).socket)) gone.side t refl refl refl refl refl gone.fits gone.holds),
-      r)
+      let gone = sends_reset (core_of v) p t (segment_of (reset_segment v.block pair cx.moment (window_of v)) []) refl r in (
+        subst (λ (p : Past). Tied (core_of (settled true (offer_reset cx (unoffered v) pair).socket)) p t) gone.past
+            (to_closed (core_of v) (core_of (settled true (offer_reset cx (unoffered v) pair).socket)) gone.side t refl refl refl refl refl gone.fits gone.holds),
+        r,
+      )
 
   -- the retransmission timer changes nothing that the tie reads
   abbrev IsRunning : Block → Type 0

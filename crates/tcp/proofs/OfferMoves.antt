@@ -60,17 +60,17 @@ sends_data c p t place len fin test within last r =
     let bytes : bytes_from r.side (r.side.una + (one_if c.syn_unacked + place)) len ≡ take len (drop place c.queue) =
     ap (λ (xs : List ℕ). take len xs) (sym (ap (λ (xs : List ℕ). drop place xs) k.queue ∙ moved)) in
     let ends :
-        fin ≡ true
-        → (r.side.closed ≡ true) × (r.side.una + (one_if c.syn_unacked + place) + length (bytes_from r.side (r.side.una + (one_if c.syn_unacked + place)) len) ≡ suc r.side.iss + length r.side.written)
+    fin ≡ true
+    → (r.side.closed ≡ true) × (r.side.una + (one_if c.syn_unacked + place) + length (bytes_from r.side (r.side.una + (one_if c.syn_unacked + place)) len) ≡ suc r.side.iss + length r.side.written)
     = λ e.
-        let whole = last e in
-        let asked = whole.0 in
-        let one = ap one_if whole.0 in
-        let all = whole.1 in
-        let taken = ap length bytes in
-        let cut = length-take len (drop place c.queue) in
-        let left = length-drop place c.queue in
-        (k.closed ∙ (sym state.owes ∙ whole.0), omega arith)
+    let whole = last e in
+    let asked = whole.0 in
+    let one = ap one_if whole.0 in
+    let all = whole.1 in
+    let taken = ap length bytes in
+    let cut = length-take len (drop place c.queue) in
+    let left = length-drop place c.queue in
+    (k.closed ∙ (sym state.owes ∙ whole.0), omega arith)
     in
     let may : MaySendData r.side (r.side.una + (one_if c.syn_unacked + place)) len fin = record {
       running = k.phase ∙ state.phase;

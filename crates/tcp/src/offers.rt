@@ -14,7 +14,7 @@ ghost use Rattle.tcp.specs.History.{with_offer};
 pub fn offers_keep_the_invariant()
     ensures sent { (cx : ContextValue) (v w : TcpValue) (p q : Past) → Keeps v p w q
         → Keeps (settled true (offer_of cx v).socket)
-            (with_offer p (offer_of cx v).socket.offered (offer_of cx v).socket.queued.queue) w q }
+        (with_offer p (offer_of cx v).socket.offered (offer_of cx v).socket.queued.queue) w q }
     ensures withheld { (cx : ContextValue) (v w : TcpValue) (p q : Past) → Keeps v p w q
         → Keeps (settled false (offer_of cx v).socket) p w q }
 {}
