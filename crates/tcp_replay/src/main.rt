@@ -71,7 +71,13 @@ fn ring(rt: &HostRuntime, size: usize) -> anyhow::Result<RingBuffer<u8>> {
     Ok(RingBuffer::new(ManagedSlice::Owned(vec![in rt.alloc(); 0u8; size]?)))
 }
 
-fn new_end(rt: &HostRuntime, seed: u64, own: IpAddress, rx: usize, tx: usize) -> anyhow::Result<End> {
+fn new_end(
+    rt: &HostRuntime,
+    seed: u64,
+    own: IpAddress,
+    rx: usize,
+    tx: usize,
+) -> anyhow::Result<End> {
     Ok(End {
         cx: Side {
             now: Instant::ZERO,
@@ -121,11 +127,22 @@ fn show(rt: &HostRuntime, bytes: &[u8]) -> io::Result<()> {
 }
 
 /// Puts a segment into the list of a side, and shows it.
-fn join(rt: &HostRuntime, name: &str, end: &mut End, header: &IpRepr, segment: &TcpRepr) -> anyhow::Result<()> {
+fn join(
+    rt: &HostRuntime,
+    name: &str,
+    end: &mut End,
+    header: &IpRepr,
+    segment: &TcpRepr,
+) -> anyhow::Result<()> {
     let mut bytes = vec![in rt.alloc(); 0u8; segment.buffer_len()]?;
     {
         let mut packet = ip_wire::TcpPacketMut::new_unchecked(&mut bytes);
-        segment.emit(&mut packet, &header.src_addr(), &header.dst_addr(), &ChecksumCapabilities::default());
+        segment.emit(
+            &mut packet,
+            &header.src_addr(),
+            &header.dst_addr(),
+            &ChecksumCapabilities::default(),
+        );
     }
     print!(rt; "sent {name} {} ", end.sent.len())?;
     show(rt, &bytes)?;
@@ -134,7 +151,13 @@ fn join(rt: &HostRuntime, name: &str, end: &mut End, header: &IpRepr, segment: &
     Ok(())
 }
 
-fn offer(rt: &HostRuntime, name: &str, end: &mut End, moment: u64, sent: bool) -> anyhow::Result<()> {
+fn offer(
+    rt: &HostRuntime,
+    name: &str,
+    end: &mut End,
+    moment: u64,
+    sent: bool,
+) -> anyhow::Result<()> {
     let moment = Instant::from_micros(moment as i64);
     if moment < end.cx.now {
         println!(rt; "= refused Moment")?;
@@ -143,8 +166,14 @@ fn offer(rt: &HostRuntime, name: &str, end: &mut End, moment: u64, sent: bool) -
     end.cx.now = moment;
     let answer = end.socket.offer(&end.cx);
     match answer {
-        Offer::Packet { changed } => println!(rt; "= packet{}", if changed { " changed" } else { "" })?,
-        Offer::Silent { changed } => println!(rt; "= silent{}", if changed { " changed" } else { "" })?,
+        Offer::Packet { changed } => println!(rt;
+            "= packet{}",
+            if changed { " changed" } else { "" }
+        )?,
+        Offer::Silent { changed } => println!(rt;
+            "= silent{}",
+            if changed { " changed" } else { "" }
+        )?,
     }
     if sent {
         let bytes = match end.socket.offered() {
@@ -166,16 +195,33 @@ fn offer(rt: &HostRuntime, name: &str, end: &mut End, moment: u64, sent: bool) -
     Ok(())
 }
 
-fn deliver(rt: &HostRuntime, from: &End, to_name: &str, to: &mut End, k: usize) -> anyhow::Result<()> {
+fn deliver(
+    rt: &HostRuntime,
+    from: &End,
+    to_name: &str,
+    to: &mut End,
+    k: usize,
+) -> anyhow::Result<()> {
     if k >= from.sent.len() {
         println!(rt; "= refused NoSegment")?;
         return Ok(());
     }
     let bytes = from.sent[k].as_slice();
-    let header = IpRepr::new(from.cx.own, to.cx.own, ip_wire::IpProtocol::Tcp, bytes.len(), 64);
+    let header = IpRepr::new(
+        from.cx.own,
+        to.cx.own,
+        ip_wire::IpProtocol::Tcp,
+        bytes.len(),
+        64,
+    );
     let packet = TcpPacket::new_unchecked(bytes);
     println!(rt; "= done")?;
-    let Ok(repr) = TcpRepr::parse(&packet, &from.cx.own, &to.cx.own, &ChecksumCapabilities::default()) else {
+    let Ok(repr) = TcpRepr::parse(
+        &packet,
+        &from.cx.own,
+        &to.cx.own,
+        &ChecksumCapabilities::default(),
+    ) else {
         println!(rt; "unparsed")?;
         return Ok(());
     };
@@ -195,13 +241,26 @@ fn set(end: &mut End, name: &str, value: &str) {
         "keep_alive" => socket.set_keep_alive(duration(value)),
         "nagle_enabled" => socket.set_nagle_enabled(value == "on"),
         "pause_synack" => socket.pause_synack(value == "on"),
-        "congestion_control" => socket.set_congestion_control(if value == "reno" { CongestionControl::Reno } else { CongestionControl::None }),
-        _ => socket.set_tsval_generator(if value == "none" { None } else { Some(TcpTimestampGenerator(number(value) as u32)) }),
+        "congestion_control" => socket.set_congestion_control(if value == "reno" {
+            CongestionControl::Reno
+        } else {
+            CongestionControl::None
+        }),
+        _ => socket.set_tsval_generator(if value == "none" {
+            None
+        } else {
+            Some(TcpTimestampGenerator(number(value) as u32))
+        }),
     }
 }
 
 fn status(rt: &HostRuntime, name: &str, end: &End) -> io::Result<()> {
-    print!(rt; "{name} {} recv_queue {} send_queue {} at ", end.socket.state(), end.socket.recv_queue(), end.socket.send_queue())?;
+    print!(rt;
+        "{name} {} recv_queue {} send_queue {} at ",
+        end.socket.state(),
+        end.socket.recv_queue(),
+        end.socket.send_queue()
+    )?;
     match end.socket.poll_at(&end.cx) {
         PollAt::Now => println!(rt; "now"),
         PollAt::Ingress => println!(rt; "ingress"),
@@ -213,7 +272,11 @@ fn act(rt: &HostRuntime, words: &[&str], a: &mut End, b: &mut End) -> anyhow::Re
     let first = words[2] == "A";
     if words[1] == "deliver" {
         let k = number(words[3]) as usize;
-        return if first { deliver(rt, a, "B", b, k) } else { deliver(rt, b, "A", a, k) };
+        return if first {
+            deliver(rt, a, "B", b, k)
+        } else {
+            deliver(rt, b, "A", a, k)
+        };
     }
     let remote = if first { b.cx.own } else { a.cx.own };
     let end = if first { a } else { b };
@@ -222,14 +285,26 @@ fn act(rt: &HostRuntime, words: &[&str], a: &mut End, b: &mut End) -> anyhow::Re
             set(end, words[3], words[4]);
             println!(rt; "= done")?;
         }
-        "listen" => match end.socket.listen(IpListenEndpoint { addr: None, port: number(words[3]) as u16 }) {
+        "listen" => match end.socket.listen(IpListenEndpoint {
+            addr: None,
+            port: number(words[3]) as u16,
+        }) {
             Ok(()) => println!(rt; "= done")?,
             Err(e) => println!(rt; "= error {e:?}")?,
         },
         "connect" => {
-            let port = match words[3].split_once(':') { Some((_, port)) => number(port) as u16, None => 0 };
-            let local = IpListenEndpoint { addr: None, port: number(words[4]) as u16 };
-            match end.socket.connect(&mut end.cx, IpEndpoint { addr: remote, port }, local) {
+            let port = match words[3].split_once(':') {
+                Some((_, port)) => number(port) as u16,
+                None => 0
+            };
+            let local = IpListenEndpoint {
+                addr: None,
+                port: number(words[4]) as u16,
+            };
+            match end
+                .socket
+                .connect(&mut end.cx, IpEndpoint { addr: remote, port }, local)
+            {
                 Ok(()) => println!(rt; "= done")?,
                 Err(e) => println!(rt; "= error {e:?}")?,
             }
@@ -274,8 +349,20 @@ fn main(rt: HostRuntime) -> anyhow::Result<()> {
         }
         if words[0] == "sockets" {
             println!(rt; "{}", line.as_str())?;
-            a = new_end(&rt, 1, IpAddress::v4(192, 168, 1, 1), number(words[2]) as usize, number(words[3]) as usize)?;
-            b = new_end(&rt, 2, IpAddress::v4(192, 168, 1, 2), number(words[5]) as usize, number(words[6]) as usize)?;
+            a = new_end(
+                &rt,
+                1,
+                IpAddress::v4(192, 168, 1, 1),
+                number(words[2]) as usize,
+                number(words[3]) as usize,
+            )?;
+            b = new_end(
+                &rt,
+                2,
+                IpAddress::v4(192, 168, 1, 2),
+                number(words[5]) as usize,
+                number(words[6]) as usize,
+            )?;
         }
         if words[0] == ">" {
             println!(rt; "{}", line.as_str())?;

@@ -24,7 +24,7 @@ pub record IsSocket (b : Block) (queued : Ring ℕ) (offered : Option OpenOffer)
   pub room : FitsBuffer queued
   pub start : HasStart b
   pub mss : 1 ≤ b.peer.mss
-  pub offered : IfSome offered (IsOpen b)
+  pub unsettled : IfSome offered (IsOpen b)
 
 abbrev pub local_in : Option EndpointPair → Option IpEndpoint
 local_in None = None

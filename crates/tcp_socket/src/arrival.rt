@@ -163,12 +163,7 @@ impl Socket {
     }
 
     /// Inside the window: a reset, a SYN, or a segment to take.
-    fn take_inside<C: Context>(
-        &mut self,
-        cx: &C,
-        incoming: &Incoming<'_>,
-        by: u32,
-    ) -> Option<Reply>
+    fn take_inside<C: Context>(&mut self, cx: &C, incoming: &Incoming<'_>, by: u32) -> Option<Reply>
         ensures answer { result ≡ (inside (C.context cx.now) self.old incoming.now.ip_repr incoming.now.header incoming.now.bytes.now by).answer }
         ensures socket { self.new ≡ (inside (C.context cx.now) self.old incoming.now.ip_repr incoming.now.header incoming.now.bytes.now by).socket }
     {
@@ -194,12 +189,7 @@ impl Socket {
     }
 
     /// An accepted segment.
-    fn take<C: Context>(
-        &mut self,
-        cx: &C,
-        incoming: &Incoming<'_>,
-        by: u32,
-    ) -> Option<Reply>
+    fn take<C: Context>(&mut self, cx: &C, incoming: &Incoming<'_>, by: u32) -> Option<Reply>
         ensures answer { result ≡ (taken (C.context cx.now) self.old incoming.now.ip_repr incoming.now.header incoming.now.bytes.now by).answer }
         ensures socket { self.new ≡ (taken (C.context cx.now) self.old incoming.now.ip_repr incoming.now.header incoming.now.bytes.now by).socket }
     {

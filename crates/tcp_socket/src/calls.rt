@@ -18,17 +18,13 @@ use socket_base::Context;
 use socket_base::addresses::is_unspecified;
 use std::fmt;
 use tcp_model::{
-    AddressPair, Block, ConnectError, EndpointPair, ListenError, Names, RecvError, SendError, Sender,
-    State, is_same_listener,
+    AddressPair, Block, ConnectError, EndpointPair, ListenError, Names, RecvError, SendError,
+    Sender, State, is_same_listener,
 };
 
 /// The source of what is sent to this address: the one that is named, else the interface's, if it is
 /// specified.
-fn source_for<C: Context>(
-    cx: &C,
-    named: Option<IpAddress>,
-    remote: &IpAddress,
-) -> Option<IpAddress>
+fn source_for<C: Context>(cx: &C, named: Option<IpAddress>, remote: &IpAddress) -> Option<IpAddress>
     ensures { result ≡ source_by (C.context cx.now) named remote.now }
 {
     match named {
@@ -86,7 +82,10 @@ impl Socket {
     }
 
     /// Opens the socket for a connection that a remote opens. Without an address it takes one to any.
-    pub fn listen<T: Into<IpListenEndpoint>>(&mut self, local_endpoint: T) -> Result<(), ListenError>
+    pub fn listen<T: Into<IpListenEndpoint>>(
+        &mut self,
+        local_endpoint: T,
+    ) -> Result<(), ListenError>
         ensures { (to : IpListenEndpoint) × T.converts local_endpoint to
             × (result ≡ listen_answer self.old to) × (self.new ≡ listen_after self.old to) }
     {
@@ -105,7 +104,9 @@ impl Socket {
             self.listen_on(endpoint);
             return Ok(());
         }
-        if self.block.state.is_listening() && is_same_listener(&self.block.names.listen, &endpoint) {
+        if self.block.state.is_listening()
+            && is_same_listener(&self.block.names.listen, &endpoint)
+        {
             return Ok(());
         }
         Err(ListenError::InvalidState)
@@ -148,11 +149,7 @@ impl Socket {
             pair: Some(pair),
             ..Names::NONE
         };
-        self.open(
-            State::SynSent,
-            names,
-            Sender::new(SeqNumber(number), true),
-        );
+        self.open(State::SynSent, names, Sender::new(SeqNumber(number), true));
         Ok(())
     }
 

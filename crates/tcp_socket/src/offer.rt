@@ -49,7 +49,8 @@ impl Socket {
         if !self.block.sender.reset_due {
             return Offer::Silent { changed: false };
         }
-        let header = self.block.reset_segment(pair, cx.now(), self.window());
+        let window = self.window();
+        let header = self.block.reset_segment(pair, cx.now(), window);
         self.offer_segment(OfferKind::Reset, cx, pair, header, 0, 0)
     }
 
@@ -77,15 +78,15 @@ impl Socket {
         ensures answer { result ≡ (last_rules (C.context cx.now) self.old pair.now).answer }
         ensures socket { self.new ≡ (last_rules (C.context cx.now) self.old pair.now).socket }
     {
-        let now = cx.now();
+        let (now, window) = (cx.now(), self.window());
         if is_due(now, self.block.probe_moment(self.queued.len())) {
             self.offer_part(OfferKind::Probe, cx, pair, &PROBE)
         } else if is_due(now, self.block.ack_moment()) {
             self.offer_ack(OfferKind::Ack, cx, pair)
-        } else if self.block.updates_window(self.window()) {
+        } else if self.block.updates_window(window) {
             self.offer_ack(OfferKind::WindowUpdate, cx, pair)
         } else if is_due(now, self.block.keep_alive_moment()) {
-            let header = self.block.keep_alive_segment(pair, now, self.window());
+            let header = self.block.keep_alive_segment(pair, now, window);
             self.offer_segment(OfferKind::KeepAlive, cx, pair, header, 0, 1)
         } else {
             Offer::Silent { changed: false }
@@ -97,7 +98,9 @@ impl Socket {
         ensures socket { self.new ≡ (offer_syn (C.context cx.now) self.old pair.now).socket }
     {
         let (capacity, free) = (self.received.capacity(), self.received.window());
-        let header = self.block.syn_segment(pair, cx.now(), cx.ip_mtu(), capacity, free);
+        let header = self
+            .block
+            .syn_segment(pair, cx.now(), cx.ip_mtu(), capacity, free);
         self.offer_segment(OfferKind::Syn, cx, pair, header, 0, 0)
     }
 
@@ -105,7 +108,8 @@ impl Socket {
         ensures answer { result ≡ (offer_ack kind (C.context cx.now) self.old pair.now).answer }
         ensures socket { self.new ≡ (offer_ack kind (C.context cx.now) self.old pair.now).socket }
     {
-        let header = self.block.ack_segment(pair, cx.now(), self.window());
+        let window = self.window();
+        let header = self.block.ack_segment(pair, cx.now(), window);
         self.offer_segment(kind, cx, pair, header, 0, 0)
     }
 
@@ -122,9 +126,8 @@ impl Socket {
     {
         let control = part.control(self.queued.len());
         let number = self.block.number_at(part.place);
-        let header = self
-            .block
-            .segment(pair, cx.now(), self.window(), control, number);
+        let window = self.window();
+        let header = self.block.segment(pair, cx.now(), window, control, number);
         self.offer_segment(kind, cx, pair, header, part.place, part.len)
     }
 
@@ -168,7 +171,8 @@ impl Socket {
         ensures value { IfSome result (λ part. choice_of part ≡ text_choice self.now.block addresses.now ip_mtu self.now.queued) }
     {
         let queued = self.queued.len();
-        let unbroken = self.unbroken(self.block.next_place());
+        let place = self.block.next_place();
+        let unbroken = self.unbroken(place);
         let part = self.block.text_part(addresses, ip_mtu, queued, unbroken);
         let limit = self.block.size_limit(addresses, ip_mtu);
         if self.block.sends_part(queued, limit, &part) {
@@ -182,8 +186,8 @@ impl Socket {
     fn resend_part(&self, addresses: &AddressPair, ip_mtu: usize) -> Part
         ensures { choice_of result ≡ resend_choice self.now.block addresses.now ip_mtu self.now.queued }
     {
-        self.block
-            .first_part(addresses, ip_mtu, self.queued.len(), self.unbroken(0))
+        let (queued, unbroken) = (self.queued.len(), self.unbroken(0));
+        self.block.first_part(addresses, ip_mtu, queued, unbroken)
     }
 
     /// The packet of the open offer.
@@ -243,7 +247,8 @@ impl Socket {
         }
         let queued = self.queued.len();
         let has_text = self.text_part(&pair.addresses, cx.ip_mtu()).is_some();
-        if self.block.has_wish(has_text, queued, self.window()) {
+        let window = self.window();
+        if self.block.has_wish(has_text, queued, window) {
             return PollAt::Now;
         }
         match self.block.earliest_moment(queued) {

@@ -1,21 +1,11 @@
 //! What a user may set. Each setting first settles an open offer as not sent.
 ghost use Rattle.std.specs.Prelude.{◌≡◌, ◌≢◌, Some};
-ghost use Rattle.tcp_model.specs.Settings.{first_keep_alive, set_timeout, set_keep_alive, set_ack_delay, set_nagle_enabled, set_hop_limit, set_tsval_generator, pause_synack, set_congestion_control};
+ghost use Rattle.tcp_model.specs.Settings.{set_timeout, set_keep_alive, set_ack_delay, set_nagle_enabled, set_hop_limit, set_tsval_generator, pause_synack, set_congestion_control};
 
 use crate::Socket;
 use ip_wire::TcpTimestampGenerator;
 use net_base::{Duration, Instant};
 use tcp_model::{CongestionControl, Reno};
-
-/// When a keep-alive is due first: at once where there is an interval.
-fn first_keep_alive(interval: Option<Duration>) -> Option<Instant>
-    ensures { result ≡ first_keep_alive interval }
-{
-    match interval {
-        None => None,
-        Some(_) => Some(Instant::ZERO),
-    }
-}
 
 impl Socket {
     /// Sets the user timeout: how long the remote may be silent while something waits for it.
@@ -48,8 +38,13 @@ impl Socket {
         ensures { self.new ≡ set_keep_alive self.old interval }
     {
         self.offered = None;
+        let first = if interval.is_some() {
+            Some(Instant::ZERO)
+        } else {
+            None
+        };
         self.block.settings.keep_alive = interval;
-        self.block.settings.keep_alive_at = first_keep_alive(interval);
+        self.block.settings.keep_alive_at = first;
         self.block.keep_timeout(self.queued.len());
     }
 
