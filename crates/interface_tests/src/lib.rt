@@ -8,4 +8,8 @@ mod neighbor;
 #[cfg(test)]
 mod route;
 #[cfg(test)]
+mod socket_meta;
+#[cfg(test)]
+mod socket_set;
+#[cfg(test)]
 mod source;
