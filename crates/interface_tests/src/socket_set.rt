@@ -5,9 +5,8 @@ use std::alloc::AllocError;
 /// A set of one place: a second socket comes back.
 #[test]
 fn fixed_storage_is_full(rt: HostRuntime) -> Result<(), AllocError> {
-    let mut storage: Vec<SocketStorage<u32>> = Vec::new(rt.alloc());
-    storage.push(SocketStorage { inner: None })?;
-    let mut set = SocketSet::new(ManagedSlice::Fixed(storage));
+    let storage = Vec::from_array(rt.alloc(), [SocketStorage { inner: None }])?;
+    let mut set: SocketSet<u32> = SocketSet::new(ManagedSlice::Fixed(storage));
     let Ok(first) = set.add(7) else {
         panic!(rt; "there is a free place");
     };
