@@ -1,0 +1,56 @@
+//! Laws of what the link does to frames. Each is a function that does nothing, whose clauses are the
+//! law.
+ghost use Rattle.std.specs.Prelude.{◌≡◌, ◌≢◌, ℕ, ◌+◌, ◌%◌, ◌^◌, ◌<◌, ◌≤◌, Bool, true, false, List, length, Some};
+ghost use Rattle.net_devices.specs.declared.capabilities.Medium.TheVariants.{Ethernet, Ip};
+ghost use Rattle.ip_address.specs.Fields.{be16};
+ghost use Rattle.ip_address.specs.declared.ip.IpAddress.{IpAddress};
+ghost use Rattle.ip_address.specs.declared.ip.IpProtocol.TheVariants.{Tcp, Udp};
+ghost use Rattle.ip_address.specs.declared.ethernet.EthernetProtocol.TheVariants as ether;
+ghost use Rattle.ip_packet.specs.Ipv4 as ipv4;
+ghost use Rattle.ip_packet.specs.Ipv6 as ipv6;
+ghost use Rattle.ip_packet.specs.declared.ipv4.Ipv4Repr.{Ipv4Repr};
+ghost use Rattle.ip_packet.specs.declared.ipv6.Ipv6Repr.{Ipv6Repr};
+ghost use Rattle.ip_tcp.specs.Tcp.{IsChecked, IsTcp};
+ghost use Rattle.ip_tcp.specs.declared.header.TcpHeader.{TcpHeader};
+ghost use Rattle.ip_wire.specs.Ethernet as ethernet;
+ghost use Rattle.ip_wire.specs.declared.ethernet.EthernetRepr.{EthernetRepr};
+ghost use Rattle.lan_frames.specs.Carried.{names_tcp_or_udp};
+ghost use Rattle.lan_frames.specs.Parts.{bytes_at, damaged};
+ghost use Rattle.lan_frames.specs.declared.part.Part.{Part};
+
+/// Law: bytes that name neither TCP nor UDP are no packet of either, on either medium.
+pub fn names_neither()
+    ensures ipv4 { (bytes : List ℕ) (tested : Bool) (v : Ipv4Repr)
+        → names_tcp_or_udp Ip bytes ≡ false
+        → ipv4.IsIpv4 tested bytes v
+        → (v.next_header ≢ Tcp) × (v.next_header ≢ Udp) }
+    ensures ipv6 { (bytes : List ℕ) (v : Ipv6Repr)
+        → names_tcp_or_udp Ip bytes ≡ false
+        → ipv6.IsIpv6 bytes v
+        → (v.next_header ≢ Tcp) × (v.next_header ≢ Udp) }
+    ensures ethernet_ipv4 { (bytes : List ℕ) (tested : Bool) (e : EthernetRepr) (v : Ipv4Repr)
+        → names_tcp_or_udp Ethernet bytes ≡ false
+        → ethernet.IsEthernet bytes e
+        → e.ethertype ≡ ether.Ipv4
+        → ipv4.IsIpv4 tested (ethernet.payload_of bytes) v
+        → (v.next_header ≢ Tcp) × (v.next_header ≢ Udp) }
+    ensures ethernet_ipv6 { (bytes : List ℕ) (e : EthernetRepr) (v : Ipv6Repr)
+        → names_tcp_or_udp Ethernet bytes ≡ false
+        → ethernet.IsEthernet bytes e
+        → e.ethertype ≡ ether.Ipv6
+        → ipv6.IsIpv6 (ethernet.payload_of bytes) v
+        → (v.next_header ≢ Tcp) × (v.next_header ≢ Udp) }
+{}
+
+/// Law: a segment whose checksum holds isn't read once the link exchanged one of its words for a
+/// number that isn't congruent to it modulo 65535. Nothing before the segment changes.
+pub fn damaged_is_unread()
+    ensures unread { (frame : List ℕ) (part : Part) (place word : ℕ) (source destination : IpAddress) (v : TcpHeader)
+        → part.at + part.len ≤ length frame
+        → IsChecked source destination (bytes_at frame part)
+        → place % 2 ≡ 0
+        → place + 2 ≤ part.len
+        → word < 2 ^ 16
+        → be16 (bytes_at frame part) place % 65535 ≢ word % 65535
+        → ¬ (IsTcp source destination true (bytes_at (damaged frame part place word) part) v) }
+{}
