@@ -1,4 +1,4 @@
-use Rattle.std.proofs.Common.{◌≡◌, ◌-◌, List, ℕ, length, take, length-drop, ◌∙◌, ap, sym, arith}
+use Rattle.std.proofs.Common.{◌≡◌, ◌-◌, List, ℕ, length, take, length-drop, refl, ◌∙◌, ap, sym, arith}
 use Rattle.lan_frames.proofs.Cutting.{whole_packet, first_is, second_is, payload_short}
 use Rattle.lan_frames.proofs.cut.cut_frame.Goals as goal
 
@@ -23,4 +23,4 @@ returns-clause-second c =
     let whole = whole_packet c.args.medium c.args.frame.now c.new_unchecked-view.result.buffer.now c.requires.ipv4 is in
     second_is c.args.medium c.args.frame.now c.new_unchecked-view.result.buffer.now _ c.payload.result.now c.split_at.result.1.now c.in_ok-second.second.items c.piece-piece.result c.args.at _
     is whole.room (ap (λ (p : List ℕ). take (length c.args.frame.now - length p) c.args.frame.now) (sym c.new_unchecked-view.ensures))
-    c.payload.ensures c.split_at.ensures.back c.piece-piece.ensures c.wrapping_add-later.ensures c.in_ok-second.ensures
+    c.payload.ensures c.split_at.ensures.back c.piece-piece.ensures refl c.in_ok-second.ensures
