@@ -4,8 +4,6 @@
 #![tactic(auto)]
 
 #[cfg(test)]
-mod frames;
-#[cfg(test)]
 mod pieces;
 #[cfg(test)]
 mod port;
