@@ -4,7 +4,7 @@ use Rattle.std.specs.Prelude.{slice_index, slice_range}
 use Rattle.std.proofs.lemmas.List.{take-append-drop, get_or-drop}
 use Rattle.ip_address.specs.Fields.{be16, IsBytes}
 use Rattle.ip_packet.specs.Ipv4 as Ipv4
-use Rattle.ip_packet.specs.declared.ipv4.Ipv4Repr.{Ipv4Repr}
+use Rattle.ip_packet.specs.declared.ipv4.repr.Ipv4Repr.{Ipv4Repr}
 use Rattle.ip_packet.proofs.QuotedLaws.{fits-v4}
 use Rattle.ip_address.proofs.Peel.{peel8, peel16, peel_to}
 use Rattle.icmpv4.specs.Icmpv4Codes.{message_of, unreachable_number, exceeded_number}

@@ -5,7 +5,7 @@ use Rattle.ip_address.specs.Protocol.{protocol_number, protocol_of}
 use Rattle.ip_address.specs.declared.ip.IpProtocol.{IpProtocol}
 use Rattle.ip_address.proofs.Numbers.{protocol_number-protocol_of}
 use Rattle.ip_packet.specs.Ipv4 as Ipv4
-use Rattle.ip_packet.specs.declared.ipv4.Ipv4Repr.{Ipv4Repr}
+use Rattle.ip_packet.specs.declared.ipv4.repr.Ipv4Repr.{Ipv4Repr}
 use Rattle.icmpv4.specs.Icmpv4Codes.{unreachable_number, unreachable_of, exceeded_number, exceeded_of}
 use Rattle.icmpv4.specs.declared.message.Icmpv4DstUnreachable.{Icmpv4DstUnreachable}
 use Rattle.icmpv4.specs.declared.message.Icmpv4TimeExceeded.{Icmpv4TimeExceeded}

@@ -4,7 +4,7 @@ use Rattle.std.proofs.lemmas.List.{drop_at}
 use Rattle.ip_address.proofs.Sums.{ChecksumHolds-complement}
 use Rattle.ip_address.specs.Sum.{word_sum, ChecksumHolds, complement}
 use Rattle.ip_packet.specs.Ipv4 as Ipv4
-use Rattle.ip_packet.specs.declared.ipv4.Ipv4Repr.{Ipv4Repr}
+use Rattle.ip_packet.specs.declared.ipv4.repr.Ipv4Repr.{Ipv4Repr}
 use Rattle.ip_packet.proofs.QuotedLaws.{IsQuoted-v4}
 use Rattle.icmpv4.specs.declared.header.Icmpv4Header.{Icmpv4Header}
 use Rattle.icmpv4.specs.declared.header.Icmpv4Header.TheVariants as Header

@@ -6,7 +6,7 @@ use Rattle.std.specs.Borrow.{GName}
 use Rattle.ip_address.specs.Fields.{be16, put16}
 use Rattle.ip_address.specs.Sum.{word_sum, ChecksumHolds, complement}
 use Rattle.ip_packet.specs.Ipv4 as Ipv4
-use Rattle.ip_packet.specs.declared.ipv4.Ipv4Repr.{Ipv4Repr}
+use Rattle.ip_packet.specs.declared.ipv4.repr.Ipv4Repr.{Ipv4Repr}
 use Rattle.icmpv4.specs.Icmpv4Codes.{unreachable_number, unreachable_of, exceeded_number, exceeded_of}
 use Rattle.icmpv4.specs.declared.header.Icmpv4Header.{Icmpv4Header}
 use Rattle.icmpv4.specs.declared.header.Icmpv4Header.TheVariants as Header

@@ -47,7 +47,7 @@ impl Icmpv4Header {
         match self {
             Icmpv4Header::EchoRequest { .. } | Icmpv4Header::EchoReply { .. } => field::HEADER_END,
             Icmpv4Header::DstUnreachable { .. } | Icmpv4Header::TimeExceeded { .. } => {
-                field::HEADER_END + ipv4::HEADER_LEN
+                field::HEADER_END + ipv4::field::HEADER_LEN
             }
         }
     }

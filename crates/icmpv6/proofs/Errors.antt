@@ -2,7 +2,7 @@
 use Rattle.std.proofs.Common.{ℕ, ◌<◌, List, drop, arith}
 use Rattle.std.specs.Prelude.{slice_index}
 use Rattle.ip_packet.specs.Ipv6 as Ipv6
-use Rattle.ip_packet.specs.declared.ipv6.Ipv6Repr.{Ipv6Repr}
+use Rattle.ip_packet.specs.declared.ipv6.repr.Ipv6Repr.{Ipv6Repr}
 use Rattle.icmpv6.proofs.Types.{first-number}
 use Rattle.icmpv6.specs.Ndisc as Neighbor
 use Rattle.icmpv6.specs.Icmpv6.{MessageValue, DstUnreachable, PktTooBig, TimeExceeded, ParamProblem, EchoRequest, EchoReply, Ndisc, Says}

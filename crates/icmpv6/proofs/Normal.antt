@@ -7,7 +7,7 @@ use Rattle.ip_address.specs.declared.ipv6.Ipv6Address.{Ipv6Address}
 use Rattle.ip_address.proofs.Numbers.{protocol_number-protocol_of}
 use Rattle.ip_packet.proofs.QuotedLaws.{fits-v6}
 use Rattle.ip_packet.specs.Ipv6 as Ipv6
-use Rattle.ip_packet.specs.declared.ipv6.Ipv6Repr.{Ipv6Repr}
+use Rattle.ip_packet.specs.declared.ipv6.repr.Ipv6Repr.{Ipv6Repr}
 use Rattle.icmpv6.proofs.NdiscLaws as Neighbor
 use Rattle.icmpv6.proofs.NdiscNormal.{IsNdisc-value, IsNdisc-normal}
 use Rattle.icmpv6.proofs.Reasons.{unreachable_code-unreachable_of, exceeded_code-exceeded_of, problem_code-problem_of}

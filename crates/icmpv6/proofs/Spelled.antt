@@ -7,7 +7,7 @@ use Rattle.ip_address.specs.declared.ipv6.Ipv6Address.{Ipv6Address}
 use Rattle.ip_packet.proofs.Ipv6Laws.{header-spelling}
 use Rattle.ip_address.proofs.Peel.{peel8, peel16, peel32}
 use Rattle.ip_packet.specs.Ipv6 as Ipv6
-use Rattle.ip_packet.specs.declared.ipv6.Ipv6Repr.{Ipv6Repr}
+use Rattle.ip_packet.specs.declared.ipv6.repr.Ipv6Repr.{Ipv6Repr}
 use Rattle.icmpv6.proofs.Reasons.{unreachable_code-unreachable_of, exceeded_code-exceeded_of, problem_code-problem_of}
 use Rattle.icmpv6.specs.Reason.{unreachable_code, exceeded_code, problem_code}
 use Rattle.icmpv6.proofs.NdiscLaws.{buffer_len-room}

@@ -7,7 +7,7 @@ use Rattle.ip_address.specs.Sum.{word_sum, folded, ChecksumHolds}
 use Rattle.ip_address.specs.declared.ipv6.Ipv6Address.{Ipv6Address}
 use Rattle.ip_packet.proofs.QuotedLaws.{IsQuoted-v6}
 use Rattle.ip_packet.specs.Ipv6 as Ipv6
-use Rattle.ip_packet.specs.declared.ipv6.Ipv6Repr.{Ipv6Repr}
+use Rattle.ip_packet.specs.declared.ipv6.repr.Ipv6Repr.{Ipv6Repr}
 use Rattle.icmpv6.specs.Packet.{IsChecked, covered, checksum_of}
 use Rattle.icmpv6.proofs.NdiscLaws.{IsNdisc-written, word_sum-spelling}
 use Rattle.icmpv6.specs.Ndisc as Neighbor

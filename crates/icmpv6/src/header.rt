@@ -3,7 +3,7 @@ ghost use Rattle.std.specs.Prelude.{◌≡◌, ℕ, ◌+◌, ◌<◌, ◌≤◌,
 ghost use Rattle.std.specs.Int.{w32, to_be_bytes};
 ghost use Rattle.ip_address.specs.Fields.{put16};
 ghost use Rattle.ip_packet.specs.Ipv6 as Ipv6;
-ghost use Rattle.ip_packet.specs.declared.ipv6.Ipv6Repr.{Ipv6Repr};
+ghost use Rattle.ip_packet.specs.declared.ipv6.repr.Ipv6Repr.{Ipv6Repr};
 ghost use Rattle.net_devices.specs.Capabilities.{verifies, computes};
 ghost use Rattle.icmpv6.specs.Message.{message_number};
 ghost use Rattle.icmpv6.specs.Packet.{IsWhole, bytes_of, bytes_in, name_of, checksum_of};
@@ -124,7 +124,7 @@ impl Icmpv6Header {
             Icmpv6Header::DstUnreachable { .. }
             | Icmpv6Header::PktTooBig { .. }
             | Icmpv6Header::TimeExceeded { .. }
-            | Icmpv6Header::ParamProblem { .. } => field::HEADER_END + ipv6::HEADER_LEN,
+            | Icmpv6Header::ParamProblem { .. } => field::HEADER_END + ipv6::field::HEADER_LEN,
             Icmpv6Header::EchoRequest { .. } | Icmpv6Header::EchoReply { .. } => field::HEADER_END,
             Icmpv6Header::Ndisc(neighbor) => neighbor.buffer_len(),
         }
@@ -213,7 +213,7 @@ fn put_error(message: &mut [u8], front: &[u8; 8], header: &Ipv6Repr, bytes: &[u8
 {
     let (start, rest) = message.split_at_mut(field::HEADER_END);
     start.copy_from_slice(front);
-    let (quote, behind) = rest.split_at_mut(ipv6::HEADER_LEN);
+    let (quote, behind) = rest.split_at_mut(ipv6::field::HEADER_LEN);
     header.emit(&mut Ipv6PacketMut::new_unchecked(quote));
     behind.copy_from_slice(bytes);
 }

@@ -1,8 +1,9 @@
 -- Numbers written into bytes.
-use Rattle.std.proofs.Common.{◌≡◌, ◌≢◌, ℕ, ◌+◌, ◌-◌, ◌/◌, ◌%◌, List, ◌∙◌, ap, arith}
-use Rattle.std.proofs.lemmas.List.{set-set, set_comm}
-use Rattle.std.proofs.Math.ListN.{set}
-use Rattle.ip_address.specs.Fields.{put16}
+use Rattle.std.proofs.Common.{◌≡◌, ◌≢◌, ◌⊎◌, inl, inr, ℕ, ◌+◌, ◌-◌, ◌*◌, ◌/◌, ◌%◌, ◌^◌, ◌<◌, ◌≤◌, List, length, ◌∙◌, ap, ap₂, arith}
+use Rattle.std.specs.Prelude.{slice_index}
+use Rattle.std.proofs.lemmas.List.{set-set, set_comm, get_or-set_same, get_or-set_other}
+use Rattle.std.proofs.Math.ListN.{set, length-set}
+use Rattle.ip_address.specs.Fields.{be16, be32, put16, put32}
 use Rattle.ip_address.specs.Sum.{folded, complement}
 
 -- of two numbers written at one place the second counts
@@ -26,3 +27,48 @@ pub put16-complement : (covered : List ℕ → ℕ) (at : ℕ) (old cleared new 
     → new ≡ put16 old at (complement (covered (put16 old at 0)))
 put16-complement covered at old cleared new sum first is last =
     put16-cleared (λ xs. complement (covered xs)) at old cleared new (65535 - sum) first (ap (λ n. 65535 - n) is) last
+
+-- the bytes of a number that was written
+put16-first : (bytes : List ℕ) (i n : ℕ) → i + 2 ≤ length bytes → slice_index (put16 bytes i n) i ≡ n / 256 % 256
+put16-first bytes i n within =
+    get_or-set_other (set bytes i (n / 256 % 256)) (i + 1) i (n % 256) 0 (λ e. omega arith) ∙ get_or-set_same bytes i (n / 256 % 256) 0 (omega arith)
+
+put16-second : (bytes : List ℕ) (i n : ℕ) → i + 2 ≤ length bytes → slice_index (put16 bytes i n) (i + 1) ≡ n % 256
+put16-second bytes i n within =
+    let len : length (set bytes i (n / 256 % 256)) ≡ length bytes = length-set {A = ℕ} _ _ _ in
+    get_or-set_same (set bytes i (n / 256 % 256)) (i + 1) (n % 256) 0 (omega arith)
+
+-- all other bytes stay
+pub put16-elsewhere : (bytes : List ℕ) (i place n : ℕ) → (place < i) ⊎ (i + 2 ≤ place) → slice_index (put16 bytes i n) place ≡ slice_index bytes place
+put16-elsewhere bytes i place n apart =
+    get_or-set_other (set bytes i (n / 256 % 256)) (i + 1) place (n % 256) 0 (λ e. omega arith) ∙ get_or-set_other bytes i place (n / 256 % 256) 0 (λ e. omega arith)
+
+pub put32-elsewhere : (bytes : List ℕ) (i place n : ℕ) → (place < i) ⊎ (i + 4 ≤ place) → slice_index (put32 bytes i n) place ≡ slice_index bytes place
+put32-elsewhere bytes i place n apart =
+    let high : (place < i + 2) ⊎ (i + 2 + 2 ≤ place) = elim apart [ inl l ↦ inl (omega arith) | inr r ↦ inr (omega arith) ] in
+    let low : (place < i) ⊎ (i + 2 ≤ place) = elim apart [ inl l ↦ inl l | inr r ↦ inr (omega arith) ] in
+    put16-elsewhere (put16 bytes i (n / 65536)) (i + 2) place n high ∙ put16-elsewhere bytes i place (n / 65536) low
+
+-- the number that is read where it was written: its last 16 bits
+be16-put16_cut : (bytes : List ℕ) (i n : ℕ) → i + 2 ≤ length bytes → be16 (put16 bytes i n) i ≡ n % 65536
+be16-put16_cut bytes i n within =
+    let first : slice_index (put16 bytes i n) i ≡ n / 256 % 256 = put16-first bytes i n within in
+    let second : slice_index (put16 bytes i n) (i + 1) ≡ n % 256 = put16-second bytes i n within in
+    rw (first, second) (omega arith)
+
+pub be16-put16 : (bytes : List ℕ) (i n : ℕ) → i + 2 ≤ length bytes → n < 2 ^ 16 → be16 (put16 bytes i n) i ≡ n
+be16-put16 bytes i n within small = let cut : be16 (put16 bytes i n) i ≡ n % 65536 = be16-put16_cut bytes i n within in cut ∙ (omega arith)
+
+length-put16 : (bytes : List ℕ) (i n : ℕ) → length (put16 bytes i n) ≡ length bytes
+length-put16 bytes i n = simp length-set
+
+pub be32-put32 : (bytes : List ℕ) (i n : ℕ) → i + 4 ≤ length bytes → n < 2 ^ 32 → be32 (put32 bytes i n) i ≡ n
+be32-put32 bytes i n within small =
+    let inner : List ℕ = put16 bytes i (n / 65536) in
+    let len : length inner ≡ length bytes = length-put16 bytes i (n / 65536) in
+    let low : be16 (put16 inner (i + 2) n) (i + 2) ≡ n % 65536 = be16-put16_cut inner (i + 2) n (omega arith) in
+    let first : slice_index (put16 inner (i + 2) n) i ≡ slice_index inner i = put16-elsewhere inner (i + 2) i n (inl (omega arith)) in
+    let second : slice_index (put16 inner (i + 2) n) (i + 1) ≡ slice_index inner (i + 1) = put16-elsewhere inner (i + 2) (i + 1) n (inl (omega arith)) in
+    let high : be16 inner i ≡ n / 65536 % 65536 = be16-put16_cut bytes i (n / 65536) (omega arith) in
+    let top : be16 (put16 inner (i + 2) n) i ≡ n / 65536 % 65536 = ap₂ (λ a b. 256 * a + b) first second ∙ high in
+    ap₂ (λ a b. 65536 * a + b) top low ∙ (omega arith)

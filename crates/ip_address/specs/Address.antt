@@ -137,7 +137,8 @@ IsMaskV6 a n = (n ≤ 128) × (v6_number a ≡ 2 ^ 128 - 2 ^ (128 - n))
 abbrev pub scope_of : Ipv6Address → ℕ
 scope_of a =
     if slice_index a.0 0 == 0xff then slice_index a.0 1 % 16
-    else (if slice_index a.0 0 == 0xfe then (if slice_index a.0 1 / 64 == 2 then 2 else 14) else 14)
+    else if slice_index a.0 0 == 0xfe then (if slice_index a.0 1 / 64 == 2 then 2 else 14)
+    else 14
 
 -- the first 104 bits of ff02::1:ff00:0
 abbrev pub solicited_prefix : List ℕ

@@ -16,7 +16,9 @@ ether_number (Ether.Unknown n) = n
 abbrev pub ether_of : ℕ → EthernetProtocol
 ether_of n =
     if n == 0x0800 then Ether.Ipv4
-    else (if n == 0x0806 then Ether.Arp else (if n == 0x86dd then Ether.Ipv6 else Ether.Unknown n))
+    else if n == 0x0806 then Ether.Arp
+    else if n == 0x86dd then Ether.Ipv6
+    else Ether.Unknown n
 
 -- the number of what an IP packet carries
 abbrev pub protocol_number : IpProtocol → ℕ
@@ -38,15 +40,15 @@ protocol_number (Ip.Unknown n) = n
 abbrev pub protocol_of : ℕ → IpProtocol
 protocol_of n =
     if n == 0x00 then Ip.HopByHop
-    else (if n == 0x01 then Ip.Icmp
-    else (if n == 0x02 then Ip.Igmp
-    else (if n == 0x06 then Ip.Tcp
-    else (if n == 0x11 then Ip.Udp
-    else (if n == 0x2b then Ip.Ipv6Route
-    else (if n == 0x2c then Ip.Ipv6Frag
-    else (if n == 0x32 then Ip.IpSecEsp
-    else (if n == 0x33 then Ip.IpSecAh
-    else (if n == 0x3a then Ip.Icmpv6
-    else (if n == 0x3b then Ip.Ipv6NoNxt
-    else (if n == 0x3c then Ip.Ipv6Opts
-    else Ip.Unknown n)))))))))))
+    else if n == 0x01 then Ip.Icmp
+    else if n == 0x02 then Ip.Igmp
+    else if n == 0x06 then Ip.Tcp
+    else if n == 0x11 then Ip.Udp
+    else if n == 0x2b then Ip.Ipv6Route
+    else if n == 0x2c then Ip.Ipv6Frag
+    else if n == 0x32 then Ip.IpSecEsp
+    else if n == 0x33 then Ip.IpSecAh
+    else if n == 0x3a then Ip.Icmpv6
+    else if n == 0x3b then Ip.Ipv6NoNxt
+    else if n == 0x3c then Ip.Ipv6Opts
+    else Ip.Unknown n

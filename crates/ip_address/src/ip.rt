@@ -6,7 +6,7 @@ ghost use Rattle.ip_address.specs.declared.ip.IpCidr.TheVariants as Block;
 ghost use Rattle.ip_address.specs.Address.{version_of, IsUnspecified, IsMulticast, IsBroadcast, IsUnicast, IsMask};
 ghost use Rattle.ip_address.specs.AddressTests.{is_unspecified, is_multicast, is_broadcast, is_unicast, is_in_block};
 ghost use Rattle.ip_address.specs.Block.{width_of, block_address, block_prefix_len, IsIn, IsWithin};
-ghost use Rattle.ip_address.specs.Protocol.{ether_number, ether_of, protocol_number, protocol_of};
+ghost use Rattle.ip_address.specs.Protocol.{protocol_number, protocol_of};
 ghost use Rattle.ip_address.specs.Text.{Reads, IsIpText, ReadsIpBlock, IsEndpointText, ip_text, block_text, endpoint_text, listen_endpoint_text};
 
 use crate::Error;
@@ -104,12 +104,6 @@ impl From<IpProtocol> for u8 {
         }
     }
 }
-
-/// Law: what a number names has that number.
-pub fn number_reads_back()
-    ensures ether { (n : ℕ) → ether_number (ether_of n) ≡ n }
-    ensures ip { (n : ℕ) → protocol_number (protocol_of n) ≡ n }
-{}
 
 /// What an address answers in either family, beside the tests that each family names itself.
 pub trait AddressExt {

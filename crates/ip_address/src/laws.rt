@@ -1,7 +1,7 @@
 //! What the comparisons and hashes of addresses, blocks and endpoints mean: two values are equal
 //! exactly where they are the same value, and orders and hashes agree with that. And what the
 //! constants are.
-ghost use Rattle.std.specs.Prelude.{◌≡◌, ◌↔◌, IsTrue, ◌∷◌, ◌++◌, []};
+ghost use Rattle.std.specs.Prelude.{◌≡◌, ◌↔◌, ℕ, IsTrue, None, ◌∷◌, ◌++◌, []};
 ghost use Rattle.std.specs.Cmp.{IsTotalOrder};
 ghost use Rattle.std.specs.Net.Addr.{octets_of};
 ghost use Rattle.ip_address.specs.Address.{IsEthernetBroadcast, IsEthernetMulticast, IsEthernetUnicast, IsHardwareUnicast, version_of, IsUnspecified, IsMulticast, IsBroadcast, IsUnicast, IsUnspecifiedV4, IsLoopbackV4, IsBroadcastV4, IsUnspecifiedV6, IsLoopbackV6, solicited_prefix};
@@ -9,6 +9,7 @@ ghost use Rattle.ip_address.specs.AddressTests.{is_ethernet_broadcast, is_ethern
 ghost use Rattle.ip_address.specs.Block.{IsBlock, IsIn};
 ghost use Rattle.ip_address.specs.Hardware.{raw_bytes};
 ghost use Rattle.ip_address.specs.Order.{Agree, hash_after};
+ghost use Rattle.ip_address.specs.Protocol.{ether_number, ether_of, protocol_number, protocol_of};
 
 use crate::ethernet::{EthernetAddress, EthernetProtocol};
 use crate::hardware::{HardwareAddress, MAX_HARDWARE_ADDRESS_LEN, RawHardwareAddress};
@@ -193,6 +194,12 @@ pub fn compare_sequence_numbers(a: SeqNumber, b: SeqNumber) -> (bool, u64, u64)
     (a == b, hash_of(&a), hash_of(&b))
 }
 
+/// Law: what a number names has that number.
+pub fn number_reads_back()
+    ensures ether { (n : ℕ) → ether_number (ether_of n) ≡ n }
+    ensures ip { (n : ℕ) → protocol_number (protocol_of n) ≡ n }
+{}
+
 /// Law: what the tests of hardware addresses, as truth values, mean.
 pub fn hardware_tests()
     ensures broadcast { (a : EthernetAddress) → IsTrue (is_ethernet_broadcast a) ↔ IsEthernetBroadcast a }
@@ -242,6 +249,20 @@ pub fn ipv6_constants()
     ensures unspecified { IsUnspecifiedV6 Ipv6Address.UNSPECIFIED }
     ensures localhost { IsLoopbackV6 Ipv6Address.LOCALHOST }
 {}
+
+/// The listen endpoint that a default is: no address and no port.
+pub fn default_listen_endpoint() -> IpListenEndpoint
+    ensures { result ≡ record { addr = None; port = 0 } }
+{
+    IpListenEndpoint::default()
+}
+
+/// The sequence number that a default is: 0.
+pub fn default_sequence_number() -> SeqNumber
+    ensures { result.0 ≡ 0 }
+{
+    SeqNumber::default()
+}
 
 /// The blocks that have a constant: of solicited-node addresses, and of link-local ones.
 pub fn ipv6_prefixes() -> (Ipv6Cidr, Ipv6Cidr)

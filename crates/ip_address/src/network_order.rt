@@ -1,8 +1,8 @@
 //! Numbers in network order inside byte slices. Every format reads and writes its fields by these
 //! calls, so that all contracts speak of numbers in bytes in one way.
-ghost use Rattle.std.specs.Prelude.{◌≡◌, ℕ, ◌+◌, ◌<◌, ◌≤◌, List, ◌∷◌, ◌++◌, length, drop, slice_index, slice_range};
+ghost use Rattle.std.specs.Prelude.{◌≡◌, ◌≢◌, ◌⊎◌, ℕ, ◌+◌, ◌^◌, ◌<◌, ◌≤◌, List, ◌∷◌, ◌++◌, length, drop, slice_index, slice_range};
 ghost use Rattle.std.specs.Int.{w16, w32, to_be_bytes};
-ghost use Rattle.ip_address.specs.Fields.{be16, be32, put16, put32, IsBytes};
+ghost use Rattle.ip_address.specs.Fields.{be16, be32, put8, put16, put32, IsBytes};
 
 use byteorder::{BigEndian, ByteOrder};
 
@@ -51,6 +51,16 @@ pub fn write_u32(bytes: &mut [u8], at: usize, value: u32)
 /// Law: of two numbers written at one place the second counts.
 pub fn second_write_counts()
     ensures { (bytes : List ℕ) (at first second : ℕ) → put16 (put16 bytes at first) at second ≡ put16 bytes at second }
+{}
+
+/// Law: a number that was written is read at its place, and what was read at another place stays.
+pub fn written_numbers_are_read()
+    ensures one { (bytes : List ℕ) (at value : ℕ) → at < length bytes → slice_index (put8 bytes at value) at ≡ value }
+    ensures two { (bytes : List ℕ) (at value : ℕ) → at + 2 ≤ length bytes → value < 2 ^ 16 → be16 (put16 bytes at value) at ≡ value }
+    ensures four { (bytes : List ℕ) (at value : ℕ) → at + 4 ≤ length bytes → value < 2 ^ 32 → be32 (put32 bytes at value) at ≡ value }
+    ensures one_elsewhere { (bytes : List ℕ) (at place value : ℕ) → place ≢ at → slice_index (put8 bytes at value) place ≡ slice_index bytes place }
+    ensures two_elsewhere { (bytes : List ℕ) (at place value : ℕ) → (place < at) ⊎ (at + 2 ≤ place) → slice_index (put16 bytes at value) place ≡ slice_index bytes place }
+    ensures four_elsewhere { (bytes : List ℕ) (at place value : ℕ) → (place < at) ⊎ (at + 4 ≤ place) → slice_index (put32 bytes at value) place ≡ slice_index bytes place }
 {}
 
 /// Law: what stands from a place on is the bytes of the field there, then what stands behind it.

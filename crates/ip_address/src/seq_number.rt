@@ -107,32 +107,3 @@ pub fn sum_comes_after()
     ensures order { (a sum : SeqNumber) (n : ℕ) → a.0 < 2 ^ 32 → 0 < n → n < 2 ^ 31 → sum.0 ≡ advanced a n → ComesBefore a sum }
     ensures opposite { (a b : SeqNumber) → a.0 < 2 ^ 32 → b.0 < 2 ^ 32 → distance_of a b ≡ 2 ^ 31 → ComesBefore a b × ComesBefore b a }
 {}
-
-#[cfg(test)]
-mod tests {
-    use super::*;
-
-    // Numbers on both sides of the point where they go round.
-    #[test]
-    fn goes_round(rt: HostRuntime) {
-        sum_comes_after();
-        let last = SeqNumber(0xffff_ffff);
-        let first = SeqNumber(0);
-        let half = SeqNumber(0x8000_0000);
-        assert!(rt; last.comes_before(first));
-        assert!(rt; !first.comes_before(last));
-        assert!(rt; !first.comes_before(first));
-        assert!(rt; first.comes_before(half) && half.comes_before(first));
-        assert_eq!(rt; last + 3, SeqNumber(2));
-        assert_eq!(rt; first - 1, last);
-        assert_eq!(rt; last.distance(SeqNumber(4)), 5);
-        assert_eq!(rt; last.max(first), first);
-        assert_eq!(rt; last.min(first), last);
-        assert_eq!(rt; SeqNumber(7) - SeqNumber(7), 0);
-        assert_eq!(rt; SeqNumber(9) - SeqNumber(7), 2);
-        let mut moved = last;
-        moved += 1;
-        assert_eq!(rt; moved, first);
-        assert_eq!(rt; SeqNumber::default(), first);
-    }
-}

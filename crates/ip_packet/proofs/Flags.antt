@@ -1,11 +1,10 @@
 -- The field of IPv4's flags and offset: what was put there is read back, and what was read is put back.
-use Rattle.std.proofs.Common.{◌≡◌, ℕ, ◌+◌, ◌*◌, ◌/◌, ◌%◌, ◌<◌, ◌^◌, ◌==◌, Bool, true, false, if◌then◌else◌, List, get_or, refl, sym, ◌∙◌, ap, arith, inl, inr}
+use Rattle.std.proofs.Common.{◌≡◌, ℕ, ◌+◌, ◌*◌, ◌/◌, ◌%◌, ◌<◌, ◌^◌, ◌==◌, Bool, true, false, if◌then◌else◌, List, get_or, refl, sym, arith, inl, inr}
 use Rattle.std.proofs.lemmas.Bool.Decides.{eqb_tells}
 use Rattle.std.specs.Prelude.{slice_index}
 use Rattle.ip_address.specs.Fields.{be16, IsBytes}
 use Rattle.ip_packet.specs.Ipv4.{flags_and_offset, piece_of}
 use Rattle.ip_packet.specs.Parts.{has_flag}
-use Rattle.ip_packet.specs.declared.ipv4.Ipv4Piece.{Ipv4Piece}
 
 -- a set bit counts with its weight
 weighs : (n weight : ℕ) → (if n % 2 == 1 then weight else 0) ≡ n % 2 * weight

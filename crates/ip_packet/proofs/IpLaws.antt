@@ -4,10 +4,10 @@ use Rattle.std.specs.Prelude.{slice_index}
 use Rattle.ip_packet.specs.Ip.{IsIp, IsValue, Fits, written, normal, header_len_in, payload_len_in}
 use Rattle.ip_packet.specs.Ipv4 as Ipv4
 use Rattle.ip_packet.specs.Ipv6 as Ipv6
-use Rattle.ip_packet.specs.declared.ip.IpRepr.{IpRepr}
-use Rattle.ip_packet.specs.declared.ip.IpRepr.TheVariants as Ip
-use Rattle.ip_packet.specs.declared.ipv4.Ipv4Repr.{Ipv4Repr}
-use Rattle.ip_packet.specs.declared.ipv6.Ipv6Repr.{Ipv6Repr}
+use Rattle.ip_packet.specs.declared.ip.repr.IpRepr.{IpRepr}
+use Rattle.ip_packet.specs.declared.ip.repr.IpRepr.TheVariants as Ip
+use Rattle.ip_packet.specs.declared.ipv4.repr.Ipv4Repr.{Ipv4Repr}
+use Rattle.ip_packet.specs.declared.ipv6.repr.Ipv6Repr.{Ipv6Repr}
 use Rattle.ip_address.specs.Fields.{IsBytes}
 use Rattle.ip_address.specs.Protocol.{protocol_number, protocol_of}
 use Rattle.ip_packet.proofs.Ipv4Laws as V4

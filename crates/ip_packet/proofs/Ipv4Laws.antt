@@ -1,15 +1,15 @@
 -- A packet's header and what spells it.
-use Rattle.std.proofs.Common.{◌≡◌, ℕ, ◌+◌, ◌/◌, ◌<◌, ◌≤◌, ◌%◌, ◌^◌, Bool, true, false, IsTrue, List, [], ◌++◌, length, take, drop, refl, sym, ◌∙◌, ap, subst, arith, length-append, append_assoc}
+use Rattle.std.proofs.Common.{◌≡◌, ℕ, ◌+◌, ◌-◌, ◌/◌, ◌<◌, ◌≤◌, ◌%◌, ◌^◌, Bool, true, false, IsTrue, List, [], ◌++◌, length, take, drop, refl, sym, ◌∙◌, ap, subst, arith, length-append, append_assoc}
 use Rattle.std.specs.Prelude.{slice_range, slice_index}
 use Rattle.std.proofs.lemmas.List.{take_at, drop_at}
 use Rattle.ip_address.proofs.Sums.{ChecksumHolds-complement}
 use Rattle.ip_address.specs.Fields.{be16, IsBytes}
 use Rattle.ip_address.specs.Protocol.{protocol_number}
 use Rattle.ip_address.specs.Sum.{word_sum, ChecksumHolds, complement}
-use Rattle.ip_packet.specs.Ipv4.{IsIpv4, IsQuoted, IsValue, IsKeyOf, Fits, key_of, piece_of, spelling, sent_fields, free_fields, written_as, written, header_len_of, normal}
+use Rattle.ip_packet.specs.Ipv4.{IsIpv4, IsQuoted, IsValue, IsKeyOf, Fits, key_of, piece_of, spelling, sent_fields, free_fields, written_as, written, header_len_of, payload_of, normal}
 use Rattle.ip_packet.proofs.Flags.{field-read, dont_frag-sent, more-sent, offset-sent}
-use Rattle.ip_packet.specs.declared.ipv4.Ipv4Piece.{Ipv4Piece}
-use Rattle.ip_packet.specs.declared.ipv4.Ipv4Repr.{Ipv4Repr}
+use Rattle.ip_packet.specs.declared.ipv4.piece.Ipv4Piece.{Ipv4Piece}
+use Rattle.ip_packet.specs.declared.ipv4.repr.Ipv4Repr.{Ipv4Repr}
 use Rattle.ip_address.specs.declared.ip.IpProtocol.{IpProtocol}
 use Rattle.ip_address.specs.declared.ipv4.Ipv4FragKey.{Ipv4FragKey}
 use Rattle.ip_address.proofs.Peel.{peel8, peel16, peel_to, length-slice_range}
@@ -151,3 +151,10 @@ key-same id id' source source' destination destination' p p' a b c d = rw (a, b,
 pub key-read : (tested : Bool) (bytes : List ℕ) (v : Ipv4Repr) (key : Ipv4FragKey) → IsIpv4 tested bytes v → IsKeyOf bytes key → key ≡ key_of v
 key-read tested bytes v key is shows =
     key-same _ _ _ _ _ _ _ _ (shows.identification ∙ sym is.identification) (shows.source ∙ sym is.source) (shows.destination ∙ sym is.destination) (shows.protocol ∙ sym is.protocol)
+
+-- what a packet carries is as much of what comes behind its header as the header says
+pub payload_of-written : (sealed : Bool) (v : Ipv4Repr) (rest : List ℕ) → Fits v → IsValue v → payload_of (written sealed v ++ rest) ≡ take v.payload_len rest
+payload_of-written sealed v rest fits value =
+    let header : length (written sealed v) ≡ 20 = omega (arith, value.source.0, value.destination.0, length-append v.src_addr.0 (v.dst_addr.0 ++ []), length-append v.dst_addr.0 []) in
+    let size : be16 (written sealed v ++ rest) 2 - 20 ≡ v.payload_len = omega (arith, fits) in
+    ap (λ n. take n (drop 20 (written sealed v ++ rest))) size ∙ ap (take v.payload_len) (drop_at (written sealed v) rest 20 header)

@@ -1,11 +1,11 @@
 -- An IPv6 packet's header and what spells it.
-use Rattle.std.proofs.Common.{◌≡◌, ℕ, ◌+◌, ◌*◌, ◌/◌, ◌<◌, ◌≤◌, ◌^◌, List, ◌++◌, length, get_or, take, drop, refl, sym, ◌∙◌, ap, arith, length-append, append_assoc}
+use Rattle.std.proofs.Common.{◌≡◌, ℕ, ◌+◌, ◌-◌, ◌*◌, ◌/◌, ◌<◌, ◌≤◌, ◌^◌, List, ◌++◌, length, get_or, take, drop, refl, sym, ◌∙◌, ap, arith, length-append, append_assoc}
 use Rattle.std.specs.Prelude.{slice_index}
 use Rattle.std.proofs.lemmas.List.{take_at, drop_at}
-use Rattle.ip_address.specs.Fields.{be32, IsBytes}
+use Rattle.ip_address.specs.Fields.{be16, be32, IsBytes}
 use Rattle.ip_address.specs.Protocol.{protocol_number}
-use Rattle.ip_packet.specs.Ipv6.{IsIpv6, IsQuoted, IsValue, Fits, spelling, written, class_and_flow, normal}
-use Rattle.ip_packet.specs.declared.ipv6.Ipv6Repr.{Ipv6Repr}
+use Rattle.ip_packet.specs.Ipv6.{IsIpv6, IsQuoted, IsValue, Fits, spelling, written, payload_of, class_and_flow, normal}
+use Rattle.ip_packet.specs.declared.ipv6.repr.Ipv6Repr.{Ipv6Repr}
 use Rattle.ip_address.proofs.Peel.{peel8, peel16, peel32, peel_to}
 use Rattle.ip_address.proofs.Numbers.{protocol_number-protocol_of}
 
@@ -81,3 +81,10 @@ IsIpv6-written v rest fits value within =
       payload = omega (arith, fits);
       hops = refl;
     }
+
+-- what a packet carries is as much of what comes behind its header as the header says
+pub payload_of-written : (v : Ipv6Repr) (rest : List ℕ) → Fits v → IsValue v → payload_of (written v ++ rest) ≡ take v.payload_len rest
+payload_of-written v rest fits value =
+    let header : length (written v) ≡ 40 = omega (arith, value.source.0, value.destination.0, length-append v.src_addr.0 v.dst_addr.0) in
+    let size : 40 + be16 (written v ++ rest) 4 - 40 ≡ v.payload_len = omega (arith, fits) in
+    ap (λ n. take n (drop 40 (written v ++ rest))) size ∙ ap (take v.payload_len) (drop_at (written v) rest 40 header)

@@ -1,6 +1,8 @@
 pub mod CoveredSums
 pub mod UdpLaws
 pub mod Flags
+pub mod Equal
+pub mod Sets
 pub mod Ipv4Laws
 pub mod Ipv6Laws
 pub mod Fronts

@@ -4,9 +4,9 @@ use Rattle.ip_address.specs.Fields.{IsBytes}
 use Rattle.ip_packet.specs.Ipv4 as Ipv4
 use Rattle.ip_packet.specs.Ipv6 as Ipv6
 use Rattle.ip_packet.proofs.Flags.{dont_frag-sent}
-use Rattle.ip_packet.specs.declared.ipv4.Ipv4Piece.{Ipv4Piece}
-use Rattle.ip_packet.specs.declared.ipv4.Ipv4Repr.{Ipv4Repr}
-use Rattle.ip_packet.specs.declared.ipv6.Ipv6Repr.{Ipv6Repr}
+use Rattle.ip_packet.specs.declared.ipv4.piece.Ipv4Piece.{Ipv4Piece}
+use Rattle.ip_packet.specs.declared.ipv4.repr.Ipv4Repr.{Ipv4Repr}
+use Rattle.ip_packet.specs.declared.ipv6.repr.Ipv6Repr.{Ipv6Repr}
 use Rattle.ip_packet.proofs.Ipv4Laws as V4
 use Rattle.ip_packet.proofs.Ipv6Laws as V6
 use Rattle.ip_packet.proofs.Runs.{part, numbered}

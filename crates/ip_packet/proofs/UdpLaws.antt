@@ -1,5 +1,5 @@
 -- A datagram and what spells it.
-use Rattle.std.proofs.Common.{◌≡◌, ◌≤◌, ℕ, ◌+◌, ◌<◌, ◌^◌, Bool, true, false, IsTrue, List, ◌++◌, length, get_or, drop, refl, sym, ◌∙◌, subst, inr, arith, length-append}
+use Rattle.std.proofs.Common.{◌≡◌, ◌≤◌, ℕ, ◌+◌, ◌-◌, ◌<◌, ◌^◌, Bool, true, false, IsTrue, List, ◌++◌, length, get_or, drop, refl, sym, ◌∙◌, subst, inr, arith, length-append}
 use Rattle.std.proofs.lemmas.List.{take_at}
 use Rattle.ip_address.specs.Address.{version_of}
 use Rattle.ip_address.specs.Fields.{be16, IsBytes}
@@ -7,7 +7,7 @@ use Rattle.ip_address.specs.Sum.{word_sum, ChecksumHolds}
 use Rattle.ip_address.specs.declared.ip.IpAddress.{IpAddress}
 use Rattle.ip_address.specs.Pseudo.{covered}
 use Rattle.ip_packet.specs.Udp.{IsUdp, IsWhole, IsAccepted, Fits, spelling, written, payload_of, datagram_of, nonzero_complement}
-use Rattle.ip_packet.specs.declared.udp.UdpRepr.{UdpRepr}
+use Rattle.ip_packet.specs.declared.udp.repr.UdpRepr.{UdpRepr}
 use Rattle.ip_packet.proofs.CoveredSums.{ChecksumHolds-nonzero_complement, nonzero_complement-small}
 use Rattle.ip_address.proofs.Peel.{peel16, peel_to, length-slice_range}
 
@@ -92,3 +92,8 @@ fits source destination tested bytes v family small is =
         nonzero = λ none. is.accepted (sym is.destination_port ∙ none);
       },
     )
+
+-- and so is its payload
+pub payload_of-written : (source destination : IpAddress) (sealed : Bool) (v : UdpRepr) (payload rest : List ℕ) → Fits source destination payload → payload_of (written source destination sealed v payload ++ rest) ≡ payload
+payload_of-written source destination sealed v payload rest fits =
+    take_at payload rest (be16 (written source destination sealed v payload ++ rest) 4 - 8) (omega (arith, fits.len))

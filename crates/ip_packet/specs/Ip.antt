@@ -7,8 +7,8 @@ use Rattle.ip_address.specs.declared.ip.IpVersion.{IpVersion}
 use Rattle.ip_address.specs.declared.ip.IpVersion.TheVariants as Version
 use Rattle.ip_packet.specs.Ipv4 as Ipv4
 use Rattle.ip_packet.specs.Ipv6 as Ipv6
-use Rattle.ip_packet.specs.declared.ip.IpRepr.{IpRepr}
-use Rattle.ip_packet.specs.declared.ip.IpRepr.TheVariants as Ip
+use Rattle.ip_packet.specs.declared.ip.repr.IpRepr.{IpRepr}
+use Rattle.ip_packet.specs.declared.ip.repr.IpRepr.TheVariants as Ip
 
 -- the family
 abbrev pub version_in : IpRepr → IpVersion

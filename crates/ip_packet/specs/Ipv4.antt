@@ -11,10 +11,10 @@ use Rattle.ip_address.specs.Protocol.{protocol_number, protocol_of}
 use Rattle.ip_address.specs.Sum.{word_sum, ChecksumHolds, complement}
 use Rattle.ip_address.specs.declared.ipv4.Ipv4FragKey.{Ipv4FragKey}
 use Rattle.ip_packet.specs.Parts.{has_flag}
-use Rattle.ip_packet.specs.declared.ipv4.Ipv4Packet.{Ipv4Packet}
-use Rattle.ip_packet.specs.declared.ipv4.Ipv4PacketMut.{Ipv4PacketMut}
-use Rattle.ip_packet.specs.declared.ipv4.Ipv4Piece.{Ipv4Piece}
-use Rattle.ip_packet.specs.declared.ipv4.Ipv4Repr.{Ipv4Repr}
+use Rattle.ip_packet.specs.declared.ipv4.packet.Ipv4Packet.{Ipv4Packet}
+use Rattle.ip_packet.specs.declared.ipv4.packet_mut.Ipv4PacketMut.{Ipv4PacketMut}
+use Rattle.ip_packet.specs.declared.ipv4.piece.Ipv4Piece.{Ipv4Piece}
+use Rattle.ip_packet.specs.declared.ipv4.repr.Ipv4Repr.{Ipv4Repr}
 
 -- the bytes that a view reads
 abbrev pub bytes_of : Ipv4Packet → List ℕ

@@ -7,9 +7,9 @@ use Rattle.std.specs.Borrow.{GName}
 use Rattle.ip_address.specs.Address.{IsIpv6Address}
 use Rattle.ip_address.specs.Fields.{be16, be32}
 use Rattle.ip_address.specs.Protocol.{protocol_number, protocol_of}
-use Rattle.ip_packet.specs.declared.ipv6.Ipv6Packet.{Ipv6Packet}
-use Rattle.ip_packet.specs.declared.ipv6.Ipv6PacketMut.{Ipv6PacketMut}
-use Rattle.ip_packet.specs.declared.ipv6.Ipv6Repr.{Ipv6Repr}
+use Rattle.ip_packet.specs.declared.ipv6.packet.Ipv6Packet.{Ipv6Packet}
+use Rattle.ip_packet.specs.declared.ipv6.packet_mut.Ipv6PacketMut.{Ipv6PacketMut}
+use Rattle.ip_packet.specs.declared.ipv6.repr.Ipv6Repr.{Ipv6Repr}
 
 -- the bytes that a view reads
 abbrev pub bytes_of : Ipv6Packet → List ℕ

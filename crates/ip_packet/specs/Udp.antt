@@ -9,9 +9,9 @@ use Rattle.ip_address.specs.Sum.{ChecksumHolds, complement}
 use Rattle.ip_address.specs.declared.ip.IpAddress.{IpAddress}
 use Rattle.ip_address.specs.declared.ip.IpAddress.TheVariants as Ip
 use Rattle.ip_address.specs.Pseudo.{covered}
-use Rattle.ip_packet.specs.declared.udp.UdpPacket.{UdpPacket}
-use Rattle.ip_packet.specs.declared.udp.UdpPacketMut.{UdpPacketMut}
-use Rattle.ip_packet.specs.declared.udp.UdpRepr.{UdpRepr}
+use Rattle.ip_packet.specs.declared.udp.packet.UdpPacket.{UdpPacket}
+use Rattle.ip_packet.specs.declared.udp.packet_mut.UdpPacketMut.{UdpPacketMut}
+use Rattle.ip_packet.specs.declared.udp.repr.UdpRepr.{UdpRepr}
 
 -- the bytes that a view reads
 abbrev pub bytes_of : UdpPacket → List ℕ

@@ -5,8 +5,7 @@ pub mod ip;
 pub mod ipv4;
 pub mod ipv6;
 mod parts;
-pub mod quoted;
-mod sealed;
+mod pseudo_sums;
 pub mod udp;
 
 pub use ip::IpRepr;
@@ -17,6 +16,3 @@ pub use udp::{UdpPacket, UdpPacketMut, UdpRepr};
 
 /// The places of a field in a header.
 pub type Field = Range<usize>;
-
-#[cfg(test)]
-mod tests;

@@ -1,3 +1,5 @@
+pub mod Borrowed
+pub mod Equal
 pub mod Grammar
 pub mod Headers
 pub mod Kept

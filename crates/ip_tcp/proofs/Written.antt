@@ -11,7 +11,8 @@ use Rattle.ip_address.specs.declared.seq_number.SeqNumber.{SeqNumber}
 use Rattle.ip_tcp.proofs.Sent.{Says-area}
 use Rattle.ip_tcp.specs.Control.{control_of, control_bits}
 use Rattle.ip_tcp.specs.Options.{Says, no_options, options_area, options_room, options_bytes, permitted_options, range_options, sack_options, size_options, scale_options, stamp_options, padded, sent_bytes, normal_options}
-use Rattle.ip_tcp.specs.Tcp.{IsTcp, IsChecked, IsValue, IsAck, covered, spelling, fixed_fields, sent_fields, written, header_len_of, options_of, payload_of, acknowledges, sent_ack, normal}
+use Rattle.ip_address.specs.Pseudo.{covered}
+use Rattle.ip_tcp.specs.Tcp.{IsTcp, IsChecked, IsValue, IsAck, spelling, fixed_fields, sent_fields, written, header_len_of, options_of, payload_of, acknowledges, sent_ack, normal}
 use Rattle.ip_tcp.specs.declared.control.TcpControl.{TcpControl}
 use Rattle.ip_tcp.specs.declared.control.TcpControl.TheVariants as Control
 use Rattle.ip_tcp.specs.declared.header.TcpHeader.{TcpHeader}
@@ -95,9 +96,9 @@ word_sum-check v payload check small = omega arith
 -- a segment whose checksum was written holds it
 IsChecked-written : (source destination : IpAddress) (v : TcpHeader) (payload : List ℕ) → IsChecked source destination (written source destination true v payload)
 IsChecked-written source destination v payload =
-    let total : ℕ = covered source destination (spelling v 0 payload) in
+    let total : ℕ = covered source destination 6 (spelling v 0 payload) in
     let sums : word_sum (spelling v (65535 - folded total) payload) ≡ word_sum (spelling v 0 payload) + (65535 - folded total) = word_sum-check v payload (65535 - folded total) (omega arith) in
-    let same : covered source destination (written source destination true v payload) ≡ total + (65535 - folded total) = omega (arith, sums) in
+    let same : covered source destination 6 (written source destination true v payload) ≡ total + (65535 - folded total) = omega (arith, sums) in
     subst ChecksumHolds (sym same) (ChecksumHolds-complement total)
 
 -- a segment that was written up to its checksum is read back
@@ -129,7 +130,7 @@ pub IsTcp-written : (source destination : IpAddress) (tested sealed : Bool) (v :
     → IsTcp source destination tested (written source destination sealed v payload) (normal v)
 IsTcp-written source destination tested false v payload value both = IsTcp-spelling source destination tested v payload 0 value (λ t. absurd (cc (both t)))
 IsTcp-written source destination tested true v payload value both =
-    IsTcp-spelling source destination tested v payload (65535 - folded (covered source destination (spelling v 0 payload))) value (λ _. IsChecked-written source destination v payload)
+    IsTcp-spelling source destination tested v payload (65535 - folded (covered source destination 6 (spelling v 0 payload))) value (λ _. IsChecked-written source destination v payload)
 
 -- what it carries is the payload
 payload_of-spelling : (v : TcpHeader) (payload : List ℕ) (check : ℕ) → payload_of (spelling v check payload) ≡ payload
@@ -142,4 +143,4 @@ payload_of-spelling v payload check =
 
 pub payload_of-written : (source destination : IpAddress) (sealed : Bool) (v : TcpHeader) (payload : List ℕ) → payload_of (written source destination sealed v payload) ≡ payload
 payload_of-written source destination false v payload = payload_of-spelling v payload 0
-payload_of-written source destination true v payload = payload_of-spelling v payload (65535 - folded (covered source destination (spelling v 0 payload)))
+payload_of-written source destination true v payload = payload_of-spelling v payload (65535 - folded (covered source destination 6 (spelling v 0 payload)))

@@ -11,11 +11,11 @@ use Rattle.ip_tcp.specs.Options.{OptionValue, EndOfList, NoOperation, MaxSegment
 abbrev pub inside : ℕ → List ℕ → Option OptionValue
 inside kind inner =
     if kind == 2 then (if length inner == 2 then Some (MaxSegmentSize (be16 inner 0)) else None)
-    else (if kind == 3 then (if length inner == 1 then Some (WindowScale (slice_index inner 0)) else None)
-    else (if kind == 4 then (if length inner == 0 then Some SackPermitted else None)
-    else (if kind == 5 then (if length inner % 8 == 0 then Some (SackRange (ranges_of inner)) else None)
-    else (if kind == 8 then (if length inner == 8 then Some (TimeStamp (be32 inner 0) (be32 inner 4)) else None)
-    else Some (Unknown kind inner)))))
+    else if kind == 3 then (if length inner == 1 then Some (WindowScale (slice_index inner 0)) else None)
+    else if kind == 4 then (if length inner == 0 then Some SackPermitted else None)
+    else if kind == 5 then (if length inner % 8 == 0 then Some (SackRange (ranges_of inner)) else None)
+    else if kind == 8 then (if length inner == 8 then Some (TimeStamp (be32 inner 0) (be32 inner 4)) else None)
+    else Some (Unknown kind inner)
 
 -- an option, and the bytes behind it
 pub record First : Type 0 where
@@ -38,7 +38,8 @@ abbrev pub first_option : List ℕ → Option First
 first_option [] = None
 first_option (kind ∷ rest) =
     if kind == 0 then Some (record { option = EndOfList; rest = rest })
-    else (if kind == 1 then Some (record { option = NoOperation; rest = rest }) else first_long (kind ∷ rest) (slice_index rest 0))
+    else if kind == 1 then Some (record { option = NoOperation; rest = rest })
+    else first_long (kind ∷ rest) (slice_index rest 0)
 
 -- whether no option follows this one
 abbrev pub is_end : OptionValue → Bool

@@ -7,8 +7,8 @@ use Rattle.std.specs.Int.{w16, w32, to_be_bytes}
 use Rattle.std.specs.Borrow.{GName}
 use Rattle.ip_address.specs.Address.{version_of}
 use Rattle.ip_address.specs.Fields.{be16, be32, put8, put16}
-use Rattle.ip_address.specs.Pseudo.{pseudo_of}
-use Rattle.ip_address.specs.Sum.{word_sum, ChecksumHolds, complement}
+use Rattle.ip_address.specs.Pseudo.{covered}
+use Rattle.ip_address.specs.Sum.{ChecksumHolds, complement}
 use Rattle.ip_address.specs.declared.ip.IpAddress.{IpAddress}
 use Rattle.ip_address.specs.declared.seq_number.SeqNumber.{SeqNumber}
 use Rattle.ip_tcp.specs.Control.{control_of, control_bits, is_quiet}
@@ -72,18 +72,14 @@ abbrev pub sequence_len : List ℕ → ℕ
 sequence_len bytes =
     length (payload_of bytes) + count_of (flag bytes 13 2) + count_of (flag bytes 13 1)
 
--- the word sum of the pseudo header and the segment
-abbrev pub covered : IpAddress → IpAddress → List ℕ → ℕ
-covered source destination bytes = word_sum (pseudo_of source destination 6 (length bytes)) + word_sum bytes
-
 -- the checksum holds
 abbrev pub IsChecked : IpAddress → IpAddress → List ℕ → Type 0
-IsChecked source destination bytes = ChecksumHolds (covered source destination bytes)
+IsChecked source destination bytes = ChecksumHolds (covered source destination 6 bytes)
 
 -- the bytes with the segment's checksum in its field
 abbrev pub with_checksum : IpAddress → IpAddress → List ℕ → List ℕ
 with_checksum source destination bytes =
-    put16 bytes 16 (complement (covered source destination (put16 bytes 16 0)))
+    put16 bytes 16 (complement (covered source destination 6 (put16 bytes 16 0)))
 
 -- what the flags of the segment say, if it has not two of SYN, FIN and RST
 abbrev pub control_in : List ℕ → Option TcpControl
@@ -197,7 +193,7 @@ spelling v check payload =
 -- what is sent: with a checksum that holds, or with 0
 abbrev pub written : IpAddress → IpAddress → Bool → TcpHeader → List ℕ → List ℕ
 written source destination sealed v payload =
-    spelling v (if sealed then complement (covered source destination (spelling v 0 payload)) else 0) payload
+    spelling v (if sealed then complement (covered source destination 6 (spelling v 0 payload)) else 0) payload
 
 -- what can be sent: header and segment fit their length fields, and the addresses are of one family
 pub record Fits (source destination : IpAddress) (v : TcpHeader) (payload : List ℕ) : Type 0 where

@@ -4,7 +4,8 @@ ghost use Rattle.ip_address.specs.Address.{version_of};
 ghost use Rattle.net_devices.specs.Capabilities.{verifies, computes};
 ghost use Rattle.ip_address.specs.Fields.{put16};
 ghost use Rattle.ip_address.specs.Sum.{folded, complement};
-ghost use Rattle.ip_tcp.specs.Tcp.{IsTcp, IsWhole, Fits, bytes_of, bytes_in, name_of, acknowledged, acknowledges, sent_ack, sent_flags, covered, header_len, fixed_fields, sent_fields, spelling, written};
+ghost use Rattle.ip_address.specs.Pseudo.{covered};
+ghost use Rattle.ip_tcp.specs.Tcp.{IsTcp, IsWhole, Fits, bytes_of, bytes_in, name_of, acknowledged, acknowledges, sent_ack, sent_flags, header_len, fixed_fields, sent_fields, spelling, written};
 ghost use Rattle.ip_tcp.specs.declared.header.TcpHeader.{TcpHeader};
 
 use crate::control::TcpControl;
@@ -189,7 +190,7 @@ fn seal(bytes: &mut [u8], source: &IpAddress, destination: &IpAddress)
     requires fits { length bytes.old < 2 ^ 16 }
     requires family { version_of source.now ≡ version_of destination.now }
     ensures { bytes.new
-        ≡ put16 bytes.old 16 (complement (covered source.now destination.now bytes.old)) }
+        ≡ put16 bytes.old 16 (complement (covered source.now destination.now 6 bytes.old)) }
 {
     let sum = TcpPacket::new_unchecked(bytes).sum(source, destination);
     write_u16(bytes, field::CHECKSUM.start, 0xffff - sum);

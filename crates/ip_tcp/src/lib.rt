@@ -10,8 +10,6 @@ mod option;
 mod packet;
 mod packet_mut;
 mod repr;
-#[cfg(test)]
-mod tests;
 mod timestamp;
 
 pub use control::TcpControl;

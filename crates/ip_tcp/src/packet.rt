@@ -3,7 +3,8 @@ ghost use Rattle.std.specs.Prelude.{◌≡◌, ◌==◌, ◌↔◌, ℕ, ◌+◌
 ghost use Rattle.ip_address.specs.Address.{version_of};
 ghost use Rattle.ip_address.specs.Fields.{be16, be32};
 ghost use Rattle.ip_address.specs.Sum.{folded};
-ghost use Rattle.ip_tcp.specs.Tcp.{IsWhole, IsChecked, HasOptions, bytes_of, flag, header_len_of, options_of, payload_of, covered, sequence_len};
+ghost use Rattle.ip_address.specs.Pseudo.{covered};
+ghost use Rattle.ip_tcp.specs.Tcp.{IsWhole, IsChecked, HasOptions, bytes_of, flag, header_len_of, options_of, payload_of, sequence_len};
 ghost use Rattle.ip_tcp.specs.declared.option.TcpOptions.{TcpOptions};
 
 use crate::field;
@@ -254,7 +255,7 @@ impl<'a> TcpPacket<'a> {
     pub(crate) fn sum(&self, source: &IpAddress, destination: &IpAddress) -> u16
         requires family { version_of source.now ≡ version_of destination.now }
         requires fits { length (bytes_of self.now) < 2 ^ 16 }
-        ensures { result ≡ folded (covered source.now destination.now (bytes_of self.now)) }
+        ensures { result ≡ folded (covered source.now destination.now 6 (bytes_of self.now)) }
     {
         let length = self.buffer.len() as u32;
         let header = checksum::pseudo_header(source, destination, IpProtocol::Tcp, length);

@@ -3,7 +3,8 @@ ghost use Rattle.std.specs.Prelude.{◌≡◌, ◌==◌, ◌↔◌, ℕ, ◌+◌
 ghost use Rattle.ip_address.specs.Address.{version_of};
 ghost use Rattle.ip_address.specs.Fields.{be16, be32, put8, put16, put32};
 ghost use Rattle.ip_address.specs.Sum.{folded};
-ghost use Rattle.ip_tcp.specs.Tcp.{IsWhole, IsChecked, HasOptions, bytes_in, name_of, flag, put_flag, header_len_of, options_of, payload_of, covered, sequence_len, with_checksum};
+ghost use Rattle.ip_address.specs.Pseudo.{covered};
+ghost use Rattle.ip_tcp.specs.Tcp.{IsWhole, IsChecked, HasOptions, bytes_in, name_of, flag, put_flag, header_len_of, options_of, payload_of, sequence_len, with_checksum};
 ghost use Rattle.ip_tcp.specs.declared.option.TcpOptions.{TcpOptions};
 
 use crate::field;
@@ -238,7 +239,7 @@ impl<'a> TcpPacketMut<'a> {
     fn sum(&self, source: &IpAddress, destination: &IpAddress) -> u16
         requires family { version_of source.now ≡ version_of destination.now }
         requires fits { length (bytes_in self.now) < 2 ^ 16 }
-        ensures { result ≡ folded (covered source.now destination.now (bytes_in self.now)) }
+        ensures { result ≡ folded (covered source.now destination.now 6 (bytes_in self.now)) }
     {
         TcpPacket::new_unchecked(self.buffer).sum(source, destination)
     }

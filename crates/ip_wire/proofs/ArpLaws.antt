@@ -3,8 +3,8 @@ use Rattle.std.proofs.Common.{◌≡◌, ℕ, ◌+◌, ◌*◌, ◌/◌, ◌%◌
 use Rattle.std.proofs.lemmas.List.{take_at, drop_at, drop-drop}
 use Rattle.ip_address.specs.Fields.{be16, IsBytes}
 use Rattle.ip_wire.specs.Arp.{IsArp, IsValue, written, normal, operation_number, operation_of}
-use Rattle.ip_wire.specs.declared.arp.ArpRepr.{ArpRepr}
-use Rattle.ip_wire.specs.declared.arp.ArpRepr.TheVariants as Arp
+use Rattle.ip_wire.specs.declared.arp.repr.ArpRepr.{ArpRepr}
+use Rattle.ip_wire.specs.declared.arp.repr.ArpRepr.TheVariants as Arp
 use Rattle.ip_address.proofs.Peel.{peel8, peel16, peel_to}
 use Rattle.ip_packet.proofs.Runs.{part, named-again}
 use Rattle.ip_wire.proofs.Numbers.{operation_number-operation_of}

@@ -5,7 +5,7 @@ use Rattle.std.specs.Int.{w16, to_be_bytes}
 use Rattle.ip_address.specs.Fields.{be16, IsBytes}
 use Rattle.ip_address.specs.Protocol.{ether_number, ether_of}
 use Rattle.ip_wire.specs.Ethernet.{IsEthernet, IsWhole, IsValue, written, normal}
-use Rattle.ip_wire.specs.declared.ethernet.EthernetRepr.{EthernetRepr}
+use Rattle.ip_wire.specs.declared.ethernet.repr.EthernetRepr.{EthernetRepr}
 use Rattle.ip_address.proofs.Peel.{peel16, peel_to}
 use Rattle.ip_address.proofs.Numbers.{ether_number-ether_of}
 use Rattle.ip_packet.proofs.Runs.{part, named-again}

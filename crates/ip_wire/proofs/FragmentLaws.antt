@@ -5,7 +5,7 @@ use Rattle.std.proofs.lemmas.Bool.{eq-eqb, ne_eqb}
 use Rattle.std.proofs.lemmas.Bool.Decides.{eqb_tells}
 use Rattle.ip_address.specs.Fields.{be16, IsBytes}
 use Rattle.ip_wire.specs.Fragment.{IsFragment, IsWhole, IsValue, spelling, written, normal, reserved_of}
-use Rattle.ip_wire.specs.declared.ipv6_fragment.Ipv6FragmentRepr.{Ipv6FragmentRepr}
+use Rattle.ip_wire.specs.declared.ipv6_fragment.repr.Ipv6FragmentRepr.{Ipv6FragmentRepr}
 use Rattle.ip_address.proofs.Peel.{peel16, peel32}
 
 -- a flag as a number is the bit that it was read from

@@ -2,7 +2,7 @@
 use Rattle.std.proofs.Common.{◌≡◌, ℕ, refl}
 use Rattle.ip_address.proofs.Numbers.{step}
 use Rattle.ip_wire.specs.Arp.{operation_number, operation_of}
-use Rattle.ip_wire.specs.declared.arp.ArpOperation.TheVariants as Operation
+use Rattle.ip_wire.specs.declared.arp.kinds.ArpOperation.TheVariants as Operation
 
 -- the operation of a number has that number
 pub operation_number-operation_of : (n : ℕ) → operation_number (operation_of n) ≡ n

@@ -7,14 +7,14 @@ use Rattle.ip_address.specs.Address.{IsEthernetAddress, IsIpv4Address}
 use Rattle.ip_address.specs.Fields.{be16}
 use Rattle.ip_address.specs.declared.ethernet.EthernetAddress.{EthernetAddress}
 use Rattle.ip_address.specs.declared.ipv4.Ipv4Address.{Ipv4Address}
-use Rattle.ip_wire.specs.declared.arp.ArpHardware.{ArpHardware}
-use Rattle.ip_wire.specs.declared.arp.ArpHardware.TheVariants as Hardware
-use Rattle.ip_wire.specs.declared.arp.ArpOperation.{ArpOperation}
-use Rattle.ip_wire.specs.declared.arp.ArpOperation.TheVariants as Operation
-use Rattle.ip_wire.specs.declared.arp.ArpPacket.{ArpPacket}
-use Rattle.ip_wire.specs.declared.arp.ArpPacketMut.{ArpPacketMut}
-use Rattle.ip_wire.specs.declared.arp.ArpRepr.{ArpRepr}
-use Rattle.ip_wire.specs.declared.arp.ArpRepr.TheVariants as Arp
+use Rattle.ip_wire.specs.declared.arp.kinds.ArpHardware.{ArpHardware}
+use Rattle.ip_wire.specs.declared.arp.kinds.ArpHardware.TheVariants as Hardware
+use Rattle.ip_wire.specs.declared.arp.kinds.ArpOperation.{ArpOperation}
+use Rattle.ip_wire.specs.declared.arp.kinds.ArpOperation.TheVariants as Operation
+use Rattle.ip_wire.specs.declared.arp.packet.ArpPacket.{ArpPacket}
+use Rattle.ip_wire.specs.declared.arp.packet_mut.ArpPacketMut.{ArpPacketMut}
+use Rattle.ip_wire.specs.declared.arp.repr.ArpRepr.{ArpRepr}
+use Rattle.ip_wire.specs.declared.arp.repr.ArpRepr.TheVariants as Arp
 
 -- the number of a kind of hardware addresses
 abbrev pub hardware_number : ArpHardware → ℕ
@@ -33,7 +33,7 @@ operation_number (Operation.Unknown n) = n
 
 -- the operation of this number
 abbrev pub operation_of : ℕ → ArpOperation
-operation_of n = if n == 1 then Operation.Request else (if n == 2 then Operation.Reply else Operation.Unknown n)
+operation_of n = if n == 1 then Operation.Request else if n == 2 then Operation.Reply else Operation.Unknown n
 
 -- the bytes that a view reads
 abbrev pub bytes_of : ArpPacket → List ℕ

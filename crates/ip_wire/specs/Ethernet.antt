@@ -6,9 +6,9 @@ use Rattle.std.specs.Borrow.{GName}
 use Rattle.ip_address.specs.Address.{IsEthernetAddress}
 use Rattle.ip_address.specs.Fields.{be16}
 use Rattle.ip_address.specs.Protocol.{ether_number, ether_of}
-use Rattle.ip_wire.specs.declared.ethernet.EthernetFrame.{EthernetFrame}
-use Rattle.ip_wire.specs.declared.ethernet.EthernetFrameMut.{EthernetFrameMut}
-use Rattle.ip_wire.specs.declared.ethernet.EthernetRepr.{EthernetRepr}
+use Rattle.ip_wire.specs.declared.ethernet.packet.EthernetFrame.{EthernetFrame}
+use Rattle.ip_wire.specs.declared.ethernet.packet_mut.EthernetFrameMut.{EthernetFrameMut}
+use Rattle.ip_wire.specs.declared.ethernet.repr.EthernetRepr.{EthernetRepr}
 
 -- the bytes that a view reads
 abbrev pub bytes_of : EthernetFrame → List ℕ

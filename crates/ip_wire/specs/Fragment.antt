@@ -4,9 +4,9 @@ use Rattle.std.specs.Prelude.{◌≡◌, ℕ, ◌+◌, ◌*◌, ◌/◌, ◌%◌
 use Rattle.std.specs.Int.{w16, w32, to_be_bytes}
 use Rattle.std.specs.Borrow.{GName}
 use Rattle.ip_address.specs.Fields.{be16, be32}
-use Rattle.ip_wire.specs.declared.ipv6_fragment.Ipv6FragmentHeader.{Ipv6FragmentHeader}
-use Rattle.ip_wire.specs.declared.ipv6_fragment.Ipv6FragmentHeaderMut.{Ipv6FragmentHeaderMut}
-use Rattle.ip_wire.specs.declared.ipv6_fragment.Ipv6FragmentRepr.{Ipv6FragmentRepr}
+use Rattle.ip_wire.specs.declared.ipv6_fragment.packet.Ipv6FragmentHeader.{Ipv6FragmentHeader}
+use Rattle.ip_wire.specs.declared.ipv6_fragment.packet_mut.Ipv6FragmentHeaderMut.{Ipv6FragmentHeaderMut}
+use Rattle.ip_wire.specs.declared.ipv6_fragment.repr.Ipv6FragmentRepr.{Ipv6FragmentRepr}
 
 -- the bytes that a view reads
 abbrev pub bytes_of : Ipv6FragmentHeader → List ℕ

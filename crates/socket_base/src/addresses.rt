@@ -5,7 +5,6 @@ ghost use Rattle.socket_base.specs.Addresses.{is_unspecified, is_multicast, is_s
 use ip_wire::IpAddress;
 
 /// Whether this is the unspecified address of its family.
-#[tactic(auto, using(crate::proofs::Decided::unspecified))]
 pub fn is_unspecified(address: &IpAddress) -> bool
     ensures { result ≡ is_unspecified address.now }
 {
@@ -13,7 +12,6 @@ pub fn is_unspecified(address: &IpAddress) -> bool
 }
 
 /// Whether this is the address of a group.
-#[tactic(auto, using(crate::proofs::Decided::multicast))]
 pub fn is_multicast(address: &IpAddress) -> bool
     ensures { result ≡ is_multicast address.now }
 {

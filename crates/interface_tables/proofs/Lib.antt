@@ -1,0 +1,4 @@
+pub mod BestOf
+pub mod Orders
+pub mod Rebuilt
+pub mod Renewed

@@ -1,0 +1,116 @@
+-- Datagrams that are put together from their pieces (RFC 791, section 3.2; RFC 815): what a slot holds of one datagram, and
+-- what a piece makes of it.
+use Rattle.std.specs.Prelude.{ℕ, ◌+◌, ◌==◌, nat_le, ◌&&◌, ◌||◌, Bool, true, false, if◌then◌else◌, ℤ, pos, List, [], ◌++◌, length, take, drop, position, replicate, Option, None, Some, is_none, refl}
+use Rattle.std.specs.Coded.{Coded, code_by, coded×, coded_list, coded_option, coded_ℕ, coded_ℤ}
+use Rattle.net_containers.specs.Assembler.{added, front}
+
+-- `key` says of which datagram the pieces are, and none does where the slot is free; `bytes` are the slot's bytes, of which
+-- those in `runs` came; `total` is the datagram's length, once its last piece came; the slot is given up after `expires`.
+pub record SlotValue (K : Type 0) : Type 0 where
+  pub key : Option K
+  pub bytes : List ℕ
+  pub runs : List (ℕ × ℕ)
+  pub total : Option ℕ
+  pub expires : ℤ
+
+-- TOTALS, BYTES AND RUNS
+
+-- the datagram can have this length: it fits, and no other length is known
+abbrev pub is_known_as : Option ℕ → ℕ → Bool
+is_known_as None size = true
+is_known_as (Some total) size = total == size
+
+-- the bytes with a piece written over them
+abbrev pub overwritten : List ℕ → ℕ → List ℕ → List ℕ
+overwritten bytes offset piece = take offset bytes ++ piece ++ drop (offset + length piece) bytes
+
+-- the runs with the places of a piece, where they aren't more than an assembler keeps
+abbrev pub marked : ℕ → List (ℕ × ℕ) → ℕ → ℕ → List (ℕ × ℕ)
+marked holes runs offset size = if nat_le (length (added runs offset size)) holes then added runs offset size else runs
+
+-- the datagram ends here
+abbrev pub ends_at : Option ℕ → ℕ → Bool
+ends_at None size = false
+ends_at (Some total) size = total == size
+
+abbrev pub or_else : Option ℕ → Option ℕ → Option ℕ
+or_else (Some i) other = Some i
+or_else None other = other
+
+module _ {K : Type 0} where
+  abbrev pub slot : Option K → List ℕ → List (ℕ × ℕ) → Option ℕ → ℤ → SlotValue K
+  slot key bytes runs total expires =
+      record { key = key; bytes = bytes; runs = runs; total = total; expires = expires }
+
+  abbrev pub slot_code : Coded K → Coded (SlotValue K)
+  slot_code c =
+      code_by (Option K × (List ℕ × (List (ℕ × ℕ) × (Option ℕ × ℤ)))) (coded× (coded_option c) (coded× (coded_list coded_ℕ) (coded× (coded_list (coded× coded_ℕ coded_ℕ)) (coded× (coded_option coded_ℕ) coded_ℤ)))) (λ s. (s.key, (s.bytes, (s.runs, (s.total, s.expires))))) (λ p. slot p.0 p.1.0 p.1.1.0 p.1.1.1.0 p.1.1.1.1) (λ _. refl)
+
+  -- a slot that nothing came into
+  abbrev pub fresh : ℕ → SlotValue K
+  fresh size = slot None (replicate size 0) [] None (pos 0)
+
+  -- a free slot; its bytes don't count
+  abbrev pub freed : SlotValue K → SlotValue K
+  freed s = slot None s.bytes [] None (pos 0)
+
+  -- a free slot that a datagram takes
+  abbrev pub taken : K → ℤ → SlotValue K → SlotValue K
+  taken key expires s = slot (Some key) s.bytes [] None expires
+
+  -- ONE PIECE
+
+  abbrev pub takes_total : SlotValue K → ℕ → Bool
+  takes_total s size = is_known_as s.total size && nat_le size (length s.bytes)
+
+  abbrev pub with_total : SlotValue K → ℕ → SlotValue K
+  with_total s size = if takes_total s size then record s { total = Some size } else s
+
+  abbrev pub takes_piece : SlotValue K → List ℕ → ℕ → Bool
+  takes_piece s piece offset = nat_le (offset + length piece) (length s.bytes)
+
+  -- A piece is written over what came before. Where it would leave too many runs it isn't marked: it has to come again.
+  abbrev pub with_piece : ℕ → SlotValue K → List ℕ → ℕ → SlotValue K
+  with_piece holes s piece offset =
+      if takes_piece s piece offset
+      then record s { bytes = overwritten s.bytes offset piece; runs = marked holes s.runs offset (length piece) }
+      else s
+
+  -- the last piece says where the datagram ends; the piece is dropped where it can't end there
+  abbrev pub takes_end : SlotValue K → List ℕ → ℕ → Bool → Bool
+  takes_end s piece offset more = more || takes_total s (offset + length piece)
+
+  abbrev pub is_placed : SlotValue K → List ℕ → ℕ → Bool → Bool
+  is_placed s piece offset more = takes_end s piece offset more && takes_piece s piece offset
+
+  abbrev pub with_end : SlotValue K → List ℕ → ℕ → Bool → SlotValue K
+  with_end s piece offset more = if more then s else with_total s (offset + length piece)
+
+  abbrev pub placed : ℕ → SlotValue K → List ℕ → ℕ → Bool → SlotValue K
+  placed holes s piece offset more =
+      if takes_end s piece offset more then with_piece holes (with_end s piece offset more) piece offset else s
+
+  -- WHOLE DATAGRAMS
+
+  -- every byte from the first to the last came
+  abbrev pub is_complete : SlotValue K → Bool
+  is_complete s = ends_at s.total (front s.runs)
+
+  abbrev pub completed : SlotValue K → Option (List ℕ)
+  completed s = if is_complete s then Some (take (front s.runs) s.bytes) else None
+
+  -- SLOTS, each of another datagram
+
+  abbrev pub is_free : SlotValue K → Bool
+  is_free s = is_none s.key
+
+  abbrev pub is_key : (K → K → Bool) → Option K → K → Bool
+  is_key same None key = false
+  is_key same (Some held) key = same held key
+
+  abbrev pub is_of : (K → K → Bool) → K → SlotValue K → Bool
+  is_of same key s = is_key same s.key key
+
+  -- the slot for a datagram's pieces: its own, else the first free one
+  abbrev pub place_for : (K → K → Bool) → List (SlotValue K) → K → Option ℕ
+  place_for same slots key = or_else (position (is_of same key) slots) (position is_free slots)

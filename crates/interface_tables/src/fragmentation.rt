@@ -1,0 +1,194 @@
+//! Datagrams that are put together from their pieces (RFC 791, section 3.2; RFC 815).
+ghost use Rattle.std.specs.Prelude.{◌≡◌, ◌+◌, ◌≤◌, ◌↔◌, nat_le, length, IsTrue, is_ok, Some, codes};
+ghost use Rattle.std.specs.Option.{option_copied};
+ghost use Rattle.interface_tables.specs.Reassembly.{is_known_as, overwritten};
+
+use net_base::{Assembler, Instant};
+use std::fmt;
+use std::marker::Model;
+
+/// A piece doesn't fit: it lies past the slot's bytes, or ends the datagram elsewhere than an earlier one.
+#[derive(Clone, Copy, Debug, PartialEq, Eq)]
+pub struct AssemblerError;
+
+impl fmt::Display for AssemblerError {
+    ghost output = { λ _. Some (codes "AssemblerError") };
+
+    fn fmt<W: fmt::Write>(&self, f: &mut fmt::Formatter<W>) -> fmt::Result {
+        write!(f, "AssemblerError")
+    }
+}
+
+impl std::error::Error for AssemblerError {}
+
+/// Each slot holds pieces of another datagram.
+#[derive(Clone, Copy, Debug, PartialEq, Eq)]
+pub struct AssemblerFullError;
+
+impl fmt::Display for AssemblerFullError {
+    ghost output = { λ _. Some (codes "AssemblerFullError") };
+
+    fn fmt<W: fmt::Write>(&self, f: &mut fmt::Formatter<W>) -> fmt::Result {
+        write!(f, "AssemblerFullError")
+    }
+}
+
+impl std::error::Error for AssemblerFullError {}
+
+/// The pieces of one datagram of at most `SIZE` bytes, which are kept in at most `HOLES` runs.
+#[derive(Drop)]
+pub struct PacketAssembler<K, const SIZE: usize, const HOLES: usize> {
+    key: Option<K>,
+    buffer: [u8; SIZE],
+    assembler: Assembler<HOLES>,
+    total_size: Option<usize>,
+    expires_at: Instant,
+}
+
+impl<K, const SIZE: usize, const HOLES: usize> Model for PacketAssembler<K, SIZE, HOLES> {
+    ghost use Rattle.std.specs.Prelude.{◌≤◌};
+    ghost use Rattle.std.specs.Option.{ForSome};
+    ghost use Rattle.interface_tables.specs.Reassembly.{SlotValue, slot, slot_code};
+
+    ghost Value = { SlotValue K };
+
+    ghost coded = { slot_code K.code };
+
+    ghost view = { λ a. slot a.key a.buffer a.assembler a.total_size a.expires_at };
+
+    ghost invariant = { λ a. ForSome a.total_size (λ total. total ≤ SIZE) };
+}
+
+impl<K: Drop, const SIZE: usize, const HOLES: usize> PacketAssembler<K, SIZE, HOLES> {
+    ghost use Rattle.interface_tables.specs.Reassembly.{fresh, freed, takes_total, with_total, takes_piece, with_piece, is_complete, completed, placed, is_placed};
+
+    /// A free slot.
+    pub fn new() -> PacketAssembler<K, SIZE, HOLES>
+        requires { 1 ≤ HOLES }
+        ensures { result ≡ fresh SIZE }
+    {
+        PacketAssembler {
+            key: None,
+            buffer: [0; SIZE],
+            assembler: Assembler::new(),
+            total_size: None,
+            expires_at: Instant::ZERO,
+        }
+    }
+
+    /// Frees the slot.
+    pub fn reset(&mut self)
+        ensures { self.new ≡ freed self.old }
+    {
+        self.key = None;
+        self.assembler.clear();
+        self.total_size = None;
+        self.expires_at = Instant::ZERO;
+    }
+
+    /// Learns the datagram's length, if it fits and no other is known.
+    pub fn set_total_size(&mut self, size: usize) -> Result<(), AssemblerError>
+        ensures after { self.new ≡ with_total self.old size }
+        ensures ok { is_ok result ≡ takes_total self.old size }
+    {
+        if !is_known_as(self.total_size, size) || SIZE < size {
+            return Err(AssemblerError);
+        }
+        self.total_size = Some(size);
+        Ok(())
+    }
+
+    /// Writes a piece over what came before, if it fits. A piece that would leave more than `HOLES` runs is not marked as come.
+    pub fn add(&mut self, piece: &[u8], offset: usize) -> Result<(), AssemblerError>
+        ensures after { self.new ≡ with_piece HOLES self.old piece.now offset }
+        ensures ok { is_ok result ≡ takes_piece self.old piece.now offset }
+    {
+        if !fits(offset, piece.len(), self.buffer.as_slice().len()) {
+            return Err(AssemblerError);
+        }
+        write_at(&mut self.buffer, offset, piece);
+        let _ = self.assembler.add(offset, piece.len());
+        Ok(())
+    }
+
+    /// Takes in a piece, which ends the datagram unless more come behind it.
+    pub fn insert(
+        &mut self,
+        piece: &[u8],
+        offset: usize,
+        more_frags: bool,
+    ) -> Result<(), AssemblerError>
+        ensures after { self.new ≡ placed HOLES self.old piece.now offset more_frags }
+        ensures ok { is_ok result ≡ is_placed self.old piece.now offset more_frags }
+    {
+        if more_frags {
+            return self.add(piece, offset);
+        }
+        if !fits(offset, piece.len(), self.buffer.as_slice().len()) {
+            return Err(AssemblerError);
+        }
+        match self.set_total_size(offset + piece.len()) {
+            Ok(()) => self.add(piece, offset),
+            Err(error) => Err(error),
+        }
+    }
+
+    /// Whether every byte of the datagram came.
+    pub fn is_complete(&self) -> bool
+        ensures { result ≡ is_complete self.now }
+    {
+        match self.total_size {
+            Some(total) => total == self.assembler.peek_front(),
+            None => false,
+        }
+    }
+
+    /// When the slot is given up.
+    pub fn expires_at(&self) -> Instant
+        ensures { result ≡ self.now.expires }
+    {
+        self.expires_at
+    }
+
+    /// The datagram, if every byte of it came.
+    pub fn completed(&self) -> Option<&[u8]>
+        ensures { option_copied result ≡ completed self.now }
+    {
+        if !self.is_complete() {
+            return None;
+        }
+        let bytes: &[u8] = &self.buffer;
+        Some(&bytes[..self.assembler.peek_front()])
+    }
+}
+
+/// Whether the datagram can have this length, by what is known of it.
+fn is_known_as(total: Option<usize>, size: usize) -> bool
+    ensures { result ≡ is_known_as total size }
+{
+    match total {
+        Some(total) => total == size,
+        None => true,
+    }
+}
+
+/// Whether so many bytes from the offset on lie within this many.
+fn fits(offset: usize, len: usize, size: usize) -> bool
+    ensures value { result ≡ nat_le (offset + len) size }
+    ensures fits { IsTrue result → offset + len ≤ size }
+{
+    match offset.checked_add(len) {
+        Some(end) => end <= size,
+        None => false,
+    }
+}
+
+/// Writes a piece over the bytes from the offset on.
+fn write_at(bytes: &mut [u8], offset: usize, piece: &[u8])
+    requires { offset + length piece.now ≤ length bytes.old }
+    ensures { bytes.new ≡ overwritten bytes.old offset piece.now }
+{
+    let (_, rest) = bytes.split_at_mut(offset);
+    let (target, _) = rest.split_at_mut(piece.len());
+    target.copy_from_slice(piece);
+}

@@ -1,0 +1,357 @@
+//! Routes: which router a packet goes to whose destination is in none of the own networks (RFC 1812, section 5.2.4.3).
+ghost use Rattle.std.specs.Prelude.{◌≡◌, ◌≤◌, ◌<◌, ◌↔◌, ◌||◌, nat_lt, [], ◌∷◌, ◌++◌, length, remove, reverse, position, slice_get, replicate, IsTrue, IsOk, IfOk, OnOk, OnErr, IsSome, IfNone, is_some, Some, None, codes};
+ghost use Rattle.std.specs.List.{fold};
+ghost use Rattle.std.specs.Option.{ForSome};
+ghost use Rattle.ip_wire.specs.IpAddress.TheVariants as Address;
+ghost use Rattle.interface_tables.specs.Best.{at_place, first_that, better_of};
+ghost use Rattle.interface_tables.specs.Route.{is_expired, serves, serving, is_longer, best_route, router_of, is_gateway_v4, is_gateway_v6, IsGateway, without_at, without, has_room, IsAdded};
+
+use arrayvec::ArrayVec;
+use ip_wire::{IpAddress, IpCidr, Ipv4Address, Ipv4Cidr, Ipv6Address, Ipv6Cidr};
+use net_base::Instant;
+use socket_base::addresses::are_of_one_family;
+use std::fmt;
+use std::marker::Model;
+
+/// There is no room for another route.
+#[derive(Clone, Copy, Debug, PartialEq, Eq)]
+pub struct RouteTableFull;
+
+impl fmt::Display for RouteTableFull {
+    ghost output = { λ _. Some (codes "Route table full") };
+
+    fn fmt<W: fmt::Write>(&self, f: &mut fmt::Formatter<W>) -> fmt::Result {
+        write!(f, "Route table full")
+    }
+}
+
+impl std::error::Error for RouteTableFull {}
+
+/// A route: packets for this block go to this router.
+#[derive(Clone, Copy, Debug)]
+pub struct Route {
+    pub cidr: IpCidr,
+    pub via_router: IpAddress,
+    /// Kept, and never read. `None` is forever.
+    pub preferred_until: Option<Instant>,
+    /// The last moment at which the route counts. `None` is forever.
+    pub expires_at: Option<Instant>,
+}
+
+impl Route {
+    /// The route of all IPv4 packets to this router, forever.
+    pub fn new_ipv4_gateway(gateway: Ipv4Address) -> Route
+        ensures { IsGateway result (replicate 4 0) (Address.Ipv4 gateway) }
+    {
+        Route {
+            cidr: IpCidr::Ipv4(Ipv4Cidr::new(Ipv4Address::UNSPECIFIED, 0)),
+            via_router: IpAddress::Ipv4(gateway),
+            preferred_until: None,
+            expires_at: None,
+        }
+    }
+
+    /// The route of all IPv6 packets to this router, forever.
+    pub fn new_ipv6_gateway(gateway: Ipv6Address) -> Route
+        ensures { IsGateway result (replicate 16 0) (Address.Ipv6 gateway) }
+    {
+        Route {
+            cidr: IpCidr::Ipv6(Ipv6Cidr::new(Ipv6Address::UNSPECIFIED, 0)),
+            via_router: IpAddress::Ipv6(gateway),
+            preferred_until: None,
+            expires_at: None,
+        }
+    }
+
+    /// Whether this is a route of all IPv4 packets.
+    pub fn is_ipv4_gateway(&self) -> bool
+        ensures { result ≡ is_gateway_v4 self.now }
+    {
+        match &self.cidr {
+            IpCidr::Ipv4(block) => block.address.is_unspecified() && block.prefix_len == 0,
+            IpCidr::Ipv6(_) => false,
+        }
+    }
+
+    /// Whether this is a route of all IPv6 packets.
+    pub fn is_ipv6_gateway(&self) -> bool
+        ensures { result ≡ is_gateway_v6 self.now }
+    {
+        match &self.cidr {
+            IpCidr::Ipv4(_) => false,
+            IpCidr::Ipv6(block) => block.address.is_unspecified() && block.prefix_len == 0,
+        }
+    }
+
+    /// Whether a packet may take this route at this moment.
+    fn serves(&self, address: &IpAddress, timestamp: Instant) -> bool
+        ensures { result ≡ serves address.now timestamp self.now }
+    {
+        self.cidr.contains_addr(address)
+            && !is_expired(self.expires_at, timestamp)
+            && self.via_router.is_unicast()
+            && are_of_one_family(&self.via_router, address)
+    }
+}
+
+/// What stands in an unused place of a table.
+impl Default for Route {
+    fn default() -> Route {
+        Route::new_ipv4_gateway(Ipv4Address::UNSPECIFIED)
+    }
+}
+
+/// At most `N` routes.
+#[derive(Drop)]
+pub struct Routes<const N: usize> {
+    storage: ArrayVec<Route, N>,
+}
+
+impl<const N: usize> Model for Routes<N> {
+    ghost use Rattle.std.specs.Prelude.{List};
+    ghost use Rattle.interface_tables.specs.declared.route.Route.{Route};
+
+    ghost Value = { List Route };
+
+    ghost view = { λ r. r.storage.items };
+}
+
+impl<const N: usize> Routes<N> {
+    /// No routes.
+    pub fn new() -> Routes<N>
+        ensures { result ≡ [] }
+    {
+        Routes {
+            storage: ArrayVec::new(),
+        }
+    }
+
+    /// The routes, in the order in which they were added.
+    pub fn as_slice(&self) -> &[Route]
+        ensures { result.now ≡ self.now }
+    {
+        self.storage.as_slice()
+    }
+
+    /// Adds a route behind the others, if there is room.
+    pub fn push(&mut self, route: Route) -> Result<(), RouteTableFull>
+        ensures ok { IsOk result ↔ (length self.old < N) }
+        ensures added { OnOk result (self.new ≡ self.old ++ route ∷ []) }
+        ensures err { OnErr result (self.new ≡ self.old) }
+    {
+        match self.storage.try_push(route) {
+            Ok(()) => Ok(()),
+            Err(_) => Err(RouteTableFull),
+        }
+    }
+
+    /// Takes out the route at this place, if there is one.
+    pub fn remove(&mut self, at: usize) -> Option<Route>
+        ensures value { result ≡ slice_get self.old at }
+        ensures after { IsSome result → self.new ≡ remove self.old at }
+        ensures none { IfNone result (self.new ≡ self.old) }
+    {
+        self.storage.pop_at(at)
+    }
+
+    /// Takes out every route.
+    pub fn clear(&mut self)
+        ensures { self.new ≡ [] }
+    {
+        self.storage.clear();
+    }
+
+    /// Makes this the router of all other IPv4 packets, and answers the route of which it takes the place.
+    pub fn add_default_ipv4_route(
+        &mut self,
+        gateway: Ipv4Address,
+    ) -> Result<Option<Route>, RouteTableFull>
+        ensures ok { IsOk result ↔ IsTrue (has_room N is_gateway_v4 self.old) }
+        ensures replaced { IfOk result (λ old. old ≡ first_that is_gateway_v4 self.old) }
+        ensures added { OnOk result (IsAdded is_gateway_v4 (λ r. IsGateway r (replicate 4 0) (Address.Ipv4 gateway)) self.old self.new) }
+        ensures err { OnErr result (self.new ≡ self.old) }
+    {
+        let place = place_of_ipv4_gateway(self.storage.as_slice());
+        self.exchange(place, Route::new_ipv4_gateway(gateway))
+    }
+
+    /// Makes this the router of all other IPv6 packets, and answers the route of which it takes the place.
+    pub fn add_default_ipv6_route(
+        &mut self,
+        gateway: Ipv6Address,
+    ) -> Result<Option<Route>, RouteTableFull>
+        ensures ok { IsOk result ↔ IsTrue (has_room N is_gateway_v6 self.old) }
+        ensures replaced { IfOk result (λ old. old ≡ first_that is_gateway_v6 self.old) }
+        ensures added { OnOk result (IsAdded is_gateway_v6 (λ r. IsGateway r (replicate 16 0) (Address.Ipv6 gateway)) self.old self.new) }
+        ensures err { OnErr result (self.new ≡ self.old) }
+    {
+        let place = place_of_ipv6_gateway(self.storage.as_slice());
+        self.exchange(place, Route::new_ipv6_gateway(gateway))
+    }
+
+    /// The first route of all IPv4 packets.
+    pub fn get_default_ipv4_route(&self) -> Option<Route>
+        ensures { result ≡ first_that is_gateway_v4 self.now }
+    {
+        route_at(
+            self.storage.as_slice(),
+            place_of_ipv4_gateway(self.storage.as_slice()),
+        )
+    }
+
+    /// The first route of all IPv6 packets.
+    pub fn get_default_ipv6_route(&self) -> Option<Route>
+        ensures { result ≡ first_that is_gateway_v6 self.now }
+    {
+        route_at(
+            self.storage.as_slice(),
+            place_of_ipv6_gateway(self.storage.as_slice()),
+        )
+    }
+
+    /// Takes out the first route of all IPv4 packets.
+    pub fn remove_default_ipv4_route(&mut self) -> Option<Route>
+        ensures value { result ≡ first_that is_gateway_v4 self.old }
+        ensures after { self.new ≡ without is_gateway_v4 self.old }
+        ensures fits { length self.new ≤ N }
+    {
+        let place = place_of_ipv4_gateway(self.storage.as_slice());
+        self.take(place)
+    }
+
+    /// Takes out the first route of all IPv6 packets.
+    pub fn remove_default_ipv6_route(&mut self) -> Option<Route>
+        ensures value { result ≡ first_that is_gateway_v6 self.old }
+        ensures after { self.new ≡ without is_gateway_v6 self.old }
+        ensures fits { length self.new ≤ N }
+    {
+        let place = place_of_ipv6_gateway(self.storage.as_slice());
+        self.take(place)
+    }
+
+    /// Takes out the route at this place, if one is named.
+    fn take(&mut self, place: Option<usize>) -> Option<Route>
+        requires { ForSome place (λ at. at < length self.old) }
+        ensures value { result ≡ at_place place self.old }
+        ensures after { self.new ≡ without_at place self.old }
+    {
+        match place {
+            Some(at) => Some(self.storage.remove(at)),
+            None => None,
+        }
+    }
+
+    /// Adds a route in place of this one, if one is named, or else where there is room.
+    fn exchange(
+        &mut self,
+        place: Option<usize>,
+        route: Route,
+    ) -> Result<Option<Route>, RouteTableFull>
+        requires { ForSome place (λ at. at < length self.old) }
+        ensures ok { IsOk result ↔ IsTrue (is_some place || nat_lt (length self.old) N) }
+        ensures replaced { IfOk result (λ old. old ≡ at_place place self.old) }
+        ensures added { OnOk result (self.new ≡ without_at place self.old ++ route ∷ []) }
+        ensures err { OnErr result (self.new ≡ self.old) }
+    {
+        let _ = self.storage.len();
+        match place {
+            Some(at) => {
+                let old = self.storage.pop_at(at);
+                self.storage.push(route);
+                Ok(old)
+            }
+            None => {
+                self.push(route)?;
+                Ok(None)
+            }
+        }
+    }
+
+    /// The router of a packet for this destination at this moment.
+    pub fn lookup(&self, addr: &IpAddress, timestamp: Instant) -> Option<IpAddress>
+        ensures { result ≡ router_of (best_route self.now addr.now timestamp) }
+    {
+        best_route(self.storage.as_slice(), addr, timestamp).map(|route| route.via_router)
+    }
+}
+
+/// Whether the last moment has passed.
+fn is_expired(expires_at: Option<Instant>, timestamp: Instant) -> bool
+    ensures { result ≡ is_expired expires_at timestamp }
+{
+    match expires_at {
+        Some(end) => end < timestamp,
+        None => false,
+    }
+}
+
+/// The route at this place, if one is named.
+fn route_at(routes: &[Route], place: Option<usize>) -> Option<Route>
+    requires { ForSome place (λ at. at < length routes.now) }
+    ensures { result ≡ at_place place routes.now }
+{
+    match place {
+        Some(at) => Some(routes[at]),
+        None => None,
+    }
+}
+
+/// The last of the routes with the longest prefix that serve this destination.
+fn best_route(routes: &[Route], address: &IpAddress, timestamp: Instant) -> Option<Route>
+    ensures { result ≡ best_route routes.now address.now timestamp }
+{
+    longest_from_the_end(routes, address, timestamp)
+}
+
+/// What is found by one pass from the last route to the first.
+fn longest_from_the_end(routes: &[Route], address: &IpAddress, timestamp: Instant) -> Option<Route>
+    ensures { result ≡ fold (λ best route. better_of is_longer best (serving address.now timestamp route)) None (reverse routes.now) }
+{
+    let mut best = None;
+    let mut rest = routes;
+    while let Some((route, others)) = rest.split_last() {
+        best = better(best, serving(route, address, timestamp));
+        rest = others;
+    }
+    best
+}
+
+/// The route, if it serves this destination.
+fn serving(route: &Route, address: &IpAddress, timestamp: Instant) -> Option<Route>
+    ensures { result ≡ serving address.now timestamp route.now }
+{
+    if route.serves(address, timestamp) {
+        Some(*route)
+    } else {
+        None
+    }
+}
+
+/// The one with the longer prefix, the first of equal ones.
+fn better(best: Option<Route>, next: Option<Route>) -> Option<Route>
+    ensures { result ≡ better_of is_longer best next }
+{
+    match (best, next) {
+        (best, None) => best,
+        (None, Some(next)) => Some(next),
+        (Some(best), Some(next)) => Some(if best.cidr.prefix_len() < next.cidr.prefix_len() {
+            next
+        } else {
+            best
+        }),
+    }
+}
+
+fn place_of_ipv4_gateway(routes: &[Route]) -> Option<usize>
+    ensures place { result ≡ position is_gateway_v4 routes.now }
+    ensures in_range { ForSome result (λ at. at < length routes.now) }
+{
+    routes.iter().position(|route| route.is_ipv4_gateway())
+}
+
+fn place_of_ipv6_gateway(routes: &[Route]) -> Option<usize>
+    ensures place { result ≡ position is_gateway_v6 routes.now }
+    ensures in_range { ForSome result (λ at. at < length routes.now) }
+{
+    routes.iter().position(|route| route.is_ipv6_gateway())
+}

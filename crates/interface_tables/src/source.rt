@@ -1,0 +1,230 @@
+//! The address that a packet is sent from (RFC 6724, section 5, rules 1, 2 and 8; RFC 1122, section 3.3.4.3).
+ghost use Rattle.std.specs.Prelude.{◌≡◌, ◌<◌, ◌≤◌, not, length, position, None};
+ghost use Rattle.std.specs.List.{fold};
+ghost use Rattle.std.specs.Option.{ForSome};
+ghost use Rattle.ip_wire.specs.AddressTests.{is_in_block};
+ghost use Rattle.ip_wire.specs.IpAddress.TheVariants as Address;
+ghost use Rattle.interface_tables.specs.Best.{at_place, better_of};
+ghost use Rattle.interface_tables.specs.Source.{first_v4, source_v4, first_v6, may_send, candidate, differs, falls_short, distance, uncommon, better_for, best_source, source_v6, source_for, is_v4, is_v6};
+
+use ip_wire::{IpAddress, IpCidr, Ipv4Address, Ipv6Address, Ipv6Cidr};
+
+/// The first IPv4 address.
+pub fn first_ipv4(addresses: &[IpCidr]) -> Option<Ipv4Address>
+    ensures { result ≡ first_v4 addresses.now }
+{
+    match block_at(addresses, place_of_ipv4(addresses)) {
+        Some(IpCidr::Ipv4(block)) => Some(block.address),
+        _ => None,
+    }
+}
+
+/// The first IPv6 address.
+pub fn first_ipv6(addresses: &[IpCidr]) -> Option<Ipv6Address>
+    ensures { result ≡ first_v6 addresses.now }
+{
+    match block_at(addresses, place_of_ipv6(addresses)) {
+        Some(IpCidr::Ipv6(block)) => Some(block.address),
+        _ => None,
+    }
+}
+
+/// The block at this place, if one is named.
+fn block_at(addresses: &[IpCidr], place: Option<usize>) -> Option<IpCidr>
+    requires { ForSome place (λ at. at < length addresses.now) }
+    ensures { result ≡ at_place place addresses.now }
+{
+    match place {
+        Some(at) => Some(addresses[at]),
+        None => None,
+    }
+}
+
+fn place_of_ipv4(addresses: &[IpCidr]) -> Option<usize>
+    ensures place { result ≡ position is_v4 addresses.now }
+    ensures in_range { ForSome result (λ at. at < length addresses.now) }
+{
+    addresses.iter().position(|block| is_ipv4(block))
+}
+
+fn place_of_ipv6(addresses: &[IpCidr]) -> Option<usize>
+    ensures place { result ≡ position is_v6 addresses.now }
+    ensures in_range { ForSome result (λ at. at < length addresses.now) }
+{
+    addresses.iter().position(|block| !is_ipv4(block))
+}
+
+fn is_ipv4(block: &IpCidr) -> bool
+    ensures v4 { result ≡ is_v4 block.now }
+    ensures v6 { not result ≡ is_v6 block.now }
+{
+    match block {
+        IpCidr::Ipv4(_) => true,
+        IpCidr::Ipv6(_) => false,
+    }
+}
+
+/// Where the first block stands that the address is in.
+fn place_around(addresses: &[IpCidr], address: &IpAddress) -> Option<usize>
+    ensures place { result ≡ position (λ b. is_in_block b address.now) addresses.now }
+    ensures in_range { ForSome result (λ at. at < length addresses.now) }
+{
+    addresses
+        .iter()
+        .position(|block| block.contains_addr(address))
+}
+
+/// The source of an IPv4 packet: the first address whose network the destination is in, else the first.
+pub fn source_ipv4(addresses: &[IpCidr], destination: &Ipv4Address) -> Option<Ipv4Address>
+    ensures { result ≡ source_v4 addresses.now destination.now }
+{
+    let place = place_around(addresses, &IpAddress::Ipv4(*destination));
+    match block_at(addresses, place) {
+        Some(IpCidr::Ipv4(block)) => Some(block.address),
+        Some(IpCidr::Ipv6(_)) => None,
+        None => first_ipv4(addresses),
+    }
+}
+
+/// The source of an IPv6 packet.
+pub fn source_ipv6(addresses: &[IpCidr], destination: &Ipv6Address) -> Ipv6Address
+    ensures { result ≡ source_v6 addresses.now destination.now }
+{
+    if destination.is_loopback() {
+        return Ipv6Address::LOCALHOST;
+    }
+    match best_source(addresses, destination) {
+        Some(block) => block.address,
+        None => first_ipv6(addresses).unwrap_or(Ipv6Address::LOCALHOST),
+    }
+}
+
+/// The source of a packet, if there is one.
+pub fn source_for(addresses: &[IpCidr], destination: &IpAddress) -> Option<IpAddress>
+    ensures { result ≡ source_for addresses.now destination.now }
+{
+    if destination.is_unspecified() {
+        return None;
+    }
+    match destination {
+        IpAddress::Ipv4(destination) => match source_ipv4(addresses, destination) {
+            Some(source) => Some(IpAddress::Ipv4(source)),
+            None => None,
+        },
+        IpAddress::Ipv6(destination) => Some(IpAddress::Ipv6(source_ipv6(addresses, destination))),
+    }
+}
+
+/// The best of the addresses that may be the source, the first of equal ones.
+fn best_source(addresses: &[IpCidr], destination: &Ipv6Address) -> Option<Ipv6Cidr>
+    ensures { result ≡ best_source addresses.now destination.now }
+{
+    best_in_turn(addresses, destination)
+}
+
+/// What is found by one pass from the first address to the last.
+fn best_in_turn(addresses: &[IpCidr], destination: &Ipv6Address) -> Option<Ipv6Cidr>
+    ensures { result ≡ fold (λ best address. better_of (better_for destination.now) best (candidate destination.now address)) None addresses.now }
+{
+    addresses.iter().fold(None, |best, address| {
+        better(best, candidate(address, destination), destination)
+    })
+}
+
+/// The block's address, if it may be the source.
+fn candidate(address: &IpCidr, destination: &Ipv6Address) -> Option<Ipv6Cidr>
+    ensures { result ≡ candidate destination.now address.now }
+{
+    match address {
+        IpCidr::Ipv4(_) => None,
+        IpCidr::Ipv6(block) => {
+            if may_send(block, destination) {
+                Some(*block)
+            } else {
+                None
+            }
+        }
+    }
+}
+
+/// Whether the block's address may be the source. A link-local destination is reached from a link-local address alone.
+fn may_send(block: &Ipv6Cidr, destination: &Ipv6Address) -> bool
+    ensures { result ≡ may_send destination.now block.now }
+{
+    !block.address.is_unspecified()
+        && !block.address.is_multicast()
+        && (!destination.is_link_local() || block.address.is_link_local())
+}
+
+/// The better of two candidates, the first of equal ones.
+fn better(
+    best: Option<Ipv6Cidr>,
+    next: Option<Ipv6Cidr>,
+    destination: &Ipv6Address,
+) -> Option<Ipv6Cidr>
+    ensures { result ≡ better_of (better_for destination.now) best next }
+{
+    match (best, next) {
+        (best, None) => best,
+        (None, Some(next)) => Some(next),
+        (Some(best), Some(next)) => {
+            Some(if is_better(&next, &best, destination) {
+                next
+            } else {
+                best
+            })
+        }
+    }
+}
+
+/// Whether the first candidate is better by the first rule that tells the two apart.
+fn is_better(one: &Ipv6Cidr, other: &Ipv6Cidr, destination: &Ipv6Address) -> bool
+    ensures { result ≡ better_for destination.now one.now other.now }
+{
+    let (a, b) = (rank_of(one, destination), rank_of(other, destination));
+    if a.differs != b.differs {
+        return a.differs < b.differs;
+    }
+    if a.falls_short != b.falls_short {
+        return a.falls_short < b.falls_short;
+    }
+    if a.distance != b.distance {
+        return a.distance < b.distance;
+    }
+    a.uncommon < b.uncommon
+}
+
+/// How a candidate fares by each rule in turn; the lower the better.
+#[derive(Clone, Copy, Debug)]
+struct Rank {
+    differs: u8,
+    falls_short: u8,
+    distance: u8,
+    uncommon: u8,
+}
+
+fn rank_of(block: &Ipv6Cidr, destination: &Ipv6Address) -> Rank
+    ensures differs { result.differs ≡ differs destination.now block.now }
+    ensures falls_short { result.falls_short ≡ falls_short destination.now block.now }
+    ensures distance { result.distance ≡ distance destination.now block.now }
+    ensures uncommon { result.uncommon ≡ uncommon destination.now block.now }
+{
+    let (own, wanted) = (
+        block.address.x_multicast_scope(),
+        destination.x_multicast_scope(),
+    );
+    Rank {
+        differs: if block.address.0 == destination.0 {
+            0
+        } else {
+            1
+        },
+        falls_short: if own < wanted { 1 } else { 0 },
+        distance: own.saturating_sub(wanted) + wanted.saturating_sub(own),
+        uncommon: 128
+            - block
+                .address
+                .common_prefix_len(destination)
+                .min(block.prefix_len()),
+    }
+}

@@ -1,0 +1,11 @@
+//! Tests of the interface's tables, by public calls and on values from outside.
+#![tactic(auto)]
+
+#[cfg(test)]
+mod fragmentation;
+#[cfg(test)]
+mod neighbor;
+#[cfg(test)]
+mod route;
+#[cfg(test)]
+mod source;

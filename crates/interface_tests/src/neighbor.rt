@@ -1,0 +1,115 @@
+use interface_tables::{Answer, Cache};
+use ip_wire::{EthernetAddress, HardwareAddress, IpAddress};
+use net_base::{Duration, Instant};
+
+const HARDWARE_A: HardwareAddress = HardwareAddress::Ethernet(EthernetAddress([0, 0, 0, 0, 0, 1]));
+
+const HARDWARE_B: HardwareAddress = HardwareAddress::Ethernet(EthernetAddress([0, 0, 0, 0, 0, 2]));
+
+const HARDWARE_C: HardwareAddress = HardwareAddress::Ethernet(EthernetAddress([0, 0, 0, 0, 0, 3]));
+
+const HARDWARE_D: HardwareAddress = HardwareAddress::Ethernet(EthernetAddress([0, 0, 0, 0, 0, 4]));
+
+fn host(last: u8) -> IpAddress {
+    IpAddress::v4(10, 0, 0, last)
+}
+
+/// A neighbour is found until its minute is over.
+#[test]
+fn fills_and_expires(rt: HostRuntime) {
+    let mut cache: Cache<4> = Cache::new();
+    let start = Instant::from_micros(0);
+    assert!(rt; !cache.lookup(&host(1), start).found());
+    cache.fill(host(1), HARDWARE_A, start);
+    assert_eq!(rt; cache.lookup(&host(1), start), Answer::Found(HARDWARE_A));
+    assert!(rt; !cache.lookup(&host(2), start).found());
+    let last = Instant::from_micros(59_999_999);
+    assert_eq!(rt; cache.lookup(&host(1), last), Answer::Found(HARDWARE_A));
+    let late = Instant::from_micros(60_000_000);
+    assert_eq!(rt; cache.lookup(&host(1), late), Answer::NotFound);
+    cache.fill(host(1), HARDWARE_A, start);
+    assert!(rt; !cache.lookup(&host(2), start).found());
+}
+
+/// An expiry of its own, and a renewal for the same hardware address alone.
+#[test]
+fn renews(rt: HostRuntime) {
+    let mut cache: Cache<4> = Cache::new();
+    let soon = Instant::from_micros(1_000);
+    cache.fill_with_expiration(host(1), HARDWARE_A, soon);
+    assert_eq!(rt; cache.lookup(&host(1), soon), Answer::NotFound);
+    cache.reset_expiry_if_existing(host(1), HARDWARE_B, soon);
+    assert_eq!(rt; cache.lookup(&host(1), soon), Answer::NotFound);
+    cache.reset_expiry_if_existing(host(1), HARDWARE_A, soon);
+    assert_eq!(rt; cache.lookup(&host(1), soon), Answer::Found(HARDWARE_A));
+    let last = Instant::from_micros(60_000_999);
+    assert_eq!(rt; cache.lookup(&host(1), last), Answer::Found(HARDWARE_A));
+    cache.reset_expiry_if_existing(host(2), HARDWARE_A, soon);
+    assert_eq!(rt; cache.lookup(&host(2), soon), Answer::NotFound);
+}
+
+/// Another hardware address takes the place of the first.
+#[test]
+fn replaces(rt: HostRuntime) {
+    let mut cache: Cache<4> = Cache::new();
+    let start = Instant::from_micros(0);
+    cache.fill(host(1), HARDWARE_A, start);
+    cache.fill(host(1), HARDWARE_B, start);
+    assert_eq!(rt; cache.lookup(&host(1), start), Answer::Found(HARDWARE_B));
+}
+
+/// In a full cache the entry that expires first makes room.
+#[test]
+fn evicts(rt: HostRuntime) {
+    let mut cache: Cache<3> = Cache::new();
+    cache.fill(host(1), HARDWARE_A, Instant::from_micros(100_000));
+    cache.fill(host(2), HARDWARE_B, Instant::from_micros(50_000));
+    cache.fill(host(3), HARDWARE_C, Instant::from_micros(200_000));
+    let now = Instant::from_micros(1_000_000);
+    assert_eq!(rt; cache.lookup(&host(2), now), Answer::Found(HARDWARE_B));
+    assert!(rt; !cache.lookup(&host(4), now).found());
+    cache.fill(host(4), HARDWARE_D, Instant::from_micros(300_000));
+    assert!(rt; !cache.lookup(&host(2), now).found());
+    assert_eq!(rt; cache.lookup(&host(4), now), Answer::Found(HARDWARE_D));
+    assert_eq!(rt; cache.lookup(&host(1), now), Answer::Found(HARDWARE_A));
+}
+
+/// Five neighbours heard at one moment in a cache of four: the first is gone.
+#[test]
+fn drops_the_first_of_equal_ones(rt: HostRuntime) {
+    let mut cache: Cache<4> = Cache::new();
+    let now = Instant::from_micros(0);
+    for last in 1..6u8 {
+        cache.fill(host(last), HARDWARE_A, now);
+    }
+    assert_eq!(rt; cache.lookup(&host(1), now), Answer::NotFound);
+    for last in 2..6u8 {
+        assert_eq!(rt; cache.lookup(&host(last), now), Answer::Found(HARDWARE_A));
+    }
+}
+
+/// After a request there is a second of silence for every address, which a flush leaves.
+#[test]
+fn is_silent_for_a_second(rt: HostRuntime) {
+    let mut cache: Cache<4> = Cache::new();
+    let start = Instant::from_micros(0);
+    assert_eq!(rt; cache.lookup(&host(1), start), Answer::NotFound);
+    cache.limit_rate(start);
+    cache.fill(host(2), HARDWARE_A, start);
+    let soon = Instant::from_micros(100_000);
+    assert_eq!(rt; cache.lookup(&host(1), soon), Answer::RateLimited);
+    assert_eq!(rt; cache.lookup(&host(2), soon), Answer::Found(HARDWARE_A));
+    cache.flush();
+    assert_eq!(rt; cache.lookup(&host(2), soon), Answer::RateLimited);
+    let late = Instant::from_micros(2_000_000);
+    assert_eq!(rt; cache.lookup(&host(1), late), Answer::NotFound);
+}
+
+#[test]
+fn times_are_a_second_and_a_minute(rt: HostRuntime) {
+    assert_eq!(rt; Cache::<4>::SILENT_TIME, Duration::from_micros(1_000_000));
+    assert_eq!(rt;
+        Cache::<4>::ENTRY_LIFETIME,
+        Duration::from_micros(60_000_000)
+    );
+}

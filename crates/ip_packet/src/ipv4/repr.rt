@@ -1,0 +1,206 @@
+//! The header of a packet as a value.
+ghost use Rattle.std.specs.Prelude.{◌≡◌, ℕ, ◌+◌, ◌/◌, ◌<◌, ◌≤◌, IfOk, ◌++◌, false, length, drop, if◌then◌else◌};
+ghost use Rattle.ip_address.specs.Sum.{word_sum, complement};
+ghost use Rattle.net_devices.specs.Capabilities.{verifies, computes};
+ghost use Rattle.ip_packet.specs.Ipv4.{IsIpv4, IsQuoted, Fits, key_of, flags_and_offset, bytes_of, bytes_in, name_of, sent_fields, spelling, written_piece, written};
+ghost use Rattle.ip_packet.specs.declared.ipv4.piece.Ipv4Piece.{Ipv4Piece};
+ghost use Rattle.ip_packet.specs.declared.ipv4.repr.Ipv4Repr.{Ipv4Repr};
+ghost use Rattle.ip_address.specs.declared.ipv4.Ipv4FragKey.{Ipv4FragKey};
+
+use super::field::HEADER_LEN;
+use super::packet::Ipv4Packet;
+use super::packet_mut::Ipv4PacketMut;
+use super::piece::Ipv4Piece;
+use crate::parts::put_header;
+use ip_address::{Error, IpProtocol, Ipv4Address, Ipv4FragKey, checksum};
+use net_devices::ChecksumCapabilities;
+
+/// The header of a packet; the total length and the checksum follow from it.
+#[derive(Clone, Copy, Debug, PartialEq, Eq)]
+pub struct Ipv4Repr {
+    pub src_addr: Ipv4Address,
+    pub dst_addr: Ipv4Address,
+    pub next_header: IpProtocol,
+    pub payload_len: usize,
+    pub hop_limit: u8,
+    /// The identification, which the pieces of one datagram share.
+    pub ident: u16,
+    /// Whether the packet may not be cut.
+    pub dont_frag: bool,
+}
+
+impl Ipv4Repr {
+    /// The header of the packet in the bytes. Its checksum is tested where the capabilities say
+    /// that the stack does so.
+    pub fn parse(
+        packet: &Ipv4Packet,
+        checksum_caps: &ChecksumCapabilities,
+    ) -> Result<Ipv4Repr, Error>
+        ensures found { IfOk result
+            (λ v. IsIpv4 (verifies checksum_caps.now.ipv4) (bytes_of packet.now) v) }
+        ensures only { (v : Ipv4Repr)
+            → IsIpv4 (verifies checksum_caps.now.ipv4) (bytes_of packet.now) v
+            → result ≡ Ok v }
+    {
+        packet.check_len()?;
+        if packet.version() != 4 {
+            return Err(Error);
+        }
+        if checksum_caps.ipv4.rx() && !packet.verify_checksum() {
+            return Err(Error);
+        }
+        Ok(Ipv4Repr {
+            src_addr: packet.src_addr(),
+            dst_addr: packet.dst_addr(),
+            next_header: packet.next_header(),
+            payload_len: packet.total_len() as usize - packet.header_len() as usize,
+            hop_limit: packet.hop_limit(),
+            ident: packet.ident(),
+            dont_frag: packet.dont_frag(),
+        })
+    }
+
+    /// The header at the front of the bytes, as an error message quotes it (RFC 792), and its
+    /// length with its options. Neither total length nor checksum is tested: of the packet as much
+    /// is there as the message had room for.
+    pub fn parse_quoted(bytes: &[u8]) -> Result<(Ipv4Repr, usize), Error>
+        ensures found { IfOk result (λ read. IsQuoted bytes.now read.0 read.1) }
+        ensures only { (v : Ipv4Repr) (header_len : ℕ)
+            → IsQuoted bytes.now v header_len
+            → result ≡ Ok (v, header_len) }
+    {
+        if bytes.len() < HEADER_LEN {
+            return Err(Error);
+        }
+        let packet = Ipv4Packet::new_unchecked(bytes);
+        let header_len = packet.header_len() as usize;
+        if packet.version() != 4 || header_len < HEADER_LEN || header_len > bytes.len() {
+            return Err(Error);
+        }
+        let header = Ipv4Repr {
+            src_addr: packet.src_addr(),
+            dst_addr: packet.dst_addr(),
+            next_header: packet.next_header(),
+            payload_len: (packet.total_len() as usize).saturating_sub(header_len),
+            hop_limit: packet.hop_limit(),
+            ident: packet.ident(),
+            dont_frag: packet.dont_frag(),
+        };
+        Ok((header, header_len))
+    }
+
+    /// The length of the header that is written.
+    pub const fn buffer_len(&self) -> usize
+        ensures { result ≡ 20 }
+    {
+        HEADER_LEN
+    }
+
+    /// What the pieces of a datagram with this header have in common.
+    pub fn key(&self) -> Ipv4FragKey
+        ensures { result ≡ key_of self.now }
+    {
+        Ipv4FragKey {
+            id: self.ident,
+            src_addr: self.src_addr,
+            dst_addr: self.dst_addr,
+            protocol: self.next_header,
+        }
+    }
+
+    /// Writes the header, of 20 bytes, and leaves what lies behind it. The checksum is written
+    /// where the capabilities say that the stack computes it.
+    pub fn emit(&self, packet: &mut Ipv4PacketMut, checksum_caps: &ChecksumCapabilities)
+        requires room { 20 ≤ length (bytes_in packet.old) }
+        requires fits { Fits self.now }
+        ensures same_reference { name_of packet.new ≡ name_of packet.old }
+        ensures bytes { bytes_in packet.new
+            ≡ written (computes checksum_caps.now.ipv4) self.now ++ drop 20 (bytes_in packet.old) }
+        ensures exact { length (bytes_in packet.old) ≡ 20
+            → bytes_in packet.new ≡ written (computes checksum_caps.now.ipv4) self.now }
+    {
+        self.emit_piece(packet, 0, false, checksum_caps);
+    }
+
+    /// Writes the header of a piece of a datagram: `payload_len` is the piece's, `offset` says in
+    /// bytes where it stands in the datagram's payload, cut to a multiple of eight, and `more` that
+    /// more pieces follow.
+    pub fn emit_piece(
+        &self,
+        packet: &mut Ipv4PacketMut,
+        offset: u16,
+        more: bool,
+        checksum_caps: &ChecksumCapabilities,
+    )
+        requires room { 20 ≤ length (bytes_in packet.old) }
+        requires fits { Fits self.now }
+        ensures same_reference { name_of packet.new ≡ name_of packet.old }
+        ensures bytes { bytes_in packet.new
+            ≡ written_piece (computes checksum_caps.now.ipv4) self.now offset more
+            ++ drop 20 (bytes_in packet.old) }
+        ensures exact { length (bytes_in packet.old) ≡ 20
+            → bytes_in packet.new
+            ≡ written_piece (computes checksum_caps.now.ipv4) self.now offset more }
+    {
+        let piece = Ipv4Piece { offset, more };
+        let check = self.sent_checksum(piece, checksum_caps.ipv4.tx());
+        put_header(packet.buffer, &self.header(piece, check));
+    }
+
+    /// The header of this piece with this checksum.
+    fn header(&self, piece: Ipv4Piece, check: u16) -> [u8; 20]
+        requires { Fits self.now }
+        ensures { result ≡ spelling self.now (sent_fields piece check) }
+    {
+        let [source0, source1, source2, source3] = self.src_addr.0;
+        let [destination0, destination1, destination2, destination3] = self.dst_addr.0;
+        let [length_high, length_low] = ((HEADER_LEN + self.payload_len) as u16).to_be_bytes();
+        let [ident_high, ident_low] = self.ident.to_be_bytes();
+        let [flags_high, flags_low] = flags_and_offset(self.dont_frag, piece).to_be_bytes();
+        let [check_high, check_low] = check.to_be_bytes();
+        [
+            0x45,
+            0,
+            length_high,
+            length_low,
+            ident_high,
+            ident_low,
+            flags_high,
+            flags_low,
+            self.hop_limit,
+            self.next_header.into(),
+            check_high,
+            check_low,
+            source0,
+            source1,
+            source2,
+            source3,
+            destination0,
+            destination1,
+            destination2,
+            destination3,
+        ]
+    }
+
+    /// The checksum that goes out: a right one, or 0 where none is computed.
+    fn sent_checksum(&self, piece: Ipv4Piece, sealed: bool) -> u16
+        requires { Fits self.now }
+        ensures { result
+            ≡ (if sealed then complement (word_sum (spelling self.now (sent_fields piece 0))) else 0) }
+    {
+        if sealed {
+            !checksum::data(&self.header(piece, 0))
+        } else {
+            0
+        }
+    }
+}
+
+/// The field of the flags and the offset, the reserved flag clear.
+const fn flags_and_offset(dont_frag: bool, piece: Ipv4Piece) -> u16
+    ensures { result ≡ flags_and_offset false dont_frag piece }
+{
+    let dont = if dont_frag { 0x4000 } else { 0 };
+    let more = if piece.more { 0x2000 } else { 0 };
+    dont + more + piece.offset / 8
+}

@@ -1,5 +1,0 @@
-use Rattle.ip_wire.proofs.ArpLaws.{fits}
-use Rattle.ip_wire.proofs.arp.arp_fits.Goals as goal
-
-pub returns : goal.returns
-returns c = fits

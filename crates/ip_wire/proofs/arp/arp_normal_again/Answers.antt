@@ -1,5 +1,0 @@
-use Rattle.ip_wire.proofs.ArpLaws.{normal-again}
-use Rattle.ip_wire.proofs.arp.arp_normal_again.Goals as goal
-
-pub returns : goal.returns
-returns c = normal-again

@@ -1,5 +1,0 @@
-use Rattle.ip_wire.proofs.EthernetLaws.{fits}
-use Rattle.ip_wire.proofs.ethernet.ethernet_fits.Goals as goal
-
-pub returns : goal.returns
-returns c = fits

@@ -1,5 +1,0 @@
-use Rattle.ip_wire.proofs.EthernetLaws.{read}
-use Rattle.ip_wire.proofs.ethernet.ethernet_normal.Goals as goal
-
-pub returns : goal.returns
-returns c = read

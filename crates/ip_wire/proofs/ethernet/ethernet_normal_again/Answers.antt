@@ -1,5 +1,0 @@
-use Rattle.ip_wire.proofs.EthernetLaws.{normal-again}
-use Rattle.ip_wire.proofs.ethernet.ethernet_normal_again.Goals as goal
-
-pub returns : goal.returns
-returns c = normal-again

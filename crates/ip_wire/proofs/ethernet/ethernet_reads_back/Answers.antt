@@ -1,5 +1,0 @@
-use Rattle.ip_wire.proofs.EthernetLaws.{IsEthernet-written}
-use Rattle.ip_wire.proofs.ethernet.ethernet_reads_back.Goals as goal
-
-pub returns : goal.returns
-returns c = IsEthernet-written

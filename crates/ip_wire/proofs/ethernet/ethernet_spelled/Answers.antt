@@ -1,5 +1,0 @@
-use Rattle.ip_wire.proofs.EthernetLaws.{bytes-written}
-use Rattle.ip_wire.proofs.ethernet.ethernet_spelled.Goals as goal
-
-pub returns : goal.returns
-returns c = bytes-written

@@ -1,5 +1,0 @@
-use Rattle.ip_wire.proofs.FragmentLaws.{IsFragment-written}
-use Rattle.ip_wire.proofs.ipv6_fragment.ipv6_fragment_reads_back.Goals as goal
-
-pub returns : goal.returns
-returns c = IsFragment-written

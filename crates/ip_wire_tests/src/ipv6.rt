@@ -1,0 +1,129 @@
+//! IPv6 packets, and their headers as error messages quote them.
+use crate::samples::{OVER_V6, starts_with};
+use ip_wire::{
+    Error, IPV6_LINK_LOCAL_ALL_NODES, IpProtocol, Ipv6Address, Ipv6Packet, Ipv6PacketMut, Ipv6Repr,
+    ipv6_laws,
+};
+
+#[test]
+fn ipv6_is_read(rt: HostRuntime) {
+    let packet = Ipv6Packet::new_checked(&OVER_V6).expect(&rt, "whole");
+    assert!(rt; packet.check_len().is_ok());
+    assert_eq!(rt; packet.version(), 6);
+    assert_eq!(rt; packet.traffic_class(), 0xfe);
+    assert_eq!(rt; packet.flow_label(), 0x12345);
+    assert_eq!(rt; packet.payload_len(), 4);
+    assert_eq!(rt; packet.total_len(), 44);
+    assert_eq!(rt; packet.header_len(), 40);
+    assert_eq!(rt; packet.next_header(), IpProtocol::Udp);
+    assert_eq!(rt; packet.hop_limit(), 64);
+    assert_eq!(rt;
+        packet.src_addr(),
+        Ipv6Address::new(0xfe80, 0, 0, 0, 0, 0, 0, 1)
+    );
+    assert_eq!(rt; packet.dst_addr(), IPV6_LINK_LOCAL_ALL_NODES);
+    assert_eq!(rt; packet.payload(), [1, 2, 3, 4].as_slice());
+    let header = Ipv6Repr::parse(&packet).expect(&rt, "valid");
+    assert_eq!(rt; header.payload_len, 4);
+    assert_eq!(rt; header.buffer_len(), 40);
+    assert_eq!(rt; packet.into_inner().len(), 46);
+    let mut bytes = OVER_V6;
+    let mut packet = Ipv6PacketMut::new_checked(&mut bytes).expect(&rt, "whole");
+    header.emit(&mut packet);
+    assert_eq!(rt; &packet.into_inner()[..4], [0x60, 0, 0, 0].as_slice());
+    assert_eq!(rt; &bytes[4..], &OVER_V6[4..]);
+    ipv6_laws::ipv6_spelled();
+    ipv6_laws::ipv6_no_longer();
+    ipv6_laws::ipv6_fits();
+    ipv6_laws::ipv6_normal();
+    ipv6_laws::ipv6_normal_again();
+    ipv6_laws::ipv6_reads_back();
+}
+
+#[test]
+fn ipv6_is_refused(rt: HostRuntime) {
+    assert!(rt;
+        Ipv6Repr::parse(&Ipv6Packet::new_unchecked(&OVER_V6[..39])).is_err(),
+        "no header"
+    );
+    assert!(rt;
+        Ipv6Repr::parse(&Ipv6Packet::new_unchecked(&OVER_V6[..43])).is_err(),
+        "too short"
+    );
+    let mut bytes = OVER_V6;
+    bytes[0] = 0x4f;
+    assert!(rt;
+        Ipv6Repr::parse(&Ipv6Packet::new_unchecked(&bytes)).is_err(),
+        "version 4"
+    );
+}
+
+#[test]
+fn ipv6_is_set(rt: HostRuntime) {
+    let mut bytes = [0xff; 46];
+    let mut packet = Ipv6PacketMut::new_unchecked(&mut bytes);
+    packet.set_version(6);
+    packet.set_traffic_class(0xfe);
+    packet.set_flow_label(0x12345);
+    packet.set_payload_len(4);
+    packet.set_next_header(IpProtocol::Udp);
+    packet.set_hop_limit(64);
+    packet.set_src_addr(Ipv6Address::new(0xfe80, 0, 0, 0, 0, 0, 0, 1));
+    packet.set_dst_addr(IPV6_LINK_LOCAL_ALL_NODES);
+    assert!(rt; packet.check_len().is_ok());
+    assert_eq!(rt; packet.version(), 6);
+    assert_eq!(rt; packet.traffic_class(), 0xfe);
+    assert_eq!(rt; packet.flow_label(), 0x12345);
+    assert_eq!(rt; packet.payload_len(), 4);
+    assert_eq!(rt; packet.total_len(), 44);
+    assert_eq!(rt; packet.header_len(), 40);
+    assert_eq!(rt; packet.next_header(), IpProtocol::Udp);
+    assert_eq!(rt; packet.hop_limit(), 64);
+    assert_eq!(rt;
+        packet.src_addr(),
+        Ipv6Address::new(0xfe80, 0, 0, 0, 0, 0, 0, 1)
+    );
+    assert_eq!(rt; packet.dst_addr(), IPV6_LINK_LOCAL_ALL_NODES);
+    assert_eq!(rt; packet.payload().len(), 4);
+    assert!(rt; starts_with(&bytes, &OVER_V6[..40]));
+}
+
+#[test]
+fn ipv6_payload_alone_is_lent(rt: HostRuntime) {
+    let mut bytes = OVER_V6;
+    let mut packet = Ipv6PacketMut::new_checked(&mut bytes).expect(&rt, "whole");
+    assert_eq!(rt; packet.header_len(), 40);
+    packet.payload_mut().fill(7);
+    assert!(rt; starts_with(&bytes, &OVER_V6[..40]));
+    assert!(rt; bytes.ends_with(&[7, 7, 7, 7, 0, 0]));
+}
+
+#[test]
+fn quoted_ipv6_is_read(rt: HostRuntime) {
+    let want = Ipv6Repr {
+        src_addr: Ipv6Address::new(0xfe80, 0, 0, 0, 0, 0, 0, 1),
+        dst_addr: IPV6_LINK_LOCAL_ALL_NODES,
+        next_header: IpProtocol::Udp,
+        payload_len: 4,
+        hop_limit: 64,
+    };
+    assert_eq!(rt;
+        Ipv6Repr::parse_quoted(&OVER_V6[..40]),
+        Ok((want, 40)),
+        "no payload is there"
+    );
+    assert_eq!(rt; Ipv6Repr::parse_quoted(&OVER_V6), Ok((want, 40)));
+    assert_eq!(rt;
+        Ipv6Repr::parse_quoted(&OVER_V6[..39]),
+        Err(Error),
+        "no header"
+    );
+    let mut bytes = OVER_V6;
+    bytes[0] = 0x4f;
+    assert_eq!(rt; Ipv6Repr::parse_quoted(&bytes), Err(Error), "version 4");
+    ipv6_laws::ipv6_quoted();
+    ipv6_laws::ipv6_quoted_spelled();
+    ipv6_laws::ipv6_quoted_fits();
+    ipv6_laws::ipv6_quoted_no_longer();
+    ipv6_laws::ipv6_quoted_reads_back();
+}

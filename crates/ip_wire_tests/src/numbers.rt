@@ -1,0 +1,134 @@
+//! Numbers of protocols, constants, numbers in network order and sequence numbers.
+use ip_wire::{
+    Error, EthernetProtocol, IPV4_MIN_MTU, IPV4_MULTICAST_ALL_ROUTERS, IPV4_MULTICAST_ALL_SYSTEMS,
+    IPV6_LINK_LOCAL_ALL_MLDV2_ROUTERS, IPV6_LINK_LOCAL_ALL_NODES, IPV6_LINK_LOCAL_ALL_ROUTERS,
+    IPV6_MIN_MTU, IpAddress, IpCidr, IpProtocol, IpVersion, Ipv4Address, Ipv6Address,
+    MAX_HARDWARE_ADDRESS_LEN, SeqNumber, address_laws, network_order, seq_number,
+};
+
+#[test]
+fn tells_versions_by_the_first_bits(rt: HostRuntime) {
+    let rows: [(&[u8], Result<IpVersion, Error>); 6] = [
+        (&[0x45, 0], Ok(IpVersion::Ipv4)),
+        (&[0x60], Ok(IpVersion::Ipv6)),
+        (&[], Err(Error)),
+        (&[0x54], Err(Error)),
+        (&[0x04], Err(Error)),
+        (&[0x76], Err(Error)),
+    ];
+    for (bytes, version) in rows {
+        assert_eq!(rt; IpVersion::of_packet(bytes), version, "{bytes:?}");
+    }
+}
+
+// IANA, "Protocol Numbers".
+#[test]
+fn numbers_name_protocols(rt: HostRuntime) {
+    for (number, protocol) in [
+        (0, IpProtocol::HopByHop),
+        (1, IpProtocol::Icmp),
+        (2, IpProtocol::Igmp),
+        (6, IpProtocol::Tcp),
+        (17, IpProtocol::Udp),
+        (43, IpProtocol::Ipv6Route),
+        (44, IpProtocol::Ipv6Frag),
+        (50, IpProtocol::IpSecEsp),
+        (51, IpProtocol::IpSecAh),
+        (58, IpProtocol::Icmpv6),
+        (59, IpProtocol::Ipv6NoNxt),
+        (60, IpProtocol::Ipv6Opts),
+        (200, IpProtocol::Unknown(200)),
+    ] {
+        assert_eq!(rt; IpProtocol::from(number), protocol);
+        assert_eq!(rt; u8::from(protocol), number);
+    }
+}
+
+// IANA, "IEEE 802 Numbers".
+#[test]
+fn numbers_name_ethernet_protocols(rt: HostRuntime) {
+    for (number, protocol) in [
+        (0x0800, EthernetProtocol::Ipv4),
+        (0x0806, EthernetProtocol::Arp),
+        (0x86dd, EthernetProtocol::Ipv6),
+        (0x1234, EthernetProtocol::Unknown(0x1234)),
+    ] {
+        assert_eq!(rt; EthernetProtocol::from(number), protocol);
+        assert_eq!(rt; u16::from(protocol), number);
+    }
+}
+
+// IANA's registries of multicast addresses; RFC 791, 8200, 4291 and 3810.
+#[test]
+fn constants_have_their_values(rt: HostRuntime) {
+    address_laws::hardware_constants();
+    address_laws::address_tests();
+    address_laws::hardware_tests();
+    address_laws::ipv4_constants();
+    address_laws::ipv6_constants();
+    for (text, address) in [
+        ("224.0.0.1", IpAddress::Ipv4(IPV4_MULTICAST_ALL_SYSTEMS)),
+        ("224.0.0.2", IpAddress::Ipv4(IPV4_MULTICAST_ALL_ROUTERS)),
+        ("0.0.0.0", IpAddress::Ipv4(Ipv4Address::UNSPECIFIED)),
+        ("127.0.0.1", IpAddress::Ipv4(Ipv4Address::LOCALHOST)),
+        ("255.255.255.255", IpAddress::Ipv4(Ipv4Address::BROADCAST)),
+        ("ff02::1", IpAddress::Ipv6(IPV6_LINK_LOCAL_ALL_NODES)),
+        ("ff02::2", IpAddress::Ipv6(IPV6_LINK_LOCAL_ALL_ROUTERS)),
+        (
+            "ff02::16",
+            IpAddress::Ipv6(IPV6_LINK_LOCAL_ALL_MLDV2_ROUTERS),
+        ),
+        ("::", IpAddress::Ipv6(Ipv6Address::UNSPECIFIED)),
+        ("::1", IpAddress::Ipv6(Ipv6Address::LOCALHOST)),
+    ] {
+        assert_eq!(rt; text.parse(), Ok(address), "at {text}");
+    }
+    let (solicited, local) = address_laws::ipv6_prefixes();
+    for (text, block) in [("fe80::/10", local), ("ff02::1:ff00:0/104", solicited)] {
+        assert_eq!(rt; text.parse(), Ok(block), "at {text}");
+        assert_eq!(rt;
+            IpCidr::from(block).address(),
+            IpAddress::from(block.address())
+        );
+    }
+    assert_eq!(rt;
+        (IPV4_MIN_MTU, IPV6_MIN_MTU, MAX_HARDWARE_ADDRESS_LEN),
+        (576, 1280, 6)
+    );
+}
+
+#[test]
+fn reads_and_writes_in_network_order(rt: HostRuntime) {
+    let mut bytes = [0; 8];
+    network_order::write_u16(&mut bytes, 1, 0x1234);
+    network_order::write_u32(&mut bytes, 3, 0x5678_9abc);
+    network_order::written_numbers_are_read();
+    assert_eq!(rt; bytes, [0, 0x12, 0x34, 0x56, 0x78, 0x9a, 0xbc, 0]);
+    assert_eq!(rt; network_order::read_u16(&bytes, 2), 0x3456);
+    assert_eq!(rt; network_order::read_u32(&bytes, 1), 0x1234_5678);
+}
+
+// Numbers on both sides of the point where they go round.
+#[test]
+fn goes_round(rt: HostRuntime) {
+    seq_number::sum_comes_after();
+    let last = SeqNumber(0xffff_ffff);
+    let first = SeqNumber(0);
+    let half = SeqNumber(0x8000_0000);
+    assert!(rt; last.comes_before(first));
+    assert!(rt; !first.comes_before(last));
+    assert!(rt; !first.comes_before(first));
+    assert!(rt; first.comes_before(half) && half.comes_before(first));
+    assert_eq!(rt; last + 3, SeqNumber(2));
+    assert_eq!(rt; first - 1, last);
+    assert_eq!(rt; last.distance(SeqNumber(4)), 5);
+    assert_eq!(rt; last.max(first), first);
+    assert_eq!(rt; last.min(first), last);
+    assert_eq!(rt; SeqNumber(7) - SeqNumber(7), 0);
+    assert_eq!(rt; SeqNumber(9) - SeqNumber(7), 2);
+    let mut moved = last;
+    moved += 1;
+    assert_eq!(rt; moved, first);
+    assert_eq!(rt; SeqNumber::default(), first);
+    assert_eq!(rt; address_laws::default_sequence_number(), first);
+}

@@ -1,0 +1,174 @@
+//! Options of TCP, from the formats of the standards.
+use ip_wire::{Error, TcpOption, TcpOptions, TcpTimestampGenerator, TcpTimestampRepr, tcp_laws};
+use net_base::Instant;
+
+// The formats of RFC 9293, section 3.2, RFC 7323, sections 2.2 and 3.2, and RFC 2018, sections 2
+// and 3, and the first range of its section 4.
+#[test]
+fn reads_options(rt: HostRuntime) -> Result<(), Error> {
+    let area = [
+        2, 4, 0x05, 0xb4, 3, 3, 7, 1, 4, 2, 5, 10, 0, 0, 0x15, 0x7c, 0, 0, 0x17, 0x70, 8, 10, 0,
+        0x9c, 0x27, 0x24, 0, 0, 0, 5, 0xfd, 4, 9, 9, 0, 7,
+    ];
+    let options = TcpOptions::parse(&area)?;
+    assert_eq!(rt; options.max_seg_size, Some(1460));
+    assert_eq!(rt; options.window_scale, Some(7));
+    assert!(rt; options.sack_permitted);
+    assert_eq!(rt; options.sack_ranges, [Some((5500, 6000)), None, None]);
+    assert_eq!(rt; options.timestamp, Some(TcpTimestampRepr::new(0x9c2724, 5)));
+    Ok(())
+}
+
+#[test]
+fn counts_the_last_of_a_kind_and_caps_the_scale(rt: HostRuntime) -> Result<(), Error> {
+    let options = TcpOptions::parse(&[2, 4, 1, 0, 2, 4, 2, 0, 3, 3, 15])?;
+    assert_eq!(rt; options.max_seg_size, Some(512));
+    assert_eq!(rt; options.window_scale, Some(14));
+    assert_eq!(rt; TcpOptions::parse(&[]), Ok(TcpOptions::none()));
+    assert_eq!(rt; TcpOptions::parse(&[5, 2]), Ok(TcpOptions::none()));
+    Ok(())
+}
+
+// What is behind the end isn't looked at, and of four ranges, which a header has room for, the
+// first three count.
+#[test]
+fn reads_up_to_the_end(rt: HostRuntime) -> Result<(), Error> {
+    let options = TcpOptions::parse(&[4, 2, 0, 2, 4, 1, 0, 9])?;
+    assert!(rt; options.sack_permitted);
+    assert_eq!(rt; options.max_seg_size, None);
+    let four = [
+        5, 34, 0, 0, 0, 1, 0, 0, 0, 2, 0, 0, 0, 3, 0, 0, 0, 4, 0, 0, 0, 5, 0, 0, 0, 6, 0, 0, 0, 7,
+        0, 0, 0, 8,
+    ];
+    let wanted = [Some((1, 2)), Some((3, 4)), Some((5, 6))];
+    assert_eq!(rt; TcpOptions::parse(&four)?.sack_ranges, wanted);
+    let (behind, option) = TcpOption::parse(&[3, 3, 15, 1])?;
+    assert_eq!(rt; option, TcpOption::WindowScale(15));
+    assert_eq!(rt; behind, [1].as_slice());
+    Ok(())
+}
+
+#[test]
+fn refuses_malformed_options(rt: HostRuntime) {
+    assert_eq!(rt; TcpOptions::parse(&[2]), Err(Error));
+    assert_eq!(rt; TcpOptions::parse(&[9, 0]), Err(Error));
+    assert_eq!(rt; TcpOptions::parse(&[9, 1, 0]), Err(Error));
+    assert_eq!(rt; TcpOptions::parse(&[9, 4, 0]), Err(Error));
+    assert_eq!(rt; TcpOptions::parse(&[2, 3, 5]), Err(Error));
+    assert_eq!(rt; TcpOptions::parse(&[3, 2]), Err(Error));
+    assert_eq!(rt; TcpOptions::parse(&[4, 3, 0]), Err(Error));
+    assert_eq!(rt; TcpOptions::parse(&[5, 6, 0, 0, 0, 0]), Err(Error));
+    assert_eq!(rt; TcpOptions::parse(&[8, 6, 0, 0, 0, 0]), Err(Error));
+}
+
+#[test]
+fn writes_options(rt: HostRuntime) {
+    let mut buffer = [0xff; 12];
+    assert_eq!(rt; TcpOption::MaxSegmentSize(1460).emit(&mut buffer), 4);
+    assert_eq!(rt;
+        buffer,
+        [
+            2, 4, 0x05, 0xb4, 0xff, 0xff, 0xff, 0xff, 0xff, 0xff, 0xff, 0xff
+        ]
+    );
+    let gap = TcpOption::SackRange([None, Some((5500, 6000)), None]);
+    assert_eq!(rt; gap.buffer_len(), 10);
+    assert_eq!(rt; gap.emit(&mut buffer), 10);
+    assert_eq!(rt;
+        buffer,
+        [5, 10, 0, 0, 0x15, 0x7c, 0, 0, 0x17, 0x70, 0xff, 0xff]
+    );
+    assert_eq!(rt;
+        TcpOption::Unknown {
+            kind: 0xfd,
+            bytes: &[1, 2]
+        }
+        .emit(&mut buffer),
+        4
+    );
+    assert_eq!(rt;
+        buffer,
+        [0xfd, 4, 1, 2, 0x15, 0x7c, 0, 0, 0x17, 0x70, 0xff, 0xff]
+    );
+    tcp_laws::option_spelled();
+    tcp_laws::option_reads_back();
+}
+
+// Each option by itself, as RFC 9293, section 3.2, RFC 7323, sections 2.2 and 3.2, and RFC 2018,
+// sections 2 and 3, spell it; 253 is a kind for experiments (RFC 4727, section 7.2).
+#[test]
+fn reads_each_option(rt: HostRuntime) -> Result<(), Error> {
+    let rest: &[u8] = &[9];
+    assert_eq!(rt; TcpOption::parse(&[0, 9])?, (rest, TcpOption::EndOfList));
+    assert_eq!(rt; TcpOption::parse(&[1, 9])?, (rest, TcpOption::NoOperation));
+    assert_eq!(rt;
+        TcpOption::parse(&[2, 4, 0x05, 0xdc, 9])?,
+        (rest, TcpOption::MaxSegmentSize(1500))
+    );
+    assert_eq!(rt;
+        TcpOption::parse(&[3, 3, 12, 9])?,
+        (rest, TcpOption::WindowScale(12))
+    );
+    assert_eq!(rt;
+        TcpOption::parse(&[4, 2, 9])?,
+        (rest, TcpOption::SackPermitted)
+    );
+    assert_eq!(rt;
+        TcpOption::parse(&[5, 10, 0, 0, 0x01, 0xf4, 0, 0, 0x05, 0xdc, 9])?,
+        (rest, TcpOption::SackRange([Some((500, 1500)), None, None]))
+    );
+    assert_eq!(rt;
+        TcpOption::parse(&[8, 10, 1, 2, 3, 4, 5, 6, 7, 8, 9])?,
+        (
+            rest,
+            TcpOption::TimeStamp {
+                tsval: 0x0102_0304,
+                tsecr: 0x0506_0708
+            }
+        )
+    );
+    assert_eq!(rt;
+        TcpOption::parse(&[0xfd, 4, 1, 2, 9])?,
+        (
+            rest,
+            TcpOption::Unknown {
+                kind: 0xfd,
+                bytes: &[1, 2]
+            }
+        )
+    );
+    Ok(())
+}
+
+// The same options, but for those of `writes_options`.
+#[test]
+fn writes_each_option(rt: HostRuntime) {
+    let mut buffer = [0xff; 12];
+    let clock = TcpOption::TimeStamp {
+        tsval: 0x0102_0304,
+        tsecr: 0x0506_0708,
+    };
+    assert_eq!(rt; clock.emit(&mut buffer), 10);
+    assert_eq!(rt; buffer, [8, 10, 1, 2, 3, 4, 5, 6, 7, 8, 0xff, 0xff]);
+    assert_eq!(rt; TcpOption::WindowScale(12).emit(&mut buffer), 3);
+    assert_eq!(rt; buffer, [3, 3, 12, 2, 3, 4, 5, 6, 7, 8, 0xff, 0xff]);
+    assert_eq!(rt; TcpOption::SackPermitted.emit(&mut buffer), 2);
+    assert_eq!(rt; buffer, [4, 2, 12, 2, 3, 4, 5, 6, 7, 8, 0xff, 0xff]);
+    assert_eq!(rt; TcpOption::NoOperation.emit(&mut buffer), 1);
+    assert_eq!(rt; buffer, [1, 2, 12, 2, 3, 4, 5, 6, 7, 8, 0xff, 0xff]);
+    assert_eq!(rt; TcpOption::EndOfList.emit(&mut buffer), 1);
+    assert_eq!(rt; buffer, [0, 2, 12, 2, 3, 4, 5, 6, 7, 8, 0xff, 0xff]);
+}
+
+#[test]
+fn answers_timestamps(rt: HostRuntime) {
+    let stamp = TcpTimestampRepr::new(7, 1);
+    let now = Instant::from_micros(2_999);
+    let generator = TcpTimestampGenerator(0xffff_ffff);
+    assert_eq!(rt; generator.value_at(now), 1);
+    assert_eq!(rt;
+        stamp.generate_reply(Some(generator), now),
+        Some(TcpTimestampRepr::new(1, 7))
+    );
+    assert_eq!(rt; stamp.generate_reply(None, now), None);
+}

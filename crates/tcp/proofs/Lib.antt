@@ -1,0 +1,5 @@
+pub mod Tied
+pub mod CallMoves
+pub mod CallLaws
+pub mod PromiseLemmas
+pub mod ArrivalMoves

@@ -1,0 +1,3 @@
+pub mod Tie
+pub mod History
+pub mod Promises

@@ -1,0 +1,5 @@
+//! TCP sockets between two hosts: the tie of a socket to a side of the machine of `tcp_law`, and the invariant that it gives.
+#![tactic(auto)]
+
+pub mod calls;
+pub mod promises;
