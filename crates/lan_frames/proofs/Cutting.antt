@@ -6,7 +6,7 @@ use Rattle.net_devices.specs.Capabilities.{frame_header}
 use Rattle.net_devices.specs.declared.capabilities.Medium.{Medium}
 use Rattle.ip_address.specs.Fields.{be16}
 use Rattle.ip_packet.specs.Ipv4.{IsWhole, header_len_of, payload_of, piece_of}
-use Rattle.ip_packet.specs.declared.ipv4.Ipv4Piece.{Ipv4Piece}
+use Rattle.ip_packet.specs.declared.ipv4.piece.Ipv4Piece.{Ipv4Piece}
 use Rattle.lan_frames.specs.Carried.{packet_in}
 use Rattle.lan_frames.specs.Parts.{may_carry, is_ipv4, payload_v4}
 use Rattle.lan_frames.specs.Cuts.{ipv4_part, piece_with, first_piece, second_piece}

@@ -6,7 +6,7 @@ use Rattle.ip_address.specs.Fields.{be16}
 use Rattle.ip_address.specs.Protocol.{protocol_of}
 use Rattle.ip_packet.specs.Parts.{has_flag}
 use Rattle.ip_packet.specs.Ipv4.{payload_of, piece_of, written_piece}
-use Rattle.ip_packet.specs.declared.ipv4.Ipv4Repr.{Ipv4Repr}
+use Rattle.ip_packet.specs.declared.ipv4.repr.Ipv4Repr.{Ipv4Repr}
 use Rattle.lan_frames.specs.declared.part.Part.{Part}
 use Rattle.lan_frames.specs.Carried.{packet_in}
 use Rattle.lan_frames.specs.Parts.{may_carry, is_ipv4, payload_v4}
