@@ -9,3 +9,4 @@ pub mod NdiscSteps
 pub mod Spelled
 pub mod Types
 pub mod Written
+pub mod Equal
