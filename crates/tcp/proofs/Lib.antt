@@ -10,3 +10,4 @@ pub mod OpeningLaws
 pub mod ArrivalLaws
 pub mod OfferMoves
 pub mod OfferLaws
+pub mod RunLaws

@@ -1,3 +1,4 @@
 pub mod Tie
 pub mod History
 pub mod Promises
+pub mod Run

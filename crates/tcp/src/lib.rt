@@ -5,3 +5,4 @@ pub mod arrivals;
 pub mod calls;
 pub mod offers;
 pub mod promises;
+pub mod runs;
