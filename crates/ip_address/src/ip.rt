@@ -5,7 +5,7 @@ ghost use Rattle.ip_address.specs.declared.ip.IpAddress.TheVariants as Address;
 ghost use Rattle.ip_address.specs.declared.ip.IpCidr.TheVariants as Block;
 ghost use Rattle.ip_address.specs.Address.{version_of, IsUnspecified, IsMulticast, IsBroadcast, IsUnicast, IsMask};
 ghost use Rattle.ip_address.specs.AddressTests.{is_unspecified, is_multicast, is_broadcast, is_unicast, is_in_block};
-ghost use Rattle.ip_address.specs.Block.{width_of, block_address, block_prefix_len, IsIn, IsWithin};
+ghost use Rattle.ip_address.specs.Block.{width_of, block_address, block_prefix_len, IsBlock, IsIn, IsWithin};
 ghost use Rattle.ip_address.specs.Protocol.{protocol_number, protocol_of};
 ghost use Rattle.ip_address.specs.Text.{Reads, IsIpText, ReadsIpBlock, IsEndpointText, ip_text, block_text, endpoint_text, listen_endpoint_text};
 
@@ -344,6 +344,16 @@ impl fmt::Display for IpCidr {
             IpCidr::Ipv4(block) => write!(f, "{block}"),
             IpCidr::Ipv6(block) => write!(f, "{block}"),
         }
+    }
+}
+
+/// The block of all IPv4 addresses, `0.0.0.0/0`: what stands in the unused places of a vector of
+/// fixed capacity.
+impl Default for IpCidr {
+    ghost is_default = { λ b. IsBlock b (0 ∷ 0 ∷ 0 ∷ 0 ∷ []) 0 };
+
+    fn default() -> IpCidr {
+        IpCidr::Ipv4(Ipv4Cidr::new(Ipv4Address::UNSPECIFIED, 0))
     }
 }
 
