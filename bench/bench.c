@@ -1,6 +1,7 @@
 // Times calls of the stack beside plain C in one run, the best of many short runs of each: pieces through
 // a ring buffer against two memory copies, the Internet checksum against a simple loop, and reading
-// and writing of a datagram in an IPv4 packet against C functions that do the same work.
+// and writing of a datagram in an IPv4 packet against C functions that do the same work. The assembler's
+// calls are timed alone.
 #include <stdint.h>
 #include <stdio.h>
 #include <stdlib.h>
@@ -8,6 +9,8 @@
 #include <time.h>
 
 uint64_t bench_ring(const uint8_t *piece, size_t piece_len, uint8_t *out, size_t out_len, size_t capacity, uint32_t rounds);
+uint64_t bench_receive(const uint16_t *offsets, size_t offsets_len, const uint16_t *sizes, size_t sizes_len);
+uint64_t bench_add(const uint16_t *offsets, size_t offsets_len, const uint16_t *sizes, size_t sizes_len);
 uint16_t bench_checksum(const uint8_t *bytes, size_t len);
 uint64_t bench_parse(const uint8_t *bytes, size_t len, uint8_t *out, size_t out_len);
 size_t bench_emit(uint8_t *out, size_t out_len, const uint8_t *payload, size_t len, uint32_t source, uint32_t destination, uint16_t src_port, uint16_t dst_port);
@@ -197,6 +200,34 @@ static void time_emit(size_t len) {
     printf("%6zu bytes: %6.1f %6.1f  %.2f\n", len, ours / rounds * 1e9, plain / rounds * 1e9, ours / plain);
 }
 
+enum { PIECES = 6000, PIECE = 10 };
+static uint16_t offsets[PIECES], piece_sizes[PIECES];
+
+static void time_pieces(const char *what, uint64_t (*call)(const uint16_t *, size_t, const uint16_t *, size_t), uint64_t answer) {
+    double best = 1e9;
+    for (int t = 0; t < TRIES; t++) {
+        double start = now();
+        uint64_t was = call(offsets, PIECES, piece_sizes, PIECES);
+        keep_least(&best, start);
+        if (was != answer) fail("wrong answers of the assembler");
+    }
+    printf("%s: %.2f\n", what, best / PIECES * 1e9);
+}
+
+// Pieces in order; pieces that open three holes and then fill them; and pieces that lengthen the last run, or are
+// held already, behind three holes.
+static void time_assembler(void) {
+    static const uint16_t lost[] = {PIECE, 3 * PIECE, 5 * PIECE, 0, 0, 0};
+    for (int i = 0; i < PIECES; i++) offsets[i] = 0, piece_sizes[i] = PIECE;
+    time_pieces("add_then_remove_front in order", bench_receive, (uint64_t)PIECES * PIECE);
+    for (int i = 0; i < PIECES; i++) offsets[i] = lost[i % 6];
+    time_pieces("add_then_remove_front, three holes opened and filled", bench_receive, (uint64_t)PIECES * PIECE);
+    for (int i = 0; i < PIECES; i++) offsets[i] = (uint16_t)(i < 3 ? lost[i] : (3 + i) * PIECE);
+    time_pieces("add behind three holes, a longer last run", bench_add, PIECES);
+    for (int i = 0; i < PIECES; i++) offsets[i] = lost[i % 3];
+    time_pieces("add behind three holes, held already", bench_add, PIECES);
+}
+
 static void each(const char *title, void (*timed)(size_t), const size_t *lens, size_t count) {
     puts(title);
     for (size_t i = 0; i < count; i++) timed(lens[i]);
@@ -206,6 +237,8 @@ int main(void) {
     static const size_t pieces[] = {64, 536, 1460, 8192}, sizes[] = {20, 64, 256, 1500, 9000}, payloads[] = {20, 64, 256, 536, 1472};
     for (size_t i = 0; i < sizeof piece; i++) piece[i] = (uint8_t)(i * 131 + 7);
     each("ring: GB/s in and out, two copies: GB/s, time of the ring / time of the copies", time_ring, pieces, 4);
+    puts("assembler of four runs, ns of a call");
+    time_assembler();
     each("checksum: GB/s, plain loop at -O3: GB/s, time of the checksum / time of the loop", time_checksum, sizes, 5);
     each("parse of IPv4 and UDP, payload: ns, the same in C: ns, ours / C", time_parse, payloads, 5);
     each("emit of IPv4 and UDP, payload: ns, the same in C: ns, ours / C", time_emit, payloads, 5);

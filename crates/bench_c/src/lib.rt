@@ -6,7 +6,7 @@ ghost use Rattle.ip_address.specs.Sum.{word_sum, folded};
 
 use ip_address::{Error, IpAddress, IpProtocol, Ipv4Address};
 use ip_packet::{Ipv4Packet, Ipv4PacketMut, Ipv4Repr, UdpPacket, UdpPacketMut, UdpRepr};
-use net_containers::{ManagedSlice, RingBuffer};
+use net_containers::{Assembler, ManagedSlice, RingBuffer};
 use net_devices::ChecksumCapabilities;
 use std::alloc::Global;
 
@@ -31,6 +31,35 @@ pub extern "C" fn bench_ring(
         passed = passed.saturating_add(ring.dequeue_slice(out) as u64);
     }
     passed
+}
+
+/// Adds pieces to an assembler of four runs, each at its offset from the front, and gives up the
+/// front after each. The answer is how many positions were given up.
+#[unsafe(no_mangle)]
+pub extern "C" fn bench_receive(offsets: &[u16], sizes: &[u16]) -> u64 {
+    let mut held: Assembler<4> = Assembler::new();
+    let mut passed: u64 = 0;
+    for (offset, size) in offsets.iter().zip(sizes) {
+        let (offset, size) = (*offset as usize, *size as usize);
+        if let Ok(front) = held.add_then_remove_front(offset, size) {
+            passed = passed.saturating_add(front as u64);
+        }
+    }
+    passed
+}
+
+/// Adds pieces to an assembler of four runs. The answer is how many were added.
+#[unsafe(no_mangle)]
+pub extern "C" fn bench_add(offsets: &[u16], sizes: &[u16]) -> u64 {
+    let mut held: Assembler<4> = Assembler::new();
+    let mut added: u64 = 0;
+    for (offset, size) in offsets.iter().zip(sizes) {
+        let (offset, size) = (*offset as usize, *size as usize);
+        if held.add(offset, size).is_ok() {
+            added = added.saturating_add(1);
+        }
+    }
+    added
 }
 
 /// The one's complement sum of the bytes, as `ip_address::checksum::data` gives it.

@@ -3,6 +3,7 @@ pub mod Rings
 pub mod RingSteps
 pub mod Answered
 pub mod Runs
+pub mod Kept
 pub mod PacketQueues
 pub mod PacketSteps
 pub mod PacketLaws

@@ -1,7 +1,7 @@
 //! Which positions behind a front have come, as a set with few runs.
-ghost use Rattle.std.specs.Prelude.{◌≡◌, ℕ, ◌+◌, ◌-◌, ◌≤◌, ◌<◌, ◌^◌, ◌↔◌, List, [], ◌∷◌, ◌++◌, length, IsTrue, IsErr, OnOk, OnErr, IfOk};
-ghost use Rattle.net_containers.specs.AssemblerEq.{same_run_lists};
-ghost use Rattle.net_containers.specs.Assembler.{AreRuns, Holds, HoldSame, IsUnion, added, front, joined, without_front};
+ghost use Rattle.std.specs.Prelude.{◌≡◌, ℕ, ◌+◌, ◌-◌, ◌≤◌, ◌<◌, ◌^◌, ◌↔◌, List, [], ◌∷◌, ◌++◌, length, take, drop, replicate, IsTrue, IsErr, OnOk, OnErr, IfOk};
+ghost use Rattle.net_containers.specs.Assembler.{AreRuns, HoldSame, IsUnion, added, front, lowered, without_front};
+ghost use Rattle.net_containers.specs.Contigs.{begun, ended};
 
 use std::fmt;
 use std::marker::Model;
@@ -22,26 +22,12 @@ impl fmt::Display for TooManyHolesError {
 
 impl std::error::Error for TooManyHolesError {}
 
-/// A hole, and the run of positions behind it.
-#[derive(Debug, Clone, Copy)]
-struct Contig {
-    hole_size: usize,
-    data_size: usize,
-}
-
-impl Contig {
-    const EMPTY: Contig = Contig {
-        hole_size: 0,
-        data_size: 0,
-    };
-}
-
 /// A set of positions with at most `N` maximal runs.
 #[derive(Debug, Drop)]
 pub struct Assembler<const N: usize> {
-    contigs: [Contig; N],
+    // The maximal runs, each as its first position and the one behind its last, and behind them `(0, 0)`.
+    ranges: [(usize, usize); N],
     count: usize,
-    end: usize,
 }
 
 impl<const N: usize> Model for Assembler<N> {
@@ -49,30 +35,25 @@ impl<const N: usize> Model for Assembler<N> {
 
     ghost Value = { List (ℕ × ℕ) };
 
-    ghost use Rattle.net_containers.specs.Contigs.{runs_from, AreHeld};
+    ghost use Rattle.net_containers.specs.Contigs.{AreKept};
 
-    ghost view = { λ a. runs_from 0 (take a.count a.contigs) };
+    ghost view = { λ a. take a.count a.ranges };
 
-    ghost invariant = { λ a. AreHeld N a.count a.end a.contigs };
+    ghost invariant = { λ a. AreKept N a.count a.ranges };
 }
 
 /// The maximal runs of an assembler, from the lowest on.
 #[derive(Debug, Drop)]
 pub struct AssemblerIter<'a> {
-    contigs: &'a [Contig],
-    at: usize,
+    ranges: &'a [(usize, usize)],
 }
 
 impl<'a> Model for AssemblerIter<'a> {
-    ghost use Rattle.std.specs.Prelude.{List, ℕ, ◌<◌, ◌^◌};
+    ghost use Rattle.std.specs.Prelude.{List, ℕ};
 
     ghost Value = { List (ℕ × ℕ) };
 
-    ghost use Rattle.net_containers.specs.Contigs.{runs_from, end_of};
-
-    ghost view = { λ s. runs_from s.at s.contigs.now };
-
-    ghost invariant = { λ s. end_of s.at s.contigs.now < 2 ^ 64 };
+    ghost view = { λ s. s.ranges.now };
 }
 
 impl<'a> Iterator for AssemblerIter<'a> {
@@ -85,12 +66,9 @@ impl<'a> Iterator for AssemblerIter<'a> {
     ghost remaining = { item_count (λ s. s) };
 
     fn next(&mut self) -> Option<(usize, usize)> {
-        let (first, others) = self.contigs.split_first()?;
-        let start = self.at + first.hole_size;
-        let end = start + first.data_size;
-        self.contigs = others;
-        self.at = end;
-        Some((start, end))
+        let (first, others) = self.ranges.split_first()?;
+        self.ranges = others;
+        Some(*first)
     }
 }
 
@@ -101,9 +79,8 @@ impl<const N: usize> Assembler<N> {
         ensures { result ≡ [] }
     {
         Assembler {
-            contigs: [Contig::EMPTY; N],
+            ranges: [(0, 0); N],
             count: 0,
-            end: 0,
         }
     }
 
@@ -111,10 +88,9 @@ impl<const N: usize> Assembler<N> {
     pub fn clear(&mut self)
         ensures { self.new ≡ [] }
     {
-        let contigs = [Contig::EMPTY; N];
-        self.contigs = contigs;
+        let ranges = [(0, 0); N];
+        self.ranges = ranges;
         self.count = 0;
-        self.end = 0;
     }
 
     /// Returns the maximal runs in rising order, each as its first position and the one behind its last.
@@ -128,8 +104,7 @@ impl<const N: usize> Assembler<N> {
         ensures room { 1 ≤ N }
     {
         AssemblerIter {
-            contigs: &self.contigs[..self.count],
-            at: 0,
+            ranges: &self.ranges[..self.count],
         }
     }
 
@@ -137,52 +112,15 @@ impl<const N: usize> Assembler<N> {
     pub fn peek_front(&self) -> usize
         ensures { result ≡ front self.now }
     {
-        if self.count > 0 && self.contigs[0].hole_size == 0 {
-            self.contigs[0].data_size
-        } else {
-            0
-        }
+        let (start, end) = self.ranges[0];
+        if start == 0 { end } else { 0 }
     }
 
     /// Returns whether no position is held.
     pub fn is_empty(&self) -> bool
         ensures { IsTrue result ↔ (self.now ≡ []) }
     {
-        self.contigs[..self.count].is_empty()
-    }
-
-    /// Returns whether the two have the same runs.
-    fn has_runs_of(&self, other: &Assembler<N>) -> bool
-        ensures value { result ≡ same_run_lists self.now other.now }
-        ensures runs { AreRuns self.now × AreRuns other.now }
-    {
-        let mut others = other.iter_data();
-        for run in self.iter_data() {
-            if others.next() != Some(run) {
-                return false;
-            }
-        }
-        others.next().is_none()
-    }
-
-    /// Appends a run behind the others.
-    fn push(&mut self, start: usize, end: usize) -> Result<(), TooManyHolesError>
-        requires { AreRuns (self.old ++ (start, end) ∷ []) }
-        ensures ok { OnOk result (self.new ≡ self.old ++ (start, end) ∷ []) }
-        ensures refused { IsErr result ↔ (N ≤ length self.old) }
-        ensures err { OnErr result (self.new ≡ self.old) }
-        ensures few { length self.new ≤ N }
-    {
-        if self.count == N {
-            return Err(TooManyHolesError);
-        }
-        self.contigs[self.count] = Contig {
-            hole_size: start - self.end,
-            data_size: end - start,
-        };
-        self.count += 1;
-        self.end = end;
-        Ok(())
+        self.count == 0
     }
 
     /// Adds `size` positions from `offset` on, if what is then held has no more than `N` runs. Nothing changes otherwise.
@@ -193,39 +131,24 @@ impl<const N: usize> Assembler<N> {
         ensures ok { OnOk result (self.new ≡ added self.old offset size) }
         ensures err { OnErr result (self.new ≡ self.old) }
     {
-        let _ = &self.contigs;
+        let runs = &self.ranges[..self.count];
         if size == 0 {
             return Ok(());
         }
-        *self = self.merged(offset, offset + size)?;
+        let (start, end) = (offset, offset + size);
+        let (first, behind) = (ended_before(runs, start), begun_by(runs, end));
+        if first < behind {
+            let run = (runs[first].0.min(start), runs[behind - 1].1.max(end));
+            self.ranges[first] = run;
+            remove(&mut self.ranges, first + 1, behind);
+            self.count -= behind - first - 1;
+        } else if self.count < N {
+            insert(&mut self.ranges, first, (start, end));
+            self.count += 1;
+        } else {
+            return Err(TooManyHolesError);
+        }
         Ok(())
-    }
-
-    /// Returns what is held together with the positions from `start` to `end`.
-    fn merged(&self, mut start: usize, mut end: usize) -> Result<Assembler<N>, TooManyHolesError>
-        requires { start < end }
-        ensures refused { IsErr result ↔ (N < length (joined self.now start end)) }
-        ensures ok { IfOk result (λ a. a ≡ joined self.now start end) }
-    {
-        let runs = self.iter_data();
-        let mut union = Assembler::new();
-        let mut waits = true;
-        for (from, to) in runs {
-            if !waits || to < start {
-                union.push(from, to)?;
-            } else if end < from {
-                union.push(start, end)?;
-                union.push(from, to)?;
-                waits = false;
-            } else {
-                start = from.min(start);
-                end = to.max(end);
-            }
-        }
-        if waits {
-            union.push(start, end)?;
-        }
-        Ok(union)
     }
 
     /// Gives up the run at 0, lowers every other position by its length, and returns that length, or 0 where there is none.
@@ -236,9 +159,10 @@ impl<const N: usize> Assembler<N> {
     {
         let size = self.peek_front();
         if size > 0 {
-            self.contigs.rotate_left(1);
+            // The run at 0 becomes an unused pair.
+            lower(&mut self.ranges[..self.count], size);
+            self.ranges.rotate_left(1);
             self.count -= 1;
-            self.end -= size;
         }
         size
     }
@@ -256,14 +180,59 @@ impl<const N: usize> Assembler<N> {
             × (self.new ≡ without_front (added self.old offset size))) }
         ensures err { OnErr result (self.new ≡ self.old) }
     {
-        if offset == 0 && size > 0 && self.count > 0 && size < self.contigs[0].hole_size {
-            self.contigs[0].hole_size -= size;
-            self.end -= size;
+        // Positions that reach no run need no place.
+        if offset == 0 && begun_by(&self.ranges[..self.count], size) == 0 {
+            lower(&mut self.ranges[..self.count], size);
             return Ok(size);
         }
         self.add(offset, size)?;
         Ok(self.remove_front())
     }
+}
+
+/// Counts the runs that end before a position and don't touch it.
+fn ended_before(runs: &[(usize, usize)], position: usize) -> usize
+    ensures value { result ≡ ended runs.now position }
+    ensures within { result ≤ length runs.now }
+{
+    runs.iter().take_while(|run| run.1 < position).count()
+}
+
+/// Counts the runs that begin at a position or before it.
+fn begun_by(runs: &[(usize, usize)], position: usize) -> usize
+    ensures value { result ≡ begun runs.now position }
+    ensures within { result ≤ length runs.now }
+{
+    runs.iter().take_while(|run| run.0 <= position).count()
+}
+
+/// Lowers every run by a distance, down to 0 at most.
+fn lower(runs: &mut [(usize, usize)], by: usize)
+    ensures { runs.new ≡ lowered by runs.old }
+{
+    for run in runs.iter_mut() {
+        *run = (run.0.saturating_sub(by), run.1.saturating_sub(by));
+    }
+}
+
+/// Puts a pair in its place and moves those behind it on; the last one is lost.
+fn insert(ranges: &mut [(usize, usize)], place: usize, range: (usize, usize))
+    requires { place < length ranges.old }
+    ensures { ranges.new ≡ take place ranges.old ++ range ∷ take (length ranges.old - 1 - place) (drop place ranges.old) }
+{
+    ranges[place..].rotate_right(1);
+    ranges[place] = range;
+}
+
+/// Takes the pairs from `start` to `end` out and moves those behind them up, with `(0, 0)` at the end.
+fn remove(ranges: &mut [(usize, usize)], start: usize, end: usize)
+    requires order { start ≤ end }
+    requires within { end ≤ length ranges.old }
+    ensures { ranges.new ≡ take start ranges.old ++ drop end ranges.old ++ replicate (end - start) (0, 0) }
+{
+    let kept = ranges.len() - (end - start);
+    ranges[start..].rotate_left(end - start);
+    ranges[kept..].fill((0, 0));
 }
 
 // Assemblers that hold the same positions are equal.
@@ -281,7 +250,7 @@ impl<const N: usize> PartialEq for Assembler<N> {
         ensures value { result ≡ same_run_lists self.now other.now }
         ensures positions { IsTrue result ↔ HoldSame self.now other.now }
     {
-        self.has_runs_of(other)
+        self.ranges == other.ranges
     }
 }
 
