@@ -1,1 +1,3 @@
 pub mod Receive
+pub mod Socket
+pub mod Replies

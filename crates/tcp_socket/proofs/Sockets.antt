@@ -1,0 +1,36 @@
+-- What each step keeps of a socket's invariant. Not checked yet.
+use Rattle.std.proofs.Common.{◌≡◌, ℕ, ◌+◌, ◌-◌, ◌==◌, ◌^◌, ◌<◌, ◌≤◌, min, Bool, true, false, List, [], ◌∷◌, ◌++◌, length, take, drop, Option, Some, None, if◌then◌else◌, refl, sym, ap, ◌∙◌, arith, length-append, length-drop}
+use Rattle.std.specs.Prelude.{IfSome, ℤ}
+use Rattle.std.proofs.lemmas.List.{length-take-le, length-take}
+use Rattle.net_base.specs.Ring.{Ring, ring, capacity, rotated, storage_of, cleared, anchored, overwritten, extended, enqueued, released}
+use Rattle.net_base.specs.Time.{IsMoment}
+use Rattle.tcp_socket.specs.Receive.{FitsBuffer}
+
+length-rotated : (n : ℕ) (xs : List ℕ) → length (rotated n xs) ≡ length xs
+length-rotated n xs = rw (length-append, length-drop, length-take) (omega arith)
+
+pub fits_cleared : (r : Ring ℕ) → FitsBuffer r → FitsBuffer (cleared r)
+fits_cleared r fits = rw (length-rotated (capacity r - r.start) (r.queue ++ r.free), length-append) (omega (arith, fits))
+
+pub fits_anchored : (r : Ring ℕ) → FitsBuffer r → FitsBuffer (anchored r)
+fits_anchored r fits =
+    elim (length r.queue == 0) as (λ v. FitsBuffer (if v then cleared r else r)) [ true ↦ fits_cleared r fits | false ↦ fits ]
+
+pub fits_released : (r : Ring ℕ) (n : ℕ) → n ≤ length r.queue → FitsBuffer r → FitsBuffer (released r n)
+fits_released r n within fits = rw (length-append, length-drop, length-take-le n r.queue within) (omega (arith, fits))
+
+pub fits_enqueued : (r : Ring ℕ) (ws : List ℕ) → length ws ≤ length r.free → FitsBuffer r → FitsBuffer (enqueued r ws)
+fits_enqueued r ws within fits = rw (length-append, length-drop) (omega (arith, fits, within))
+
+-- a start that is kept or forgotten is a moment where it was one
+pub start_kept : (test : Bool) (since : Option ℤ) → IfSome since IsMoment → IfSome (if test then since else None) IsMoment
+start_kept true since is = is
+start_kept false since is = tt
+
+pub start_set : (test : Bool) (now : ℤ) → IsMoment now → IfSome (if test then Some now else None) IsMoment
+start_set true now is = is
+start_set false now is = tt
+
+pub start_made : (test : Bool) (now : ℤ) (since : Option ℤ) → IsMoment now → IfSome since IsMoment → IfSome (if test then Some now else since) IsMoment
+start_made true now since is old = is
+start_made false now since is old = old
