@@ -1,11 +1,13 @@
 -- What holds of each socket, and what its getters give.
-use Rattle.std.specs.Prelude.{ℕ, ◌≤◌, Option, Some, None, IfSome}
+use Rattle.std.specs.Prelude.{ℕ, ◌≤◌, nat_le, ◌&&◌, Bool, length, Option, Some, None, IfSome}
 use Rattle.net_base.specs.Ring.{Ring}
 use Rattle.net_base.specs.Time.{IsMoment}
 use Rattle.ip_wire.specs.IpEndpoint.{IpEndpoint}
 use Rattle.tcp_model.specs.Names.{local_of, remote_of}
 use Rattle.tcp_model.specs.Rules.{unbroken}
+use Rattle.tcp_model.specs.States.{takes_writes}
 use Rattle.tcp_model.specs.Unsettled.{EndsNear}
+use Rattle.tcp_model.specs.Value.{TcpValue}
 use Rattle.tcp_socket.specs.Receive.{FitsBuffer}
 use Rattle.tcp_model.specs.declared.block.Block.{Block}
 use Rattle.tcp_model.specs.declared.block.EndpointPair.{EndpointPair}
@@ -41,3 +43,7 @@ local_in (Some pair) = Some (record { addr = local_of pair.addresses; port = pai
 abbrev pub remote_in : Option EndpointPair → Option IpEndpoint
 remote_in None = None
 remote_in (Some pair) = Some (record { addr = remote_of pair.addresses; port = pair.remote_port })
+
+-- there is room for so many bytes
+abbrev pub takes_all : TcpValue → ℕ → Bool
+takes_all v count = takes_writes v.block.state && nat_le count (length v.queued.free)

@@ -1,5 +1,5 @@
 //! The calls of a user. Each of them first settles an open offer as not sent.
-ghost use Rattle.std.specs.Prelude.{◌≡◌, ◌≤◌, ℕ, List, ◌++◌, length, take, drop, true, false, Ok, Err, IfOk, IfErr, OnErr, None, Some, if◌then◌else◌};
+ghost use Rattle.std.specs.Prelude.{◌≡◌, ◌≤◌, ℕ, List, ◌++◌, length, take, drop, true, false, Ok, Err, IfOk, IfErr, OnErr, IsOk, is_ok, None, Some, if◌then◌else◌};
 ghost use Rattle.std.specs.Fn.{FnOnceTakesAt, FnOnceReturnsAt, FnOnceTakesAtMut, FnOnceReturnsAtMut};
 ghost use Rattle.net_base.specs.Ring.{anchored, extended, overwritten, contiguous, offered};
 ghost use Rattle.socket_base.specs.Context.{ContextValue};
@@ -282,9 +282,23 @@ impl Socket {
 }
 
 impl fmt::Write for Socket {
-    fn write_str(&mut self, s: &str) -> fmt::Result {
+    ghost use Rattle.tcp_model.specs.Calls.{send_after};
+    ghost use Rattle.tcp_socket.specs.Socket.{takes_all};
+    ghost use Rattle.std.specs.Prelude.{length, ◌≡◌, true};
+
+    ghost write_str_gives = { λ v text v'. (takes_all v (length text) ≡ true) × (v' ≡ send_after v text) };
+
+    /// Queues the text. It fails where there is no room for all of it; then a part is queued.
+    fn write_str(&mut self, s: &str) -> fmt::Result
+        ensures ok { IsOk result → (takes_all self.old (length s.now) ≡ true) × (self.new ≡ send_after self.old s.now) }
+        ensures answer { is_ok result ≡ takes_all self.old (length s.now) }
+        ensures state { self.new ≡ send_after self.old s.now }
+    {
         let bytes = s.as_bytes();
-        if self.send_slice(bytes) == Ok(bytes.len()) {
+        let Ok(count) = self.send_slice(bytes) else {
+            return Err(fmt::Error);
+        };
+        if count == bytes.len() {
             Ok(())
         } else {
             Err(fmt::Error)
