@@ -1,13 +1,15 @@
 -- What each step keeps of a socket's invariant.
-use Rattle.std.proofs.Common.{◌≡◌, ℕ, ◌+◌, ◌-◌, ◌==◌, ◌^◌, ◌<◌, ◌≤◌, min, Bool, true, false, List, [], ◌∷◌, ◌++◌, length, take, drop, Option, Some, None, if◌then◌else◌, refl, sym, ap, ◌∙◌, arith, length-append, length-drop}
+use Rattle.std.proofs.Common.{◌≡◌, ℕ, ◌+◌, ◌-◌, ◌==◌, ◌^◌, ◌<◌, ◌≤◌, min, Bool, true, false, List, [], ◌∷◌, ◌++◌, length, take, drop, Option, Some, None, Ok, if◌then◌else◌, refl, sym, ap, ◌∙◌, arith, length-append, length-drop}
 use Rattle.std.specs.Prelude.{IfSome, ℤ}
 use Rattle.std.proofs.lemmas.List.{length-take-le, length-take}
 use Rattle.net_base.specs.Ring.{Ring, ring, capacity, rotated, storage_of, cleared, anchored, overwritten, extended, enqueued, released, contiguous}
 use Rattle.net_base.specs.Time.{IsMoment}
 use Rattle.tcp_model.specs.Acknowledged.{ended_if, block_acknowledged}
 use Rattle.tcp_model.specs.declared.block.Block.{Block}
-use Rattle.tcp_socket.specs.Receive.{FitsBuffer}
-use Rattle.tcp_socket.specs.Socket.{IsBlock, IsSocket}
+use Rattle.tcp_model.specs.declared.error.RecvError.{RecvError}
+use Rattle.tcp_model.specs.Timeout.{timeout_runs, timeout_kept}
+use Rattle.tcp_socket.specs.Receive.{FitsBuffer, or_done}
+use Rattle.tcp_socket.specs.Socket.{IsBlock, if_open}
 
 length-rotated : (n : ℕ) (xs : List ℕ) → length (rotated n xs) ≡ length xs
 length-rotated n xs = rw (length-append, length-drop, length-take) (omega arith)
@@ -28,10 +30,23 @@ pub fits_enqueued : (r : Ring ℕ) (ws : List ℕ) → length ws ≤ length r.fr
 fits_enqueued r ws within fits = rw (length-append, length-drop) (omega (arith, fits, within))
 
 pub fits_overwritten : (r : Ring ℕ) (ws : List ℕ) → length ws ≤ length r.free → FitsBuffer r → FitsBuffer (overwritten r 0 ws)
-fits_overwritten r ws within fits = rw (length-append, length-drop) (omega (arith, fits, within))
+fits_overwritten r ws within fits = simp (length-append, length-drop, length-take) (omega (arith, fits, within))
 
 pub fits_extended : (r : Ring ℕ) (n : ℕ) → FitsBuffer r → FitsBuffer (extended r n)
 fits_extended r n fits = rw (length-append, length-drop, length-take) (omega (arith, fits))
+
+free_anchored : (r : Ring ℕ) → length r.free ≤ length (anchored r).free
+free_anchored r =
+    elim (length r.queue == 0) as (λ v. length r.free ≤ length (if v then cleared r else r).free) [
+      | true ↦ rw (length-rotated (capacity r - r.start) (r.queue ++ r.free), length-append) (omega arith)
+      | false ↦ omega arith
+    ]
+
+-- as many bytes queued as there is room for
+pub fits_queued : (r : Ring ℕ) (n : ℕ) (bytes : List ℕ) → n ≡ min (length bytes) (length r.free) → FitsBuffer r → FitsBuffer (enqueued (anchored r) (take n bytes))
+fits_queued r n bytes size fits =
+    let room = free_anchored r in
+    fits_enqueued (anchored r) (take n bytes) (rw length-take (omega (arith, size, room))) (fits_anchored r fits)
 
 -- bytes that were written to what `send` lends, of which so many are queued
 pub fits_sent : (r : Ring ℕ) (left : List ℕ) (n : ℕ) → length left ≡ contiguous (anchored r) → FitsBuffer r → FitsBuffer (extended (overwritten (anchored r) 0 left) n)
@@ -54,7 +69,21 @@ pub start_made : (test : Bool) (now : ℤ) (since : Option ℤ) → IsMoment now
 start_made true now since is old = is
 start_made false now since is old = old
 
+pub kept_timeout : (b : Block) (queued : ℕ) → IsBlock b → IsBlock (timeout_kept b queued)
+kept_timeout b queued is = record { start = start_kept (timeout_runs b queued) b.timers.timeout_since is.start; mss = is.mss }
+
 -- the end of LAST-ACK leaves both
 ended : (test : Bool) (b : Block) → IsBlock b → IsBlock (ended_if test b)
 ended true b is = record { start = is.start; mss = is.mss }
 ended false b is = is
+
+-- ANSWERS
+
+-- what isn't refused
+pub is_allowed : (test : Bool) → if_open test ≡ Ok tt → test ≡ true
+is_allowed true same = refl
+is_allowed false same = absurd (cc)
+
+pub none_refuses : (refusal : Option RecvError) → or_done refusal ≡ Ok tt → refusal ≡ None
+none_refuses None same = refl
+none_refuses (Some e) same = absurd (cc)

@@ -1,5 +1,5 @@
 -- What holds of each socket, and what its getters give.
-use Rattle.std.specs.Prelude.{ℕ, ◌≤◌, nat_le, ◌&&◌, Bool, length, Option, Some, None, IfSome}
+use Rattle.std.specs.Prelude.{ℕ, ◌≤◌, nat_le, ◌&&◌, Bool, length, true, false, Option, Some, None, IfSome, Result, Ok, Err}
 use Rattle.net_base.specs.Ring.{Ring}
 use Rattle.net_base.specs.Time.{IsMoment}
 use Rattle.ip_wire.specs.IpEndpoint.{IpEndpoint}
@@ -10,6 +10,8 @@ use Rattle.tcp_model.specs.Unsettled.{EndsNear}
 use Rattle.tcp_model.specs.Value.{TcpValue}
 use Rattle.tcp_socket.specs.Receive.{FitsBuffer}
 use Rattle.tcp_model.specs.declared.block.Block.{Block}
+use Rattle.tcp_model.specs.declared.error.SendError.{SendError}
+use Rattle.tcp_model.specs.declared.error.SendError.TheVariants as Send
 use Rattle.tcp_model.specs.declared.block.EndpointPair.{EndpointPair}
 use Rattle.tcp_model.specs.declared.offer.OfferKind.{OfferKind}
 use Rattle.tcp_model.specs.declared.offer.OfferKind.TheVariants as Kind
@@ -43,6 +45,11 @@ local_in (Some pair) = Some (record { addr = local_of pair.addresses; port = pai
 abbrev pub remote_in : Option EndpointPair → Option IpEndpoint
 remote_in None = None
 remote_in (Some pair) = Some (record { addr = remote_of pair.addresses; port = pair.remote_port })
+
+-- whether the user may send, as an answer
+abbrev pub if_open : Bool → Result (Unit {0}) SendError
+if_open true = Ok tt
+if_open false = Err Send.InvalidState
 
 -- there is room for so many bytes
 abbrev pub takes_all : TcpValue → ℕ → Bool

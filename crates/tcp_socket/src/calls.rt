@@ -9,8 +9,8 @@ ghost use Rattle.tcp_model.specs.Blocks.{fresh_block};
 ghost use Rattle.tcp_model.specs.Calls.{listening, listen_answer, listen_after, source_by, pair_for, connect_answer, connect_after, connect_draws, send_answer, sent_more, send_after, recv_refusal, recv_answer, recv_after, close_after, abort_after};
 ghost use Rattle.tcp_model.specs.States.{takes_writes};
 ghost use Rattle.tcp_model.specs.Value.{opened, unoffered};
-ghost use Rattle.tcp_model.specs.declared.error.SendError.TheVariants as Send;
 ghost use Rattle.tcp_socket.specs.Receive.{unbroken, lent, or_done};
+ghost use Rattle.tcp_socket.specs.Socket.{if_open, takes_all};
 
 use crate::Socket;
 use ip_wire::{IpAddress, IpEndpoint, IpListenEndpoint, SeqNumber};
@@ -175,7 +175,7 @@ impl Socket {
     }
 
     fn check_send(&self) -> Result<(), SendError>
-        ensures { result ≡ (if takes_writes self.now.block.state then Ok tt else Err Send.InvalidState) }
+        ensures { result ≡ if_open (takes_writes self.now.block.state) }
     {
         if self.block.state.takes_writes() {
             Ok(())

@@ -1,6 +1,7 @@
 //! What a user may set. Each setting first settles an open offer as not sent.
 ghost use Rattle.std.specs.Prelude.{◌≡◌, ◌≢◌, Some};
-ghost use Rattle.tcp_model.specs.Settings.{set_timeout, set_keep_alive, set_ack_delay, set_nagle_enabled, set_hop_limit, set_tsval_generator, pause_synack, set_congestion_control};
+ghost use Rattle.tcp_model.specs.Settings.{with_timeout_kept, set_timeout, set_keep_alive, set_ack_delay, set_nagle_enabled, set_hop_limit, set_tsval_generator, pause_synack, set_congestion_control};
+ghost use Rattle.tcp_model.specs.Value.{unoffered};
 
 use crate::Socket;
 use ip_wire::TcpTimestampGenerator;
@@ -8,13 +9,21 @@ use net_base::{Duration, Instant};
 use tcp_model::{CongestionControl, Reno};
 
 impl Socket {
+    /// Forgets the start of the user timeout where it doesn't run any more.
+    fn keep_timeout(&mut self)
+        ensures { self.new ≡ with_timeout_kept (unoffered self.old) }
+    {
+        self.offered = None;
+        self.block.keep_timeout(self.queued.len());
+    }
+
     /// Sets the user timeout: how long the remote may be silent while something waits for it.
     pub fn set_timeout(&mut self, duration: Option<Duration>)
         ensures { self.new ≡ set_timeout self.old duration }
     {
         self.offered = None;
         self.block.settings.timeout = duration;
-        self.block.keep_timeout(self.queued.len());
+        self.keep_timeout();
     }
 
     /// Sets the delay of an acknowledgement.
@@ -45,7 +54,7 @@ impl Socket {
         };
         self.block.settings.keep_alive = interval;
         self.block.settings.keep_alive_at = first;
-        self.block.keep_timeout(self.queued.len());
+        self.keep_timeout();
     }
 
     /// Sets the hop limit. A limit is not 0.

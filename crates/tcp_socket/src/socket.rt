@@ -12,7 +12,7 @@ use tcp_model::{Block, OpenOffer, Settings};
 pub type SocketBuffer = RingBuffer<u8>;
 
 /// A TCP socket: its control block, a buffer for each way, and the offer that isn't settled.
-#[derive(Drop)]
+#[derive(Debug, Drop)]
 pub struct Socket {
     pub(crate) block: Block,
     pub(crate) received: ReceiveBuffer,
