@@ -1,13 +1,18 @@
--- What each step keeps of a socket's invariant. Not checked yet.
+-- What each step keeps of a socket's invariant.
 use Rattle.std.proofs.Common.{◌≡◌, ℕ, ◌+◌, ◌-◌, ◌==◌, ◌^◌, ◌<◌, ◌≤◌, min, Bool, true, false, List, [], ◌∷◌, ◌++◌, length, take, drop, Option, Some, None, if◌then◌else◌, refl, sym, ap, ◌∙◌, arith, length-append, length-drop}
 use Rattle.std.specs.Prelude.{IfSome, ℤ}
 use Rattle.std.proofs.lemmas.List.{length-take-le, length-take}
 use Rattle.net_base.specs.Ring.{Ring, ring, capacity, rotated, storage_of, cleared, anchored, overwritten, extended, enqueued, released}
 use Rattle.net_base.specs.Time.{IsMoment}
+use Rattle.tcp_model.specs.Acknowledged.{ended_if, block_acknowledged}
+use Rattle.tcp_model.specs.declared.block.Block.{Block}
 use Rattle.tcp_socket.specs.Receive.{FitsBuffer}
+use Rattle.tcp_socket.specs.Socket.{IsBlock, IsSocket}
 
 length-rotated : (n : ℕ) (xs : List ℕ) → length (rotated n xs) ≡ length xs
 length-rotated n xs = rw (length-append, length-drop, length-take) (omega arith)
+
+-- THE SEND RING
 
 pub fits_cleared : (r : Ring ℕ) → FitsBuffer r → FitsBuffer (cleared r)
 fits_cleared r fits = rw (length-rotated (capacity r - r.start) (r.queue ++ r.free), length-append) (omega (arith, fits))
@@ -22,6 +27,8 @@ fits_released r n within fits = rw (length-append, length-drop, length-take-le n
 pub fits_enqueued : (r : Ring ℕ) (ws : List ℕ) → length ws ≤ length r.free → FitsBuffer r → FitsBuffer (enqueued r ws)
 fits_enqueued r ws within fits = rw (length-append, length-drop) (omega (arith, fits, within))
 
+-- THE CONTROL BLOCK
+
 -- a start that is kept or forgotten is a moment where it was one
 pub start_kept : (test : Bool) (since : Option ℤ) → IfSome since IsMoment → IfSome (if test then since else None) IsMoment
 start_kept true since is = is
@@ -34,3 +41,8 @@ start_set false now is = tt
 pub start_made : (test : Bool) (now : ℤ) (since : Option ℤ) → IsMoment now → IfSome since IsMoment → IfSome (if test then Some now else since) IsMoment
 start_made true now since is old = is
 start_made false now since is old = old
+
+-- the end of LAST-ACK leaves both
+ended : (test : Bool) (b : Block) → IsBlock b → IsBlock (ended_if test b)
+ended true b is = record { start = is.start; mss = is.mss }
+ended false b is = is

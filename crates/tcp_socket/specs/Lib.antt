@@ -1,3 +1,4 @@
 pub mod Receive
 pub mod Socket
 pub mod Replies
+pub mod Dispatch

@@ -1,30 +1,38 @@
 -- What holds of each socket, and what its getters give.
-use Rattle.std.specs.Prelude.{ℕ, ◌+◌, ◌<◌, ◌≤◌, ◌^◌, length, Option, Some, None, IfSome}
+use Rattle.std.specs.Prelude.{ℕ, ◌≤◌, Option, Some, None, IfSome}
 use Rattle.net_base.specs.Ring.{Ring}
 use Rattle.net_base.specs.Time.{IsMoment}
 use Rattle.ip_wire.specs.IpEndpoint.{IpEndpoint}
 use Rattle.tcp_model.specs.Names.{local_of, remote_of}
-use Rattle.tcp_model.specs.Settled.{end_of}
-use Rattle.tcp_model.specs.Value.{TcpValue}
+use Rattle.tcp_model.specs.Rules.{unbroken}
+use Rattle.tcp_model.specs.Unsettled.{EndsNear}
 use Rattle.tcp_socket.specs.Receive.{FitsBuffer}
 use Rattle.tcp_model.specs.declared.block.Block.{Block}
 use Rattle.tcp_model.specs.declared.block.EndpointPair.{EndpointPair}
+use Rattle.tcp_model.specs.declared.offer.OfferKind.{OfferKind}
+use Rattle.tcp_model.specs.declared.offer.OfferKind.TheVariants as Kind
 use Rattle.tcp_model.specs.declared.offer.OpenOffer.{OpenOffer}
 
--- an open offer was made at a moment, and its segment ends less than 2 ^ 32 past SND.UNA
-pub record IsOpen (b : Block) (o : OpenOffer) : Type 0 where
-  pub moment : IsMoment o.moment
-  pub end : end_of b o < 2 ^ 32
+-- the payload lies in the send ring, in one piece; a keep-alive's isn't part of it
+abbrev pub LiesInRing : OfferKind → Ring ℕ → OpenOffer → Type 0
+LiesInRing Kind.KeepAlive queued o = Unit {0}
+LiesInRing kind queued o = o.len ≤ unbroken queued o.place
 
--- the start of the user timeout is a moment
-abbrev pub HasStart : Block → Type 0
-HasStart b = IfSome b.timers.timeout_since IsMoment
+-- an open offer was made at a moment, and its segment is as it was then
+pub record IsOpen (b : Block) (queued : Ring ℕ) (o : OpenOffer) : Type 0 where
+  pub moment : IsMoment o.moment
+  pub end : EndsNear o.kind b o
+  pub payload : LiesInRing o.kind queued o
+
+-- the user timeout started at a moment, and the remote takes at least one byte
+pub record IsBlock (b : Block) : Type 0 where
+  pub start : IfSome b.timers.timeout_since IsMoment
+  pub mss : 1 ≤ b.peer.mss
 
 pub record IsSocket (b : Block) (queued : Ring ℕ) (offered : Option OpenOffer) : Type 0 where
   pub room : FitsBuffer queued
-  pub start : HasStart b
-  pub mss : 1 ≤ b.peer.mss
-  pub unsettled : IfSome offered (IsOpen b)
+  pub block : IsBlock b
+  pub unsettled : IfSome offered (IsOpen b queued)
 
 abbrev pub local_in : Option EndpointPair → Option IpEndpoint
 local_in None = None
