@@ -2,7 +2,7 @@
 use Rattle.std.proofs.Common.{◌≡◌, ℕ, ◌+◌, ◌-◌, ◌==◌, ◌^◌, ◌<◌, ◌≤◌, min, Bool, true, false, List, [], ◌∷◌, ◌++◌, length, take, drop, Option, Some, None, if◌then◌else◌, refl, sym, ap, ◌∙◌, arith, length-append, length-drop}
 use Rattle.std.specs.Prelude.{IfSome, ℤ}
 use Rattle.std.proofs.lemmas.List.{length-take-le, length-take}
-use Rattle.net_base.specs.Ring.{Ring, ring, capacity, rotated, storage_of, cleared, anchored, overwritten, extended, enqueued, released}
+use Rattle.net_base.specs.Ring.{Ring, ring, capacity, rotated, storage_of, cleared, anchored, overwritten, extended, enqueued, released, contiguous}
 use Rattle.net_base.specs.Time.{IsMoment}
 use Rattle.tcp_model.specs.Acknowledged.{ended_if, block_acknowledged}
 use Rattle.tcp_model.specs.declared.block.Block.{Block}
@@ -26,6 +26,18 @@ fits_released r n within fits = rw (length-append, length-drop, length-take-le n
 
 pub fits_enqueued : (r : Ring ℕ) (ws : List ℕ) → length ws ≤ length r.free → FitsBuffer r → FitsBuffer (enqueued r ws)
 fits_enqueued r ws within fits = rw (length-append, length-drop) (omega (arith, fits, within))
+
+pub fits_overwritten : (r : Ring ℕ) (ws : List ℕ) → length ws ≤ length r.free → FitsBuffer r → FitsBuffer (overwritten r 0 ws)
+fits_overwritten r ws within fits = rw (length-append, length-drop) (omega (arith, fits, within))
+
+pub fits_extended : (r : Ring ℕ) (n : ℕ) → FitsBuffer r → FitsBuffer (extended r n)
+fits_extended r n fits = rw (length-append, length-drop, length-take) (omega (arith, fits))
+
+-- bytes that were written to what `send` lends, of which so many are queued
+pub fits_sent : (r : Ring ℕ) (left : List ℕ) (n : ℕ) → length left ≡ contiguous (anchored r) → FitsBuffer r → FitsBuffer (extended (overwritten (anchored r) 0 left) n)
+fits_sent r left n size fits =
+    let within : length left ≤ length (anchored r).free = omega (arith, size) in
+    fits_extended (overwritten (anchored r) 0 left) n (fits_overwritten (anchored r) left within (fits_anchored r fits))
 
 -- THE CONTROL BLOCK
 
