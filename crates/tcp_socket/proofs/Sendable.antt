@@ -156,24 +156,24 @@ fits_choice kind cx v pair c is lies small =
     (length-part v.queued.queue c.place c.len (omega (arith, lies))) (omega (arith, room, stamp)) (omega (arith, room, small))
 
 -- as many bytes as the size limit allows
-fits_limit : (b : Block) (addresses : AddressPair) (ip_mtu len : ℕ) → ip_mtu < 2 ^ 16 → len ≤ size_limit b addresses ip_mtu → ip_header_len addresses + (20 + stamp_len b + len) < 2 ^ 16
-fits_limit b addresses ip_mtu len small fits =
+fits_limit : (b : Block) (addresses : AddressPair) (ip_mtu len : ℕ) → len ≤ size_limit b addresses ip_mtu → ip_header_len addresses + (20 + stamp_len b + len) < 2 ^ 16
+fits_limit b addresses ip_mtu len fits =
     let stamp = stamp_len_small b in
     let ip = ip_header_small addresses in
-    omega (arith, small, fits, stamp, ip)
+    omega (arith, fits, stamp, ip)
 
-fits_text : (cx : ContextValue) (v : TcpValue) (pair : EndpointPair) → cx.ip_mtu < 2 ^ 16 → Fits (offer_choice Kind.Text cx v pair (text_choice v.block pair.addresses cx.ip_mtu v.queued)).socket
-fits_text cx v pair small =
+fits_text : (cx : ContextValue) (v : TcpValue) (pair : EndpointPair) → Fits (offer_choice Kind.Text cx v pair (text_choice v.block pair.addresses cx.ip_mtu v.queued)).socket
+fits_text cx v pair =
     let most = min (size_limit v.block pair.addresses cx.ip_mtu) (unbroken v.queued (next_place v.block)) in
     let least = window_small v.block most in
     fits_choice Kind.Text cx v pair (text_choice v.block pair.addresses cx.ip_mtu v.queued) refl (omega (arith, least))
-    (fits_limit v.block pair.addresses cx.ip_mtu (window_limit v.block most) small (omega (arith, least)))
+    (fits_limit v.block pair.addresses cx.ip_mtu (window_limit v.block most) (omega (arith, least)))
 
-fits_resent : (cx : ContextValue) (v : TcpValue) (pair : EndpointPair) → cx.ip_mtu < 2 ^ 16 → Fits (offer_choice Kind.FastRetransmission cx v pair (resend_choice v.block pair.addresses cx.ip_mtu v.queued)).socket
-fits_resent cx v pair small =
+fits_resent : (cx : ContextValue) (v : TcpValue) (pair : EndpointPair) → Fits (offer_choice Kind.FastRetransmission cx v pair (resend_choice v.block pair.addresses cx.ip_mtu v.queued)).socket
+fits_resent cx v pair =
     let len = min (size_limit v.block pair.addresses cx.ip_mtu) (unbroken v.queued 0) in
     fits_choice Kind.FastRetransmission cx v pair (resend_choice v.block pair.addresses cx.ip_mtu v.queued) refl (omega arith)
-    (fits_limit v.block pair.addresses cx.ip_mtu len small (omega arith))
+    (fits_limit v.block pair.addresses cx.ip_mtu len (omega arith))
 
 fits_probe : (cx : ContextValue) (v : TcpValue) (pair : EndpointPair) → is_due cx.moment (probe_moment v.block (queued_in v)) ≡ true → Fits (offer_choice Kind.Probe cx v pair probe_choice).socket
 fits_probe cx v pair due =
@@ -189,24 +189,24 @@ fits_last cx v pair none =
     fits_when (updates_window v.block (window_of v)) _ _ (λ _. fits_ack Kind.WindowUpdate cx v pair refl) (λ _.
     fits_when (is_due cx.moment (keep_alive_moment v.block)) _ _ (λ _. fits_keep_alive cx v pair) (λ _. fits_none v none))))
 
-fits_first : (cx : ContextValue) (v : TcpValue) (pair : EndpointPair) → cx.ip_mtu < 2 ^ 16 → v.offered ≡ None → Fits (first_rules cx v pair).socket
-fits_first cx v pair small none =
+fits_first : (cx : ContextValue) (v : TcpValue) (pair : EndpointPair) → v.offered ≡ None → Fits (first_rules cx v pair).socket
+fits_first cx v pair none =
     fits_when (owes_syn v.block) _ _ (λ _. fits_syn cx v pair) (λ _.
-    fits_when (resends v.block) _ _ (λ _. fits_resent cx v pair small) (λ _.
-    fits_when (has_text v.block pair.addresses cx.ip_mtu v.queued) _ _ (λ _. fits_text cx v pair small) (λ _.
+    fits_when (resends v.block) _ _ (λ _. fits_resent cx v pair) (λ _.
+    fits_when (has_text v.block pair.addresses cx.ip_mtu v.queued) _ _ (λ _. fits_text cx v pair) (λ _.
     fits_last cx (with_block v (probe_started cx.moment (queued_in v) v.block)) pair none)))
 
-fits_between : (cx : ContextValue) (v : TcpValue) (pair : EndpointPair) → cx.ip_mtu < 2 ^ 16 → v.offered ≡ None → Fits (offer_between cx v pair).socket
-fits_between cx v pair small none =
+fits_between : (cx : ContextValue) (v : TcpValue) (pair : EndpointPair) → v.offered ≡ None → Fits (offer_between cx v pair).socket
+fits_between cx v pair none =
     fits_when (is_due cx.moment (time_wait_end v.block)) _ _ (λ _. fits_none (ended v) none) (λ _.
     fits_when (is_due cx.moment (timeout_end v.block (queued_in v))) _ _ (λ _. fits_none (with_block v (timed_out v.block)) none) (λ _.
     fits_when (is_closed v.block.state) _ _ (λ _. fits_when v.block.sender.reset_due _ _ (λ _. fits_reset cx v pair) (λ _. fits_none v none)) (λ _.
-    fits_first cx (with_block v (backed_off cx.moment (timeout_started cx.moment (queued_in v) v.block))) pair small none)))
+    fits_first cx (with_block v (backed_off cx.moment (timeout_started cx.moment (queued_in v) v.block))) pair none)))
 
-fits_with : (names : Option EndpointPair) (cx : ContextValue) (v : TcpValue) → cx.ip_mtu < 2 ^ 16 → v.offered ≡ None → Fits (offer_with names cx v).socket
-fits_with None cx v small none = fits_none v none
-fits_with (Some pair) cx v small none = fits_between cx v pair small none
+fits_with : (names : Option EndpointPair) (cx : ContextValue) (v : TcpValue) → v.offered ≡ None → Fits (offer_with names cx v).socket
+fits_with None cx v none = fits_none v none
+fits_with (Some pair) cx v none = fits_between cx v pair none
 
--- each offered packet can be sent, where a packet is shorter than 2 ^ 16
-pub fits_offered : (cx : ContextValue) (v : TcpValue) → cx.ip_mtu < 2 ^ 16 → IfSome (offered_packet (offer_of cx v).socket) IsSendable
-fits_offered cx v small = fits_with v.block.names.pair cx (unoffered v) small refl
+-- each offered packet can be sent
+pub fits_offered : (cx : ContextValue) (v : TcpValue) → IfSome (offered_packet (offer_of cx v).socket) IsSendable
+fits_offered cx v = fits_with v.block.names.pair cx (unoffered v) refl

@@ -1,7 +1,8 @@
 //! A segment comes.
-ghost use Rattle.std.specs.Prelude.{◌≡◌, ◌+◌, ◌≤◌, ◌<◌, ◌^◌, length, false, Option, Some, None, if◌then◌else◌};
+ghost use Rattle.std.specs.Prelude.{◌≡◌, ◌+◌, ◌≤◌, ◌<◌, ◌^◌, [], length, IfSome, false, Option, Some, None, if◌then◌else◌};
 ghost use Rattle.net_base.specs.Time.{IsMoment};
 ghost use Rattle.socket_base.specs.Context.{ContextValue};
+ghost use Rattle.socket_base.specs.Packet.{IsSendable};
 ghost use Rattle.ip_wire.specs.Tcp.{header_of};
 ghost use Rattle.tcp_model.specs.Acknowledged.{acknowledged};
 ghost use Rattle.tcp_model.specs.Answers.{acked, drawn, range_held, answer_for};
@@ -13,7 +14,7 @@ ghost use Rattle.tcp_model.specs.Opening.{is_first_syn, opens, takes_answer};
 ghost use Rattle.tcp_model.specs.Segments.{rst_reply};
 ghost use Rattle.tcp_model.specs.Text.{texted, with_text, with_text_at, with_bytes_at};
 ghost use Rattle.tcp_model.specs.Value.{queued_in, window_of};
-ghost use Rattle.tcp_socket.specs.Replies.{replies_in};
+ghost use Rattle.tcp_socket.specs.Replies.{replies_in, packet_with};
 
 use crate::Socket;
 use ip_wire::{IpRepr, TcpHeader, TcpRepr};
@@ -42,7 +43,9 @@ impl Socket {
 
     /// The reset that answers a segment which no socket takes.
     pub fn rst_reply(ip_repr: &IpRepr, repr: &TcpRepr<'_>) -> (IpRepr, TcpRepr<'static>)
-        ensures { replies_in (Some result) ≡ Some (rst_reply ip_repr.now (header_of repr.now) (length repr.now.payload.now)) }
+        ensures bare { result.1.payload.now ≡ [] }
+        ensures sendable { IsSendable (packet_with result) }
+        ensures answer { replies_in (Some result) ≡ Some (rst_reply ip_repr.now (header_of repr.now) (length repr.now.payload.now)) }
     {
         replied(&rst_reply(ip_repr, &repr.header(), repr.payload.len()))
     }
@@ -54,6 +57,8 @@ impl Socket {
         ip_repr: &IpRepr,
         repr: &TcpRepr<'_>,
     ) -> Option<(IpRepr, TcpRepr<'static>)>
+        ensures bare { IfSome result (λ r. r.1.payload.now ≡ []) }
+        ensures sendable { IfSome result (λ r. IsSendable (packet_with r)) }
         ensures answer { replies_in result ≡ (arrives (C.context cx.old) self.old ip_repr.now (header_of repr.now) repr.now.payload.now).answer }
         ensures socket { self.new ≡ (arrives (C.context cx.old) self.old ip_repr.now (header_of repr.now) repr.now.payload.now).socket }
         ensures drawn { cx.new ≡ (if (arrives (C.context cx.old) self.old ip_repr.now (header_of repr.now) repr.now.payload.now).draws then C.drawn cx.old else cx.old) }
@@ -446,7 +451,8 @@ impl Text {
 
 /// A reply as it is handed out.
 fn replied(reply: &Reply) -> (IpRepr, TcpRepr<'static>)
-    ensures { replies_in (Some result) ≡ Some reply.now }
+    ensures bare { result.1.payload.now ≡ [] }
+    ensures reply { replies_in (Some result) ≡ Some reply.now }
 {
     (reply.header, TcpRepr::new(&reply.segment, &[]))
 }

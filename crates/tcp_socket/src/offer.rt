@@ -22,7 +22,7 @@ impl Socket {
     pub fn offer<C: Context>(&mut self, cx: &C) -> Offer
         ensures answer { result ≡ (offer_of (C.context cx.now) self.old).answer }
         ensures socket { self.new ≡ (offer_of (C.context cx.now) self.old).socket }
-        ensures fits { (C.context cx.now).ip_mtu < 2 ^ 16 → IfSome (offered_packet self.new) IsSendable }
+        ensures sendable { IfSome (offered_packet self.new) IsSendable }
     {
         self.offered = None;
         match self.block.names.pair {
