@@ -8,7 +8,8 @@ use Rattle.ip_wire.specs.Tcp.{header_len}
 use Rattle.ip_wire.specs.TcpHeader.{TcpHeader}
 use Rattle.ip_wire.specs.TcpTimestampRepr.{TcpTimestampRepr}
 use Rattle.ip_wire.specs.Options.{options_bytes, range_options, stamp_options}
-use Rattle.socket_base.specs.Context.{ContextValue}
+use Rattle.net_base.specs.RandomWords.{word}
+use Rattle.socket_base.specs.Context.{ContextValue, next_random}
 use Rattle.socket_base.specs.Packet.{IsSendable}
 use Rattle.tcp_model.specs.declared.block.Block.{Block}
 use Rattle.tcp_model.specs.declared.block.EndpointPair.{EndpointPair}
@@ -17,15 +18,15 @@ use Rattle.tcp_model.specs.declared.state.State.TheVariants as In
 use Rattle.tcp_model.specs.declared.offer.Reply.{Reply}
 use Rattle.tcp_model.specs.Acknowledged.{acknowledged, window_set, counted, duplicates_after}
 use Rattle.tcp_model.specs.Answers.{may_draw, with_draw, acked, drawn, answer_for, range_held}
-use Rattle.tcp_model.specs.Arrival.{waiting_anew, outside, finished, continued, taken, inside, checked, arrives_in, is_void_syn, arrives}
+use Rattle.tcp_model.specs.Arrival.{waiting_anew, outside, finished, continued, taken, inside, checked, arrives_in, is_void_syn, arrives, timers_moved}
 use Rattle.tcp_model.specs.Checks.{Check, acknowledgement_check, is_in_window, taken_down}
 use Rattle.tcp_model.specs.Checks.Check.{Passes, Drops, Draws, Resets}
 use Rattle.tcp_model.specs.Controls.{is_syn, is_rst}
 use Rattle.tcp_model.specs.Names.{pair_in}
-use Rattle.tcp_model.specs.Opening.{acks_syn, syn_answered, takes_answer, opens, is_first_syn}
+use Rattle.tcp_model.specs.Opening.{acks_syn, syn_answered, takes_answer, answering, is_first_syn}
 use Rattle.tcp_model.specs.Segments.{stamp_of, sack_segment, rst_reply, reply_to, reset_for, hops_of}
 use Rattle.tcp_model.specs.States.{is_closed}
-use Rattle.tcp_model.specs.Text.{Texted, with_text}
+use Rattle.tcp_model.specs.Text.{Texted, with_text, with_fin}
 use Rattle.tcp_model.specs.Timeout.{timeout_restarted}
 use Rattle.tcp_model.specs.Value.{TcpValue, Arrived, with_block, dropped, answered_with, unoffered, ended, queued_in, free_in, window_of}
 use Rattle.tcp_socket.specs.Replies.{packet_in}
@@ -85,13 +86,19 @@ quick_answer : (cx : ContextValue) (v : TcpValue) (ip : IpRepr) (header : TcpHea
 quick_answer cx v ip header size (Some place) = quick_acked cx v ip header (range_held v place)
 quick_answer cx v ip header size None = record { draws = refl; sendable = tt }
 
+quick_finished : (cx : ContextValue) (old : Block) (t : Texted) (ip : IpRepr) (header : TcpHeader) (size : ℕ) → IsQuick (finished cx old t ip header size)
+quick_finished cx old t ip header size =
+    quick_answer cx (with_block t.socket (timers_moved (with_fin t.socket.block old header size t.advance cx.moment) cx.moment (queued_in t.socket))) ip header size t.early
+
 quick_continued : (cx : ContextValue) (old : Block) (v : TcpValue) (ip : IpRepr) (header : TcpHeader) (bytes : List ℕ) (by : ℕ) → IsQuick (continued cx old v ip header bytes by)
 quick_continued cx old v ip header bytes by =
-    quick_if (is_closed v.block.state) (dropped v) _ (quick_dropped v) (quick_answer cx _ ip header (length bytes) _)
+    let text = with_text (with_block v (counted (window_set v.block header) (duplicates_after old header (length bytes) by))) header bytes in
+    quick_if (is_closed v.block.state) (dropped v) (finished cx v.block text ip header (length bytes)) (quick_dropped v) (quick_finished cx v.block text ip header (length bytes))
 
 quick_inside : (cx : ContextValue) (v : TcpValue) (ip : IpRepr) (header : TcpHeader) (bytes : List ℕ) (by : ℕ) → IsQuick (inside cx v ip header bytes by)
 quick_inside cx v ip header bytes by =
-    quick_if (is_rst header.control) (dropped (taken_down v)) _ (quick_dropped (taken_down v))
+    let rest : Arrived = if is_syn header.control then drawn cx v ip header else taken cx v ip header bytes by in
+    quick_if (is_rst header.control) (dropped (taken_down v)) rest (quick_dropped (taken_down v))
     (quick_if (is_syn header.control) (drawn cx v ip header) (taken cx v ip header bytes by) (quick_drawn cx v ip header)
     (quick_continued cx v.block (acknowledged v by cx.moment) ip header bytes by))
 
@@ -106,10 +113,15 @@ quick_checked Resets cx v ip header bytes = quick_reset v ip header (length byte
 quick_takes_answer : (cx : ContextValue) (v : TcpValue) (ip : IpRepr) (header : TcpHeader) (bytes : List ℕ) → IsQuick (takes_answer cx v ip header bytes)
 quick_takes_answer cx v ip header bytes =
     let known = acks_syn v.block.sender.una header.ack_number in
-    quick_if (is_rst header.control) (if known then dropped (ended v) else dropped v) _
+    let taken_syn = with_block v (timeout_restarted (syn_answered v.block header cx.moment) cx.moment (queued_in v)) in
+    let reset = answered_with v (rst_reply ip header (length bytes)) in
+    let down : Arrived = if known then dropped (ended v) else dropped v in
+    let last : Arrived = if is_syn header.control then dropped taken_syn else dropped v in
+    let second : Arrived = if is_some header.ack_number && not known then reset else last in
+    quick_if (is_rst header.control) down second
     (quick_if known (dropped (ended v)) (dropped v) (quick_dropped (ended v)) (quick_dropped v))
-    (quick_if (is_some header.ack_number && not known) (answered_with v (rst_reply ip header (length bytes))) _ (quick_reset v ip header (length bytes))
-    (quick_if (is_syn header.control) _ (dropped v) (record { draws = refl; sendable = tt }) (quick_dropped v)))
+    (quick_if (is_some header.ack_number && not known) reset last (quick_reset v ip header (length bytes))
+    (quick_if (is_syn header.control) (dropped taken_syn) (dropped v) (quick_dropped taken_syn) (quick_dropped v)))
 
 pub checked_draws : (c : Check) (cx : ContextValue) (v : TcpValue) (ip : IpRepr) (header : TcpHeader) (bytes : List ℕ) → (checked c cx v ip header bytes).draws ≡ false
 checked_draws c cx v ip header bytes = (quick_checked c cx v ip header bytes).draws
@@ -133,10 +145,12 @@ if_sendable false a b one other = other
 
 sendable_in : (state : State) (cx : ContextValue) (v : TcpValue) (ip : IpRepr) (header : TcpHeader) (bytes : List ℕ) → IfSome (arrives_in state cx v ip header bytes).answer (λ reply. IsSendable (packet_in reply))
 sendable_in In.Closed cx v ip header bytes = tt
-sendable_in In.Listen cx v ip header bytes = if_sendable (is_first_syn header) _ (dropped v) tt tt
+sendable_in In.Listen cx v ip header bytes =
+    let opened : Arrived = record { socket = with_block v (timeout_restarted (answering v.block ip header (word (next_random cx).random)) cx.moment 0); answer = None; draws = true } in
+    if_sendable (is_first_syn header) opened (dropped v) tt tt
 sendable_in In.SynSent cx v ip header bytes = (quick_takes_answer cx v ip header bytes).sendable
 sendable_in other cx v ip header bytes = (quick_checked (acknowledgement_check v.block (queued_in v) header) cx v ip header bytes).sendable
 
 pub sendable_answer : (cx : ContextValue) (v : TcpValue) (ip : IpRepr) (header : TcpHeader) (bytes : List ℕ) → IfSome (arrives cx v ip header bytes).answer (λ reply. IsSendable (packet_in reply))
 sendable_answer cx v ip header bytes =
-    if_sendable (is_void_syn header) (dropped (unoffered v)) _ tt (sendable_in v.block.state cx (unoffered v) ip header bytes)
+    if_sendable (is_void_syn header) (dropped (unoffered v)) (arrives_in v.block.state cx (unoffered v) ip header bytes) tt (sendable_in v.block.state cx (unoffered v) ip header bytes)

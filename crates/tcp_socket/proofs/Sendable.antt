@@ -184,24 +184,44 @@ fits_probe cx v pair due =
 
 fits_last : (cx : ContextValue) (v : TcpValue) (pair : EndpointPair) → v.offered ≡ None → Fits (last_rules cx v pair).socket
 fits_last cx v pair none =
-    fits_when (is_due cx.moment (probe_moment v.block (queued_in v))) _ _ (fits_probe cx v pair) (λ _.
-    fits_when (is_due cx.moment (ack_moment v.block)) _ _ (λ _. fits_ack Kind.Ack cx v pair refl) (λ _.
-    fits_when (updates_window v.block (window_of v)) _ _ (λ _. fits_ack Kind.WindowUpdate cx v pair refl) (λ _.
-    fits_when (is_due cx.moment (keep_alive_moment v.block)) _ _ (λ _. fits_keep_alive cx v pair) (λ _. fits_none v none))))
+    let alive = offer_keep_alive cx v pair in
+    let update = offer_ack Kind.WindowUpdate cx v pair in
+    let ack = offer_ack Kind.Ack cx v pair in
+    let probe = offer_choice Kind.Probe cx v pair probe_choice in
+    let fourth : Offered TcpValue = if is_due cx.moment (keep_alive_moment v.block) then alive else silent false v in
+    let third : Offered TcpValue = if updates_window v.block (window_of v) then update else fourth in
+    let second : Offered TcpValue = if is_due cx.moment (ack_moment v.block) then ack else third in
+    fits_when (is_due cx.moment (probe_moment v.block (queued_in v))) probe second (fits_probe cx v pair) (λ _.
+    fits_when (is_due cx.moment (ack_moment v.block)) ack third (λ _. fits_ack Kind.Ack cx v pair refl) (λ _.
+    fits_when (updates_window v.block (window_of v)) update fourth (λ _. fits_ack Kind.WindowUpdate cx v pair refl) (λ _.
+    fits_when (is_due cx.moment (keep_alive_moment v.block)) alive (silent false v) (λ _. fits_keep_alive cx v pair) (λ _. fits_none v none))))
 
 fits_first : (cx : ContextValue) (v : TcpValue) (pair : EndpointPair) → v.offered ≡ None → Fits (first_rules cx v pair).socket
 fits_first cx v pair none =
-    fits_when (owes_syn v.block) _ _ (λ _. fits_syn cx v pair) (λ _.
-    fits_when (resends v.block) _ _ (λ _. fits_resent cx v pair) (λ _.
-    fits_when (has_text v.block pair.addresses cx.ip_mtu v.queued) _ _ (λ _. fits_text cx v pair) (λ _.
-    fits_last cx (with_block v (probe_started cx.moment (queued_in v) v.block)) pair none)))
+    let probing = with_block v (probe_started cx.moment (queued_in v) v.block) in
+    let syn = offer_syn cx v pair in
+    let resent = offer_choice Kind.FastRetransmission cx v pair (resend_choice v.block pair.addresses cx.ip_mtu v.queued) in
+    let text = offer_choice Kind.Text cx v pair (text_choice v.block pair.addresses cx.ip_mtu v.queued) in
+    let third : Offered TcpValue = if has_text v.block pair.addresses cx.ip_mtu v.queued then text else last_rules cx probing pair in
+    let second : Offered TcpValue = if resends v.block then resent else third in
+    fits_when (owes_syn v.block) syn second (λ _. fits_syn cx v pair) (λ _.
+    fits_when (resends v.block) resent third (λ _. fits_resent cx v pair) (λ _.
+    fits_when (has_text v.block pair.addresses cx.ip_mtu v.queued) text (last_rules cx probing pair) (λ _. fits_text cx v pair) (λ _.
+    fits_last cx probing pair none)))
 
 fits_between : (cx : ContextValue) (v : TcpValue) (pair : EndpointPair) → v.offered ≡ None → Fits (offer_between cx v pair).socket
 fits_between cx v pair none =
-    fits_when (is_due cx.moment (time_wait_end v.block)) _ _ (λ _. fits_none (ended v) none) (λ _.
-    fits_when (is_due cx.moment (timeout_end v.block (queued_in v))) _ _ (λ _. fits_none (with_block v (timed_out v.block)) none) (λ _.
-    fits_when (is_closed v.block.state) _ _ (λ _. fits_when v.block.sender.reset_due _ _ (λ _. fits_reset cx v pair) (λ _. fits_none v none)) (λ _.
-    fits_first cx (with_block v (backed_off cx.moment (timeout_started cx.moment (queued_in v) v.block))) pair none)))
+    let end = silent true (ended v) in
+    let late = silent true (with_block v (timed_out v.block)) in
+    let reset : Offered TcpValue = if v.block.sender.reset_due then offer_reset cx v pair else silent false v in
+    let going = with_block v (backed_off cx.moment (timeout_started cx.moment (queued_in v) v.block)) in
+    let third : Offered TcpValue = if is_closed v.block.state then reset else first_rules cx going pair in
+    let second : Offered TcpValue = if is_due cx.moment (timeout_end v.block (queued_in v)) then late else third in
+    fits_when (is_due cx.moment (time_wait_end v.block)) end second (λ _. fits_none (ended v) none) (λ _.
+    fits_when (is_due cx.moment (timeout_end v.block (queued_in v))) late third (λ _. fits_none (with_block v (timed_out v.block)) none) (λ _.
+    fits_when (is_closed v.block.state) reset (first_rules cx going pair)
+    (λ _. fits_when v.block.sender.reset_due (offer_reset cx v pair) (silent false v) (λ _. fits_reset cx v pair) (λ _. fits_none v none))
+    (λ _. fits_first cx going pair none)))
 
 fits_with : (names : Option EndpointPair) (cx : ContextValue) (v : TcpValue) → v.offered ≡ None → Fits (offer_with names cx v).socket
 fits_with None cx v none = fits_none v none
