@@ -2,3 +2,4 @@ pub mod Receive
 pub mod Socket
 pub mod Replies
 pub mod Dispatch
+pub mod Opening

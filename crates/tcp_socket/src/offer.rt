@@ -1,30 +1,41 @@
 //! What a socket offers when it is asked for a segment.
-ghost use Rattle.std.specs.Prelude.{◌≡◌, ◌≤◌, ◌<◌, ◌^◌, false, is_some, IfSome, if◌then◌else◌};
+ghost use Rattle.std.specs.Prelude.{◌≡◌, ◌≤◌, ◌<◌, ◌^◌, true, false, None, is_some, IfSome, if◌then◌else◌};
 ghost use Rattle.socket_base.specs.Context.{ContextValue};
 ghost use Rattle.tcp_model.specs.Choices.{choice_of};
-ghost use Rattle.tcp_model.specs.Due.{poll_of};
-ghost use Rattle.tcp_model.specs.Offers.{offer_segment, silent, offer_choice, offer_ack, offer_syn, offer_reset, last_rules, first_rules, offer_of};
+ghost use Rattle.tcp_model.specs.Due.{poll_open, poll_between, poll_of};
+ghost use Rattle.tcp_model.specs.Offers.{offer_segment, silent, offer_choice, offer_ack, offer_syn, offer_reset, last_rules, first_rules, offer_between, offer_of, payload_of, offered_packet};
 ghost use Rattle.tcp_model.specs.Rules.{unbroken, text_choice, has_text, resend_choice};
 ghost use Rattle.tcp_model.specs.Settled.{settled};
+ghost use Rattle.tcp_model.specs.Value.{unoffered};
+ghost use Rattle.tcp_socket.specs.Socket.{LiesInRing};
+ghost use Rattle.tcp_socket.specs.Dispatch.{TakesOffered, Hands};
+ghost use Rattle.tcp_socket.specs.Opening.{open_offer, MayOpen, IsPartOf};
+ghost use Rattle.socket_base.specs.Packet.{option_value, IsSendable};
 
 use crate::Socket;
 use ip_wire::{TcpHeader, TcpRepr};
 use socket_base::{Context, IpPayload, Offer, Packet, PollAt};
 use tcp_model::{AddressPair, EndpointPair, OfferKind, OpenOffer, PROBE, Part, is_due};
 
-/// The payload of a keep-alive.
-static KEEP_ALIVE: [u8; 1] = [0];
-
 impl Socket {
     /// Offers the segment of the first rule that applies.
     pub fn offer<C: Context>(&mut self, cx: &C) -> Offer
         ensures answer { result ≡ (offer_of (C.context cx.now) self.old).answer }
         ensures socket { self.new ≡ (offer_of (C.context cx.now) self.old).socket }
+        ensures sendable { IfSome (offered_packet self.new) IsSendable }
     {
         self.offered = None;
-        let Some(pair) = self.block.names.pair else {
-            return Offer::Silent { changed: false };
-        };
+        match self.block.names.pair {
+            None => Offer::Silent { changed: false },
+            Some(pair) => self.offer_between(cx, &pair),
+        }
+    }
+
+    fn offer_between<C: Context>(&mut self, cx: &C, pair: &EndpointPair) -> Offer
+        requires unoffered { self.old.offered ≡ None }
+        ensures answer { result ≡ (offer_between (C.context cx.now) self.old pair.now).answer }
+        ensures socket { self.new ≡ (offer_between (C.context cx.now) self.old pair.now).socket }
+    {
         let (now, queued) = (cx.now(), self.queued.len());
         if is_due(now, self.block.time_wait_end()) {
             self.block.forget();
@@ -35,11 +46,11 @@ impl Socket {
             return Offer::Silent { changed: true };
         }
         if self.block.state.is_closed() {
-            return self.offer_reset(cx, &pair);
+            return self.offer_reset(cx, pair);
         }
         self.block.start_timeout(now, queued);
         self.block.back_off(now);
-        self.offer_first(cx, &pair)
+        self.offer_first(cx, pair)
     }
 
     fn offer_reset<C: Context>(&mut self, cx: &C, pair: &EndpointPair) -> Offer
@@ -56,6 +67,7 @@ impl Socket {
 
     /// The SYN, the segment at SND.UNA after the third duplicate, text from SND.NXT on.
     fn offer_first<C: Context>(&mut self, cx: &C, pair: &EndpointPair) -> Offer
+        requires unoffered { self.old.offered ≡ None }
         ensures answer { result ≡ (first_rules (C.context cx.now) self.old pair.now).answer }
         ensures socket { self.new ≡ (first_rules (C.context cx.now) self.old pair.now).socket }
     {
@@ -121,6 +133,7 @@ impl Socket {
         pair: &EndpointPair,
         part: &Part,
     ) -> Offer
+        requires part { IsPartOf self.old (choice_of part.now) }
         ensures answer { result ≡ (offer_choice kind (C.context cx.now) self.old pair.now (choice_of part.now)).answer }
         ensures socket { self.new ≡ (offer_choice kind (C.context cx.now) self.old pair.now (choice_of part.now)).socket }
     {
@@ -141,6 +154,8 @@ impl Socket {
         place: usize,
         len: usize,
     ) -> Offer
+        requires open { MayOpen self.old (open_offer kind (C.context cx.now) self.old pair.now segment place len) }
+        requires small { len < 2 ^ 32 }
         ensures answer { result ≡ (offer_segment kind (C.context cx.now) self.old pair.now segment place len).answer }
         ensures socket { self.new ≡ (offer_segment kind (C.context cx.now) self.old pair.now segment place len).socket }
     {
@@ -169,6 +184,7 @@ impl Socket {
     fn text_part(&self, addresses: &AddressPair, ip_mtu: usize) -> Option<Part>
         ensures has { is_some result ≡ has_text self.now.block addresses.now ip_mtu self.now.queued }
         ensures value { IfSome result (λ part. choice_of part ≡ text_choice self.now.block addresses.now ip_mtu self.now.queued) }
+        ensures part { IfSome result (λ part. IsPartOf self.now (choice_of part)) }
     {
         let queued = self.queued.len();
         let place = self.block.next_place();
@@ -184,21 +200,35 @@ impl Socket {
 
     /// The segment at SND.UNA again.
     fn resend_part(&self, addresses: &AddressPair, ip_mtu: usize) -> Part
-        ensures { choice_of result ≡ resend_choice self.now.block addresses.now ip_mtu self.now.queued }
+        ensures part { IsPartOf self.now (choice_of result) }
+        ensures value { choice_of result ≡ resend_choice self.now.block addresses.now ip_mtu self.now.queued }
     {
         let (queued, unbroken) = (self.queued.len(), self.unbroken(0));
         self.block.first_part(addresses, ip_mtu, queued, unbroken)
     }
 
-    /// The packet of the open offer.
-    pub fn offered(&self) -> Option<Packet<'_>> {
-        let offer = self.offered?;
-        let payload = match offer.kind {
-            OfferKind::KeepAlive => &KEEP_ALIVE[..],
+    /// The payload of an open offer.
+    fn payload_of(&self, offer: &OpenOffer) -> &[u8]
+        requires { LiesInRing offer.now.kind self.now.queued offer.now }
+        ensures { result.now ≡ payload_of offer.now offer.now.kind self.now.queued.queue }
+    {
+        match offer.kind {
+            OfferKind::KeepAlive => &[0],
             _ => self.queued.get_allocated(offer.place, offer.len),
-        };
-        let segment = TcpRepr::new(&offer.segment, payload);
-        Some(Packet::new(offer.header, IpPayload::Tcp(segment)))
+        }
+    }
+
+    /// The packet of the open offer.
+    pub fn offered(&self) -> Option<Packet<'_>>
+        ensures { option_value result ≡ offered_packet self.now }
+    {
+        match &self.offered {
+            None => None,
+            Some(offer) => {
+                let segment = TcpRepr::new(&offer.segment, self.payload_of(offer));
+                Some(Packet::new(offer.header, IpPayload::Tcp(segment)))
+            }
+        }
     }
 
     /// Says what became of the offered packet. One that was sent is recorded; another one leaves all as
@@ -206,10 +236,20 @@ impl Socket {
     pub fn settle(&mut self, sent: bool)
         ensures { self.new ≡ settled sent self.old }
     {
-        if sent && let Some(offer) = self.offered {
-            self.block.sent(&offer, self.queued.len());
+        if sent {
+            self.record();
         }
         self.offered = None;
+    }
+
+    /// Records that what was offered was sent.
+    fn record(&mut self)
+        ensures { unoffered self.new ≡ settled true self.old }
+    {
+        if let Some(offer) = self.offered {
+            self.offered = None;
+            self.block.sent(&offer, self.queued.len());
+        }
     }
 
     /// Offers a segment and hands its packet to `emit`. Where that answers `Ok` the segment counts as
@@ -221,6 +261,8 @@ impl Socket {
     ) -> Result<(), E>
     where
         F: Drop,
+        requires { TakesOffered F.FnOnce emit (offer_of (C.context cx.now) self.old).socket }
+        ensures { Hands F.FnOnce emit (offer_of (C.context cx.now) self.old).socket result self.new }
     {
         self.offer(cx);
         let Some(packet) = self.offered() else {
@@ -235,20 +277,31 @@ impl Socket {
     pub fn poll_at<C: Context>(&self, cx: &C) -> PollAt
         ensures { result ≡ poll_of (C.context cx.now).ip_mtu self.now }
     {
-        let Some(pair) = self.block.names.pair else {
-            return PollAt::Ingress;
-        };
-        if self.block.state.is_closed() {
-            return if self.block.sender.reset_due {
-                PollAt::Now
-            } else {
-                PollAt::Ingress
-            };
+        match &self.block.names.pair {
+            None => PollAt::Ingress,
+            Some(pair) => self.poll_between(pair, cx.ip_mtu()),
         }
+    }
+
+    fn poll_between(&self, pair: &EndpointPair, ip_mtu: usize) -> PollAt
+        ensures { result ≡ poll_between ip_mtu self.now pair.now }
+    {
+        if !self.block.state.is_closed() {
+            self.poll_open(pair, ip_mtu)
+        } else if self.block.sender.reset_due {
+            PollAt::Now
+        } else {
+            PollAt::Ingress
+        }
+    }
+
+    /// When a socket that isn't closed wants to be polled.
+    fn poll_open(&self, pair: &EndpointPair, ip_mtu: usize) -> PollAt
+        ensures { result ≡ poll_open ip_mtu self.now pair.now }
+    {
         let queued = self.queued.len();
-        let has_text = self.text_part(&pair.addresses, cx.ip_mtu()).is_some();
-        let window = self.window();
-        if self.block.has_wish(has_text, queued, window) {
+        let has_text = self.text_part(&pair.addresses, ip_mtu).is_some();
+        if self.block.has_wish(has_text, queued, self.window()) {
             return PollAt::Now;
         }
         match self.block.earliest_moment(queued) {
