@@ -51,7 +51,7 @@ congestion_small : (control : CongestionControl) (cwnd size : ℕ) → congestio
 congestion_small Congestion.None cwnd size = omega arith
 congestion_small Congestion.Reno cwnd size = omega arith
 
-window_small : (b : Block) (size : ℕ) → window_limit b size ≤ size
+pub window_small : (b : Block) (size : ℕ) → window_limit b size ≤ size
 window_small b size =
     let least = congestion_small b.settings.congestion_control (b.reno.cwnd - b.sender.in_flight) (min (b.peer.window - b.sender.in_flight) size) in
     omega arith
@@ -59,9 +59,12 @@ window_small b size =
 -- what the rules choose is a part of the send queue
 pub part_of_text : (v : TcpValue) (addresses : AddressPair) (ip_mtu : ℕ) → FitsBuffer v.queued → has_text v.block addresses ip_mtu v.queued ≡ true → IsPartOf v (text_choice v.block addresses ip_mtu v.queued)
 part_of_text v addresses ip_mtu fits has =
-    let sends = both _ _ has in
-    let past = both _ _ sends.1 in
-    let below = both _ _ past.1 in
+    let b = v.block in
+    let sendable = is_sendable b (size_limit b addresses ip_mtu) (text_choice b addresses ip_mtu v.queued) in
+    let below_end = nat_lt b.sender.in_flight (unacked b (queued_in v)) && sendable in
+    let sends = both (sends_text b.state) (nat_le (one_if b.sender.syn_unacked) b.sender.in_flight && below_end) has in
+    let past = both (nat_le (one_if b.sender.syn_unacked) b.sender.in_flight) below_end sends.1 in
+    let below = both (nat_lt b.sender.in_flight (unacked b (queued_in v))) sendable past.1 in
     let near : v.block.sender.in_flight < unacked v.block (queued_in v) = grind (arith, nat_tests, below.0) in
     let syn = one_if_small v.block.sender.syn_unacked in
     let fin = one_if_small (owes_fin v.block.state) in
@@ -86,9 +89,11 @@ some_unbroken queued some =
 pub part_of_probe : (v : TcpValue) (now : ℤ) → is_due now (probe_moment v.block (queued_in v)) ≡ true → IsPartOf v probe_choice
 part_of_probe v now due =
     let probing : is_probing v.block (queued_in v) ≡ true = unset (is_probing v.block (queued_in v)) now v.block.timers.probe_at due in
-    let sends = both _ _ probing in
-    let closed = both _ _ sends.1 in
-    let some = both _ _ closed.1 in
+    let b = v.block in
+    let idle = not (queued_in v == 0) && (b.sender.in_flight == 0) in
+    let sends = both (sends_text b.state) ((b.peer.window == 0) && idle) probing in
+    let closed = both (b.peer.window == 0) idle sends.1 in
+    let some = both (not (queued_in v == 0)) (b.sender.in_flight == 0) closed.1 in
     record { near = omega arith; unbroken = some_unbroken v.queued (grind (arith, nat_tests, some.0)) }
 
 -- a part of the send queue may be offered
