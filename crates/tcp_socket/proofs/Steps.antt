@@ -84,13 +84,13 @@ pub rest_leads : (cx : ContextValue) (old acked : Block) (v w : TcpValue) (ip : 
     → is_closed v.block.state ≡ false → acked ≡ v.block → w ≡ with_block v (counted (window_set v.block header) (duplicates_after old header (length bytes) by))
     → answer ≡ (finished cx acked (with_text w header bytes) ip header (length bytes)).answer → socket ≡ (finished cx acked (with_text w header bytes) ip header (length bytes)).socket
     → Leads (continued cx old v ip header bytes by) answer socket
-rest_leads cx old acked v w ip header bytes by answer socket open acked_is w_is a s =
+rest_leads cx old acked v w ip header bytes by answer socket opened acked_is w_is a s =
     let counts = with_block v (counted (window_set v.block header) (duplicates_after old header (length bytes) by)) in
     let first : Leads (finished cx v.block (with_text w header bytes) ip header (length bytes)) answer socket =
     subst (λ (b : Block). Leads (finished cx b (with_text w header bytes) ip header (length bytes)) answer socket) acked_is (record { answer = a; socket = s })
     in
     let second = leads_to (λ (x : TcpValue). finished cx v.block (with_text x header bytes) ip header (length bytes)) w counts answer socket w_is first.answer first.socket in
-    if_open (is_closed v.block.state) (dropped v) (finished cx v.block (with_text counts header bytes) ip header (length bytes)) answer socket open second
+    if_open (is_closed v.block.state) (dropped v) (finished cx v.block (with_text counts header bytes) ip header (length bytes)) answer socket opened second
 
 -- the acknowledgement is taken, then the rest
 pub taken_leads : (cx : ContextValue) (old : Block) (v w : TcpValue) (now : ℤ) (ip : IpRepr) (header : TcpHeader) (bytes : List ℕ) (by : ℕ) (answer : Option Reply) (socket : TcpValue)

@@ -10,8 +10,8 @@ returns-clause-answer g c =
     let cx = g.C.Context.context c.args.cx.now in
     let i = c.args.incoming.now in
     let v = value_of c.self.inside.block c.self.inside.received c.self.inside.queued c.self.inside.offered in
-    let open : is_closed c.self.inside.block.state ≡ false = sym c.is_closed.ensures ∙ c.if-is_closed.false in
-    let leads = rest_leads cx c.args.old.now c.self.inside.block v c.take_window.new.self i.ip_repr i.header i.bytes.now c.args.by c.take_content.result c.take_content.new.self open refl c.take_window.ensures c.take_content.ensures.answer c.take_content.ensures.socket in
+    let opened : is_closed c.self.inside.block.state ≡ false = sym c.is_closed.ensures ∙ c.if-is_closed.false in
+    let leads = rest_leads cx c.args.old.now c.self.inside.block v c.take_window.new.self i.ip_repr i.header i.bytes.now c.args.by c.take_content.result c.take_content.new.self opened refl c.take_window.ensures c.take_content.ensures.answer c.take_content.ensures.socket in
     (subst (λ (w : TcpValue). Leads (continued cx c.args.old.now w i.ip_repr i.header i.bytes.now c.args.by) c.take_content.result c.take_content.new.self) c.self.view_is leads).answer
 
 pub returns-clause-socket : goal.returns-clause-socket
@@ -19,6 +19,6 @@ returns-clause-socket g c =
     let cx = g.C.Context.context c.args.cx.now in
     let i = c.args.incoming.now in
     let v = value_of c.self.inside.block c.self.inside.received c.self.inside.queued c.self.inside.offered in
-    let open : is_closed c.self.inside.block.state ≡ false = sym c.is_closed.ensures ∙ c.if-is_closed.false in
-    let leads = rest_leads cx c.args.old.now c.self.inside.block v c.take_window.new.self i.ip_repr i.header i.bytes.now c.args.by c.take_content.result c.take_content.new.self open refl c.take_window.ensures c.take_content.ensures.answer c.take_content.ensures.socket in
+    let opened : is_closed c.self.inside.block.state ≡ false = sym c.is_closed.ensures ∙ c.if-is_closed.false in
+    let leads = rest_leads cx c.args.old.now c.self.inside.block v c.take_window.new.self i.ip_repr i.header i.bytes.now c.args.by c.take_content.result c.take_content.new.self opened refl c.take_window.ensures c.take_content.ensures.answer c.take_content.ensures.socket in
     (subst (λ (w : TcpValue). Leads (continued cx c.args.old.now w i.ip_repr i.header i.bytes.now c.args.by) c.take_content.result c.take_content.new.self) c.self.view_is leads).socket
