@@ -55,9 +55,9 @@ text_at v place n bytes t takes some fits n_is is =
     ∙ new_text (takes_text v.block.state) (length bytes == 0) (nat_lt place (free_in v)) (with_bytes_at v place bytes) (texted v 0 None) takes some (below place (free_in v) fits)
 
 -- what a step answers and leaves
-pub record Leads (a : Arrived) (answer : Option Reply) (socket : TcpValue) : Type 0 where
-  pub answer : answer ≡ a.answer
-  pub socket : socket ≡ a.socket
+pub record Leads (a : Arrived) (reply : Option Reply) (after : TcpValue) : Type 0 where
+  pub answer : reply ≡ a.answer
+  pub socket : after ≡ a.socket
 
 pub leads_to : (F : TcpValue → Arrived) (w w' : TcpValue) (answer : Option Reply) (socket : TcpValue) → w ≡ w' → answer ≡ (F w).answer → socket ≡ (F w).socket → Leads (F w') answer socket
 leads_to F w w' answer socket is a s = subst (λ (x : TcpValue). Leads (F x) answer socket) is (record { answer = a; socket = s })
