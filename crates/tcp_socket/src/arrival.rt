@@ -4,7 +4,7 @@ ghost use Rattle.net_base.specs.Time.{IsMoment};
 ghost use Rattle.socket_base.specs.Context.{ContextValue};
 ghost use Rattle.socket_base.specs.Packet.{IsSendable};
 ghost use Rattle.ip_wire.specs.Tcp.{header_of};
-ghost use Rattle.tcp_model.specs.Acknowledged.{acknowledged};
+ghost use Rattle.tcp_model.specs.Acknowledged.{acknowledged, window_set, counted, duplicates_after};
 ghost use Rattle.tcp_model.specs.Answers.{acked, drawn, range_held, answer_for};
 ghost use Rattle.tcp_model.specs.Arrival.{waiting_anew, outside, finished, continued, taken, inside, checked, is_void_syn, arrives_in, arrives};
 ghost use Rattle.tcp_model.specs.Checks.{acknowledgement_check, taken_down};
@@ -13,7 +13,7 @@ ghost use Rattle.tcp_model.specs.Names.{accepts};
 ghost use Rattle.tcp_model.specs.Opening.{is_first_syn, opens, takes_answer};
 ghost use Rattle.tcp_model.specs.Segments.{rst_reply};
 ghost use Rattle.tcp_model.specs.Text.{texted, with_text, with_text_at, with_bytes_at};
-ghost use Rattle.tcp_model.specs.Value.{queued_in, window_of};
+ghost use Rattle.tcp_model.specs.Value.{queued_in, window_of, with_block};
 ghost use Rattle.tcp_socket.specs.Replies.{replies_in, packet_with};
 
 use crate::Socket;
@@ -257,11 +257,19 @@ impl Socket {
         if self.block.state.is_closed() {
             return None;
         }
-        let header = &incoming.header;
-        let duplicates = old.duplicates_after(header, incoming.bytes.len(), by);
+        let acked = self.block;
+        self.take_window(old, &incoming.header, incoming.bytes.len(), by);
+        self.take_content(cx, &acked, incoming)
+    }
+
+    /// The window of a segment, and whether it is a duplicate.
+    fn take_window(&mut self, old: &Block, header: &TcpHeader, size: usize, by: u32)
+        requires unoffered { self.old.offered ≡ None }
+        ensures { self.new ≡ with_block self.old (counted (window_set self.old.block header.now) (duplicates_after old.now header.now size by)) }
+    {
+        let duplicates = old.duplicates_after(header, size, by);
         self.block.set_window(header);
         self.block.count(duplicates);
-        self.take_content(cx, incoming)
     }
 
     /// SND.UNA rises by so much, and what is acknowledged is freed.
@@ -276,15 +284,20 @@ impl Socket {
         self.queued.dequeue_allocated(freed);
     }
 
-    /// The text and the FIN of an accepted segment, and what answers it.
-    fn take_content<C: Context>(&mut self, cx: &C, incoming: &Incoming<'_>) -> Option<Reply>
+    /// The text and the FIN of an accepted segment, and what answers it. `old` is the block before its
+    /// window was taken.
+    fn take_content<C: Context>(
+        &mut self,
+        cx: &C,
+        old: &Block,
+        incoming: &Incoming<'_>,
+    ) -> Option<Reply>
         requires unoffered { self.old.offered ≡ None }
-        ensures answer { result ≡ (finished (C.context cx.now) self.old.block (with_text self.old incoming.now.header incoming.now.bytes.now) incoming.now.ip_repr incoming.now.header (length incoming.now.bytes.now)).answer }
-        ensures socket { self.new ≡ (finished (C.context cx.now) self.old.block (with_text self.old incoming.now.header incoming.now.bytes.now) incoming.now.ip_repr incoming.now.header (length incoming.now.bytes.now)).socket }
+        ensures answer { result ≡ (finished (C.context cx.now) old.now (with_text self.old incoming.now.header incoming.now.bytes.now) incoming.now.ip_repr incoming.now.header (length incoming.now.bytes.now)).answer }
+        ensures socket { self.new ≡ (finished (C.context cx.now) old.now (with_text self.old incoming.now.header incoming.now.bytes.now) incoming.now.ip_repr incoming.now.header (length incoming.now.bytes.now)).socket }
     {
-        let old = self.block;
         let text = self.take_text(&incoming.header, incoming.bytes);
-        self.finish(cx, &old, &text, incoming)
+        self.finish(cx, old, &text, incoming)
     }
 
     /// The FIN of a segment whose text was taken, and what answers it. `old` is the block before that.
@@ -360,6 +373,7 @@ impl Socket {
     fn take_bytes(&mut self, place: usize, bytes: &[u8]) -> Text
         requires unoffered { self.old.offered ≡ None }
         requires fits { place + length bytes.now ≤ length self.old.received.map }
+        requires small { length self.old.received.map ≤ 2 ^ 30 }
         ensures text { texted self.new result.advance result.early ≡ with_bytes_at self.old place bytes.now }
         ensures small { result.advance ≤ 2 ^ 30 }
         ensures unoffered { self.new.offered ≡ None }
