@@ -151,7 +151,7 @@ not_taken table o p j free below h = by (takes_ports o (record_at table j).opene
       let parts = or_parts (p.local == o.local) (names_same p.remote o.remote) (ap (takes_ports o) (sym h) ∙ e) in
       record { local = λ same. absurd (let clash : false ≡ true = sym parts.0 ∙ eq-eqb p.local o.local (sym same) in cc); remote = names_same_turned p.remote o.remote parts.1 }
 
-apart_from_opened :
+pub apart_from_opened :
     (places : Places) (past : List Entry) (side : Side) (i j : ℕ) (o p : Opening) → AreAllowed places past → MayOpen places past side i o
     → opening past side j ≡ Some p → AreApart o p
 apart_from_opened places past side i j o p allowed may h =
