@@ -2,7 +2,6 @@ ghost use Rattle.std.specs.Prelude.{◌≡◌};
 ghost use Rattle.socket_base.specs.Packet.{option_value};
 ghost use Rattle.sockets.specs.Socket.{Offers, offered_by, settled, poll_of, IfSendable};
 
-use crate::tcp;
 use datagram_sockets::{icmp, raw, udp};
 use socket_base::{Context, Offer, Packet, PollAt};
 
@@ -12,7 +11,6 @@ pub enum Socket {
     Raw(raw::Socket),
     Icmp(icmp::Socket),
     Udp(udp::Socket),
-    Tcp(tcp::Socket),
 }
 
 impl Socket {
@@ -35,7 +33,6 @@ impl Socket {
                 udp::offered_fits();
                 socket.offer(cx)
             }
-            Socket::Tcp(socket) => socket.offer(cx),
         }
     }
 
@@ -47,12 +44,10 @@ impl Socket {
             Socket::Raw(socket) => socket.offered(),
             Socket::Icmp(socket) => socket.offered(),
             Socket::Udp(socket) => socket.offered(),
-            Socket::Tcp(socket) => socket.offered(),
         }
     }
 
-    /// Says what became of the offered packet. A datagram that was sent leaves its queue, another one stays
-    /// first; a segment that was sent is recorded, another one leaves all as it is.
+    /// Says what became of the offered packet: one that was sent leaves its queue, another one stays first.
     pub fn settle(&mut self, sent: bool)
         ensures { self.new ≡ settled sent self.old }
     {
@@ -60,7 +55,6 @@ impl Socket {
             Socket::Raw(socket) => socket.settle(sent),
             Socket::Icmp(socket) => socket.settle(sent),
             Socket::Udp(socket) => socket.settle(sent),
-            Socket::Tcp(socket) => socket.settle(sent),
         }
     }
 
@@ -72,7 +66,6 @@ impl Socket {
             Socket::Raw(socket) => socket.poll_at(),
             Socket::Icmp(socket) => socket.poll_at(),
             Socket::Udp(socket) => socket.poll_at(),
-            Socket::Tcp(socket) => socket.poll_at(cx),
         }
     }
 }
