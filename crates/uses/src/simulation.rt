@@ -1,6 +1,8 @@
 //! Two hosts on a bad link, driven from Rust.
 ghost use Rattle.std.specs.Prelude.{IfOk};
+ghost use Rattle.std.specs.String.{string_bytes};
 ghost use Rattle.lan.specs.Safe.{IsSafe};
+ghost use Rattle.uses.specs.Answers.{Describes};
 
 use anyhow::Result;
 use ip_wire::{IpAddress, IpEndpoint, Ipv4Address};
@@ -50,7 +52,9 @@ pub fn delivered_twice(alloc: Global, text: &[u8]) -> Result<World>
 }
 
 /// Says what a read answered, as text.
-pub fn described(alloc: Global, answer: &Answer) -> Result<String> {
+pub fn described(alloc: Global, answer: &Answer) -> Result<String>
+    ensures { IfOk result (λ text. Describes answer.now (string_bytes text)) }
+{
     Ok(match answer {
         Answer::FromEndpoint(source, bytes) => {
             format!(in alloc; "{} bytes from {source}", bytes.len())?
