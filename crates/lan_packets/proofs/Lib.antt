@@ -14,3 +14,5 @@ pub mod StreamCalls
 pub mod Found
 pub mod Kept
 pub mod Runs
+pub mod HistoryLemmas
+pub mod Extended

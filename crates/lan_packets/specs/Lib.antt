@@ -2,3 +2,4 @@ pub mod Calls
 pub mod Parties
 pub mod Moves
 pub mod Safe
+pub mod Histories

@@ -1,5 +1,5 @@
 //! The theorem.
-ghost use Rattle.std.specs.Prelude.{ℕ, Bool, List};
+ghost use Rattle.std.specs.Prelude.{◌≡◌, ◌++◌, ℕ, Bool, List};
 ghost use Rattle.lan_net.specs.declared.event.Side.{Side};
 ghost use Rattle.lan_packets.specs.Moves.{Step, IsRun, run};
 ghost use Rattle.lan_packets.specs.Parties.{Net};
@@ -12,4 +12,11 @@ ghost use Rattle.lan_packets.specs.Safe.{IsFreshNet, IsSafe};
 pub fn runs_are_safe()
     ensures safe { (starts : Side → ℕ → ℕ) (names : List ℕ → Bool) (net : Net) (steps : List Step)
         → IsFreshNet starts net → IsRun names net steps → IsSafe starts (run net steps) }
+{}
+
+/// A run may go on where it ended.
+pub fn runs_go_on()
+    ensures runs { (names : List ℕ → Bool) (net : Net) (steps more : List Step)
+        → IsRun names net steps → IsRun names (run net steps) more → IsRun names net (steps ++ more) }
+    ensures end { (net : Net) (steps more : List Step) → run net (steps ++ more) ≡ run (run net steps) more }
 {}

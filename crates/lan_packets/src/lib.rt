@@ -4,4 +4,5 @@
 //! `specs/Moves` says what may happen and what becomes of it, `specs/Safe` what holds in every run.
 #![tactic(auto)]
 
+pub mod examples;
 pub mod laws;
