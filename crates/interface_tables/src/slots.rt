@@ -131,11 +131,7 @@ fn place_of(slots: &[Slot], key: &Ipv4FragKey) -> Option<usize>
     ensures place { result ≡ position (is_of ⟦<Ipv4FragKey as PartialEq>⟧.eq key.now) slots.now }
     ensures in_range { ForSome result (λ at. at < length slots.now) }
 {
-    slots.iter().position(
-        |slot| -> bool
-            ensures { result ≡ is_of ⟦<Ipv4FragKey as PartialEq>⟧.eq key.entry.now slot.now }
-        { slot.is_of(key) },
-    )
+    slots.iter().position(|slot| slot.is_of(key))
 }
 
 /// Where the first free slot is.
@@ -143,11 +139,7 @@ fn free_place(slots: &[Slot]) -> Option<usize>
     ensures place { result ≡ position is_free slots.now }
     ensures in_range { ForSome result (λ at. at < length slots.now) }
 {
-    slots.iter().position(
-        |slot| -> bool
-            ensures { result ≡ is_free slot.now }
-        { slot.is_free() },
-    )
+    slots.iter().position(|slot| slot.is_free())
 }
 
 /// The datagram at this place, if there is one and every byte of it came.
