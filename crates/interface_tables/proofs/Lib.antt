@@ -1,4 +1,6 @@
+pub mod Apart
 pub mod BestOf
+pub mod Changed
 pub mod Orders
 pub mod Rebuilt
 pub mod Renewed

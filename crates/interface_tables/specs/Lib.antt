@@ -5,4 +5,5 @@ pub mod Pieces
 pub mod Reassembly
 pub mod Route
 pub mod Settings
+pub mod Slots
 pub mod Source

@@ -184,6 +184,19 @@ impl<K: Drop, const SIZE: usize, const HOLES: usize> PacketAssembler<K, SIZE, HO
         let bytes: &[u8] = &self.buffer;
         Some(&bytes[..self.assembler.peek_front()])
     }
+
+    /// Gives the datagram, if every byte of it came, and frees the slot.
+    pub fn assemble(&mut self) -> Option<&[u8]>
+        ensures { option_copied result ≡ completed self.old }
+    {
+        if !self.is_complete() {
+            return None;
+        }
+        let len = self.assembler.peek_front();
+        self.reset();
+        let bytes: &[u8] = &self.buffer;
+        Some(&bytes[..len])
+    }
 }
 
 impl<K: Eq + Copy, const SIZE: usize, const HOLES: usize> PacketAssembler<K, SIZE, HOLES> {

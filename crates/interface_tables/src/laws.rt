@@ -1,8 +1,10 @@
 //! What follows from the definitions.
-ghost use Rattle.std.specs.Prelude.{◌≡◌, ℕ, ℤ, ◌+◌, ◌<◌, ◌≤◌, ◌++◌, List, length, drop, Some};
+ghost use Rattle.std.specs.Prelude.{◌≡◌, ℕ, ℤ, ◌+◌, ◌<◌, ◌≤◌, ◌++◌, Bool, List, length, drop, Some};
 ghost use Rattle.net_containers.specs.Assembler.{AreRuns, added};
 ghost use Rattle.held_bytes.specs.Held.{map_from};
-ghost use Rattle.interface_tables.specs.Reassembly.{SlotValue, fresh, taken, placed, overwritten, marked, completed};
+ghost use Rattle.interface_tables.specs.Best.{at_place};
+ghost use Rattle.interface_tables.specs.Reassembly.{SlotValue, freed, taken, placed, place_for, overwritten, marked, completed};
+ghost use Rattle.interface_tables.specs.Slots.{opened, changed_at, with_piece_of, without_expired, slot_of, AreApart, IsTest, map_some};
 ghost use Rattle.interface_tables.specs.Pieces.{Piece, piece_at, IsSliceOf, HoldsSlicesOf};
 
 /// Law: a slot that took in pieces of one payload alone gives that payload when it is complete, whatever their order, number
@@ -30,4 +32,19 @@ pub fn unmarked_bytes_do_not_count()
         → AreRuns runs → length runs ≤ holes → offset + length piece ≤ length bytes
         → holes < length (added runs offset (length piece))
         → map_from (marked holes runs offset (length piece)) 0 (overwritten bytes offset piece) ≡ map_from runs 0 bytes }
+{}
+
+/// Law: slots are a map from keys to what came of each datagram. A piece changes what came of its own datagram, and of no
+/// other; and no two slots are ever of one datagram.
+pub fn slots_are_a_map<K>()
+    ensures own { (holes : ℕ) (same : K → K → Bool) (slots : List (SlotValue K)) (key : K) (expires : ℤ) (piece : List ℕ) (offset : ℕ) (more : Bool)
+        → IsTest same → slot_of same (with_piece_of holes same slots key expires piece offset more) key
+        ≡ map_some (λ s. placed holes (opened same key expires s) piece offset more) (at_place (place_for same slots key) slots) }
+    ensures other { (holes : ℕ) (same : K → K → Bool) (slots : List (SlotValue K)) (key : K) (expires : ℤ) (piece : List ℕ) (offset : ℕ) (more : Bool)
+        → IsTest same → (other : K) → (key ≡ other → ⊥)
+        → slot_of same (with_piece_of holes same slots key expires piece offset more) other ≡ slot_of same slots other }
+    ensures apart { (holes : ℕ) (same : K → K → Bool) (slots : List (SlotValue K)) (key : K) (expires : ℤ) (piece : List ℕ) (offset : ℕ) (more : Bool)
+        → IsTest same → AreApart slots → AreApart (with_piece_of holes same slots key expires piece offset more) }
+    ensures freed { (slots : List (SlotValue K)) (at : ℕ) → AreApart slots → AreApart (changed_at freed (Some at) slots) }
+    ensures expired { (slots : List (SlotValue K)) (moment : ℤ) → AreApart slots → AreApart (without_expired slots moment) }
 {}

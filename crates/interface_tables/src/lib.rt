@@ -9,6 +9,7 @@ pub mod laws;
 mod link;
 mod neighbor;
 mod route;
+mod slots;
 pub mod source;
 
 pub use config::{Config, HardwareAddrError, NewError, NotUnicast};
@@ -17,3 +18,4 @@ pub use inner::{InterfaceInner, TABLE_ROOM};
 pub use link::LinkAddress;
 pub use neighbor::{Answer, Cache, Neighbor};
 pub use route::{Route, RouteTableFull, Routes};
+pub use slots::PacketAssemblerSet;

@@ -4,8 +4,14 @@
 #[cfg(test)]
 mod fragmentation;
 #[cfg(test)]
+mod inner;
+#[cfg(test)]
 mod neighbor;
 #[cfg(test)]
 mod route;
+#[cfg(test)]
+mod socket_meta;
+#[cfg(test)]
+mod socket_set;
 #[cfg(test)]
 mod source;
