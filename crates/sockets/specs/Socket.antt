@@ -1,5 +1,5 @@
 -- A socket of any kind: what it offers, how an offer is settled, when it wants to be polled, and what is for it.
-use Rattle.std.specs.Prelude.{◌≡◌, ℕ, Bool, false, List, Option, None, Some}
+use Rattle.std.specs.Prelude.{◌≡◌, ℕ, Bool, false, List, Option, None, Some, IfSome}
 use Rattle.ip_wire.specs.IpAddress.{IpAddress}
 use Rattle.ip_wire.specs.IpRepr.{IpRepr}
 use Rattle.ip_wire.specs.UdpRepr.{UdpRepr}
@@ -40,8 +40,7 @@ offered_by (Kind.Tcp v) = TcpOffers.offered_packet v
 
 -- the packet, if there is one, can be sent
 abbrev pub IfSendable : Option PacketValue → Type 0
-IfSendable None = Unit {0}
-IfSendable (Some p) = IsSendable p
+IfSendable o = IfSome o IsSendable
 
 -- what an offer is told: a datagram that was sent leaves its queue, and a segment is recorded
 abbrev pub settled : Bool → Socket → Socket

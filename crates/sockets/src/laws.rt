@@ -10,7 +10,6 @@ ghost use Rattle.sockets.specs.declared.socket.Socket.{Socket};
 
 /// Law: where the socket doesn't want to be polled at a moment yet, an offer at that moment is silent and
 /// changes nothing, but that an open offer is settled as not sent.
-#[tactic(auto, using(crate::proofs::Connections::silent_before))]
 pub fn silence()
     ensures { (cx : ContextValue) (s s' : Socket) (answer : Answer.Offer)
         → IsBefore cx.moment (poll_of cx s)
@@ -25,7 +24,6 @@ pub fn due_as_before()
 
 /// Law: a packet is offered exactly where the answer says so, and a datagram whose offer is settled as not sent
 /// is offered again as it was.
-#[tactic(auto, using(crate::proofs::Connections::said_packet))]
 pub fn unsent_is_offered_again()
     ensures packet { (cx : ContextValue) (s s' : Socket) (answer : Answer.Offer)
         → Offers cx s answer s'
@@ -41,7 +39,6 @@ pub fn unsent_is_offered_again()
 
 /// Law: an offer that says that nothing changed, and is settled as not sent, leaves the socket with the same
 /// datagrams or bytes in its queues, and a connection in its state.
-#[tactic(auto, using(crate::proofs::Connections::said_same))]
 pub fn unchanged()
     ensures { (cx : ContextValue) (s s' : Socket) (answer : Answer.Offer)
         → Offers cx s answer s'
