@@ -3,6 +3,7 @@ use Rattle.std.specs.Prelude.{Option, None, Some}
 use Rattle.datagram_sockets.specs.Udp.{UdpValue}
 use Rattle.datagram_sockets.specs.Icmp.{IcmpValue}
 use Rattle.datagram_sockets.specs.Raw.{RawValue}
+use Rattle.tcp_model.specs.Value.{TcpValue}
 use Rattle.sockets.specs.declared.socket.Socket.{Socket}
 use Rattle.sockets.specs.declared.socket.Socket.TheVariants as Kind
 
@@ -17,3 +18,7 @@ as_icmp s = None
 abbrev pub as_udp : Socket → Option UdpValue
 as_udp (Kind.Udp v) = Some v
 as_udp s = None
+
+abbrev pub as_tcp : Socket → Option TcpValue
+as_tcp (Kind.Tcp v) = Some v
+as_tcp s = None

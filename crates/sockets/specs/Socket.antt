@@ -1,5 +1,5 @@
 -- A socket of any kind: what it offers, how an offer is settled, when it wants to be polled, and what is for it.
-use Rattle.std.specs.Prelude.{ℕ, Bool, false, List, Option, None, Some}
+use Rattle.std.specs.Prelude.{◌≡◌, ℕ, Bool, false, List, Option, None, Some, IfSome}
 use Rattle.ip_wire.specs.IpAddress.{IpAddress}
 use Rattle.ip_wire.specs.IpRepr.{IpRepr}
 use Rattle.ip_wire.specs.UdpRepr.{UdpRepr}
@@ -14,6 +14,12 @@ use Rattle.datagram_sockets.specs.Offers as Places
 use Rattle.datagram_sockets.specs.Udp as Udps
 use Rattle.datagram_sockets.specs.Icmp as Icmps
 use Rattle.datagram_sockets.specs.Raw as Raws
+use Rattle.ip_wire.specs.TcpHeader.{TcpHeader}
+use Rattle.tcp_model.specs.Due as Tcps
+use Rattle.tcp_model.specs.Names as TcpNames
+use Rattle.tcp_model.specs.Offers as TcpOffers
+use Rattle.tcp_model.specs.Settled as TcpSettled
+use Rattle.tcp_model.specs.Value.{TcpValue}
 use Rattle.sockets.specs.declared.socket.Socket.{Socket}
 use Rattle.sockets.specs.declared.socket.Socket.TheVariants as Kind
 
@@ -22,6 +28,7 @@ abbrev pub Offers : ContextValue → Socket → Offer → Socket → Type 0
 Offers cx (Kind.Raw v) answer (Kind.Raw v') = Raws.Offers cx v answer v'
 Offers cx (Kind.Icmp v) answer (Kind.Icmp v') = Icmps.Offers cx v answer v'
 Offers cx (Kind.Udp v) answer (Kind.Udp v') = Udps.Offers cx v answer v'
+Offers cx (Kind.Tcp v) answer (Kind.Tcp v') = (answer ≡ (TcpOffers.offer_of cx v).answer) × (v' ≡ (TcpOffers.offer_of cx v).socket)
 Offers cx s answer s' = ⊥
 
 -- the packet of the open offer
@@ -29,30 +36,46 @@ abbrev pub offered_by : Socket → Option PacketValue
 offered_by (Kind.Raw v) = v.offered
 offered_by (Kind.Icmp v) = v.offered
 offered_by (Kind.Udp v) = v.offered
+offered_by (Kind.Tcp v) = TcpOffers.offered_packet v
 
 -- the packet, if there is one, can be sent
 abbrev pub IfSendable : Option PacketValue → Type 0
-IfSendable None = Unit {0}
-IfSendable (Some p) = IsSendable p
+IfSendable o = IfSome o IsSendable
 
--- what an offer is told: what was sent leaves its queue
+-- what an offer is told: a datagram that was sent leaves its queue, and a segment is recorded
 abbrev pub settled : Bool → Socket → Socket
 settled sent (Kind.Raw v) = Kind.Raw (Datagrams.settled sent v)
 settled sent (Kind.Icmp v) = Kind.Icmp (Datagrams.settled sent v)
 settled sent (Kind.Udp v) = Kind.Udp (Datagrams.settled sent v)
+settled sent (Kind.Tcp v) = Kind.Tcp (TcpSettled.settled sent v)
 
 -- when the socket wants to be polled
 abbrev pub poll_of : ContextValue → Socket → PollAt
 poll_of cx (Kind.Raw v) = Datagrams.poll_of v
 poll_of cx (Kind.Icmp v) = Datagrams.poll_of v
 poll_of cx (Kind.Udp v) = Datagrams.poll_of v
+poll_of cx (Kind.Tcp v) = Tcps.poll_of cx.ip_mtu v
 
--- the same socket, with the same datagrams in its queues, of which those to be sent may lie elsewhere
+-- the same connection in the same state, with the same bytes in its queues; its moments may have been set
+pub record IsSameConnection (v v' : TcpValue) : Type 0 where
+  pub state : v'.block.state ≡ v.block.state
+  pub names : v'.block.names ≡ v.block.names
+  pub settings : v'.block.settings ≡ v.block.settings
+  pub received : v'.received ≡ v.received
+  pub queued : v'.queued ≡ v.queued
+
+-- the same socket, with the same datagrams in its queues, of which those to be sent may lie elsewhere, or the same connection
 abbrev pub IsSameButForPlaces : Socket → Socket → Type 0
 IsSameButForPlaces (Kind.Raw v) (Kind.Raw v') = Places.IsSameButForPlaces v v'
 IsSameButForPlaces (Kind.Icmp v) (Kind.Icmp v') = Places.IsSameButForPlaces v v'
 IsSameButForPlaces (Kind.Udp v) (Kind.Udp v') = Places.IsSameButForPlaces v v'
+IsSameButForPlaces (Kind.Tcp v) (Kind.Tcp v') = IsSameConnection v v'
 IsSameButForPlaces s s' = ⊥
+
+-- a socket of datagrams
+abbrev pub IsOfDatagrams : Socket → Type 0
+IsOfDatagrams (Kind.Tcp v) = ⊥
+IsOfDatagrams s = Unit {0}
 
 -- ARRIVAL. What is for a socket of one kind is for none of another.
 
@@ -71,3 +94,7 @@ accepts_icmpv6 s destination message bytes = false
 abbrev pub accepts_datagram : ContextValue → Socket → IpRepr → UdpRepr → Bool
 accepts_datagram cx (Kind.Udp v) ip udp = Udps.accepts cx v ip udp
 accepts_datagram cx s ip udp = false
+
+abbrev pub accepts_segment : Socket → IpRepr → TcpHeader → Bool
+accepts_segment (Kind.Tcp v) ip header = TcpNames.accepts v.block ip header
+accepts_segment s ip header = false

@@ -1,12 +1,13 @@
 ghost use Rattle.std.specs.Prelude.{◌≡◌, Option, Some};
 ghost use Rattle.std.specs.Option.{option_copied, option_copied_mut};
 ghost use Rattle.std.specs.Borrow.{sem, LendsIf};
-ghost use Rattle.sockets.specs.AnySocket.{as_raw, as_icmp, as_udp};
+ghost use Rattle.sockets.specs.AnySocket.{as_raw, as_icmp, as_udp, as_tcp};
 ghost use Rattle.sockets.specs.declared.socket.Socket as AnyKind;
 ghost use Rattle.sockets.specs.declared.socket.Socket.TheVariants as Kind;
 ghost use Rattle.sockets.specs.contracts.socket.Socket.{the_row};
 
 use crate::socket::Socket;
+use crate::tcp;
 use datagram_sockets::{icmp, raw, udp};
 
 /// A socket of some kind.
@@ -111,6 +112,34 @@ impl AnySocket for udp::Socket {
     fn downcast_mut(socket: &mut Socket) -> Option<&mut udp::Socket> {
         match socket {
             Socket::Udp(socket) => Some(socket),
+            _ => None,
+        }
+    }
+
+    ghost given_back = { λ s. refl };
+}
+
+impl AnySocket for tcp::Socket {
+    ghost use Rattle.std.specs.Prelude.{refl};
+
+    ghost upcast_of = { λ s. Kind.Tcp s };
+
+    ghost downcast_of = { as_tcp };
+
+    fn upcast(self) -> Socket {
+        Socket::Tcp(self)
+    }
+
+    fn downcast(socket: &Socket) -> Option<&tcp::Socket> {
+        match socket {
+            Socket::Tcp(socket) => Some(socket),
+            _ => None,
+        }
+    }
+
+    fn downcast_mut(socket: &mut Socket) -> Option<&mut tcp::Socket> {
+        match socket {
+            Socket::Tcp(socket) => Some(socket),
             _ => None,
         }
     }

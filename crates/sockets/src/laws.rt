@@ -5,7 +5,7 @@ ghost use Rattle.socket_base.specs.Offers.{IsBefore};
 ghost use Rattle.socket_base.specs.declared.offer.Offer as Answer;
 ghost use Rattle.socket_base.specs.declared.offer.Offer.TheVariants as Offer;
 ghost use Rattle.datagram_sockets.specs.Offers.{HasPacket, changed_by};
-ghost use Rattle.sockets.specs.Socket.{Offers, offered_by, settled, poll_of, IsSameButForPlaces};
+ghost use Rattle.sockets.specs.Socket.{Offers, offered_by, settled, poll_of, IsSameButForPlaces, IsOfDatagrams};
 ghost use Rattle.sockets.specs.declared.socket.Socket.{Socket};
 
 /// Law: where the socket doesn't want to be polled at a moment yet, an offer at that moment is silent and
@@ -22,13 +22,14 @@ pub fn due_as_before()
     ensures { (cx : ContextValue) (s : Socket) → poll_of cx (settled false s) ≡ poll_of cx s }
 {}
 
-/// Law: a packet is offered exactly where the answer says so, and one whose offer is settled as not sent is
-/// offered again as it was.
+/// Law: a packet is offered exactly where the answer says so, and a datagram whose offer is settled as not sent
+/// is offered again as it was.
 pub fn unsent_is_offered_again()
     ensures packet { (cx : ContextValue) (s s' : Socket) (answer : Answer.Offer)
         → Offers cx s answer s'
         → HasPacket answer (offered_by s') }
     ensures again { (cx : ContextValue) (s s' : Socket) (answer : Answer.Offer)
+        → IsOfDatagrams s
         → Offers cx s answer s'
         → IsSome (offered_by s')
         → Offers cx (settled false s') answer s' }
@@ -37,7 +38,7 @@ pub fn unsent_is_offered_again()
 {}
 
 /// Law: an offer that says that nothing changed, and is settled as not sent, leaves the socket with the same
-/// datagrams in its queues.
+/// datagrams or bytes in its queues, and a connection in its state.
 pub fn unchanged()
     ensures { (cx : ContextValue) (s s' : Socket) (answer : Answer.Offer)
         → Offers cx s answer s'

@@ -1,13 +1,14 @@
 //! The sockets of the stack, and one type for all kinds.
 //!
-//! It passes on its members, `socket_base` and `datagram_sockets`: a crate above names `sockets` alone, in
-//! `crates.txt` and in its code, as `sockets::udp::Socket`. In clauses, `specs/` and `proofs/` the members'
+//! It passes on its members, `socket_base`, `datagram_sockets`, `tcp_model` and `tcp_socket`: a crate above names
+//! `sockets` alone, in `crates.txt` and in its code, as `sockets::udp::Socket`. In clauses, `specs/` and `proofs/` the members'
 //! definitions are `Rattle.sockets.specs.Udp`, `.Packet`, `.Context` and so on.
 #![tactic(auto)]
 
 mod any_socket;
 pub mod laws;
 mod socket;
+pub mod tcp;
 
 pub use any_socket::AnySocket;
 pub use datagram_sockets::{icmp, raw, udp};

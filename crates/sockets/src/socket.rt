@@ -2,6 +2,7 @@ ghost use Rattle.std.specs.Prelude.{◌≡◌};
 ghost use Rattle.socket_base.specs.Packet.{option_value};
 ghost use Rattle.sockets.specs.Socket.{Offers, offered_by, settled, poll_of, IfSendable};
 
+use crate::tcp;
 use datagram_sockets::{icmp, raw, udp};
 use socket_base::{Context, Offer, Packet, PollAt};
 
@@ -11,6 +12,7 @@ pub enum Socket {
     Raw(raw::Socket),
     Icmp(icmp::Socket),
     Udp(udp::Socket),
+    Tcp(tcp::Socket),
 }
 
 impl Socket {
@@ -33,6 +35,7 @@ impl Socket {
                 udp::offered_fits();
                 socket.offer(cx)
             }
+            Socket::Tcp(socket) => socket.offer(cx),
         }
     }
 
@@ -44,10 +47,12 @@ impl Socket {
             Socket::Raw(socket) => socket.offered(),
             Socket::Icmp(socket) => socket.offered(),
             Socket::Udp(socket) => socket.offered(),
+            Socket::Tcp(socket) => socket.offered(),
         }
     }
 
-    /// Says what became of the offered packet: one that was sent leaves its queue, another one stays first.
+    /// Says what became of the offered packet. A datagram that was sent leaves its queue, another one stays
+    /// first; a segment that was sent is recorded, another one leaves all as it is.
     pub fn settle(&mut self, sent: bool)
         ensures { self.new ≡ settled sent self.old }
     {
@@ -55,6 +60,7 @@ impl Socket {
             Socket::Raw(socket) => socket.settle(sent),
             Socket::Icmp(socket) => socket.settle(sent),
             Socket::Udp(socket) => socket.settle(sent),
+            Socket::Tcp(socket) => socket.settle(sent),
         }
     }
 
@@ -66,6 +72,7 @@ impl Socket {
             Socket::Raw(socket) => socket.poll_at(),
             Socket::Icmp(socket) => socket.poll_at(),
             Socket::Udp(socket) => socket.poll_at(),
+            Socket::Tcp(socket) => socket.poll_at(cx),
         }
     }
 }
