@@ -12,6 +12,4 @@ mod packets;
 #[cfg(test)]
 mod raw;
 #[cfg(test)]
-mod tcp;
-#[cfg(test)]
 mod udp;
