@@ -1,0 +1,3 @@
+pub mod Emits
+pub mod Departure
+pub mod Fragments
