@@ -6,14 +6,14 @@ use Rattle.control_wire.specs.Icmpv6 as Icmpv6
 use Rattle.control_wire.specs.Ndisc as Neighbor
 use Rattle.ip_wire.specs.Address.{solicited_of}
 use Rattle.ip_wire.specs.Arp as Arps
-use Rattle.ip_wire.specs.ArpOperation.TheVariants as Operation
-use Rattle.ip_wire.specs.ArpRepr.{ArpRepr}
-use Rattle.ip_wire.specs.ArpRepr.TheVariants as Arp
+use Rattle.ip_wire.specs.declared.arp.kinds.ArpOperation.TheVariants as Operation
+use Rattle.ip_wire.specs.declared.arp.repr.ArpRepr.{ArpRepr}
+use Rattle.ip_wire.specs.declared.arp.repr.ArpRepr.TheVariants as Arp
 use Rattle.ip_wire.specs.Ethernet as Ethernet
 use Rattle.ip_wire.specs.EthernetAddress.{EthernetAddress}
 use Rattle.ip_wire.specs.EthernetProtocol.{EthernetProtocol}
 use Rattle.ip_wire.specs.EthernetProtocol.TheVariants as Ether
-use Rattle.ip_wire.specs.EthernetRepr.{EthernetRepr}
+use Rattle.ip_wire.specs.declared.ethernet.repr.EthernetRepr.{EthernetRepr}
 use Rattle.ip_wire.specs.HardwareAddress.{HardwareAddress}
 use Rattle.ip_wire.specs.HardwareAddress.TheVariants as Hardware
 use Rattle.ip_wire.specs.Ip as Ips
@@ -29,7 +29,7 @@ use Rattle.ip_wire.specs.Ipv6Repr.{Ipv6Repr}
 use Rattle.socket_base.specs.Packet.{PacketValue, PayloadValue, ControlV6, packet_of, payload_len, payload_written}
 use Rattle.interface_tables.specs.Pieces as Pieces
 use Rattle.interface_egress.specs.declared.frame.Question.{Question}
-use Rattle.interface_egress.specs.declared.frame.Question.TheVariants as Question
+use Rattle.interface_egress.specs.declared.frame.Question.TheVariants as Query
 
 -- What leaves in one frame: a question for a neighbour, an ARP packet that answers one, a packet, or a piece of an IPv4
 -- datagram with this header. The hardware address is that of the frame's receiver.
@@ -110,13 +110,13 @@ solicitation own source target =
     packet_of (Ip.Ipv6 (solicitation_header source target)) (ControlV6 (Icmpv6.Ndisc (Neighbor.Solicitation target (Some own.0))) [])
 
 abbrev pub question_frame : ChecksumCapabilities → Question → List ℕ
-question_frame caps (Question.Arp own source target) = arp_frame (arp_request own source target)
-question_frame caps (Question.Neighbor own source target) =
+question_frame caps (Query.Arp own source target) = arp_frame (arp_request own source target)
+question_frame caps (Query.Neighbor own source target) =
     packet_frame caps (Hardware.Ethernet own) (Hardware.Ethernet (solicited_station target)) (solicitation own source target)
 
 abbrev pub question_len : Question → ℕ
-question_len (Question.Arp own source target) = 42
-question_len (Question.Neighbor own source target) = 86
+question_len (Query.Arp own source target) = 42
+question_len (Query.Neighbor own source target) = 86
 
 -- ALL FRAMES
 

@@ -1,5 +1,5 @@
 -- A datagram that is half sent (RFC 791, section 3.2).
-use Rattle.std.specs.Prelude.{◌≡◌, ℕ, ◌+◌, ◌-◌, ◌*◌, ◌/◌, ◌<◌, nat_lt, Bool, if◌then◌else◌, List, length, take, Option, None, Some}
+use Rattle.std.specs.Prelude.{◌≡◌, ℕ, ◌+◌, ◌-◌, ◌*◌, ◌/◌, ◌<◌, suc, zero, nat_lt, if◌then◌else◌, List, [], ◌∷◌, length, take, Option, None, Some}
 use Rattle.ip_wire.specs.HardwareAddress.{HardwareAddress}
 use Rattle.ip_wire.specs.Ipv4Repr.{Ipv4Repr}
 use Rattle.net_base.specs.ChecksumCapabilities.{ChecksumCapabilities}
@@ -43,3 +43,9 @@ left_after mtu l =
 -- the same of the place in it
 abbrev pub rest_of : ℕ → Left → Option Left
 rest_of mtu l = if nat_lt (l.at + piece_room mtu) l.len then Some (record l { at = l.at + piece_room mtu }) else None
+
+-- the next pieces of what is left, so many of them at most
+abbrev pub pieces_from : ℕ → ℕ → Option LeftValue → List Piece
+pieces_from n mtu None = []
+pieces_from zero mtu (Some l) = []
+pieces_from (suc n) mtu (Some l) = next_piece mtu l ∷ pieces_from n mtu (left_after mtu l)

@@ -44,7 +44,7 @@ impl Model for Fragmenter {
 
     ghost view = { λ f. left_value f.left f.buffer.items };
 
-    ghost invariant = { λ f. (vec_len f.buffer ≡ MAX_CUT_PAYLOAD) × ForSome f.left (λ l. (l.at < l.len) × (l.len ≤ MAX_CUT_PAYLOAD)) };
+    ghost invariant = { λ f. (vec_len f.buffer ≡ 4076) × ForSome f.left (λ l. (l.at < l.len) × (l.len ≤ 4076)) };
 }
 
 /// How the pieces of a datagram go: from this hardware address, in packets of at most this length.
@@ -113,12 +113,7 @@ impl Fragmenter {
     }
 
     /// Sends the next piece of the datagram that waits. Says whether the device took it.
-    pub fn send_next<D: Device>(
-        &mut self,
-        device: &mut D,
-        token: D::TxToken,
-        cut: &Cut,
-    ) -> bool
+    pub fn send_next<D: Device>(&mut self, device: &mut D, token: D::TxToken, cut: &Cut) -> bool
         requires room { D.refused device.old + 1 < 2 ^ 64 }
         requires waits { IsSome self.old }
         requires mtu { (576 ≤ cut.now.mtu) × (cut.now.mtu ≤ 65535) }
@@ -131,7 +126,13 @@ impl Fragmenter {
         let Some(left) = self.left else {
             unreachable!()
         };
-        let sent = send_piece(device, token, cut, &left, &self.buffer.as_slice()[..left.len]);
+        let sent = send_piece(
+            device,
+            token,
+            cut,
+            &left,
+            &self.buffer.as_slice()[..left.len],
+        );
         if sent {
             self.left = rest_of(&left, cut.mtu);
         }

@@ -5,6 +5,7 @@
 pub mod fill;
 pub mod fragmenter;
 pub mod frame;
+pub mod laws;
 
 pub use fill::{Fill, send};
 pub use fragmenter::Fragmenter;

@@ -1,5 +1,5 @@
 -- A frame cut in two, as the code comes upon its parts.
-use Rattle.std.proofs.Common.{◌≡◌, ℕ, ◌+◌, ◌-◌, ◌*◌, ◌%◌, ◌^◌, ◌<◌, ◌≤◌, ◌/◌, Bool, true, false, ◌&&◌, ◌==◌, nat_le, cond, IsSome, Some, None, slice_index, List, ◌++◌, length, take, drop, get_or, slice_range, length-drop, refl, ◌∙◌, ap, arith, Fits, w8}
+use Rattle.std.proofs.Common.{◌≡◌, ℕ, ◌+◌, ◌-◌, ◌%◌, ◌^◌, ◌<◌, ◌≤◌, ◌/◌, Bool, true, false, ◌&&◌, ◌==◌, nat_le, cond, IsSome, Some, None, slice_index, List, ◌++◌, length, take, drop, get_or, length-drop, refl, ◌∙◌, ap, arith, Fits, w8}
 use Rattle.std.proofs.lemmas.Bool.Decides.{nat_tests}
 use Rattle.std.proofs.lemmas.List.{length-take, get_or-drop}
 use Rattle.net_devices.specs.Capabilities.{frame_header}

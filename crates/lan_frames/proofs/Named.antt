@@ -1,9 +1,8 @@
 -- Bytes that name neither TCP nor UDP.
-use Rattle.std.proofs.Common.{◌≡◌, ◌≢◌, ℕ, ◌+◌, ◌/◌, Bool, true, false, ◌&&◌, ◌||◌, eqb, List, slice_index, drop, arith, refl, sym, ◌∙◌, ap}
+use Rattle.std.proofs.Common.{◌≡◌, ◌≢◌, ℕ, ◌+◌, Bool, true, false, ◌&&◌, ◌||◌, eqb, List, slice_index, drop, arith, refl, sym, ◌∙◌, ap}
 use Rattle.std.proofs.lemmas.Bool.Decides.{nat_tests}
 use Rattle.std.proofs.lemmas.List.{get_or-drop}
 use Rattle.ip_address.specs.Protocol.{protocol_number, protocol_of, ether_number, ether_of}
-use Rattle.ip_address.specs.Fields.{be16}
 use Rattle.ip_address.specs.declared.ip.IpProtocol.{IpProtocol}
 use Rattle.ip_address.specs.declared.ip.IpProtocol.TheVariants.{Tcp, Udp}
 use Rattle.ip_address.proofs.Numbers.{protocol_number-protocol_of, ether_number-ether_of}

@@ -1,16 +1,15 @@
 -- A frame that carries a slice of a payload, cut in two.
-use Rattle.std.proofs.Common.{◌≡◌, ℕ, ◌+◌, ◌-◌, ◌/◌, ◌%◌, ◌^◌, ◌<◌, ◌≤◌, ◌&&◌, ◌==◌, nat_le, Bool, true, false, cond, IsTrue, Option, Some, None, List, [], ◌++◌, length, take, drop, slice_index, length-append, length-drop, append_assoc, refl, sym, ◌∙◌, ap, arith}
-use Rattle.std.proofs.lemmas.List.{take_at, drop_at, take-take, drop-take, drop-drop, length-take, length-take-le, get_or_append_left}
+use Rattle.std.proofs.Common.{◌≡◌, ℕ, ◌+◌, ◌-◌, ◌/◌, ◌%◌, ◌^◌, ◌<◌, ◌≤◌, ◌&&◌, ◌==◌, nat_le, Bool, true, cond, Option, Some, None, List, [], ◌++◌, length, take, drop, slice_index, length-append, length-drop, append_assoc, refl, sym, ◌∙◌, ap, arith}
+use Rattle.std.proofs.lemmas.List.{take_at, drop_at, take-take, drop-take, drop-drop, length-take-le, get_or_append_left}
 use Rattle.std.proofs.lemmas.Bool.Decides.{nat_tests}
 use Rattle.net_devices.specs.Capabilities.{frame_header}
 use Rattle.net_devices.specs.declared.capabilities.Medium.{Medium}
 use Rattle.net_devices.specs.declared.capabilities.Medium.TheVariants.{Ethernet, Ip}
 use Rattle.ip_address.specs.Fields.{be16}
-use Rattle.ip_address.specs.Protocol.{protocol_number, protocol_of}
+use Rattle.ip_address.specs.Protocol.{protocol_number}
 use Rattle.ip_address.specs.declared.ip.IpProtocol.{IpProtocol}
 use Rattle.ip_address.proofs.Numbers.{protocol_number-protocol_of}
-use Rattle.ip_packet.specs.Ipv4 as ipv4
-use Rattle.ip_packet.specs.Ipv4.{IsIpv4, IsValue, Fits, piece_of, payload_of, header_len_of, written_piece, written_as, normal}
+use Rattle.ip_packet.specs.Ipv4.{IsIpv4, IsValue, piece_of, payload_of, header_len_of, written_piece, normal}
 use Rattle.ip_packet.specs.declared.ipv4.piece.Ipv4Piece.{Ipv4Piece}
 use Rattle.ip_packet.specs.declared.ipv4.repr.Ipv4Repr.{Ipv4Repr}
 use Rattle.ip_packet.proofs.Ipv4Laws.{reads-back}

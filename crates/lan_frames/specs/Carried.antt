@@ -1,5 +1,5 @@
 -- Which packet a frame carries, as far as its first bytes say.
-use Rattle.std.specs.Prelude.{ℕ, ◌/◌, nat_le, Bool, true, ◌&&◌, ◌||◌, ◌==◌, List, length, drop, slice_index}
+use Rattle.std.specs.Prelude.{ℕ, ◌/◌, Bool, ◌&&◌, ◌||◌, ◌==◌, List, drop, slice_index}
 use Rattle.net_devices.specs.Capabilities.{frame_header}
 use Rattle.net_devices.specs.declared.capabilities.Medium.{Medium}
 use Rattle.net_devices.specs.declared.capabilities.Medium.TheVariants.{Ethernet, Ip}

@@ -1,4 +1,4 @@
-use Rattle.std.proofs.Common.{◌≡◌, ◌-◌, List, ℕ, length, take, length-drop, refl, ◌∙◌, ap, sym, arith}
+use Rattle.std.proofs.Common.{◌-◌, List, ℕ, length, take, length-drop, refl, ◌∙◌, ap, sym, arith}
 use Rattle.lan_frames.proofs.Cutting.{whole_packet, first_is, second_is, payload_short}
 use Rattle.lan_frames.proofs.cut.cut_frame.Goals as goal
 

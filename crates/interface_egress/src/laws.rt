@@ -1,0 +1,63 @@
+//! What follows from the definitions.
+ghost use Rattle.std.specs.Prelude.{◌≡◌, ℕ, ◌+◌, ◌*◌, ◌%◌, ◌^◌, ◌<◌, ◌≤◌, Bool, List, ◌++◌, length, take, drop, Some, IsTrue};
+ghost use Rattle.std.specs.List.{AllByRecursion, flat_map};
+ghost use Rattle.net_base.specs.Capabilities.{computes};
+ghost use Rattle.net_base.specs.ChecksumCapabilities.{ChecksumCapabilities};
+ghost use Rattle.ip_wire.specs.Address.{IsEthernetAddress};
+ghost use Rattle.ip_wire.specs.Arp as Arps;
+ghost use Rattle.ip_wire.specs.declared.arp.repr.ArpRepr.{ArpRepr};
+ghost use Rattle.ip_wire.specs.Ethernet as Ethernet;
+ghost use Rattle.ip_wire.specs.EthernetAddress.{EthernetAddress};
+ghost use Rattle.ip_wire.specs.EthernetProtocol.TheVariants as Ether;
+ghost use Rattle.ip_wire.specs.HardwareAddress.TheVariants as Hardware;
+ghost use Rattle.ip_wire.specs.Ip as Ips;
+ghost use Rattle.ip_wire.specs.Ipv4 as Ipv4;
+ghost use Rattle.ip_wire.specs.Ipv4Repr.{Ipv4Repr};
+ghost use Rattle.socket_base.specs.Packet.{PacketValue, IsSendable, payload_len, payload_written};
+ghost use Rattle.interface_tables.specs.Pieces.{Piece, IsSliceOf};
+ghost use Rattle.interface_egress.specs.Departure.{ether_for, packet_frame, piece_frame, arp_link, arp_frame};
+ghost use Rattle.interface_egress.specs.Fragments.{LeftValue, piece_room, pieces_from};
+
+/// Law: the pieces that are left of a datagram are slices of its payload, which begin at multiples of 8 bytes, and in turn they
+/// are all that is left.
+pub fn pieces_are_slices()
+    ensures slices { (mtu n : ℕ) (l : LeftValue) → l.at ≤ length l.payload
+        → AllByRecursion (IsSliceOf l.payload) (pieces_from n mtu (Some l)) }
+    ensures units { (mtu n : ℕ) (l : LeftValue) → l.at % 8 ≡ 0
+        → AllByRecursion (λ p. p.offset % 8 ≡ 0) (pieces_from n mtu (Some l)) }
+    ensures in_turn { (mtu n : ℕ) (l : LeftValue) → length l.payload ≤ l.at + n * piece_room mtu
+        → flat_map (λ p. p.bytes) (pieces_from n mtu (Some l)) ≡ drop l.at l.payload }
+{}
+
+/// Law: what was sent in a frame is read in it, whatever padding follows: on Ethernet the link header and behind it what stands
+/// in a bare frame; there the packet's header in its normal form and its payload. A checksum that is tested has to be written.
+pub fn frames_read_back()
+    ensures link { (caps : ChecksumCapabilities) (own to : EthernetAddress) (p : PacketValue) (padding : List ℕ)
+        → IsEthernetAddress own → IsEthernetAddress to
+        → Ethernet.IsEthernet (packet_frame caps (Hardware.Ethernet own) (Hardware.Ethernet to) p ++ padding)
+        (record { src_addr = own; dst_addr = to; ethertype = ether_for p.header })
+        × (Ethernet.payload_of (packet_frame caps (Hardware.Ethernet own) (Hardware.Ethernet to) p ++ padding)
+        ≡ packet_frame caps Hardware.Ip Hardware.Ip p ++ padding) }
+    ensures packet { (caps : ChecksumCapabilities) (tested : Bool) (p : PacketValue) (padding : List ℕ)
+        → IsSendable p → Ips.IsValue p.header → length (payload_written caps p.header p.payload) ≡ payload_len p.payload
+        → (IsTrue tested → IsTrue (computes caps.ipv4))
+        → Ips.IsIp tested (packet_frame caps Hardware.Ip Hardware.Ip p ++ padding) (Ips.normal p.header)
+        × (take (payload_len p.payload) (drop (Ips.header_len_in p.header) (packet_frame caps Hardware.Ip Hardware.Ip p ++ padding))
+        ≡ payload_written caps p.header p.payload) }
+    ensures piece_link { (caps : ChecksumCapabilities) (own to : EthernetAddress) (header : Ipv4Repr) (p : Piece) (padding : List ℕ)
+        → IsEthernetAddress own → IsEthernetAddress to
+        → Ethernet.IsEthernet (piece_frame caps (Hardware.Ethernet own) (Hardware.Ethernet to) header p ++ padding)
+        (record { src_addr = own; dst_addr = to; ethertype = Ether.Ipv4 })
+        × (Ethernet.payload_of (piece_frame caps (Hardware.Ethernet own) (Hardware.Ethernet to) header p ++ padding)
+        ≡ piece_frame caps Hardware.Ip Hardware.Ip header p ++ padding) }
+    ensures piece { (caps : ChecksumCapabilities) (tested : Bool) (header : Ipv4Repr) (p : Piece) (padding : List ℕ)
+        → Ipv4.IsValue header → 20 + length p.bytes < 2 ^ 16 → p.offset < 2 ^ 16 → p.offset % 8 ≡ 0
+        → (IsTrue tested → IsTrue (computes caps.ipv4))
+        → Ipv4.IsIpv4 tested (piece_frame caps Hardware.Ip Hardware.Ip header p ++ padding)
+        (Ipv4.normal (record header { payload_len = length p.bytes }))
+        × (Ipv4.piece_of (piece_frame caps Hardware.Ip Hardware.Ip header p ++ padding) ≡ record { offset = p.offset; more = p.more })
+        × (Ipv4.payload_of (piece_frame caps Hardware.Ip Hardware.Ip header p ++ padding) ≡ p.bytes) }
+    ensures arp { (packet : ArpRepr) (padding : List ℕ) → Arps.IsValue packet
+        → Ethernet.IsEthernet (arp_frame packet ++ padding) (arp_link packet)
+        × Arps.IsArp (Ethernet.payload_of (arp_frame packet ++ padding)) (Arps.normal packet) }
+{}
