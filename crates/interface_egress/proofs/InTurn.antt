@@ -2,9 +2,8 @@
 use Rattle.std.proofs.Common.{◌≡◌, ℕ, suc, zero, ◌+◌, ◌-◌, ◌*◌, ◌/◌, ◌%◌, ◌<◌, ◌≤◌, Bool, true, false, cond, List, [], ◌∷◌, ◌++◌, length, drop, take, Option, Some, None, refl, sym, subst, ap, ◌∙◌, arith}
 use Rattle.std.specs.Prelude.{nat_lt}
 use Rattle.std.specs.List.{AllByRecursion, flat_map}
-use Rattle.std.proofs.lemmas.List.{length-drop}
+use Rattle.std.proofs.lemmas.List.{drop_all}
 use Rattle.std.proofs.lemmas.Bool.Decides.{nat_tests}
-use Rattle.std.proofs.lemmas.Grind.{common_steps}
 use Rattle.interface_tables.specs.Pieces.{Piece, IsSliceOf}
 use Rattle.interface_tables.proofs.Rebuilt.{IsSliceOf-piece_at, piece_at-then}
 use Rattle.interface_egress.specs.Fragments.{LeftValue, piece_room, next_piece, left_after, pieces_from}
@@ -72,16 +71,13 @@ holds-after : (mtu n : ℕ) (l : LeftValue) (b : Bool) → length l.payload ≤ 
 holds-after mtu n l true enough = omega arith
 holds-after mtu n l false enough = tt
 
-nothing : (xs : List ℕ) (n : ℕ) → length xs ≤ n → drop n xs ≡ []
-nothing xs n short = grind (arith, common_steps)
-
 bytes-after : (mtu : ℕ) (l : LeftValue) (b : Bool) → nat_lt (l.at + piece_room mtu) (length l.payload) ≡ b → bytes_left (left_by b (moved mtu l)) ≡ drop (l.at + piece_room mtu) l.payload
 bytes-after mtu l true is = refl
-bytes-after mtu l false is = sym (nothing l.payload (l.at + piece_room mtu) (le_by (l.at + piece_room mtu) (length l.payload) is))
+bytes-after mtu l false is = sym (drop_all (l.at + piece_room mtu) l.payload (le_by (l.at + piece_room mtu) (length l.payload) is))
 
 turn-of : (mtu n : ℕ) (o : Option LeftValue) → Holds mtu n o → flat_map (λ (p : Piece). p.bytes) (pieces_from n mtu o) ≡ bytes_left o
 turn-of mtu n None enough = refl
-turn-of mtu zero (Some l) enough = sym (nothing l.payload l.at (omega arith))
+turn-of mtu zero (Some l) enough = sym (drop_all l.at l.payload (omega arith))
 turn-of mtu (suc n) (Some l) enough =
     let later : Bool = nat_lt (l.at + piece_room mtu) (length l.payload) in
     ap (λ (rest : List ℕ). (next_piece mtu l).bytes ++ rest) (turn-of mtu n (left_after mtu l) (holds-after mtu n l later enough) ∙ bytes-after mtu l later refl)

@@ -16,9 +16,12 @@ pub record LeftValue : Type 0 where
   pub at : ℕ
 
 -- what is left, with the bytes of a buffer
+abbrev pub half_sent : Left → List ℕ → LeftValue
+half_sent l bytes = record { header = l.header; to = l.to; payload = take l.len bytes; at = l.at }
+
 abbrev pub left_value : Option Left → List ℕ → Option LeftValue
 left_value None bytes = None
-left_value (Some l) bytes = Some (record { header = l.header; to = l.to; payload = take l.len bytes; at = l.at })
+left_value (Some l) bytes = Some (half_sent l bytes)
 
 -- a packet of which nothing went yet, as a datagram with this header
 abbrev pub begun : ChecksumCapabilities → HardwareAddress → Ipv4Repr → PacketValue → LeftValue

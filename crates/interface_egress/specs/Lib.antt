@@ -1,3 +1,6 @@
 pub mod Emits
 pub mod Departure
 pub mod Fragments
+pub mod Plan
+pub mod GoesOut
+pub mod Departing

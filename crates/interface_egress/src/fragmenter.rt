@@ -1,11 +1,11 @@
 //! A datagram that goes in pieces.
-ghost use Rattle.std.specs.Prelude.{◌≡◌, ◌+◌, ◌-◌, ◌<◌, ◌≤◌, ◌^◌, ◌++◌, if◌then◌else◌, length, take, drop, is_some, IsSome, IfOk, None, Some};
+ghost use Rattle.std.specs.Prelude.{◌≡◌, ◌+◌, ◌-◌, ◌<◌, ◌≤◌, ◌^◌, ◌++◌, if◌then◌else◌, length, take, drop, is_some, IsSome, IfSome, IfOk, None, Some};
 ghost use Rattle.socket_base.specs.Packet.{packet_value, payload_len, payload_written, PayloadFits, IsSendable};
 ghost use Rattle.ip_wire.specs.IpRepr.TheVariants as Ip;
 ghost use Rattle.interface_tables.specs.Pieces.{piece_at};
 ghost use Rattle.interface_egress.specs.Emits.{Emits};
 ghost use Rattle.interface_egress.specs.Departure.{piece_frame, piece_frame_len};
-ghost use Rattle.interface_egress.specs.Fragments.{LeftValue, left_value, piece_room, next_piece, left_after, begun, rest_of};
+ghost use Rattle.interface_egress.specs.Fragments.{LeftValue, half_sent, piece_room, next_piece, left_after, begun, rest_of};
 
 use crate::fill::send;
 use crate::frame::Piece;
@@ -126,18 +126,33 @@ impl Fragmenter {
         let Some(left) = self.left else {
             unreachable!()
         };
-        let sent = send_piece(
-            device,
-            token,
-            cut,
-            &left,
-            &self.buffer.as_slice()[..left.len],
-        );
+        let sent = send_left(device, token, cut, &left, self.buffer.as_slice());
         if sent {
             self.left = rest_of(&left, cut.mtu);
         }
         sent
     }
+}
+
+/// Sends the next piece of a datagram whose payload lies at the front of the buffer. Says whether the device took it.
+fn send_left<D: Device>(
+    device: &mut D,
+    token: D::TxToken,
+    cut: &Cut,
+    left: &Left,
+    buffer: &[u8],
+) -> bool
+    requires room { D.refused device.old + 1 < 2 ^ 64 }
+    requires at { left.now.at < left.now.len }
+    requires within { left.now.len ≤ length buffer.now }
+    requires len { left.now.len ≤ MAX_CUT_PAYLOAD }
+    requires mtu { cut.now.mtu ≤ 65535 }
+    ensures emits { let l : LeftValue = half_sent left.now buffer.now in
+        Emits D.moves device.old (piece_frame cut.now.checksums cut.now.from l.to l.header (next_piece cut.now.mtu l))
+        (piece_frame_len cut.now.from l.to (next_piece cut.now.mtu l)) result device.new }
+    ensures capabilities { D.described device.new ≡ D.described device.old }
+{
+    send_piece(device, token, cut, left, &buffer[..left.len])
 }
 
 /// Sends the piece of this payload that begins where the last one ended. Says whether the device took it.

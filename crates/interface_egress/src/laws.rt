@@ -1,5 +1,5 @@
 //! What follows from the definitions.
-ghost use Rattle.std.specs.Prelude.{◌≡◌, ℕ, ◌+◌, ◌*◌, ◌%◌, ◌^◌, ◌<◌, ◌≤◌, Bool, List, ◌++◌, length, take, drop, Some, IsTrue};
+ghost use Rattle.std.specs.Prelude.{◌≡◌, ℕ, ◌+◌, ◌*◌, ◌%◌, ◌^◌, ◌<◌, ◌≤◌, Bool, false, List, ◌++◌, length, take, drop, int_lt, Option, Some, IsTrue};
 ghost use Rattle.std.specs.List.{AllByRecursion, flat_map};
 ghost use Rattle.net_base.specs.Capabilities.{computes};
 ghost use Rattle.net_base.specs.ChecksumCapabilities.{ChecksumCapabilities};
@@ -9,14 +9,37 @@ ghost use Rattle.ip_wire.specs.declared.arp.repr.ArpRepr.{ArpRepr};
 ghost use Rattle.ip_wire.specs.Ethernet as Ethernet;
 ghost use Rattle.ip_wire.specs.EthernetAddress.{EthernetAddress};
 ghost use Rattle.ip_wire.specs.EthernetProtocol.TheVariants as Ether;
+ghost use Rattle.ip_wire.specs.HardwareAddress.{HardwareAddress};
 ghost use Rattle.ip_wire.specs.HardwareAddress.TheVariants as Hardware;
 ghost use Rattle.ip_wire.specs.Ip as Ips;
 ghost use Rattle.ip_wire.specs.Ipv4 as Ipv4;
+ghost use Rattle.ip_wire.specs.IpRepr.{IpRepr};
 ghost use Rattle.ip_wire.specs.Ipv4Repr.{Ipv4Repr};
 ghost use Rattle.socket_base.specs.Packet.{PacketValue, IsSendable, payload_len, payload_written};
+ghost use Rattle.interface_tables.specs.Inner.{InnerValue};
 ghost use Rattle.interface_tables.specs.Pieces.{Piece, IsSliceOf};
-ghost use Rattle.interface_egress.specs.Departure.{ether_for, packet_frame, piece_frame, arp_link, arp_frame};
-ghost use Rattle.interface_egress.specs.Fragments.{LeftValue, piece_room, pieces_from};
+ghost use Rattle.interface_egress.specs.Departure.{Departure, Tells, ether_for, packet_frame, piece_frame, arp_link, arp_frame};
+ghost use Rattle.interface_egress.specs.Fragments.{LeftValue, piece_room, next_departure, pieces_from};
+ghost use Rattle.interface_egress.specs.Plan.{plan_of};
+ghost use Rattle.interface_egress.specs.GoesOut.{GoesOut, frame_len_of};
+ghost use Rattle.interface_egress.specs.Departing.{departure_by, link_room, ident_after, silent_after};
+ghost use Rattle.interface_egress.specs.declared.way_out.Sent.{Sent};
+ghost use Rattle.interface_egress.specs.declared.frame.Question.{Question};
+ghost use Rattle.interface_egress.specs.declared.plan.Plan.TheVariants as Way;
+
+use net_base::Device;
+
+/// Law: no frame is longer than the device's: not the one that a plan sends, nor that of a later piece, nor an ARP packet.
+pub fn frames_are_short()
+    ensures planned { (i : InnerValue) (busy : Bool) (p : PacketValue) (d : Departure) → 576 ≤ i.mtu
+        → Ips.payload_len_in p.header ≡ payload_len p.payload
+        → departure_by i p (plan_of i busy p.header) ≡ Some d
+        → frame_len_of i d ≤ link_room i.hardware + i.mtu }
+    ensures piece { (i : InnerValue) (l : LeftValue) → 576 ≤ i.mtu
+        → frame_len_of i (next_departure i.mtu l) ≤ link_room i.hardware + i.mtu }
+    ensures arp { (i : InnerValue) (own : EthernetAddress) (packet : ArpRepr) → 576 ≤ i.mtu → i.hardware ≡ Hardware.Ethernet own
+        → frame_len_of i (Tells packet) ≤ link_room i.hardware + i.mtu }
+{}
 
 /// Law: the pieces that are left of a datagram are slices of its payload, which begin at multiples of 8 bytes, and in turn they
 /// are all that is left.
@@ -27,6 +50,29 @@ pub fn pieces_are_slices()
         → AllByRecursion (λ p. p.offset % 8 ≡ 0) (pieces_from n mtu (Some l)) }
     ensures in_turn { (mtu n : ℕ) (l : LeftValue) → length l.payload ≤ l.at + n * piece_room mtu
         → flat_map (λ p. p.bytes) (pieces_from n mtu (Some l)) ≡ drop l.at l.payload }
+{}
+
+/// Law: an IPv4 packet takes the next identification as its frame, or its first piece, is accepted; nothing else takes one.
+pub fn numbers_step<D: Device>()
+    ensures { (old new : D) (i i' : InnerValue) (l l' : Option LeftValue) (busy : Bool) (p : PacketValue) (sent : Sent)
+        → GoesOut D.moves old i l p (plan_of i busy p.header) sent new i' l'
+        → i'.ident ≡ ident_after sent p.header i.ident }
+{}
+
+/// Law: fewer than 65,536 identifications in a row differ.
+pub fn numbers_differ()
+    ensures { (first j k : ℕ) → j < 2 ^ 16 → k < 2 ^ 16 → (first + j) % 2 ^ 16 ≡ (first + k) % 2 ^ 16 → j ≡ k }
+{}
+
+/// Law: a neighbour is asked for only where the silence is over; and a request that the device accepted begins one of a second.
+/// Nothing else on the way out begins or ends one.
+pub fn asks_a_second_apart<D: Device>()
+    ensures asked { (i : InnerValue) (busy : Bool) (header : IpRepr) (question : Question)
+        → plan_of i busy header ≡ Way.Ask question
+        → int_lt i.moment i.neighbors.silent ≡ false }
+    ensures silence { (old new : D) (i i' : InnerValue) (l l' : Option LeftValue) (busy : Bool) (p : PacketValue) (sent : Sent)
+        → GoesOut D.moves old i l p (plan_of i busy p.header) sent new i' l'
+        → i'.neighbors.silent ≡ silent_after (plan_of i busy p.header) sent i }
 {}
 
 /// Law: what was sent in a frame is read in it, whatever padding follows: on Ethernet the link header and behind it what stands

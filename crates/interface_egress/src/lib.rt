@@ -2,11 +2,15 @@
 //! for one frame.
 #![tactic(auto)]
 
-pub mod fill;
-pub mod fragmenter;
-pub mod frame;
+mod fill;
+mod fragmenter;
+mod frame;
 pub mod laws;
+mod plan;
+mod way_out;
 
 pub use fill::{Fill, send};
-pub use fragmenter::Fragmenter;
-pub use frame::{ArpFrame, Piece, Question, Whole};
+pub use fragmenter::{Cut, Fragmenter, Left, MAX_CUT_PAYLOAD};
+pub use frame::{ArpFrame, Piece, Question, Whole, ask};
+pub use plan::{Plan, plan_for};
+pub use way_out::{Sent, dispatch, send_next};

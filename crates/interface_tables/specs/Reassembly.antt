@@ -47,8 +47,11 @@ module _ {K : Type 0} where
       code_by (Option K × (List ℕ × (List (ℕ × ℕ) × (Option ℕ × ℤ)))) (coded× (coded_option c) (coded× (coded_list coded_ℕ) (coded× (coded_list (coded× coded_ℕ coded_ℕ)) (coded× (coded_option coded_ℕ) coded_ℤ)))) (λ s. (s.key, (s.bytes, (s.runs, (s.total, s.expires))))) (λ p. slot p.0 p.1.0 p.1.1.0 p.1.1.1.0 p.1.1.1.1) (λ _. refl)
 
   -- a slot that nothing came into
+  abbrev pub empty : Option K → ℕ → SlotValue K
+  empty key size = slot key (replicate size 0) [] None (pos 0)
+
   abbrev pub fresh : ℕ → SlotValue K
-  fresh size = slot None (replicate size 0) [] None (pos 0)
+  fresh size = empty None size
 
   -- a free slot; its bytes don't count
   abbrev pub freed : SlotValue K → SlotValue K

@@ -60,15 +60,23 @@ impl<K, const SIZE: usize, const HOLES: usize> Model for PacketAssembler<K, SIZE
 }
 
 impl<K: Drop, const SIZE: usize, const HOLES: usize> PacketAssembler<K, SIZE, HOLES> {
-    ghost use Rattle.interface_tables.specs.Reassembly.{fresh, freed, takes_total, with_total, takes_piece, with_piece, is_complete, completed, placed, is_placed};
+    ghost use Rattle.interface_tables.specs.Reassembly.{empty, fresh, freed, taken, is_free, takes_total, with_total, takes_piece, with_piece, is_complete, completed, placed, is_placed};
 
     /// A free slot.
     pub fn new() -> PacketAssembler<K, SIZE, HOLES>
         requires { 1 ≤ HOLES }
         ensures { result ≡ fresh SIZE }
     {
+        PacketAssembler::with_key(None)
+    }
+
+    /// A slot that nothing came into.
+    pub(crate) fn with_key(key: Option<K>) -> PacketAssembler<K, SIZE, HOLES>
+        requires { 1 ≤ HOLES }
+        ensures { result ≡ empty key SIZE }
+    {
         PacketAssembler {
-            key: None,
+            key,
             buffer: [0; SIZE],
             assembler: Assembler::new(),
             total_size: None,
@@ -150,6 +158,22 @@ impl<K: Drop, const SIZE: usize, const HOLES: usize> PacketAssembler<K, SIZE, HO
         self.expires_at
     }
 
+    /// Whether no datagram has the slot.
+    pub fn is_free(&self) -> bool
+        ensures { result ≡ is_free self.now }
+    {
+        self.key.is_none()
+    }
+
+    /// The slot is this datagram's from now on, and nothing of it came; it is given up after the moment.
+    pub fn take(&mut self, key: K, expires_at: Instant)
+        ensures { self.new ≡ taken key expires_at self.old }
+    {
+        self.reset();
+        self.key = Some(key);
+        self.expires_at = expires_at;
+    }
+
     /// The datagram, if every byte of it came.
     pub fn completed(&self) -> Option<&[u8]>
         ensures { option_copied result ≡ completed self.now }
@@ -159,6 +183,20 @@ impl<K: Drop, const SIZE: usize, const HOLES: usize> PacketAssembler<K, SIZE, HO
         }
         let bytes: &[u8] = &self.buffer;
         Some(&bytes[..self.assembler.peek_front()])
+    }
+}
+
+impl<K: Eq + Copy, const SIZE: usize, const HOLES: usize> PacketAssembler<K, SIZE, HOLES> {
+    ghost use Rattle.interface_tables.specs.Reassembly.{is_of};
+
+    /// Whether the slot is this datagram's.
+    pub fn is_of(&self, key: &K) -> bool
+        ensures { result ≡ is_of K.eq key.now self.now }
+    {
+        match &self.key {
+            Some(held) => held == key,
+            None => false,
+        }
     }
 }
 

@@ -2,12 +2,18 @@
 //! together.
 #![tactic(auto)]
 
+mod config;
 mod fragmentation;
+mod inner;
 pub mod laws;
+mod link;
 mod neighbor;
 mod route;
 pub mod source;
 
+pub use config::{Config, HardwareAddrError, NewError, NotUnicast};
 pub use fragmentation::{AssemblerError, AssemblerFullError, PacketAssembler};
+pub use inner::{InterfaceInner, TABLE_ROOM};
+pub use link::LinkAddress;
 pub use neighbor::{Answer, Cache, Neighbor};
 pub use route::{Route, RouteTableFull, Routes};

@@ -1,0 +1,198 @@
+-- A host beside its sockets and its slots, as a value: its addresses and tables, and where its packets go (RFC 1122, sections
+-- 3.2.1.3 and 3.3.1; RFC 4291, section 2.8).
+use Rattle.std.specs.Prelude.{ℕ, ◌+◌, ◌/◌, ◌%◌, ◌^◌, ◌==◌, ◌&&◌, ◌||◌, not, nat_lt, Bool, true, false, if◌then◌else◌, ℤ, pos, ◌+ℤ◌, List, [], ◌∷◌, ◌++◌, drop, replicate, slice_index, Option, None, Some}
+use Rattle.std.specs.List.{list_any}
+use Rattle.std.specs.Str.{bytes_eq}
+use Rattle.net_base.specs.ChecksumCapabilities.{ChecksumCapabilities}
+use Rattle.net_base.specs.RandomWords.{next_state}
+use Rattle.ip_wire.specs.AddressTests.{is_same_address, is_in_block, is_broadcast_v4, is_multicast, is_unicast, is_unspecified, is_loopback_v6, is_solicited_node, broadcast_in}
+use Rattle.ip_wire.specs.Block.{block_address}
+use Rattle.ip_wire.specs.EthernetAddress.{EthernetAddress}
+use Rattle.ip_wire.specs.HardwareAddress.{HardwareAddress}
+use Rattle.ip_wire.specs.HardwareAddress.TheVariants as Hardware
+use Rattle.ip_wire.specs.IpAddress.{IpAddress}
+use Rattle.ip_wire.specs.IpAddress.TheVariants as Ip
+use Rattle.ip_wire.specs.IpCidr.{IpCidr}
+use Rattle.ip_wire.specs.IpCidr.TheVariants as Block
+use Rattle.ip_wire.specs.Ipv4Address.{Ipv4Address}
+use Rattle.ip_wire.specs.Ipv6Address.{Ipv6Address}
+use Rattle.socket_base.specs.Context.{ContextValue}
+use Rattle.interface_tables.specs.Neighbor.{CacheValue, lookup, is_found, filled, renewed, silenced, flushed, entry_lifetime}
+use Rattle.interface_tables.specs.Route.{best_route, router_of}
+use Rattle.interface_tables.specs.Source.{source_for}
+use Rattle.interface_tables.specs.declared.link.LinkAddress.{LinkAddress}
+use Rattle.interface_tables.specs.declared.link.LinkAddress.TheVariants as Link
+use Rattle.interface_tables.specs.declared.neighbor.Answer.{Answer}
+use Rattle.interface_tables.specs.declared.neighbor.Answer.TheVariants as Known
+use Rattle.interface_tables.specs.declared.route.Route.{Route}
+
+-- The moment of the call that runs, or of the last one; the state of the random words; the hardware address, `Ip` on a medium
+-- that has none; the longest IP packet of a frame; the checksums that the stack handles itself; the own addresses, and whether
+-- every address is one; routes and neighbours; the identification of the next IPv4 datagram; and whether nothing ran yet.
+pub record InnerValue : Type 0 where
+  pub moment : ℤ
+  pub random : ℕ
+  pub hardware : HardwareAddress
+  pub mtu : ℕ
+  pub checksums : ChecksumCapabilities
+  pub addresses : List IpCidr
+  pub any_ip : Bool
+  pub routes : List Route
+  pub neighbors : CacheValue
+  pub ident : ℕ
+  pub fresh : Bool
+
+-- OWN ADDRESSES
+
+abbrev pub is_address_of : IpAddress → IpCidr → Bool
+is_address_of address block = is_same_address (block_address block) address
+
+abbrev pub is_own : InnerValue → IpAddress → Bool
+is_own i address = i.any_ip || list_any (is_address_of address) i.addresses
+
+-- the address is in the network of an own one
+abbrev pub is_in_own_network : InnerValue → IpAddress → Bool
+is_in_own_network i address = list_any (λ b. is_in_block b address) i.addresses
+
+abbrev pub is_this : Option Ipv4Address → Ipv4Address → Bool
+is_this None address = false
+is_this (Some other) address = bytes_eq address.0 other.0
+
+abbrev pub is_broadcast_of : Ipv4Address → IpCidr → Bool
+is_broadcast_of address (Block.Ipv4 b) = is_this (broadcast_in b) address
+is_broadcast_of address (Block.Ipv6 b) = false
+
+-- 255.255.255.255, or the broadcast address of an own network
+abbrev pub is_local_broadcast : InnerValue → IpAddress → Bool
+is_local_broadcast i (Ip.Ipv4 address) = is_broadcast_v4 address || list_any (is_broadcast_of address) i.addresses
+is_local_broadcast i (Ip.Ipv6 address) = false
+
+-- GROUPS
+
+-- 224.0.0.1
+abbrev pub is_all_systems : Ipv4Address → Bool
+is_all_systems a = bytes_eq a.0 (224 ∷ 0 ∷ 0 ∷ 1 ∷ [])
+
+-- ff02::1
+abbrev pub is_all_nodes : Ipv6Address → Bool
+is_all_nodes a = bytes_eq a.0 (0xff ∷ 2 ∷ replicate 13 0 ++ 1 ∷ [])
+
+-- the group's last 24 bits are the address's, behind the solicited-node prefix (RFC 4291, section 2.7.1)
+abbrev pub solicits : Ipv6Address → Ipv6Address → Bool
+solicits group address = is_solicited_node group && bytes_eq (drop 13 group.0) (drop 13 address.0)
+
+abbrev pub solicits_block : Ipv6Address → IpCidr → Bool
+solicits_block group (Block.Ipv4 b) = false
+solicits_block group (Block.Ipv6 b) = not (is_loopback_v6 b.address) && solicits group b.address
+
+-- the group of an own IPv6 address but ::1
+abbrev pub is_own_solicited_node : InnerValue → Ipv6Address → Bool
+is_own_solicited_node i group = list_any (solicits_block group) i.addresses
+
+abbrev pub is_member_of : InnerValue → IpAddress → Bool
+is_member_of i (Ip.Ipv4 group) = is_all_systems group
+is_member_of i (Ip.Ipv6 group) = is_all_nodes group || is_own_solicited_node i group
+
+-- ARRIVAL: a packet for this destination is for the host
+
+abbrev pub is_loopback_in : IpAddress → Bool
+is_loopback_in (Ip.Ipv4 a) = false
+is_loopback_in (Ip.Ipv6 a) = is_loopback_v6 a
+
+abbrev pub is_for_us : InnerValue → IpAddress → Bool
+is_for_us i address =
+    is_own i address || is_member_of i address || is_local_broadcast i address || is_loopback_in address
+
+-- WAY OUT
+
+-- the destination itself in an own network, else the router of the best route
+abbrev pub next_hop : InnerValue → IpAddress → Option IpAddress
+next_hop i address =
+    if is_in_own_network i address then Some address else router_of (best_route i.routes address i.moment)
+
+-- the Ethernet address of all stations
+abbrev pub all_stations : EthernetAddress
+all_stations = record { 0 = replicate 6 0xff }
+
+-- the Ethernet address of a group (RFC 1112, section 6.4: the group's low 23 bits; RFC 2464, section 7: its last 32 bits)
+abbrev pub group_station : IpAddress → EthernetAddress
+group_station (Ip.Ipv4 group) =
+    record { 0 = 0x01 ∷ 0x00 ∷ 0x5e ∷ (slice_index group.0 1 % 128) ∷ slice_index group.0 2 ∷ slice_index group.0 3 ∷ [] }
+group_station (Ip.Ipv6 group) = record { 0 = 0x33 ∷ 0x33 ∷ drop 12 group.0 }
+
+abbrev pub link_by : Answer → IpAddress → LinkAddress
+link_by (Known.Found hardware) hop = Link.Known hardware
+link_by Known.RateLimited hop = Link.Silent
+link_by Known.NotFound hop = Link.Unknown hop
+
+abbrev pub link_of_hop : InnerValue → Option IpAddress → LinkAddress
+link_of_hop i None = Link.NoRoute
+link_of_hop i (Some hop) = link_by (lookup i.neighbors hop i.moment) hop
+
+abbrev pub link_on : HardwareAddress → InnerValue → IpAddress → LinkAddress
+link_on Hardware.Ip i address = Link.Known Hardware.Ip
+link_on (Hardware.Ethernet own) i address =
+    if is_local_broadcast i address then Link.Known (Hardware.Ethernet all_stations)
+    else if is_multicast address then Link.Known (Hardware.Ethernet (group_station address))
+    else link_of_hop i (next_hop i address)
+
+-- where the frame of a packet for this destination goes: to all stations for a broadcast, to a group's, else to the next hop's
+abbrev pub link_address : InnerValue → IpAddress → LinkAddress
+link_address i address = link_on i.hardware i address
+
+abbrev pub is_known_on : HardwareAddress → InnerValue → IpAddress → Bool
+is_known_on Hardware.Ip i hop = true
+is_known_on (Hardware.Ethernet own) i hop = is_found (lookup i.neighbors hop i.moment)
+
+abbrev pub is_known_hop : InnerValue → Option IpAddress → Bool
+is_known_hop i None = false
+is_known_hop i (Some hop) = is_known_on i.hardware i hop
+
+-- there is a next hop for the destination, and its hardware address is known
+abbrev pub has_neighbor : InnerValue → IpAddress → Bool
+has_neighbor i address = is_known_hop i (next_hop i address)
+
+-- WHAT SOCKETS SEE
+
+abbrev pub context_of : InnerValue → ContextValue
+context_of i = record {
+  moment = i.moment;
+  has_ip_addr = is_own i;
+  source_for = source_for i.addresses;
+  is_broadcast = is_local_broadcast i;
+  ip_mtu = i.mtu;
+  checksums = i.checksums;
+  random = i.random;
+}
+
+-- a random word was drawn
+abbrev pub drawn : InnerValue → InnerValue
+drawn i = record i { random = next_state i.random }
+
+-- STEPS
+
+-- a call that polls begins at a moment
+abbrev pub at_moment : ℤ → InnerValue → InnerValue
+at_moment moment i = record i { moment = moment; fresh = false }
+
+-- a datagram took the identification
+abbrev pub with_next_ident : InnerValue → InnerValue
+with_next_ident i = record i { ident = (i.ident + 1) % 2 ^ 16 }
+
+-- how many neighbours and routes are kept, and own addresses
+abbrev pub table_room : ℕ
+table_room = 4
+
+-- a neighbour was heard
+abbrev pub with_neighbor : InnerValue → IpAddress → HardwareAddress → InnerValue
+with_neighbor i address hardware = record i {
+  neighbors = filled table_room i.neighbors (record { protocol_addr = address; hardware_addr = hardware; expires_at = i.moment +ℤ pos entry_lifetime });
+}
+
+-- a packet came from a neighbour
+abbrev pub with_renewal : InnerValue → IpAddress → HardwareAddress → InnerValue
+with_renewal i address hardware = record i { neighbors = renewed i.neighbors address hardware i.moment }
+
+-- a neighbour was asked for
+abbrev pub with_silence : InnerValue → InnerValue
+with_silence i = record i { neighbors = silenced i.neighbors i.moment }

@@ -1,0 +1,555 @@
+//! A host beside its sockets and its slots: what it answers to sockets, and where its packets go.
+ghost use Rattle.std.specs.Prelude.{◌≡◌, ◌≤◌, List, drop, length, not, is_ok, Some};
+ghost use Rattle.std.specs.List.{list_any};
+ghost use Rattle.std.specs.Fn.{FnOnceReturnsAtMut};
+ghost use Rattle.net_base.specs.Time.{IsMoment};
+ghost use Rattle.ip_wire.specs.IpCidr.{IpCidr};
+ghost use Rattle.interface_tables.specs.declared.route.Route.{Route};
+ghost use Rattle.interface_tables.specs.Source.{first_v4, first_v6, source_v4, source_v6};
+ghost use Rattle.interface_tables.specs.Neighbor as Neighbors;
+ghost use Rattle.interface_tables.specs.Inner.{is_own, is_address_of, is_in_own_network, is_this, is_broadcast_of, is_local_broadcast, is_all_systems, is_all_nodes, solicits, solicits_block, is_own_solicited_node, is_member_of, is_loopback_in, is_for_us, next_hop, group_station, link_by, link_address, is_known_hop, has_neighbor, at_moment, with_next_ident, with_neighbor, with_renewal, with_silence};
+ghost use Rattle.interface_tables.specs.Settings.{refusal, made, unless, first_ident, hardware_refusal, with_hardware, is_stranger, with_addresses, with_any_ip, with_routes, used};
+
+use crate::config::{Config, HardwareAddrError, NewError, NotUnicast, refusal};
+use crate::link::LinkAddress;
+use crate::neighbor::{Answer, Cache};
+use crate::route::Routes;
+use crate::source;
+use arrayvec::ArrayVec;
+use ip_wire::{
+    EthernetAddress, HardwareAddress, IPV4_MULTICAST_ALL_SYSTEMS, IPV6_LINK_LOCAL_ALL_NODES,
+    IpAddress, IpCidr, Ipv4Address, Ipv6Address, Ipv6Cidr,
+};
+use net_base::{ChecksumCapabilities, DeviceCapabilities, Instant, Rand};
+use socket_base::Context;
+use socket_base::addresses::{is_multicast, is_same_address};
+use std::marker::Model;
+
+/// How many own addresses, routes and neighbours a host keeps.
+pub const TABLE_ROOM: usize = 4;
+
+/// A host beside its sockets and its slots.
+#[derive(Drop)]
+pub struct InterfaceInner {
+    moment: Instant,
+    rand: Rand,
+    hardware_addr: HardwareAddress,
+    ip_mtu: usize,
+    checksum: ChecksumCapabilities,
+    ip_addrs: ArrayVec<IpCidr, TABLE_ROOM>,
+    any_ip: bool,
+    routes: Routes<TABLE_ROOM>,
+    neighbor_cache: Cache<TABLE_ROOM>,
+    ipv4_id: u16,
+    is_fresh: bool,
+}
+
+impl Model for InterfaceInner {
+    ghost use Rattle.std.specs.Prelude.{◌≤◌};
+    ghost use Rattle.net_base.specs.Time.{IsMoment};
+    ghost use Rattle.interface_tables.specs.Inner.{InnerValue};
+
+    ghost Value = { InnerValue };
+
+    ghost view = { λ i. record { moment = i.moment; random = i.rand; hardware = i.hardware_addr; mtu = i.ip_mtu; checksums = i.checksum; addresses = i.ip_addrs.items; any_ip = i.any_ip; routes = i.routes; neighbors = i.neighbor_cache; ident = i.ipv4_id; fresh = i.is_fresh } };
+
+    ghost invariant = { λ i. IsMoment i.moment × (576 ≤ i.ip_mtu) × (i.ip_mtu ≤ 65535) };
+}
+
+impl InterfaceInner {
+    /// A host of this configuration at a device, from this moment on; else the first reason why there is none.
+    pub fn new(
+        config: &Config,
+        device: &DeviceCapabilities,
+        now: Instant,
+    ) -> Result<InterfaceInner, NewError>
+        ensures { result ≡ unless (refusal config.now device.now now) (made config.now device.now now) }
+    {
+        if let Some(error) = refusal(config, device, now) {
+            return Err(error);
+        }
+        let mut rand = Rand::new(config.random_seed);
+        let word = rand.rand_u16();
+        Ok(InterfaceInner {
+            moment: now,
+            rand,
+            hardware_addr: config.hardware_addr,
+            ip_mtu: device.ip_mtu(),
+            checksum: device.checksum,
+            ip_addrs: ArrayVec::new(),
+            any_ip: false,
+            routes: Routes::new(),
+            neighbor_cache: Cache::new(),
+            ipv4_id: if word == 0 { 1 } else { word },
+            is_fresh: true,
+        })
+    }
+
+    /// The hardware address, `Ip` on a medium that has none.
+    pub fn hardware_addr(&self) -> HardwareAddress
+        ensures { result ≡ self.now.hardware }
+    {
+        self.hardware_addr
+    }
+
+    /// The longest IP packet of a frame.
+    pub fn mtu(&self) -> usize
+        ensures value { result ≡ self.now.mtu }
+        ensures low { 576 ≤ result }
+        ensures high { result ≤ 65535 }
+    {
+        self.ip_mtu
+    }
+
+    /// The identification of the next IPv4 datagram.
+    pub fn ident(&self) -> u16
+        ensures { result ≡ self.now.ident }
+    {
+        self.ipv4_id
+    }
+
+    /// Whether nothing ran yet: no call that polls, and no setting of `any_ip` or of the time of reassembly.
+    pub fn is_fresh(&self) -> bool
+        ensures { result ≡ self.now.fresh }
+    {
+        self.is_fresh
+    }
+
+    /// The own addresses with their networks.
+    pub fn ip_addrs(&self) -> &[IpCidr]
+        ensures { result.now ≡ self.now.addresses }
+    {
+        self.ip_addrs.as_slice()
+    }
+
+    /// The first IPv4 address.
+    pub fn ipv4_addr(&self) -> Option<Ipv4Address>
+        ensures { result ≡ first_v4 self.now.addresses }
+    {
+        source::first_ipv4(self.ip_addrs.as_slice())
+    }
+
+    /// The first IPv6 address.
+    pub fn ipv6_addr(&self) -> Option<Ipv6Address>
+        ensures { result ≡ first_v6 self.now.addresses }
+    {
+        source::first_ipv6(self.ip_addrs.as_slice())
+    }
+
+    /// The address that an IPv4 packet to this destination is sent from, if there is one.
+    pub fn get_source_address_ipv4(&self, dst_addr: &Ipv4Address) -> Option<Ipv4Address>
+        ensures { result ≡ source_v4 self.now.addresses dst_addr.now }
+    {
+        source::source_ipv4(self.ip_addrs.as_slice(), dst_addr)
+    }
+
+    /// The address that an IPv6 packet to this destination is sent from.
+    pub fn get_source_address_ipv6(&self, dst_addr: &Ipv6Address) -> Ipv6Address
+        ensures { result ≡ source_v6 self.now.addresses dst_addr.now }
+    {
+        source::source_ipv6(self.ip_addrs.as_slice(), dst_addr)
+    }
+
+    /// Whether every address counts as an own one.
+    pub fn any_ip(&self) -> bool
+        ensures { result ≡ self.now.any_ip }
+    {
+        self.any_ip
+    }
+
+    /// The routes.
+    pub fn routes(&self) -> &Routes<TABLE_ROOM>
+        ensures { result.now ≡ self.now.routes }
+    {
+        &self.routes
+    }
+
+    /// Whether this is the solicited-node address of an own IPv6 address but `::1`.
+    pub fn has_solicited_node(&self, addr: &Ipv6Address) -> bool
+        ensures { result ≡ is_own_solicited_node self.now addr.now }
+    {
+        self.ip_addrs
+            .as_slice()
+            .iter()
+            .any(|block| solicits_block(addr, block))
+    }
+
+    /// Whether the host listens to this group: all systems, all nodes, or an own solicited-node address.
+    pub fn has_multicast_group(&self, addr: &IpAddress) -> bool
+        ensures { result ≡ is_member_of self.now addr.now }
+    {
+        match addr {
+            IpAddress::Ipv4(group) => *group == IPV4_MULTICAST_ALL_SYSTEMS,
+            IpAddress::Ipv6(group) => {
+                *group == IPV6_LINK_LOCAL_ALL_NODES || self.has_solicited_node(group)
+            }
+        }
+    }
+
+    /// Whether the address is in an own network.
+    pub fn in_same_network(&self, addr: &IpAddress) -> bool
+        ensures { result ≡ is_in_own_network self.now addr.now }
+    {
+        self.ip_addrs
+            .as_slice()
+            .iter()
+            .any(|block| block.contains_addr(addr))
+    }
+
+    /// Whether a packet for this destination is for the host.
+    pub fn is_for_us(&self, addr: &IpAddress) -> bool
+        ensures { result ≡ is_for_us self.now addr.now }
+    {
+        self.has_ip_addr(addr)
+            || self.has_multicast_group(addr)
+            || self.is_broadcast(addr)
+            || is_loopback_in(addr)
+    }
+
+    /// Where a packet for this destination goes next: to itself in an own network, else to a router.
+    pub fn route(&self, addr: &IpAddress) -> Option<IpAddress>
+        ensures { result ≡ next_hop self.now addr.now }
+    {
+        if self.in_same_network(addr) {
+            Some(*addr)
+        } else {
+            self.routes.lookup(addr, self.moment)
+        }
+    }
+
+    /// Whether there is a next hop for this destination, whose hardware address is known.
+    pub fn has_neighbor(&self, addr: &IpAddress) -> bool
+        ensures { result ≡ has_neighbor self.now addr.now }
+    {
+        match self.route(addr) {
+            Some(hop) => self.is_known(&hop),
+            None => false,
+        }
+    }
+
+    /// Whether the hardware address of a next hop is known.
+    fn is_known(&self, hop: &IpAddress) -> bool
+        ensures { result ≡ is_known_hop self.now (Some hop.now) }
+    {
+        match self.hardware_addr {
+            HardwareAddress::Ip => true,
+            HardwareAddress::Ethernet(_) => self.neighbor_cache.lookup(hop, self.moment).found(),
+        }
+    }
+}
+
+/// The way out.
+impl InterfaceInner {
+    /// Where the frame of a packet for this destination goes.
+    pub fn link_address(&self, addr: &IpAddress) -> LinkAddress
+        ensures { result ≡ link_address self.now addr.now }
+    {
+        if let HardwareAddress::Ip = self.hardware_addr {
+            return LinkAddress::Known(HardwareAddress::Ip);
+        }
+        if self.is_broadcast(addr) {
+            return LinkAddress::Known(HardwareAddress::Ethernet(EthernetAddress::BROADCAST));
+        }
+        if is_multicast(addr) {
+            return LinkAddress::Known(HardwareAddress::Ethernet(group_station(addr)));
+        }
+        match self.route(addr) {
+            Some(hop) => self.link_to(&hop),
+            None => LinkAddress::NoRoute,
+        }
+    }
+
+    /// The hardware address of a next hop, or why there is none yet.
+    fn link_to(&self, hop: &IpAddress) -> LinkAddress
+        ensures { result ≡ link_by (Neighbors.lookup self.now.neighbors hop.now self.now.moment) hop.now }
+    {
+        match self.neighbor_cache.lookup(hop, self.moment) {
+            Answer::Found(hardware) => LinkAddress::Known(hardware),
+            Answer::RateLimited => LinkAddress::Silent,
+            Answer::NotFound => LinkAddress::Unknown(*hop),
+        }
+    }
+
+    /// Enters a neighbour that was heard now.
+    pub fn fill_neighbor(&mut self, protocol_addr: IpAddress, hardware_addr: HardwareAddress)
+        ensures { self.new ≡ with_neighbor self.old protocol_addr hardware_addr }
+    {
+        self.neighbor_cache
+            .fill(protocol_addr, hardware_addr, self.moment);
+    }
+
+    /// Believes a neighbour anew from which a packet came now.
+    pub fn renew_neighbor(&mut self, protocol_addr: IpAddress, hardware_addr: HardwareAddress)
+        ensures { self.new ≡ with_renewal self.old protocol_addr hardware_addr }
+    {
+        self.neighbor_cache
+            .reset_expiry_if_existing(protocol_addr, hardware_addr, self.moment);
+    }
+
+    /// Begins the time in which no neighbour is asked for.
+    pub fn limit_rate(&mut self)
+        ensures { self.new ≡ with_silence self.old }
+    {
+        self.neighbor_cache.limit_rate(self.moment);
+    }
+
+    /// Takes the identification of a datagram.
+    pub fn take_ident(&mut self) -> u16
+        ensures value { result ≡ self.old.ident }
+        ensures after { self.new ≡ with_next_ident self.old }
+    {
+        let ident = self.ipv4_id;
+        self.ipv4_id = ident.wrapping_add(1);
+        ident
+    }
+}
+
+/// Settings.
+impl InterfaceInner {
+    /// Begins a call that polls, at this moment.
+    pub fn set_now(&mut self, now: Instant)
+        requires { IsMoment now }
+        ensures { self.new ≡ at_moment now self.old }
+    {
+        self.moment = now;
+        self.is_fresh = false;
+    }
+
+    /// Something was set or ran.
+    pub fn end_fresh(&mut self)
+        ensures { self.new ≡ used self.old }
+    {
+        self.is_fresh = false;
+    }
+
+    /// Sets the hardware address, if the medium has such addresses and it is one station's.
+    pub fn set_hardware_addr(&mut self, addr: HardwareAddress) -> Result<(), HardwareAddrError>
+        ensures answer { result ≡ unless (hardware_refusal self.old.hardware addr) tt }
+        ensures after { self.new ≡ with_hardware self.old addr }
+    {
+        match hardware_refusal(&self.hardware_addr, &addr) {
+            Some(error) => Err(error),
+            None => {
+                self.hardware_addr = addr;
+                Ok(())
+            }
+        }
+    }
+
+    /// Sets whether every address counts as an own one.
+    pub fn set_any_ip(&mut self, any_ip: bool)
+        ensures { self.new ≡ with_any_ip self.old any_ip }
+    {
+        self.any_ip = any_ip;
+        self.is_fresh = false;
+    }
+
+    /// Sets the own addresses and forgets every neighbour, if each is one host's or unspecified.
+    pub fn set_ip_addrs(
+        &mut self,
+        addrs: ArrayVec<IpCidr, TABLE_ROOM>,
+    ) -> Result<(), NotUnicast>
+        ensures ok { is_ok result ≡ not (list_any is_stranger addrs.items) }
+        ensures after { self.new ≡ with_addresses self.old addrs.items }
+    {
+        if has_stranger(addrs.as_slice()) {
+            return Err(NotUnicast);
+        }
+        self.ip_addrs = addrs;
+        self.neighbor_cache.flush();
+        Ok(())
+    }
+
+    /// Sets the own addresses to what `f` makes of a copy of them, as `set_ip_addrs` does.
+    pub fn update_ip_addrs<F: FnOnce(&mut ArrayVec<IpCidr, TABLE_ROOM>)>(
+        &mut self,
+        f: F,
+    ) -> Result<(), NotUnicast>
+        requires { F.IsAlwaysCallable f }
+        ensures { (addrs : List IpCidr) × FnOnceReturnsAtMut F.FnOnce f (record { items = self.old.addresses }) tt (record { items = addrs })
+            × (is_ok result ≡ not (list_any is_stranger addrs)) × (self.new ≡ with_addresses self.old addrs) }
+    {
+        let mut addrs = copied(self.ip_addrs.as_slice());
+        f(&mut addrs);
+        self.set_ip_addrs(addrs)
+    }
+
+    /// Lends the routes to `f`.
+    pub fn update_routes<R: Drop, F: FnOnce(&mut Routes<TABLE_ROOM>) -> R>(&mut self, f: F) -> R
+        requires { F.IsAlwaysCallable f }
+        ensures { (routes : List Route) × FnOnceReturnsAtMut F.FnOnce f self.old.routes result routes
+            × (self.new ≡ with_routes self.old routes) }
+    {
+        f(&mut self.routes)
+    }
+}
+
+/// What sockets see.
+impl Context for InterfaceInner {
+    ghost use Rattle.std.specs.Prelude.{refl};
+    ghost use Rattle.interface_tables.specs.Inner.{context_of, drawn};
+
+    ghost context = { context_of };
+
+    ghost drawn = { drawn };
+
+    fn now(&self) -> Instant {
+        self.moment
+    }
+
+    fn has_ip_addr(&self, addr: &IpAddress) -> bool {
+        self.any_ip || is_in_list(self.ip_addrs.as_slice(), addr)
+    }
+
+    fn get_source_address(&self, dst_addr: &IpAddress) -> Option<IpAddress> {
+        source::source_for(self.ip_addrs.as_slice(), dst_addr)
+    }
+
+    fn is_broadcast(&self, addr: &IpAddress) -> bool {
+        match addr {
+            IpAddress::Ipv4(addr) => {
+                addr.is_broadcast() || is_broadcast_in(self.ip_addrs.as_slice(), addr)
+            }
+            IpAddress::Ipv6(_) => false,
+        }
+    }
+
+    fn ip_mtu(&self) -> usize {
+        self.ip_mtu
+    }
+
+    fn checksum_caps(&self) -> ChecksumCapabilities {
+        self.checksum
+    }
+
+    fn rand_u32(&mut self) -> u32 {
+        self.rand.rand_u32()
+    }
+
+    ghost drawn_context = { λ i. refl };
+}
+
+/// Whether this is one of the addresses.
+fn is_in_list(addresses: &[IpCidr], address: &IpAddress) -> bool
+    ensures { result ≡ list_any (is_address_of address.now) addresses.now }
+{
+    addresses
+        .iter()
+        .any(|block| is_same_address(&block.address(), address))
+}
+
+/// Whether this is the broadcast address of one of the networks.
+fn is_broadcast_in(addresses: &[IpCidr], address: &Ipv4Address) -> bool
+    ensures { result ≡ list_any (is_broadcast_of address.now) addresses.now }
+{
+    addresses.iter().any(|block| is_broadcast_of(address, block))
+}
+
+fn is_broadcast_of(address: &Ipv4Address, block: &IpCidr) -> bool
+    ensures { result ≡ is_broadcast_of address.now block.now }
+{
+    match block {
+        IpCidr::Ipv4(block) => is_this(block.broadcast(), address),
+        IpCidr::Ipv6(_) => false,
+    }
+}
+
+fn is_this(other: Option<Ipv4Address>, address: &Ipv4Address) -> bool
+    ensures { result ≡ is_this other address.now }
+{
+    match other {
+        Some(other) => address.0 == other.0,
+        None => false,
+    }
+}
+
+/// Whether this is the solicited-node address of the block's address, which isn't `::1`.
+fn solicits_block(group: &Ipv6Address, block: &IpCidr) -> bool
+    ensures { result ≡ solicits_block group.now block.now }
+{
+    match block {
+        IpCidr::Ipv4(_) => false,
+        IpCidr::Ipv6(block) => !block.address.is_loopback() && solicits(group, &block.address),
+    }
+}
+
+/// Whether the group's last 24 bits are the address's, behind the solicited-node prefix.
+fn solicits(group: &Ipv6Address, address: &Ipv6Address) -> bool
+    ensures { result ≡ solicits group.now address.now }
+{
+    group.is_solicited_node_multicast() && last_bits(group) == last_bits(address)
+}
+
+/// The last 24 bits.
+fn last_bits(address: &Ipv6Address) -> &[u8]
+    ensures { result.now ≡ drop 13 address.now.0 }
+{
+    let (_, last) = address.0.split_at(13);
+    last
+}
+
+fn is_loopback_in(address: &IpAddress) -> bool
+    ensures { result ≡ is_loopback_in address.now }
+{
+    match address {
+        IpAddress::Ipv4(_) => false,
+        IpAddress::Ipv6(address) => address.is_loopback(),
+    }
+}
+
+/// The Ethernet address of a group.
+fn group_station(group: &IpAddress) -> EthernetAddress
+    ensures { result ≡ group_station group.now }
+{
+    match group {
+        IpAddress::Ipv4(group) => {
+            let [_, b, c, d] = group.0;
+            EthernetAddress([0x01, 0x00, 0x5e, b % 128, c, d])
+        }
+        IpAddress::Ipv6(group) => {
+            let tail = &group.0[12..];
+            EthernetAddress([0x33, 0x33, tail[0], tail[1], tail[2], tail[3]])
+        }
+    }
+}
+
+/// Why this hardware address isn't set in place of that one.
+fn hardware_refusal(own: &HardwareAddress, address: &HardwareAddress) -> Option<HardwareAddrError>
+    ensures { result ≡ hardware_refusal own.now address.now }
+{
+    match (own, address) {
+        (HardwareAddress::Ethernet(_), HardwareAddress::Ethernet(address)) => {
+            if address.is_unicast() {
+                None
+            } else {
+                Some(HardwareAddrError::NotUnicast)
+            }
+        }
+        _ => Some(HardwareAddrError::Medium),
+    }
+}
+
+/// Whether one of the addresses can't be set.
+fn has_stranger(addresses: &[IpCidr]) -> bool
+    ensures { result ≡ list_any is_stranger addresses.now }
+{
+    addresses.iter().any(|block| is_stranger(block))
+}
+
+/// Whether this is neither one host's address nor unspecified.
+fn is_stranger(block: &IpCidr) -> bool
+    ensures { result ≡ is_stranger block.now }
+{
+    let address = block.address();
+    !(address.is_unicast() || address.is_unspecified())
+}
+
+/// A copy of the addresses.
+fn copied(addresses: &[IpCidr]) -> ArrayVec<IpCidr, TABLE_ROOM>
+    requires { length addresses.now ≤ TABLE_ROOM }
+    ensures { result.items ≡ addresses.now }
+{
+    let mut copy = ArrayVec::new();
+    let _ = copy.try_extend_from_slice(addresses);
+    copy
+}
