@@ -4,3 +4,4 @@ pub mod Protocols
 pub mod PacketQueues
 pub mod RawPackets
 pub mod UdpPackets
+pub mod Equal

@@ -4,6 +4,7 @@
 mod error;
 mod header;
 pub mod icmp;
+pub mod laws;
 mod queues;
 pub mod raw;
 pub mod udp;

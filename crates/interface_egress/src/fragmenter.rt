@@ -126,11 +126,27 @@ impl Fragmenter {
         let Some(left) = self.left else {
             unreachable!()
         };
-        let sent = send_left(device, token, cut, &left, self.buffer.as_slice());
+        let sent = self.send_waiting(device, token, cut);
         if sent {
             self.left = rest_of(&left, cut.mtu);
         }
         sent
+    }
+
+    /// Sends the next piece of the datagram that waits, and leaves what is left of it.
+    fn send_waiting<D: Device>(&self, device: &mut D, token: D::TxToken, cut: &Cut) -> bool
+        requires room { D.refused device.old + 1 < 2 ^ 64 }
+        requires waits { IsSome self.now }
+        requires mtu { cut.now.mtu ≤ 65535 }
+        ensures emits { IfSome self.now (λ l. Emits D.moves device.old
+            (piece_frame cut.now.checksums cut.now.from l.to l.header (next_piece cut.now.mtu l))
+            (piece_frame_len cut.now.from l.to (next_piece cut.now.mtu l)) result device.new) }
+        ensures capabilities { D.described device.new ≡ D.described device.old }
+    {
+        match &self.left {
+            Some(left) => send_left(device, token, cut, left, self.buffer.as_slice()),
+            None => unreachable!(),
+        }
     }
 }
 

@@ -3,6 +3,7 @@ ghost use Rattle.std.specs.Prelude.{◌≡◌, ◌≤◌, List, drop, length, no
 ghost use Rattle.std.specs.List.{list_any};
 ghost use Rattle.std.specs.Fn.{FnOnceReturnsAtMut};
 ghost use Rattle.net_base.specs.Time.{IsMoment};
+ghost use Rattle.arrayvec.specs.ArrayVec.{ArrayVec as Items};
 ghost use Rattle.ip_wire.specs.IpCidr.{IpCidr};
 ghost use Rattle.interface_tables.specs.declared.route.Route.{Route};
 ghost use Rattle.interface_tables.specs.Source.{first_v4, first_v6, source_v4, source_v6};
@@ -345,10 +346,7 @@ impl InterfaceInner {
     }
 
     /// Sets the own addresses and forgets every neighbour, if each is one host's or unspecified.
-    pub fn set_ip_addrs(
-        &mut self,
-        addrs: ArrayVec<IpCidr, TABLE_ROOM>,
-    ) -> Result<(), NotUnicast>
+    pub fn set_ip_addrs(&mut self, addrs: ArrayVec<IpCidr, TABLE_ROOM>) -> Result<(), NotUnicast>
         ensures ok { is_ok result ≡ not (list_any is_stranger addrs.items) }
         ensures after { self.new ≡ with_addresses self.old addrs.items }
     {
@@ -366,8 +364,9 @@ impl InterfaceInner {
         f: F,
     ) -> Result<(), NotUnicast>
         requires { F.IsAlwaysCallable f }
-        ensures { (addrs : List IpCidr) × FnOnceReturnsAtMut F.FnOnce f (record { items = self.old.addresses }) tt (record { items = addrs })
-            × (is_ok result ≡ not (list_any is_stranger addrs)) × (self.new ≡ with_addresses self.old addrs) }
+        ensures { (before : Items IpCidr) × (after : Items IpCidr) × (before.items ≡ self.old.addresses)
+            × FnOnceReturnsAtMut F.FnOnce f before tt after
+            × (is_ok result ≡ not (list_any is_stranger after.items)) × (self.new ≡ with_addresses self.old after.items) }
     {
         let mut addrs = copied(self.ip_addrs.as_slice());
         f(&mut addrs);
@@ -377,8 +376,8 @@ impl InterfaceInner {
     /// Lends the routes to `f`.
     pub fn update_routes<R: Drop, F: FnOnce(&mut Routes<TABLE_ROOM>) -> R>(&mut self, f: F) -> R
         requires { F.IsAlwaysCallable f }
-        ensures { (routes : List Route) × FnOnceReturnsAtMut F.FnOnce f self.old.routes result routes
-            × (self.new ≡ with_routes self.old routes) }
+        ensures { (before : List Route) × (after : List Route) × (before ≡ self.old.routes)
+            × FnOnceReturnsAtMut F.FnOnce f before result after × (self.new ≡ with_routes self.old after) }
     {
         f(&mut self.routes)
     }
@@ -442,7 +441,9 @@ fn is_in_list(addresses: &[IpCidr], address: &IpAddress) -> bool
 fn is_broadcast_in(addresses: &[IpCidr], address: &Ipv4Address) -> bool
     ensures { result ≡ list_any (is_broadcast_of address.now) addresses.now }
 {
-    addresses.iter().any(|block| is_broadcast_of(address, block))
+    addresses
+        .iter()
+        .any(|block| is_broadcast_of(address, block))
 }
 
 fn is_broadcast_of(address: &Ipv4Address, block: &IpCidr) -> bool

@@ -15,3 +15,4 @@ pub mod NameLaws
 pub mod AloneLaws
 pub mod HostLaws
 pub mod AnsweredLaws
+pub mod AcceptLaws

@@ -4,3 +4,4 @@ pub mod Promises
 pub mod Run
 pub mod Endpoints
 pub mod Host
+pub mod Acceptance

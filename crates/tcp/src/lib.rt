@@ -1,6 +1,7 @@
 //! TCP sockets between two hosts: the tie of a socket to a side of the machine of `tcp_law`, and the invariant that it gives.
 #![tactic(auto)]
 
+pub mod acceptance;
 pub mod alone;
 pub mod answered;
 pub mod arrivals;

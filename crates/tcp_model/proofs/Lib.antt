@@ -1,2 +1,3 @@
 pub mod Waits
 pub mod Positions
+pub mod Idle

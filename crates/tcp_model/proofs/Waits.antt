@@ -135,7 +135,7 @@ quiet_with : (pair : Option EndpointPair) (cx : ContextValue) (v : TcpValue) →
 quiet_with None cx v h = refl
 quiet_with (Some pair) cx v h = quiet_between cx v pair h
 
-same_poll : (pair : Option EndpointPair) (ip_mtu : ℕ) (v : TcpValue) → poll_with pair ip_mtu (unoffered v) ≡ poll_with pair ip_mtu v
+pub same_poll : (pair : Option EndpointPair) (ip_mtu : ℕ) (v : TcpValue) → poll_with pair ip_mtu (unoffered v) ≡ poll_with pair ip_mtu v
 same_poll None ip_mtu v = refl
 same_poll (Some pair) ip_mtu v = refl
 

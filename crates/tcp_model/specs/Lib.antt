@@ -27,3 +27,4 @@ pub mod Examples
 pub mod Runs
 pub mod Checked
 pub mod Choices
+pub mod Unsettled

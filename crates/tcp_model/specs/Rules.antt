@@ -37,9 +37,10 @@ pub record Choice : Type 0 where
 abbrev pub stamp_len : Block → ℕ
 stamp_len b = if (b.peer.timestamps && b.sender.stamped) && is_some b.settings.timestamps then 12 else 0
 
--- what the remote takes in one segment, and a packet holds behind its headers (3.7.1; RFC 6691)
+-- What the remote takes in one segment, and a packet holds behind its headers (3.7.1; RFC 6691). The length field of a packet has
+-- 16 bits.
 abbrev pub size_limit : Block → AddressPair → ℕ → ℕ
-size_limit b addresses ip_mtu = min b.peer.mss (ip_mtu - ip_header_len addresses - (20 + stamp_len b))
+size_limit b addresses ip_mtu = min b.peer.mss (min ip_mtu 65_535 - ip_header_len addresses - (20 + stamp_len b))
 
 abbrev pub congestion_limit : CongestionControl → ℕ → ℕ → ℕ
 congestion_limit Congestion.None cwnd size = size

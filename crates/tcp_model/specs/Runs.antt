@@ -3,7 +3,7 @@ use Rattle.std.specs.Prelude.{ℕ, ℤ, pos, false, List, [], ◌∷◌, Option,
 use Rattle.tcp_model.specs.declared.offer.OpenOffer.{OpenOffer}
 use Rattle.tcp_model.specs.declared.offer.OfferKind.{OfferKind}
 use Rattle.tcp_model.specs.declared.offer.Reply.{Reply}
-use Rattle.tcp_model.specs.Calls.{send_after, close_after}
+use Rattle.tcp_model.specs.Calls.{send_after, recv_after, close_after}
 use Rattle.tcp_model.specs.Examples.{Two, two, at, caller_a, caller_b, listener, sends, packet_at, delivered, hands_over, turned}
 use Rattle.tcp_model.specs.Offers.{offer_of}
 use Rattle.tcp_model.specs.Settings.{set_nagle_enabled}
@@ -68,6 +68,21 @@ filled = hands_over (pos 0) (two (send_after eager (1 ∷ 2 ∷ 3 ∷ 4 ∷ 5 �
 
 abbrev pub blocked : Two
 blocked = let s : Two = turned (hands_over (pos 10_000) (turned filled)) in two (send_after s.one (9 ∷ [])) s.other
+
+-- the offer that sets the probe's moment
+abbrev pub waits_to_probe : TcpValue
+waits_to_probe = sends (pos 10_000) blocked.one
+
+-- a second later, which is the timeout, the ninth byte goes as a probe
+abbrev pub probe_comes : Arrived
+probe_comes = delivered (at (pos 1_010_000)) blocked.other (packet_at (pos 1_010_000) waits_to_probe)
+
+abbrev pub probed : Two
+probed = hands_over (pos 1_010_000) (two waits_to_probe blocked.other)
+
+-- the user of b reads all, b tells its window, and a sends
+abbrev pub relieved : Two
+relieved = hands_over (pos 1_020_000) (turned (hands_over (pos 1_020_000) (two (recv_after probed.other 8) probed.one)))
 
 -- a closes, then b
 abbrev pub closed : Two

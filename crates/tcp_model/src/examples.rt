@@ -1,12 +1,12 @@
 //! Runs on numerals, which the check computes.
 
-ghost use Rattle.std.specs.Prelude.{◌≡◌, pos, true, [], ◌∷◌, Some, None};
+ghost use Rattle.std.specs.Prelude.{◌≡◌, pos, true, [], ◌∷◌, Some, None, is_some};
 ghost use Rattle.socket_base.specs.declared.poll_at.PollAt.TheVariants as At;
 ghost use Rattle.tcp_model.specs.declared.offer.OfferKind.TheVariants as Kind;
 ghost use Rattle.tcp_model.specs.declared.state.State.TheVariants as In;
 ghost use Rattle.tcp_model.specs.Due.{poll_of};
 ghost use Rattle.tcp_model.specs.Examples.{caller_a, sends};
-ghost use Rattle.tcp_model.specs.Runs.{handshake, syns_crossed, crossed, early, three_early, repaired, kind_at, ranges_in, filled, blocked, closed};
+ghost use Rattle.tcp_model.specs.Runs.{handshake, syns_crossed, crossed, early, three_early, repaired, kind_at, ranges_in, filled, blocked, waits_to_probe, probe_comes, probed, relieved, closed};
 
 /// The three segments of a handshake, and two sockets that connect to each other at once.
 pub fn connections_open()
@@ -30,4 +30,30 @@ pub fn lost_text_is_repaired()
 pub fn syns_back_off()
     ensures first { poll_of 1500 (sends (pos 0) caller_a) ≡ At.Time (pos 1_000_000) }
     ensures second { poll_of 1500 (sends (pos 1_000_000) (sends (pos 0) caller_a)) ≡ At.Time (pos 3_000_000) }
+{}
+
+/// Eight bytes fill a receive buffer, whose user reads nothing. The ninth waits for a second, the timeout, and goes as a probe; the next
+/// one would go two seconds later. The probe is answered and not taken. When the buffer is read, the byte goes at once.
+pub fn a_closed_window_is_probed()
+    ensures shut { filled.other.received.map ≡ [] }
+    ensures told { blocked.one.block.peer.window ≡ 0 }
+    ensures unset { poll_of 1500 blocked.one ≡ At.Now }
+    ensures silent { kind_at (pos 10_000) blocked.one ≡ None }
+    ensures due { poll_of 1500 waits_to_probe ≡ At.Time (pos 1_010_000) }
+    ensures early { kind_at (pos 1_009_999) waits_to_probe ≡ None }
+    ensures probe { kind_at (pos 1_010_000) waits_to_probe ≡ Some Kind.Probe }
+    ensures answered { is_some probe_comes.answer ≡ true }
+    ensures kept { probed.other.received.waiting ≡ 1 ∷ 2 ∷ 3 ∷ 4 ∷ 5 ∷ 6 ∷ 7 ∷ 8 ∷ [] }
+    ensures again { poll_of 1500 probed.one ≡ At.Time (pos 3_010_000) }
+    ensures opened { relieved.other.received.waiting ≡ 9 ∷ [] }
+{}
+
+/// The side that closed first waits for ten seconds in TIME-WAIT, and then forgets its endpoints.
+pub fn time_wait_ends()
+    ensures first { closed.other.block.state ≡ In.TimeWait }
+    ensures second { closed.one.block.state ≡ In.Closed }
+    ensures due { poll_of 1500 closed.other ≡ At.Time (pos 10_000_000) }
+    ensures early { (sends (pos 9_999_999) closed.other).block.state ≡ In.TimeWait }
+    ensures ended { (sends (pos 10_000_000) closed.other).block.state ≡ In.Closed }
+    ensures forgotten { (sends (pos 10_000_000) closed.other).block.names.pair ≡ None }
 {}

@@ -24,6 +24,14 @@ pub fn nothing_is_offered_before_the_due_moment()
         → poll_of cx.ip_mtu (offer_of cx v).socket ≡ poll_of cx.ip_mtu v }
 {}
 
+/// And the due moment comes no earlier than that: an offer that is silent and changes nothing but an open offer comes before it. So it
+/// is the first moment at which an offer does anything.
+#[tactic(auto, using(crate::proofs::Idle::idle))]
+pub fn something_is_done_at_the_due_moment()
+    ensures idle { (cx : ContextValue) (v : TcpValue) → offer_of cx v ≡ offered_as (Answer.Silent false) (settled false v)
+        → IsBefore cx.moment (poll_of cx.ip_mtu v) }
+{}
+
 /// Of each rule: before the due moment it doesn't apply, and it sets no moment.
 #[tactic(auto, using(crate::proofs::Waits::is_quiet))]
 pub fn no_rule_applies_before_the_due_moment()

@@ -1,1 +1,5 @@
 pub mod Receive
+pub mod Socket
+pub mod Replies
+pub mod Dispatch
+pub mod Opening

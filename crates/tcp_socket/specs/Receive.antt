@@ -1,8 +1,9 @@
 -- What came to a socket: the bytes that wait to be read, and the receive map behind them.
-use Rattle.std.specs.Prelude.{ℕ, ◌+◌, ◌-◌, ◌%◌, ◌^◌, ◌≤◌, nat_le, min, Bool, List, ◌++◌, length, if◌then◌else◌}
+use Rattle.std.specs.Prelude.{ℕ, ◌+◌, ◌-◌, ◌%◌, ◌^◌, ◌≤◌, nat_le, nat_lt, ◌&&◌, min, Bool, List, [], ◌∷◌, ◌++◌, length, take, drop, Option, if◌then◌else◌, Some, None, Result, Ok, Err}
 use Rattle.net_base.specs.Ring.{Ring}
 use Rattle.net_base.specs.Assembler.{AreRuns, Holds}
-use Rattle.tcp_law.specs.ReceiveMap.{store, front, behind}
+use Rattle.tcp_law.specs.ReceiveMap.{space, store, front, behind}
+use Rattle.tcp_model.specs.declared.error.RecvError.{RecvError}
 use Rattle.tcp_model.specs.Value.{Received, room_of}
 use Rattle.held_bytes.specs.Held.{map_from, runs_of, EndsBy}
 
@@ -44,3 +45,12 @@ early r past bytes = if can_hold r past bytes then record r { map = store r.map 
 abbrev pub unbroken : Received → ℕ → ℕ → ℕ
 unbroken r offset size =
     min size (min (length r.waiting - offset) (room_of r - (r.start + offset) % room_of r))
+
+-- what a call lends for reading
+abbrev pub lent : Received → List ℕ
+lent r = take (unbroken r 0 (length r.waiting)) r.waiting
+
+-- nothing is refused
+abbrev pub or_done : Option RecvError → Result (Unit {0}) RecvError
+or_done None = Ok tt
+or_done (Some refusal) = Err refusal

@@ -1,6 +1,16 @@
-//! The receive buffer of a TCP socket (RFC 9293): what waits to be read, and what is held early.
+//! A TCP socket (RFC 9293).
 #![tactic(auto)]
 
+mod arrival;
+mod calls;
+mod getters;
+mod offer;
 mod receive_buffer;
+mod settings;
+mod socket;
 
 pub use receive_buffer::ReceiveBuffer;
+pub use socket::{Socket, SocketBuffer};
+pub use tcp_model::{
+    CongestionControl, ConnectError, ListenError, RecvError, Reno, SendError, State,
+};

@@ -10,6 +10,9 @@ use crate::{AddressPair, Block, CongestionControl};
 use ip_wire::{SeqNumber, TcpControl};
 use net_base::Instant;
 
+/// The longest IP packet: the length field has 16 bits.
+const LONGEST_PACKET: usize = 65_535;
+
 /// How much of the send queue is to go, from which place, and whether the FIN goes with it.
 #[derive(Clone, Copy, Debug, PartialEq, Eq)]
 pub struct Part {
@@ -99,6 +102,7 @@ impl Block {
         ensures small { result ≤ 65_535 }
     {
         ip_mtu
+            .min(LONGEST_PACKET)
             .saturating_sub(addresses.ip_header_len())
             .saturating_sub(20 + self.stamp_len())
             .min(self.peer.mss as usize)

@@ -1,6 +1,7 @@
 //! What an offer is told.
 ghost use Rattle.std.specs.Prelude.{◌≡◌, ◌+◌, ◌≤◌, ◌<◌, ◌^◌};
 ghost use Rattle.net_base.specs.Time.{IsMoment};
+ghost use Rattle.tcp_model.specs.Unsettled.{EndsNear};
 ghost use Rattle.tcp_model.specs.Settled.{recorded, end_of, nxt_moved, timer_started, went, syn_went, resent, probed, sent_as};
 
 use crate::moments::{later_by, timeout_from};
@@ -74,7 +75,7 @@ impl Block {
     /// What was offered went.
     pub fn sent(&mut self, offer: &OpenOffer, queued: usize)
         requires moment { IsMoment offer.now.moment }
-        requires end { end_of self.old offer.now < 2 ^ 32 }
+        requires end { EndsNear offer.now.kind self.old offer.now }
         ensures { self.new ≡ sent_as offer.now.kind (recorded self.old offer.now) offer.now queued }
     {
         self.record(offer);

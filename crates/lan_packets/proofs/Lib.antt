@@ -1,0 +1,16 @@
+pub mod Lists
+pub mod Queues
+pub mod Places
+pub mod DatagramInvariant
+pub mod DatagramCalls
+pub mod DatagramMoves
+pub mod StreamInvariant
+pub mod Speaking
+pub mod HostSteps
+pub mod Exchange
+pub mod WireMoves
+pub mod CallSteps
+pub mod StreamCalls
+pub mod Found
+pub mod Kept
+pub mod Runs

@@ -1,0 +1,4 @@
+pub mod Calls
+pub mod Parties
+pub mod Moves
+pub mod Safe

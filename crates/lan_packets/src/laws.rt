@@ -1,0 +1,15 @@
+//! The theorem.
+ghost use Rattle.std.specs.Prelude.{ℕ, Bool, List};
+ghost use Rattle.lan_net.specs.declared.event.Side.{Side};
+ghost use Rattle.lan_packets.specs.Moves.{Step, IsRun, run};
+ghost use Rattle.lan_packets.specs.Parties.{Net};
+ghost use Rattle.lan_packets.specs.Safe.{IsFreshNet, IsSafe};
+
+/// After each run of two fresh hosts, whatever their applications and the network do: what a socket took in begins what its partner
+/// wrote, only bytes that were taken in are freed, a socket without a partner has nothing, the end of a stream means closed and complete,
+/// and each datagram read was accepted with these bytes and ports.
+#[tactic(auto, using(crate::proofs::Runs::runs_safe))]
+pub fn runs_are_safe()
+    ensures safe { (starts : Side → ℕ → ℕ) (names : List ℕ → Bool) (net : Net) (steps : List Step)
+        → IsFreshNet starts net → IsRun names net steps → IsSafe starts (run net steps) }
+{}

@@ -1,0 +1,14 @@
+-- What holds of an offer until it is settled.
+use Rattle.std.specs.Prelude.{◌<◌, ◌^◌}
+use Rattle.tcp_model.specs.declared.block.Block.{Block}
+use Rattle.tcp_model.specs.declared.offer.OfferKind.{OfferKind}
+use Rattle.tcp_model.specs.declared.offer.OfferKind.TheVariants as Kind
+use Rattle.tcp_model.specs.declared.offer.OpenOffer.{OpenOffer}
+use Rattle.tcp_model.specs.Settled.{end_of}
+
+-- a segment that may move SND.NXT ends less than 2 ^ 32 past SND.UNA
+abbrev pub EndsNear : OfferKind → Block → OpenOffer → Type 0
+EndsNear Kind.Syn b o = end_of b o < 2 ^ 32
+EndsNear Kind.FastRetransmission b o = end_of b o < 2 ^ 32
+EndsNear Kind.Text b o = end_of b o < 2 ^ 32
+EndsNear kind b o = Unit {0}

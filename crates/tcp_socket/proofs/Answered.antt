@@ -1,0 +1,156 @@
+-- What answers a segment can be sent, and from SYN-SENT on no random word is drawn.
+use Rattle.std.proofs.Common.{◌≡◌, ℕ, ◌+◌, ◌^◌, ◌<◌, ◌≤◌, ◌&&◌, not, Bool, true, false, ℤ, List, [], ◌∷◌, length, Option, Some, None, is_some, if◌then◌else◌, refl, sym, ap, ◌∙◌, arith}
+use Rattle.std.specs.Prelude.{IfSome}
+use Rattle.ip_wire.specs.Ip.{source_in}
+use Rattle.ip_wire.specs.IpRepr.{IpRepr}
+use Rattle.ip_wire.specs.IpRepr.TheVariants as Ip
+use Rattle.ip_wire.specs.Tcp.{header_len}
+use Rattle.ip_wire.specs.TcpHeader.{TcpHeader}
+use Rattle.ip_wire.specs.TcpTimestampRepr.{TcpTimestampRepr}
+use Rattle.ip_wire.specs.Options.{options_bytes, range_options, stamp_options}
+use Rattle.net_base.specs.RandomWords.{word}
+use Rattle.socket_base.specs.Context.{ContextValue, next_random}
+use Rattle.socket_base.specs.Packet.{IsSendable}
+use Rattle.tcp_model.specs.declared.block.Block.{Block}
+use Rattle.tcp_model.specs.declared.block.EndpointPair.{EndpointPair}
+use Rattle.tcp_model.specs.declared.state.State.{State}
+use Rattle.tcp_model.specs.declared.state.State.TheVariants as In
+use Rattle.tcp_model.specs.declared.offer.Reply.{Reply}
+use Rattle.tcp_model.specs.Acknowledged.{acknowledged, window_set, counted, duplicates_after}
+use Rattle.tcp_model.specs.Answers.{may_draw, with_draw, acked, drawn, answer_for, range_held}
+use Rattle.tcp_model.specs.Arrival.{waiting_anew, outside, finished, continued, taken, inside, checked, arrives_in, is_void_syn, arrives, timers_moved}
+use Rattle.tcp_model.specs.Checks.{Check, acknowledgement_check, is_in_window, taken_down}
+use Rattle.tcp_model.specs.Checks.Check.{Passes, Drops, Draws, Resets}
+use Rattle.tcp_model.specs.Controls.{is_syn, is_rst}
+use Rattle.tcp_model.specs.Names.{pair_in}
+use Rattle.tcp_model.specs.Opening.{acks_syn, syn_answered, takes_answer, answering, is_first_syn}
+use Rattle.tcp_model.specs.Segments.{stamp_of, sack_segment, rst_reply, reply_to, reset_for, hops_of}
+use Rattle.tcp_model.specs.States.{is_closed}
+use Rattle.tcp_model.specs.Text.{Texted, with_text, with_fin}
+use Rattle.tcp_model.specs.Timeout.{timeout_restarted}
+use Rattle.tcp_model.specs.Value.{TcpValue, Arrived, with_block, dropped, answered_with, unoffered, ended, queued_in, free_in, window_of}
+use Rattle.tcp_socket.specs.Replies.{packet_in}
+
+-- the answer can be sent, and no random word is drawn
+record IsQuick (a : Arrived) : Type 0 where
+  draws : a.draws ≡ false
+  sendable : IfSome a.answer (λ reply. IsSendable (packet_in reply))
+
+sendable_to : (ip : IpRepr) (hops : ℕ) (segment : TcpHeader) → header_len segment ≤ 60 → IsSendable (packet_in (reply_to ip hops segment))
+sendable_to (Ip.Ipv4 v) hops segment short =
+    record { header = omega (arith, short); payload = record { header = short; all = omega (arith, short); family = refl }; len = omega arith }
+sendable_to (Ip.Ipv6 v) hops segment short =
+    record { header = omega (arith, short); payload = record { header = short; all = omega (arith, short); family = refl }; len = omega arith }
+
+pub sendable_reset : (ip : IpRepr) (header : TcpHeader) (size : ℕ) → IsSendable (packet_in (rst_reply ip header size))
+sendable_reset ip header size = sendable_to ip 64 (reset_for header size) (omega arith)
+
+range_room : (range : Option (ℕ × ℕ)) → length (options_bytes (range_options (range ∷ None ∷ None ∷ []))) ≤ 10
+range_room None = omega arith
+range_room (Some range) = omega arith
+
+stamp_room : (stamp : Option TcpTimestampRepr) → length (options_bytes (stamp_options stamp)) ≤ 10
+stamp_room None = omega arith
+stamp_room (Some stamp) = omega arith
+
+sack_room : (b : Block) (pair : EndpointPair) (now : ℤ) (window : ℕ) (range : Option (ℕ × ℕ)) → header_len (sack_segment b pair now window range) ≤ 60
+sack_room b pair now window range = let ranges = range_room range in let stamp = stamp_room (stamp_of b now) in omega (arith, ranges, stamp)
+
+quick_dropped : (v : TcpValue) → IsQuick (dropped v)
+quick_dropped v = record { draws = refl; sendable = tt }
+
+quick_if : (t : Bool) (a b : Arrived) → IsQuick a → IsQuick b → IsQuick (if t then a else b)
+quick_if true a b one other = one
+quick_if false a b one other = other
+
+quick_acked : (cx : ContextValue) (v : TcpValue) (ip : IpRepr) (header : TcpHeader) (range : Option (ℕ × ℕ)) → IsQuick (acked cx v ip header range)
+quick_acked cx v ip header range = record {
+  draws = refl;
+  sendable = sendable_to ip (hops_of v.block.settings.hop_limit) (sack_segment v.block (pair_in ip header) cx.moment (window_of v) range) (sack_room v.block (pair_in ip header) cx.moment (window_of v) range);
+}
+
+quick_reset : (v : TcpValue) (ip : IpRepr) (header : TcpHeader) (size : ℕ) → IsQuick (answered_with v (rst_reply ip header size))
+quick_reset v ip header size = record { draws = refl; sendable = sendable_reset ip header size }
+
+quick_drawn : (cx : ContextValue) (v : TcpValue) (ip : IpRepr) (header : TcpHeader) → IsQuick (drawn cx v ip header)
+quick_drawn cx v ip header =
+    quick_if (may_draw cx.moment v.block.timers.draws_from) (acked cx (with_draw v cx.moment) ip header None) (dropped v)
+    (quick_acked cx (with_draw v cx.moment) ip header None) (quick_dropped v)
+
+quick_outside : (cx : ContextValue) (v : TcpValue) (ip : IpRepr) (header : TcpHeader) → IsQuick (outside cx v ip header)
+quick_outside cx v ip header =
+    let again = waiting_anew v header cx.moment in
+    quick_if (is_rst header.control) (dropped v) (drawn cx again ip header) (quick_dropped v) (quick_drawn cx again ip header)
+
+quick_answer : (cx : ContextValue) (v : TcpValue) (ip : IpRepr) (header : TcpHeader) (size : ℕ) (early : Option ℕ) → IsQuick (answer_for cx v ip header size early)
+quick_answer cx v ip header size (Some place) = quick_acked cx v ip header (range_held v place)
+quick_answer cx v ip header size None = record { draws = refl; sendable = tt }
+
+quick_finished : (cx : ContextValue) (old : Block) (t : Texted) (ip : IpRepr) (header : TcpHeader) (size : ℕ) → IsQuick (finished cx old t ip header size)
+quick_finished cx old t ip header size =
+    quick_answer cx (with_block t.socket (timers_moved (with_fin t.socket.block old header size t.advance cx.moment) cx.moment (queued_in t.socket))) ip header size t.early
+
+quick_continued : (cx : ContextValue) (old : Block) (v : TcpValue) (ip : IpRepr) (header : TcpHeader) (bytes : List ℕ) (by : ℕ) → IsQuick (continued cx old v ip header bytes by)
+quick_continued cx old v ip header bytes by =
+    let text = with_text (with_block v (counted (window_set v.block header) (duplicates_after old header (length bytes) by))) header bytes in
+    quick_if (is_closed v.block.state) (dropped v) (finished cx v.block text ip header (length bytes)) (quick_dropped v) (quick_finished cx v.block text ip header (length bytes))
+
+quick_inside : (cx : ContextValue) (v : TcpValue) (ip : IpRepr) (header : TcpHeader) (bytes : List ℕ) (by : ℕ) → IsQuick (inside cx v ip header bytes by)
+quick_inside cx v ip header bytes by =
+    let rest : Arrived = if is_syn header.control then drawn cx v ip header else taken cx v ip header bytes by in
+    quick_if (is_rst header.control) (dropped (taken_down v)) rest (quick_dropped (taken_down v))
+    (quick_if (is_syn header.control) (drawn cx v ip header) (taken cx v ip header bytes by) (quick_drawn cx v ip header)
+    (quick_continued cx v.block (acknowledged v by cx.moment) ip header bytes by))
+
+quick_checked : (c : Check) (cx : ContextValue) (v : TcpValue) (ip : IpRepr) (header : TcpHeader) (bytes : List ℕ) → IsQuick (checked c cx v ip header bytes)
+quick_checked (Passes by) cx v ip header bytes =
+    quick_if (is_in_window v.block (free_in v) header (length bytes)) (inside cx v ip header bytes by) (outside cx v ip header)
+    (quick_inside cx v ip header bytes by) (quick_outside cx v ip header)
+quick_checked Drops cx v ip header bytes = quick_dropped v
+quick_checked Draws cx v ip header bytes = quick_drawn cx v ip header
+quick_checked Resets cx v ip header bytes = quick_reset v ip header (length bytes)
+
+quick_takes_answer : (cx : ContextValue) (v : TcpValue) (ip : IpRepr) (header : TcpHeader) (bytes : List ℕ) → IsQuick (takes_answer cx v ip header bytes)
+quick_takes_answer cx v ip header bytes =
+    let known = acks_syn v.block.sender.una header.ack_number in
+    let taken_syn = with_block v (timeout_restarted (syn_answered v.block header cx.moment) cx.moment (queued_in v)) in
+    let reset = answered_with v (rst_reply ip header (length bytes)) in
+    let down : Arrived = if known then dropped (ended v) else dropped v in
+    let last : Arrived = if is_syn header.control then dropped taken_syn else dropped v in
+    let second : Arrived = if is_some header.ack_number && not known then reset else last in
+    quick_if (is_rst header.control) down second
+    (quick_if known (dropped (ended v)) (dropped v) (quick_dropped (ended v)) (quick_dropped v))
+    (quick_if (is_some header.ack_number && not known) reset last (quick_reset v ip header (length bytes))
+    (quick_if (is_syn header.control) (dropped taken_syn) (dropped v) (quick_dropped taken_syn) (quick_dropped v)))
+
+pub checked_draws : (c : Check) (cx : ContextValue) (v : TcpValue) (ip : IpRepr) (header : TcpHeader) (bytes : List ℕ) → (checked c cx v ip header bytes).draws ≡ false
+checked_draws c cx v ip header bytes = (quick_checked c cx v ip header bytes).draws
+
+pub takes_answer_draws : (cx : ContextValue) (v : TcpValue) (ip : IpRepr) (header : TcpHeader) (bytes : List ℕ) → (takes_answer cx v ip header bytes).draws ≡ false
+takes_answer_draws cx v ip header bytes = (quick_takes_answer cx v ip header bytes).draws
+
+-- the states from SYN-RECEIVED on
+pub later_arrives : (state : State) (cx : ContextValue) (v : TcpValue) (ip : IpRepr) (header : TcpHeader) (bytes : List ℕ)
+    → (state ≡ In.Closed → ⊥) → (state ≡ In.Listen → ⊥) → (state ≡ In.SynSent → ⊥)
+    → arrives_in state cx v ip header bytes ≡ checked (acknowledgement_check v.block (queued_in v) header) cx v ip header bytes
+later_arrives In.Closed cx v ip header bytes closed listens opens = absurd (closed refl)
+later_arrives In.Listen cx v ip header bytes closed listens opens = absurd (listens refl)
+later_arrives In.SynSent cx v ip header bytes closed listens opens = absurd (opens refl)
+later_arrives other cx v ip header bytes closed listens opens = refl
+
+-- what answers a segment can be sent
+if_sendable : (t : Bool) (a b : Arrived) → IfSome a.answer (λ reply. IsSendable (packet_in reply)) → IfSome b.answer (λ reply. IsSendable (packet_in reply)) → IfSome (if t then a else b).answer (λ reply. IsSendable (packet_in reply))
+if_sendable true a b one other = one
+if_sendable false a b one other = other
+
+sendable_in : (state : State) (cx : ContextValue) (v : TcpValue) (ip : IpRepr) (header : TcpHeader) (bytes : List ℕ) → IfSome (arrives_in state cx v ip header bytes).answer (λ reply. IsSendable (packet_in reply))
+sendable_in In.Closed cx v ip header bytes = tt
+sendable_in In.Listen cx v ip header bytes =
+    let opened : Arrived = record { socket = with_block v (timeout_restarted (answering v.block ip header (word (next_random cx).random)) cx.moment 0); answer = None; draws = true } in
+    if_sendable (is_first_syn header) opened (dropped v) tt tt
+sendable_in In.SynSent cx v ip header bytes = (quick_takes_answer cx v ip header bytes).sendable
+sendable_in other cx v ip header bytes = (quick_checked (acknowledgement_check v.block (queued_in v) header) cx v ip header bytes).sendable
+
+pub sendable_answer : (cx : ContextValue) (v : TcpValue) (ip : IpRepr) (header : TcpHeader) (bytes : List ℕ) → IfSome (arrives cx v ip header bytes).answer (λ reply. IsSendable (packet_in reply))
+sendable_answer cx v ip header bytes =
+    if_sendable (is_void_syn header) (dropped (unoffered v)) (arrives_in v.block.state cx (unoffered v) ip header bytes) tt (sendable_in v.block.state cx (unoffered v) ip header bytes)

@@ -1,0 +1,63 @@
+-- What the rules of an arrival keep of a block.
+use Rattle.std.proofs.Common.{◌≡◌, ℕ, ◌+◌, ◌-◌, ◌==◌, ◌&&◌, ◌^◌, ◌<◌, ◌≤◌, Bool, true, false, ℤ, Option, Some, None, if◌then◌else◌, refl, sym, ap, ◌∙◌, arith, length}
+use Rattle.std.specs.Prelude.{IfSome}
+use Rattle.std.proofs.lemmas.Bool.Decides.{nat_tests}
+use Rattle.net_base.specs.Ring.{Ring}
+use Rattle.net_base.specs.Time.{IsMoment}
+use Rattle.ip_wire.specs.IpRepr.{IpRepr}
+use Rattle.ip_wire.specs.TcpHeader.{TcpHeader}
+use Rattle.tcp_model.specs.Acknowledged.{una_moved, in_state, ended_if, block_acknowledged, state_after_ack, window_set, counted}
+use Rattle.tcp_model.specs.Arrival.{is_void_syn, timers_moved, waiting_anew}
+use Rattle.tcp_model.specs.Controls.{is_syn, is_zero, or_mss}
+use Rattle.tcp_model.specs.Opening.{took_syn, answering, syn_answered, is_first_syn}
+use Rattle.tcp_model.specs.Probing.{probe_kept}
+use Rattle.tcp_model.specs.States.{is_closed}
+use Rattle.tcp_model.specs.Text.{with_fin, fin_taken, takes_fin, with_next}
+use Rattle.tcp_model.specs.Timeout.{timeout_restarted, timeout_runs}
+use Rattle.tcp_model.specs.Blocks.{forgotten}
+use Rattle.tcp_model.specs.declared.block.Block.{Block}
+use Rattle.tcp_model.specs.declared.offer.OpenOffer.{OpenOffer}
+use Rattle.tcp_socket.specs.Socket.{IsBlock, IsOpen, IsSocket}
+
+-- nothing is offered
+pub none_open : (o : Option OpenOffer) (b : Block) (queued : Ring ℕ) → o ≡ None → IfSome o (IsOpen b queued)
+none_open None b queued is = tt
+none_open (Some o) b queued is = absurd (cc)
+
+pub kept_forgotten : (b : Block) → IsBlock b → IsBlock (forgotten b)
+kept_forgotten b is = record { start = is.start; mss = is.mss }
+
+kept_ended : (t : Bool) (b : Block) → IsBlock b → IsBlock (ended_if t b)
+kept_ended true b is = kept_forgotten b is
+kept_ended false b is = is
+
+pub kept_acknowledged : (b : Block) (by queued : ℕ) (now : ℤ) → IsBlock b → IsBlock (block_acknowledged b by queued now)
+kept_acknowledged b by queued now is =
+    kept_ended (is_closed (state_after_ack b by queued)) (in_state (una_moved b by queued now) (state_after_ack b by queued) now) (record { start = is.start; mss = is.mss })
+
+kept_if : (t : Bool) (a b : Block) → IsBlock a → IsBlock b → IsBlock (if t then a else b)
+kept_if true a b is other = is
+kept_if false a b is other = other
+
+pub kept_fin : (b old : Block) (header : TcpHeader) (size advance : ℕ) (now : ℤ) → IsBlock b → IsBlock (with_fin b old header size advance now)
+kept_fin b old header size advance now is =
+    kept_if (takes_fin old header size advance) (fin_taken b now) b (record { start = is.start; mss = is.mss }) is
+
+start_of : (t : Bool) (now : ℤ) → IsMoment now → IfSome (if t then Some now else None) IsMoment
+start_of true now is = is
+start_of false now is = tt
+
+pub kept_timeout : (b : Block) (now : ℤ) (queued : ℕ) → IsMoment now → 1 ≤ b.peer.mss → IsBlock (timeout_restarted b now queued)
+kept_timeout b now queued is mss = record { start = start_of (timeout_runs b queued) now is; mss = mss }
+
+pub kept_timers : (b : Block) (now : ℤ) (queued : ℕ) → IsMoment now → 1 ≤ b.peer.mss → IsBlock (timers_moved b now queued)
+kept_timers b now queued is mss = let kept = kept_timeout b now queued is mss in record { start = kept.start; mss = kept.mss }
+
+-- a SYN that isn't dropped names no MSS of 0
+pub sized_syn : (syn zero_mss : Bool) → (syn && zero_mss) ≡ false → syn ≡ true → zero_mss ≡ false
+sized_syn true zero_mss sized is = sized
+sized_syn false zero_mss sized is = absurd (cc)
+
+pub sized_mss : (mss : Option ℕ) → is_zero mss ≡ false → 1 ≤ or_mss mss
+sized_mss None is = omega arith
+sized_mss (Some n) is = grind (arith, nat_tests, is)

@@ -1,0 +1,23 @@
+use Rattle.std.proofs.Common.{◌≡◌, ℕ, ◌+◌, ◌-◌, ◌==◌, ◌<◌, ◌≤◌, ◌^◌, min, Bool, true, false, List, [], length, take, Option, Some, None, if◌then◌else◌, refl, sym, ap, subst, ◌∙◌, arith}
+use Rattle.tcp_model.specs.Value.{TcpValue}
+use Rattle.tcp_model.specs.States.{is_closed}
+use Rattle.tcp_socket.proofs.Steps.{rest_leads}
+use Rattle.tcp_socket.proofs.socket.Socket.take_rest.Goals as goal
+
+pub returns-clause-answer : goal.returns-clause-answer
+returns-clause-answer g c =
+    let cx = g.C.Context.context c.args.cx.now in
+    let i = c.args.incoming.now in
+    let v = c.args.self.now in
+    let state : is_closed c.self.inside.block.state ≡ is_closed v.block.state = ap (λ (w : TcpValue). is_closed w.block.state) c.self.view_is in
+    let opened : is_closed v.block.state ≡ false = sym state ∙ sym c.is_closed.ensures ∙ c.if-is_closed.false in
+    (rest_leads cx c.args.old.now c.self.inside.block v c.take_window.new.self i.ip_repr i.header i.bytes.now c.args.by c.take_content.result c.take_content.new.self opened (ap (λ (w : TcpValue). w.block) c.self.view_is) c.take_window.ensures c.take_content.ensures.answer c.take_content.ensures.socket).answer
+
+pub returns-clause-socket : goal.returns-clause-socket
+returns-clause-socket g c =
+    let cx = g.C.Context.context c.args.cx.now in
+    let i = c.args.incoming.now in
+    let v = c.args.self.now in
+    let state : is_closed c.self.inside.block.state ≡ is_closed v.block.state = ap (λ (w : TcpValue). is_closed w.block.state) c.self.view_is in
+    let opened : is_closed v.block.state ≡ false = sym state ∙ sym c.is_closed.ensures ∙ c.if-is_closed.false in
+    (rest_leads cx c.args.old.now c.self.inside.block v c.take_window.new.self i.ip_repr i.header i.bytes.now c.args.by c.take_content.result c.take_content.new.self opened (ap (λ (w : TcpValue). w.block) c.self.view_is) c.take_window.ensures c.take_content.ensures.answer c.take_content.ensures.socket).socket

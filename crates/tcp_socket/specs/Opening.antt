@@ -1,0 +1,34 @@
+-- The offer that is opened where a segment is offered.
+use Rattle.std.specs.Prelude.{ℕ, ◌+◌, ◌≤◌, ◌<◌, ◌^◌}
+use Rattle.ip_wire.specs.Tcp.{header_len}
+use Rattle.ip_wire.specs.TcpHeader.{TcpHeader}
+use Rattle.socket_base.specs.Context.{ContextValue}
+use Rattle.tcp_model.specs.Names.{header_for}
+use Rattle.tcp_model.specs.Rules.{Choice, unbroken}
+use Rattle.tcp_model.specs.Segments.{hops_of}
+use Rattle.tcp_model.specs.Unsettled.{EndsNear}
+use Rattle.tcp_model.specs.Value.{TcpValue}
+use Rattle.tcp_model.specs.declared.block.EndpointPair.{EndpointPair}
+use Rattle.tcp_model.specs.declared.offer.OfferKind.{OfferKind}
+use Rattle.tcp_model.specs.declared.offer.OpenOffer.{OpenOffer}
+use Rattle.tcp_socket.specs.Socket.{LiesInRing}
+
+abbrev pub open_offer : OfferKind → ContextValue → TcpValue → EndpointPair → TcpHeader → ℕ → ℕ → OpenOffer
+open_offer kind cx v pair segment place len = record {
+  kind = kind;
+  moment = cx.moment;
+  header = header_for pair.addresses (hops_of v.block.settings.hop_limit) (header_len segment + len);
+  segment = segment;
+  place = place;
+  len = len;
+}
+
+-- what may be opened: it ends near SND.UNA, and its payload lies in the send ring
+pub record MayOpen (v : TcpValue) (o : OpenOffer) : Type 0 where
+  pub end : EndsNear o.kind v.block o
+  pub payload : LiesInRing o.kind v.queued o
+
+-- a part of the send queue that lies there in one piece, not far past SND.UNA
+pub record IsPartOf (v : TcpValue) (c : Choice) : Type 0 where
+  pub near : c.place ≤ 2 ^ 31
+  pub unbroken : c.len ≤ unbroken v.queued c.place

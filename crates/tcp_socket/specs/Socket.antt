@@ -1,0 +1,56 @@
+-- What holds of each socket, and what its getters give.
+use Rattle.std.specs.Prelude.{ℕ, ◌≤◌, nat_le, ◌&&◌, Bool, length, true, false, Option, Some, None, IfSome, Result, Ok, Err}
+use Rattle.net_base.specs.Ring.{Ring}
+use Rattle.net_base.specs.Time.{IsMoment}
+use Rattle.ip_wire.specs.IpEndpoint.{IpEndpoint}
+use Rattle.tcp_model.specs.Names.{local_of, remote_of}
+use Rattle.tcp_model.specs.Rules.{unbroken}
+use Rattle.tcp_model.specs.States.{takes_writes}
+use Rattle.tcp_model.specs.Unsettled.{EndsNear}
+use Rattle.tcp_model.specs.Value.{TcpValue}
+use Rattle.tcp_socket.specs.Receive.{FitsBuffer}
+use Rattle.tcp_model.specs.declared.block.Block.{Block}
+use Rattle.tcp_model.specs.declared.error.SendError.{SendError}
+use Rattle.tcp_model.specs.declared.error.SendError.TheVariants as Send
+use Rattle.tcp_model.specs.declared.block.EndpointPair.{EndpointPair}
+use Rattle.tcp_model.specs.declared.offer.OfferKind.{OfferKind}
+use Rattle.tcp_model.specs.declared.offer.OfferKind.TheVariants as Kind
+use Rattle.tcp_model.specs.declared.offer.OpenOffer.{OpenOffer}
+
+-- the payload lies in the send ring, in one piece; a keep-alive's isn't part of it
+abbrev pub LiesInRing : OfferKind → Ring ℕ → OpenOffer → Type 0
+LiesInRing Kind.KeepAlive queued o = Unit {0}
+LiesInRing kind queued o = o.len ≤ unbroken queued o.place
+
+-- an open offer was made at a moment, and its segment is as it was then
+pub record IsOpen (b : Block) (queued : Ring ℕ) (o : OpenOffer) : Type 0 where
+  pub moment : IsMoment o.moment
+  pub end : EndsNear o.kind b o
+  pub payload : LiesInRing o.kind queued o
+
+-- the user timeout started at a moment, and the remote takes at least one byte
+pub record IsBlock (b : Block) : Type 0 where
+  pub start : IfSome b.timers.timeout_since IsMoment
+  pub mss : 1 ≤ b.peer.mss
+
+pub record IsSocket (b : Block) (queued : Ring ℕ) (offered : Option OpenOffer) : Type 0 where
+  pub room : FitsBuffer queued
+  pub block : IsBlock b
+  pub unsettled : IfSome offered (IsOpen b queued)
+
+abbrev pub local_in : Option EndpointPair → Option IpEndpoint
+local_in None = None
+local_in (Some pair) = Some (record { addr = local_of pair.addresses; port = pair.local_port })
+
+abbrev pub remote_in : Option EndpointPair → Option IpEndpoint
+remote_in None = None
+remote_in (Some pair) = Some (record { addr = remote_of pair.addresses; port = pair.remote_port })
+
+-- whether the user may send, as an answer
+abbrev pub if_open : Bool → Result (Unit {0}) SendError
+if_open true = Ok tt
+if_open false = Err Send.InvalidState
+
+-- there is room for so many bytes
+abbrev pub takes_all : TcpValue → ℕ → Bool
+takes_all v count = takes_writes v.block.state && nat_le count (length v.queued.free)

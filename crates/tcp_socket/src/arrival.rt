@@ -1,0 +1,472 @@
+//! A segment comes.
+ghost use Rattle.std.specs.Prelude.{◌≡◌, ◌+◌, ◌≤◌, ◌<◌, ◌^◌, [], length, IfSome, false, Option, Some, None, if◌then◌else◌};
+ghost use Rattle.net_base.specs.Time.{IsMoment};
+ghost use Rattle.socket_base.specs.Context.{ContextValue};
+ghost use Rattle.socket_base.specs.Packet.{IsSendable};
+ghost use Rattle.ip_wire.specs.Tcp.{header_of};
+ghost use Rattle.tcp_model.specs.Acknowledged.{acknowledged, window_set, counted, duplicates_after};
+ghost use Rattle.tcp_model.specs.Answers.{acked, drawn, range_held, answer_for};
+ghost use Rattle.tcp_model.specs.Arrival.{waiting_anew, outside, finished, continued, taken, inside, checked, is_void_syn, arrives_in, arrives};
+ghost use Rattle.tcp_model.specs.Checks.{acknowledgement_check, taken_down};
+ghost use Rattle.tcp_model.specs.Checks.Check.{Passes};
+ghost use Rattle.tcp_model.specs.Names.{accepts};
+ghost use Rattle.tcp_model.specs.Opening.{is_first_syn, opens, takes_answer};
+ghost use Rattle.tcp_model.specs.Segments.{rst_reply};
+ghost use Rattle.tcp_model.specs.Text.{texted, with_text, with_text_at, with_bytes_at};
+ghost use Rattle.tcp_model.specs.Value.{queued_in, window_of, with_block};
+ghost use Rattle.tcp_socket.specs.Replies.{replies_in, packet_with};
+
+use crate::Socket;
+use ip_wire::{IpRepr, TcpHeader, TcpRepr};
+use net_base::Instant;
+use socket_base::Context;
+use tcp_model::{
+    Block, EndpointPair, Reply, State, Verdict, before_by, is_fin, is_first_syn, is_rst, is_syn,
+    is_void_syn, next_draw_from, numbers_of, past_by, reply_to, rst_reply, time_wait_from,
+};
+
+/// A segment with what it came in.
+#[derive(Clone, Copy)]
+pub(crate) struct Incoming<'a> {
+    pub(crate) ip_repr: IpRepr,
+    pub(crate) header: TcpHeader,
+    pub(crate) bytes: &'a [u8],
+}
+
+impl Socket {
+    /// Whether this segment is for the socket.
+    pub fn accepts<C: Context>(&self, _cx: &C, ip_repr: &IpRepr, repr: &TcpRepr<'_>) -> bool
+        ensures { result ≡ accepts self.now.block ip_repr.now (header_of repr.now) }
+    {
+        self.block.accepts(ip_repr, &repr.header())
+    }
+
+    /// The reset that answers a segment which no socket takes.
+    pub fn rst_reply(ip_repr: &IpRepr, repr: &TcpRepr<'_>) -> (IpRepr, TcpRepr<'static>)
+        ensures bare { result.1.payload.now ≡ [] }
+        ensures sendable { IsSendable (packet_with result) }
+        ensures answer { replies_in (Some result) ≡ Some (rst_reply ip_repr.now (header_of repr.now) (length repr.now.payload.now)) }
+    {
+        replied(&rst_reply(ip_repr, &repr.header(), repr.payload.len()))
+    }
+
+    /// A segment for the socket comes. The answer is the segment that is to be sent back at once.
+    pub fn process<C: Context>(
+        &mut self,
+        cx: &mut C,
+        ip_repr: &IpRepr,
+        repr: &TcpRepr<'_>,
+    ) -> Option<(IpRepr, TcpRepr<'static>)>
+        ensures bare { IfSome result (λ r. r.1.payload.now ≡ []) }
+        ensures sendable { IfSome result (λ r. IsSendable (packet_with r)) }
+        ensures answer { replies_in result ≡ (arrives (C.context cx.old) self.old ip_repr.now (header_of repr.now) repr.now.payload.now).answer }
+        ensures socket { self.new ≡ (arrives (C.context cx.old) self.old ip_repr.now (header_of repr.now) repr.now.payload.now).socket }
+        ensures drawn { cx.new ≡ (if (arrives (C.context cx.old) self.old ip_repr.now (header_of repr.now) repr.now.payload.now).draws then C.drawn cx.old else cx.old) }
+    {
+        let incoming = Incoming {
+            ip_repr: *ip_repr,
+            header: repr.header(),
+            bytes: repr.payload,
+        };
+        match self.arrive(cx, &incoming) {
+            None => None,
+            Some(reply) => Some(replied(&reply)),
+        }
+    }
+
+    fn arrive<C: Context>(&mut self, cx: &mut C, incoming: &Incoming<'_>) -> Option<Reply>
+        ensures answer { result ≡ (arrives (C.context cx.old) self.old incoming.now.ip_repr incoming.now.header incoming.now.bytes.now).answer }
+        ensures socket { self.new ≡ (arrives (C.context cx.old) self.old incoming.now.ip_repr incoming.now.header incoming.now.bytes.now).socket }
+        ensures drawn { cx.new ≡ (if (arrives (C.context cx.old) self.old incoming.now.ip_repr incoming.now.header incoming.now.bytes.now).draws then C.drawn cx.old else cx.old) }
+    {
+        self.offered = None;
+        if is_void_syn(&incoming.header) {
+            None
+        } else {
+            self.arrive_in_state(cx, incoming)
+        }
+    }
+
+    /// A segment comes that isn't a SYN with an MSS of 0.
+    fn arrive_in_state<C: Context>(&mut self, cx: &mut C, incoming: &Incoming<'_>) -> Option<Reply>
+        requires unoffered { self.old.offered ≡ None }
+        requires sized { is_void_syn incoming.now.header ≡ false }
+        ensures answer { result ≡ (arrives_in self.old.block.state (C.context cx.old) self.old incoming.now.ip_repr incoming.now.header incoming.now.bytes.now).answer }
+        ensures socket { self.new ≡ (arrives_in self.old.block.state (C.context cx.old) self.old incoming.now.ip_repr incoming.now.header incoming.now.bytes.now).socket }
+        ensures drawn { cx.new ≡ (if (arrives_in self.old.block.state (C.context cx.old) self.old incoming.now.ip_repr incoming.now.header incoming.now.bytes.now).draws then C.drawn cx.old else cx.old) }
+    {
+        match self.block.state {
+            State::Closed => None,
+            State::Listen => self.take_first(cx, incoming),
+            State::SynSent => self.take_answer(&*cx, incoming),
+            _ => self.check(&*cx, incoming),
+        }
+    }
+
+    /// LISTEN: a SYN is taken, and answered later.
+    fn take_first<C: Context>(&mut self, cx: &mut C, incoming: &Incoming<'_>) -> Option<Reply>
+        requires unoffered { self.old.offered ≡ None }
+        requires sized { is_void_syn incoming.now.header ≡ false }
+        ensures answer { result ≡ (opens (C.context cx.old) self.old incoming.now.ip_repr incoming.now.header).answer }
+        ensures socket { self.new ≡ (opens (C.context cx.old) self.old incoming.now.ip_repr incoming.now.header).socket }
+        ensures drawn { cx.new ≡ (if (opens (C.context cx.old) self.old incoming.now.ip_repr incoming.now.header).draws then C.drawn cx.old else cx.old) }
+    {
+        if !is_first_syn(&incoming.header) {
+            return None;
+        }
+        let number = cx.rand_u32();
+        self.block
+            .answer_syn(&incoming.ip_repr, &incoming.header, number);
+        self.block.restart_timeout(cx.now(), 0);
+        None
+    }
+
+    /// SYN-SENT: a reset counts if it acknowledges the SYN; then an acknowledgement of anything else is
+    /// answered by a reset; then a SYN is taken.
+    fn take_answer<C: Context>(&mut self, cx: &C, incoming: &Incoming<'_>) -> Option<Reply>
+        requires unoffered { self.old.offered ≡ None }
+        requires sized { is_void_syn incoming.now.header ≡ false }
+        ensures answer { result ≡ (takes_answer (C.context cx.now) self.old incoming.now.ip_repr incoming.now.header incoming.now.bytes.now).answer }
+        ensures socket { self.new ≡ (takes_answer (C.context cx.now) self.old incoming.now.ip_repr incoming.now.header incoming.now.bytes.now).socket }
+    {
+        let (now, header) = (cx.now(), &incoming.header);
+        let acks_syn = self.block.is_syn_acked(header.ack_number);
+        if is_rst(header.control) {
+            if acks_syn {
+                self.block.forget();
+            }
+            return None;
+        }
+        if header.ack_number.is_some() && !acks_syn {
+            return Some(rst_reply(&incoming.ip_repr, header, incoming.bytes.len()));
+        }
+        if is_syn(header.control) {
+            self.block.take_answer(header, now);
+            self.block.restart_timeout(now, self.queued.len());
+        }
+        None
+    }
+
+    /// From SYN-RECEIVED on.
+    fn check<C: Context>(&mut self, cx: &C, incoming: &Incoming<'_>) -> Option<Reply>
+        requires unoffered { self.old.offered ≡ None }
+        ensures answer { result ≡ (checked (acknowledgement_check self.old.block (queued_in self.old) incoming.now.header) (C.context cx.now) self.old incoming.now.ip_repr incoming.now.header incoming.now.bytes.now).answer }
+        ensures socket { self.new ≡ (checked (acknowledgement_check self.old.block (queued_in self.old) incoming.now.header) (C.context cx.now) self.old incoming.now.ip_repr incoming.now.header incoming.now.bytes.now).socket }
+    {
+        let header = &incoming.header;
+        match self.block.check_acknowledgement(self.queued.len(), header) {
+            Verdict::Passes(by) => self.take_passed(cx, incoming, by),
+            Verdict::Drops => None,
+            Verdict::Draws => self.draw(cx, incoming),
+            Verdict::Resets => Some(rst_reply(&incoming.ip_repr, header, incoming.bytes.len())),
+        }
+    }
+
+    /// A segment whose acknowledgement passes, so far past SND.UNA.
+    fn take_passed<C: Context>(&mut self, cx: &C, incoming: &Incoming<'_>, by: u32) -> Option<Reply>
+        requires unoffered { self.old.offered ≡ None }
+        ensures answer { result ≡ (checked (Passes by) (C.context cx.now) self.old incoming.now.ip_repr incoming.now.header incoming.now.bytes.now).answer }
+        ensures socket { self.new ≡ (checked (Passes by) (C.context cx.now) self.old incoming.now.ip_repr incoming.now.header incoming.now.bytes.now).socket }
+    {
+        let free = self.received.window();
+        if self
+            .block
+            .is_in_window(free, &incoming.header, incoming.bytes.len())
+        {
+            self.take_inside(cx, incoming, by)
+        } else {
+            self.answer_outside(cx, incoming)
+        }
+    }
+
+    /// Outside the window: an answer may be drawn, but for a reset.
+    fn answer_outside<C: Context>(&mut self, cx: &C, incoming: &Incoming<'_>) -> Option<Reply>
+        requires unoffered { self.old.offered ≡ None }
+        ensures answer { result ≡ (outside (C.context cx.now) self.old incoming.now.ip_repr incoming.now.header).answer }
+        ensures socket { self.new ≡ (outside (C.context cx.now) self.old incoming.now.ip_repr incoming.now.header).socket }
+    {
+        if is_rst(incoming.header.control) {
+            return None;
+        }
+        self.wait_anew(&incoming.header, cx.now());
+        self.draw(cx, incoming)
+    }
+
+    /// A FIN that comes again in TIME-WAIT restarts it.
+    fn wait_anew(&mut self, header: &TcpHeader, now: Instant)
+        requires unoffered { self.old.offered ≡ None }
+        requires moment { IsMoment now }
+        ensures { self.new ≡ waiting_anew self.old header.now now }
+    {
+        if self.block.state.is_time_wait() && is_fin(header.control) {
+            self.block.timers.time_wait_ends = Some(time_wait_from(now));
+        }
+    }
+
+    /// Inside the window: a reset, a SYN, or a segment to take.
+    fn take_inside<C: Context>(&mut self, cx: &C, incoming: &Incoming<'_>, by: u32) -> Option<Reply>
+        requires unoffered { self.old.offered ≡ None }
+        ensures answer { result ≡ (inside (C.context cx.now) self.old incoming.now.ip_repr incoming.now.header incoming.now.bytes.now by).answer }
+        ensures socket { self.new ≡ (inside (C.context cx.now) self.old incoming.now.ip_repr incoming.now.header incoming.now.bytes.now by).socket }
+    {
+        if is_rst(incoming.header.control) {
+            self.take_down();
+            None
+        } else if is_syn(incoming.header.control) {
+            self.draw(cx, incoming)
+        } else {
+            self.take(cx, incoming, by)
+        }
+    }
+
+    /// A reset takes the socket down: a listener back to LISTEN, any other to CLOSED.
+    fn take_down(&mut self)
+        requires unoffered { self.old.offered ≡ None }
+        ensures { self.new ≡ taken_down self.old }
+    {
+        if self.block.falls_back() {
+            self.listen_on(self.block.names.listen);
+        } else {
+            self.block.forget();
+        }
+    }
+
+    /// An accepted segment.
+    fn take<C: Context>(&mut self, cx: &C, incoming: &Incoming<'_>, by: u32) -> Option<Reply>
+        requires unoffered { self.old.offered ≡ None }
+        ensures answer { result ≡ (taken (C.context cx.now) self.old incoming.now.ip_repr incoming.now.header incoming.now.bytes.now by).answer }
+        ensures socket { self.new ≡ (taken (C.context cx.now) self.old incoming.now.ip_repr incoming.now.header incoming.now.bytes.now by).socket }
+    {
+        let old = self.block;
+        self.acknowledge(by, cx.now());
+        self.take_rest(cx, &old, incoming, by)
+    }
+
+    /// What is left of a segment whose acknowledgement was taken. `old` is the block before that.
+    fn take_rest<C: Context>(
+        &mut self,
+        cx: &C,
+        old: &Block,
+        incoming: &Incoming<'_>,
+        by: u32,
+    ) -> Option<Reply>
+        requires unoffered { self.old.offered ≡ None }
+        ensures answer { result ≡ (continued (C.context cx.now) old.now self.old incoming.now.ip_repr incoming.now.header incoming.now.bytes.now by).answer }
+        ensures socket { self.new ≡ (continued (C.context cx.now) old.now self.old incoming.now.ip_repr incoming.now.header incoming.now.bytes.now by).socket }
+    {
+        if self.block.state.is_closed() {
+            return None;
+        }
+        let acked = self.block;
+        self.take_window(old, &incoming.header, incoming.bytes.len(), by);
+        self.take_content(cx, &acked, incoming)
+    }
+
+    /// The window of a segment, and whether it is a duplicate.
+    fn take_window(&mut self, old: &Block, header: &TcpHeader, size: usize, by: u32)
+        requires unoffered { self.old.offered ≡ None }
+        ensures { self.new ≡ with_block self.old (counted (window_set self.old.block header.now) (duplicates_after old.now header.now size by)) }
+    {
+        let duplicates = old.duplicates_after(header, size, by);
+        self.block.set_window(header);
+        self.block.count(duplicates);
+    }
+
+    /// SND.UNA rises by so much, and what is acknowledged is freed.
+    fn acknowledge(&mut self, by: u32, now: Instant)
+        requires unoffered { self.old.offered ≡ None }
+        requires moment { IsMoment now }
+        ensures { self.new ≡ acknowledged self.old by now }
+    {
+        let queued = self.queued.len();
+        let freed = self.block.freed_by(by, queued);
+        self.block.acknowledge(by, queued, now);
+        self.queued.dequeue_allocated(freed);
+    }
+
+    /// The text and the FIN of an accepted segment, and what answers it. `old` is the block before its
+    /// window was taken.
+    fn take_content<C: Context>(
+        &mut self,
+        cx: &C,
+        old: &Block,
+        incoming: &Incoming<'_>,
+    ) -> Option<Reply>
+        requires unoffered { self.old.offered ≡ None }
+        ensures answer { result ≡ (finished (C.context cx.now) old.now (with_text self.old incoming.now.header incoming.now.bytes.now) incoming.now.ip_repr incoming.now.header (length incoming.now.bytes.now)).answer }
+        ensures socket { self.new ≡ (finished (C.context cx.now) old.now (with_text self.old incoming.now.header incoming.now.bytes.now) incoming.now.ip_repr incoming.now.header (length incoming.now.bytes.now)).socket }
+    {
+        let text = self.take_text(&incoming.header, incoming.bytes);
+        self.finish(cx, old, &text, incoming)
+    }
+
+    /// The FIN of a segment whose text was taken, and what answers it. `old` is the block before that.
+    fn finish<C: Context>(
+        &mut self,
+        cx: &C,
+        old: &Block,
+        text: &Text,
+        incoming: &Incoming<'_>,
+    ) -> Option<Reply>
+        requires unoffered { self.old.offered ≡ None }
+        requires small { text.now.advance ≤ 2 ^ 30 }
+        ensures answer { result ≡ (finished (C.context cx.now) old.now (texted self.old text.now.advance text.now.early) incoming.now.ip_repr incoming.now.header (length incoming.now.bytes.now)).answer }
+        ensures socket { self.new ≡ (finished (C.context cx.now) old.now (texted self.old text.now.advance text.now.early) incoming.now.ip_repr incoming.now.header (length incoming.now.bytes.now)).socket }
+    {
+        let (now, header, size) = (cx.now(), &incoming.header, incoming.bytes.len());
+        self.block.take_fin(old, header, size, text.advance, now);
+        self.block.move_timers(now, self.queued.len());
+        self.answer(cx, incoming, text.early)
+    }
+
+    /// Text that is held early is acknowledged at once; else an acknowledgement may become due.
+    fn answer<C: Context>(
+        &mut self,
+        cx: &C,
+        incoming: &Incoming<'_>,
+        early: Option<usize>,
+    ) -> Option<Reply>
+        requires unoffered { self.old.offered ≡ None }
+        ensures answer { result ≡ (answer_for (C.context cx.now) self.old incoming.now.ip_repr incoming.now.header (length incoming.now.bytes.now) early).answer }
+        ensures socket { self.new ≡ (answer_for (C.context cx.now) self.old incoming.now.ip_repr incoming.now.header (length incoming.now.bytes.now) early).socket }
+    {
+        match early {
+            Some(place) => {
+                let range = self.range_held(place);
+                Some(self.acknowledge_with(cx, incoming, range))
+            }
+            None => {
+                self.block
+                    .ack_due(&incoming.header, incoming.bytes.len(), cx.now());
+                None
+            }
+        }
+    }
+
+    /// The text of an accepted segment.
+    fn take_text(&mut self, header: &TcpHeader, bytes: &[u8]) -> Text
+        requires unoffered { self.old.offered ≡ None }
+        ensures text { texted self.new result.advance result.early ≡ with_text self.old header.now bytes.now }
+        ensures small { result.advance ≤ 2 ^ 30 }
+        ensures unoffered { self.new.offered ≡ None }
+    {
+        let place = past_by(self.block.receiver.next, header.seq_number) as usize;
+        let before = before_by(self.block.receiver.next, header.seq_number) as usize;
+        self.take_text_at(place, &bytes[before.min(bytes.len())..])
+    }
+
+    /// Text of which what lies before RCV.NXT is cut off, so far past RCV.NXT.
+    fn take_text_at(&mut self, place: usize, bytes: &[u8]) -> Text
+        requires unoffered { self.old.offered ≡ None }
+        ensures text { texted self.new result.advance result.early ≡ with_text_at self.old place bytes.now }
+        ensures small { result.advance ≤ 2 ^ 30 }
+        ensures unoffered { self.new.offered ≡ None }
+    {
+        let free = self.received.window();
+        if !self.block.state.takes_text() || bytes.is_empty() || free <= place {
+            return Text::NONE;
+        }
+        self.take_bytes(place, &bytes[..bytes.len().min(free - place)])
+    }
+
+    /// Bytes inside the window.
+    fn take_bytes(&mut self, place: usize, bytes: &[u8]) -> Text
+        requires unoffered { self.old.offered ≡ None }
+        requires fits { place + length bytes.now ≤ length self.old.received.map }
+        requires small { length self.old.received.map ≤ 2 ^ 30 }
+        ensures text { texted self.new result.advance result.early ≡ with_bytes_at self.old place bytes.now }
+        ensures small { result.advance ≤ 2 ^ 30 }
+        ensures unoffered { self.new.offered ≡ None }
+    {
+        if place == 0 {
+            let advance = self.received.store(bytes);
+            self.block.advance(advance);
+            return Text {
+                advance,
+                early: None,
+            };
+        }
+        match self.received.hold(place, bytes) {
+            Ok(()) => Text {
+                advance: 0,
+                early: Some(place),
+            },
+            Err(_) => Text::NONE,
+        }
+    }
+
+    /// The run that is held with its first byte at a place, if both SYNs permitted to tell it.
+    fn range_held(&self, place: usize) -> Option<(u32, u32)>
+        ensures { result ≡ range_held self.now place }
+    {
+        if self.block.peer.sack {
+            numbers_of(self.block.receiver.next, self.received.run_at(place))
+        } else {
+            None
+        }
+    }
+
+    /// An acknowledgement that answers a segment which isn't acceptable, at most one a second.
+    fn draw<C: Context>(&mut self, cx: &C, incoming: &Incoming<'_>) -> Option<Reply>
+        requires unoffered { self.old.offered ≡ None }
+        ensures answer { result ≡ (drawn (C.context cx.now) self.old incoming.now.ip_repr incoming.now.header).answer }
+        ensures socket { self.new ≡ (drawn (C.context cx.now) self.old incoming.now.ip_repr incoming.now.header).socket }
+    {
+        if self.block.may_draw(cx.now()) {
+            self.block.timers.draws_from = Some(next_draw_from(cx.now()));
+            Some(self.acknowledge_with(cx, incoming, None))
+        } else {
+            None
+        }
+    }
+
+    /// The acknowledgement that answers a segment, with a range that is held out of order.
+    fn acknowledge_with<C: Context>(
+        &mut self,
+        cx: &C,
+        incoming: &Incoming<'_>,
+        range: Option<(u32, u32)>,
+    ) -> Reply
+        requires unoffered { self.old.offered ≡ None }
+        ensures answer { Some result ≡ (acked (C.context cx.now) self.old incoming.now.ip_repr incoming.now.header range).answer }
+        ensures socket { self.new ≡ (acked (C.context cx.now) self.old incoming.now.ip_repr incoming.now.header range).socket }
+    {
+        let window = self.window();
+        let pair = EndpointPair::of_segment(&incoming.ip_repr, &incoming.header);
+        let segment = self.block.sack_segment(&pair, cx.now(), window, range);
+        let reply = reply_to(&incoming.ip_repr, self.block.hops(), segment);
+        self.block.record_ack(window);
+        reply
+    }
+
+    /// The window field, but on a SYN.
+    pub(crate) fn window(&self) -> u16
+        ensures { result ≡ window_of self.now }
+    {
+        self.block
+            .window_field(self.received.capacity(), self.received.window())
+    }
+}
+
+/// The text of a segment: how far RCV.NXT rose, and of text that is held early the place of its first
+/// byte.
+#[derive(Clone, Copy)]
+struct Text {
+    advance: usize,
+    early: Option<usize>,
+}
+
+impl Text {
+    const NONE: Text = Text {
+        advance: 0,
+        early: None,
+    };
+}
+
+/// A reply as it is handed out.
+fn replied(reply: &Reply) -> (IpRepr, TcpRepr<'static>)
+    ensures bare { result.1.payload.now ≡ [] }
+    ensures reply { replies_in (Some result) ≡ Some reply.now }
+{
+    (reply.header, TcpRepr::new(&reply.segment, &[]))
+}

@@ -1,0 +1,182 @@
+//! What a socket tells of itself.
+ghost use Rattle.std.specs.Prelude.{◌≡◌, ◌+◌, length, is_some};
+ghost use Rattle.tcp_model.specs.States.{takes_writes, is_listening};
+ghost use Rattle.tcp_model.specs.Settings.{is_open, is_active, can_send, can_recv, may_recv};
+ghost use Rattle.tcp_model.specs.Value.{room_of};
+ghost use Rattle.tcp_socket.specs.Socket.{local_in, remote_in};
+
+use crate::Socket;
+use ip_wire::{IpEndpoint, IpListenEndpoint};
+use net_base::Duration;
+use tcp_model::{CongestionControl, State};
+
+impl Socket {
+    /// The state of the connection.
+    pub fn state(&self) -> State
+        ensures { result ≡ self.now.block.state }
+    {
+        self.block.state
+    }
+
+    /// What the socket listens on, or listened on before a SYN came. Its port is 0 for nothing.
+    pub fn listen_endpoint(&self) -> IpListenEndpoint
+        ensures { result ≡ self.now.block.names.listen }
+    {
+        self.block.names.listen
+    }
+
+    /// The own endpoint of the connection.
+    pub fn local_endpoint(&self) -> Option<IpEndpoint>
+        ensures { result ≡ local_in self.now.block.names.pair }
+    {
+        match self.block.names.pair {
+            None => None,
+            Some(pair) => Some(IpEndpoint {
+                addr: pair.addresses.local(),
+                port: pair.local_port,
+            }),
+        }
+    }
+
+    /// The remote's endpoint of the connection.
+    pub fn remote_endpoint(&self) -> Option<IpEndpoint>
+        ensures { result ≡ remote_in self.now.block.names.pair }
+    {
+        match self.block.names.pair {
+            None => None,
+            Some(pair) => Some(IpEndpoint {
+                addr: pair.addresses.remote(),
+                port: pair.remote_port,
+            }),
+        }
+    }
+
+    /// Whether the socket listens.
+    pub fn is_listening(&self) -> bool
+        ensures { result ≡ is_listening self.now.block.state }
+    {
+        self.block.state.is_listening()
+    }
+
+    /// Whether the socket may take segments of a connection: in all states but CLOSED and TIME-WAIT.
+    pub fn is_open(&self) -> bool
+        ensures { result ≡ is_open self.now.block.state }
+    {
+        !matches!(self.block.state, State::Closed | State::TimeWait)
+    }
+
+    /// Whether a connection exists or is being opened.
+    pub fn is_active(&self) -> bool
+        ensures { result ≡ is_active self.now.block.state }
+    {
+        !matches!(
+            self.block.state,
+            State::Closed | State::TimeWait | State::Listen
+        )
+    }
+
+    /// Whether the user may send.
+    pub fn may_send(&self) -> bool
+        ensures { result ≡ takes_writes self.now.block.state }
+    {
+        self.block.state.takes_writes()
+    }
+
+    /// Whether bytes may still come, or wait to be read.
+    pub fn may_recv(&self) -> bool
+        ensures { result ≡ may_recv self.now }
+    {
+        self.block.state.takes_text() || self.can_recv()
+    }
+
+    /// Whether bytes can be queued.
+    pub fn can_send(&self) -> bool
+        ensures { result ≡ can_send self.now }
+    {
+        self.block.state.takes_writes() && self.queued.window() != 0
+    }
+
+    /// Whether bytes wait to be read.
+    pub fn can_recv(&self) -> bool
+        ensures { result ≡ can_recv self.now }
+    {
+        self.received.len() != 0
+    }
+
+    /// How many bytes are queued that aren't acknowledged.
+    pub fn send_queue(&self) -> usize
+        ensures { result ≡ length self.now.queued.queue }
+    {
+        self.queued.len()
+    }
+
+    /// How many bytes wait to be read.
+    pub fn recv_queue(&self) -> usize
+        ensures { result ≡ length self.now.received.waiting }
+    {
+        self.received.len()
+    }
+
+    /// How many bytes can be queued at most.
+    pub fn send_capacity(&self) -> usize
+        ensures { result ≡ length self.now.queued.queue + length self.now.queued.free }
+    {
+        self.queued.capacity()
+    }
+
+    /// How many bytes can wait to be read at most.
+    pub fn recv_capacity(&self) -> usize
+        ensures { result ≡ room_of self.now.received }
+    {
+        self.received.capacity()
+    }
+
+    /// The user timeout.
+    pub fn timeout(&self) -> Option<Duration>
+        ensures { result ≡ self.now.block.settings.timeout }
+    {
+        self.block.settings.timeout
+    }
+
+    /// The delay of an acknowledgement.
+    pub fn ack_delay(&self) -> Option<Duration>
+        ensures { result ≡ self.now.block.settings.ack_delay }
+    {
+        self.block.settings.ack_delay
+    }
+
+    /// Whether small segments wait while others are in flight.
+    pub fn nagle_enabled(&self) -> bool
+        ensures { result ≡ self.now.block.settings.nagle }
+    {
+        self.block.settings.nagle
+    }
+
+    /// The interval of keep-alives.
+    pub fn keep_alive(&self) -> Option<Duration>
+        ensures { result ≡ self.now.block.settings.keep_alive }
+    {
+        self.block.settings.keep_alive
+    }
+
+    /// The hop limit that was set. Without one it is 64.
+    pub fn hop_limit(&self) -> Option<u8>
+        ensures { result ≡ self.now.block.settings.hop_limit }
+    {
+        self.block.settings.hop_limit
+    }
+
+    /// How what is sent is held back where congestion may be.
+    pub fn congestion_control(&self) -> CongestionControl
+        ensures { result ≡ self.now.block.settings.congestion_control }
+    {
+        self.block.settings.congestion_control
+    }
+
+    /// Whether there is a generator of timestamps.
+    pub fn timestamp_enabled(&self) -> bool
+        ensures { result ≡ is_some self.now.block.settings.timestamps }
+    {
+        self.block.settings.timestamps.is_some()
+    }
+}

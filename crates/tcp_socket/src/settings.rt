@@ -1,0 +1,97 @@
+//! What a user may set. Each setting first settles an open offer as not sent.
+ghost use Rattle.std.specs.Prelude.{◌≡◌, ◌≢◌, Some};
+ghost use Rattle.tcp_model.specs.Settings.{with_timeout_kept, set_timeout, set_keep_alive, set_ack_delay, set_nagle_enabled, set_hop_limit, set_tsval_generator, pause_synack, set_congestion_control};
+ghost use Rattle.tcp_model.specs.Value.{unoffered};
+
+use crate::Socket;
+use ip_wire::TcpTimestampGenerator;
+use net_base::{Duration, Instant};
+use tcp_model::{CongestionControl, Reno};
+
+impl Socket {
+    /// Forgets the start of the user timeout where it doesn't run any more.
+    fn keep_timeout(&mut self)
+        ensures { self.new ≡ with_timeout_kept (unoffered self.old) }
+    {
+        self.offered = None;
+        self.block.keep_timeout(self.queued.len());
+    }
+
+    /// Sets the user timeout: how long the remote may be silent while something waits for it.
+    pub fn set_timeout(&mut self, duration: Option<Duration>)
+        ensures { self.new ≡ set_timeout self.old duration }
+    {
+        self.offered = None;
+        self.block.settings.timeout = duration;
+        self.keep_timeout();
+    }
+
+    /// Sets the delay of an acknowledgement.
+    pub fn set_ack_delay(&mut self, duration: Option<Duration>)
+        ensures { self.new ≡ set_ack_delay self.old duration }
+    {
+        self.offered = None;
+        self.block.settings.ack_delay = duration;
+    }
+
+    /// Sets whether small segments wait while others are in flight.
+    pub fn set_nagle_enabled(&mut self, enabled: bool)
+        ensures { self.new ≡ set_nagle_enabled self.old enabled }
+    {
+        self.offered = None;
+        self.block.settings.nagle = enabled;
+    }
+
+    /// Sets the interval of keep-alives. With one, a keep-alive is due at once.
+    pub fn set_keep_alive(&mut self, interval: Option<Duration>)
+        ensures { self.new ≡ set_keep_alive self.old interval }
+    {
+        self.offered = None;
+        let first = if interval.is_some() {
+            Some(Instant::ZERO)
+        } else {
+            None
+        };
+        self.block.settings.keep_alive = interval;
+        self.block.settings.keep_alive_at = first;
+        self.keep_timeout();
+    }
+
+    /// Sets the hop limit. A limit is not 0.
+    pub fn set_hop_limit(&mut self, hop_limit: Option<u8>)
+        requires { hop_limit ≢ Some 0 }
+        ensures { self.new ≡ set_hop_limit self.old hop_limit }
+    {
+        self.offered = None;
+        self.block.settings.hop_limit = hop_limit;
+    }
+
+    /// Sets where timestamps come from.
+    pub fn set_tsval_generator(&mut self, generator: Option<TcpTimestampGenerator>)
+        ensures { self.new ≡ set_tsval_generator self.old generator }
+    {
+        self.offered = None;
+        self.block.settings.timestamps = generator;
+    }
+
+    /// Sets whether the answer to a SYN waits.
+    pub fn pause_synack(&mut self, pause: bool)
+        ensures { self.new ≡ pause_synack self.old pause }
+    {
+        self.offered = None;
+        self.block.settings.synack_paused = pause;
+    }
+
+    /// Sets how what is sent is held back where congestion may be, and starts that anew.
+    pub fn set_congestion_control(&mut self, congestion_control: CongestionControl)
+        ensures { self.new ≡ set_congestion_control self.old congestion_control }
+    {
+        self.offered = None;
+        self.block.settings.congestion_control = congestion_control;
+        let mut reno = Reno::new();
+        if self.block.receiver.took_syn {
+            reno.set_mss(self.block.peer.mss);
+        }
+        self.block.reno = reno;
+    }
+}
