@@ -6,3 +6,4 @@ pub mod ReadBack
 pub mod LastThree
 pub mod EmitsAt
 pub mod PieceOut
+pub mod AtSome
