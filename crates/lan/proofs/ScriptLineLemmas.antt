@@ -10,7 +10,7 @@ use Rattle.ip_wire.specs.Text.{IsEndpointText}
 use Rattle.lan_machine.specs.declared.event.Side.{Side}
 use Rattle.lan_machine.specs.declared.event.Event.{Event}
 use Rattle.lan_machine.specs.declared.event.Event.TheVariants.{SendTo, Deliver}
-use Rattle.lan.specs.ScriptWords.{side_of, size_of, bytes_of, first_as, FirstIs, three, ◌>>=◌}
+use Rattle.lan.specs.ScriptWords.{side_of, size_of, hex_bytes_of, first_as, FirstIs, three, ◌>>=◌}
 use Rattle.lan.specs.ScriptLines.{SaysEvent, SaysWords, IsSendTo, has_bytes, line_of_words, socket_of, within, at_end}
 use Rattle.lan.specs.declared.script.line.Line.{Line}
 use Rattle.lan.specs.declared.script.line.Line.TheVariants.{Start}
@@ -48,7 +48,7 @@ within_some (Some y) x h = cc
 -- the words of `sendto`, read one after another
 pub send_to_read : (words : List (List ℕ)) (side : Side) (socket : ℕ) (remote : IpEndpoint) (bytes : List ℕ) (done : Unit {0})
     → first_as side_of words ≡ Some side → first_as size_of (drop 1 words) ≡ Some socket → FirstIs IsEndpointText (drop 1 (drop 1 words)) remote
-    → first_as bytes_of (drop 1 (drop 1 (drop 1 words))) ≡ Some bytes → at_end done (drop 1 (drop 1 (drop 1 (drop 1 words)))) ≡ Some done
+    → first_as hex_bytes_of (drop 1 (drop 1 (drop 1 words))) ≡ Some bytes → at_end done (drop 1 (drop 1 (drop 1 (drop 1 words)))) ≡ Some done
     → IsSendTo words (SendTo side socket remote bytes)
 send_to_read [] side socket remote bytes done h i e x end = cc
 send_to_read (a ∷ []) side socket remote bytes done h i e x end = cc
@@ -82,7 +82,7 @@ pub record SendToSteps (words : List (List ℕ)) : Type 0 where
   pub of_host : first_as side_of words ≡ Some side
   pub of_place : first_as size_of (drop 1 words) ≡ Some socket
   pub of_endpoint : FirstIs IsEndpointText (drop 1 (drop 1 words)) remote
-  pub of_hex : first_as bytes_of (drop 1 (drop 1 (drop 1 words))) ≡ Some bytes
+  pub of_hex : first_as hex_bytes_of (drop 1 (drop 1 (drop 1 words))) ≡ Some bytes
   pub at_last : (done : Unit {0}) → at_end done (drop 1 (drop 1 (drop 1 (drop 1 words)))) ≡ Some done
 
 pub send_to_steps : (words : List (List ℕ)) (event : Event) → IsSendTo words event → SendToSteps words
@@ -120,12 +120,12 @@ made_of_three (Some a) (Some b) None make x Holds all is = cc
 made_of_three (Some a) (Some b) (Some c) make x Holds all is = let same : make a b c ≡ x = cc in subst Holds same (all a b c)
 
 -- what the verb `deliver` says has bytes
-pub deliver_has_bytes : (words : List (List ℕ)) (event : Event) → three side_of size_of bytes_of Deliver words ≡ Some event → has_bytes event ≡ true
+pub deliver_has_bytes : (words : List (List ℕ)) (event : Event) → three side_of size_of hex_bytes_of Deliver words ≡ Some event → has_bytes event ≡ true
 deliver_has_bytes [] event is = cc
 deliver_has_bytes (a ∷ []) event is = cc
 deliver_has_bytes (a ∷ b ∷ []) event is = cc
 deliver_has_bytes (a ∷ b ∷ c ∷ []) event is =
-    made_of_three (side_of a) (size_of b) (bytes_of c) Deliver event (λ e. has_bytes e ≡ true) (λ from k padding. refl) is
+    made_of_three (side_of a) (size_of b) (hex_bytes_of c) Deliver event (λ e. has_bytes e ≡ true) (λ from k padding. refl) is
 deliver_has_bytes (a ∷ b ∷ c ∷ d ∷ rest) event is = cc
 
 -- what the verb `sendto` says

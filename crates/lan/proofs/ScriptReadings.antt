@@ -14,7 +14,7 @@ use Rattle.lan_machine.specs.declared.event.Event.{Event}
 use Rattle.lan_machine.specs.declared.event.Event.TheVariants.{SendTo}
 use Rattle.lan.specs.declared.script.line.Line.{Line}
 use Rattle.lan.specs.declared.script.line.Line.TheVariants.{Event as Happening}
-use Rattle.lan.specs.ScriptWords.{words_of, side_of, size_of, bytes_of}
+use Rattle.lan.specs.ScriptWords.{words_of, side_of, size_of, hex_bytes_of}
 use Rattle.lan.specs.ScriptLines.{IsSendTo, SaysWords, SaysLine, line_of_words}
 
 -- ENDPOINTS
@@ -83,7 +83,7 @@ send_to_once words one other h k =
     (some_once (side_of h.host) h.side k.side h.of_host (ap side_of host ∙ k.of_host))
     (some_once (size_of h.place) h.socket k.socket h.of_place (ap size_of place ∙ k.of_place))
     (endpoint_once h.endpoint h.remote k.remote h.of_endpoint (subst (λ (t : List ℕ). IsEndpointText t k.remote) (sym endpoint) k.of_endpoint))
-    (some_once (bytes_of h.hex) h.bytes k.bytes h.of_hex (ap bytes_of hex ∙ k.of_hex))
+    (some_once (hex_bytes_of h.hex) h.bytes k.bytes h.of_hex (ap hex_bytes_of hex ∙ k.of_hex))
     ∙ sym k.says
 
 -- `sendto` says nothing by its words alone

@@ -12,7 +12,7 @@ use Rattle.lan.specs.declared.script.line.Line.TheVariants.{World, Socket, Start
 use Rattle.lan.specs.declared.script.line.SocketSizes.{SocketSizes}
 use Rattle.lan.specs.declared.script.line.LineError.{LineError}
 use Rattle.lan.specs.declared.script.line.LineError.TheVariants.{Outside}
-use Rattle.lan.specs.ScriptWords.{words_of, size_of, short_of, micros_of, side_of, bytes_of, exactly, two, three, four, ◌>>=◌}
+use Rattle.lan.specs.ScriptWords.{words_of, size_of, short_of, micros_of, side_of, hex_bytes_of, exactly, two, three, four, ◌>>=◌}
 
 -- the lines of a script: a line ends at the byte 0a, and the last may end without it
 abbrev pub onto_line : ℕ → List (List ℕ) → List (List ℕ)
@@ -43,7 +43,7 @@ event_of verb words =
     if bytes_eq verb (codes "bind") then three side_of size_of short_of Bind words
     else if bytes_eq verb (codes "recvfrom") then three side_of size_of size_of RecvFrom words
     else if bytes_eq verb (codes "poll") then three side_of micros_of short_of Poll words
-    else if bytes_eq verb (codes "deliver") then three side_of size_of bytes_of Deliver words
+    else if bytes_eq verb (codes "deliver") then three side_of size_of hex_bytes_of Deliver words
     else None
 
 -- whether an event has bytes of its own, which take memory before the world is asked
@@ -68,7 +68,7 @@ pub record IsSendTo (words : List (List ℕ)) (event : Event) : Type 0 where
   pub of_host : side_of host ≡ Some side
   pub of_place : size_of place ≡ Some socket
   pub of_endpoint : IsEndpointText endpoint remote
-  pub of_hex : bytes_of hex ≡ Some bytes
+  pub of_hex : hex_bytes_of hex ≡ Some bytes
   pub says : event ≡ SendTo side socket remote bytes
 
 -- what the words of an event say

@@ -50,8 +50,8 @@ abbrev pub side_of : List ℕ → Option Side
 side_of word = if bytes_eq word (codes "A") then Some A else if bytes_eq word (codes "B") then Some B else None
 
 -- bytes in hex, in either case; no bytes are written `-`
-abbrev pub bytes_of : List ℕ → Option (List ℕ)
-bytes_of word =
+abbrev pub hex_bytes_of : List ℕ → Option (List ℕ)
+hex_bytes_of word =
     if bytes_eq word (codes "-") then Some []
     else if length word == 0 then None
     else result_ok (decode_of word)

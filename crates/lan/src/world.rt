@@ -1,6 +1,6 @@
 ghost use Rattle.std.specs.Prelude.{◌≡◌, ◌⊎◌, ◌++◌, [], take, length, ◌<◌, IfOk, IfErr, OnOk, OnErr, IfSome, IfNone, None, Some, Err, slice_index_or, slice_get};
 ghost use Rattle.lan.specs.Link.{station, with_waiting};
-ghost use Rattle.net_base.specs.Device.{frames_of as bytes_of};
+ghost use Rattle.net_base.specs.Device.{frames_of};
 ghost use Rattle.lan.specs.Steps.{refusal, MayRefuse, Happens};
 ghost use Rattle.lan.specs.Runs.{Step, Steps, answers_of};
 ghost use Rattle.lan.specs.Safe.{IsSafe};
@@ -140,7 +140,7 @@ impl World {
 
     /// The frames that a host has sent, the oldest first.
     pub fn sent(&self, side: Side) -> &[Vec<u8>]
-        ensures { bytes_of result.now ≡ (station self.now.hosts side).sent }
+        ensures { frames_of result.now ≡ (station self.now.hosts side).sent }
     {
         station_at(&self.a, &self.b, side).sent()
     }

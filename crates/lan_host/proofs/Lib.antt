@@ -3,5 +3,4 @@ pub mod Found
 pub mod Passes
 pub mod Prepared
 pub mod Queues
-pub mod Unspecified
 pub mod Leave

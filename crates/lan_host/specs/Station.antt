@@ -7,7 +7,7 @@ use Rattle.lan_machine.specs.declared.event.Event.TheVariants.{Bind, SendTo, Rec
 use Rattle.lan_machine.specs.declared.event.Answer.{Answer}
 use Rattle.lan_machine.specs.Packet.{Packet, AreContents}
 use Rattle.lan_machine.specs.Values.{SocketValue, StationValue}
-use Rattle.lan_machine.specs.Machine.{taken_by, answer_of, host_after, frames_of}
+use Rattle.lan_machine.specs.Machine.{taken_by, answer_of, host_after, frames_sent}
 
 -- a host without sockets that nothing has happened to, over a device that takes IP packets of this length and leaves
 -- these checksums to it
@@ -54,4 +54,4 @@ pub record Acted (old : StationValue) (event : Event) (new : StationValue) : Typ
   pub reads : AreContents (taken_by event old.waiting) contents
   pub host : new.host ≡ host_after old.host event contents
   pub waiting : old.waiting ≡ taken_by event old.waiting ++ new.waiting
-  pub sent : new.sent ≡ old.sent ++ frames_of old.host event contents
+  pub sent : new.sent ≡ old.sent ++ frames_sent old.host event contents

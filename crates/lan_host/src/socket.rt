@@ -1,12 +1,12 @@
 ghost use Rattle.std.specs.Prelude.{◌≡◌, ◌==◌, ℕ, List, ◌∷◌, length, IfOk, IfSome, IfNone, [], if◌then◌else◌};
 ghost use Rattle.lan_machine.specs.declared.event.Answer.TheVariants.{Done};
-ghost use Rattle.lan_machine.specs.Machine.{bind_answer, bind_after, send_answer, send_after, is_unspecified, without_first, recv_after, take_in, offer_after, has_queued};
+ghost use Rattle.lan_machine.specs.Machine.{bind_answer, bind_after, send_answer, send_after, without_first, recv_after, take_in, offer_after, has_queued};
 ghost use Rattle.lan_host.specs.Queue.{longest_frame};
 ghost use Rattle.lan_host.specs.Socket.{answered};
 ghost use Rattle.lan_host.specs.Station.{fresh_socket};
 
 use crate::queue::{Datagram, Queue};
-use ip_wire::{IpAddress, IpEndpoint};
+use ip_wire::IpEndpoint;
 use lan_machine::{Bytes, Fault};
 use std::alloc::{AllocError, Global};
 use std::marker::Model;
@@ -71,7 +71,7 @@ impl Socket {
     pub fn check_send(&self, remote: &IpEndpoint, size: usize) -> Result<(), Fault>
         ensures { (bytes : List ℕ) → length bytes ≡ size → answered result ≡ send_answer self.now remote.now bytes }
     {
-        if self.port == 0 || remote.port == 0 || is_unspecified(&remote.addr) {
+        if self.port == 0 || remote.port == 0 || remote.addr.is_unspecified() {
             return Err(Fault::Unaddressable);
         }
         if self.queued.is_full(size) {
@@ -136,12 +136,4 @@ impl Socket {
     {
         self.queued.pop()
     }
-}
-
-/// Whether this is the unspecified address of its family.
-#[tactic(auto, using(crate::proofs::Unspecified::unspecified))]
-fn is_unspecified(address: &IpAddress) -> bool
-    ensures { result ≡ is_unspecified address.now }
-{
-    address.is_unspecified()
 }

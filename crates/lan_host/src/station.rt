@@ -1,6 +1,6 @@
 ghost use Rattle.std.specs.Prelude.{◌≡◌, ◌<◌, List, [], ◌∷◌, ◌++◌, length, IfOk, OnOk, OnErr};
 ghost use Rattle.net_base.specs.Capabilities.{ip_mtu};
-ghost use Rattle.net_base.specs.Device.{frames_of as bytes_of};
+ghost use Rattle.net_base.specs.Device.{frames_of};
 ghost use Rattle.lan_host.specs.Station.{fresh_station, fresh_socket, with_new_socket, CanAct, Acted, answer_at};
 
 use crate::socket::Socket;
@@ -143,7 +143,7 @@ impl Station {
 
     /// The frames that the host sent, the oldest first.
     pub fn sent(&self) -> &[Vec<u8>]
-        ensures { bytes_of result.now ≡ self.now.sent }
+        ensures { frames_of result.now ≡ self.now.sent }
     {
         self.port.sent()
     }

@@ -17,7 +17,7 @@ use Rattle.lan_machine.specs.declared.event.Fault.TheVariants.{Truncated}
 use Rattle.lan_machine.specs.Members.{◌∈◌}
 use Rattle.lan_machine.specs.Values.{DatagramValue, SocketValue, HostValue, no_socket, socket_at}
 use Rattle.lan_machine.specs.Packet.{Packet, AreContents, Carries, spelling}
-use Rattle.lan_machine.specs.Machine.{fits, ipv4_address, goes_to, packet_from, read_answer, bind_after, bind_answer, send_after, recv_after, arrivals, passes_after, with_socket, answer_of, host_after, frames_of}
+use Rattle.lan_machine.specs.Machine.{fits, ipv4_address, goes_to, packet_from, read_answer, bind_after, bind_answer, send_after, recv_after, arrivals, passes_after, with_socket, answer_of, host_after, frames_sent}
 use Rattle.lan_machine.proofs.Frames.{one_content, one_list, padded}
 use Rattle.lan_machine.proofs.Example.{example}
 use Rattle.lan_machine.specs.Laws.{ArrivalsLaw, ContentLaw, StepLaw, UnusedLaw, IsSocketInRange, PaddedLaw, SentLaw, ExampleLaw, IsSpellable, ReadLaw, QueuedLaw, IsAccepted, ReceivedLaw, FramesLaw, IsQueuedFrame, port_after, PortLaw, IsSameHost, SameLaw, IsRemote, IsInRange, IsEventInRange, RangeLaw, IdleLaw}
@@ -280,7 +280,7 @@ pub step_law : StepLaw
 step_law h turn other next after event taken one also =
     let contents : one.contents ≡ also.contents = one_list turn.taken one.contents also.contents one.reads (subst (λ (frames : List (List ℕ)). AreContents frames also.contents) (sym taken) also.reads) in (
       one.answers ∙ ap (λ (e : Event). answer_of h e turn.taken) event ∙ ap (answer_of h other.event) taken ∙ sym also.answers,
-      one.sends ∙ ap (λ (e : Event). frames_of h e one.contents) event ∙ ap (frames_of h other.event) contents ∙ sym also.sends,
+      one.sends ∙ ap (λ (e : Event). frames_sent h e one.contents) event ∙ ap (frames_sent h other.event) contents ∙ sym also.sends,
       one.becomes ∙ ap (λ (e : Event). host_after h e one.contents) event ∙ ap (host_after h other.event) contents ∙ sym also.becomes,
     )
 

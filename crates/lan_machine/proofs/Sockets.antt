@@ -5,6 +5,7 @@ use Rattle.std.specs.Str.{bytes_eq}
 use Rattle.std.proofs.lemmas.Bool.{true≢false, eqb-true, eqb-false, eq-eqb, cases_Bool}
 use Rattle.std.proofs.lemmas.Slice.Eq.{bytes_eq-Decides}
 use Rattle.lan_machine.specs.declared.event.Side.{Side}
+use Rattle.ip_wire.specs.AddressTests.{is_unspecified}
 use Rattle.ip_wire.specs.IpEndpoint.{IpEndpoint}
 use Rattle.ip_wire.specs.Ipv4Address.{Ipv4Address}
 use Rattle.lan_machine.specs.declared.event.Event.TheVariants.{Bind}
@@ -14,7 +15,7 @@ use Rattle.lan_machine.specs.declared.event.Fault.TheVariants.{Unaddressable, Bu
 use Rattle.lan_machine.specs.Members.{◌∈◌}
 use Rattle.lan_machine.specs.Values.{DatagramValue, SocketValue, is_full, no_socket}
 use Rattle.lan_machine.specs.Packet.{Packet, Carries, IsContent, AreContents}
-use Rattle.lan_machine.specs.Machine.{bind_answer, bind_after, is_unspecified, is_unaddressable, send_answer, send_after, take_in, datagram_of, deliver, deliver_if, arrivals, has_queued}
+use Rattle.lan_machine.specs.Machine.{bind_answer, bind_after, is_unaddressable, send_answer, send_after, take_in, datagram_of, deliver, deliver_if, arrivals, has_queued}
 use Rattle.lan_machine.specs.Laws.{HasArrived, port_after}
 use Rattle.lan_machine.proofs.Members.{member_of_push}
 

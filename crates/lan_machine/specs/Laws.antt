@@ -20,7 +20,7 @@ use Rattle.lan_machine.specs.Members.{◌∈◌}
 use Rattle.lan_machine.specs.Values.{DatagramValue, SocketValue, HostValue, no_socket, socket_at}
 use Rattle.lan_machine.specs.Packet.{Packet, Carries, IsContent, AreContents, spelling}
 use Rattle.lan_machine.specs.Steps.{Turn, HostStep}
-use Rattle.lan_machine.specs.Machine.{goes_to, packet_from, datagram_of, has_queued, offered, arrivals, passes_frames, passes_after, answer_of, host_after, frames_of}
+use Rattle.lan_machine.specs.Machine.{goes_to, packet_from, datagram_of, has_queued, offered, arrivals, passes_frames, passes_after, answer_of, host_after, frames_sent}
 
 -- READ
 
@@ -80,7 +80,7 @@ pub record IsQueuedFrame (address : Ipv4Address) (mtu : ℕ) (ss : List SocketVa
 abbrev pub FramesLaw : Type 0
 FramesLaw =
     (h : HostValue) (event : Event) (contents : List (Option Packet)) (frame : List ℕ) →
-    frame ∈ frames_of h event contents → IsQueuedFrame h.address h.mtu h.sockets frame
+    frame ∈ frames_sent h event contents → IsQueuedFrame h.address h.mtu h.sockets frame
 
 -- PORTS
 
@@ -192,7 +192,7 @@ pub record CarriesQueued (h : HostValue) (frame : List ℕ) : Type 0 where
 abbrev pub SentLaw : Type 0
 SentLaw =
     (h : HostValue) (event : Event) (contents : List (Option Packet)) (frame : List ℕ) →
-    IsInRange h → frame ∈ frames_of h event contents → CarriesQueued h frame
+    IsInRange h → frame ∈ frames_sent h event contents → CarriesQueued h frame
 
 -- IDLE PASSES
 

@@ -1,7 +1,8 @@
 -- The host machine: what a host answers, sends and becomes at each event.
-use Rattle.std.specs.Prelude.{ℕ, zero, suc, ◌+◌, ◌^◌, Bool, ◌&&◌, ◌||◌, nat_le, nat_lt, ◌==◌, true, if◌then◌else◌, List, [], ◌∷◌, ◌++◌, length, take, replicate, slice_set, Option, Some, None}
+use Rattle.std.specs.Prelude.{ℕ, zero, suc, ◌+◌, ◌^◌, Bool, ◌&&◌, ◌||◌, nat_le, nat_lt, ◌==◌, true, if◌then◌else◌, List, [], ◌∷◌, ◌++◌, length, take, slice_set, Option, Some, None}
 use Rattle.std.specs.List.{list_any}
 use Rattle.std.specs.Str.{bytes_eq}
+use Rattle.ip_wire.specs.AddressTests.{is_unspecified}
 use Rattle.ip_wire.specs.IpAddress.{IpAddress}
 use Rattle.ip_wire.specs.IpAddress.TheVariants as Address
 use Rattle.ip_wire.specs.IpProtocol.TheVariants as Protocol
@@ -24,11 +25,6 @@ abbrev pub bind_after : SocketValue → ℕ → SocketValue
 bind_after s port = if s.port == 0 then record s { port = port } else s
 
 -- SEND
-
--- 0.0.0.0 and ::
-abbrev pub is_unspecified : IpAddress → Bool
-is_unspecified (Address.Ipv4 a) = bytes_eq a.0 (replicate 4 0)
-is_unspecified (Address.Ipv6 a) = bytes_eq a.0 (replicate 16 0)
 
 -- a datagram cannot be addressed from an unbound socket, nor to port 0 or to the unspecified address
 abbrev pub is_unaddressable : SocketValue → IpEndpoint → Bool
@@ -185,9 +181,9 @@ host_after h (Poll side moment budget) contents =
 host_after h (Deliver side k padding) contents = h
 
 -- the frames that it sends
-abbrev pub frames_of : HostValue → Event → List (Option Packet) → List (List ℕ)
-frames_of h (Bind side i port) contents = []
-frames_of h (SendTo side i remote bytes) contents = []
-frames_of h (RecvFrom side i limit) contents = []
-frames_of h (Poll side moment budget) contents = passes_frames h.address h.mtu budget (arrivals h.address contents h.sockets)
-frames_of h (Deliver side k padding) contents = []
+abbrev pub frames_sent : HostValue → Event → List (Option Packet) → List (List ℕ)
+frames_sent h (Bind side i port) contents = []
+frames_sent h (SendTo side i remote bytes) contents = []
+frames_sent h (RecvFrom side i limit) contents = []
+frames_sent h (Poll side moment budget) contents = passes_frames h.address h.mtu budget (arrivals h.address contents h.sockets)
+frames_sent h (Deliver side k padding) contents = []

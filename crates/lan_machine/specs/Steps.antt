@@ -4,7 +4,7 @@ use Rattle.lan_machine.specs.declared.event.Event.{Event}
 use Rattle.lan_machine.specs.declared.event.Answer.{Answer}
 use Rattle.lan_machine.specs.Values.{HostValue}
 use Rattle.lan_machine.specs.Packet.{Packet, AreContents}
-use Rattle.lan_machine.specs.Machine.{taken_by, answer_of, host_after, frames_of}
+use Rattle.lan_machine.specs.Machine.{taken_by, answer_of, host_after, frames_sent}
 
 -- one turn of a host: the event, the frames that it took, its answer, and the frames that it sent
 pub record Turn : Type 0 where
@@ -20,7 +20,7 @@ pub record HostStep (h : HostValue) (turn : Turn) (next : HostValue) : Type 0 wh
   pub contents : List (Option Packet)
   pub reads : AreContents turn.taken contents
   pub answers : turn.answer ≡ answer_of h turn.event turn.taken
-  pub sends : turn.sent ≡ frames_of h turn.event contents
+  pub sends : turn.sent ≡ frames_sent h turn.event contents
   pub becomes : next ≡ host_after h turn.event contents
 
 -- these turns, the newest first, lead from one value of the host to the other

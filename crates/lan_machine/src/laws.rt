@@ -1,11 +1,14 @@
 //! The laws of the host machine. Each is a function that does nothing, whose clause is the law: its
 //! statement stands in `specs/Laws.antt`, and the lemma that a proof of a crate above applies in
 //! `proofs/MachineLaws.antt`. The first four are laws of types, for a caller to call.
-ghost use Rattle.std.specs.Prelude.{◌<◌, ◌^◌};
+ghost use Rattle.std.specs.Prelude.{◌≡◌, ◌↔◌, ◌<◌, ◌^◌, IsTrue};
 ghost use Rattle.ip_wire.specs.Address.{IsIpv4Address, IsIpv6Address, IsIpAddress};
 ghost use Rattle.lan_machine.specs.Laws.{IsEventInRange, ReadLaw, QueuedLaw, ReceivedLaw, FramesLaw, PortLaw, SameLaw, RangeLaw, UnusedLaw, IdleLaw, ArrivalsLaw, ContentLaw, StepLaw, PaddedLaw, SentLaw, ExampleLaw};
+ghost use Rattle.lan_machine.specs.declared.event.Fault.{Fault};
+ghost use Rattle.lan_machine.specs.declared.event.Refused.{Refused};
+ghost use Rattle.lan_machine.specs.declared.event.Side.{Side};
 
-use crate::event::Event;
+use crate::event::{Event, Fault, Refused, Side};
 use ip_wire::{IpAddress, IpEndpoint, Ipv4Address, Ipv6Address};
 
 /// The numbers of an event are those of its types: where a host takes an event, a call of this
@@ -112,4 +115,11 @@ pub fn delivers()
 /// The worked example: a packet and its frame, and frames that carry nothing.
 pub fn example()
     ensures { ExampleLaw }
+{}
+
+/// `==` says of two names of hosts, of two faults and of two refusals whether they are the same.
+pub fn equal()
+    ensures sides { (a b : Side) → IsTrue (⟦<Side as PartialEq>⟧.eq a b) ↔ (a ≡ b) }
+    ensures faults { (a b : Fault) → IsTrue (⟦<Fault as PartialEq>⟧.eq a b) ↔ (a ≡ b) }
+    ensures refusals { (a b : Refused) → IsTrue (⟦<Refused as PartialEq>⟧.eq a b) ↔ (a ≡ b) }
 {}

@@ -1,7 +1,7 @@
 //! The lines of a script.
 ghost use Rattle.std.specs.Prelude.{◌≡◌, true, None, Some, Err, IfOk, IsSome};
 ghost use Rattle.lan.specs.ScriptLines.{Said, SaysLine, SaysWords, SaysEvent, IsSendTo, has_bytes, world_of, socket_of, sizes_of, within};
-ghost use Rattle.lan.specs.ScriptWords.{two, three, four, side_of, size_of, short_of, micros_of, bytes_of};
+ghost use Rattle.lan.specs.ScriptWords.{two, three, four, side_of, size_of, short_of, micros_of, hex_bytes_of};
 ghost use Rattle.lan_machine.specs.declared.event.Event.{Event};
 ghost use Rattle.lan_machine.specs.declared.event.Event.TheVariants.{Bind, RecvFrom, Poll, Deliver};
 ghost use Rattle.lan.specs.declared.script.line.Line.{Line};
@@ -173,9 +173,9 @@ fn poll(words: &mut Words<'_>) -> Result<Event, LineError>
 }
 
 fn deliver(alloc: Global, words: &mut Words<'_>) -> Result<Event, LineError>
-    ensures found { IfOk result (λ event. three side_of size_of bytes_of Deliver words.old ≡ Some event) }
-    ensures only { result ≡ Err Outside → three side_of size_of bytes_of Deliver words.old ≡ None }
-    ensures memory { result ≡ Err Memory → IsSome (three side_of size_of bytes_of Deliver words.old) }
+    ensures found { IfOk result (λ event. three side_of size_of hex_bytes_of Deliver words.old ≡ Some event) }
+    ensures only { result ≡ Err Outside → three side_of size_of hex_bytes_of Deliver words.old ≡ None }
+    ensures memory { result ≡ Err Memory → IsSome (three side_of size_of hex_bytes_of Deliver words.old) }
 {
     let from = words.side()?;
     let frame = words.size()?;

@@ -2,7 +2,7 @@
 ghost use Rattle.std.specs.Prelude.{◌≡◌, ℕ, ◌^◌, ◌<◌, List, drop, slice_get, option_copied, Ok, IfOk, IfErr, length, ◌==◌};
 ghost use Rattle.std.specs.List.{list_all};
 ghost use Rattle.std.specs.Char.{is_ascii_digit, is_ascii_hexdigit};
-ghost use Rattle.lan.specs.ScriptWords.{words_of, size_of, short_of, micros_of, side_of, bytes_of, exactly, first_as, FirstIs};
+ghost use Rattle.lan.specs.ScriptWords.{words_of, size_of, short_of, micros_of, side_of, hex_bytes_of, exactly, first_as, FirstIs};
 ghost use Rattle.std.specs.Result.{is_ok};
 ghost use Rattle.hex.specs.Hex.{decode_of};
 ghost use Rattle.ip_wire.specs.IpEndpoint.{IpEndpoint};
@@ -140,7 +140,7 @@ impl<'a> Words<'a> {
 
     /// Bytes in hex.
     pub fn bytes(&mut self) -> Result<Hex<'a>, LineError>
-        ensures value { result ≡ within (first_as bytes_of self.old) }
+        ensures value { result ≡ within (first_as hex_bytes_of self.old) }
         ensures rest { self.new ≡ drop 1 self.old }
     {
         self.word().and_then(bytes).ok_or(LineError::Outside)
@@ -227,7 +227,7 @@ fn moment(word: &str) -> Option<Instant>
 }
 
 fn bytes(word: &str) -> Option<Hex<'_>>
-    ensures { result ≡ bytes_of word.now }
+    ensures { result ≡ hex_bytes_of word.now }
 {
     if word == "-" {
         return Some(Hex { digits: None });
