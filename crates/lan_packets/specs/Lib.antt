@@ -3,3 +3,4 @@ pub mod Parties
 pub mod Moves
 pub mod Safe
 pub mod Histories
+pub mod Examples
