@@ -7,6 +7,8 @@
 //! as `Rattle.control_wire.specs.Icmpv4Header.{Icmpv4Header}`.
 #![tactic(auto)]
 
+pub mod laws;
+
 pub use icmpv4::{
     Icmpv4DstUnreachable, Icmpv4Header, Icmpv4Message, Icmpv4Packet, Icmpv4PacketMut, Icmpv4Repr,
     Icmpv4TimeExceeded, field as icmpv4_field, laws as icmpv4_laws,

@@ -1,14 +1,17 @@
 //! Laws of the format: where its fields stand, what equality means, and what is read back.
 ghost use Rattle.std.specs.Prelude.{◌≡◌, ◌↔◌, ◌+◌, ◌≤◌, ℕ, Bool, IsTrue, List, length};
 ghost use Rattle.ip_address.specs.Fields.{IsBytes};
-ghost use Rattle.icmpv4.specs.Icmpv4.{IsIcmpv4, IsValue, Fits, free_fields, spelling, written, header_len, normal};
+ghost use Rattle.icmpv4.specs.Icmpv4.{IsIcmpv4, IsValue, Fits, free_fields, spelling, written, header_len, header_of, payload_of, normal};
 ghost use Rattle.icmpv4.specs.declared.header.Icmpv4Header.{Icmpv4Header};
 ghost use Rattle.icmpv4.specs.declared.message.Icmpv4DstUnreachable.{Icmpv4DstUnreachable};
 ghost use Rattle.icmpv4.specs.declared.message.Icmpv4Message.{Icmpv4Message};
 ghost use Rattle.icmpv4.specs.declared.message.Icmpv4TimeExceeded.{Icmpv4TimeExceeded};
+ghost use Rattle.icmpv4.specs.declared.repr.Icmpv4Repr.{Icmpv4Repr};
 
 use crate::field::{CHECKSUM, CODE, DATA, ECHO_IDENT, ECHO_SEQNO, HEADER_END, TYPE};
+use crate::header::Icmpv4Header;
 use crate::message::{Icmpv4DstUnreachable, Icmpv4Message, Icmpv4TimeExceeded};
+use crate::repr::Icmpv4Repr;
 
 /// Law: where the fields of a message stand (RFC 792).
 pub fn icmpv4_fields()
@@ -24,6 +27,14 @@ pub fn icmpv4_equated()
     ensures messages { (a b : Icmpv4Message) → IsTrue (⟦<Icmpv4Message as PartialEq>⟧.eq a b) ↔ (a ≡ b) }
     ensures unreachable { (a b : Icmpv4DstUnreachable) → IsTrue (⟦<Icmpv4DstUnreachable as PartialEq>⟧.eq a b) ↔ (a ≡ b) }
     ensures exceeded { (a b : Icmpv4TimeExceeded) → IsTrue (⟦<Icmpv4TimeExceeded as PartialEq>⟧.eq a b) ↔ (a ≡ b) }
+{}
+
+/// Law: `==` says of two headers whether they are the same, and of two messages whether they have the
+/// same header and carry the same bytes.
+pub fn icmpv4_messages_equated<'a>()
+    ensures headers { (a b : Icmpv4Header) → IsTrue (⟦<Icmpv4Header as PartialEq>⟧.eq a b) ↔ (a ≡ b) }
+    ensures messages { (a b : Icmpv4Repr) → IsTrue (⟦<Icmpv4Repr<'a> as PartialEq>⟧.eq a b)
+        ↔ ((header_of a ≡ header_of b) × (payload_of a ≡ payload_of b)) }
 {}
 
 /// Law: a message is spelled by its value, with what a value doesn't keep, and its data.
@@ -49,6 +60,13 @@ pub fn icmpv4_no_longer()
     ensures { (tested : Bool) (bytes : List ℕ) (v : Icmpv4Header) (payload : List ℕ)
         → IsIcmpv4 tested bytes v payload
         → header_len v + length payload ≤ length bytes }
+{}
+
+/// Law: how many bytes a message has that is sent.
+pub fn icmpv4_written_len()
+    ensures { (quote_sealed sealed : Bool) (v : Icmpv4Header) (payload : List ℕ)
+        → IsValue v
+        → length (written quote_sealed sealed v payload) ≡ header_len v + length payload }
 {}
 
 /// Law: a message that was emitted is read back in its normal form, with its data, where a checksum

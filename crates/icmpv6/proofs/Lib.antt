@@ -9,3 +9,5 @@ pub mod NdiscSteps
 pub mod Spelled
 pub mod Types
 pub mod Written
+pub mod Equal
+pub mod Lengths

@@ -2,7 +2,7 @@
 ghost use Rattle.std.specs.Prelude.{◌≡◌, ◌↔◌, true, false, ℕ, ◌+◌, ◌≤◌, Bool, IsTrue, List, length, slice_range};
 ghost use Rattle.ip_address.specs.Fields.{be16, IsBytes};
 ghost use Rattle.ip_address.specs.declared.ipv6.Ipv6Address.{Ipv6Address};
-ghost use Rattle.icmpv6.specs.Icmpv6.{MessageValue, IsIcmpv6, IsValue, Fits, CanCarry, KeepsAll, carried_in, free_in, header_len, normal, spelling, written};
+ghost use Rattle.icmpv6.specs.Icmpv6.{MessageValue, IsIcmpv6, IsValue, Fits, CanCarry, KeepsAll, carried_by, carried_in, free_in, header_len, header_of, value_of, normal, spelling, written};
 ghost use Rattle.icmpv6.specs.Ndisc as Neighbor;
 ghost use Rattle.icmpv6.specs.Ndisc.{NeighborMessage, IsNdisc};
 ghost use Rattle.icmpv6.specs.declared.message.Icmpv6Message.{Icmpv6Message};
@@ -10,14 +10,20 @@ ghost use Rattle.icmpv6.specs.declared.ndisc_flags.NdiscNeighborFlags.{NdiscNeig
 ghost use Rattle.icmpv6.specs.declared.reason.Icmpv6DstUnreachable.{Icmpv6DstUnreachable};
 ghost use Rattle.icmpv6.specs.declared.reason.Icmpv6ParamProblem.{Icmpv6ParamProblem};
 ghost use Rattle.icmpv6.specs.declared.reason.Icmpv6TimeExceeded.{Icmpv6TimeExceeded};
+ghost use Rattle.icmpv6.specs.declared.header.Icmpv6Header.{Icmpv6Header};
+ghost use Rattle.icmpv6.specs.declared.ndisc.NdiscRepr.{NdiscRepr};
+ghost use Rattle.icmpv6.specs.declared.repr.Icmpv6Repr.{Icmpv6Repr};
 
 use crate::field::{
     CHECKSUM, CODE, ECHO_IDENT, ECHO_SEQNO, HEADER_END, MTU, ND_FLAGS, POINTER, TARGET_ADDR, TYPE,
     UNUSED,
 };
+use crate::header::Icmpv6Header;
 use crate::message::Icmpv6Message;
+use crate::ndisc::NdiscRepr;
 use crate::ndisc_flags::NdiscNeighborFlags;
 use crate::reason::{Icmpv6DstUnreachable, Icmpv6ParamProblem, Icmpv6TimeExceeded};
+use crate::repr::Icmpv6Repr;
 
 /// Law: where the fields of a message stand (RFC 4443, sections 2.1, 3 and 4; RFC 4861, sections 4.3
 /// and 4.4).
@@ -50,6 +56,16 @@ pub fn icmpv6_equated()
     ensures exceeded { (a b : Icmpv6TimeExceeded) → IsTrue (⟦<Icmpv6TimeExceeded as PartialEq>⟧.eq a b) ↔ (a ≡ b) }
 {}
 
+/// Law: `==` says of two neighbour messages, and of two headers, whether they have the same value, and
+/// of two messages whether they carry the same bytes too.
+pub fn icmpv6_messages_equated<'a>()
+    ensures neighbor { (a b : NdiscRepr) → IsTrue (⟦<NdiscRepr as PartialEq>⟧.eq a b)
+        ↔ (Neighbor.neighbor_message a ≡ Neighbor.neighbor_message b) }
+    ensures headers { (a b : Icmpv6Header) → IsTrue (⟦<Icmpv6Header as PartialEq>⟧.eq a b) ↔ (value_of a ≡ value_of b) }
+    ensures messages { (a b : Icmpv6Repr) → IsTrue (⟦<Icmpv6Repr<'a> as PartialEq>⟧.eq a b)
+        ↔ ((value_of (header_of a) ≡ value_of (header_of b)) × (carried_by a ≡ carried_by b)) }
+{}
+
 /// Law: an error or echo message is spelled by what it says and carries, with the fields that a value
 /// doesn't keep.
 pub fn icmpv6_spelled()
@@ -75,6 +91,14 @@ pub fn icmpv6_fits()
         → IsIcmpv6 source destination tested message v
         → Fits v × IsValue v }
     ensures bytes { (message : List ℕ) (v : MessageValue) → CanCarry v (carried_in message v) }
+{}
+
+/// Law: how many bytes a message has that is sent.
+pub fn icmpv6_written_len()
+    ensures { (source destination : Ipv6Address) (sealed : Bool) (v : MessageValue) (carried : List ℕ)
+        → IsValue v
+        → CanCarry v carried
+        → length (written source destination sealed v carried) ≡ header_len v + length carried }
 {}
 
 /// Law: a message that was emitted is read back in its normal form, with the bytes that it carries,

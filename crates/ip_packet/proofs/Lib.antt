@@ -9,3 +9,4 @@ pub mod Fronts
 pub mod Runs
 pub mod QuotedLaws
 pub mod IpLaws
+pub mod Lengths

@@ -11,3 +11,4 @@ pub mod Steps
 pub mod Told
 pub mod Widths
 pub mod Written
+pub mod Lengths

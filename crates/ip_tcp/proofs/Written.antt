@@ -73,7 +73,7 @@ sack-room false false ranges = omega arith
 room-padded : (n : ℕ) → n ≤ padded n
 room-padded n = omega arith
 
-length-options_area : (acks : Bool) (v : TcpOptions) → length (options_area acks v) ≡ padded (options_room v)
+pub length-options_area : (acks : Bool) (v : TcpOptions) → length (options_area acks v) ≡ padded (options_room v)
 length-options_area acks v =
     let a : List ℕ = options_bytes (size_options v.max_seg_size) in
     let b : List ℕ = options_bytes (scale_options v.window_scale) in

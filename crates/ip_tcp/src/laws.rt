@@ -15,7 +15,7 @@ use crate::field::{
 use crate::header::TcpHeader;
 use crate::option::{MAX_WINDOW_SCALE, TcpOption, TcpOptions};
 use crate::repr::TcpRepr;
-use crate::timestamp::TcpTimestampRepr;
+use crate::timestamp::{TcpTimestampGenerator, TcpTimestampRepr};
 
 /// Law: a segment that was emitted is read back in its normal form, where a checksum that is tested
 /// was also written.
@@ -31,6 +31,12 @@ pub fn tcp_reads_back()
         → IsValue v
         → Fits source destination v payload
         → payload_of (written source destination sealed v payload) ≡ payload }
+{}
+
+/// Law: how many bytes a segment has that is sent.
+pub fn tcp_written_len()
+    ensures { (source destination : IpAddress) (sealed : Bool) (v : TcpHeader) (payload : List ℕ)
+        → length (written source destination sealed v payload) ≡ header_len v + length payload }
 {}
 
 /// Law: one option at most is spelled at the front of bytes, and what follows it is told by it.
@@ -156,12 +162,14 @@ pub fn tcp_normal_keeps()
         → (normal v).options.window_scale ≡ Some (min shift 14) }
 {}
 
-/// Law: `==` says of flags, timestamps, options, headers and segments whether they are the same.
+/// Law: `==` says of flags, timestamps, what makes them, options and headers whether they are the same.
 pub fn tcp_equal()
     ensures control { (a b : TcpControl)
         → IsTrue (⟦<TcpControl as PartialEq>⟧.eq a b) ↔ (a ≡ b) }
     ensures timestamps { (a b : TcpTimestampRepr)
         → IsTrue (⟦<TcpTimestampRepr as PartialEq>⟧.eq a b) ↔ (a ≡ b) }
+    ensures generators { (a b : TcpTimestampGenerator)
+        → IsTrue (⟦<TcpTimestampGenerator as PartialEq>⟧.eq a b) ↔ (a ≡ b) }
     ensures options { (a b : TcpOptions)
         → IsTrue (⟦<TcpOptions as PartialEq>⟧.eq a b) ↔ (a ≡ b) }
     ensures header { (a b : TcpHeader)

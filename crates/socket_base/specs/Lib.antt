@@ -2,3 +2,4 @@ pub mod Addresses
 pub mod Context
 pub mod Offers
 pub mod Packet
+pub mod Widths

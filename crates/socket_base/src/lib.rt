@@ -4,6 +4,7 @@
 
 pub mod addresses;
 mod context;
+pub mod laws;
 mod offer;
 mod packet;
 mod poll_at;

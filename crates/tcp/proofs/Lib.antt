@@ -11,3 +11,7 @@ pub mod ArrivalLaws
 pub mod OfferMoves
 pub mod OfferLaws
 pub mod RunLaws
+pub mod NameLaws
+pub mod AloneLaws
+pub mod HostLaws
+pub mod AnsweredLaws

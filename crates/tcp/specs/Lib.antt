@@ -2,3 +2,5 @@ pub mod Tie
 pub mod History
 pub mod Promises
 pub mod Run
+pub mod Endpoints
+pub mod Host

@@ -1,8 +1,12 @@
 //! TCP sockets between two hosts: the tie of a socket to a side of the machine of `tcp_law`, and the invariant that it gives.
 #![tactic(auto)]
 
+pub mod alone;
+pub mod answered;
 pub mod arrivals;
 pub mod calls;
+pub mod hosts;
+pub mod names;
 pub mod offers;
 pub mod promises;
 pub mod runs;

@@ -4,10 +4,12 @@ use Rattle.std.specs.Prelude.{IfSome, ℤ}
 use Rattle.std.proofs.lemmas.List.{length-take-le, length-take}
 use Rattle.net_base.specs.Ring.{Ring, ring, capacity, rotated, storage_of, cleared, anchored, overwritten, extended, enqueued, released, contiguous}
 use Rattle.net_base.specs.Time.{IsMoment}
-use Rattle.tcp_model.specs.Acknowledged.{ended_if, block_acknowledged}
+use Rattle.tcp_model.specs.Moments.{is_due}
+use Rattle.tcp_model.specs.Offers.{backed_off}
+use Rattle.tcp_model.specs.Rules.{backed_off_now}
 use Rattle.tcp_model.specs.declared.block.Block.{Block}
 use Rattle.tcp_model.specs.declared.error.RecvError.{RecvError}
-use Rattle.tcp_model.specs.Timeout.{timeout_runs, timeout_kept}
+use Rattle.tcp_model.specs.Timeout.{timeout_runs, timeout_kept, is_timeout_unset, timeout_started}
 use Rattle.tcp_socket.specs.Receive.{FitsBuffer, or_done}
 use Rattle.tcp_socket.specs.Socket.{IsBlock, if_open}
 
@@ -72,10 +74,16 @@ start_made false now since is old = old
 pub kept_timeout : (b : Block) (queued : ℕ) → IsBlock b → IsBlock (timeout_kept b queued)
 kept_timeout b queued is = record { start = start_kept (timeout_runs b queued) b.timers.timeout_since is.start; mss = is.mss }
 
--- the end of LAST-ACK leaves both
-ended : (test : Bool) (b : Block) → IsBlock b → IsBlock (ended_if test b)
-ended true b is = record { start = is.start; mss = is.mss }
-ended false b is = is
+kept_if : (test : Bool) (a b : Block) → IsBlock a → IsBlock b → IsBlock (if test then a else b)
+kept_if true a b is other = is
+kept_if false a b is other = other
+
+-- the user timeout starts, and the retransmission timer may have run out
+pub kept_going : (b : Block) (now : ℤ) (queued : ℕ) → IsMoment now → IsBlock b → IsBlock (backed_off now (timeout_started now queued b))
+kept_going b now queued moment is =
+    let started : IsBlock (timeout_started now queued b) = record { start = start_made (is_timeout_unset b queued) now b.timers.timeout_since moment is.start; mss = is.mss } in
+    let went : IsBlock (backed_off_now (timeout_started now queued b)) = record { start = started.start; mss = is.mss } in
+    kept_if (is_due now b.timers.retransmit_at) (backed_off_now (timeout_started now queued b)) (timeout_started now queued b) went started
 
 -- ANSWERS
 

@@ -3,7 +3,7 @@ ghost use Rattle.std.specs.Prelude.{◌≡◌, ◌≤◌, ◌<◌, ◌^◌, true
 ghost use Rattle.socket_base.specs.Context.{ContextValue};
 ghost use Rattle.tcp_model.specs.Choices.{choice_of};
 ghost use Rattle.tcp_model.specs.Due.{poll_open, poll_between, poll_of};
-ghost use Rattle.tcp_model.specs.Offers.{offer_segment, silent, offer_choice, offer_ack, offer_syn, offer_reset, last_rules, first_rules, offer_between, offer_of, payload_of, offered_packet};
+ghost use Rattle.tcp_model.specs.Offers.{offer_segment, silent, offer_choice, offer_ack, offer_syn, offer_reset, offer_keep_alive, last_rules, first_rules, offer_between, offer_of, payload_of, offered_packet};
 ghost use Rattle.tcp_model.specs.Rules.{unbroken, text_choice, has_text, resend_choice};
 ghost use Rattle.tcp_model.specs.Settled.{settled};
 ghost use Rattle.tcp_model.specs.Value.{unoffered};
@@ -23,6 +23,13 @@ impl Socket {
         ensures answer { result ≡ (offer_of (C.context cx.now) self.old).answer }
         ensures socket { self.new ≡ (offer_of (C.context cx.now) self.old).socket }
         ensures sendable { IfSome (offered_packet self.new) IsSendable }
+    {
+        self.offer_next(cx)
+    }
+
+    fn offer_next<C: Context>(&mut self, cx: &C) -> Offer
+        ensures answer { result ≡ (offer_of (C.context cx.now) self.old).answer }
+        ensures socket { self.new ≡ (offer_of (C.context cx.now) self.old).socket }
     {
         self.offered = None;
         match self.block.names.pair {
@@ -98,8 +105,7 @@ impl Socket {
         } else if self.block.updates_window(window) {
             self.offer_ack(OfferKind::WindowUpdate, cx, pair)
         } else if is_due(now, self.block.keep_alive_moment()) {
-            let header = self.block.keep_alive_segment(pair, now, window);
-            self.offer_segment(OfferKind::KeepAlive, cx, pair, header, 0, 1)
+            self.offer_keep_alive(cx, pair)
         } else {
             Offer::Silent { changed: false }
         }
@@ -123,6 +129,15 @@ impl Socket {
         let window = self.window();
         let header = self.block.ack_segment(pair, cx.now(), window);
         self.offer_segment(kind, cx, pair, header, 0, 0)
+    }
+
+    fn offer_keep_alive<C: Context>(&mut self, cx: &C, pair: &EndpointPair) -> Offer
+        ensures answer { result ≡ (offer_keep_alive (C.context cx.now) self.old pair.now).answer }
+        ensures socket { self.new ≡ (offer_keep_alive (C.context cx.now) self.old pair.now).socket }
+    {
+        let window = self.window();
+        let header = self.block.keep_alive_segment(pair, cx.now(), window);
+        self.offer_segment(OfferKind::KeepAlive, cx, pair, header, 0, 1)
     }
 
     /// Offers a part of the send queue.

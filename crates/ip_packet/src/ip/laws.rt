@@ -12,6 +12,11 @@ pub fn ip_no_longer()
         → header_len_in v + payload_len_in v ≤ length bytes }
 {}
 
+/// Law: how many bytes a header has that is sent.
+pub fn ip_written_len()
+    ensures { (sealed : Bool) (v : IpRepr) → IsValue v → length (written sealed v) ≡ header_len_in v }
+{}
+
 /// Law: a header that was read can be written again.
 pub fn ip_fits()
     ensures { (tested : Bool) (bytes : List ℕ) (v : IpRepr)

@@ -23,6 +23,12 @@ pub fn udp_no_longer()
         → 8 + length (payload_of bytes) ≤ length bytes }
 {}
 
+/// Law: a datagram that is sent has the header's eight bytes, and its payload's.
+pub fn udp_written_len()
+    ensures { (source destination : IpAddress) (sealed : Bool) (v : UdpRepr) (payload : List ℕ)
+        → length (written source destination sealed v payload) ≡ 8 + length payload }
+{}
+
 /// Law: a datagram that was read can be written again.
 pub fn udp_fits()
     ensures { (source destination : IpAddress) (tested : Bool) (bytes : List ℕ) (v : UdpRepr)

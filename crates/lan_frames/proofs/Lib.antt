@@ -1,0 +1,4 @@
+pub mod Named
+pub mod Words
+pub mod Cutting
+pub mod Slicing

@@ -1,0 +1,60 @@
+-- Bytes that name neither TCP nor UDP.
+use Rattle.std.proofs.Common.{◌≡◌, ◌≢◌, ℕ, ◌+◌, Bool, true, false, ◌&&◌, ◌||◌, eqb, List, slice_index, drop, arith, refl, sym, ◌∙◌, ap}
+use Rattle.std.proofs.lemmas.Bool.Decides.{nat_tests}
+use Rattle.std.proofs.lemmas.List.{get_or-drop}
+use Rattle.ip_address.specs.Protocol.{protocol_number, protocol_of, ether_number, ether_of}
+use Rattle.ip_address.specs.declared.ip.IpProtocol.{IpProtocol}
+use Rattle.ip_address.specs.declared.ip.IpProtocol.TheVariants.{Tcp, Udp}
+use Rattle.ip_address.proofs.Numbers.{protocol_number-protocol_of, ether_number-ether_of}
+use Rattle.lan_frames.specs.Carried.{is_tcp_or_udp}
+
+-- a protocol by a number that is neither 6 nor 17
+abbrev pub IsNeither : IpProtocol → Type 0
+IsNeither protocol = (protocol ≢ Tcp) × (protocol ≢ Udp)
+
+number_is : (n m : ℕ) (p : IpProtocol) → p ≡ protocol_of n → protocol_number p ≡ m → n ≡ m
+number_is n m p is number = sym (protocol_number-protocol_of n) ∙ ap protocol_number (sym is) ∙ number
+
+not_six : (n : ℕ) → is_tcp_or_udp n ≡ false → n ≡ 6 → false ≡ true
+not_six n none is = sym none ∙ rw is refl
+
+not_seventeen : (n : ℕ) → is_tcp_or_udp n ≡ false → n ≡ 17 → false ≡ true
+not_seventeen n none is = sym none ∙ rw is refl
+
+no_truth : false ≡ true → ⊥
+no_truth same = cc
+
+pub neither : (n : ℕ) (p : IpProtocol) → is_tcp_or_udp n ≡ false → p ≡ protocol_of n → IsNeither p
+neither n p none is = (
+  λ tcp. no_truth (not_six n none (number_is n 6 p is (ap protocol_number tcp))),
+  λ udp. no_truth (not_seventeen n none (number_is n 17 p is (ap protocol_number udp))),
+)
+
+-- of two alternatives that don't hold, the one whose condition does
+left_none : (test : Bool) (named other : Bool) → test ≡ true → (test && named) || other ≡ false → named ≡ false
+left_none true true other is none = cc
+left_none true false other is none = refl
+left_none false named other is none = cc
+
+right_none : (test : Bool) (named other : Bool) → test ≡ true → other || (test && named) ≡ false → named ≡ false
+right_none true true true is none = cc
+right_none true true false is none = cc
+right_none true false other is none = refl
+right_none false named other is none = cc
+
+same_number : (n m : ℕ) → n ≡ m → eqb n m ≡ true
+same_number n m is = grind (arith, nat_tests)
+
+pub neither_first : (n m protocol : ℕ) (other : Bool) (p : IpProtocol) → n ≡ m → (eqb n m && is_tcp_or_udp protocol) || other ≡ false → p ≡ protocol_of protocol → IsNeither p
+neither_first n m protocol other p is none of = neither protocol p (left_none (eqb n m) (is_tcp_or_udp protocol) other (same_number n m is) none) of
+
+pub neither_second : (n m protocol : ℕ) (other : Bool) (p : IpProtocol) → n ≡ m → other || (eqb n m && is_tcp_or_udp protocol) ≡ false → p ≡ protocol_of protocol → IsNeither p
+neither_second n m protocol other p is none of = neither protocol p (right_none (eqb n m) (is_tcp_or_udp protocol) other (same_number n m is) none) of
+
+-- an EtherType is told by its number
+pub ether_is : (n m : ℕ) → ether_of n ≡ ether_of m → n ≡ m
+ether_is n m same = sym (ether_number-ether_of n) ∙ ap ether_number same ∙ ether_number-ether_of m
+
+-- a byte behind the link header
+pub byte_behind : (bytes : List ℕ) (n i : ℕ) → slice_index (drop n bytes) i ≡ slice_index bytes (n + i)
+byte_behind bytes n i = get_or-drop n bytes i 0

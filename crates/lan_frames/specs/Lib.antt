@@ -1,0 +1,4 @@
+pub mod Carried
+pub mod Parts
+pub mod Cuts
+pub mod Slices

@@ -1,0 +1,14 @@
+//! What the link reads in the frames of its hosts, and what it makes of them: the place of a TCP
+//! segment, a frame with one word exchanged, and a frame cut in two pieces.
+#![tactic(auto)]
+
+mod cut;
+pub mod laws;
+mod names;
+mod part;
+mod word;
+
+pub use cut::{cut_frame, ipv4_part};
+pub use names::names_tcp_or_udp;
+pub use part::{Part, tcp_part};
+pub use word::damage;

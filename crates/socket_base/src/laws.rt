@@ -1,0 +1,74 @@
+//! Laws of packets, whatever offers them.
+ghost use Rattle.std.specs.Prelude.{◌≡◌, ◌↔◌, Bool, IsTrue, length};
+ghost use Rattle.net_base.specs.ChecksumCapabilities.{ChecksumCapabilities};
+ghost use Rattle.ip_wire.specs.Ip as Ips;
+ghost use Rattle.ip_wire.specs.IpRepr.{IpRepr};
+ghost use Rattle.ip_wire.specs.Ipv4 as Ipv4;
+ghost use Rattle.ip_wire.specs.Ipv6 as Ipv6;
+ghost use Rattle.socket_base.specs.Packet.{PayloadValue, PayloadFits, packet_value, payload_value, payload_len, payload_written};
+ghost use Rattle.socket_base.specs.Widths.{IsPayload};
+ghost use Rattle.socket_base.specs.declared.offer.Offer.{Offer};
+ghost use Rattle.socket_base.specs.declared.packet.IpPayload.{IpPayload};
+ghost use Rattle.socket_base.specs.declared.packet.Packet.{Packet};
+ghost use Rattle.socket_base.specs.declared.poll_at.PollAt.{PollAt};
+
+use crate::offer::Offer;
+use crate::packet::{IpPayload, Packet};
+use crate::poll_at::PollAt;
+use control_wire::{icmpv4_laws, icmpv6_laws};
+use ip_wire::{IpRepr, Ipv4Repr, Ipv6Repr, ip_laws, tcp_laws, udp_laws};
+
+/// Law: a header, and what can be sent behind it, are written in as many bytes as their lengths say.
+pub fn written_lengths()
+    ensures header { (sealed : Bool) (v : IpRepr) → Ips.IsValue v → length (Ips.written sealed v) ≡ Ips.header_len_in v }
+    ensures payload { (caps : ChecksumCapabilities) (ip : IpRepr) (v : PayloadValue)
+        → PayloadFits ip v
+        → IsPayload v
+        → length (payload_written caps ip v) ≡ payload_len v }
+{
+    ip_laws::ip_written_len();
+    udp_laws::udp_written_len();
+    tcp_laws::tcp_written_len();
+    icmpv4_laws::icmpv4_written_len();
+    icmpv6_laws::icmpv6_written_len();
+}
+
+/// Law: `==` says of two answers to an offer, and of two moments to poll at, whether they are the
+/// same, and of two packets, and of what they carry, whether they have the same value.
+pub fn equal<'a>()
+    ensures offers { (a b : Offer) → IsTrue (⟦<Offer as PartialEq>⟧.eq a b) ↔ (a ≡ b) }
+    ensures due { (a b : PollAt) → IsTrue (⟦<PollAt as PartialEq>⟧.eq a b) ↔ (a ≡ b) }
+    ensures payloads { (a b : IpPayload) → IsTrue (⟦<IpPayload<'a> as PartialEq>⟧.eq a b)
+        ↔ (payload_value a ≡ payload_value b) }
+    ensures packets { (a b : Packet) → IsTrue (⟦<Packet<'a> as PartialEq>⟧.eq a b)
+        ↔ (packet_value a ≡ packet_value b) }
+{
+    ip_laws::ip_equal();
+    udp_laws::udp_equal();
+    tcp_laws::tcp_borrowed_equal();
+    icmpv4_laws::icmpv4_messages_equated();
+    icmpv6_laws::icmpv6_messages_equated();
+}
+
+/// The fields of a header are numbers of their widths, and its addresses have the bytes of their
+/// families: laws ask for it.
+pub fn header_in_range(header: IpRepr)
+    ensures { Ips.IsValue header }
+{
+    match header {
+        IpRepr::Ipv4(header) => ipv4_in_range(header),
+        IpRepr::Ipv6(header) => ipv6_in_range(header),
+    }
+}
+
+fn ipv4_in_range(header: Ipv4Repr)
+    ensures { Ipv4.IsValue header }
+{
+    let _protocol = u8::from(header.next_header);
+}
+
+fn ipv6_in_range(header: Ipv6Repr)
+    ensures { Ipv6.IsValue header }
+{
+    let _protocol = u8::from(header.next_header);
+}
