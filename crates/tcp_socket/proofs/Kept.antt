@@ -24,17 +24,6 @@ pub none_open : (o : Option OpenOffer) (b : Block) (queued : Ring ℕ) → o ≡
 none_open None b queued is = tt
 none_open (Some o) b queued is = absurd (cc)
 
-pub kept_forgotten : (b : Block) → IsBlock b → IsBlock (forgotten b)
-kept_forgotten b is = record { start = is.start; mss = is.mss }
-
-kept_ended : (t : Bool) (b : Block) → IsBlock b → IsBlock (ended_if t b)
-kept_ended true b is = kept_forgotten b is
-kept_ended false b is = is
-
-pub kept_acknowledged : (b : Block) (by queued : ℕ) (now : ℤ) → IsBlock b → IsBlock (block_acknowledged b by queued now)
-kept_acknowledged b by queued now is =
-    kept_ended (is_closed (state_after_ack b by queued)) (in_state (una_moved b by queued now) (state_after_ack b by queued) now) (record { start = is.start; mss = is.mss })
-
 kept_if : (t : Bool) (a b : Block) → IsBlock a → IsBlock b → IsBlock (if t then a else b)
 kept_if true a b is other = is
 kept_if false a b is other = other
@@ -52,12 +41,3 @@ kept_timeout b now queued is mss = record { start = start_of (timeout_runs b que
 
 pub kept_timers : (b : Block) (now : ℤ) (queued : ℕ) → IsMoment now → 1 ≤ b.peer.mss → IsBlock (timers_moved b now queued)
 kept_timers b now queued is mss = let kept = kept_timeout b now queued is mss in record { start = kept.start; mss = kept.mss }
-
--- a SYN that isn't dropped names no MSS of 0
-pub sized_syn : (syn zero_mss : Bool) → (syn && zero_mss) ≡ false → syn ≡ true → zero_mss ≡ false
-sized_syn true zero_mss sized is = sized
-sized_syn false zero_mss sized is = absurd (cc)
-
-pub sized_mss : (mss : Option ℕ) → is_zero mss ≡ false → 1 ≤ or_mss mss
-sized_mss None is = omega arith
-sized_mss (Some n) is = grind (arith, nat_tests, is)

@@ -25,9 +25,6 @@ pub fits_anchored : (r : Ring ℕ) → FitsBuffer r → FitsBuffer (anchored r)
 fits_anchored r fits =
     elim (length r.queue == 0) as (λ v. FitsBuffer (if v then cleared r else r)) [ true ↦ fits_cleared r fits | false ↦ fits ]
 
-pub fits_released : (r : Ring ℕ) (n : ℕ) → n ≤ length r.queue → FitsBuffer r → FitsBuffer (released r n)
-fits_released r n within fits = rw (length-append, length-drop, length-take-le n r.queue within) (omega (arith, fits))
-
 pub fits_enqueued : (r : Ring ℕ) (ws : List ℕ) → length ws ≤ length r.free → FitsBuffer r → FitsBuffer (enqueued r ws)
 fits_enqueued r ws within fits = rw (length-append, length-drop) (omega (arith, fits, within))
 
@@ -62,10 +59,6 @@ fits_sent r left n size fits =
 pub start_kept : (test : Bool) (since : Option ℤ) → IfSome since IsMoment → IfSome (if test then since else None) IsMoment
 start_kept true since is = is
 start_kept false since is = tt
-
-pub start_set : (test : Bool) (now : ℤ) → IsMoment now → IfSome (if test then Some now else None) IsMoment
-start_set true now is = is
-start_set false now is = tt
 
 pub start_made : (test : Bool) (now : ℤ) (since : Option ℤ) → IsMoment now → IfSome since IsMoment → IfSome (if test then Some now else since) IsMoment
 start_made true now since is old = is
