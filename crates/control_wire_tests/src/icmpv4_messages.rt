@@ -316,10 +316,14 @@ fn quoted_headers_are_refused(rt: HostRuntime) {
         is_refused(&quoting(0x46, 0xf3), &all),
         "24, with 20 bytes there"
     );
+    assert!(rt; is_refused(&FRAG_EXPIRED[..27], &unverified()), "19 bytes");
+}
+
+#[test]
+fn refused_headers_have_checksums(rt: HostRuntime) {
     assert!(rt; Icmpv4Packet::new_unchecked(&quoting(0x65, 0xd4)).verify_checksum());
     assert!(rt; Icmpv4Packet::new_unchecked(&quoting(0x44, 0xf5)).verify_checksum());
     assert!(rt; Icmpv4Packet::new_unchecked(&quoting(0x46, 0xf3)).verify_checksum());
-    assert!(rt; is_refused(&FRAG_EXPIRED[..27], &unverified()), "19 bytes");
 }
 
 #[test]
@@ -351,25 +355,43 @@ fn numbers_of_known_reasons(rt: HostRuntime) {
     let all = ChecksumCapabilities::default();
     let payload = &PORT_UNREACHABLE[28..];
     assert!(rt; is_written(&PORT_UNREACHABLE, &numbered, payload, &all));
-    assert_eq!(rt; Icmpv4Message::from(9), Icmpv4Message::RouterAdvert);
-    assert_eq!(rt; u8::from(Icmpv4Message::Timestamp), 13);
-    assert_eq!(rt; u8::from(Icmpv4TimeExceeded::from(7)), 7);
+    assert!(rt; Icmpv4Message::from(9) == Icmpv4Message::RouterAdvert);
+    assert!(rt; u8::from(Icmpv4Message::Timestamp) == 13);
+    assert!(rt; u8::from(Icmpv4TimeExceeded::from(7)) == 7);
 }
 
 #[test]
 fn message_is_viewed(rt: HostRuntime) {
     let packet = Icmpv4Packet::new_checked(&ODD_REQUEST).expect(&rt, "whole");
     assert!(rt; packet.check_len().is_ok());
-    assert_eq!(rt; packet.msg_type(), Icmpv4Message::EchoRequest);
-    assert_eq!(rt; packet.msg_code(), 0);
-    assert_eq!(rt; packet.checksum(), 0x2168);
-    assert_eq!(rt; packet.echo_ident(), 0x1234);
-    assert_eq!(rt; packet.echo_seq_no(), 1);
-    assert_eq!(rt; packet.header_len(), 8);
-    assert_eq!(rt; packet.data(), b"abc".as_slice());
+    assert!(rt; packet.msg_type() == Icmpv4Message::EchoRequest);
+    assert!(rt; packet.msg_code() == 0);
+    assert!(rt; packet.checksum() == 0x2168);
     assert!(rt; packet.verify_checksum());
-    assert_eq!(rt; packet.into_inner().len(), 11);
+}
+
+#[test]
+fn echo_is_viewed(rt: HostRuntime) {
+    let packet = Icmpv4Packet::new_checked(&ODD_REQUEST).expect(&rt, "whole");
+    assert!(rt; packet.echo_ident() == 0x1234);
+    assert!(rt; packet.echo_seq_no() == 1);
+    assert!(rt; packet.header_len() == 8);
+    assert!(rt; packet.data() == b"abc".as_slice());
+    assert!(rt; packet.into_inner().len() == 11);
+}
+
+#[test]
+fn short_message_is_refused(rt: HostRuntime) {
     assert!(rt; Icmpv4Packet::new_checked(&ODD_REQUEST[..7]).is_err());
+}
+
+#[test]
+fn data_alone_is_lent(rt: HostRuntime) {
+    let mut bytes = [0xa5; 11];
+    let mut packet = Icmpv4PacketMut::new_unchecked(&mut bytes);
+    packet.data_mut().copy_from_slice(b"abc");
+    assert!(rt; &bytes[..8] == [0xa5; 8].as_slice(), "the header stays");
+    assert!(rt; &bytes[8..] == b"abc".as_slice());
 }
 
 #[test]
@@ -377,33 +399,50 @@ fn message_is_set(rt: HostRuntime) {
     let mut bytes = [0xa5; 11];
     let mut packet = Icmpv4PacketMut::new_unchecked(&mut bytes);
     packet.data_mut().copy_from_slice(b"abc");
-    assert_eq!(rt; &bytes[..8], [0xa5; 8].as_slice(), "the header stays");
-    assert_eq!(rt; &bytes[8..], b"abc".as_slice());
     let mut packet = Icmpv4PacketMut::new_checked(&mut bytes).expect(&rt, "whole");
     packet.set_msg_type(Icmpv4Message::EchoRequest);
     packet.set_msg_code(0);
-    packet.set_checksum(0xffff);
     packet.set_echo_ident(0x1234);
     packet.set_echo_seq_no(1);
-    assert!(rt; !packet.verify_checksum());
     packet.fill_checksum();
     assert!(rt; packet.check_len().is_ok() && packet.verify_checksum());
-    assert_eq!(rt; packet.msg_type(), Icmpv4Message::EchoRequest);
-    assert_eq!(rt; packet.msg_code(), 0);
-    assert_eq!(rt; packet.checksum(), 0x2168);
-    assert_eq!(rt; packet.echo_ident(), 0x1234);
-    assert_eq!(rt; packet.echo_seq_no(), 1);
-    assert_eq!(rt; packet.header_len(), 8);
-    assert_eq!(rt; packet.data(), b"abc".as_slice());
-    assert_eq!(rt; &*packet.into_inner(), ODD_REQUEST.as_slice());
+    assert!(rt; packet.checksum() == 0x2168);
+    assert!(rt; &*packet.into_inner() == ODD_REQUEST.as_slice());
+}
+
+#[test]
+fn set_fields_are_read(rt: HostRuntime) {
+    let mut bytes = [0xa5; 11];
+    let mut packet = Icmpv4PacketMut::new_unchecked(&mut bytes);
+    packet.data_mut().copy_from_slice(b"abc");
+    let mut packet = Icmpv4PacketMut::new_checked(&mut bytes).expect(&rt, "whole");
+    packet.set_msg_type(Icmpv4Message::EchoRequest);
+    packet.set_msg_code(0);
+    packet.set_echo_ident(0x1234);
+    packet.set_echo_seq_no(1);
+    assert!(rt; packet.msg_type() == Icmpv4Message::EchoRequest);
+    assert!(rt; packet.msg_code() == 0);
+    assert!(rt; packet.echo_ident() == 0x1234);
+    assert!(rt; packet.echo_seq_no() == 1);
+    assert!(rt; packet.header_len() == 8);
+    assert!(rt; packet.data() == b"abc".as_slice());
+}
+
+#[test]
+fn wrong_checksum_is_seen(rt: HostRuntime) {
+    let mut bytes = [0xa5; 11];
+    let mut packet = Icmpv4PacketMut::new_unchecked(&mut bytes);
+    let mut packet = Icmpv4PacketMut::new_checked(&mut bytes).expect(&rt, "whole");
+    packet.set_checksum(0xffff);
+    assert!(rt; !packet.verify_checksum());
 }
 
 // RFC 792.
 #[test]
 fn fields_are_in_their_places(rt: HostRuntime) {
-    assert_eq!(rt; [field::TYPE, field::CODE, field::HEADER_END], [0, 1, 8]);
-    assert_eq!(rt; field::CHECKSUM, 2..4);
-    assert_eq!(rt; field::ECHO_IDENT, 4..6);
-    assert_eq!(rt; field::ECHO_SEQNO, 6..8);
-    assert_eq!(rt; field::DATA, 8..);
+    assert!(rt; [field::TYPE, field::CODE, field::HEADER_END] == [0, 1, 8]);
+    assert!(rt; field::CHECKSUM == (2..4));
+    assert!(rt; field::ECHO_IDENT == (4..6));
+    assert!(rt; field::ECHO_SEQNO == (6..8));
+    assert!(rt; field::DATA == (8..));
 }

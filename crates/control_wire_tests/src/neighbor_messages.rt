@@ -67,17 +67,25 @@ fn read(bytes: &[u8]) -> Result<NdiscRepr, Error> {
 
 #[test]
 fn neighbour_messages_are_read(rt: HostRuntime) {
-    assert_eq!(rt; read(&SOLICITATION), Ok(solicitation()));
-    assert_eq!(rt; read(&ADVERTISEMENT), Ok(advertisement()));
-    assert_eq!(rt; read(&ANNOUNCEMENT), Ok(announcement()));
+    assert!(rt; read(&SOLICITATION) == Ok(solicitation()));
+    assert!(rt; read(&ADVERTISEMENT) == Ok(advertisement()));
+    assert!(rt; read(&ANNOUNCEMENT) == Ok(announcement()));
+}
+
+#[test]
+fn solicitation_is_viewed(rt: HostRuntime) {
     let all = Ipv6Address::new(0xff02, 0, 0, 0, 0, 1, 0xff00, 1);
     let packet = Icmpv6Packet::new_unchecked(&SOLICITATION);
     assert!(rt; packet.verify_checksum(&host(2), &all));
-    assert_eq!(rt; packet.target_addr(), host(1));
+    assert!(rt; packet.target_addr() == host(1));
+}
+
+#[test]
+fn advertisement_is_viewed(rt: HostRuntime) {
     let packet = Icmpv6Packet::new_unchecked(&ADVERTISEMENT);
     assert!(rt; packet.verify_checksum(&host(1), &host(2)));
-    assert_eq!(rt; packet.target_addr(), host(1));
-    assert_eq!(rt; packet.neighbor_flags(), NdiscNeighborFlags::SOLICITED);
+    assert!(rt; packet.target_addr() == host(1));
+    assert!(rt; packet.neighbor_flags() == NdiscNeighborFlags::SOLICITED);
 }
 
 #[test]
@@ -91,24 +99,24 @@ fn laws_hold(_rt: HostRuntime) {
 
 #[test]
 fn neighbour_messages_are_written(rt: HostRuntime) {
-    assert_eq!(rt; solicitation().buffer_len(), 32);
-    assert_eq!(rt; announcement().buffer_len(), 24);
+    assert!(rt; solicitation().buffer_len() == 32);
+    assert!(rt; announcement().buffer_len() == 24);
     let all = Ipv6Address::new(0xff02, 0, 0, 0, 0, 1, 0xff00, 1);
     let mut bytes = [0xa5; 32];
     let mut packet = Icmpv6PacketMut::new_unchecked(&mut bytes);
     solicitation().emit(&mut packet);
     packet.fill_checksum(&host(2), &all);
-    assert_eq!(rt; bytes, SOLICITATION);
+    assert!(rt; bytes == SOLICITATION);
     let mut bytes = [0x5a; 32];
     let mut packet = Icmpv6PacketMut::new_unchecked(&mut bytes);
     advertisement().emit(&mut packet);
     packet.fill_checksum(&host(1), &host(2));
-    assert_eq!(rt; bytes, ADVERTISEMENT);
+    assert!(rt; bytes == ADVERTISEMENT);
     let mut bytes = [0xff; 24];
     let mut packet = Icmpv6PacketMut::new_unchecked(&mut bytes);
     announcement().emit(&mut packet);
-    assert_eq!(rt; packet.checksum(), 0);
-    assert_eq!(rt; &packet.into_inner()[4..], &ANNOUNCEMENT[4..]);
+    assert!(rt; packet.checksum() == 0);
+    assert!(rt; &packet.into_inner()[4..] == &ANNOUNCEMENT[4..]);
 }
 
 #[test]
@@ -119,26 +127,17 @@ fn neighbour_messages_have_a_checksum(rt: HostRuntime) {
     let mut bytes = [0xa5; 32];
     let mut packet = Icmpv6PacketMut::new_unchecked(&mut bytes);
     message.emit(&host(2), &all, &mut packet, &caps);
-    assert_eq!(rt; bytes, SOLICITATION);
+    assert!(rt; bytes == SOLICITATION);
     let packet = Icmpv6Packet::new_unchecked(&SOLICITATION);
-    assert_eq!(rt;
-        Icmpv6Repr::parse(&host(2), &all, &packet, &caps),
-        Ok(message)
-    );
-    assert_eq!(rt;
-        Icmpv6Repr::parse(&host(3), &all, &packet, &caps),
-        Err(Error)
-    );
+    assert!(rt; Icmpv6Repr::parse(&host(2), &all, &packet, &caps) == Ok(message));
+    assert!(rt; Icmpv6Repr::parse(&host(3), &all, &packet, &caps) == Err(Error));
     let message = Icmpv6Repr::Ndisc(advertisement());
     let mut bytes = [0x5a; 32];
     let mut packet = Icmpv6PacketMut::new_unchecked(&mut bytes);
     message.emit(&host(1), &host(2), &mut packet, &caps);
-    assert_eq!(rt; bytes, ADVERTISEMENT);
+    assert!(rt; bytes == ADVERTISEMENT);
     let packet = Icmpv6Packet::new_unchecked(&ADVERTISEMENT);
-    assert_eq!(rt;
-        Icmpv6Repr::parse(&host(1), &host(2), &packet, &caps),
-        Ok(message)
-    );
+    assert!(rt; Icmpv6Repr::parse(&host(1), &host(2), &packet, &caps) == Ok(message));
 }
 
 /// A message of this type and code about fd00::1 with all reserved bits set, then these options.
@@ -158,22 +157,30 @@ fn is_read(kind: u8, code: u8, options: &[u8; 16], len: usize) -> bool
 }
 
 #[test]
-fn neighbour_messages_are_refused(rt: HostRuntime) {
+fn neighbour_messages_have_24_bytes(rt: HostRuntime) {
     assert!(rt; is_read(135, 0, &NO_OPTIONS, 24));
     assert!(rt; is_read(136, 0, &NO_OPTIONS, 24));
     assert!(rt; !is_read(135, 0, &NO_OPTIONS, 23), "no room for the target");
+}
+
+#[test]
+fn neighbour_messages_have_a_code(rt: HostRuntime) {
     assert!(rt; !is_read(135, 1, &NO_OPTIONS, 24), "a solicitation's code");
     assert!(rt;
         !is_read(136, 1, &NO_OPTIONS, 24),
         "an advertisement's code"
     );
+}
+
+#[test]
+fn other_messages_are_refused(rt: HostRuntime) {
     assert!(rt; !is_read(133, 0, &NO_OPTIONS, 24), "a router solicitation");
     assert!(rt; !is_read(128, 0, &NO_OPTIONS, 24), "an echo request");
     assert!(rt; !is_read(138, 0, &NO_OPTIONS, 24), "an unknown type");
 }
 
 #[test]
-fn options_are_refused(rt: HostRuntime) {
+fn options_past_the_end_are_refused(rt: HostRuntime) {
     let mut options = [1, 1, 2, 0, 0, 0, 0, 2, 14, 1, 7, 7, 7, 7, 7, 7];
     assert!(rt; is_read(135, 0, &options, 40));
     assert!(rt;
@@ -186,8 +193,18 @@ fn options_are_refused(rt: HostRuntime) {
         !is_read(135, 0, &options, 40),
         "an option past the end by a unit"
     );
+}
+
+#[test]
+fn options_have_a_length(rt: HostRuntime) {
+    let mut options = [1, 1, 2, 0, 0, 0, 0, 2, 14, 1, 7, 7, 7, 7, 7, 7];
     options[9] = 0;
     assert!(rt; !is_read(135, 0, &options, 40), "an option of length 0");
+}
+
+#[test]
+fn link_addresses_have_one_unit(rt: HostRuntime) {
+    let mut options = [1, 1, 2, 0, 0, 0, 0, 2, 14, 1, 7, 7, 7, 7, 7, 7];
     options[1] = 2;
     assert!(rt;
         !is_read(135, 0, &options, 40),
@@ -221,37 +238,51 @@ fn the_last_link_address_of_the_kind_counts(rt: HostRuntime) {
     let first = Some(RawHardwareAddress::from_bytes(&[2, 0, 0, 0, 0, 1]));
     let last = Some(RawHardwareAddress::from_bytes(&[2, 0, 0, 0, 0, 2]));
     let mut options = [1, 1, 2, 0, 0, 0, 0, 1, 1, 1, 2, 0, 0, 0, 0, 2];
-    assert_eq!(rt; link_of(135, &options), last);
-    assert_eq!(rt; link_of(136, &options), None);
+    assert!(rt; link_of(135, &options) == last);
+    assert!(rt; link_of(136, &options) == None);
     options[8] = 2;
-    assert_eq!(rt; link_of(135, &options), first);
-    assert_eq!(rt; link_of(136, &options), last);
+    assert!(rt; link_of(135, &options) == first);
+    assert!(rt; link_of(136, &options) == last);
     options[0] = 14;
-    assert_eq!(rt; link_of(135, &options), None);
+    assert!(rt; link_of(135, &options) == None);
 }
 
 #[test]
-fn flags_are_read_and_written(rt: HostRuntime) {
+fn flags_are_bits(rt: HostRuntime) {
+    let all = NdiscNeighborFlags::ROUTER
+        | NdiscNeighborFlags::SOLICITED
+        | NdiscNeighborFlags::OVERRIDE;
+    assert!(rt; NdiscNeighborFlags::ROUTER.bits() == 0x80);
+    assert!(rt; NdiscNeighborFlags::SOLICITED.bits() == 0x40);
+    assert!(rt; NdiscNeighborFlags::OVERRIDE.bits() == 0x20);
+    assert!(rt; all.contains(NdiscNeighborFlags::SOLICITED));
+    assert!(rt; !NdiscNeighborFlags::OVERRIDE.contains(NdiscNeighborFlags::SOLICITED));
+}
+
+#[test]
+fn other_bits_are_no_flags(rt: HostRuntime) {
     let none = NdiscNeighborFlags::empty();
     let all = NdiscNeighborFlags::ROUTER
         | NdiscNeighborFlags::SOLICITED
         | NdiscNeighborFlags::OVERRIDE;
-    assert_eq!(rt; NdiscNeighborFlags::ROUTER.bits(), 0x80);
-    assert_eq!(rt; NdiscNeighborFlags::SOLICITED.bits(), 0x40);
-    assert_eq!(rt; NdiscNeighborFlags::OVERRIDE.bits(), 0x20);
-    assert_eq!(rt; NdiscNeighborFlags::from_bits_truncate(0x1f), none);
-    assert_eq!(rt; NdiscNeighborFlags::from_bits_truncate(0xff), all);
-    assert!(rt; all.contains(NdiscNeighborFlags::SOLICITED));
-    assert!(rt; !NdiscNeighborFlags::OVERRIDE.contains(NdiscNeighborFlags::SOLICITED));
+    assert!(rt; NdiscNeighborFlags::from_bits_truncate(0x1f) == none);
+    assert!(rt; NdiscNeighborFlags::from_bits_truncate(0xff) == all);
+}
+
+#[test]
+fn flags_are_read_and_written(rt: HostRuntime) {
+    let all = NdiscNeighborFlags::ROUTER
+        | NdiscNeighborFlags::SOLICITED
+        | NdiscNeighborFlags::OVERRIDE;
     let mut bytes = message(136, 0, &NO_OPTIONS);
     let mut packet = Icmpv6PacketMut::new_unchecked(&mut bytes);
-    assert_eq!(rt; packet.neighbor_flags(), all);
+    assert!(rt; packet.neighbor_flags() == all);
     packet.set_neighbor_flags(NdiscNeighborFlags::OVERRIDE);
     packet.set_target_addr(host(9));
-    assert_eq!(rt; packet.neighbor_flags(), NdiscNeighborFlags::OVERRIDE);
-    assert_eq!(rt; packet.target_addr(), host(9));
-    assert_eq!(rt; &bytes[4..8], [0x20, 0xff, 0xff, 0xff].as_slice());
-    assert_eq!(rt; bytes[23], 9);
+    assert!(rt; packet.neighbor_flags() == NdiscNeighborFlags::OVERRIDE);
+    assert!(rt; packet.target_addr() == host(9));
+    assert!(rt; &bytes[4..8] == [0x20, 0xff, 0xff, 0xff].as_slice());
+    assert!(rt; bytes[23] == 9);
 }
 
 // Through the conversion of Ethernet's addresses, as a host makes its own.
@@ -262,7 +293,7 @@ fn an_ethernet_address_is_a_link_address(rt: HostRuntime) {
         target_addr: host(1),
         lladdr: Some(from),
     };
-    assert_eq!(rt; message, solicitation());
+    assert!(rt; message == solicitation());
 }
 
 #[test]
@@ -275,5 +306,5 @@ fn a_short_link_address_is_padded(rt: HostRuntime) {
     if short.buffer_len() == bytes.len() {
         short.emit(&mut Icmpv6PacketMut::new_unchecked(&mut bytes));
     }
-    assert_eq!(rt; &bytes[24..], [1, 1, 3, 4, 0, 0, 0, 0].as_slice());
+    assert!(rt; &bytes[24..] == [1, 1, 3, 4, 0, 0, 0, 0].as_slice());
 }

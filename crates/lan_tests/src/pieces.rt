@@ -80,12 +80,11 @@ fn assert_pieces(
         };
         let mut writer = Vec::new(alloc);
         let found = replay(alloc, &mut reader, &mut writer);
-        assert_eq!(rt;
-            String::from_utf8(writer)?.as_str(),
-            output,
+        assert!(rt;
+            String::from_utf8(writer)?.as_str() == output,
             "in pieces of {size}"
         );
-        assert_eq!(rt; found, status, "in pieces of {size}");
+        assert!(rt; found == status, "in pieces of {size}");
     }
     Ok(())
 }
@@ -128,11 +127,10 @@ fn answers_are_written_as_soon_as_their_lines_were_read(rt: HostRuntime) -> Resu
             text: ONE_DATAGRAM.as_bytes(),
         };
         let mut writer = Failing::new(alloc, u32::MAX);
-        assert_eq!(rt; replay(alloc, &mut reader, &mut writer), 2);
-        assert_eq!(rt; writer.inner.as_slice(), b"ok\nok\nok\nok\n".as_slice());
-        assert_eq!(rt;
-            writer.flushed,
-            12,
+        assert!(rt; replay(alloc, &mut reader, &mut writer) == 2);
+        assert!(rt; writer.inner.as_slice() == b"ok\nok\nok\nok\n".as_slice());
+        assert!(rt;
+            writer.flushed == 12,
             "it was flushed before the read that failed"
         );
     }
@@ -154,9 +152,9 @@ fn nothing_is_read_behind_a_line_that_ends_the_run(rt: HostRuntime) -> Result<()
         };
         let mut writer = Failing::new(alloc, u32::MAX);
         // One more read would fail, and the status would be 2.
-        assert_eq!(rt; replay(alloc, &mut reader, &mut writer), 1);
-        assert_eq!(rt; writer.inner.as_slice(), end.as_bytes());
-        assert_eq!(rt; writer.flushed, end.len());
+        assert!(rt; replay(alloc, &mut reader, &mut writer) == 1);
+        assert!(rt; writer.inner.as_slice() == end.as_bytes());
+        assert!(rt; writer.flushed == end.len());
     }
     Ok(())
 }
@@ -174,9 +172,8 @@ fn a_failing_reader_or_writer_is_a_status_of_its_own(rt: HostRuntime) -> Result<
         };
         let mut writer = Vec::new(alloc);
         let status = replay(alloc, &mut reader, &mut writer);
-        assert_eq!(rt;
-            status,
-            if reads < 27 { 2 } else { 0 },
+        assert!(rt;
+            status == (if reads < 27 { 2 } else { 0 }),
             "after {reads} reads"
         );
     }
@@ -185,9 +182,8 @@ fn a_failing_reader_or_writer_is_a_status_of_its_own(rt: HostRuntime) -> Result<
         let mut reader = script;
         let mut writer = Failing::new(alloc, calls);
         let status = replay(alloc, &mut reader, &mut writer);
-        assert_eq!(rt;
-            status,
-            if calls < 10 { 2 } else { 0 },
+        assert!(rt;
+            status == (if calls < 10 { 2 } else { 0 }),
             "after {calls} calls"
         );
     }

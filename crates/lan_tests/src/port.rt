@@ -25,165 +25,199 @@ fn echo<D: Device>(device: &mut D) -> bool {
         .is_ok()
 }
 
-#[test]
-fn frames_come_in_order_in_their_own_buffers(rt: HostRuntime) -> Result<(), Fail> {
-    let mut port = ip_port(rt.alloc());
-    let mut first = Vec::with_capacity(rt.alloc(), 100)?;
-    first.extend_from_slice(b"one")?;
-    port.push(first)?;
-    port.push(b"two".to_vec(rt.alloc())?)?;
-    assert_eq!(rt; port.waiting().len(), 2);
-
-    let (token, _leave) = port.receive(Instant::ZERO).ok_or("a frame waits")?;
-    assert_eq!(rt; token.bytes(), b"one".as_slice());
-    let frame = token.into_frame();
-    assert_eq!(rt; frame.as_slice(), b"one".as_slice());
-    assert_eq!(rt;
-        frame.capacity(),
-        100,
-        "the buffer is the one that was pushed"
-    );
-
-    let (token, _leave) = port.receive(Instant::ZERO).ok_or("a frame waits")?;
-    assert_eq!(rt;
-        token.consume(|bytes: &[u8]| bytes == b"two".as_slice()),
-        true
-    );
-    assert!(rt; port.receive(Instant::ZERO).is_none());
-    assert!(rt; port.waiting().is_empty());
-    Ok(())
-}
-
-#[test]
-fn sends_what_the_closure_leaves(rt: HostRuntime) -> Result<(), Fail> {
-    let mut port = ip_port(rt.alloc());
-    let leave = port.transmit(Instant::ZERO).ok_or("leave to send")?;
-    let length = port.send(leave, 3, |buffer: &mut [u8]| {
-        buffer.copy_from_slice(b"abc");
-        buffer.len()
-    })?;
-    assert_eq!(rt; length, 3);
-    port.push(b"ping".to_vec(rt.alloc())?)?;
-    assert!(rt; echo(&mut port));
-    assert!(rt; !echo(&mut port), "nothing waits");
-
-    let sent = port.sent();
-    assert_eq!(rt; sent.len(), 2);
-    assert_eq!(rt; sent[0].as_slice(), b"abc".as_slice());
-    assert_eq!(rt; sent[1].as_slice(), b"ping".as_slice());
-    assert_eq!(rt; port.refusals(), 0);
-    assert_eq!(rt; port.capabilities().ip_mtu(), 1500);
-    Ok(())
-}
-
-#[test]
-fn refuses_before_the_closure_runs(rt: HostRuntime) -> Result<(), Fail> {
-    let mut port = ip_port(rt.alloc());
-    let mut ran = false;
-    let leave = port.transmit(Instant::ZERO).ok_or("leave to send")?;
-    // No allocator gives as much.
-    let sent = port.send(leave, usize::MAX, |_buffer: &mut [u8]| {
-        ran = true;
-    });
-    assert!(rt; sent.is_err());
-    assert!(rt; !ran);
-    assert_eq!(rt; port.refusals(), 1);
-    assert!(rt; port.sent().is_empty());
-    Ok(())
-}
-
-#[test]
-fn prepared_frames_are_not_refused(rt: HostRuntime) -> Result<(), Fail> {
-    let mut port = ip_port(rt.alloc());
-    port.prepare(2, 1500)?;
-    for length in [1500, 20] {
-        let leave = port.transmit(Instant::ZERO).ok_or("leave to send")?;
-        port.send(leave, length, |buffer: &mut [u8]| buffer.fill(7))?;
+/// Puts a frame of these bytes behind those that wait.
+fn pushes(port: &mut Port, alloc: Global, bytes: &[u8]) -> bool {
+    match bytes.to_vec(alloc) {
+        Ok(frame) => port.push(frame).is_ok(),
+        Err(_) => false,
     }
-    port.prepare(1, 9000)?;
-    let sent = port.sent();
-    assert_eq!(rt; sent.len(), 2);
-    assert_eq!(rt; sent[0].len(), 1500);
-    assert_eq!(rt; sent[1].as_slice(), [7; 20].as_slice());
-    assert_eq!(rt;
-        sent[1].capacity(),
-        20,
-        "no sent frame keeps a whole buffer"
-    );
-    assert!(rt; port.prepare(1, usize::MAX).is_err());
-    assert_eq!(rt; port.sent().len(), 2);
-    Ok(())
 }
 
-/// Sends a frame of no bytes, if there is leave to.
-fn sends_nothing(port: &mut Port) -> bool {
+/// Sends a frame of so many bytes, each 7, if there is leave to.
+fn sends(port: &mut Port, length: usize) -> bool {
     let Some(leave) = port.transmit(Instant::ZERO) else {
         return false;
     };
-    port.send(leave, 0, |_buffer: &mut [u8]| {}).is_ok()
+    port.send(leave, length, |buffer: &mut [u8]| buffer.fill(7))
+        .is_ok()
+}
+
+/// Whether there is leave to send, and the send of more than any allocator has is refused before the closure
+/// runs.
+fn refuses(port: &mut Port) -> bool {
+    let Some(leave) = port.transmit(Instant::ZERO) else {
+        return false;
+    };
+    let mut ran = false;
+    let sent = port.send(leave, usize::MAX, |_buffer: &mut [u8]| {
+        ran = true;
+    });
+    sent.is_err() && !ran
+}
+
+/// The next frame, in its buffer.
+fn received(port: &mut Port) -> Option<Vec<u8>> {
+    let (token, _leave) = port.receive(Instant::ZERO)?;
+    Some(token.into_frame())
+}
+
+/// Whether the next frame has these bytes, when it is seen and when it is consumed.
+fn consumes(port: &mut Port, bytes: &[u8]) -> bool {
+    let Some((token, _leave)) = port.receive(Instant::ZERO) else {
+        return false;
+    };
+    token.bytes() == bytes && token.consume(|frame: &[u8]| frame == bytes)
+}
+
+/// Whether the frame that was sent at this place has these bytes.
+fn sent(port: &Port, place: usize, bytes: &[u8]) -> bool {
+    match port.sent().get(place) {
+        Some(frame) => frame.as_slice() == bytes,
+        None => false,
+    }
 }
 
 #[test]
-fn a_port_without_room_gives_no_token(rt: HostRuntime) -> Result<(), Fail> {
-    let alloc = rt.alloc();
-    let mut port = ip_port(alloc);
-    assert_eq!(rt; port.room(), usize::MAX);
-    assert!(rt; sends_nothing(&mut port));
-    assert_eq!(rt; port.room(), usize::MAX - 1);
+fn frames_come_in_order(rt: HostRuntime) {
+    let mut port = ip_port(rt.alloc());
+    assert!(rt; pushes(&mut port, rt.alloc(), b"one"));
+    assert!(rt; pushes(&mut port, rt.alloc(), b"two"));
+    assert!(rt; port.waiting().len() == 2);
+    assert!(rt; consumes(&mut port, b"one"));
+    assert!(rt; consumes(&mut port, b"two"));
+    assert!(rt; port.waiting().is_empty() && received(&mut port).is_none());
+}
 
+#[test]
+fn a_frame_keeps_its_buffer(rt: HostRuntime) -> Result<(), Fail> {
+    let mut port = ip_port(rt.alloc());
+    let mut frame = Vec::with_capacity(rt.alloc(), 100)?;
+    frame.extend_from_slice(b"one")?;
+    port.push(frame)?;
+    let frame = received(&mut port).ok_or("a frame waits")?;
+    assert!(rt; frame.as_slice() == b"one".as_slice());
+    assert!(rt; frame.capacity() == 100);
+    Ok(())
+}
+
+/// Sends what a closure writes, whose answer is its buffer's length.
+fn writes(port: &mut Port, bytes: &[u8]) -> Option<usize> {
+    let leave = port.transmit(Instant::ZERO)?;
+    let answer = port.send(leave, bytes.len(), |buffer: &mut [u8]| {
+        buffer.copy_from_slice(bytes);
+        buffer.len()
+    });
+    answer.ok()
+}
+
+#[test]
+fn sends_what_the_closure_leaves(rt: HostRuntime) {
+    let mut port = ip_port(rt.alloc());
+    assert!(rt; writes(&mut port, b"abc") == Some(3));
+    assert!(rt; pushes(&mut port, rt.alloc(), b"ping"));
+    assert!(rt; echo(&mut port));
+    assert!(rt; !echo(&mut port), "nothing waits");
+    assert!(rt; sent(&port, 0, b"abc") && sent(&port, 1, b"ping"));
+    assert!(rt; port.sent().len() == 2 && port.refusals() == 0);
+}
+
+#[test]
+fn a_port_has_its_capabilities(rt: HostRuntime) {
+    assert!(rt; ip_port(rt.alloc()).capabilities().ip_mtu() == 1500);
+}
+
+#[test]
+fn refuses_before_the_closure_runs(rt: HostRuntime) {
+    let mut port = ip_port(rt.alloc());
+    assert!(rt; refuses(&mut port));
+    assert!(rt; port.refusals() == 1);
+    assert!(rt; port.sent().is_empty());
+}
+
+#[test]
+fn prepared_frames_are_not_refused(rt: HostRuntime) {
+    let mut port = ip_port(rt.alloc());
+    assert!(rt; port.prepare(2, 1500).is_ok());
+    assert!(rt; sends(&mut port, 1500) && sends(&mut port, 20));
+    assert!(rt; port.prepare(1, 9000).is_ok());
+    assert!(rt; port.prepare(1, usize::MAX).is_err());
+    assert!(rt; port.sent().len() == 2);
+    assert!(rt; sent(&port, 0, &[7; 1500]) && sent(&port, 1, &[7; 20]));
+}
+
+#[test]
+fn no_sent_frame_keeps_a_whole_buffer(rt: HostRuntime) {
+    let mut port = ip_port(rt.alloc());
+    assert!(rt; port.prepare(2, 1500).is_ok());
+    assert!(rt; sends(&mut port, 20));
+    for frame in port.sent() {
+        assert!(rt; frame.capacity() == 20);
+    }
+}
+
+#[test]
+fn each_sent_frame_takes_room(rt: HostRuntime) {
+    let mut port = ip_port(rt.alloc());
+    assert!(rt; port.room() == usize::MAX);
+    assert!(rt; sends(&mut port, 0));
+    assert!(rt; port.room() == usize::MAX - 1);
     port.set_room(2);
-    port.push(b"ping".to_vec(alloc)?)?;
-    assert!(rt; sends_nothing(&mut port));
-    assert_eq!(rt; port.room(), 1);
-    assert!(rt; sends_nothing(&mut port));
-    assert_eq!(rt; port.room(), 0);
+    assert!(rt; sends(&mut port, 0) && port.room() == 1);
+    assert!(rt; sends(&mut port, 0) && port.room() == 0);
+}
+
+#[test]
+fn a_port_without_room_gives_no_token(rt: HostRuntime) {
+    let mut port = ip_port(rt.alloc());
+    port.set_room(0);
+    assert!(rt; pushes(&mut port, rt.alloc(), b"ping"));
     assert!(rt; port.transmit(Instant::ZERO).is_none());
     assert!(rt; port.receive(Instant::ZERO).is_none());
-    assert_eq!(rt; port.waiting().len(), 1, "what waits goes on waiting");
+    assert!(rt; port.waiting().len() == 1, "what waits goes on waiting");
+}
 
+#[test]
+fn a_refused_send_takes_no_room(rt: HostRuntime) {
+    let mut port = ip_port(rt.alloc());
+    assert!(rt; pushes(&mut port, rt.alloc(), b"ping"));
     port.set_room(1);
-    let leave = port.transmit(Instant::ZERO).ok_or("leave to send")?;
-    let refused = port.send(leave, usize::MAX, |_buffer: &mut [u8]| {});
-    assert!(rt; refused.is_err());
-    assert_eq!(rt; port.room(), 1, "a refused send takes no room");
+    assert!(rt; refuses(&mut port) && port.room() == 1);
     assert!(rt; echo(&mut port));
-    assert_eq!(rt; port.room(), 0);
-    Ok(())
+    assert!(rt; port.room() == 0);
 }
 
 #[test]
 fn the_link_adds_frames(rt: HostRuntime) -> Result<(), Fail> {
-    let alloc = rt.alloc();
-    let mut port = ip_port(alloc);
+    let mut port = ip_port(rt.alloc());
     port.prepare(1, 100)?;
-    assert!(rt; sends_nothing(&mut port));
+    assert!(rt; sends(&mut port, 0));
     port.set_room(0);
-    port.add(b"piece".to_vec(alloc)?)?;
-    assert_eq!(rt; port.room(), 0);
+    port.add(b"piece".to_vec(rt.alloc())?)?;
+    assert!(rt; port.room() == 0);
     port.set_room(1);
-    assert!(rt; sends_nothing(&mut port));
-    let sent = port.sent();
-    assert_eq!(rt; sent.len(), 3);
-    assert_eq!(rt; sent[0].len(), 0);
-    assert_eq!(rt; sent[1].as_slice(), b"piece".as_slice());
-    assert_eq!(rt; sent[2].len(), 0);
+    assert!(rt; sends(&mut port, 0));
+    assert!(rt; port.sent().len() == 3 && sent(&port, 1, b"piece"));
+    assert!(rt; sent(&port, 0, b"") && sent(&port, 2, b""));
     Ok(())
 }
 
 #[test]
-fn many_and_long_frames_are_not_refused(rt: HostRuntime) -> Result<(), Fail> {
+fn many_frames_are_not_refused(rt: HostRuntime) {
     let mut port = ip_port(rt.alloc());
     for _ in 0..300 {
-        port.push(b"ping".to_vec(rt.alloc())?)?;
+        assert!(rt; pushes(&mut port, rt.alloc(), b"ping"));
     }
     for _ in 0..300 {
         assert!(rt; echo(&mut port));
     }
+    assert!(rt; port.sent().len() == 300 && port.refusals() == 0);
+}
+
+#[test]
+fn long_frames_are_not_refused(rt: HostRuntime) {
+    let mut port = ip_port(rt.alloc());
     for length in [0, 65_535, 70_000] {
-        let leave = port.transmit(Instant::ZERO).ok_or("leave to send")?;
-        port.send(leave, length, |buffer: &mut [u8]| buffer.fill(7))?;
+        assert!(rt; sends(&mut port, length));
     }
-    assert_eq!(rt; port.sent().len(), 303);
-    assert_eq!(rt; port.refusals(), 0);
-    Ok(())
+    assert!(rt; port.sent().len() == 3 && port.refusals() == 0);
 }

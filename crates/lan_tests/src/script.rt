@@ -20,8 +20,11 @@ fn assert_replay(
     let mut reader = script.as_bytes();
     let mut writer = Vec::new(alloc);
     let found = replay(alloc, &mut reader, &mut writer);
-    assert_eq!(rt; String::from_utf8(writer)?.as_str(), output, "of {script}");
-    assert_eq!(rt; found, status, "of {script}");
+    assert!(rt;
+        String::from_utf8(writer)?.as_str() == output,
+        "of {script}"
+    );
+    assert!(rt; found == status, "of {script}");
     Ok(())
 }
 

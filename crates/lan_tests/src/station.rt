@@ -172,7 +172,7 @@ fn play(
 ) -> Result<(), Fail> {
     for (call, want) in calls {
         let answer = answer(rt, host, call)?;
-        assert_eq!(rt; answer.as_str(), *want);
+        assert!(rt; answer.as_str() == *want);
     }
     Ok(())
 }
@@ -226,13 +226,13 @@ fn act(rt: &(impl Abort + AllocGlobal), host: &mut Station, event: &Event) -> Re
         Ok(answers) => answers,
         // One allocation was made to fail (`--fail-alloc`): the host is as it was.
         Err(_) => {
-            assert_eq!(rt; host.sent().len(), sent);
+            assert!(rt; host.sent().len() == sent);
             host.act(event)?
         }
     };
     let text = text_of(rt.alloc(), &answer)?;
     let twin = text_of(rt.alloc(), &twin)?;
-    assert_eq!(rt; text.as_str(), twin.as_str());
+    assert!(rt; text.as_str() == twin.as_str());
     Ok(text)
 }
 
@@ -252,7 +252,7 @@ fn text_of(alloc: Global, answer: &Answer) -> Result<String, AllocError> {
 #[test]
 fn sends_the_worked_frame(rt: HostRuntime) -> Result<(), Fail> {
     let mut left = host(rt.alloc(), LEFT, 1500, &QUEUES)?;
-    assert_eq!(rt; left.mtu(), 1500);
+    assert!(rt; left.mtu() == 1500);
     play(
         &rt,
         &mut left,

@@ -10,4 +10,6 @@ mod packet_buffer;
 #[cfg(test)]
 mod ring_buffer;
 #[cfg(test)]
+mod text;
+#[cfg(test)]
 mod time;

@@ -291,43 +291,99 @@ fn takes(queue: &mut PacketBuffer<u16>, bytes: &[u8]) -> Result<bool, Empty>
     Ok(taken == bytes)
 }
 
+/// The first packet's header and length, and what is copied of it into three bytes.
+fn copied(queue: &mut PacketBuffer<u16>) -> Result<((u16, usize), [u8; 3]), Empty> {
+    let mut slice = [b'.'; 3];
+    let first = queue.dequeue_slice(&mut slice)?;
+    Ok((first, slice))
+}
+
+/// A call that copies or reads, and what it must answer.
+#[derive(Clone, Copy)]
+enum Call<'a> {
+    /// A packet of this header and these bytes is copied into the queue.
+    Copies(u16, &'a [u8]),
+    /// There is no room for it.
+    Refuses(u16, &'a [u8]),
+    /// The first packet has these bytes, and it is taken.
+    Reads(&'a [u8]),
+    /// The first packet has this header and length, and begins so.
+    Copied(u16, usize, [u8; 3]),
+    /// The first packet has this header, and it is let go.
+    Discards(u16),
+    /// The first packet, of so many bytes, is offered and then let go.
+    Settles(usize),
+}
+
+/// Whether the call answers as it says.
+fn answers(queue: &mut PacketBuffer<u16>, call: &Call) -> bool {
+    match call {
+        Call::Copies(header, bytes) => queue.enqueue_slice(*header, bytes) == Ok(()),
+        Call::Refuses(header, bytes) => queue.enqueue_slice(*header, bytes) == Err(Full),
+        Call::Reads(bytes) => takes(queue, bytes) == Ok(true),
+        Call::Copied(header, size, bytes) => copied(queue) == Ok(((*header, *size), *bytes)),
+        Call::Discards(header) => queue.discard_first() == Ok(*header),
+        Call::Settles(size) => offers_and_settles(queue) == Ok(*size),
+    }
+}
+
+/// The first of the calls that doesn't answer as it says, counted from 0.
+fn first_wrong_call(queue: &mut PacketBuffer<u16>, calls: &[Call]) -> Option<usize> {
+    for (i, call) in calls.iter().enumerate() {
+        if !answers(queue, call) {
+            return Some(i);
+        }
+    }
+    None
+}
+
 #[test]
 fn reads_packets_where_they_lie(rt: HostRuntime) -> Result<(), Fail> {
     let mut queue = queue_of(&rt, 4, 8)?;
-    assert_eq!(rt; takes(&mut queue, b""), Err(Empty));
-    assert_eq!(rt; queue.enqueue_slice(1, b"abcde"), Ok(()));
-    assert_eq!(rt; queue.enqueue_slice(2, b"fg"), Ok(()));
-    assert_eq!(rt; takes(&mut queue, b"abcde"), Ok(true));
-    // One byte of padding comes before it.
-    assert_eq!(rt; queue.enqueue_slice(3, b"hij"), Ok(()));
-    assert_eq!(rt; queue.payload_bytes_count(), 6);
-    assert_eq!(rt; takes(&mut queue, b"fg"), Ok(true));
-    assert!(rt; shows(&mut queue, 3, b"hij"));
-    assert_eq!(rt; takes(&mut queue, b"hij"), Ok(true));
-    assert_eq!(rt; queue.payload_bytes_count(), 0);
+    let calls = [
+        Call::Copies(1, b"abcde"),
+        Call::Copies(2, b"fg"),
+        Call::Reads(b"abcde"),
+        // One byte of padding comes before it.
+        Call::Copies(3, b"hij"),
+    ];
+    assert!(rt; first_wrong_call(&mut queue, &calls).is_none());
+    assert!(rt; queue.payload_bytes_count() == 6);
+    let calls = [Call::Reads(b"fg"), Call::Reads(b"hij")];
+    assert!(rt; first_wrong_call(&mut queue, &calls).is_none());
+    assert!(rt; queue.payload_bytes_count() == 0);
     Ok(())
 }
 
 #[test]
 fn copies_packets(rt: HostRuntime) -> Result<(), Fail> {
     let mut queue = queue_of(&rt, 3, 8)?;
-    assert_eq!(rt; queue.enqueue_slice(1, b"abcde"), Ok(()));
-    assert_eq!(rt; queue.enqueue_slice(2, b"fghi"), Err(Full));
-    assert_eq!(rt; queue.enqueue_slice(2, b"fg"), Ok(()));
-    let mut short = [0; 3];
-    assert_eq!(rt; queue.dequeue_slice(&mut short), Ok((1, 5)));
-    assert_eq!(rt; short, *b"abc");
-    assert_eq!(rt; queue.enqueue_slice(3, b"hij"), Ok(()));
-    assert_eq!(rt; queue.payload_bytes_count(), 6);
-    let mut long = [b'.'; 3];
-    assert_eq!(rt; queue.dequeue_slice(&mut long), Ok((2, 2)));
-    assert_eq!(rt; long, *b"fg.");
-    assert_eq!(rt; queue.enqueue_slice(4, b"kl"), Ok(()));
-    assert_eq!(rt; queue.discard_first(), Ok(3));
-    assert_eq!(rt; offers_and_settles(&mut queue), Ok(2));
-    assert_eq!(rt; queue.payload_bytes_count(), 0);
-    assert_eq!(rt; queue.discard_first(), Err(Empty));
-    assert_eq!(rt; queue.dequeue_slice(&mut long), Err(Empty));
+    let calls = [
+        Call::Copies(1, b"abcde"),
+        Call::Refuses(2, b"fghi"),
+        Call::Copies(2, b"fg"),
+        Call::Copied(1, 5, *b"abc"),
+        Call::Copies(3, b"hij"),
+    ];
+    assert!(rt; first_wrong_call(&mut queue, &calls).is_none());
+    assert!(rt; queue.payload_bytes_count() == 6);
+    let calls = [
+        Call::Copied(2, 2, *b"fg."),
+        Call::Copies(4, b"kl"),
+        Call::Discards(3),
+        Call::Settles(2),
+    ];
+    assert!(rt; first_wrong_call(&mut queue, &calls).is_none());
+    assert!(rt; queue.payload_bytes_count() == 0);
+    Ok(())
+}
+
+#[test]
+fn an_empty_queue_has_nothing_to_read(rt: HostRuntime) -> Result<(), Fail> {
+    let mut queue = queue_of(&rt, 4, 8)?;
+    assert!(rt; takes(&mut queue, b"") == Err(Empty));
+    assert!(rt; queue.discard_first() == Err(Empty));
+    assert!(rt; copied(&mut queue) == Err(Empty));
     Ok(())
 }
 
@@ -336,11 +392,8 @@ fn prints_what_it_holds(rt: HostRuntime) -> Result<(), Fail> {
     let mut queue = queue_of(&rt, 1, 2)?;
     assert!(rt; put(&mut queue, 7, b"a"));
     let text = format!(in rt.alloc(); "{queue:?}")?;
-    let parts = [
-        "PacketBuffer { metadata: RingBuffer { storage: [PacketMetadata { size: 1, header: Some(7) }], read_at: 0, length: 1 }, ",
-        "payload: RingBuffer { storage: [97, 0], read_at: 0, length: 1 } }",
-    ];
-    let wanted = format!(in rt.alloc(); "{}{}", parts[0], parts[1])?;
-    assert!(rt; text.as_str() == wanted.as_str());
+    let wanted =
+        "PacketBuffer { metadata: RingBuffer { storage: [PacketMetadata { size: 1, header: Some(7) }], read_at: 0, length: 1 }, payload: RingBuffer { storage: [97, 0], read_at: 0, length: 1 } }";
+    assert!(rt; text.as_str() == wanted);
     Ok(())
 }

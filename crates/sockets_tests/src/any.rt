@@ -3,18 +3,18 @@ use crate::common::{context, queue};
 use ip_wire::{IpAddress, IpEndpoint, IpListenEndpoint};
 use sockets::udp::UdpMetadata;
 use sockets::{AnySocket, Offer, PollAt, Socket, icmp, raw, udp};
-use std::test::Fail;
+use std::process::Abort;
 
-fn raw_socket(rt: &HostRuntime) -> Result<Socket, Fail> {
-    Ok(raw::Socket::new(None, None, queue(rt, 64)?, queue(rt, 64)?).upcast())
+fn raw_socket(rt: &(impl Abort + AllocGlobal)) -> Socket {
+    raw::Socket::new(None, None, queue(rt, 64), queue(rt, 64)).upcast()
 }
 
-fn icmp_socket(rt: &HostRuntime) -> Result<Socket, Fail> {
-    Ok(icmp::Socket::new(queue(rt, 64)?, queue(rt, 64)?).upcast())
+fn icmp_socket(rt: &(impl Abort + AllocGlobal)) -> Socket {
+    icmp::Socket::new(queue(rt, 64), queue(rt, 64)).upcast()
 }
 
-fn udp_socket(rt: &HostRuntime) -> Result<Socket, Fail> {
-    Ok(udp::Socket::new(queue(rt, 64)?, queue(rt, 64)?).upcast())
+fn udp_socket(rt: &(impl Abort + AllocGlobal)) -> Socket {
+    udp::Socket::new(queue(rt, 64), queue(rt, 64)).upcast()
 }
 
 /// Of which kinds the socket is: raw, ICMP, UDP.
@@ -27,36 +27,48 @@ fn kinds(socket: &Socket) -> [bool; 3] {
 }
 
 #[test]
-fn a_socket_is_of_its_own_kind(rt: HostRuntime) -> Result<(), Fail> {
-    assert_eq!(rt; kinds(&raw_socket(&rt)?), [true, false, false]);
-    assert_eq!(rt; kinds(&icmp_socket(&rt)?), [false, true, false]);
-    assert_eq!(rt; kinds(&udp_socket(&rt)?), [false, false, true]);
-    Ok(())
+fn a_socket_is_of_its_own_kind(rt: HostRuntime) {
+    assert!(rt; kinds(&raw_socket(&rt)) == [true, false, false]);
+    assert!(rt; kinds(&icmp_socket(&rt)) == [false, true, false]);
+    assert!(rt; kinds(&udp_socket(&rt)) == [false, false, true]);
+}
+
+fn queues_a_datagram(socket: &mut udp::Socket) -> bool {
+    let remote = IpEndpoint::new(IpAddress::v4(192, 168, 1, 2), 53);
+    let local = IpListenEndpoint {
+        addr: None,
+        port: 48896,
+    };
+    socket.bind(local).is_ok() && socket.send_slice(b"abc", UdpMetadata::from(remote)).is_ok()
+}
+
+/// Whether the socket is due now and offers a datagram of eleven bytes.
+fn offers(any: &mut Socket) -> bool {
+    let cx = context();
+    any.poll_at(&cx) == PollAt::Now
+        && any.offer(&cx) == (Offer::Packet { changed: false })
+        && match any.offered() {
+            Some(packet) => packet.ip_repr().payload_len() == 11,
+            None => false,
+        }
+}
+
+/// Whether the socket waits, and offers nothing.
+fn is_silent(any: &mut Socket) -> bool {
+    let cx = context();
+    any.poll_at(&cx) == PollAt::Ingress && any.offer(&cx) == (Offer::Silent { changed: false })
 }
 
 #[test]
-fn any_socket_offers_and_settles(rt: HostRuntime) -> Result<(), Fail> {
-    let mut any = udp_socket(&rt)?;
-    let cx = context();
-    assert!(rt; any.poll_at(&cx) == PollAt::Ingress);
+fn any_socket_offers_and_settles(rt: HostRuntime) {
+    let mut any = udp_socket(&rt);
+    assert!(rt; is_silent(&mut any));
     if let Some(socket) = <udp::Socket as AnySocket>::downcast_mut(&mut any) {
-        socket.bind(IpListenEndpoint {
-            addr: None,
-            port: 48896,
-        })?;
-        let remote = IpEndpoint::new(IpAddress::v4(192, 168, 1, 2), 53);
-        socket.send_slice(b"abc", UdpMetadata::from(remote))?;
+        assert!(rt; queues_a_datagram(socket));
     }
-    for sent in [false, true] {
-        assert!(rt; any.poll_at(&cx) == PollAt::Now);
-        assert!(rt; any.offer(&cx) == (Offer::Packet { changed: false }));
-        match any.offered() {
-            Some(packet) => assert_eq!(rt; packet.ip_repr().payload_len(), 11),
-            None => assert!(rt; false),
-        }
-        any.settle(sent);
-    }
-    assert!(rt; any.poll_at(&cx) == PollAt::Ingress);
-    assert!(rt; any.offer(&cx) == (Offer::Silent { changed: false }));
-    Ok(())
+    assert!(rt; offers(&mut any));
+    any.settle(false);
+    assert!(rt; offers(&mut any));
+    any.settle(true);
+    assert!(rt; is_silent(&mut any));
 }

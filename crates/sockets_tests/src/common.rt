@@ -2,7 +2,8 @@
 use ip_wire::IpAddress;
 use net_base::{ChecksumCapabilities, Instant, ManagedSlice, PacketBuffer, PacketMetadata, Rand};
 use sockets::Context;
-use std::test::Fail;
+use std::fmt::Display;
+use std::process::Abort;
 
 /// A context of one moment that has no address and takes every destination's own address as the source.
 #[derive(Drop)]
@@ -58,16 +59,22 @@ pub fn context() -> Echoes {
 }
 
 /// A queue of two entries and so many bytes.
-pub fn queue<H>(rt: &HostRuntime, bytes: usize) -> Result<PacketBuffer<H>, Fail>
+pub fn queue<H>(rt: &(impl Abort + AllocGlobal), bytes: usize) -> PacketBuffer<H>
 where
     H: Drop,
 {
     let mut entries = Vec::new(rt.alloc());
     for _ in 0..2 {
-        entries.push(PacketMetadata::EMPTY)?;
+        entries.push(PacketMetadata::EMPTY).expect(rt, "memory");
     }
-    Ok(PacketBuffer::new(
-        ManagedSlice::Fixed(entries),
-        ManagedSlice::Fixed(vec![in rt.alloc(); 0; bytes]?),
-    ))
+    let room = vec![in rt.alloc(); 0; bytes].expect(rt, "memory");
+    PacketBuffer::new(ManagedSlice::Fixed(entries), ManagedSlice::Fixed(room))
+}
+
+/// Whether the value's text is this one.
+pub fn prints<T: Display>(rt: &(impl Abort + AllocGlobal), value: &T, text: &str) -> bool {
+    match value.to_string(rt.alloc()) {
+        Ok(found) => found.as_str() == text,
+        Err(_) => false,
+    }
 }

@@ -1,12 +1,12 @@
 //! Messages of other programs, sent and received by a socket.
-use crate::common::{context, queue};
+use crate::common::{context, prints, queue};
 use control_wire::{Icmpv4DstUnreachable, Icmpv4Repr, Icmpv6Repr};
 use ip_wire::{
     IpAddress, IpListenEndpoint, IpProtocol, Ipv4Address, Ipv4Repr, Ipv6Address, Ipv6Repr,
 };
 use sockets::icmp::{BindError, Endpoint, RecvError, SendError, Socket};
 use sockets::{IpPayload, Offer, Packet, PollAt};
-use std::test::Fail;
+use std::process::Abort;
 
 /// An echo request with 0 for its checksum, which is e5ca.
 const REQUEST: [u8; 8] = [0x08, 0x00, 0x00, 0x00, 0x12, 0x34, 0x00, 0x01];
@@ -24,8 +24,8 @@ const DATAGRAM: [u8; 12] = [
     0xbf, 0x00, 0x00, 0x35, 0x00, 0x0c, 0x12, 0x4d, 0xaa, 0x00, 0x00, 0xff,
 ];
 
-fn socket(rt: &HostRuntime) -> Result<Socket, Fail> {
-    Ok(Socket::new(queue(rt, 64)?, queue(rt, 64)?))
+fn socket(rt: &(impl Abort + AllocGlobal)) -> Socket {
+    Socket::new(queue(rt, 64), queue(rt, 64))
 }
 
 /// The header of a packet from 192.168.1.2 to 192.168.1.1.
@@ -66,10 +66,10 @@ fn port_unreachable(bytes: &[u8]) -> Icmpv4Repr<'_> {
     }
 }
 
-fn bound(rt: &HostRuntime, endpoint: Endpoint) -> Result<Socket, Fail> {
-    let mut socket = socket(rt)?;
-    socket.bind(endpoint)?;
-    Ok(socket)
+fn bound(rt: &(impl Abort + AllocGlobal), endpoint: Endpoint) -> Socket {
+    let mut socket = socket(rt);
+    assert!(rt; socket.bind(endpoint).is_ok());
+    socket
 }
 
 fn is_request(packet: &Packet<'_>) -> bool {
@@ -98,136 +98,180 @@ fn offers_request(socket: &Socket) -> bool {
     }
 }
 
-#[test]
-fn a_reply_is_read(rt: HostRuntime) -> Result<(), Fail> {
-    let mut socket = socket(&rt)?;
-    let ip_repr = header(IpProtocol::Icmp, 8);
-    assert!(rt; !socket.accepts_v4(&ip_repr, &reply(0x1234)));
-    assert!(rt; socket.bind(Endpoint::Unspecified) == Err(BindError::Unaddressable));
-    assert!(rt; socket.bind(Endpoint::Ident(0x1234)).is_ok());
-    assert!(rt; socket.bind(Endpoint::Ident(1)) == Err(BindError::InvalidState));
-    assert!(rt; socket.accepts_v4(&ip_repr, &reply(0x1234)));
-    assert!(rt; !socket.accepts_v4(&ip_repr, &reply(0x1235)));
-    assert!(rt; !socket.accepts_v4(&ip_repr, &port_unreachable(&DATAGRAM)));
-    socket.process_v4(&ip_repr, &reply(0x1234));
-    socket.process_v4(&ip_repr, &reply(0x1234));
-    let mut eight = [0; 8];
-    let (count, remote) = socket.recv_slice(&mut eight)?;
-    assert_eq!(rt; count, 8);
-    assert_eq!(rt; eight, REPLY);
-    assert!(rt; remote == IpAddress::v4(192, 168, 1, 2));
-    let mut four = [0; 4];
-    assert!(rt; socket.recv_slice(&mut four) == Err(RecvError::Truncated));
-    assert!(rt; socket.recv_slice(&mut four) == Err(RecvError::Exhausted));
-    Ok(())
+/// Whether the socket takes a reply to this identifier.
+fn takes_reply(socket: &Socket, ident: u16) -> bool {
+    socket.accepts_v4(&header(IpProtocol::Icmp, 8), &reply(ident))
+}
+
+/// Whether the socket takes an error that quotes these bytes.
+fn takes_error(socket: &Socket, bytes: &[u8]) -> bool {
+    socket.accepts_v4(&header(IpProtocol::Icmp, 40), &port_unreachable(bytes))
 }
 
 #[test]
-fn a_reply_over_ipv6_is_read(rt: HostRuntime) -> Result<(), Fail> {
-    let mut socket = bound(&rt, Endpoint::Ident(0x1234))?;
-    let ip_repr = Ipv6Repr {
-        src_addr: Ipv6Address::new(0xfd00, 0, 0, 0, 0, 0, 0, 2),
-        dst_addr: Ipv6Address::new(0xfd00, 0, 0, 0, 0, 0, 0, 1),
-        next_header: IpProtocol::Icmpv6,
-        payload_len: 11,
-        hop_limit: 64,
-    };
+fn a_socket_is_bound_once(rt: HostRuntime) {
+    let mut socket = socket(&rt);
+    assert!(rt; socket.bind(Endpoint::Unspecified) == Err(BindError::Unaddressable));
+    assert!(rt; socket.bind(Endpoint::Ident(0x1234)).is_ok());
+    assert!(rt; socket.bind(Endpoint::Ident(1)) == Err(BindError::InvalidState));
+    assert!(rt; takes_reply(&socket, 0x1234));
+}
+
+#[test]
+fn a_reply_is_for_its_identifier(rt: HostRuntime) {
+    assert!(rt; !takes_reply(&socket(&rt), 0x1234));
+    let socket = bound(&rt, Endpoint::Ident(0x1234));
+    assert!(rt; takes_reply(&socket, 0x1234));
+    assert!(rt; !takes_reply(&socket, 0x1235));
+    assert!(rt; !takes_error(&socket, &DATAGRAM));
+}
+
+/// Whether the reply is read as other programs write it.
+fn reads_reply(socket: &mut Socket) -> bool {
+    let mut read = [0; 8];
+    socket.recv_slice(&mut read) == Ok((8, IpAddress::v4(192, 168, 1, 2))) && read == REPLY
+}
+
+/// The answer to a read of four bytes at most.
+fn short_read(socket: &mut Socket) -> Option<RecvError> {
+    let mut four = [0; 4];
+    socket.recv_slice(&mut four).err()
+}
+
+#[test]
+fn a_reply_is_read(rt: HostRuntime) {
+    let mut socket = bound(&rt, Endpoint::Ident(0x1234));
+    for _ in 0..2 {
+        socket.process_v4(&header(IpProtocol::Icmp, 8), &reply(0x1234));
+    }
+    assert!(rt; reads_reply(&mut socket));
+    assert!(rt; short_read(&mut socket) == Some(RecvError::Truncated));
+    assert!(rt; short_read(&mut socket) == Some(RecvError::Exhausted));
+}
+
+/// A message from fd00::2 to fd00::1.
+const HEADER_V6: Ipv6Repr = Ipv6Repr {
+    src_addr: Ipv6Address([0xfd, 0, 0, 0, 0, 0, 0, 0, 0, 0, 0, 0, 0, 0, 0, 2]),
+    dst_addr: Ipv6Address([0xfd, 0, 0, 0, 0, 0, 0, 0, 0, 0, 0, 0, 0, 0, 0, 1]),
+    next_header: IpProtocol::Icmpv6,
+    payload_len: 11,
+    hop_limit: 64,
+};
+
+#[test]
+fn a_reply_over_ipv6_is_read(rt: HostRuntime) {
+    let mut socket = bound(&rt, Endpoint::Ident(0x1234));
     let icmp_repr = Icmpv6Repr::EchoReply {
         ident: 0x1234,
         seq_no: 0xabcd,
         bytes: &[0xaa, 0, 0],
     };
-    assert!(rt; socket.accepts_v6(&ip_repr, &icmp_repr));
-    socket.process_v6(&ip_repr, &icmp_repr);
+    assert!(rt; socket.accepts_v6(&HEADER_V6, &icmp_repr));
+    socket.process_v6(&HEADER_V6, &icmp_repr);
     let mut read = [0; 11];
-    let (count, _) = socket.recv_slice(&mut read)?;
-    assert_eq!(rt; count, 11);
-    assert_eq!(rt; read, REPLY_V6);
-    Ok(())
+    let remote = IpAddress::Ipv6(HEADER_V6.src_addr);
+    assert!(rt; socket.recv_slice(&mut read) == Ok((11, remote)));
+    assert!(rt; read == REPLY_V6);
+}
+
+/// Port 48896, at one address or at all.
+fn sender(addr: Option<IpAddress>) -> IpListenEndpoint {
+    IpListenEndpoint { addr, port: 48896 }
+}
+
+/// Whether a socket of this endpoint takes an error that quotes the datagram.
+fn is_told(rt: &(impl Abort + AllocGlobal), endpoint: Endpoint) -> bool {
+    takes_error(&bound(rt, endpoint), &DATAGRAM)
 }
 
 #[test]
-fn an_error_is_for_the_port_that_it_quotes(rt: HostRuntime) -> Result<(), Fail> {
-    let ip_repr = header(IpProtocol::Icmp, 40);
-    let mut sender = IpListenEndpoint {
-        addr: None,
-        port: 48896,
-    };
-    let socket = bound(&rt, Endpoint::Udp(sender))?;
-    assert!(rt; socket.accepts_v4(&ip_repr, &port_unreachable(&DATAGRAM)));
-    assert!(rt; socket.accepts_v4(&ip_repr, &port_unreachable(&DATAGRAM[..8])));
-    assert!(rt; !socket.accepts_v4(&ip_repr, &port_unreachable(&DATAGRAM[..7])));
-    assert!(rt; !socket.accepts_v4(&ip_repr, &reply(48896)));
-    let socket = bound(&rt, Endpoint::Tcp(sender))?;
-    assert!(rt; !socket.accepts_v4(&ip_repr, &port_unreachable(&DATAGRAM)));
-    sender.addr = Some(IpAddress::v4(192, 168, 1, 1));
-    let socket = bound(&rt, Endpoint::Udp(sender))?;
-    assert!(rt; socket.accepts_v4(&ip_repr, &port_unreachable(&DATAGRAM)));
-    sender.addr = Some(IpAddress::v4(192, 168, 1, 3));
-    let socket = bound(&rt, Endpoint::Udp(sender))?;
-    assert!(rt; !socket.accepts_v4(&ip_repr, &port_unreachable(&DATAGRAM)));
-    Ok(())
+fn an_error_is_for_the_port_that_it_quotes(rt: HostRuntime) {
+    let (near, far) = (IpAddress::v4(192, 168, 1, 1), IpAddress::v4(192, 168, 1, 3));
+    assert!(rt; is_told(&rt, Endpoint::Udp(sender(None))));
+    assert!(rt; !is_told(&rt, Endpoint::Tcp(sender(None))));
+    assert!(rt; is_told(&rt, Endpoint::Udp(sender(Some(near)))));
+    assert!(rt; !is_told(&rt, Endpoint::Udp(sender(Some(far)))));
 }
 
 #[test]
-fn an_unsent_message_stays_first(rt: HostRuntime) -> Result<(), Fail> {
-    let mut socket = socket(&rt)?;
-    let cx = context();
-    let remote = IpAddress::v4(192, 168, 1, 2);
-    assert!(rt; socket.poll_at() == PollAt::Ingress);
-    assert!(rt; socket.offer(&cx) == (Offer::Silent { changed: false }));
+fn an_error_quotes_eight_bytes(rt: HostRuntime) {
+    let socket = bound(&rt, Endpoint::Udp(sender(None)));
+    assert!(rt; takes_error(&socket, &DATAGRAM[..8]));
+    assert!(rt; !takes_error(&socket, &DATAGRAM[..7]));
+    assert!(rt; !takes_reply(&socket, 48896));
+}
+
+/// The answer where this is sent to 192.168.1.2.
+fn sends(socket: &mut Socket, bytes: &[u8]) -> Result<(), SendError> {
+    socket.send_slice(bytes, IpAddress::v4(192, 168, 1, 2))
+}
+
+#[test]
+fn a_full_queue_takes_no_more(rt: HostRuntime) {
+    let mut socket = socket(&rt);
     let nobody = IpAddress::v4(0, 0, 0, 0);
     assert!(rt; socket.send_slice(&REQUEST, nobody) == Err(SendError::Unaddressable));
-    assert!(rt; socket.send_slice(&REQUEST, remote).is_ok());
-    assert!(rt; socket.send_slice(&REQUEST, remote).is_ok());
-    assert!(rt; socket.send_slice(&REQUEST, remote) == Err(SendError::BufferFull));
+    assert!(rt; sends(&mut socket, &REQUEST).is_ok());
+    assert!(rt; sends(&mut socket, &REQUEST).is_ok());
+    assert!(rt; sends(&mut socket, &REQUEST) == Err(SendError::BufferFull));
+}
+
+/// Whether the socket is due now and offers the request.
+fn offers(socket: &mut Socket) -> bool {
+    socket.poll_at() == PollAt::Now
+        && socket.offer(&context()) == (Offer::Packet { changed: false })
+        && offers_request(socket)
+}
+
+/// Whether the socket hands out the request.
+fn dispatches(socket: &mut Socket) -> bool {
+    let answer = socket.dispatch(&context(), |packet: Packet<'_>| {
+        if is_request(&packet) { Ok(()) } else { Err(()) }
+    });
+    answer.is_ok()
+}
+
+#[test]
+fn an_unsent_message_stays_first(rt: HostRuntime) {
+    let mut socket = socket(&rt);
+    assert!(rt; sends(&mut socket, &REQUEST).is_ok());
+    assert!(rt; sends(&mut socket, &REQUEST).is_ok());
     for sent in [false, false, true] {
-        assert!(rt; socket.poll_at() == PollAt::Now);
-        assert!(rt; socket.offer(&cx) == (Offer::Packet { changed: false }));
-        assert!(rt; offers_request(&socket));
+        assert!(rt; offers(&mut socket));
         socket.settle(sent);
     }
     assert!(rt; socket.offered().is_none());
-    let answer = socket.dispatch(&cx, |packet: Packet<'_>| {
-        if is_request(&packet) { Ok(()) } else { Err(()) }
-    });
-    assert!(rt; answer.is_ok());
+    assert!(rt; dispatches(&mut socket));
     assert!(rt; socket.poll_at() == PollAt::Ingress);
-    Ok(())
+}
+
+/// Whether the socket waits after an offer of nothing.
+fn is_silent(socket: &mut Socket, changed: bool) -> bool {
+    socket.offer(&context()) == (Offer::Silent { changed }) && socket.poll_at() == PollAt::Ingress
 }
 
 #[test]
-fn what_is_no_message_is_dropped(rt: HostRuntime) -> Result<(), Fail> {
-    let mut socket = socket(&rt)?;
-    let cx = context();
-    assert!(rt;
-        socket
-            .send_slice(&REQUEST[..7], IpAddress::v4(192, 168, 1, 2))
-            .is_ok()
-    );
-    assert!(rt; socket.offer(&cx) == (Offer::Silent { changed: true }));
+fn an_empty_queue_is_silent(rt: HostRuntime) {
+    let mut socket = socket(&rt);
     assert!(rt; socket.poll_at() == PollAt::Ingress);
-    let ipv6 = IpAddress::v6(0xfd00, 0, 0, 0, 0, 0, 0, 2);
+    assert!(rt; is_silent(&mut socket, false));
+}
+
+#[test]
+fn what_is_no_message_is_dropped(rt: HostRuntime) {
+    let mut socket = socket(&rt);
+    let ipv6 = IpAddress::Ipv6(HEADER_V6.src_addr);
+    assert!(rt; sends(&mut socket, &REQUEST[..7]).is_ok());
+    assert!(rt; is_silent(&mut socket, true));
     assert!(rt; socket.send_slice(&REQUEST, ipv6).is_ok());
-    assert!(rt; socket.offer(&cx) == (Offer::Silent { changed: true }));
+    assert!(rt; is_silent(&mut socket, true));
     assert!(rt; socket.send_slice(&REPLY_V6, ipv6).is_ok());
-    assert!(rt; socket.offer(&cx) == (Offer::Packet { changed: false }));
-    Ok(())
+    assert!(rt; socket.offer(&context()) == (Offer::Packet { changed: false }));
 }
 
 #[test]
-fn texts_name_the_errors(rt: HostRuntime) -> Result<(), Fail> {
-    assert_eq!(rt;
-        BindError::InvalidState.to_string(rt.alloc())?.as_str(),
-        "invalid state"
-    );
-    assert_eq!(rt;
-        SendError::BufferFull.to_string(rt.alloc())?.as_str(),
-        "buffer full"
-    );
-    assert_eq!(rt;
-        RecvError::Truncated.to_string(rt.alloc())?.as_str(),
-        "truncated"
-    );
-    Ok(())
+fn texts_name_the_errors(rt: HostRuntime) {
+    assert!(rt; prints(&rt, &BindError::InvalidState, "invalid state"));
+    assert!(rt; prints(&rt, &SendError::BufferFull, "buffer full"));
+    assert!(rt; prints(&rt, &RecvError::Truncated, "truncated"));
 }

@@ -12,4 +12,6 @@ mod packets;
 #[cfg(test)]
 mod raw;
 #[cfg(test)]
+mod tcp;
+#[cfg(test)]
 mod udp;

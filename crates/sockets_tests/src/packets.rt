@@ -17,11 +17,8 @@ fn a_datagram_is_written(rt: HostRuntime) {
         dst_port: 53,
     };
     let packet = Packet::new(header, IpPayload::Udp(ports, &[0xaa, 0, 0, 0xff]));
-    assert_eq!(rt; packet.payload().buffer_len(), 12);
+    assert!(rt; packet.payload().buffer_len() == 12);
     let mut buffer = [0; 12];
     packet.emit_payload(&mut buffer, &ChecksumCapabilities::default());
-    assert_eq!(rt;
-        buffer,
-        [0xbf, 0, 0, 0x35, 0, 0x0c, 0x12, 0x4d, 0xaa, 0, 0, 0xff]
-    );
+    assert!(rt; buffer == [0xbf, 0, 0, 0x35, 0, 0x0c, 0x12, 0x4d, 0xaa, 0, 0, 0xff]);
 }
