@@ -1,0 +1,79 @@
+//! A listener that falls back, and two sockets that call each other.
+use crate::common::Line::{In, Step};
+use crate::common::{Do, Line, Says, pair, play};
+use ip_wire::SeqNumber;
+use std::test::Fail;
+use tcp_pairs::{Pair, Side, TcpFault};
+use tcp_socket::State;
+
+/// A reset takes the listener back, and an old SYN opens it again. The one that called is closed, so nothing comes of it.
+const FELL_BACK: [Line; 15] = [
+    Step(Do::Listen(Side::B, 80), Says::Done),
+    Step(Do::Connect(Side::A, 80, 49500), Says::Done),
+    Step(Do::Offer(Side::A, 0), Says::Done),
+    Step(Do::Deliver(Side::A, 0), Says::Done),
+    Step(Do::Offer(Side::B, 0), Says::Done),
+    Step(Do::Abort(Side::A), Says::Done),
+    Step(Do::Offer(Side::A, 0), Says::Done),
+    Step(Do::Deliver(Side::A, 1), Says::Done),
+    In(State::Closed, State::Listen),
+    Step(Do::Deliver(Side::A, 0), Says::Done),
+    Step(Do::Offer(Side::B, 0), Says::Done),
+    Step(Do::Deliver(Side::B, 0), Says::Done),
+    Step(Do::Deliver(Side::B, 1), Says::Done),
+    Step(Do::Recv(Side::B, 8), Says::Error(TcpFault::InvalidState)),
+    In(State::Closed, State::SynReceived),
+];
+
+/// Two SYNs cross, and go again with an acknowledgement a second later, which is answered; then bytes go each way.
+const CROSSED: [Line; 24] = [
+    Step(Do::Connect(Side::A, 80, 49500), Says::Done),
+    Step(Do::Connect(Side::B, 49500, 80), Says::Done),
+    Step(Do::Offer(Side::A, 0), Says::Done),
+    Step(Do::Offer(Side::B, 0), Says::Done),
+    Step(Do::Deliver(Side::A, 0), Says::Done),
+    Step(Do::Deliver(Side::B, 0), Says::Done),
+    Step(Do::Offer(Side::A, 1_000_000), Says::Done),
+    Step(Do::Offer(Side::B, 1_000_000), Says::Done),
+    Step(Do::Deliver(Side::A, 1), Says::Done),
+    Step(Do::Deliver(Side::B, 1), Says::Done),
+    Step(Do::Deliver(Side::B, 2), Says::Done),
+    Step(Do::Deliver(Side::A, 2), Says::Done),
+    In(State::Established, State::Established),
+    Step(Do::Send(Side::A, "abc"), Says::Count(3)),
+    Step(Do::Send(Side::B, "xyz"), Says::Count(3)),
+    Step(Do::Close(Side::B), Says::Done),
+    Step(Do::Offer(Side::A, 1_000_000), Says::Done),
+    Step(Do::Offer(Side::B, 1_000_000), Says::Done),
+    Step(Do::Deliver(Side::A, 3), Says::Done),
+    Step(Do::Deliver(Side::B, 3), Says::Done),
+    Step(Do::Recv(Side::B, 2), Says::Bytes("ab")),
+    Step(Do::Recv(Side::B, 2), Says::Bytes("c")),
+    Step(Do::Recv(Side::A, 8), Says::Bytes("xyz")),
+    Step(Do::Recv(Side::A, 8), Says::Error(TcpFault::Finished)),
+];
+
+/// Whether this is the number of B's segment k.
+fn has_number(pair: &Pair, k: usize, number: SeqNumber) -> bool {
+    match pair.sent(Side::B).get(k) {
+        Some(x) => x.segment.seq_number == number,
+        None => false,
+    }
+}
+
+/// The first numbers are the first two words of the listener's generator.
+#[test]
+fn a_listener_that_fell_back_takes_an_old_syn(rt: HostRuntime) -> Result<(), Fail> {
+    let mut pair = pair(&rt)?;
+    play(&rt, &mut pair, &FELL_BACK)?;
+    let first = has_number(&pair, 0, SeqNumber(2_541_647_419));
+    let second = has_number(&pair, 1, SeqNumber(3_377_040_402));
+    assert!(rt; first && second && pair.sent(Side::B).len() == 2);
+    Ok(())
+}
+
+#[test]
+fn both_call(rt: HostRuntime) -> Result<(), Fail> {
+    let mut pair = pair(&rt)?;
+    play(&rt, &mut pair, &CROSSED)
+}

@@ -1,0 +1,3 @@
+pub mod Context
+pub mod Ends
+pub mod Invariant

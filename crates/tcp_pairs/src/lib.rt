@@ -1,0 +1,13 @@
+//! Two TCP sockets over whatever lies between them, as a value that a program can run.
+#![tactic(auto)]
+
+mod answer;
+mod context;
+mod end;
+mod pair;
+
+pub use context::{IP_MTU, PairContext};
+pub use pair::Pair;
+pub use tcp_pair::{
+    Bytes, PairAnswer, PairEvent, PairRefused, SentSegment, Side, TcpFault, TcpSetting,
+};

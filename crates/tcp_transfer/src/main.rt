@@ -1,0 +1,238 @@
+//! A transfer over a link that loses every third segment, as a time-sequence picture: A on the left, B on the right, and
+//! each segment between them at its time in milliseconds, with its flags, its place in its stream, counted from the SYN,
+//! its length, and what it acknowledges. An `x` marks a loss.
+#![tactic(auto)]
+
+ghost use Rattle.std.specs.Prelude.{IfOk};
+ghost use Rattle.tcp.specs.Promises.{IsFresh};
+ghost use Rattle.tcp_pair.specs.Safe.{IsSafe};
+
+use anyhow::Result;
+use ip_wire::{IpAddress, IpEndpoint, IpListenEndpoint, TcpControl};
+use net_base::{Instant, ManagedSlice, RingBuffer};
+use std::alloc::{AllocError, AllocGlobal, Global};
+use std::process::Abort;
+use std::str;
+use tcp_pairs::{Bytes, Pair, PairAnswer, PairEvent, SentSegment, Side, TcpFault, TcpSetting};
+use tcp_socket::{Socket, State};
+
+const TEXT: &[u8; 60] = b"Whatever a network loses, the bytes that are read are these.";
+
+/// A closed socket with room for 64 bytes each way.
+fn socket(rt: &(impl Abort + AllocGlobal)) -> Result<Socket, AllocError>
+    ensures { IfOk result IsFresh }
+{
+    let rx = RingBuffer::new(ManagedSlice::Owned(vec![in rt.alloc(); 0u8; 64]?));
+    let tx = RingBuffer::new(ManagedSlice::Owned(vec![in rt.alloc(); 0u8; 64]?));
+    assert!(rt; Socket::fits_buffer(&rx));
+    assert!(rt; Socket::fits_buffer(&tx));
+    Ok(Socket::new(rx, tx))
+}
+
+/// A calls B. Each piece that A writes goes at once, and B acknowledges each segment.
+fn opening(alloc: Global) -> Result<Vec<PairEvent>, AllocError> {
+    let server = IpEndpoint {
+        addr: IpAddress::v4(192, 168, 1, 2),
+        port: 80,
+    };
+    Ok(vec![in alloc;
+        PairEvent::TcpSetting(Side::A, TcpSetting::NagleEnabled(false)),
+        PairEvent::TcpSetting(Side::B, TcpSetting::AckDelay(None)),
+        PairEvent::Listen(Side::B, port(80)),
+        PairEvent::Connect(Side::A, server, port(49500)),
+    ]?)
+}
+
+fn opened(rt: &(impl Abort + AllocGlobal)) -> Result<Pair>
+    ensures { IfOk result IsSafe }
+{
+    let a = socket(rt)?;
+    let b = socket(rt)?;
+    let events = opening(rt.alloc())?;
+    let mut pair = Pair::new(rt.alloc(), a, b);
+    match pair.run(events) {
+        Ok(()) => Ok(pair),
+        Err((_place, refused)) => Err(refused.into()),
+    }
+}
+
+fn port(port: u16) -> IpListenEndpoint {
+    IpListenEndpoint { addr: None, port }
+}
+
+/// The users: what A has still to write, and what B read.
+#[derive(Drop)]
+struct Users {
+    written: usize,
+    read: Vec<u8>,
+    read_all: bool,
+}
+
+/// A writes ten bytes more where it may, and closes behind the last; B reads, and closes at the end.
+fn act(alloc: Global, pair: &mut Pair, users: &mut Users) -> Result<()> {
+    if pair.socket(Side::A).may_send() {
+        let piece = TEXT.iter().skip(users.written).take(10);
+        let mut bytes = Vec::new(alloc);
+        for byte in piece {
+            bytes.push(*byte)?;
+        }
+        if bytes.is_empty() {
+            pair.step(PairEvent::Close(Side::A))?;
+        } else {
+            let event = PairEvent::Send(Side::A, Bytes::from_vec(bytes));
+            if let PairAnswer::Count(count) = pair.step(event)? {
+                users.written = users.written.saturating_add(count);
+            }
+        }
+    }
+    match pair.step(PairEvent::Recv(Side::B, 64))? {
+        PairAnswer::Bytes(bytes) => users.read.extend_from_slice(bytes.as_slice())?,
+        PairAnswer::Error(TcpFault::Finished) if !users.read_all => {
+            users.read_all = true;
+            pair.step(PairEvent::Close(Side::B))?;
+        }
+        _ => {}
+    }
+    Ok(())
+}
+
+/// What the link has carried of each side's segments, and how many in all.
+#[derive(Drop)]
+struct Link {
+    of_a: usize,
+    of_b: usize,
+    all: usize,
+}
+
+impl Link {
+    /// Carries the next segment of this side, if there is one, and shows it.
+    fn carry(&mut self, rt: &HostRuntime, pair: &mut Pair, from: Side, now: i64) -> Result<bool> {
+        let k = match from {
+            Side::A => self.of_a,
+            Side::B => self.of_b,
+        };
+        let (Some(first), Some(segment)) = (pair.sent(from).first(), pair.sent(from).get(k)) else {
+            return Ok(false);
+        };
+        let label = described(rt.alloc(), pair, from, first, segment)?;
+        self.all = self.all.saturating_add(1);
+        let lost = self.all % 3 == 0;
+        show(rt, now, from, label.as_str(), lost)?;
+        match from {
+            Side::A => self.of_a = k.saturating_add(1),
+            Side::B => self.of_b = k.saturating_add(1),
+        }
+        if !lost {
+            pair.step(PairEvent::Deliver(from, k))?;
+        }
+        Ok(true)
+    }
+}
+
+/// The number of the other side's first segment, its SYN.
+fn start_of(pair: &Pair, side: Side) -> u32 {
+    match pair.sent(side).first() {
+        Some(first) => first.segment.seq_number.0,
+        None => 0,
+    }
+}
+
+fn described(
+    alloc: Global,
+    pair: &Pair,
+    from: Side,
+    first: &SentSegment,
+    x: &SentSegment,
+) -> Result<String> {
+    let flags = match x.segment.control {
+        TcpControl::Syn => "SYN ",
+        TcpControl::Fin => "FIN ",
+        TcpControl::Rst => "RST ",
+        TcpControl::None | TcpControl::Psh => "",
+    };
+    let place = x
+        .segment
+        .seq_number
+        .0
+        .wrapping_sub(first.segment.seq_number.0);
+    let other = match from {
+        Side::A => Side::B,
+        Side::B => Side::A,
+    };
+    let len = x.bytes.as_slice().len();
+    Ok(match x.segment.ack_number {
+        None => format!(in alloc; " {flags}{place}({len}) ")?,
+        Some(number) => {
+            let acked = number.0.wrapping_sub(start_of(pair, other));
+            format!(in alloc; " {flags}{place}({len}) ack {acked} ")?
+        }
+    })
+}
+
+fn show(rt: &HostRuntime, now: i64, from: Side, label: &str, lost: bool) -> Result<()> {
+    let millis = now / 1000;
+    match (from, lost) {
+        (Side::A, false) => println!(rt; "{millis:>6}  A --{label:-<26}-> B")?,
+        (Side::A, true) => println!(rt; "{millis:>6}  A --{label:-<22}- x   B")?,
+        (Side::B, false) => println!(rt; "{millis:>6}  A <-{label:->26}-- B")?,
+        (Side::B, true) => println!(rt; "{millis:>6}  A   x -{label:->22}-- B")?,
+    }
+    Ok(())
+}
+
+/// One side is offered its next segment, and the link carries what there is.
+fn offer(rt: &HostRuntime, pair: &mut Pair, link: &mut Link, side: Side, now: i64) -> Result<()> {
+    pair.step(PairEvent::Offer(side, Instant::from_micros(now), true))?;
+    for _ in 0..9 {
+        link.carry(rt, pair, Side::A, now)?;
+        link.carry(rt, pair, Side::B, now)?;
+    }
+    Ok(())
+}
+
+/// The users act, then both sides are offered a segment.
+fn turn(
+    rt: &HostRuntime,
+    pair: &mut Pair,
+    users: &mut Users,
+    link: &mut Link,
+    now: i64,
+) -> Result<()> {
+    act(rt.alloc(), pair, users)?;
+    offer(rt, pair, link, Side::A, now)?;
+    offer(rt, pair, link, Side::B, now)
+}
+
+fn is_over(pair: &Pair) -> bool {
+    pair.socket(Side::A).state() == State::TimeWait && pair.socket(Side::B).state() == State::Closed
+}
+
+fn show_end(rt: &HostRuntime, pair: &Pair, read: &[u8]) -> Result<()> {
+    let a = pair.socket(Side::A).state();
+    let b = pair.socket(Side::B).state();
+    println!(rt; "A is in {a}, B in {b}")?;
+    println!(rt; "read: {}", str::from_utf8(read)?)?;
+    Ok(())
+}
+
+fn main(rt: HostRuntime) -> Result<()> {
+    let mut pair = opened(&rt)?;
+    let mut users = Users {
+        written: 0,
+        read: Vec::new(rt.alloc()),
+        read_all: false,
+    };
+    let mut link = Link {
+        of_a: 0,
+        of_b: 0,
+        all: 0,
+    };
+    for tick in 0..600_u16 {
+        let now = i64::from(tick) * 100_000;
+        turn(&rt, &mut pair, &mut users, &mut link, now)?;
+        if is_over(&pair) {
+            break;
+        }
+    }
+    show_end(&rt, &pair, users.read.as_slice())
+}
