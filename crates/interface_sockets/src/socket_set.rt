@@ -30,14 +30,14 @@ impl fmt::Display for SocketHandle {
 }
 
 /// A socket, and what the interface keeps beside it.
-#[derive(Drop)]
+#[derive(Debug, Drop)]
 pub struct Item<T> {
     pub meta: Meta,
     pub socket: T,
 }
 
 /// Storage for one socket.
-#[derive(Drop)]
+#[derive(Debug, Drop)]
 pub struct SocketStorage<T> {
     pub inner: Option<Item<T>>,
 }
@@ -57,7 +57,7 @@ pub enum AddError<T> {
 }
 
 /// Sockets by their handles: in fixed storage, or in storage that grows.
-#[derive(Drop)]
+#[derive(Debug, Drop)]
 pub struct SocketSet<T> {
     pub sockets: ManagedSlice<SocketStorage<T>>,
 }

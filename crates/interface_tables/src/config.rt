@@ -9,7 +9,7 @@ use net_base::{DeviceCapabilities, Instant, Medium};
 const MAX_MTU: usize = 65_535;
 
 /// What a host is made with.
-#[derive(Clone, Copy)]
+#[derive(Clone, Copy, Debug)]
 pub struct Config {
     /// What the random words begin with.
     pub random_seed: u64,

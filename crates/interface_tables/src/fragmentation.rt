@@ -36,7 +36,7 @@ impl fmt::Display for AssemblerFullError {
 impl std::error::Error for AssemblerFullError {}
 
 /// The pieces of one datagram of at most `SIZE` bytes, which are kept in at most `HOLES` runs.
-#[derive(Drop)]
+#[derive(Debug, Drop)]
 pub struct PacketAssembler<K, const SIZE: usize, const HOLES: usize> {
     key: Option<K>,
     buffer: [u8; SIZE],

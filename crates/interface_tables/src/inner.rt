@@ -30,7 +30,7 @@ use std::marker::Model;
 pub const TABLE_ROOM: usize = 4;
 
 /// A host beside its sockets and its slots.
-#[derive(Drop)]
+#[derive(Debug, Drop)]
 pub struct InterfaceInner {
     moment: Instant,
     rand: Rand,
@@ -269,6 +269,13 @@ impl InterfaceInner {
             Answer::RateLimited => LinkAddress::Silent,
             Answer::NotFound => LinkAddress::Unknown(*hop),
         }
+    }
+
+    /// What is known of a neighbour now.
+    pub fn lookup_neighbor(&self, protocol_addr: &IpAddress) -> Answer
+        ensures { result ≡ Neighbors.lookup self.now.neighbors protocol_addr.now self.now.moment }
+    {
+        self.neighbor_cache.lookup(protocol_addr, self.moment)
     }
 
     /// Enters a neighbour that was heard now.

@@ -72,7 +72,7 @@ impl Answer {
 }
 
 /// The hardware addresses of at most `N` neighbours, and when the next may be asked for.
-#[derive(Drop)]
+#[derive(Debug, Drop)]
 pub struct Cache<const N: usize> {
     storage: ArrayVec<Neighbor, N>,
     silent_until: Instant,

@@ -102,7 +102,7 @@ impl Default for Route {
 }
 
 /// At most `N` routes.
-#[derive(Drop)]
+#[derive(Debug, Drop)]
 pub struct Routes<const N: usize> {
     storage: ArrayVec<Route, N>,
 }

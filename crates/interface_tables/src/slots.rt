@@ -1,5 +1,6 @@
 //! Slots for datagrams that come in pieces, each of another datagram (RFC 815).
-ghost use Rattle.std.specs.Prelude.{◌≡◌, ◌≤◌, ◌<◌, length, position, Some, IfOk};
+ghost use Rattle.std.specs.Prelude.{◌≡◌, ◌↔◌, ◌≤◌, ◌<◌, length, position, None, Some, IfOk, IsErr};
+ghost use Rattle.interface_tables.specs.Best.{at_place};
 ghost use Rattle.std.specs.Option.{ForSome, option_copied};
 ghost use Rattle.interface_tables.specs.Reassembly.{placed, freed, is_free, is_key, is_of, place_for};
 ghost use Rattle.interface_tables.specs.Slots.{free_slots, opened, with_slot_for, changed_at, completed_at, is_expired, unless_expired, without_expired, with_piece_of};
@@ -18,7 +19,7 @@ const REASSEMBLY_RUNS: usize = 4;
 type Slot = PacketAssembler<Ipv4FragKey, REASSEMBLY_SIZE, REASSEMBLY_RUNS>;
 
 /// The pieces of at most `N` IPv4 datagrams of at most 4096 bytes each, in at most 4 runs each.
-#[derive(Drop)]
+#[derive(Debug, Drop)]
 pub struct PacketAssemblerSet<const N: usize> {
     assemblers: Vec<Slot>,
 }
@@ -81,7 +82,11 @@ impl<const N: usize> PacketAssemblerSet<N> {
         &mut self,
         key: &Ipv4FragKey,
         expires_at: Instant,
-    ) -> Result<&mut Slot, AssemblerFullError> {
+    ) -> Result<&mut Slot, AssemblerFullError>
+        ensures full { IsErr result ↔ (place_for ⟦<Ipv4FragKey as PartialEq>⟧.eq self.old key.now ≡ None) }
+        ensures lent { IfOk result (λ slot. Some slot.now ≡ at_place (place_for ⟦<Ipv4FragKey as PartialEq>⟧.eq self.old key.now)
+            (with_slot_for ⟦<Ipv4FragKey as PartialEq>⟧.eq self.old key.now expires_at)) }
+    {
         match self.place_for(key) {
             Some(at) => {
                 let slot = &mut self.assemblers[at];

@@ -9,26 +9,39 @@ type Assembler = PacketAssembler<u8, 16, 4>;
 #[test]
 fn overlapping_pieces(rt: HostRuntime) {
     let mut packet: Assembler = PacketAssembler::new();
-    assert_eq!(rt; packet.set_total_size(5), Ok(()));
-    assert_eq!(rt; packet.add(b"Rust", 0), Ok(()));
+    assert!(rt; packet.set_total_size(5).is_ok());
+    assert!(rt; packet.add(b"Rust", 0).is_ok());
     assert!(rt; !packet.is_complete());
-    assert_eq!(rt; packet.add(b"Rust", 1), Ok(()));
-    assert_eq!(rt; packet.completed(), Some(b"RRust".as_slice()));
+    assert!(rt; packet.add(b"Rust", 1).is_ok());
+    assert!(rt; packet.completed() == Some(b"RRust".as_slice()));
 }
 
-/// Pieces in any order; a piece past the slot's bytes is refused.
+/// A piece past the slot's bytes is refused.
+#[test]
+fn pieces_past_the_slot(rt: HostRuntime) {
+    let mut packet: Assembler = PacketAssembler::new();
+    assert!(rt; packet.add(b"Rust", 14) == Err(AssemblerError));
+    assert!(rt; packet.add(b"Rust", usize::MAX) == Err(AssemblerError));
+    assert!(rt; packet.set_total_size(17) == Err(AssemblerError));
+}
+
 #[test]
 fn pieces_in_any_order(rt: HostRuntime) {
     let mut packet: Assembler = PacketAssembler::new();
-    assert_eq!(rt; packet.add(b"Rust", 14), Err(AssemblerError));
-    assert_eq!(rt; packet.add(b"Rust", usize::MAX), Err(AssemblerError));
-    assert_eq!(rt; packet.add(b" is", 6), Ok(()));
-    assert_eq!(rt; packet.add(b"Hello!", 0), Ok(()));
+    assert!(rt; packet.add(b" is", 6).is_ok());
+    assert!(rt; packet.add(b"Hello!", 0).is_ok());
     assert!(rt; packet.completed().is_none());
-    assert_eq!(rt; packet.set_total_size(17), Err(AssemblerError));
-    assert_eq!(rt; packet.set_total_size(9), Ok(()));
-    assert_eq!(rt; packet.set_total_size(8), Err(AssemblerError));
-    assert_eq!(rt; packet.completed(), Some(b"Hello! is".as_slice()));
+    assert!(rt; packet.set_total_size(9).is_ok());
+    assert!(rt; packet.completed() == Some(b"Hello! is".as_slice()));
+}
+
+#[test]
+fn one_size_counts(rt: HostRuntime) {
+    let mut packet: Assembler = PacketAssembler::new();
+    assert!(rt; packet.add(b"Hello! is", 0).is_ok());
+    assert!(rt; packet.set_total_size(9).is_ok());
+    assert!(rt; packet.set_total_size(8) == Err(AssemblerError));
+    assert!(rt; packet.is_complete());
     packet.reset();
     assert!(rt; packet.completed().is_none());
 }
@@ -38,11 +51,11 @@ fn pieces_in_any_order(rt: HostRuntime) {
 fn too_many_runs(rt: HostRuntime) {
     let mut packet: Assembler = PacketAssembler::new();
     for at in 0..5usize {
-        assert_eq!(rt; packet.insert(b"x", 2 * at + 1, true), Ok(()));
+        assert!(rt; packet.insert(b"x", 2 * at + 1, true).is_ok());
     }
-    assert_eq!(rt; packet.insert(b"abcdefghij", 0, true), Ok(()));
-    assert_eq!(rt; packet.insert(b"kl", 10, false), Ok(()));
-    assert_eq!(rt; packet.completed(), Some(b"abcdefghijkl".as_slice()));
+    assert!(rt; packet.insert(b"abcdefghij", 0, true).is_ok());
+    assert!(rt; packet.insert(b"kl", 10, false).is_ok());
+    assert!(rt; packet.completed() == Some(b"abcdefghijkl".as_slice()));
 }
 
 fn key(id: u16, protocol: IpProtocol) -> Ipv4FragKey {
@@ -54,28 +67,50 @@ fn key(id: u16, protocol: IpProtocol) -> Ipv4FragKey {
     }
 }
 
-/// A slot for each datagram, also where only the protocol differs: a third one finds none, until one of the first two is whole
-/// or given up.
+/// At a moment of so many microseconds two bytes of a datagram come, and more are to come.
+fn begins(set: &mut PacketAssemblerSet<2>, key: &Ipv4FragKey, micros: u8) -> Option<usize> {
+    set.insert(key, Instant::from_micros(i64::from(micros)), b"ab", 0, true)
+}
+
+/// A slot for each datagram, also where only the protocol differs: a third one finds none.
 #[test]
-fn slots_are_taken_and_given_up(rt: HostRuntime) -> Result<(), AllocError> {
+fn slots_are_taken(rt: HostRuntime) -> Result<(), AllocError> {
+    let mut set: PacketAssemblerSet<2> = PacketAssemblerSet::new(rt.alloc())?;
+    let three = key(2, IpProtocol::Udp);
+    assert!(rt; begins(&mut set, &key(1, IpProtocol::Udp), 60) == Some(0));
+    assert!(rt; begins(&mut set, &key(1, IpProtocol::Tcp), 60) == Some(1));
+    assert!(rt; begins(&mut set, &three, 60).is_none());
+    assert!(rt; set.get(&three, Instant::from_micros(60)).is_err());
+    Ok(())
+}
+
+/// One datagram is whole, and gives up its slot.
+#[test]
+fn a_slot_is_given_up(rt: HostRuntime) -> Result<(), AllocError> {
     let mut set: PacketAssemblerSet<2> = PacketAssemblerSet::new(rt.alloc())?;
     let (one, two) = (key(1, IpProtocol::Udp), key(1, IpProtocol::Tcp));
-    let three = key(2, IpProtocol::Udp);
-    let start = Instant::from_micros(60);
-    assert_eq!(rt; set.insert(&one, start, b"ab", 0, true), Some(0));
-    assert_eq!(rt; set.insert(&two, start, b"xy", 0, true), Some(1));
-    assert_eq!(rt; set.insert(&three, start, b"xy", 0, true), None);
-    assert!(rt; set.get(&three, start).is_err());
-    assert_eq!(rt; set.insert(&one, start, b"cd", 2, false), Some(0));
-    assert_eq!(rt; set.completed(0), Some(b"abcd".as_slice()));
-    assert_eq!(rt; set.completed(1), None);
+    assert!(rt; begins(&mut set, &one, 60) == Some(0));
+    assert!(rt; begins(&mut set, &two, 60) == Some(1));
+    let whole = set.insert(&one, Instant::from_micros(60), b"cd", 2, false);
+    assert!(rt; whole == Some(0));
+    assert!(rt; set.completed(0) == Some(b"abcd".as_slice()));
+    assert!(rt; set.completed(1).is_none());
     set.free(0);
-    let later = Instant::from_micros(70);
-    assert_eq!(rt; set.insert(&three, later, b"xy", 0, true), Some(0));
-    set.remove_expired(start);
-    assert_eq!(rt; set.insert(&one, start, b"ab", 0, true), None);
+    assert!(rt; begins(&mut set, &key(2, IpProtocol::Udp), 70) == Some(0));
+    Ok(())
+}
+
+/// A slot is given up when its moment is over.
+#[test]
+fn a_slot_expires(rt: HostRuntime) -> Result<(), AllocError> {
+    let mut set: PacketAssemblerSet<2> = PacketAssemblerSet::new(rt.alloc())?;
+    let one = key(1, IpProtocol::Udp);
+    assert!(rt; begins(&mut set, &key(2, IpProtocol::Udp), 70) == Some(0));
+    assert!(rt; begins(&mut set, &key(1, IpProtocol::Tcp), 60) == Some(1));
+    set.remove_expired(Instant::from_micros(60));
+    assert!(rt; begins(&mut set, &one, 60).is_none());
     set.remove_expired(Instant::from_micros(61));
-    assert_eq!(rt; set.insert(&one, start, b"ab", 0, true), Some(1));
+    assert!(rt; begins(&mut set, &one, 60) == Some(1));
     Ok(())
 }
 
@@ -84,12 +119,23 @@ fn slots_are_taken_and_given_up(rt: HostRuntime) -> Result<(), AllocError> {
 fn a_refused_piece_takes_a_slot(rt: HostRuntime) -> Result<(), AllocError> {
     let mut set: PacketAssemblerSet<1> = PacketAssemblerSet::new(rt.alloc())?;
     let (one, two) = (key(1, IpProtocol::Udp), key(2, IpProtocol::Udp));
-    assert_eq!(rt;
-        set.insert(&one, Instant::ZERO, b"ab", 4095, false),
-        Some(0)
-    );
-    assert_eq!(rt; set.insert(&two, Instant::ZERO, b"ab", 0, false), None);
+    let refused = set.insert(&one, Instant::ZERO, b"ab", 4095, false);
+    assert!(rt; refused == Some(0));
+    let second = set.insert(&two, Instant::ZERO, b"ab", 0, false);
+    assert!(rt; second.is_none());
     Ok(())
+}
+
+/// Whether a datagram of no bytes is put together.
+fn assembles(set: &mut PacketAssemblerSet<1>, id: u16) -> bool {
+    match set.get(&key(id, IpProtocol::Udp), Instant::ZERO) {
+        Ok(slot) => {
+            slot.assemble().is_none()
+                && slot.set_total_size(0).is_ok()
+                && slot.assemble() == Some(b"".as_slice())
+        }
+        Err(_) => false,
+    }
 }
 
 /// What was put together is gone: the slot begins anew.
@@ -97,12 +143,7 @@ fn a_refused_piece_takes_a_slot(rt: HostRuntime) -> Result<(), AllocError> {
 fn assembles_many(rt: HostRuntime) -> Result<(), AllocError> {
     let mut set: PacketAssemblerSet<1> = PacketAssemblerSet::new(rt.alloc())?;
     for id in [0, 0, 1] {
-        let Ok(slot) = set.get(&key(id, IpProtocol::Udp), Instant::ZERO) else {
-            panic!(rt; "the slot is free");
-        };
-        assert_eq!(rt; slot.assemble(), None);
-        assert_eq!(rt; slot.set_total_size(0), Ok(()));
-        assert_eq!(rt; slot.assemble(), Some(b"".as_slice()));
+        assert!(rt; assembles(&mut set, id));
     }
     Ok(())
 }

@@ -1,7 +1,7 @@
 use interface_tables::{
     Config, HardwareAddrError, InterfaceInner, LinkAddress, NewError, NotUnicast, Route,
 };
-use ip_wire::{EthernetAddress, HardwareAddress, IpAddress, IpCidr, Ipv6Address};
+use ip_wire::{EthernetAddress, HardwareAddress, IpAddress, IpCidr, Ipv4Address, Ipv6Address};
 use net_base::{ChecksumCapabilities, DeviceCapabilities, Instant, Medium};
 use socket_base::Context;
 use std::process::Abort;
@@ -47,12 +47,10 @@ fn host(rt: &impl Abort, blocks: &[&str]) -> InterfaceInner {
     };
     for block in blocks {
         let block = block.parse::<IpCidr>().ok().expect(rt, "a block");
-        assert_eq!(rt;
-            host.update_ip_addrs(|addrs| {
-                let _ = addrs.try_push(block);
-            }),
-            Ok(())
-        );
+        let added = host.update_ip_addrs(|addrs| {
+            let _ = addrs.try_push(block);
+        });
+        assert!(rt; added.is_ok());
     }
     host
 }
@@ -105,25 +103,18 @@ fn makes_a_host_or_says_why_not(rt: HostRuntime) {
             None,
         ),
     ] {
-        assert_eq!(rt; refused(address, medium, size, now), error);
+        assert!(rt; refused(address, medium, size, now) == error);
     }
 }
 
 #[test]
 fn sets_a_hardware_address(rt: HostRuntime) {
     let mut host = host(&rt, &[]);
-    assert_eq!(rt;
-        host.set_hardware_addr(HardwareAddress::Ip),
-        Err(HardwareAddrError::Medium)
-    );
-    assert_eq!(rt;
-        host.set_hardware_addr(GROUP),
-        Err(HardwareAddrError::NotUnicast)
-    );
-    assert_eq!(rt; host.hardware_addr(), OWN);
-    assert_eq!(rt; host.set_hardware_addr(OTHER), Ok(()));
-    assert_eq!(rt; host.hardware_addr(), OTHER);
-    assert!(rt; host.is_fresh());
+    assert!(rt; host.set_hardware_addr(HardwareAddress::Ip) == Err(HardwareAddrError::Medium));
+    assert!(rt; host.set_hardware_addr(GROUP) == Err(HardwareAddrError::NotUnicast));
+    assert!(rt; host.hardware_addr() == OWN);
+    assert!(rt; host.set_hardware_addr(OTHER) == Ok(()));
+    assert!(rt; host.hardware_addr() == OTHER && host.is_fresh());
 }
 
 /// With fd00::11:2233/64.
@@ -131,9 +122,15 @@ fn sets_a_hardware_address(rt: HostRuntime) {
 fn listens_to_its_solicited_node_address(rt: HostRuntime) {
     let host = host(&rt, &["fd00::11:2233/64", "::1/128"]);
     assert!(rt; host.has_solicited_node(&v6(&rt, "ff02::1:ff11:2233")));
-    assert!(rt; !host.has_solicited_node(&v6(&rt, "ff02::1:ff99:2233")));
-    assert!(rt; !host.has_solicited_node(&v6(&rt, "fd00::99:2233")));
-    assert!(rt; !host.has_solicited_node(&v6(&rt, "ff02::1:ff00:1")));
+    for text in ["ff02::1:ff99:2233", "fd00::99:2233", "ff02::1:ff00:1"] {
+        assert!(rt; !host.has_solicited_node(&v6(&rt, text)), "{text}");
+    }
+}
+
+/// With fd00::11:2233/64.
+#[test]
+fn knows_what_is_for_it(rt: HostRuntime) {
+    let host = host(&rt, &["fd00::11:2233/64", "::1/128"]);
     for (text, expected) in [
         ("ff02::1:ff11:2233", true),
         ("ff02::1", true),
@@ -145,14 +142,21 @@ fn listens_to_its_solicited_node_address(rt: HostRuntime) {
         ("::1", true),
         ("255.255.255.255", true),
     ] {
-        assert_eq!(rt; host.is_for_us(&address(&rt, text)), expected);
+        assert!(rt; host.is_for_us(&address(&rt, text)) == expected, "{text}");
     }
 }
 
-/// Own addresses, broadcasts of own networks, and every address where that is set.
+/// Whether the address is an own one, and whether it is a broadcast.
+fn is_known(host: &InterfaceInner, address: &IpAddress, own: bool, broadcast: bool) -> bool {
+    host.has_ip_addr(address) == own
+        && host.is_broadcast(address) == broadcast
+        && host.is_for_us(address) == (own || broadcast)
+}
+
+/// Own addresses and broadcasts of own networks.
 #[test]
 fn knows_its_own(rt: HostRuntime) {
-    let mut host = host(&rt, &["192.168.1.1/24", "10.0.0.1/31"]);
+    let host = host(&rt, &["192.168.1.1/24", "10.0.0.1/31"]);
     for (text, own, broadcast) in [
         ("192.168.1.1", true, false),
         ("192.168.1.2", false, false),
@@ -161,11 +165,18 @@ fn knows_its_own(rt: HostRuntime) {
         ("255.255.255.255", false, true),
         ("fe80::1", false, false),
     ] {
-        let address = address(&rt, text);
-        assert_eq!(rt; host.has_ip_addr(&address), own);
-        assert_eq!(rt; host.is_broadcast(&address), broadcast);
-        assert_eq!(rt; host.is_for_us(&address), own || broadcast);
+        assert!(rt;
+            is_known(&host, &address(&rt, text), own, broadcast),
+            "{text}"
+        );
     }
+}
+
+/// Every address is its own where that is set.
+#[test]
+fn takes_every_address(rt: HostRuntime) {
+    let mut host = host(&rt, &["192.168.1.1/24"]);
+    assert!(rt; !host.has_ip_addr(&address(&rt, "198.51.100.7")));
     host.set_any_ip(true);
     assert!(rt; host.any_ip() && host.has_ip_addr(&address(&rt, "198.51.100.7")));
     assert!(rt; !host.is_fresh());
@@ -182,20 +193,24 @@ fn refuses_addresses(rt: HostRuntime) {
     let refused = host.update_ip_addrs(|addrs| {
         let _ = addrs.try_push(group);
     });
-    assert_eq!(rt; refused, Err(NotUnicast));
-    assert_eq!(rt; host.ip_addrs().len(), 1);
-    assert_eq!(rt; host.link_address(&neighbor), LinkAddress::Known(OTHER));
-    assert_eq!(rt; host.update_ip_addrs(|_| ()), Ok(()));
-    assert_eq!(rt;
-        host.link_address(&neighbor),
-        LinkAddress::Unknown(neighbor)
-    );
+    assert!(rt; refused == Err(NotUnicast) && host.ip_addrs().len() == 1);
+    assert!(rt; host.link_address(&neighbor) == LinkAddress::Known(OTHER));
 }
 
-/// Groups by RFC 1112, section 6.4, and RFC 2464, section 7; routers; silence.
+/// A list that is taken forgets the neighbours.
 #[test]
-fn finds_the_link_address(rt: HostRuntime) {
-    let mut host = host(&rt, &["192.168.1.1/24", "fd00::1/64"]);
+fn forgets_neighbors(rt: HostRuntime) {
+    let mut host = host(&rt, &["192.168.1.1/24"]);
+    let neighbor = address(&rt, "192.168.1.2");
+    host.fill_neighbor(neighbor, OTHER);
+    assert!(rt; host.update_ip_addrs(|_| ()).is_ok());
+    assert!(rt; host.link_address(&neighbor) == LinkAddress::Unknown(neighbor));
+}
+
+/// Groups by RFC 1112, section 6.4, and RFC 2464, section 7.
+#[test]
+fn finds_the_link_address_of_groups(rt: HostRuntime) {
+    let host = host(&rt, &["192.168.1.1/24", "fd00::1/64"]);
     for (text, bytes) in [
         ("255.255.255.255", [0xff; 6]),
         ("192.168.1.255", [0xff; 6]),
@@ -204,28 +219,48 @@ fn finds_the_link_address(rt: HostRuntime) {
         ("ff02::1:ff11:2233", [0x33, 0x33, 0xff, 0x11, 0x22, 0x33]),
     ] {
         let expected = LinkAddress::Known(HardwareAddress::Ethernet(EthernetAddress(bytes)));
-        assert_eq!(rt; host.link_address(&address(&rt, text)), expected);
+        assert!(rt;
+            host.link_address(&address(&rt, text)) == expected,
+            "{text}"
+        );
     }
-    let (far, router) = (address(&rt, "10.0.0.1"), address(&rt, "192.168.1.9"));
-    assert_eq!(rt; host.link_address(&far), LinkAddress::NoRoute);
-    let IpAddress::Ipv4(gateway) = router else {
-        panic!(rt; "an IPv4 address");
-    };
-    assert!(rt;
-        host.update_routes(|routes| routes.push(Route::new_ipv4_gateway(gateway)))
-            .is_ok()
-    );
-    assert_eq!(rt; host.link_address(&far), LinkAddress::Unknown(router));
-    assert!(rt; !host.has_neighbor(&far));
+}
+
+const ROUTER: Ipv4Address = Ipv4Address([192, 168, 1, 9]);
+
+const FAR: IpAddress = IpAddress::Ipv4(Ipv4Address([10, 0, 0, 1]));
+
+/// A host on Ethernet with a router.
+fn routed(rt: &impl Abort) -> InterfaceInner {
+    let mut host = host(rt, &["192.168.1.1/24"]);
+    let added = host.update_routes(|routes| routes.push(Route::new_ipv4_gateway(ROUTER)));
+    assert!(rt; added.is_ok());
+    host
+}
+
+#[test]
+fn far_addresses_need_a_route(rt: HostRuntime) {
+    let near = host(&rt, &["192.168.1.1/24"]);
+    assert!(rt; near.link_address(&FAR) == LinkAddress::NoRoute);
+    let mut host = routed(&rt);
+    let router = IpAddress::Ipv4(ROUTER);
+    assert!(rt; host.link_address(&FAR) == LinkAddress::Unknown(router));
+    assert!(rt; !host.has_neighbor(&FAR));
     host.limit_rate();
-    assert_eq!(rt; host.link_address(&far), LinkAddress::Silent);
+    assert!(rt; host.link_address(&FAR) == LinkAddress::Silent);
+}
+
+#[test]
+fn a_router_is_known_for_a_minute(rt: HostRuntime) {
+    let mut host = routed(&rt);
+    let router = IpAddress::Ipv4(ROUTER);
     host.fill_neighbor(router, OTHER);
-    assert_eq!(rt; host.link_address(&far), LinkAddress::Known(OTHER));
-    assert!(rt; host.has_neighbor(&far));
+    assert!(rt; host.link_address(&FAR) == LinkAddress::Known(OTHER));
+    assert!(rt; host.has_neighbor(&FAR));
     host.set_now(Instant::from_micros(60_000_000));
-    assert_eq!(rt; host.link_address(&far), LinkAddress::Unknown(router));
+    assert!(rt; host.link_address(&FAR) == LinkAddress::Unknown(router));
     host.renew_neighbor(router, OTHER);
-    assert_eq!(rt; host.link_address(&far), LinkAddress::Known(OTHER));
+    assert!(rt; host.link_address(&FAR) == LinkAddress::Known(OTHER));
 }
 
 /// With no hardware addresses each packet goes by itself.
@@ -238,22 +273,18 @@ fn needs_no_neighbor_without_hardware(rt: HostRuntime) {
     ) else {
         panic!(rt; "a host");
     };
-    let far = address(&rt, "10.0.0.1");
-    assert_eq!(rt;
-        host.link_address(&far),
-        LinkAddress::Known(HardwareAddress::Ip)
-    );
-    assert_eq!(rt; (host.ip_mtu(), host.mtu()), (1500, 1500));
+    assert!(rt; host.link_address(&FAR) == LinkAddress::Known(HardwareAddress::Ip));
+    assert!(rt; host.ip_mtu() == 1500 && host.mtu() == 1500);
 }
 
 /// The first of seed 0 is 3, by PCG XSH RS with these constants; 65,535 is followed by 0.
 #[test]
 fn numbers_datagrams(rt: HostRuntime) {
     let mut host = host(&rt, &[]);
-    assert_eq!(rt; host.take_ident(), 3);
+    assert!(rt; host.take_ident() == 3);
     for _ in 4..65_535u32 {
         let _ = host.take_ident();
     }
-    assert_eq!(rt; host.take_ident(), 65_535);
-    assert_eq!(rt; host.ident(), 0);
+    assert!(rt; host.take_ident() == 65_535);
+    assert!(rt; host.ident() == 0);
 }

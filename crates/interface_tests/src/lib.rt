@@ -1,8 +1,12 @@
-//! Tests of the interface's tables, by public calls and on values from outside.
+//! Tests of the interface's parts, by public calls and on values from outside.
 #![tactic(auto)]
 
 #[cfg(test)]
+mod egress;
+#[cfg(test)]
 mod fragmentation;
+#[cfg(test)]
+mod frames;
 #[cfg(test)]
 mod inner;
 #[cfg(test)]

@@ -1,36 +1,52 @@
 use interface_sockets::Meta;
-use ip_wire::IpAddress;
+use ip_wire::{IpAddress, Ipv4Address};
 use net_base::{Duration, Instant};
 use socket_base::PollAt;
 
-/// A socket whose neighbour is missing at 1000 ms waits for a second, unless its neighbour is found.
+const NEIGHBOR: IpAddress = IpAddress::Ipv4(Ipv4Address([192, 168, 1, 2]));
+
+/// The mark of a socket whose neighbour was missing at 1000 ms.
+fn waiting() -> Meta {
+    let mut meta = Meta::default();
+    meta.neighbor_missing(Instant::from_micros(1_000_000), NEIGHBOR);
+    meta
+}
+
+#[test]
+fn a_new_socket_does_not_wait(rt: HostRuntime) {
+    let mut meta = Meta::default();
+    let now = Instant::from_micros(1_500_000);
+    assert!(rt; meta.poll_at(PollAt::Now, false, now) == PollAt::Now);
+    assert!(rt; meta.egress_permitted(now, false));
+    assert!(rt; meta.neighbor().is_none());
+}
+
+/// It waits for a second.
 #[test]
 fn waits_for_its_neighbor(rt: HostRuntime) {
-    let mut meta = Meta::default();
-    let neighbor = IpAddress::v4(192, 168, 1, 2);
-    let (then, soon) = (
-        Instant::from_micros(1_000_000),
-        Instant::from_micros(1_500_000),
-    );
+    let mut meta = waiting();
+    let now = Instant::from_micros(1_500_000);
+    let end = PollAt::Time(Instant::from_micros(2_000_000));
+    assert!(rt; meta.neighbor() == Some(NEIGHBOR));
+    assert!(rt; meta.poll_at(PollAt::Ingress, false, now) == end);
+    assert!(rt; meta.poll_at(PollAt::Now, false, now) == end);
+    assert!(rt; !meta.egress_permitted(now, false));
+    assert!(rt; meta.poll_at(PollAt::Now, true, now) == PollAt::Now);
+}
+
+#[test]
+fn asks_again_after_a_second(rt: HostRuntime) {
+    let mut meta = waiting();
     let end = Instant::from_micros(2_000_000);
-    assert_eq!(rt; meta.poll_at(PollAt::Now, false, soon), PollAt::Now);
-    assert!(rt; meta.egress_permitted(soon, false));
-    meta.neighbor_missing(then, neighbor);
-    assert_eq!(rt; meta.neighbor(), Some(neighbor));
-    assert_eq!(rt;
-        meta.poll_at(PollAt::Ingress, false, soon),
-        PollAt::Time(end)
-    );
-    assert_eq!(rt; meta.poll_at(PollAt::Now, false, soon), PollAt::Time(end));
-    assert!(rt; !meta.egress_permitted(soon, false));
-    assert_eq!(rt; meta.poll_at(PollAt::Now, true, soon), PollAt::Now);
-    assert_eq!(rt; meta.poll_at(PollAt::Ingress, false, end), PollAt::Ingress);
+    assert!(rt; meta.poll_at(PollAt::Ingress, false, end) == PollAt::Ingress);
     assert!(rt; meta.egress_permitted(end, false));
-    assert_eq!(rt; meta.neighbor(), Some(neighbor));
-    assert!(rt; meta.egress_permitted(soon, true));
-    assert_eq!(rt; meta.neighbor(), None);
-    assert_eq!(rt;
-        Meta::discovery_silent_time(),
-        Duration::from_micros(1_000_000)
-    );
+    assert!(rt; meta.neighbor() == Some(NEIGHBOR));
+    assert!(rt; Meta::discovery_silent_time() == Duration::from_micros(1_000_000));
+}
+
+#[test]
+fn a_found_neighbor_ends_the_wait(rt: HostRuntime) {
+    let mut meta = waiting();
+    assert!(rt; meta.egress_permitted(Instant::from_micros(1_500_000), true));
+    assert!(rt; meta.neighbor().is_none());
 }

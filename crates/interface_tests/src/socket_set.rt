@@ -1,71 +1,131 @@
-use interface_sockets::{AddError, SocketSet, SocketStorage};
+use interface_sockets::{AddError, SocketHandle, SocketSet, SocketStorage};
 use net_base::ManagedSlice;
 use std::alloc::AllocError;
+use std::process::Abort;
+
+type Sockets = SocketSet<u32>;
+
+/// The handle of a socket that was added.
+fn added(rt: &impl Abort, set: &mut Sockets, socket: u32) -> SocketHandle {
+    set.add(socket).ok().expect(rt, "a place")
+}
+
+fn holds(set: &Sockets, handle: SocketHandle, socket: Option<u32>) -> bool {
+    set.get(handle).copied() == socket
+}
+
+fn one_place(rt: &HostRuntime) -> Result<Sockets, AllocError> {
+    let storage = Vec::from_array(rt.alloc(), [SocketStorage { inner: None }])?;
+    Ok(SocketSet::new(ManagedSlice::Fixed(storage)))
+}
 
 /// A set of one place: a second socket comes back.
 #[test]
 fn fixed_storage_is_full(rt: HostRuntime) -> Result<(), AllocError> {
-    let storage = Vec::from_array(rt.alloc(), [SocketStorage { inner: None }])?;
-    let mut set: SocketSet<u32> = SocketSet::new(ManagedSlice::Fixed(storage));
-    let Ok(first) = set.add(7) else {
-        panic!(rt; "there is a free place");
-    };
-    assert_eq!(rt; first.place(), 0);
+    let mut set = one_place(&rt)?;
+    let first = added(&rt, &mut set, 7);
+    assert!(rt; first.place() == 0);
     assert!(rt; matches!(set.add(8), Err(AddError::Full(8))));
-    assert_eq!(rt; set.get(first).copied(), Some(7));
-    assert_eq!(rt; set.remove(first), Some(7));
-    assert_eq!(rt; set.remove(first), None);
-    assert_eq!(rt; set.get(first).copied(), None);
-    let text = format!(in rt.alloc(); "{first}")?;
-    assert_eq!(rt; text.as_str(), "#0");
+    assert!(rt; holds(&set, first, Some(7)));
+    Ok(())
+}
+
+#[test]
+fn a_removed_socket_is_gone(rt: HostRuntime) -> Result<(), AllocError> {
+    let mut set = one_place(&rt)?;
+    let first = added(&rt, &mut set, 7);
+    assert!(rt; set.remove(first) == Some(7));
+    assert!(rt; set.remove(first).is_none());
+    assert!(rt; holds(&set, first, None));
+    Ok(())
+}
+
+#[test]
+fn a_handle_is_printed_by_its_place(rt: HostRuntime) -> Result<(), AllocError> {
+    let mut set = one_place(&rt)?;
+    let text = added(&rt, &mut set, 7).to_string(rt.alloc())?;
+    assert!(rt; text.as_str() == "#0");
     Ok(())
 }
 
 /// Storage that grows; a place that becomes free is taken first.
 #[test]
 fn owned_storage_grows(rt: HostRuntime) {
-    let mut set: SocketSet<u32> = SocketSet::new(ManagedSlice::Owned(Vec::new(rt.alloc())));
-    let (Ok(first), Ok(second)) = (set.add(7), set.add(8)) else {
-        panic!(rt; "there is memory");
-    };
-    assert_eq!(rt; (first.place(), second.place()), (0, 1));
-    assert_eq!(rt; set.remove(first), Some(7));
-    let Ok(third) = set.add(9) else {
-        panic!(rt; "there is a free place");
-    };
-    assert_eq!(rt; third.place(), 0);
-    assert_eq!(rt; set.get(second).copied(), Some(8));
-    assert_eq!(rt; set.get(third).copied(), Some(9));
+    let mut set: Sockets = SocketSet::new(ManagedSlice::Owned(Vec::new(rt.alloc())));
+    let (first, second) = (added(&rt, &mut set, 7), added(&rt, &mut set, 8));
+    assert!(rt; first.place() == 0 && second.place() == 1);
+    assert!(rt; set.remove(first) == Some(7));
+    let third = added(&rt, &mut set, 9);
+    assert!(rt; third.place() == 0);
+    assert!(rt; holds(&set, second, Some(8)));
+    assert!(rt; holds(&set, third, Some(9)));
 }
 
-/// The used places in order, and the end; a socket is lent or updated where it stands.
+/// Sockets 7 and 9, with an unused place between them.
+#[derive(Drop)]
+struct TwoSockets {
+    set: Sockets,
+    first: SocketHandle,
+    unused: SocketHandle,
+    last: SocketHandle,
+}
+
+fn apart(rt: &(impl Abort + AllocGlobal)) -> TwoSockets {
+    let mut set: Sockets = SocketSet::new(ManagedSlice::Owned(Vec::new(rt.alloc())));
+    let first = added(rt, &mut set, 7);
+    let unused = added(rt, &mut set, 8);
+    let last = added(rt, &mut set, 9);
+    assert!(rt; set.remove(unused) == Some(8));
+    TwoSockets {
+        set,
+        first,
+        unused,
+        last,
+    }
+}
+
+/// The used places in order, and the end.
 #[test]
 fn used_places_in_order(rt: HostRuntime) {
-    let mut set: SocketSet<u32> = SocketSet::new(ManagedSlice::Owned(Vec::new(rt.alloc())));
-    let (Ok(first), Ok(second), Ok(third)) = (set.add(7), set.add(8), set.add(9)) else {
-        panic!(rt; "there is memory");
-    };
-    assert_eq!(rt; set.remove(second), Some(8));
-    let mut sockets = set.iter();
-    assert!(rt; matches!(sockets.next(), Some((handle, 7)) if handle == first));
-    assert!(rt; matches!(sockets.next(), Some((handle, 9)) if handle == third));
+    let apart = apart(&rt);
+    let mut sockets = apart.set.iter();
+    assert!(rt; matches!(sockets.next(), Some((handle, 7)) if handle == apart.first));
+    assert!(rt; matches!(sockets.next(), Some((handle, 9)) if handle == apart.last));
     assert!(rt; sockets.next().is_none() && sockets.next().is_none());
-    let mut handles = set.handles();
-    assert_eq!(rt;
-        (handles.next(), handles.next()),
-        (Some(first), Some(third))
-    );
-    assert_eq!(rt; handles.next(), None);
-    if let Some(socket) = set.get_mut(third) {
-        *socket += 10;
+}
+
+#[test]
+fn used_handles_in_order(rt: HostRuntime) {
+    let apart = apart(&rt);
+    let mut handles = apart.set.handles();
+    assert!(rt; handles.next() == Some(apart.first));
+    assert!(rt; handles.next() == Some(apart.last));
+    assert!(rt; handles.next().is_none());
+}
+
+/// A socket is lent where it stands.
+#[test]
+fn a_socket_is_lent(rt: HostRuntime) {
+    let mut apart = apart(&rt);
+    if let Some(socket) = apart.set.get_mut(apart.last)
+        && *socket == 9
+    {
+        *socket = 19;
     }
-    assert!(rt; set.get_mut(second).is_none());
-    let old = set.update(third, |socket| {
+    assert!(rt; holds(&apart.set, apart.last, Some(19)));
+    assert!(rt; apart.set.get_mut(apart.unused).is_none());
+}
+
+/// A socket is updated where it stands.
+#[test]
+fn a_socket_is_updated(rt: HostRuntime) {
+    let mut apart = apart(&rt);
+    let old = apart.set.update(apart.last, |socket| {
         let old = *socket;
         *socket = 1;
         old
     });
-    assert_eq!(rt; old, Some(19));
-    assert_eq!(rt; set.get(third).copied(), Some(1));
-    assert_eq!(rt; set.update(second, |socket| *socket), None);
+    assert!(rt; old == Some(9));
+    assert!(rt; holds(&apart.set, apart.last, Some(1)));
+    assert!(rt; apart.set.update(apart.unused, |socket| *socket).is_none());
 }

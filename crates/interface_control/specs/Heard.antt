@@ -1,0 +1,104 @@
+-- Neighbour messages that arrive (RFC 4861, sections 7.1 and 7.2): what the host learns from them, and what it answers.
+use Rattle.std.specs.Prelude.{ℕ, ◌==◌, ◌&&◌, ◌||◌, not, Bool, true, false, if◌then◌else◌, List, [], length, Option, None, Some}
+use Rattle.control_wire.specs.Icmpv6 as Icmpv6
+use Rattle.control_wire.specs.Ndisc.{NeighborMessage, Solicitation, Advertisement}
+use Rattle.control_wire.specs.NdiscNeighborFlags.{NdiscNeighborFlags}
+use Rattle.ip_wire.specs.AddressTests.{is_ethernet_unicast, is_unicast_v6}
+use Rattle.ip_wire.specs.EthernetAddress.{EthernetAddress}
+use Rattle.ip_wire.specs.HardwareAddress.{HardwareAddress}
+use Rattle.ip_wire.specs.HardwareAddress.TheVariants as Hardware
+use Rattle.ip_wire.specs.IpAddress.TheVariants as Address
+use Rattle.ip_wire.specs.IpProtocol.TheVariants as Protocol
+use Rattle.ip_wire.specs.IpRepr.TheVariants as Ip
+use Rattle.ip_wire.specs.Ipv6Address.{Ipv6Address}
+use Rattle.ip_wire.specs.Ipv6Repr.{Ipv6Repr}
+use Rattle.socket_base.specs.Packet.{PacketValue, ControlV6, packet_of}
+use Rattle.interface_tables.specs.Inner.{InnerValue, is_own, is_own_solicited_node, with_neighbor}
+use Rattle.interface_tables.specs.Neighbor.{lookup, is_found}
+
+-- the host after a message, and what it answers
+pub record Heard : Type 0 where
+  pub inner : InnerValue
+  pub reply : Option PacketValue
+
+abbrev pub heard : InnerValue → Option PacketValue → Heard
+heard i reply = record { inner = i; reply = reply }
+
+-- WHICH MESSAGES COUNT
+
+-- the Ethernet address with these bytes
+abbrev pub station : List ℕ → EthernetAddress
+station link = record { 0 = link }
+
+-- the link address, if the message gives one, is that of one Ethernet station
+abbrev pub is_one_station : Option (List ℕ) → Bool
+is_one_station None = true
+is_one_station (Some link) = length link == 6 && is_ethernet_unicast (station link)
+
+-- the target beside a link address is one host's; without a link address it isn't tested
+abbrev pub is_target : Ipv6Address → Option (List ℕ) → Bool
+is_target target None = true
+is_target target (Some link) = is_unicast_v6 target
+
+-- no router passed the packet on, so that its sender is a neighbour (RFC 4861, section 3.1), and link address and target are sound
+abbrev pub counts : Ipv6Repr → Ipv6Address → Option (List ℕ) → Bool
+counts header target link = header.hop_limit == 255 && is_one_station link && is_target target link
+
+-- WHAT IS LEARNED: the link address of the packet's sender, if the message gives it
+
+abbrev pub learned : InnerValue → Ipv6Address → Option (List ℕ) → InnerValue
+learned i source None = i
+learned i source (Some link) = with_neighbor i (Address.Ipv6 source) (Hardware.Ethernet (station link))
+
+abbrev pub is_known : InnerValue → Ipv6Address → Bool
+is_known i source = is_found (lookup i.neighbors (Address.Ipv6 source) i.moment)
+
+-- an advertisement replaces a known address where it says so
+abbrev pub replaces : InnerValue → NdiscNeighborFlags → Ipv6Address → Bool
+replaces i flags source = flags.overrides || not (is_known i source)
+
+abbrev pub advertised : InnerValue → NdiscNeighborFlags → Ipv6Address → Option (List ℕ) → InnerValue
+advertised i flags source link = if replaces i flags source then learned i source link else i
+
+-- WHAT IS ANSWERED: a solicitation for an own address, sent to that or to an own address's solicited-node group
+
+abbrev pub is_asked : InnerValue → Ipv6Address → Ipv6Address → Bool
+is_asked i destination target =
+    (is_own_solicited_node i destination || is_own i (Address.Ipv6 destination)) && is_own i (Address.Ipv6 target)
+
+-- the advertisement answers a solicitation
+abbrev pub solicited_flag : NdiscNeighborFlags
+solicited_flag = record { router = false; solicited = true; overrides = false }
+
+-- the own link address, from the target to who asked (RFC 4861, section 7.2.4)
+abbrev pub advertisement_header : Ipv6Address → Ipv6Address → Ipv6Repr
+advertisement_header target to =
+    record { src_addr = target; dst_addr = to; next_header = Protocol.Icmpv6; payload_len = 32; hop_limit = 255 }
+
+abbrev pub advertisement : EthernetAddress → Ipv6Address → Ipv6Address → PacketValue
+advertisement own target to =
+    packet_of (Ip.Ipv6 (advertisement_header target to)) (ControlV6 (Icmpv6.Ndisc (Advertisement solicited_flag target (Some own.0))) [])
+
+abbrev pub answer : EthernetAddress → InnerValue → Ipv6Repr → Ipv6Address → Option PacketValue
+answer own i header target =
+    if is_asked i header.dst_addr target then Some (advertisement own target header.src_addr) else None
+
+-- ARRIVAL of a message in a packet with this header, at this Ethernet address; a medium without hardware addresses has no
+-- neighbour messages
+
+abbrev pub heard_at : EthernetAddress → InnerValue → Ipv6Repr → NeighborMessage → Heard
+heard_at own i header (Solicitation target link) =
+    if counts header target link then heard (learned i header.src_addr link) (answer own i header target) else heard i None
+heard_at own i header (Advertisement flags target link) =
+    if counts header target link then heard (advertised i flags header.src_addr link) None else heard i None
+
+abbrev pub heard_on : HardwareAddress → InnerValue → Ipv6Repr → NeighborMessage → Heard
+heard_on Hardware.Ip i header message = heard i None
+heard_on (Hardware.Ethernet own) i header message = heard_at own i header message
+
+abbrev pub neighbor_heard : InnerValue → Ipv6Repr → NeighborMessage → Heard
+neighbor_heard i header message = heard_on i.hardware i header message
+
+-- a host with the neighbours' entries of another
+abbrev pub with_entries_of : InnerValue → InnerValue → InnerValue
+with_entries_of other i = record i { neighbors = record i.neighbors { entries = other.neighbors.entries } }

@@ -1,0 +1,95 @@
+-- What changes on a packet's way out: at the device, in the host, and of what is left to send.
+use Rattle.std.proofs.Common.{◌≡◌, Bool, true, false, Option, Some, IfSome, refl, ap, ◌∙◌, sym, subst}
+use Rattle.net_base.specs.Device.{Move}
+use Rattle.ip_wire.specs.HardwareAddress.{HardwareAddress}
+use Rattle.ip_wire.specs.IpRepr.{IpRepr}
+use Rattle.ip_wire.specs.IpRepr.TheVariants as Ip
+use Rattle.ip_wire.specs.Ipv4Repr.{Ipv4Repr}
+use Rattle.socket_base.specs.Packet.{PacketValue}
+use Rattle.interface_tables.specs.Inner.{InnerValue}
+use Rattle.interface_egress.specs.Departure.{Departure, Asks, Whole}
+use Rattle.interface_egress.specs.Fragments.{LeftValue, next_departure}
+use Rattle.interface_egress.specs.Plan.{plan_of}
+use Rattle.interface_egress.specs.GoesOut.{GoesOut, PieceGoesOut, Asked, Went, WasCut, numbered, numbered_header, cut_of, after_header}
+use Rattle.interface_egress.specs.Departing.{departure_by, SendsOnce, was_taken, host_after, left_behind, number_in, number_in_header, HasSettingsOf}
+use Rattle.interface_egress.specs.declared.way_out.Sent.{Sent}
+use Rattle.interface_egress.specs.declared.way_out.Sent.TheVariants as Outcome
+use Rattle.interface_egress.specs.declared.frame.Question.{Question}
+use Rattle.interface_egress.specs.declared.plan.Plan.{Plan}
+use Rattle.interface_egress.specs.declared.plan.Plan.TheVariants as Way
+use Rattle.interface_egress.proofs.Planned.{plan_cases}
+
+module _ {D : Type 0} (moves : D → Move → D → Type 0) (old new : D) (i i' : InnerValue) (l l' : Option LeftValue) (p : PacketValue) where
+  abbrev pub Changes : Plan → Sent → Type 0
+  Changes plan sent = SendsOnce moves old i (departure_by i p plan) (was_taken sent) new × (i' ≡ host_after plan sent p.header i) × (l' ≡ left_behind i p plan sent l)
+
+  asked : (q : Question) (sent : Sent) → Asked moves old i (Asks q) sent new i' → l' ≡ l → Changes (Way.Ask q) sent
+  asked q Outcome.Waits goes same = (goes.0, goes.1, same)
+  asked q Outcome.Refused goes same = (goes.0, goes.1, same)
+  asked q Outcome.Gone goes same = absurd goes
+  asked q Outcome.Dropped goes same = absurd goes
+  asked q Outcome.Busy goes same = absurd goes
+
+  after_is : (to : HardwareAddress) (h : IpRepr) → after_header h i ≡ host_after (Way.Go to) Outcome.Gone h i
+  after_is to (Ip.Ipv4 v) = refl
+  after_is to (Ip.Ipv6 v) = refl
+
+  went : (to : HardwareAddress) (sent : Sent) → Went moves old i p.header (Whole to (numbered i p)) sent new i' → l' ≡ l → Changes (Way.Go to) sent
+  went to Outcome.Gone goes same = (goes.0, goes.1 ∙ after_is to p.header, same)
+  went to Outcome.Refused goes same = (goes.0, goes.1, same)
+  went to Outcome.Waits goes same = absurd goes
+  went to Outcome.Dropped goes same = absurd goes
+  went to Outcome.Busy goes same = absurd goes
+
+  was_cut : (to : HardwareAddress) (v : Ipv4Repr) (sent : Sent) → p.header ≡ Ip.Ipv4 v → WasCut moves old i l (cut_of i to v p) sent new i' l' → Changes (Way.Cut to v) sent
+  was_cut to v Outcome.Gone is goes = (goes.0, goes.1 ∙ ap (λ (h : IpRepr). host_after (Way.Cut to v) Outcome.Gone h i) (sym is), goes.2)
+  was_cut to v Outcome.Refused is goes = (goes.0, goes.1, goes.2)
+  was_cut to v Outcome.Waits is goes = absurd goes
+  was_cut to v Outcome.Dropped is goes = absurd goes
+  was_cut to v Outcome.Busy is goes = absurd goes
+
+  pub changes : (busy : Bool) (sent : Sent) → GoesOut moves old i l p (plan_of i busy p.header) sent new i' l' → Changes (plan_of i busy p.header) sent
+  changes busy sent =
+      plan_cases i busy p.header (λ plan. GoesOut moves old i l p plan sent new i' l' → Changes plan sent)
+      (λ goes. subst (Changes Way.Drop) (sym goes.0) goes.1)
+      (λ goes. subst (Changes Way.NoRoute) (sym goes.0) goes.1)
+      (λ goes. subst (Changes Way.Wait) (sym goes.0) goes.1)
+      (λ goes. subst (Changes Way.Busy) (sym goes.0) goes.1)
+      (λ q may from goes. asked q sent goes.0 goes.1)
+      (λ to short goes. went to sent goes.0 goes.1)
+      (λ to v header long short idle goes. was_cut to v sent header goes)
+
+pub piece_sends : {D : Type 0} (moves : D → Move → D → Type 0) (old new : D) (i : InnerValue) (l : LeftValue) (l' : Option LeftValue) (taken : Bool)
+    → PieceGoesOut moves old i l taken new l' → SendsOnce moves old i (Some (next_departure i.mtu l)) taken new
+piece_sends moves old new i l l' true goes = goes.0
+piece_sends moves old new i l l' false goes = goes.0
+
+pub same_settings : (i i' : InnerValue) (plan : Plan) (sent : Sent) (h : IpRepr) → i' ≡ host_after plan sent h i → HasSettingsOf i i'
+same_settings i i' plan sent h is = record {
+  hardware = ap (λ (x : InnerValue). x.hardware) is;
+  mtu = ap (λ (x : InnerValue). x.mtu) is;
+  checksums = ap (λ (x : InnerValue). x.checksums) is;
+  addresses = ap (λ (x : InnerValue). x.addresses) is;
+  any_ip = ap (λ (x : InnerValue). x.any_ip) is;
+  routes = ap (λ (x : InnerValue). x.routes) is;
+}
+
+-- NUMBERS
+
+abbrev HasNumber : InnerValue → Departure → Type 0
+HasNumber i d = IfSome (number_in d) (λ n. n ≡ i.ident)
+
+header_number : (i : InnerValue) (h : IpRepr) → IfSome (number_in_header (numbered_header i h)) (λ n. n ≡ i.ident)
+header_number i (Ip.Ipv4 v) = refl
+header_number i (Ip.Ipv6 v) = tt
+
+some_is : (x d : Departure) → (let o : Option Departure = Some x in o) ≡ Some d → x ≡ d
+some_is x d is = cc
+
+pub next_number : (i : InnerValue) (busy : Bool) (p : PacketValue) (d : Departure) → departure_by i p (plan_of i busy p.header) ≡ Some d → IfSome (number_in d) (λ n. n ≡ i.ident)
+next_number i busy p d =
+    plan_cases i busy p.header (λ plan. departure_by i p plan ≡ Some d → HasNumber i d)
+    (λ is. absurd cc) (λ is. absurd cc) (λ is. absurd cc) (λ is. absurd cc)
+    (λ q may from is. subst (HasNumber i) (some_is (Asks q) d is) tt)
+    (λ to short is. subst (HasNumber i) (some_is (Whole to (numbered i p)) d is) (header_number i p.header))
+    (λ to v header long short idle is. subst (HasNumber i) (some_is (next_departure i.mtu (cut_of i to v p)) d is) refl)

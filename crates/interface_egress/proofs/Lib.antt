@@ -1,0 +1,10 @@
+pub mod Planned
+pub mod Short
+pub mod InTurn
+pub mod Changes
+pub mod Stepping
+pub mod ReadBack
+pub mod LastThree
+pub mod EmitsAt
+pub mod PieceOut
+pub mod OneWay

@@ -1,0 +1,149 @@
+-- What is known where a packet has a plan.
+use Rattle.std.proofs.Common.{◌≡◌, ℕ, ◌+◌, ◌<◌, ◌≤◌, Bool, true, false, cond, Option, Some, None, is_some, refl, arith}
+use Rattle.std.specs.Prelude.{ℤ, int_lt, nat_le}
+use Rattle.std.proofs.lemmas.Bool.Decides.{nat_tests}
+use Rattle.ip_wire.specs.AddressTests.{is_unspecified, is_multicast}
+use Rattle.ip_wire.specs.EthernetAddress.{EthernetAddress}
+use Rattle.ip_wire.specs.HardwareAddress.{HardwareAddress}
+use Rattle.ip_wire.specs.HardwareAddress.TheVariants as Hardware
+use Rattle.ip_wire.specs.Ip as Ips
+use Rattle.ip_wire.specs.Ip.{destination_in}
+use Rattle.ip_wire.specs.IpAddress.{IpAddress}
+use Rattle.ip_wire.specs.IpAddress.TheVariants as Address
+use Rattle.ip_wire.specs.IpRepr.{IpRepr}
+use Rattle.ip_wire.specs.IpRepr.TheVariants as Ip
+use Rattle.ip_wire.specs.Ipv4Address.{Ipv4Address}
+use Rattle.ip_wire.specs.Ipv4Repr.{Ipv4Repr}
+use Rattle.socket_base.specs.Packet.{PacketValue, IsSendable}
+use Rattle.interface_tables.specs.Inner.{InnerValue, is_local_broadcast, next_hop, link_by, link_of_hop, link_on, link_address, group_station, all_stations}
+use Rattle.interface_tables.specs.Neighbor.{CacheValue, lookup, missing, answer_by, place_of}
+use Rattle.interface_tables.specs.Best.{at_place}
+use Rattle.interface_tables.specs.Source.{source_v4, source_v6}
+use Rattle.interface_tables.specs.declared.link.LinkAddress.{LinkAddress}
+use Rattle.interface_tables.specs.declared.link.LinkAddress.TheVariants as Link
+use Rattle.interface_tables.specs.declared.neighbor.Answer.{Answer}
+use Rattle.interface_tables.specs.declared.neighbor.Answer.TheVariants as Known
+use Rattle.interface_tables.specs.declared.neighbor.Neighbor.{Neighbor}
+use Rattle.interface_egress.specs.Fragments.{LeftValue}
+use Rattle.interface_egress.specs.Plan.{longest_cut, total_len, cut_if_idle, long_plan, ask_v4, ask_from, ask_on, plan_by, plan_of, IsPacket, CanBeCarried}
+use Rattle.interface_egress.specs.declared.frame.Question.{Question}
+use Rattle.interface_egress.specs.declared.frame.Question.TheVariants as Query
+use Rattle.interface_egress.specs.declared.plan.Plan.{Plan}
+use Rattle.interface_egress.specs.declared.plan.Plan.TheVariants as Way
+
+-- A NEXT HOP THAT MAY BE ASKED FOR
+
+-- the silence is over
+abbrev pub MayAsk : InnerValue → Type 0
+MayAsk i = int_lt i.moment i.neighbors.silent ≡ false
+
+missing_by : (b : Bool) → cond b Known.RateLimited Known.NotFound ≡ Known.NotFound → b ≡ false
+missing_by true is = absurd cc
+missing_by false is = refl
+
+found_by : (b : Bool) (hardware : HardwareAddress) (a : Answer) → cond b (Known.Found hardware) a ≡ Known.NotFound → a ≡ Known.NotFound
+found_by true hardware a is = absurd cc
+found_by false hardware a is = is
+
+answer_is : (o : Option Neighbor) (c : CacheValue) (moment : ℤ) → answer_by o c moment ≡ Known.NotFound → int_lt moment c.silent ≡ false
+answer_is None c moment is = missing_by (int_lt moment c.silent) is
+answer_is (Some entry) c moment is = missing_by (int_lt moment c.silent) (found_by (int_lt moment entry.expires_at) entry.hardware_addr (missing c moment) is)
+
+link_by_is : (a : Answer) (hop other : IpAddress) → link_by a hop ≡ Link.Unknown other → a ≡ Known.NotFound
+link_by_is (Known.Found hardware) hop other is = absurd cc
+link_by_is Known.RateLimited hop other is = absurd cc
+link_by_is Known.NotFound hop other is = refl
+
+of_hop_is : (i : InnerValue) (o : Option IpAddress) (hop : IpAddress) → link_of_hop i o ≡ Link.Unknown hop → MayAsk i
+of_hop_is i None hop is = absurd cc
+of_hop_is i (Some next) hop is =
+    answer_is (at_place (place_of i.neighbors.entries next) i.neighbors.entries) i.neighbors i.moment (link_by_is (lookup i.neighbors next i.moment) next hop is)
+
+last_of : (b c : Bool) (x y : HardwareAddress) (z : LinkAddress) (hop : IpAddress) → cond b (Link.Known x) (cond c (Link.Known y) z) ≡ Link.Unknown hop → z ≡ Link.Unknown hop
+last_of true c x y z hop is = absurd cc
+last_of false true x y z hop is = absurd cc
+last_of false false x y z hop is = is
+
+on_is : (hardware : HardwareAddress) (i : InnerValue) (address hop : IpAddress) → link_on hardware i address ≡ Link.Unknown hop → MayAsk i
+on_is Hardware.Ip i address hop is = absurd cc
+on_is (Hardware.Ethernet own) i address hop is =
+    of_hop_is i (next_hop i address) hop
+    (last_of (is_local_broadcast i address) (is_multicast address) (Hardware.Ethernet all_stations) (Hardware.Ethernet (group_station address)) (link_of_hop i (next_hop i address)) hop is)
+
+-- EACH PLAN
+
+le_by : (a b : ℕ) → nat_le a b ≡ true → a ≤ b
+le_by a b is = grind (arith, nat_tests)
+
+lt_by : (a b : ℕ) → nat_le a b ≡ false → b < a
+lt_by a b is = grind (arith, nat_tests)
+
+-- a host of this hardware address asks from it
+abbrev pub AsksFrom : HardwareAddress → Question → Type 0
+AsksFrom hardware (Query.Arp own source target) = hardware ≡ Hardware.Ethernet own
+AsksFrom hardware (Query.Neighbor own source target) = hardware ≡ Hardware.Ethernet own
+
+module _ (i : InnerValue) (busy : Bool) (h : IpRepr) (P : Plan → Type 0) (out : P Way.Drop) (none : P Way.NoRoute) (wait : P Way.Wait) (held : P Way.Busy) (ask : (q : Question) → MayAsk i → AsksFrom i.hardware q → P (Way.Ask q)) (go : (to : HardwareAddress) → total_len h ≤ i.mtu → P (Way.Go to)) (cut : (to : HardwareAddress) (v : Ipv4Repr) → h ≡ Ip.Ipv4 v → i.mtu < 20 + v.payload_len → 20 + v.payload_len ≤ longest_cut → busy ≡ false → P (Way.Cut to v)) where
+  cut_by : (to : HardwareAddress) (v : Ipv4Repr) → h ≡ Ip.Ipv4 v → i.mtu < 20 + v.payload_len → 20 + v.payload_len ≤ longest_cut → (b : Bool) → busy ≡ b → P (cut_if_idle b to v)
+  cut_by to v is long short true e = held
+  cut_by to v is long short false e = cut to v is long short e
+
+  short_by : (to : HardwareAddress) (v : Ipv4Repr) → h ≡ Ip.Ipv4 v → i.mtu < 20 + v.payload_len → (b : Bool) → nat_le (20 + v.payload_len) longest_cut ≡ b → P (cond b (cut_if_idle busy to v) Way.Drop)
+  short_by to v is long true e = cut_by to v is long (le_by (20 + v.payload_len) longest_cut e) busy refl
+  short_by to v is long false e = out
+
+  long_by : (to : HardwareAddress) (k : IpRepr) → h ≡ k → i.mtu < total_len k → P (long_plan busy to k)
+  long_by to (Ip.Ipv4 v) is long = short_by to v is long (nat_le (20 + v.payload_len) longest_cut) refl
+  long_by to (Ip.Ipv6 v) is long = out
+
+  to_by : (to : HardwareAddress) (b : Bool) → nat_le (total_len h) i.mtu ≡ b → P (cond b (Way.Go to) (long_plan busy to h))
+  to_by to true e = go to (le_by (total_len h) i.mtu e)
+  to_by to false e = long_by to h refl (lt_by (total_len h) i.mtu e)
+
+  ask_v4_by : (own : EthernetAddress) (o : Option Ipv4Address) (hop : Ipv4Address) → MayAsk i → i.hardware ≡ Hardware.Ethernet own → P (ask_v4 own o hop)
+  ask_v4_by own None hop may from = none
+  ask_v4_by own (Some source) hop may from = ask (Query.Arp own source hop) may from
+
+  ask_from_by : (own : EthernetAddress) (hop : IpAddress) → MayAsk i → i.hardware ≡ Hardware.Ethernet own → P (ask_from own i hop)
+  ask_from_by own (Address.Ipv4 hop) may from = ask_v4_by own (source_v4 i.addresses hop) hop may from
+  ask_from_by own (Address.Ipv6 hop) may from = ask (Query.Neighbor own (source_v6 i.addresses hop) hop) may from
+
+  ask_on_by : (hardware : HardwareAddress) (hop : IpAddress) → i.hardware ≡ hardware → MayAsk i → P (ask_on hardware i hop)
+  ask_on_by Hardware.Ip hop is may = none
+  ask_on_by (Hardware.Ethernet own) hop is may = ask_from_by own hop may is
+
+  link_cases : (l : LinkAddress) → link_address i (destination_in h) ≡ l → P (plan_by l i busy h)
+  link_cases (Link.Known to) is = to_by to (nat_le (total_len h) i.mtu) refl
+  link_cases Link.NoRoute is = none
+  link_cases Link.Silent is = wait
+  link_cases (Link.Unknown hop) is = ask_on_by i.hardware hop refl (on_is i.hardware i (destination_in h) hop is)
+
+  pub plan_cases : P (plan_of i busy h)
+  plan_cases = elim (is_unspecified (destination_in h)) as (λ b. P (cond b Way.Drop (plan_by (link_address i (destination_in h)) i busy h))) [
+    | true ↦ out
+    | false ↦ link_cases (link_address i (destination_in h)) refl
+  ]
+
+-- WHAT IS PLANNED CAN BE DONE
+
+fits_by : (h : IpRepr) → total_len h ≤ 65535 → Ips.Fits h
+fits_by (Ip.Ipv4 v) short = omega arith
+fits_by (Ip.Ipv6 v) short = omega arith
+
+sendable_by : (p : PacketValue) → IsPacket p → total_len p.header ≤ 65535 → IsSendable p
+sendable_by p is short =
+    let fits = fits_by p.header short in
+    record { header = fits; payload = is.payload fits; len = is.len }
+
+none_by : (left : Option LeftValue) → is_some left ≡ false → left ≡ None
+none_by None is = refl
+none_by (Some l) is = absurd cc
+
+len_of_v4 : (h : IpRepr) (v : Ipv4Repr) → h ≡ Ip.Ipv4 v → 20 + v.payload_len ≤ longest_cut → total_len h ≤ 65535
+len_of_v4 h v is short = rw is (omega arith)
+
+pub planned_can_be_carried : (i : InnerValue) (left : Option LeftValue) (p : PacketValue) → i.mtu ≤ 65535 → IsPacket p → CanBeCarried i.mtu left p (plan_of i (is_some left) p.header)
+planned_can_be_carried i left p high is =
+    plan_cases i (is_some left) p.header (CanBeCarried i.mtu left p) tt tt tt tt (λ q may from. tt)
+    (λ to short. sendable_by p is (omega (arith, high, short)))
+    (λ to v header long short idle. record { header = header; sendable = sendable_by p is (len_of_v4 p.header v header short); short = short; long = long; idle = none_by left idle })

@@ -1,0 +1,98 @@
+-- Words of the laws: which frame a plan sends, and what a host is after it.
+use Rattle.std.specs.Prelude.{◌≡◌, ℕ, ◌+◌, ◌%◌, ◌^◌, ℤ, Bool, true, false, List, [], ◌∷◌, Option, None, Some}
+use Rattle.net_base.specs.Device.{Move}
+use Rattle.ip_wire.specs.HardwareAddress.{HardwareAddress}
+use Rattle.ip_wire.specs.HardwareAddress.TheVariants as Hardware
+use Rattle.ip_wire.specs.IpRepr.{IpRepr}
+use Rattle.ip_wire.specs.IpRepr.TheVariants as Ip
+use Rattle.socket_base.specs.Packet.{PacketValue}
+use Rattle.interface_tables.specs.Inner.{InnerValue}
+use Rattle.interface_tables.specs.Neighbor.{CacheValue, silenced}
+use Rattle.interface_egress.specs.Departure.{Departure, Asks, Tells, Whole, Part}
+use Rattle.interface_egress.specs.Fragments.{LeftValue, next_departure, left_after}
+use Rattle.interface_egress.specs.GoesOut.{Departs, numbered, cut_of}
+use Rattle.interface_egress.specs.declared.way_out.Sent.{Sent}
+use Rattle.interface_egress.specs.declared.way_out.Sent.TheVariants as Outcome
+use Rattle.interface_egress.specs.declared.plan.Plan.{Plan}
+use Rattle.interface_egress.specs.declared.plan.Plan.TheVariants as Way
+
+-- the frame that a plan sends, if it sends one
+abbrev pub departure_by : InnerValue → PacketValue → Plan → Option Departure
+departure_by i p (Way.Ask question) = Some (Asks question)
+departure_by i p (Way.Go to) = Some (Whole to (numbered i p))
+departure_by i p (Way.Cut to v) = Some (next_departure i.mtu (cut_of i to v p))
+departure_by i p _ = None
+
+-- how many bytes a frame of the medium has before its packet
+abbrev pub link_room : HardwareAddress → ℕ
+link_room Hardware.Ip = 0
+link_room (Hardware.Ethernet own) = 14
+
+-- the next identification
+abbrev pub ident_after : Sent → IpRepr → ℕ → ℕ
+ident_after Outcome.Gone (Ip.Ipv4 v) ident = (ident + 1) % 2 ^ 16
+ident_after _ header ident = ident
+
+-- until when no neighbour is asked for
+abbrev pub silent_after : Plan → Sent → InnerValue → ℤ
+silent_after (Way.Ask question) Outcome.Waits i = (silenced i.neighbors i.moment).silent
+silent_after plan sent i = i.neighbors.silent
+
+abbrev pub with_silent : CacheValue → ℤ → CacheValue
+with_silent c until = record c { silent = until }
+
+-- the host behind a packet's way out: all but its next identification and its silence stays
+abbrev pub host_after : Plan → Sent → IpRepr → InnerValue → InnerValue
+host_after plan sent header i =
+    record i { ident = ident_after sent header i.ident; neighbors = with_silent i.neighbors (silent_after plan sent i) }
+
+-- what is left to send
+abbrev pub left_behind : InnerValue → PacketValue → Plan → Sent → Option LeftValue → Option LeftValue
+left_behind i p (Way.Cut to v) Outcome.Gone l = left_after i.mtu (cut_of i to v p)
+left_behind i p plan sent l = l
+
+-- AT THE DEVICE
+
+-- nothing is asked of the device, or one send, which it takes or refuses
+abbrev pub SendsOnce : {D : Type 0} → (D → Move → D → Type 0) → D → InnerValue → Option Departure → Bool → D → Type 0
+SendsOnce moves old i None taken new = new ≡ old
+SendsOnce moves old i (Some d) taken new = Departs moves old i d taken new
+
+abbrev pub was_taken : Sent → Bool
+was_taken Outcome.Refused = false
+was_taken sent = true
+
+abbrev pub at_most_one : Option Departure → Bool → List Departure
+at_most_one (Some d) true = d ∷ []
+at_most_one o taken = []
+
+-- what left in frames that the device took: of a packet, and of a datagram that is half sent
+abbrev pub departures_by : InnerValue → PacketValue → Plan → Sent → List Departure
+departures_by i p plan sent = at_most_one (departure_by i p plan) (was_taken sent)
+
+abbrev pub departures_of_piece : InnerValue → LeftValue → Bool → List Departure
+departures_of_piece i l taken = at_most_one (Some (next_departure i.mtu l)) taken
+
+-- NUMBERS
+
+abbrev pub number_in_header : IpRepr → Option ℕ
+number_in_header (Ip.Ipv4 v) = Some v.ident
+number_in_header (Ip.Ipv6 v) = None
+
+-- the identification of a departure that has one
+abbrev pub number_in : Departure → Option ℕ
+number_in (Asks question) = None
+number_in (Tells packet) = None
+number_in (Whole to p) = number_in_header p.header
+number_in (Part to header piece) = Some header.ident
+
+-- SETTINGS
+
+-- the same settings
+pub record HasSettingsOf (old new : InnerValue) : Type 0 where
+  pub hardware : new.hardware ≡ old.hardware
+  pub mtu : new.mtu ≡ old.mtu
+  pub checksums : new.checksums ≡ old.checksums
+  pub addresses : new.addresses ≡ old.addresses
+  pub any_ip : new.any_ip ≡ old.any_ip
+  pub routes : new.routes ≡ old.routes

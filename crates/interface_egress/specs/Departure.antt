@@ -1,0 +1,134 @@
+-- The frames that leave a host, as bytes.
+use Rattle.std.specs.Prelude.{ℕ, ◌+◌, List, [], ◌∷◌, ◌++◌, length, drop, replicate, Some}
+use Rattle.net_base.specs.Capabilities.{computes}
+use Rattle.net_base.specs.ChecksumCapabilities.{ChecksumCapabilities}
+use Rattle.control_wire.specs.Icmpv6 as Icmpv6
+use Rattle.control_wire.specs.Ndisc as Neighbor
+use Rattle.ip_wire.specs.Address.{solicited_of}
+use Rattle.ip_wire.specs.Arp as Arps
+use Rattle.ip_wire.specs.declared.arp.kinds.ArpOperation.TheVariants as Operation
+use Rattle.ip_wire.specs.declared.arp.repr.ArpRepr.{ArpRepr}
+use Rattle.ip_wire.specs.declared.arp.repr.ArpRepr.TheVariants as Arp
+use Rattle.ip_wire.specs.Ethernet as Ethernet
+use Rattle.ip_wire.specs.EthernetAddress.{EthernetAddress}
+use Rattle.ip_wire.specs.EthernetProtocol.{EthernetProtocol}
+use Rattle.ip_wire.specs.EthernetProtocol.TheVariants as Ether
+use Rattle.ip_wire.specs.declared.ethernet.repr.EthernetRepr.{EthernetRepr}
+use Rattle.ip_wire.specs.HardwareAddress.{HardwareAddress}
+use Rattle.ip_wire.specs.HardwareAddress.TheVariants as Hardware
+use Rattle.ip_wire.specs.Ip as Ips
+use Rattle.ip_wire.specs.Ip.{header_len_in}
+use Rattle.ip_wire.specs.IpProtocol.TheVariants as Protocol
+use Rattle.ip_wire.specs.IpRepr.{IpRepr}
+use Rattle.ip_wire.specs.IpRepr.TheVariants as Ip
+use Rattle.ip_wire.specs.Ipv4.{written_piece}
+use Rattle.ip_wire.specs.Ipv4Address.{Ipv4Address}
+use Rattle.ip_wire.specs.Ipv4Repr.{Ipv4Repr}
+use Rattle.ip_wire.specs.Ipv6Address.{Ipv6Address}
+use Rattle.ip_wire.specs.Ipv6Repr.{Ipv6Repr}
+use Rattle.socket_base.specs.Packet.{PacketValue, ControlV6, packet_of, payload_len, payload_written}
+use Rattle.interface_tables.specs.Pieces as Pieces
+use Rattle.interface_egress.specs.declared.frame.Question.{Question}
+use Rattle.interface_egress.specs.declared.frame.Question.TheVariants as Query
+
+-- What leaves in one frame: a question for a neighbour, an ARP packet that answers one, a packet, or a piece of an IPv4
+-- datagram with this header. The hardware address is that of the frame's receiver.
+pub data Departure : Type 0 where
+  Asks : Question → Departure
+  Tells : ArpRepr → Departure
+  Whole : HardwareAddress → PacketValue → Departure
+  Part : HardwareAddress → Ipv4Repr → Pieces.Piece → Departure
+
+-- THE LINK HEADER
+
+-- from one station to another (RFC 894; RFC 2464); a medium of bare packets has none
+abbrev pub link_header : HardwareAddress → HardwareAddress → EthernetProtocol → List ℕ
+link_header (Hardware.Ethernet from) (Hardware.Ethernet to) carried =
+    Ethernet.written (record { src_addr = from; dst_addr = to; ethertype = carried })
+link_header from to carried = []
+
+abbrev pub link_len : HardwareAddress → HardwareAddress → ℕ
+link_len (Hardware.Ethernet from) (Hardware.Ethernet to) = 14
+link_len from to = 0
+
+-- what a frame of this packet is said to carry
+abbrev pub ether_for : IpRepr → EthernetProtocol
+ether_for (Ip.Ipv4 v) = Ether.Ipv4
+ether_for (Ip.Ipv6 v) = Ether.Ipv6
+
+-- PACKETS
+
+-- a packet behind the link header
+abbrev pub packet_frame : ChecksumCapabilities → HardwareAddress → HardwareAddress → PacketValue → List ℕ
+packet_frame caps from to p =
+    link_header from to (ether_for p.header) ++ (Ips.written (computes caps.ipv4) p.header ++ payload_written caps p.header p.payload)
+
+abbrev pub packet_frame_len : HardwareAddress → HardwareAddress → PacketValue → ℕ
+packet_frame_len from to p = link_len from to + (header_len_in p.header + payload_len p.payload)
+
+-- a piece of a datagram with this header (RFC 791, section 3.2): the header has length, offset and more-fragments of the piece
+abbrev pub piece_frame : ChecksumCapabilities → HardwareAddress → HardwareAddress → Ipv4Repr → Pieces.Piece → List ℕ
+piece_frame caps from to header p =
+    link_header from to Ether.Ipv4 ++ (written_piece (computes caps.ipv4) (record header { payload_len = length p.bytes }) p.offset p.more ++ p.bytes)
+
+abbrev pub piece_frame_len : HardwareAddress → HardwareAddress → Pieces.Piece → ℕ
+piece_frame_len from to p = link_len from to + (20 + length p.bytes)
+
+-- QUESTIONS AND ANSWERS FOR NEIGHBOURS
+
+-- an ARP packet goes from its sender's hardware address to its target's
+abbrev pub arp_link : ArpRepr → EthernetRepr
+arp_link (Arp.EthernetIpv4 operation source source_protocol target target_protocol) =
+    record { src_addr = source; dst_addr = target; ethertype = Ether.Arp }
+
+abbrev pub arp_frame : ArpRepr → List ℕ
+arp_frame packet = Ethernet.written (arp_link packet) ++ Arps.written packet
+
+-- ff-ff-ff-ff-ff-ff
+abbrev pub every_station : EthernetAddress
+every_station = record { 0 = replicate 6 0xff }
+
+-- the ARP request for a neighbour (RFC 826), whose target's hardware address is that of all stations
+abbrev pub arp_request : EthernetAddress → Ipv4Address → Ipv4Address → ArpRepr
+arp_request own source target = Arp.EthernetIpv4 Operation.Request own source every_station target
+
+-- the group to which solicitations for this address go (RFC 4291, section 2.7.1)
+abbrev pub solicited_node : Ipv6Address → Ipv6Address
+solicited_node target = record { 0 = solicited_of target }
+
+-- the Ethernet address of an IPv6 group (RFC 2464, section 7): the group's last 32 bits
+abbrev pub solicited_station : Ipv6Address → EthernetAddress
+solicited_station target = record { 0 = 0x33 ∷ 0x33 ∷ drop 12 (solicited_of target) }
+
+-- the neighbour solicitation (RFC 4861, sections 4.3 and 7.2.2)
+abbrev pub solicitation_header : Ipv6Address → Ipv6Address → Ipv6Repr
+solicitation_header source target =
+    record { src_addr = source; dst_addr = solicited_node target; next_header = Protocol.Icmpv6; payload_len = 32; hop_limit = 255 }
+
+abbrev pub solicitation : EthernetAddress → Ipv6Address → Ipv6Address → PacketValue
+solicitation own source target =
+    packet_of (Ip.Ipv6 (solicitation_header source target)) (ControlV6 (Icmpv6.Ndisc (Neighbor.Solicitation target (Some own.0))) [])
+
+abbrev pub question_frame : ChecksumCapabilities → Question → List ℕ
+question_frame caps (Query.Arp own source target) = arp_frame (arp_request own source target)
+question_frame caps (Query.Neighbor own source target) =
+    packet_frame caps (Hardware.Ethernet own) (Hardware.Ethernet (solicited_station target)) (solicitation own source target)
+
+abbrev pub question_len : Question → ℕ
+question_len (Query.Arp own source target) = 42
+question_len (Query.Neighbor own source target) = 86
+
+-- ALL FRAMES
+
+-- the frame of a departure from a host with this hardware address and these checksums
+abbrev pub frame_from : HardwareAddress → ChecksumCapabilities → Departure → List ℕ
+frame_from own caps (Asks question) = question_frame caps question
+frame_from own caps (Tells packet) = arp_frame packet
+frame_from own caps (Whole to p) = packet_frame caps own to p
+frame_from own caps (Part to header p) = piece_frame caps own to header p
+
+abbrev pub len_from : HardwareAddress → Departure → ℕ
+len_from own (Asks question) = question_len question
+len_from own (Tells packet) = 42
+len_from own (Whole to p) = packet_frame_len own to p
+len_from own (Part to header p) = piece_frame_len own to p

@@ -1,0 +1,54 @@
+-- A datagram that is half sent (RFC 791, section 3.2).
+use Rattle.std.specs.Prelude.{ℕ, ◌+◌, ◌-◌, ◌*◌, ◌/◌, suc, zero, nat_lt, if◌then◌else◌, List, [], ◌∷◌, length, take, Option, None, Some}
+use Rattle.ip_wire.specs.HardwareAddress.{HardwareAddress}
+use Rattle.ip_wire.specs.Ipv4Repr.{Ipv4Repr}
+use Rattle.net_base.specs.ChecksumCapabilities.{ChecksumCapabilities}
+use Rattle.socket_base.specs.Packet.{PacketValue, payload_written}
+use Rattle.interface_tables.specs.Pieces.{Piece, piece_at}
+use Rattle.interface_egress.specs.Departure.{Departure, Part}
+use Rattle.interface_egress.specs.declared.fragmenter.Left.{Left}
+
+-- its header, where its frames go, its payload, and how many bytes of that went
+pub record LeftValue : Type 0 where
+  pub header : Ipv4Repr
+  pub to : HardwareAddress
+  pub payload : List ℕ
+  pub at : ℕ
+
+-- what is left, with the bytes of a buffer
+abbrev pub half_sent : Left → List ℕ → LeftValue
+half_sent l bytes = record { header = l.header; to = l.to; payload = take l.len bytes; at = l.at }
+
+abbrev pub left_value : Option Left → List ℕ → Option LeftValue
+left_value None bytes = None
+left_value (Some l) bytes = Some (half_sent l bytes)
+
+-- a packet of which nothing went yet, as a datagram with this header
+abbrev pub begun : ChecksumCapabilities → HardwareAddress → Ipv4Repr → PacketValue → LeftValue
+begun caps to header p = record { header = header; to = to; payload = payload_written caps p.header p.payload; at = 0 }
+
+-- the most payload of a piece behind a header of 20 bytes, in whole units of 8 bytes
+abbrev pub piece_room : ℕ → ℕ
+piece_room mtu = (mtu - 20) / 8 * 8
+
+-- the piece that goes next, where the longest packet is of this length
+abbrev pub next_piece : ℕ → LeftValue → Piece
+next_piece mtu l = piece_at (piece_room mtu) l.payload l.at
+
+abbrev pub next_departure : ℕ → LeftValue → Departure
+next_departure mtu l = Part l.to l.header (next_piece mtu l)
+
+-- what is left behind it
+abbrev pub left_after : ℕ → LeftValue → Option LeftValue
+left_after mtu l =
+    if nat_lt (l.at + piece_room mtu) (length l.payload) then Some (record l { at = l.at + piece_room mtu }) else None
+
+-- the same of the place in it
+abbrev pub rest_of : ℕ → Left → Option Left
+rest_of mtu l = if nat_lt (l.at + piece_room mtu) l.len then Some (record l { at = l.at + piece_room mtu }) else None
+
+-- the next pieces of what is left, so many of them at most
+abbrev pub pieces_from : ℕ → ℕ → Option LeftValue → List Piece
+pieces_from n mtu None = []
+pieces_from zero mtu (Some l) = []
+pieces_from (suc n) mtu (Some l) = next_piece mtu l ∷ pieces_from n mtu (left_after mtu l)

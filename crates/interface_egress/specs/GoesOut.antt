@@ -1,0 +1,89 @@
+-- What becomes of a packet on its way out, at a device that may refuse a frame (RFC 791, section 3.2; RFC 1122, section
+-- 2.3.2; RFC 4861, section 7.2.2).
+use Rattle.std.specs.Prelude.{◌≡◌, ℕ, Bool, true, false, List, Option, Some}
+use Rattle.net_base.specs.Device.{Move}
+use Rattle.ip_wire.specs.HardwareAddress.{HardwareAddress}
+use Rattle.ip_wire.specs.IpRepr.{IpRepr}
+use Rattle.ip_wire.specs.IpRepr.TheVariants as Ip
+use Rattle.ip_wire.specs.Ipv4Repr.{Ipv4Repr}
+use Rattle.socket_base.specs.Packet.{PacketValue}
+use Rattle.interface_tables.specs.Inner.{InnerValue, with_next_ident, with_silence}
+use Rattle.interface_egress.specs.Emits.{Emits}
+use Rattle.interface_egress.specs.Departure.{Departure, Asks, Whole, frame_from, len_from}
+use Rattle.interface_egress.specs.Fragments.{LeftValue, begun, next_departure, left_after}
+use Rattle.interface_egress.specs.declared.way_out.Sent.{Sent}
+use Rattle.interface_egress.specs.declared.way_out.Sent.TheVariants as Outcome
+use Rattle.interface_egress.specs.declared.plan.Plan.{Plan}
+use Rattle.interface_egress.specs.declared.plan.Plan.TheVariants as Way
+
+-- THE FRAME OF A DEPARTURE
+
+abbrev pub frame_of : InnerValue → Departure → List ℕ
+frame_of i d = frame_from i.hardware i.checksums d
+
+abbrev pub frame_len_of : InnerValue → Departure → ℕ
+frame_len_of i d = len_from i.hardware d
+
+abbrev pub Departs : {D : Type 0} → (D → Move → D → Type 0) → D → InnerValue → Departure → Bool → D → Type 0
+Departs moves old i d gone new = Emits moves old (frame_of i d) (frame_len_of i d) gone new
+
+-- NUMBERS: every IPv4 datagram takes the next identification, and may be cut
+
+abbrev pub numbered_v4 : InnerValue → Ipv4Repr → Ipv4Repr
+numbered_v4 i v = record v { ident = i.ident; dont_frag = false }
+
+abbrev pub numbered_header : InnerValue → IpRepr → IpRepr
+numbered_header i (Ip.Ipv4 v) = Ip.Ipv4 (numbered_v4 i v)
+numbered_header i (Ip.Ipv6 v) = Ip.Ipv6 v
+
+abbrev pub numbered : InnerValue → PacketValue → PacketValue
+numbered i p = record p { header = numbered_header i p.header }
+
+-- the host behind a packet that went
+abbrev pub after_header : IpRepr → InnerValue → InnerValue
+after_header (Ip.Ipv4 v) i = with_next_ident i
+after_header (Ip.Ipv6 v) i = i
+
+-- a datagram of which the first piece is to go
+abbrev pub cut_of : InnerValue → HardwareAddress → Ipv4Repr → PacketValue → LeftValue
+cut_of i to v p = begun i.checksums to (numbered_v4 i v) (numbered i p)
+
+-- THE WAY OUT
+
+-- device, host and datagram that is half sent
+abbrev pub Stays : {D : Type 0} → D → InnerValue → Option LeftValue → D → InnerValue → Option LeftValue → Type 0
+Stays old i l new i' l' = (new ≡ old) × (i' ≡ i) × (l' ≡ l)
+
+-- a request that the device took begins the silence
+abbrev pub Asked : {D : Type 0} → (D → Move → D → Type 0) → D → InnerValue → Departure → Sent → D → InnerValue → Type 0
+Asked moves old i d Outcome.Waits new i' = Departs moves old i d true new × (i' ≡ with_silence i)
+Asked moves old i d Outcome.Refused new i' = Departs moves old i d false new × (i' ≡ i)
+Asked moves old i d _ new i' = ⊥
+
+-- a packet whose frame the device took has its number
+abbrev pub Went : {D : Type 0} → (D → Move → D → Type 0) → D → InnerValue → IpRepr → Departure → Sent → D → InnerValue → Type 0
+Went moves old i header d Outcome.Gone new i' = Departs moves old i d true new × (i' ≡ after_header header i)
+Went moves old i header d Outcome.Refused new i' = Departs moves old i d false new × (i' ≡ i)
+Went moves old i header d _ new i' = ⊥
+
+-- a datagram whose first piece the device took has its number, and the rest is left
+abbrev pub WasCut : {D : Type 0} → (D → Move → D → Type 0) → D → InnerValue → Option LeftValue → LeftValue → Sent → D → InnerValue → Option LeftValue → Type 0
+WasCut moves old i l c Outcome.Gone new i' l' =
+    Departs moves old i (next_departure i.mtu c) true new × (i' ≡ with_next_ident i) × (l' ≡ left_after i.mtu c)
+WasCut moves old i l c Outcome.Refused new i' l' = Departs moves old i (next_departure i.mtu c) false new × (i' ≡ i) × (l' ≡ l)
+WasCut moves old i l c _ new i' l' = ⊥
+
+-- A refused frame changes nothing but the device. What is dropped, waits or finds the host busy asks nothing of the device.
+abbrev pub GoesOut : {D : Type 0} → (D → Move → D → Type 0) → D → InnerValue → Option LeftValue → PacketValue → Plan → Sent → D → InnerValue → Option LeftValue → Type 0
+GoesOut moves old i l p Way.Drop sent new i' l' = (sent ≡ Outcome.Dropped) × Stays old i l new i' l'
+GoesOut moves old i l p Way.NoRoute sent new i' l' = (sent ≡ Outcome.Waits) × Stays old i l new i' l'
+GoesOut moves old i l p Way.Wait sent new i' l' = (sent ≡ Outcome.Waits) × Stays old i l new i' l'
+GoesOut moves old i l p Way.Busy sent new i' l' = (sent ≡ Outcome.Busy) × Stays old i l new i' l'
+GoesOut moves old i l p (Way.Ask question) sent new i' l' = Asked moves old i (Asks question) sent new i' × (l' ≡ l)
+GoesOut moves old i l p (Way.Go to) sent new i' l' = Went moves old i p.header (Whole to (numbered i p)) sent new i' × (l' ≡ l)
+GoesOut moves old i l p (Way.Cut to v) sent new i' l' = WasCut moves old i l (cut_of i to v p) sent new i' l'
+
+-- the next piece of a datagram that is half sent, which has its number already
+abbrev pub PieceGoesOut : {D : Type 0} → (D → Move → D → Type 0) → D → InnerValue → LeftValue → Bool → D → Option LeftValue → Type 0
+PieceGoesOut moves old i l true new l' = Departs moves old i (next_departure i.mtu l) true new × (l' ≡ left_after i.mtu l)
+PieceGoesOut moves old i l false new l' = Departs moves old i (next_departure i.mtu l) false new × (l' ≡ Some l)

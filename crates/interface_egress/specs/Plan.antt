@@ -1,0 +1,87 @@
+-- What is to be done with a packet that wants to go out.
+use Rattle.std.specs.Prelude.{◌≡◌, ℕ, ◌+◌, ◌<◌, ◌≤◌, nat_le, Bool, if◌then◌else◌, Option, None, Some}
+use Rattle.ip_wire.specs.AddressTests.{is_unspecified}
+use Rattle.ip_wire.specs.HardwareAddress.{HardwareAddress}
+use Rattle.ip_wire.specs.HardwareAddress.TheVariants as Hardware
+use Rattle.ip_wire.specs.Ip as Ips
+use Rattle.ip_wire.specs.Ip.{destination_in, header_len_in, payload_len_in}
+use Rattle.ip_wire.specs.IpAddress.{IpAddress}
+use Rattle.ip_wire.specs.IpAddress.TheVariants as Address
+use Rattle.ip_wire.specs.IpRepr.{IpRepr}
+use Rattle.ip_wire.specs.IpRepr.TheVariants as Ip
+use Rattle.ip_wire.specs.Ipv4Address.{Ipv4Address}
+use Rattle.ip_wire.specs.Ipv4Repr.{Ipv4Repr}
+use Rattle.ip_wire.specs.EthernetAddress.{EthernetAddress}
+use Rattle.socket_base.specs.Packet.{PacketValue, PayloadFits, IsSendable, payload_len}
+use Rattle.interface_tables.specs.Inner.{InnerValue, link_address}
+use Rattle.interface_tables.specs.Source.{source_v4, source_v6}
+use Rattle.interface_tables.specs.declared.link.LinkAddress.{LinkAddress}
+use Rattle.interface_tables.specs.declared.link.LinkAddress.TheVariants as Link
+use Rattle.interface_egress.specs.Fragments.{LeftValue}
+use Rattle.interface_egress.specs.declared.frame.Question.TheVariants as Query
+use Rattle.interface_egress.specs.declared.plan.Plan.{Plan}
+use Rattle.interface_egress.specs.declared.plan.Plan.TheVariants as Way
+
+-- the longest datagram that is cut
+abbrev pub longest_cut : ℕ
+longest_cut = 4096
+
+abbrev pub total_len : IpRepr → ℕ
+total_len header = header_len_in header + payload_len_in header
+
+-- a datagram that is too long for one frame goes in pieces, one after the other
+abbrev pub cut_if_idle : Bool → HardwareAddress → Ipv4Repr → Plan
+cut_if_idle busy to v = if busy then Way.Busy else Way.Cut to v
+
+abbrev pub long_plan : Bool → HardwareAddress → IpRepr → Plan
+long_plan busy to (Ip.Ipv4 v) = if nat_le (20 + v.payload_len) longest_cut then cut_if_idle busy to v else Way.Drop
+long_plan busy to (Ip.Ipv6 v) = Way.Drop
+
+abbrev pub plan_to : HardwareAddress → ℕ → Bool → IpRepr → Plan
+plan_to to mtu busy header = if nat_le (total_len header) mtu then Way.Go to else long_plan busy to header
+
+-- the question for a next hop, from the address that a packet for it would be sent from
+abbrev pub ask_v4 : EthernetAddress → Option Ipv4Address → Ipv4Address → Plan
+ask_v4 own None hop = Way.NoRoute
+ask_v4 own (Some source) hop = Way.Ask (Query.Arp own source hop)
+
+abbrev pub ask_from : EthernetAddress → InnerValue → IpAddress → Plan
+ask_from own i (Address.Ipv4 hop) = ask_v4 own (source_v4 i.addresses hop) hop
+ask_from own i (Address.Ipv6 hop) = Way.Ask (Query.Neighbor own (source_v6 i.addresses hop) hop)
+
+-- a medium without hardware addresses has none to ask for
+abbrev pub ask_on : HardwareAddress → InnerValue → IpAddress → Plan
+ask_on Hardware.Ip i hop = Way.NoRoute
+ask_on (Hardware.Ethernet own) i hop = ask_from own i hop
+
+abbrev pub plan_by : LinkAddress → InnerValue → Bool → IpRepr → Plan
+plan_by (Link.Known to) i busy header = plan_to to i.mtu busy header
+plan_by Link.NoRoute i busy header = Way.NoRoute
+plan_by Link.Silent i busy header = Way.Wait
+plan_by (Link.Unknown hop) i busy header = ask_on i.hardware i hop
+
+-- In this order: a packet for the unspecified address is dropped; one whose next hop isn't known waits, or asks; then its
+-- length counts. The host is busy while pieces of a datagram wait.
+abbrev pub plan_of : InnerValue → Bool → IpRepr → Plan
+plan_of i busy header =
+    if is_unspecified (destination_in header) then Way.Drop
+    else plan_by (link_address i (destination_in header)) i busy header
+
+-- a packet whose header says its length, and which can be sent where that fits its field
+pub record IsPacket (p : PacketValue) : Type 0 where
+  pub len : payload_len_in p.header ≡ payload_len p.payload
+  pub payload : Ips.Fits p.header → PayloadFits p.header p.payload
+
+-- a datagram that is cut: its payload fits the buffer, and not one frame, and no other one is half sent
+pub record CanBeCut (mtu : ℕ) (left : Option LeftValue) (p : PacketValue) (v : Ipv4Repr) : Type 0 where
+  pub header : p.header ≡ Ip.Ipv4 v
+  pub sendable : IsSendable p
+  pub short : 20 + v.payload_len ≤ longest_cut
+  pub long : mtu < 20 + v.payload_len
+  pub idle : left ≡ None
+
+-- what is to be done with the packet can be done
+abbrev pub CanBeCarried : ℕ → Option LeftValue → PacketValue → Plan → Type 0
+CanBeCarried mtu left p (Way.Go to) = IsSendable p
+CanBeCarried mtu left p (Way.Cut to v) = CanBeCut mtu left p v
+CanBeCarried mtu left p _ = Unit {0}

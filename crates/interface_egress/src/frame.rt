@@ -1,0 +1,267 @@
+//! The frames that leave a host.
+ghost use Rattle.std.specs.Prelude.{◌≡◌, ◌+◌, ◌<◌, ◌^◌, length};
+ghost use Rattle.ip_wire.specs.Address.{solicited_of};
+ghost use Rattle.socket_base.specs.Packet.{packet_value, IsSendable};
+ghost use Rattle.interface_egress.specs.Emits.{Emits};
+ghost use Rattle.interface_egress.specs.Departure.{link_header, link_len, ether_for, packet_frame, packet_frame_len, piece_frame, piece_frame_len, arp_frame, arp_request, solicited_node, solicited_station, solicitation, question_frame, question_len};
+
+use crate::fill::{Fill, send};
+use control_wire::{Icmpv6Repr, NdiscRepr};
+use ip_wire::{
+    ArpOperation, ArpPacketMut, ArpRepr, ETHERNET_HEADER_LEN, EthernetAddress, EthernetFrameMut,
+    EthernetProtocol, EthernetRepr, HardwareAddress, IpProtocol, IpRepr, Ipv4Address,
+    Ipv4PacketMut, Ipv4Repr, Ipv6Address, Ipv6Repr, RawHardwareAddress,
+};
+use net_base::{ChecksumCapabilities, Device};
+use socket_base::{IpPayload, Packet};
+
+/// A question for the hardware address of a neighbour, from a host with these addresses.
+#[derive(Clone, Copy, Debug, PartialEq, Eq)]
+pub enum Question {
+    /// By an ARP request.
+    Arp {
+        own: EthernetAddress,
+        source: Ipv4Address,
+        target: Ipv4Address,
+    },
+    /// By a neighbour solicitation.
+    Neighbor {
+        own: EthernetAddress,
+        source: Ipv6Address,
+        target: Ipv6Address,
+    },
+}
+
+/// A frame that carries an ARP packet.
+#[derive(Clone, Copy, Debug, PartialEq, Eq)]
+pub struct ArpFrame {
+    pub packet: ArpRepr,
+}
+
+/// A frame that carries a packet.
+#[derive(Clone, Copy, Debug, PartialEq, Eq)]
+pub struct Whole<'a> {
+    pub from: HardwareAddress,
+    pub to: HardwareAddress,
+    pub packet: Packet<'a>,
+    pub checksums: ChecksumCapabilities,
+}
+
+/// A frame that carries a piece of an IPv4 datagram.
+#[derive(Clone, Copy, Debug, PartialEq, Eq)]
+pub struct Piece<'a> {
+    pub from: HardwareAddress,
+    pub to: HardwareAddress,
+    /// The datagram's header; the payload's length is the piece's.
+    pub header: Ipv4Repr,
+    /// Where the piece stands in the datagram's payload.
+    pub offset: u16,
+    /// Whether more pieces follow.
+    pub more: bool,
+    pub bytes: &'a [u8],
+    pub checksums: ChecksumCapabilities,
+}
+
+impl Fill for ArpFrame {
+    ghost filled = { λ f. arp_frame f.packet };
+
+    ghost len = { λ f. 42 };
+
+    ghost fits = { λ f. Unit {0} };
+
+    fn frame_len(&self) -> usize {
+        ETHERNET_HEADER_LEN + self.packet.buffer_len()
+    }
+
+    fn fill(&self, buffer: &mut [u8]) {
+        let ArpRepr::EthernetIpv4 {
+            source_hardware_addr,
+            target_hardware_addr,
+            ..
+        } = self.packet;
+        let (front, rest) = buffer.split_at_mut(ETHERNET_HEADER_LEN);
+        let header = EthernetRepr {
+            src_addr: source_hardware_addr,
+            dst_addr: target_hardware_addr,
+            ethertype: EthernetProtocol::Arp,
+        };
+        header.emit(&mut EthernetFrameMut::new_unchecked(front));
+        self.packet.emit(&mut ArpPacketMut::new_unchecked(rest));
+    }
+}
+
+impl<'a> Fill for Whole<'a> {
+    ghost filled = { λ w. packet_frame w.checksums w.from w.to (packet_value w.packet) };
+
+    ghost len = { λ w. packet_frame_len w.from w.to (packet_value w.packet) };
+
+    ghost fits = { λ w. IsSendable (packet_value w.packet) };
+
+    fn frame_len(&self) -> usize {
+        link_len(&self.from, &self.to) + self.packet.ip_repr().buffer_len()
+    }
+
+    fn fill(&self, buffer: &mut [u8]) {
+        let header = self.packet.ip_repr();
+        let (front, rest) = buffer.split_at_mut(link_len(&self.from, &self.to));
+        write_link(&self.from, &self.to, ether_for(&header), front);
+        let (head, body) = rest.split_at_mut(header.header_len());
+        header.emit(head, &self.checksums);
+        self.packet.emit_payload(body, &self.checksums);
+    }
+}
+
+impl<'a> Fill for Piece<'a> {
+    ghost filled = { λ p. piece_frame p.checksums p.from p.to p.header (record { offset = p.offset; more = p.more; bytes = p.bytes.now }) };
+
+    ghost len = { λ p. piece_frame_len p.from p.to (record { offset = p.offset; more = p.more; bytes = p.bytes.now }) };
+
+    ghost fits = { λ p. 20 + length p.bytes.now < 2 ^ 16 };
+
+    fn frame_len(&self) -> usize {
+        link_len(&self.from, &self.to) + (self.header.buffer_len() + self.bytes.len())
+    }
+
+    fn fill(&self, buffer: &mut [u8]) {
+        let (front, rest) = buffer.split_at_mut(link_len(&self.from, &self.to));
+        write_link(&self.from, &self.to, EthernetProtocol::Ipv4, front);
+        let (head, body) = rest.split_at_mut(self.header.buffer_len());
+        let header = Ipv4Repr {
+            payload_len: self.bytes.len(),
+            ..self.header
+        };
+        let mut packet = Ipv4PacketMut::new_unchecked(head);
+        header.emit_piece(&mut packet, self.offset, self.more, &self.checksums);
+        body.copy_from_slice(self.bytes);
+    }
+}
+
+/// Sends a question. Says whether the device took it.
+pub fn ask<D: Device>(
+    device: &mut D,
+    token: D::TxToken,
+    question: &Question,
+    checksums: &ChecksumCapabilities,
+) -> bool
+    requires room { D.refused device.old + 1 < 2 ^ 64 }
+    ensures emits { Emits D.moves device.old (question_frame checksums.now question.now) (question_len question.now) result device.new }
+    ensures capabilities { D.described device.new ≡ D.described device.old }
+{
+    match question {
+        Question::Arp {
+            own,
+            source,
+            target,
+        } => {
+            let packet = arp_request(own, source, target);
+            send(device, token, &ArpFrame { packet })
+        }
+        Question::Neighbor {
+            own,
+            source,
+            target,
+        } => {
+            let frame = Whole {
+                from: HardwareAddress::Ethernet(*own),
+                to: HardwareAddress::Ethernet(solicited_station(target)),
+                packet: solicitation(own, source, target),
+                checksums: *checksums,
+            };
+            send(device, token, &frame)
+        }
+    }
+}
+
+/// How many bytes stand before a packet between two hardware addresses.
+pub(crate) fn link_len(from: &HardwareAddress, to: &HardwareAddress) -> usize
+    ensures { result ≡ link_len from.now to.now }
+{
+    match (from, to) {
+        (HardwareAddress::Ethernet(_), HardwareAddress::Ethernet(_)) => ETHERNET_HEADER_LEN,
+        _ => 0,
+    }
+}
+
+fn write_link(
+    from: &HardwareAddress,
+    to: &HardwareAddress,
+    carried: EthernetProtocol,
+    buffer: &mut [u8],
+)
+    requires { length buffer.old ≡ link_len from.now to.now }
+    ensures { buffer.new ≡ link_header from.now to.now carried }
+{
+    if let (HardwareAddress::Ethernet(from), HardwareAddress::Ethernet(to)) = (from, to) {
+        let header = EthernetRepr {
+            src_addr: *from,
+            dst_addr: *to,
+            ethertype: carried,
+        };
+        header.emit(&mut EthernetFrameMut::new_unchecked(buffer));
+    }
+}
+
+/// What a frame of this packet is said to carry.
+fn ether_for(header: &IpRepr) -> EthernetProtocol
+    ensures { result ≡ ether_for header.now }
+{
+    match header {
+        IpRepr::Ipv4(_) => EthernetProtocol::Ipv4,
+        IpRepr::Ipv6(_) => EthernetProtocol::Ipv6,
+    }
+}
+
+/// The ARP request for a neighbour.
+fn arp_request(own: &EthernetAddress, source: &Ipv4Address, target: &Ipv4Address) -> ArpRepr
+    ensures { result ≡ arp_request own.now source.now target.now }
+{
+    ArpRepr::EthernetIpv4 {
+        operation: ArpOperation::Request,
+        source_hardware_addr: *own,
+        source_protocol_addr: *source,
+        target_hardware_addr: EthernetAddress::BROADCAST,
+        target_protocol_addr: *target,
+    }
+}
+
+/// The neighbour solicitation for a neighbour.
+fn solicitation(
+    own: &EthernetAddress,
+    source: &Ipv6Address,
+    target: &Ipv6Address,
+) -> Packet<'static>
+    ensures value { packet_value result ≡ solicitation own.now source.now target.now }
+    ensures fits { IsSendable (packet_value result) }
+{
+    let header = Ipv6Repr {
+        src_addr: *source,
+        dst_addr: solicited_node(target),
+        next_header: IpProtocol::Icmpv6,
+        payload_len: 32,
+        hop_limit: 255,
+    };
+    let message = NdiscRepr::NeighborSolicit {
+        target_addr: *target,
+        lladdr: Some(RawHardwareAddress::from(*own)),
+    };
+    Packet::new(
+        IpRepr::Ipv6(header),
+        IpPayload::Icmpv6(Icmpv6Repr::Ndisc(message)),
+    )
+}
+
+/// The group to which solicitations for this address go.
+fn solicited_node(target: &Ipv6Address) -> Ipv6Address
+    ensures { result ≡ solicited_node target.now }
+{
+    let [.., a, b, c] = target.0;
+    Ipv6Address([0xff, 2, 0, 0, 0, 0, 0, 0, 0, 0, 0, 1, 0xff, a, b, c])
+}
+
+/// The Ethernet address of that group.
+fn solicited_station(target: &Ipv6Address) -> EthernetAddress
+    ensures { result ≡ solicited_station target.now }
+{
+    let [.., a, b, c] = target.0;
+    EthernetAddress([0x33, 0x33, 0xff, a, b, c])
+}

@@ -1,0 +1,153 @@
+//! What follows from the definitions.
+ghost use Rattle.std.specs.Prelude.{◌≡◌, ℕ, ◌+◌, ◌*◌, ◌%◌, ◌^◌, ◌<◌, ◌≤◌, Bool, false, List, ◌++◌, length, take, drop, int_lt, Option, Some, IfSome, IsTrue};
+ghost use Rattle.std.specs.List.{AllByRecursion, flat_map};
+ghost use Rattle.net_base.specs.Capabilities.{computes};
+ghost use Rattle.net_base.specs.ChecksumCapabilities.{ChecksumCapabilities};
+ghost use Rattle.ip_wire.specs.Address.{IsEthernetAddress};
+ghost use Rattle.ip_wire.specs.Arp as Arps;
+ghost use Rattle.ip_wire.specs.declared.arp.repr.ArpRepr.{ArpRepr};
+ghost use Rattle.ip_wire.specs.Ethernet as Ethernet;
+ghost use Rattle.ip_wire.specs.EthernetAddress.{EthernetAddress};
+ghost use Rattle.ip_wire.specs.EthernetProtocol.TheVariants as Ether;
+ghost use Rattle.ip_wire.specs.HardwareAddress.{HardwareAddress};
+ghost use Rattle.ip_wire.specs.HardwareAddress.TheVariants as Hardware;
+ghost use Rattle.ip_wire.specs.Ip as Ips;
+ghost use Rattle.ip_wire.specs.Ipv4 as Ipv4;
+ghost use Rattle.ip_wire.specs.IpRepr.{IpRepr};
+ghost use Rattle.ip_wire.specs.Ipv4Repr.{Ipv4Repr};
+ghost use Rattle.socket_base.specs.Packet.{PacketValue, IsSendable, payload_len, payload_written};
+ghost use Rattle.interface_tables.specs.Inner.{InnerValue};
+ghost use Rattle.interface_tables.specs.Pieces.{Piece, IsSliceOf};
+ghost use Rattle.interface_egress.specs.Departure.{Departure, Tells, ether_for, packet_frame, piece_frame, arp_link, arp_frame};
+ghost use Rattle.interface_egress.specs.Fragments.{LeftValue, piece_room, next_departure, pieces_from};
+ghost use Rattle.interface_egress.specs.Plan.{plan_of};
+ghost use Rattle.interface_egress.specs.GoesOut.{GoesOut, PieceGoesOut, frame_len_of};
+ghost use Rattle.interface_egress.specs.Departing.{departure_by, link_room, ident_after, silent_after, SendsOnce, was_taken, host_after, left_behind, HasSettingsOf, number_in};
+ghost use Rattle.interface_egress.specs.Determined.{IsDetermined};
+ghost use Rattle.interface_egress.specs.declared.way_out.Sent.{Sent};
+ghost use Rattle.interface_egress.specs.declared.frame.Question.{Question};
+ghost use Rattle.interface_egress.specs.declared.plan.Plan.TheVariants as Way;
+
+use net_base::Device;
+
+/// Law: no frame is longer than the device's: not the one that a plan sends, nor that of a later piece, nor an ARP packet.
+pub fn frames_are_short()
+    ensures planned { (i : InnerValue) (busy : Bool) (p : PacketValue) (d : Departure) → 576 ≤ i.mtu
+        → Ips.payload_len_in p.header ≡ payload_len p.payload
+        → departure_by i p (plan_of i busy p.header) ≡ Some d
+        → frame_len_of i d ≤ link_room i.hardware + i.mtu }
+    ensures piece { (i : InnerValue) (l : LeftValue) → 576 ≤ i.mtu
+        → frame_len_of i (next_departure i.mtu l) ≤ link_room i.hardware + i.mtu }
+    ensures arp { (i : InnerValue) (own : EthernetAddress) (packet : ArpRepr) → 576 ≤ i.mtu → i.hardware ≡ Hardware.Ethernet own
+        → frame_len_of i (Tells packet) ≤ link_room i.hardware + i.mtu }
+{}
+
+/// Law: the pieces that are left of a datagram are slices of its payload, which begin at multiples of 8 bytes, and in turn they
+/// are all that is left.
+pub fn pieces_are_slices()
+    ensures slices { (mtu n : ℕ) (l : LeftValue) → l.at ≤ length l.payload
+        → AllByRecursion (IsSliceOf l.payload) (pieces_from n mtu (Some l)) }
+    ensures units { (mtu n : ℕ) (l : LeftValue) → l.at % 8 ≡ 0
+        → AllByRecursion (λ p. p.offset % 8 ≡ 0) (pieces_from n mtu (Some l)) }
+    ensures in_turn { (mtu n : ℕ) (l : LeftValue) → length l.payload ≤ l.at + n * piece_room mtu
+        → flat_map (λ p. p.bytes) (pieces_from n mtu (Some l)) ≡ drop l.at l.payload }
+{}
+
+/// Law: one packet's way out asks the device for one send at most, that of its plan's frame. Of the host its next identification
+/// and its silence alone change; and what is left to send changes only where a first piece went.
+pub fn one_send_at_most<D: Device>()
+    ensures device { (old new : D) (i i' : InnerValue) (l l' : Option LeftValue) (busy : Bool) (p : PacketValue) (sent : Sent)
+        → GoesOut D.moves old i l p (plan_of i busy p.header) sent new i' l'
+        → SendsOnce D.moves old i (departure_by i p (plan_of i busy p.header)) (was_taken sent) new }
+    ensures piece { (old new : D) (i : InnerValue) (l : LeftValue) (l' : Option LeftValue) (taken : Bool)
+        → PieceGoesOut D.moves old i l taken new l'
+        → SendsOnce D.moves old i (Some (next_departure i.mtu l)) taken new }
+    ensures host { (old new : D) (i i' : InnerValue) (l l' : Option LeftValue) (busy : Bool) (p : PacketValue) (sent : Sent)
+        → GoesOut D.moves old i l p (plan_of i busy p.header) sent new i' l'
+        → i' ≡ host_after (plan_of i busy p.header) sent p.header i }
+    ensures settings { (old new : D) (i i' : InnerValue) (l l' : Option LeftValue) (busy : Bool) (p : PacketValue) (sent : Sent)
+        → GoesOut D.moves old i l p (plan_of i busy p.header) sent new i' l'
+        → HasSettingsOf i i' }
+    ensures left { (old new : D) (i i' : InnerValue) (l l' : Option LeftValue) (busy : Bool) (p : PacketValue) (sent : Sent)
+        → GoesOut D.moves old i l p (plan_of i busy p.header) sent new i' l'
+        → l' ≡ left_behind i p (plan_of i busy p.header) sent l }
+{}
+
+/// Law: at a device whose next move is determined, a packet's way out has one outcome, and so has a later piece's.
+pub fn one_outcome<D: Device>()
+    ensures packet { (old : D) (i : InnerValue) (l : Option LeftValue) (busy : Bool) (p : PacketValue) → 576 ≤ i.mtu
+        → Ips.payload_len_in p.header ≡ payload_len p.payload
+        → IsDetermined D.moves (link_room i.hardware + i.mtu) old
+        → (s t : Sent) (new other : D) (j j' : InnerValue) (k k' : Option LeftValue)
+        → GoesOut D.moves old i l p (plan_of i busy p.header) s new j k
+        → GoesOut D.moves old i l p (plan_of i busy p.header) t other j' k'
+        → (s ≡ t) × (new ≡ other) × (j ≡ j') × (k ≡ k') }
+    ensures piece { (old : D) (i : InnerValue) (l : LeftValue) → 576 ≤ i.mtu
+        → IsDetermined D.moves (link_room i.hardware + i.mtu) old
+        → (x y : Bool) (new other : D) (k k' : Option LeftValue)
+        → PieceGoesOut D.moves old i l x new k → PieceGoesOut D.moves old i l y other k'
+        → (x ≡ y) × (new ≡ other) × (k ≡ k') }
+{}
+
+/// Law: a packet that leaves with an identification has the host's next one.
+pub fn next_number_goes()
+    ensures { (i : InnerValue) (busy : Bool) (p : PacketValue) (d : Departure)
+        → departure_by i p (plan_of i busy p.header) ≡ Some d
+        → IfSome (number_in d) (λ n. n ≡ i.ident) }
+{}
+
+/// Law: an IPv4 packet takes the next identification as its frame, or its first piece, is accepted; nothing else takes one.
+pub fn numbers_step<D: Device>()
+    ensures { (old new : D) (i i' : InnerValue) (l l' : Option LeftValue) (busy : Bool) (p : PacketValue) (sent : Sent)
+        → GoesOut D.moves old i l p (plan_of i busy p.header) sent new i' l'
+        → i'.ident ≡ ident_after sent p.header i.ident }
+{}
+
+/// Law: fewer than 65,536 identifications in a row differ.
+pub fn numbers_differ()
+    ensures { (first j k : ℕ) → j < 2 ^ 16 → k < 2 ^ 16 → (first + j) % 2 ^ 16 ≡ (first + k) % 2 ^ 16 → j ≡ k }
+{}
+
+/// Law: a neighbour is asked for only where the silence is over; and a request that the device accepted begins one of a second.
+/// Nothing else on the way out begins or ends one.
+pub fn asks_a_second_apart<D: Device>()
+    ensures asked { (i : InnerValue) (busy : Bool) (header : IpRepr) (question : Question)
+        → plan_of i busy header ≡ Way.Ask question
+        → int_lt i.moment i.neighbors.silent ≡ false }
+    ensures silence { (old new : D) (i i' : InnerValue) (l l' : Option LeftValue) (busy : Bool) (p : PacketValue) (sent : Sent)
+        → GoesOut D.moves old i l p (plan_of i busy p.header) sent new i' l'
+        → i'.neighbors.silent ≡ silent_after (plan_of i busy p.header) sent i }
+{}
+
+/// Law: what was sent in a frame is read in it, whatever padding follows: on Ethernet the link header and behind it what stands
+/// in a bare frame; there the packet's header in its normal form and its payload. A checksum that is tested has to be written.
+pub fn frames_read_back()
+    ensures link { (caps : ChecksumCapabilities) (own to : EthernetAddress) (p : PacketValue) (padding : List ℕ)
+        → IsEthernetAddress own → IsEthernetAddress to
+        → Ethernet.IsEthernet (packet_frame caps (Hardware.Ethernet own) (Hardware.Ethernet to) p ++ padding)
+        (record { src_addr = own; dst_addr = to; ethertype = ether_for p.header })
+        × (Ethernet.payload_of (packet_frame caps (Hardware.Ethernet own) (Hardware.Ethernet to) p ++ padding)
+        ≡ packet_frame caps Hardware.Ip Hardware.Ip p ++ padding) }
+    ensures packet { (caps : ChecksumCapabilities) (tested : Bool) (p : PacketValue) (padding : List ℕ)
+        → IsSendable p → Ips.IsValue p.header → length (payload_written caps p.header p.payload) ≡ payload_len p.payload
+        → (IsTrue tested → IsTrue (computes caps.ipv4))
+        → Ips.IsIp tested (packet_frame caps Hardware.Ip Hardware.Ip p ++ padding) (Ips.normal p.header)
+        × (take (payload_len p.payload) (drop (Ips.header_len_in p.header) (packet_frame caps Hardware.Ip Hardware.Ip p ++ padding))
+        ≡ payload_written caps p.header p.payload) }
+    ensures piece_link { (caps : ChecksumCapabilities) (own to : EthernetAddress) (header : Ipv4Repr) (p : Piece) (padding : List ℕ)
+        → IsEthernetAddress own → IsEthernetAddress to
+        → Ethernet.IsEthernet (piece_frame caps (Hardware.Ethernet own) (Hardware.Ethernet to) header p ++ padding)
+        (record { src_addr = own; dst_addr = to; ethertype = Ether.Ipv4 })
+        × (Ethernet.payload_of (piece_frame caps (Hardware.Ethernet own) (Hardware.Ethernet to) header p ++ padding)
+        ≡ piece_frame caps Hardware.Ip Hardware.Ip header p ++ padding) }
+    ensures piece { (caps : ChecksumCapabilities) (tested : Bool) (header : Ipv4Repr) (p : Piece) (padding : List ℕ)
+        → Ipv4.IsValue header → 20 + length p.bytes < 2 ^ 16 → p.offset < 2 ^ 16 → p.offset % 8 ≡ 0
+        → (IsTrue tested → IsTrue (computes caps.ipv4))
+        → Ipv4.IsIpv4 tested (piece_frame caps Hardware.Ip Hardware.Ip header p ++ padding)
+        (Ipv4.normal (record header { payload_len = length p.bytes }))
+        × (Ipv4.piece_of (piece_frame caps Hardware.Ip Hardware.Ip header p ++ padding) ≡ record { offset = p.offset; more = p.more })
+        × (Ipv4.payload_of (piece_frame caps Hardware.Ip Hardware.Ip header p ++ padding) ≡ p.bytes) }
+    ensures arp { (packet : ArpRepr) (padding : List ℕ) → Arps.IsValue packet
+        → Ethernet.IsEthernet (arp_frame packet ++ padding) (arp_link packet)
+        × Arps.IsArp (Ethernet.payload_of (arp_frame packet ++ padding)) (Arps.normal packet) }
+{}

@@ -1,0 +1,16 @@
+//! The way out of an interface: where a packet goes, the frames that carry it, and the pieces of a datagram that is too long
+//! for one frame.
+#![tactic(auto)]
+
+mod fill;
+mod fragmenter;
+mod frame;
+pub mod laws;
+mod plan;
+mod way_out;
+
+pub use fill::{Fill, send};
+pub use fragmenter::{Cut, Fragmenter, Left, MAX_CUT_PAYLOAD};
+pub use frame::{ArpFrame, Piece, Question, Whole, ask};
+pub use plan::{Plan, plan_for};
+pub use way_out::{Sent, dispatch, send_next};

@@ -1,0 +1,110 @@
+//! What is to be done with a packet that wants to go out.
+ghost use Rattle.std.specs.Prelude.{◌≡◌, ◌≤◌, nat_le};
+ghost use Rattle.interface_egress.specs.Plan.{total_len, long_plan, plan_to, ask_v4, ask_on, plan_by, plan_of};
+
+use crate::fragmenter::MAX_CUT_PAYLOAD;
+use crate::frame::Question;
+use interface_tables::{InterfaceInner, LinkAddress};
+use ip_wire::{EthernetAddress, HardwareAddress, IpAddress, IpRepr, Ipv4Address, Ipv4Repr};
+
+/// What is to be done with a packet.
+#[derive(Clone, Copy, Debug, PartialEq, Eq)]
+pub enum Plan {
+    /// It can't go at all.
+    Drop,
+    /// Nothing serves its destination.
+    NoRoute,
+    /// Its next hop's hardware address isn't known, and no neighbour may be asked for now.
+    Wait,
+    /// It has to be cut, and pieces of another datagram wait.
+    Busy,
+    /// Its next hop's hardware address has to be asked for.
+    Ask(Question),
+    /// It goes to this hardware address.
+    Go(HardwareAddress),
+    /// It goes there in pieces, as a datagram with this header.
+    Cut(HardwareAddress, Ipv4Repr),
+}
+
+/// What is to be done with a packet of this header. `busy` says that pieces of a datagram wait. A packet that goes whole is
+/// no longer than its length field can say.
+pub fn plan_for(inner: &InterfaceInner, busy: bool, header: &IpRepr) -> Plan
+    ensures value { result ≡ plan_of inner.now busy header.now }
+    ensures mtu { inner.now.mtu ≤ 65535 }
+{
+    let mtu = inner.mtu();
+    let destination = header.dst_addr();
+    if destination.is_unspecified() {
+        return Plan::Drop;
+    }
+    match inner.link_address(&destination) {
+        LinkAddress::Known(to) => plan_to(to, mtu, busy, header),
+        LinkAddress::NoRoute => Plan::NoRoute,
+        LinkAddress::Silent => Plan::Wait,
+        LinkAddress::Unknown(hop) => ask_on(inner, &hop),
+    }
+}
+
+/// The packet's next hop is known, and so its length counts.
+fn plan_to(to: HardwareAddress, mtu: usize, busy: bool, header: &IpRepr) -> Plan
+    ensures { result ≡ plan_to to mtu busy header.now }
+{
+    if is_within(header, mtu) {
+        Plan::Go(to)
+    } else {
+        long_plan(to, busy, header)
+    }
+}
+
+/// Whether a packet is no longer than this.
+fn is_within(header: &IpRepr, mtu: usize) -> bool
+    ensures { result ≡ nat_le (total_len header.now) mtu }
+{
+    match header.header_len().checked_add(header.payload_len()) {
+        Some(total) => total <= mtu,
+        None => false,
+    }
+}
+
+/// The packet is too long for one frame.
+fn long_plan(to: HardwareAddress, busy: bool, header: &IpRepr) -> Plan
+    ensures { result ≡ long_plan busy to header.now }
+{
+    match header {
+        IpRepr::Ipv4(v) if v.payload_len <= MAX_CUT_PAYLOAD => {
+            if busy { Plan::Busy } else { Plan::Cut(to, *v) }
+        }
+        _ => Plan::Drop,
+    }
+}
+
+/// A next hop's hardware address isn't known.
+fn ask_on(inner: &InterfaceInner, hop: &IpAddress) -> Plan
+    ensures { result ≡ ask_on inner.now.hardware inner.now hop.now }
+{
+    match (inner.hardware_addr(), hop) {
+        (HardwareAddress::Ip, _) => Plan::NoRoute,
+        (HardwareAddress::Ethernet(own), IpAddress::Ipv4(hop)) => {
+            ask_v4(own, inner.get_source_address_ipv4(hop), hop)
+        }
+        (HardwareAddress::Ethernet(own), IpAddress::Ipv6(hop)) => Plan::Ask(Question::Neighbor {
+            own,
+            source: inner.get_source_address_ipv6(hop),
+            target: *hop,
+        }),
+    }
+}
+
+/// The question for an IPv4 neighbour, if there is an address to ask from.
+fn ask_v4(own: EthernetAddress, source: Option<Ipv4Address>, hop: &Ipv4Address) -> Plan
+    ensures { result ≡ ask_v4 own source hop.now }
+{
+    match source {
+        Some(source) => Plan::Ask(Question::Arp {
+            own,
+            source,
+            target: *hop,
+        }),
+        None => Plan::NoRoute,
+    }
+}

@@ -1,0 +1,209 @@
+//! The way out of a packet.
+ghost use Rattle.std.specs.Prelude.{◌≡◌, ◌+◌, ◌<◌, ◌≤◌, ◌^◌, is_some, IsSome, IfSome};
+ghost use Rattle.socket_base.specs.Packet.{packet_value, IsSendable};
+ghost use Rattle.interface_egress.specs.Plan.{plan_of, IsPacket, CanBeCarried};
+ghost use Rattle.interface_egress.specs.Plan.{CanBeCut};
+ghost use Rattle.interface_egress.specs.Departure.{Asks};
+ghost use Rattle.interface_egress.specs.Departure as Departures;
+ghost use Rattle.interface_egress.specs.GoesOut.{GoesOut, PieceGoesOut, Asked, Went, WasCut, numbered_header, numbered, after_header, cut_of};
+
+use crate::fill::send;
+use crate::fragmenter::{Cut, Fragmenter};
+use crate::frame::{Question, Whole, ask};
+use crate::plan::{Plan, plan_for};
+use interface_tables::InterfaceInner;
+use ip_wire::{HardwareAddress, IpRepr, Ipv4Repr};
+use net_base::Device;
+use socket_base::{Context, Packet};
+
+/// What became of a packet.
+#[derive(Clone, Copy, Debug, PartialEq, Eq)]
+pub enum Sent {
+    /// It went, whole or as a first piece.
+    Gone,
+    /// It can't go at all.
+    Dropped,
+    /// It has to wait for its next hop.
+    Waits,
+    /// It has to wait until the pieces of another datagram went.
+    Busy,
+    /// The device refused a frame.
+    Refused,
+}
+
+/// Sends a packet, or a question for its next hop, if either can go now.
+pub fn dispatch<D: Device>(
+    inner: &mut InterfaceInner,
+    fragmenter: &mut Fragmenter,
+    device: &mut D,
+    token: D::TxToken,
+    packet: &Packet<'_>,
+) -> Sent
+    requires room { D.refused device.old + 1 < 2 ^ 64 }
+    requires packet { IsPacket (packet_value packet.now) }
+    ensures out { GoesOut D.moves device.old inner.old fragmenter.old (packet_value packet.now)
+        (plan_of inner.old (is_some fragmenter.old) (packet_value packet.now).header) result device.new inner.new fragmenter.new }
+    ensures capabilities { D.described device.new ≡ D.described device.old }
+{
+    let plan = plan_for(inner, fragmenter.is_waiting(), &packet.ip_repr());
+    carry(inner, fragmenter, device, token, packet, plan)
+}
+
+/// Does what is to be done with a packet.
+fn carry<D: Device>(
+    inner: &mut InterfaceInner,
+    fragmenter: &mut Fragmenter,
+    device: &mut D,
+    token: D::TxToken,
+    packet: &Packet<'_>,
+    plan: Plan,
+) -> Sent
+    requires room { D.refused device.old + 1 < 2 ^ 64 }
+    requires fits { CanBeCarried inner.old.mtu fragmenter.old (packet_value packet.now) plan }
+    ensures out { GoesOut D.moves device.old inner.old fragmenter.old (packet_value packet.now) plan result device.new inner.new fragmenter.new }
+    ensures capabilities { D.described device.new ≡ D.described device.old }
+{
+    match plan {
+        Plan::Drop => Sent::Dropped,
+        Plan::NoRoute | Plan::Wait => Sent::Waits,
+        Plan::Busy => Sent::Busy,
+        Plan::Ask(question) => send_question(inner, device, token, &question),
+        Plan::Go(to) => send_whole(inner, device, token, to, packet),
+        Plan::Cut(to, header) => send_first(inner, fragmenter, device, token, to, &header, packet),
+    }
+}
+
+/// Sends a question, and begins the time in which no neighbour is asked for.
+fn send_question<D: Device>(
+    inner: &mut InterfaceInner,
+    device: &mut D,
+    token: D::TxToken,
+    question: &Question,
+) -> Sent
+    requires room { D.refused device.old + 1 < 2 ^ 64 }
+    ensures out { Asked D.moves device.old inner.old (Asks question.now) result device.new inner.new }
+    ensures capabilities { D.described device.new ≡ D.described device.old }
+{
+    if !ask(device, token, question, &inner.checksum_caps()) {
+        return Sent::Refused;
+    }
+    inner.limit_rate();
+    Sent::Waits
+}
+
+/// Sends a packet in one frame.
+fn send_whole<D: Device>(
+    inner: &mut InterfaceInner,
+    device: &mut D,
+    token: D::TxToken,
+    to: HardwareAddress,
+    packet: &Packet<'_>,
+) -> Sent
+    requires room { D.refused device.old + 1 < 2 ^ 64 }
+    requires fits { IsSendable (packet_value packet.now) }
+    ensures out { Went D.moves device.old inner.old (packet_value packet.now).header
+        (Departures.Whole to (numbered inner.old (packet_value packet.now))) result device.new inner.new }
+    ensures capabilities { D.described device.new ≡ D.described device.old }
+{
+    let frame = Whole {
+        from: inner.hardware_addr(),
+        to,
+        packet: numbered(inner, packet),
+        checksums: inner.checksum_caps(),
+    };
+    if !send(device, token, &frame) {
+        return Sent::Refused;
+    }
+    take_number(inner, &packet.ip_repr());
+    Sent::Gone
+}
+
+/// Sends the first piece of a packet.
+fn send_first<D: Device>(
+    inner: &mut InterfaceInner,
+    fragmenter: &mut Fragmenter,
+    device: &mut D,
+    token: D::TxToken,
+    to: HardwareAddress,
+    header: &Ipv4Repr,
+    packet: &Packet<'_>,
+) -> Sent
+    requires room { D.refused device.old + 1 < 2 ^ 64 }
+    requires fits { CanBeCut inner.old.mtu fragmenter.old (packet_value packet.now) header.now }
+    ensures out { WasCut D.moves device.old inner.old fragmenter.old (cut_of inner.old to header.now (packet_value packet.now))
+        result device.new inner.new fragmenter.new }
+    ensures capabilities { D.described device.new ≡ D.described device.old }
+{
+    let cut = cut_from(inner);
+    let header = Ipv4Repr {
+        ident: inner.ident(),
+        dont_frag: false,
+        ..*header
+    };
+    let packet = numbered(inner, packet);
+    if !fragmenter.send_first(device, token, &cut, to, &header, &packet) {
+        return Sent::Refused;
+    }
+    let _ = inner.take_ident();
+    Sent::Gone
+}
+
+/// Sends the next piece of the datagram that is half sent. Says whether the device took it.
+pub fn send_next<D: Device>(
+    inner: &InterfaceInner,
+    fragmenter: &mut Fragmenter,
+    device: &mut D,
+    token: D::TxToken,
+) -> bool
+    requires room { D.refused device.old + 1 < 2 ^ 64 }
+    requires waits { IsSome fragmenter.old }
+    ensures out { IfSome fragmenter.old (λ l. PieceGoesOut D.moves device.old inner.now l result device.new fragmenter.new) }
+    ensures capabilities { D.described device.new ≡ D.described device.old }
+{
+    fragmenter.send_next(device, token, &cut_from(inner))
+}
+
+/// How pieces go from this host.
+fn cut_from(inner: &InterfaceInner) -> Cut
+    ensures value { result ≡ record { from = inner.now.hardware; mtu = inner.now.mtu; checksums = inner.now.checksums } }
+    ensures low { 576 ≤ result.mtu }
+    ensures high { result.mtu ≤ 65535 }
+{
+    Cut {
+        from: inner.hardware_addr(),
+        mtu: inner.mtu(),
+        checksums: inner.checksum_caps(),
+    }
+}
+
+/// The packet with the host's next number.
+fn numbered<'a>(inner: &InterfaceInner, packet: &Packet<'a>) -> Packet<'a>
+    requires { IsSendable (packet_value packet.now) }
+    ensures value { packet_value result ≡ numbered inner.now (packet_value packet.now) }
+    ensures fits { IsSendable (packet_value result) }
+{
+    Packet::new(numbered_header(inner, &packet.ip_repr()), *packet.payload())
+}
+
+/// The header with the host's next number, if it is one of IPv4.
+fn numbered_header(inner: &InterfaceInner, header: &IpRepr) -> IpRepr
+    ensures { result ≡ numbered_header inner.now header.now }
+{
+    match header {
+        IpRepr::Ipv4(header) => IpRepr::Ipv4(Ipv4Repr {
+            ident: inner.ident(),
+            dont_frag: false,
+            ..*header
+        }),
+        IpRepr::Ipv6(header) => IpRepr::Ipv6(*header),
+    }
+}
+
+/// A packet of this header went.
+fn take_number(inner: &mut InterfaceInner, header: &IpRepr)
+    ensures { inner.new ≡ after_header header.now inner.old }
+{
+    if let IpRepr::Ipv4(_) = header {
+        let _ = inner.take_ident();
+    }
+}

@@ -1,0 +1,3 @@
+pub mod Incoming
+pub mod Carried
+pub mod Sent

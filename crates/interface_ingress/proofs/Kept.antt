@@ -1,0 +1,215 @@
+-- Sockets of TCP and UDP that an arrival leaves as they were.
+use Rattle.std.proofs.Common.{◌≡◌, Bool, true, false, if◌then◌else◌, ◌||◌, List, [], ◌∷◌, refl, sym, ap, ◌∙◌, subst}
+use Rattle.std.specs.Prelude.{ℕ, ◌-◌, ◌^◌, nat_lt, length, map, Option, Some, None}
+use Rattle.control_wire.specs.Icmpv4Header.{Icmpv4Header}
+use Rattle.control_wire.specs.Icmpv6.{MessageValue}
+use Rattle.ip_wire.specs.Ip.{carried_in}
+use Rattle.ip_wire.specs.IpAddress.{IpAddress}
+use Rattle.ip_wire.specs.Ipv4Piece.{Ipv4Piece}
+use Rattle.ip_wire.specs.IpProtocol.TheVariants as Protocol
+use Rattle.ip_wire.specs.IpRepr.{IpRepr}
+use Rattle.ip_wire.specs.IpRepr.TheVariants as Ip
+use Rattle.ip_wire.specs.Ipv4Repr.{Ipv4Repr}
+use Rattle.ip_wire.specs.Ipv6Repr.{Ipv6Repr}
+use Rattle.ip_wire.specs.declared.ethernet.repr.EthernetRepr.{EthernetRepr}
+use Rattle.net_base.specs.ChecksumCapabilities.{ChecksumCapabilities}
+use Rattle.socket_base.specs.Packet.{PayloadValue, ControlV4, ControlV6, Bytes, Datagram, Segment}
+use Rattle.sockets.specs.declared.socket.Socket.{Socket}
+use Rattle.sockets.specs.declared.socket.Socket.TheVariants as Kind
+use Rattle.interface_frames.specs.Carried.{IsCarriedContent, IsSegment}
+use Rattle.interface_frames.specs.Incoming.{IncomingValue, Arp, Ip4, Ip6}
+use Rattle.interface_sockets.specs.declared.socket_meta.Meta.{Meta}
+use Rattle.interface_sockets.specs.declared.socket_set.Item.{Item}
+use Rattle.interface_sockets.specs.declared.socket_set.SocketStorage.{SocketStorage}
+use Rattle.interface_tables.specs.Inner.{InnerValue}
+use Rattle.interface_ingress.specs.Arrives.{Arrived, ArrivesV4, ArrivesV6, ArrivesAs, Brings, Hands, is_direct, sender_of, renewed, renewed_by, answered}
+use Rattle.interface_ingress.specs.Delivered.{Places, given, changed_item, with_change, all_given, with_packet, packet_delivered, with_icmpv4, icmpv4_delivered, with_icmpv6, icmpv6_delivered, is_taken_raw}
+use Rattle.interface_ingress.specs.Handed.{handed_places, handed_reply, control_v4_places, control_v6_places, is_known, is_known_v4, is_known_v6}
+use Rattle.interface_replies.specs.Replies.{protocol_unreachable}
+use Rattle.interface_ingress.specs.Kept.{kept_by_kind, ports_item, ports_in, with_ports, NamesNoPorts, HasNoPorts, HaveNoPorts, IsDamaged}
+use Rattle.interface_ingress.specs.Reassembled.{Slots, is_taken_in, taken_in, is_piece, uncut, rebuilt, bytes_at, place_in, kept, whole_of}
+
+-- SOCKETS OF OTHER KINDS
+
+abbrev item_of : Meta → Socket → Item Socket
+item_of m s = record { meta = m; socket = s }
+
+abbrev Keeps : (Socket → Socket) → Type 0
+Keeps change = (s : Socket) (m : Meta) → kept_by_kind (change s) (item_of m (change s)) ≡ kept_by_kind s (item_of m s)
+
+keeps_given : (test : Socket → Bool) (change : Socket → Socket) → Keeps change → Keeps (given test change)
+keeps_given test change keeps s m =
+    elim (test s) as (λ b. kept_by_kind (if b then change s else s) (item_of m (if b then change s else s)) ≡ kept_by_kind s (item_of m s)) [
+      | true ↦ keeps s m
+      | false ↦ refl
+    ]
+
+item_kept : (change : Socket → Socket) → Keeps change → (inner : Option (Item Socket)) → ports_item (changed_item change inner) ≡ ports_item inner
+item_kept change keeps None = refl
+item_kept change keeps (Some item) = keeps item.socket item.meta
+
+map_kept : (change : Socket → Socket) → Keeps change → (places : Places) → with_ports (map (with_change change) places) ≡ with_ports places
+map_kept change keeps [] = refl
+map_kept change keeps (place ∷ places) =
+    ap (λ p. p ∷ with_ports (map (with_change change) places)) (item_kept change keeps place.inner)
+    ∙ ap (λ ps. ports_in place ∷ ps) (map_kept change keeps places)
+
+all_kept : (test : Socket → Bool) (change : Socket → Socket) → Keeps change → (places : Places) → with_ports (all_given test change places) ≡ with_ports places
+all_kept test change keeps places = map_kept (given test change) (keeps_given test change keeps) places
+
+keeps_packet : (ip : IpRepr) (payload : List ℕ) → Keeps (with_packet ip payload)
+keeps_packet ip payload (Kind.Raw v) m = refl
+keeps_packet ip payload (Kind.Icmp v) m = refl
+keeps_packet ip payload (Kind.Udp v) m = refl
+keeps_packet ip payload (Kind.Tcp v) m = refl
+
+keeps_icmpv4 : (ip : Ipv4Repr) (message : Icmpv4Header) (bytes : List ℕ) → Keeps (with_icmpv4 ip message bytes)
+keeps_icmpv4 ip message bytes (Kind.Raw v) m = refl
+keeps_icmpv4 ip message bytes (Kind.Icmp v) m = refl
+keeps_icmpv4 ip message bytes (Kind.Udp v) m = refl
+keeps_icmpv4 ip message bytes (Kind.Tcp v) m = refl
+
+keeps_icmpv6 : (ip : Ipv6Repr) (message : MessageValue) (bytes : List ℕ) → Keeps (with_icmpv6 ip message bytes)
+keeps_icmpv6 ip message bytes (Kind.Raw v) m = refl
+keeps_icmpv6 ip message bytes (Kind.Icmp v) m = refl
+keeps_icmpv6 ip message bytes (Kind.Udp v) m = refl
+keeps_icmpv6 ip message bytes (Kind.Tcp v) m = refl
+
+pub packet_kept : (ip : IpRepr) (payload : List ℕ) (places : Places) → with_ports (packet_delivered ip payload places) ≡ with_ports places
+packet_kept ip payload places = all_kept _ (with_packet ip payload) (keeps_packet ip payload) places
+
+control_v4_kept : (ip : IpRepr) (message : Icmpv4Header) (bytes : List ℕ) (places : Places) → with_ports (control_v4_places ip message bytes places) ≡ with_ports places
+control_v4_kept (Ip.Ipv4 header) message bytes places = all_kept _ (with_icmpv4 header message bytes) (keeps_icmpv4 header message bytes) places
+control_v4_kept (Ip.Ipv6 header) message bytes places = refl
+
+control_v6_kept : (ip : IpRepr) (message : MessageValue) (bytes : List ℕ) (places : Places) → with_ports (control_v6_places ip message bytes places) ≡ with_ports places
+control_v6_kept (Ip.Ipv4 header) message bytes places = refl
+control_v6_kept (Ip.Ipv6 header) message bytes places = all_kept _ (with_icmpv6 header message bytes) (keeps_icmpv6 header message bytes) places
+
+-- PAYLOADS THAT ARE NEITHER DATAGRAM NOR SEGMENT
+
+abbrev HasNone : Option PayloadValue → Type 0
+HasNone (Some (Datagram udp bytes)) = ⊥
+HasNone (Some (Segment header bytes)) = ⊥
+HasNone carried = Unit {0}
+
+none_of : (caps : ChecksumCapabilities) (ip : IpRepr) (payload : List ℕ) (carried : Option PayloadValue) → IsCarriedContent caps ip payload carried → NamesNoPorts (carried_in ip) → HasNone carried
+none_of caps ip payload (Some (ControlV4 message bytes)) is bare = tt
+none_of caps ip payload (Some (ControlV6 message bytes)) is bare = tt
+none_of caps ip payload (Some (Bytes bytes)) is bare = tt
+none_of caps ip payload (Some (Datagram udp bytes)) is bare = bare.1 is.protocol
+none_of caps ip payload (Some (Segment header bytes)) is bare = bare.0 is.protocol
+none_of caps ip payload None is bare = tt
+
+handed_kept : (i : InnerValue) (places : Places) (ip : IpRepr) (carried : Option PayloadValue) → HasNone carried → with_ports (handed_places i places ip carried) ≡ with_ports places
+handed_kept i places ip (Some (ControlV4 message bytes)) bare = control_v4_kept ip message bytes places
+handed_kept i places ip (Some (ControlV6 message bytes)) bare = control_v6_kept ip message bytes places
+handed_kept i places ip (Some (Bytes bytes)) bare = refl
+handed_kept i places ip (Some (Datagram udp bytes)) bare = absurd bare
+handed_kept i places ip (Some (Segment header bytes)) bare = absurd bare
+handed_kept i places ip None bare = refl
+
+hands_kept : (i : InnerValue) (places : Places) (ip : IpRepr) (payload : List ℕ) (taken : Bool) (a : Arrived) → Hands i places ip payload taken a → NamesNoPorts (carried_in ip) → with_ports a.places ≡ with_ports places
+hands_kept i places ip payload taken a (carried, is, handed) bare =
+    ap with_ports handed.places_are ∙ handed_kept i places ip carried (none_of i.checksums ip payload carried is bare)
+
+v4_kept : (ours : Bool) (i : InnerValue) (places : Places) (link : Option EthernetRepr) (ip : IpRepr) (payload : List ℕ) (a : Arrived) → ArrivesV4 ours i places link ip payload a → NamesNoPorts (carried_in ip) → with_ports a.places ≡ with_ports places
+v4_kept true i places link ip payload a h bare =
+    hands_kept (renewed i link ip) (packet_delivered ip payload places) ip payload (is_taken_raw ip places) a h bare ∙ packet_kept ip payload places
+v4_kept false i places link ip payload a h bare = ap with_ports h.places_are ∙ packet_kept ip payload places
+
+v6_kept : (ours : Bool) (i : InnerValue) (places : Places) (link : Option EthernetRepr) (ip : IpRepr) (payload : List ℕ) (a : Arrived) → ArrivesV6 ours i places link ip payload a → NamesNoPorts (carried_in ip) → with_ports a.places ≡ with_ports places
+v6_kept true i places link ip payload a h bare =
+    hands_kept (renewed i link ip) (packet_delivered ip payload places) ip payload (is_taken_raw ip places) a h bare ∙ packet_kept ip payload places
+v6_kept false i places link ip payload a h bare = ap with_ports h.places_are
+
+pub brings_kept : (i : InnerValue) (places : Places) (content : Option IncomingValue) (a : Arrived) → Brings i places content a → HaveNoPorts content → with_ports a.places ≡ with_ports places
+brings_kept i places None a h bare = ap with_ports h.places_are
+brings_kept i places (Some (Arp link packet)) a h bare = ap with_ports h.places_are
+brings_kept i places (Some (Ip4 link header piece payload)) a h bare = v4_kept _ i places link (Ip.Ipv4 header) payload a h bare
+brings_kept i places (Some (Ip6 link header payload)) a h bare = v6_kept _ i places link (Ip.Ipv6 header) payload a h bare
+
+-- PIECES
+
+taken_in_kept : (i : InnerValue) (content : Option IncomingValue) → HaveNoPorts content → HaveNoPorts (taken_in i content)
+taken_in_kept i None bare = tt
+taken_in_kept i (Some v) bare = elim (is_taken_in i v) as (λ b. HaveNoPorts (if b then Some v else None)) [ true ↦ bare | false ↦ tt ]
+
+rebuilt_kept : (link : Option EthernetRepr) (header : Ipv4Repr) (bytes : Option (List ℕ)) → NamesNoPorts header.next_header → HaveNoPorts (rebuilt link header bytes)
+rebuilt_kept link header None bare = tt
+rebuilt_kept link header (Some bytes) bare =
+    elim (nat_lt (length bytes) (2 ^ 16 - 20)) as (λ b. HaveNoPorts (if b then Some (Ip4 link (record header { payload_len = length bytes }) uncut bytes) else None)) [ true ↦ bare | false ↦ tt ]
+
+whole_kept : (slots : Slots) (at : Option ℕ) (content : Option IncomingValue) → HaveNoPorts content → HaveNoPorts (whole_of slots at content)
+whole_kept slots at None bare = tt
+whole_kept slots at (Some (Arp link packet)) bare = bare
+whole_kept slots at (Some (Ip6 link header payload)) bare = bare
+whole_kept slots at (Some (Ip4 link header piece payload)) bare =
+    elim (is_piece piece) as (λ b. HaveNoPorts (if b then rebuilt link header (bytes_at at slots) else Some (Ip4 link header piece payload))) [
+      | true ↦ rebuilt_kept link header (bytes_at at slots) bare
+      | false ↦ bare
+    ]
+
+pub arrives_kept : (i : InnerValue) (timeout : ℕ) (slots : Slots) (places : Places) (content : Option IncomingValue) (slots' : Slots) (a : Arrived) → ArrivesAs i timeout slots places content slots' a → HaveNoPorts content → with_ports a.places ≡ with_ports places
+arrives_kept i timeout slots places content slots' a h bare =
+    brings_kept i places _ a h.1 (whole_kept (kept i timeout slots (taken_in i content)) (place_in slots (taken_in i content)) (taken_in i content) (taken_in_kept i content bare))
+
+-- A SEGMENT THAT IS NONE
+
+nothing_of : (caps : ChecksumCapabilities) (ip : IpRepr) (payload : List ℕ) (carried : Option PayloadValue) → IsCarriedContent caps ip payload carried → IsDamaged caps ip payload → carried ≡ None
+nothing_of caps (Ip.Ipv4 header) payload (Some (ControlV4 message bytes)) is bare = let e = sym is.protocol ∙ bare.0 in absurd (cc)
+nothing_of caps (Ip.Ipv6 header) payload (Some (ControlV4 message bytes)) is bare = absurd is
+nothing_of caps (Ip.Ipv4 header) payload (Some (ControlV6 message bytes)) is bare = absurd is
+nothing_of caps (Ip.Ipv6 header) payload (Some (ControlV6 message bytes)) is bare = let e = sym is.protocol ∙ bare.0 in absurd (cc)
+nothing_of caps ip payload (Some (Bytes bytes)) is bare = absurd is
+nothing_of caps ip payload (Some (Datagram udp bytes)) is bare = let e = sym is.protocol ∙ bare.0 in absurd (cc)
+nothing_of caps ip payload (Some (Segment header bytes)) is bare = absurd (bare.1 header bytes is)
+nothing_of caps ip payload None is bare = refl
+
+known : (ip : IpRepr) → carried_in ip ≡ Protocol.Tcp → is_known ip ≡ true
+known (Ip.Ipv4 header) is = ap is_known_v4 is
+known (Ip.Ipv6 header) is = ap is_known_v6 is
+
+no_reply : (i : InnerValue) (places : Places) (ip : IpRepr) (payload : List ℕ) (taken : Bool) → carried_in ip ≡ Protocol.Tcp → handed_reply i places ip payload taken None ≡ None
+no_reply i places ip payload taken is = ap (λ b. if b || taken then None else protocol_unreachable i ip payload) (known ip is)
+
+renewed_by_checksums : (i : InnerValue) (link : Option EthernetRepr) (sender : IpAddress) → (renewed_by i link sender).checksums ≡ i.checksums
+renewed_by_checksums i None sender = refl
+renewed_by_checksums i (Some link) sender = refl
+
+renewed_checksums : (i : InnerValue) (link : Option EthernetRepr) (ip : IpRepr) → (renewed i link ip).checksums ≡ i.checksums
+renewed_checksums i link ip =
+    elim (is_direct i ip) as (λ b. (if b then renewed_by i link (sender_of ip) else i).checksums ≡ i.checksums) [
+      | true ↦ renewed_by_checksums i link (sender_of ip)
+      | false ↦ refl
+    ]
+
+abbrev pub LeavesPorts : Places → Arrived → Type 0
+LeavesPorts places a = (with_ports a.places ≡ with_ports places) × (a.reply ≡ None)
+
+hands_damaged : (i : InnerValue) (places : Places) (ip : IpRepr) (payload : List ℕ) (taken : Bool) (a : Arrived) → Hands i places ip payload taken a → IsDamaged i.checksums ip payload → LeavesPorts places a
+hands_damaged i places ip payload taken a (carried, is, handed) bare =
+    let none = nothing_of i.checksums ip payload carried is bare in (
+      ap with_ports handed.places_are ∙ ap (λ c. with_ports (handed_places i places ip c)) none,
+      handed.reply ∙ ap (λ c. answered (handed_reply i places ip payload taken c)) none ∙ ap answered (no_reply i places ip payload taken bare.0),
+    )
+
+damaged_in : (i : InnerValue) (places : Places) (link : Option EthernetRepr) (ip : IpRepr) (payload : List ℕ) (a : Arrived) → Hands (renewed i link ip) (packet_delivered ip payload places) ip payload (is_taken_raw ip places) a → IsDamaged i.checksums ip payload → LeavesPorts places a
+damaged_in i places link ip payload a h bare =
+    let P : ChecksumCapabilities → Type 0 = λ caps. IsDamaged caps ip payload in
+    let left = hands_damaged (renewed i link ip) (packet_delivered ip payload places) ip payload (is_taken_raw ip places) a h (subst P (sym (renewed_checksums i link ip)) bare) in
+    (left.0 ∙ packet_kept ip payload places, left.1)
+
+damaged_v4 : (ours : Bool) (i : InnerValue) (places : Places) (link : Option EthernetRepr) (ip : IpRepr) (payload : List ℕ) (a : Arrived) → ArrivesV4 ours i places link ip payload a → IsDamaged i.checksums ip payload → LeavesPorts places a
+damaged_v4 true i places link ip payload a h bare = damaged_in i places link ip payload a h bare
+damaged_v4 false i places link ip payload a h bare = (ap with_ports h.places_are ∙ packet_kept ip payload places, h.reply)
+
+damaged_v6 : (ours : Bool) (i : InnerValue) (places : Places) (link : Option EthernetRepr) (ip : IpRepr) (payload : List ℕ) (a : Arrived) → ArrivesV6 ours i places link ip payload a → IsDamaged i.checksums ip payload → LeavesPorts places a
+damaged_v6 true i places link ip payload a h bare = damaged_in i places link ip payload a h bare
+damaged_v6 false i places link ip payload a h bare = (ap with_ports h.places_are, h.reply)
+
+pub brings_damaged_v4 : (i : InnerValue) (places : Places) (link : Option EthernetRepr) (header : Ipv4Repr) (piece : Ipv4Piece) (payload : List ℕ) (a : Arrived) → Brings i places (Some (Ip4 link header piece payload)) a → IsDamaged i.checksums (Ip.Ipv4 header) payload → LeavesPorts places a
+brings_damaged_v4 i places link header piece payload a h bare = damaged_v4 _ i places link (Ip.Ipv4 header) payload a h bare
+
+pub brings_damaged_v6 : (i : InnerValue) (places : Places) (link : Option EthernetRepr) (header : Ipv6Repr) (payload : List ℕ) (a : Arrived) → Brings i places (Some (Ip6 link header payload)) a → IsDamaged i.checksums (Ip.Ipv6 header) payload → LeavesPorts places a
+brings_damaged_v6 i places link header payload a h bare = damaged_v6 _ i places link (Ip.Ipv6 header) payload a h bare

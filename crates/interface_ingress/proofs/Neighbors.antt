@@ -1,0 +1,99 @@
+-- What an arrival changes of the neighbours.
+use Rattle.std.proofs.Common.{◌≡◌, Bool, true, false, if◌then◌else◌, List, refl, sym, ap, ◌∙◌, subst, inl, inr}
+use Rattle.std.specs.Prelude.{ℕ, ◌⊎◌, Option, Some, None}
+use Rattle.ip_wire.specs.Ip.{carried_in}
+use Rattle.ip_wire.specs.IpProtocol.TheVariants as Protocol
+use Rattle.ip_wire.specs.IpRepr.{IpRepr}
+use Rattle.ip_wire.specs.IpRepr.TheVariants as Ip
+use Rattle.ip_wire.specs.Ipv4Piece.{Ipv4Piece}
+use Rattle.ip_wire.specs.Ipv4Repr.{Ipv4Repr}
+use Rattle.ip_wire.specs.Ipv6Repr.{Ipv6Repr}
+use Rattle.ip_wire.specs.TcpHeader.{TcpHeader}
+use Rattle.ip_wire.specs.declared.arp.repr.ArpRepr.{ArpRepr}
+use Rattle.ip_wire.specs.declared.ethernet.repr.EthernetRepr.{EthernetRepr}
+use Rattle.socket_base.specs.Packet.{PayloadValue, ControlV4, ControlV6, Bytes, Datagram, Segment}
+use Rattle.interface_frames.specs.Carried.{IsCarriedContent}
+use Rattle.interface_frames.specs.Incoming.{IncomingValue, Arp, Ip4, Ip6}
+use Rattle.interface_replies.specs.Arp.{counts, learned, arp_arrived}
+use Rattle.interface_tables.specs.Inner.{InnerValue, context_of}
+use Rattle.interface_tables.specs.Neighbor.{CacheValue}
+use Rattle.interface_ingress.specs.Arrives.{Arrived, ArrivesV4, ArrivesV6, Brings, Hands, is_direct, sender_of, renewed, renewed_by}
+use Rattle.interface_ingress.specs.Delivered.{Places, drawn_if, packet_delivered, is_taken_raw, segment_draws}
+use Rattle.interface_ingress.specs.Handed.{handed_host, names_nobody, segment_host}
+use Rattle.interface_ingress.specs.Kept.{RenewsOnly, LearnsOnly}
+
+drawn_neighbors : (draws : Bool) (i : InnerValue) → (drawn_if draws i).neighbors ≡ i.neighbors
+drawn_neighbors true i = refl
+drawn_neighbors false i = refl
+
+segment_neighbors : (i : InnerValue) (places : Places) (ip : IpRepr) (header : TcpHeader) (bytes : List ℕ) → (segment_host i places ip header bytes).neighbors ≡ i.neighbors
+segment_neighbors i places ip header bytes =
+    elim (names_nobody ip) as (λ b. (if b then i else drawn_if (segment_draws (context_of i) ip header bytes places) i).neighbors ≡ i.neighbors) [
+      | true ↦ refl
+      | false ↦ drawn_neighbors (segment_draws (context_of i) ip header bytes places) i
+    ]
+
+-- no control message of IPv6 comes in such a packet
+abbrev IsOther : IpRepr → Type 0
+IsOther ip = carried_in ip ≡ Protocol.Icmpv6 → ⊥
+
+handed_v4 : (i : InnerValue) (places : Places) (header : Ipv4Repr) (carried : Option PayloadValue) → (handed_host i places (Ip.Ipv4 header) carried).neighbors ≡ i.neighbors
+handed_v4 i places header (Some (ControlV4 message bytes)) = refl
+handed_v4 i places header (Some (ControlV6 message bytes)) = refl
+handed_v4 i places header (Some (Bytes bytes)) = refl
+handed_v4 i places header (Some (Datagram udp bytes)) = refl
+handed_v4 i places header (Some (Segment tcp bytes)) = segment_neighbors i places (Ip.Ipv4 header) tcp bytes
+handed_v4 i places header None = refl
+
+handed_v6 : (i : InnerValue) (places : Places) (header : Ipv6Repr) (payload : List ℕ) (carried : Option PayloadValue) → IsCarriedContent i.checksums (Ip.Ipv6 header) payload carried → IsOther (Ip.Ipv6 header) → (handed_host i places (Ip.Ipv6 header) carried).neighbors ≡ i.neighbors
+handed_v6 i places header payload (Some (ControlV4 message bytes)) is other = refl
+handed_v6 i places header payload (Some (ControlV6 message bytes)) is other = absurd (other is.protocol)
+handed_v6 i places header payload (Some (Bytes bytes)) is other = refl
+handed_v6 i places header payload (Some (Datagram udp bytes)) is other = refl
+handed_v6 i places header payload (Some (Segment tcp bytes)) is other = segment_neighbors i places (Ip.Ipv6 header) tcp bytes
+handed_v6 i places header payload None is other = refl
+
+unrenewed : (i : InnerValue) (link : Option EthernetRepr) (ip : IpRepr) (n : CacheValue) → n ≡ i.neighbors → RenewsOnly i link (sender_of ip) n
+unrenewed i None ip n same = same
+unrenewed i (Some link) ip n same = inl same
+
+renewed_at : (i : InnerValue) (link : Option EthernetRepr) (ip : IpRepr) → RenewsOnly i link (sender_of ip) (renewed_by i link (sender_of ip)).neighbors
+renewed_at i None ip = refl
+renewed_at i (Some link) ip = inr refl
+
+renews : (i : InnerValue) (link : Option EthernetRepr) (ip : IpRepr) → RenewsOnly i link (sender_of ip) (renewed i link ip).neighbors
+renews i link ip =
+    elim (is_direct i ip) as (λ b. RenewsOnly i link (sender_of ip) (if b then renewed_by i link (sender_of ip) else i).neighbors) [
+      | true ↦ renewed_at i link ip
+      | false ↦ unrenewed i link ip i.neighbors refl
+    ]
+
+renews_along : (i : InnerValue) (link : Option EthernetRepr) (ip : IpRepr) (n : CacheValue) → n ≡ (renewed i link ip).neighbors → RenewsOnly i link (sender_of ip) n
+renews_along i link ip n same = let P : CacheValue → Type 0 = λ c. RenewsOnly i link (sender_of ip) c in subst P (sym same) (renews i link ip)
+
+abbrev neighbors_in : InnerValue → CacheValue
+neighbors_in i = i.neighbors
+
+v4_renews : (ours : Bool) (i : InnerValue) (places : Places) (link : Option EthernetRepr) (header : Ipv4Repr) (payload : List ℕ) (a : Arrived) → ArrivesV4 ours i places link (Ip.Ipv4 header) payload a → RenewsOnly i link (sender_of (Ip.Ipv4 header)) a.inner.neighbors
+v4_renews true i places link header payload a (carried, is, handed) =
+    renews_along i link (Ip.Ipv4 header) a.inner.neighbors
+    (ap neighbors_in handed.inner ∙ handed_v4 (renewed i link (Ip.Ipv4 header)) (packet_delivered (Ip.Ipv4 header) payload places) header carried)
+v4_renews false i places link header payload a h = unrenewed i link (Ip.Ipv4 header) a.inner.neighbors (ap neighbors_in h.inner)
+
+v6_renews : (ours : Bool) (i : InnerValue) (places : Places) (link : Option EthernetRepr) (header : Ipv6Repr) (payload : List ℕ) (a : Arrived) → ArrivesV6 ours i places link (Ip.Ipv6 header) payload a → IsOther (Ip.Ipv6 header) → RenewsOnly i link (sender_of (Ip.Ipv6 header)) a.inner.neighbors
+v6_renews true i places link header payload a (carried, is, handed) other =
+    renews_along i link (Ip.Ipv6 header) a.inner.neighbors
+    (ap neighbors_in handed.inner ∙ handed_v6 (renewed i link (Ip.Ipv6 header)) (packet_delivered (Ip.Ipv6 header) payload places) header payload carried is other)
+v6_renews false i places link header payload a h other = unrenewed i link (Ip.Ipv6 header) a.inner.neighbors (ap neighbors_in h.inner)
+
+pub renews_v4 : (i : InnerValue) (places : Places) (link : Option EthernetRepr) (header : Ipv4Repr) (piece : Ipv4Piece) (payload : List ℕ) (a : Arrived) → Brings i places (Some (Ip4 link header piece payload)) a → RenewsOnly i link (sender_of (Ip.Ipv4 header)) a.inner.neighbors
+renews_v4 i places link header piece payload a h = v4_renews _ i places link header payload a h
+
+pub renews_v6 : (i : InnerValue) (places : Places) (link : Option EthernetRepr) (header : Ipv6Repr) (payload : List ℕ) (a : Arrived) → Brings i places (Some (Ip6 link header payload)) a → IsOther (Ip.Ipv6 header) → RenewsOnly i link (sender_of (Ip.Ipv6 header)) a.inner.neighbors
+renews_v6 i places link header payload a h other = v6_renews _ i places link header payload a h other
+
+learns_at : (i : InnerValue) (packet : ArpRepr) → LearnsOnly i packet (arp_arrived i packet)
+learns_at i packet = elim (counts i packet) as (λ b. LearnsOnly i packet (if b then learned i packet else i)) [ true ↦ inr refl | false ↦ inl refl ]
+
+pub learns : (i : InnerValue) (places : Places) (link : EthernetRepr) (packet : ArpRepr) (a : Arrived) → Brings i places (Some (Arp link packet)) a → LearnsOnly i packet a.inner
+learns i places link packet a h = let P : InnerValue → Type 0 = λ v. LearnsOnly i packet v in subst P (sym h.inner) (learns_at i packet)

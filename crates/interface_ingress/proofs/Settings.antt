@@ -1,0 +1,115 @@
+-- A host's settings, which no arrival changes.
+use Rattle.std.proofs.Common.{◌≡◌, Bool, true, false, if◌then◌else◌, List, refl, sym, ◌∙◌, subst}
+use Rattle.std.specs.Prelude.{ℕ, Option, Some, None}
+use Rattle.control_wire.specs.Icmpv6 as Icmpv6
+use Rattle.control_wire.specs.Ndisc.{NeighborMessage}
+use Rattle.ip_wire.specs.IpAddress.{IpAddress}
+use Rattle.ip_wire.specs.IpRepr.{IpRepr}
+use Rattle.ip_wire.specs.IpRepr.TheVariants as Ip
+use Rattle.ip_wire.specs.Ipv6Repr.{Ipv6Repr}
+use Rattle.ip_wire.specs.TcpHeader.{TcpHeader}
+use Rattle.ip_wire.specs.declared.arp.repr.ArpRepr.{ArpRepr}
+use Rattle.ip_wire.specs.declared.arp.repr.ArpRepr.TheVariants as Arps
+use Rattle.ip_wire.specs.declared.ethernet.repr.EthernetRepr.{EthernetRepr}
+use Rattle.socket_base.specs.Packet.{PayloadValue, ControlV4, ControlV6, Bytes, Datagram, Segment}
+use Rattle.interface_control.specs.Heard.{neighbor_heard, with_entries_of}
+use Rattle.interface_control.proofs.Hearing.{entries-alone}
+use Rattle.interface_frames.specs.Incoming.{IncomingValue, Arp, Ip4, Ip6}
+use Rattle.interface_replies.specs.Arp.{counts, learned, arp_arrived}
+use Rattle.interface_tables.specs.Inner.{InnerValue, context_of}
+use Rattle.interface_ingress.specs.Arrives.{Arrived, ArrivesV4, ArrivesV6, Brings, Hands, is_direct, sender_of, renewed, renewed_by}
+use Rattle.interface_ingress.specs.Delivered.{Places, drawn_if, packet_delivered, is_taken_raw, segment_draws}
+use Rattle.interface_ingress.specs.Handed.{handed_host, message_host, names_nobody, segment_host}
+use Rattle.interface_ingress.specs.Kept.{HasSameSettings}
+
+same_itself : (i : InnerValue) → HasSameSettings i i
+same_itself i = record { moment = refl; hardware = refl; mtu = refl; checksums = refl; addresses = refl; any_ip = refl; routes = refl; silent = refl; ident = refl; fresh = refl }
+
+same_then : (i j k : InnerValue) → HasSameSettings i j → HasSameSettings j k → HasSameSettings i k
+same_then i j k first second = record {
+  moment = second.moment ∙ first.moment;
+  hardware = second.hardware ∙ first.hardware;
+  mtu = second.mtu ∙ first.mtu;
+  checksums = second.checksums ∙ first.checksums;
+  addresses = second.addresses ∙ first.addresses;
+  any_ip = second.any_ip ∙ first.any_ip;
+  routes = second.routes ∙ first.routes;
+  silent = second.silent ∙ first.silent;
+  ident = second.ident ∙ first.ident;
+  fresh = second.fresh ∙ first.fresh;
+}
+
+same_at : (i j k : InnerValue) → k ≡ j → HasSameSettings i j → HasSameSettings i k
+same_at i j k is same = let P : InnerValue → Type 0 = λ v. HasSameSettings i v in subst P (sym is) same
+
+same_renewed_by : (i : InnerValue) (link : Option EthernetRepr) (sender : IpAddress) → HasSameSettings i (renewed_by i link sender)
+same_renewed_by i None sender = same_itself i
+same_renewed_by i (Some link) sender = record { moment = refl; hardware = refl; mtu = refl; checksums = refl; addresses = refl; any_ip = refl; routes = refl; silent = refl; ident = refl; fresh = refl }
+
+same_renewed : (i : InnerValue) (link : Option EthernetRepr) (ip : IpRepr) → HasSameSettings i (renewed i link ip)
+same_renewed i link ip =
+    elim (is_direct i ip) as (λ b. HasSameSettings i (if b then renewed_by i link (sender_of ip) else i)) [
+      | true ↦ same_renewed_by i link (sender_of ip)
+      | false ↦ same_itself i
+    ]
+
+same_drawn : (draws : Bool) (i : InnerValue) → HasSameSettings i (drawn_if draws i)
+same_drawn true i = record { moment = refl; hardware = refl; mtu = refl; checksums = refl; addresses = refl; any_ip = refl; routes = refl; silent = refl; ident = refl; fresh = refl }
+same_drawn false i = same_itself i
+
+same_segment : (i : InnerValue) (places : Places) (ip : IpRepr) (header : TcpHeader) (bytes : List ℕ) → HasSameSettings i (segment_host i places ip header bytes)
+same_segment i places ip header bytes =
+    elim (names_nobody ip) as (λ b. HasSameSettings i (if b then i else drawn_if (segment_draws (context_of i) ip header bytes places) i)) [
+      | true ↦ same_itself i
+      | false ↦ same_drawn (segment_draws (context_of i) ip header bytes places) i
+    ]
+
+same_heard : (i : InnerValue) (header : Ipv6Repr) (message : NeighborMessage) → HasSameSettings i (neighbor_heard i header message).inner
+same_heard i header message =
+    same_at i (with_entries_of (neighbor_heard i header message).inner i) (neighbor_heard i header message).inner (entries-alone i header message)
+    (record { moment = refl; hardware = refl; mtu = refl; checksums = refl; addresses = refl; any_ip = refl; routes = refl; silent = refl; ident = refl; fresh = refl })
+
+same_message : (i : InnerValue) (header : Ipv6Repr) (message : Icmpv6.MessageValue) → HasSameSettings i (message_host i header message)
+same_message i header (Icmpv6.DstUnreachable reason about) = same_itself i
+same_message i header (Icmpv6.PktTooBig mtu about) = same_itself i
+same_message i header (Icmpv6.TimeExceeded reason about) = same_itself i
+same_message i header (Icmpv6.ParamProblem reason pointer about) = same_itself i
+same_message i header (Icmpv6.EchoRequest ident seq_no) = same_itself i
+same_message i header (Icmpv6.EchoReply ident seq_no) = same_itself i
+same_message i header (Icmpv6.Ndisc message) = same_heard i header message
+
+same_handed : (i : InnerValue) (places : Places) (ip : IpRepr) (carried : Option PayloadValue) → HasSameSettings i (handed_host i places ip carried)
+same_handed i places ip (Some (ControlV4 message bytes)) = same_itself i
+same_handed i places (Ip.Ipv4 header) (Some (ControlV6 message bytes)) = same_itself i
+same_handed i places (Ip.Ipv6 header) (Some (ControlV6 message bytes)) = same_message i header message
+same_handed i places ip (Some (Bytes bytes)) = same_itself i
+same_handed i places ip (Some (Datagram udp bytes)) = same_itself i
+same_handed i places ip (Some (Segment header bytes)) = same_segment i places ip header bytes
+same_handed i places ip None = same_itself i
+
+same_in : (i : InnerValue) (places : Places) (link : Option EthernetRepr) (ip : IpRepr) (payload : List ℕ) (taken : Bool) (a : Arrived) → Hands (renewed i link ip) places ip payload taken a → HasSameSettings i a.inner
+same_in i places link ip payload taken a (carried, is, handed) =
+    same_at i (handed_host (renewed i link ip) places ip carried) a.inner handed.inner
+    (same_then i (renewed i link ip) (handed_host (renewed i link ip) places ip carried) (same_renewed i link ip) (same_handed (renewed i link ip) places ip carried))
+
+same_v4 : (ours : Bool) (i : InnerValue) (places : Places) (link : Option EthernetRepr) (ip : IpRepr) (payload : List ℕ) (a : Arrived) → ArrivesV4 ours i places link ip payload a → HasSameSettings i a.inner
+same_v4 true i places link ip payload a h = same_in i (packet_delivered ip payload places) link ip payload (is_taken_raw ip places) a h
+same_v4 false i places link ip payload a h = same_at i i a.inner h.inner (same_itself i)
+
+same_v6 : (ours : Bool) (i : InnerValue) (places : Places) (link : Option EthernetRepr) (ip : IpRepr) (payload : List ℕ) (a : Arrived) → ArrivesV6 ours i places link ip payload a → HasSameSettings i a.inner
+same_v6 true i places link ip payload a h = same_in i (packet_delivered ip payload places) link ip payload (is_taken_raw ip places) a h
+same_v6 false i places link ip payload a h = same_at i i a.inner h.inner (same_itself i)
+
+same_learned : (i : InnerValue) (packet : ArpRepr) → HasSameSettings i (learned i packet)
+same_learned i (Arps.EthernetIpv4 operation source_hardware source target_hardware target) =
+    record { moment = refl; hardware = refl; mtu = refl; checksums = refl; addresses = refl; any_ip = refl; routes = refl; silent = refl; ident = refl; fresh = refl }
+
+same_arp : (i : InnerValue) (packet : ArpRepr) → HasSameSettings i (arp_arrived i packet)
+same_arp i packet =
+    elim (counts i packet) as (λ b. HasSameSettings i (if b then learned i packet else i)) [ true ↦ same_learned i packet | false ↦ same_itself i ]
+
+pub brings_same : (i : InnerValue) (places : Places) (content : Option IncomingValue) (a : Arrived) → Brings i places content a → HasSameSettings i a.inner
+brings_same i places None a h = same_at i i a.inner h.inner (same_itself i)
+brings_same i places (Some (Arp link packet)) a h = same_at i (arp_arrived i packet) a.inner h.inner (same_arp i packet)
+brings_same i places (Some (Ip4 link header piece payload)) a h = same_v4 _ i places link (Ip.Ipv4 header) payload a h
+brings_same i places (Some (Ip6 link header payload)) a h = same_v6 _ i places link (Ip.Ipv6 header) payload a h

@@ -1,0 +1,45 @@
+-- The data of a message that arrived can be sent back.
+use Rattle.std.proofs.Common.{◌≡◌, ℕ, ◌+◌, ◌-◌, ◌<◌, ◌≤◌, ◌^◌, Bool, List, length, drop, ap, sym, arith, length-drop}
+use Rattle.std.specs.Prelude.{Option, Some, None}
+use Rattle.net_base.specs.ChecksumCapabilities.{ChecksumCapabilities}
+use Rattle.control_wire.specs.Icmpv4 as Icmpv4
+use Rattle.control_wire.specs.Icmpv4Header.{Icmpv4Header}
+use Rattle.control_wire.specs.Icmpv4Header.TheVariants as V4
+use Rattle.control_wire.specs.Icmpv6 as Icmpv6
+use Rattle.ip_wire.specs.Ip.{Fits, payload_len_in}
+use Rattle.ip_wire.specs.IpRepr.{IpRepr}
+use Rattle.ip_wire.specs.IpRepr.TheVariants as Ip
+use Rattle.socket_base.specs.Packet.{PayloadValue, ControlV4, ControlV6, Bytes, Datagram, Segment}
+use Rattle.interface_frames.specs.Carried.{IsCarriedContent}
+use Rattle.interface_ingress.specs.Handed.{FitsBack}
+
+-- MESSAGES
+
+data_of_says : (payload bytes : List ℕ) (m : Icmpv4Header) → Icmpv4.Says payload m bytes → length bytes ≤ length payload - 8
+data_of_says payload bytes (V4.EchoRequest ident seq_no) says = omega (arith, ap length says.payload_is, length-drop 8 payload)
+data_of_says payload bytes (V4.EchoReply ident seq_no) says = omega (arith, ap length says.payload_is, length-drop 8 payload)
+data_of_says payload bytes (V4.DstUnreachable reason header) says =
+    omega (arith, ap length says.1.payload_is, length-drop (Icmpv4.quoted_len payload) (drop 8 payload), length-drop 8 payload)
+data_of_says payload bytes (V4.TimeExceeded reason header) says =
+    omega (arith, ap length says.1.payload_is, length-drop (Icmpv4.quoted_len payload) (drop 8 payload), length-drop 8 payload)
+
+data_of_v6 : (payload bytes : List ℕ) (m : Icmpv6.MessageValue) → bytes ≡ Icmpv6.carried_in payload m → length bytes ≤ length payload - 8
+data_of_v6 payload bytes (Icmpv6.DstUnreachable reason header) is = omega (arith, ap length is, length-drop 48 payload)
+data_of_v6 payload bytes (Icmpv6.PktTooBig mtu header) is = omega (arith, ap length is, length-drop 48 payload)
+data_of_v6 payload bytes (Icmpv6.TimeExceeded reason header) is = omega (arith, ap length is, length-drop 48 payload)
+data_of_v6 payload bytes (Icmpv6.ParamProblem reason pointer header) is = omega (arith, ap length is, length-drop 48 payload)
+data_of_v6 payload bytes (Icmpv6.EchoRequest ident seq_no) is = omega (arith, ap length is, length-drop 8 payload)
+data_of_v6 payload bytes (Icmpv6.EchoReply ident seq_no) is = omega (arith, ap length is, length-drop 8 payload)
+data_of_v6 payload bytes (Icmpv6.Ndisc message) is = omega (arith, ap length is)
+
+pub fits_back : (caps : ChecksumCapabilities) (ip : IpRepr) (payload : List ℕ) (carried : Option PayloadValue) → IsCarriedContent caps ip payload carried → Fits ip → length payload ≡ payload_len_in ip → FitsBack carried
+fits_back caps (Ip.Ipv4 header) payload (Some (ControlV4 m bytes)) is fits len =
+    let short = data_of_says payload bytes m is.format.says in omega (arith, is.format.whole, fits, len)
+fits_back caps (Ip.Ipv6 header) payload (Some (ControlV4 m bytes)) is fits len = absurd is
+fits_back caps (Ip.Ipv4 header) payload (Some (ControlV6 m bytes)) is fits len = absurd is
+fits_back caps (Ip.Ipv6 header) payload (Some (ControlV6 m bytes)) is fits len =
+    let short = data_of_v6 payload bytes m is.bytes_are in omega (arith, fits, len)
+fits_back caps ip payload (Some (Bytes bytes)) is fits len = tt
+fits_back caps ip payload (Some (Datagram udp bytes)) is fits len = tt
+fits_back caps ip payload (Some (Segment header bytes)) is fits len = tt
+fits_back caps ip payload None is fits len = tt

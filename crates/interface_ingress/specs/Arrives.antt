@@ -1,0 +1,145 @@
+-- What a frame brings to a host (RFC 791 and RFC 1122, section 3.2; RFC 8200; RFC 826).
+use Rattle.std.specs.Prelude.{◌≡◌, ℕ, Bool, true, false, if◌then◌else◌, List, Option, None, Some, IfSome}
+use Rattle.ip_wire.specs.AddressTests.{is_unicast_v6}
+use Rattle.ip_wire.specs.declared.ethernet.repr.EthernetRepr.{EthernetRepr}
+use Rattle.ip_wire.specs.HardwareAddress.TheVariants as Hardware
+use Rattle.ip_wire.specs.IpAddress.{IpAddress}
+use Rattle.ip_wire.specs.IpAddress.TheVariants as Address
+use Rattle.ip_wire.specs.IpRepr.{IpRepr}
+use Rattle.ip_wire.specs.IpRepr.TheVariants as Ip
+use Rattle.ip_wire.specs.Ipv4Repr.{Ipv4Repr}
+use Rattle.ip_wire.specs.Ipv6Repr.{Ipv6Repr}
+use Rattle.ip_wire.specs.declared.arp.repr.ArpRepr.{ArpRepr}
+use Rattle.socket_base.specs.Packet.{PacketValue, PayloadValue, IsSendable, packet_value}
+use Rattle.interface_frames.specs.Carried.{IsCarriedContent}
+use Rattle.interface_frames.specs.Incoming.{IncomingValue, Arp, Ip4, Ip6, IsContent}
+use Rattle.interface_replies.specs.Arp.{arp_arrived, arp_answer}
+use Rattle.interface_replies.specs.Replies.{is_one_host}
+use Rattle.interface_tables.specs.Inner.{InnerValue, is_for_us, with_renewal}
+use Rattle.interface_ingress.specs.Delivered.{Places, is_taken_raw, packet_delivered}
+use Rattle.interface_ingress.specs.Handed.{handed_host, handed_places, handed_reply}
+use Rattle.interface_ingress.specs.Reassembled.{Slots, taken_in, place_in, kept, whole_of, released}
+use Rattle.interface_ingress.specs.declared.reply.Reply.{Reply}
+use Rattle.interface_ingress.specs.declared.reply.Reply.TheVariants as Answer
+
+-- what is sent at once in answer to a frame
+pub data ReplyValue : Type 0 where
+  Tells : ArpRepr → ReplyValue
+  Answers : PacketValue → ReplyValue
+
+-- the host, its sockets and the answer
+pub record Arrived : Type 0 where
+  pub inner : InnerValue
+  pub places : Places
+  pub reply : Option ReplyValue
+
+abbrev pub arrived : InnerValue → Places → Option ReplyValue → Arrived
+arrived inner places reply = record { inner = inner; places = places; reply = reply }
+
+abbrev pub told : Option ArpRepr → Option ReplyValue
+told None = None
+told (Some packet) = Some (Tells packet)
+
+abbrev pub answered : Option PacketValue → Option ReplyValue
+answered None = None
+answered (Some packet) = Some (Answers packet)
+
+-- an answer, wherever its bytes lie
+abbrev pub reply_of : Option Reply → Option ReplyValue
+reply_of None = None
+reply_of (Some (Answer.Arp packet)) = Some (Tells packet)
+reply_of (Some (Answer.Packet packet)) = Some (Answers (packet_value packet))
+
+-- a packet that answers can be sent
+abbrev pub CanGo : ReplyValue → Type 0
+CanGo (Tells packet) = Unit {0}
+CanGo (Answers packet) = IsSendable packet
+
+abbrev pub IfCanGo : Option ReplyValue → Type 0
+IfCanGo reply = IfSome reply CanGo
+
+-- PAYLOADS
+
+-- the host, the sockets and the answer after a payload
+pub record IsHanded (i : InnerValue) (places : Places) (ip : IpRepr) (payload : List ℕ) (taken : Bool) (carried : Option PayloadValue) (a : Arrived) : Type 0 where
+  pub inner : a.inner ≡ handed_host i places ip carried
+  pub places_are : a.places ≡ handed_places i places ip carried
+  pub reply : a.reply ≡ answered (handed_reply i places ip payload taken carried)
+
+abbrev pub Hands : InnerValue → Places → IpRepr → List ℕ → Bool → Arrived → Type 0
+Hands i places ip payload taken a =
+    (carried : Option PayloadValue) × IsCarriedContent i.checksums ip payload carried × IsHanded i places ip payload taken carried a
+
+-- nothing is answered
+pub record IsSilent (i : InnerValue) (places : Places) (a : Arrived) : Type 0 where
+  pub inner : a.inner ≡ i
+  pub places_are : a.places ≡ places
+  pub reply : a.reply ≡ None
+
+-- IP
+
+-- the sender's hardware address is believed anew, if it is the one that is known
+abbrev pub renewed_by : InnerValue → Option EthernetRepr → IpAddress → InnerValue
+renewed_by i None sender = i
+renewed_by i (Some link) sender = with_renewal i sender (Hardware.Ethernet link.src_addr)
+
+-- a packet for one host
+abbrev pub is_direct : InnerValue → IpRepr → Bool
+is_direct i (Ip.Ipv4 header) = is_one_host i header.dst_addr
+is_direct i (Ip.Ipv6 header) = is_unicast_v6 header.dst_addr
+
+abbrev pub sender_of : IpRepr → IpAddress
+sender_of (Ip.Ipv4 header) = Address.Ipv4 header.src_addr
+sender_of (Ip.Ipv6 header) = Address.Ipv6 header.src_addr
+
+abbrev pub renewed : InnerValue → Option EthernetRepr → IpRepr → InnerValue
+renewed i link ip = if is_direct i ip then renewed_by i link (sender_of ip) else i
+
+-- A whole IPv4 packet: raw sockets get it first, whomever it is for. Then its payload counts if it is for the host.
+abbrev pub ArrivesV4 : Bool → InnerValue → Places → Option EthernetRepr → IpRepr → List ℕ → Arrived → Type 0
+ArrivesV4 true i places link ip payload a =
+    Hands (renewed i link ip) (packet_delivered ip payload places) ip payload (is_taken_raw ip places) a
+ArrivesV4 false i places link ip payload a = IsSilent i (packet_delivered ip payload places) a
+
+-- An IPv6 packet: it is for the host, or it is dropped.
+abbrev pub ArrivesV6 : Bool → InnerValue → Places → Option EthernetRepr → IpRepr → List ℕ → Arrived → Type 0
+ArrivesV6 true i places link ip payload a =
+    Hands (renewed i link ip) (packet_delivered ip payload places) ip payload (is_taken_raw ip places) a
+ArrivesV6 false i places link ip payload a = IsSilent i places a
+
+-- CONTENT
+
+-- an ARP packet
+pub record IsTold (i : InnerValue) (places : Places) (packet : ArpRepr) (a : Arrived) : Type 0 where
+  pub inner : a.inner ≡ arp_arrived i packet
+  pub places_are : a.places ≡ places
+  pub reply : a.reply ≡ told (arp_answer i packet)
+
+-- what is whole of a content
+abbrev pub Brings : InnerValue → Places → Option IncomingValue → Arrived → Type 0
+Brings i places None a = IsSilent i places a
+Brings i places (Some (Arp link packet)) a = IsTold i places packet a
+Brings i places (Some (Ip4 link header piece payload)) a =
+    ArrivesV4 (is_for_us i (Address.Ipv4 header.dst_addr)) i places link (Ip.Ipv4 header) payload a
+Brings i places (Some (Ip6 link header payload)) a =
+    ArrivesV6 (is_for_us i (Address.Ipv6 header.dst_addr)) i places link (Ip.Ipv6 header) payload a
+
+-- FRAMES
+
+-- the slots after what the host takes in of a content
+abbrev pub slots_after : InnerValue → ℕ → Slots → Option IncomingValue → Slots
+slots_after i timeout slots content = released (place_in slots content) (kept i timeout slots content)
+
+-- what is whole after a content: itself, or the datagram that it completes
+abbrev pub whole_after : InnerValue → ℕ → Slots → Option IncomingValue → Option IncomingValue
+whole_after i timeout slots content = whole_of (kept i timeout slots content) (place_in slots content) content
+
+-- a frame's content arrives, of which the host takes in what is for it: the slots after it, and what it brings
+abbrev pub ArrivesAs : InnerValue → ℕ → Slots → Places → Option IncomingValue → Slots → Arrived → Type 0
+ArrivesAs i timeout slots places content slots' a =
+    (slots' ≡ slots_after i timeout slots (taken_in i content)) × Brings i places (whole_after i timeout slots (taken_in i content)) a
+
+-- a frame arrives
+abbrev pub Arrives : InnerValue → ℕ → Slots → Places → List ℕ → Slots → Arrived → Type 0
+Arrives i timeout slots places frame slots' a =
+    (content : Option IncomingValue) × IsContent i.hardware i.checksums frame content × ArrivesAs i timeout slots places content slots' a

@@ -1,0 +1,126 @@
+-- What a packet for the host carries, given to sockets and tables, and what is answered at once (RFC 1122, sections 3.2.2, 4.1.3.1
+-- and 4.2.3.9; RFC 4443; RFC 9293, section 3.10.7.1).
+use Rattle.std.specs.Prelude.{◌≡◌, ℕ, ◌+◌, ◌<◌, ◌^◌, ◌||◌, Bool, true, false, if◌then◌else◌, List, length, Option, None, Some, is_some}
+use Rattle.control_wire.specs.Icmpv4Header.{Icmpv4Header}
+use Rattle.control_wire.specs.Icmpv6 as Icmpv6
+use Rattle.control_wire.specs.Icmpv6.{MessageValue}
+use Rattle.ip_wire.specs.AddressTests.{is_unspecified}
+use Rattle.ip_wire.specs.Ip.{source_in, destination_in}
+use Rattle.ip_wire.specs.IpProtocol.{IpProtocol}
+use Rattle.ip_wire.specs.IpProtocol.TheVariants as Protocol
+use Rattle.ip_wire.specs.IpRepr.{IpRepr}
+use Rattle.ip_wire.specs.IpRepr.TheVariants as Ip
+use Rattle.ip_wire.specs.Ipv6Repr.{Ipv6Repr}
+use Rattle.ip_wire.specs.TcpHeader.{TcpHeader}
+use Rattle.ip_wire.specs.UdpRepr.{UdpRepr}
+use Rattle.socket_base.specs.Packet.{PacketValue, PayloadValue, ControlV4, ControlV6, Bytes, Datagram, Segment}
+use Rattle.interface_control.specs.Heard.{neighbor_heard}
+use Rattle.interface_replies.specs.Replies.{echo_v4, echo_v6, port_unreachable, protocol_unreachable}
+use Rattle.interface_tables.specs.Inner.{InnerValue, context_of}
+use Rattle.interface_ingress.specs.Delivered.{Places, icmpv4_delivered, icmpv6_delivered, datagram_place, datagram_delivered, segment_answer, segment_delivered, segment_draws, drawn_if}
+
+-- CONTROL MESSAGES
+
+abbrev pub control_v4_places : IpRepr → Icmpv4Header → List ℕ → Places → Places
+control_v4_places (Ip.Ipv4 header) message bytes places = icmpv4_delivered header message bytes places
+control_v4_places (Ip.Ipv6 header) message bytes places = places
+
+abbrev pub control_v4_reply : InnerValue → IpRepr → Icmpv4Header → List ℕ → Option PacketValue
+control_v4_reply i (Ip.Ipv4 header) message bytes = echo_v4 i header message bytes
+control_v4_reply i (Ip.Ipv6 header) message bytes = None
+
+abbrev pub control_v6_places : IpRepr → MessageValue → List ℕ → Places → Places
+control_v6_places (Ip.Ipv4 header) message bytes places = places
+control_v6_places (Ip.Ipv6 header) message bytes places = icmpv6_delivered header message bytes places
+
+-- a neighbour message tells of its sender, and may be answered
+abbrev pub message_host : InnerValue → Ipv6Repr → MessageValue → InnerValue
+message_host i header (Icmpv6.Ndisc message) = (neighbor_heard i header message).inner
+message_host i header message = i
+
+abbrev pub message_reply : InnerValue → Ipv6Repr → MessageValue → List ℕ → Option PacketValue
+message_reply i header (Icmpv6.Ndisc message) bytes = (neighbor_heard i header message).reply
+message_reply i header message bytes = echo_v6 i header message bytes
+
+abbrev pub control_v6_host : InnerValue → IpRepr → MessageValue → InnerValue
+control_v6_host i (Ip.Ipv4 header) message = i
+control_v6_host i (Ip.Ipv6 header) message = message_host i header message
+
+abbrev pub control_v6_reply : InnerValue → IpRepr → MessageValue → List ℕ → Option PacketValue
+control_v6_reply i (Ip.Ipv4 header) message bytes = None
+control_v6_reply i (Ip.Ipv6 header) message bytes = message_reply i header message bytes
+
+-- DATAGRAMS AND SEGMENTS
+
+-- an unspecified address names no end of a connection
+abbrev pub names_nobody : IpRepr → Bool
+names_nobody ip = is_unspecified (source_in ip) || is_unspecified (destination_in ip)
+
+-- a datagram that neither a socket nor a raw socket took is answered by an error
+abbrev pub datagram_reply : InnerValue → Places → IpRepr → List ℕ → Bool → UdpRepr → Option PacketValue
+datagram_reply i places ip payload taken udp =
+    if is_some (datagram_place (context_of i) ip udp places) || taken then None else port_unreachable i ip payload
+
+abbrev pub segment_host : InnerValue → Places → IpRepr → TcpHeader → List ℕ → InnerValue
+segment_host i places ip header bytes =
+    if names_nobody ip then i else drawn_if (segment_draws (context_of i) ip header bytes places) i
+
+abbrev pub segment_places : InnerValue → Places → IpRepr → TcpHeader → List ℕ → Places
+segment_places i places ip header bytes =
+    if names_nobody ip then places else segment_delivered (context_of i) ip header bytes places
+
+abbrev pub segment_reply : InnerValue → Places → IpRepr → Bool → TcpHeader → List ℕ → Option PacketValue
+segment_reply i places ip taken header bytes =
+    if names_nobody ip then None else segment_answer (context_of i) ip header bytes taken places
+
+-- UNKNOWN PROTOCOLS
+
+abbrev pub is_known_v4 : IpProtocol → Bool
+is_known_v4 Protocol.Icmp = true
+is_known_v4 Protocol.Udp = true
+is_known_v4 Protocol.Tcp = true
+is_known_v4 protocol = false
+
+abbrev pub is_known_v6 : IpProtocol → Bool
+is_known_v6 Protocol.Icmpv6 = true
+is_known_v6 Protocol.Udp = true
+is_known_v6 Protocol.Tcp = true
+is_known_v6 protocol = false
+
+-- the host knows what is behind the header
+abbrev pub is_known : IpRepr → Bool
+is_known (Ip.Ipv4 header) = is_known_v4 header.next_header
+is_known (Ip.Ipv6 header) = is_known_v6 header.next_header
+
+-- what isn't known, and what no raw socket took, is answered by an error; what is known and can't be read is dropped
+abbrev pub unread_reply : InnerValue → IpRepr → List ℕ → Bool → Option PacketValue
+unread_reply i ip payload taken = if is_known ip || taken then None else protocol_unreachable i ip payload
+
+-- ALL. `taken` says that a raw socket took the packet.
+
+abbrev pub handed_host : InnerValue → Places → IpRepr → Option PayloadValue → InnerValue
+handed_host i places ip (Some (ControlV6 message bytes)) = control_v6_host i ip message
+handed_host i places ip (Some (Segment header bytes)) = segment_host i places ip header bytes
+handed_host i places ip carried = i
+
+abbrev pub handed_places : InnerValue → Places → IpRepr → Option PayloadValue → Places
+handed_places i places ip (Some (ControlV4 message bytes)) = control_v4_places ip message bytes places
+handed_places i places ip (Some (ControlV6 message bytes)) = control_v6_places ip message bytes places
+handed_places i places ip (Some (Bytes bytes)) = places
+handed_places i places ip (Some (Datagram udp bytes)) = datagram_delivered (context_of i) ip udp bytes places
+handed_places i places ip (Some (Segment header bytes)) = segment_places i places ip header bytes
+handed_places i places ip None = places
+
+abbrev pub handed_reply : InnerValue → Places → IpRepr → List ℕ → Bool → Option PayloadValue → Option PacketValue
+handed_reply i places ip payload taken (Some (ControlV4 message bytes)) = control_v4_reply i ip message bytes
+handed_reply i places ip payload taken (Some (ControlV6 message bytes)) = control_v6_reply i ip message bytes
+handed_reply i places ip payload taken (Some (Bytes bytes)) = None
+handed_reply i places ip payload taken (Some (Datagram udp bytes)) = datagram_reply i places ip payload taken udp
+handed_reply i places ip payload taken (Some (Segment header bytes)) = segment_reply i places ip taken header bytes
+handed_reply i places ip payload taken None = unread_reply i ip payload taken
+
+-- the bytes of a message can be sent back
+abbrev pub FitsBack : Option PayloadValue → Type 0
+FitsBack (Some (ControlV4 message bytes)) = 28 + length bytes < 2 ^ 16
+FitsBack (Some (ControlV6 message bytes)) = 8 + length bytes < 2 ^ 16
+FitsBack carried = Unit {0}

@@ -1,0 +1,93 @@
+-- What an arrival leaves as it was: words of the laws.
+use Rattle.std.specs.Prelude.{◌≡◌, ◌⊎◌, ℕ, List, map, Option, None, Some}
+use Rattle.ip_wire.specs.Ip.{carried_in}
+use Rattle.ip_wire.specs.IpProtocol.{IpProtocol}
+use Rattle.ip_wire.specs.IpProtocol.TheVariants as Protocol
+use Rattle.ip_wire.specs.HardwareAddress.{HardwareAddress}
+use Rattle.ip_wire.specs.HardwareAddress.TheVariants as Hardware
+use Rattle.ip_wire.specs.IpAddress.{IpAddress}
+use Rattle.ip_wire.specs.IpAddress.TheVariants as Address
+use Rattle.ip_wire.specs.IpRepr.{IpRepr}
+use Rattle.ip_wire.specs.TcpHeader.{TcpHeader}
+use Rattle.ip_wire.specs.declared.arp.repr.ArpRepr.{ArpRepr}
+use Rattle.ip_wire.specs.declared.ethernet.repr.EthernetRepr.{EthernetRepr}
+use Rattle.net_base.specs.ChecksumCapabilities.{ChecksumCapabilities}
+use Rattle.sockets.specs.declared.socket.Socket.{Socket}
+use Rattle.sockets.specs.declared.socket.Socket.TheVariants as Kind
+use Rattle.interface_frames.specs.Carried.{IsSegment}
+use Rattle.interface_frames.specs.Incoming.{IncomingValue, Arp, Ip4, Ip6}
+use Rattle.interface_sockets.specs.declared.socket_set.Item.{Item}
+use Rattle.interface_sockets.specs.declared.socket_set.SocketStorage.{SocketStorage}
+use Rattle.interface_replies.specs.Arp.{learned}
+use Rattle.interface_tables.specs.Inner.{InnerValue}
+use Rattle.interface_tables.specs.Neighbor.{CacheValue, renewed}
+use Rattle.interface_ingress.specs.Delivered.{Places}
+
+-- SOCKETS
+
+abbrev pub kept_by_kind : Socket → Item Socket → Option (Item Socket)
+kept_by_kind (Kind.Raw v) item = None
+kept_by_kind (Kind.Icmp v) item = None
+kept_by_kind (Kind.Udp v) item = Some item
+kept_by_kind (Kind.Tcp v) item = Some item
+
+abbrev pub ports_item : Option (Item Socket) → Option (Item Socket)
+ports_item None = None
+ports_item (Some item) = kept_by_kind item.socket item
+
+-- the socket of a place with its mark, where it is a TCP or a UDP socket
+abbrev pub ports_in : SocketStorage Socket → Option (Item Socket)
+ports_in place = ports_item place.inner
+
+-- the TCP and UDP sockets at their places
+abbrev pub with_ports : Places → List (Option (Item Socket))
+with_ports places = map ports_in places
+
+-- WHAT ARRIVES
+
+-- a packet of this header that carries neither TCP nor UDP
+abbrev pub NamesNoPorts : IpProtocol → Type 0
+NamesNoPorts protocol = (protocol ≡ Protocol.Tcp → ⊥) × (protocol ≡ Protocol.Udp → ⊥)
+
+-- an ARP packet, or an IP packet, or a piece of one, that carries neither TCP nor UDP
+abbrev pub HasNoPorts : IncomingValue → Type 0
+HasNoPorts (Arp link packet) = Unit {0}
+HasNoPorts (Ip4 link header piece payload) = NamesNoPorts header.next_header
+HasNoPorts (Ip6 link header payload) = NamesNoPorts header.next_header
+
+abbrev pub HaveNoPorts : Option IncomingValue → Type 0
+HaveNoPorts None = Unit {0}
+HaveNoPorts (Some v) = HasNoPorts v
+
+-- a packet of protocol TCP whose payload is no segment
+abbrev pub IsDamaged : ChecksumCapabilities → IpRepr → List ℕ → Type 0
+IsDamaged caps ip payload =
+    (carried_in ip ≡ Protocol.Tcp) × ((header : TcpHeader) (bytes : List ℕ) → IsSegment caps ip payload header bytes → ⊥)
+
+-- HOSTS
+
+-- everything of the host is the same but its neighbours and its random words
+pub record HasSameSettings (i i' : InnerValue) : Type 0 where
+  pub moment : i'.moment ≡ i.moment
+  pub hardware : i'.hardware ≡ i.hardware
+  pub mtu : i'.mtu ≡ i.mtu
+  pub checksums : i'.checksums ≡ i.checksums
+  pub addresses : i'.addresses ≡ i.addresses
+  pub any_ip : i'.any_ip ≡ i.any_ip
+  pub routes : i'.routes ≡ i.routes
+  pub silent : i'.neighbors.silent ≡ i.neighbors.silent
+  pub ident : i'.ident ≡ i.ident
+  pub fresh : i'.fresh ≡ i.fresh
+
+-- NEIGHBOURS
+
+-- the neighbours are as before, or the entry of a packet's sender is believed anew, if it has the hardware address that the frame
+-- came from
+abbrev pub RenewsOnly : InnerValue → Option EthernetRepr → IpAddress → CacheValue → Type 0
+RenewsOnly i None sender neighbors = neighbors ≡ i.neighbors
+RenewsOnly i (Some link) sender neighbors =
+    (neighbors ≡ i.neighbors) ⊎ (neighbors ≡ renewed i.neighbors sender (Hardware.Ethernet link.src_addr) i.moment)
+
+-- the host is as before, or keeps the sender of an ARP packet
+abbrev pub LearnsOnly : InnerValue → ArpRepr → InnerValue → Type 0
+LearnsOnly i packet i' = (i' ≡ i) ⊎ (i' ≡ learned i packet)

@@ -1,0 +1,5 @@
+pub mod Delivered
+pub mod Reassembled
+pub mod Handed
+pub mod Arrives
+pub mod Kept

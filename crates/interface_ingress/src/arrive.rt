@@ -1,0 +1,152 @@
+//! What a frame's content brings to a host.
+ghost use Rattle.std.specs.Prelude.{◌≡◌, ◌+◌, ◌<◌, ◌^◌, length, Some};
+ghost use Rattle.ip_wire.specs.Ip.{Fits, payload_len_in};
+ghost use Rattle.ip_wire.specs.Ipv4 as Ipv4;
+ghost use Rattle.ip_wire.specs.Ipv6 as Ipv6;
+ghost use Rattle.ip_wire.specs.IpAddress.TheVariants as Address;
+ghost use Rattle.ip_wire.specs.IpRepr.TheVariants as Ip;
+ghost use Rattle.interface_frames.specs.Incoming.{IsMeasured, AreMeasured, incoming_value, content_of};
+ghost use Rattle.interface_tables.specs.Inner.{is_for_us};
+ghost use Rattle.interface_ingress.specs.Arrives.{Hands, ArrivesV4, ArrivesV6, Brings, IfCanGo, arrived, is_direct, renewed_by, renewed, reply_of, sender_of};
+
+use crate::deliver::deliver_packet;
+use crate::hand::hand;
+use crate::reply::{Reply, arp_reply};
+use interface_frames::Incoming;
+use interface_replies::{arp, is_one_host};
+use interface_sockets::SocketStorage;
+use interface_tables::InterfaceInner;
+use ip_wire::{AddressExt, EthernetRepr, HardwareAddress, IpAddress, IpRepr, Ipv4Repr, Ipv6Repr};
+use sockets::Socket;
+
+/// Whether a packet is for one host.
+fn is_direct(inner: &InterfaceInner, header: &IpRepr) -> bool
+    ensures { result ≡ is_direct inner.now header.now }
+{
+    match header {
+        IpRepr::Ipv4(header) => is_one_host(inner, &header.dst_addr),
+        IpRepr::Ipv6(header) => header.dst_addr.x_is_unicast(),
+    }
+}
+
+fn sender_of(header: &IpRepr) -> IpAddress
+    ensures { result ≡ sender_of header.now }
+{
+    header.src_addr()
+}
+
+/// Believes the sender of a packet for one host anew, if its hardware address is the one that is known.
+fn renew(inner: &mut InterfaceInner, link: &Option<EthernetRepr>, header: &IpRepr)
+    ensures { inner.new ≡ renewed inner.old link.now header.now }
+{
+    if !is_direct(inner, header) {
+        return;
+    }
+    if let Some(link) = link {
+        inner.renew_neighbor(sender_of(header), HardwareAddress::Ethernet(link.src_addr));
+    }
+}
+
+/// Takes in the payload of a packet for the host.
+fn accept<'a>(
+    inner: &mut InterfaceInner,
+    places: &mut [SocketStorage<Socket>],
+    link: &Option<EthernetRepr>,
+    header: &IpRepr,
+    payload: &'a [u8],
+    is_taken: bool,
+) -> Option<Reply<'a>>
+    requires fits { Fits header.now }
+    requires len { length payload.now ≡ payload_len_in header.now }
+    requires short { length payload.now < 2 ^ 16 }
+    ensures hands { Hands (renewed inner.old link.now header.now) places.old header.now payload.now is_taken (arrived inner.new places.new (reply_of result)) }
+    ensures sendable { IfCanGo (reply_of result) }
+{
+    renew(inner, link, header);
+    hand(inner, places, header, payload, is_taken)
+}
+
+/// Takes in a whole IPv4 packet: raw sockets get it first, whomever it is for.
+fn arrive_ipv4<'a>(
+    inner: &mut InterfaceInner,
+    places: &mut [SocketStorage<Socket>],
+    link: &Option<EthernetRepr>,
+    header: &Ipv4Repr,
+    payload: &'a [u8],
+) -> Option<Reply<'a>>
+    requires fits { Ipv4.Fits header.now }
+    requires len { length payload.now ≡ header.now.payload_len }
+    ensures arrives { ArrivesV4 (is_for_us inner.old (Address.Ipv4 header.now.dst_addr)) inner.old places.old link.now (Ip.Ipv4 header.now) payload.now (arrived inner.new places.new (reply_of result)) }
+    ensures sendable { IfCanGo (reply_of result) }
+{
+    let ip = IpRepr::Ipv4(*header);
+    let is_taken = deliver_packet(places, &ip, payload);
+    if inner.is_for_us(&IpAddress::Ipv4(header.dst_addr)) {
+        accept(inner, places, link, &ip, payload, is_taken)
+    } else {
+        None
+    }
+}
+
+/// Takes in an IPv6 packet, if it is for the host.
+fn arrive_ipv6<'a>(
+    inner: &mut InterfaceInner,
+    places: &mut [SocketStorage<Socket>],
+    link: &Option<EthernetRepr>,
+    header: &Ipv6Repr,
+    payload: &'a [u8],
+) -> Option<Reply<'a>>
+    requires fits { Ipv6.Fits header.now }
+    requires len { length payload.now ≡ header.now.payload_len }
+    ensures arrives { ArrivesV6 (is_for_us inner.old (Address.Ipv6 header.now.dst_addr)) inner.old places.old link.now (Ip.Ipv6 header.now) payload.now (arrived inner.new places.new (reply_of result)) }
+    ensures sendable { IfCanGo (reply_of result) }
+{
+    if !inner.is_for_us(&IpAddress::Ipv6(header.dst_addr)) {
+        return None;
+    }
+    let ip = IpRepr::Ipv6(*header);
+    let is_taken = deliver_packet(places, &ip, payload);
+    accept(inner, places, link, &ip, payload, is_taken)
+}
+
+/// Takes in what a frame carries.
+fn bring_in<'a>(
+    inner: &mut InterfaceInner,
+    places: &mut [SocketStorage<Socket>],
+    incoming: &Incoming<'a>,
+) -> Option<Reply<'a>>
+    requires { IsMeasured (incoming_value incoming.now) }
+    ensures brings { Brings inner.old places.old (Some (incoming_value incoming.now)) (arrived inner.new places.new (reply_of result)) }
+    ensures sendable { IfCanGo (reply_of result) }
+{
+    match incoming {
+        Incoming::Arp { packet, .. } => arp_reply(&arp::process(inner, packet)),
+        Incoming::Ipv4 {
+            link,
+            header,
+            payload,
+            ..
+        } => arrive_ipv4(inner, places, link, header, payload),
+        Incoming::Ipv6 {
+            link,
+            header,
+            payload,
+        } => arrive_ipv6(inner, places, link, header, payload),
+    }
+}
+
+/// Takes in what is whole of a frame's content, and returns what answers it.
+pub fn bring<'a>(
+    inner: &mut InterfaceInner,
+    places: &mut [SocketStorage<Socket>],
+    content: &Option<Incoming<'a>>,
+) -> Option<Reply<'a>>
+    requires { AreMeasured (content_of content.now) }
+    ensures brings { Brings inner.old places.old (content_of content.now) (arrived inner.new places.new (reply_of result)) }
+    ensures sendable { IfCanGo (reply_of result) }
+{
+    match content {
+        Some(incoming) => bring_in(inner, places, incoming),
+        None => None,
+    }
+}

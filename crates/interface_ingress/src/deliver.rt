@@ -1,0 +1,326 @@
+//! What arrived, given to the sockets that it is for.
+ghost use Rattle.std.specs.Prelude.{◌≡◌, ◌<◌, length, is_some, IfSome, Some};
+ghost use Rattle.std.specs.Option.{ForSome};
+ghost use Rattle.control_wire.specs.Icmpv4 as Icmpv4;
+ghost use Rattle.control_wire.specs.Icmpv6 as Icmpv6;
+ghost use Rattle.ip_wire.specs.IpAddress.TheVariants as Address;
+ghost use Rattle.ip_wire.specs.Tcp as Tcp;
+ghost use Rattle.sockets.specs.Packet.{option_value, IsSendable};
+ghost use Rattle.sockets.specs.Socket.{accepts_segment};
+ghost use Rattle.interface_tables.specs.Inner.{context_of};
+ghost use Rattle.interface_ingress.specs.Delivered.{is_taken_raw, packet_delivered, icmpv4_delivered, icmpv6_delivered, datagram_place, datagram_delivered, with_change, with_segment, answer_of, answer_in, answer_at, draws_of, drawn_if, passes, passes_at, changed_at, segment_place, segment_delivered, segment_answer, segment_draws, reset_for};
+
+use crate::places::{Arrival, first_place, give_all, give_at, is_for_any};
+use control_wire::{Icmpv4Repr, Icmpv6Repr};
+use interface_sockets::{Item, SocketStorage};
+use interface_tables::InterfaceInner;
+use ip_wire::{IpRepr, Ipv4Repr, Ipv6Repr, TcpRepr, UdpRepr};
+use net_base::PacketMeta;
+use sockets::{IpPayload, Packet, Socket, tcp};
+use tcp_model::is_rst;
+
+/// A packet, as raw sockets get it.
+#[derive(Drop)]
+struct RawPacket<'a> {
+    header: &'a IpRepr,
+    payload: &'a [u8],
+}
+
+impl<'a> Arrival for RawPacket<'a> {
+    ghost use Rattle.sockets.specs.Socket.{accepts_packet};
+    ghost use Rattle.interface_ingress.specs.Delivered.{with_packet};
+
+    ghost accepted = { λ a s. accepts_packet s a.header.now };
+
+    ghost taken = { λ a. with_packet a.header.now a.payload.now };
+
+    fn is_for(&self, socket: &Socket) -> bool {
+        match socket {
+            Socket::Raw(socket) => socket.accepts(self.header),
+            _ => false,
+        }
+    }
+
+    fn give(&self, socket: &mut Socket) {
+        if let Socket::Raw(socket) = socket {
+            socket.process(self.header, self.payload);
+        }
+    }
+}
+
+/// Gives a packet to every raw socket that asks for it, and says whether there is one.
+pub fn deliver_packet(places: &mut [SocketStorage<Socket>], header: &IpRepr, payload: &[u8]) -> bool
+    ensures taken { result ≡ is_taken_raw header.now places.old }
+    ensures places { places.new ≡ packet_delivered header.now payload.now places.old }
+{
+    let packet = RawPacket { header, payload };
+    let is_taken = is_for_any(places, &packet);
+    give_all(places, &packet);
+    is_taken
+}
+
+/// An ICMPv4 message with the header of its packet.
+#[derive(Drop)]
+struct Icmpv4Arrival<'a> {
+    header: &'a Ipv4Repr,
+    message: &'a Icmpv4Repr<'a>,
+}
+
+impl<'a> Arrival for Icmpv4Arrival<'a> {
+    ghost use Rattle.control_wire.specs.Icmpv4 as Icmpv4;
+    ghost use Rattle.ip_wire.specs.IpAddress.TheVariants as Address;
+    ghost use Rattle.sockets.specs.Socket.{accepts_icmpv4};
+    ghost use Rattle.interface_ingress.specs.Delivered.{with_icmpv4};
+
+    ghost accepted = { λ a s. accepts_icmpv4 s (Address.Ipv4 a.header.now.dst_addr) (Icmpv4.header_of a.message.now) (Icmpv4.payload_of a.message.now) };
+
+    ghost taken = { λ a. with_icmpv4 a.header.now (Icmpv4.header_of a.message.now) (Icmpv4.payload_of a.message.now) };
+
+    fn is_for(&self, socket: &Socket) -> bool {
+        match socket {
+            Socket::Icmp(socket) => socket.accepts_v4(self.header, self.message),
+            _ => false,
+        }
+    }
+
+    fn give(&self, socket: &mut Socket) {
+        if let Socket::Icmp(socket) = socket {
+            socket.process_v4(self.header, self.message);
+        }
+    }
+}
+
+/// Gives an ICMPv4 message to every socket that accepts it.
+pub fn deliver_icmpv4(
+    places: &mut [SocketStorage<Socket>],
+    header: &Ipv4Repr,
+    message: &Icmpv4Repr<'_>,
+)
+    ensures { places.new ≡ icmpv4_delivered header.now (Icmpv4.header_of message.now) (Icmpv4.payload_of message.now) places.old }
+{
+    give_all(places, &Icmpv4Arrival { header, message });
+}
+
+/// An ICMPv6 message with the header of its packet.
+#[derive(Drop)]
+struct Icmpv6Arrival<'a> {
+    header: &'a Ipv6Repr,
+    message: &'a Icmpv6Repr<'a>,
+}
+
+impl<'a> Arrival for Icmpv6Arrival<'a> {
+    ghost use Rattle.control_wire.specs.Icmpv6 as Icmpv6;
+    ghost use Rattle.ip_wire.specs.IpAddress.TheVariants as Address;
+    ghost use Rattle.sockets.specs.Socket.{accepts_icmpv6};
+    ghost use Rattle.interface_ingress.specs.Delivered.{with_icmpv6};
+
+    ghost accepted = { λ a s. accepts_icmpv6 s (Address.Ipv6 a.header.now.dst_addr) (Icmpv6.value_of (Icmpv6.header_of a.message.now)) (Icmpv6.carried_by a.message.now) };
+
+    ghost taken = { λ a. with_icmpv6 a.header.now (Icmpv6.value_of (Icmpv6.header_of a.message.now)) (Icmpv6.carried_by a.message.now) };
+
+    fn is_for(&self, socket: &Socket) -> bool {
+        match socket {
+            Socket::Icmp(socket) => socket.accepts_v6(self.header, self.message),
+            _ => false,
+        }
+    }
+
+    fn give(&self, socket: &mut Socket) {
+        if let Socket::Icmp(socket) = socket {
+            socket.process_v6(self.header, self.message);
+        }
+    }
+}
+
+/// Gives an ICMPv6 message to every socket that accepts it.
+pub fn deliver_icmpv6(
+    places: &mut [SocketStorage<Socket>],
+    header: &Ipv6Repr,
+    message: &Icmpv6Repr<'_>,
+)
+    ensures { places.new ≡ icmpv6_delivered header.now (Icmpv6.value_of (Icmpv6.header_of message.now)) (Icmpv6.carried_by message.now) places.old }
+{
+    give_all(places, &Icmpv6Arrival { header, message });
+}
+
+/// A user datagram with the header of its packet, and the host that it came to.
+#[derive(Drop)]
+struct UdpArrival<'a> {
+    inner: &'a InterfaceInner,
+    header: &'a IpRepr,
+    udp: &'a UdpRepr,
+    bytes: &'a [u8],
+}
+
+impl<'a> Arrival for UdpArrival<'a> {
+    ghost use Rattle.sockets.specs.Socket.{accepts_datagram};
+    ghost use Rattle.interface_tables.specs.Inner.{context_of};
+    ghost use Rattle.interface_ingress.specs.Delivered.{with_datagram};
+
+    ghost accepted = { λ a s. accepts_datagram (context_of a.inner.now) s a.header.now a.udp.now };
+
+    ghost taken = { λ a. with_datagram a.header.now a.udp.now a.bytes.now };
+
+    fn is_for(&self, socket: &Socket) -> bool {
+        match socket {
+            Socket::Udp(socket) => socket.accepts(self.inner, self.header, self.udp),
+            _ => false,
+        }
+    }
+
+    fn give(&self, socket: &mut Socket) {
+        if let Socket::Udp(socket) = socket {
+            socket.process(PacketMeta {}, self.header, self.udp, self.bytes);
+        }
+    }
+}
+
+/// Gives a user datagram to the first socket that accepts it, and says whether there is one.
+pub fn deliver_datagram(
+    inner: &InterfaceInner,
+    places: &mut [SocketStorage<Socket>],
+    header: &IpRepr,
+    udp: &UdpRepr,
+    bytes: &[u8],
+) -> bool
+    ensures taken { result ≡ is_some (datagram_place (context_of inner.now) header.now udp.now places.old) }
+    ensures places { places.new ≡ datagram_delivered (context_of inner.now) header.now udp.now bytes.now places.old }
+{
+    let datagram = UdpArrival {
+        inner,
+        header,
+        udp,
+        bytes,
+    };
+    match first_place(places, &datagram) {
+        Some(at) => {
+            give_at(places, at, &datagram);
+            true
+        }
+        None => false,
+    }
+}
+
+/// Whether the place has a socket that accepts a segment.
+fn accepts_segment(
+    inner: &InterfaceInner,
+    place: &SocketStorage<Socket>,
+    header: &IpRepr,
+    segment: &TcpRepr<'_>,
+) -> bool
+    ensures { result ≡ passes (λ s. accepts_segment s header.now (Tcp.header_of segment.now)) place.now }
+{
+    match &place.inner {
+        Some(
+            Item {
+                socket: Socket::Tcp(socket),
+                ..
+            },
+        ) => socket.accepts(inner, header, segment),
+        _ => false,
+    }
+}
+
+/// The first place whose socket accepts a segment.
+fn segment_place(
+    inner: &InterfaceInner,
+    places: &[SocketStorage<Socket>],
+    header: &IpRepr,
+    segment: &TcpRepr<'_>,
+) -> Option<usize>
+    ensures place { result ≡ segment_place header.now (Tcp.header_of segment.now) places.now }
+    ensures in_range { ForSome result (λ at. at < length places.now) }
+{
+    places
+        .iter()
+        .position(|place| accepts_segment(inner, place, header, segment))
+}
+
+/// Gives a segment to a socket, and returns the packet that answers it.
+fn process_segment(
+    inner: &mut InterfaceInner,
+    socket: &mut Socket,
+    header: &IpRepr,
+    segment: &TcpRepr<'_>,
+) -> Option<Packet<'static>>
+    ensures answer { option_value result ≡ answer_of (context_of inner.old) header.now (Tcp.header_of segment.now) segment.now.payload.now socket.old }
+    ensures sendable { IfSome (option_value result) IsSendable }
+    ensures socket { socket.new ≡ with_segment (context_of inner.old) header.now (Tcp.header_of segment.now) segment.now.payload.now socket.old }
+    ensures host { inner.new ≡ drawn_if (draws_of (context_of inner.old) header.now (Tcp.header_of segment.now) segment.now.payload.now socket.old) inner.old }
+{
+    match socket {
+        Socket::Tcp(socket) => match socket.process(inner, header, segment) {
+            Some((header, segment)) => Some(Packet::new(header, IpPayload::Tcp(segment))),
+            None => None,
+        },
+        _ => None,
+    }
+}
+
+/// Gives a segment to the socket, if there is one at this place.
+fn process_in(
+    inner: &mut InterfaceInner,
+    place: &mut SocketStorage<Socket>,
+    header: &IpRepr,
+    segment: &TcpRepr<'_>,
+) -> Option<Packet<'static>>
+    ensures answer { option_value result ≡ answer_in (answer_of (context_of inner.old) header.now (Tcp.header_of segment.now) segment.now.payload.now) place.old.inner }
+    ensures sendable { IfSome (option_value result) IsSendable }
+    ensures place { place.new ≡ with_change (with_segment (context_of inner.old) header.now (Tcp.header_of segment.now) segment.now.payload.now) place.old }
+    ensures host { inner.new ≡ drawn_if (passes (draws_of (context_of inner.old) header.now (Tcp.header_of segment.now) segment.now.payload.now) place.old) inner.old }
+{
+    match &mut place.inner {
+        Some(item) => process_segment(inner, &mut item.socket, header, segment),
+        None => None,
+    }
+}
+
+/// Gives a segment to the socket at this place.
+#[tactic(auto, using(crate::proofs::AtPlace::changed_here, crate::proofs::AtPlace::answer_here, crate::proofs::AtPlace::passes_here))]
+fn process_at(
+    inner: &mut InterfaceInner,
+    places: &mut [SocketStorage<Socket>],
+    at: usize,
+    header: &IpRepr,
+    segment: &TcpRepr<'_>,
+) -> Option<Packet<'static>>
+    requires { at < length places.old }
+    ensures answer { option_value result ≡ answer_at (answer_of (context_of inner.old) header.now (Tcp.header_of segment.now) segment.now.payload.now) (Some at) places.old }
+    ensures sendable { IfSome (option_value result) IsSendable }
+    ensures places { places.new ≡ changed_at (with_segment (context_of inner.old) header.now (Tcp.header_of segment.now) segment.now.payload.now) (Some at) places.old }
+    ensures host { inner.new ≡ drawn_if (passes_at (draws_of (context_of inner.old) header.now (Tcp.header_of segment.now) segment.now.payload.now) (Some at) places.old) inner.old }
+{
+    process_in(inner, &mut places[at], header, segment)
+}
+
+/// The reset that answers a segment which no socket accepts, but for a reset and a segment that a raw socket took.
+fn reset(header: &IpRepr, segment: &TcpRepr<'_>, is_taken: bool) -> Option<Packet<'static>>
+    ensures answer { option_value result ≡ reset_for header.now (Tcp.header_of segment.now) segment.now.payload.now is_taken }
+    ensures sendable { IfSome (option_value result) IsSendable }
+{
+    if is_taken || is_rst(segment.control) {
+        return None;
+    }
+    let (header, segment) = tcp::Socket::rst_reply(header, segment);
+    Some(Packet::new(header, IpPayload::Tcp(segment)))
+}
+
+/// Gives a segment to the first socket that accepts it, and returns the packet that answers it: the socket's, or a reset where
+/// no socket accepts it. `is_taken` says that a raw socket took it.
+pub fn deliver_segment(
+    inner: &mut InterfaceInner,
+    places: &mut [SocketStorage<Socket>],
+    header: &IpRepr,
+    segment: &TcpRepr<'_>,
+    is_taken: bool,
+) -> Option<Packet<'static>>
+    ensures answer { option_value result ≡ segment_answer (context_of inner.old) header.now (Tcp.header_of segment.now) segment.now.payload.now is_taken places.old }
+    ensures sendable { IfSome (option_value result) IsSendable }
+    ensures places { places.new ≡ segment_delivered (context_of inner.old) header.now (Tcp.header_of segment.now) segment.now.payload.now places.old }
+    ensures host { inner.new ≡ drawn_if (segment_draws (context_of inner.old) header.now (Tcp.header_of segment.now) segment.now.payload.now places.old) inner.old }
+{
+    match segment_place(inner, places, header, segment) {
+        Some(at) => process_at(inner, places, at, header, segment),
+        None => reset(header, segment, is_taken),
+    }
+}

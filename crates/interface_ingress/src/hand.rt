@@ -1,0 +1,209 @@
+//! What a packet for the host carries, given to sockets and tables.
+ghost use Rattle.std.specs.Prelude.{◌≡◌, ◌+◌, ◌<◌, ◌^◌, length, None, IfSome};
+ghost use Rattle.ip_wire.specs.Ip.{Fits, payload_len_in};
+ghost use Rattle.ip_wire.specs.Tcp as Tcp;
+ghost use Rattle.control_wire.specs.Icmpv4 as Icmpv4;
+ghost use Rattle.control_wire.specs.Icmpv6 as Icmpv6;
+ghost use Rattle.socket_base.specs.Packet.{option_value, IsSendable};
+ghost use Rattle.interface_frames.specs.Carried.{carried_of};
+ghost use Rattle.interface_tables.specs.Inner.{context_of};
+ghost use Rattle.interface_ingress.specs.Delivered.{datagram_delivered};
+ghost use Rattle.interface_ingress.specs.Handed.{control_v4_places, control_v4_reply, message_host, message_reply, control_v6_host, control_v6_places, control_v6_reply, names_nobody, datagram_reply, segment_host, segment_places, segment_reply, is_known, unread_reply, handed_host, handed_places, handed_reply, FitsBack};
+ghost use Rattle.interface_ingress.specs.Arrives.{Hands, IfCanGo, arrived, reply_of};
+
+use crate::deliver::{deliver_datagram, deliver_icmpv4, deliver_icmpv6, deliver_segment};
+use crate::reply::{Reply, packet_reply};
+use control_wire::{Icmpv4Repr, Icmpv6Repr};
+use interface_control::hear;
+use interface_frames::read_payload;
+use interface_replies::{echo_ipv4, echo_ipv6, port_unreachable, protocol_unreachable};
+use interface_sockets::SocketStorage;
+use interface_tables::InterfaceInner;
+use ip_wire::{IpProtocol, IpRepr, Ipv6Repr, TcpRepr, UdpRepr};
+use socket_base::addresses::is_unspecified;
+use socket_base::{Context, IpPayload, Packet};
+use sockets::Socket;
+
+/// Gives an ICMPv4 message to the sockets that accept it, and answers it.
+fn hand_icmpv4<'a>(
+    inner: &InterfaceInner,
+    places: &mut [SocketStorage<Socket>],
+    header: &IpRepr,
+    message: &Icmpv4Repr<'a>,
+) -> Option<Packet<'a>>
+    requires { 28 + length (Icmpv4.payload_of message.now) < 2 ^ 16 }
+    ensures places { places.new ≡ control_v4_places header.now (Icmpv4.header_of message.now) (Icmpv4.payload_of message.now) places.old }
+    ensures reply { option_value result ≡ control_v4_reply inner.now header.now (Icmpv4.header_of message.now) (Icmpv4.payload_of message.now) }
+    ensures sendable { IfSome (option_value result) IsSendable }
+{
+    let IpRepr::Ipv4(header) = header else {
+        return None;
+    };
+    deliver_icmpv4(places, header, message);
+    echo_ipv4(inner, header, message)
+}
+
+/// Learns from a neighbour message, and answers it and an echo request.
+fn answer_icmpv6<'a>(
+    inner: &mut InterfaceInner,
+    header: &Ipv6Repr,
+    message: &Icmpv6Repr<'a>,
+) -> Option<Packet<'a>>
+    requires { 8 + length (Icmpv6.carried_by message.now) < 2 ^ 16 }
+    ensures host { inner.new ≡ message_host inner.old header.now (Icmpv6.value_of (Icmpv6.header_of message.now)) }
+    ensures reply { option_value result ≡ message_reply inner.old header.now (Icmpv6.value_of (Icmpv6.header_of message.now)) (Icmpv6.carried_by message.now) }
+    ensures sendable { IfSome (option_value result) IsSendable }
+{
+    match message {
+        Icmpv6Repr::Ndisc(message) => hear(inner, header, message),
+        _ => echo_ipv6(inner, header, message),
+    }
+}
+
+/// Gives an ICMPv6 message to the sockets that accept it, and answers it.
+fn hand_icmpv6<'a>(
+    inner: &mut InterfaceInner,
+    places: &mut [SocketStorage<Socket>],
+    header: &IpRepr,
+    message: &Icmpv6Repr<'a>,
+) -> Option<Packet<'a>>
+    requires { 8 + length (Icmpv6.carried_by message.now) < 2 ^ 16 }
+    ensures host { inner.new ≡ control_v6_host inner.old header.now (Icmpv6.value_of (Icmpv6.header_of message.now)) }
+    ensures places { places.new ≡ control_v6_places header.now (Icmpv6.value_of (Icmpv6.header_of message.now)) (Icmpv6.carried_by message.now) places.old }
+    ensures reply { option_value result ≡ control_v6_reply inner.old header.now (Icmpv6.value_of (Icmpv6.header_of message.now)) (Icmpv6.carried_by message.now) }
+    ensures sendable { IfSome (option_value result) IsSendable }
+{
+    let IpRepr::Ipv6(header) = header else {
+        return None;
+    };
+    deliver_icmpv6(places, header, message);
+    answer_icmpv6(inner, header, message)
+}
+
+/// Gives a datagram to the first socket that accepts it. Without one, and where no raw socket took it, an error answers it.
+fn hand_datagram<'a>(
+    inner: &InterfaceInner,
+    places: &mut [SocketStorage<Socket>],
+    header: &IpRepr,
+    payload: &'a [u8],
+    is_taken: bool,
+    udp: &UdpRepr,
+    bytes: &[u8],
+) -> Option<Packet<'a>>
+    requires { Fits header.now }
+    ensures places { places.new ≡ datagram_delivered (context_of inner.now) header.now udp.now bytes.now places.old }
+    ensures reply { option_value result ≡ datagram_reply inner.now places.old header.now payload.now is_taken udp.now }
+    ensures sendable { IfSome (option_value result) IsSendable }
+{
+    if deliver_datagram(inner, places, header, udp, bytes) || is_taken {
+        return None;
+    }
+    port_unreachable(inner, header, payload)
+}
+
+/// Whether an address of the packet is unspecified, so that it names no end of a connection.
+fn names_nobody(header: &IpRepr) -> bool
+    ensures { result ≡ names_nobody header.now }
+{
+    is_unspecified(&header.src_addr()) || is_unspecified(&header.dst_addr())
+}
+
+/// Gives a segment to the first socket that accepts it, and answers it.
+fn hand_segment(
+    inner: &mut InterfaceInner,
+    places: &mut [SocketStorage<Socket>],
+    header: &IpRepr,
+    is_taken: bool,
+    segment: &TcpRepr<'_>,
+) -> Option<Packet<'static>>
+    ensures host { inner.new ≡ segment_host inner.old places.old header.now (Tcp.header_of segment.now) segment.now.payload.now }
+    ensures places { places.new ≡ segment_places inner.old places.old header.now (Tcp.header_of segment.now) segment.now.payload.now }
+    ensures reply { option_value result ≡ segment_reply inner.old places.old header.now is_taken (Tcp.header_of segment.now) segment.now.payload.now }
+    ensures sendable { IfSome (option_value result) IsSendable }
+{
+    if names_nobody(header) {
+        return None;
+    }
+    deliver_segment(inner, places, header, segment, is_taken)
+}
+
+/// Whether the host knows what is behind the header.
+fn is_known(header: &IpRepr) -> bool
+    ensures { result ≡ is_known header.now }
+{
+    match header {
+        IpRepr::Ipv4(header) => match header.next_header {
+            IpProtocol::Icmp | IpProtocol::Udp | IpProtocol::Tcp => true,
+            _ => false,
+        },
+        IpRepr::Ipv6(header) => match header.next_header {
+            IpProtocol::Icmpv6 | IpProtocol::Udp | IpProtocol::Tcp => true,
+            _ => false,
+        },
+    }
+}
+
+/// What answers a packet of which nothing was read.
+fn reply_to_unread<'a>(
+    inner: &InterfaceInner,
+    header: &IpRepr,
+    payload: &'a [u8],
+    is_taken: bool,
+) -> Option<Packet<'a>>
+    requires { Fits header.now }
+    ensures reply { option_value result ≡ unread_reply inner.now header.now payload.now is_taken }
+    ensures sendable { IfSome (option_value result) IsSendable }
+{
+    if is_known(header) || is_taken {
+        return None;
+    }
+    protocol_unreachable(inner, header, payload)
+}
+
+/// Gives what a packet carries to whom it concerns, and answers it.
+fn hand_carried<'a>(
+    inner: &mut InterfaceInner,
+    places: &mut [SocketStorage<Socket>],
+    header: &IpRepr,
+    payload: &'a [u8],
+    is_taken: bool,
+    carried: &Option<IpPayload<'a>>,
+) -> Option<Packet<'a>>
+    requires fits { Fits header.now }
+    requires back { FitsBack (carried_of carried.now) }
+    ensures host { inner.new ≡ handed_host inner.old places.old header.now (carried_of carried.now) }
+    ensures places { places.new ≡ handed_places inner.old places.old header.now (carried_of carried.now) }
+    ensures reply { option_value result ≡ handed_reply inner.old places.old header.now payload.now is_taken (carried_of carried.now) }
+    ensures sendable { IfSome (option_value result) IsSendable }
+{
+    match carried {
+        Some(IpPayload::Icmpv4(message)) => hand_icmpv4(inner, places, header, message),
+        Some(IpPayload::Icmpv6(message)) => hand_icmpv6(inner, places, header, message),
+        Some(IpPayload::Raw(_)) => None,
+        Some(IpPayload::Udp(udp, bytes)) => {
+            hand_datagram(inner, places, header, payload, is_taken, udp, bytes)
+        }
+        Some(IpPayload::Tcp(segment)) => hand_segment(inner, places, header, is_taken, segment),
+        None => reply_to_unread(inner, header, payload, is_taken),
+    }
+}
+
+/// Reads what is behind the header of a packet for the host, gives it to whom it concerns, and answers it. `is_taken` says
+/// that a raw socket took the packet.
+pub(crate) fn hand<'a>(
+    inner: &mut InterfaceInner,
+    places: &mut [SocketStorage<Socket>],
+    header: &IpRepr,
+    payload: &'a [u8],
+    is_taken: bool,
+) -> Option<Reply<'a>>
+    requires fits { Fits header.now }
+    requires len { length payload.now ≡ payload_len_in header.now }
+    requires short { length payload.now < 2 ^ 16 }
+    ensures hands { Hands inner.old places.old header.now payload.now is_taken (arrived inner.new places.new (reply_of result)) }
+    ensures sendable { IfCanGo (reply_of result) }
+{
+    let carried = read_payload(header, payload, &inner.checksum_caps());
+    let reply = hand_carried(inner, places, header, payload, is_taken, &carried);
+    packet_reply(&reply)
+}

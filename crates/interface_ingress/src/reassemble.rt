@@ -1,0 +1,227 @@
+//! What the host takes in of a frame's content, and datagrams that come in pieces (RFC 791, section 3.2).
+ghost use Rattle.std.specs.Prelude.{◌≡◌, ◌<◌, ◌≤◌, length, Some};
+ghost use Rattle.std.specs.Option.{ForSome, option_copied};
+ghost use Rattle.net_base.specs.Time.{IsMoment};
+ghost use Rattle.ip_wire.specs.AddressTests.{is_same_hardware};
+ghost use Rattle.ip_wire.specs.HardwareAddress.TheVariants as Hardware;
+ghost use Rattle.interface_frames.specs.Incoming.{AreMeasured, content_of, incoming_value};
+ghost use Rattle.interface_ingress.specs.Reassembled.{is_heard, is_sender, is_taken_in, taken_in, is_piece, given_up_at, place_of, place_in, with_piece, kept, bytes_at, rebuilt, whole_of, released};
+
+use interface_frames::Incoming;
+use interface_replies::is_one_host;
+use interface_tables::{InterfaceInner, PacketAssemblerSet};
+use ip_wire::{
+    AddressExt, EthernetAddress, EthernetRepr, HardwareAddress, IPV4_HEADER_LEN, Ipv4Address,
+    Ipv4Piece, Ipv4Repr,
+};
+use net_base::{Duration, Instant};
+use socket_base::Context;
+
+/// The longest that a duration counts as where it is added to a moment, in microseconds.
+const LONGEST: u64 = 1 << 61;
+
+/// How many lengths a header's field can say.
+const LENGTHS: usize = 1 << 16;
+
+/// A whole datagram.
+const UNCUT: Ipv4Piece = Ipv4Piece {
+    offset: 0,
+    more: false,
+};
+
+/// What the host takes in of a frame's content: a frame for this station, for all or for a group, and an IP packet from one
+/// host.
+pub fn take_in<'a>(inner: &InterfaceInner, content: &Option<Incoming<'a>>) -> Option<Incoming<'a>>
+    requires { AreMeasured (content_of content.now) }
+    ensures content { content_of result ≡ taken_in inner.now (content_of content.now) }
+    ensures measured { AreMeasured (content_of result) }
+{
+    match content {
+        Some(incoming) => {
+            if is_taken_in(inner, incoming) {
+                Some(*incoming)
+            } else {
+                None
+            }
+        }
+        None => None,
+    }
+}
+
+fn is_taken_in(inner: &InterfaceInner, incoming: &Incoming<'_>) -> bool
+    ensures { result ≡ is_taken_in inner.now (incoming_value incoming.now) }
+{
+    match incoming {
+        Incoming::Arp { link, .. } => is_heard(inner, &Some(*link)),
+        Incoming::Ipv4 { link, header, .. } => {
+            is_heard(inner, link) && is_sender(inner, &header.src_addr)
+        }
+        Incoming::Ipv6 { link, header, .. } => {
+            is_heard(inner, link) && header.src_addr.x_is_unicast()
+        }
+    }
+}
+
+/// Whether the frame is for this station, for all stations or for a group.
+fn is_heard(inner: &InterfaceInner, link: &Option<EthernetRepr>) -> bool
+    ensures { result ≡ is_heard inner.now link.now }
+{
+    match link {
+        Some(link) => {
+            let target = link.dst_addr;
+            is_station(&inner.hardware_addr(), &target)
+                || (target.is_broadcast() || target.is_multicast())
+        }
+        None => true,
+    }
+}
+
+/// Whether this is the address of the station itself.
+fn is_station(own: &HardwareAddress, address: &EthernetAddress) -> bool
+    ensures { result ≡ is_same_hardware own.now (Hardware.Ethernet address.now) }
+{
+    match own {
+        HardwareAddress::Ethernet(own) => own.0 == address.0,
+        HardwareAddress::Ip => false,
+    }
+}
+
+/// Whether an IPv4 packet comes from one host, or from one that has no address yet.
+fn is_sender(inner: &InterfaceInner, address: &Ipv4Address) -> bool
+    ensures { result ≡ is_sender inner.now address.now }
+{
+    is_one_host(inner, address) || address.is_unspecified()
+}
+
+/// Whether a packet is one piece of its datagram.
+fn is_piece(piece: Ipv4Piece) -> bool
+    ensures { result ≡ is_piece piece }
+{
+    piece.more || piece.offset != 0
+}
+
+/// When a slot is given up that is taken now.
+fn given_up_at(inner: &InterfaceInner, timeout: Duration) -> Instant
+    ensures { result ≡ given_up_at inner.now timeout }
+{
+    inner.now() + Duration::from_micros(timeout.total_micros().min(LONGEST))
+}
+
+/// Takes a piece into its datagram's slot, and returns the place of the slot. Other content changes nothing. A slot that is
+/// taken for it is given up after this time.
+pub fn keep<const N: usize>(
+    inner: &InterfaceInner,
+    slots: &mut PacketAssemblerSet<N>,
+    timeout: Duration,
+    content: &Option<Incoming<'_>>,
+) -> Option<usize>
+    ensures place { result ≡ place_in slots.old (content_of content.now) }
+    ensures in_range { ForSome result (λ at. at < N) }
+    ensures after { slots.new ≡ kept inner.now timeout slots.old (content_of content.now) }
+{
+    match content {
+        Some(
+            Incoming::Ipv4 {
+                header,
+                piece,
+                payload,
+                ..
+            },
+        ) => { keep_piece(inner, slots, timeout, header, *piece, payload) }
+        _ => None,
+    }
+}
+
+/// Takes a packet's piece into its datagram's slot, if it is one.
+fn keep_piece<const N: usize>(
+    inner: &InterfaceInner,
+    slots: &mut PacketAssemblerSet<N>,
+    timeout: Duration,
+    header: &Ipv4Repr,
+    piece: Ipv4Piece,
+    payload: &[u8],
+) -> Option<usize>
+    ensures place { result ≡ place_of slots.old header.now piece }
+    ensures in_range { ForSome result (λ at. at < N) }
+    ensures after { slots.new ≡ with_piece inner.now timeout slots.old header.now piece payload.now }
+{
+    if !is_piece(piece) {
+        return None;
+    }
+    slots.insert(
+        &header.key(),
+        given_up_at(inner, timeout),
+        payload,
+        piece.offset as usize,
+        piece.more,
+    )
+}
+
+/// The content, in which the datagram that a piece completes stands for that piece. A piece that completes none brings
+/// nothing. `place` is what `keep` returned.
+pub fn whole<'a, const N: usize>(
+    slots: &'a PacketAssemblerSet<N>,
+    place: Option<usize>,
+    content: &Option<Incoming<'a>>,
+) -> Option<Incoming<'a>>
+    requires { AreMeasured (content_of content.now) }
+    ensures content { content_of result ≡ whole_of slots.now place (content_of content.now) }
+    ensures measured { AreMeasured (content_of result) }
+{
+    match content {
+        Some(
+            Incoming::Ipv4 {
+                link,
+                header,
+                piece,
+                ..
+            },
+        ) if is_piece(*piece) => rebuilt(link, header, &bytes_at(slots, place)),
+        _ => *content,
+    }
+}
+
+/// A datagram of these bytes, if there are some and their length fits the header's field.
+fn rebuilt<'a>(
+    link: &Option<EthernetRepr>,
+    header: &Ipv4Repr,
+    bytes: &Option<&'a [u8]>,
+) -> Option<Incoming<'a>>
+    ensures content { content_of result ≡ rebuilt link.now header.now (option_copied bytes.now) }
+    ensures measured { AreMeasured (content_of result) }
+{
+    match *bytes {
+        Some(bytes) if bytes.len() < LENGTHS - IPV4_HEADER_LEN => Some(Incoming::Ipv4 {
+            link: *link,
+            header: Ipv4Repr {
+                payload_len: bytes.len(),
+                ..*header
+            },
+            piece: UNCUT,
+            payload: bytes,
+        }),
+        _ => None,
+    }
+}
+
+/// The datagram at a place, if every byte of it came.
+fn bytes_at<const N: usize>(slots: &PacketAssemblerSet<N>, place: Option<usize>) -> Option<&[u8]>
+    ensures { option_copied result ≡ bytes_at place slots.now }
+{
+    match place {
+        Some(at) => slots.completed(at),
+        None => None,
+    }
+}
+
+/// Frees the slot at this place, if its datagram is whole. `place` is what `keep` returned.
+pub fn release<const N: usize>(slots: &mut PacketAssemblerSet<N>, place: Option<usize>)
+    requires { ForSome place (λ at. at < N) }
+    ensures { slots.new ≡ released place slots.old }
+{
+    if let Some(at) = place {
+        if slots.completed(at).is_some() {
+            slots.free(at);
+        }
+    }
+}

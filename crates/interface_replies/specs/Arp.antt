@@ -1,0 +1,41 @@
+-- ARP packets that arrive (RFC 826, "Packet Reception"): whose hardware address the host learns from them, and what it answers.
+use Rattle.std.specs.Prelude.{Bool, true, false, ◌&&◌, if◌then◌else◌, Option, None, Some}
+use Rattle.ip_wire.specs.AddressTests.{is_ethernet_unicast, is_unicast_v4}
+use Rattle.ip_wire.specs.declared.arp.kinds.ArpOperation.{ArpOperation}
+use Rattle.ip_wire.specs.declared.arp.kinds.ArpOperation.TheVariants as Operation
+use Rattle.ip_wire.specs.declared.arp.repr.ArpRepr.{ArpRepr}
+use Rattle.ip_wire.specs.declared.arp.repr.ArpRepr.TheVariants as Arp
+use Rattle.ip_wire.specs.HardwareAddress.{HardwareAddress}
+use Rattle.ip_wire.specs.HardwareAddress.TheVariants as Hardware
+use Rattle.ip_wire.specs.IpAddress.TheVariants as Address
+use Rattle.interface_tables.specs.Inner.{InnerValue, is_own, is_in_own_network, with_neighbor}
+
+-- a request or a reply
+abbrev pub is_known : ArpOperation → Bool
+is_known Operation.Request = true
+is_known Operation.Reply = true
+is_known (Operation.Unknown n) = false
+
+-- The packet counts: it asks or answers an own address, and it is from one station of an own network.
+abbrev pub counts : InnerValue → ArpRepr → Bool
+counts i (Arp.EthernetIpv4 operation source_hardware source target_hardware target) =
+    is_own i (Address.Ipv4 target) && is_known operation && (is_unicast_v4 source && is_ethernet_unicast source_hardware)
+    && is_in_own_network i (Address.Ipv4 source)
+
+-- the sender's addresses are kept
+abbrev pub learned : InnerValue → ArpRepr → InnerValue
+learned i (Arp.EthernetIpv4 operation source_hardware source target_hardware target) =
+    with_neighbor i (Address.Ipv4 source) (Hardware.Ethernet source_hardware)
+
+-- what is answered at this hardware address: a request, with sender and target exchanged
+abbrev pub answer_at : HardwareAddress → ArpRepr → Option ArpRepr
+answer_at (Hardware.Ethernet own) (Arp.EthernetIpv4 Operation.Request source_hardware source target_hardware target) =
+    Some (Arp.EthernetIpv4 Operation.Reply own target source_hardware source)
+answer_at hardware packet = None
+
+-- the host after the packet, and the answer
+abbrev pub arp_arrived : InnerValue → ArpRepr → InnerValue
+arp_arrived i packet = if counts i packet then learned i packet else i
+
+abbrev pub arp_answer : InnerValue → ArpRepr → Option ArpRepr
+arp_answer i packet = if counts i packet then answer_at i.hardware packet else None

@@ -1,0 +1,2 @@
+pub mod Arp
+pub mod Replies

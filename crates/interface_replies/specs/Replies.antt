@@ -1,0 +1,103 @@
+-- Control messages that answer a packet (RFC 792; RFC 1122, sections 3.2.2 and 3.2.2.6; RFC 4443, sections 2.4 and 4.2): whom
+-- they go to, from which address, and what an error quotes.
+use Rattle.std.specs.Prelude.{ℕ, ◌-◌, ◌*◌, ◌&&◌, not, Bool, true, false, if◌then◌else◌, List, take, Option, None, Some}
+use Rattle.control_wire.specs.Icmpv4Header.{Icmpv4Header}
+use Rattle.control_wire.specs.Icmpv4Header.TheVariants as V4
+use Rattle.control_wire.specs.Icmpv4DstUnreachable.{Icmpv4DstUnreachable}
+use Rattle.control_wire.specs.Icmpv4DstUnreachable.TheVariants as V4Reason
+use Rattle.control_wire.specs.Icmpv6 as Icmpv6
+use Rattle.control_wire.specs.Icmpv6DstUnreachable.TheVariants as V6Reason
+use Rattle.control_wire.specs.Icmpv6ParamProblem.TheVariants as V6Problem
+use Rattle.ip_wire.specs.AddressTests.{is_unicast_v4, is_unicast_v6}
+use Rattle.ip_wire.specs.IpAddress.TheVariants as Address
+use Rattle.ip_wire.specs.IpProtocol.TheVariants as Protocol
+use Rattle.ip_wire.specs.IpRepr.{IpRepr}
+use Rattle.ip_wire.specs.IpRepr.TheVariants as Ip
+use Rattle.ip_wire.specs.Ipv4Address.{Ipv4Address}
+use Rattle.ip_wire.specs.Ipv4Repr.{Ipv4Repr}
+use Rattle.ip_wire.specs.Ipv6Address.{Ipv6Address}
+use Rattle.ip_wire.specs.Ipv6Repr.{Ipv6Repr}
+use Rattle.socket_base.specs.Packet.{PacketValue, PayloadValue, ControlV4, ControlV6, packet_of, payload_len}
+use Rattle.interface_tables.specs.Inner.{InnerValue, is_local_broadcast}
+use Rattle.interface_tables.specs.Source.{first_v4, source_v6}
+
+-- IPv4
+
+-- one host's address: neither a group's nor that of all hosts of an own network
+abbrev pub is_one_host : InnerValue → Ipv4Address → Bool
+is_one_host i address = is_unicast_v4 address && not (is_local_broadcast i (Address.Ipv4 address))
+
+abbrev pub is_echo_reply : Icmpv4Header → Bool
+is_echo_reply (V4.EchoReply ident seq_no) = true
+is_echo_reply message = false
+
+-- The address that a message is sent from. Nothing answers a packet that is from no one host, and nothing but an echo reply
+-- one that is for all hosts; nothing answers a packet for a group.
+abbrev pub source_in_reply : InnerValue → Ipv4Repr → Icmpv4Header → Option Ipv4Address
+source_in_reply i header message =
+    if not (is_one_host i header.src_addr) then None
+    else if is_one_host i header.dst_addr then Some header.dst_addr
+    else if is_echo_reply message && is_local_broadcast i (Address.Ipv4 header.dst_addr) then first_v4 i.addresses
+    else None
+
+-- a message between two hosts
+abbrev pub sent_v4 : Option Ipv4Address → Ipv4Address → PayloadValue → Option PacketValue
+sent_v4 None to message = None
+sent_v4 (Some from) to message =
+    Some (packet_of (Ip.Ipv4 (record { src_addr = from; dst_addr = to; next_header = Protocol.Icmp; payload_len = payload_len message; hop_limit = 64; ident = 0; dont_frag = false })) message)
+
+-- the message that answers a packet with this header
+abbrev pub reply_v4 : InnerValue → Ipv4Repr → Icmpv4Header → List ℕ → Option PacketValue
+reply_v4 i header message bytes = sent_v4 (source_in_reply i header message) header.src_addr (ControlV4 message bytes)
+
+-- IPv6
+
+-- a packet for a group is answered from the address that is chosen for its sender
+abbrev pub source_in_v6_reply : InnerValue → Ipv6Repr → Ipv6Address
+source_in_v6_reply i header = if is_unicast_v6 header.dst_addr then header.dst_addr else source_v6 i.addresses header.src_addr
+
+abbrev pub sent_v6 : Ipv6Address → Ipv6Address → PayloadValue → PacketValue
+sent_v6 from to message =
+    packet_of (Ip.Ipv6 (record { src_addr = from; dst_addr = to; next_header = Protocol.Icmpv6; payload_len = payload_len message; hop_limit = 64 })) message
+
+abbrev pub reply_v6 : InnerValue → Ipv6Repr → Icmpv6.MessageValue → List ℕ → PacketValue
+reply_v6 i header message bytes = sent_v6 (source_in_v6_reply i header) header.src_addr (ControlV6 message bytes)
+
+-- ECHO
+
+-- a request is answered with its data, from an IPv4 host
+abbrev pub echo_v4 : InnerValue → Ipv4Repr → Icmpv4Header → List ℕ → Option PacketValue
+echo_v4 i header (V4.EchoRequest ident seq_no) bytes = reply_v4 i header (V4.EchoReply ident seq_no) bytes
+echo_v4 i header message bytes = None
+
+-- and from an IPv6 host
+abbrev pub echo_v6 : InnerValue → Ipv6Repr → Icmpv6.MessageValue → List ℕ → Option PacketValue
+echo_v6 i header (Icmpv6.EchoRequest ident seq_no) bytes = Some (reply_v6 i header (Icmpv6.EchoReply ident seq_no) bytes)
+echo_v6 i header message bytes = None
+
+-- ERRORS quote the header and so much of the payload that a packet of the smallest MTU holds them
+
+-- how many bytes are quoted behind a header of this length, in a packet of this length with another such header
+abbrev pub quoted_room : ℕ → ℕ → ℕ
+quoted_room packet header = packet - 2 * header - 8
+
+abbrev pub quoted_v4 : List ℕ → List ℕ
+quoted_v4 payload = take (quoted_room 576 20) payload
+
+abbrev pub quoted_v6 : List ℕ → List ℕ
+quoted_v6 payload = take (quoted_room 1280 40) payload
+
+abbrev pub error_v4 : InnerValue → Ipv4Repr → Icmpv4DstUnreachable → List ℕ → Option PacketValue
+error_v4 i header reason payload = reply_v4 i header (V4.DstUnreachable reason header) (quoted_v4 payload)
+
+-- no socket takes the datagram
+abbrev pub port_unreachable : InnerValue → IpRepr → List ℕ → Option PacketValue
+port_unreachable i (Ip.Ipv4 header) payload = error_v4 i header V4Reason.PortUnreachable payload
+port_unreachable i (Ip.Ipv6 header) payload =
+    Some (reply_v6 i header (Icmpv6.DstUnreachable V6Reason.PortUnreachable header) (quoted_v6 payload))
+
+-- the host knows no such protocol: over IPv6 the problem lies behind the header
+abbrev pub protocol_unreachable : InnerValue → IpRepr → List ℕ → Option PacketValue
+protocol_unreachable i (Ip.Ipv4 header) payload = error_v4 i header V4Reason.ProtoUnreachable payload
+protocol_unreachable i (Ip.Ipv6 header) payload =
+    Some (reply_v6 i header (Icmpv6.ParamProblem V6Problem.UnrecognizedNxtHdr 40 header) (quoted_v6 payload))
