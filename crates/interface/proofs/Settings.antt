@@ -1,0 +1,52 @@
+-- A poll leaves the host's settings.
+use Rattle.std.proofs.Common.{◌≡◌, refl, sym, ap, ◌∙◌, subst}
+use Rattle.std.specs.Prelude.{ℤ}
+use Rattle.interface_tables.specs.Inner.{InnerValue, at_moment}
+use Rattle.interface_egress.specs.Departing.{HasSettingsOf}
+use Rattle.interface_ingress.specs.Kept.{HasSameSettings}
+use Rattle.interface_pass.specs.SameHost.{IsSameHost}
+use Rattle.interface.specs.State.{KeepsSettings}
+
+pub keeps_itself : (i : InnerValue) → KeepsSettings i i
+keeps_itself i = refl
+
+pub keeps_where : (i i' : InnerValue) → i' ≡ i → KeepsSettings i i'
+keeps_where i i' is = subst (λ (x : InnerValue). KeepsSettings i x) (sym is) refl
+
+pub keeps_then : (a b c : InnerValue) → KeepsSettings a b → KeepsSettings b c → KeepsSettings a c
+keeps_then a b c first second = second ∙ ap (λ (x : InnerValue). record x { random = c.random; neighbors = c.neighbors; ident = c.ident }) first
+
+pub keeps_out : (i i' : InnerValue) → IsSameHost i i' → KeepsSettings i i'
+keeps_out i i' is = subst (λ (x : InnerValue). KeepsSettings i x) (sym is) refl
+
+-- what arrives leaves them
+pub keeps_in : (i i' : InnerValue) → HasSameSettings i i' → KeepsSettings i i'
+keeps_in i i' same =
+    ap (λ x. record i' { moment = x }) same.moment
+    ∙ ap (λ x. record i' { moment = i.moment; hardware = x }) same.hardware
+    ∙ ap (λ x. record i' { moment = i.moment; hardware = i.hardware; mtu = x }) same.mtu
+    ∙ ap (λ x. record i' { moment = i.moment; hardware = i.hardware; mtu = i.mtu; checksums = x }) same.checksums
+    ∙ ap (λ x. record i' { moment = i.moment; hardware = i.hardware; mtu = i.mtu; checksums = i.checksums; addresses = x }) same.addresses
+    ∙ ap (λ x. record i' { moment = i.moment; hardware = i.hardware; mtu = i.mtu; checksums = i.checksums; addresses = i.addresses; any_ip = x }) same.any_ip
+    ∙ ap (λ x. record i' { moment = i.moment; hardware = i.hardware; mtu = i.mtu; checksums = i.checksums; addresses = i.addresses; any_ip = i.any_ip; routes = x }) same.routes
+    ∙ ap (λ x. record i' { moment = i.moment; hardware = i.hardware; mtu = i.mtu; checksums = i.checksums; addresses = i.addresses; any_ip = i.any_ip; routes = i.routes; fresh = x }) same.fresh
+
+pub settings_kept : (t : ℤ) (i i' : InnerValue) → KeepsSettings (at_moment t i) i' → HasSettingsOf i i'
+settings_kept t i i' keeps = record {
+  hardware = ap (λ (x : InnerValue). x.hardware) keeps;
+  mtu = ap (λ (x : InnerValue). x.mtu) keeps;
+  checksums = ap (λ (x : InnerValue). x.checksums) keeps;
+  addresses = ap (λ (x : InnerValue). x.addresses) keeps;
+  any_ip = ap (λ (x : InnerValue). x.any_ip) keeps;
+  routes = ap (λ (x : InnerValue). x.routes) keeps;
+}
+
+pub settings_then : (a b c : InnerValue) → HasSettingsOf a b → HasSettingsOf b c → HasSettingsOf a c
+settings_then a b c first second = record {
+  hardware = second.hardware ∙ first.hardware;
+  mtu = second.mtu ∙ first.mtu;
+  checksums = second.checksums ∙ first.checksums;
+  addresses = second.addresses ∙ first.addresses;
+  any_ip = second.any_ip ∙ first.any_ip;
+  routes = second.routes ∙ first.routes;
+}

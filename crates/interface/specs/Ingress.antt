@@ -1,0 +1,56 @@
+-- What a frame that came makes of a host and its sockets.
+use Rattle.std.specs.Prelude.{◌≡◌, ℕ, nat_lt, not, ◌&&◌, ℤ, Bool, true, false, List, length, Option, None, Some, is_some}
+use Rattle.net_base.specs.Device.{Move, Took, Empty}
+use Rattle.interface_egress.specs.Departure as Departures
+use Rattle.interface_egress.specs.GoesOut.{Departs, GoesOut}
+use Rattle.interface_egress.specs.Plan.{plan_of}
+use Rattle.interface_egress.specs.declared.way_out.Sent.{Sent}
+use Rattle.interface_frames.specs.Incoming.{IncomingValue, IsContent}
+use Rattle.interface_ingress.specs.Arrives as Replies
+use Rattle.interface_ingress.specs.Arrives.{ReplyValue, Arrived, ArrivesAs}
+use Rattle.interface_pass.specs.Host.{Sender, sender, maintained}
+use Rattle.interface.specs.State.{State, state, at_device}
+
+-- the longest frame that is read: an Ethernet header before the longest IP packet
+abbrev pub longest_frame : ℕ
+longest_frame = 65_549
+
+abbrev pub is_read : List ℕ → Bool
+is_read frame = nat_lt 0 (length frame) && not (nat_lt longest_frame (length frame))
+
+module _ {D : Type 0} (moves : D → Move → D → Type 0) where
+  -- An answer goes out if it can go now; else there is none. A request for its next hop may go in its place.
+  abbrev pub Replied : Option ReplyValue → Sender D → Sender D → Type 0
+  Replied None s s' = s' ≡ s
+  Replied (Some (Replies.Tells packet)) s s' =
+      (gone : Bool) × Departs moves s.device s.inner (Departures.Tells packet) gone s'.device × (s'.inner ≡ s.inner) × (s'.left ≡ s.left)
+  Replied (Some (Replies.Answers p)) s s' =
+      (sent : Sent) × GoesOut moves s.device s.inner s.left p (plan_of s.inner (is_some s.left) p.header) sent s'.device s'.inner s'.left
+
+  abbrev pub sender_with : State D → Arrived → Sender D
+  sender_with s a = sender s.device a.inner s.host.left
+
+  abbrev pub sender_of : State D → Sender D
+  sender_of s = sender s.device s.host.inner s.host.left
+
+  -- what a frame carries arrives and is answered
+  abbrev pub Receives : Option IncomingValue → State D → State D → Type 0
+  Receives content s s' =
+      (a : Arrived) × ArrivesAs s.host.inner s.host.timeout s.host.slots s.places content s'.host.slots a
+      × (s'.places ≡ a.places) × Replied a.reply (sender_with s a) (sender_of s') × (s'.host.timeout ≡ s.host.timeout)
+
+  abbrev pub Reads : List ℕ → State D → State D → Type 0
+  Reads frame s s' =
+      (content : Option IncomingValue) × IsContent s.host.inner.hardware s.host.inner.checksums frame content × Receives content s s'
+
+  -- No frame came; or one that isn't read; or one that is.
+  abbrev pub Takes : State D → Option Bool → State D → Type 0
+  Takes s None s' = moves s.device Empty s'.device × (s' ≡ at_device s s'.device)
+  Takes s (Some false) s' =
+      (frame : List ℕ) × moves s.device (Took frame) s'.device × (is_read frame ≡ false) × (s' ≡ at_device s s'.device)
+  Takes s (Some true) s' =
+      (frame : List ℕ) × (mid : D) × moves s.device (Took frame) mid × (is_read frame ≡ true) × Reads frame (at_device s mid) s'
+
+  -- a call begins with maintenance
+  abbrev pub IngressStep : ℤ → State D → Option Bool → State D → Type 0
+  IngressStep moment s answer s' = Takes (state s.device (maintained moment s.host) s.places) answer s'

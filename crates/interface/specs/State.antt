@@ -1,0 +1,28 @@
+-- A device, the host at it, and its sockets.
+use Rattle.std.specs.Prelude.{◌≡◌, ℕ, List, Option}
+use Rattle.ip_wire.specs.Ipv4FragKey.{Ipv4FragKey}
+use Rattle.interface_tables.specs.Inner.{InnerValue}
+use Rattle.interface_tables.specs.Reassembly.{SlotValue}
+use Rattle.interface_sockets.specs.declared.socket_set.SocketStorage.{SocketStorage}
+use Rattle.sockets.specs.declared.socket.Socket.{Socket}
+use Rattle.interface_egress.specs.Fragments.{LeftValue}
+use Rattle.interface_pass.specs.Host.{HostValue}
+
+pub record State (D : Type 0) : Type 0 where
+  pub device : D
+  pub host : HostValue
+  pub places : List (SocketStorage Socket)
+
+abbrev pub state : {D : Type 0} → D → HostValue → List (SocketStorage Socket) → State D
+state device host places = record { device = device; host = host; places = places }
+
+abbrev pub host : InnerValue → Option LeftValue → List (SlotValue Ipv4FragKey) → ℕ → HostValue
+host inner left slots timeout = record { inner = inner; left = left; slots = slots; timeout = timeout }
+
+-- the same host and sockets behind a move of the device
+abbrev pub at_device : {D : Type 0} → State D → D → State D
+at_device s device = state device s.host s.places
+
+-- what a poll leaves of a host: nothing changed but random words, neighbours and the next identification
+abbrev pub KeepsSettings : InnerValue → InnerValue → Type 0
+KeepsSettings old new = new ≡ record old { random = new.random; neighbors = new.neighbors; ident = new.ident }

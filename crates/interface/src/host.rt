@@ -1,0 +1,253 @@
+//! An interface.
+ghost use Rattle.std.specs.Prelude.{◌≡◌, List, not, is_ok, Some};
+ghost use Rattle.std.specs.Fn.{FnOnceReturnsAtMut};
+ghost use Rattle.std.specs.List.{list_any};
+ghost use Rattle.net_base.specs.Time.{IsMoment};
+ghost use Rattle.arrayvec.specs.ArrayVec.{ArrayVec as Items};
+ghost use Rattle.ip_wire.specs.IpCidr.{IpCidr};
+ghost use Rattle.interface_tables.specs.declared.route.Route.{Route};
+ghost use Rattle.interface_tables.specs.Inner.{is_own, is_member_of};
+ghost use Rattle.interface_tables.specs.Settings.{unless, hardware_refusal, with_hardware, is_stranger, with_addresses, with_any_ip, with_routes};
+ghost use Rattle.interface_tables.specs.Source.{first_v4, first_v6, source_for, source_v4, source_v6};
+ghost use Rattle.interface_pass.specs.Host.{host_at, maintained};
+ghost use Rattle.interface.specs.Made.{Makes, with_inner, with_timeout};
+
+use arrayvec::ArrayVec;
+use interface_egress::Fragmenter;
+use interface_tables::{
+    Config, HardwareAddrError, InterfaceInner, NewError, NotUnicast, PacketAssemblerSet, Routes,
+    TABLE_ROOM,
+};
+use ip_wire::{HardwareAddress, IpAddress, IpCidr, Ipv4Address, Ipv6Address};
+use net_base::{ChecksumCapabilities, Device, Duration, Instant};
+use sockets::Context;
+use std::alloc::Global;
+use std::marker::Model;
+
+/// How many datagrams can come in pieces at a time.
+const REASSEMBLY_COUNT: usize = 2;
+
+/// How long the pieces of a datagram are waited for at first, in seconds.
+const REASSEMBLY_SECS: u64 = 60;
+
+/// A host at a device: its addresses and tables, the datagram that it sends in pieces, and those that come in pieces.
+#[derive(Drop)]
+pub struct Interface {
+    pub(crate) inner: InterfaceInner,
+    pub(crate) fragmenter: Fragmenter,
+    pub(crate) slots: PacketAssemblerSet<REASSEMBLY_COUNT>,
+    pub(crate) timeout: Duration,
+}
+
+impl Model for Interface {
+    ghost use Rattle.interface_pass.specs.Host.{HostValue};
+    ghost use Rattle.interface.specs.Made.{IsIdleIfFresh};
+
+    ghost Value = { HostValue };
+
+    ghost view = { λ f. record { inner = f.inner; left = f.fragmenter; slots = f.slots; timeout = f.timeout } };
+
+    ghost invariant = { λ f. IsIdleIfFresh f.inner f.fragmenter f.slots };
+}
+
+impl Interface {
+    /// An interface of this configuration at the device, from this moment on.
+    pub fn new<D: Device>(
+        alloc: Global,
+        config: &Config,
+        device: &D,
+        now: Instant,
+    ) -> Result<Interface, NewError>
+        ensures { Makes config.now (D.described device.now) now result }
+    {
+        let inner = InterfaceInner::new(config, &device.capabilities(), now)?;
+        let Ok(fragmenter) = Fragmenter::new(alloc) else {
+            return Err(NewError::Memory);
+        };
+        let Ok(slots) = PacketAssemblerSet::new(alloc) else {
+            return Err(NewError::Memory);
+        };
+        Ok(Interface {
+            inner,
+            fragmenter,
+            slots,
+            timeout: Duration::from_secs(REASSEMBLY_SECS),
+        })
+    }
+
+    /// What sockets ask of the interface.
+    pub fn context(&self) -> &InterfaceInner
+        ensures { result.now ≡ self.now.inner }
+    {
+        &self.inner
+    }
+
+    /// The hardware address, `Ip` on a medium that has none.
+    pub fn hardware_addr(&self) -> HardwareAddress
+        ensures { result ≡ self.now.inner.hardware }
+    {
+        self.inner.hardware_addr()
+    }
+
+    /// The own addresses with their networks.
+    pub fn ip_addrs(&self) -> &[IpCidr]
+        ensures { result.now ≡ self.now.inner.addresses }
+    {
+        self.inner.ip_addrs()
+    }
+
+    /// The first IPv4 address.
+    pub fn ipv4_addr(&self) -> Option<Ipv4Address>
+        ensures { result ≡ first_v4 self.now.inner.addresses }
+    {
+        self.inner.ipv4_addr()
+    }
+
+    /// The first IPv6 address.
+    pub fn ipv6_addr(&self) -> Option<Ipv6Address>
+        ensures { result ≡ first_v6 self.now.inner.addresses }
+    {
+        self.inner.ipv6_addr()
+    }
+
+    /// The address that an IPv4 packet to this destination is sent from, if there is one.
+    pub fn get_source_address_ipv4(&self, dst_addr: &Ipv4Address) -> Option<Ipv4Address>
+        ensures { result ≡ source_v4 self.now.inner.addresses dst_addr.now }
+    {
+        self.inner.get_source_address_ipv4(dst_addr)
+    }
+
+    /// The address that an IPv6 packet to this destination is sent from.
+    pub fn get_source_address_ipv6(&self, dst_addr: &Ipv6Address) -> Ipv6Address
+        ensures { result ≡ source_v6 self.now.inner.addresses dst_addr.now }
+    {
+        self.inner.get_source_address_ipv6(dst_addr)
+    }
+
+    /// Whether the host listens to this group: all systems, all nodes, or an own solicited-node address.
+    pub fn has_multicast_group(&self, addr: &IpAddress) -> bool
+        ensures { result ≡ is_member_of self.now.inner addr.now }
+    {
+        self.inner.has_multicast_group(addr)
+    }
+
+    /// Whether every address counts as an own one.
+    pub fn any_ip(&self) -> bool
+        ensures { result ≡ self.now.inner.any_ip }
+    {
+        self.inner.any_ip()
+    }
+
+    /// The routes.
+    pub fn routes(&self) -> &Routes<TABLE_ROOM>
+        ensures { result.now ≡ self.now.inner.routes }
+    {
+        self.inner.routes()
+    }
+
+    /// Whether nothing ran yet: no call that polls, and no setting of `any_ip` or of the time of reassembly.
+    pub fn is_fresh(&self) -> bool
+        ensures { result ≡ self.now.inner.fresh }
+    {
+        self.inner.is_fresh()
+    }
+
+    /// How long the pieces of a datagram are waited for.
+    pub fn reassembly_timeout(&self) -> Duration
+        ensures { result ≡ self.now.timeout }
+    {
+        self.timeout
+    }
+}
+
+/// Settings.
+impl Interface {
+    /// Sets the hardware address, if the medium has such addresses and it is one station's.
+    pub fn set_hardware_addr(&mut self, addr: HardwareAddress) -> Result<(), HardwareAddrError>
+        ensures answer { result ≡ unless (hardware_refusal self.old.inner.hardware addr) tt }
+        ensures after { self.new ≡ with_inner self.old (with_hardware self.old.inner addr) }
+    {
+        self.inner.set_hardware_addr(addr)
+    }
+
+    /// Sets the own addresses to what `f` makes of a copy of them, and forgets every neighbour, if each is one host's or
+    /// unspecified.
+    pub fn update_ip_addrs<F: FnOnce(&mut ArrayVec<IpCidr, TABLE_ROOM>)>(
+        &mut self,
+        f: F,
+    ) -> Result<(), NotUnicast>
+        requires { F.IsAlwaysCallable f }
+        ensures { (before : Items IpCidr) × (after : Items IpCidr) × (before.items ≡ self.old.inner.addresses)
+            × FnOnceReturnsAtMut F.FnOnce f before tt after
+            × (is_ok result ≡ not (list_any is_stranger after.items))
+            × (self.new ≡ with_inner self.old (with_addresses self.old.inner after.items)) }
+    {
+        self.inner.update_ip_addrs(f)
+    }
+
+    /// Sets whether every address counts as an own one.
+    pub fn set_any_ip(&mut self, any_ip: bool)
+        ensures { self.new ≡ with_inner self.old (with_any_ip self.old.inner any_ip) }
+    {
+        self.inner.set_any_ip(any_ip);
+    }
+
+    /// Lends the routes to `f`.
+    pub fn update_routes<R: Drop, F: FnOnce(&mut Routes<TABLE_ROOM>) -> R>(&mut self, f: F) -> R
+        requires { F.IsAlwaysCallable f }
+        ensures { (before : List Route) × (after : List Route) × (before ≡ self.old.inner.routes)
+            × FnOnceReturnsAtMut F.FnOnce f before result after
+            × (self.new ≡ with_inner self.old (with_routes self.old.inner after)) }
+    {
+        self.inner.update_routes(f)
+    }
+
+    /// Sets how long the pieces of a datagram are waited for, from its first piece on.
+    pub fn set_reassembly_timeout(&mut self, timeout: Duration)
+        ensures { self.new ≡ with_timeout self.old timeout }
+    {
+        self.inner.end_fresh();
+        self.timeout = timeout;
+    }
+}
+
+/// What sockets see, as `connect` asks for it.
+impl Context for Interface {
+    ghost use Rattle.std.specs.Prelude.{refl};
+    ghost use Rattle.interface_tables.specs.Inner.{context_of, drawn};
+    ghost use Rattle.interface.specs.Made.{with_inner};
+
+    ghost context = { λ h. context_of h.inner };
+
+    ghost drawn = { λ h. with_inner h (drawn h.inner) };
+
+    fn now(&self) -> Instant {
+        self.inner.now()
+    }
+
+    fn has_ip_addr(&self, addr: &IpAddress) -> bool {
+        self.inner.has_ip_addr(addr)
+    }
+
+    fn get_source_address(&self, dst_addr: &IpAddress) -> Option<IpAddress> {
+        self.inner.get_source_address(dst_addr)
+    }
+
+    fn is_broadcast(&self, addr: &IpAddress) -> bool {
+        self.inner.is_broadcast(addr)
+    }
+
+    fn ip_mtu(&self) -> usize {
+        self.inner.ip_mtu()
+    }
+
+    fn checksum_caps(&self) -> ChecksumCapabilities {
+        self.inner.checksum_caps()
+    }
+
+    fn rand_u32(&mut self) -> u32 {
+        self.inner.rand_u32()
+    }
+
+    ghost drawn_context = { λ h. refl };
+}

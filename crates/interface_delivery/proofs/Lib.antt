@@ -1,0 +1,4 @@
+pub mod Arrives
+pub mod Named
+pub mod Offered
+pub mod Stays

@@ -1,0 +1,138 @@
+-- What another host of the same medium reads in the frame of a departure.
+use Rattle.std.specs.Prelude.{◌≡◌, ◌+◌, ◌%◌, ◌^◌, ◌<◌, length, Option, None, Some}
+use Rattle.net_base.specs.ChecksumCapabilities.{ChecksumCapabilities}
+use Rattle.ip_wire.specs.Address.{IsEthernetAddress, IsIpv4Address, IsIpv6Address}
+use Rattle.ip_wire.specs.Arp as Arps
+use Rattle.ip_wire.specs.EthernetProtocol.{EthernetProtocol}
+use Rattle.ip_wire.specs.EthernetProtocol.TheVariants as Ether
+use Rattle.ip_wire.specs.declared.ethernet.repr.EthernetRepr.{EthernetRepr}
+use Rattle.ip_wire.specs.HardwareAddress.{HardwareAddress}
+use Rattle.ip_wire.specs.HardwareAddress.TheVariants as Hardware
+use Rattle.ip_wire.specs.Ip as Ips
+use Rattle.ip_wire.specs.Ip.{carried_in}
+use Rattle.ip_wire.specs.IpProtocol.{IpProtocol}
+use Rattle.ip_wire.specs.IpProtocol.TheVariants as Protocol
+use Rattle.ip_wire.specs.Ipv4 as Ipv4
+use Rattle.ip_wire.specs.Ipv4Repr.{Ipv4Repr}
+use Rattle.socket_base.specs.Packet.{PacketValue, IsSendable, payload_written}
+use Rattle.socket_base.specs.Widths.{IsPayload}
+use Rattle.interface_tables.specs.Inner.{InnerValue}
+use Rattle.interface_tables.specs.Pieces as Pieces
+use Rattle.interface_frames.specs.Incoming.{IncomingValue, Arp, Ip4, Ip6}
+use Rattle.interface_frames.specs.Sent.{ether_for, uncut}
+use Rattle.interface_egress.specs.Departure.{Departure, Asks, Tells, Whole, Part, arp_link, arp_request, solicited_station, solicitation}
+use Rattle.interface_egress.specs.declared.frame.Question.{Question}
+use Rattle.interface_egress.specs.declared.frame.Question.TheVariants as Query
+
+-- ONE MEDIUM
+
+-- an address of the medium that has addresses like this one: of Ethernet, with its bytes, or none
+abbrev pub IsOfMedium : HardwareAddress → HardwareAddress → Type 0
+IsOfMedium (Hardware.Ethernet own) (Hardware.Ethernet address) = IsEthernetAddress address
+IsOfMedium (Hardware.Ethernet own) Hardware.Ip = ⊥
+IsOfMedium Hardware.Ip (Hardware.Ethernet address) = ⊥
+IsOfMedium Hardware.Ip Hardware.Ip = Unit {0}
+
+-- the link header between two addresses of a medium, where it has one
+abbrev pub link_of : HardwareAddress → HardwareAddress → EthernetProtocol → Option EthernetRepr
+link_of (Hardware.Ethernet from) (Hardware.Ethernet to) carried = Some (record { src_addr = from; dst_addr = to; ethertype = carried })
+link_of from to carried = None
+
+-- WHAT IS READ
+
+-- a packet in its normal form, with its payload as it was written: whole, of offset 0 with no piece behind it
+abbrev pub packet_read : ChecksumCapabilities → HardwareAddress → HardwareAddress → PacketValue → IncomingValue
+packet_read caps own to p = uncut (link_of own to (ether_for p.header)) (Ips.normal p.header) (payload_written caps p.header p.payload)
+
+-- a piece has the datagram's header but for the length, which is its own, and says its place and whether more follow
+abbrev pub piece_read : HardwareAddress → HardwareAddress → Ipv4Repr → Pieces.Piece → IncomingValue
+piece_read own to header p = Ip4
+    (link_of own to Ether.Ipv4)
+    (Ipv4.normal (record header { payload_len = length p.bytes }))
+    (record { offset = p.offset; more = p.more })
+    p.bytes
+
+abbrev pub question_read : ChecksumCapabilities → Question → IncomingValue
+question_read caps (Query.Arp own source target) =
+    Arp (arp_link (arp_request own source target)) (Arps.normal (arp_request own source target))
+question_read caps (Query.Neighbor own source target) =
+    packet_read caps (Hardware.Ethernet own) (Hardware.Ethernet (solicited_station target)) (solicitation own source target)
+
+-- what a departure from a host with this hardware address and these checksums is read as
+abbrev pub read_from : HardwareAddress → ChecksumCapabilities → Departure → IncomingValue
+read_from own caps (Asks question) = question_read caps question
+read_from own caps (Tells packet) = Arp (arp_link packet) (Arps.normal packet)
+read_from own caps (Whole to p) = packet_read caps own to p
+read_from own caps (Part to header p) = piece_read own to header p
+
+abbrev pub read_of : InnerValue → Departure → IncomingValue
+read_of i d = read_from i.hardware i.checksums d
+
+-- WHAT CAN BE READ
+
+abbrev pub IsOnEthernet : HardwareAddress → Type 0
+IsOnEthernet (Hardware.Ethernet own) = Unit {0}
+IsOnEthernet Hardware.Ip = ⊥
+
+-- the sender, the frame's receiver and the host that reads it have addresses of one medium
+pub record AreOfOneMedium (own to other : HardwareAddress) : Type 0 where
+  pub from : IsOfMedium other own
+  pub receiver : IsOfMedium other to
+
+-- its lengths fit their fields, and its fields are numbers of their widths
+pub record IsWritable (p : PacketValue) : Type 0 where
+  pub sendable : IsSendable p
+  pub header : Ips.IsValue p.header
+  pub payload : IsPayload p.payload
+
+-- a piece of a datagram with this header, in units of 8 bytes
+pub record IsWritablePiece (header : Ipv4Repr) (p : Pieces.Piece) : Type 0 where
+  pub header_is : Ipv4.IsValue header
+  pub short : 20 + length p.bytes < 2 ^ 16
+  pub within : p.offset < 2 ^ 16
+  pub unit : p.offset % 8 ≡ 0
+
+abbrev pub IsQuestion : Question → Type 0
+IsQuestion (Query.Arp own source target) = IsEthernetAddress own × IsIpv4Address source × IsIpv4Address target
+IsQuestion (Query.Neighbor own source target) = IsEthernetAddress own × IsIpv6Address source × IsIpv6Address target
+
+-- a departure from a host with this hardware address that a host with the other one can read: each field is a number of its
+-- width, and each length fits its field
+abbrev pub CanArrive : HardwareAddress → HardwareAddress → Departure → Type 0
+CanArrive own other (Asks question) = IsOnEthernet other × IsQuestion question
+CanArrive own other (Tells packet) = IsOnEthernet other × Arps.IsValue packet
+CanArrive own other (Whole to p) = AreOfOneMedium own to other × IsWritable p
+CanArrive own other (Part to header p) = AreOfOneMedium own to other × IsWritablePiece header p
+
+-- PROTOCOLS
+
+-- what an IP packet in a frame carries, by its header; an ARP packet is none
+abbrev pub protocol_read : IncomingValue → Option IpProtocol
+protocol_read (Arp link packet) = None
+protocol_read (Ip4 link header piece payload) = Some header.next_header
+protocol_read (Ip6 link header payload) = Some header.next_header
+
+-- what the packet of a departure carries
+abbrev pub protocol_sent : Departure → Option IpProtocol
+protocol_sent (Asks (Query.Arp own source target)) = None
+protocol_sent (Asks (Query.Neighbor own source target)) = Some Protocol.Icmpv6
+protocol_sent (Tells packet) = None
+protocol_sent (Whole to p) = Some (carried_in (Ips.normal p.header))
+protocol_sent (Part to header p) = Some (Ipv4.normal header).next_header
+
+-- neither TCP nor UDP
+abbrev pub NamesNoPorts : IpProtocol → Type 0
+NamesNoPorts protocol = (protocol ≡ Protocol.Tcp → ⊥) × (protocol ≡ Protocol.Udp → ⊥)
+
+-- an ARP packet, or an IP packet, or a piece of one, that carries neither TCP nor UDP
+abbrev pub HasNoPorts : IncomingValue → Type 0
+HasNoPorts (Arp link packet) = Unit {0}
+HasNoPorts (Ip4 link header piece payload) = NamesNoPorts header.next_header
+HasNoPorts (Ip6 link header payload) = NamesNoPorts header.next_header
+
+-- a question, an answer to one, or a packet, or a piece of one, that carries neither
+abbrev pub SendsNoPorts : Departure → Type 0
+SendsNoPorts (Asks question) = Unit {0}
+SendsNoPorts (Tells packet) = Unit {0}
+SendsNoPorts (Whole to p) = NamesNoPorts (carried_in (Ips.normal p.header))
+SendsNoPorts (Part to header p) = NamesNoPorts (Ipv4.normal header).next_header

@@ -1,0 +1,127 @@
+//! What follows from the definitions.
+ghost use Rattle.std.specs.Prelude.{◌≡◌, ℕ, Bool, true, List, ◌++◌, Option, Some, IfSome};
+ghost use Rattle.net_base.specs.ChecksumCapabilities.{ChecksumCapabilities};
+ghost use Rattle.ip_wire.specs.Address.{IsIpAddress};
+ghost use Rattle.ip_wire.specs.HardwareAddress.{HardwareAddress};
+ghost use Rattle.ip_wire.specs.Ip.{destination_in};
+ghost use Rattle.ip_wire.specs.Ipv4Repr.{Ipv4Repr};
+ghost use Rattle.socket_base.specs.Packet.{PacketValue};
+ghost use Rattle.interface_tables.specs.Inner.{InnerValue};
+ghost use Rattle.interface_frames.specs.Incoming.{IncomingValue, IsContent};
+ghost use Rattle.interface_frames.specs.Sent.{AreSealed, CanBeRead};
+ghost use Rattle.interface_egress.specs.Departure.{Departure, Asks, Tells, Whole};
+ghost use Rattle.interface_egress.specs.Fragments.{LeftValue, next_departure, left_after};
+ghost use Rattle.interface_egress.specs.Plan.{plan_of};
+ghost use Rattle.interface_egress.specs.GoesOut.{GoesOut, PieceGoesOut, Departs, frame_of, numbered, cut_of};
+ghost use Rattle.interface_egress.specs.declared.frame.Question.{Question};
+ghost use Rattle.interface_egress.specs.declared.way_out.Sent.TheVariants as Outcome;
+ghost use Rattle.interface_egress.specs.declared.plan.Plan.TheVariants as Way;
+ghost use Rattle.ip_wire.specs.declared.arp.repr.ArpRepr.{ArpRepr};
+ghost use Rattle.ip_wire.specs.Arp as Arps;
+ghost use Rattle.interface_delivery.specs.Delivered.{IsOfMedium, AreOfOneMedium, CanArrive, IsOnEthernet, IsQuestion, read_of, protocol_read, protocol_sent, HasNoPorts, SendsNoPorts};
+ghost use Rattle.interface_delivery.specs.Medium.{KnowsItsMedium};
+ghost use Rattle.interface_delivery.specs.Taken.{Reader, CanRead, Arrives, IsCarriedTo, HasWidths, IsOffered, IsHalfSent};
+
+use net_base::Device;
+
+/// Law: what left in a frame is read in it by another host of the same medium, whatever padding follows: a packet in its normal
+/// form, a piece at its place, a question, or an ARP packet. No byte of the padding is in what is read. A checksum that the
+/// receiver tests has to be written.
+pub fn departures_arrive()
+    ensures { (i : InnerValue) (other : HardwareAddress) (receiver : ChecksumCapabilities) (d : Departure) (padding : List ℕ)
+        → AreSealed i.checksums receiver
+        → CanArrive i.hardware other d
+        → IsContent other receiver (frame_of i d ++ padding) (Some (read_of i d)) }
+{}
+
+/// Law: an IP packet in a departure's frame has the protocol of the packet that left, and an ARP packet has none. So a frame
+/// carries neither TCP nor UDP where its packet doesn't, and no question and no answer to one carries them.
+pub fn protocols_are_those_sent()
+    ensures same { (i : InnerValue) (other : HardwareAddress) (receiver : ChecksumCapabilities) (d : Departure) (padding : List ℕ) (v : IncomingValue)
+        → AreSealed i.checksums receiver
+        → CanArrive i.hardware other d
+        → IsContent other receiver (frame_of i d ++ padding) (Some v)
+        → protocol_read v ≡ protocol_sent d }
+    ensures no_ports { (i : InnerValue) (other : HardwareAddress) (receiver : ChecksumCapabilities) (d : Departure) (padding : List ℕ) (v : IncomingValue)
+        → AreSealed i.checksums receiver
+        → CanArrive i.hardware other d
+        → SendsNoPorts d
+        → IsContent other receiver (frame_of i d ++ padding) (Some v)
+        → HasNoPorts v }
+{}
+
+/// Law: an offered packet arrives. Where it went, the device took its frame, which another host of the same medium reads, whatever
+/// padding follows, as the packet with the host's next identification, in its normal form; and behind its header what was sent
+/// there.
+pub fn offered_packets_arrive<D: Device>()
+    ensures whole { (old new : D) (i i' : InnerValue) (l l' : Option LeftValue) (busy : Bool) (p : PacketValue) (to : HardwareAddress) (reader : Reader)
+        → HasWidths i
+        → IsOffered p
+        → plan_of i busy p.header ≡ Way.Go to
+        → GoesOut D.moves old i l p (plan_of i busy p.header) Outcome.Gone new i' l'
+        → CanRead i to reader
+        → Arrives D.moves old i (Whole to (numbered i p)) reader new }
+    ensures carried { (i : InnerValue) (busy : Bool) (p : PacketValue) (to : HardwareAddress) (reader : Reader)
+        → HasWidths i
+        → IsOffered p
+        → plan_of i busy p.header ≡ Way.Go to
+        → CanRead i to reader
+        → CanBeRead p.header p.payload
+        → IsCarriedTo i (numbered i p) reader }
+{}
+
+/// Law: the pieces of an offered packet that is too long arrive, the first one as it is cut and the others in turn, each at its
+/// place in the payload, with the datagram's identification, and whether more follow.
+pub fn pieces_arrive<D: Device>()
+    ensures first { (old new : D) (i i' : InnerValue) (l l' : Option LeftValue) (busy : Bool) (p : PacketValue) (to : HardwareAddress) (header : Ipv4Repr) (reader : Reader)
+        → HasWidths i
+        → IsOffered p
+        → plan_of i busy p.header ≡ Way.Cut to header
+        → GoesOut D.moves old i l p (plan_of i busy p.header) Outcome.Gone new i' l'
+        → CanRead i to reader
+        → Arrives D.moves old i (next_departure i.mtu (cut_of i to header p)) reader new }
+    ensures later { (old new : D) (i : InnerValue) (l : LeftValue) (l' : Option LeftValue) (reader : Reader)
+        → IsHalfSent l
+        → PieceGoesOut D.moves old i l true new l'
+        → CanRead i l.to reader
+        → Arrives D.moves old i (next_departure i.mtu l) reader new }
+    ensures begun { (i : InnerValue) (busy : Bool) (p : PacketValue) (to : HardwareAddress) (header : Ipv4Repr)
+        → HasWidths i
+        → IsOffered p
+        → plan_of i busy p.header ≡ Way.Cut to header
+        → IsHalfSent (cut_of i to header p) }
+    ensures left { (mtu : ℕ) (l : LeftValue) → IsHalfSent l → IfSome (left_after mtu l) IsHalfSent }
+{}
+
+/// Law: a question that went arrives, and so does an answer.
+pub fn questions_arrive<D: Device>()
+    ensures question { (old new : D) (i i' : InnerValue) (l l' : Option LeftValue) (busy : Bool) (p : PacketValue) (question : Question) (reader : Reader)
+        → plan_of i busy p.header ≡ Way.Ask question
+        → GoesOut D.moves old i l p (plan_of i busy p.header) Outcome.Waits new i' l'
+        → IsQuestion question
+        → IsOnEthernet reader.hardware
+        → AreSealed i.checksums reader.checksums
+        → Arrives D.moves old i (Asks question) reader new }
+    ensures answer { (old new : D) (i : InnerValue) (packet : ArpRepr) (reader : Reader)
+        → Departs D.moves old i (Tells packet) true new
+        → Arps.IsValue packet
+        → IsOnEthernet reader.hardware
+        → AreSealed i.checksums reader.checksums
+        → Arrives D.moves old i (Tells packet) reader new }
+{}
+
+/// Law: a host whose neighbours have hardware addresses of its medium sends to such addresses alone. So each host of that medium
+/// is one that may read its frames.
+pub fn frames_stay_on_the_medium()
+    ensures whole { (i : InnerValue) (busy : Bool) (p : PacketValue) (to : HardwareAddress)
+        → KnowsItsMedium i
+        → IsIpAddress (destination_in p.header)
+        → plan_of i busy p.header ≡ Way.Go to
+        → IsOfMedium i.hardware to }
+    ensures cut { (i : InnerValue) (busy : Bool) (p : PacketValue) (to : HardwareAddress) (header : Ipv4Repr)
+        → KnowsItsMedium i
+        → IsIpAddress (destination_in p.header)
+        → plan_of i busy p.header ≡ Way.Cut to header
+        → IsOfMedium i.hardware to }
+    ensures readers { (own to other : HardwareAddress) → IsOfMedium other own → IsOfMedium own to → AreOfOneMedium own to other }
+{}

@@ -1,0 +1,64 @@
+-- What each thing that a poll does keeps: words of the laws.
+use Rattle.std.specs.Prelude.{◌≡◌, ℕ, ◌+◌, ◌≤◌, ℤ, Bool, false, List, ◌∷◌, ◌++◌, Option, Some}
+use Rattle.net_base.specs.Device.{Move}
+use Rattle.sockets.specs.declared.socket.Socket.{Socket}
+use Rattle.interface_tables.specs.Inner.{InnerValue}
+use Rattle.interface_sockets.specs.declared.socket_set.SocketStorage.{SocketStorage}
+use Rattle.interface_egress.specs.Fragments.{LeftValue}
+use Rattle.interface_pass.specs.Host.{HostValue, Sender}
+use Rattle.interface_pass.specs.Egress.{PieceLeaves}
+use Rattle.interface_pass.specs.Turn.{PlaceTurns}
+use Rattle.interface_pass.specs.declared.turn.Turned.{Turned}
+use Rattle.interface.specs.State.{State, state}
+use Rattle.interface.specs.Ingress.{Takes}
+use Rattle.interface.specs.Polls.{begun}
+
+-- this host as it sends, with these sockets
+abbrev pub sending_as : {D : Type 0} → HostValue → Sender D → List (SocketStorage Socket) → State D
+sending_as h x ps = state x.device (record h { inner = x.inner; left = x.left }) ps
+
+-- the host's call runs, at this moment
+abbrev pub RunsAt : ℤ → InnerValue → Type 0
+RunsAt t i = (i.moment ≡ t) × (i.fresh ≡ false)
+
+module _ {D : Type 0} (moves : D → Move → D → Type 0) (t : ℤ) (P : State D → Type 0) where
+  -- maintenance keeps it
+  abbrev pub KeptByMaintenance : Type 0
+  KeptByMaintenance = (s : State D) → P s → P (begun t s)
+
+  -- a look for a frame keeps it, and a frame with all that it brings and what answers it
+  abbrev pub KeptByArrivals : Type 0
+  KeptByArrivals = (s s' : State D) (answer : Option Bool) → RunsAt t s.host.inner → P s → Takes moves s answer s' → P s'
+
+  -- the piece that waits keeps it, whether it goes or not
+  abbrev pub KeptByPieces : Type 0
+  KeptByPieces =
+      (h : HostValue) (ps : List (SocketStorage Socket)) (x x' : Sender D) (l : LeftValue) (gone : Bool) → RunsAt t x.inner → x.left ≡ Some l
+      → P (sending_as h x ps) → PieceLeaves moves l x gone x' → x'.inner ≡ x.inner → P (sending_as h x' ps)
+
+  -- a socket's turn at its place keeps it
+  abbrev pub KeptByTurns : Type 0
+  KeptByTurns =
+      (h : HostValue) (before after : List (SocketStorage Socket)) (p p' : SocketStorage Socket) (x x' : Sender D) (turned : Turned) → RunsAt t x.inner
+      → P (sending_as h x (before ++ p ∷ after)) → PlaceTurns moves x p turned x' p' → P (sending_as h x' (before ++ p' ∷ after))
+
+  -- each of the four
+  pub record IsKept : Type 0 where
+    pub maintenance : KeptByMaintenance
+    pub arrivals : KeptByArrivals
+    pub pieces : KeptByPieces
+    pub turns : KeptByTurns
+
+-- WITH A COUNT
+
+-- The same of a property that counts: an arrival, a piece and a turn each raise the count by one at most, for each of them asks
+-- the device for one send at most.
+module _ {D : Type 0} (moves : D → Move → D → Type 0) (t : ℤ) (Q : ℕ → State D → Type 0) where
+  pub record IsCounted : Type 0 where
+    pub more : (n m : ℕ) (s : State D) → n ≤ m → Q n s → Q m s
+    pub maintenance : (n : ℕ) (s : State D) → Q n s → Q n (begun t s)
+    pub arrivals : (n : ℕ) (s s' : State D) (answer : Option Bool) → RunsAt t s.host.inner → Q n s → Takes moves s answer s' → Q (n + 1) s'
+    pub pieces : (n : ℕ) (h : HostValue) (ps : List (SocketStorage Socket)) (x x' : Sender D) (l : LeftValue) (gone : Bool) → RunsAt t x.inner → x.left ≡ Some l
+        → Q n (sending_as h x ps) → PieceLeaves moves l x gone x' → x'.inner ≡ x.inner → Q (n + 1) (sending_as h x' ps)
+    pub turns : (n : ℕ) (h : HostValue) (before after : List (SocketStorage Socket)) (p p' : SocketStorage Socket) (x x' : Sender D) (turned : Turned) → RunsAt t x.inner
+        → Q n (sending_as h x (before ++ p ∷ after)) → PlaceTurns moves x p turned x' p' → Q (n + 1) (sending_as h x' (before ++ p' ∷ after))

@@ -1,0 +1,149 @@
+//! Hosts with one socket.
+ghost use Rattle.net_base.specs.Time.{IsMoment};
+
+use interface::{Config, Interface, SocketHandle, SocketSet};
+use ip_wire::{EthernetAddress, HardwareAddress, IpAddress, IpCidr, IpEndpoint, IpListenEndpoint};
+use lan_port::Port;
+use net_base::{
+    ChecksumCapabilities, DeviceCapabilities, Instant, ManagedSlice, Medium, PacketBuffer,
+    PacketMetadata,
+};
+use sockets::{Socket, udp};
+use std::process::Abort;
+use std::test::Fail;
+
+/// So many microseconds after the start.
+pub fn at(micros: u32) -> Instant
+    ensures { IsMoment result }
+{
+    Instant::from_micros(i64::from(micros))
+}
+
+/// An interface of seed 1 at 192.168.1.1 behind this port.
+pub fn interface(
+    rt: &impl AllocGlobal,
+    port: &Port,
+    hardware_addr: HardwareAddress,
+) -> Result<Interface, Fail> {
+    let own = IpCidr::new(IpAddress::v4(192, 168, 1, 1), 24);
+    host(rt, port, hardware_addr, own, 1)
+}
+
+/// An interface of this seed at this address behind this port.
+pub fn host(
+    rt: &impl AllocGlobal,
+    port: &Port,
+    hardware_addr: HardwareAddress,
+    own: IpCidr,
+    random_seed: u64,
+) -> Result<Interface, Fail> {
+    let config = Config {
+        random_seed,
+        hardware_addr,
+    };
+    let mut interface = Interface::new(rt.alloc(), &config, port, at(0)).map_err(
+        |_| "an interface",
+    )?;
+    interface
+        .update_ip_addrs(|addresses| {
+            let _ = addresses.try_push(own);
+        })
+        .map_err(|_| "an address")?;
+    Ok(interface)
+}
+
+/// A frame comes, whose bytes are these in hex.
+pub fn push(rt: &impl AllocGlobal, port: &mut Port, frame: &str) -> Result<(), Fail> {
+    port.push(hex::decode(rt.alloc(), frame)?)?;
+    Ok(())
+}
+
+/// A set of one UDP socket, bound to port 48896, with room for so many bytes each way.
+pub fn one_socket(
+    rt: &impl AllocGlobal,
+    room: usize,
+) -> Result<(SocketSet<Socket>, SocketHandle), Fail> {
+    bound_socket(rt, room, 48_896)
+}
+
+/// The same, bound to this port.
+pub fn bound_socket(
+    rt: &impl AllocGlobal,
+    room: usize,
+    port: u16,
+) -> Result<(SocketSet<Socket>, SocketHandle), Fail> {
+    let mut socket = udp::Socket::new(queue(rt, room)?, queue(rt, room)?);
+    let endpoint = IpListenEndpoint { addr: None, port };
+    socket.bind(endpoint).map_err(|_| "a port")?;
+    let mut sockets = SocketSet::new(ManagedSlice::Owned(Vec::new(rt.alloc())));
+    let handle = sockets.add(Socket::Udp(socket)).map_err(|_| "a place")?;
+    Ok((sockets, handle))
+}
+
+/// A queue of two entries and so many bytes.
+fn queue<H>(rt: &impl AllocGlobal, bytes: usize) -> Result<PacketBuffer<H>, Fail>
+where
+    H: Drop,
+{
+    let mut entries = Vec::new(rt.alloc());
+    for _ in 0..2 {
+        entries.push(PacketMetadata::EMPTY)?;
+    }
+    Ok(PacketBuffer::new(
+        ManagedSlice::Fixed(entries),
+        ManagedSlice::Fixed(vec![in rt.alloc(); 0; bytes]?),
+    ))
+}
+
+/// Queues a datagram of these bytes for 192.168.1.2:53.
+pub fn queue_datagram(
+    sockets: &mut SocketSet<Socket>,
+    handle: SocketHandle,
+    bytes: &[u8],
+) -> Result<(), Fail> {
+    let remote = IpEndpoint::new(IpAddress::v4(192, 168, 1, 2), 53);
+    match sockets.get_mut(handle) {
+        Some(Socket::Udp(socket)) => socket
+            .send_slice(bytes, udp::UdpMetadata::from(remote))
+            .map_err(|_| "room in the queue")?,
+        _ => return Err("a socket".into()),
+    }
+    Ok(())
+}
+
+/// The Ethernet address 02-00-00-00-00-01.
+pub fn ethernet() -> HardwareAddress {
+    HardwareAddress::Ethernet(EthernetAddress([2, 0, 0, 0, 0, 1]))
+}
+
+/// A port of this medium whose longest packet has 1500 bytes, with buffers for twelve frames.
+pub fn port(rt: &impl AllocGlobal, medium: Medium) -> Result<Port, Fail> {
+    let header = match medium {
+        Medium::Ethernet => 14,
+        Medium::Ip => 0,
+    };
+    let capabilities = DeviceCapabilities {
+        medium,
+        max_transmission_unit: 1_500 + header,
+        checksum: ChecksumCapabilities::default(),
+    };
+    let mut port = Port::new(rt.alloc(), capabilities);
+    port.prepare(12, 1_514)?;
+    Ok(port)
+}
+
+/// Asserts how many frames the port sent so far, and of the last one its length and its first bytes in hex.
+pub fn assert_last_frame(
+    rt: &(impl Abort + AllocGlobal),
+    port: &Port,
+    count: usize,
+    length: usize,
+    front: &str,
+) -> Result<(), Fail> {
+    assert_eq!(rt; port.sent().len(), count);
+    let frame = port.sent().last().ok_or("a frame")?;
+    assert_eq!(rt; frame.len(), length);
+    let front = hex::decode(rt.alloc(), front)?;
+    assert!(rt; frame.as_slice().starts_with(front.as_slice()));
+    Ok(())
+}

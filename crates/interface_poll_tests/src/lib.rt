@@ -1,0 +1,11 @@
+//! Tests of an interface that polls its sockets, by public calls and on values from outside.
+#![tactic(auto)]
+
+#[cfg(test)]
+mod common;
+#[cfg(test)]
+mod egress;
+#[cfg(test)]
+mod ingress;
+#[cfg(test)]
+mod made;

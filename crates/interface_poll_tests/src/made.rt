@@ -1,0 +1,46 @@
+//! How an interface begins, and why it may not.
+use crate::common::at;
+use interface::{Config, Interface, NewError};
+use ip_wire::{EthernetAddress, HardwareAddress};
+use lan_port::Port;
+use net_base::{ChecksumCapabilities, DeviceCapabilities, Instant, Medium};
+use std::alloc::Global;
+
+/// Why there is no interface with this hardware address at such a device.
+fn refused(
+    alloc: Global,
+    hardware_addr: HardwareAddress,
+    medium: Medium,
+    max_transmission_unit: usize,
+    now: Instant,
+) -> Option<NewError> {
+    let capabilities = DeviceCapabilities {
+        medium,
+        max_transmission_unit,
+        checksum: ChecksumCapabilities::default(),
+    };
+    let port = Port::new(alloc, capabilities);
+    let config = Config::new(hardware_addr);
+    match Interface::new(alloc, &config, &port, now) {
+        Ok(_) => None,
+        Err(error) => Some(error),
+    }
+}
+
+#[test]
+fn an_interface_begins_or_says_why_not(rt: HostRuntime) {
+    let alloc = rt.alloc();
+    let station = HardwareAddress::Ethernet(EthernetAddress([2, 0, 0, 0, 0, 1]));
+    let group = HardwareAddress::Ethernet(EthernetAddress([1, 0, 0, 0, 0, 1]));
+    let bare = HardwareAddress::Ip;
+    let medium = refused(alloc, station, Medium::Ip, 1_500, at(0));
+    assert_eq!(rt; medium, Some(NewError::Medium));
+    let unicast = refused(alloc, group, Medium::Ethernet, 1_514, at(0));
+    assert_eq!(rt; unicast, Some(NewError::NotUnicast));
+    let short = refused(alloc, bare, Medium::Ip, 575, at(0));
+    assert_eq!(rt; short, Some(NewError::Mtu));
+    assert_eq!(rt; refused(alloc, bare, Medium::Ip, 576, at(0)), None);
+    assert_eq!(rt; refused(alloc, station, Medium::Ethernet, 590, at(0)), None);
+    let early = refused(alloc, bare, Medium::Ip, 576, Instant::from_micros(-1));
+    assert_eq!(rt; early, Some(NewError::Moment));
+}

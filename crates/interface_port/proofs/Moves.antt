@@ -1,0 +1,60 @@
+-- The moves of a port.
+use Rattle.std.proofs.Common.{◌≡◌, ℕ, ◌-◌, ◌<◌, ◌≤◌, Bool, true, false, cond, List, [], ◌∷◌, length, sym, ap, ◌∙◌, arith}
+use Rattle.std.specs.Prelude.{nat_le, drop}
+use Rattle.net_base.specs.Device.{Move, Took, Empty, Allowed, Emitted, Denied}
+use Rattle.lan_port.specs.Port.{PortValue, PortMove, has_leave}
+use Rattle.interface_egress.specs.Determined.{IsDetermined}
+
+-- a port before a frame was taken
+abbrev before : List ℕ → PortValue → PortValue
+before frame p = record p { link = record p.link { waiting = frame ∷ p.link.waiting } }
+
+-- and behind it
+abbrev behind : PortValue → PortValue
+behind p = record p { link = record p.link { waiting = drop 1 p.link.waiting } }
+
+head_is : (x y : List ℕ) (xs ys : List (List ℕ)) → x ∷ xs ≡ y ∷ ys → x ≡ y
+head_is x y xs ys is = cc
+
+one_end : (here one other : PortValue) (m : Move) → PortMove here m one → PortMove here m other → one ≡ other
+one_end here one other (Took frame) a b = ap behind (sym a.1 ∙ b.1)
+one_end here one other Empty a b = a.0 ∙ sym b.0
+one_end here one other (Allowed leave) a b = a.0 ∙ sym b.0
+one_end here one other (Emitted frame) a b = a ∙ sym b
+one_end here one other (Denied len) a b = a.0 ∙ sym b.0
+
+one_frame : (here one other : PortValue) (frame again : List ℕ) → PortMove here (Took frame) one → PortMove here (Took again) other → frame ≡ again
+one_frame here one other frame again a b =
+    head_is frame again one.link.waiting other.link.waiting (ap (λ (p : PortValue). p.link.waiting) (sym a.1 ∙ b.1))
+
+no_frame : (x : List ℕ) (xs : List (List ℕ)) → x ∷ xs ≡ [] → ⊥
+no_frame x xs is = absurd cc
+
+looks : (here one other : PortValue) (frame : List ℕ) → PortMove here (Took frame) one → PortMove here Empty other → ⊥
+looks here one other frame a b =
+    no_frame frame one.link.waiting (ap (λ (p : PortValue). p.link.waiting) (sym a.1) ∙ b.1 a.0)
+
+both : (b : Bool) → true ≡ b → false ≡ b → ⊥
+both b given withheld = absurd cc
+
+gives : (here one other : PortValue) → PortMove here (Allowed true) one → PortMove here (Allowed false) other → ⊥
+gives here one other a b = both (has_leave here.link) a.1 b.1
+
+pub takes : (here new : PortValue) (len : ℕ) → 0 < here.ready → len ≤ here.size → PortMove here (Denied len) new → ⊥
+takes here new len some short denied = let none : here.ready ≡ 0 = denied.1 short in absurd (omega (arith, none))
+
+pub determined : (port : PortValue) (longest : ℕ) → 0 < port.ready → longest ≤ port.size → IsDetermined PortMove longest port
+determined port longest some fits = record {
+  one_end = one_end port;
+  one_frame = one_frame port;
+  looks = looks port;
+  gives = gives port;
+  takes = λ one other frame short a b. takes port other (length frame) some (omega arith) b;
+}
+
+left_by : (b : Bool) (count : ℕ) → count - 1 ≤ cond b (count - 1) count
+left_by true count = omega arith
+left_by false count = omega arith
+
+pub ready : (port new : PortValue) (frame : List ℕ) → PortMove port (Emitted frame) new → (port.ready - 1 ≤ new.ready) × (new.size ≡ port.size)
+ready port new frame emitted = (rw emitted (left_by (nat_le (length frame) port.size) port.ready), ap (λ (p : PortValue). p.size) emitted)
