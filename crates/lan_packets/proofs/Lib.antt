@@ -16,3 +16,4 @@ pub mod Kept
 pub mod Runs
 pub mod HistoryLemmas
 pub mod Extended
+pub mod TakenLemmas

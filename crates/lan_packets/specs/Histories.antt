@@ -3,7 +3,6 @@ use Rattle.std.specs.Prelude.{ℕ, List, [], ◌∷◌, Option, Some, None}
 use Rattle.ip_wire.specs.IpAddress.TheVariants as Address
 use Rattle.ip_wire.specs.IpEndpoint.{IpEndpoint}
 use Rattle.tcp_model.specs.declared.state.State.{State}
-use Rattle.tcp_model.specs.declared.state.State.TheVariants as In
 use Rattle.lan_net.specs.declared.answer.Answer.{Answer}
 use Rattle.lan_net.specs.declared.answer.Answer.TheVariants as To
 use Rattle.lan_net.specs.declared.answer.Fault.TheVariants as Fault
@@ -53,3 +52,12 @@ end_without_close = answered (E.Recv A 0 8) (To.Error Fault.Finished) None ∷ o
 abbrev pub end_after_close : State → List Entry
 end_after_close state =
     answered (E.Recv A 0 8) (To.Error Fault.Finished) None ∷ answered (E.Close B 0) To.Done (Some state) ∷ opened
+
+-- B listens at a port, A connects to port 80 and writes, and B reads these bytes
+abbrev pub taken_at : ℕ → List ℕ → List Entry
+taken_at port bytes =
+    answered (E.Recv B 0 8) (To.Bytes bytes) None
+    ∷ answered (E.Send A 0 text) (To.Count 3) None
+    ∷ answered (E.Connect A 0 (endpoint 2 80) 49_500) To.Done None
+    ∷ answered (E.Listen B 0 port) To.Done None
+    ∷ []

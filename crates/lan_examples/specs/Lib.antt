@@ -1,0 +1,6 @@
+pub mod Hosts
+pub mod Datagrams
+pub mod Streams
+pub mod Lone
+pub mod Candidates
+pub mod Fallback

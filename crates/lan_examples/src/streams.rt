@@ -1,0 +1,45 @@
+//! Connections.
+ghost use Rattle.std.specs.Prelude.{◌≡◌, ℕ};
+ghost use Rattle.lan_net.specs.declared.answer.Answer.TheVariants as To;
+ghost use Rattle.lan_net.specs.declared.answer.Fault.TheVariants as Fault;
+ghost use Rattle.lan_net.specs.declared.event.Side.TheVariants.{A, B};
+ghost use Rattle.lan_net.specs.Partners.{ArePartners};
+ghost use Rattle.tcp_model.specs.declared.state.State.TheVariants as In;
+ghost use Rattle.lan_packets.specs.Moves.{IsRun, run};
+ghost use Rattle.lan_packets.specs.Safe.{IsFreshNet};
+ghost use Rattle.lan_examples.specs.Candidates as Candidates;
+ghost use Rattle.lan_examples.specs.Fallback as Fallback;
+ghost use Rattle.lan_examples.specs.Hosts.{no_names, unbound, last_answer};
+ghost use Rattle.lan_examples.specs.Lone as Lone;
+ghost use Rattle.lan_examples.specs.Streams.{tcp_at};
+
+/// A socket that connects where nobody listens is refused by the other host's reset: it has no partner, and reads no end.
+#[tactic(auto, using(crate::proofs::LoneRun::is_run, crate::proofs::LoneRun::are_fresh, crate::proofs::LoneRun::alone))]
+pub fn a_lone_socket_is_refused()
+    ensures fresh { IsFreshNet unbound Lone.hosts }
+    ensures run { IsRun no_names Lone.hosts Lone.steps }
+    ensures alone { (j : ℕ) → ¬ (ArePartners (run Lone.hosts Lone.steps).history A 0 j) }
+    ensures state { (tcp_at (run Lone.hosts Lone.steps) A 0).block.state ≡ In.Closed }
+    ensures answer { last_answer (run Lone.hosts Lone.steps) ≡ To.Error Fault.InvalidState }
+{}
+
+/// Of two listeners, the one whose port is named is the partner, and takes the SYN.
+#[tactic(auto, using(crate::proofs::CandidatesRun::is_run, crate::proofs::CandidatesRun::are_fresh, crate::proofs::CandidatesRun::second, crate::proofs::CandidatesRun::not_first))]
+pub fn ports_tell_the_partner()
+    ensures fresh { IsFreshNet unbound Candidates.hosts }
+    ensures run { IsRun no_names Candidates.hosts Candidates.steps }
+    ensures second { ArePartners (run Candidates.hosts Candidates.steps).history A 0 1 }
+    ensures not_first { ¬ (ArePartners (run Candidates.hosts Candidates.steps).history A 0 0) }
+    ensures takes { (tcp_at (run Candidates.hosts Candidates.steps) B 1).block.state ≡ In.SynReceived }
+    ensures listens { (tcp_at (run Candidates.hosts Candidates.steps) B 0).block.state ≡ In.Listen }
+{}
+
+/// A listener that took a SYN falls back at a reset, and takes the old SYN again.
+#[tactic(auto, using(crate::proofs::FallbackRun::fell_run, crate::proofs::FallbackRun::is_run, crate::proofs::FallbackRun::are_fresh))]
+pub fn a_listener_falls_back_and_takes_the_old_syn()
+    ensures fresh { IsFreshNet unbound Fallback.hosts }
+    ensures falls { IsRun no_names Fallback.hosts Fallback.fell }
+    ensures listens { (tcp_at (run Fallback.hosts Fallback.fell) B 0).block.state ≡ In.Listen }
+    ensures run { IsRun no_names Fallback.hosts Fallback.steps }
+    ensures takes { (tcp_at (run Fallback.hosts Fallback.steps) B 0).block.state ≡ In.SynReceived }
+{}

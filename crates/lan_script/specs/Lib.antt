@@ -1,0 +1,4 @@
+pub mod Words
+pub mod Verbs
+pub mod Lines
+pub mod Text

@@ -1,0 +1,55 @@
+//! Blocks of addresses.
+ghost use Rattle.std.specs.Prelude.{◌≡◌, ◌≤◌, ◌<◌, List, [], ◌∷◌, ◌++◌, length, true, false};
+
+use arrayvec::ArrayVec;
+use ip_wire::IpCidr;
+use std::marker::Model;
+
+/// At most four blocks of addresses. A contract sees their list.
+#[derive(Drop)]
+pub struct Blocks {
+    blocks: ArrayVec<IpCidr, 4>,
+}
+
+impl Model for Blocks {
+    ghost use Rattle.std.specs.Prelude.{List};
+    ghost use Rattle.ip_wire.specs.IpCidr.{IpCidr};
+
+    ghost Value = { List IpCidr };
+
+    ghost view = { λ b. b.blocks.items };
+}
+
+impl Blocks {
+    /// None.
+    pub fn new() -> Blocks
+        ensures { result ≡ [] }
+    {
+        Blocks {
+            blocks: ArrayVec::new(),
+        }
+    }
+
+    /// The vector that holds them.
+    pub fn into_inner(self) -> ArrayVec<IpCidr, 4>
+        ensures { result.items ≡ self }
+    {
+        let Blocks { blocks } = self;
+        blocks
+    }
+
+    /// The blocks in order.
+    pub fn as_slice(&self) -> &[IpCidr]
+        ensures { result.now ≡ self.now }
+    {
+        self.blocks.as_slice()
+    }
+
+    /// Whether there was room for one block more, behind the others.
+    pub fn push(&mut self, block: IpCidr) -> bool
+        ensures room { result ≡ true → (self.new ≡ self.old ++ block ∷ []) × (length self.new ≤ 4) }
+        ensures full { result ≡ false → (self.new ≡ self.old) × (length self.old ≡ 4) }
+    {
+        self.blocks.try_push(block).is_ok()
+    }
+}
