@@ -1,0 +1,31 @@
+-- Answers that are given twice: one goes to the caller, and one is kept.
+use Rattle.std.specs.Prelude.{◌≡◌, Option, None, Some}
+use Rattle.datagram_sockets.specs.declared.error.RecvError.{RecvError}
+use Rattle.datagram_sockets.specs.declared.error.RecvError.TheVariants as Recv
+use Rattle.lan_net.specs.declared.answer.Answer.{Answer}
+use Rattle.lan_net.specs.declared.answer.Answer.TheVariants as To
+use Rattle.lan_net.specs.declared.answer.Fault.{Fault}
+use Rattle.lan_net.specs.declared.answer.Fault.TheVariants as For
+use Rattle.sockets.specs.declared.socket.Socket.{Socket}
+use Rattle.lan_packets.specs.Calls.{Did}
+use Rattle.lan_stations.specs.declared.answer.Brief.{Brief}
+use Rattle.lan_stations.specs.declared.answer.Brief.TheVariants as Short
+
+abbrev pub IsTwice : Answer × Answer → Answer → Type 0
+IsTwice twins answer = (twins.0 ≡ answer) × (twins.1 ≡ answer)
+
+abbrev pub brief : Brief → Answer
+brief Short.Done = To.Done
+brief (Short.Count n) = To.Count n
+brief (Short.State state) = To.State state
+brief (Short.Error fault) = To.Error fault
+
+abbrev pub fault_of : RecvError → Fault
+fault_of Recv.Exhausted = For.Exhausted
+fault_of Recv.Truncated = For.Truncated
+
+-- what a call did to a socket, which answered so; nothing where a socket of its kind hasn't the call
+abbrev pub HasDone : Option (Did Socket) → Socket → Option Brief → Socket → Type 0
+HasDone None old said new = (said ≡ None) × (new ≡ old)
+HasDone (Some d) old None new = ⊥
+HasDone (Some d) old (Some b) new = (brief b ≡ d.answer) × (new ≡ d.socket)

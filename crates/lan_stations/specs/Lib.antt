@@ -1,0 +1,9 @@
+pub mod Station
+pub mod Does
+pub mod Answers
+pub mod Sets
+pub mod Origins
+pub mod Refusals
+pub mod Steps
+pub mod Runs
+pub mod Safe
