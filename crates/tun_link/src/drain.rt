@@ -1,0 +1,174 @@
+//! The device of a host that takes turns.
+ghost use Rattle.std.specs.Prelude.{◌≡◌, ◌+◌, ◌^◌, ◌<◌, ◌≤◌, [], ◌++◌, length, vec_len, vec_capacity, IfSome, OnSome, None};
+ghost use Rattle.tun_link.specs.Answer.{packet_bytes};
+ghost use Rattle.tun_link.specs.Drain.{unless_empty};
+
+use net_base::{Device, DeviceCapabilities, Instant, OwnedRxToken, SendRefused, TxToken};
+use std::alloc::Global;
+use std::marker::Model;
+use std::mem;
+
+/// The longest packet whose length an answer can say.
+const LONGEST: usize = 65_535;
+
+/// How many bytes of an answer stand before a packet: its length.
+const LENGTH_LEN: usize = 2;
+
+/// A device that takes one packet a turn, and keeps what is sent until the turn is answered.
+///
+/// The answer grows in one buffer, which serves each turn anew, and each packet is written in another: once they have been as
+/// long as answers and packets become, sending takes no memory.
+#[derive(Debug, Drop)]
+pub struct Drain {
+    packet: Option<Vec<u8>>,
+    answer: Vec<u8>,
+    spare: Vec<u8>,
+    refused: u64,
+    described: DeviceCapabilities,
+}
+
+impl Model for Drain {
+    ghost use Rattle.std.specs.Option.{option_map};
+    ghost use Rattle.tun_link.specs.Drain.{DrainValue};
+
+    ghost Value = { DrainValue };
+
+    ghost view = { λ d. record {
+      waiting = option_map (λ packet. packet.items) d.packet;
+      sent = d.answer.items;
+      refusals = d.refused;
+      capabilities = d.described;
+    } };
+}
+
+/// Leave to send one packet of an answer.
+#[derive(Debug, Drop)]
+pub struct DrainTxToken {}
+
+impl TxToken for DrainTxToken {}
+
+impl Drain {
+    /// A device of these capabilities, with no packet and nothing to answer. It allocates nothing: `alloc` serves later calls.
+    pub fn new(alloc: Global, capabilities: DeviceCapabilities) -> Drain
+        ensures { result ≡ record { waiting = None; sent = []; refusals = 0; capabilities = capabilities } }
+    {
+        Drain {
+            packet: None,
+            answer: Vec::new(alloc),
+            spare: Vec::new(alloc),
+            refused: 0,
+            described: capabilities,
+        }
+    }
+
+    /// A turn's packet comes, in place of one that wasn't taken. One of no bytes is none.
+    pub fn put(&mut self, packet: Vec<u8>)
+        ensures { self.new ≡ record self.old { waiting = unless_empty packet.items } }
+    {
+        self.packet = if packet.is_empty() {
+            None
+        } else {
+            Some(packet)
+        };
+    }
+
+    /// The bytes of the answer so far: each sent packet behind its length.
+    pub fn answer(&self) -> &[u8]
+        ensures { result.now ≡ self.now.sent }
+    {
+        self.answer.as_slice()
+    }
+
+    /// Forgets the answer. Its buffer stays.
+    pub fn clear(&mut self)
+        ensures { self.new ≡ record self.old { sent = [] } }
+    {
+        self.answer.truncate(0);
+    }
+}
+
+impl Device for Drain {
+    type RxToken = OwnedRxToken;
+
+    type TxToken = DrainTxToken;
+
+    ghost use Rattle.tun_link.specs.Drain.{DrainMove};
+
+    ghost moves = { DrainMove };
+
+    ghost refused = { λ d. d.refusals };
+
+    ghost described = { λ d. d.capabilities };
+
+    fn receive(&mut self, timestamp: Instant) -> Option<(OwnedRxToken, DrainTxToken)> {
+        let leave = self.transmit(timestamp)?;
+        let packet = self.packet.take()?;
+        Some((OwnedRxToken::new(packet), leave))
+    }
+
+    fn transmit(&mut self, _timestamp: Instant) -> Option<DrainTxToken> {
+        if self.refused < u64::MAX {
+            Some(DrainTxToken {})
+        } else {
+            None
+        }
+    }
+
+    fn send<R: Drop, F: FnOnce(&mut [u8]) -> R>(
+        &mut self,
+        _token: DrainTxToken,
+        len: usize,
+        f: F,
+    ) -> Result<R, SendRefused> {
+        let Some(mut packet) = take_buffer(&mut self.answer, &mut self.spare, len) else {
+            self.refused += 1;
+            return Err(SendRefused);
+        };
+        let answer = f(packet.as_mut_slice());
+        append(&mut self.answer, packet.as_slice());
+        self.spare = packet;
+        Ok(answer)
+    }
+
+    fn capabilities(&self) -> DeviceCapabilities {
+        self.described
+    }
+
+    fn refusals(&self) -> u64 {
+        self.refused
+    }
+}
+
+/// A buffer of `len` bytes for a packet that is about to be sent, and room for it in the answer, if its length can be said and
+/// there is memory for both.
+fn take_buffer(answer: &mut Vec<u8>, spare: &mut Vec<u8>, len: usize) -> Option<Vec<u8>>
+    ensures kept { answer.new.items ≡ answer.old.items }
+    ensures buffer { IfSome result (λ buffer. vec_len buffer ≡ len) }
+    ensures short { OnSome result (len < 2 ^ 16) }
+    ensures room { OnSome result (vec_len answer.new + (2 + len) ≤ vec_capacity answer.new) }
+{
+    if LONGEST < len || answer.reserve(LENGTH_LEN + len).is_err() {
+        return None;
+    }
+    let alloc = *spare.allocator();
+    let mut buffer = mem::replace(spare, Vec::new(alloc));
+    buffer.truncate(0);
+    match buffer.resize(len, 0) {
+        Ok(()) => Some(buffer),
+        Err(_) => None,
+    }
+}
+
+/// Puts a packet behind the answer, with its length before it, where there is room for both.
+fn append(answer: &mut Vec<u8>, packet: &[u8])
+    requires short { length packet.now < 2 ^ 16 }
+    requires room { vec_len answer.old + (2 + length packet.now) ≤ vec_capacity answer.old }
+    ensures { answer.new.items ≡ answer.old.items ++ packet_bytes packet.now }
+{
+    let len = packet.len();
+    answer.push_reserved((len % 256) as u8);
+    answer.push_reserved((len / 256 % 256) as u8);
+    let Ok(()) = answer.extend_from_slice(packet) else {
+        unreachable!();
+    };
+}

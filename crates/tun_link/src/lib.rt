@@ -1,0 +1,11 @@
+//! A link whose packets come and go over a reader and a writer: the host takes turns, each of which brings one packet or
+//! none at a moment, and answers each of them with packets and with the moment at which it wants the next.
+#![tactic(auto)]
+
+mod answer;
+mod drain;
+mod turn;
+
+pub use answer::write_answer;
+pub use drain::{Drain, DrainTxToken};
+pub use turn::{HEAD_LEN, TurnError, read_turn};
