@@ -6,27 +6,33 @@
 ghost use Rattle.std.specs.Prelude.{IfOk};
 ghost use Rattle.tcp.specs.Promises.{IsFresh};
 ghost use Rattle.tcp_pair.specs.Safe.{IsSafe};
+ghost use Rattle.tcp_socket.specs.Receive.{FitsBuffer};
 
 use anyhow::Result;
 use ip_wire::{IpAddress, IpEndpoint, IpListenEndpoint, TcpControl};
 use net_base::{Instant, ManagedSlice, RingBuffer};
-use std::alloc::{AllocError, AllocGlobal, Global};
-use std::process::Abort;
+use std::alloc::{AllocError, Global};
 use std::str;
 use tcp_pairs::{Bytes, Pair, PairAnswer, PairEvent, SentSegment, Side, TcpFault, TcpSetting};
-use tcp_socket::{Socket, State};
+use tcp_socket::{Socket, SocketBuffer, State};
 
 const TEXT: &[u8; 60] = b"Whatever a network loses, the bytes that are read are these.";
 
+/// A buffer with room for 64 bytes.
+fn buffer(alloc: Global) -> Result<SocketBuffer, AllocError>
+    ensures { IfOk result FitsBuffer }
+{
+    let room = vec![in alloc; 0u8; 64]?;
+    Ok(RingBuffer::new(ManagedSlice::Owned(room)))
+}
+
 /// A closed socket with room for 64 bytes each way.
-fn socket(rt: &(impl Abort + AllocGlobal)) -> Result<Socket, AllocError>
+fn socket(alloc: Global) -> Result<Socket, AllocError>
     ensures { IfOk result IsFresh }
 {
-    let rx = RingBuffer::new(ManagedSlice::Owned(vec![in rt.alloc(); 0u8; 64]?));
-    let tx = RingBuffer::new(ManagedSlice::Owned(vec![in rt.alloc(); 0u8; 64]?));
-    assert!(rt; Socket::fits_buffer(&rx));
-    assert!(rt; Socket::fits_buffer(&tx));
-    Ok(Socket::new(rx, tx))
+    let received = buffer(alloc)?;
+    let queued = buffer(alloc)?;
+    Ok(Socket::new(received, queued))
 }
 
 /// A calls B. Each piece that A writes goes at once, and B acknowledges each segment.
@@ -43,13 +49,13 @@ fn opening(alloc: Global) -> Result<Vec<PairEvent>, AllocError> {
     ]?)
 }
 
-fn opened(rt: &(impl Abort + AllocGlobal)) -> Result<Pair>
+fn opened(alloc: Global) -> Result<Pair>
     ensures { IfOk result IsSafe }
 {
-    let a = socket(rt)?;
-    let b = socket(rt)?;
-    let events = opening(rt.alloc())?;
-    let mut pair = Pair::new(rt.alloc(), a, b);
+    let a = socket(alloc)?;
+    let b = socket(alloc)?;
+    let events = opening(alloc)?;
+    let mut pair = Pair::new(alloc, a, b);
     match pair.run(events) {
         Ok(()) => Ok(pair),
         Err((_place, refused)) => Err(refused.into()),
@@ -216,7 +222,7 @@ fn show_end(rt: &HostRuntime, pair: &Pair, read: &[u8]) -> Result<()> {
 }
 
 fn main(rt: HostRuntime) -> Result<()> {
-    let mut pair = opened(&rt)?;
+    let mut pair = opened(rt.alloc())?;
     let mut users = Users {
         written: 0,
         read: Vec::new(rt.alloc()),
