@@ -1,3 +1,10 @@
+pub mod Known
+pub mod Due
+pub mod QuietTurn
+pub mod QuietPass
+pub mod StepUnchanged
+pub mod PassStep
+pub mod SameHost
 pub mod Stepped
 pub mod Settings
 pub mod Rounds

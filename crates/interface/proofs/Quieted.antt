@@ -5,16 +5,16 @@ use Rattle.ip_wire.specs.Ipv4FragKey.{Ipv4FragKey}
 use Rattle.interface_tables.specs.Inner.{InnerValue, at_moment}
 use Rattle.interface_tables.specs.Reassembly.{SlotValue, freed}
 use Rattle.interface_tables.specs.Slots.{is_expired, unless_expired, without_expired}
-use Rattle.interface_pass.specs.Host.{HostValue, Sender, host_at, maintained}
-use Rattle.interface_pass.specs.Instant.{poll_instant}
-use Rattle.interface_pass.specs.Quiet.{IsEarly}
-use Rattle.interface_pass.proofs.QuietTurn.{DueAsBefore}
-use Rattle.interface_pass.proofs.QuietPass.{quiet_egress}
+use Rattle.interface.specs.Host.{HostValue, Sender, host_at, maintained}
+use Rattle.interface.specs.Instant.{poll_instant}
+use Rattle.interface.specs.QuietStep.{IsEarly}
+use Rattle.interface.proofs.QuietTurn.{DueAsBefore}
+use Rattle.interface.proofs.QuietPass.{quiet_egress}
 use Rattle.interface.specs.State.{State, state, at_device}
 use Rattle.interface.specs.Egress.{EgressStep, sending, behind, if_changed}
 use Rattle.interface.specs.Ingress.{Takes, IngressStep}
 use Rattle.interface.specs.Polls.{Repeats, Polls, begun}
-use Rattle.interface.specs.Quiet.{HasNoFrame, IsQuietPoll}
+use Rattle.interface.specs.QuietPoll.{HasNoFrame, IsQuietPoll}
 
 -- SLOTS: those that were freed aren't freed again
 

@@ -4,7 +4,7 @@ use Rattle.std.specs.Prelude.{ℤ}
 use Rattle.interface_tables.specs.Inner.{InnerValue, at_moment}
 use Rattle.interface_egress.specs.Departing.{HasSettingsOf}
 use Rattle.interface_ingress.specs.Kept.{HasSameSettings}
-use Rattle.interface_pass.specs.SameHost.{IsSameHost}
+use Rattle.interface.specs.SameHost.{IsSameHost}
 use Rattle.interface.specs.State.{KeepsSettings}
 
 pub keeps_itself : (i : InnerValue) → KeepsSettings i i

@@ -3,11 +3,11 @@ use Rattle.std.proofs.Common.{◌≡◌, ℤ, Bool, List, Option, subst}
 use Rattle.net_base.specs.Device.{Move}
 use Rattle.sockets.specs.declared.socket.Socket.{Socket}
 use Rattle.interface_tables.specs.Inner.{InnerValue, at_moment}
-use Rattle.interface_sockets.specs.declared.socket_set.SocketStorage.{SocketStorage}
+use Rattle.interface_egress.specs.declared.socket_set.SocketStorage.{SocketStorage}
 use Rattle.interface_egress.specs.Fragments.{LeftValue}
-use Rattle.interface_pass.specs.Host.{HostValue, Sender, sender}
-use Rattle.interface_pass.specs.Pass.{Passed, passed}
-use Rattle.interface_pass.specs.Egress.{Egress}
+use Rattle.interface.specs.Host.{HostValue, Sender, sender}
+use Rattle.interface.specs.Pass.{Passed, passed}
+use Rattle.interface.specs.WayOut.{Egress}
 use Rattle.interface.specs.State.{state}
 use Rattle.interface.specs.Egress.{sending}
 

@@ -2,9 +2,9 @@
 use Rattle.std.proofs.Common.{◌≡◌, ℕ, zero, suc, ℤ, Bool, true, false, ◌||◌, inl, inr, List, Some, None, refl, sym, ap, ◌∙◌, subst}
 use Rattle.net_base.specs.Device.{Move}
 use Rattle.sockets.specs.declared.socket.Socket.{Socket}
-use Rattle.interface_sockets.specs.declared.socket_set.SocketStorage.{SocketStorage}
-use Rattle.interface_pass.specs.Quiet.{AreUnchanged}
-use Rattle.interface_pass.proofs.Unchanged.{egress_same, unchanged_places}
+use Rattle.interface_egress.specs.declared.socket_set.SocketStorage.{SocketStorage}
+use Rattle.interface.specs.QuietStep.{AreUnchanged}
+use Rattle.interface.proofs.StepUnchanged.{egress_same, unchanged_places}
 use Rattle.interface.specs.State.{State, at_device}
 use Rattle.interface.specs.Egress.{EgressStep, sending, if_changed}
 use Rattle.interface.specs.Ingress.{IngressStep}

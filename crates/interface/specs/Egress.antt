@@ -2,9 +2,9 @@
 use Rattle.std.specs.Prelude.{◌≡◌, ℤ, Bool, true, false, Option, None, Some}
 use Rattle.net_base.specs.Device.{Move}
 use Rattle.interface_tables.specs.Inner.{at_moment}
-use Rattle.interface_pass.specs.Host.{HostValue, Sender, sender}
-use Rattle.interface_pass.specs.Pass.{Passed}
-use Rattle.interface_pass.specs.Egress.{Egress}
+use Rattle.interface.specs.Host.{HostValue, Sender, sender}
+use Rattle.interface.specs.Pass.{Passed}
+use Rattle.interface.specs.WayOut.{Egress}
 use Rattle.interface.specs.State.{State, state}
 
 -- what sends, at this moment

@@ -5,10 +5,10 @@ use Rattle.interface_egress.specs.Departure as Departures
 use Rattle.interface_egress.specs.GoesOut.{Departs, GoesOut}
 use Rattle.interface_egress.specs.Plan.{plan_of}
 use Rattle.interface_egress.specs.declared.way_out.Sent.{Sent}
-use Rattle.interface_frames.specs.Incoming.{IncomingValue, IsContent}
+use Rattle.interface_ingress.specs.Incoming.{IncomingValue, IsContent}
 use Rattle.interface_ingress.specs.Arrives as Replies
 use Rattle.interface_ingress.specs.Arrives.{ReplyValue, Arrived, ArrivesAs}
-use Rattle.interface_pass.specs.Host.{Sender, sender, maintained}
+use Rattle.interface.specs.Host.{Sender, sender, maintained}
 use Rattle.interface.specs.State.{State, state, at_device}
 
 -- the longest frame that is read: an Ethernet header before the longest IP packet

@@ -1,6 +1,13 @@
+pub mod Host
+pub mod Turn
+pub mod Pass
+pub mod WayOut
+pub mod Instant
+pub mod QuietStep
+pub mod SameHost
 pub mod Made
 pub mod State
 pub mod Egress
 pub mod Ingress
 pub mod Polls
-pub mod Quiet
+pub mod QuietPoll

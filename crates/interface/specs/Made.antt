@@ -12,7 +12,7 @@ use Rattle.interface_tables.specs.declared.config.Config.{Config}
 use Rattle.interface_tables.specs.declared.config.NewError.{NewError}
 use Rattle.interface_tables.specs.declared.config.NewError.TheVariants as New
 use Rattle.interface_egress.specs.Fragments.{LeftValue}
-use Rattle.interface_pass.specs.Host.{HostValue}
+use Rattle.interface.specs.Host.{HostValue}
 
 -- how long pieces of a datagram are waited for at first: a minute, in microseconds
 abbrev pub first_timeout : ℕ

@@ -1,7 +1,7 @@
 -- A poll: maintenance, then steps of the way in, and then of the way out.
 use Rattle.std.specs.Prelude.{◌≡◌, ℕ, zero, suc, ℤ, Bool, true, false, ◌||◌, ◌⊎◌, Option, None, Some}
 use Rattle.net_base.specs.Device.{Move}
-use Rattle.interface_pass.specs.Host.{maintained}
+use Rattle.interface.specs.Host.{maintained}
 use Rattle.interface.specs.State.{State, state}
 use Rattle.interface.specs.Egress.{EgressStep}
 use Rattle.interface.specs.Ingress.{IngressStep}

@@ -3,10 +3,10 @@ use Rattle.std.specs.Prelude.{◌≡◌, ℕ, List, Option}
 use Rattle.ip_wire.specs.Ipv4FragKey.{Ipv4FragKey}
 use Rattle.interface_tables.specs.Inner.{InnerValue}
 use Rattle.interface_tables.specs.Reassembly.{SlotValue}
-use Rattle.interface_sockets.specs.declared.socket_set.SocketStorage.{SocketStorage}
+use Rattle.interface_egress.specs.declared.socket_set.SocketStorage.{SocketStorage}
 use Rattle.sockets.specs.declared.socket.Socket.{Socket}
 use Rattle.interface_egress.specs.Fragments.{LeftValue}
-use Rattle.interface_pass.specs.Host.{HostValue}
+use Rattle.interface.specs.Host.{HostValue}
 
 pub record State (D : Type 0) : Type 0 where
   pub device : D

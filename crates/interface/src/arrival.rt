@@ -1,16 +1,14 @@
 //! One step of the way in.
 ghost use Rattle.std.specs.Prelude.{◌≡◌, ◌+◌, ◌<◌, ◌^◌, false, None, Some};
-ghost use Rattle.interface_frames.specs.Incoming.{AreMeasured, content_of};
+ghost use Rattle.interface_ingress.specs.Incoming.{AreMeasured, content_of};
 ghost use Rattle.interface_ingress.specs.Arrives.{IfCanGo, reply_of};
-ghost use Rattle.interface_pass.specs.Host.{sender};
+ghost use Rattle.interface.specs.Host.{sender};
 ghost use Rattle.interface.specs.State.{state, host, KeepsSettings};
 ghost use Rattle.interface.specs.Ingress.{is_read, Replied, Receives, Reads, Takes};
 
-use interface_egress::{ArpFrame, Fragmenter, dispatch, send};
-use interface_frames::{Incoming, read};
+use interface_egress::{ArpFrame, Fragmenter, SocketStorage, dispatch, send};
 use interface_ingress::laws::same_settings;
-use interface_ingress::{Reply, bring, keep, release, take_in, whole};
-use interface_sockets::SocketStorage;
+use interface_ingress::{Incoming, Reply, bring, keep, read, release, take_in, whole};
 use interface_tables::{InterfaceInner, PacketAssemblerSet};
 use net_base::{Device, Duration, RxToken};
 use sockets::{Context, Socket};

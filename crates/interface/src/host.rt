@@ -9,7 +9,7 @@ ghost use Rattle.interface_tables.specs.declared.route.Route.{Route};
 ghost use Rattle.interface_tables.specs.Inner.{is_own, is_member_of};
 ghost use Rattle.interface_tables.specs.Settings.{unless, hardware_refusal, with_hardware, is_stranger, with_addresses, with_any_ip, with_routes};
 ghost use Rattle.interface_tables.specs.Source.{first_v4, first_v6, source_for, source_v4, source_v6};
-ghost use Rattle.interface_pass.specs.Host.{host_at, maintained};
+ghost use Rattle.interface.specs.Host.{host_at, maintained};
 ghost use Rattle.interface.specs.Made.{Makes, with_inner, with_timeout};
 
 use arrayvec::ArrayVec;
@@ -40,7 +40,7 @@ pub struct Interface {
 }
 
 impl Model for Interface {
-    ghost use Rattle.interface_pass.specs.Host.{HostValue};
+    ghost use Rattle.interface.specs.Host.{HostValue};
     ghost use Rattle.interface.specs.Made.{IsIdleIfFresh};
 
     ghost Value = { HostValue };

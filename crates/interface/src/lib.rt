@@ -1,18 +1,26 @@
-//! An interface: a host at a device, whose sockets send and receive.
+//! An interface: a host at a device, whose sockets take turns to send, and receive.
 //!
-//! It passes on what is set at it and lies in it: `interface_tables` and `interface_sockets`.
+//! It passes on what is set at it and lies in it: `interface_tables` and `interface_egress`.
 #![tactic(auto)]
 
 mod arrival;
 mod host;
+mod instant;
+mod passes;
 mod poll;
+mod step;
+mod turn;
 
 pub use host::Interface;
-pub use interface_sockets::{
+pub use instant::{earlier, place_instant, poll_instant};
+pub use interface_egress::{
     AddError, Handles, Item, Iter, Meta, SocketHandle, SocketSet, SocketStorage,
 };
 pub use interface_tables::{
     Config, HardwareAddrError, InterfaceInner, NewError, NotUnicast, Route, RouteTableFull, Routes,
     TABLE_ROOM,
 };
+pub use passes::pass;
 pub use poll::{PollIngressSingleResult, PollResult};
+pub use step::egress;
+pub use turn::{Turned, take_turn};

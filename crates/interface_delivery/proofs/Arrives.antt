@@ -28,11 +28,11 @@ use Rattle.socket_base.specs.Packet.{PacketValue, PayloadValue, packet_of, paylo
 use Rattle.socket_base.proofs.Lengths.{Lengths, length-payload}
 use Rattle.interface_tables.specs.Inner.{InnerValue}
 use Rattle.interface_tables.specs.Pieces.{Piece}
-use Rattle.interface_frames.specs.Incoming.{IsIncoming}
-use Rattle.interface_frames.specs.Incoming as Heard
-use Rattle.interface_frames.specs.Sent as Sent
-use Rattle.interface_frames.specs.Sent.{CanFrame, AreSealed}
-use Rattle.interface_frames.proofs.Arrive.{packet-arrives, piece-arrives, arp-arrives}
+use Rattle.interface_ingress.specs.Incoming.{IsIncoming}
+use Rattle.interface_ingress.specs.Incoming as Heard
+use Rattle.interface_ingress.specs.Sent as Sent
+use Rattle.interface_ingress.specs.Sent.{CanFrame, AreSealed}
+use Rattle.interface_ingress.proofs.FramesArrive.{packet-arrives, piece-arrives, arp-arrives}
 use Rattle.interface_egress.specs.Departure.{Departure, Asks, Tells, Whole, Part, packet_frame, piece_frame, question_frame, arp_frame, arp_link, arp_request, every_station, solicited_node, solicited_station, solicitation}
 use Rattle.interface_egress.specs.GoesOut.{frame_of}
 use Rattle.interface_egress.specs.declared.frame.Question.{Question}

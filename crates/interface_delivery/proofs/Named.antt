@@ -6,9 +6,9 @@ use Rattle.ip_wire.specs.IpRepr.{IpRepr}
 use Rattle.ip_wire.specs.IpRepr.TheVariants as Ip
 use Rattle.socket_base.specs.Packet.{PayloadValue, packet_of}
 use Rattle.interface_tables.specs.Inner.{InnerValue}
-use Rattle.interface_frames.specs.Incoming.{IncomingValue, IsContent}
-use Rattle.interface_frames.specs.Sent.{AreSealed}
-use Rattle.interface_frames.proofs.OneContent.{one-content}
+use Rattle.interface_ingress.specs.Incoming.{IncomingValue, IsContent}
+use Rattle.interface_ingress.specs.Sent.{AreSealed}
+use Rattle.interface_ingress.proofs.OneContent.{one-content}
 use Rattle.interface_egress.specs.Departure.{Departure, Asks, Tells, Whole, Part}
 use Rattle.interface_egress.specs.GoesOut.{frame_of}
 use Rattle.interface_egress.specs.declared.frame.Question.TheVariants as Query

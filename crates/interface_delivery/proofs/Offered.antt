@@ -10,8 +10,8 @@ use Rattle.ip_wire.specs.IpRepr.TheVariants as Ip
 use Rattle.ip_wire.specs.Ipv4Repr.{Ipv4Repr}
 use Rattle.socket_base.specs.Packet.{PacketValue, PayloadValue, ControlV4, ControlV6, Bytes, Datagram, Segment, packet_of, PayloadFits, IsSendable, payload_written}
 use Rattle.interface_tables.specs.Inner.{InnerValue}
-use Rattle.interface_frames.specs.Sent.{CanBeRead, AreSealed}
-use Rattle.interface_frames.proofs.Arrive.{payload-arrives}
+use Rattle.interface_ingress.specs.Sent.{CanBeRead, AreSealed}
+use Rattle.interface_ingress.proofs.FramesArrive.{payload-arrives}
 use Rattle.interface_egress.specs.Departure.{Departure, Asks, Whole}
 use Rattle.interface_egress.specs.Fragments.{LeftValue, piece_room, next_piece, next_departure, left_after}
 use Rattle.interface_egress.specs.GoesOut.{GoesOut, PieceGoesOut, Departs, numbered_v4, numbered_header, numbered, cut_of}

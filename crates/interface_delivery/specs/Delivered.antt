@@ -18,8 +18,8 @@ use Rattle.socket_base.specs.Packet.{PacketValue, IsSendable, payload_written}
 use Rattle.socket_base.specs.Widths.{IsPayload}
 use Rattle.interface_tables.specs.Inner.{InnerValue}
 use Rattle.interface_tables.specs.Pieces as Pieces
-use Rattle.interface_frames.specs.Incoming.{IncomingValue, Arp, Ip4, Ip6}
-use Rattle.interface_frames.specs.Sent.{ether_for, uncut}
+use Rattle.interface_ingress.specs.Incoming.{IncomingValue, Arp, Ip4, Ip6}
+use Rattle.interface_ingress.specs.Sent.{ether_for, uncut}
 use Rattle.interface_egress.specs.Departure.{Departure, Asks, Tells, Whole, Part, arp_link, arp_request, solicited_station, solicitation}
 use Rattle.interface_egress.specs.declared.frame.Question.{Question}
 use Rattle.interface_egress.specs.declared.frame.Question.TheVariants as Query

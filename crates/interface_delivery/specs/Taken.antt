@@ -8,9 +8,9 @@ use Rattle.ip_wire.specs.Ipv4 as Ipv4
 use Rattle.socket_base.specs.Packet.{PacketValue, payload_written}
 use Rattle.socket_base.specs.Widths.{IsPayload}
 use Rattle.interface_tables.specs.Inner.{InnerValue}
-use Rattle.interface_frames.specs.Incoming.{IsContent}
-use Rattle.interface_frames.specs.Carried.{IsCarriedContent}
-use Rattle.interface_frames.specs.Sent.{AreSealed, normal_payload}
+use Rattle.interface_ingress.specs.Incoming.{IsContent}
+use Rattle.interface_ingress.specs.Carried.{IsCarriedContent}
+use Rattle.interface_ingress.specs.Sent.{AreSealed, normal_payload}
 use Rattle.interface_egress.specs.Departure.{Departure}
 use Rattle.interface_egress.specs.Fragments.{LeftValue}
 use Rattle.interface_egress.specs.GoesOut.{frame_of}

@@ -1,3 +1,5 @@
+pub mod Updated
+pub mod Used
 pub mod Planned
 pub mod Short
 pub mod InTurn

@@ -1,3 +1,6 @@
+pub mod Meta
+pub mod Set
+pub mod Used
 pub mod Emits
 pub mod Departure
 pub mod Fragments

@@ -1,4 +1,4 @@
-//! What follows from the definitions.
+//! What follows from the definitions of what goes out.
 ghost use Rattle.std.specs.Prelude.{◌≡◌, ℕ, ◌+◌, ◌*◌, ◌%◌, ◌^◌, ◌<◌, ◌≤◌, Bool, false, List, ◌++◌, length, take, drop, int_lt, Option, Some, IfSome, IsTrue};
 ghost use Rattle.std.specs.List.{AllByRecursion, flat_map};
 ghost use Rattle.net_base.specs.Capabilities.{computes};

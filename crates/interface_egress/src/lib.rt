@@ -1,5 +1,5 @@
-//! The way out of an interface: where a packet goes, the frames that carry it, and the pieces of a datagram that is too long
-//! for one frame.
+//! The way out of an interface: which sockets may send, where a packet goes, the frames that carry it, and the pieces of a
+//! datagram that is too long for one frame.
 #![tactic(auto)]
 
 mod fill;
@@ -7,10 +7,15 @@ mod fragmenter;
 mod frame;
 pub mod laws;
 mod plan;
+pub mod socket_laws;
+mod socket_meta;
+mod socket_set;
 mod way_out;
 
 pub use fill::{Fill, send};
 pub use fragmenter::{Cut, Fragmenter, Left, MAX_CUT_PAYLOAD};
 pub use frame::{ArpFrame, Piece, Question, Whole, ask};
 pub use plan::{Plan, plan_for};
+pub use socket_meta::{Meta, Waiting};
+pub use socket_set::{AddError, Handles, Item, Iter, SocketHandle, SocketSet, SocketStorage};
 pub use way_out::{Sent, dispatch, send_next};

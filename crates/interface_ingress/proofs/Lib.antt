@@ -1,3 +1,10 @@
+pub mod One
+pub mod OneMessage
+pub mod Readers
+pub mod OneContent
+pub mod FramesArrive
+pub mod Measured
+pub mod Hearing
 pub mod AtPlace
 pub mod Sizes
 pub mod Kept

@@ -12,9 +12,9 @@ use Rattle.ip_wire.specs.TcpHeader.{TcpHeader}
 use Rattle.ip_wire.specs.declared.arp.repr.ArpRepr.{ArpRepr}
 use Rattle.ip_wire.specs.declared.ethernet.repr.EthernetRepr.{EthernetRepr}
 use Rattle.socket_base.specs.Packet.{PayloadValue, ControlV4, ControlV6, Bytes, Datagram, Segment}
-use Rattle.interface_frames.specs.Carried.{IsCarriedContent}
-use Rattle.interface_frames.specs.Incoming.{IncomingValue, Arp, Ip4, Ip6}
-use Rattle.interface_replies.specs.Arp.{counts, learned, arp_arrived}
+use Rattle.interface_ingress.specs.Carried.{IsCarriedContent}
+use Rattle.interface_ingress.specs.Incoming.{IncomingValue, Arp, Ip4, Ip6}
+use Rattle.interface_ingress.specs.Arp.{counts, learned, arp_arrived}
 use Rattle.interface_tables.specs.Inner.{InnerValue, context_of}
 use Rattle.interface_tables.specs.Neighbor.{CacheValue}
 use Rattle.interface_ingress.specs.Arrives.{Arrived, ArrivesV4, ArrivesV6, Brings, Hands, is_direct, sender_of, renewed, renewed_by}

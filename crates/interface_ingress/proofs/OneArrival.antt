@@ -5,8 +5,8 @@ use Rattle.ip_wire.specs.IpRepr.{IpRepr}
 use Rattle.ip_wire.specs.IpRepr.TheVariants as Ip
 use Rattle.ip_wire.specs.declared.ethernet.repr.EthernetRepr.{EthernetRepr}
 use Rattle.socket_base.specs.Packet.{PayloadValue}
-use Rattle.interface_frames.specs.Incoming.{IncomingValue, Arp, Ip4, Ip6}
-use Rattle.interface_frames.proofs.OneContent.{one-content, one-carried-content}
+use Rattle.interface_ingress.specs.Incoming.{IncomingValue, Arp, Ip4, Ip6}
+use Rattle.interface_ingress.proofs.OneContent.{one-content, one-carried-content}
 use Rattle.interface_tables.specs.Inner.{InnerValue}
 use Rattle.interface_ingress.specs.Arrives.{Arrived, Arrives, ArrivesAs, ArrivesV4, ArrivesV6, Brings, Hands, IsHanded, IsSilent, answered, renewed, whole_after}
 use Rattle.interface_ingress.specs.Delivered.{Places, packet_delivered, is_taken_raw}

@@ -12,10 +12,10 @@ use Rattle.ip_wire.specs.declared.arp.repr.ArpRepr.{ArpRepr}
 use Rattle.ip_wire.specs.declared.arp.repr.ArpRepr.TheVariants as Arps
 use Rattle.ip_wire.specs.declared.ethernet.repr.EthernetRepr.{EthernetRepr}
 use Rattle.socket_base.specs.Packet.{PayloadValue, ControlV4, ControlV6, Bytes, Datagram, Segment}
-use Rattle.interface_control.specs.Heard.{neighbor_heard, with_entries_of}
-use Rattle.interface_control.proofs.Hearing.{entries-alone}
-use Rattle.interface_frames.specs.Incoming.{IncomingValue, Arp, Ip4, Ip6}
-use Rattle.interface_replies.specs.Arp.{counts, learned, arp_arrived}
+use Rattle.interface_ingress.specs.Heard.{neighbor_heard, with_entries_of}
+use Rattle.interface_ingress.proofs.Hearing.{entries-alone}
+use Rattle.interface_ingress.specs.Incoming.{IncomingValue, Arp, Ip4, Ip6}
+use Rattle.interface_ingress.specs.Arp.{counts, learned, arp_arrived}
 use Rattle.interface_tables.specs.Inner.{InnerValue, context_of}
 use Rattle.interface_ingress.specs.Arrives.{Arrived, ArrivesV4, ArrivesV6, Brings, Hands, is_direct, sender_of, renewed, renewed_by}
 use Rattle.interface_ingress.specs.Delivered.{Places, drawn_if, packet_delivered, is_taken_raw, segment_draws}

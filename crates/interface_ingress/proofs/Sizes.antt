@@ -10,7 +10,7 @@ use Rattle.ip_wire.specs.Ip.{Fits, payload_len_in}
 use Rattle.ip_wire.specs.IpRepr.{IpRepr}
 use Rattle.ip_wire.specs.IpRepr.TheVariants as Ip
 use Rattle.socket_base.specs.Packet.{PayloadValue, ControlV4, ControlV6, Bytes, Datagram, Segment}
-use Rattle.interface_frames.specs.Carried.{IsCarriedContent}
+use Rattle.interface_ingress.specs.Carried.{IsCarriedContent}
 use Rattle.interface_ingress.specs.Handed.{FitsBack}
 
 -- MESSAGES

@@ -11,10 +11,10 @@ use Rattle.ip_wire.specs.Ipv4Repr.{Ipv4Repr}
 use Rattle.ip_wire.specs.Ipv6Repr.{Ipv6Repr}
 use Rattle.ip_wire.specs.declared.arp.repr.ArpRepr.{ArpRepr}
 use Rattle.socket_base.specs.Packet.{PacketValue, PayloadValue, IsSendable, packet_value}
-use Rattle.interface_frames.specs.Carried.{IsCarriedContent}
-use Rattle.interface_frames.specs.Incoming.{IncomingValue, Arp, Ip4, Ip6, IsContent}
-use Rattle.interface_replies.specs.Arp.{arp_arrived, arp_answer}
-use Rattle.interface_replies.specs.Replies.{is_one_host}
+use Rattle.interface_ingress.specs.Carried.{IsCarriedContent}
+use Rattle.interface_ingress.specs.Incoming.{IncomingValue, Arp, Ip4, Ip6, IsContent}
+use Rattle.interface_ingress.specs.Arp.{arp_arrived, arp_answer}
+use Rattle.interface_ingress.specs.Replies.{is_one_host}
 use Rattle.interface_tables.specs.Inner.{InnerValue, is_for_us, with_renewal}
 use Rattle.interface_ingress.specs.Delivered.{Places, is_taken_raw, packet_delivered}
 use Rattle.interface_ingress.specs.Handed.{handed_host, handed_places, handed_reply}

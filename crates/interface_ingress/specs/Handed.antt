@@ -14,8 +14,8 @@ use Rattle.ip_wire.specs.Ipv6Repr.{Ipv6Repr}
 use Rattle.ip_wire.specs.TcpHeader.{TcpHeader}
 use Rattle.ip_wire.specs.UdpRepr.{UdpRepr}
 use Rattle.socket_base.specs.Packet.{PacketValue, PayloadValue, ControlV4, ControlV6, Bytes, Datagram, Segment}
-use Rattle.interface_control.specs.Heard.{neighbor_heard}
-use Rattle.interface_replies.specs.Replies.{echo_v4, echo_v6, port_unreachable, protocol_unreachable}
+use Rattle.interface_ingress.specs.Heard.{neighbor_heard}
+use Rattle.interface_ingress.specs.Replies.{echo_v4, echo_v6, port_unreachable, protocol_unreachable}
 use Rattle.interface_tables.specs.Inner.{InnerValue, context_of}
 use Rattle.interface_ingress.specs.Delivered.{Places, icmpv4_delivered, icmpv6_delivered, datagram_place, datagram_delivered, segment_answer, segment_delivered, segment_draws, drawn_if}
 

@@ -14,11 +14,11 @@ use Rattle.ip_wire.specs.declared.ethernet.repr.EthernetRepr.{EthernetRepr}
 use Rattle.net_base.specs.ChecksumCapabilities.{ChecksumCapabilities}
 use Rattle.sockets.specs.declared.socket.Socket.{Socket}
 use Rattle.sockets.specs.declared.socket.Socket.TheVariants as Kind
-use Rattle.interface_frames.specs.Carried.{IsSegment}
-use Rattle.interface_frames.specs.Incoming.{IncomingValue, Arp, Ip4, Ip6}
-use Rattle.interface_sockets.specs.declared.socket_set.Item.{Item}
-use Rattle.interface_sockets.specs.declared.socket_set.SocketStorage.{SocketStorage}
-use Rattle.interface_replies.specs.Arp.{learned}
+use Rattle.interface_ingress.specs.Carried.{IsSegment}
+use Rattle.interface_ingress.specs.Incoming.{IncomingValue, Arp, Ip4, Ip6}
+use Rattle.interface_egress.specs.declared.socket_set.Item.{Item}
+use Rattle.interface_egress.specs.declared.socket_set.SocketStorage.{SocketStorage}
+use Rattle.interface_ingress.specs.Arp.{learned}
 use Rattle.interface_tables.specs.Inner.{InnerValue}
 use Rattle.interface_tables.specs.Neighbor.{CacheValue, renewed}
 use Rattle.interface_ingress.specs.Delivered.{Places}

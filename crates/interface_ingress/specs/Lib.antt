@@ -1,3 +1,9 @@
+pub mod Incoming
+pub mod Carried
+pub mod Sent
+pub mod Heard
+pub mod Arp
+pub mod Replies
 pub mod Delivered
 pub mod Reassembled
 pub mod Handed

@@ -10,8 +10,8 @@ use Rattle.ip_wire.specs.Ipv4Address.{Ipv4Address}
 use Rattle.ip_wire.specs.Ipv4FragKey.{Ipv4FragKey}
 use Rattle.ip_wire.specs.Ipv4Piece.{Ipv4Piece}
 use Rattle.ip_wire.specs.Ipv4Repr.{Ipv4Repr}
-use Rattle.interface_frames.specs.Incoming.{IncomingValue, Arp, Ip4, Ip6}
-use Rattle.interface_replies.specs.Replies.{is_one_host}
+use Rattle.interface_ingress.specs.Incoming.{IncomingValue, Arp, Ip4, Ip6}
+use Rattle.interface_ingress.specs.Replies.{is_one_host}
 use Rattle.interface_tables.specs.Inner.{InnerValue}
 use Rattle.interface_tables.specs.Reassembly.{SlotValue, freed, place_for}
 use Rattle.interface_tables.specs.Slots.{changed_at, completed_at, with_piece_of}

@@ -12,7 +12,7 @@ ghost use Rattle.interface_ingress.specs.Delivered.{is_taken_raw, packet_deliver
 
 use crate::places::{Arrival, first_place, give_all, give_at, is_for_any};
 use control_wire::{Icmpv4Repr, Icmpv6Repr};
-use interface_sockets::{Item, SocketStorage};
+use interface_egress::{Item, SocketStorage};
 use interface_tables::InterfaceInner;
 use ip_wire::{IpRepr, Ipv4Repr, Ipv6Repr, TcpRepr, UdpRepr};
 use net_base::PacketMeta;

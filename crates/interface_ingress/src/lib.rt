@@ -1,14 +1,26 @@
-//! What a frame brings to a host: to its tables, its slots and its sockets, and what is answered at once.
+//! The way in of an interface: what a frame carries, what it brings to a host's tables, slots and sockets, and what is answered
+//! at once.
 #![tactic(auto)]
 
+pub mod arp;
 mod arrive;
+mod carried;
+pub mod control_laws;
 mod deliver;
+pub mod frame_laws;
 mod hand;
+mod heard;
+mod icmp_reply;
+mod incoming;
 pub mod laws;
 mod places;
 mod reassemble;
 mod reply;
 
 pub use arrive::bring;
+pub use carried::read_payload;
+pub use heard::hear;
+pub use icmp_reply::{echo_ipv4, echo_ipv6, is_one_host, port_unreachable, protocol_unreachable};
+pub use incoming::{Incoming, read};
 pub use reassemble::{keep, release, take_in, whole};
 pub use reply::Reply;

@@ -4,7 +4,7 @@ ghost use Rattle.std.specs.List.{list_any};
 ghost use Rattle.std.specs.Option.{ForSome};
 ghost use Rattle.interface_ingress.specs.Delivered.{given, with_change, passes, all_given, first_place, changed_at};
 
-use interface_sockets::SocketStorage;
+use interface_egress::SocketStorage;
 use sockets::Socket;
 
 /// Something that arrived for sockets of one kind.

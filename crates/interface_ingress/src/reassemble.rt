@@ -4,11 +4,11 @@ ghost use Rattle.std.specs.Option.{ForSome, option_copied};
 ghost use Rattle.net_base.specs.Time.{IsMoment};
 ghost use Rattle.ip_wire.specs.AddressTests.{is_same_hardware};
 ghost use Rattle.ip_wire.specs.HardwareAddress.TheVariants as Hardware;
-ghost use Rattle.interface_frames.specs.Incoming.{AreMeasured, content_of, incoming_value};
+ghost use Rattle.interface_ingress.specs.Incoming.{AreMeasured, content_of, incoming_value};
 ghost use Rattle.interface_ingress.specs.Reassembled.{is_heard, is_sender, is_taken_in, taken_in, is_piece, given_up_at, place_of, place_in, with_piece, kept, bytes_at, rebuilt, whole_of, released};
 
-use interface_frames::Incoming;
-use interface_replies::is_one_host;
+use crate::icmp_reply::is_one_host;
+use crate::incoming::Incoming;
 use interface_tables::{InterfaceInner, PacketAssemblerSet};
 use ip_wire::{
     AddressExt, EthernetAddress, EthernetRepr, HardwareAddress, IPV4_HEADER_LEN, Ipv4Address,

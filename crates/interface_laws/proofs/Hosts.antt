@@ -4,8 +4,8 @@ use Rattle.net_base.specs.Device.{Move}
 use Rattle.interface_tables.specs.Inner.{InnerValue, at_moment}
 use Rattle.interface_egress.specs.Departing.{HasSettingsOf}
 use Rattle.interface_ingress.specs.Kept.{HasSameSettings}
-use Rattle.interface_pass.specs.SameHost.{IsSameHost}
-use Rattle.interface_pass.proofs.SameHost.{place_same}
+use Rattle.interface.specs.SameHost.{IsSameHost}
+use Rattle.interface.proofs.SameHost.{place_same}
 use Rattle.interface.specs.State.{State}
 use Rattle.interface.specs.Ingress.{Takes}
 use Rattle.interface.specs.Polls.{Polls}

@@ -3,12 +3,12 @@ use Rattle.std.proofs.Common.{◌≡◌, ℕ, zero, suc, ℤ, Bool, true, false,
 use Rattle.net_base.specs.Device.{Move}
 use Rattle.sockets.specs.declared.socket.Socket.{Socket}
 use Rattle.interface_tables.specs.Inner.{InnerValue}
-use Rattle.interface_sockets.specs.declared.socket_set.SocketStorage.{SocketStorage}
+use Rattle.interface_egress.specs.declared.socket_set.SocketStorage.{SocketStorage}
 use Rattle.interface_egress.specs.Fragments.{LeftValue}
-use Rattle.interface_pass.specs.Host.{HostValue, Sender, sender}
-use Rattle.interface_pass.specs.Pass.{Pass, Passed}
-use Rattle.interface_pass.specs.Egress.{Clears, Egress}
-use Rattle.interface_pass.specs.declared.turn.Turned.TheVariants as Turn
+use Rattle.interface.specs.Host.{HostValue, Sender, sender}
+use Rattle.interface.specs.Pass.{Pass, Passed}
+use Rattle.interface.specs.WayOut.{Clears, Egress}
+use Rattle.interface.specs.declared.turn.Turned.TheVariants as Turn
 use Rattle.interface.specs.State.{State}
 use Rattle.interface.specs.Egress.{EgressStep, behind}
 use Rattle.interface.specs.Ingress.{IngressStep}

@@ -9,8 +9,8 @@ use Rattle.socket_base.specs.declared.offer.Offer.TheVariants as Offer
 use Rattle.sockets.specs.Socket.{Offers, offered_by}
 use Rattle.sockets.specs.declared.socket.Socket.{Socket}
 use Rattle.interface_tables.specs.Inner.{InnerValue, context_of}
-use Rattle.interface_sockets.specs.declared.socket_set.Item.{Item}
-use Rattle.interface_sockets.specs.declared.socket_set.SocketStorage.{SocketStorage}
+use Rattle.interface_egress.specs.declared.socket_set.Item.{Item}
+use Rattle.interface_egress.specs.declared.socket_set.SocketStorage.{SocketStorage}
 use Rattle.interface_egress.specs.Departing.{SendsOnce, departure_by, was_taken}
 use Rattle.interface_egress.specs.Departure as Departures
 use Rattle.interface_egress.specs.Departure.{Departure}
@@ -21,17 +21,17 @@ use Rattle.interface_egress.specs.Plan.{plan_of}
 use Rattle.interface_egress.specs.declared.way_out.Sent.{Sent}
 use Rattle.interface_egress.proofs.Changes.{changes, piece_sends}
 use Rattle.interface_egress.proofs.OneWay.{one_way, one_piece}
-use Rattle.interface_frames.specs.Incoming.{IncomingValue}
-use Rattle.interface_frames.proofs.OneContent.{one-content}
+use Rattle.interface_ingress.specs.Incoming.{IncomingValue}
+use Rattle.interface_ingress.proofs.OneContent.{one-content}
 use Rattle.interface_ingress.specs.Arrives as Replies
 use Rattle.interface_ingress.specs.Arrives.{ReplyValue, Arrived, ArrivesAs}
 use Rattle.interface_ingress.proofs.OneArrival.{one_arrives_as}
-use Rattle.interface_pass.specs.Host.{Sender}
-use Rattle.interface_pass.specs.Pass.{Pass, Passed, passed}
-use Rattle.interface_pass.specs.Egress.{Clears, Egress, PieceLeaves}
-use Rattle.interface_pass.specs.Turn.{Leaves, SendsBy, Answers, TurnsIf, ItemTurns, PlaceTurns, is_waiting, let_through, turned_by, settled_by}
-use Rattle.interface_pass.specs.declared.turn.Turned.{Turned}
-use Rattle.interface_pass.specs.declared.turn.Turned.TheVariants as Turn
+use Rattle.interface.specs.Host.{Sender}
+use Rattle.interface.specs.Pass.{Pass, Passed, passed}
+use Rattle.interface.specs.WayOut.{Clears, Egress, PieceLeaves}
+use Rattle.interface.specs.Turn.{Leaves, SendsBy, Answers, TurnsIf, ItemTurns, PlaceTurns, is_waiting, let_through, turned_by, settled_by}
+use Rattle.interface.specs.declared.turn.Turned.{Turned}
+use Rattle.interface.specs.declared.turn.Turned.TheVariants as Turn
 use Rattle.interface.specs.State.{State, at_device}
 use Rattle.interface.specs.Egress.{EgressStep, sending, behind, if_changed}
 use Rattle.interface.specs.Ingress.{IngressStep, Takes, Receives, Reads, Replied, is_read, sender_of, sender_with}

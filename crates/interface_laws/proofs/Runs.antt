@@ -3,18 +3,18 @@ use Rattle.std.proofs.Common.{◌≡◌, ℤ, Bool, true, false, Option, Some, N
 use Rattle.net_base.specs.Device.{Move}
 use Rattle.sockets.specs.declared.socket.Socket.{Socket}
 use Rattle.interface_tables.specs.Inner.{InnerValue, at_moment}
-use Rattle.interface_sockets.specs.declared.socket_set.SocketStorage.{SocketStorage}
-use Rattle.interface_frames.specs.Incoming.{IncomingValue}
+use Rattle.interface_egress.specs.declared.socket_set.SocketStorage.{SocketStorage}
+use Rattle.interface_ingress.specs.Incoming.{IncomingValue}
 use Rattle.interface_ingress.specs.Arrives as Replies
 use Rattle.interface_ingress.specs.Arrives.{ReplyValue, whole_after}
 use Rattle.interface_ingress.specs.Kept.{HasSameSettings}
 use Rattle.interface_ingress.specs.Reassembled.{taken_in}
 use Rattle.interface_ingress.proofs.Settings.{brings_same}
-use Rattle.interface_pass.specs.Host.{Sender}
-use Rattle.interface_pass.specs.SameHost.{IsSameHost}
-use Rattle.interface_pass.specs.Turn.{PlaceTurns}
-use Rattle.interface_pass.specs.declared.turn.Turned.{Turned}
-use Rattle.interface_pass.proofs.SameHost.{same_where, goes_out_same, place_same}
+use Rattle.interface.specs.Host.{Sender}
+use Rattle.interface.specs.SameHost.{IsSameHost}
+use Rattle.interface.specs.Turn.{PlaceTurns}
+use Rattle.interface.specs.declared.turn.Turned.{Turned}
+use Rattle.interface.proofs.SameHost.{same_where, goes_out_same, place_same}
 use Rattle.interface.specs.State.{State}
 use Rattle.interface.specs.Ingress.{Takes, Receives, Replied, sender_of, sender_with}
 use Rattle.interface_laws.specs.Kept.{RunsAt}

@@ -12,8 +12,8 @@ use Rattle.socket_base.specs.declared.offer.Offer.TheVariants as Offer
 use Rattle.sockets.specs.Socket.{offered_by}
 use Rattle.sockets.specs.declared.socket.Socket.{Socket}
 use Rattle.interface_tables.specs.Inner.{InnerValue, at_moment, with_silence, with_next_ident}
-use Rattle.interface_sockets.specs.declared.socket_set.Item.{Item}
-use Rattle.interface_sockets.specs.declared.socket_set.SocketStorage.{SocketStorage}
+use Rattle.interface_egress.specs.declared.socket_set.Item.{Item}
+use Rattle.interface_egress.specs.declared.socket_set.SocketStorage.{SocketStorage}
 use Rattle.interface_egress.specs.Departure as Departures
 use Rattle.interface_egress.specs.Departure.{Departure, frame_from, len_from}
 use Rattle.interface_egress.specs.Emits.{Emits}
@@ -27,10 +27,10 @@ use Rattle.interface_egress.proofs.Planned.{plan_cases, MayAsk}
 use Rattle.interface_ingress.specs.Arrives as Replies
 use Rattle.interface_ingress.specs.Arrives.{ReplyValue}
 use Rattle.interface_ingress.specs.Kept.{HasSameSettings}
-use Rattle.interface_pass.specs.Host.{Sender}
-use Rattle.interface_pass.specs.Egress.{PieceLeaves}
-use Rattle.interface_pass.specs.Turn.{Leaves, SendsBy, Answers, TurnsIf, ItemTurns, PlaceTurns, is_waiting, let_through}
-use Rattle.interface_pass.specs.declared.turn.Turned.{Turned}
+use Rattle.interface.specs.Host.{Sender}
+use Rattle.interface.specs.WayOut.{PieceLeaves}
+use Rattle.interface.specs.Turn.{Leaves, SendsBy, Answers, TurnsIf, ItemTurns, PlaceTurns, is_waiting, let_through}
+use Rattle.interface.specs.declared.turn.Turned.{Turned}
 use Rattle.interface.specs.State.{State}
 use Rattle.interface.specs.Ingress.{Takes, Replied}
 use Rattle.interface.specs.Polls.{Polls}

@@ -3,12 +3,12 @@ use Rattle.std.specs.Prelude.{◌≡◌, ℕ, ◌+◌, ◌≤◌, ℤ, Bool, fal
 use Rattle.net_base.specs.Device.{Move}
 use Rattle.sockets.specs.declared.socket.Socket.{Socket}
 use Rattle.interface_tables.specs.Inner.{InnerValue}
-use Rattle.interface_sockets.specs.declared.socket_set.SocketStorage.{SocketStorage}
+use Rattle.interface_egress.specs.declared.socket_set.SocketStorage.{SocketStorage}
 use Rattle.interface_egress.specs.Fragments.{LeftValue}
-use Rattle.interface_pass.specs.Host.{HostValue, Sender}
-use Rattle.interface_pass.specs.Egress.{PieceLeaves}
-use Rattle.interface_pass.specs.Turn.{PlaceTurns}
-use Rattle.interface_pass.specs.declared.turn.Turned.{Turned}
+use Rattle.interface.specs.Host.{HostValue, Sender}
+use Rattle.interface.specs.WayOut.{PieceLeaves}
+use Rattle.interface.specs.Turn.{PlaceTurns}
+use Rattle.interface.specs.declared.turn.Turned.{Turned}
 use Rattle.interface.specs.State.{State, state}
 use Rattle.interface.specs.Ingress.{Takes}
 use Rattle.interface.specs.Polls.{begun}

@@ -1,7 +1,6 @@
 //! Frames that come in: worked examples, and changes of them.
 use control_wire::{Icmpv4Repr, Icmpv6Repr, NdiscNeighborFlags, NdiscRepr};
-use interface_control::hear;
-use interface_frames::{Incoming, read, read_payload};
+use interface_ingress::{Incoming, hear, read, read_payload};
 use interface_tables::{Answer, Config, InterfaceInner};
 use ip_wire::{
     ArpOperation, ArpRepr, EthernetAddress, EthernetProtocol, EthernetRepr, HardwareAddress,

@@ -1,4 +1,4 @@
-use interface_sockets::Meta;
+use interface_egress::Meta;
 use ip_wire::{IpAddress, Ipv4Address};
 use net_base::{Duration, Instant};
 use socket_base::PollAt;

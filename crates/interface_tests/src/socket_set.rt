@@ -1,4 +1,4 @@
-use interface_sockets::{AddError, SocketHandle, SocketSet, SocketStorage};
+use interface_egress::{AddError, SocketHandle, SocketSet, SocketStorage};
 use net_base::ManagedSlice;
 use std::alloc::AllocError;
 use std::process::Abort;

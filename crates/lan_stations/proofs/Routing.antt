@@ -2,7 +2,7 @@
 use Rattle.std.proofs.Common.{◌≡◌, Bool, List, subst}
 use Rattle.ip_wire.specs.IpAddress.{IpAddress}
 use Rattle.interface.specs.Made.{with_inner}
-use Rattle.interface_pass.specs.Host.{HostValue}
+use Rattle.interface.specs.Host.{HostValue}
 use Rattle.interface_tables.specs.Settings.{with_routes}
 use Rattle.interface_tables.specs.declared.route.Route.{Route}
 use Rattle.lan_net.specs.Kinds as Sets

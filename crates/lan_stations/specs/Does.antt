@@ -13,11 +13,11 @@ use Rattle.datagram_sockets.specs.declared.raw.SendError as RawErrors
 use Rattle.datagram_sockets.specs.declared.raw.SendError.TheVariants as RawSend
 use Rattle.tcp_model.specs.Calls.{connect_draws}
 use Rattle.tcp_model.specs.declared.state.State as States
-use Rattle.interface_pass.specs.Host.{HostValue}
+use Rattle.interface.specs.Host.{HostValue}
 use Rattle.interface_tables.specs.Inner.{context_of, drawn}
-use Rattle.interface_sockets.specs.Set.{with_socket}
-use Rattle.interface_sockets.specs.declared.socket_set.Item.{Item}
-use Rattle.interface_sockets.specs.declared.socket_set.SocketStorage.{SocketStorage}
+use Rattle.interface_egress.specs.Set.{with_socket}
+use Rattle.interface_egress.specs.declared.socket_set.Item.{Item}
+use Rattle.interface_egress.specs.declared.socket_set.SocketStorage.{SocketStorage}
 use Rattle.sockets.specs.declared.socket.Socket.{Socket}
 use Rattle.sockets.specs.declared.socket.Socket.TheVariants as Is
 use Rattle.lan_net.specs.Call as Call

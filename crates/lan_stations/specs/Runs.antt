@@ -1,7 +1,7 @@
 -- A world of two hosts, and its runs.
 use Rattle.std.specs.Prelude.{◌≡◌, List, [], ◌∷◌, length, map, reverse, Option, None}
-use Rattle.interface_pass.specs.Host.{HostValue}
-use Rattle.interface_sockets.specs.declared.socket_set.SocketStorage.{SocketStorage}
+use Rattle.interface.specs.Host.{HostValue}
+use Rattle.interface_egress.specs.declared.socket_set.SocketStorage.{SocketStorage}
 use Rattle.lan_net.specs.History.{Entry, Counts}
 use Rattle.lan_net.specs.Kinds.{kind_of}
 use Rattle.lan_net.specs.Tables.{table_of}

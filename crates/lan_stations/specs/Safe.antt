@@ -1,7 +1,7 @@
 -- What is promised of two hosts at a link that may lose, repeat, reorder, pad, damage and cut frames, and add some.
 use Rattle.std.specs.Prelude.{◌≡◌, ℕ, ◌++◌, List, [], map, Option, None, Some}
-use Rattle.interface_sockets.specs.declared.socket_set.SocketStorage.{SocketStorage}
-use Rattle.interface_sockets.specs.Set.{socket_in, socket_at}
+use Rattle.interface_egress.specs.declared.socket_set.SocketStorage.{SocketStorage}
+use Rattle.interface_egress.specs.Set.{socket_in, socket_at}
 use Rattle.sockets.specs.declared.socket.Socket as Sockets
 use Rattle.sockets.specs.declared.socket.Socket.TheVariants as Is
 use Rattle.lan_net.specs.declared.event.Side.{Side}

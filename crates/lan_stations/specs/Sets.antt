@@ -5,8 +5,8 @@ use Rattle.ip_wire.specs.HardwareAddress.TheVariants as Hardware
 use Rattle.ip_wire.specs.IpAddress.{IpAddress}
 use Rattle.ip_wire.specs.IpAddress.TheVariants as Address
 use Rattle.interface.specs.Made.{with_inner, with_timeout}
-use Rattle.interface_pass.specs.Host.{HostValue, host_at}
-use Rattle.interface_pass.specs.Instant.{poll_instant}
+use Rattle.interface.specs.Host.{HostValue, host_at}
+use Rattle.interface.specs.Instant.{poll_instant}
 use Rattle.interface_tables.specs.Inner.{at_moment}
 use Rattle.interface_tables.specs.Route.{is_gateway_v4, is_gateway_v6, IsGateway, IsAdded, has_room}
 use Rattle.interface_tables.specs.Settings.{hardware_refusal, with_hardware, is_stranger, with_addresses, with_any_ip, with_routes}

@@ -1,9 +1,9 @@
 -- A host at the link: its interface, its sockets and its port.
 use Rattle.std.specs.Prelude.{ℕ, List, Option, None, Some}
 use Rattle.interface.specs.State.{State, state}
-use Rattle.interface_pass.specs.Host.{HostValue}
-use Rattle.interface_sockets.specs.Set.{socket_at}
-use Rattle.interface_sockets.specs.declared.socket_set.SocketStorage.{SocketStorage}
+use Rattle.interface.specs.Host.{HostValue}
+use Rattle.interface_egress.specs.Set.{socket_at}
+use Rattle.interface_egress.specs.declared.socket_set.SocketStorage.{SocketStorage}
 use Rattle.lan_net.specs.declared.event.Side.{Side}
 use Rattle.lan_net.specs.declared.event.Side.TheVariants.{A, B}
 use Rattle.lan_net.specs.declared.record.SocketKind.{SocketKind}

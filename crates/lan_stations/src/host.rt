@@ -12,7 +12,7 @@ pub struct Host {
 }
 
 impl Model for Host {
-    ghost use Rattle.interface_sockets.specs.Set.{places};
+    ghost use Rattle.interface_egress.specs.Set.{places};
     ghost use Rattle.lan_stations.specs.Station.{StationValue};
 
     ghost Value = { StationValue };

@@ -13,7 +13,7 @@ ghost use Rattle.lan_net.specs.Call as calls;
 ghost use Rattle.lan_net.specs.declared.event.TcpSetting.{TcpSetting};
 ghost use Rattle.lan_net.specs.declared.record.SocketRecord.{SocketRecord};
 ghost use Rattle.lan_net.specs.Tables.{first_refusal, call_refusal, opening_tests, record_at};
-ghost use Rattle.interface_sockets.specs.Set.{places};
+ghost use Rattle.interface_egress.specs.Set.{places};
 ghost use Rattle.lan_stations.specs.Station.{kind_at, kind_of_socket};
 ghost use Rattle.lan_stations.specs.Refusals.{is_no_place, segment_tests, cut_tests};
 

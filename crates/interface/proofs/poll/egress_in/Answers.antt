@@ -1,6 +1,6 @@
 use Rattle.std.proofs.Common.{◌≡◌, ◌++◌, length, take, drop, rules}
 use Rattle.std.proofs.lemmas.Grind.{common_steps}
-use Rattle.interface_pass.specs.Host.{sender}
+use Rattle.interface.specs.Host.{sender}
 use Rattle.interface.proofs.Stepped.{egress_to}
 use Rattle.interface.proofs.poll.egress_in.Goals as goal
 

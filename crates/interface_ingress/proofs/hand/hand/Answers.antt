@@ -1,5 +1,5 @@
 use Rattle.interface_ingress.proofs.Sizes.{fits_back}
-use Rattle.interface_frames.specs.Carried.{carried_of}
+use Rattle.interface_ingress.specs.Carried.{carried_of}
 use Rattle.interface_ingress.proofs.hand.hand.Goals as goal
 
 pub hand_carried-reply-requires-clause-back : goal.hand_carried-reply-requires-clause-back

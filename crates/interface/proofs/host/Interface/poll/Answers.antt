@@ -1,5 +1,5 @@
 use Rattle.std.proofs.Common.{refl}
-use Rattle.interface_sockets.specs.Set.{places}
+use Rattle.interface_egress.specs.Set.{places}
 use Rattle.interface.specs.State.{state}
 use Rattle.interface.proofs.Quieted.{quiet_poll}
 use Rattle.interface.proofs.Unchanged.{poll_same}

@@ -1,6 +1,6 @@
 use Rattle.std.proofs.Common.{false, subst}
-use Rattle.interface_sockets.specs.Set.{places}
-use Rattle.interface_pass.specs.Host.{HostValue}
+use Rattle.interface_egress.specs.Set.{places}
+use Rattle.interface.specs.Host.{HostValue}
 use Rattle.interface.specs.State.{state}
 use Rattle.interface.specs.Ingress.{IngressStep}
 use Rattle.interface.specs.Polls.{Repeats}

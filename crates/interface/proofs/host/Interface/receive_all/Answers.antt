@@ -1,5 +1,5 @@
 use Rattle.std.proofs.Common.{◌∙◌, arith}
-use Rattle.interface_sockets.specs.Set.{places}
+use Rattle.interface_egress.specs.Set.{places}
 use Rattle.interface.specs.State.{state}
 use Rattle.interface.specs.Ingress.{IngressStep}
 use Rattle.interface.proofs.Rounds.{one_more, last_one}

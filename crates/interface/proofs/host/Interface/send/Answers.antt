@@ -1,7 +1,7 @@
 use Rattle.std.proofs.Common.{refl, rules}
-use Rattle.interface_sockets.specs.Set.{places}
-use Rattle.interface_pass.specs.Host.{sender}
-use Rattle.interface_pass.specs.Pass.{passed}
+use Rattle.interface_egress.specs.Set.{places}
+use Rattle.interface.specs.Host.{sender}
+use Rattle.interface.specs.Pass.{passed}
 use Rattle.interface.proofs.Stepped.{egress_at}
 use Rattle.interface.proofs.host.Interface.send.Goals as goal
 

@@ -1,6 +1,6 @@
 use Rattle.std.proofs.Common.{◌∙◌, true, arith}
 use Rattle.interface_tables.specs.Inner.{at_moment}
-use Rattle.interface_sockets.specs.Set.{places}
+use Rattle.interface_egress.specs.Set.{places}
 use Rattle.interface.specs.State.{state}
 use Rattle.interface.specs.Egress.{EgressStep}
 use Rattle.interface.proofs.Rounds.{one_more, last_one}

@@ -1,5 +1,5 @@
 use Rattle.std.proofs.Common.{◌≡◌, Bool}
-use Rattle.interface_sockets.specs.Set.{places, is_fixed}
+use Rattle.interface_egress.specs.Set.{places, is_fixed}
 use Rattle.interface_egress.specs.Departing.{HasSettingsOf}
 use Rattle.interface.specs.State.{State, state}
 use Rattle.interface.specs.Egress.{EgressStep}

@@ -1,0 +1,27 @@
+-- What goes out in one step: the piece that waits, and then what the sockets have.
+use Rattle.std.specs.Prelude.{◌≡◌, Bool, true, false, ◌⊎◌, List, [], Option, None, Some}
+use Rattle.net_base.specs.Device.{Move, Allowed}
+use Rattle.interface_egress.specs.declared.socket_set.SocketStorage.{SocketStorage}
+use Rattle.sockets.specs.declared.socket.Socket.{Socket}
+use Rattle.interface_egress.specs.Fragments.{LeftValue}
+use Rattle.interface_egress.specs.GoesOut.{PieceGoesOut}
+use Rattle.interface.specs.Host.{Sender}
+use Rattle.interface.specs.Pass.{Pass, Passed, passed}
+
+module _ {D : Type 0} (moves : D → Move → D → Type 0) where
+  -- the piece goes, or the device gives no leave or refuses it
+  abbrev pub PieceLeaves : LeftValue → Sender D → Bool → Sender D → Type 0
+  PieceLeaves l s gone s' =
+      (moves s.device (Allowed false) s'.device × (gone ≡ false) × (s'.left ≡ s.left))
+      ⊎ ((mid : D) × moves s.device (Allowed true) mid × PieceGoesOut moves mid s.inner l gone s'.device s'.left)
+
+  -- nothing waits to go before the sockets' packets any more, or it couldn't go
+  abbrev pub Clears : Option LeftValue → Sender D → Bool → Sender D → Type 0
+  Clears None s clear s' = (clear ≡ true) × (s' ≡ s)
+  Clears (Some l) s clear s' = PieceLeaves l s clear s' × (s'.inner ≡ s.inner)
+
+  -- A piece that couldn't go ends the step before any socket is asked.
+  abbrev pub Egress : Sender D → List (SocketStorage Socket) → Passed D → Type 0
+  Egress s ps e =
+      ((mid : Sender D) × Clears s.left s false mid × (e ≡ passed mid ps false))
+      ⊎ ((mid : Sender D) × Clears s.left s true mid × Pass moves mid [] false ps e)

@@ -1,0 +1,72 @@
+-- The sockets of a host: places, each with a socket or free.
+use Rattle.std.specs.Prelude.{◌≡◌, ℕ, Bool, true, false, Result, Ok, Err, MatchResult, List, [], ◌∷◌, ◌++◌, length, position, slice_get, slice_set, Option, None, Some, is_none}
+use Rattle.net_containers.specs.ManagedSlice.{storage_items}
+use Rattle.net_containers.specs.declared.managed.ManagedSlice.{ManagedSlice}
+use Rattle.net_containers.specs.declared.managed.ManagedSlice.TheVariants.{Fixed, Owned}
+use Rattle.interface_egress.specs.declared.socket_meta.Meta.{Meta}
+use Rattle.interface_egress.specs.declared.socket_set.Item.{Item}
+use Rattle.interface_egress.specs.declared.socket_set.AddError.{AddError}
+use Rattle.interface_egress.specs.declared.socket_set.AddError.TheVariants.{Full, Memory}
+use Rattle.interface_egress.specs.declared.socket_set.SocketHandle.{SocketHandle}
+use Rattle.interface_egress.specs.declared.socket_set.SocketSet.{SocketSet}
+use Rattle.interface_egress.specs.declared.socket_set.SocketStorage.{SocketStorage}
+
+module _ {T : Type 0} where
+  abbrev pub free : SocketStorage T
+  free = record { inner = None }
+
+  abbrev pub unmarked : T → SocketStorage T
+  unmarked socket = record { inner = Some (record { meta = record { waiting = None }; socket = socket }) }
+
+  abbrev pub places : SocketSet T → List (SocketStorage T)
+  places set = storage_items set.sockets
+
+  abbrev pub is_fixed_storage : ManagedSlice (SocketStorage T) → Bool
+  is_fixed_storage (Fixed v) = true
+  is_fixed_storage (Owned v) = false
+
+  -- the storage never grows
+  abbrev pub is_fixed : SocketSet T → Bool
+  is_fixed set = is_fixed_storage set.sockets
+
+  abbrev pub is_free : SocketStorage T → Bool
+  is_free place = is_none place.inner
+
+  -- the first free place
+  abbrev pub free_place : List (SocketStorage T) → Option ℕ
+  free_place ps = position is_free ps
+
+  abbrev pub socket_of : Option (Item T) → Option T
+  socket_of None = None
+  socket_of (Some item) = Some item.socket
+
+  abbrev pub socket_in : Option (SocketStorage T) → Option T
+  socket_in None = None
+  socket_in (Some place) = socket_of place.inner
+
+  -- the socket of a handle
+  abbrev pub socket_at : List (SocketStorage T) → ℕ → Option T
+  socket_at ps n = socket_in (slice_get ps n)
+
+  -- A socket goes to the first free place. Without one, fixed storage is full; other storage grows by a place, or finds no
+  -- memory. A refusal hands the socket back, and the places are as they were.
+  abbrev pub Adds : Option ℕ → Bool → List (SocketStorage T) → T → Result SocketHandle (AddError T) → List (SocketStorage T) → Type 0
+  Adds (Some i) fixed old socket result new = (result ≡ Ok (record { 0 = i })) × (new ≡ slice_set old i (unmarked socket))
+  Adds None true old socket result new = (result ≡ Err (Full socket)) × (new ≡ old)
+  Adds None false old socket result new =
+      MatchResult result (λ h. (h ≡ record { 0 = length old }) × (new ≡ old ++ unmarked socket ∷ [])) (λ e. (e ≡ Memory socket) × (new ≡ old))
+
+  -- the place with another socket
+  abbrev pub with_socket : Item T → T → SocketStorage T
+  with_socket item socket = record { inner = Some (record item { socket = socket }) }
+
+  -- What a call made of the socket of a handle, where `Calls old answer new` says what the call did. Without a socket nothing
+  -- is called.
+  abbrev pub UpdatesItem : {R : Type 0} → (T → R → T → Type 0) → Option (Item T) → List (SocketStorage T) → ℕ → Option R → List (SocketStorage T) → Type 0
+  UpdatesItem Calls None old n result new = (result ≡ None) × (new ≡ old)
+  UpdatesItem {R} Calls (Some item) old n result new =
+      (r : R) × (socket : T) × (result ≡ Some r) × Calls item.socket r socket × (new ≡ slice_set old n (with_socket item socket))
+
+  abbrev pub Updates : {R : Type 0} → (T → R → T → Type 0) → Option (SocketStorage T) → List (SocketStorage T) → ℕ → Option R → List (SocketStorage T) → Type 0
+  Updates Calls None old n result new = (result ≡ None) × (new ≡ old)
+  Updates Calls (Some place) old n result new = UpdatesItem Calls place.inner old n result new

@@ -1,0 +1,41 @@
+-- The used places of a host's sockets, in order.
+use Rattle.std.specs.Prelude.{◌≡◌, ℕ, ◌+◌, ◌≤◌, ◌⊎◌, List, [], ◌∷◌, drop, map, Option, None, Some}
+use Rattle.std.specs.Borrow.{Bor}
+use Rattle.interface_egress.specs.Set.{socket_of}
+use Rattle.interface_egress.specs.declared.socket_set.Handles.{Handles}
+use Rattle.interface_egress.specs.declared.socket_set.Iter.{Iter}
+use Rattle.interface_egress.specs.declared.socket_set.SocketHandle.{SocketHandle}
+use Rattle.interface_egress.specs.declared.socket_set.SocketStorage.{SocketStorage}
+
+module _ {T : Type 0} where
+  abbrev pub with_used : ℕ → Option T → List (SocketHandle × T) → List (SocketHandle × T)
+  with_used n None rest = rest
+  with_used n (Some socket) rest = (record { 0 = n }, socket) ∷ rest
+
+  -- the sockets with their handles, where the first place has this number
+  abbrev pub used : ℕ → List (SocketStorage T) → List (SocketHandle × T)
+  used n [] = []
+  used n (place ∷ places) = with_used n (socket_of place.inner) (used (n + 1) places)
+
+  abbrev pub handle_of : SocketHandle × T → SocketHandle
+  handle_of u = u.0
+
+  -- what an iterator has left
+  abbrev pub used_left : Iter T → List (SocketHandle × T)
+  used_left i = used i.at (drop i.at i.places.now)
+
+  abbrev pub handles_left : Handles T → List SocketHandle
+  handles_left h = map handle_of (used_left h.sockets)
+
+  abbrev pub used_item : SocketHandle × Bor T → SocketHandle × T
+  used_item u = (u.0, u.1.now)
+
+  -- the sockets and handles name a socket with its number
+  abbrev pub Lists : List (SocketHandle × T) → ℕ → T → Type 0
+  Lists [] n socket = ⊥
+  Lists (u ∷ us) n socket = ((u.0.0 ≡ n) × (u.1 ≡ socket)) ⊎ Lists us n socket
+
+  -- the numbers rise, from this one on
+  abbrev pub AreFrom : ℕ → List (SocketHandle × T) → Type 0
+  AreFrom n [] = Unit {0}
+  AreFrom n (u ∷ us) = (n ≤ u.0.0) × AreFrom (u.0.0 + 1) us

@@ -1,0 +1,309 @@
+//! The sockets of a host, each at its place.
+ghost use Rattle.std.specs.Prelude.{◌≡◌, ◌<◌, ◌∷◌, ◌++◌, [], length, map, slice_get, slice_set, Some, MatchResult};
+ghost use Rattle.std.specs.Fn.{FnOnceReturnsAtMut};
+ghost use Rattle.std.specs.Option.{ForSome, option_copied, option_copied_mut};
+ghost use Rattle.net_containers.specs.ManagedSlice.{storage_items};
+ghost use Rattle.interface_egress.specs.Set.{places, is_fixed, is_fixed_storage, free, socket_at, free_place, Adds, Updates};
+ghost use Rattle.interface_egress.specs.Used.{used, used_left, handles_left, handle_of};
+
+use crate::socket_meta::Meta;
+use net_base::ManagedSlice;
+use std::{fmt, mem};
+
+/// The place of a socket in its set.
+#[derive(Clone, Copy, Debug, Default, PartialEq, Eq, PartialOrd, Ord, Hash)]
+pub struct SocketHandle(usize);
+
+impl SocketHandle {
+    /// The handle of the place with this number, from 0.
+    pub const fn at(place: usize) -> SocketHandle
+        ensures { result.0 ≡ place }
+    {
+        SocketHandle(place)
+    }
+
+    /// The number of the place, from 0.
+    pub const fn place(&self) -> usize
+        ensures { result ≡ self.now.0 }
+    {
+        self.0
+    }
+}
+
+impl fmt::Display for SocketHandle {
+    fn fmt<W: fmt::Write>(&self, f: &mut fmt::Formatter<W>) -> fmt::Result {
+        write!(f, "#{}", self.0)
+    }
+}
+
+/// A socket, and what the interface keeps beside it.
+#[derive(Debug, Drop)]
+pub struct Item<T> {
+    pub meta: Meta,
+    pub socket: T,
+}
+
+/// Storage for one socket.
+#[derive(Debug, Drop)]
+pub struct SocketStorage<T> {
+    pub inner: Option<Item<T>>,
+}
+
+impl<T> SocketStorage<T> {
+    /// Storage without a socket.
+    pub const EMPTY: SocketStorage<T> = SocketStorage { inner: None };
+}
+
+/// Why a socket wasn't added. Both hand it back.
+#[derive(Debug, Drop)]
+pub enum AddError<T> {
+    /// Each place of the fixed storage has a socket.
+    Full(T),
+    /// The storage couldn't grow.
+    Memory(T),
+}
+
+/// Sockets by their handles: in fixed storage, or in storage that grows.
+#[derive(Debug, Drop)]
+pub struct SocketSet<T> {
+    pub sockets: ManagedSlice<SocketStorage<T>>,
+}
+
+impl<T: Drop> SocketSet<T> {
+    /// A set in this storage, with the sockets that are in it.
+    pub fn new(sockets: ManagedSlice<SocketStorage<T>>) -> SocketSet<T>
+        ensures places { places result ≡ storage_items sockets }
+        ensures fixed { is_fixed result ≡ is_fixed_storage sockets }
+    {
+        SocketSet { sockets }
+    }
+
+    /// Puts a socket into the first free place, or behind the others where the storage grows.
+    pub fn add(&mut self, socket: T) -> Result<SocketHandle, AddError<T>>
+        ensures added { Adds (free_place (places self.old)) (is_fixed self.old) (places self.old) socket result (places self.new) }
+        ensures fixed { is_fixed self.new ≡ is_fixed self.old }
+    {
+        let item = Item {
+            meta: Meta::default(),
+            socket,
+        };
+        match free_place(self.sockets.as_slice()) {
+            Some(at) => match &mut self.sockets {
+                ManagedSlice::Fixed(places) => Ok(put(places, at, item)),
+                ManagedSlice::Owned(places) => Ok(put(places, at, item)),
+            },
+            None => match &mut self.sockets {
+                ManagedSlice::Fixed(_) => Err(AddError::Full(item.socket)),
+                ManagedSlice::Owned(places) => append(places, item),
+            },
+        }
+    }
+
+    /// The sockets with their handles, from the lowest place on.
+    pub fn iter(&self) -> Iter<'_, T>
+        ensures { used_left result ≡ used 0 (places self.now) }
+    {
+        Iter {
+            places: self.sockets.as_slice(),
+            at: 0,
+        }
+    }
+
+    /// The handles of the sockets, from the lowest place on.
+    pub fn handles(&self) -> Handles<'_, T>
+        ensures { handles_left result ≡ map handle_of (used 0 (places self.now)) }
+    {
+        Handles {
+            sockets: self.iter(),
+        }
+    }
+
+    /// The socket of this handle.
+    pub fn get(&self, handle: SocketHandle) -> Option<&T>
+        ensures { option_copied result ≡ socket_at (places self.now) handle.0 }
+    {
+        socket_in(self.sockets.as_slice(), handle.0)
+    }
+
+    /// Lends the socket of this handle.
+    pub fn get_mut(&mut self, handle: SocketHandle) -> Option<&mut T>
+        ensures { option_copied_mut result ≡ socket_at (places self.old) handle.0 }
+    {
+        match &mut self.sockets {
+            ManagedSlice::Fixed(places) => socket_mut(places, handle.0),
+            ManagedSlice::Owned(places) => socket_mut(places, handle.0),
+        }
+    }
+
+    /// Calls `f` on the socket of this handle, if there is one, and answers what it answers.
+    pub fn update<R: Drop, F: FnOnce(&mut T) -> R>(
+        &mut self,
+        handle: SocketHandle,
+        f: F,
+    ) -> Option<R>
+        requires { F.IsAlwaysCallable f }
+        ensures after { Updates (FnOnceReturnsAtMut F.FnOnce f) (slice_get (places self.old) handle.0) (places self.old) handle.0 result (places self.new) }
+        ensures fixed { is_fixed self.new ≡ is_fixed self.old }
+    {
+        match &mut self.sockets {
+            ManagedSlice::Fixed(places) => update_in(places, handle.0, f),
+            ManagedSlice::Owned(places) => update_in(places, handle.0, f),
+        }
+    }
+
+    /// Takes the socket of this handle out.
+    pub fn remove(&mut self, handle: SocketHandle) -> Option<T>
+        ensures value { result ≡ socket_at (places self.old) handle.0 }
+        ensures after { places self.new ≡ slice_set (places self.old) handle.0 free }
+        ensures fixed { is_fixed self.new ≡ is_fixed self.old }
+    {
+        match &mut self.sockets {
+            ManagedSlice::Fixed(places) => take(places, handle.0),
+            ManagedSlice::Owned(places) => take(places, handle.0),
+        }
+    }
+}
+
+/// The sockets of a set with their handles, from the lowest place on.
+#[derive(Drop)]
+pub struct Iter<'a, T> {
+    places: &'a [SocketStorage<T>],
+    at: usize,
+}
+
+impl<'a, T> Iterator for Iter<'a, T> {
+    ghost use Rattle.std.specs.Iterator.{YieldsFirstBy, item_count};
+    ghost use Rattle.interface_egress.specs.Used.{used_left, used_item};
+
+    type Item = (SocketHandle, &'a T);
+
+    ghost next_gives = { YieldsFirstBy used_item used_left };
+
+    ghost remaining = { item_count used_left };
+
+    #[tactic(auto, using(crate::proofs::Used::used_skip, crate::proofs::Used::used_end))]
+    fn next(&mut self) -> Option<(SocketHandle, &'a T)> {
+        while self.at < self.places.len() {
+            let at = self.at;
+            self.at += 1;
+            if let Some(socket) = socket_in(self.places, at) {
+                return Some((SocketHandle(at), socket));
+            }
+        }
+        None
+    }
+}
+
+/// The handles of a set's sockets, from the lowest place on.
+#[derive(Drop)]
+pub struct Handles<'a, T> {
+    sockets: Iter<'a, T>,
+}
+
+impl<'a, T> Iterator for Handles<'a, T> {
+    ghost use Rattle.std.specs.Iterator.{YieldsFirst, item_count};
+    ghost use Rattle.interface_egress.specs.Used.{handles_left};
+
+    type Item = SocketHandle;
+
+    ghost next_gives = { YieldsFirst handles_left };
+
+    ghost remaining = { item_count handles_left };
+
+    fn next(&mut self) -> Option<SocketHandle> {
+        match self.sockets.next() {
+            Some((handle, _)) => Some(handle),
+            None => None,
+        }
+    }
+}
+
+/// Where the first place without a socket is.
+fn free_place<T>(places: &[SocketStorage<T>]) -> Option<usize>
+    ensures place { result ≡ free_place places.now }
+    ensures in_range { ForSome result (λ at. at < length places.now) }
+{
+    places.iter().position(|place| place.inner.is_none())
+}
+
+/// Puts a socket into this place.
+fn put<T: Drop>(places: &mut Vec<SocketStorage<T>>, at: usize, item: Item<T>) -> SocketHandle
+    requires { at < length places.old.items }
+    ensures handle { result ≡ record { 0 = at } }
+    ensures after { places.new.items ≡ slice_set places.old.items at (record { inner = Some item }) }
+{
+    places[at] = SocketStorage { inner: Some(item) };
+    SocketHandle(at)
+}
+
+/// Adds a place with this socket, if there is memory for it.
+fn append<T: Drop>(
+    places: &mut Vec<SocketStorage<T>>,
+    item: Item<T>,
+) -> Result<SocketHandle, AddError<T>>
+    ensures { MatchResult result (λ h. (h ≡ record { 0 = length places.old.items }) × (places.new.items ≡ places.old.items ++ record { inner = Some item } ∷ [])) (λ e. (e ≡ AddError.Memory item.socket) × (places.new.items ≡ places.old.items)) }
+{
+    let at = places.len();
+    if places.reserve(1).is_err() {
+        return Err(AddError::Memory(item.socket));
+    }
+    match places.push(SocketStorage { inner: Some(item) }) {
+        Ok(()) => Ok(SocketHandle(at)),
+        Err(_) => unreachable!(),
+    }
+}
+
+/// The socket at this place.
+fn socket_in<T>(places: &[SocketStorage<T>], at: usize) -> Option<&T>
+    ensures { option_copied result ≡ socket_at places.now at }
+{
+    match places.get(at) {
+        Some(SocketStorage { inner: Some(item) }) => Some(&item.socket),
+        _ => None,
+    }
+}
+
+/// Lends the socket at this place.
+fn socket_mut<T>(places: &mut Vec<SocketStorage<T>>, at: usize) -> Option<&mut T>
+    ensures { option_copied_mut result ≡ socket_at places.old.items at }
+{
+    match places.get_mut(at) {
+        Some(place) => match &mut place.inner {
+            Some(item) => Some(&mut item.socket),
+            None => None,
+        },
+        None => None,
+    }
+}
+
+/// Calls `f` on the socket at this place, if there is one.
+fn update_in<T, R: Drop, F: FnOnce(&mut T) -> R>(
+    places: &mut Vec<SocketStorage<T>>,
+    at: usize,
+    f: F,
+) -> Option<R>
+    requires { F.IsAlwaysCallable f }
+    ensures { Updates (FnOnceReturnsAtMut F.FnOnce f) (slice_get places.old.items at) places.old.items at result places.new.items }
+{
+    if at >= places.len() {
+        return None;
+    }
+    match &mut places[at].inner {
+        Some(item) => Some(f(&mut item.socket)),
+        None => None,
+    }
+}
+
+/// Takes the socket out of this place, if there is one.
+fn take<T: Drop>(places: &mut Vec<SocketStorage<T>>, at: usize) -> Option<T>
+    ensures value { result ≡ socket_at places.old.items at }
+    ensures after { places.new.items ≡ slice_set places.old.items at free }
+{
+    if at >= places.len() {
+        return None;
+    }
+    match mem::replace(&mut places[at], SocketStorage { inner: None }).inner {
+        Some(item) => Some(item.socket),
+        None => None,
+    }
+}

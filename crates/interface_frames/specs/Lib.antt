@@ -1,3 +1,0 @@
-pub mod Incoming
-pub mod Carried
-pub mod Sent

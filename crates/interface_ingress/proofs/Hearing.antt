@@ -1,0 +1,109 @@
+-- What follows from how neighbour messages are heard.
+use Rattle.std.proofs.Common.{◌≡◌, ◌≢◌, ℕ, Bool, true, false, IsTrue, if◌then◌else◌, List, refl, ap, subst, inl, inr}
+use Rattle.std.specs.Prelude.{Option, Some, None, ◌&&◌, ◌||◌}
+use Rattle.std.proofs.lemmas.Bool.Decides.{eqb_tells}
+use Rattle.control_wire.specs.Ndisc.{NeighborMessage, Solicitation, Advertisement}
+use Rattle.control_wire.specs.NdiscNeighborFlags.{NdiscNeighborFlags}
+use Rattle.ip_wire.specs.EthernetAddress.{EthernetAddress}
+use Rattle.ip_wire.specs.HardwareAddress.{HardwareAddress}
+use Rattle.ip_wire.specs.HardwareAddress.TheVariants as Hardware
+use Rattle.ip_wire.specs.Ip.{source_in, destination_in, hops_in}
+use Rattle.ip_wire.specs.IpAddress.TheVariants as Address
+use Rattle.ip_wire.specs.Ipv6Address.{Ipv6Address}
+use Rattle.ip_wire.specs.Ipv6Repr.{Ipv6Repr}
+use Rattle.socket_base.specs.Packet.{PacketValue}
+use Rattle.interface_tables.specs.Inner.{InnerValue, is_own, is_own_solicited_node}
+use Rattle.interface_ingress.specs.Heard.{Heard, heard, counts, learned, advertised, replaces, is_asked, advertisement, answer, heard_at, heard_on, neighbor_heard, with_entries_of}
+
+-- ENTRIES ALONE
+
+abbrev KeepsRest : InnerValue → InnerValue → Type 0
+KeepsRest i new = new ≡ with_entries_of new i
+
+learned-rest : (i : InnerValue) (source : Ipv6Address) (link : Option (List ℕ)) → KeepsRest i (learned i source link)
+learned-rest i source None = refl
+learned-rest i source (Some link) = refl
+
+advertised-rest : (i : InnerValue) (flags : NdiscNeighborFlags) (source : Ipv6Address) (link : Option (List ℕ)) → KeepsRest i (advertised i flags source link)
+advertised-rest i flags source link =
+    elim (replaces i flags source) as (λ (b : Bool). KeepsRest i (if b then learned i source link else i)) [ true ↦ learned-rest i source link | false ↦ refl ]
+
+abbrev Rest : InnerValue → Heard → Type 0
+Rest i h = KeepsRest i h.inner
+
+heard-rest : (own : EthernetAddress) (i : InnerValue) (header : Ipv6Repr) (message : NeighborMessage) → Rest i (heard_at own i header message)
+heard-rest own i header (Solicitation target link) =
+    elim (counts header target link) as (λ (b : Bool). Rest i (if b then heard (learned i header.src_addr link) (answer own i header target) else heard i None)) [
+      | true ↦ learned-rest i header.src_addr link
+      | false ↦ refl
+    ]
+heard-rest own i header (Advertisement flags target link) =
+    elim (counts header target link) as (λ (b : Bool). Rest i (if b then heard (advertised i flags header.src_addr link) None else heard i None)) [
+      | true ↦ advertised-rest i flags header.src_addr link
+      | false ↦ refl
+    ]
+
+on-rest : (hardware : HardwareAddress) (i : InnerValue) (header : Ipv6Repr) (message : NeighborMessage) → Rest i (heard_on hardware i header message)
+on-rest Hardware.Ip i header message = refl
+on-rest (Hardware.Ethernet own) i header message = heard-rest own i header message
+
+pub entries-alone : (i : InnerValue) (header : Ipv6Repr) (message : NeighborMessage) → Rest i (neighbor_heard i header message)
+entries-alone i header message = on-rest i.hardware i header message
+
+-- WHICH COUNT
+
+other-hops : (header : Ipv6Repr) (target : Ipv6Address) (link : Option (List ℕ)) → header.hop_limit ≢ 255 → counts header target link ≡ false
+other-hops header target link other = elim (eqb_tells header.hop_limit 255) [ inl hit ↦ absurd (other hit.1) | inr miss ↦ rw miss.0 refl ]
+
+passed-at : (own : EthernetAddress) (i : InnerValue) (header : Ipv6Repr) (message : NeighborMessage) → header.hop_limit ≢ 255 → heard_at own i header message ≡ heard i None
+passed-at own i header (Solicitation target link) other =
+    ap (λ (b : Bool). if b then heard (learned i header.src_addr link) (answer own i header target) else heard i None) (other-hops header target link other)
+passed-at own i header (Advertisement flags target link) other =
+    ap (λ (b : Bool). if b then heard (advertised i flags header.src_addr link) None else heard i None) (other-hops header target link other)
+
+passed-on-medium : (hardware : HardwareAddress) (i : InnerValue) (header : Ipv6Repr) (message : NeighborMessage) → header.hop_limit ≢ 255 → heard_on hardware i header message ≡ heard i None
+passed-on-medium Hardware.Ip i header message other = refl
+passed-on-medium (Hardware.Ethernet own) i header message other = passed-at own i header message other
+
+pub passed-on : (i : InnerValue) (header : Ipv6Repr) (message : NeighborMessage) → header.hop_limit ≢ 255 → neighbor_heard i header message ≡ heard i None
+passed-on i header message other = passed-on-medium i.hardware i header message other
+
+pub medium : (i : InnerValue) (header : Ipv6Repr) (message : NeighborMessage) → i.hardware ≡ Hardware.Ip → neighbor_heard i header message ≡ heard i None
+medium i header message bare = ap (λ (h : HardwareAddress). heard_on h i header message) bare
+
+-- ANSWERS
+
+abbrev IsAnswer : InnerValue → Ipv6Repr → PacketValue → Type 0
+IsAnswer i header p = (destination_in p.header ≡ Address.Ipv6 header.src_addr) × IsTrue (is_own i (source_in p.header)) × (hops_in p.header ≡ 255)
+
+second : (a b : Bool) → IsTrue (a && b) → IsTrue b
+second true b both = both
+second false b both = absurd (cc both)
+
+answer-by : (own : EthernetAddress) (i : InnerValue) (header : Ipv6Repr) (target : Ipv6Address) (p : PacketValue) (b : Bool) → is_asked i header.dst_addr target ≡ b
+    → (if b then Some (advertisement own target header.src_addr) else None) ≡ Some p → IsAnswer i header p
+answer-by own i header target p true asked is =
+    let packet : advertisement own target header.src_addr ≡ p = cc is in
+    subst (IsAnswer i header) packet (refl, second (is_own_solicited_node i header.dst_addr || is_own i (Address.Ipv6 header.dst_addr)) (is_own i (Address.Ipv6 target)) asked, refl)
+answer-by own i header target p false asked is = absurd (cc is)
+
+solicited-by : (own : EthernetAddress) (i : InnerValue) (header : Ipv6Repr) (target : Ipv6Address) (link : Option (List ℕ)) (p : PacketValue) (b : Bool)
+    → (if b then heard (learned i header.src_addr link) (answer own i header target) else heard i None).reply ≡ Some p → IsAnswer i header p
+solicited-by own i header target link p true is = answer-by own i header target p (is_asked i header.dst_addr target) refl is
+solicited-by own i header target link p false is = absurd (cc is)
+
+advertised-by : (i : InnerValue) (flags : NdiscNeighborFlags) (header : Ipv6Repr) (link : Option (List ℕ)) (p : PacketValue) (b : Bool)
+    → (if b then heard (advertised i flags header.src_addr link) None else heard i None).reply ≡ Some p → IsAnswer i header p
+advertised-by i flags header link p true is = absurd (cc is)
+advertised-by i flags header link p false is = absurd (cc is)
+
+answers-at : (own : EthernetAddress) (i : InnerValue) (header : Ipv6Repr) (message : NeighborMessage) (p : PacketValue) → (heard_at own i header message).reply ≡ Some p → IsAnswer i header p
+answers-at own i header (Solicitation target link) p is = solicited-by own i header target link p (counts header target link) is
+answers-at own i header (Advertisement flags target link) p is = advertised-by i flags header link p (counts header target link) is
+
+answers-on : (hardware : HardwareAddress) (i : InnerValue) (header : Ipv6Repr) (message : NeighborMessage) (p : PacketValue) → (heard_on hardware i header message).reply ≡ Some p → IsAnswer i header p
+answers-on Hardware.Ip i header message p is = absurd (cc is)
+answers-on (Hardware.Ethernet own) i header message p is = answers-at own i header message p is
+
+pub answers-the-sender : (i : InnerValue) (header : Ipv6Repr) (message : NeighborMessage) (p : PacketValue) → (neighbor_heard i header message).reply ≡ Some p → IsAnswer i header p
+answers-the-sender i header message p is = answers-on i.hardware i header message p is

@@ -1,0 +1,103 @@
+//! What packets carry.
+ghost use Rattle.std.specs.Prelude.{◌≡◌, ◌<◌, ◌^◌, length};
+ghost use Rattle.ip_wire.specs.Ip.{carried_in};
+ghost use Rattle.ip_wire.specs.IpProtocol.TheVariants as Protocol;
+ghost use Rattle.interface_ingress.specs.Carried.{IsCarriedContent, carried_of};
+
+use control_wire::{Icmpv4Packet, Icmpv4Repr, Icmpv6Packet, Icmpv6Repr};
+use ip_wire::{IpProtocol, IpRepr, TcpPacket, TcpRepr, UdpPacket, UdpRepr};
+use net_base::ChecksumCapabilities;
+use socket_base::IpPayload;
+
+/// What stands behind this header: a control message of the header's family, a user datagram or a
+/// segment, or none. Checksums are tested where the capabilities say that the stack does so.
+pub fn read_payload<'a>(
+    header: &IpRepr,
+    payload: &'a [u8],
+    checksums: &ChecksumCapabilities,
+) -> Option<IpPayload<'a>>
+    requires { length payload.now < 2 ^ 16 }
+    ensures { IsCarriedContent checksums.now header.now payload.now (carried_of result) }
+{
+    match header.next_header() {
+        IpProtocol::Icmp => read_icmpv4(header, payload, checksums),
+        IpProtocol::Icmpv6 => read_icmpv6(header, payload, checksums),
+        IpProtocol::Udp => read_udp(header, payload, checksums),
+        IpProtocol::Tcp => read_tcp(header, payload, checksums),
+        _ => None,
+    }
+}
+
+/// The control message behind an IPv4 header.
+fn read_icmpv4<'a>(
+    header: &IpRepr,
+    payload: &'a [u8],
+    checksums: &ChecksumCapabilities,
+) -> Option<IpPayload<'a>>
+    requires { carried_in header.now ≡ Protocol.Icmp }
+    ensures { IsCarriedContent checksums.now header.now payload.now (carried_of result) }
+{
+    let IpRepr::Ipv4(_) = header else {
+        return None;
+    };
+    let packet = Icmpv4Packet::new_unchecked(payload);
+    let Ok(message) = Icmpv4Repr::parse(&packet, checksums) else {
+        return None;
+    };
+    Some(IpPayload::Icmpv4(message))
+}
+
+/// The control or neighbour message behind an IPv6 header.
+fn read_icmpv6<'a>(
+    header: &IpRepr,
+    payload: &'a [u8],
+    checksums: &ChecksumCapabilities,
+) -> Option<IpPayload<'a>>
+    requires protocol { carried_in header.now ≡ Protocol.Icmpv6 }
+    requires short { length payload.now < 2 ^ 16 }
+    ensures { IsCarriedContent checksums.now header.now payload.now (carried_of result) }
+{
+    let IpRepr::Ipv6(v6) = header else {
+        return None;
+    };
+    let packet = Icmpv6Packet::new_unchecked(payload);
+    let Ok(message) = Icmpv6Repr::parse(&v6.src_addr, &v6.dst_addr, &packet, checksums) else {
+        return None;
+    };
+    Some(IpPayload::Icmpv6(message))
+}
+
+/// The user datagram behind a header of either family.
+fn read_udp<'a>(
+    header: &IpRepr,
+    payload: &'a [u8],
+    checksums: &ChecksumCapabilities,
+) -> Option<IpPayload<'a>>
+    requires { carried_in header.now ≡ Protocol.Udp }
+    ensures { IsCarriedContent checksums.now header.now payload.now (carried_of result) }
+{
+    let packet = UdpPacket::new_unchecked(payload);
+    let (source, destination) = (header.src_addr(), header.dst_addr());
+    let Ok(udp) = UdpRepr::parse(&packet, &source, &destination, checksums) else {
+        return None;
+    };
+    Some(IpPayload::Udp(udp, packet.payload()))
+}
+
+/// The segment behind a header of either family.
+fn read_tcp<'a>(
+    header: &IpRepr,
+    payload: &'a [u8],
+    checksums: &ChecksumCapabilities,
+) -> Option<IpPayload<'a>>
+    requires protocol { carried_in header.now ≡ Protocol.Tcp }
+    requires short { length payload.now < 2 ^ 16 }
+    ensures { IsCarriedContent checksums.now header.now payload.now (carried_of result) }
+{
+    let packet = TcpPacket::new_unchecked(payload);
+    let (source, destination) = (header.src_addr(), header.dst_addr());
+    let Ok(segment) = TcpRepr::parse(&packet, &source, &destination, checksums) else {
+        return None;
+    };
+    Some(IpPayload::Tcp(segment))
+}

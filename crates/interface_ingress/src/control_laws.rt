@@ -1,0 +1,37 @@
+//! What follows from the definitions of neighbour messages that are heard.
+ghost use Rattle.std.specs.Prelude.{◌≡◌, ◌≢◌, IsTrue, Some, None};
+ghost use Rattle.control_wire.specs.Ndisc.{NeighborMessage};
+ghost use Rattle.ip_wire.specs.HardwareAddress.TheVariants as Hardware;
+ghost use Rattle.ip_wire.specs.Ip.{source_in, destination_in, hops_in};
+ghost use Rattle.ip_wire.specs.IpAddress.TheVariants as Address;
+ghost use Rattle.ip_wire.specs.Ipv6Repr.{Ipv6Repr};
+ghost use Rattle.socket_base.specs.Packet.{PacketValue};
+ghost use Rattle.interface_tables.specs.Inner.{InnerValue, is_own};
+ghost use Rattle.interface_ingress.specs.Heard.{neighbor_heard, heard, with_entries_of};
+
+/// Law: a neighbour message changes the entries of neighbours alone: settings, identification and
+/// the time in which no neighbour is asked for stay as they were.
+pub fn entries_alone()
+    ensures { (i : InnerValue) (header : Ipv6Repr) (message : NeighborMessage)
+        → (neighbor_heard i header message).inner ≡ with_entries_of (neighbor_heard i header message).inner i }
+{}
+
+/// Law: a message that a router passed on, or that came by a medium without hardware addresses,
+/// changes nothing and isn't answered (RFC 4861, section 7.1).
+pub fn only_neighbors_count()
+    ensures passed_on { (i : InnerValue) (header : Ipv6Repr) (message : NeighborMessage)
+        → header.hop_limit ≢ 255
+        → neighbor_heard i header message ≡ heard i None }
+    ensures medium { (i : InnerValue) (header : Ipv6Repr) (message : NeighborMessage)
+        → i.hardware ≡ Hardware.Ip
+        → neighbor_heard i header message ≡ heard i None }
+{}
+
+/// Law: an answer goes to the sender of the message, from an own address, and no router passes it on.
+pub fn answers_the_sender()
+    ensures { (i : InnerValue) (header : Ipv6Repr) (message : NeighborMessage) (p : PacketValue)
+        → (neighbor_heard i header message).reply ≡ Some p
+        → (destination_in p.header ≡ Address.Ipv6 header.src_addr)
+        × IsTrue (is_own i (source_in p.header))
+        × (hops_in p.header ≡ 255) }
+{}

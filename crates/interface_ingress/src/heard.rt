@@ -1,0 +1,157 @@
+//! Neighbour messages that arrive.
+ghost use Rattle.std.specs.Prelude.{◌≡◌, IsTrue, IfSome};
+ghost use Rattle.control_wire.specs.Ndisc.{neighbor_message};
+ghost use Rattle.control_wire.specs.NdiscOption.{link_bytes};
+ghost use Rattle.socket_base.specs.Packet.{packet_value, option_value, IsSendable};
+ghost use Rattle.interface_ingress.specs.Heard.{neighbor_heard, is_one_station, is_target, counts, learned, replaces, advertised, is_asked, advertisement};
+
+use control_wire::{Icmpv6Repr, NdiscNeighborFlags, NdiscRepr};
+use interface_tables::InterfaceInner;
+use ip_wire::{
+    AddressExt, EthernetAddress, HardwareAddress, IpAddress, IpProtocol, IpRepr, Ipv6Address,
+    Ipv6Repr, RawHardwareAddress,
+};
+use socket_base::{Context, IpPayload, Packet};
+
+/// The hop limit of a packet that no router passed on.
+const HOP_LIMIT: u8 = 255;
+
+/// Takes in the neighbour message of a packet with this header. The sender's link address is kept
+/// where the message gives it; a solicitation for an own address is answered. A message counts on
+/// Ethernet alone, where no router passed it on (RFC 4861, section 7.1), its link address is one
+/// station's and its target one host's; the target isn't tested without a link address.
+pub fn hear(
+    inner: &mut InterfaceInner,
+    header: &Ipv6Repr,
+    message: &NdiscRepr,
+) -> Option<Packet<'static>>
+    ensures host { inner.new ≡ (neighbor_heard inner.old header.now (neighbor_message message.now)).inner }
+    ensures reply { option_value result ≡ (neighbor_heard inner.old header.now (neighbor_message message.now)).reply }
+    ensures sendable { IfSome (option_value result) IsSendable }
+{
+    let HardwareAddress::Ethernet(own) = inner.hardware_addr() else {
+        return None;
+    };
+    match message {
+        NdiscRepr::NeighborSolicit {
+            target_addr,
+            lladdr,
+        } => {
+            if !counts(header, target_addr, lladdr) {
+                return None;
+            }
+            let asked = is_asked(inner, &header.dst_addr, target_addr);
+            learn(inner, header.src_addr, lladdr);
+            if asked {
+                Some(advertisement(&own, *target_addr, header.src_addr))
+            } else {
+                None
+            }
+        }
+        NdiscRepr::NeighborAdvert {
+            flags,
+            target_addr,
+            lladdr,
+        } => {
+            if counts(header, target_addr, lladdr) {
+                take_advertisement(inner, *flags, header.src_addr, lladdr);
+            }
+            None
+        }
+    }
+}
+
+/// Whether a message with this target and link address counts.
+fn counts(header: &Ipv6Repr, target_addr: &Ipv6Address, lladdr: &Option<RawHardwareAddress>) -> bool
+    ensures { result ≡ counts header.now target_addr.now (link_bytes lladdr.now) }
+{
+    header.hop_limit == HOP_LIMIT && is_one_station(lladdr) && is_target(target_addr, lladdr)
+}
+
+/// Whether a link address, if there is one, is that of one Ethernet station.
+fn is_one_station(lladdr: &Option<RawHardwareAddress>) -> bool
+    ensures { result ≡ is_one_station (link_bytes lladdr.now) }
+{
+    match lladdr {
+        None => true,
+        Some(address) => {
+            address.len() == 6 && EthernetAddress::from_bytes(address.as_bytes()).is_unicast()
+        }
+    }
+}
+
+/// Whether the target beside a link address is one host's.
+fn is_target(target_addr: &Ipv6Address, lladdr: &Option<RawHardwareAddress>) -> bool
+    ensures { result ≡ is_target target_addr.now (link_bytes lladdr.now) }
+{
+    match lladdr {
+        None => true,
+        Some(_) => target_addr.x_is_unicast(),
+    }
+}
+
+/// Keeps the sender's link address, if there is one.
+fn learn(inner: &mut InterfaceInner, source: Ipv6Address, lladdr: &Option<RawHardwareAddress>)
+    requires { IsTrue (is_one_station (link_bytes lladdr.now)) }
+    ensures { inner.new ≡ learned inner.old source (link_bytes lladdr.now) }
+{
+    if let Some(address) = lladdr {
+        let station = EthernetAddress::from_bytes(address.as_bytes());
+        inner.fill_neighbor(IpAddress::Ipv6(source), HardwareAddress::Ethernet(station));
+    }
+}
+
+/// Keeps the link address that an advertisement gives, unless another is known that it doesn't
+/// replace.
+fn take_advertisement(
+    inner: &mut InterfaceInner,
+    flags: NdiscNeighborFlags,
+    source: Ipv6Address,
+    lladdr: &Option<RawHardwareAddress>,
+)
+    requires { IsTrue (is_one_station (link_bytes lladdr.now)) }
+    ensures { inner.new ≡ advertised inner.old flags source (link_bytes lladdr.now) }
+{
+    if replaces(inner, flags, source) {
+        learn(inner, source, lladdr);
+    }
+}
+
+/// Whether an advertisement with these flags counts beside what is known of its sender.
+fn replaces(inner: &InterfaceInner, flags: NdiscNeighborFlags, source: Ipv6Address) -> bool
+    ensures { result ≡ replaces inner.now flags source }
+{
+    flags.overrides || !inner.lookup_neighbor(&IpAddress::Ipv6(source)).found()
+}
+
+/// Whether a solicitation to this destination for this target is to be answered.
+fn is_asked(inner: &InterfaceInner, destination: &Ipv6Address, target_addr: &Ipv6Address) -> bool
+    ensures { result ≡ is_asked inner.now destination.now target_addr.now }
+{
+    (inner.has_solicited_node(destination) || inner.has_ip_addr(&IpAddress::Ipv6(*destination)))
+        && inner.has_ip_addr(&IpAddress::Ipv6(*target_addr))
+}
+
+/// The packet that tells who asked the link address of a target, which is the own one.
+fn advertisement(
+    own: &EthernetAddress,
+    target_addr: Ipv6Address,
+    dst_addr: Ipv6Address,
+) -> Packet<'static>
+    ensures packet { packet_value result ≡ advertisement own.now target_addr dst_addr }
+    ensures sendable { IsSendable (packet_value result) }
+{
+    let message = Icmpv6Repr::Ndisc(NdiscRepr::NeighborAdvert {
+        flags: NdiscNeighborFlags::SOLICITED,
+        target_addr,
+        lladdr: Some(RawHardwareAddress::from(*own)),
+    });
+    let header = Ipv6Repr {
+        src_addr: target_addr,
+        dst_addr,
+        next_header: IpProtocol::Icmpv6,
+        payload_len: message.buffer_len(),
+        hop_limit: HOP_LIMIT,
+    };
+    Packet::new(IpRepr::Ipv6(header), IpPayload::Icmpv6(message))
+}

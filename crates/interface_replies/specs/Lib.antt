@@ -1,2 +1,0 @@
-pub mod Arp
-pub mod Replies

@@ -1,2 +1,0 @@
-pub mod Updated
-pub mod Used

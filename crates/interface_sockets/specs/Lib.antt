@@ -1,3 +1,0 @@
-pub mod Meta
-pub mod Set
-pub mod Used
