@@ -21,7 +21,7 @@ use Rattle.sockets.specs.declared.socket.Socket.{Socket}
 use Rattle.sockets.specs.declared.socket.Socket.TheVariants as Kind
 use Rattle.tcp_model.specs.Controls.{is_rst}
 use Rattle.tcp_model.specs.Segments.{rst_reply}
-use Rattle.tcp_model.specs.declared.offer.Reply.{Reply}
+use Rattle.tcp_model.specs.Reply.{Reply}
 use Rattle.tcp_socket.specs.Replies as Replies
 use Rattle.interface_egress.specs.declared.socket_set.Item.{Item}
 use Rattle.interface_egress.specs.declared.socket_set.SocketStorage.{SocketStorage}

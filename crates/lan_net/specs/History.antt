@@ -1,7 +1,7 @@
 -- What a history of events and answers says of a socket.
 use Rattle.std.specs.Prelude.{ℕ, ◌==◌, ◌&&◌, ◌||◌, Bool, true, false, if◌then◌else◌, List, [], ◌∷◌, ◌++◌, take, Option, Some, None}
 use Rattle.tcp.specs.History.{closes_in}
-use Rattle.tcp_model.specs.declared.state.State as States
+use Rattle.tcp_model.specs.State as States
 use Rattle.lan_net.specs.declared.answer.Answer.{Answer}
 use Rattle.lan_net.specs.declared.answer.Answer.TheVariants as To
 use Rattle.lan_net.specs.declared.event.Event.{Event}

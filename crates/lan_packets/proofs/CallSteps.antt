@@ -14,8 +14,8 @@ use Rattle.tcp.specs.Tie.{Past, Keeps, no_past}
 use Rattle.tcp.proofs.AloneLaws.{stays_alone}
 use Rattle.tcp.proofs.HostLaws.{resets_from}
 use Rattle.tcp.proofs.PromiseLemmas.{alone_fresh, partner_comes, keeps_turned}
-use Rattle.tcp_model.specs.declared.block.EndpointPair.{EndpointPair}
-use Rattle.tcp_model.specs.declared.state.State.{State}
+use Rattle.tcp_model.specs.EndpointPair.{EndpointPair}
+use Rattle.tcp_model.specs.State.{State}
 use Rattle.tcp_model.specs.Value.{TcpValue}
 use Rattle.lan_net.specs.declared.answer.Answer.{Answer}
 use Rattle.lan_net.specs.declared.event.Side.{Side}

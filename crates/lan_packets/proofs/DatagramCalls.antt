@@ -14,7 +14,7 @@ use Rattle.datagram_sockets.specs.declared.error.BindError.{BindError}
 use Rattle.datagram_sockets.specs.declared.error.BindError.TheVariants as Bind
 use Rattle.datagram_sockets.specs.declared.error.SendError.{SendError}
 use Rattle.datagram_sockets.specs.declared.error.SendError.TheVariants as SendTo
-use Rattle.tcp_model.specs.declared.state.State.{State}
+use Rattle.tcp_model.specs.State.{State}
 use Rattle.lan_net.specs.declared.answer.Answer.{Answer}
 use Rattle.lan_net.specs.declared.answer.Answer.TheVariants as To
 use Rattle.lan_net.specs.declared.answer.Fault.TheVariants as Fault

@@ -6,7 +6,7 @@ use Rattle.tcp.specs.Host.{Made, past_at}
 use Rattle.tcp.specs.Promises.{KeepsAlone}
 use Rattle.tcp.specs.Tie.{Past, Keeps}
 use Rattle.tcp.proofs.HostLaws.{keeps_made_elsewhere, keeps_made_reset}
-use Rattle.tcp_model.specs.declared.block.EndpointPair.{EndpointPair}
+use Rattle.tcp_model.specs.EndpointPair.{EndpointPair}
 use Rattle.tcp_model.specs.Value.{TcpValue}
 use Rattle.lan_net.specs.declared.event.Side.{Side}
 use Rattle.lan_net.specs.declared.record.Opening.{Opening}

@@ -11,8 +11,8 @@ use Rattle.tcp.specs.Promises.{KeepsAlone}
 use Rattle.tcp.specs.Tie.{Keeps}
 use Rattle.tcp.proofs.AnsweredLaws.{read_to_the_end}
 use Rattle.tcp.proofs.PromiseLemmas.{keeps_turned, alone_nothing}
-use Rattle.tcp_model.specs.declared.error.RecvError.{RecvError}
-use Rattle.tcp_model.specs.declared.error.RecvError.TheVariants as Recv
+use Rattle.tcp_model.specs.RecvError.{RecvError}
+use Rattle.tcp_model.specs.RecvError.TheVariants as Recv
 use Rattle.tcp_model.specs.Calls.{recv_answer}
 use Rattle.tcp_model.specs.Value.{TcpValue}
 use Rattle.lan_net.specs.declared.answer.Answer.{Answer}

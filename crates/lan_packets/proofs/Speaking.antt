@@ -7,7 +7,7 @@ use Rattle.tcp_law.specs.Segment.Control.{Rst}
 use Rattle.tcp.specs.Endpoints.{IsFor, HasPorts, IsToward, CameBetween}
 use Rattle.tcp.specs.Host.{Made, made_of}
 use Rattle.tcp.specs.Tie.{control_of, segment_of}
-use Rattle.tcp_model.specs.declared.block.EndpointPair.{EndpointPair}
+use Rattle.tcp_model.specs.EndpointPair.{EndpointPair}
 use Rattle.tcp_model.specs.Controls.{is_rst}
 use Rattle.tcp_model.specs.States.{is_listening}
 use Rattle.tcp_model.specs.Value.{TcpValue}

@@ -17,18 +17,18 @@ use Rattle.tcp.proofs.AnsweredLaws.{keeps_send}
 use Rattle.tcp.proofs.CallLaws.{keeps_listening, keeps_connecting, keeps_read, keeps_close, keeps_abort, keeps_same}
 use Rattle.tcp.proofs.NameLaws.{ports_listening, ports_connecting, ports_same, ports_close, ports_abort, close_names, abort_names}
 use Rattle.tcp_model.specs.declared.block.Block.{Block}
-use Rattle.tcp_model.specs.declared.block.AddressPair.{AddressPair}
-use Rattle.tcp_model.specs.declared.block.EndpointPair.{EndpointPair}
-use Rattle.tcp_model.specs.declared.error.ConnectError.{ConnectError}
-use Rattle.tcp_model.specs.declared.error.ConnectError.TheVariants as Connect
-use Rattle.tcp_model.specs.declared.error.ListenError.{ListenError}
-use Rattle.tcp_model.specs.declared.error.ListenError.TheVariants as Listen
-use Rattle.tcp_model.specs.declared.error.RecvError.{RecvError}
-use Rattle.tcp_model.specs.declared.error.RecvError.TheVariants as Recv
-use Rattle.tcp_model.specs.declared.error.SendError as Writes
-use Rattle.tcp_model.specs.declared.error.SendError.TheVariants as Send
-use Rattle.tcp_model.specs.declared.state.State.{State}
-use Rattle.tcp_model.specs.declared.state.State.TheVariants as In
+use Rattle.tcp_model.specs.AddressPair.{AddressPair}
+use Rattle.tcp_model.specs.EndpointPair.{EndpointPair}
+use Rattle.tcp_model.specs.ConnectError.{ConnectError}
+use Rattle.tcp_model.specs.ConnectError.TheVariants as Connect
+use Rattle.tcp_model.specs.ListenError.{ListenError}
+use Rattle.tcp_model.specs.ListenError.TheVariants as Listen
+use Rattle.tcp_model.specs.RecvError.{RecvError}
+use Rattle.tcp_model.specs.RecvError.TheVariants as Recv
+use Rattle.tcp_model.specs.SendError as Writes
+use Rattle.tcp_model.specs.SendError.TheVariants as Send
+use Rattle.tcp_model.specs.State.{State}
+use Rattle.tcp_model.specs.State.TheVariants as In
 use Rattle.tcp_model.specs.Calls.{listening, listens_on, listen_answer, listen_after, connecting, connected_by, connect_answer, connect_after, found_answer, pair_for, pair_by, addresses_by, source_by, send_answer, sent_more, send_after, recv_answer, recv_refusal, or_count, nothing_left, recv_after, close_after, abort_after}
 use Rattle.tcp_model.specs.States.{is_closed, is_opening, takes_writes, takes_text, after_close}
 use Rattle.tcp_model.specs.Value.{TcpValue, unoffered, ended, with_block}

@@ -7,7 +7,7 @@ use Rattle.tcp.specs.Endpoints.{Ports, HasPorts, IsNameless}
 use Rattle.tcp.specs.Host.{Made, past_at}
 use Rattle.tcp.specs.Promises.{IsFresh, KeepsAlone}
 use Rattle.tcp.specs.Tie.{Past, Keeps, no_past}
-use Rattle.tcp_model.specs.declared.block.EndpointPair.{EndpointPair}
+use Rattle.tcp_model.specs.EndpointPair.{EndpointPair}
 use Rattle.tcp_model.specs.Value.{TcpValue}
 use Rattle.lan_net.specs.declared.event.Side.{Side}
 use Rattle.lan_net.specs.declared.record.Opening.{Opening}

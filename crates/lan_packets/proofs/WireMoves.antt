@@ -17,12 +17,13 @@ use Rattle.tcp.proofs.HostLaws.{keeps_hosted_arrival, keeps_hosted_offer, past_o
 use Rattle.tcp.proofs.NameLaws.{arrival_names, answer_back, offer_between_ends, sent_names, withheld_names, ports_same, ports_sent, ports_withheld, ports_arrival, nameless_refuses, nameless_silent, accepted as accepted_for}
 use Rattle.tcp.proofs.OfferLaws.{keeps_unsent_offer}
 use Rattle.tcp_model.specs.declared.block.Block.{Block}
-use Rattle.tcp_model.specs.declared.block.EndpointPair.{EndpointPair}
+use Rattle.tcp_model.specs.EndpointPair.{EndpointPair}
 use Rattle.tcp_model.specs.declared.block.Names.{Names}
-use Rattle.tcp_model.specs.declared.offer.OpenOffer.{OpenOffer}
-use Rattle.tcp_model.specs.declared.offer.Reply.{Reply}
+use Rattle.tcp_model.specs.OpenOffer.{OpenOffer}
+use Rattle.tcp_model.specs.Reply.{Reply}
 use Rattle.tcp_model.specs.Arrival.{arrives}
-use Rattle.tcp_model.specs.Names.{accepts, pair_in}
+use Rattle.tcp_model.specs.Endpoints.{pair_in}
+use Rattle.tcp_model.specs.Names.{accepts}
 use Rattle.tcp_model.specs.Offers.{offer_of, payload_of}
 use Rattle.tcp_model.specs.Settled.{settled}
 use Rattle.tcp_model.specs.States.{is_closed}

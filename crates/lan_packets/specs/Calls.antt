@@ -11,15 +11,15 @@ use Rattle.datagram_sockets.specs.declared.error.BindError.TheVariants as Bind
 use Rattle.datagram_sockets.specs.declared.error.SendError.{SendError}
 use Rattle.datagram_sockets.specs.declared.error.SendError.TheVariants as SendTo
 use Rattle.datagram_sockets.specs.declared.udp.UdpMetadata.{UdpMetadata}
-use Rattle.tcp_model.specs.declared.error.ConnectError.{ConnectError}
-use Rattle.tcp_model.specs.declared.error.ConnectError.TheVariants as Connect
-use Rattle.tcp_model.specs.declared.error.ListenError.{ListenError}
-use Rattle.tcp_model.specs.declared.error.ListenError.TheVariants as Listen
-use Rattle.tcp_model.specs.declared.error.RecvError.{RecvError}
-use Rattle.tcp_model.specs.declared.error.RecvError.TheVariants as Recv
-use Rattle.tcp_model.specs.declared.error.SendError as Writes
-use Rattle.tcp_model.specs.declared.error.SendError.TheVariants as Send
-use Rattle.tcp_model.specs.declared.state.State.{State}
+use Rattle.tcp_model.specs.ConnectError.{ConnectError}
+use Rattle.tcp_model.specs.ConnectError.TheVariants as Connect
+use Rattle.tcp_model.specs.ListenError.{ListenError}
+use Rattle.tcp_model.specs.ListenError.TheVariants as Listen
+use Rattle.tcp_model.specs.RecvError.{RecvError}
+use Rattle.tcp_model.specs.RecvError.TheVariants as Recv
+use Rattle.tcp_model.specs.SendError as Writes
+use Rattle.tcp_model.specs.SendError.TheVariants as Send
+use Rattle.tcp_model.specs.State.{State}
 use Rattle.tcp_model.specs.Calls.{listen_answer, listen_after, connect_answer, connect_after, send_answer, send_after, recv_answer, recv_after, close_after, abort_after}
 use Rattle.tcp_model.specs.Settings.{set_timeout, set_ack_delay, set_keep_alive, set_nagle_enabled, set_hop_limit, set_congestion_control, set_tsval_generator, pause_synack}
 use Rattle.tcp_model.specs.Value.{TcpValue, unoffered}

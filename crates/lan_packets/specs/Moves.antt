@@ -17,7 +17,7 @@ use Rattle.tcp_model.specs.Names.{accepts}
 use Rattle.tcp_model.specs.Offers.{offer_of}
 use Rattle.tcp_model.specs.Settled.{settled}
 use Rattle.tcp_model.specs.Value.{TcpValue}
-use Rattle.tcp_model.specs.declared.state.State.{State}
+use Rattle.tcp_model.specs.State.{State}
 use Rattle.lan_net.specs.declared.answer.Answer.{Answer}
 use Rattle.lan_net.specs.declared.answer.Answer.TheVariants as To
 use Rattle.lan_net.specs.declared.event.Side.{Side}

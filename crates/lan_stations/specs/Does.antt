@@ -12,7 +12,7 @@ use Rattle.datagram_sockets.specs.declared.icmp.Endpoint.TheVariants as Bound
 use Rattle.datagram_sockets.specs.declared.raw.SendError as RawErrors
 use Rattle.datagram_sockets.specs.declared.raw.SendError.TheVariants as RawSend
 use Rattle.tcp_model.specs.Calls.{connect_draws}
-use Rattle.tcp_model.specs.declared.state.State as States
+use Rattle.tcp_model.specs.State as States
 use Rattle.interface.specs.Host.{HostValue}
 use Rattle.interface_tables.specs.Inner.{context_of, drawn}
 use Rattle.interface_egress.specs.Set.{with_socket}

@@ -9,7 +9,7 @@ use Rattle.lan_net.specs.declared.answer.Answer.{Answer}
 use Rattle.lan_net.specs.declared.answer.Answer.TheVariants as To
 use Rattle.lan_net.specs.declared.event.Side.{Side}
 use Rattle.lan_port.specs.Port.{PortValue, PortMove}
-use Rattle.tcp_model.specs.declared.state.State.{State}
+use Rattle.tcp_model.specs.State.{State}
 use Rattle.lan_stations.specs.Station.{StationValue, Stations, station, at_port}
 use Rattle.lan_stations.specs.Does.{Does}
 use Rattle.lan_stations.specs.Sets.{Configures, with_room, instant_at, asked}

@@ -7,9 +7,9 @@ use Rattle.socket_base.specs.declared.offer.Offer.{Offer}
 use Rattle.socket_base.specs.declared.offer.Offer.TheVariants as Answer
 use Rattle.datagram_sockets.specs.Offers.{HasPacket, changed_by}
 use Rattle.tcp_model.specs.declared.block.Block.{Block}
-use Rattle.tcp_model.specs.declared.block.EndpointPair.{EndpointPair}
-use Rattle.tcp_model.specs.declared.offer.OfferKind.{OfferKind}
-use Rattle.tcp_model.specs.declared.offer.OfferKind.TheVariants as Kind
+use Rattle.tcp_model.specs.EndpointPair.{EndpointPair}
+use Rattle.tcp_model.specs.OfferKind.{OfferKind}
+use Rattle.tcp_model.specs.OfferKind.TheVariants as Kind
 use Rattle.tcp_model.specs.Blocks.{forgotten}
 use Rattle.tcp_model.specs.Due.{poll_of}
 use Rattle.tcp_model.specs.Moments.{is_due}

@@ -34,4 +34,4 @@ pub use Rattle.tcp_model.specs.Due as TcpDue
 pub use Rattle.tcp_model.specs.Segments as TcpSegments
 pub use Rattle.tcp_model.specs.States as TcpStates
 pub use Rattle.tcp_model.specs.Value as TcpValue
-pub use Rattle.tcp_model.specs.declared.state.State
+pub use Rattle.tcp_model.specs.State

@@ -13,18 +13,18 @@ use Rattle.net_base.specs.Ring.{Ring}
 use Rattle.socket_base.specs.Context.{ContextValue, next_random}
 use Rattle.tcp_law.specs.Numbers.{wire, nearest, IsNear}
 use Rattle.tcp_law.proofs.DecodedLemmas.{nearest-wire}
-use Rattle.tcp_model.specs.declared.block.AddressPair.{AddressPair}
+use Rattle.tcp_model.specs.AddressPair.{AddressPair}
 use Rattle.tcp_model.specs.declared.block.Block.{Block}
 use Rattle.tcp_model.specs.declared.block.CongestionControl.{CongestionControl}
 use Rattle.tcp_model.specs.declared.block.CongestionControl.TheVariants as Congestion
-use Rattle.tcp_model.specs.declared.state.State.{State}
-use Rattle.tcp_model.specs.declared.state.State.TheVariants as In
+use Rattle.tcp_model.specs.State.{State}
+use Rattle.tcp_model.specs.State.TheVariants as In
 use Rattle.tcp_model.specs.Answers.{drawn}
 use Rattle.tcp_model.specs.Arrival.{arrives, arrives_in, is_void_syn, inside, outside, waiting_anew, checked}
 use Rattle.tcp_model.specs.Checks.{Check, acknowledgement_check, ack_check, is_in_window}
 use Rattle.tcp_model.specs.Checks.Check.{Passes}
 use Rattle.tcp_model.specs.Controls.{is_syn, is_rst}
-use Rattle.tcp_model.specs.Names.{ip_header_len}
+use Rattle.tcp_model.specs.Endpoints.{ip_header_len}
 use Rattle.tcp_model.specs.Offsets.{past_by, before_by, meets_window}
 use Rattle.tcp_model.specs.Opening.{is_first_syn, opens, answering, takes_answer, acks_syn, syn_answered}
 use Rattle.tcp_model.specs.Rules.{text_choice, resend_choice, stamp_len, size_limit, window_limit, congestion_limit, unbroken, next_place}

@@ -9,8 +9,8 @@ use Rattle.tcp_law.specs.Move.{Comes}
 use Rattle.tcp_law.specs.Segment.{IsNoReset}
 use Rattle.tcp_law.specs.Side.{Side, one_if}
 use Rattle.tcp_law.proofs.Opening.{honest, acked}
-use Rattle.tcp_model.specs.declared.state.State.{State}
-use Rattle.tcp_model.specs.declared.state.State.TheVariants as In
+use Rattle.tcp_model.specs.State.{State}
+use Rattle.tcp_model.specs.State.TheVariants as In
 use Rattle.tcp_model.specs.Acknowledged.{acknowledged, state_after_ack, ended_if, in_state, una_moved, freed_by}
 use Rattle.tcp_model.specs.States.{is_closed, owes_fin, after_ack, after_ack_of_fin}
 use Rattle.tcp_model.specs.Value.{TcpValue, queued_in}

@@ -7,16 +7,16 @@ use Rattle.net_base.specs.RandomWords.{word}
 use Rattle.net_base.specs.Ring.{Ring, anchored, cleared, enqueued}
 use Rattle.socket_base.specs.Context.{ContextValue, next_random}
 use Rattle.tcp_law.specs.Side.Opening.{NotYet, Passive, Active}
-use Rattle.tcp_model.specs.declared.block.EndpointPair.{EndpointPair}
-use Rattle.tcp_model.specs.declared.error.ConnectError.{ConnectError}
-use Rattle.tcp_model.specs.declared.error.ConnectError.TheVariants as Connect
-use Rattle.tcp_model.specs.declared.error.ListenError.{ListenError}
-use Rattle.tcp_model.specs.declared.error.ListenError.TheVariants as Listen
-use Rattle.tcp_model.specs.declared.error.RecvError.{RecvError}
-use Rattle.tcp_model.specs.declared.error.RecvError.TheVariants as Recv
-use Rattle.tcp_model.specs.declared.error.SendError.{SendError}
-use Rattle.tcp_model.specs.declared.error.SendError.TheVariants as Send
-use Rattle.tcp_model.specs.declared.offer.OpenOffer.{OpenOffer}
+use Rattle.tcp_model.specs.EndpointPair.{EndpointPair}
+use Rattle.tcp_model.specs.ConnectError.{ConnectError}
+use Rattle.tcp_model.specs.ConnectError.TheVariants as Connect
+use Rattle.tcp_model.specs.ListenError.{ListenError}
+use Rattle.tcp_model.specs.ListenError.TheVariants as Listen
+use Rattle.tcp_model.specs.RecvError.{RecvError}
+use Rattle.tcp_model.specs.RecvError.TheVariants as Recv
+use Rattle.tcp_model.specs.SendError.{SendError}
+use Rattle.tcp_model.specs.SendError.TheVariants as Send
+use Rattle.tcp_model.specs.OpenOffer.{OpenOffer}
 use Rattle.tcp_model.specs.Calls.{listening, connecting, listens_on, found_answer, pair_for, connected_by, sent_more, listen_after, connect_after, send_answer, send_after, recv_answer, recv_refusal, nothing_left, or_count}
 use Rattle.tcp_model.specs.Offers.{offered_packet, packet_with}
 use Rattle.tcp_model.specs.States.{is_closed, takes_writes, takes_text}

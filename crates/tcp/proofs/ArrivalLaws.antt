@@ -10,8 +10,8 @@ use Rattle.socket_base.specs.Context.{ContextValue}
 use Rattle.tcp_law.specs.Move.{Comes}
 use Rattle.tcp_law.specs.Side.{Side, one_if}
 use Rattle.tcp_law.specs.Side.Phase.{SynReceived}
-use Rattle.tcp_model.specs.declared.state.State.{State}
-use Rattle.tcp_model.specs.declared.state.State.TheVariants as In
+use Rattle.tcp_model.specs.State.{State}
+use Rattle.tcp_model.specs.State.TheVariants as In
 use Rattle.tcp_model.specs.Acknowledged.{acknowledged, window_set, counted, duplicates_after}
 use Rattle.tcp_model.specs.Answers.{drawn}
 use Rattle.tcp_model.specs.Arrival.{waiting_anew, outside, finished, taken, inside, checked, arrives_in, arrives, is_void_syn}

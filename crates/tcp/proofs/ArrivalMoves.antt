@@ -10,7 +10,7 @@ use Rattle.tcp_law.specs.Segment.{Segment, IsNoReset}
 use Rattle.tcp_law.specs.Side.{Side, one_if, send_end}
 use Rattle.tcp_law.specs.Side.Phase.{SynReceived, Synchronized}
 use Rattle.tcp_law.proofs.Lists as lists
-use Rattle.tcp_model.specs.declared.state.State.{State}
+use Rattle.tcp_model.specs.State.{State}
 use Rattle.tcp_model.specs.States.{owes_fin}
 use Rattle.tcp.specs.Tie.{Core, past_of, unsent, IsConnectedAs, phase_of, is_closed_in, is_finished_in}
 use Rattle.tcp.proofs.Tied.{Tied, tied_by, connected_fits, is_connected, is_connected_side}

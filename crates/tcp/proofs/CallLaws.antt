@@ -7,9 +7,9 @@ use Rattle.tcp_law.specs.Side.{Side, fresh, one_if}
 use Rattle.tcp_law.specs.Side.Phase.{SynSent}
 use Rattle.tcp_law.specs.Side.Opening.{NotYet}
 use Rattle.tcp_law.proofs.Lists as lists
-use Rattle.tcp_model.specs.declared.block.EndpointPair.{EndpointPair}
-use Rattle.tcp_model.specs.declared.state.State.{State}
-use Rattle.tcp_model.specs.declared.state.State.TheVariants as In
+use Rattle.tcp_model.specs.EndpointPair.{EndpointPair}
+use Rattle.tcp_model.specs.State.{State}
+use Rattle.tcp_model.specs.State.TheVariants as In
 use Rattle.tcp_model.specs.Calls.{listening, connecting, recv_after, close_after, abort_after}
 use Rattle.tcp_model.specs.States.{is_closed, is_opening, after_close, owes_fin, sends_syn}
 use Rattle.tcp_model.specs.Value.{TcpValue, room_of, unoffered, ended, with_block}

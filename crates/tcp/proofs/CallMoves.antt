@@ -14,9 +14,9 @@ use Rattle.tcp_model.specs.Calls.{sent_more}
 use Rattle.tcp_model.specs.Value.{TcpValue}
 use Rattle.tcp_law.proofs.Calls as law
 use Rattle.tcp_law.proofs.Lists as lists
-use Rattle.tcp_model.specs.declared.block.EndpointPair.{EndpointPair}
-use Rattle.tcp_model.specs.declared.state.State.{State}
-use Rattle.tcp_model.specs.declared.state.State.TheVariants as In
+use Rattle.tcp_model.specs.EndpointPair.{EndpointPair}
+use Rattle.tcp_model.specs.State.{State}
+use Rattle.tcp_model.specs.State.TheVariants as In
 use Rattle.tcp_model.specs.States.{takes_writes, owes_fin, sends_syn}
 use Rattle.tcp.specs.Tie.{Core, Past, past_of, unsent, FitsIn, IsConnectedAs, IsUnopened, IsEnded, IsListening, IsAsking, phase_of, is_closed_in, is_finished_in, IsBlank, Keeps, core_of}
 use Rattle.tcp.specs.History.{listened, called, with_written, with_read, closed_by}

@@ -19,17 +19,17 @@ use Rattle.net_base.specs.RandomWords.{word}
 use Rattle.socket_base.specs.Context.{ContextValue, next_random}
 use Rattle.socket_base.specs.Offers.{Offered, offered_as}
 use Rattle.socket_base.specs.declared.offer.Offer.TheVariants as Answer
-use Rattle.tcp_model.specs.declared.block.AddressPair.{AddressPair}
-use Rattle.tcp_model.specs.declared.block.AddressPair.TheVariants as Pair
+use Rattle.tcp_model.specs.AddressPair.{AddressPair}
+use Rattle.tcp_model.specs.AddressPair.TheVariants as Pair
 use Rattle.tcp_model.specs.declared.block.Block.{Block}
-use Rattle.tcp_model.specs.declared.block.EndpointPair.{EndpointPair}
+use Rattle.tcp_model.specs.EndpointPair.{EndpointPair}
 use Rattle.tcp_model.specs.declared.block.Names.{Names}
-use Rattle.tcp_model.specs.declared.offer.OfferKind.{OfferKind}
-use Rattle.tcp_model.specs.declared.offer.OfferKind.TheVariants as Kind
-use Rattle.tcp_model.specs.declared.offer.OpenOffer.{OpenOffer}
-use Rattle.tcp_model.specs.declared.offer.Reply.{Reply}
-use Rattle.tcp_model.specs.declared.state.State.{State}
-use Rattle.tcp_model.specs.declared.state.State.TheVariants as In
+use Rattle.tcp_model.specs.OfferKind.{OfferKind}
+use Rattle.tcp_model.specs.OfferKind.TheVariants as Kind
+use Rattle.tcp_model.specs.OpenOffer.{OpenOffer}
+use Rattle.tcp_model.specs.Reply.{Reply}
+use Rattle.tcp_model.specs.State.{State}
+use Rattle.tcp_model.specs.State.TheVariants as In
 use Rattle.tcp_model.specs.Acknowledged.{acknowledged, block_acknowledged, state_after_ack, acks_fin, una_moved, in_state, ended_if, window_set, counted, duplicates_after}
 use Rattle.tcp_model.specs.Answers.{drawn, may_draw, with_draw, acked, answer_for, range_held}
 use Rattle.tcp_model.specs.Arrival.{waiting_anew, outside, finished, continued, taken, inside, checked, arrives_in, arrives, is_void_syn, timers_moved}
@@ -39,7 +39,8 @@ use Rattle.tcp_model.specs.Checks.{Check, opening_check, synchronized_check, ack
 use Rattle.tcp_model.specs.Checks.Check.{Passes, Drops, Draws, Resets}
 use Rattle.tcp_model.specs.Controls.{is_syn, is_fin, is_rst}
 use Rattle.tcp_model.specs.Moments.{is_due}
-use Rattle.tcp_model.specs.Names.{local_of, remote_of, pair_in, addresses_in, header_for, is_between, is_connected_by, is_bare, takes_address, accepts_in, accepts}
+use Rattle.tcp_model.specs.Endpoints.{local_of, remote_of, pair_in, addresses_in, header_for, is_between, is_connected_by, is_bare, takes_address}
+use Rattle.tcp_model.specs.Names.{accepts_in, accepts}
 use Rattle.tcp_model.specs.Offers.{offer_segment, offer_choice, offer_ack, offer_syn, offer_reset, offer_keep_alive, silent, last_rules, first_rules, backed_off, offer_between, offer_with, offer_of, number_at}
 use Rattle.tcp_model.specs.Opening.{is_first_syn, opens, takes_answer, acks_syn, syn_answered, connected, crossed, answering}
 use Rattle.tcp_model.specs.Probing.{probe_started, probe_moment}

@@ -8,8 +8,8 @@ use Rattle.tcp_law.specs.Segment.Control.{Plain, Syn}
 use Rattle.tcp_law.specs.Side.{Side, one_if, rcv_next}
 use Rattle.tcp_law.specs.Side.Phase.{Synchronized}
 use Rattle.tcp_law.proofs.Lists as lists
-use Rattle.tcp_model.specs.declared.state.State.{State}
-use Rattle.tcp_model.specs.declared.state.State.TheVariants as In
+use Rattle.tcp_model.specs.State.{State}
+use Rattle.tcp_model.specs.State.TheVariants as In
 use Rattle.tcp_model.specs.States.{owes_fin, sends_syn, sends_text, keeps_alive}
 use Rattle.tcp.specs.Tie.{Core, Past, past_of, unsent, IsAsking, phase_of, is_closed_in}
 use Rattle.tcp.specs.History.{with_sent}

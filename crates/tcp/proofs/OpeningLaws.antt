@@ -23,13 +23,13 @@ use Rattle.tcp_law.proofs.Calls as law
 use Rattle.tcp_law.proofs.Lists as lists
 use Rattle.tcp_law.proofs.Opening.{honest, acked}
 use Rattle.tcp_model.specs.declared.block.Block.{Block}
-use Rattle.tcp_model.specs.declared.block.EndpointPair.{EndpointPair}
-use Rattle.tcp_model.specs.declared.state.State.{State}
-use Rattle.tcp_model.specs.declared.state.State.TheVariants as In
+use Rattle.tcp_model.specs.EndpointPair.{EndpointPair}
+use Rattle.tcp_model.specs.State.{State}
+use Rattle.tcp_model.specs.State.TheVariants as In
 use Rattle.tcp_model.specs.Calls as calls
 use Rattle.tcp_model.specs.Checks.{falls_back, taken_down}
 use Rattle.tcp_model.specs.Controls.{is_syn, is_rst}
-use Rattle.tcp_model.specs.Names.{pair_in}
+use Rattle.tcp_model.specs.Endpoints.{pair_in}
 use Rattle.tcp_model.specs.Opening.{opens, is_first_syn, answering, takes_answer, acks_syn, syn_answered, connected, crossed}
 use Rattle.tcp_model.specs.Segments.{rst_reply}
 use Rattle.tcp_model.specs.States.{is_answering}

@@ -14,7 +14,7 @@ use Rattle.tcp_law.specs.Side.{Side, fresh, send_queue, taken_in}
 use Rattle.tcp_law.proofs.AloneLemmas as alone
 use Rattle.tcp_law.proofs.Lists as lists
 use Rattle.tcp_law.proofs.Theorem as law
-use Rattle.tcp_model.specs.declared.state.State.{State}
+use Rattle.tcp_model.specs.State.{State}
 use Rattle.tcp_model.specs.States.{is_closed}
 use Rattle.tcp_model.specs.Value.{TcpValue}
 use Rattle.tcp.specs.Tie.{Core, Past, past_of, no_past, unsent, FitsIn, IsUnopened, IsEnded, Keeps, IsSideOf, core_of}

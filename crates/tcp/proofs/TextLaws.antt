@@ -15,7 +15,7 @@ use Rattle.tcp_law.specs.Side.{Side, rcv_next}
 use Rattle.tcp_law.specs.Side.Phase.{Synchronized}
 use Rattle.tcp_law.proofs.Calls as law
 use Rattle.tcp_model.specs.declared.block.Block.{Block}
-use Rattle.tcp_model.specs.declared.state.State.{State}
+use Rattle.tcp_model.specs.State.{State}
 use Rattle.tcp_model.specs.Answers.{acked, drawn, with_draw, may_draw, answer_for, range_held}
 use Rattle.tcp_model.specs.Arrival.{finished, timers_moved}
 use Rattle.tcp_model.specs.Controls.{is_syn, is_fin, is_rst}

@@ -11,8 +11,8 @@ use Rattle.tcp_law.specs.Segment.Control.{Plain, Fin, Rst}
 use Rattle.tcp_law.specs.Side.{Side, one_if, rcv_next}
 use Rattle.tcp_law.specs.Side.Phase.{Synchronized, SynReceived}
 use Rattle.tcp_law.proofs.Opening.{honest}
-use Rattle.tcp_model.specs.declared.state.State.{State}
-use Rattle.tcp_model.specs.declared.state.State.TheVariants as In
+use Rattle.tcp_model.specs.State.{State}
+use Rattle.tcp_model.specs.State.TheVariants as In
 use Rattle.tcp_model.specs.States.{takes_text, after_fin, owes_fin}
 use Rattle.tcp.specs.Tie.{Core, Past, past_of, unsent, FitsIn, IsConnectedAs, phase_of, is_closed_in, is_finished_in}
 use Rattle.tcp.specs.History.{with_sent}

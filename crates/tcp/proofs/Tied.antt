@@ -5,8 +5,8 @@ use Rattle.tcp_law.specs.Move.{Move, May, after}
 use Rattle.tcp_law.specs.Side.{Side, Phase, IsConnected}
 use Rattle.tcp_law.specs.Side.Phase.{Synchronized}
 use Rattle.tcp_law.proofs.Theorem.{HoldsBetween-after}
-use Rattle.tcp_model.specs.declared.state.State.{State}
-use Rattle.tcp_model.specs.declared.state.State.TheVariants as In
+use Rattle.tcp_model.specs.State.{State}
+use Rattle.tcp_model.specs.State.TheVariants as In
 use Rattle.tcp_model.specs.States.{takes_writes, takes_text}
 use Rattle.tcp_model.specs.Value.{TcpValue}
 use Rattle.tcp.specs.Tie.{Core, Past, past_of, unsent, FitsIn, IsConnectedAs, phase_of, is_closed_in, is_finished_in, Keeps, IsSideOf, core_of}

@@ -4,12 +4,12 @@ use Rattle.ip_wire.specs.Ip.{source_in, destination_in}
 use Rattle.ip_wire.specs.IpRepr.{IpRepr}
 use Rattle.ip_wire.specs.TcpHeader.{TcpHeader}
 use Rattle.tcp_model.specs.declared.block.Block.{Block}
-use Rattle.tcp_model.specs.declared.block.EndpointPair.{EndpointPair}
-use Rattle.tcp_model.specs.declared.offer.OpenOffer.{OpenOffer}
-use Rattle.tcp_model.specs.declared.offer.Reply.{Reply}
+use Rattle.tcp_model.specs.EndpointPair.{EndpointPair}
+use Rattle.tcp_model.specs.OpenOffer.{OpenOffer}
+use Rattle.tcp_model.specs.Reply.{Reply}
 use Rattle.tcp_model.specs.Blocks.{no_names}
 use Rattle.tcp_model.specs.Controls.{is_rst}
-use Rattle.tcp_model.specs.Names.{local_of, remote_of, pair_in}
+use Rattle.tcp_model.specs.Endpoints.{local_of, remote_of, pair_in}
 use Rattle.tcp_model.specs.Opening.{is_first_syn}
 use Rattle.tcp_model.specs.States.{is_closed, is_listening, is_answering}
 use Rattle.tcp_model.specs.Value.{TcpValue}

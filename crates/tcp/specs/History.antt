@@ -8,11 +8,11 @@ use Rattle.socket_base.specs.Packet as Carried
 use Rattle.tcp_law.specs.Segment.{Segment}
 use Rattle.tcp_law.specs.Side.{Opening}
 use Rattle.tcp_law.specs.Side.Opening.{Passive, Active}
-use Rattle.tcp_model.specs.declared.error.SendError.{SendError}
-use Rattle.tcp_model.specs.declared.offer.OpenOffer.{OpenOffer}
-use Rattle.tcp_model.specs.declared.offer.Reply.{Reply}
-use Rattle.tcp_model.specs.declared.state.State.{State}
-use Rattle.tcp_model.specs.declared.state.State.TheVariants as In
+use Rattle.tcp_model.specs.SendError.{SendError}
+use Rattle.tcp_model.specs.OpenOffer.{OpenOffer}
+use Rattle.tcp_model.specs.Reply.{Reply}
+use Rattle.tcp_model.specs.State.{State}
+use Rattle.tcp_model.specs.State.TheVariants as In
 use Rattle.tcp_model.specs.Calls.{listen_answer, connect_answer}
 use Rattle.tcp_model.specs.Offers.{payload_of}
 use Rattle.tcp_model.specs.States.{is_closed}

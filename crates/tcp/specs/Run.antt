@@ -8,7 +8,7 @@ use Rattle.socket_base.specs.Context.{ContextValue}
 use Rattle.tcp_law.specs.Segment.{Segment}
 use Rattle.tcp_law.specs.Segment.Control.{Rst}
 use Rattle.tcp_law.specs.Side.Opening.{NotYet}
-use Rattle.tcp_model.specs.declared.block.EndpointPair.{EndpointPair}
+use Rattle.tcp_model.specs.EndpointPair.{EndpointPair}
 use Rattle.tcp_model.specs.Arrival.{arrives}
 use Rattle.tcp_model.specs.Calls.{listening, connecting, sent_more, recv_after, close_after, abort_after}
 use Rattle.tcp_model.specs.Offers.{offer_of}

@@ -13,9 +13,9 @@ use Rattle.tcp_law.specs.Side.{Side, Phase, Opening, rcv_next, send_end, send_qu
 use Rattle.tcp_law.specs.Side.Phase.{SynSent, SynReceived, Synchronized, Ended}
 use Rattle.tcp_law.specs.Side.Opening.{NotYet, Passive}
 use Rattle.tcp_law.specs.Move.{listening}
-use Rattle.tcp_model.specs.declared.block.EndpointPair.{EndpointPair}
-use Rattle.tcp_model.specs.declared.state.State.{State}
-use Rattle.tcp_model.specs.declared.state.State.TheVariants as In
+use Rattle.tcp_model.specs.EndpointPair.{EndpointPair}
+use Rattle.tcp_model.specs.State.{State}
+use Rattle.tcp_model.specs.State.TheVariants as In
 use Rattle.tcp_model.specs.States.{owes_fin, sends_syn}
 use Rattle.tcp_model.specs.Value.{TcpValue}
 

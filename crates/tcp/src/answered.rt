@@ -7,7 +7,7 @@ ghost use Rattle.ip_wire.specs.TcpTimestampGenerator.{TcpTimestampGenerator};
 ghost use Rattle.socket_base.specs.Context.{ContextValue};
 ghost use Rattle.tcp_law.specs.Side.Opening.{NotYet, Passive, Active};
 ghost use Rattle.tcp_model.specs.declared.block.CongestionControl.{CongestionControl};
-ghost use Rattle.tcp_model.specs.declared.error.RecvError.TheVariants as Recv;
+ghost use Rattle.tcp_model.specs.RecvError.TheVariants as Recv;
 ghost use Rattle.tcp_model.specs.Calls.{listen_after, connect_after, send_answer, send_after, recv_answer};
 ghost use Rattle.tcp_model.specs.Offers.{offered_packet};
 ghost use Rattle.tcp_model.specs.Settings.{set_timeout, set_keep_alive, set_ack_delay, set_nagle_enabled, set_hop_limit, set_tsval_generator, pause_synack, set_congestion_control};

@@ -4,7 +4,7 @@ ghost use Rattle.std.specs.Prelude.{◌≡◌, ◌==◌, ◌++◌, ◌^◌, ◌<
 ghost use Rattle.ip_wire.specs.IpListenEndpoint.{IpListenEndpoint};
 ghost use Rattle.net_base.specs.Ring.{Ring};
 ghost use Rattle.tcp_law.specs.Side.Opening.{NotYet};
-ghost use Rattle.tcp_model.specs.declared.block.EndpointPair.{EndpointPair};
+ghost use Rattle.tcp_model.specs.EndpointPair.{EndpointPair};
 ghost use Rattle.tcp_model.specs.Calls.{listening, connecting, sent_more, recv_after, close_after, abort_after};
 ghost use Rattle.tcp_model.specs.States.{is_closed, takes_writes};
 ghost use Rattle.tcp_model.specs.Value.{TcpValue};

@@ -8,16 +8,16 @@ use Rattle.socket_base.specs.declared.offer.Offer.TheVariants as Answer
 use Rattle.socket_base.specs.declared.poll_at.PollAt.{PollAt}
 use Rattle.socket_base.specs.declared.poll_at.PollAt.TheVariants as At
 use Rattle.tcp_model.specs.declared.block.Block.{Block}
-use Rattle.tcp_model.specs.declared.block.EndpointPair.{EndpointPair}
-use Rattle.tcp_model.specs.declared.offer.OfferKind.TheVariants as Kind
+use Rattle.tcp_control.specs.declared.endpoints.EndpointPair.{EndpointPair}
+use Rattle.tcp_control.specs.declared.offer.OfferKind.TheVariants as Kind
 use Rattle.tcp_model.specs.Due.{wishes, moments, any, earlier_of, earliest, at_moment, poll_open, poll_between, poll_with, poll_of}
-use Rattle.tcp_model.specs.Moments.{is_due, earlier, timeout_from}
+use Rattle.tcp_control.specs.Moments.{is_due, earlier, timeout_from}
 use Rattle.tcp_model.specs.Offers.{silent, offer_syn, offer_choice, offer_ack, offer_keep_alive, offer_reset, first_rules, last_rules, backed_off, offer_between, offer_with, offer_of}
 use Rattle.tcp_model.specs.Probing.{probe_started, probe_moment, is_probe_unset, is_probing, with_probe_at}
 use Rattle.tcp_model.specs.Quiet.{IsQuiet, AreLater}
 use Rattle.tcp_model.specs.Rules.{time_wait_end, owes_syn, resends, ack_moment, has_text, text_choice, resend_choice, probe_choice, updates_window, keep_alive_moment, backed_off_now}
 use Rattle.tcp_model.specs.Settled.{settled}
-use Rattle.tcp_model.specs.States.{is_closed}
+use Rattle.tcp_control.specs.States.{is_closed}
 use Rattle.tcp_model.specs.Timeout.{timeout_end, timeout_started, timeout_runs, is_timeout_unset, with_timeout_since, timed_out}
 use Rattle.tcp_model.specs.Value.{TcpValue, with_block, unoffered, ended, queued_in, window_of}
 use Rattle.tcp_model.proofs.Waits.{same_poll}

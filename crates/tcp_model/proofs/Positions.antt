@@ -4,7 +4,7 @@ use Rattle.std.proofs.lemmas.Bool.Decides.{nat_tests}
 use Rattle.ip_wire.specs.Seq.{distance_of}
 use Rattle.ip_wire.specs.SeqNumber.{SeqNumber}
 use Rattle.tcp_law.specs.Numbers.{wire, ahead, nearest}
-use Rattle.tcp_model.specs.Offsets.{past_by, before_by}
+use Rattle.tcp_control.specs.Offsets.{past_by, before_by}
 
 -- the distance to a number from that of a position
 pub distance-ahead : (r : ℕ) (reference number : SeqNumber) → reference.0 ≡ wire r → distance_of reference number ≡ ahead r number.0

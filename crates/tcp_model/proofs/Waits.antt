@@ -6,16 +6,16 @@ use Rattle.socket_base.specs.declared.offer.Offer.TheVariants as Answer
 use Rattle.socket_base.specs.declared.poll_at.PollAt.{PollAt}
 use Rattle.socket_base.specs.declared.poll_at.PollAt.TheVariants as At
 use Rattle.tcp_model.specs.declared.block.Block.{Block}
-use Rattle.tcp_model.specs.declared.block.EndpointPair.{EndpointPair}
+use Rattle.tcp_control.specs.declared.endpoints.EndpointPair.{EndpointPair}
 use Rattle.tcp_model.specs.Due.{wishes, moments, any, earlier_of, earliest, at_moment, poll_open, poll_between, poll_with, poll_of}
-use Rattle.tcp_model.specs.Moments.{is_due, earlier, timeout_from}
+use Rattle.tcp_control.specs.Moments.{is_due, earlier, timeout_from}
 use Rattle.tcp_model.specs.Offers.{silent, first_rules, last_rules, backed_off, offer_between, offer_with, offer_of}
 use Rattle.tcp_model.specs.Quiet.{IsQuiet, AreLater}
-use Rattle.tcp_model.specs.declared.state.State.{State}
-use Rattle.tcp_model.specs.declared.state.State.TheVariants as In
+use Rattle.tcp_control.specs.declared.state.State.{State}
+use Rattle.tcp_control.specs.declared.state.State.TheVariants as In
 use Rattle.tcp_model.specs.Probing.{probe_started, with_probe_at}
 use Rattle.tcp_model.specs.Rules.{time_wait_end}
-use Rattle.tcp_model.specs.States.{is_closed, is_time_wait}
+use Rattle.tcp_control.specs.States.{is_closed, is_time_wait}
 use Rattle.tcp_model.specs.Settled.{settled}
 use Rattle.tcp_model.specs.Timeout.{timeout_started, with_timeout_since, timeout_end, end_by, waits_for_remote}
 use Rattle.tcp_model.specs.Value.{TcpValue, with_block, unoffered, queued_in, window_of}

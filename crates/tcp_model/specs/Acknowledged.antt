@@ -7,16 +7,16 @@ use Rattle.net_base.specs.Ring.{released}
 use Rattle.tcp_model.specs.declared.block.Block.{Block}
 use Rattle.tcp_model.specs.declared.block.Sender.{Sender}
 use Rattle.tcp_model.specs.declared.block.Timers.{Timers}
-use Rattle.tcp_model.specs.declared.state.State.{State}
+use Rattle.tcp_control.specs.declared.state.State.{State}
 use Rattle.tcp_model.specs.Blocks.{one_if, unacked, forgotten}
-use Rattle.tcp_model.specs.Controls.{or_recent, is_fin}
-use Rattle.tcp_model.specs.Moments.{timeout_from, time_wait_from}
-use Rattle.tcp_model.specs.Offsets.{behind_by}
-use Rattle.tcp_model.specs.Reno as reno
-use Rattle.tcp_model.specs.Reno.{RenoValue}
-use Rattle.tcp_model.specs.RoundTrip as round_trip
-use Rattle.tcp_model.specs.RoundTrip.{RoundTripValue}
-use Rattle.tcp_model.specs.States.{is_closed, is_time_wait, owes_fin, after_ack, after_ack_of_fin}
+use Rattle.tcp_control.specs.Controls.{or_recent, is_fin}
+use Rattle.tcp_control.specs.Moments.{timeout_from, time_wait_from}
+use Rattle.tcp_control.specs.Offsets.{behind_by}
+use Rattle.tcp_control.specs.Reno as reno
+use Rattle.tcp_control.specs.Reno.{RenoValue}
+use Rattle.tcp_control.specs.RoundTrip as round_trip
+use Rattle.tcp_control.specs.RoundTrip.{RoundTripValue}
+use Rattle.tcp_control.specs.States.{is_closed, is_time_wait, owes_fin, after_ack, after_ack_of_fin}
 use Rattle.tcp_model.specs.Value.{TcpValue, queued_in}
 
 -- how many bytes of the send queue are acknowledged

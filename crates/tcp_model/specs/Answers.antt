@@ -6,10 +6,10 @@ use Rattle.ip_wire.specs.SeqNumber.{SeqNumber}
 use Rattle.ip_wire.specs.TcpHeader.{TcpHeader}
 use Rattle.socket_base.specs.Context.{ContextValue}
 use Rattle.tcp_model.specs.declared.block.Block.{Block}
-use Rattle.tcp_model.specs.Controls.{is_fin}
-use Rattle.tcp_model.specs.Moments.{is_due, later, earlier, next_draw_from}
-use Rattle.tcp_model.specs.Names.{pair_in}
-use Rattle.tcp_model.specs.Offsets.{behind_by}
+use Rattle.tcp_control.specs.Controls.{is_fin}
+use Rattle.tcp_control.specs.Moments.{is_due, later, earlier, next_draw_from}
+use Rattle.tcp_control.specs.Endpoints.{pair_in}
+use Rattle.tcp_control.specs.Offsets.{behind_by}
 use Rattle.tcp_model.specs.Segments.{sack_segment, reply_to, hops_of}
 use Rattle.tcp_model.specs.Value.{TcpValue, Arrived, with_block, dropped, answered_with, window_of}
 

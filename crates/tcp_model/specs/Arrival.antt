@@ -4,18 +4,18 @@ use Rattle.ip_wire.specs.IpRepr.{IpRepr}
 use Rattle.ip_wire.specs.TcpHeader.{TcpHeader}
 use Rattle.socket_base.specs.Context.{ContextValue}
 use Rattle.tcp_model.specs.declared.block.Block.{Block}
-use Rattle.tcp_model.specs.declared.state.State.{State}
-use Rattle.tcp_model.specs.declared.state.State.TheVariants as In
+use Rattle.tcp_control.specs.declared.state.State.{State}
+use Rattle.tcp_control.specs.declared.state.State.TheVariants as In
 use Rattle.tcp_model.specs.Acknowledged.{acknowledged, window_set, counted, duplicates_after}
 use Rattle.tcp_model.specs.Answers.{drawn, answer_for}
 use Rattle.tcp_model.specs.Checks.{Check, acknowledgement_check, is_in_window, taken_down}
 use Rattle.tcp_model.specs.Checks.Check.{Passes, Drops, Draws, Resets}
-use Rattle.tcp_model.specs.Controls.{is_syn, is_fin, is_rst, is_zero}
-use Rattle.tcp_model.specs.Moments.{time_wait_from}
+use Rattle.tcp_control.specs.Controls.{is_syn, is_fin, is_rst, is_zero}
+use Rattle.tcp_control.specs.Moments.{time_wait_from}
 use Rattle.tcp_model.specs.Opening.{opens, takes_answer}
 use Rattle.tcp_model.specs.Probing.{probe_kept}
 use Rattle.tcp_model.specs.Segments.{rst_reply}
-use Rattle.tcp_model.specs.States.{is_closed, is_time_wait}
+use Rattle.tcp_control.specs.States.{is_closed, is_time_wait}
 use Rattle.tcp_model.specs.Text.{Texted, with_text, with_fin}
 use Rattle.tcp_model.specs.Timeout.{timeout_restarted}
 use Rattle.tcp_model.specs.Value.{TcpValue, Arrived, with_block, dropped, answered_with, unoffered, queued_in, free_in}

@@ -11,11 +11,11 @@ use Rattle.tcp_model.specs.declared.block.Sender.{Sender}
 use Rattle.tcp_model.specs.declared.block.Settings.{Settings}
 use Rattle.tcp_model.specs.declared.block.Timers.{Timers}
 use Rattle.tcp_model.specs.declared.block.CongestionControl.TheVariants as Congestion
-use Rattle.tcp_model.specs.declared.state.State.TheVariants as In
-use Rattle.tcp_model.specs.Offsets.{behind_by}
-use Rattle.tcp_model.specs.Reno as reno
-use Rattle.tcp_model.specs.RoundTrip as round_trip
-use Rattle.tcp_model.specs.States.{owes_fin}
+use Rattle.tcp_control.specs.declared.state.State.TheVariants as In
+use Rattle.tcp_control.specs.Offsets.{behind_by}
+use Rattle.tcp_control.specs.Reno as reno
+use Rattle.tcp_control.specs.RoundTrip as round_trip
+use Rattle.tcp_control.specs.States.{owes_fin}
 
 abbrev pub one_if : Bool → ℕ
 one_if false = 0

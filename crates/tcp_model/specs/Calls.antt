@@ -9,21 +9,21 @@ use Rattle.ip_wire.specs.IpListenEndpoint.{IpListenEndpoint}
 use Rattle.ip_wire.specs.AddressTests.{is_unspecified}
 use Rattle.socket_base.specs.Context.{ContextValue, next_random}
 use Rattle.tcp_law.specs.ReceiveMap.{space}
-use Rattle.tcp_model.specs.declared.block.AddressPair.{AddressPair}
+use Rattle.tcp_control.specs.declared.endpoints.AddressPair.{AddressPair}
 use Rattle.tcp_model.specs.declared.block.Block.{Block}
-use Rattle.tcp_model.specs.declared.block.EndpointPair.{EndpointPair}
-use Rattle.tcp_model.specs.declared.error.ConnectError.{ConnectError}
-use Rattle.tcp_model.specs.declared.error.ConnectError.TheVariants as Connect
-use Rattle.tcp_model.specs.declared.error.ListenError.{ListenError}
-use Rattle.tcp_model.specs.declared.error.ListenError.TheVariants as Listen
-use Rattle.tcp_model.specs.declared.error.RecvError.{RecvError}
-use Rattle.tcp_model.specs.declared.error.RecvError.TheVariants as Recv
-use Rattle.tcp_model.specs.declared.error.SendError.{SendError}
-use Rattle.tcp_model.specs.declared.error.SendError.TheVariants as Send
-use Rattle.tcp_model.specs.declared.state.State.TheVariants as In
+use Rattle.tcp_control.specs.declared.endpoints.EndpointPair.{EndpointPair}
+use Rattle.tcp_control.specs.declared.error.ConnectError.{ConnectError}
+use Rattle.tcp_control.specs.declared.error.ConnectError.TheVariants as Connect
+use Rattle.tcp_control.specs.declared.error.ListenError.{ListenError}
+use Rattle.tcp_control.specs.declared.error.ListenError.TheVariants as Listen
+use Rattle.tcp_control.specs.declared.error.RecvError.{RecvError}
+use Rattle.tcp_control.specs.declared.error.RecvError.TheVariants as Recv
+use Rattle.tcp_control.specs.declared.error.SendError.{SendError}
+use Rattle.tcp_control.specs.declared.error.SendError.TheVariants as Send
+use Rattle.tcp_control.specs.declared.state.State.TheVariants as In
 use Rattle.tcp_model.specs.Blocks.{fresh_block, fresh_sender, nowhere}
-use Rattle.tcp_model.specs.Names.{pair_of, is_same_listener}
-use Rattle.tcp_model.specs.States.{is_closed, is_listening, is_opening, takes_writes, takes_text, after_close}
+use Rattle.tcp_control.specs.Endpoints.{pair_of, is_same_listener}
+use Rattle.tcp_control.specs.States.{is_closed, is_listening, is_opening, takes_writes, takes_text, after_close}
 use Rattle.tcp_model.specs.Value.{TcpValue, Received, received_of, with_block, unoffered, ended, opened, room_of}
 
 -- LISTEN: a passive OPEN

@@ -5,10 +5,10 @@ use Rattle.ip_wire.specs.SeqNumber.{SeqNumber}
 use Rattle.ip_wire.specs.TcpHeader.{TcpHeader}
 use Rattle.tcp_model.specs.declared.block.Block.{Block}
 use Rattle.tcp_model.specs.Blocks.{unacked}
-use Rattle.tcp_model.specs.Controls.{is_rst}
-use Rattle.tcp_model.specs.Offsets.{past_by, before_by, meets_window}
+use Rattle.tcp_control.specs.Controls.{is_rst}
+use Rattle.tcp_control.specs.Offsets.{past_by, before_by, meets_window}
 use Rattle.tcp_model.specs.Segments.{segment_len}
-use Rattle.tcp_model.specs.States.{is_answering}
+use Rattle.tcp_control.specs.States.{is_answering}
 use Rattle.tcp_model.specs.Value.{TcpValue, ended}
 use Rattle.tcp_model.specs.Calls.{listening}
 

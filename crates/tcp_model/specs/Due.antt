@@ -3,13 +3,13 @@ use Rattle.std.specs.Prelude.{ℕ, ◌||◌, ℤ, Bool, false, if◌then◌else�
 use Rattle.net_base.specs.Ring.{Ring}
 use Rattle.socket_base.specs.declared.poll_at.PollAt.{PollAt}
 use Rattle.socket_base.specs.declared.poll_at.PollAt.TheVariants as At
-use Rattle.tcp_model.specs.declared.block.AddressPair.{AddressPair}
+use Rattle.tcp_control.specs.declared.endpoints.AddressPair.{AddressPair}
 use Rattle.tcp_model.specs.declared.block.Block.{Block}
-use Rattle.tcp_model.specs.declared.block.EndpointPair.{EndpointPair}
-use Rattle.tcp_model.specs.Moments.{earlier}
+use Rattle.tcp_control.specs.declared.endpoints.EndpointPair.{EndpointPair}
+use Rattle.tcp_control.specs.Moments.{earlier}
 use Rattle.tcp_model.specs.Probing.{is_probe_unset, probe_moment}
 use Rattle.tcp_model.specs.Rules.{time_wait_end, owes_syn, resends, ack_moment, has_text, updates_window, keep_alive_moment}
-use Rattle.tcp_model.specs.States.{is_closed}
+use Rattle.tcp_control.specs.States.{is_closed}
 use Rattle.tcp_model.specs.Timeout.{timeout_end, is_timeout_unset}
 use Rattle.tcp_model.specs.Value.{TcpValue, queued_in, window_of}
 

@@ -8,9 +8,9 @@ use Rattle.net_base.specs.Checksum.TheVariants as Checksum
 use Rattle.net_base.specs.Ring.{ring}
 use Rattle.socket_base.specs.Context.{ContextValue}
 use Rattle.socket_base.specs.Packet.{PacketValue, PayloadValue, Segment}
-use Rattle.tcp_model.specs.declared.block.EndpointPair.{EndpointPair}
-use Rattle.tcp_model.specs.declared.block.AddressPair.TheVariants as Pair
-use Rattle.tcp_model.specs.declared.offer.Reply.{Reply}
+use Rattle.tcp_control.specs.declared.endpoints.EndpointPair.{EndpointPair}
+use Rattle.tcp_control.specs.declared.endpoints.AddressPair.TheVariants as Pair
+use Rattle.tcp_control.specs.declared.offer.Reply.{Reply}
 use Rattle.tcp_model.specs.Arrival.{arrives}
 use Rattle.tcp_model.specs.Calls.{connecting, listening}
 use Rattle.tcp_model.specs.Offers.{offer_of, offered_packet}

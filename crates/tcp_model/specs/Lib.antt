@@ -1,9 +1,5 @@
-pub mod Reno
-pub mod RoundTrip
-pub mod States
-pub mod Controls
-pub mod Offsets
-pub mod Moments
+-- The rules of a TCP socket, and what contracts of tcp_control cite, for the crates above: `Rattle.tcp_control.specs.Reno`,
+-- `Rattle.tcp_model.specs.State.{State}`.
 pub mod Blocks
 pub mod Value
 pub mod Names
@@ -28,3 +24,20 @@ pub mod Runs
 pub mod Checked
 pub mod Choices
 pub mod Unsettled
+pub use Rattle.tcp_control.specs.States
+pub use Rattle.tcp_control.specs.Reno
+pub use Rattle.tcp_control.specs.RoundTrip
+pub use Rattle.tcp_control.specs.Moments
+pub use Rattle.tcp_control.specs.Offsets
+pub use Rattle.tcp_control.specs.Controls
+pub use Rattle.tcp_control.specs.Endpoints
+pub use Rattle.tcp_control.specs.declared.state.State
+pub use Rattle.tcp_control.specs.declared.error.ConnectError
+pub use Rattle.tcp_control.specs.declared.error.ListenError
+pub use Rattle.tcp_control.specs.declared.error.RecvError
+pub use Rattle.tcp_control.specs.declared.error.SendError
+pub use Rattle.tcp_control.specs.declared.offer.OfferKind
+pub use Rattle.tcp_control.specs.declared.offer.OpenOffer
+pub use Rattle.tcp_control.specs.declared.offer.Reply
+pub use Rattle.tcp_control.specs.declared.endpoints.AddressPair
+pub use Rattle.tcp_control.specs.declared.endpoints.EndpointPair

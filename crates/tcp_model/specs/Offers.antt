@@ -9,18 +9,18 @@ use Rattle.socket_base.specs.Packet.{PacketValue, packet_of}
 use Rattle.socket_base.specs.Packet as Carried
 use Rattle.socket_base.specs.declared.offer.Offer.TheVariants as Answer
 use Rattle.tcp_model.specs.declared.block.Block.{Block}
-use Rattle.tcp_model.specs.declared.block.EndpointPair.{EndpointPair}
-use Rattle.tcp_model.specs.declared.offer.OfferKind.{OfferKind}
-use Rattle.tcp_model.specs.declared.offer.OfferKind.TheVariants as Kind
-use Rattle.tcp_model.specs.declared.offer.OpenOffer.{OpenOffer}
+use Rattle.tcp_control.specs.declared.endpoints.EndpointPair.{EndpointPair}
+use Rattle.tcp_control.specs.declared.offer.OfferKind.{OfferKind}
+use Rattle.tcp_control.specs.declared.offer.OfferKind.TheVariants as Kind
+use Rattle.tcp_control.specs.declared.offer.OpenOffer.{OpenOffer}
 use Rattle.tcp_model.specs.Blocks.{one_if}
-use Rattle.tcp_model.specs.Moments.{is_due}
-use Rattle.tcp_model.specs.Names.{header_for}
-use Rattle.tcp_model.specs.Offsets.{behind_by}
+use Rattle.tcp_control.specs.Moments.{is_due}
+use Rattle.tcp_control.specs.Endpoints.{header_for}
+use Rattle.tcp_control.specs.Offsets.{behind_by}
 use Rattle.tcp_model.specs.Probing.{probe_started, probe_moment}
 use Rattle.tcp_model.specs.Rules.{Choice, time_wait_end, owes_syn, resends, ack_moment, has_text, text_choice, resend_choice, probe_choice, control_for, updates_window, keep_alive_moment, backed_off_now}
 use Rattle.tcp_model.specs.Segments.{segment, ack_segment, syn_segment, reset_segment, keep_alive_segment, hops_of}
-use Rattle.tcp_model.specs.States.{is_closed}
+use Rattle.tcp_control.specs.States.{is_closed}
 use Rattle.tcp_model.specs.Timeout.{timeout_end, timeout_started, timed_out}
 use Rattle.tcp_model.specs.Value.{TcpValue, with_block, unoffered, ended, queued_in, free_in, room_of, window_of}
 

@@ -8,13 +8,13 @@ use Rattle.ip_wire.specs.TcpHeader.{TcpHeader}
 use Rattle.socket_base.specs.Context.{ContextValue, next_random}
 use Rattle.tcp_model.specs.declared.block.Block.{Block}
 use Rattle.tcp_model.specs.declared.block.Peer.{Peer}
-use Rattle.tcp_model.specs.declared.state.State.TheVariants as In
+use Rattle.tcp_control.specs.declared.state.State.TheVariants as In
 use Rattle.tcp_model.specs.Acknowledged.{una_moved}
 use Rattle.tcp_model.specs.Blocks.{fresh_sender}
-use Rattle.tcp_model.specs.Controls.{is_syn, is_rst, or_mss, or_recent}
-use Rattle.tcp_model.specs.Names.{pair_in}
-use Rattle.tcp_model.specs.Offsets.{behind_by}
-use Rattle.tcp_model.specs.Reno.{with_mss}
+use Rattle.tcp_control.specs.Controls.{is_syn, is_rst, or_mss, or_recent}
+use Rattle.tcp_control.specs.Endpoints.{pair_in}
+use Rattle.tcp_control.specs.Offsets.{behind_by}
+use Rattle.tcp_control.specs.Reno.{with_mss}
 use Rattle.tcp_model.specs.Segments.{rst_reply}
 use Rattle.tcp_model.specs.Timeout.{timeout_restarted}
 use Rattle.tcp_model.specs.Value.{TcpValue, Arrived, with_block, dropped, answered_with, ended, queued_in}

@@ -1,8 +1,8 @@
 -- Probes of a closed window (RFC 9293, 3.8.6.1).
 use Rattle.std.specs.Prelude.{ℕ, ◌==◌, not, ◌&&◌, ℤ, Bool, if◌then◌else◌, Option, Some, None, is_none}
 use Rattle.tcp_model.specs.declared.block.Block.{Block}
-use Rattle.tcp_model.specs.Moments.{timeout_from}
-use Rattle.tcp_model.specs.States.{sends_text}
+use Rattle.tcp_control.specs.Moments.{timeout_from}
+use Rattle.tcp_control.specs.States.{sends_text}
 
 -- bytes are queued, nothing is in flight, and the remote's window is closed
 abbrev pub is_probing : Block → ℕ → Bool

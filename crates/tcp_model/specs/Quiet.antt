@@ -1,8 +1,8 @@
 -- A socket that has nothing to offer at a moment.
 use Rattle.std.specs.Prelude.{◌≡◌, ℤ, false, List, [], ◌∷◌, Option}
 use Rattle.socket_base.specs.Context.{ContextValue}
-use Rattle.tcp_model.specs.declared.block.EndpointPair.{EndpointPair}
-use Rattle.tcp_model.specs.Moments.{is_due}
+use Rattle.tcp_control.specs.declared.endpoints.EndpointPair.{EndpointPair}
+use Rattle.tcp_control.specs.Moments.{is_due}
 use Rattle.tcp_model.specs.Probing.{is_probe_unset, probe_moment}
 use Rattle.tcp_model.specs.Rules.{time_wait_end, owes_syn, resends, ack_moment, has_text, updates_window, keep_alive_moment}
 use Rattle.tcp_model.specs.Timeout.{timeout_end, is_timeout_unset}

@@ -4,15 +4,15 @@ use Rattle.std.specs.Prelude.{ℕ, ◌+◌, ◌-◌, ◌/◌, ◌==◌, nat_lt, 
 use Rattle.net_base.specs.Ring.{Ring, until_end}
 use Rattle.ip_wire.specs.TcpControl.{TcpControl}
 use Rattle.ip_wire.specs.TcpControl.TheVariants as Control
-use Rattle.tcp_model.specs.declared.block.AddressPair.{AddressPair}
+use Rattle.tcp_control.specs.declared.endpoints.AddressPair.{AddressPair}
 use Rattle.tcp_model.specs.declared.block.Block.{Block}
 use Rattle.tcp_model.specs.declared.block.CongestionControl.{CongestionControl}
 use Rattle.tcp_model.specs.declared.block.CongestionControl.TheVariants as Congestion
 use Rattle.tcp_model.specs.Blocks.{one_if, unacked}
-use Rattle.tcp_model.specs.Names.{ip_header_len}
-use Rattle.tcp_model.specs.Reno as reno
-use Rattle.tcp_model.specs.RoundTrip as round_trip
-use Rattle.tcp_model.specs.States.{is_answering, is_time_wait, owes_fin, sends_text, sends_syn, takes_text, keeps_alive}
+use Rattle.tcp_control.specs.Endpoints.{ip_header_len}
+use Rattle.tcp_control.specs.Reno as reno
+use Rattle.tcp_control.specs.RoundTrip as round_trip
+use Rattle.tcp_control.specs.States.{is_answering, is_time_wait, owes_fin, sends_text, sends_syn, takes_text, keeps_alive}
 
 -- the end of TIME-WAIT (3.10.8)
 abbrev pub time_wait_end : Block → Option ℤ

@@ -1,8 +1,8 @@
 -- What the sockets of `Examples` do.
 use Rattle.std.specs.Prelude.{ℕ, ℤ, pos, false, List, [], ◌∷◌, Option, Some, None}
-use Rattle.tcp_model.specs.declared.offer.OpenOffer.{OpenOffer}
-use Rattle.tcp_model.specs.declared.offer.OfferKind.{OfferKind}
-use Rattle.tcp_model.specs.declared.offer.Reply.{Reply}
+use Rattle.tcp_control.specs.declared.offer.OpenOffer.{OpenOffer}
+use Rattle.tcp_control.specs.declared.offer.OfferKind.{OfferKind}
+use Rattle.tcp_control.specs.declared.offer.Reply.{Reply}
 use Rattle.tcp_model.specs.Calls.{send_after, recv_after, close_after}
 use Rattle.tcp_model.specs.Examples.{Two, two, at, caller_a, caller_b, listener, sends, packet_at, delivered, hands_over, turned}
 use Rattle.tcp_model.specs.Offers.{offer_of}

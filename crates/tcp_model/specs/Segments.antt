@@ -13,11 +13,11 @@ use Rattle.ip_wire.specs.TcpTimestampGenerator.{TcpTimestampGenerator}
 use Rattle.ip_wire.specs.TcpTimestampRepr.{TcpTimestampRepr}
 use Rattle.ip_wire.specs.Timestamp.{value_at}
 use Rattle.tcp_model.specs.declared.block.Block.{Block}
-use Rattle.tcp_model.specs.declared.block.EndpointPair.{EndpointPair}
-use Rattle.tcp_model.specs.declared.offer.Reply.{Reply}
+use Rattle.tcp_control.specs.declared.endpoints.EndpointPair.{EndpointPair}
+use Rattle.tcp_control.specs.declared.offer.Reply.{Reply}
 use Rattle.tcp_model.specs.Blocks.{nxt, own_scale, field_of}
-use Rattle.tcp_model.specs.Names.{addresses_in, header_for, ip_header_len}
-use Rattle.tcp_model.specs.Offsets.{behind_by}
+use Rattle.tcp_control.specs.Endpoints.{addresses_in, header_for, ip_header_len}
+use Rattle.tcp_control.specs.Offsets.{behind_by}
 
 -- the hop limit that is set, or 64
 abbrev pub hops_of : Option ℕ → ℕ

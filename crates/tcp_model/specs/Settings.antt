@@ -4,11 +4,11 @@ use Rattle.ip_wire.specs.TcpTimestampGenerator.{TcpTimestampGenerator}
 use Rattle.tcp_model.specs.declared.block.Block.{Block}
 use Rattle.tcp_model.specs.declared.block.CongestionControl.{CongestionControl}
 use Rattle.tcp_model.specs.declared.block.Settings.{Settings}
-use Rattle.tcp_model.specs.declared.state.State.{State}
-use Rattle.tcp_model.specs.declared.state.State.TheVariants as In
-use Rattle.tcp_model.specs.Reno as reno
-use Rattle.tcp_model.specs.Reno.{RenoValue}
-use Rattle.tcp_model.specs.States.{takes_writes, takes_text}
+use Rattle.tcp_control.specs.declared.state.State.{State}
+use Rattle.tcp_control.specs.declared.state.State.TheVariants as In
+use Rattle.tcp_control.specs.Reno as reno
+use Rattle.tcp_control.specs.Reno.{RenoValue}
+use Rattle.tcp_control.specs.States.{takes_writes, takes_text}
 use Rattle.tcp_model.specs.Timeout.{timeout_kept}
 use Rattle.tcp_model.specs.Value.{TcpValue, with_block, unoffered, queued_in}
 

@@ -3,13 +3,13 @@ use Rattle.std.specs.Prelude.{ℕ, ◌+◌, nat_lt, max, not, ◌&&◌, ℤ, Boo
 use Rattle.ip_wire.specs.Control.{control_len}
 use Rattle.ip_wire.specs.Seq.{distance_of}
 use Rattle.tcp_model.specs.declared.block.Block.{Block}
-use Rattle.tcp_model.specs.declared.offer.OfferKind.{OfferKind}
-use Rattle.tcp_model.specs.declared.offer.OfferKind.TheVariants as Kind
-use Rattle.tcp_model.specs.declared.offer.OpenOffer.{OpenOffer}
+use Rattle.tcp_control.specs.declared.offer.OfferKind.{OfferKind}
+use Rattle.tcp_control.specs.declared.offer.OfferKind.TheVariants as Kind
+use Rattle.tcp_control.specs.declared.offer.OpenOffer.{OpenOffer}
 use Rattle.tcp_model.specs.Blocks.{forgotten}
-use Rattle.tcp_model.specs.Moments.{later_by, timeout_from}
+use Rattle.tcp_control.specs.Moments.{later_by, timeout_from}
 use Rattle.tcp_model.specs.Probing.{probe_kept}
-use Rattle.tcp_model.specs.RoundTrip as round_trip
+use Rattle.tcp_control.specs.RoundTrip as round_trip
 use Rattle.tcp_model.specs.Value.{TcpValue, with_block, unoffered, queued_in}
 
 -- Its window field is recorded, and its acknowledgement, if it has one: none is due any more. The next keep-alive is counted from

@@ -5,9 +5,9 @@ use Rattle.ip_wire.specs.TcpHeader.{TcpHeader}
 use Rattle.tcp_law.specs.ReceiveMap.{store, front, behind}
 use Rattle.tcp_model.specs.declared.block.Block.{Block}
 use Rattle.tcp_model.specs.Acknowledged.{in_state}
-use Rattle.tcp_model.specs.Controls.{is_fin}
-use Rattle.tcp_model.specs.Offsets.{past_by, before_by, behind_by}
-use Rattle.tcp_model.specs.States.{takes_text, after_fin}
+use Rattle.tcp_control.specs.Controls.{is_fin}
+use Rattle.tcp_control.specs.Offsets.{past_by, before_by, behind_by}
+use Rattle.tcp_control.specs.States.{takes_text, after_fin}
 use Rattle.tcp_model.specs.Value.{TcpValue, received_of, free_in}
 
 -- the socket with a segment's text; how far RCV.NXT rose; and of text that is held early the place of its first byte

@@ -1,10 +1,10 @@
 -- The user timeout (RFC 9293, 3.8.3), as it runs while something waits for the remote.
 use Rattle.std.specs.Prelude.{ℕ, ◌==◌, ◌&&◌, ◌||◌, not, ℤ, Bool, true, if◌then◌else◌, Option, Some, None, is_some, is_none}
 use Rattle.tcp_model.specs.declared.block.Block.{Block}
-use Rattle.tcp_model.specs.declared.state.State.TheVariants as In
+use Rattle.tcp_control.specs.declared.state.State.TheVariants as In
 use Rattle.tcp_model.specs.Blocks.{unacked}
-use Rattle.tcp_model.specs.Moments.{later}
-use Rattle.tcp_model.specs.States.{is_closed, is_opening, is_answering}
+use Rattle.tcp_control.specs.Moments.{later}
+use Rattle.tcp_control.specs.States.{is_closed, is_opening, is_answering}
 
 -- something isn't acknowledged, the connection isn't there yet, or keep-alives go
 abbrev pub waits_for_remote : Block → ℕ → Bool

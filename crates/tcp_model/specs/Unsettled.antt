@@ -1,9 +1,9 @@
 -- What holds of an offer until it is settled.
 use Rattle.std.specs.Prelude.{◌<◌, ◌^◌}
 use Rattle.tcp_model.specs.declared.block.Block.{Block}
-use Rattle.tcp_model.specs.declared.offer.OfferKind.{OfferKind}
-use Rattle.tcp_model.specs.declared.offer.OfferKind.TheVariants as Kind
-use Rattle.tcp_model.specs.declared.offer.OpenOffer.{OpenOffer}
+use Rattle.tcp_control.specs.declared.offer.OfferKind.{OfferKind}
+use Rattle.tcp_control.specs.declared.offer.OfferKind.TheVariants as Kind
+use Rattle.tcp_control.specs.declared.offer.OpenOffer.{OpenOffer}
 use Rattle.tcp_model.specs.Settled.{end_of}
 
 -- a segment that may move SND.NXT ends less than 2 ^ 32 past SND.UNA

@@ -4,8 +4,8 @@ use Rattle.net_base.specs.Ring.{Ring, cleared}
 use Rattle.tcp_law.specs.ReceiveMap.{space}
 use Rattle.tcp_model.specs.Blocks.{fresh_block, forgotten, default_settings, window_field}
 use Rattle.tcp_model.specs.declared.block.Block.{Block}
-use Rattle.tcp_model.specs.declared.offer.OpenOffer.{OpenOffer}
-use Rattle.tcp_model.specs.declared.offer.Reply.{Reply}
+use Rattle.tcp_control.specs.declared.offer.OpenOffer.{OpenOffer}
+use Rattle.tcp_control.specs.declared.offer.Reply.{Reply}
 
 -- The receive buffer: the bytes that wait to be read; the receive map behind them, one entry for each free place from RCV.NXT
 -- on, so its length is RCV.WND; and where in the storage the first byte that waits stands.

@@ -1,28 +1,7 @@
 //! The control block of a connection (RFC 9293, section 3.3.1): all that a socket knows but for its bytes.
-use crate::{Reno, RoundTrip, State};
-use ip_wire::{IpListenEndpoint, Ipv4Address, Ipv6Address, SeqNumber, TcpTimestampGenerator};
+use crate::{EndpointPair, Reno, RoundTrip, State};
+use ip_wire::{IpListenEndpoint, SeqNumber, TcpTimestampGenerator};
 use net_base::{Duration, Instant};
-
-/// The two addresses of a connection, of one family.
-#[derive(Clone, Copy, Debug, PartialEq, Eq)]
-pub enum AddressPair {
-    Ipv4 {
-        local: Ipv4Address,
-        remote: Ipv4Address,
-    },
-    Ipv6 {
-        local: Ipv6Address,
-        remote: Ipv6Address,
-    },
-}
-
-/// The two endpoints of a connection.
-#[derive(Clone, Copy, Debug, PartialEq, Eq)]
-pub struct EndpointPair {
-    pub addresses: AddressPair,
-    pub local_port: u16,
-    pub remote_port: u16,
-}
 
 /// What the socket is named by.
 #[derive(Clone, Copy, Debug, PartialEq, Eq)]
@@ -150,8 +129,7 @@ mod text;
 mod timeout;
 
 pub use checks::Verdict;
-pub use endpoints::is_same_listener;
-pub use opening::{is_fin, is_first_syn, is_rst, is_syn, is_void_syn};
+pub use opening::{is_first_syn, is_void_syn};
 pub use rules::{PROBE, Part};
 pub use segments::{reply_to, rst_reply};
 pub use text::numbers_of;

@@ -2,8 +2,8 @@
 
 ghost use Rattle.std.specs.Prelude.{◌≡◌, pos, true, [], ◌∷◌, Some, None, is_some};
 ghost use Rattle.socket_base.specs.declared.poll_at.PollAt.TheVariants as At;
-ghost use Rattle.tcp_model.specs.declared.offer.OfferKind.TheVariants as Kind;
-ghost use Rattle.tcp_model.specs.declared.state.State.TheVariants as In;
+ghost use Rattle.tcp_control.specs.declared.offer.OfferKind.TheVariants as Kind;
+ghost use Rattle.tcp_control.specs.declared.state.State.TheVariants as In;
 ghost use Rattle.tcp_model.specs.Due.{poll_of};
 ghost use Rattle.tcp_model.specs.Examples.{caller_a, sends};
 ghost use Rattle.tcp_model.specs.Runs.{handshake, syns_crossed, crossed, early, three_early, repaired, kind_at, ranges_in, filled, blocked, waits_to_probe, probe_comes, probed, relieved, closed};

@@ -2,26 +2,18 @@
 #![tactic(auto)]
 
 mod block;
-mod error;
 pub mod examples;
 pub mod laws;
-mod moments;
-mod offer;
-mod offsets;
-mod reno;
-mod round_trip;
-mod state;
-mod states;
 
 pub use block::{
-    AddressPair, Block, CongestionControl, EndpointPair, Names, PROBE, Part, Peer, Receiver,
-    Sender, Settings, Timers, Verdict, is_fin, is_first_syn, is_rst, is_same_listener, is_syn,
-    is_void_syn, numbers_of, reply_to, rst_reply,
+    Block, CongestionControl, Names, PROBE, Part, Peer, Receiver, Sender, Settings, Timers,
+    Verdict, is_first_syn, is_void_syn, numbers_of, reply_to, rst_reply,
 };
-pub use error::{ConnectError, ListenError, RecvError, SendError};
-pub use moments::{is_due, next_draw_from, time_wait_from};
-pub use offer::{OfferKind, OpenOffer, Reply};
-pub use offsets::{before_by, past_by};
-pub use reno::Reno;
-pub use round_trip::RoundTrip;
-pub use state::State;
+pub use tcp_control::controls::{is_fin, is_rst, is_syn};
+pub use tcp_control::endpoints::is_same_listener;
+pub use tcp_control::moments::{is_due, next_draw_from, time_wait_from};
+pub use tcp_control::offsets::{before_by, past_by};
+pub use tcp_control::{
+    AddressPair, ConnectError, EndpointPair, ListenError, OfferKind, OpenOffer, RecvError, Reno,
+    Reply, RoundTrip, SendError, State,
+};

@@ -11,17 +11,17 @@ use Rattle.tcp_law.specs.Invariant.{HoldsBetween, FitsPhase}
 use Rattle.tcp_law.specs.Side.{Phase, Side as Half}
 use Rattle.tcp_law.specs.Side.Phase.{SynSent}
 use Rattle.tcp_law.specs.Side.Opening.{NotYet, Passive, Active}
-use Rattle.tcp_model.specs.declared.error.ConnectError.{ConnectError}
-use Rattle.tcp_model.specs.declared.error.ConnectError.TheVariants as Connecting
-use Rattle.tcp_model.specs.declared.error.ListenError.{ListenError}
-use Rattle.tcp_model.specs.declared.error.ListenError.TheVariants as Listening
-use Rattle.tcp_model.specs.declared.error.RecvError.{RecvError}
-use Rattle.tcp_model.specs.declared.error.RecvError.TheVariants as Receiving
-use Rattle.tcp_model.specs.declared.error.SendError.{SendError}
-use Rattle.tcp_model.specs.declared.offer.OpenOffer.{OpenOffer}
-use Rattle.tcp_model.specs.declared.offer.Reply.{Reply}
-use Rattle.tcp_model.specs.declared.state.State.{State}
-use Rattle.tcp_model.specs.declared.state.State.TheVariants as In
+use Rattle.tcp_model.specs.ConnectError.{ConnectError}
+use Rattle.tcp_model.specs.ConnectError.TheVariants as Connecting
+use Rattle.tcp_model.specs.ListenError.{ListenError}
+use Rattle.tcp_model.specs.ListenError.TheVariants as Listening
+use Rattle.tcp_model.specs.RecvError.{RecvError}
+use Rattle.tcp_model.specs.RecvError.TheVariants as Receiving
+use Rattle.tcp_model.specs.SendError.{SendError}
+use Rattle.tcp_model.specs.OpenOffer.{OpenOffer}
+use Rattle.tcp_model.specs.Reply.{Reply}
+use Rattle.tcp_model.specs.State.{State}
+use Rattle.tcp_model.specs.State.TheVariants as In
 use Rattle.tcp_model.specs.Arrival.{arrives}
 use Rattle.tcp_model.specs.Calls.{listen_answer, listen_after, connect_answer, connect_after, send_answer, send_after, recv_answer, recv_after, close_after, abort_after}
 use Rattle.tcp_model.specs.Names.{accepts}

@@ -6,13 +6,13 @@ use Rattle.ip_wire.specs.IpEndpoint.{IpEndpoint}
 use Rattle.ip_wire.specs.IpListenEndpoint.{IpListenEndpoint}
 use Rattle.tcp_law.specs.Side.{Opening}
 use Rattle.tcp_law.specs.Side.Opening.{NotYet, Passive, Active}
-use Rattle.tcp_model.specs.declared.error.ConnectError.{ConnectError}
-use Rattle.tcp_model.specs.declared.error.ConnectError.TheVariants as Connecting
-use Rattle.tcp_model.specs.declared.error.ListenError.{ListenError}
-use Rattle.tcp_model.specs.declared.error.ListenError.TheVariants as Listening
-use Rattle.tcp_model.specs.declared.error.RecvError.{RecvError}
-use Rattle.tcp_model.specs.declared.error.RecvError.TheVariants as Receiving
-use Rattle.tcp_model.specs.declared.error.SendError.{SendError}
+use Rattle.tcp_model.specs.ConnectError.{ConnectError}
+use Rattle.tcp_model.specs.ConnectError.TheVariants as Connecting
+use Rattle.tcp_model.specs.ListenError.{ListenError}
+use Rattle.tcp_model.specs.ListenError.TheVariants as Listening
+use Rattle.tcp_model.specs.RecvError.{RecvError}
+use Rattle.tcp_model.specs.RecvError.TheVariants as Receiving
+use Rattle.tcp_model.specs.SendError.{SendError}
 use Rattle.tcp_model.specs.Arrival.{arrives}
 use Rattle.tcp_model.specs.Calls.{listen_answer, listen_after, connect_answer, connect_after, connect_draws, send_answer, send_after, recv_answer, recv_after, close_after, abort_after}
 use Rattle.tcp_model.specs.Names.{accepts}

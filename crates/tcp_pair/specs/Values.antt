@@ -8,8 +8,8 @@ use Rattle.ip_wire.specs.IpAddress.TheVariants as Ip
 use Rattle.ip_wire.specs.Ipv4Address.{Ipv4Address}
 use Rattle.socket_base.specs.Context.{ContextValue}
 use Rattle.tcp_law.specs.Segment.{Segment}
-use Rattle.tcp_model.specs.declared.offer.OpenOffer.{OpenOffer}
-use Rattle.tcp_model.specs.declared.offer.Reply.{Reply}
+use Rattle.tcp_model.specs.OpenOffer.{OpenOffer}
+use Rattle.tcp_model.specs.Reply.{Reply}
 use Rattle.tcp_model.specs.Offers.{payload_of}
 use Rattle.tcp_model.specs.Value.{TcpValue}
 use Rattle.tcp.specs.Tie.{Past, segment_of}

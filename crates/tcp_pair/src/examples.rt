@@ -1,7 +1,7 @@
 //! A connection on numerals, which the check computes.
 
 ghost use Rattle.std.specs.Prelude.{◌≡◌, [], ◌∷◌, drop, Some};
-ghost use Rattle.tcp_model.specs.declared.state.State.TheVariants as In;
+ghost use Rattle.tcp_model.specs.State.TheVariants as In;
 ghost use Rattle.tcp_pair.specs.declared.event.PairAnswer.TheVariants.{Done, Count, Bytes, Error};
 ghost use Rattle.tcp_pair.specs.declared.event.PairEvent.TheVariants.{Connect, Deliver};
 ghost use Rattle.tcp_pair.specs.declared.event.PairRefused.TheVariants.{NoSegment, OpenedTwice};

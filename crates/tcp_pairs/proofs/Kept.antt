@@ -1,6 +1,6 @@
 -- What a pair's fields keep, from one event to the next.
 use Rattle.std.proofs.Common.{◌≡◌, List, [], ◌∷◌, ◌++◌, None, refl, sym, ◌∙◌, ap, subst, arith, length-append}
-use Rattle.tcp_model.specs.declared.state.State.{State}
+use Rattle.tcp_model.specs.State.{State}
 use Rattle.tcp_model.specs.Value.{TcpValue}
 use Rattle.tcp.specs.Promises.{IsFresh}
 use Rattle.tcp.specs.Tie.{Past}

@@ -10,8 +10,8 @@ use Rattle.tcp_model.specs.Rules.{time_wait_end, owes_syn, resends, ack_moment, 
 use Rattle.tcp_model.specs.States.{is_closed}
 use Rattle.tcp_model.specs.Timeout.{timeout_end, timeout_started, timed_out}
 use Rattle.tcp_model.specs.Value.{TcpValue, with_block, unoffered, ended, queued_in, window_of}
-use Rattle.tcp_model.specs.declared.block.EndpointPair.{EndpointPair}
-use Rattle.tcp_model.specs.declared.offer.OfferKind.TheVariants as Kind
+use Rattle.tcp_model.specs.EndpointPair.{EndpointPair}
+use Rattle.tcp_model.specs.OfferKind.TheVariants as Kind
 use Rattle.tcp.proofs.AcceptLaws.{text_in_packet, again_in_packet}
 use Rattle.tcp_pairs.specs.Ends.{HasRoom}
 

@@ -3,8 +3,8 @@ use Rattle.std.proofs.Common.{◌≡◌, ℕ, ◌+◌, ◌≤◌, min, Bool, tru
 use Rattle.std.proofs.lemmas.List.{length-take}
 use Rattle.ip_wire.specs.IpEndpoint.{IpEndpoint}
 use Rattle.ip_wire.specs.IpListenEndpoint.{IpListenEndpoint}
-use Rattle.tcp_model.specs.declared.error.SendError.TheVariants as Sending
-use Rattle.tcp_model.specs.declared.state.State.{State}
+use Rattle.tcp_model.specs.SendError.TheVariants as Sending
+use Rattle.tcp_model.specs.State.{State}
 use Rattle.tcp_model.specs.States.{takes_writes}
 use Rattle.tcp.specs.History.{closes_in, closed_by}
 use Rattle.tcp.specs.Tie.{Past}

@@ -12,17 +12,17 @@ use Rattle.net_base.specs.RandomWords.{word}
 use Rattle.socket_base.specs.Context.{ContextValue, next_random}
 use Rattle.socket_base.specs.Packet.{IsSendable}
 use Rattle.tcp_model.specs.declared.block.Block.{Block}
-use Rattle.tcp_model.specs.declared.block.EndpointPair.{EndpointPair}
-use Rattle.tcp_model.specs.declared.state.State.{State}
-use Rattle.tcp_model.specs.declared.state.State.TheVariants as In
-use Rattle.tcp_model.specs.declared.offer.Reply.{Reply}
+use Rattle.tcp_model.specs.EndpointPair.{EndpointPair}
+use Rattle.tcp_model.specs.State.{State}
+use Rattle.tcp_model.specs.State.TheVariants as In
+use Rattle.tcp_model.specs.Reply.{Reply}
 use Rattle.tcp_model.specs.Acknowledged.{acknowledged, window_set, counted, duplicates_after}
 use Rattle.tcp_model.specs.Answers.{may_draw, with_draw, acked, drawn, answer_for, range_held}
 use Rattle.tcp_model.specs.Arrival.{waiting_anew, outside, finished, continued, taken, inside, checked, arrives_in, is_void_syn, arrives, timers_moved}
 use Rattle.tcp_model.specs.Checks.{Check, acknowledgement_check, is_in_window, taken_down}
 use Rattle.tcp_model.specs.Checks.Check.{Passes, Drops, Draws, Resets}
 use Rattle.tcp_model.specs.Controls.{is_syn, is_rst}
-use Rattle.tcp_model.specs.Names.{pair_in}
+use Rattle.tcp_model.specs.Endpoints.{pair_in}
 use Rattle.tcp_model.specs.Opening.{acks_syn, syn_answered, takes_answer, answering, is_first_syn}
 use Rattle.tcp_model.specs.Segments.{stamp_of, sack_segment, rst_reply, reply_to, reset_for, hops_of}
 use Rattle.tcp_model.specs.States.{is_closed}

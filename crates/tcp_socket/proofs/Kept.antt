@@ -16,7 +16,7 @@ use Rattle.tcp_model.specs.Text.{with_fin, fin_taken, takes_fin, with_next}
 use Rattle.tcp_model.specs.Timeout.{timeout_restarted, timeout_runs}
 use Rattle.tcp_model.specs.Blocks.{forgotten}
 use Rattle.tcp_model.specs.declared.block.Block.{Block}
-use Rattle.tcp_model.specs.declared.offer.OpenOffer.{OpenOffer}
+use Rattle.tcp_model.specs.OpenOffer.{OpenOffer}
 use Rattle.tcp_socket.specs.Socket.{IsBlock, IsOpen, IsSocket}
 
 -- nothing is offered

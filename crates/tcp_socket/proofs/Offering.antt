@@ -20,14 +20,14 @@ use Rattle.tcp_model.specs.Settled.{end_of}
 use Rattle.tcp_model.specs.States.{owes_fin, sends_text}
 use Rattle.tcp_model.specs.Unsettled.{EndsNear}
 use Rattle.tcp_model.specs.Value.{TcpValue, queued_in, window_of}
-use Rattle.tcp_model.specs.declared.block.AddressPair.{AddressPair}
+use Rattle.tcp_model.specs.AddressPair.{AddressPair}
 use Rattle.tcp_model.specs.declared.block.Block.{Block}
 use Rattle.tcp_model.specs.declared.block.CongestionControl.{CongestionControl}
 use Rattle.tcp_model.specs.declared.block.CongestionControl.TheVariants as Congestion
-use Rattle.tcp_model.specs.declared.block.EndpointPair.{EndpointPair}
-use Rattle.tcp_model.specs.declared.offer.OfferKind.{OfferKind}
-use Rattle.tcp_model.specs.declared.offer.OfferKind.TheVariants as Kind
-use Rattle.tcp_model.specs.declared.offer.OpenOffer.{OpenOffer}
+use Rattle.tcp_model.specs.EndpointPair.{EndpointPair}
+use Rattle.tcp_model.specs.OfferKind.{OfferKind}
+use Rattle.tcp_model.specs.OfferKind.TheVariants as Kind
+use Rattle.tcp_model.specs.OpenOffer.{OpenOffer}
 use Rattle.tcp_socket.specs.Opening.{open_offer, MayOpen, IsPartOf}
 use Rattle.tcp_socket.specs.Receive.{FitsBuffer}
 use Rattle.tcp_socket.specs.Socket.{LiesInRing}

@@ -18,7 +18,7 @@ use Rattle.socket_base.specs.Packet.{PacketValue, packet_of, IsSendable}
 use Rattle.socket_base.specs.Packet as Carried
 use Rattle.tcp_model.specs.Blocks.{own_scale}
 use Rattle.tcp_model.specs.Moments.{is_due}
-use Rattle.tcp_model.specs.Names.{header_for, ip_header_len}
+use Rattle.tcp_model.specs.Endpoints.{header_for, ip_header_len}
 use Rattle.tcp_model.specs.Offers.{offer_segment, silent, number_at, offer_choice, offer_ack, offer_syn, offer_reset, offer_keep_alive, last_rules, first_rules, backed_off, offer_between, offer_with, offer_of, payload_of, offered_packet}
 use Rattle.tcp_model.specs.Probing.{probe_started, probe_moment}
 use Rattle.tcp_model.specs.Rules.{Choice, unbroken, stamp_len, size_limit, window_limit, next_place, time_wait_end, owes_syn, resends, ack_moment, has_text, text_choice, resend_choice, probe_choice, control_for, updates_window, keep_alive_moment}
@@ -26,12 +26,12 @@ use Rattle.tcp_model.specs.Segments.{stamp_by, segment, ack_segment, syn_segment
 use Rattle.tcp_model.specs.States.{is_closed}
 use Rattle.tcp_model.specs.Timeout.{timeout_end, timeout_started, timed_out}
 use Rattle.tcp_model.specs.Value.{TcpValue, with_block, unoffered, ended, queued_in, free_in, room_of, window_of}
-use Rattle.tcp_model.specs.declared.block.AddressPair.{AddressPair}
-use Rattle.tcp_model.specs.declared.block.AddressPair.TheVariants as Pair
+use Rattle.tcp_model.specs.AddressPair.{AddressPair}
+use Rattle.tcp_model.specs.AddressPair.TheVariants as Pair
 use Rattle.tcp_model.specs.declared.block.Block.{Block}
-use Rattle.tcp_model.specs.declared.block.EndpointPair.{EndpointPair}
-use Rattle.tcp_model.specs.declared.offer.OfferKind.{OfferKind}
-use Rattle.tcp_model.specs.declared.offer.OfferKind.TheVariants as Kind
+use Rattle.tcp_model.specs.EndpointPair.{EndpointPair}
+use Rattle.tcp_model.specs.OfferKind.{OfferKind}
+use Rattle.tcp_model.specs.OfferKind.TheVariants as Kind
 use Rattle.tcp_socket.proofs.Offering.{window_small, part_of_probe}
 use Rattle.tcp_socket.specs.Opening.{open_offer, IsPartOf}
 

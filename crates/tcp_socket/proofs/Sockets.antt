@@ -8,7 +8,7 @@ use Rattle.tcp_model.specs.Moments.{is_due}
 use Rattle.tcp_model.specs.Offers.{backed_off}
 use Rattle.tcp_model.specs.Rules.{backed_off_now}
 use Rattle.tcp_model.specs.declared.block.Block.{Block}
-use Rattle.tcp_model.specs.declared.error.RecvError.{RecvError}
+use Rattle.tcp_model.specs.RecvError.{RecvError}
 use Rattle.tcp_model.specs.Timeout.{timeout_runs, timeout_kept, is_timeout_unset, timeout_started}
 use Rattle.tcp_socket.specs.Receive.{FitsBuffer, or_done}
 use Rattle.tcp_socket.specs.Socket.{IsBlock, if_open}

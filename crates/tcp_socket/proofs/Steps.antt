@@ -19,10 +19,10 @@ use Rattle.tcp_model.specs.States.{is_closed, takes_text}
 use Rattle.tcp_model.specs.Text.{Texted, texted, with_text, with_text_at, with_bytes_at, taken_in_order, held_early, with_fin}
 use Rattle.tcp_model.specs.Value.{TcpValue, Received, Arrived, with_block, dropped, queued_in, free_in}
 use Rattle.tcp_model.specs.declared.block.Block.{Block}
-use Rattle.tcp_model.specs.declared.offer.OpenOffer.{OpenOffer}
-use Rattle.tcp_model.specs.declared.offer.Reply.{Reply}
-use Rattle.tcp_model.specs.declared.state.State.{State}
-use Rattle.tcp_model.specs.declared.state.State.TheVariants as In
+use Rattle.tcp_model.specs.OpenOffer.{OpenOffer}
+use Rattle.tcp_model.specs.Reply.{Reply}
+use Rattle.tcp_model.specs.State.{State}
+use Rattle.tcp_model.specs.State.TheVariants as In
 use Rattle.tcp_socket.proofs.Answered.{checked_draws, takes_answer_draws, later_arrives}
 use Rattle.tcp_socket.proofs.Arrivals.{length-store, length-front, stored_cut}
 use Rattle.tcp_socket.specs.Replies.{replies_in, packet_in, packet_with}

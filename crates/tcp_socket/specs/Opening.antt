@@ -3,14 +3,14 @@ use Rattle.std.specs.Prelude.{ℕ, ◌+◌, ◌≤◌, ◌<◌, ◌^◌}
 use Rattle.ip_wire.specs.Tcp.{header_len}
 use Rattle.ip_wire.specs.TcpHeader.{TcpHeader}
 use Rattle.socket_base.specs.Context.{ContextValue}
-use Rattle.tcp_model.specs.Names.{header_for}
+use Rattle.tcp_model.specs.Endpoints.{header_for}
 use Rattle.tcp_model.specs.Rules.{Choice, unbroken}
 use Rattle.tcp_model.specs.Segments.{hops_of}
 use Rattle.tcp_model.specs.Unsettled.{EndsNear}
 use Rattle.tcp_model.specs.Value.{TcpValue}
-use Rattle.tcp_model.specs.declared.block.EndpointPair.{EndpointPair}
-use Rattle.tcp_model.specs.declared.offer.OfferKind.{OfferKind}
-use Rattle.tcp_model.specs.declared.offer.OpenOffer.{OpenOffer}
+use Rattle.tcp_model.specs.EndpointPair.{EndpointPair}
+use Rattle.tcp_model.specs.OfferKind.{OfferKind}
+use Rattle.tcp_model.specs.OpenOffer.{OpenOffer}
 use Rattle.tcp_socket.specs.Socket.{LiesInRing}
 
 abbrev pub open_offer : OfferKind → ContextValue → TcpValue → EndpointPair → TcpHeader → ℕ → ℕ → OpenOffer

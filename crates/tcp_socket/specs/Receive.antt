@@ -3,7 +3,7 @@ use Rattle.std.specs.Prelude.{ℕ, ◌+◌, ◌-◌, ◌%◌, ◌^◌, ◌≤◌
 use Rattle.net_base.specs.Ring.{Ring}
 use Rattle.net_base.specs.Assembler.{AreRuns, Holds}
 use Rattle.tcp_law.specs.ReceiveMap.{space, store, front, behind}
-use Rattle.tcp_model.specs.declared.error.RecvError.{RecvError}
+use Rattle.tcp_model.specs.RecvError.{RecvError}
 use Rattle.tcp_model.specs.Value.{Received, room_of}
 use Rattle.held_bytes.specs.Held.{map_from, runs_of, EndsBy}
 

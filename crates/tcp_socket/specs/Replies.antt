@@ -5,7 +5,7 @@ use Rattle.ip_wire.specs.Tcp.{header_of}
 use Rattle.ip_wire.specs.TcpRepr.{TcpRepr}
 use Rattle.socket_base.specs.Packet.{PacketValue, packet_of}
 use Rattle.socket_base.specs.Packet as Carried
-use Rattle.tcp_model.specs.declared.offer.Reply.{Reply}
+use Rattle.tcp_model.specs.Reply.{Reply}
 
 -- a header and a segment without payload
 abbrev pub replies_in : Option (IpRepr × TcpRepr) → Option Reply

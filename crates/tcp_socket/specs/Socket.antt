@@ -3,19 +3,19 @@ use Rattle.std.specs.Prelude.{ℕ, ◌≤◌, nat_le, ◌&&◌, Bool, length, tr
 use Rattle.net_base.specs.Ring.{Ring}
 use Rattle.net_base.specs.Time.{IsMoment}
 use Rattle.ip_wire.specs.IpEndpoint.{IpEndpoint}
-use Rattle.tcp_model.specs.Names.{local_of, remote_of}
+use Rattle.tcp_model.specs.Endpoints.{local_of, remote_of}
 use Rattle.tcp_model.specs.Rules.{unbroken}
 use Rattle.tcp_model.specs.States.{takes_writes}
 use Rattle.tcp_model.specs.Unsettled.{EndsNear}
 use Rattle.tcp_model.specs.Value.{TcpValue}
 use Rattle.tcp_socket.specs.Receive.{FitsBuffer}
 use Rattle.tcp_model.specs.declared.block.Block.{Block}
-use Rattle.tcp_model.specs.declared.error.SendError.{SendError}
-use Rattle.tcp_model.specs.declared.error.SendError.TheVariants as Send
-use Rattle.tcp_model.specs.declared.block.EndpointPair.{EndpointPair}
-use Rattle.tcp_model.specs.declared.offer.OfferKind.{OfferKind}
-use Rattle.tcp_model.specs.declared.offer.OfferKind.TheVariants as Kind
-use Rattle.tcp_model.specs.declared.offer.OpenOffer.{OpenOffer}
+use Rattle.tcp_model.specs.SendError.{SendError}
+use Rattle.tcp_model.specs.SendError.TheVariants as Send
+use Rattle.tcp_model.specs.EndpointPair.{EndpointPair}
+use Rattle.tcp_model.specs.OfferKind.{OfferKind}
+use Rattle.tcp_model.specs.OfferKind.TheVariants as Kind
+use Rattle.tcp_model.specs.OpenOffer.{OpenOffer}
 
 -- the payload lies in the send ring, in one piece; a keep-alive's isn't part of it
 abbrev pub LiesInRing : OfferKind → Ring ℕ → OpenOffer → Type 0

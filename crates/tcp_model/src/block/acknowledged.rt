@@ -3,12 +3,13 @@ ghost use Rattle.std.specs.Prelude.{◌≡◌, ◌≤◌, ◌<◌, ◌^◌, IfSo
 ghost use Rattle.net_base.specs.Time.{IsMoment};
 ghost use Rattle.tcp_model.specs.Acknowledged.{freed_by, sender_moved, retransmit_after, una_moved, acks_fin, state_after_ack, in_state, block_acknowledged, scaled, window_set, is_duplicate, duplicates_after, reno_counted, counted};
 
-use super::opening::{is_fin, or_recent};
-use crate::moments::{time_wait_from, timeout_from};
-use crate::offsets::behind_by;
+use super::opening::or_recent;
 use crate::{Block, State};
 use ip_wire::{MAX_WINDOW_SCALE, TcpHeader};
 use net_base::Instant;
+use tcp_control::controls::is_fin;
+use tcp_control::moments::{time_wait_from, timeout_from};
+use tcp_control::offsets::behind_by;
 
 /// What a window field means.
 fn scaled(scale: Option<u8>, field: u16) -> u32

@@ -3,10 +3,10 @@ ghost use Rattle.std.specs.Prelude.{◌≡◌, ◌≤◌, ◌<◌, ◌^◌};
 ghost use Rattle.tcp_model.specs.Checks.{opening_check, synchronized_check, ack_check, acknowledgement_check, is_in_window, falls_back};
 ghost use Rattle.tcp_model.specs.Checked.{check_of};
 
-use super::opening::is_rst;
 use crate::Block;
-use crate::offsets::{before_by, meets_window, past_by};
 use ip_wire::{SeqNumber, TcpHeader};
+use tcp_control::controls::is_rst;
+use tcp_control::offsets::{before_by, meets_window, past_by};
 
 /// What becomes of a segment.
 #[derive(Clone, Copy, Debug, PartialEq, Eq)]

@@ -7,8 +7,8 @@ ghost use Rattle.tcp_model.specs.Timeout.{is_timeout_unset};
 ghost use Rattle.tcp_model.specs.Probing.{is_probe_unset};
 
 use crate::Block;
-use crate::moments::earlier;
 use net_base::Instant;
+use tcp_control::moments::earlier;
 
 /// The earlier of two moments, if there are any.
 fn earlier_of(one: Option<Instant>, other: Option<Instant>) -> Option<Instant>

@@ -2,13 +2,13 @@
 ghost use Rattle.std.specs.Prelude.{◌≡◌, ◌+◌, ◌≤◌, ◌^◌};
 ghost use Rattle.tcp_model.specs.Blocks.{default_settings, fresh_sender, fresh_block, forgotten, unacked, nxt, own_scale, scale_for, field_of, window_field};
 
-use crate::offsets::behind_by;
 use crate::{
     Block, CongestionControl, Names, Peer, Receiver, Reno, RoundTrip, Sender, Settings, State,
     Timers,
 };
 use ip_wire::{IpListenEndpoint, MAX_WINDOW_SCALE, SeqNumber};
 use net_base::Duration;
+use tcp_control::offsets::behind_by;
 
 /// The delay of an acknowledgement, if no other is set, in microseconds.
 const ACK_DELAY: u64 = 10_000;

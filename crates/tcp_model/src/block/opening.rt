@@ -1,36 +1,16 @@
 //! A segment comes in LISTEN or SYN-SENT.
 ghost use Rattle.std.specs.Prelude.{◌≡◌, ◌≤◌, ◌^◌, ◌==◌, ◌&&◌, not, false};
 ghost use Rattle.net_base.specs.Time.{IsMoment};
-ghost use Rattle.tcp_model.specs.Controls.{is_syn, is_fin, is_rst, or_mss, is_zero, or_recent};
+ghost use Rattle.tcp_control.specs.Controls.{is_syn, is_fin, is_rst, or_mss, is_zero, or_recent};
 ghost use Rattle.tcp_model.specs.Opening.{peer_of, took_syn, is_first_syn, answering, acks_syn, connected, crossed, syn_answered};
 ghost use Rattle.tcp_model.specs.Arrival.{is_void_syn};
 
 use super::fresh::DEFAULT_MSS;
-use crate::offsets::behind_by;
 use crate::{Block, EndpointPair, Peer, Sender, State};
 use ip_wire::{IpRepr, SeqNumber, TcpControl, TcpHeader, TcpTimestampRepr};
 use net_base::Instant;
-
-/// Whether this is a SYN.
-pub const fn is_syn(control: TcpControl) -> bool
-    ensures { result ≡ is_syn control }
-{
-    matches!(control, TcpControl::Syn)
-}
-
-/// Whether this is a FIN.
-pub const fn is_fin(control: TcpControl) -> bool
-    ensures { result ≡ is_fin control }
-{
-    matches!(control, TcpControl::Fin)
-}
-
-/// Whether this is a reset.
-pub const fn is_rst(control: TcpControl) -> bool
-    ensures { result ≡ is_rst control }
-{
-    matches!(control, TcpControl::Rst)
-}
+use tcp_control::controls::{is_fin, is_rst, is_syn};
+use tcp_control::offsets::behind_by;
 
 /// Whether a segment is a SYN that names an MSS of 0.
 pub fn is_void_syn(header: &TcpHeader) -> bool

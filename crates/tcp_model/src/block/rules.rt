@@ -4,11 +4,11 @@ ghost use Rattle.tcp_model.specs.Rules.{time_wait_end, owes_syn, resends, ack_mo
 ghost use Rattle.tcp_model.specs.Offers.{number_at, backed_off};
 ghost use Rattle.tcp_model.specs.Choices.{choice_of};
 
-use crate::moments::is_due;
-use crate::offsets::behind_by;
 use crate::{AddressPair, Block, CongestionControl};
 use ip_wire::{SeqNumber, TcpControl};
 use net_base::Instant;
+use tcp_control::moments::is_due;
+use tcp_control::offsets::behind_by;
 
 /// The longest IP packet: the length field has 16 bits.
 const LONGEST_PACKET: usize = 65_535;

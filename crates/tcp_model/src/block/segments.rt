@@ -4,12 +4,12 @@ ghost use Rattle.net_base.specs.Time.{IsMoment};
 ghost use Rattle.tcp_model.specs.Segments.{hops_of, stamp_by, stamp_of, segment, ack_segment, sack_segment, mss_for, syn_options, next_if_heard, syn_segment, reset_segment, keep_alive_segment, segment_len, reply_to, reset_seq, reset_ack, reset_for, rst_reply};
 
 use super::fresh::{field_of, own_scale};
-use crate::offsets::behind_by;
 use crate::{AddressPair, Block, EndpointPair, Reply};
 use ip_wire::{
     IpRepr, SeqNumber, TcpControl, TcpHeader, TcpOptions, TcpTimestampGenerator, TcpTimestampRepr,
 };
 use net_base::Instant;
+use tcp_control::offsets::behind_by;
 
 const DEFAULT_HOP_LIMIT: u8 = 64;
 

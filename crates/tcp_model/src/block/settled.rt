@@ -4,9 +4,9 @@ ghost use Rattle.net_base.specs.Time.{IsMoment};
 ghost use Rattle.tcp_model.specs.Unsettled.{EndsNear};
 ghost use Rattle.tcp_model.specs.Settled.{recorded, end_of, nxt_moved, timer_started, went, syn_went, resent, probed, sent_as};
 
-use crate::moments::{later_by, timeout_from};
 use crate::{Block, OfferKind, OpenOffer};
 use net_base::Instant;
+use tcp_control::moments::{later_by, timeout_from};
 
 impl Block {
     /// Records what each segment that went counts for.

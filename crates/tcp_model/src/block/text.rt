@@ -5,12 +5,12 @@ ghost use Rattle.tcp_model.specs.Text.{with_next, is_at_fin, takes_fin, fin_take
 ghost use Rattle.tcp_model.specs.Answers.{ack_recorded, may_draw, delayed, sooner, ack_moment_after, ack_due, numbers_of};
 ghost use Rattle.tcp_model.specs.Arrival.{timers_moved};
 
-use super::opening::is_fin;
 use crate::Block;
-use crate::moments::{earlier, is_due, later};
-use crate::offsets::{before_by, behind_by, past_by};
 use ip_wire::{SeqNumber, TcpHeader};
 use net_base::{Duration, Instant};
+use tcp_control::controls::is_fin;
+use tcp_control::moments::{earlier, is_due, later};
+use tcp_control::offsets::{before_by, behind_by, past_by};
 
 impl Block {
     /// RCV.NXT rises by so much.

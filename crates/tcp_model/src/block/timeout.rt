@@ -4,9 +4,9 @@ ghost use Rattle.net_base.specs.Time.{IsMoment};
 ghost use Rattle.tcp_model.specs.Timeout.{waits_for_remote, timeout_runs, timeout_restarted, timeout_kept, is_timeout_unset, timeout_started, timeout_end, timed_out};
 ghost use Rattle.tcp_model.specs.Probing.{is_probing, probe_kept, is_probe_unset, probe_started, probe_moment};
 
-use crate::moments::{later, timeout_from};
 use crate::{Block, State};
 use net_base::Instant;
+use tcp_control::moments::{later, timeout_from};
 
 impl Block {
     /// Whether something isn't acknowledged, the connection isn't there yet, or keep-alives go.

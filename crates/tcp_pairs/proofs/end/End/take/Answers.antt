@@ -1,6 +1,6 @@
 use Rattle.std.proofs.Common.{List, Option, ◌∙◌, ap}
 use Rattle.ip_wire.specs.Tcp.{header_of}
-use Rattle.tcp_model.specs.declared.offer.Reply.{Reply}
+use Rattle.tcp_model.specs.Reply.{Reply}
 use Rattle.tcp_socket.specs.Replies.{replies_in}
 use Rattle.tcp_pair.specs.declared.event.SentSegment.{SentSegment}
 use Rattle.tcp_pair.specs.Steps.{comes_to}

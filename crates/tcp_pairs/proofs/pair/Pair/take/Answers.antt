@@ -1,5 +1,5 @@
 use Rattle.std.proofs.Common.{◌≡◌, List, [], ◌∷◌, ◌++◌, ◌∙◌, ap}
-use Rattle.tcp_model.specs.declared.state.State.{State}
+use Rattle.tcp_model.specs.State.{State}
 use Rattle.tcp_model.specs.Value.{TcpValue}
 use Rattle.tcp_pair.specs.declared.event.PairAnswer.{PairAnswer}
 use Rattle.tcp_pair.specs.declared.event.Side.{Side}

@@ -1,7 +1,7 @@
 use Rattle.std.proofs.Common.{◌≡◌, ℕ, ◌+◌, ◌-◌, ◌==◌, ◌<◌, ◌≤◌, ◌^◌, min, Bool, true, false, List, [], length, take, Option, Some, None, if◌then◌else◌, refl, sym, ap, subst, ◌∙◌, arith}
 use Rattle.tcp_model.specs.Value.{TcpValue}
 use Rattle.tcp_model.specs.Arrival.{arrives_in}
-use Rattle.tcp_model.specs.declared.state.State.TheVariants as In
+use Rattle.tcp_model.specs.State.TheVariants as In
 use Rattle.tcp_socket.proofs.Steps.{later_leads, quiet_in, not_drawn}
 use Rattle.tcp_socket.proofs.socket.Socket.arrive_in_state.Goals as goal
 

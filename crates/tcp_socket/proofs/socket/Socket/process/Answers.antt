@@ -1,7 +1,7 @@
 use Rattle.std.proofs.Common.{◌≡◌, ℕ, ◌+◌, ◌-◌, ◌==◌, ◌<◌, ◌≤◌, ◌^◌, min, Bool, true, false, List, [], length, take, Option, Some, None, if◌then◌else◌, refl, sym, ap, subst, ◌∙◌, arith}
 use Rattle.std.specs.Prelude.{IfSome}
 use Rattle.socket_base.specs.Packet.{IsSendable}
-use Rattle.tcp_model.specs.declared.offer.Reply.{Reply}
+use Rattle.tcp_model.specs.Reply.{Reply}
 use Rattle.tcp_socket.specs.Replies.{packet_in}
 use Rattle.tcp_socket.proofs.Answered.{sendable_answer}
 use Rattle.tcp_socket.proofs.Steps.{sent_out}

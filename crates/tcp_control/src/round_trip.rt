@@ -1,7 +1,7 @@
 //! The retransmission timeout (RFC 6298), in whole milliseconds.
 ghost use Rattle.std.specs.Prelude.{◌≡◌, ◌<◌, ◌^◌, pos, Some};
 ghost use Rattle.net_base.specs.Time.{IsMoment};
-ghost use Rattle.tcp_model.specs.RoundTrip.{IsTimed, fresh, smoothed, timeout_of, measured, millis_between, advanced, timing, untimed, backed_off};
+ghost use Rattle.tcp_control.specs.RoundTrip.{IsTimed, fresh, smoothed, timeout_of, measured, millis_between, advanced, timing, untimed, backed_off};
 
 use net_base::Instant;
 use std::marker::Model;
@@ -30,7 +30,7 @@ pub struct RoundTrip {
 }
 
 impl Model for RoundTrip {
-    ghost use Rattle.tcp_model.specs.RoundTrip.{RoundTripValue, IsTimed};
+    ghost use Rattle.tcp_control.specs.RoundTrip.{RoundTripValue, IsTimed};
 
     ghost Value = { RoundTripValue };
 

@@ -1,7 +1,7 @@
 -- Moments, and when something is due.
 use Rattle.std.specs.Prelude.{ℕ, ◌*◌, min, ℤ, pos, ◌+ℤ◌, int_le, int_lt, Bool, false, if◌then◌else◌, Option, Some, None}
 use Rattle.net_base.specs.Time.{last_moment}
-use Rattle.tcp_model.specs.RoundTrip.{RoundTripValue}
+use Rattle.tcp_control.specs.RoundTrip.{RoundTripValue}
 
 -- after a duration that the user set, which counts as at most 2 ^ 61 microseconds
 abbrev pub later : ℤ → ℕ → ℤ

@@ -1,7 +1,7 @@
 //! Moments, and when something is due.
 ghost use Rattle.std.specs.Prelude.{◌≡◌};
 ghost use Rattle.net_base.specs.Time.{IsMoment};
-ghost use Rattle.tcp_model.specs.Moments.{later, later_by, timeout_from, time_wait_from, next_draw_from, is_due, earlier};
+ghost use Rattle.tcp_control.specs.Moments.{later, later_by, timeout_from, time_wait_from, next_draw_from, is_due, earlier};
 
 use crate::RoundTrip;
 use net_base::{Duration, Instant};

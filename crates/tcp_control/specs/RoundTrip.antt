@@ -1,8 +1,8 @@
 -- The retransmission timeout (RFC 6298), in whole milliseconds: each division drops its rest.
 use Rattle.std.specs.Prelude.{ℕ, ◌+◌, ◌-◌, ◌*◌, ◌/◌, ◌^◌, ◌<◌, ◌≤◌, nat_le, min, max, ℤ, ◌-ℤ◌, unsigned_abs, int_lt, Option, Some, None, IfSome, if◌then◌else◌}
 use Rattle.net_base.specs.Time.{IsMoment}
-use Rattle.tcp_model.specs.declared.round_trip.Estimate.{Estimate}
-use Rattle.tcp_model.specs.declared.round_trip.Sample.{Sample}
+use Rattle.tcp_control.specs.declared.round_trip.Estimate.{Estimate}
+use Rattle.tcp_control.specs.declared.round_trip.Sample.{Sample}
 
 pub record RoundTripValue : Type 0 where
   pub estimate : Option Estimate  -- none before the first sample

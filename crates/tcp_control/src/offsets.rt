@@ -1,6 +1,6 @@
 //! Numbers of 32 bits as counts.
 ghost use Rattle.std.specs.Prelude.{◌≡◌, ◌≤◌, ◌<◌, ◌^◌};
-ghost use Rattle.tcp_model.specs.Offsets.{past_by, before_by, behind_by, meets_window};
+ghost use Rattle.tcp_control.specs.Offsets.{past_by, before_by, behind_by, meets_window};
 
 use ip_wire::SeqNumber;
 

@@ -1,7 +1,7 @@
 -- The states of a connection (RFC 9293, 3.3.2): which of them a rule is for, and how they follow one another.
 use Rattle.std.specs.Prelude.{ℕ, Bool, true, false, List, codes}
-use Rattle.tcp_model.specs.declared.state.State.{State}
-use Rattle.tcp_model.specs.declared.state.State.TheVariants as In
+use Rattle.tcp_control.specs.declared.state.State.{State}
+use Rattle.tcp_control.specs.declared.state.State.TheVariants as In
 
 abbrev pub text_of : State → List ℕ
 text_of In.Closed = codes "CLOSED"

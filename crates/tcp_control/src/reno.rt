@@ -1,6 +1,6 @@
 //! Congestion control by slow start, congestion avoidance, fast retransmit and fast recovery (RFC 5681).
 ghost use Rattle.std.specs.Prelude.{◌≡◌, ◌≤◌, ℕ, true};
-ghost use Rattle.tcp_model.specs.Reno.{RenoValue, IsBounded, fresh, with_mss, growth, halved, acknowledged, lost, inflated, timed_out};
+ghost use Rattle.tcp_control.specs.Reno.{RenoValue, IsBounded, fresh, with_mss, growth, halved, acknowledged, lost, inflated, timed_out};
 
 use std::marker::Model;
 
@@ -22,7 +22,7 @@ pub struct Reno {
 }
 
 impl Model for Reno {
-    ghost use Rattle.tcp_model.specs.Reno.{RenoValue, IsBounded};
+    ghost use Rattle.tcp_control.specs.Reno.{RenoValue, IsBounded};
 
     ghost Value = { RenoValue };
 

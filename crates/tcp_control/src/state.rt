@@ -1,5 +1,5 @@
 //! The states of a connection (RFC 9293, section 3.3.2).
-ghost use Rattle.tcp_model.specs.States.{text_of};
+ghost use Rattle.tcp_control.specs.States.{text_of};
 
 use std::fmt;
 

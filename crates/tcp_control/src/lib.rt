@@ -1,0 +1,23 @@
+//! What the rules of a TCP socket (RFC 9293) stand on, each by itself: the states and what follows each,
+//! the endpoints of a connection, congestion control, the retransmission timeout, moments, numbers of 32
+//! bits as counts, errors, and what a socket offers. `tcp_model` passes it on: a crate above names that
+//! one alone.
+#![tactic(auto)]
+
+pub mod controls;
+pub mod endpoints;
+mod error;
+pub mod moments;
+mod offer;
+pub mod offsets;
+mod reno;
+mod round_trip;
+mod state;
+mod states;
+
+pub use endpoints::{AddressPair, EndpointPair};
+pub use error::{ConnectError, ListenError, RecvError, SendError};
+pub use offer::{OfferKind, OpenOffer, Reply};
+pub use reno::{Reno, congestion_laws, congestion_windows};
+pub use round_trip::{RoundTrip, timeouts};
+pub use state::State;
