@@ -1,5 +1,5 @@
 //! An interface.
-ghost use Rattle.std.specs.Prelude.{◌≡◌, List, not, is_ok, Some};
+ghost use Rattle.std.specs.Prelude.{◌≡◌, IsTrue, List, not, is_ok, Some};
 ghost use Rattle.std.specs.Fn.{FnOnceReturnsAtMut};
 ghost use Rattle.std.specs.List.{list_any};
 ghost use Rattle.net_base.specs.Time.{IsMoment};
@@ -10,7 +10,7 @@ ghost use Rattle.interface_tables.specs.Inner.{is_own, is_member_of};
 ghost use Rattle.interface_tables.specs.Settings.{unless, hardware_refusal, with_hardware, is_stranger, with_addresses, with_any_ip, with_routes};
 ghost use Rattle.interface_tables.specs.Source.{first_v4, first_v6, source_for, source_v4, source_v6};
 ghost use Rattle.interface.specs.Host.{host_at, maintained};
-ghost use Rattle.interface.specs.Made.{Makes, with_inner, with_timeout};
+ghost use Rattle.interface.specs.Made.{IsIdle, Makes, with_inner, with_timeout};
 
 use arrayvec::ArrayVec;
 use interface_egress::Fragmenter;
@@ -145,9 +145,11 @@ impl Interface {
         self.inner.routes()
     }
 
-    /// Whether nothing ran yet: no call that polls, and no setting of `any_ip` or of the time of reassembly.
+    /// Whether nothing ran yet: no call that polls, and no setting of `any_ip` or of the time of reassembly. Then nothing came in pieces,
+    /// and nothing is half sent.
     pub fn is_fresh(&self) -> bool
-        ensures { result ≡ self.now.inner.fresh }
+        ensures value { result ≡ self.now.inner.fresh }
+        ensures idle { IsTrue result → IsIdle self.now.left self.now.slots }
     {
         self.inner.is_fresh()
     }

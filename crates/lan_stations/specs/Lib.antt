@@ -6,4 +6,5 @@ pub mod Origins
 pub mod Refusals
 pub mod Steps
 pub mod Runs
+pub mod Fresh
 pub mod Safe

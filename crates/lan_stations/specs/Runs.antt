@@ -1,5 +1,5 @@
 -- A world of two hosts, and its runs.
-use Rattle.std.specs.Prelude.{◌≡◌, List, [], ◌∷◌, length, map, reverse, Option, None}
+use Rattle.std.specs.Prelude.{◌≡◌, ℕ, List, [], ◌∷◌, length, map, reverse, Option, None}
 use Rattle.interface.specs.Host.{HostValue}
 use Rattle.interface_egress.specs.declared.socket_set.SocketStorage.{SocketStorage}
 use Rattle.lan_net.specs.History.{Entry, Counts}
@@ -23,6 +23,8 @@ pub record Start : Type 0 where
   pub host : HostValue
   pub places : List (SocketStorage Socket)
   pub capabilities : DeviceCapabilities
+  pub room : ℕ
+  pub refusals : ℕ
 
 pub record Starts : Type 0 where
   pub a : Start
@@ -33,7 +35,7 @@ start starts A = starts.a
 start starts B = starts.b
 
 abbrev pub unused : Start → StationValue
-unused s = record { host = s.host; places = s.places; link = unused_end s.capabilities }
+unused s = record { host = s.host; places = s.places; link = record (unused_end s.capabilities) { room = s.room; refusals = s.refusals } }
 
 abbrev pub unused_both : Starts → Stations
 unused_both starts = record { a = unused starts.a; b = unused starts.b }
