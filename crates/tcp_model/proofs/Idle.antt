@@ -1,9 +1,8 @@
 -- An offer that does nothing comes before the due moment.
-use Rattle.std.proofs.Common.{◌≡◌, ℕ, Bool, true, false, ◌||◌, ◌&&◌, is_none, if◌then◌else◌, ℤ, ◌<ℤ◌, int_lt, int_le, Option, Some, None, List, [], ◌∷◌, refl, sym, ap, ◌∙◌, subst, arith}
+use Rattle.std.proofs.Common.{◌≡◌, Bool, true, false, ◌||◌, ◌&&◌, is_none, if◌then◌else◌, ℤ, ◌<ℤ◌, int_lt, int_le, Option, Some, None, List, [], ◌∷◌, refl, sym, ap, ◌∙◌, subst, arith}
 use Rattle.std.proofs.lemmas.Bool.{cond_both}
 use Rattle.socket_base.specs.Offers.{IsBefore, Offered, offered_as}
 use Rattle.socket_base.specs.Context.{ContextValue}
-use Rattle.socket_base.specs.declared.offer.Offer.{Offer}
 use Rattle.socket_base.specs.declared.offer.Offer.TheVariants as Answer
 use Rattle.socket_base.specs.declared.poll_at.PollAt.{PollAt}
 use Rattle.socket_base.specs.declared.poll_at.PollAt.TheVariants as At
@@ -11,9 +10,9 @@ use Rattle.tcp_model.specs.declared.block.Block.{Block}
 use Rattle.tcp_control.specs.declared.endpoints.EndpointPair.{EndpointPair}
 use Rattle.tcp_control.specs.declared.offer.OfferKind.TheVariants as Kind
 use Rattle.tcp_model.specs.Due.{wishes, moments, any, earlier_of, earliest, at_moment, poll_open, poll_between, poll_with, poll_of}
-use Rattle.tcp_control.specs.Moments.{is_due, earlier, timeout_from}
+use Rattle.tcp_control.specs.Moments.{is_due, timeout_from}
 use Rattle.tcp_model.specs.Offers.{silent, offer_syn, offer_choice, offer_ack, offer_keep_alive, offer_reset, first_rules, last_rules, backed_off, offer_between, offer_with, offer_of}
-use Rattle.tcp_model.specs.Probing.{probe_started, probe_moment, is_probe_unset, is_probing, with_probe_at}
+use Rattle.tcp_model.specs.Probing.{probe_started, probe_moment, is_probe_unset, is_probing}
 use Rattle.tcp_model.specs.Quiet.{IsQuiet, AreLater}
 use Rattle.tcp_model.specs.Rules.{time_wait_end, owes_syn, resends, ack_moment, has_text, text_choice, resend_choice, probe_choice, updates_window, keep_alive_moment, backed_off_now}
 use Rattle.tcp_model.specs.Settled.{settled}

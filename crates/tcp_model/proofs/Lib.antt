@@ -1,3 +1,5 @@
 pub mod Waits
 pub mod Positions
 pub mod Idle
+pub mod Resets
+pub mod Drawing

@@ -19,6 +19,8 @@ pub mod Offers
 pub mod Settled
 pub mod Due
 pub mod Quiet
+pub mod Aborts
+pub mod Pauses
 pub mod Examples
 pub mod Runs
 pub mod Checked

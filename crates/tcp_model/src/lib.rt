@@ -1,9 +1,11 @@
 //! The rules of a TCP socket (RFC 9293) as definitions, and its control block.
 #![tactic(auto)]
 
+pub mod aborts;
 mod block;
 pub mod examples;
 pub mod laws;
+pub mod pauses;
 
 pub use block::{
     Block, CongestionControl, Names, PROBE, Part, Peer, Receiver, Sender, Settings, Timers,

@@ -1,0 +1,336 @@
+-- Drawn answers lie a second apart.
+use Rattle.std.proofs.Common.{◌≡◌, ℕ, ◌&&◌, ◌||◌, not, Bool, true, false, if◌then◌else◌, List, [], ◌∷◌, ◌++◌, length, nat_le, ◌==◌, Option, Some, None, is_some, ℤ, pos, ◌+ℤ◌, ◌≤ℤ◌, int_le, refl, sym, ap, ◌∙◌, subst, arith}
+use Rattle.std.proofs.lemmas.Bool.{cond_both}
+use Rattle.held_bytes.specs.Held.{runs_of}
+use Rattle.ip_wire.specs.IpRepr.{IpRepr}
+use Rattle.ip_wire.specs.TcpHeader.{TcpHeader}
+use Rattle.socket_base.specs.Context.{ContextValue}
+use Rattle.socket_base.specs.Offers.{Offered}
+use Rattle.tcp_control.specs.Controls.{is_syn, is_rst}
+use Rattle.tcp_control.specs.Moments.{is_due, next_draw_from}
+use Rattle.tcp_control.specs.States.{is_closed, is_listening, is_opening, is_answering, takes_writes, takes_text, after_close}
+use Rattle.tcp_control.specs.declared.endpoints.EndpointPair.{EndpointPair}
+use Rattle.tcp_control.specs.declared.offer.OfferKind.{OfferKind}
+use Rattle.tcp_control.specs.declared.offer.OfferKind.TheVariants as Kind
+use Rattle.tcp_control.specs.declared.offer.OpenOffer.{OpenOffer}
+use Rattle.tcp_control.specs.declared.state.State.{State}
+use Rattle.tcp_control.specs.declared.state.State.TheVariants as In
+use Rattle.tcp_model.specs.Acknowledged.{acknowledged, in_state, una_moved, state_after_ack, ended_if, window_set, counted, duplicates_after}
+use Rattle.tcp_model.specs.Answers.{may_draw, with_draw, drawn, acked, answer_for}
+use Rattle.tcp_model.specs.Arrival.{arrives, arrives_in, is_void_syn, outside, waiting_anew, inside, taken, continued, finished, checked}
+use Rattle.tcp_model.specs.Calls.{listening, send_after, close_after}
+use Rattle.tcp_model.specs.Checks.{Check, acknowledgement_check, is_in_window, falls_back, taken_down}
+use Rattle.tcp_model.specs.Checks.Check.{Passes, Drops, Draws, Resets}
+use Rattle.tcp_model.specs.Offers.{silent, offer_of, offer_with, offer_between, offer_reset, first_rules, last_rules, backed_off, offer_syn, offer_choice, offer_ack, offer_keep_alive}
+use Rattle.tcp_model.specs.Opening.{opens, takes_answer, is_first_syn, acks_syn, connected, crossed}
+use Rattle.tcp_model.specs.Pauses.{Happening, Lasts, IsOneConnection, AreApart, after, drawn_moments, is_drawing, draws_in, draws_by, pause_of}
+use Rattle.tcp_model.specs.Pauses.Happening.{Comes, Asked, Called}
+use Rattle.tcp_model.specs.Probing.{probe_moment, probe_started}
+use Rattle.tcp_model.specs.Rules.{owes_syn, resends, resend_choice, has_text, text_choice, ack_moment, updates_window, keep_alive_moment, probe_choice, backed_off_now, time_wait_end}
+use Rattle.tcp_model.specs.Segments.{rst_reply}
+use Rattle.tcp_model.specs.Settled.{settled, sent_as, recorded}
+use Rattle.tcp_model.specs.Text.{Texted, texted, with_text, with_text_at, with_bytes_at, taken_in_order, held_early, has_new_text, laid, takes_fin, with_fin, fin_taken}
+use Rattle.tcp_model.specs.Timeout.{timeout_end, timeout_started, timed_out}
+use Rattle.tcp_model.specs.Value.{TcpValue, Arrived, with_block, dropped, answered_with, unoffered, ended, queued_in, free_in, window_of}
+use Rattle.tcp_model.specs.declared.block.Block.{Block}
+
+-- CALLS AND OFFERS
+
+pub send_pause : (v : TcpValue) (bytes : List ℕ) → pause_of (send_after v bytes) ≡ pause_of v
+send_pause v bytes = cond_both (takes_writes v.block.state) _ (unoffered v) (λ (w : TcpValue). pause_of w ≡ pause_of v) (λ _. refl) (λ _. refl)
+
+pub close_pause : (v : TcpValue) → pause_of (close_after v) ≡ pause_of v
+close_pause v =
+    cond_both (is_opening v.block.state) (ended (unoffered v)) (with_block (unoffered v) (record v.block { state = after_close v.block.state }))
+    (λ (w : TcpValue). pause_of w ≡ pause_of v) (λ _. refl) (λ _. refl)
+
+sent_pause : (kind : OfferKind) (b : Block) (o : OpenOffer) (queued : ℕ) → (sent_as kind b o queued).timers.draws_from ≡ b.timers.draws_from
+sent_pause Kind.Reset b o queued = refl
+sent_pause Kind.Syn b o queued = refl
+sent_pause Kind.FastRetransmission b o queued = refl
+sent_pause Kind.Text b o queued = refl
+sent_pause Kind.Probe b o queued = refl
+sent_pause Kind.Ack b o queued = refl
+sent_pause Kind.WindowUpdate b o queued = refl
+sent_pause Kind.KeepAlive b o queued = refl
+
+pub settled_pause : (v : TcpValue) (sent : Bool) → pause_of (settled sent v) ≡ pause_of v
+settled_pause v false = refl
+settled_pause v true = by v.offered refl where
+  by : (offered : Option OpenOffer) → v.offered ≡ offered → pause_of (settled true v) ≡ pause_of v
+  by None e = rw e refl
+  by (Some o) e = rw e (sent_pause o.kind (recorded v.block o) o (queued_in v))
+
+-- an offer leaves the pause that the block had
+abbrev Leaves : Block → Offered TcpValue → Type 0
+Leaves b o = pause_of o.socket ≡ b.timers.draws_from
+
+last_pause : (cx : ContextValue) (v : TcpValue) (pair : EndpointPair) → Leaves v.block (last_rules cx v pair)
+last_pause cx v pair =
+    cond_both (is_due cx.moment (probe_moment v.block (queued_in v))) (offer_choice Kind.Probe cx v pair probe_choice) _ (Leaves v.block) (λ _. refl)
+    (λ _. cond_both (is_due cx.moment (ack_moment v.block)) (offer_ack Kind.Ack cx v pair) _ (Leaves v.block) (λ _. refl)
+    (λ _. cond_both (updates_window v.block (window_of v)) (offer_ack Kind.WindowUpdate cx v pair) _ (Leaves v.block) (λ _. refl)
+    (λ _. cond_both (is_due cx.moment (keep_alive_moment v.block)) (offer_keep_alive cx v pair) (silent false v) (Leaves v.block) (λ _. refl) (λ _. refl))))
+
+first_pause : (cx : ContextValue) (v : TcpValue) (pair : EndpointPair) → Leaves v.block (first_rules cx v pair)
+first_pause cx v pair =
+    cond_both (owes_syn v.block) (offer_syn cx v pair) _ (Leaves v.block) (λ _. refl)
+    (λ _. cond_both (resends v.block) (offer_choice Kind.FastRetransmission cx v pair (resend_choice v.block pair.addresses cx.ip_mtu v.queued)) _ (Leaves v.block) (λ _. refl)
+    (λ _. cond_both (has_text v.block pair.addresses cx.ip_mtu v.queued) (offer_choice Kind.Text cx v pair (text_choice v.block pair.addresses cx.ip_mtu v.queued)) _ (Leaves v.block) (λ _. refl)
+    (λ _. last_pause cx (with_block v (probe_started cx.moment (queued_in v) v.block)) pair)))
+
+backed_off_pause : (now : ℤ) (b : Block) → (backed_off now b).timers.draws_from ≡ b.timers.draws_from
+backed_off_pause now b =
+    cond_both (is_due now b.timers.retransmit_at) (backed_off_now b) b (λ (c : Block). c.timers.draws_from ≡ b.timers.draws_from) (λ _. refl) (λ _. refl)
+
+between_pause : (cx : ContextValue) (v : TcpValue) (pair : EndpointPair) → Leaves v.block (offer_between cx v pair)
+between_pause cx v pair =
+    cond_both (is_due cx.moment (time_wait_end v.block)) (silent true (ended v)) _ (Leaves v.block) (λ _. refl)
+    (λ _. cond_both (is_due cx.moment (timeout_end v.block (queued_in v))) (silent true (with_block v (timed_out v.block))) _ (Leaves v.block) (λ _. refl)
+    (λ _. cond_both (is_closed v.block.state) (if v.block.sender.reset_due then offer_reset cx v pair else silent false v) _ (Leaves v.block)
+    (λ _. cond_both v.block.sender.reset_due (offer_reset cx v pair) (silent false v) (Leaves v.block) (λ _. refl) (λ _. refl))
+    (λ _. first_pause cx (with_block v (backed_off cx.moment (timeout_started cx.moment (queued_in v) v.block))) pair
+    ∙ backed_off_pause cx.moment (timeout_started cx.moment (queued_in v) v.block))))
+
+offer_pause : (cx : ContextValue) (v : TcpValue) → Leaves v.block (offer_of cx v)
+offer_pause cx v = by v.block.names.pair where
+  by : (pair : Option EndpointPair) → Leaves v.block (offer_with pair cx (unoffered v))
+  by None = refl
+  by (Some pair) = between_pause cx (unoffered v) pair
+
+asked_pause : (cx : ContextValue) (v : TcpValue) (sent : Bool) → pause_of (settled sent (offer_of cx v).socket) ≡ pause_of v
+asked_pause cx v sent = settled_pause (offer_of cx v).socket sent ∙ offer_pause cx v
+
+if_so : {A : Type 0} (t : Bool) (x y : A) → t ≡ true → (if t then x else y) ≡ x
+if_so t x y e = ap (λ (test : Bool). if test then x else y) e
+
+if_not : {A : Type 0} (t : Bool) (x y : A) → t ≡ false → (if t then x else y) ≡ y
+if_not t x y e = ap (λ (test : Bool). if test then x else y) e
+
+-- SEGMENTS THAT ARE TAKEN
+
+abbrev Keeps : Option ℤ → Arrived → Type 0
+Keeps pause a = pause_of a.socket ≡ pause
+
+text_pause : (v : TcpValue) (place : ℕ) (bytes : List ℕ) → pause_of (with_text_at v place bytes).socket ≡ pause_of v
+text_pause v place bytes =
+    cond_both (takes_text v.block.state && has_new_text v place bytes) (with_bytes_at v place bytes) (texted v 0 None) Kept
+    (λ _. cond_both (place == 0) (taken_in_order v (laid v place bytes)) (held_early v place (laid v place bytes)) Kept (λ _. refl) (λ _. held))
+    (λ _. refl)
+  where
+    Kept : Texted → Type 0
+    Kept t = pause_of t.socket ≡ pause_of v
+
+    held : Kept (held_early v place (laid v place bytes))
+    held = cond_both (nat_le (length (runs_of (laid v place bytes))) 4) _ (texted v 0 None) Kept (λ _. refl) (λ _. refl)
+
+answer_pause : (cx : ContextValue) (v : TcpValue) (ip : IpRepr) (header : TcpHeader) (size : ℕ) (early : Option ℕ) → Keeps (pause_of v) (answer_for cx v ip header size early)
+answer_pause cx v ip header size None = refl
+answer_pause cx v ip header size (Some place) = refl
+
+fin_pause : (b old : Block) (header : TcpHeader) (size advance : ℕ) (now : ℤ) → (with_fin b old header size advance now).timers.draws_from ≡ b.timers.draws_from
+fin_pause b old header size advance now =
+    cond_both (takes_fin old header size advance) (fin_taken b now) b (λ (c : Block). c.timers.draws_from ≡ b.timers.draws_from) (λ _. refl) (λ _. refl)
+
+finished_pause : (cx : ContextValue) (old : Block) (t : Texted) (ip : IpRepr) (header : TcpHeader) (size : ℕ) → Keeps (pause_of t.socket) (finished cx old t ip header size)
+finished_pause cx old t ip header size =
+    answer_pause cx _ ip header size t.early ∙ fin_pause t.socket.block old header size t.advance cx.moment
+
+acknowledged_pause : (v : TcpValue) (by : ℕ) (now : ℤ) → pause_of (acknowledged v by now) ≡ pause_of v
+acknowledged_pause v by now = either (is_closed (state_after_ack v.block by (queued_in v))) where
+  either : (ends : Bool) → (ended_if ends (in_state (una_moved v.block by (queued_in v) now) (state_after_ack v.block by (queued_in v)) now)).timers.draws_from ≡ pause_of v
+  either true = refl
+  either false = refl
+
+continued_pause :
+    (cx : ContextValue) (old : Block) (v : TcpValue) (ip : IpRepr) (header : TcpHeader) (bytes : List ℕ) (by : ℕ)
+    → Keeps (pause_of v) (continued cx old v ip header bytes by)
+continued_pause cx old v ip header bytes by =
+    let windowed : TcpValue = with_block v (counted (window_set v.block header) (duplicates_after old header (length bytes) by)) in
+    cond_both (is_closed v.block.state) (dropped v) (finished cx v.block (with_text windowed header bytes) ip header (length bytes)) (Keeps (pause_of v)) (λ _. refl)
+    (λ _. finished_pause cx v.block (with_text windowed header bytes) ip header (length bytes) ∙ text_pause windowed _ _)
+
+taken_pause :
+    (cx : ContextValue) (v : TcpValue) (ip : IpRepr) (header : TcpHeader) (bytes : List ℕ) (by : ℕ) → Keeps (pause_of v) (taken cx v ip header bytes by)
+taken_pause cx v ip header bytes by = continued_pause cx v.block (acknowledged v by cx.moment) ip header bytes by ∙ acknowledged_pause v by cx.moment
+
+-- EACH SEGMENT
+
+-- what a segment does to the pause, by whether it draws an answer: it may restart it, or leaves it; or it takes a listener back
+record Moves (cx : ContextValue) (v : TcpValue) (draws : Bool) (a : Arrived) : Type 0 where
+  answered : draws ≡ true → is_some a.answer ≡ may_draw cx.moment (pause_of v)
+  paused : draws ≡ true → is_some a.answer ≡ true → pause_of a.socket ≡ Some (next_draw_from cx.moment)
+  left : (draws && is_some a.answer) ≡ false → (is_listening a.socket.block.state ≡ true → is_listening v.block.state ≡ true) → pause_of a.socket ≡ pause_of v
+
+undrawn : (cx : ContextValue) (v : TcpValue) (a : Arrived) → Keeps (pause_of v) a → Moves cx v false a
+undrawn cx v a keeps = record { answered = λ e. absurd (cc); paused = λ e _. absurd (cc); left = λ _ _. keeps }
+
+drawn_moves : (cx : ContextValue) (v w : TcpValue) (ip : IpRepr) (header : TcpHeader) → pause_of w ≡ pause_of v → Moves cx v true (drawn cx w ip header)
+drawn_moves cx v w ip header same =
+    cond_both (may_draw cx.moment w.block.timers.draws_from) (acked cx (with_draw w cx.moment) ip header None) (dropped w) (Moves cx v true)
+    (λ over. record { answered = λ _. sym (ap (may_draw cx.moment) (sym same) ∙ over); paused = λ _ _. refl; left = λ e _. absurd (cc) })
+    (λ early. record { answered = λ _. sym (ap (may_draw cx.moment) (sym same) ∙ early); paused = λ _ e. absurd (cc); left = λ _ _. same })
+
+-- a socket that a reset takes back to LISTEN wasn't there
+not_there : (b : Block) → falls_back b ≡ true → is_listening b.state ≡ false
+not_there b = by b.state where
+  by : (state : State) → (is_answering state && not (b.names.listen.port == 0)) ≡ true → is_listening state ≡ false
+  by In.SynReceived e = refl
+  by other e = absurd (cc)
+
+down_moves : (cx : ContextValue) (v : TcpValue) → Moves cx v false (dropped (taken_down v))
+down_moves cx v =
+    cond_both (falls_back v.block) (listening v v.block.names.listen) (ended v) (λ (w : TcpValue). Moves cx v false (dropped w))
+    (λ back. record {
+      answered = λ e. absurd (cc);
+      paused = λ e _. absurd (cc);
+      left = λ _ lasts. absurd (let clash : true ≡ false = sym (lasts refl) ∙ not_there v.block back in cc);
+    })
+    (λ _. undrawn cx v (dropped (ended v)) refl)
+
+module _ (cx : ContextValue) (v : TcpValue) (ip : IpRepr) (header : TcpHeader) (bytes : List ℕ) where
+  abbrev In_window : Bool
+  In_window = is_in_window v.block (free_in v) header (length bytes)
+
+  inside_moves : (by : ℕ) (rst : Bool) → is_rst header.control ≡ rst → Moves cx v (not rst && is_syn header.control) (inside cx v ip header bytes by)
+  inside_moves by true e =
+      subst (Moves cx v false) (sym (if_so (is_rst header.control) (dropped (taken_down v)) _ e)) (down_moves cx v)
+  inside_moves by false e =
+      subst (Moves cx v (is_syn header.control)) (sym (if_not (is_rst header.control) (dropped (taken_down v)) _ e)) (other (is_syn header.control))
+    where
+      other : (syn : Bool) → Moves cx v syn (if syn then drawn cx v ip header else taken cx v ip header bytes by)
+      other true = drawn_moves cx v v ip header refl
+      other false = undrawn cx v (taken cx v ip header bytes by) (taken_pause cx v ip header bytes by)
+
+  outside_moves : (rst : Bool) → is_rst header.control ≡ rst → Moves cx v (not rst) (outside cx v ip header)
+  outside_moves true e = subst (Moves cx v false) (sym (if_so (is_rst header.control) (dropped v) _ e)) (undrawn cx v (dropped v) refl)
+  outside_moves false e =
+      subst (Moves cx v true) (sym (if_not (is_rst header.control) (dropped v) _ e)) (drawn_moves cx v (waiting_anew v header cx.moment) ip header refl)
+
+  passed_moves : (by : ℕ) (meets rst : Bool) → is_rst header.control ≡ rst → Moves cx v (not rst && (not meets || is_syn header.control)) (if meets then inside cx v ip header bytes by else outside cx v ip header)
+  passed_moves by true rst e = inside_moves by rst e
+  passed_moves by false true e = outside_moves true e
+  passed_moves by false false e = outside_moves false e
+
+  checked_moves : (check : Check) → Moves cx v (draws_by check v header (length bytes)) (checked check cx v ip header bytes)
+  checked_moves (Passes by) =
+      subst (λ (rst : Bool). Moves cx v (not rst && (not In_window || is_syn header.control)) (checked (Passes by) cx v ip header bytes)) refl
+      (passed_moves by In_window (is_rst header.control) refl)
+  checked_moves Drops = undrawn cx v (dropped v) refl
+  checked_moves Draws = drawn_moves cx v v ip header refl
+  checked_moves Resets = undrawn cx v (answered_with v (rst_reply ip header (length bytes))) refl
+
+  opens_pause : Keeps (pause_of v) (opens cx v ip header)
+  opens_pause = cond_both (is_first_syn header) _ (dropped v) (Keeps (pause_of v)) (λ _. refl) (λ _. refl)
+
+  syn_pause : (ack : Bool) → (if ack then connected v.block header cx.moment else crossed v.block header).timers.draws_from ≡ pause_of v
+  syn_pause true = refl
+  syn_pause false = refl
+
+  answer_taken_pause : Keeps (pause_of v) (takes_answer cx v ip header bytes)
+  answer_taken_pause =
+      cond_both (is_rst header.control) (if acks_syn v.block.sender.una header.ack_number then dropped (ended v) else dropped v) _ (Keeps (pause_of v))
+      (λ _. cond_both (acks_syn v.block.sender.una header.ack_number) (dropped (ended v)) (dropped v) (Keeps (pause_of v)) (λ _. refl) (λ _. refl))
+      (λ _. cond_both (is_some header.ack_number && not (acks_syn v.block.sender.una header.ack_number)) (answered_with v (rst_reply ip header (length bytes))) _ (Keeps (pause_of v)) (λ _. refl)
+      (λ _. cond_both (is_syn header.control) _ (dropped v) (Keeps (pause_of v)) (λ _. syn_pause (is_some header.ack_number)) (λ _. refl)))
+
+  moves_in : (state : State) → Moves cx v (draws_in state v header (length bytes)) (arrives_in state cx v ip header bytes)
+  moves_in In.Closed = undrawn cx v (dropped v) refl
+  moves_in In.Listen = undrawn cx v (opens cx v ip header) opens_pause
+  moves_in In.SynSent = undrawn cx v (takes_answer cx v ip header bytes) answer_taken_pause
+  moves_in other = checked_moves (acknowledgement_check v.block (queued_in v) header)
+
+same_draws : (v : TcpValue) (header : TcpHeader) (size : ℕ) (state : State) → draws_in state (unoffered v) header size ≡ draws_in state v header size
+same_draws v header size In.Closed = refl
+same_draws v header size In.Listen = refl
+same_draws v header size In.SynSent = refl
+same_draws v header size other = by (acknowledgement_check v.block (queued_in v) header) where
+  by : (check : Check) → draws_by check (unoffered v) header size ≡ draws_by check v header size
+  by (Passes count) = refl
+  by Draws = refl
+  by Drops = refl
+  by Resets = refl
+
+moves_by : (cx : ContextValue) (v : TcpValue) (ip : IpRepr) (header : TcpHeader) (bytes : List ℕ) (void : Bool)
+    → Moves cx (unoffered v) (not void && draws_in v.block.state v header (length bytes)) (if void then dropped (unoffered v) else arrives_in v.block.state cx (unoffered v) ip header bytes)
+moves_by cx v ip header bytes true = undrawn cx (unoffered v) (dropped (unoffered v)) refl
+moves_by cx v ip header bytes false =
+    subst (λ (draws : Bool). Moves cx (unoffered v) draws (arrives_in v.block.state cx (unoffered v) ip header bytes)) (same_draws v header (length bytes) v.block.state)
+    (moves_in cx (unoffered v) ip header bytes v.block.state)
+
+moves : (cx : ContextValue) (v : TcpValue) (ip : IpRepr) (header : TcpHeader) (bytes : List ℕ)
+    → Moves cx (unoffered v) (is_drawing v header bytes) (arrives cx v ip header bytes)
+moves cx v ip header bytes = moves_by cx v ip header bytes (is_void_syn header)
+
+pub drawn_after_pause : (cx : ContextValue) (v : TcpValue) (ip : IpRepr) (header : TcpHeader) (bytes : List ℕ) → is_drawing v header bytes ≡ true
+    → is_some (arrives cx v ip header bytes).answer ≡ may_draw cx.moment (pause_of v)
+drawn_after_pause cx v ip header bytes e = (moves cx v ip header bytes).answered e
+
+pub pause_begins : (cx : ContextValue) (v : TcpValue) (ip : IpRepr) (header : TcpHeader) (bytes : List ℕ) → is_drawing v header bytes ≡ true
+    → is_some (arrives cx v ip header bytes).answer ≡ true → pause_of (arrives cx v ip header bytes).socket ≡ Some (cx.moment +ℤ pos 1_000_000)
+pause_begins cx v ip header bytes e answered = (moves cx v ip header bytes).paused e answered
+
+-- RUNS
+
+-- the first of these moments lies at or after the end of the pause
+abbrev From : Option ℤ → List ℤ → Type 0
+From None ms = Unit {0}
+From (Some from) [] = Unit {0}
+From (Some from) (m ∷ ms) = from ≤ℤ m
+
+due_from : (now : ℤ) (from : Option ℤ) (ms : List ℤ) → may_draw now from ≡ true → From from (now ∷ ms)
+due_from now None ms e = tt
+due_from now (Some from) ms e = is_at from now e where
+  is_at : (a b : ℤ) → int_le a b ≡ true → a ≤ℤ b
+  is_at a b h = grind (arith)
+
+joined : (m : ℤ) (ms : List ℤ) → From (Some (m +ℤ pos 1_000_000)) ms → AreApart ms → AreApart (m ∷ ms)
+joined m [] later apart = tt
+joined m (n ∷ ms) later apart = (later, apart)
+
+record Spaced (v : TcpValue) (ms : List ℤ) : Type 0 where
+  from : From (pause_of v) ms
+  apart : AreApart ms
+
+no_moment : (pause : Option ℤ) → From pause []
+no_moment None = tt
+no_moment (Some from) = tt
+
+comes_spaced :
+    (cx : ContextValue) (v : TcpValue) (ip : IpRepr) (header : TcpHeader) (bytes : List ℕ) (ms : List ℤ) (draws : Bool)
+    → is_drawing v header bytes ≡ draws → Lasts v (Comes cx ip header bytes) → Spaced (arrives cx v ip header bytes).socket ms
+    → (answers : Bool) → is_some (arrives cx v ip header bytes).answer ≡ answers
+    → Spaced v ((if draws && answers then cx.moment ∷ [] else []) ++ ms)
+comes_spaced cx v ip header bytes ms true e lasts s true f =
+    let it = moves cx v ip header bytes in
+    record {
+      from = due_from cx.moment (pause_of v) ms (sym (it.answered e) ∙ f);
+      apart = joined cx.moment ms (subst (λ (pause : Option ℤ). From pause ms) (it.paused e f) s.from) s.apart;
+    }
+comes_spaced cx v ip header bytes ms true e lasts s false f =
+    let it = moves cx v ip header bytes in
+    record {
+      from = subst (λ (pause : Option ℤ). From pause ms) (it.left (ap (λ (t : Bool). t && is_some (arrives cx v ip header bytes).answer) e ∙ f) lasts) s.from;
+      apart = s.apart;
+    }
+comes_spaced cx v ip header bytes ms false e lasts s answers f =
+    let it = moves cx v ip header bytes in
+    record {
+      from = subst (λ (pause : Option ℤ). From pause ms) (it.left (ap (λ (t : Bool). t && is_some (arrives cx v ip header bytes).answer) e) lasts) s.from;
+      apart = s.apart;
+    }
+
+kept_spaced : (v w : TcpValue) (ms : List ℤ) → pause_of w ≡ pause_of v → Spaced w ms → Spaced v ms
+kept_spaced v w ms same s = record { from = subst (λ (pause : Option ℤ). From pause ms) same s.from; apart = s.apart }
+
+spaced : (v : TcpValue) (run : List Happening) → IsOneConnection v run → Spaced v (drawn_moments v run)
+spaced v [] one = record { from = no_moment (pause_of v); apart = tt }
+spaced v (Comes cx ip header bytes ∷ more) one =
+    comes_spaced cx v ip header bytes (drawn_moments (after v (Comes cx ip header bytes)) more) (is_drawing v header bytes) refl one.0
+    (spaced (after v (Comes cx ip header bytes)) more one.1) (is_some (arrives cx v ip header bytes).answer) refl
+spaced v (Asked cx sent ∷ more) one =
+    kept_spaced v (after v (Asked cx sent)) _ (asked_pause cx v sent) (spaced (after v (Asked cx sent)) more one.1)
+spaced v (Called new ∷ more) one = kept_spaced v new _ one.0 (spaced new more one.1)
+
+pub drawn_apart : (v : TcpValue) (run : List Happening) → IsOneConnection v run → AreApart (drawn_moments v run)
+drawn_apart v run one = (spaced v run one).apart

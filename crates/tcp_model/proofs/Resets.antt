@@ -1,0 +1,138 @@
+-- The reset that a socket owes.
+use Rattle.std.proofs.Common.{◌≡◌, ℕ, ◌&&◌, not, Bool, true, false, if◌then◌else◌, List, Option, Some, None, IfSome, is_some, ℤ, refl, sym, ap, ◌∙◌, subst}
+use Rattle.ip_wire.specs.IpRepr.{IpRepr}
+use Rattle.ip_wire.specs.TcpHeader.{TcpHeader}
+use Rattle.socket_base.specs.Context.{ContextValue}
+use Rattle.socket_base.specs.Offers.{Offered}
+use Rattle.socket_base.specs.declared.offer.Offer.TheVariants as Answer
+use Rattle.socket_base.specs.declared.poll_at.PollAt.TheVariants as At
+use Rattle.tcp_control.specs.Moments.{is_due}
+use Rattle.tcp_control.specs.States.{is_time_wait, is_closed, is_opening, takes_writes, after_close}
+use Rattle.tcp_control.specs.declared.endpoints.EndpointPair.{EndpointPair}
+use Rattle.tcp_control.specs.declared.state.State.{State}
+use Rattle.tcp_control.specs.declared.state.State.TheVariants as In
+use Rattle.tcp_model.specs.Aborts.{OwesReset, IsResetOf}
+use Rattle.tcp_model.specs.Arrival.{arrives, arrives_in, is_void_syn}
+use Rattle.tcp_model.specs.Calls.{send_after, recv_after, close_after, abort_after}
+use Rattle.tcp_model.specs.Due.{poll_of, poll_with}
+use Rattle.tcp_model.specs.Names.{accepts, accepts_in}
+use Rattle.tcp_model.specs.Offers.{offer_of, offer_with, offer_reset}
+use Rattle.tcp_model.specs.Rules.{time_wait_end}
+use Rattle.tcp_model.specs.Settings.{with_settings}
+use Rattle.tcp_model.specs.Settled.{settled}
+use Rattle.tcp_model.specs.Timeout.{timeout_end, end_by, waits_for_remote}
+use Rattle.tcp_model.specs.Value.{TcpValue, Arrived, with_block, dropped, unoffered, ended, queued_in}
+use Rattle.tcp_model.specs.declared.block.Block.{Block}
+use Rattle.tcp_model.specs.declared.block.Settings.{Settings}
+
+if_so : {A : Type 0} (t : Bool) (x y : A) → t ≡ true → (if t then x else y) ≡ x
+if_so t x y e = ap (λ (test : Bool). if test then x else y) e
+
+if_not : {A : Type 0} (t : Bool) (x y : A) → t ≡ false → (if t then x else y) ≡ y
+if_not t x y e = ap (λ (test : Bool). if test then x else y) e
+
+pub aborted : (v : TcpValue) (pair : EndpointPair) → v.block.names.pair ≡ Some pair → OwesReset (abort_after v) pair
+aborted v pair e = record { state = refl; endpoints = e; due = ap is_some e }
+
+pub owes_nothing : (ip_mtu : ℕ) (v : TcpValue) → v.block.names.pair ≡ None → poll_of ip_mtu (abort_after v) ≡ At.Ingress
+owes_nothing ip_mtu v e = ap (λ (p : Option EndpointPair). poll_with p ip_mtu (abort_after v)) e
+
+pub ran_out :
+    (cx : ContextValue) (v : TcpValue) (pair : EndpointPair) → v.block.names.pair ≡ Some pair → is_due cx.moment (time_wait_end v.block) ≡ false
+    → is_due cx.moment (timeout_end v.block (queued_in v)) ≡ true → OwesReset (offer_of cx v).socket pair
+ran_out cx v pair e no_wait out =
+    subst (λ (o : Offered TcpValue). OwesReset o.socket pair)
+    (sym
+    (ap (λ (p : Option EndpointPair). offer_with p cx (unoffered v)) e
+    ∙ (if_not (is_due cx.moment (time_wait_end v.block)) _ _ no_wait ∙ if_so (is_due cx.moment (timeout_end v.block (queued_in v))) _ _ out)))
+    (record { state = refl; endpoints = e; due = refl })
+
+-- in CLOSED no moment counts
+no_time_wait : (now : ℤ) (b : Block) → b.state ≡ In.Closed → is_due now (time_wait_end b) ≡ false
+no_time_wait now b e = ap (λ (state : State). is_due now (if is_time_wait state then b.timers.time_wait_ends else None)) e
+
+closed_runs_not : (set waits : Bool) → (set && (false && waits)) ≡ false
+closed_runs_not true waits = refl
+closed_runs_not false waits = refl
+
+no_timeout : (now : ℤ) (b : Block) (queued : ℕ) → b.state ≡ In.Closed → is_due now (timeout_end b queued) ≡ false
+no_timeout now b queued e =
+    ap (λ (runs : Bool). is_due now (if runs then end_by b.timers.timeout_since b.settings.timeout else None))
+    (ap (λ (state : State). is_some b.settings.timeout && (not (is_closed state) && waits_for_remote b queued)) e
+    ∙ closed_runs_not (is_some b.settings.timeout) (waits_for_remote b queued))
+
+offers_reset : (cx : ContextValue) (v : TcpValue) (pair : EndpointPair) → OwesReset v pair → offer_of cx v ≡ offer_reset cx (unoffered v) pair
+offers_reset cx v pair owes =
+    ap (λ (p : Option EndpointPair). offer_with p cx (unoffered v)) owes.endpoints
+    ∙ (if_not (is_due cx.moment (time_wait_end v.block)) _ _ (no_time_wait cx.moment v.block owes.state)
+    ∙ (if_not (is_due cx.moment (timeout_end v.block (queued_in v))) _ _ (no_timeout cx.moment v.block (queued_in v) owes.state)
+    ∙ (if_so (is_closed v.block.state) _ _ (ap is_closed owes.state) ∙ if_so v.block.sender.reset_due _ _ owes.due)))
+
+pub due_now : (ip_mtu : ℕ) (v : TcpValue) (pair : EndpointPair) → OwesReset v pair → poll_of ip_mtu v ≡ At.Now
+due_now ip_mtu v pair owes =
+    ap (λ (p : Option EndpointPair). poll_with p ip_mtu v) owes.endpoints
+    ∙ (if_so (is_closed v.block.state) _ _ (ap is_closed owes.state) ∙ if_so v.block.sender.reset_due _ _ owes.due)
+
+pub is_offered :
+    (cx : ContextValue) (v : TcpValue) (pair : EndpointPair) → OwesReset v pair
+    → ((offer_of cx v).answer ≡ Answer.Packet false) × (is_some (offer_of cx v).socket.offered ≡ true)
+is_offered cx v pair owes =
+    let same = offers_reset cx v pair owes in
+    (ap (λ (o : Offered TcpValue). o.answer) same, ap (λ (o : Offered TcpValue). is_some o.socket.offered) same)
+
+pub is_reset :
+    (cx : ContextValue) (v : TcpValue) (pair : EndpointPair) → OwesReset v pair → IfSome (offer_of cx v).socket.offered (IsResetOf v.block pair)
+is_reset cx v pair owes =
+    subst (λ (o : Offered TcpValue). IfSome o.socket.offered (IsResetOf v.block pair)) (sym (offers_reset cx v pair owes))
+    (record { kind = refl; control = refl; number = refl; acknowledgement = refl; from = refl; to = refl; empty = refl })
+
+-- UNTIL IT IS SENT
+
+pub is_deaf : (v : TcpValue) (pair : EndpointPair) (ip : IpRepr) (header : TcpHeader) → OwesReset v pair → accepts v.block ip header ≡ false
+is_deaf v pair ip header owes = ap (λ (state : State). accepts_in state v.block ip header) owes.state
+
+still : (v : TcpValue) (pair : EndpointPair) → OwesReset v pair → OwesReset (unoffered v) pair
+still v pair owes = record { state = owes.state; endpoints = owes.endpoints; due = owes.due }
+
+pub arrival_waits :
+    (cx : ContextValue) (v : TcpValue) (pair : EndpointPair) (ip : IpRepr) (header : TcpHeader) (bytes : List ℕ) → OwesReset v pair
+    → OwesReset (arrives cx v ip header bytes).socket pair
+arrival_waits cx v pair ip header bytes owes =
+    subst (λ (a : Arrived). OwesReset a.socket pair) (sym (none_comes (is_void_syn header))) (still v pair owes)
+  where
+    none_comes : (void : Bool) → (if void then dropped (unoffered v) else arrives_in v.block.state cx (unoffered v) ip header bytes) ≡ dropped (unoffered v)
+    none_comes true = refl
+    none_comes false = ap (λ (state : State). arrives_in state cx (unoffered v) ip header bytes) owes.state
+
+pub close_waits : (v : TcpValue) (pair : EndpointPair) → OwesReset v pair → OwesReset (close_after v) pair
+close_waits v pair owes =
+    subst (λ (state : State). OwesReset (if is_opening state then ended (unoffered v) else with_block (unoffered v) (record v.block { state = after_close state })) pair)
+    (sym owes.state)
+    (record { state = refl; endpoints = owes.endpoints; due = owes.due })
+
+pub abort_waits : (v : TcpValue) (pair : EndpointPair) → OwesReset v pair → OwesReset (abort_after v) pair
+abort_waits v pair owes = aborted v pair owes.endpoints
+
+pub send_waits : (v : TcpValue) (pair : EndpointPair) (bytes : List ℕ) → OwesReset v pair → OwesReset (send_after v bytes) pair
+send_waits v pair bytes owes =
+    subst (λ (after : TcpValue). OwesReset after pair)
+    (sym (if_not (takes_writes v.block.state) _ (unoffered v) (ap takes_writes owes.state)))
+    (still v pair owes)
+
+pub recv_waits : (v : TcpValue) (pair : EndpointPair) (count : ℕ) → OwesReset v pair → OwesReset (recv_after v count) pair
+recv_waits v pair count owes = record { state = owes.state; endpoints = owes.endpoints; due = owes.due }
+
+pub setting_waits : (v : TcpValue) (pair : EndpointPair) (settings : Settings) → OwesReset v pair → OwesReset (with_settings v settings) pair
+setting_waits v pair settings owes = record { state = owes.state; endpoints = owes.endpoints; due = owes.due }
+
+pub unsent : (cx : ContextValue) (v : TcpValue) (pair : EndpointPair) → OwesReset v pair → OwesReset (settled false (offer_of cx v).socket) pair
+unsent cx v pair owes =
+    subst (λ (o : Offered TcpValue). OwesReset (settled false o.socket) pair) (sym (offers_reset cx v pair owes))
+    (record { state = owes.state; endpoints = owes.endpoints; due = owes.due })
+
+pub sent :
+    (cx : ContextValue) (v : TcpValue) (pair : EndpointPair) (ip_mtu : ℕ) → OwesReset v pair
+    → (poll_of ip_mtu (settled true (offer_of cx v).socket) ≡ At.Ingress) × ((settled true (offer_of cx v).socket).block.names.pair ≡ None)
+sent cx v pair ip_mtu owes =
+    let same = offers_reset cx v pair owes in
+    (ap (λ (o : Offered TcpValue). poll_of ip_mtu (settled true o.socket)) same, ap (λ (o : Offered TcpValue). (settled true o.socket).block.names.pair) same)

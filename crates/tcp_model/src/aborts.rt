@@ -1,0 +1,67 @@
+//! Laws of the reset that a socket owes its remote.
+
+ghost use Rattle.std.specs.Prelude.{◌≡◌, ℕ, ℤ, Bool, true, false, List, Option, Some, None, IfSome, is_some};
+ghost use Rattle.ip_wire.specs.IpRepr.{IpRepr};
+ghost use Rattle.ip_wire.specs.TcpHeader.{TcpHeader};
+ghost use Rattle.socket_base.specs.Context.{ContextValue};
+ghost use Rattle.socket_base.specs.declared.offer.Offer.TheVariants as Answer;
+ghost use Rattle.socket_base.specs.declared.poll_at.PollAt.TheVariants as At;
+ghost use Rattle.tcp_control.specs.Moments.{is_due};
+ghost use Rattle.tcp_control.specs.declared.endpoints.EndpointPair.{EndpointPair};
+ghost use Rattle.tcp_model.specs.Aborts.{OwesReset, IsResetOf};
+ghost use Rattle.tcp_model.specs.Arrival.{arrives};
+ghost use Rattle.tcp_model.specs.Calls.{send_after, recv_after, close_after, abort_after};
+ghost use Rattle.tcp_model.specs.Due.{poll_of};
+ghost use Rattle.tcp_model.specs.Names.{accepts};
+ghost use Rattle.tcp_model.specs.Offers.{offer_of};
+ghost use Rattle.tcp_model.specs.Rules.{time_wait_end};
+ghost use Rattle.tcp_model.specs.Settings.{with_settings};
+ghost use Rattle.tcp_model.specs.Settled.{settled};
+ghost use Rattle.tcp_model.specs.Timeout.{timeout_end};
+ghost use Rattle.tcp_model.specs.Value.{TcpValue, queued_in};
+ghost use Rattle.tcp_model.specs.declared.block.Settings.{Settings};
+
+/// An abort owes the remote a reset, and so does the user timeout. Where there is no remote endpoint
+/// nothing is owed.
+#[tactic(auto, using(crate::proofs::Resets::aborted, crate::proofs::Resets::ran_out, crate::proofs::Resets::owes_nothing))]
+pub fn an_abort_owes_a_reset()
+    ensures abort { (v : TcpValue) (pair : EndpointPair) → v.block.names.pair ≡ Some pair → OwesReset (abort_after v) pair }
+    ensures timeout { (cx : ContextValue) (v : TcpValue) (pair : EndpointPair) → v.block.names.pair ≡ Some pair
+        → is_due cx.moment (time_wait_end v.block) ≡ false → is_due cx.moment (timeout_end v.block (queued_in v)) ≡ true
+        → OwesReset (offer_of cx v).socket pair }
+    ensures nowhere { (ip_mtu : ℕ) (v : TcpValue) → v.block.names.pair ≡ None → poll_of ip_mtu (abort_after v) ≡ At.Ingress }
+{}
+
+/// What is owed is due at once, and the next offer makes it, whatever the moment.
+#[tactic(auto, using(crate::proofs::Resets::due_now, crate::proofs::Resets::is_offered, crate::proofs::Resets::is_reset))]
+pub fn the_next_offer_makes_the_reset()
+    ensures due { (ip_mtu : ℕ) (v : TcpValue) (pair : EndpointPair) → OwesReset v pair → poll_of ip_mtu v ≡ At.Now }
+    ensures answer { (cx : ContextValue) (v : TcpValue) (pair : EndpointPair) → OwesReset v pair
+        → (offer_of cx v).answer ≡ Answer.Packet false }
+    ensures offered { (cx : ContextValue) (v : TcpValue) (pair : EndpointPair) → OwesReset v pair
+        → is_some (offer_of cx v).socket.offered ≡ true }
+    ensures reset { (cx : ContextValue) (v : TcpValue) (pair : EndpointPair) → OwesReset v pair
+        → IfSome (offer_of cx v).socket.offered (IsResetOf v.block pair) }
+{}
+
+/// It is owed until it was sent, whatever comes or is called but an OPEN; then nothing is due, and the
+/// endpoints are forgotten.
+#[tactic(auto, using(crate::proofs::Resets::arrival_waits, crate::proofs::Resets::is_deaf, crate::proofs::Resets::unsent, crate::proofs::Resets::sent, crate::proofs::Resets::close_waits, crate::proofs::Resets::abort_waits, crate::proofs::Resets::send_waits, crate::proofs::Resets::recv_waits, crate::proofs::Resets::setting_waits))]
+pub fn a_reset_is_owed_until_it_is_sent()
+    ensures segments { (v : TcpValue) (pair : EndpointPair) (ip : IpRepr) (header : TcpHeader) → OwesReset v pair
+        → accepts v.block ip header ≡ false }
+    ensures arrivals { (cx : ContextValue) (v : TcpValue) (pair : EndpointPair) (ip : IpRepr) (header : TcpHeader) (bytes : List ℕ)
+        → OwesReset v pair → OwesReset (arrives cx v ip header bytes).socket pair }
+    ensures close { (v : TcpValue) (pair : EndpointPair) → OwesReset v pair → OwesReset (close_after v) pair }
+    ensures abort { (v : TcpValue) (pair : EndpointPair) → OwesReset v pair → OwesReset (abort_after v) pair }
+    ensures send { (v : TcpValue) (pair : EndpointPair) (bytes : List ℕ) → OwesReset v pair → OwesReset (send_after v bytes) pair }
+    ensures recv { (v : TcpValue) (pair : EndpointPair) (count : ℕ) → OwesReset v pair → OwesReset (recv_after v count) pair }
+    ensures settings { (v : TcpValue) (pair : EndpointPair) (settings : Settings) → OwesReset v pair
+        → OwesReset (with_settings v settings) pair }
+    ensures unsent { (cx : ContextValue) (v : TcpValue) (pair : EndpointPair) → OwesReset v pair
+        → OwesReset (settled false (offer_of cx v).socket) pair }
+    ensures sent { (cx : ContextValue) (v : TcpValue) (pair : EndpointPair) (ip_mtu : ℕ) → OwesReset v pair
+        → poll_of ip_mtu (settled true (offer_of cx v).socket) ≡ At.Ingress }
+    ensures forgotten { (cx : ContextValue) (v : TcpValue) (pair : EndpointPair) → OwesReset v pair
+        → (settled true (offer_of cx v).socket).block.names.pair ≡ None }
+{}
