@@ -1,0 +1,5 @@
+pub mod Machine
+pub mod HostRuns
+pub mod Asked
+pub mod GoesOn
+pub mod Quiet
