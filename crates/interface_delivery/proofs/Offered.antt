@@ -42,7 +42,7 @@ writable i (Ip.Ipv4 v) x small w = record {
 }
 writable i (Ip.Ipv6 v) x small w = w
 
-readable : (i : InnerValue) (h : IpRepr) (x : PayloadValue) → CanBeRead h x → CanBeRead (numbered_header i h) x
+pub readable : (i : InnerValue) (h : IpRepr) (x : PayloadValue) → CanBeRead h x → CanBeRead (numbered_header i h) x
 readable i (Ip.Ipv4 v) (ControlV4 message bytes) can = can
 readable i (Ip.Ipv4 v) (ControlV6 message bytes) can = can
 readable i (Ip.Ipv4 v) (Bytes bytes) can = can
@@ -57,11 +57,11 @@ sendable (Ip.Ipv4 v) x is short = record { header = omega arith; payload = is.pa
 sendable (Ip.Ipv6 v) x is short = record { header = omega arith; payload = is.payload (omega arith); len = is.len }
 
 -- what can be written where its length fits
-writes : (i : InnerValue) (p : PacketValue) → HasWidths i → IsOffered p → total_len p.header ≤ 65535 → IsWritable (numbered i p)
+pub writes : (i : InnerValue) (p : PacketValue) → HasWidths i → IsOffered p → total_len p.header ≤ 65535 → IsWritable (numbered i p)
 writes i p wide offered short =
     writable i p.header p.payload wide.ident (record { sendable = sendable p.header p.payload offered.packet short; header = offered.header; payload = offered.payload })
 
-go_short : (i : InnerValue) (busy : Bool) (h : IpRepr) (to : HardwareAddress) → plan_of i busy h ≡ Way.Go to → total_len h ≤ i.mtu
+pub go_short : (i : InnerValue) (busy : Bool) (h : IpRepr) (to : HardwareAddress) → plan_of i busy h ≡ Way.Go to → total_len h ≤ i.mtu
 go_short i busy h to =
     plan_cases i busy h (λ plan. plan ≡ Way.Go to → total_len h ≤ i.mtu)
     (λ is. absurd cc) (λ is. absurd cc) (λ is. absurd cc) (λ is. absurd cc)
@@ -72,7 +72,7 @@ go_short i busy h to =
 cut_is : (to other : HardwareAddress) (v w : Ipv4Repr) → Way.Cut other w ≡ Way.Cut to v → w ≡ v
 cut_is to other v w is = cc
 
-cut_short : (i : InnerValue) (busy : Bool) (h : IpRepr) (to : HardwareAddress) (v : Ipv4Repr) → plan_of i busy h ≡ Way.Cut to v → (h ≡ Ip.Ipv4 v) × (20 + v.payload_len ≤ longest_cut)
+pub cut_short : (i : InnerValue) (busy : Bool) (h : IpRepr) (to : HardwareAddress) (v : Ipv4Repr) → plan_of i busy h ≡ Way.Cut to v → (h ≡ Ip.Ipv4 v) × (20 + v.payload_len ≤ longest_cut)
 cut_short i busy h to v =
     plan_cases i busy h (λ plan. plan ≡ Way.Cut to v → (h ≡ Ip.Ipv4 v) × (20 + v.payload_len ≤ longest_cut))
     (λ is. absurd cc) (λ is. absurd cc) (λ is. absurd cc) (λ is. absurd cc)

@@ -1,0 +1,5 @@
+pub mod Made
+pub mod Frames
+pub mod Numbers
+pub mod Held
+pub mod Sides

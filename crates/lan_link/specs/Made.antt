@@ -1,0 +1,61 @@
+-- What a host made, and what a frame brings of it. `made` says what TCP segments and UDP datagrams the host made, with the header
+-- that a reader makes of it.
+use Rattle.std.specs.Prelude.{◌≡◌, ◌⊎◌, ℕ, true, List, slice_get, Option, None, Some}
+use Rattle.net_base.specs.Capabilities.{all_checksums}
+use Rattle.net_base.specs.Checksum.TheVariants as Checksum
+use Rattle.net_base.specs.ChecksumCapabilities.{ChecksumCapabilities}
+use Rattle.ip_wire.specs.Ip as Ips
+use Rattle.ip_wire.specs.Ip.{carried_in}
+use Rattle.ip_wire.specs.IpRepr.{IpRepr}
+use Rattle.ip_wire.specs.IpRepr.TheVariants as Ip
+use Rattle.socket_base.specs.Packet.{PacketValue, PayloadValue, ControlV4, ControlV6, Bytes, Datagram, Segment, payload_written}
+use Rattle.interface_ingress.specs.Carried.{IsCarried}
+use Rattle.interface_ingress.specs.Incoming.{IncomingValue, Arp, Ip4, Ip6}
+use Rattle.interface_ingress.specs.Reassembled.{is_piece}
+use Rattle.interface_ingress.specs.Sent.{CanBeRead, normal_payload}
+use Rattle.interface_delivery.specs.Delivered.{NamesNoPorts}
+use Rattle.interface_delivery.specs.Taken.{IsOffered}
+
+-- it is one of these
+abbrev pub IsIn : List PayloadValue → PayloadValue → Type 0
+IsIn made x = (k : ℕ) × (slice_get made k ≡ Some x)
+
+-- every checksum is written and tested
+abbrev pub sealed : ChecksumCapabilities
+sealed = all_checksums Checksum.Both
+
+module _ (made : PayloadValue → Type 0) where
+  -- a segment or a datagram was made; of anything else nothing is asked
+  abbrev pub WasMade : PayloadValue → Type 0
+  WasMade (Datagram udp bytes) = made (Datagram udp bytes)
+  WasMade (Segment header bytes) = made (Segment header bytes)
+  WasMade (ControlV4 message bytes) = Unit {0}
+  WasMade (ControlV6 message bytes) = Unit {0}
+  WasMade (Bytes bytes) = Unit {0}
+
+  -- whatever a payload behind this header is read as was made
+  abbrev pub HandsMade : IpRepr → List ℕ → Type 0
+  HandsMade ip payload = (x : PayloadValue) → IsCarried sealed ip payload x → WasMade x
+
+  -- what is whole brings what was made
+  abbrev pub BringsMade : Option IncomingValue → Type 0
+  BringsMade None = Unit {0}
+  BringsMade (Some (Arp link packet)) = Unit {0}
+  BringsMade (Some (Ip4 link header piece payload)) = HandsMade (Ip.Ipv4 header) payload
+  BringsMade (Some (Ip6 link header payload)) = HandsMade (Ip.Ipv6 header) payload
+
+  -- A content that brings what was made, and is no piece of a datagram of TCP or UDP
+  abbrev pub IsWholeMade : IncomingValue → Type 0
+  IsWholeMade (Arp link packet) = Unit {0}
+  IsWholeMade (Ip4 link header piece payload) = (is_piece piece ≡ true → NamesNoPorts header.next_header) × HandsMade (Ip.Ipv4 header) payload
+  IsWholeMade (Ip6 link header payload) = HandsMade (Ip.Ipv6 header) payload
+
+  -- A packet that a host sends: its lengths fit, its fields are numbers of their widths, and it carries neither TCP nor UDP, or what the
+  -- host made.
+  pub record IsGoing (p : PacketValue) : Type 0 where
+    pub offered : IsOffered p
+    pub carries : NamesNoPorts (carried_in (Ips.normal p.header)) ⊎ (CanBeRead p.header p.payload × made (normal_payload p.payload))
+
+-- the bytes behind a packet's IP header
+abbrev pub bytes_of : PacketValue → List ℕ
+bytes_of p = payload_written sealed p.header p.payload

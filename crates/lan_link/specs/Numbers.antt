@@ -1,0 +1,28 @@
+-- Every IPv4 packet that a host sent has a number of its own (RFC 6864).
+use Rattle.std.specs.Prelude.{◌≡◌, ◌+◌, ◌%◌, ◌^◌, ◌<◌, ℕ, List, [], ◌∷◌}
+use Rattle.ip_wire.specs.IpRepr.{IpRepr}
+use Rattle.ip_wire.specs.IpRepr.TheVariants as Ip
+use Rattle.socket_base.specs.Packet.{PacketValue}
+
+abbrev pub and_v4 : IpRepr → ℕ → ℕ
+and_v4 (Ip.Ipv4 v) n = n + 1
+and_v4 (Ip.Ipv6 v) n = n
+
+-- how many of these packets are of IPv4
+abbrev pub count_v4 : List PacketValue → ℕ
+count_v4 [] = 0
+count_v4 (p ∷ out) = and_v4 p.header (count_v4 out)
+
+-- a packet of IPv4 takes the next number
+abbrev pub TakesNext : (ℕ → Type 0) → IpRepr → ℕ → Type 0
+TakesNext before (Ip.Ipv4 v) next = before v.ident × (next ≡ (v.ident + 1) % 2 ^ 16)
+TakesNext before (Ip.Ipv6 v) next = before next
+
+-- The packets that a host sent, the newest first, have one number after the other from the first one on; and this is the next.
+abbrev pub AreNumbered : ℕ → List PacketValue → ℕ → Type 0
+AreNumbered first [] next = (next ≡ first) × (first < 2 ^ 16)
+AreNumbered first (p ∷ out) next = TakesNext (AreNumbered first out) p.header next
+
+-- fewer than there are numbers
+abbrev pub AreFew : List PacketValue → Type 0
+AreFew out = count_v4 out < 2 ^ 16
