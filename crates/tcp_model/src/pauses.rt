@@ -1,17 +1,23 @@
 //! Laws of the answers that segments draw which aren't accepted.
 
-ghost use Rattle.std.specs.Prelude.{◌≡◌, ℕ, ℤ, pos, ◌+ℤ◌, Bool, true, List, Option, Some, is_some};
+ghost use Rattle.std.specs.Prelude.{◌≡◌, ◌≤◌, ℕ, ℤ, pos, ◌+ℤ◌, Bool, true, false, List, length, Option, Some, is_some};
 ghost use Rattle.ip_wire.specs.IpRepr.{IpRepr};
 ghost use Rattle.ip_wire.specs.TcpHeader.{TcpHeader};
 ghost use Rattle.ip_wire.specs.TcpTimestampGenerator.{TcpTimestampGenerator};
 ghost use Rattle.socket_base.specs.Context.{ContextValue};
 ghost use Rattle.tcp_model.specs.Answers.{may_draw};
-ghost use Rattle.tcp_model.specs.Arrival.{arrives};
+ghost use Rattle.tcp_control.specs.Controls.{is_rst};
+ghost use Rattle.tcp_control.specs.States.{takes_text};
+ghost use Rattle.tcp_model.specs.Arrival.{arrives, is_void_syn};
 ghost use Rattle.tcp_model.specs.Calls.{send_after, recv_after, close_after, abort_after};
+ghost use Rattle.tcp_model.specs.Checks.Check.{Passes};
+ghost use Rattle.tcp_model.specs.Checks.{acknowledgement_check, is_in_window};
 ghost use Rattle.tcp_model.specs.Pauses.{Happening, IsOneConnection, AreApart, drawn_moments, is_drawing, pause_of};
+ghost use Rattle.tcp_model.specs.Segments.{segment_len};
 ghost use Rattle.tcp_model.specs.Settings.{set_timeout, set_keep_alive, set_congestion_control, with_settings};
 ghost use Rattle.tcp_model.specs.Settled.{settled};
-ghost use Rattle.tcp_model.specs.Value.{TcpValue};
+ghost use Rattle.tcp_model.specs.Value.{TcpValue, queued_in, free_in};
+ghost use Rattle.tcp_model.specs.declared.block.Block.{Block};
 ghost use Rattle.tcp_model.specs.declared.block.CongestionControl.{CongestionControl};
 ghost use Rattle.tcp_model.specs.declared.block.Settings.{Settings};
 
@@ -31,6 +37,15 @@ pub fn a_drawn_answer_begins_a_pause()
 #[tactic(auto, using(crate::proofs::Drawing::drawn_apart))]
 pub fn drawn_answers_are_a_second_apart()
     ensures apart { (v : TcpValue) (run : List Happening) → IsOneConnection v run → AreApart (drawn_moments v run) }
+{}
+
+/// No segment that has length is in a closed window. So one with text that comes where the user reads
+/// nothing, as a probe does, draws an answer.
+pub fn a_closed_window_takes_nothing()
+    ensures outside { (b : Block) (header : TcpHeader) (size : ℕ) → 1 ≤ segment_len header size → is_in_window b 0 header size ≡ false }
+    ensures drawn { (v : TcpValue) (header : TcpHeader) (bytes : List ℕ) (by : ℕ) → takes_text v.block.state ≡ true → free_in v ≡ 0
+        → 1 ≤ segment_len header (length bytes) → is_rst header.control ≡ false → is_void_syn header ≡ false
+        → acknowledgement_check v.block (queued_in v) header ≡ Passes by → is_drawing v header bytes ≡ true }
 {}
 
 /// Of the calls only an OPEN ends the pause.
