@@ -1,0 +1,12 @@
+pub mod Places
+pub mod Nets
+pub mod Offering
+pub mod Turns
+pub mod Replies
+pub mod Arrivals
+pub mod Takings
+pub mod Polls
+pub mod Calls
+pub mod Events
+pub mod PollEvents
+pub mod Worlds

@@ -1,0 +1,4 @@
+pub mod Made
+pub mod Link
+pub mod Follows
+pub mod Joined
