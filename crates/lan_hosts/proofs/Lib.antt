@@ -12,3 +12,7 @@ pub mod Quieting
 pub mod QuietRuns
 pub mod Mapping
 pub mod Outcomes
+pub mod OneRoute
+pub mod OneWorld
+pub mod Harmless
+pub mod SafeWorlds

@@ -24,7 +24,7 @@ among k n is = grind (arith, nat_tests)
 
 -- WHAT IS ALLOWED IS THERE
 
-origin_there : (hosts : Stations) (tables : Tables) (o : Origin) → refusal hosts tables (OfLink (Hands o)) ≡ None → IsThere hosts o
+pub origin_there : (hosts : Stations) (tables : Tables) (o : Origin) → refusal hosts tables (OfLink (Hands o)) ≡ None → IsThere hosts o
 origin_there hosts tables (Delivered from k padding) is =
     among k (length (station hosts from).link.sent) (not_refused (is_no_frame (station hosts from) k) For.NoFrame [] is).0
 origin_there hosts tables (Damaged from k place word padding) is =
@@ -65,7 +65,7 @@ module _ (old new : Stations) (on : (side : Side) → GoesOn (station old side) 
       ap (λ (xs : List (List ℕ)). length xs) (on from).sent ∙ length-append (station old from).link.sent (on from).more in
       omega (arith, longer, below)
 
-  there_still : (o : Origin) → IsThere old o → IsThere new o
+  pub there_still : (o : Origin) → IsThere old o → IsThere new o
   there_still (Delivered from k padding) there = more_sent from k there
   there_still (Damaged from k place word padding) there = more_sent from k there
   there_still (Noisy to bytes) there = tt

@@ -3,3 +3,6 @@ pub mod HostRuns
 pub mod Asked
 pub mod GoesOn
 pub mod Quiet
+pub mod Outcome
+pub mod Damage
+pub mod SafeWorld

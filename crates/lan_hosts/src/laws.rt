@@ -1,11 +1,15 @@
 //! What follows from the definitions, for whoever reasons about worlds.
 ghost use Rattle.std.specs.Prelude.{◌≡◌, ℕ, ℤ, Bool, List};
 ghost use Rattle.lan_net.specs.History.{Entry};
+ghost use Rattle.lan_net.specs.declared.event.Event.{Event};
 ghost use Rattle.lan_net.specs.declared.event.Side.{Side};
-ghost use Rattle.lan_stations.specs.Runs.{Starts, unused_both, WorldRun, counts_of};
+ghost use Rattle.lan_stations.specs.Runs.{Starts, unused_both, WorldValue, WorldRun, counts_of};
 ghost use Rattle.lan_stations.specs.Station.{StationValue, Stations, station};
 ghost use Rattle.lan_stations.specs.Steps.{PollsAt};
 ghost use Rattle.lan_hosts.specs.Asked.{requests, AreApart};
+ghost use Rattle.lan_hosts.specs.Damage.{IsHarmless, BringsNoSegment, WasHarmless, HaveWords, DamageIsHarmless};
+ghost use Rattle.lan_hosts.specs.Outcome.{SoundSteps};
+ghost use Rattle.net_base.specs.Medium.{Medium};
 ghost use Rattle.lan_hosts.specs.GoesOn.{GoesOn};
 ghost use Rattle.lan_hosts.specs.HostRuns.{IsHostRun};
 ghost use Rattle.lan_hosts.specs.Machine.{Turn, Machine, HostRun};
@@ -55,3 +59,22 @@ pub fn polls_have_one_end()
 {
     one_offer();
 }
+
+/// Law: a list of events leads from one world to one world. The routes' blocks have addresses of as many bytes as their family has,
+/// as in every host.
+pub fn one_outcome()
+    ensures { (old one other : WorldValue) (events : List Event)
+        → SoundSteps old events one
+        → SoundSteps old events other
+        → one ≡ other }
+{
+    one_offer();
+}
+
+/// Law: a frame in which a host of its medium reads nothing but a packet of TCP that is no segment does no harm, whenever and by
+/// whichever host it is taken. What did none as it was handed over does none ever after.
+pub fn damage_is_harmless()
+    ensures frame { (medium : Medium) (frame : List ℕ) → BringsNoSegment medium frame → IsHarmless medium frame }
+    ensures history { (from : Stations) → WasHarmless from
+        → (history : List Entry) (to : Stations) → HaveWords history → WorldRun history from to → DamageIsHarmless to history }
+{}
