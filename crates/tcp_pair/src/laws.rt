@@ -1,6 +1,6 @@
 //! What holds of two sockets after every list of events.
 
-ghost use Rattle.std.specs.Prelude.{◌≡◌, List, None};
+ghost use Rattle.std.specs.Prelude.{◌≡◌, ◌++◌, List, None};
 ghost use Rattle.tcp_model.specs.Value.{TcpValue};
 ghost use Rattle.tcp.specs.Promises.{IsFresh};
 ghost use Rattle.tcp_pair.specs.declared.event.PairEvent.{PairEvent};
@@ -27,4 +27,13 @@ pub fn kept_pairs_are_safe()
 pub fn pairs_are_safe()
     ensures safe { (a b : TcpValue) (events : List PairEvent) (p : PairValue) → IsFresh a → IsFresh b
         → Steps (new_pair a b) events p → IsSafe p }
+{}
+
+/// A list of events has one outcome. And it may be taken in pieces: so a run that was refused for want of memory, and taken up
+/// again at the event that was refused, ends as the whole run does.
+#[tactic(auto, using(crate::proofs::OutcomeLaws::one_outcome, crate::proofs::OutcomeLaws::goes_on))]
+pub fn events_have_one_outcome()
+    ensures one { (old p q : PairValue) (events : List PairEvent) → Steps old events p → Steps old events q → p ≡ q }
+    ensures pieces { (old middle new : PairValue) (events more : List PairEvent) → Steps old events middle → Steps middle more new
+        → Steps old (events ++ more) new }
 {}

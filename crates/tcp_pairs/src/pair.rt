@@ -72,7 +72,8 @@ impl Pair {
 
     /// Why the pair doesn't take an event, but for want of memory.
     fn refusal(&self, event: &PairEvent) -> Option<PairRefused>
-        ensures { result ≡ refusal self.now event.now }
+        ensures value { result ≡ refusal self.now event.now }
+        ensures kept { IsKept self.now }
     {
         end_at(&self.a, &self.b, named_by(event)).refusal(event)
     }
@@ -90,7 +91,6 @@ impl Pair {
         ensures kept { IsKept self.new }
         ensures safe { IsSafe self.new }
     {
-        let _ = &self.answers;
         match self.refusal(&event) {
             Some(refused) => Err(refused),
             None => self.take(event).map_err(|_| PairRefused::Memory),
@@ -123,6 +123,7 @@ impl Pair {
         ensures kept { IsKept self.new }
         ensures safe { IsSafe self.new }
     {
+        // The use of a field tells what is always true of a pair: the loop begins with it.
         let _ = &self.answers;
         let mut place = 0;
         for event in events {
