@@ -1,18 +1,15 @@
 -- A frame that brings a damaged segment alone does no harm, and damage stays harmless.
-use Rattle.std.proofs.Common.{◌≡◌, ℕ, Bool, true, false, if◌then◌else◌, List, [], ◌∷◌, Option, None, Some, refl, sym, ap, ◌∙◌, subst}
-use Rattle.std.specs.List.{AllByRecursion}
-use Rattle.ip_wire.specs.IpRepr.TheVariants as Ip
+use Rattle.std.proofs.Common.{◌≡◌, ℕ, Bool, true, false, if◌then◌else◌, List, [], ◌∷◌, Option, None, Some, refl, sym, ap, subst}
 use Rattle.ip_wire.specs.Ipv4Piece.{Ipv4Piece}
 use Rattle.ip_wire.specs.Ipv4Repr.{Ipv4Repr}
 use Rattle.ip_wire.specs.declared.ethernet.repr.EthernetRepr.{EthernetRepr}
 use Rattle.interface_ingress.proofs.Kept.{brings_damaged_v4, brings_damaged_v6}
-use Rattle.interface_ingress.specs.Arrives.{Arrived, ArrivesAs, Arrives, Brings, IsSilent, whole_after}
+use Rattle.interface_ingress.specs.Arrives.{Arrived, Brings, whole_after}
 use Rattle.interface_ingress.specs.Delivered.{Places}
 use Rattle.interface_ingress.specs.Incoming.{IncomingValue, Arp, Ip4, Ip6, IsIncoming, IsContent}
-use Rattle.interface_ingress.specs.Kept.{with_ports, IsDamaged}
+use Rattle.interface_ingress.specs.Kept.{with_ports}
 use Rattle.interface_ingress.specs.Reassembled.{Slots, uncut, is_taken_in, taken_in, kept, place_in, whole_of}
 use Rattle.interface_tables.specs.Inner.{InnerValue}
-use Rattle.interface_tables.specs.Settings.{is_of_medium}
 use Rattle.lan_net.specs.History.{Entry}
 use Rattle.lan_net.specs.Kinds.{Kind, Origin, Delivered, Damaged, Noisy, kind_of}
 use Rattle.lan_net.specs.Kinds.Kind.{OfHost, OfLink}
@@ -20,10 +17,8 @@ use Rattle.lan_net.specs.Kinds.LinkAct.{Hands, Cuts}
 use Rattle.lan_net.specs.declared.event.Side.{Side}
 use Rattle.lan_stations.specs.Origins.{medium_of, frame_of_origin}
 use Rattle.lan_stations.specs.Refusals.{Tables, refusal}
-use Rattle.lan_stations.specs.Runs.{Leads, WorldRun, tables_in}
+use Rattle.lan_stations.specs.Runs.{WorldRun, tables_in}
 use Rattle.lan_stations.specs.Station.{Stations, station}
-use Rattle.net_base.specs.Capabilities.{all_checksums}
-use Rattle.net_base.specs.Checksum.TheVariants.{Both}
 use Rattle.net_base.specs.ChecksumCapabilities.{ChecksumCapabilities}
 use Rattle.net_base.specs.Medium.{Medium}
 use Rattle.lan_hosts.specs.Damage.{IsHarmless, IsHarmlessFrom, IsHarmlessBy, DamageIsHarmless, WasHarmless, HaveWords, IsNoSegment, BringsNoSegment}

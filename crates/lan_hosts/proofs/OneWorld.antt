@@ -1,7 +1,6 @@
 -- Events lead from one world to one world.
-use Rattle.std.proofs.Common.{◌≡◌, ℕ, ℤ, Bool, true, false, List, [], ◌∷◌, Option, None, Some, refl, sym, ap, ◌∙◌, subst}
+use Rattle.std.proofs.Common.{◌≡◌, ℕ, Bool, List, [], ◌∷◌, Option, None, Some, sym, ap, ◌∙◌, subst}
 use Rattle.std.specs.Prelude.{slice_get}
-use Rattle.std.specs.List.{AllByRecursion}
 use Rattle.interface.specs.Host.{HostValue}
 use Rattle.interface_egress.specs.declared.socket_set.Item.{Item}
 use Rattle.interface_egress.specs.declared.socket_set.SocketStorage.{SocketStorage}
@@ -11,7 +10,7 @@ use Rattle.interface_tables.specs.Settings.{with_routes}
 use Rattle.interface_tables.specs.declared.route.Route.{Route}
 use Rattle.interface_laws.proofs.OneEnd.{OneOffer}
 use Rattle.lan_net.specs.Call.{SocketCall}
-use Rattle.lan_net.specs.History.{Entry, Counts}
+use Rattle.lan_net.specs.History.{Entry}
 use Rattle.lan_net.specs.Kinds.{Act, Kind, Setting, kind_of}
 use Rattle.lan_net.specs.Kinds as Set
 use Rattle.lan_net.specs.Kinds.Act.{Calls, Sets, Opens, Asks, Polls}
@@ -25,7 +24,7 @@ use Rattle.lan_packets.specs.Calls.{Did}
 use Rattle.lan_stations.specs.Does.{does, DidAt, ItemDoes, PlaceDoes, Does}
 use Rattle.lan_stations.specs.Runs.{WorldValue, Step}
 use Rattle.lan_stations.specs.Sets.{SetsTo, Configures, has_route_room}
-use Rattle.lan_stations.specs.Station.{StationValue, Stations, station}
+use Rattle.lan_stations.specs.Station.{StationValue, Stations}
 use Rattle.lan_stations.specs.Steps.{Acts, ActsAt, Happens}
 use Rattle.sockets.specs.declared.socket.Socket.{Socket}
 use Rattle.tcp_model.specs.State.{State}

@@ -4,11 +4,10 @@ use Rattle.interface.proofs.QuietTurn.{DueAsBefore}
 use Rattle.lan_net.specs.History.{Entry}
 use Rattle.lan_net.specs.declared.event.Side.TheVariants.{A, B}
 use Rattle.lan_packets.specs.Safe.{IsSafe}
-use Rattle.lan_stations.specs.Runs.{Starts, start, unused, unused_both, WorldValue, WorldRun, counts_of}
+use Rattle.lan_stations.specs.Runs.{Starts, unused, unused_both, WorldValue, WorldRun, counts_of}
 use Rattle.lan_stations.specs.Safe.{first_port, net_of}
-use Rattle.lan_stations.specs.Station.{Stations, station}
+use Rattle.lan_stations.specs.Station.{Stations}
 use Rattle.lan_hosts.specs.Damage.{WasHarmless, HaveWords}
-use Rattle.lan_hosts.specs.HostRuns.{IsHostRun}
 use Rattle.lan_hosts.specs.Machine.{machine_of}
 use Rattle.lan_hosts.specs.SafeWorld.{IsSafeWorld}
 use Rattle.lan_hosts.proofs.Asking.{run_apart}

@@ -1,5 +1,5 @@
 -- A damaged frame does no harm, whenever it is taken.
-use Rattle.std.specs.Prelude.{◌≡◌, ◌<◌, ◌^◌, ℕ, true, List, [], ◌∷◌, Option, None}
+use Rattle.std.specs.Prelude.{◌≡◌, ◌<◌, ◌^◌, ℕ, true, List, [], ◌∷◌, None}
 use Rattle.ip_wire.specs.HardwareAddress.{HardwareAddress}
 use Rattle.ip_wire.specs.IpRepr.TheVariants as Ip
 use Rattle.interface_ingress.specs.Arrives.{Arrived, Arrives}
@@ -10,9 +10,9 @@ use Rattle.interface_ingress.specs.Reassembled.{Slots, uncut}
 use Rattle.interface_tables.specs.Inner.{InnerValue}
 use Rattle.interface_tables.specs.Settings.{is_of_medium}
 use Rattle.lan_net.specs.History.{Entry}
-use Rattle.lan_net.specs.Kinds.{Kind, Origin, Delivered, Damaged, Noisy, kind_of}
-use Rattle.lan_net.specs.Kinds.Kind.{OfHost, OfLink}
-use Rattle.lan_net.specs.Kinds.LinkAct.{Hands, Cuts}
+use Rattle.lan_net.specs.Kinds.{Kind, Origin, Damaged, kind_of}
+use Rattle.lan_net.specs.Kinds.Kind.{OfLink}
+use Rattle.lan_net.specs.Kinds.LinkAct.{Hands}
 use Rattle.lan_stations.specs.Origins.{medium_of, frame_of_origin}
 use Rattle.lan_stations.specs.Runs.{Leads, WorldRun}
 use Rattle.lan_stations.specs.Station.{Stations, station}
