@@ -1,14 +1,14 @@
 //! Two sockets, and events with their answers as lines of a table.
 ghost use Rattle.std.specs.Prelude.{IfOk};
 ghost use Rattle.tcp.specs.Promises.{IsFresh};
+ghost use Rattle.tcp_socket.specs.Receive.{FitsBuffer};
 
-use ip_wire::{IpAddress, IpEndpoint, IpListenEndpoint};
+use ip_wire::{IpAddress, IpEndpoint, IpListenEndpoint, SeqNumber};
 use net_base::{Instant, ManagedSlice, RingBuffer};
-use std::alloc::{AllocError, AllocGlobal, Global};
-use std::process::Abort;
+use std::alloc::{AllocError, Global};
 use std::test::Fail;
 use tcp_pairs::{Bytes, Pair, PairAnswer, PairEvent, PairRefused, Side, TcpFault, TcpSetting};
-use tcp_socket::{Socket, State};
+use tcp_socket::{Socket, SocketBuffer, State};
 
 /// An event whose bytes are text.
 #[derive(Clone, Copy)]
@@ -44,22 +44,57 @@ pub enum Line {
     Step(Do, Says),
     /// The sockets, A and B, are in these states.
     In(State, State),
+    /// The side has sent so many segments.
+    Sent(Side, usize),
+    /// The side's segment of this place has this number.
+    Numbered(Side, usize, SeqNumber),
+    /// The side has this hop limit.
+    Limit(Side, Option<u8>),
 }
 
-/// A closed socket with buffers of these sizes.
-pub fn socket(rt: &(impl Abort + AllocGlobal), rx: usize, tx: usize) -> Result<Socket, Fail>
+/// How a run ends.
+pub type End = Result<(), (usize, PairRefused)>;
+
+/// Says that an allocation was refused: `tools/try-without-memory`, which has each one refused in turn, looks for it.
+fn tell(rt: &HostRuntime, what: &str) -> Result<(), Fail> {
+    println!(rt; "no memory: {what}")?;
+    Ok(())
+}
+
+fn made_buffer(alloc: Global) -> Result<SocketBuffer, AllocError>
+    ensures { IfOk result FitsBuffer }
+{
+    let room = vec![in alloc; 0u8; 64]?;
+    Ok(RingBuffer::new(ManagedSlice::Owned(room)))
+}
+
+/// A buffer with room for 64 bytes.
+fn buffer(rt: &HostRuntime) -> Result<SocketBuffer, Fail>
+    ensures { IfOk result FitsBuffer }
+{
+    match made_buffer(rt.alloc()) {
+        Ok(buffer) => Ok(buffer),
+        Err(_) => {
+            tell(rt, "a buffer is made again")?;
+            Ok(made_buffer(rt.alloc())?)
+        }
+    }
+}
+
+/// A closed socket with room for 64 bytes each way.
+pub fn socket(rt: &HostRuntime) -> Result<Socket, Fail>
     ensures { IfOk result IsFresh }
 {
-    let rx = RingBuffer::new(ManagedSlice::Owned(vec![in rt.alloc(); 0u8; rx]?));
-    let tx = RingBuffer::new(ManagedSlice::Owned(vec![in rt.alloc(); 0u8; tx]?));
-    assert!(rt; Socket::fits_buffer(&rx));
-    assert!(rt; Socket::fits_buffer(&tx));
-    Ok(Socket::new(rx, tx))
+    let received = buffer(rt)?;
+    let queued = buffer(rt)?;
+    Ok(Socket::new(received, queued))
 }
 
-/// Two sockets with room for 64 bytes each way.
-pub fn pair(rt: &(impl Abort + AllocGlobal)) -> Result<Pair, Fail> {
-    Ok(Pair::new(rt.alloc(), socket(rt, 64, 64)?, socket(rt, 64, 64)?))
+/// Two such sockets.
+fn pair(rt: &HostRuntime) -> Result<Pair, Fail> {
+    let a = socket(rt)?;
+    let b = socket(rt)?;
+    Ok(Pair::new(rt.alloc(), a, b))
 }
 
 fn address_of(side: Side) -> IpAddress {
@@ -103,11 +138,14 @@ fn made(alloc: Global, todo: &Do) -> Result<PairEvent, AllocError> {
     })
 }
 
-/// The event; made again where the one allocation that was made to fail is its own.
-fn event(alloc: Global, todo: &Do) -> Result<PairEvent, AllocError> {
-    match made(alloc, todo) {
+/// The event; made again where the allocation that is refused is its own.
+fn event(rt: &HostRuntime, todo: &Do) -> Result<PairEvent, Fail> {
+    match made(rt.alloc(), todo) {
         Ok(event) => Ok(event),
-        Err(_) => made(alloc, todo),
+        Err(_) => {
+            tell(rt, "an event is made again")?;
+            Ok(made(rt.alloc(), todo)?)
+        }
     }
 }
 
@@ -122,14 +160,16 @@ fn is_answer(answer: &PairAnswer, want: &Says) -> bool {
     }
 }
 
-fn is_as_wanted(outcome: &Result<PairAnswer, PairRefused>, want: &Says) -> bool {
-    match (outcome, want) {
-        (Ok(answer), want) => is_answer(answer, want),
-        (Err(refused), Says::Refused(wanted)) => *refused == *wanted,
-        _ => false,
-    }
+/// How an event was answered.
+#[derive(Clone, Copy, PartialEq, Eq)]
+enum Met {
+    AsWanted,
+    /// Refused for want of memory: nothing has changed.
+    NoMemory,
+    Otherwise,
 }
 
+/// How many answers there are, and segments of each side.
 fn counts(pair: &Pair) -> (usize, usize, usize) {
     (
         pair.answers().len(),
@@ -138,9 +178,86 @@ fn counts(pair: &Pair) -> (usize, usize, usize) {
     )
 }
 
-/// Whether the answers so far are those of these steps.
-pub fn answered(pair: &Pair, lines: &[Line]) -> bool {
-    let mut all = pair.answers().len() == lines.len();
+/// Takes the event. A refused one has changed nothing.
+fn step(pair: &mut Pair, event: PairEvent, want: &Says) -> Met {
+    let before = counts(pair);
+    match (pair.step(event), want) {
+        (Ok(answer), want) if is_answer(&answer, want) => Met::AsWanted,
+        (Ok(_), _) => Met::Otherwise,
+        (Err(_), _) if counts(pair) != before => Met::Otherwise,
+        (Err(PairRefused::Memory), _) => Met::NoMemory,
+        (Err(refused), Says::Refused(wanted)) if refused == *wanted => Met::AsWanted,
+        (Err(_), _) => Met::Otherwise,
+    }
+}
+
+/// Takes the event once more, now that there is memory: it is answered as it would have been.
+fn step_again(rt: &HostRuntime, pair: &mut Pair, todo: &Do, want: &Says) -> Result<bool, Fail> {
+    tell(rt, "a step is taken again")?;
+    let event = event(rt, todo)?;
+    Ok(step(pair, event, want) == Met::AsWanted)
+}
+
+fn steps_so(rt: &HostRuntime, pair: &mut Pair, todo: &Do, want: &Says) -> Result<bool, Fail> {
+    let event = event(rt, todo)?;
+    match step(pair, event, want) {
+        Met::AsWanted => Ok(true),
+        Met::Otherwise => Ok(false),
+        Met::NoMemory => step_again(rt, pair, todo, want),
+    }
+}
+
+fn number_of(pair: &Pair, side: Side, k: usize) -> Option<SeqNumber> {
+    Some(pair.sent(side).get(k)?.segment.seq_number)
+}
+
+fn holds(rt: &HostRuntime, pair: &mut Pair, line: &Line) -> Result<bool, Fail> {
+    match line {
+        Line::Step(todo, want) => steps_so(rt, pair, todo, want),
+        Line::In(a, b) => {
+            Ok(pair.socket(Side::A).state() == *a && pair.socket(Side::B).state() == *b)
+        }
+        Line::Sent(side, count) => Ok(pair.sent(*side).len() == *count),
+        Line::Numbered(side, k, number) => Ok(number_of(pair, *side, *k) == Some(*number)),
+        Line::Limit(side, limit) => Ok(pair.socket(*side).hop_limit() == *limit),
+    }
+}
+
+/// The lines of these tables, one after the other, of two fresh sockets: the place of the first that doesn't hold.
+pub fn first_wrong(rt: &HostRuntime, first: &[Line], then: &[Line]) -> Result<Option<usize>, Fail> {
+    let mut pair = pair(rt)?;
+    for (place, line) in first.iter().chain(then.iter()).enumerate() {
+        if !holds(rt, &mut pair, line)? {
+            return Ok(Some(place));
+        }
+    }
+    Ok(None)
+}
+
+fn all_made(alloc: Global, lines: &[Line]) -> Result<Vec<PairEvent>, AllocError> {
+    let mut events = Vec::with_capacity(alloc, lines.len())?;
+    for line in lines {
+        if let Line::Step(todo, _) = line {
+            events.push(made(alloc, todo)?)?;
+        }
+    }
+    Ok(events)
+}
+
+/// The events of these lines; made again where the allocation that is refused is their own.
+fn events(rt: &HostRuntime, lines: &[Line]) -> Result<Vec<PairEvent>, Fail> {
+    match all_made(rt.alloc(), lines) {
+        Ok(events) => Ok(events),
+        Err(_) => {
+            tell(rt, "events are made again")?;
+            Ok(all_made(rt.alloc(), lines)?)
+        }
+    }
+}
+
+/// Whether there are so many answers, which are those of these lines.
+fn are_answered(pair: &Pair, lines: &[Line], count: usize) -> bool {
+    let mut all = pair.answers().len() == count;
     for (answer, line) in pair.answers().iter().zip(lines.iter()) {
         if let Line::Step(_, want) = line {
             all = all && is_answer(answer, want);
@@ -149,77 +266,33 @@ pub fn answered(pair: &Pair, lines: &[Line]) -> bool {
     all
 }
 
-fn are_in(pair: &Pair, a: State, b: State) -> bool {
-    pair.socket(Side::A).state() == a && pair.socket(Side::B).state() == b
+/// The events from this place on, as one run.
+fn run_from(rt: &HostRuntime, pair: &mut Pair, lines: &[Line], place: usize) -> Result<End, Fail> {
+    let events = events(rt, lines.get(place..).unwrap_or(&[]))?;
+    Ok(
+        pair.run(events)
+            .map_err(|(more, refused)| (place.saturating_add(more), refused)),
+    )
 }
 
-/// Takes the event, and takes it again where the one allocation that was made to fail is its own: then nothing has
-/// changed.
-fn step(
-    rt: &(impl Abort + AllocGlobal),
-    pair: &mut Pair,
-    todo: &Do,
-) -> Result<Result<PairAnswer, PairRefused>, AllocError> {
-    let before = counts(pair);
-    match pair.step(event(rt.alloc(), todo)?) {
-        Err(PairRefused::Memory) => {
-            assert!(rt; counts(pair) == before);
-            Ok(pair.step(event(rt.alloc(), todo)?))
-        }
-        outcome => Ok(outcome),
-    }
-}
-
-/// Takes the events one by one. Each is answered so, and a refused one changes nothing.
-pub fn play(rt: &(impl Abort + AllocGlobal), pair: &mut Pair, lines: &[Line]) -> Result<(), Fail> {
-    for (place, line) in lines.iter().enumerate() {
-        let held = match line {
-            Line::Step(todo, want) => {
-                let before = counts(pair);
-                let outcome = step(rt, pair, todo)?;
-                is_as_wanted(&outcome, want) && (outcome.is_ok() || counts(pair) == before)
-            }
-            Line::In(a, b) => are_in(pair, *a, *b),
-        };
-        assert!(rt; held, "line {place} of {}", lines.len());
-    }
-    Ok(())
-}
-
-/// Takes the events as one run, and the rest again where the one allocation that was made to fail is in it: then the
-/// steps before it stay.
-pub fn run(
-    rt: &(impl Abort + AllocGlobal),
-    pair: &mut Pair,
-    lines: &[Line],
-) -> Result<Result<(), (usize, PairRefused)>, Fail> {
-    let first = pair.answers().len();
-    match pair.run(events(rt.alloc(), lines)?) {
+/// Takes the events as one run, and goes on behind the steps that stay where one is refused for want of memory.
+fn run_all(rt: &HostRuntime, pair: &mut Pair, lines: &[Line]) -> Result<End, Fail> {
+    match run_from(rt, pair, lines, 0)? {
         Err((place, PairRefused::Memory)) => {
-            assert!(rt; pair.answers().len() == first.saturating_add(place) && place < lines.len());
-            let rest = events(rt.alloc(), &lines[place..])?;
-            Ok(
-                pair.run(rest)
-                    .map_err(|(more, refused)| (place.saturating_add(more), refused)),
-            )
+            tell(rt, "a run goes on")?;
+            run_from(rt, pair, lines, place)
         }
-        outcome => Ok(outcome),
+        end => Ok(end),
     }
 }
 
-fn all(alloc: Global, lines: &[Line]) -> Result<Vec<PairEvent>, AllocError> {
-    let mut events = Vec::with_capacity(alloc, lines.len())?;
-    for line in lines {
-        if let Line::Step(todo, _) = line {
-            events.push(event(alloc, todo)?)?;
-        }
-    }
-    Ok(events)
-}
-
-fn events(alloc: Global, lines: &[Line]) -> Result<Vec<PairEvent>, AllocError> {
-    match all(alloc, lines) {
-        Ok(events) => Ok(events),
-        Err(_) => all(alloc, lines),
-    }
+/// Whether the events, as one run of two fresh sockets, end so, and each that is taken is answered so.
+pub fn runs_so(rt: &HostRuntime, lines: &[Line], end: End) -> Result<bool, Fail> {
+    let mut pair = pair(rt)?;
+    let ended = run_all(rt, &mut pair, lines)?;
+    let taken = match end {
+        Ok(()) => lines.len(),
+        Err((place, _)) => place,
+    };
+    Ok(ended == end && are_answered(&pair, lines, taken))
 }

@@ -1,5 +1,5 @@
-//! Tests of two TCP sockets over whatever lies between, by public calls. Each passes also where one allocation is made to fail
-//! (`rt try --test --fail-alloc N`), once its sockets are made.
+//! Tests of two TCP sockets over whatever lies between, by public calls. Each passes also where one allocation is refused,
+//! whichever it is, and then says so (`tools/try-without-memory` tries all of them).
 #![tactic(auto)]
 
 #[cfg(test)]

@@ -1,13 +1,14 @@
 //! A listener that falls back, and two sockets that call each other.
-use crate::common::Line::{In, Step};
-use crate::common::{Do, Line, Says, pair, play};
+use crate::common::Line::{In, Numbered, Sent, Step};
+use crate::common::{Do, Line, Says, first_wrong};
 use ip_wire::SeqNumber;
 use std::test::Fail;
-use tcp_pairs::{Pair, Side, TcpFault};
+use tcp_pairs::{Side, TcpFault};
 use tcp_socket::State;
 
 /// A reset takes the listener back, and an old SYN opens it again. The one that called is closed, so nothing comes of it.
-const FELL_BACK: [Line; 15] = [
+/// The first numbers are the first two words of the listener's generator.
+const FELL_BACK: [Line; 18] = [
     Step(Do::Listen(Side::B, 80), Says::Done),
     Step(Do::Connect(Side::A, 80, 49500), Says::Done),
     Step(Do::Offer(Side::A, 0), Says::Done),
@@ -23,6 +24,9 @@ const FELL_BACK: [Line; 15] = [
     Step(Do::Deliver(Side::B, 1), Says::Done),
     Step(Do::Recv(Side::B, 8), Says::Error(TcpFault::InvalidState)),
     In(State::Closed, State::SynReceived),
+    Sent(Side::B, 2),
+    Numbered(Side::B, 0, SeqNumber(2_541_647_419)),
+    Numbered(Side::B, 1, SeqNumber(3_377_040_402)),
 ];
 
 /// Two SYNs cross, and go again with an acknowledgement a second later, which is answered; then bytes go each way.
@@ -53,27 +57,16 @@ const CROSSED: [Line; 24] = [
     Step(Do::Recv(Side::A, 8), Says::Error(TcpFault::Finished)),
 ];
 
-/// Whether this is the number of B's segment k.
-fn has_number(pair: &Pair, k: usize, number: SeqNumber) -> bool {
-    match pair.sent(Side::B).get(k) {
-        Some(x) => x.segment.seq_number == number,
-        None => false,
-    }
-}
-
-/// The first numbers are the first two words of the listener's generator.
 #[test]
 fn a_listener_that_fell_back_takes_an_old_syn(rt: HostRuntime) -> Result<(), Fail> {
-    let mut pair = pair(&rt)?;
-    play(&rt, &mut pair, &FELL_BACK)?;
-    let first = has_number(&pair, 0, SeqNumber(2_541_647_419));
-    let second = has_number(&pair, 1, SeqNumber(3_377_040_402));
-    assert!(rt; first && second && pair.sent(Side::B).len() == 2);
+    let wrong = first_wrong(&rt, &FELL_BACK, &[])?;
+    assert_eq!(rt; wrong, None);
     Ok(())
 }
 
 #[test]
 fn both_call(rt: HostRuntime) -> Result<(), Fail> {
-    let mut pair = pair(&rt)?;
-    play(&rt, &mut pair, &CROSSED)
+    let wrong = first_wrong(&rt, &CROSSED, &[])?;
+    assert_eq!(rt; wrong, None);
+    Ok(())
 }

@@ -1,6 +1,6 @@
 //! Transfers, event by event and as one run.
-use crate::common::Line::{In, Step};
-use crate::common::{Do, Line, Says, answered, pair, play, run};
+use crate::common::Line::{In, Limit, Step};
+use crate::common::{Do, Line, Says, first_wrong, runs_so};
 use std::test::Fail;
 use tcp_pairs::{PairRefused, Side, TcpFault, TcpSetting};
 use tcp_socket::State;
@@ -52,7 +52,10 @@ const CLOSED: [Line; 19] = [
 ];
 
 const CUT_SHORT: [Line; 3] = [
-    Step(Do::Send(Side::B, "xyz"), Says::Count(3)),
+    Step(
+        Do::Send(Side::B, "xyz"),
+        Says::Error(TcpFault::InvalidState),
+    ),
     Step(
         Do::Deliver(Side::B, 7),
         Says::Refused(PairRefused::NoSegment),
@@ -60,7 +63,7 @@ const CUT_SHORT: [Line; 3] = [
     Step(Do::Close(Side::A), Says::Done),
 ];
 
-const REFUSALS: [Line; 14] = [
+const REFUSALS: [Line; 17] = [
     Step(
         Do::Deliver(Side::B, 0),
         Says::Refused(PairRefused::NoSegment),
@@ -90,39 +93,35 @@ const REFUSALS: [Line; 14] = [
     ),
     Step(Do::Unsent(Side::A, 1 << 61), Says::Done),
     Step(Do::Set(Side::A, TcpSetting::HopLimit(Some(9))), Says::Done),
+    Limit(Side::A, Some(9)),
+    Step(Do::Set(Side::A, TcpSetting::HopLimit(Some(0))), Says::Done),
+    Limit(Side::A, None),
 ];
-
-const NO_LIMIT: [Line; 1] = [Step(Do::Set(Side::A, TcpSetting::HopLimit(Some(0))), Says::Done)];
 
 #[test]
 fn bytes_are_read_once_and_to_the_end(rt: HostRuntime) -> Result<(), Fail> {
-    let mut pair = pair(&rt)?;
-    play(&rt, &mut pair, &OPENED)?;
-    play(&rt, &mut pair, &CLOSED)
+    let wrong = first_wrong(&rt, &OPENED, &CLOSED)?;
+    assert_eq!(rt; wrong, None);
+    Ok(())
 }
 
 #[test]
 fn one_run_does_the_same(rt: HostRuntime) -> Result<(), Fail> {
-    let mut pair = pair(&rt)?;
-    let outcome = run(&rt, &mut pair, &OPENED)?;
-    assert!(rt; outcome.is_ok() && answered(&pair, &OPENED));
+    let runs = runs_so(&rt, &OPENED, Ok(()))?;
+    assert!(rt; runs);
     Ok(())
 }
 
 #[test]
 fn a_run_stops_at_the_first_refusal(rt: HostRuntime) -> Result<(), Fail> {
-    let mut pair = pair(&rt)?;
-    let outcome = run(&rt, &mut pair, &CUT_SHORT)?;
-    assert!(rt; outcome == Err((1, PairRefused::NoSegment)) && pair.answers().len() == 1);
+    let runs = runs_so(&rt, &CUT_SHORT, Err((1, PairRefused::NoSegment)))?;
+    assert!(rt; runs);
     Ok(())
 }
 
 #[test]
 fn refusals_come_where_they_are_due(rt: HostRuntime) -> Result<(), Fail> {
-    let mut pair = pair(&rt)?;
-    play(&rt, &mut pair, &REFUSALS)?;
-    let limit = pair.socket(Side::A).hop_limit();
-    play(&rt, &mut pair, &NO_LIMIT)?;
-    assert!(rt; limit == Some(9) && pair.socket(Side::A).hop_limit() == None);
+    let wrong = first_wrong(&rt, &REFUSALS, &[])?;
+    assert_eq!(rt; wrong, None);
     Ok(())
 }

@@ -96,19 +96,24 @@ fn goes(a: &mut Socket, b: &mut Socket, cx: &mut Echoes, text: &[u8], number: u3
     taken && sent == Some(SeqNumber(number)) && a.send_queue() == 0
 }
 
+/// Nine bytes go in three segments, and B reads them.
+fn passes_the_last_number(a: &mut Socket, b: &mut Socket, cx: &mut Echoes) -> bool {
+    b.set_ack_delay(None);
+    opens(a, b, cx)
+        && goes(a, b, cx, b"abc", 4_294_967_294)
+        && goes(a, b, cx, b"def", 1)
+        && goes(a, b, cx, b"ghi", 4)
+        && b.peek(16) == Ok(b"abcdefghi".as_slice())
+}
+
 #[test]
 fn numbers_pass_the_last_one(rt: HostRuntime) -> Result<(), Fail> {
+    let mut a = socket(&rt)?;
+    let mut b = socket(&rt)?;
     let mut cx = Echoes {
         words: Rand::new(2_434_857_238_886_488_115),
     };
-    let mut a = socket(&rt, 64, 64)?;
-    let mut b = socket(&rt, 64, 64)?;
-    b.set_ack_delay(None);
-    let opened = opens(&mut a, &mut b, &mut cx);
-    let first = goes(&mut a, &mut b, &mut cx, b"abc", 4_294_967_294);
-    let second = goes(&mut a, &mut b, &mut cx, b"def", 1);
-    let third = goes(&mut a, &mut b, &mut cx, b"ghi", 4);
-    let read = b.peek(16) == Ok(b"abcdefghi".as_slice());
-    assert!(rt; opened && first && second && third && read);
+    let passes = passes_the_last_number(&mut a, &mut b, &mut cx);
+    assert!(rt; passes);
     Ok(())
 }
