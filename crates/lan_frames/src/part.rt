@@ -43,8 +43,8 @@ pub fn tcp_part(medium: Medium, frame: &[u8]) -> Option<Part>
     }
 }
 
-// The packet that a frame carries; none where the frame has no room for its own header.
-pub(crate) fn packet_in(medium: Medium, frame: &[u8]) -> &[u8]
+/// The packet that a frame carries; none where the frame has no room for its own header.
+pub fn packet_in(medium: Medium, frame: &[u8]) -> &[u8]
     ensures { result.now ≡ packet_in medium frame.now }
 {
     let header = match medium {

@@ -107,6 +107,19 @@ impl Port {
         Ok(())
     }
 
+    /// The link puts two frames behind the sent ones, whatever the room. There may be no memory for their places; then both are lost
+    /// and nothing else changes.
+    pub fn add_both(&mut self, first: Vec<u8>, second: Vec<u8>) -> Result<(), AllocError>
+        ensures ok { OnOk result
+            (self.new ≡ record self.old { link = added (added self.old.link first.items) second.items }) }
+        ensures err { OnErr result (self.new ≡ self.old) }
+    {
+        self.outgoing.reserve(self.spare.len() + 2)?;
+        keep(&mut self.outgoing, first);
+        keep(&mut self.outgoing, second);
+        Ok(())
+    }
+
     /// How many frames more the port takes.
     pub fn room(&self) -> usize
         ensures { result ≡ self.now.link.room }

@@ -1,1 +1,11 @@
 pub mod Routing
+pub mod Following
+pub mod Allowed
+pub mod Replies
+pub mod Ready
+pub mod Growing
+pub mod Counting
+pub mod Setting
+pub mod Called
+pub mod Refused
+pub mod Linked

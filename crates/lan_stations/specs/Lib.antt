@@ -1,10 +1,14 @@
 pub mod Station
 pub mod Does
 pub mod Answers
+pub mod Calling
 pub mod Sets
 pub mod Origins
 pub mod Refusals
 pub mod Steps
+pub mod Linking
+pub mod Acting
+pub mod Records
 pub mod Runs
 pub mod Fresh
 pub mod Safe

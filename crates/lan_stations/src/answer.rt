@@ -1,8 +1,8 @@
 //! What calls answer, as answers of a world.
-ghost use Rattle.std.specs.Prelude.{◌≡◌, ◌≢◌, Some};
+ghost use Rattle.std.specs.Prelude.{◌≡◌, ◌≢◌, None, Some};
 ghost use Rattle.lan_packets.specs.Calls.{done_or, count_or, listen_fault, connect_fault, write_fault, recv_fault, bind_fault, send_fault, hops_or_none};
 ghost use Rattle.lan_stations.specs.Does.{raw_fault};
-ghost use Rattle.lan_stations.specs.Answers.{IsTwice, brief, fault_of};
+ghost use Rattle.lan_stations.specs.Answers.{IsTwice, Gives, brief, fault_of};
 
 use lan_net::{Answer, Fault};
 use sockets::tcp::{ConnectError, ListenError, RecvError, SendError};
@@ -11,6 +11,16 @@ use tcp_model::State;
 
 /// An answer and its twin, which the world keeps.
 pub type Twins = (Answer, Answer);
+
+/// What an event gave that was taken.
+#[derive(Debug, Drop)]
+pub struct Taken {
+    pub answer: Answer,
+    /// The answer's twin, for the world to keep.
+    pub kept: Answer,
+    /// Of a close of a TCP socket, the state that it found.
+    pub found: Option<State>,
+}
 
 /// What a call answers that reads no bytes.
 #[derive(Clone, Copy, Debug, PartialEq, Eq)]
@@ -30,6 +40,32 @@ pub fn twins(answer: Brief) -> Twins
         Brief::Count(count) => (Answer::Count(count), Answer::Count(count)),
         Brief::State(state) => (Answer::State(state), Answer::State(state)),
         Brief::Error(fault) => (Answer::Error(fault), Answer::Error(fault)),
+    }
+}
+
+/// What was given with an answer without bytes.
+pub(crate) fn give(short: Brief, found: Option<State>) -> Taken
+    ensures { Gives result (brief short) found }
+{
+    let (answer, kept) = twins(short);
+    Taken {
+        answer,
+        kept,
+        found,
+    }
+}
+
+/// What was given with an answer and its twin.
+pub(crate) fn give_twice(twins: Twins) -> Taken
+    ensures answer { result.answer ≡ twins.0 }
+    ensures kept { result.kept ≡ twins.1 }
+    ensures found { result.found ≡ None }
+{
+    let (answer, kept) = twins;
+    Taken {
+        answer,
+        kept,
+        found: None,
     }
 }
 

@@ -1,18 +1,21 @@
-//! Calls of UDP, ICMP and raw sockets. Each says what its kind of socket makes of it.
-ghost use Rattle.std.specs.Prelude.{◌≡◌, length};
+//! Calls of UDP, ICMP and raw sockets. Each says what its kind of socket makes of it; memory is asked for before anything changes.
+ghost use Rattle.std.specs.Prelude.{◌≡◌, ◌≤◌, length, take, IfOk, OnOk, OnErr};
+ghost use Rattle.net_base.specs.Packets.{first};
+ghost use Rattle.datagram_sockets.specs.SocketValue.{recv_after};
 ghost use Rattle.datagram_sockets.specs.Udp as udps;
 ghost use Rattle.datagram_sockets.specs.Icmp as icmps;
 ghost use Rattle.datagram_sockets.specs.Raw as raws;
 ghost use Rattle.datagram_sockets.specs.declared.icmp.Endpoint.TheVariants.{Ident};
-ghost use Rattle.lan_packets.specs.Calls.{done_or, bind_fault, send_fault, at_port};
-ghost use Rattle.lan_stations.specs.Does.{raw_fault};
-ghost use Rattle.lan_stations.specs.Answers.{brief};
+ghost use Rattle.lan_packets.specs.Calls.{done_or, bind_fault, send_fault, at_port, datagram_or};
+ghost use Rattle.lan_stations.specs.Does.{raw_fault, message_or, packet_or};
+ghost use Rattle.lan_stations.specs.Answers.{IsTwice, brief};
 
-use crate::answer::{Brief, bound, sent, sent_raw};
+use crate::answer::{Brief, Twins, bound, read_fault, sent, sent_raw, twins};
 use ip_wire::{IpAddress, IpEndpoint, IpListenEndpoint};
-use lan_net::Bytes;
+use lan_net::{Answer, Bytes};
 use net_base::PacketMeta;
 use sockets::{icmp, raw, udp};
+use std::alloc::{AllocError, Global};
 
 /// Binds a UDP socket to a local port.
 pub fn bind(socket: &mut udp::Socket, port: u16) -> Brief
@@ -57,4 +60,89 @@ pub fn send_raw(socket: &mut raw::Socket, bytes: &Bytes) -> Brief
     ensures after { socket.new ≡ raws.send_after socket.old bytes.now }
 {
     sent_raw(socket.send_slice(bytes.as_slice()))
+}
+
+/// The first so many bytes, twice.
+fn first_bytes(mut bytes: Vec<u8>, mut twin: Vec<u8>, count: usize) -> (Bytes, Bytes)
+    requires twin { length twin.items ≡ length bytes.items }
+    requires within { count ≤ length bytes.items }
+    ensures one { result.0 ≡ take count bytes.items }
+    ensures other { result.1 ≡ take count bytes.items }
+{
+    twin.copy_from_slice(bytes.as_slice());
+    bytes.truncate(count);
+    twin.truncate(count);
+    (Bytes::from_vec(bytes), Bytes::from_vec(twin))
+}
+
+/// Reads the first datagram, unless it has more bytes than this.
+pub fn recv_datagram(
+    alloc: Global,
+    socket: &mut udp::Socket,
+    limit: usize,
+) -> Result<Twins, AllocError>
+    ensures answer { IfOk result (λ r. IsTwice r (datagram_or (first socket.old.received) limit)) }
+    ensures after { OnOk result (socket.new ≡ recv_after socket.old) }
+    ensures unchanged { OnErr result (socket.new ≡ socket.old) }
+{
+    let most = limit.min(socket.recv_queue());
+    let mut bytes = vec![in alloc; 0; most]?;
+    let twin = vec![in alloc; 0; most]?;
+    match socket.recv_slice(&mut bytes) {
+        Ok((count, metadata)) => {
+            let (one, other) = first_bytes(bytes, twin, count);
+            Ok((
+                Answer::FromEndpoint(metadata.endpoint, one),
+                Answer::FromEndpoint(metadata.endpoint, other),
+            ))
+        }
+        Err(fault) => Ok(twins(Brief::Error(read_fault(fault)))),
+    }
+}
+
+/// Reads the first ICMP message, unless it has more bytes than this.
+pub fn recv_message(
+    alloc: Global,
+    socket: &mut icmp::Socket,
+    limit: usize,
+) -> Result<Twins, AllocError>
+    ensures answer { IfOk result (λ r. IsTwice r (message_or (first socket.old.received) limit)) }
+    ensures after { OnOk result (socket.new ≡ recv_after socket.old) }
+    ensures unchanged { OnErr result (socket.new ≡ socket.old) }
+{
+    let most = limit.min(socket.recv_queue());
+    let mut bytes = vec![in alloc; 0; most]?;
+    let twin = vec![in alloc; 0; most]?;
+    match socket.recv_slice(&mut bytes) {
+        Ok((count, remote)) => {
+            let (one, other) = first_bytes(bytes, twin, count);
+            Ok((
+                Answer::FromAddr(remote, one),
+                Answer::FromAddr(remote, other),
+            ))
+        }
+        Err(fault) => Ok(twins(Brief::Error(read_fault(fault)))),
+    }
+}
+
+/// Reads the first IP packet, unless it has more bytes than this.
+pub fn recv_packet(
+    alloc: Global,
+    socket: &mut raw::Socket,
+    limit: usize,
+) -> Result<Twins, AllocError>
+    ensures answer { IfOk result (λ r. IsTwice r (packet_or (first socket.old.received) limit)) }
+    ensures after { OnOk result (socket.new ≡ recv_after socket.old) }
+    ensures unchanged { OnErr result (socket.new ≡ socket.old) }
+{
+    let most = limit.min(socket.recv_queue());
+    let mut bytes = vec![in alloc; 0; most]?;
+    let twin = vec![in alloc; 0; most]?;
+    match socket.recv_slice(&mut bytes) {
+        Ok(count) => {
+            let (one, other) = first_bytes(bytes, twin, count);
+            Ok((Answer::Bytes(one), Answer::Bytes(other)))
+        }
+        Err(fault) => Ok(twins(Brief::Error(read_fault(fault)))),
+    }
 }

@@ -1,3 +1,6 @@
+ghost use Rattle.std.specs.Prelude.{◌≡◌, ◌≤◌, length, drop};
+ghost use Rattle.net_base.specs.Device.{frames_of};
+
 use interface::{Interface, SocketSet};
 use lan_port::Port;
 use sockets::Socket;
@@ -18,4 +21,29 @@ impl Model for Host {
     ghost Value = { StationValue };
 
     ghost view = { λ h. record { host = h.interface; places = places h.sockets; link = h.port.link } };
+}
+
+impl Host {
+    /// How many frames the host has sent, the link's pieces among them.
+    pub fn sent_count(&self) -> usize
+        ensures { result ≡ length self.now.link.sent }
+    {
+        self.port.sent().len()
+    }
+
+    /// How many frames wait for the host.
+    pub fn waiting_count(&self) -> usize
+        ensures { result ≡ length self.now.link.waiting }
+    {
+        self.port.waiting().len()
+    }
+
+    /// The sent frames but for so many.
+    #[tactic(auto, using(crate::proofs::Counting::frames_behind))]
+    pub(crate) fn sent_since(&self, before: usize) -> &[Vec<u8>]
+        requires { before ≤ length self.now.link.sent }
+        ensures { frames_of result.now ≡ drop before self.now.link.sent }
+    {
+        self.port.sent().split_at(before).1
+    }
 }

@@ -3,12 +3,20 @@
 
 mod answer;
 pub mod calls;
+mod configure;
 pub mod datagrams;
+mod event;
 mod host;
+pub mod laws;
+pub mod link;
+mod place;
+mod poll;
+mod records;
 pub mod refusal;
 pub mod settings;
-pub mod store;
 pub mod streams;
 
-pub use answer::{Brief, Twins};
+pub use answer::{Brief, Taken, Twins};
+pub use event::{refusal_of, take};
 pub use host::Host;
+pub use records::Records;
