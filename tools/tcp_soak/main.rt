@@ -116,6 +116,12 @@ impl Soak<'_> {
             self.pair.step(PairEvent::Listen(Side::B, at(80)))?;
         }
         self.pair.step(PairEvent::Connect(Side::A, b, at(49500)))?;
+        for side in [Side::A, Side::B] {
+            if below(rand, 4) != 0 {
+                let setting = TcpSetting::NagleEnabled(false);
+                self.pair.step(PairEvent::TcpSetting(side, setting))?;
+            }
+        }
         Ok(())
     }
 
@@ -135,7 +141,7 @@ impl Soak<'_> {
     fn send(&mut self, alloc: Global, side: Side, rand: &mut Rand) -> Result<()> {
         let start = self.user(side).accepted;
         let mut bytes = Vec::new(alloc);
-        for i in 0..below(rand, 60) {
+        for i in 0..below(rand, 30) {
             bytes.push(byte_at(side, start.wrapping_add(i)))?;
         }
         let event = PairEvent::Send(side, Bytes::from_vec(bytes));
