@@ -10,3 +10,5 @@ pub mod Calls
 pub mod Events
 pub mod PollEvents
 pub mod Worlds
+pub mod EachSocket
+pub mod RawQueues

@@ -2,3 +2,4 @@ pub mod Made
 pub mod Link
 pub mod Follows
 pub mod Joined
+pub mod Raws

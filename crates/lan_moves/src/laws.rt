@@ -1,13 +1,24 @@
 //! What follows from the definitions.
-ghost use Rattle.std.specs.Prelude.{◌∷◌, List};
+ghost use Rattle.std.specs.Prelude.{◌≡◌, ◌∷◌, List, Some};
+ghost use Rattle.datagram_sockets.specs.Raw as Raws;
+ghost use Rattle.datagram_sockets.specs.Raw.{RawValue};
+ghost use Rattle.interface_delivery.specs.Delivered.{NamesNoPorts};
+ghost use Rattle.ip_wire.specs.Ip.{carried_in, normal};
 ghost use Rattle.lan_frames.specs.Carried.{names_tcp_or_udp};
 ghost use Rattle.lan_moves.specs.Follows.{Comes, IsNetOf, IsNoPoll};
+ghost use Rattle.lan_moves.specs.Raws.{OfEach, QueuesForeign};
 ghost use Rattle.lan_net.specs.History.{Entry};
 ghost use Rattle.lan_net.specs.Kinds.{kind_of};
+ghost use Rattle.lan_net.specs.declared.event.Side.{Side};
 ghost use Rattle.lan_packets.specs.Parties.{Net};
-ghost use Rattle.lan_stations.specs.Runs.{Leads};
-ghost use Rattle.lan_stations.specs.Station.{Stations};
+ghost use Rattle.lan_stations.specs.Fresh.{IsFreshWorld};
+ghost use Rattle.lan_stations.specs.Runs.{Leads, Starts, WorldRun, unused_both};
+ghost use Rattle.lan_stations.specs.Station.{Stations, station};
 ghost use Rattle.net_base.specs.Medium.TheVariants as Medium;
+ghost use Rattle.socket_base.specs.Context.{ContextValue};
+ghost use Rattle.socket_base.specs.Packet.{PacketValue};
+ghost use Rattle.socket_base.specs.declared.offer.Offer as Answer;
+ghost use Rattle.sockets.specs.declared.socket.Socket.TheVariants as Is;
 
 /// Law: each event that is taken, but for a poll, is a move: a call is one of the socket at its place, and any other event leaves every
 /// socket as it was.
@@ -18,4 +29,18 @@ pub fn events_are_moves()
         → IsNoPoll (kind_of e.event)
         → Leads past old e new
         → Comes (names_tcp_or_udp Medium.Ip) net new (e ∷ past) }
+{}
+
+/// Law: wherever two hosts came from a fresh start, no raw socket of theirs has a packet of TCP or UDP in its queue. A packet that such
+/// a socket offers is of another protocol to whoever reads it.
+pub fn raw_sockets_send_no_tcp_or_udp()
+    ensures queues { (starts : Starts) (history : List Entry) (hosts : Stations) (side : Side)
+        → IsFreshWorld starts
+        → WorldRun history (unused_both starts) hosts
+        → OfEach QueuesForeign (station hosts side).places }
+    ensures offers { (cx : ContextValue) (v v' : RawValue) (answer : Answer.Offer) (p : PacketValue)
+        → QueuesForeign (Is.Raw v)
+        → Raws.Offers cx v answer v'
+        → v'.offered ≡ Some p
+        → NamesNoPorts (carried_in (normal p.header)) }
 {}

@@ -1,0 +1,25 @@
+-- Raw sockets that queue no packet of TCP or UDP.
+use Rattle.std.specs.Prelude.{◌≡◌, ℕ, false, List, Option, None, Some}
+use Rattle.std.specs.List.{AllByRecursion}
+use Rattle.net_base.specs.Medium.TheVariants as Medium
+use Rattle.net_base.specs.Packets.{contents}
+use Rattle.interface_egress.specs.declared.socket_set.Item.{Item}
+use Rattle.interface_egress.specs.declared.socket_set.SocketStorage.{SocketStorage}
+use Rattle.sockets.specs.declared.socket.Socket.{Socket}
+use Rattle.sockets.specs.declared.socket.Socket.TheVariants as Is
+use Rattle.lan_frames.specs.Carried.{names_tcp_or_udp}
+
+-- it holds of the socket of each place that has one
+abbrev pub OfItem : (Socket → Type 0) → Option (Item Socket) → Type 0
+OfItem W None = Unit {0}
+OfItem W (Some item) = W item.socket
+
+abbrev pub OfEach : (Socket → Type 0) → List (SocketStorage Socket) → Type 0
+OfEach W places = AllByRecursion (λ p. OfItem W p.inner) places
+
+-- each queued packet of a raw socket names neither TCP nor UDP
+abbrev pub QueuesForeign : Socket → Type 0
+QueuesForeign (Is.Raw v) = AllByRecursion (λ q. names_tcp_or_udp Medium.Ip q.1 ≡ false) (contents v.queued)
+QueuesForeign (Is.Icmp v) = Unit {0}
+QueuesForeign (Is.Udp v) = Unit {0}
+QueuesForeign (Is.Tcp v) = Unit {0}
