@@ -1,5 +1,5 @@
 -- What each thing that a poll does to a socket keeps of it is kept of all sockets by a poll.
-use Rattle.std.proofs.Common.{◌≡◌, ℕ, zero, suc, Bool, true, false, if◌then◌else◌, List, [], ◌∷◌, ◌++◌, Option, Some, None, refl, sym, ap, subst}
+use Rattle.std.proofs.Common.{◌≡◌, ℕ, zero, suc, Bool, true, false, if◌then◌else◌, List, [], ◌∷◌, ◌++◌, Option, Some, None, refl, sym, subst}
 use Rattle.std.specs.Prelude.{ℤ, slice_get, slice_set}
 use Rattle.control_wire.specs.Icmpv4Header.{Icmpv4Header}
 use Rattle.control_wire.specs.Icmpv6.{MessageValue}
@@ -21,7 +21,7 @@ use Rattle.sockets.specs.declared.socket.Socket.{Socket}
 use Rattle.interface_tables.specs.Inner.{InnerValue, context_of, is_for_us}
 use Rattle.interface_egress.specs.declared.socket_set.Item.{Item}
 use Rattle.interface_egress.specs.declared.socket_set.SocketStorage.{SocketStorage}
-use Rattle.interface_ingress.specs.Arrives.{Arrived, ArrivesV4, ArrivesV6, Brings, Hands, IsSilent, renewed}
+use Rattle.interface_ingress.specs.Arrives.{Arrived, ArrivesV4, ArrivesV6, Brings, Hands, renewed}
 use Rattle.interface_ingress.specs.Delivered.{with_change, given, all_given, changed_in, changed_at, with_packet, packet_delivered, is_taken_raw, with_icmpv4, with_icmpv6, with_datagram, datagram_place, with_segment, segment_place, segment_delivered}
 use Rattle.interface_ingress.specs.Handed.{control_v4_places, control_v6_places, names_nobody, handed_places}
 use Rattle.interface_ingress.specs.Incoming.{IncomingValue, Arp, Ip4, Ip6}
@@ -29,7 +29,7 @@ use Rattle.interface.specs.Host.{Sender}
 use Rattle.interface.specs.Ingress.{Takes}
 use Rattle.interface.specs.Polls.{Polls}
 use Rattle.interface.specs.State.{State}
-use Rattle.interface.specs.Turn.{PlaceTurns, ItemTurns, TurnsIf, Answers, SendsBy, is_waiting, let_through, is_done}
+use Rattle.interface.specs.Turn.{ItemTurns, TurnsIf, Answers, SendsBy, is_waiting, let_through, is_done}
 use Rattle.interface.specs.declared.turn.Turned.{Turned}
 use Rattle.interface_laws.specs.Kept.{IsKept}
 use Rattle.interface_laws.proofs.Keep.{polls_keep}

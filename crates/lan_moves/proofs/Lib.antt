@@ -12,3 +12,4 @@ pub mod PollEvents
 pub mod Worlds
 pub mod EachSocket
 pub mod RawQueues
+pub mod Protocols

@@ -1,5 +1,5 @@
 -- No raw socket ever queues a packet of TCP or UDP.
-use Rattle.std.proofs.Common.{◌≡◌, ◌⊎◌, inl, inr, ℕ, zero, suc, Bool, true, false, if◌then◌else◌, not, List, [], ◌∷◌, ◌++◌, length, Option, Some, None, is_some, refl, sym, ap, ◌∙◌, subst}
+use Rattle.std.proofs.Common.{◌≡◌, inl, inr, ℕ, zero, suc, Bool, true, false, if◌then◌else◌, not, List, [], ◌∷◌, ◌++◌, length, Option, Some, None, is_some, refl, sym, ap, ◌∙◌, subst}
 use Rattle.std.specs.Prelude.{◌+◌, ◌/◌, ◌&&◌, ◌==◌, slice_get, slice_index, slice_set, is_ok}
 use Rattle.std.specs.List.{AllByRecursion}
 use Rattle.control_wire.specs.Icmpv4Header.{Icmpv4Header}

@@ -28,7 +28,7 @@ use Rattle.lan_moves.specs.Made.{IsMade, IsMadeReply, HandsMade, BringsMade, dat
 use Rattle.lan_moves.proofs.Arrivals.{Answered, packet_delivered_same, icmpv4_delivered_same, icmpv6_delivered_same, nothing, datagram_given, segment_taken}
 use Rattle.lan_moves.proofs.Nets.{Moved, stays}
 use Rattle.lan_moves.proofs.Places.{Places}
-use Rattle.lan_moves.proofs.Replies.{control_v4_free, control_v6_free, port_error_free, protocol_error_free, answered_free, told_free}
+use Rattle.lan_moves.proofs.Replies.{control_v4_made, control_v6_made, port_error_made, protocol_error_made, answered_made, told_made}
 
 -- moves lead to these sockets, and what answers was made
 pub record Ended (names : List ℕ → Bool) (side : Side) (net now : Net) (places : Places) (reply : Option ReplyValue) : Type 0 where
@@ -60,16 +60,16 @@ module _ (names : List ℕ → Bool) (side : Side) (net now : Net) (r : Reaches 
 
     handed : (caps : ChecksumCapabilities) (carried : Option PayloadValue) → IsCarriedContent caps ip payload carried → HandsMade (party net (other side)) caps ip payload
         → Ends (handed_places i places ip carried) (handed_reply i places ip payload taken carried)
-    handed caps None is made = same_with places _ refl (λ p. protocol_error_free p (is_known ip || taken) i ip payload)
+    handed caps None is made = same_with places _ refl (λ p. protocol_error_made p (is_known ip || taken) i ip payload)
     handed caps (Some (ControlV4 message bytes)) is made =
-        same_with (control_v4_places ip message bytes places) _ (control_v4 ip message bytes) (λ p. control_v4_free p i ip message bytes)
+        same_with (control_v4_places ip message bytes places) _ (control_v4 ip message bytes) (λ p. control_v4_made p i ip message bytes)
     handed caps (Some (ControlV6 message bytes)) is made =
-        same_with (control_v6_places ip message bytes places) _ (control_v6 ip message bytes) (λ p. control_v6_free p i ip message bytes)
+        same_with (control_v6_places ip message bytes places) _ (control_v6 ip message bytes) (λ p. control_v6_made p i ip message bytes)
     handed caps (Some (Bytes bytes)) is made = nothing names side net now r places has
     handed caps (Some (Datagram udp bytes)) is made =
         let was : WasMade (party now (other side)) (datagram_of udp bytes) = subst (λ (p : Party). WasMade p (datagram_of udp bytes)) (sym r.rests) (made.datagrams udp bytes is) in
         let moved = datagram_given names side net now r places has (context_of i) ip udp bytes was in
-        record { moved = moved; made = port_error_free (party moved.next side) (is_some (datagram_place (context_of i) ip udp places) || taken) i ip payload }
+        record { moved = moved; made = port_error_made (party moved.next side) (is_some (datagram_place (context_of i) ip udp places) || taken) i ip payload }
     handed caps (Some (Segment header bytes)) is made =
         let was : IsAmong (party now (other side)).segments (made_of header bytes) =
         subst (λ (p : Party). IsAmong p.segments (made_of header bytes)) (sym r.rests) (made.segments header bytes is) in
@@ -79,7 +79,7 @@ module _ (names : List ℕ → Bool) (side : Side) (net now : Net) (r : Reaches 
     hands caps a same (carried, is, so) made =
         let end = handed i.checksums carried is (subst (λ (c : ChecksumCapabilities). HandsMade (party net (other side)) c ip payload) (sym same) made) in
         let given : Ended names side net now (handed_places i places ip carried) (answered (handed_reply i places ip payload taken carried)) =
-        record { moved = end.moved; made = answered_free (party end.moved.next side) (handed_reply i places ip payload taken carried) end.made } in
+        record { moved = end.moved; made = answered_made (party end.moved.next side) (handed_reply i places ip payload taken carried) end.made } in
         subst (λ (qs : Places). Ended names side net now qs a.reply) (sym so.places_are)
         (subst (λ (o : Option ReplyValue). Ended names side net now (handed_places i places ip carried) o) (sym so.reply) given)
 
@@ -120,7 +120,7 @@ module _ (names : List ℕ → Bool) (side : Side) (net now : Net) (r : Reaches 
     brings_moves None a is made = silent i places places a has refl is
     brings_moves (Some (Arp link packet)) a is made =
         let told : Ended names side net now places (Replies.told (arp_answer i packet)) =
-        record { moved = stays names side net now r (sockets_of places) has; made = told_free (party now side) (arp_answer i packet) } in
+        record { moved = stays names side net now r (sockets_of places) has; made = told_made (party now side) (arp_answer i packet) } in
         subst (λ (ps : Places). Ended names side net now ps a.reply) (sym is.places_are) (subst (λ (o : Option ReplyValue). Ended names side net now places o) (sym is.reply) told)
     brings_moves (Some (Ip4 link header piece payload)) a is made = v4 (is_for_us i (Address.Ipv4 header.dst_addr)) link (Ip.Ipv4 header) payload a is made
     brings_moves (Some (Ip6 link header payload)) a is made = v6 (is_for_us i (Address.Ipv6 header.dst_addr)) link (Ip.Ipv6 header) payload a is made

@@ -5,7 +5,7 @@ use Rattle.lan_frames.specs.Carried.{names_tcp_or_udp}
 use Rattle.lan_net.specs.History.{Entry}
 use Rattle.lan_packets.specs.Moves.{Step, IsRun, run}
 use Rattle.lan_packets.specs.Parties.{Net}
-use Rattle.lan_stations.specs.Runs.{Starts, start, unused, unused_both, Leads}
+use Rattle.lan_stations.specs.Runs.{Starts, unused, unused_both, Leads}
 use Rattle.lan_stations.specs.Safe.{party_of}
 use Rattle.lan_stations.specs.Station.{Stations}
 use Rattle.lan_moves.specs.Follows.{IsNetOf, Comes}

@@ -3,3 +3,4 @@ pub mod Link
 pub mod Follows
 pub mod Joined
 pub mod Raws
+pub mod Protocols

@@ -1,5 +1,5 @@
 -- Raw sockets that queue no packet of TCP or UDP.
-use Rattle.std.specs.Prelude.{◌≡◌, ℕ, false, List, Option, None, Some}
+use Rattle.std.specs.Prelude.{◌≡◌, false, List, Option, None, Some}
 use Rattle.std.specs.List.{AllByRecursion}
 use Rattle.net_base.specs.Medium.TheVariants as Medium
 use Rattle.net_base.specs.Packets.{contents}

@@ -1,11 +1,18 @@
 //! What follows from the definitions.
-ghost use Rattle.std.specs.Prelude.{◌≡◌, ◌∷◌, List, Some};
+ghost use Rattle.std.specs.Prelude.{◌≡◌, ◌∷◌, Bool, IfSome, List, Option, Some, ℕ};
 ghost use Rattle.datagram_sockets.specs.Raw as Raws;
 ghost use Rattle.datagram_sockets.specs.Raw.{RawValue};
 ghost use Rattle.interface_delivery.specs.Delivered.{NamesNoPorts};
 ghost use Rattle.ip_wire.specs.Ip.{carried_in, normal};
+ghost use Rattle.ip_wire.specs.IpRepr.{IpRepr};
+ghost use Rattle.interface_ingress.specs.Delivered.{Places};
+ghost use Rattle.interface_ingress.specs.Handed.{handed_reply};
+ghost use Rattle.interface_tables.specs.Inner.{InnerValue};
+ghost use Rattle.sockets.specs.Socket.{Offers, offered_by};
+ghost use Rattle.sockets.specs.declared.socket.Socket.{Socket};
 ghost use Rattle.lan_frames.specs.Carried.{names_tcp_or_udp};
 ghost use Rattle.lan_moves.specs.Follows.{Comes, IsNetOf, IsNoPoll};
+ghost use Rattle.lan_moves.specs.Protocols.{NamesItsPayload};
 ghost use Rattle.lan_moves.specs.Raws.{OfEach, QueuesForeign};
 ghost use Rattle.lan_net.specs.History.{Entry};
 ghost use Rattle.lan_net.specs.Kinds.{kind_of};
@@ -16,7 +23,7 @@ ghost use Rattle.lan_stations.specs.Runs.{Leads, Starts, WorldRun, unused_both};
 ghost use Rattle.lan_stations.specs.Station.{Stations, station};
 ghost use Rattle.net_base.specs.Medium.TheVariants as Medium;
 ghost use Rattle.socket_base.specs.Context.{ContextValue};
-ghost use Rattle.socket_base.specs.Packet.{PacketValue};
+ghost use Rattle.socket_base.specs.Packet.{PacketValue, PayloadValue};
 ghost use Rattle.socket_base.specs.declared.offer.Offer as Answer;
 ghost use Rattle.sockets.specs.declared.socket.Socket.TheVariants as Is;
 
@@ -43,4 +50,15 @@ pub fn raw_sockets_send_no_tcp_or_udp()
         → Raws.Offers cx v answer v'
         → v'.offered ≡ Some p
         → NamesNoPorts (carried_in (normal p.header)) }
+{}
+
+/// Law: the header of each packet that a socket offers, and of each that a host answers, names what the packet carries: TCP, UDP, or the
+/// control messages of its family.
+pub fn packets_name_what_they_carry()
+    ensures offered { (cx : ContextValue) (s s' : Socket) (answer : Answer.Offer) (p : PacketValue)
+        → Offers cx s answer s'
+        → offered_by s' ≡ Some p
+        → NamesItsPayload p }
+    ensures answered { (i : InnerValue) (places : Places) (ip : IpRepr) (payload : List ℕ) (taken : Bool) (carried : Option PayloadValue)
+        → IfSome (handed_reply i places ip payload taken carried) NamesItsPayload }
 {}
