@@ -5,7 +5,7 @@ use interface::{Config, Interface, SocketHandle, SocketSet};
 use ip_wire::{EthernetAddress, HardwareAddress, IpAddress, IpCidr, IpEndpoint, IpListenEndpoint};
 use lan_port::Port;
 use net_base::{
-    ChecksumCapabilities, DeviceCapabilities, Instant, ManagedSlice, Medium, PacketBuffer,
+    ChecksumCapabilities, Device, DeviceCapabilities, Instant, ManagedSlice, Medium, PacketBuffer,
     PacketMetadata,
 };
 use sockets::{Socket, udp};
@@ -19,20 +19,20 @@ pub fn at(micros: u32) -> Instant
     Instant::from_micros(i64::from(micros))
 }
 
-/// An interface of seed 1 at 192.168.1.1 behind this port.
-pub fn interface(
+/// An interface of seed 1 at 192.168.1.1 behind this device.
+pub fn interface<D: Device>(
     rt: &impl AllocGlobal,
-    port: &Port,
+    device: &D,
     hardware_addr: HardwareAddress,
 ) -> Result<Interface, Fail> {
     let own = IpCidr::new(IpAddress::v4(192, 168, 1, 1), 24);
-    host(rt, port, hardware_addr, own, 1)
+    host(rt, device, hardware_addr, own, 1)
 }
 
-/// An interface of this seed at this address behind this port.
-pub fn host(
+/// An interface of this seed at this address behind this device.
+pub fn host<D: Device>(
     rt: &impl AllocGlobal,
-    port: &Port,
+    device: &D,
     hardware_addr: HardwareAddress,
     own: IpCidr,
     random_seed: u64,
@@ -41,7 +41,7 @@ pub fn host(
         random_seed,
         hardware_addr,
     };
-    let mut interface = Interface::new(rt.alloc(), &config, port, at(0)).map_err(
+    let mut interface = Interface::new(rt.alloc(), &config, device, at(0)).map_err(
         |_| "an interface",
     )?;
     interface
@@ -116,18 +116,22 @@ pub fn ethernet() -> HardwareAddress {
     HardwareAddress::Ethernet(EthernetAddress([2, 0, 0, 0, 0, 1]))
 }
 
-/// A port of this medium whose longest packet has 1500 bytes, with buffers for twelve frames.
-pub fn port(rt: &impl AllocGlobal, medium: Medium) -> Result<Port, Fail> {
+/// A device of this medium whose longest packet has 1500 bytes, and which leaves all checksums to the host.
+pub fn capabilities(medium: Medium) -> DeviceCapabilities {
     let header = match medium {
         Medium::Ethernet => 14,
         Medium::Ip => 0,
     };
-    let capabilities = DeviceCapabilities {
+    DeviceCapabilities {
         medium,
         max_transmission_unit: 1_500 + header,
         checksum: ChecksumCapabilities::default(),
-    };
-    let mut port = Port::new(rt.alloc(), capabilities);
+    }
+}
+
+/// A port of this medium whose longest packet has 1500 bytes, with buffers for twelve frames.
+pub fn port(rt: &impl AllocGlobal, medium: Medium) -> Result<Port, Fail> {
+    let mut port = Port::new(rt.alloc(), capabilities(medium));
     port.prepare(12, 1_514)?;
     Ok(port)
 }
@@ -140,8 +144,19 @@ pub fn assert_last_frame(
     length: usize,
     front: &str,
 ) -> Result<(), Fail> {
-    assert_eq!(rt; port.sent().len(), count);
-    let frame = port.sent().last().ok_or("a frame")?;
+    assert_last(rt, port.sent(), count, length, front)
+}
+
+/// Asserts how many frames these are, and of the last one its length and its first bytes in hex.
+pub fn assert_last(
+    rt: &(impl Abort + AllocGlobal),
+    frames: &[Vec<u8>],
+    count: usize,
+    length: usize,
+    front: &str,
+) -> Result<(), Fail> {
+    assert_eq!(rt; frames.len(), count);
+    let frame = frames.last().ok_or("a frame")?;
     assert_eq!(rt; frame.len(), length);
     let front = hex::decode(rt.alloc(), front)?;
     assert!(rt; frame.as_slice().starts_with(front.as_slice()));

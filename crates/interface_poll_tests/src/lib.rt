@@ -9,3 +9,11 @@ mod egress;
 mod ingress;
 #[cfg(test)]
 mod made;
+#[cfg(test)]
+mod refusals;
+#[cfg(test)]
+mod refusing;
+#[cfg(test)]
+mod streams;
+#[cfg(test)]
+mod transfer;

@@ -6,8 +6,22 @@ use lan_port::Port;
 use net_base::{ChecksumCapabilities, DeviceCapabilities, Instant, Medium};
 use std::alloc::Global;
 
-/// Why there is no interface with this hardware address at such a device.
+/// Why there is no interface with this hardware address at such a device. Where the one allocation that was made to fail
+/// (`rt try --test --fail-alloc N`) was the interface's own, the next try has the memory that it asks for.
 fn refused(
+    alloc: Global,
+    hardware_addr: HardwareAddress,
+    medium: Medium,
+    max_transmission_unit: usize,
+    now: Instant,
+) -> Option<NewError> {
+    match tried(alloc, hardware_addr, medium, max_transmission_unit, now) {
+        Some(NewError::Memory) => tried(alloc, hardware_addr, medium, max_transmission_unit, now),
+        answer => answer,
+    }
+}
+
+fn tried(
     alloc: Global,
     hardware_addr: HardwareAddress,
     medium: Medium,

@@ -48,6 +48,16 @@ fn a_handle_is_printed_by_its_place(rt: HostRuntime) -> Result<(), AllocError> {
     Ok(())
 }
 
+/// The handle of a place is the one that a socket there has.
+#[test]
+fn a_place_has_its_handle(rt: HostRuntime) -> Result<(), AllocError> {
+    let mut set = one_place(&rt)?;
+    assert!(rt; added(&rt, &mut set, 7) == SocketHandle::at(0));
+    assert!(rt; holds(&set, SocketHandle::at(0), Some(7)));
+    assert!(rt; holds(&set, SocketHandle::at(1), None));
+    Ok(())
+}
+
 /// Storage that grows; a place that becomes free is taken first.
 #[test]
 fn owned_storage_grows(rt: HostRuntime) {
