@@ -3,3 +3,5 @@ pub mod DatagramRun
 pub mod LoneRun
 pub mod CandidatesRun
 pub mod FallbackRun
+pub mod Playing
+pub mod OpeningRun

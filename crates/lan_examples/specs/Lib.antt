@@ -4,3 +4,5 @@ pub mod Streams
 pub mod Lone
 pub mod Candidates
 pub mod Fallback
+pub mod Played
+pub mod Opening

@@ -11,6 +11,8 @@ ghost use Rattle.lan_examples.specs.Candidates as Candidates;
 ghost use Rattle.lan_examples.specs.Fallback as Fallback;
 ghost use Rattle.lan_examples.specs.Hosts.{no_names, unbound, last_answer};
 ghost use Rattle.lan_examples.specs.Lone as Lone;
+ghost use Rattle.lan_examples.specs.Opening.{opening, opened};
+ghost use Rattle.lan_examples.specs.Played.{start, steps_of};
 ghost use Rattle.lan_examples.specs.Streams.{tcp_at};
 
 /// A socket that connects where nobody listens is refused by the other host's reset: it has no partner, and reads no end.
@@ -42,4 +44,14 @@ pub fn a_listener_falls_back_and_takes_the_old_syn()
     ensures listens { (tcp_at (run Fallback.hosts Fallback.fell) B 0).block.state ≡ In.Listen }
     ensures run { IsRun no_names Fallback.hosts Fallback.steps }
     ensures takes { (tcp_at (run Fallback.hosts Fallback.steps) B 0).block.state ≡ In.SynReceived }
+{}
+
+/// Three segments open a connection.
+#[tactic(auto, using(crate::proofs::OpeningRun::opening_run, crate::proofs::OpeningRun::are_fresh, crate::proofs::OpeningRun::leads))]
+pub fn three_segments_open_a_connection()
+    ensures fresh { IsFreshNet unbound start.net }
+    ensures run { IsRun no_names start.net (steps_of start opening) }
+    ensures end { run start.net (steps_of start opening) ≡ opened.net }
+    ensures caller { (tcp_at opened.net A 0).block.state ≡ In.Established }
+    ensures listener { (tcp_at opened.net B 0).block.state ≡ In.Established }
 {}
