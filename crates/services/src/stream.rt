@@ -1,0 +1,43 @@
+//! The echo of streams.
+ghost use Rattle.std.specs.Prelude.{◌≡◌, length};
+ghost use Rattle.tcp_model.specs.Calls.{recv_refusal};
+ghost use Rattle.services.specs.Echo.{stream_echoed, echoed_unless, room_left};
+
+use ip_wire::IpListenEndpoint;
+use sockets::tcp;
+
+/// Listens on the port while the socket is closed; else sends back what waits, as much as the buffer and the send queue have room
+/// for, and closes at the end of what comes (RFC 862).
+pub fn echo_stream(socket: &mut tcp::Socket, port: u16, buffer: &mut [u8])
+    ensures { socket.new ≡ stream_echoed port (length buffer.old) socket.old }
+{
+    if socket.state() == tcp::State::Closed {
+        let _ = socket.listen(IpListenEndpoint { addr: None, port });
+        return;
+    }
+    if !socket.may_send() {
+        return;
+    }
+    let room = room_left(socket, buffer.len());
+    echo(socket, &mut buffer[..room]);
+}
+
+/// Sends back what waits, as much as the buffer takes, or closes at the end.
+fn echo(socket: &mut tcp::Socket, bytes: &mut [u8])
+    ensures { socket.new ≡ echoed_unless (recv_refusal socket.old) (length bytes.old) socket.old }
+{
+    match socket.recv_slice(bytes) {
+        Ok(count) => {
+            let _ = socket.send_slice(&bytes[..count]);
+        }
+        Err(tcp::RecvError::Finished) => socket.close(),
+        Err(tcp::RecvError::InvalidState) => {}
+    }
+}
+
+/// How many bytes the send queue has room for, at most so many.
+fn room_left(socket: &tcp::Socket, most: usize) -> usize
+    ensures { result ≡ room_left most socket.now }
+{
+    most.min(socket.send_capacity() - socket.send_queue())
+}
