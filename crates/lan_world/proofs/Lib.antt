@@ -1,0 +1,5 @@
+pub mod Pasts
+pub mod Unused
+pub mod Beginnings
+pub mod Goings
+pub mod Running

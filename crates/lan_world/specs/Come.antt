@@ -1,0 +1,42 @@
+-- What a world keeps: where it came from, how, and what its tables say.
+use Rattle.std.specs.Prelude.{◌≡◌, ℕ, ◌≤◌, List, length, take, drop}
+use Rattle.lan_net.specs.History.{Entry}
+use Rattle.lan_net.specs.declared.event.Event.{Event}
+use Rattle.lan_stations.specs.Fresh.{IsFreshWorld}
+use Rattle.lan_stations.specs.Refusals.{Table, Tables}
+use Rattle.lan_stations.specs.Runs.{Start, Starts, WorldValue, WorldRun, Steps, unused_both, tables_in}
+use Rattle.lan_stations.specs.Station.{StationValue, Stations}
+
+-- a host as its world began with it
+abbrev pub start_of : StationValue → Start
+start_of s = record {
+  host = s.host;
+  places = s.places;
+  capabilities = s.link.capabilities;
+  room = s.link.room;
+  refusals = s.link.refusals;
+}
+
+abbrev pub starts_of : StationValue → StationValue → Starts
+starts_of a b = record { a = start_of a; b = start_of b }
+
+abbrev pub both : StationValue → StationValue → Stations
+both a b = record { a = a; b = b }
+
+abbrev pub tables : Table → Table → Tables
+tables a b = record { a = a; b = b }
+
+abbrev pub world : StationValue → StationValue → StationValue → StationValue → List Entry → WorldValue
+world start_a start_b a b history = record { hosts = both a b; starts = starts_of start_a start_b; history = history }
+
+-- The hosts were fresh, and the history leads from them to what they are now. The tables, which refusals read, are the history's.
+pub record HasCome (start_a start_b a b : StationValue) (of_a of_b : Table) (history : List Entry) : Type 0 where
+  pub fresh : IsFreshWorld (starts_of start_a start_b)
+  pub run : WorldRun history (unused_both (starts_of start_a start_b)) (both a b)
+  pub tables : tables of_a of_b ≡ tables_in history (both a b)
+
+-- so many of the events have been taken, and these are left
+pub record HasRun (old : WorldValue) (events : List Event) (place : ℕ) (left : List Event) (now : WorldValue) : Type 0 where
+  pub steps : Steps old (take place events) now
+  pub left_over : drop place events ≡ left
+  pub bound : place ≤ length events

@@ -1,0 +1,3 @@
+pub mod New
+pub mod Past
+pub mod Come

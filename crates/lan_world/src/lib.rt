@@ -1,0 +1,16 @@
+//! Two hosts and the link between them, which loses, repeats, reorders, pads, damages and cuts frames, and adds some.
+//!
+//! What an event does stands in `lan_stations`; a world takes events one by one, refuses those that it must, and keeps them with their
+//! answers.
+#![tactic(auto)]
+
+mod error;
+mod fresh;
+mod history;
+mod kept;
+mod world;
+
+pub use error::WorldError;
+pub use lan_net::{Answer, Bytes, Event, Fault, Refused, Side, TcpSetting};
+pub use lan_stations::Host;
+pub use world::World;
