@@ -3,3 +3,4 @@ pub mod Unused
 pub mod Beginnings
 pub mod Goings
 pub mod Running
+mod Promises

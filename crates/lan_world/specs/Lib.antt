@@ -1,3 +1,4 @@
 pub mod New
 pub mod Past
 pub mod Come
+pub mod Promises

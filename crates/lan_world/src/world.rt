@@ -8,11 +8,13 @@ ghost use Rattle.lan_stations.specs.Station.{station};
 ghost use Rattle.lan_net.specs.Kinds.{kind_of};
 ghost use Rattle.lan_world.specs.Come.{both, starts_of, world};
 ghost use Rattle.lan_world.specs.New.{new_error, MayFail};
+ghost use Rattle.lan_world.specs.Promises.{IsWellRun};
 
 use crate::error::WorldError;
 use crate::fresh::new_error;
 use crate::history::{Counts, History, Note};
 use crate::kept::Kept;
+use lan_hosts::laws::{hosts_run, polls_are_quiet, requests_are_apart};
 use lan_net::{Answer, Event, Refused, Side};
 use lan_stations::laws::{numbers_are_few, tables_go_on};
 use lan_stations::{Host, Records, refusal_of, take};
@@ -92,11 +94,25 @@ impl World {
         ensures exact { IfSome (refusal_in self.old.history self.old.hosts event) (λ refused. result ≡ Err refused) }
         ensures memory { IfErr result (MayRefuse self.old.hosts (tables_in self.old.history self.old.hosts) (kind_of event)) }
         ensures unchanged { OnErr result (self.new ≡ self.old) }
+        ensures promises { IsWellRun self.new }
     {
-        match self.refusal(&event) {
+        let answer = match self.refusal(&event) {
             Some(refused) => Err(refused),
             None => self.take_event(event).map_err(|_| Refused::Memory),
-        }
+        };
+        self.well_run();
+        answer
+    }
+
+    // What holds wherever the events led.
+    fn well_run(&self)
+        ensures { IsWellRun self.now }
+    {
+        hosts_run();
+        requests_are_apart();
+        polls_are_quiet();
+        // (a look at a field makes known what a world keeps)
+        let _ = &self.history;
     }
 
     // Why an event isn't taken, but for want of memory.
@@ -134,6 +150,21 @@ impl World {
 
     /// Takes events in order, up to the first that is refused: its place among them comes with the refusal, and the steps before it stay.
     pub fn run(&mut self, events: Vec<Event>) -> Result<(), (usize, Refused)>
+        ensures ok { OnOk result (Steps self.old events.items self.new) }
+        ensures err { IfErr result (λ e. Steps self.old (take e.0 events.items) self.new) }
+        ensures place { IfErr result (λ e. e.0 < length events.items) }
+        ensures refused { IfErr result (λ e. IfSome (slice_get events.items e.0)
+            (λ event. MayRefuse self.new.hosts (tables_in self.new.history self.new.hosts) (kind_of event) e.1)) }
+        ensures starts { self.new.starts ≡ self.old.starts }
+        ensures promises { IsWellRun self.new }
+    {
+        let outcome = self.step_all(events);
+        self.well_run();
+        outcome
+    }
+
+    // The steps of a run.
+    fn step_all(&mut self, events: Vec<Event>) -> Result<(), (usize, Refused)>
         ensures ok { OnOk result (Steps self.old events.items self.new) }
         ensures err { IfErr result (λ e. Steps self.old (take e.0 events.items) self.new) }
         ensures place { IfErr result (λ e. e.0 < length events.items) }

@@ -5,8 +5,8 @@ use Rattle.lan_net.specs.Kinds.{kind_of}
 use Rattle.lan_stations.specs.Runs.{WorldValue, tables_in}
 use Rattle.lan_world.specs.Come.{HasRun}
 use Rattle.lan_world.proofs.Running.{next_is, one_more, starts_stay}
-use Rattle.lan_world.proofs.world.World.run.Goals as goal
-use Rattle.lan_world.proofs.world.World.run.Goals.{In-Some}
+use Rattle.lan_world.proofs.world.World.step_all.Goals as goal
+use Rattle.lan_world.proofs.world.World.step_all.Goals.{In-Some}
 
 -- the loop's invariant, now that the next event is known
 found : (c : In-Some) → HasRun c.args.self.now c.args.events.items c.loop-event.place (c.in-Some.event ∷ into_iter_items c.next.new.self) c.loop-event.self
