@@ -4,14 +4,14 @@ ghost use Rattle.std.specs.List.{join_with_byte};
 ghost use Rattle.std.specs.String.{string_bytes};
 ghost use Rattle.ip_wire.specs.Text.{block_text};
 ghost use Rattle.lan_script.specs.Text.{side_text, medium_text, version_text, endpoint_word, hex_word, four_digits, protocol_text, queue_words, line_text};
-ghost use Rattle.lan_script.specs.declared.line.Line.TheVariants.{Socket, Addrs};
+ghost use Rattle.lan_script.specs.declared.line.Line.TheVariants.{Socket, Connect, Send, SendTo, SendIcmp, SendRaw, Addrs, Poll, Deliver, Damage};
 
 use crate::blocks::Blocks;
 use crate::hex_bytes::HexBytes;
 use crate::kinds::{QueueSizes, Side, SocketSpec};
 use crate::line::Line;
 use ip_wire::{IpAddress, IpEndpoint, IpVersion};
-use net_base::Medium;
+use net_base::{Instant, Medium};
 use std::alloc::{AllocError, Global};
 
 impl<'a> Line<'a> {
@@ -24,55 +24,25 @@ impl<'a> Line<'a> {
             Line::Socket(h, spec) => socket(alloc, *h, *spec),
             Line::Start => String::from_str(alloc, "start"),
             Line::Listen(h, s, port) => format!(in alloc; "listen {} {s} {port}", name(*h)),
-            Line::Connect(h, s, remote, port) => {
-                format!(in alloc;
-                    "connect {} {s} {} {port}",
-                    name(*h),
-                    endpoint(alloc, *remote)?
-                )
-            }
-            Line::Send(h, s, bytes) => format!(in alloc;
-                "send {} {s} {}",
-                name(*h),
-                hex(alloc, bytes)?
-            ),
+            Line::Connect(h, s, remote, port) => connect(alloc, *h, *s, *remote, *port),
+            Line::Send(h, s, bytes) => send(alloc, *h, *s, bytes),
             Line::Recv(h, s, n) => format!(in alloc; "recv {} {s} {n}", name(*h)),
             Line::Close(h, s) => format!(in alloc; "close {} {s}", name(*h)),
             Line::Abort(h, s) => format!(in alloc; "abort {} {s}", name(*h)),
             Line::State(h, s) => format!(in alloc; "state {} {s}", name(*h)),
             Line::Bind(h, s, port) => format!(in alloc; "bind {} {s} {port}", name(*h)),
             Line::Ident(h, s, n) => format!(in alloc; "ident {} {s} {n}", name(*h)),
-            Line::SendTo(h, s, remote, bytes) => {
-                let remote = endpoint(alloc, *remote)?;
-                format!(in alloc; "sendto {} {s} {remote} {}", name(*h), hex(alloc, bytes)?)
-            }
-            Line::SendIcmp(h, s, to, bytes) => {
-                format!(in alloc; "sendicmp {} {s} {to} {}", name(*h), hex(alloc, bytes)?)
-            }
-            Line::SendRaw(h, s, bytes) => {
-                format!(in alloc; "sendraw {} {s} {}", name(*h), hex(alloc, bytes)?)
-            }
+            Line::SendTo(h, s, remote, bytes) => send_to(alloc, *h, *s, *remote, bytes),
+            Line::SendIcmp(h, s, to, bytes) => send_icmp(alloc, *h, *s, *to, bytes),
+            Line::SendRaw(h, s, bytes) => send_raw(alloc, *h, *s, bytes),
             Line::RecvFrom(h, s, n) => format!(in alloc; "recvfrom {} {s} {n}", name(*h)),
             Line::Addrs(h, blocks) => addrs(alloc, *h, blocks),
             Line::Hw(h, address) => format!(in alloc; "hw {} {address}", name(*h)),
             Line::Route(h, router) => format!(in alloc; "route {} {router}", name(*h)),
-            Line::Poll(h, t, budget) => format!(in alloc;
-                "poll {} {} {budget}",
-                name(*h),
-                t.total_micros()
-            ),
+            Line::Poll(h, t, budget) => poll(alloc, *h, *t, *budget),
             Line::PollAt(h, t) => format!(in alloc; "pollat {} {}", name(*h), t.total_micros()),
-            Line::Deliver(h, k, bytes) => {
-                format!(in alloc; "deliver {} {k} {}", name(*h), hex(alloc, bytes)?)
-            }
-            Line::Damage(h, k, place, word, bytes) => {
-                let word = word_text(alloc, *word)?;
-                format!(in alloc;
-                    "damage {} {k} {place} {word} {}",
-                    name(*h),
-                    hex(alloc, bytes)?
-                )
-            }
+            Line::Deliver(h, k, bytes) => deliver(alloc, *h, *k, bytes),
+            Line::Damage(h, k, place, word, bytes) => damage(alloc, *h, *k, *place, *word, bytes),
             Line::Noise(h, bytes) => format!(in alloc; "noise {} {}", name(*h), hex(alloc, bytes)?),
             Line::Room(h, n) => format!(in alloc; "room {} {n}", name(*h)),
             Line::Cut(h, k, place) => format!(in alloc; "cut {} {k} {place}", name(*h)),
@@ -196,4 +166,84 @@ fn addrs(alloc: Global, side: Side, blocks: &Blocks) -> Result<String, AllocErro
         text.push_str(word.as_str())?;
     }
     Ok(text)
+}
+
+fn connect(
+    alloc: Global,
+    h: Side,
+    s: usize,
+    remote: IpEndpoint,
+    port: u16,
+) -> Result<String, AllocError>
+    ensures { IfOk result (λ text. string_bytes text ≡ line_text (Connect h s remote port)) }
+{
+    let remote = endpoint(alloc, remote)?;
+    format!(in alloc; "connect {} {s} {remote} {port}", name(h))
+}
+
+fn send(alloc: Global, h: Side, s: usize, bytes: &HexBytes<'_>) -> Result<String, AllocError>
+    ensures { IfOk result (λ text. string_bytes text ≡ line_text (Send h s bytes.now)) }
+{
+    format!(in alloc; "send {} {s} {}", name(h), hex(alloc, bytes)?)
+}
+
+fn send_to(
+    alloc: Global,
+    h: Side,
+    s: usize,
+    remote: IpEndpoint,
+    bytes: &HexBytes<'_>,
+) -> Result<String, AllocError>
+    ensures { IfOk result (λ text. string_bytes text ≡ line_text (SendTo h s remote bytes.now)) }
+{
+    let remote = endpoint(alloc, remote)?;
+    format!(in alloc; "sendto {} {s} {remote} {}", name(h), hex(alloc, bytes)?)
+}
+
+fn send_icmp(
+    alloc: Global,
+    h: Side,
+    s: usize,
+    to: IpAddress,
+    bytes: &HexBytes<'_>,
+) -> Result<String, AllocError>
+    ensures { IfOk result (λ text. string_bytes text ≡ line_text (SendIcmp h s to bytes.now)) }
+{
+    format!(in alloc; "sendicmp {} {s} {to} {}", name(h), hex(alloc, bytes)?)
+}
+
+fn send_raw(alloc: Global, h: Side, s: usize, bytes: &HexBytes<'_>) -> Result<String, AllocError>
+    ensures { IfOk result (λ text. string_bytes text ≡ line_text (SendRaw h s bytes.now)) }
+{
+    format!(in alloc; "sendraw {} {s} {}", name(h), hex(alloc, bytes)?)
+}
+
+fn poll(alloc: Global, h: Side, t: Instant, budget: u16) -> Result<String, AllocError>
+    ensures { IfOk result (λ text. string_bytes text ≡ line_text (Poll h t budget)) }
+{
+    format!(in alloc; "poll {} {} {budget}", name(h), t.total_micros())
+}
+
+fn deliver(alloc: Global, h: Side, k: usize, bytes: &HexBytes<'_>) -> Result<String, AllocError>
+    ensures { IfOk result (λ text. string_bytes text ≡ line_text (Deliver h k bytes.now)) }
+{
+    format!(in alloc; "deliver {} {k} {}", name(h), hex(alloc, bytes)?)
+}
+
+fn damage(
+    alloc: Global,
+    h: Side,
+    k: usize,
+    place: usize,
+    word: u16,
+    bytes: &HexBytes<'_>,
+) -> Result<String, AllocError>
+    ensures { IfOk result (λ text. string_bytes text ≡ line_text (Damage h k place word bytes.now)) }
+{
+    let word = word_text(alloc, word)?;
+    format!(in alloc;
+        "damage {} {k} {place} {word} {}",
+        name(h),
+        hex(alloc, bytes)?
+    )
 }
