@@ -1,3 +1,4 @@
 pub mod Kept
+pub mod Priced
 pub mod Touches
 pub mod Steady

@@ -1,5 +1,5 @@
 -- A socket's turn is a move, or none.
-use Rattle.std.proofs.Common.{◌≡◌, ℕ, Bool, true, false, inl, inr, List, [], ◌∷◌, ◌++◌, length, Option, Some, None, IfSome, refl, sym, ap, ◌∙◌, subst, append-nil}
+use Rattle.std.proofs.Common.{◌≡◌, ℕ, Bool, true, false, inl, inr, List, [], ◌∷◌, ◌++◌, length, Option, Some, None, IfSome, refl, sym, ap, ◌∙◌, subst, arith, append-nil, ◌+◌}
 use Rattle.std.specs.Prelude.{ℤ, slice_set, slice_index_or}
 use Rattle.ip_wire.specs.Ip.{destination_in}
 use Rattle.net_base.specs.Device.{Move}
@@ -161,53 +161,63 @@ unsettled (Is.Tcp v) none = let no_offer : v.offered ≡ None = none_open v.offe
 
 -- THE TURN
 
-module _ {D : Type 0} (moves : D → Move → D → Type 0) (t : ℤ) (names : List ℕ → Bool) (side : Side) (net : Net) (q : Party) (L : State D → Party → Type 0) (link : IsLink moves q L) (F : State D → Type 0) (fits : IsFitting moves t F) (h : HostValue) (before after : Places) where
+module _ {D : Type 0} (moves : D → Move → D → Type 0) (t : ℤ) (names : List ℕ → Bool) (side : Side) (net : Net) (q : Party) (L : ℕ → State D → Party → Type 0) (link : IsLink moves q L) (F : State D → Type 0) (fits : IsFitting moves t F) (n : ℕ) (h : HostValue) (before after : Places) where
   abbrev At : Sender D → Option (Item Socket) → State D
   At x o = sending_as h x (before ++ record { inner = o } ∷ after)
 
+  -- before the turn, and behind it
+  abbrev Now : State D → Type 0
+  Now s = Follows names side (L n) net s
+
+  abbrev Next : State D → Type 0
+  Next s = Follows names side (L (n + 1)) net s
+
+  uncounted : (s : State D) → Now s → Next s
+  uncounted s f = record { now = f.now; reaches = f.reaches; sockets = f.sockets; link = link.more n (n + 1) s (party f.now side) (omega arith) f.link }
+
   -- a packet goes its way, with its sockets told already
   leaves : (x x' : Sender D) (places : Places) (party : Party) (packet : PacketValue) (sent : Sent) → IsWide packet → (is_done sent ≡ true → IsMade party packet) → Leaves moves x packet sent x'
-      → L (sending_as h x places) party → L (sending_as h x' places) party
+      → L n (sending_as h x places) party → L (n + 1) (sending_as h x' places) party
   leaves x x' places party packet sent wide made (inl denied) holds =
       let there : state x'.device (record h { inner = x.inner; left = x.left }) places ≡ sending_as h x' places =
       λ k. state x'.device (record h { inner = sym denied.1 k; left = sym denied.2 k }) places in
-      subst (λ (s : State D). L s party) there (link.leave (sending_as h x places) party false x'.device denied.0 holds)
+      link.more n (n + 1) (sending_as h x' places) party (omega arith) (subst (λ (s : State D). L n s party) there (link.leave n (sending_as h x places) party false x'.device denied.0 holds))
   leaves x x' places party packet sent wide made (inr goes) holds =
-      link.goes (state goes.0 (record h { inner = x.inner; left = x.left }) places) party packet sent x'.device x'.inner x'.left wide made goes.2
-      (link.leave (sending_as h x places) party true goes.0 goes.1 holds)
+      link.goes n (state goes.0 (record h { inner = x.inner; left = x.left }) places) party packet sent x'.device x'.inner x'.left wide made goes.2
+      (link.leave n (sending_as h x places) party true goes.0 goes.1 holds)
 
   -- nothing goes, and the sockets look the same
-  stays_put : (x x' : Sender D) (o o' : Option (Item Socket)) → x' ≡ x → seen_place (record { inner = o' }) ≡ seen_place (record { inner = o }) → Follows names side L net (At x o) → Follows names side L net (At x' o')
-  stays_put x x' o o' is same f = subst (λ (y : Sender D). Follows names side L net (At y o')) (sym is) (record {
+  stays_put : (x x' : Sender D) (o o' : Option (Item Socket)) → x' ≡ x → seen_place (record { inner = o' }) ≡ seen_place (record { inner = o }) → Now (At x o) → Now (At x' o')
+  stays_put x x' o o' is same f = subst (λ (y : Sender D). Now (At y o')) (sym is) (record {
     now = f.now;
     reaches = f.reaches;
     sockets = f.sockets ∙ sym (same-middle seen_place before (record { inner = o }) (record { inner = o' }) after same);
-    link = link.grown (At x o) (before ++ record { inner = o' } ∷ after) (party f.now side) (party f.now side) (grows_not (party f.now side)) f.link;
+    link = link.grown n (At x o) (before ++ record { inner = o' } ∷ after) (party f.now side) (party f.now side) (grows_not (party f.now side)) f.link;
   })
 
   -- moves lead on, while nothing goes
-  abbrev moved_on : (x : Sender D) (o : Option (Item Socket)) (places : Places) (f : Follows names side L net (At x o)) → (m : Moved names side net f.now (sockets_of places)) → Follows names side L net (sending_as h x places)
+  abbrev moved_on : (x : Sender D) (o : Option (Item Socket)) (places : Places) (f : Now (At x o)) → (m : Moved names side net f.now (sockets_of places)) → Now (sending_as h x places)
   moved_on x o places f m = record {
     now = m.next;
     reaches = m.reaches;
     sockets = m.sockets_are;
-    link = link.grown (At x o) places (party f.now side) (party m.next side) m.grows f.link;
+    link = link.grown n (At x o) places (party f.now side) (party m.next side) m.grows f.link;
   }
 
   silent : (x x' : Sender D) (item item' : Item Socket) (offered : Socket) (changed : Bool) (turned : Turned) → Offers (context_of x.inner) item.socket (Offer.Silent changed) offered
-      → Answers moves (Offer.Silent changed) x (record item { socket = offered }) turned x' item' → Follows names side L net (At x (Some item)) → Follows names side L net (At x' (Some item'))
+      → Answers moves (Offer.Silent changed) x (record item { socket = offered }) turned x' item' → Now (At x (Some item)) → Now (At x' (Some item'))
   silent x x' item item' offered changed turned offers answers f =
       let given = gives names side net f.now f.reaches before after item.meta item.meta (context_of x.inner) item.socket offered (Offer.Silent changed) false offers f.sockets in
       let same : settled false offered ≡ offered = unsettled offered (none_offered (offered_by offered) changed (has_packet item.socket offered (context_of x.inner) (Offer.Silent changed) offers)) in
-      let still : Follows names side L net (At x (Some (record item { socket = offered }))) =
-      subst (λ (s : Socket). Follows names side L net (At x (Some (record item { socket = s })))) same
+      let still : Now (At x (Some (record item { socket = offered }))) =
+      subst (λ (s : Socket). Now (At x (Some (record item { socket = s })))) same
       (moved_on x (Some item) (before ++ holding item.meta (settled false offered) ∷ after) f given.moved) in
-      subst (λ (i : Item Socket). Follows names side L net (At x' (Some i))) (sym answers.2)
-      (subst (λ (y : Sender D). Follows names side L net (At y (Some (record item { socket = offered })))) (sym answers.1) still)
+      subst (λ (i : Item Socket). Now (At x' (Some i))) (sym answers.2)
+      (subst (λ (y : Sender D). Now (At y (Some (record item { socket = offered })))) (sym answers.1) still)
 
   sends : (x x' : Sender D) (item item' : Item Socket) (offered : Socket) (changed : Bool) (turned : Turned) (packet : Option PacketValue) → packet ≡ offered_by offered → IfSome packet IsWide
       → Offers (context_of x.inner) item.socket (Offer.Packet changed) offered → SendsBy moves packet x (record item { socket = offered }) changed turned x' item'
-      → Follows names side L net (At x (Some item)) → Follows names side L net (At x' (Some item'))
+      → Now (At x (Some item)) → Next (At x' (Some item'))
   sends x x' item item' offered changed turned None is wide offers goes f = absurd goes
   sends x x' item item' offered changed turned (Some packet) is wide offers goes f =
       let sent = goes.0 in
@@ -215,37 +225,37 @@ module _ {D : Type 0} (moves : D → Move → D → Type 0) (t : ℤ) (names : L
       let places = before ++ holding meta (settled (is_done sent) offered) ∷ after in
       let given = gives names side net f.now f.reaches before after item.meta meta (context_of x.inner) item.socket offered (Offer.Packet changed) (is_done sent) offers f.sockets in
       let on = moved_on x (Some item) places f given.moved in
-      let told : Follows names side L net (sending_as h x' places) = record {
+      let told : Next (sending_as h x' places) = record {
         now = on.now;
         reaches = on.reaches;
         sockets = on.sockets;
         link = leaves x x' places (party given.moved.next side) packet sent wide
             (λ done. some_so (offered_by offered) (IsMade (party given.moved.next side)) packet (sym is) (given.made done)) goes.1 on.link;
       } in
-      subst (λ (i : Item Socket). Follows names side L net (At x' (Some i))) (sym goes.3) told
+      subst (λ (i : Item Socket). Next (At x' (Some i))) (sym goes.3) told
 
   asks : (x x' : Sender D) (item item' : Item Socket) (answer : Answer.Offer) (offered : Socket) (turned : Turned) → IfSome (offered_by offered) IsWide
       → Offers (context_of x.inner) item.socket answer offered → Answers moves answer x (record item { socket = offered }) turned x' item'
-      → Follows names side L net (At x (Some item)) → Follows names side L net (At x' (Some item'))
-  asks x x' item item' (Offer.Silent changed) offered turned wide offers answers f = silent x x' item item' offered changed turned offers answers f
+      → Now (At x (Some item)) → Next (At x' (Some item'))
+  asks x x' item item' (Offer.Silent changed) offered turned wide offers answers f = uncounted (At x' (Some item')) (silent x x' item item' offered changed turned offers answers f)
   asks x x' item item' (Offer.Packet changed) offered turned wide offers answers f =
       sends x x' item item' offered changed turned (offered_by offered) refl wide offers answers f
 
   turns : (waits : Bool) (x x' : Sender D) (item item' : Item Socket) (turned : Turned) → TurnsIf moves waits x (let_through x.inner item) turned x' item' → F (At x (Some item))
-      → Follows names side L net (At x (Some item)) → Follows names side L net (At x' (Some item'))
+      → Now (At x (Some item)) → Next (At x' (Some item'))
   turns true x x' item item' turned waits wide f =
-      stays_put x x' (Some item) (Some item') waits.1 (ap (λ (i : Item Socket). Some (seen i.socket)) waits.2) f
+      uncounted (At x' (Some item')) (stays_put x x' (Some item) (Some item') waits.1 (ap (λ (i : Item Socket). Some (seen i.socket)) waits.2) f)
   turns false x x' item item' turned asked wide f =
       let through = let_through x.inner item in
       asks x x' through item' asked.0 asked.1 turned (fits.offers h x before after item asked.0 asked.1 wide asked.2) asked.2 asked.3
       (stays_put x x (Some item) (Some through) refl refl f)
 
-  items : (x x' : Sender D) (o o' : Option (Item Socket)) (turned : Turned) → ItemTurns moves o x turned x' o' → F (At x o) → Follows names side L net (At x o) → Follows names side L net (At x' o')
-  items x x' None None turned turn wide f = stays_put x x' None None turn.1 refl f
+  items : (x x' : Sender D) (o o' : Option (Item Socket)) (turned : Turned) → ItemTurns moves o x turned x' o' → F (At x o) → Now (At x o) → Next (At x' o')
+  items x x' None None turned turn wide f = uncounted (At x' None) (stays_put x x' None None turn.1 refl f)
   items x x' (Some item) (Some item') turned turn wide f = turns (is_waiting x.inner item.meta) x x' item item' turned turn wide f
   items x x' None (Some item') turned turn wide f = absurd turn
   items x x' (Some item) None turned turn wide f = absurd turn
 
   pub turn_follows : (p p' : SocketStorage Socket) (x x' : Sender D) (turned : Turned) → PlaceTurns moves x p turned x' p' → F (sending_as h x (before ++ p ∷ after))
-      → Follows names side L net (sending_as h x (before ++ p ∷ after)) → Follows names side L net (sending_as h x' (before ++ p' ∷ after))
+      → Now (sending_as h x (before ++ p ∷ after)) → Next (sending_as h x' (before ++ p' ∷ after))
   turn_follows p p' x x' turned turn wide f = items x x' p.inner p'.inner turned turn wide f

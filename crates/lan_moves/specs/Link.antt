@@ -1,5 +1,5 @@
 -- What is asked of the link between two hosts, and of the widths of what they send, so that what a host does in a poll is a run of moves.
-use Rattle.std.specs.Prelude.{◌≡◌, ℕ, ℤ, true, false, Bool, List, ◌∷◌, ◌++◌, Option, Some, IfSome, is_some}
+use Rattle.std.specs.Prelude.{◌≡◌, ◌≤◌, ◌+◌, ℕ, ℤ, true, false, Bool, List, ◌∷◌, ◌++◌, Option, Some, IfSome, is_some}
 use Rattle.net_base.specs.Device.{Move, Took, Empty, Allowed}
 use Rattle.ip_wire.specs.declared.arp.repr.ArpRepr.{ArpRepr}
 use Rattle.socket_base.specs.Packet.{PacketValue}
@@ -48,33 +48,36 @@ abbrev pub sent_at : {D : Type 0} → State D → D → InnerValue → Option Le
 sent_at s d inner left = state d (record s.host { inner = inner; left = left }) s.places
 
 module _ {D : Type 0} (moves : D → Move → D → Type 0) where
-  -- L: what holds of a host at its device, where a party made so much. It is kept by each thing that a poll does, and a frame that is
-  -- taken brings only what the other host q made. It says nothing of the sockets.
-  pub record IsLink (q : Party) (L : State D → Party → Type 0) : Type 0 where
-    pub grown : (s : State D) (places : List (SocketStorage Socket)) (p p' : Party) → Grows p p' → L s p → L (state s.device s.host places) p'
-    pub maintenance : (t : ℤ) (s : State D) (p : Party) → L s p → L (begun t s) p
-    pub looks : (s : State D) (p : Party) (d : D) → moves s.device Empty d → L s p → L (at_device s d) p
-    pub skips : (s : State D) (p : Party) (frame : List ℕ) (d : D) → moves s.device (Took frame) d → is_read frame ≡ false → L s p → L (at_device s d) p
+  -- L: what holds of a host at its device, where a party made so much, and so many packets were counted. It is kept by each thing that a
+  -- poll does, and a packet's way out counts one at most. A frame that is taken brings only what the other host q made. L says nothing
+  -- of the sockets.
+  pub record IsLink (q : Party) (L : ℕ → State D → Party → Type 0) : Type 0 where
+    pub more : (n m : ℕ) (s : State D) (p : Party) → n ≤ m → L n s p → L m s p
+    pub grown : (n : ℕ) (s : State D) (places : List (SocketStorage Socket)) (p p' : Party) → Grows p p' → L n s p → L n (state s.device s.host places) p'
+    pub maintenance : (n : ℕ) (t : ℤ) (s : State D) (p : Party) → L n s p → L n (begun t s) p
+    pub looks : (n : ℕ) (s : State D) (p : Party) (d : D) → moves s.device Empty d → L n s p → L n (at_device s d) p
+    pub skips : (n : ℕ) (s : State D) (p : Party) (frame : List ℕ) (d : D) → moves s.device (Took frame) d → is_read frame ≡ false → L n s p → L n (at_device s d) p
     pub brings :
-        (s : State D) (p : Party) (frame : List ℕ) (d : D) (content : Option IncomingValue) → moves s.device (Took frame) d → is_read frame ≡ true
-        → IsContentAt s frame content → L s p → BringsMade q s.host.inner.checksums (brought s content)
+        (n : ℕ) (s : State D) (p : Party) (frame : List ℕ) (d : D) (content : Option IncomingValue) → moves s.device (Took frame) d → is_read frame ≡ true
+        → IsContentAt s frame content → L n s p → BringsMade q s.host.inner.checksums (brought s content)
     pub takes :
-        (s : State D) (p : Party) (frame : List ℕ) (d : D) (content : Option IncomingValue) (slots : Slots) (a : Arrived) → moves s.device (Took frame) d
-        → is_read frame ≡ true → IsContentAt s frame content → ArrivesAt s content slots a → L s p → L (arrived_at s d slots a) p
-    pub leave : (s : State D) (p : Party) (given : Bool) (d : D) → moves s.device (Allowed given) d → L s p → L (at_device s d) p
+        (n : ℕ) (s : State D) (p : Party) (frame : List ℕ) (d : D) (content : Option IncomingValue) (slots : Slots) (a : Arrived) → moves s.device (Took frame) d
+        → is_read frame ≡ true → IsContentAt s frame content → ArrivesAt s content slots a → L n s p → L n (arrived_at s d slots a) p
+    pub leave : (n : ℕ) (s : State D) (p : Party) (given : Bool) (d : D) → moves s.device (Allowed given) d → L n s p → L n (at_device s d) p
     -- an ARP packet answers one that was taken
     pub tells :
-        (s : State D) (p : Party) (frame : List ℕ) (d0 : D) (content : Option IncomingValue) (slots : Slots) (a : Arrived) (packet : ArpRepr) (gone : Bool) (d : D)
+        (n : ℕ) (s : State D) (p : Party) (frame : List ℕ) (d0 : D) (content : Option IncomingValue) (slots : Slots) (a : Arrived) (packet : ArpRepr) (gone : Bool) (d : D)
         → moves s.device (Took frame) d0 → is_read frame ≡ true → IsContentAt s frame content → ArrivesAt s content slots a → a.reply ≡ Some (Replies.Tells packet)
-        → Departs moves d0 a.inner (Departures.Tells packet) gone d → L (arrived_at s d0 slots a) p → L (at_device (arrived_at s d0 slots a) d) p
+        → Departs moves d0 a.inner (Departures.Tells packet) gone d → L n (arrived_at s d0 slots a) p → L n (at_device (arrived_at s d0 slots a) d) p
     -- a packet's way out; one that is done with was made
     pub goes :
-        (s : State D) (p : Party) (x : PacketValue) (sent : Sent) (d : D) (inner : InnerValue) (left : Option LeftValue) → IsWide x → (is_done sent ≡ true → IsMade p x)
-        → GoesOut moves s.device s.host.inner s.host.left x (plan_of s.host.inner (is_some s.host.left) x.header) sent d inner left → L s p
-        → L (sent_at s d inner left) p
+        (n : ℕ) (s : State D) (p : Party) (x : PacketValue) (sent : Sent) (d : D) (inner : InnerValue) (left : Option LeftValue) → IsWide x → (is_done sent ≡ true → IsMade p x)
+        → GoesOut moves s.device s.host.inner s.host.left x (plan_of s.host.inner (is_some s.host.left) x.header) sent d inner left → L n s p
+        → L (n + 1) (sent_at s d inner left) p
+    -- a later piece, which counts nothing
     pub piece :
-        (s : State D) (p : Party) (l : LeftValue) (gone : Bool) (d : D) (left : Option LeftValue) → s.host.left ≡ Some l → PieceGoesOut moves s.device s.host.inner l gone d left
-        → L s p → L (sent_at s d s.host.inner left) p
+        (n : ℕ) (s : State D) (p : Party) (l : LeftValue) (gone : Bool) (d : D) (left : Option LeftValue) → s.host.left ≡ Some l → PieceGoesOut moves s.device s.host.inner l gone d left
+        → L n s p → L n (sent_at s d s.host.inner left) p
 
   -- F: what holds of a host with its sockets in a poll at a moment, so that each packet that they offer and each that answers has its widths
   pub record IsFitting (t : ℤ) (F : State D → Type 0) : Type 0 where
