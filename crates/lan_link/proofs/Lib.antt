@@ -10,6 +10,7 @@ pub mod CutFrames
 pub mod Links
 pub mod Spelled
 pub mod Others
+pub mod Routers
 pub mod PlanKinds
 pub mod Sends
 pub mod Stations

@@ -28,6 +28,7 @@ use Rattle.interface_egress.specs.Plan.{longest_cut, total_len, cut_if_idle, lon
 use Rattle.interface_egress.specs.declared.plan.Plan.{Plan}
 use Rattle.interface_egress.specs.declared.plan.Plan.TheVariants as Way
 use Rattle.lan_link.specs.Sides.{IsSameKind, IsStation, IsSound, IsAsked}
+use Rattle.lan_link.proofs.Routers.{routers_are}
 
 -- WHAT IS KNOWN OF A NEIGHBOUR
 
@@ -90,7 +91,7 @@ next_is : (i : InnerValue) (address : IpAddress) → IsSound i → IsIpAddress a
 next_is i address sound is =
     elim (is_in_own_network i address) as (λ b. IfSome (cond b (Some address) (router_of (best_route i.routes address i.moment))) IsIpAddress) [
       | true ↦ is
-      | false ↦ sound.routers address i.moment
+      | false ↦ routers_are i.routes sound.routers address i.moment
     ]
 
 -- THE MEDIUM

@@ -10,7 +10,6 @@ use Rattle.ip_wire.specs.declared.arp.repr.ArpRepr.{ArpRepr}
 use Rattle.ip_wire.specs.declared.arp.repr.ArpRepr.TheVariants as Arp
 use Rattle.socket_base.specs.Packet.{PacketValue, PayloadValue}
 use Rattle.interface_tables.specs.Inner.{InnerValue}
-use Rattle.interface_tables.specs.Route.{best_route, router_of}
 use Rattle.interface_tables.specs.declared.neighbor.Neighbor.{Neighbor}
 use Rattle.interface_tables.specs.declared.route.Route.{Route}
 use Rattle.interface_egress.specs.declared.frame.Question.{Question}
@@ -83,9 +82,9 @@ abbrev pub IsStation : HardwareAddress → Type 0
 IsStation (Hardware.Ethernet to) = Unit {0}
 IsStation Hardware.Ip = ⊥
 
--- whichever route a packet takes, its router is an address
+-- the router of each route is an address
 abbrev pub RoutersAre : List Route → Type 0
-RoutersAre routes = (address : IpAddress) (moment : ℤ) → IfSome (router_of (best_route routes address moment)) IsIpAddress
+RoutersAre routes = AllByRecursion (λ r. IsIpAddress r.via_router) routes
 
 -- its numbers and addresses are of their widths, its neighbours are stations, and it writes and tests every checksum
 pub record IsSound (i : InnerValue) : Type 0 where

@@ -72,7 +72,7 @@ rest_comes net old new past e of quiet leads = by_kind net old new past e of (ki
 
 -- RUNS
 
-first_of : (starts : Starts) (s : Side) → (party (first_net starts) s).sockets ≡ sockets_of (station (unused_both starts) s).places
+pub first_of : (starts : Starts) (s : Side) → (party (first_net starts) s).sockets ≡ sockets_of (station (unused_both starts) s).places
 first_of starts A = refl
 first_of starts B = refl
 
@@ -158,11 +158,10 @@ module _ (ports : Side → ℕ → ℕ) (net : Net) (safe : IsSafe ports net) wh
   unmade_safe : IsSafe ports (unmade net)
   unmade_safe = record { prefix = prefix; freed = freed; alone = alone; ends = safe.ends; reads = safe.reads }
 
--- a world that came by allowed events from fresh hosts is safe
-pub come_safe : (starts : Starts) (J : Stations → Net → Type 0) → IsJoined starts J → IsFreshWorld starts → (history : List Entry) (hosts : Stations)
-    → WorldRun history (unused_both starts) hosts → IsSafe (first_port starts) (net_of (record { hosts = hosts; starts = starts; history = history }))
-come_safe starts J joined fresh history hosts ran =
-    let came = has_come starts J joined history hosts ran in
+-- a world to which moves from fresh hosts have led is safe
+pub came_safe : (starts : Starts) (J : Stations → Net → Type 0) → IsFreshWorld starts → (history : List Entry) (hosts : Stations)
+    → HasCome starts J history hosts → IsSafe (first_port starts) (net_of (record { hosts = hosts; starts = starts; history = history }))
+came_safe starts J fresh history hosts came =
     let safe : IsSafe (first_port starts) came.net =
     subst (IsSafe (first_port starts)) came.ends (runs_safe (first_port starts) names (first_net starts) came.steps (fresh_net starts fresh) came.may) in
     let same : unmade came.net ≡ net_of (record { hosts = hosts; starts = starts; history = history }) =
@@ -172,3 +171,8 @@ come_safe starts J joined fresh history hosts ran =
       history = came.of.history k;
     } in
     subst (IsSafe (first_port starts)) same (unmade_safe (first_port starts) came.net safe)
+
+-- a world that came by allowed events from fresh hosts is safe
+pub come_safe : (starts : Starts) (J : Stations → Net → Type 0) → IsJoined starts J → IsFreshWorld starts → (history : List Entry) (hosts : Stations)
+    → WorldRun history (unused_both starts) hosts → IsSafe (first_port starts) (net_of (record { hosts = hosts; starts = starts; history = history }))
+come_safe starts J joined fresh history hosts ran = came_safe starts J fresh history hosts (has_come starts J joined history hosts ran)
