@@ -9,6 +9,7 @@ pub mod Grown
 pub mod CutFrames
 pub mod Links
 pub mod Spelled
+pub mod Begun
 pub mod Others
 pub mod Routers
 pub mod PlanKinds
@@ -17,3 +18,4 @@ pub mod Stations
 pub mod HostFrames
 pub mod Damaged
 pub mod DamagedFrames
+pub mod Sufficient

@@ -1,11 +1,11 @@
 -- The router of a route is an address.
-use Rattle.std.proofs.Common.{◌≡◌, ℕ, zero, suc, Bool, true, false, cond, List, [], ◌∷◌, ◌++◌, length, take, drop, Option, Some, None, IfSome, refl, sym, ◌∙◌, ap, subst}
+use Rattle.std.proofs.Common.{ℕ, zero, suc, Bool, true, false, cond, List, [], ◌∷◌, ◌++◌, take, drop, Option, Some, None, IfSome, sym, subst}
 use Rattle.std.proofs.lemmas.List.{reverse-append}
-use Rattle.std.specs.Prelude.{ℤ, reverse, find, position, remove}
+use Rattle.std.specs.Prelude.{ℤ, reverse, find, position}
 use Rattle.std.specs.List.{AllByRecursion, filter_map, cons_option}
 use Rattle.ip_wire.specs.Address.{IsIpAddress}
 use Rattle.ip_wire.specs.IpAddress.{IpAddress}
-use Rattle.interface_tables.specs.Best.{is_unbeaten, first_best}
+use Rattle.interface_tables.specs.Best.{is_unbeaten}
 use Rattle.interface_tables.specs.Route.{serves, serving, is_longer, best_route, router_of, without_at, without}
 use Rattle.interface_tables.specs.declared.route.Route.{Route}
 use Rattle.lan_link.specs.Sides.{RoutersAre}

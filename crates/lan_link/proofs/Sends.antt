@@ -1,5 +1,5 @@
 -- What leaves a host keeps what is said of its frames.
-use Rattle.std.proofs.Common.{◌≡◌, ◌⊎◌, inl, inr, ℕ, ◌+◌, ◌≤◌, Bool, true, false, cond, List, [], ◌∷◌, ◌++◌, length, Option, Some, None, IfSome, refl, sym, ap, subst, arith}
+use Rattle.std.proofs.Common.{◌≡◌, ◌⊎◌, inl, inr, ℕ, ◌+◌, ◌≤◌, Bool, true, false, cond, List, [], ◌∷◌, ◌++◌, length, Option, Some, None, IfSome, refl, sym, ◌∙◌, ap, subst, arith}
 use Rattle.std.specs.Prelude.{nat_lt}
 use Rattle.std.specs.List.{AllByRecursion}
 use Rattle.net_base.specs.ChecksumCapabilities.{ChecksumCapabilities}
@@ -28,13 +28,15 @@ use Rattle.interface_ingress.specs.Sent.{CanBeRead, normal_payload}
 use Rattle.interface_delivery.specs.Delivered.{NamesNoPorts, IsWritable}
 use Rattle.interface_delivery.specs.Taken.{HasWidths, IsHalfSent}
 use Rattle.interface_delivery.proofs.Offered.{writes, readable, begun_half, left_half}
+use Rattle.lan_stations.specs.Origins.{begins_datagram}
 use Rattle.lan_port.specs.Port.{PortValue, PortMove}
 use Rattle.lan_link.specs.Made.{sealed, IsGoing}
 use Rattle.lan_link.specs.Frames.{medium_on, IsOut}
-use Rattle.lan_link.specs.Numbers.{and_v4, count_v4, AreNumbered}
+use Rattle.lan_link.specs.Numbers.{and_v4, count_v4, AreNumbered, IsTied}
 use Rattle.lan_link.specs.Sides.{Grows, WentOut, AreSent, IsHostFrame, IsOther, IsSound, IsSameKind, IsStation, IsLeft, IsSender, IsAsked, IsBetweenStations}
 use Rattle.lan_link.proofs.Grown.{all_grow, sent4_grows, frame_grows}
 use Rattle.lan_link.proofs.PlanKinds.{PlanKind, plan_kind}
+use Rattle.lan_link.proofs.Begun.{worth, whole_begins, piece_begins, tied_same, tied_frame, tied_on}
 use Rattle.lan_link.proofs.Others.{arp_is_other, question_is_other}
 use Rattle.lan_link.proofs.Slots.{all_more}
 use Rattle.lan_link.proofs.Spelled.{whole_frame, piece_frame_is}
@@ -100,9 +102,24 @@ same_sender : (made : PayloadValue → Type 0) (first : ℕ) (out : List PacketV
 same_sender made first out i i' l l' sent sent' a b c s =
     subst (λ (x : InnerValue). IsSender made first x l' sent' out) (sym a) (subst (λ (x : Option LeftValue). IsSender made first i x sent' out) (sym b) (subst (λ (x : List (List ℕ)). IsSender made first i l x out) (sym c) s))
 
-unchanged : (made : PayloadValue → Type 0) (first : ℕ) (out : List PacketValue) (i i' : InnerValue) (l l' : Option LeftValue) (sent sent' : List (List ℕ)) → i' ≡ i → l' ≡ l → sent' ≡ sent → IsSender made first i l sent out → WentOut made first out i' l' sent'
-unchanged made first out i i' l l' sent sent' a b c s =
-    record { out_after = out; grows = λ p among. among; one = omega arith; sender = same_sender made first out i i' l l' sent sent' a b c s }
+unchanged : (made : PayloadValue → Type 0) (first most : ℕ) (out : List PacketValue) (i i' : InnerValue) (l l' : Option LeftValue) (sent sent' : List (List ℕ)) → i' ≡ i → l' ≡ l → sent' ≡ sent → IsSender made first i l sent out → WentOut made first most out sent i' l' sent'
+unchanged made first most out i i' l l' sent sent' a b c s = record {
+  out_after = out;
+  grows = λ p among. among;
+  count = omega arith;
+  tied = tied_same (medium_on i'.hardware) out sent sent' c;
+  sender = same_sender made first out i i' l l' sent sent' a b c s;
+}
+
+-- one more frame, of no packet that is new
+one_frame : (made : PayloadValue → Type 0) (first most : ℕ) (out : List PacketValue) (i' : InnerValue) (l' : Option LeftValue) (sent sent' : List (List ℕ)) (frame : List ℕ) → sent' ≡ sent ++ frame ∷ [] → IsSender made first i' l' sent' out → WentOut made first most out sent i' l' sent'
+one_frame made first most out i' l' sent sent' frame is s = record {
+  out_after = out;
+  grows = λ p among. among;
+  count = omega arith;
+  tied = tied_frame (medium_on i'.hardware) out out sent sent' frame is (omega arith);
+  sender = s;
+}
 
 left_grows : (hardware : HardwareAddress) (out out' : List PacketValue) (l : Option LeftValue) → Grows out out' → IfSome l (IsLeft hardware out) → IfSome l (IsLeft hardware out')
 left_grows hardware out out' None grows is = tt
@@ -157,15 +174,27 @@ module _ (made : PayloadValue → Type 0) (first : ℕ) (out : List PacketValue)
           frames = subst (λ (h : HardwareAddress). AllByRecursion (IsHostFrame (medium_on h) more) d'.link.sent) (sym (after_hardware i p.header)) all;
         }
 
+    whole_tied : (to : HardwareAddress) (d' : PortValue) → total_len p.header ≤ 65535 → IsSameKind i.hardware to → Departs PortMove d i (Whole to (numbered i p)) true d' → IsTied (medium_on i.hardware) out d.link.sent more d'.link.sent
+    whole_tied to d' short kind departs =
+        let w : IsWritable (numbered i p) = writes i p s.sound.widths going.offered short in
+        let caps : i.checksums ≡ sealed = s.sound.checksums in
+        let len : length (packet_frame sealed i.hardware to (numbered i p)) ≡ packet_frame_len i.hardware to (numbered i p) =
+        subst (λ (c : ChecksumCapabilities). length (packet_frame c i.hardware to (numbered i p)) ≡ packet_frame_len i.hardware to (numbered i p)) caps departs.1 in
+        tied_frame (medium_on i.hardware) out more d.link.sent d'.link.sent (packet_frame sealed i.hardware to (numbered i p))
+        (emitted d d' (packet_frame i.checksums i.hardware to (numbered i p)) (packet_frame_len i.hardware to (numbered i p)) departs
+        ∙ ap (λ (c : ChecksumCapabilities). d.link.sent ++ packet_frame c i.hardware to (numbered i p) ∷ []) caps)
+        (whole_begins i.hardware to (numbered_header i p.header) p.payload (count_v4 out) kind w len)
+
     went : (to : HardwareAddress) (sent : Sent) (d' : PortValue) (i' : InnerValue) (l' : Option LeftValue) → total_len p.header ≤ 65535 → IsSameKind i.hardware to
-        → Went PortMove d i p.header (Whole to (numbered i p)) sent d' i' → l' ≡ l → WentOut made first out i' l' d'.link.sent
+        → Went PortMove d i p.header (Whole to (numbered i p)) sent d' i' → l' ≡ l → WentOut made first 1 out d.link.sent i' l' d'.link.sent
     went to Outcome.Gone d' i' l' short kind goes same = record {
       out_after = more;
       grows = grows_more;
-      one = one_at_most;
+      count = one_at_most;
+      tied = tied_on i.hardware i'.hardware out more d.link.sent d'.link.sent (ap (λ (x : InnerValue). x.hardware) goes.1 ∙ after_hardware i p.header) (whole_tied to d' short kind goes.0);
       sender = same_sender made first more (after_header p.header i) i' l l' d'.link.sent d'.link.sent goes.1 same refl (whole_sender to d' short kind goes.0);
     }
-    went to Outcome.Refused d' i' l' short kind goes same = unchanged made first out i i' l l' d.link.sent d'.link.sent goes.1 same (denied d d' [] (packet_frame_len i.hardware to (numbered i p)) goes.0) s
+    went to Outcome.Refused d' i' l' short kind goes same = unchanged made first 1 out i i' l l' d.link.sent d'.link.sent goes.1 same (denied d d' [] (packet_frame_len i.hardware to (numbered i p)) goes.0) s
     went to Outcome.Dropped d' i' l' short kind goes same = absurd goes
     went to Outcome.Waits d' i' l' short kind goes same = absurd goes
     went to Outcome.Busy d' i' l' short kind goes same = absurd goes
@@ -211,14 +240,27 @@ module _ (made : PayloadValue → Type 0) (first : ℕ) (out : List PacketValue)
                 (frames_more (piece_frame i.checksums i.hardware to c.header (next_piece i.mtu c)) frame);
           }
 
-      was_cut : (sent : Sent) (d' : PortValue) (i' : InnerValue) (l' : Option LeftValue) → WasCut PortMove d i l c sent d' i' l' → WentOut made first out i' l' d'.link.sent
+      cut_tied : (d' : PortValue) → Departs PortMove d i (next_departure i.mtu c) true d' → IsTied (medium_on i.hardware) out d.link.sent more d'.link.sent
+      cut_tied d' departs =
+          let caps : i.checksums ≡ sealed = s.sound.checksums in
+          let frame : List ℕ = piece_frame sealed i.hardware to c.header (next_piece i.mtu c) in
+          let len : length frame ≡ piece_frame_len i.hardware to (next_piece i.mtu c) =
+          subst (λ (k : ChecksumCapabilities). length (piece_frame k i.hardware to c.header (next_piece i.mtu c)) ≡ piece_frame_len i.hardware to (next_piece i.mtu c)) caps departs.1 in
+          let one : worth (begins_datagram (medium_on i.hardware) frame) ≡ 1 = ap worth (piece_begins i.hardware more i.mtu c cut_left len refl) in
+          tied_frame (medium_on i.hardware) out more d.link.sent d'.link.sent frame
+          (emitted d d' (piece_frame i.checksums i.hardware to c.header (next_piece i.mtu c)) (piece_frame_len i.hardware to (next_piece i.mtu c)) departs
+          ∙ ap (λ (k : ChecksumCapabilities). d.link.sent ++ piece_frame k i.hardware to c.header (next_piece i.mtu c) ∷ []) caps)
+          (omega (arith, one, one_at_most))
+
+      was_cut : (sent : Sent) (d' : PortValue) (i' : InnerValue) (l' : Option LeftValue) → WasCut PortMove d i l c sent d' i' l' → WentOut made first 1 out d.link.sent i' l' d'.link.sent
       was_cut Outcome.Gone d' i' l' goes = record {
         out_after = more;
         grows = grows_more;
-        one = one_at_most;
+        count = one_at_most;
+        tied = tied_on i.hardware i'.hardware out more d.link.sent d'.link.sent (ap (λ (x : InnerValue). x.hardware) goes.1) (cut_tied d' goes.0);
         sender = same_sender made first more (with_next_ident i) i' (left_after i.mtu c) l' d'.link.sent d'.link.sent goes.1 goes.2 refl (cut_sender d' goes.0);
       }
-      was_cut Outcome.Refused d' i' l' goes = unchanged made first out i i' l l' d.link.sent d'.link.sent goes.1 goes.2 (denied d d' [] (piece_frame_len i.hardware to (next_piece i.mtu c)) goes.0) s
+      was_cut Outcome.Refused d' i' l' goes = unchanged made first 1 out i i' l l' d.link.sent d'.link.sent goes.1 goes.2 (denied d d' [] (piece_frame_len i.hardware to (next_piece i.mtu c)) goes.0) s
       was_cut Outcome.Dropped d' i' l' goes = absurd goes
       was_cut Outcome.Waits d' i' l' goes = absurd goes
       was_cut Outcome.Busy d' i' l' goes = absurd goes
@@ -236,21 +278,41 @@ module _ (made : PayloadValue → Type 0) (first : ℕ) (out : List PacketValue)
         frames = subst (λ (fs : List (List ℕ)). AllByRecursion (IsHostFrame (medium_on i.hardware) out) fs) (sym (ap (λ (x : PortValue). x.link.sent) departs.0)) (all_more (IsHostFrame (medium_on i.hardware) out) d.link.sent (question_frame i.checksums q) s.frames frame);
       }
 
-  asked_by : (q : Question) (sent : Sent) (d' : PortValue) (i' : InnerValue) (l' : Option LeftValue) → AsksFrom i.hardware q → IsAsked q → Asked PortMove d i (Asks q) sent d' i' → l' ≡ l → WentOut made first out i' l' d'.link.sent
+  asked_by : (q : Question) (sent : Sent) (d' : PortValue) (i' : InnerValue) (l' : Option LeftValue) → AsksFrom i.hardware q → IsAsked q → Asked PortMove d i (Asks q) sent d' i' → l' ≡ l → WentOut made first 1 out d.link.sent i' l' d'.link.sent
   asked_by q Outcome.Waits d' i' l' from asked goes same =
-      record { out_after = out; grows = λ p among. among; one = omega arith; sender = same_sender made first out (with_silence i) i' l l' d'.link.sent d'.link.sent goes.1 same refl (asked_sender q d' from asked goes.0) }
-  asked_by q Outcome.Refused d' i' l' from asked goes same = unchanged made first out i i' l l' d.link.sent d'.link.sent goes.1 same (ap (λ (x : PortValue). x.link.sent) goes.0.0) s
+      one_frame made first 1 out i' l' d.link.sent d'.link.sent (question_frame i.checksums q) (ap (λ (x : PortValue). x.link.sent) goes.0.0)
+      (same_sender made first out (with_silence i) i' l l' d'.link.sent d'.link.sent goes.1 same refl (asked_sender q d' from asked goes.0))
+  asked_by q Outcome.Refused d' i' l' from asked goes same = unchanged made first 1 out i i' l l' d.link.sent d'.link.sent goes.1 same (ap (λ (x : PortValue). x.link.sent) goes.0.0) s
   asked_by q Outcome.Gone d' i' l' from asked goes same = absurd goes
   asked_by q Outcome.Dropped d' i' l' from asked goes same = absurd goes
   asked_by q Outcome.Busy d' i' l' from asked goes same = absurd goes
 
+  -- WHAT DOESN'T GO
+
+  went_not : (p : PacketValue) (to : HardwareAddress) (sent : Sent) (d' : PortValue) (i' : InnerValue) (l' : Option LeftValue) → (sent ≡ Outcome.Gone → ⊥)
+      → Went PortMove d i p.header (Whole to (numbered i p)) sent d' i' → l' ≡ l → WentOut made first 1 out d.link.sent i' l' d'.link.sent
+  went_not p to Outcome.Gone d' i' l' unsent goes same = absurd (unsent refl)
+  went_not p to Outcome.Refused d' i' l' unsent goes same = unchanged made first 1 out i i' l l' d.link.sent d'.link.sent goes.1 same (denied d d' [] (packet_frame_len i.hardware to (numbered i p)) goes.0) s
+  went_not p to Outcome.Dropped d' i' l' unsent goes same = absurd goes
+  went_not p to Outcome.Waits d' i' l' unsent goes same = absurd goes
+  went_not p to Outcome.Busy d' i' l' unsent goes same = absurd goes
+
+  cut_not : (p : PacketValue) (to : HardwareAddress) (v : Ipv4Repr) (sent : Sent) (d' : PortValue) (i' : InnerValue) (l' : Option LeftValue) → (sent ≡ Outcome.Gone → ⊥)
+      → WasCut PortMove d i l (cut_of i to v p) sent d' i' l' → WentOut made first 1 out d.link.sent i' l' d'.link.sent
+  cut_not p to v Outcome.Gone d' i' l' unsent goes = absurd (unsent refl)
+  cut_not p to v Outcome.Refused d' i' l' unsent goes =
+      unchanged made first 1 out i i' l l' d.link.sent d'.link.sent goes.1 goes.2 (denied d d' [] (piece_frame_len i.hardware to (next_piece i.mtu (cut_of i to v p))) goes.0) s
+  cut_not p to v Outcome.Dropped d' i' l' unsent goes = absurd goes
+  cut_not p to v Outcome.Waits d' i' l' unsent goes = absurd goes
+  cut_not p to v Outcome.Busy d' i' l' unsent goes = absurd goes
+
   -- ANY PLAN
 
-  stays : (d' : PortValue) (i' : InnerValue) (l' : Option LeftValue) → Stays d i l d' i' l' → WentOut made first out i' l' d'.link.sent
-  stays d' i' l' is = unchanged made first out i i' l l' d.link.sent d'.link.sent is.1 is.2 (ap (λ (x : PortValue). x.link.sent) is.0) s
+  stays : (d' : PortValue) (i' : InnerValue) (l' : Option LeftValue) → Stays d i l d' i' l' → WentOut made first 1 out d.link.sent i' l' d'.link.sent
+  stays d' i' l' is = unchanged made first 1 out i i' l l' d.link.sent d'.link.sent is.1 is.2 (ap (λ (x : PortValue). x.link.sent) is.0) s
 
   abbrev Leads : PacketValue → Plan → Type 0
-  Leads p plan = (sent : Sent) (d' : PortValue) (i' : InnerValue) (l' : Option LeftValue) → GoesOut PortMove d i l p plan sent d' i' l' → WentOut made first out i' l' d'.link.sent
+  Leads p plan = (sent : Sent) (d' : PortValue) (i' : InnerValue) (l' : Option LeftValue) → GoesOut PortMove d i l p plan sent d' i' l' → WentOut made first 1 out d.link.sent i' l' d'.link.sent
 
   -- a packet's way out, whatever becomes of it
   pub goes_keeps : (busy : Bool) (p : PacketValue) → IsGoing made p → Leads p (plan_of i busy p.header)
@@ -262,6 +324,17 @@ module _ (made : PayloadValue → Type 0) (first : ℕ) (out : List PacketValue)
       (λ to v header long short idle is kind sent d' i' l' goes. was_cut p going to v header short (begun_half i busy p to v s.sound.widths going.offered is) kind sent d' i' l' goes)
       refl (plan_kind i busy p.header s.sound (to_address p.header going.offered.header))
 
+  -- what doesn't go leaves no more packets, whoever made it
+  pub unsent_keeps : (busy : Bool) (p : PacketValue) → Ips.IsValue p.header → (sent : Sent) (d' : PortValue) (i' : InnerValue) (l' : Option LeftValue) → (sent ≡ Outcome.Gone → ⊥)
+      → GoesOut PortMove d i l p (plan_of i busy p.header) sent d' i' l' → WentOut made first 1 out d.link.sent i' l' d'.link.sent
+  unsent_keeps busy p value sent d' i' l' unsent =
+      plan_cases i busy p.header (λ plan. PlanKind i.hardware plan → GoesOut PortMove d i l p plan sent d' i' l' → WentOut made first 1 out d.link.sent i' l' d'.link.sent)
+      (λ kind goes. stays d' i' l' goes.1) (λ kind goes. stays d' i' l' goes.1) (λ kind goes. stays d' i' l' goes.1) (λ kind goes. stays d' i' l' goes.1)
+      (λ q may from kind goes. asked_by q sent d' i' l' from kind goes.0 goes.1)
+      (λ to short kind goes. went_not p to sent d' i' l' unsent goes.0 goes.1)
+      (λ to v header long short idle kind goes. cut_not p to v sent d' i' l' unsent goes)
+      (plan_kind i busy p.header s.sound (to_address p.header value))
+
   -- ANSWERS TO QUESTIONS
 
   told_frame : (hardware : HardwareAddress) (packet : ArpRepr) → IsStation hardware → IsBetweenStations packet → IsHostFrame (medium_on hardware) out (arp_frame packet)
@@ -269,20 +342,16 @@ module _ (made : PayloadValue → Type 0) (first : ℕ) (out : List PacketValue)
   told_frame Hardware.Ip packet station between = absurd station
 
   -- an ARP packet's way out
-  pub tells_keeps : (packet : ArpRepr) (gone : Bool) (d' : PortValue) → IsStation i.hardware → IsBetweenStations packet → Departs PortMove d i (Tells packet) gone d' → WentOut made first out i l d'.link.sent
-  tells_keeps packet true d' station between departs = record {
-    out_after = out;
-    grows = λ p among. among;
-    one = omega arith;
-    sender = record {
-      sound = s.sound;
-      are_sent = s.are_sent;
-      left_is = s.left_is;
-      frames = subst (λ (fs : List (List ℕ)). AllByRecursion (IsHostFrame (medium_on i.hardware) out) fs) (sym (ap (λ (x : PortValue). x.link.sent) departs.0))
-          (all_more (IsHostFrame (medium_on i.hardware) out) d.link.sent (arp_frame packet) s.frames (told_frame i.hardware packet station between));
-    };
-  }
-  tells_keeps packet false d' station between departs = unchanged made first out i i l l d.link.sent d'.link.sent refl refl (ap (λ (x : PortValue). x.link.sent) departs.0) s
+  pub tells_keeps : (packet : ArpRepr) (gone : Bool) (d' : PortValue) → IsStation i.hardware → IsBetweenStations packet → Departs PortMove d i (Tells packet) gone d' → WentOut made first 0 out d.link.sent i l d'.link.sent
+  tells_keeps packet true d' station between departs =
+      one_frame made first 0 out i l d.link.sent d'.link.sent (arp_frame packet) (ap (λ (x : PortValue). x.link.sent) departs.0) (record {
+        sound = s.sound;
+        are_sent = s.are_sent;
+        left_is = s.left_is;
+        frames = subst (λ (fs : List (List ℕ)). AllByRecursion (IsHostFrame (medium_on i.hardware) out) fs) (sym (ap (λ (x : PortValue). x.link.sent) departs.0))
+            (all_more (IsHostFrame (medium_on i.hardware) out) d.link.sent (arp_frame packet) s.frames (told_frame i.hardware packet station between));
+      })
+  tells_keeps packet false d' station between departs = unchanged made first 0 out i i l l d.link.sent d'.link.sent refl refl (ap (λ (x : PortValue). x.link.sent) departs.0) s
 
 -- PIECES
 
@@ -309,7 +378,8 @@ module _ (made : PayloadValue → Type 0) (first : ℕ) (out : List PacketValue)
       }
 
   -- a later piece's way out
-  pub piece_keeps : (gone : Bool) (d' : PortValue) (l' : Option LeftValue) → PieceGoesOut PortMove d i c gone d' l' → WentOut made first out i l' d'.link.sent
+  pub piece_keeps : (gone : Bool) (d' : PortValue) (l' : Option LeftValue) → PieceGoesOut PortMove d i c gone d' l' → WentOut made first 0 out d.link.sent i l' d'.link.sent
   piece_keeps true d' l' goes =
-      record { out_after = out; grows = λ p among. among; one = omega arith; sender = same_sender made first out i i (left_after i.mtu c) l' d'.link.sent d'.link.sent refl goes.1 refl (piece_sender d' goes.0) }
-  piece_keeps false d' l' goes = unchanged made first out i i (Some c) l' d.link.sent d'.link.sent refl goes.1 (ap (λ (x : PortValue). x.link.sent) goes.0.0) s
+      one_frame made first 0 out i l' d.link.sent d'.link.sent (piece_frame i.checksums i.hardware c.to c.header (next_piece i.mtu c)) (ap (λ (x : PortValue). x.link.sent) goes.0.0)
+      (same_sender made first out i i (left_after i.mtu c) l' d'.link.sent d'.link.sent refl goes.1 refl (piece_sender d' goes.0))
+  piece_keeps false d' l' goes = unchanged made first 0 out i i (Some c) l' d.link.sent d'.link.sent refl goes.1 (ap (λ (x : PortValue). x.link.sent) goes.0.0) s

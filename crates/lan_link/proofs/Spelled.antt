@@ -40,26 +40,29 @@ sent_len : (p : PacketValue) → IsWritable p → length (bytes_of p) ≡ payloa
 sent_len p w = sym (length-written sealed p w) ∙ w.sendable.len
 
 module _ (own to : HardwareAddress) (same : IsSameKind own to) (out : List PacketValue) where
-  whole4 : (v : Ipv4Repr) (x : PayloadValue) → IsWritable (packet_of (Ip.Ipv4 v) x) → length (packet_frame sealed own to (packet_of (Ip.Ipv4 v) x)) ≡ packet_frame_len own to (packet_of (Ip.Ipv4 v) x)
-      → IsSlice (medium_on own) (packet_of (Ip.Ipv4 v) x ∷ out) (packet_frame sealed own to (packet_of (Ip.Ipv4 v) x))
+  -- the slice that begins the packet
+  pub whole4 : (v : Ipv4Repr) (x : PayloadValue) → IsWritable (packet_of (Ip.Ipv4 v) x) → length (packet_frame sealed own to (packet_of (Ip.Ipv4 v) x)) ≡ packet_frame_len own to (packet_of (Ip.Ipv4 v) x)
+      → (f : IsSlice (medium_on own) (packet_of (Ip.Ipv4 v) x ∷ out) (packet_frame sealed own to (packet_of (Ip.Ipv4 v) x))) × (f.slice.at ≡ 0)
   whole4 v x w len =
       let p : PacketValue = packet_of (Ip.Ipv4 v) x in
       let bytes : List ℕ = bytes_of p in
       let count : v.payload_len ≡ length bytes = length-written sealed p w in
       let fits : 20 + v.payload_len < 2 ^ 16 = w.sendable.header in
       let all : take (length bytes) (drop 0 bytes) ≡ bytes = ap (take (length bytes)) (sym (append-nil bytes)) ∙ take_at bytes [] (length bytes) refl in
-      let link : List ℕ = link_header own to Ether.Ipv4 in
-      record {
-        link = link;
-        header = v;
-        bytes = bytes;
-        slice = record { at = 0; count = length bytes; more = false };
-        sent = record { packet = p; among = inl refl; header = refl; bytes_are = refl; value = w.header; short = omega (arith, count, fits) };
-        is_link = link4 own to same (front link (Ipv4.written true v) bytes (link_len own to) 20 (payload_len x) len (length_v4 v 0 false w.header) (sent_len p w));
-        within = record { within = omega arith; last = λ none. omega arith };
-        unit = refl;
-        frame_is = ap (λ (n : ℕ). link ++ (Ipv4.written_piece true (with_len v n) 0 false ++ bytes)) count ∙ ap (λ (b : List ℕ). link ++ (Ipv4.written_piece true (with_len v (length bytes)) 0 false ++ b)) (sym all);
-      }
+      let link : List ℕ = link_header own to Ether.Ipv4 in (
+        record {
+          link = link;
+          header = v;
+          bytes = bytes;
+          slice = record { at = 0; count = length bytes; more = false };
+          sent = record { packet = p; among = inl refl; header = refl; bytes_are = refl; value = w.header; short = omega (arith, count, fits) };
+          is_link = link4 own to same (front link (Ipv4.written true v) bytes (link_len own to) 20 (payload_len x) len (length_v4 v 0 false w.header) (sent_len p w));
+          within = record { within = omega arith; last = λ none. omega arith };
+          unit = refl;
+          frame_is = ap (λ (n : ℕ). link ++ (Ipv4.written_piece true (with_len v n) 0 false ++ bytes)) count ∙ ap (λ (b : List ℕ). link ++ (Ipv4.written_piece true (with_len v (length bytes)) 0 false ++ b)) (sym all);
+        },
+        refl,
+      )
 
   whole6 : (v : Ipv6Repr) (x : PayloadValue) → IsWritable (packet_of (Ip.Ipv6 v) x) → length (packet_frame sealed own to (packet_of (Ip.Ipv6 v) x)) ≡ packet_frame_len own to (packet_of (Ip.Ipv6 v) x)
       → IsWhole6 (medium_on own) (packet_of (Ip.Ipv6 v) x ∷ out) (packet_frame sealed own to (packet_of (Ip.Ipv6 v) x))
@@ -77,7 +80,7 @@ module _ (own to : HardwareAddress) (same : IsSameKind own to) (out : List Packe
 
   whole_by : (h : IpRepr) (x : PayloadValue) → IsWritable (packet_of h x) → length (packet_frame sealed own to (packet_of h x)) ≡ packet_frame_len own to (packet_of h x)
       → IsHostFrame (medium_on own) (packet_of h x ∷ out) (packet_frame sealed own to (packet_of h x))
-  whole_by (Ip.Ipv4 v) x w len = inl (whole4 v x w len)
+  whole_by (Ip.Ipv4 v) x w len = inl (whole4 v x w len).0
   whole_by (Ip.Ipv6 v) x w len = inr (inl (whole6 v x w len))
 
   -- the frame of a packet that goes whole
@@ -94,28 +97,34 @@ take_count (suc n) (x ∷ xs) = ap (λ (l : List ℕ). x ∷ l) (take_count n xs
 ended : (a b : ℕ) → nat_lt a b ≡ false → b ≤ a
 ended a b none = grind (arith, nat_tests)
 
--- the frame of the next piece of what is left
-pub piece_frame_is : (own : HardwareAddress) (out : List PacketValue) (mtu : ℕ) (l : LeftValue) → IsLeft own out l → length (piece_frame sealed own l.to l.header (next_piece mtu l)) ≡ piece_frame_len own l.to (next_piece mtu l)
-    → IsHostFrame (medium_on own) out (piece_frame sealed own l.to l.header (next_piece mtu l))
-piece_frame_is own out mtu l left len =
+-- the next piece of what is left, from where that begins
+pub piece_slice : (own : HardwareAddress) (out : List PacketValue) (mtu : ℕ) (l : LeftValue) → IsLeft own out l → length (piece_frame sealed own l.to l.header (next_piece mtu l)) ≡ piece_frame_len own l.to (next_piece mtu l)
+    → (f : IsSlice (medium_on own) out (piece_frame sealed own l.to l.header (next_piece mtu l))) × (f.slice.at ≡ l.at)
+piece_slice own out mtu l left len =
     let room : ℕ = piece_room mtu in
     let part : List ℕ = take room (drop l.at l.payload) in
     let link : List ℕ = link_header own l.to Ether.Ipv4 in
     let w : List ℕ = Ipv4.written_piece true (with_len l.header (length part)) l.at (nat_lt (l.at + room) (length l.payload)) in
     let half = left.half in
     let most : l.at ≤ length l.payload = half.within in
-    let long : length w ≡ 20 = length_v4 (with_len l.header (length part)) l.at (nat_lt (l.at + room) (length l.payload)) (record { source = half.header_is.source; destination = half.header_is.destination; identification = half.header_is.identification; protocol = half.header_is.protocol; hops = half.header_is.hops }) in
-    inl (record {
-      link = link;
-      header = l.header;
-      bytes = l.payload;
-      slice = record { at = l.at; count = length part; more = nat_lt (l.at + room) (length l.payload) };
-      sent = left.sent;
-      is_link = link4 own l.to left.to (front link w part (link_len own l.to) 20 (length part) len long refl);
-      within = record {
-        within = omega (arith, most, length-take room (drop l.at l.payload), length-drop l.at l.payload);
-        last = λ none. let most_of : length l.payload ≤ l.at + room = ended (l.at + room) (length l.payload) none in omega (arith, most, most_of, length-take room (drop l.at l.payload), length-drop l.at l.payload);
-      };
-      unit = half.unit;
-      frame_is = ap (λ (b : List ℕ). link ++ (w ++ b)) (sym (take_count room (drop l.at l.payload)));
-    })
+    let long : length w ≡ 20 = length_v4 (with_len l.header (length part)) l.at (nat_lt (l.at + room) (length l.payload)) (record { source = half.header_is.source; destination = half.header_is.destination; identification = half.header_is.identification; protocol = half.header_is.protocol; hops = half.header_is.hops }) in (
+      record {
+        link = link;
+        header = l.header;
+        bytes = l.payload;
+        slice = record { at = l.at; count = length part; more = nat_lt (l.at + room) (length l.payload) };
+        sent = left.sent;
+        is_link = link4 own l.to left.to (front link w part (link_len own l.to) 20 (length part) len long refl);
+        within = record {
+          within = omega (arith, most, length-take room (drop l.at l.payload), length-drop l.at l.payload);
+          last = λ none. let most_of : length l.payload ≤ l.at + room = ended (l.at + room) (length l.payload) none in omega (arith, most, most_of, length-take room (drop l.at l.payload), length-drop l.at l.payload);
+        };
+        unit = half.unit;
+        frame_is = ap (λ (b : List ℕ). link ++ (w ++ b)) (sym (take_count room (drop l.at l.payload)));
+      },
+      refl,
+    )
+
+pub piece_frame_is : (own : HardwareAddress) (out : List PacketValue) (mtu : ℕ) (l : LeftValue) → IsLeft own out l → length (piece_frame sealed own l.to l.header (next_piece mtu l)) ≡ piece_frame_len own l.to (next_piece mtu l)
+    → IsHostFrame (medium_on own) out (piece_frame sealed own l.to l.header (next_piece mtu l))
+piece_frame_is own out mtu l left len = inl (piece_slice own out mtu l left len).0

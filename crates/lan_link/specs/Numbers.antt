@@ -1,8 +1,11 @@
 -- Every IPv4 packet that a host sent has a number of its own (RFC 6864).
-use Rattle.std.specs.Prelude.{◌≡◌, ◌+◌, ◌%◌, ◌^◌, ◌<◌, ℕ, List, [], ◌∷◌}
+use Rattle.std.specs.Prelude.{◌≡◌, ◌+◌, ◌%◌, ◌^◌, ◌<◌, ◌≤◌, ℕ, List, [], ◌∷◌}
+use Rattle.std.specs.List.{count_by}
+use Rattle.net_base.specs.Medium.{Medium}
 use Rattle.ip_wire.specs.IpRepr.{IpRepr}
 use Rattle.ip_wire.specs.IpRepr.TheVariants as Ip
 use Rattle.socket_base.specs.Packet.{PacketValue}
+use Rattle.lan_stations.specs.Origins.{begins_datagram}
 
 abbrev pub and_v4 : IpRepr → ℕ → ℕ
 and_v4 (Ip.Ipv4 v) n = n + 1
@@ -26,3 +29,8 @@ AreNumbered first (p ∷ out) next = TakesNext (AreNumbered first out) p.header 
 -- fewer than there are numbers
 abbrev pub AreFew : List PacketValue → Type 0
 AreFew out = count_v4 out < 2 ^ 16
+
+-- From packets and frames to later ones: each new packet of IPv4 has a new frame that begins a datagram.
+abbrev pub IsTied : Medium → List PacketValue → List (List ℕ) → List PacketValue → List (List ℕ) → Type 0
+IsTied medium out sent out' sent' =
+    count_v4 out' + count_by (begins_datagram medium) sent ≤ count_v4 out + count_by (begins_datagram medium) sent'

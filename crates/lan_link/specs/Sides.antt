@@ -1,10 +1,9 @@
 -- The invariant of two hosts at a link: what each sent, and what waits for it.
-use Rattle.std.specs.Prelude.{◌≡◌, ◌≢◌, ◌⊎◌, ◌%◌, ◌^◌, ◌+◌, ◌<◌, ◌≤◌, ℕ, ℤ, List, ◌++◌, length, Option, None, Some, IfSome}
+use Rattle.std.specs.Prelude.{◌≡◌, ◌≢◌, ◌⊎◌, ◌%◌, ◌^◌, ◌+◌, ◌<◌, ◌≤◌, ℕ, List, ◌++◌, length, Option, None, Some, IfSome}
 use Rattle.std.specs.List.{AllByRecursion}
 use Rattle.net_base.specs.Medium.{Medium}
 use Rattle.ip_wire.specs.Address.{IsIpAddress}
 use Rattle.ip_wire.specs.HardwareAddress.{HardwareAddress}
-use Rattle.ip_wire.specs.IpAddress.{IpAddress}
 use Rattle.ip_wire.specs.HardwareAddress.TheVariants as Hardware
 use Rattle.ip_wire.specs.declared.arp.repr.ArpRepr.{ArpRepr}
 use Rattle.ip_wire.specs.declared.arp.repr.ArpRepr.TheVariants as Arp
@@ -26,7 +25,7 @@ use Rattle.lan_frames.specs.declared.part.Part.{Part}
 use Rattle.lan_link.specs.Made.{sealed}
 use Rattle.lan_link.specs.Frames.{medium_on, IsAmong, IsSentV4, IsSlice, IsWhole6, IsFrom, BringsFrom, AreOut}
 use Rattle.lan_link.specs.Held.{AreSlotsOf}
-use Rattle.lan_link.specs.Numbers.{count_v4, AreNumbered}
+use Rattle.lan_link.specs.Numbers.{count_v4, AreNumbered, IsTied}
 
 -- WHAT A HOST SENT
 
@@ -124,9 +123,10 @@ IsBetweenStations (Arp.EthernetIpv4 operation source source_protocol target targ
 abbrev pub Grows : List PacketValue → List PacketValue → Type 0
 Grows out out' = (p : PacketValue) → IsAmong p out → IsAmong p out'
 
--- it is a sender still, of more packets; one more of IPv4 at most
-pub record WentOut (made : PayloadValue → Type 0) (first : ℕ) (out : List PacketValue) (i' : InnerValue) (l' : Option LeftValue) (sent' : List (List ℕ)) : Type 0 where
+-- It is a sender still, of more packets: so many more of IPv4 at most, each of which has a first frame.
+pub record WentOut (made : PayloadValue → Type 0) (first most : ℕ) (out : List PacketValue) (sent : List (List ℕ)) (i' : InnerValue) (l' : Option LeftValue) (sent' : List (List ℕ)) : Type 0 where
   pub out_after : List PacketValue
   pub grows : Grows out out_after
-  pub one : count_v4 out_after ≤ count_v4 out + 1
+  pub count : count_v4 out_after ≤ count_v4 out + most
+  pub tied : IsTied (medium_on i'.hardware) out sent out_after sent'
   pub sender : IsSender made first i' l' sent' out_after

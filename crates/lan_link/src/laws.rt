@@ -1,5 +1,5 @@
 //! What follows from the definitions.
-ghost use Rattle.std.specs.Prelude.{◌≡◌, ◌+◌, ◌%◌, ◌≤◌, ℕ, ℤ, Bool, false, List, ◌∷◌, ◌++◌, Option, Some, is_some};
+ghost use Rattle.std.specs.Prelude.{◌≡◌, ◌+◌, ◌%◌, ◌*◌, ◌≤◌, ℕ, ℤ, Bool, false, List, ◌∷◌, ◌++◌, Option, Some, is_some};
 ghost use Rattle.net_base.specs.Medium.{Medium};
 ghost use Rattle.ip_wire.specs.HardwareAddress.{HardwareAddress};
 ghost use Rattle.ip_wire.specs.IpRepr.TheVariants as Ip;
@@ -21,10 +21,19 @@ ghost use Rattle.lan_frames.specs.Carried.{names_tcp_or_udp};
 ghost use Rattle.lan_frames.specs.Cuts.{ipv4_part, first_piece, second_piece};
 ghost use Rattle.lan_frames.specs.Parts.{tcp_part, damaged};
 ghost use Rattle.lan_frames.specs.declared.part.Part.{Part};
+ghost use Rattle.lan_net.specs.History.{Entry};
+ghost use Rattle.lan_net.specs.Kinds.{kind_of};
+ghost use Rattle.lan_net.specs.Kinds.Act.{Polls};
+ghost use Rattle.lan_net.specs.Kinds.Kind.{OfHost};
+ghost use Rattle.lan_net.specs.declared.event.Side.{Side};
 ghost use Rattle.lan_port.specs.Port.{PortValue, PortMove};
+ghost use Rattle.lan_stations.specs.Origins.{medium_of};
+ghost use Rattle.lan_stations.specs.Refusals.{socket_count};
+ghost use Rattle.lan_stations.specs.Runs.{Leads, table_in};
+ghost use Rattle.lan_stations.specs.Station.{Stations, station};
 ghost use Rattle.lan_link.specs.Made.{IsIn, BringsMade, IsGoing};
 ghost use Rattle.lan_link.specs.Frames.{medium_on, IsAmong, BringsFrom, AreOut};
-ghost use Rattle.lan_link.specs.Numbers.{AreNumbered, AreFew};
+ghost use Rattle.lan_link.specs.Numbers.{AreNumbered, AreFew, IsTied, count_v4};
 ghost use Rattle.lan_link.specs.Sides.{AreSent, IsHostFrame, IsDamage, IsReceiver, IsSender, IsStation, IsBetweenStations, WentOut};
 
 /// Law: what the link hands over to a host brings to its TCP and UDP sockets what the other host made, or a piece of what it sent, at
@@ -88,25 +97,42 @@ pub fn one_number()
 {}
 
 /// Law: what leaves a host keeps what is said of its frames: a packet, whole or as its first piece, or a question in its place; a later
-/// piece; an ARP packet. It takes one number at most. What arrives keeps it too.
+/// piece; an ARP packet. A packet takes one number at most, and then its frame begins a datagram; the others take none. What arrives
+/// keeps it too.
 pub fn what_leaves_was_made()
     ensures packet { (made : List PayloadValue) (first : ℕ) (out : List PacketValue) (i i' : InnerValue) (l l' : Option LeftValue) (d d' : PortValue) (p : PacketValue) (busy : Bool) (sent : Sent)
         → IsSender (IsIn made) first i l d.link.sent out
         → IsGoing (IsIn made) p
         → GoesOut PortMove d i l p (plan_of i busy p.header) sent d' i' l'
-        → WentOut (IsIn made) first out i' l' d'.link.sent }
+        → WentOut (IsIn made) first 1 out d.link.sent i' l' d'.link.sent }
     ensures piece { (made : List PayloadValue) (first : ℕ) (out : List PacketValue) (i : InnerValue) (l : LeftValue) (l' : Option LeftValue) (d d' : PortValue) (gone : Bool)
         → IsSender (IsIn made) first i (Some l) d.link.sent out
         → PieceGoesOut PortMove d i l gone d' l'
-        → WentOut (IsIn made) first out i l' d'.link.sent }
+        → WentOut (IsIn made) first 0 out d.link.sent i l' d'.link.sent }
     ensures arp { (made : List PayloadValue) (first : ℕ) (out : List PacketValue) (i : InnerValue) (l : Option LeftValue) (d d' : PortValue) (packet : ArpRepr) (gone : Bool)
         → IsSender (IsIn made) first i l d.link.sent out
         → IsStation i.hardware
         → IsBetweenStations packet
         → Departs PortMove d i (Tells packet) gone d'
-        → WentOut (IsIn made) first out i l d'.link.sent }
+        → WentOut (IsIn made) first 0 out d.link.sent i l d'.link.sent }
     ensures arrival { (made : List PayloadValue) (first : ℕ) (out : List PacketValue) (i : InnerValue) (l : Option LeftValue) (sent : List (List ℕ)) (places : Places) (content : Option IncomingValue) (a : Arrived)
         → IsSender (IsIn made) first i l sent out
         → Brings i places content a
         → IsSender (IsIn made) first a.inner l sent out }
+{}
+
+/// Law: a poll that isn't refused leaves a host with fewer packets of IPv4 than there are numbers, where it had no more of them than its
+/// history numbered, took no more in the poll than one for each frame that it took and each socket's turn, and each of them has a first
+/// frame. Then it has no more of them than its history numbers now. What a history numbered only grows.
+pub fn numbers_suffice()
+    ensures polled { (past : List Entry) (e : Entry) (old new : Stations) (side : Side) (t : ℤ) (budget : ℕ) (out out' : List PacketValue)
+        → Leads past old e new
+        → kind_of e.event ≡ OfHost side (Polls t budget)
+        → count_v4 out ≤ (table_in past side (station old side)).numbered
+        → count_v4 out' ≤ count_v4 out + budget * (1 + socket_count (station old side).places)
+        → IsTied (medium_of (station old side)) out (station old side).link.sent out' (station new side).link.sent
+        → AreFew out' × (count_v4 out' ≤ (table_in (e ∷ past) side (station new side)).numbered) }
+    ensures grows { (past : List Entry) (e : Entry) (old new : Stations) (side : Side)
+        → Leads past old e new
+        → (table_in past side (station old side)).numbered ≤ (table_in (e ∷ past) side (station new side)).numbered }
 {}
