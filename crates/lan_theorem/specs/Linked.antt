@@ -1,0 +1,26 @@
+-- What holds of a host at its port while it polls: its own frames are of packets that it made, and what waits is of those that the other
+-- host made.
+use Rattle.std.specs.Prelude.{◌≤◌, ℕ, List}
+use Rattle.socket_base.specs.Packet.{PacketValue}
+use Rattle.interface.specs.State.{State}
+use Rattle.lan_port.specs.Port.{PortValue}
+use Rattle.lan_packets.specs.Parties.{Party}
+use Rattle.lan_moves.specs.Made.{MadeBy}
+use Rattle.lan_link.specs.Frames.{medium_on}
+use Rattle.lan_link.specs.Numbers.{count_v4, AreFew, IsTied}
+use Rattle.lan_link.specs.Sides.{Grows, AreSent, IsSender, IsReceiver}
+
+-- what the other host `q` sent stays as it is
+pub record IsOther (q : Party) (first next : ℕ) (out : List PacketValue) : Type 0 where
+  pub sent : AreSent (MadeBy q) first next out
+  pub few : AreFew out
+
+-- the host itself, of which the party made so much, and which sent `n` IPv4 packets at most; `first` is its first number, `base` and
+-- `before` are its packets and frames when the poll began, and `others` the packets of the other host
+pub record IsLinked (q : Party) (others base : List PacketValue) (first : ℕ) (before : List (List ℕ)) (n : ℕ) (s : State PortValue) (p : Party) : Type 0 where
+  pub out : List PacketValue
+  pub more : Grows base out
+  pub sender : IsSender (MadeBy p) first s.host.inner s.host.left s.device.link.sent out
+  pub receiver : IsReceiver (MadeBy q) others s.host.inner s.host.slots s.device.link.waiting
+  pub count : count_v4 out ≤ n
+  pub tied : IsTied (medium_on s.host.inner.hardware) base before out s.device.link.sent
