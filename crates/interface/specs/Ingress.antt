@@ -3,6 +3,7 @@ use Rattle.std.specs.Prelude.{◌≡◌, ℕ, nat_lt, not, ◌&&◌, ℤ, Bool, 
 use Rattle.net_base.specs.Device.{Move, Took, Empty}
 use Rattle.interface_egress.specs.Departure as Departures
 use Rattle.interface_egress.specs.GoesOut.{Departs, GoesOut}
+use Rattle.packet_widths.specs.WellFormed.{IsWellFormed}
 use Rattle.interface_egress.specs.Plan.{plan_of}
 use Rattle.interface_egress.specs.declared.way_out.Sent.{Sent}
 use Rattle.interface_ingress.specs.Incoming.{IncomingValue, IsContent}
@@ -19,13 +20,14 @@ abbrev pub is_read : List ℕ → Bool
 is_read frame = nat_lt 0 (length frame) && not (nat_lt longest_frame (length frame))
 
 module _ {D : Type 0} (moves : D → Move → D → Type 0) where
-  -- An answer goes out if it can go now; else there is none. A request for its next hop may go in its place.
+  -- An answer, which can be sent, goes out if it can go now; else there is none. A request for its next hop may go in its place.
   abbrev pub Replied : Option ReplyValue → Sender D → Sender D → Type 0
   Replied None s s' = s' ≡ s
   Replied (Some (Replies.Tells packet)) s s' =
       (gone : Bool) × Departs moves s.device s.inner (Departures.Tells packet) gone s'.device × (s'.inner ≡ s.inner) × (s'.left ≡ s.left)
   Replied (Some (Replies.Answers p)) s s' =
       (sent : Sent) × GoesOut moves s.device s.inner s.left p (plan_of s.inner (is_some s.left) p.header) sent s'.device s'.inner s'.left
+      × IsWellFormed p
 
   abbrev pub sender_with : State D → Arrived → Sender D
   sender_with s a = sender s.device a.inner s.host.left

@@ -14,6 +14,7 @@ use Rattle.interface_egress.specs.declared.socket_set.SocketStorage.{SocketStora
 use Rattle.sockets.specs.Socket.{Offers, offered_by, settled}
 use Rattle.sockets.specs.declared.socket.Socket.{Socket}
 use Rattle.interface_egress.specs.GoesOut.{GoesOut}
+use Rattle.packet_widths.specs.WellFormed.{IsWellFormed}
 use Rattle.interface_egress.specs.Plan.{plan_of}
 use Rattle.interface_egress.specs.declared.way_out.Sent.{Sent}
 use Rattle.interface_egress.specs.declared.way_out.Sent.TheVariants as Outcome
@@ -87,12 +88,12 @@ module _ {D : Type 0} (moves : D → Move → D → Type 0) where
   abbrev pub Leaves : Sender D → PacketValue → Sent → Sender D → Type 0
   Leaves s p sent s' = Denies s sent s' ⊎ Admits s p sent s'
 
-  -- the packet of the open offer leaves, and the socket is told what became of it
+  -- the packet of the open offer, which is one that can be sent, leaves, and the socket is told what became of it
   abbrev pub SendsBy : Option PacketValue → Sender D → Item Socket → Bool → Turned → Sender D → Item Socket → Type 0
   SendsBy None s item changed turned s' item' = ⊥
   SendsBy (Some p) s item changed turned s' item' =
       (sent : Sent) × Leaves s p sent s' × (turned ≡ turned_by sent changed)
-      × (item' ≡ settled_by sent s.inner.moment (destination_in p.header) item)
+      × (item' ≡ settled_by sent s.inner.moment (destination_in p.header) item) × IsWellFormed p
 
   abbrev pub Sends : Sender D → Item Socket → Bool → Turned → Sender D → Item Socket → Type 0
   Sends s item changed turned s' item' = SendsBy (offered_by item.socket) s item changed turned s' item'

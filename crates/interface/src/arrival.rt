@@ -11,6 +11,7 @@ use interface_ingress::laws::same_settings;
 use interface_ingress::{Incoming, Reply, bring, keep, read, release, take_in, whole};
 use interface_tables::{InterfaceInner, PacketAssemblerSet};
 use net_base::{Device, Duration, RxToken};
+use packet_widths::laws::fields_have_widths;
 use sockets::{Context, Socket};
 
 /// The longest frame that is read: an Ethernet header before the longest IP packet.
@@ -122,6 +123,7 @@ fn answer<D: Device>(
             let _ = send(device, token, &ArpFrame { packet: *packet });
         }
         Some(Reply::Packet(packet)) => {
+            fields_have_widths(packet);
             let _ = dispatch(inner, fragmenter, device, token, packet);
         }
         None => {}

@@ -14,6 +14,7 @@ use interface_egress::{Fragmenter, Item, Meta, Sent, SocketStorage, dispatch};
 use interface_tables::InterfaceInner;
 use ip_wire::IpAddress;
 use net_base::{Device, Instant};
+use packet_widths::laws::fields_have_widths;
 use sockets::laws::unsent_is_offered_again;
 use sockets::{Context, Offer, Packet, Socket};
 
@@ -98,6 +99,7 @@ fn send_offered<D: Device>(
     let Some(packet) = item.socket.offered() else {
         unreachable!()
     };
+    fields_have_widths(&packet);
     let destination = packet.ip_repr().dst_addr();
     let sent = send_packet(inner, fragmenter, device, &packet);
     settle(item, sent, now, destination);

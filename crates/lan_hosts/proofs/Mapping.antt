@@ -148,7 +148,7 @@ module _ {D E : Type 0} (f : D → E) (moves : D → Move → D → Type 0) (oth
       → Leads x.device y.device (SendsBy others o (on_sender x) item changed a (on_sender y) m)
   sends None x y item m changed a one = absurd one
   sends (Some p) x y item m changed a one =
-      so x.device y.device (Leaves others (on_sender x) p one.0 (on_sender y)) (SendsBy others (Some p) (on_sender x) item changed a (on_sender y) m) (λ n. (one.0, n, one.2, one.3)) (leaves x y p one.0 one.1)
+      so x.device y.device (Leaves others (on_sender x) p one.0 (on_sender y)) (SendsBy others (Some p) (on_sender x) item changed a (on_sender y) m) (λ n. (one.0, n, one.2, one.3, one.4)) (leaves x y p one.0 one.1)
 
   same_device : (x y : Sender D) → y ≡ x → y.device ≡ x.device
   same_device x y is = ap (λ (v : Sender D). v.device) is
@@ -229,7 +229,7 @@ module _ {D E : Type 0} (f : D → E) (moves : D → Move → D → Type 0) (oth
       (λ n. (one.0, n, one.2, one.3)) (departs x.device y.device x.inner (Departures.Tells packet) one.0 one.1)
   replied (Some (Replies.Answers p)) x y one =
       so x.device y.device (GoesOut others (f x.device) x.inner x.left p (plan_of x.inner (is_some x.left) p.header) one.0 (f y.device) y.inner y.left)
-      (Replied others (Some (Replies.Answers p)) (on_sender x) (on_sender y)) (λ n. (one.0, n))
+      (Replied others (Some (Replies.Answers p)) (on_sender x) (on_sender y)) (λ n. (one.0, n, one.2))
       (goes_out x.device y.device x.inner y.inner x.left y.left p (plan_of x.inner (is_some x.left) p.header) one.0 one.1)
 
   receives : (content : Option IncomingValue) (s s' : State D) → Receives moves content s s' → Leads s.device s'.device (Receives others content (on_state s) (on_state s'))

@@ -78,7 +78,7 @@ module _ {D : Type 0} (moves : D → Move → D → Type 0) (t : ℤ) (names : L
       let there : state x'.device (record g { inner = x.inner; left = x.left }) ps ≡ sending_as g x' ps =
       λ k. state x'.device (record g { inner = sym inner k; left = sym left k }) ps in
       link.more n (n + 1) (sending_as g x' ps) p (omega arith) (subst (λ (s : State D). L n s p) there (tell packet gone x'.device refl departs holds))
-  replied n g ps x x' p (Some (Replies.Answers packet)) tell wide made (sent, goes) holds =
+  replied n g ps x x' p (Some (Replies.Answers packet)) tell wide made (sent, goes, formed) holds =
       link.goes n (sending_as g x ps) p packet sent x'.device x'.inner x'.left wide (λ done. made) goes holds
 
   read : (n : ℕ) (s s' : State D) (frame : List ℕ) (mid : D) → moves s.device (Took frame) mid → is_read frame ≡ true → Reads moves frame (at_device s mid) s' → F s → At n s → At (n + 1) s'
