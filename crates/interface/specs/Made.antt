@@ -1,5 +1,5 @@
 -- How an interface begins, and what its calls that set and ask make of it.
-use Rattle.std.specs.Prelude.{◌≡◌, ℕ, ℤ, ◌-ℤ◌, int_lt, true, if◌then◌else◌, IsTrue, List, Option, None, Some, Result, Err, MatchResult}
+use Rattle.std.specs.Prelude.{◌≡◌, ℕ, ℤ, ◌-ℤ◌, int_lt, true, if◌then◌else◌, IsTrue, List, [], Option, None, Some, Result, Err, MatchResult}
 use Rattle.std.specs.Int.RustNames.{unsigned_abs}
 use Rattle.std.specs.List.{AllByRecursion}
 use Rattle.ip_wire.specs.Ipv4FragKey.{Ipv4FragKey}
@@ -38,9 +38,9 @@ Makes config device moment result = MadeUnless (refusal config device moment) (n
 abbrev pub IsIdle : Option LeftValue → List (SlotValue Ipv4FragKey) → Type 0
 IsIdle left slots = (left ≡ None) × AllByRecursion (λ s. is_free s ≡ true) slots
 
--- an interface at which nothing ran yet is idle
+-- an interface at which nothing ran yet is idle, and knows no neighbour
 abbrev pub IsIdleIfFresh : InnerValue → Option LeftValue → List (SlotValue Ipv4FragKey) → Type 0
-IsIdleIfFresh i left slots = IsTrue i.fresh → IsIdle left slots
+IsIdleIfFresh i left slots = IsTrue i.fresh → IsIdle left slots × (i.neighbors.entries ≡ [])
 
 abbrev pub with_inner : HostValue → InnerValue → HostValue
 with_inner h i = record h { inner = i }

@@ -1,5 +1,5 @@
 //! An interface.
-ghost use Rattle.std.specs.Prelude.{◌≡◌, IsTrue, List, not, is_ok, Some};
+ghost use Rattle.std.specs.Prelude.{◌≡◌, IsTrue, List, [], not, is_ok, Some};
 ghost use Rattle.std.specs.Fn.{FnOnceReturnsAtMut};
 ghost use Rattle.std.specs.List.{list_any};
 ghost use Rattle.net_base.specs.Time.{IsMoment};
@@ -146,10 +146,11 @@ impl Interface {
     }
 
     /// Whether nothing ran yet: no call that polls, and no setting of `any_ip` or of the time of reassembly. Then nothing came in pieces,
-    /// and nothing is half sent.
+    /// nothing is half sent, and no neighbour is known.
     pub fn is_fresh(&self) -> bool
         ensures value { result ≡ self.now.inner.fresh }
         ensures idle { IsTrue result → IsIdle self.now.left self.now.slots }
+        ensures unknown { IsTrue result → self.now.inner.neighbors.entries ≡ [] }
     {
         self.inner.is_fresh()
     }
