@@ -1,5 +1,5 @@
 -- What each thing that a poll does to a socket keeps of it is kept of all sockets by a poll.
-use Rattle.std.proofs.Common.{◌≡◌, ℕ, zero, suc, Bool, true, false, if◌then◌else◌, List, [], ◌∷◌, ◌++◌, Option, Some, None, refl, sym, subst}
+use Rattle.std.proofs.Common.{◌≡◌, ℕ, zero, suc, Bool, true, false, if◌then◌else◌, List, [], ◌∷◌, ◌++◌, Option, Some, None, refl, sym, ◌∙◌, subst}
 use Rattle.std.specs.Prelude.{ℤ, slice_get, slice_set}
 use Rattle.control_wire.specs.Icmpv4Header.{Icmpv4Header}
 use Rattle.control_wire.specs.Icmpv6.{MessageValue}
@@ -11,6 +11,7 @@ use Rattle.ip_wire.specs.Ipv6Repr.{Ipv6Repr}
 use Rattle.ip_wire.specs.TcpHeader.{TcpHeader}
 use Rattle.ip_wire.specs.UdpRepr.{UdpRepr}
 use Rattle.ip_wire.specs.declared.ethernet.repr.EthernetRepr.{EthernetRepr}
+use Rattle.net_base.specs.ChecksumCapabilities.{ChecksumCapabilities}
 use Rattle.net_base.specs.Device.{Move}
 use Rattle.socket_base.specs.Context.{ContextValue}
 use Rattle.socket_base.specs.Packet.{PacketValue, PayloadValue, ControlV4, ControlV6, Bytes, Datagram, Segment}
@@ -22,6 +23,7 @@ use Rattle.interface_tables.specs.Inner.{InnerValue, context_of, is_for_us}
 use Rattle.interface_egress.specs.declared.socket_set.Item.{Item}
 use Rattle.interface_egress.specs.declared.socket_set.SocketStorage.{SocketStorage}
 use Rattle.interface_ingress.specs.Arrives.{Arrived, ArrivesV4, ArrivesV6, Brings, Hands, renewed}
+use Rattle.interface_ingress.specs.Carried.{IsSegment, IsCarriedContent}
 use Rattle.interface_ingress.specs.Delivered.{with_change, given, all_given, changed_in, changed_at, with_packet, packet_delivered, is_taken_raw, with_icmpv4, with_icmpv6, with_datagram, datagram_place, with_segment, segment_place, segment_delivered}
 use Rattle.interface_ingress.specs.Handed.{control_v4_places, control_v6_places, names_nobody, handed_places}
 use Rattle.interface_ingress.specs.Incoming.{IncomingValue, Arp, Ip4, Ip6}
@@ -33,6 +35,7 @@ use Rattle.interface.specs.Turn.{ItemTurns, TurnsIf, Answers, SendsBy, is_waitin
 use Rattle.interface.specs.declared.turn.Turned.{Turned}
 use Rattle.interface_laws.specs.Kept.{IsKept}
 use Rattle.interface_laws.proofs.Keep.{polls_keep}
+use Rattle.lan_moves.specs.Fit.{AreNamed}
 use Rattle.lan_moves.specs.Raws.{OfItem, OfEach}
 use Rattle.lan_moves.proofs.Places.{Places}
 
@@ -44,12 +47,17 @@ pub record IsOfSockets (W : Socket → Type 0) : Type 0 where
   pub icmpv4 : (ip : Ipv4Repr) (message : Icmpv4Header) (bytes : List ℕ) (s : Socket) → W s → W (with_icmpv4 ip message bytes s)
   pub icmpv6 : (ip : Ipv6Repr) (message : MessageValue) (bytes : List ℕ) (s : Socket) → W s → W (with_icmpv6 ip message bytes s)
   pub datagram : (ip : IpRepr) (udp : UdpRepr) (bytes : List ℕ) (s : Socket) → W s → W (with_datagram ip udp bytes s)
-  pub segment : (cx : ContextValue) (ip : IpRepr) (header : TcpHeader) (bytes : List ℕ) (s : Socket) → W s → W (with_segment cx ip header bytes s)
+  pub segment : (cx : ContextValue) (ip : IpRepr) (header : TcpHeader) (bytes : List ℕ) (s : Socket) → AreNamed header.src_port header.dst_port → W s → W (with_segment cx ip header bytes s)
+
+-- a segment that is read names both ports
+pub segment_named : (caps : ChecksumCapabilities) (ip : IpRepr) (payload : List ℕ) (header : TcpHeader) (bytes : List ℕ) → IsSegment caps ip payload header bytes → AreNamed header.src_port header.dst_port
+segment_named caps ip payload header bytes is =
+    (λ zero. is.format.source_accepted (sym is.format.source_port ∙ zero), λ zero. is.format.destination_accepted (sym is.format.destination_port ∙ zero))
 
 module _ (W : Socket → Type 0) where
-  here : (before after : Places) (p : SocketStorage Socket) → OfEach W (before ++ p ∷ after) → OfItem W p.inner
-  here [] after p all = all.0
-  here (x ∷ before) after p all = here before after p all.1
+  pub middle : (before after : Places) (p : SocketStorage Socket) → OfEach W (before ++ p ∷ after) → OfItem W p.inner
+  middle [] after p all = all.0
+  middle (x ∷ before) after p all = middle before after p all.1
 
   exchanged : (before after : Places) (p p' : SocketStorage Socket) → OfItem W p'.inner → OfEach W (before ++ p ∷ after) → OfEach W (before ++ p' ∷ after)
   exchanged [] after p p' new all = (new, all.1)
@@ -105,21 +113,23 @@ module _ (W : Socket → Type 0) where
     messages_v6 (Ip.Ipv6 header) message bytes places all =
         all_so (λ s. accepts_icmpv6 s (Address.Ipv6 header.dst_addr) message bytes) (with_icmpv6 header message bytes) (law.icmpv6 header message bytes) places all
 
-    segments : (nobody : Bool) (cx : ContextValue) (ip : IpRepr) (header : TcpHeader) (bytes : List ℕ) (places : Places) → OfEach W places
+    segments : (nobody : Bool) (cx : ContextValue) (ip : IpRepr) (header : TcpHeader) (bytes : List ℕ) (places : Places) → AreNamed header.src_port header.dst_port → OfEach W places
         → OfEach W (if nobody then places else segment_delivered cx ip header bytes places)
-    segments true cx ip header bytes places all = all
-    segments false cx ip header bytes places all = changed (with_segment cx ip header bytes) (law.segment cx ip header bytes) (segment_place ip header places) places all
+    segments true cx ip header bytes places named all = all
+    segments false cx ip header bytes places named all =
+        changed (with_segment cx ip header bytes) (λ s holds. law.segment cx ip header bytes s named holds) (segment_place ip header places) places all
 
-    handed : (i : InnerValue) (places : Places) (ip : IpRepr) (carried : Option PayloadValue) → OfEach W places → OfEach W (handed_places i places ip carried)
-    handed i places ip None all = all
-    handed i places ip (Some (ControlV4 message bytes)) all = messages ip message bytes places all
-    handed i places ip (Some (ControlV6 message bytes)) all = messages_v6 ip message bytes places all
-    handed i places ip (Some (Bytes bytes)) all = all
-    handed i places ip (Some (Datagram udp bytes)) all = changed (with_datagram ip udp bytes) (law.datagram ip udp bytes) (datagram_place (context_of i) ip udp places) places all
-    handed i places ip (Some (Segment header bytes)) all = segments (names_nobody ip) (context_of i) ip header bytes places all
+    handed : (caps : ChecksumCapabilities) (i : InnerValue) (places : Places) (ip : IpRepr) (payload : List ℕ) (carried : Option PayloadValue) → IsCarriedContent caps ip payload carried → OfEach W places → OfEach W (handed_places i places ip carried)
+    handed caps i places ip payload None is all = all
+    handed caps i places ip payload (Some (ControlV4 message bytes)) is all = messages ip message bytes places all
+    handed caps i places ip payload (Some (ControlV6 message bytes)) is all = messages_v6 ip message bytes places all
+    handed caps i places ip payload (Some (Bytes bytes)) is all = all
+    handed caps i places ip payload (Some (Datagram udp bytes)) is all = changed (with_datagram ip udp bytes) (law.datagram ip udp bytes) (datagram_place (context_of i) ip udp places) places all
+    handed caps i places ip payload (Some (Segment header bytes)) is all =
+        segments (names_nobody ip) (context_of i) ip header bytes places (segment_named caps ip payload header bytes is) all
 
     hands : (i : InnerValue) (places : Places) (ip : IpRepr) (payload : List ℕ) (taken : Bool) (a : Arrived) → Hands i places ip payload taken a → OfEach W places → OfEach W a.places
-    hands i places ip payload taken a (carried, is, so) all = subst (OfEach W) (sym so.places_are) (handed i places ip carried all)
+    hands i places ip payload taken a (carried, is, so) all = subst (OfEach W) (sym so.places_are) (handed i.checksums i places ip payload carried is all)
 
     v4 : (ours : Bool) (i : InnerValue) (places : Places) (link : Option EthernetRepr) (ip : IpRepr) (payload : List ℕ) (a : Arrived) → ArrivesV4 ours i places link ip payload a → OfEach W places → OfEach W a.places
     v4 true i places link ip payload a is all =
@@ -166,12 +176,12 @@ module _ (W : Socket → Type 0) where
       items x x' None (Some item') turned holds is = absurd is
       items x x' (Some item) None turned holds is = absurd is
 
-      kept : IsKept moves t (λ s. OfEach W s.places)
+      pub kept : IsKept moves t (λ s. OfEach W s.places)
       kept = record {
         maintenance = λ s all. all;
         arrivals = λ s s' answer runs all is. takes s s' answer all is;
         pieces = λ h ps x x' l gone runs is all leaves same. all;
-        turns = λ h before after p p' x x' turned runs all is. exchanged before after p p' (items x x' p.inner p'.inner turned (here before after p all) is) all;
+        turns = λ h before after p p' x x' turned runs all is. exchanged before after p p' (items x x' p.inner p'.inner turned (middle before after p all) is) all;
       }
 
       pub polls_of_each : (budget : ℕ) (s s' : State D) (changes : Bool) → OfEach W s.places → Polls moves t budget s changes s' → OfEach W s'.places

@@ -11,5 +11,11 @@ pub mod Events
 pub mod PollEvents
 pub mod Worlds
 pub mod EachSocket
+pub mod EachRun
+pub mod Queued
 pub mod RawQueues
+pub mod Answering
 pub mod Protocols
+pub mod Ports
+pub mod Fits
+pub mod Wide

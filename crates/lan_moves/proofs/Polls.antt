@@ -15,20 +15,25 @@ use Rattle.interface.specs.Ingress.{is_read, Takes, Reads, Replied, sender_of}
 use Rattle.interface.specs.Polls.{Polls, begun}
 use Rattle.interface.specs.State.{State, state, at_device}
 use Rattle.interface.specs.WayOut.{PieceLeaves}
-use Rattle.interface_laws.specs.Kept.{sending_as}
+use Rattle.interface_laws.specs.Kept.{sending_as, IsKept}
 use Rattle.interface_laws.specs.Priced.{IsPriced, sockets_in}
 use Rattle.interface_laws.proofs.Priced.{polls_cost}
 use Rattle.lan_net.specs.declared.event.Side.{Side}
 use Rattle.lan_net.specs.Kinds.{other}
 use Rattle.lan_packets.specs.Parties.{Party, Net, party}
 use Rattle.lan_moves.specs.Follows.{Follows, sockets_of}
-use Rattle.lan_moves.specs.Link.{IsLink, IsFitting, brought}
-use Rattle.lan_moves.specs.Made.{IsMadeReply, IsWideReply}
+use Rattle.lan_moves.specs.Fit.{IsFit}
+use Rattle.lan_moves.specs.Link.{IsLink, brought}
+use Rattle.lan_moves.specs.Made.{IsMadeReply}
+use Rattle.lan_moves.specs.Raws.{OfEach}
+use Rattle.lan_moves.proofs.EachSocket.{kept, middle}
+use Rattle.lan_moves.proofs.Fits.{fit_runs}
 use Rattle.lan_moves.proofs.Places.{Places}
 use Rattle.lan_moves.proofs.Takings.{brings_moves}
 use Rattle.lan_moves.proofs.Turns.{turn_follows}
+use Rattle.lan_moves.proofs.Wide.{CanBeWide, brings_wide}
 
-module _ {D : Type 0} (moves : D → Move → D → Type 0) (t : ℤ) (names : List ℕ → Bool) (side : Side) (net : Net) (L : ℕ → State D → Party → Type 0) (link : IsLink moves (party net (other side)) L) (F : State D → Type 0) (fits : IsFitting moves t F) where
+module _ {D : Type 0} (moves : D → Move → D → Type 0) (t : ℤ) (names : List ℕ → Bool) (side : Side) (net : Net) (L : ℕ → State D → Party → Type 0) (link : IsLink moves (party net (other side)) L) where
   abbrev At : ℕ → State D → Type 0
   At n s = Follows names side (L n) net s
 
@@ -70,7 +75,7 @@ module _ {D : Type 0} (moves : D → Move → D → Type 0) (t : ℤ) (names : L
   CanTell n g ps x p reply = (packet : ArpRepr) (gone : Bool) (d : D) → reply ≡ Some (Replies.Tells packet) → Departs moves x.device x.inner (Departures.Tells packet) gone d
       → L n (sending_as g x ps) p → L n (at_device (sending_as g x ps) d) p
 
-  replied : (n : ℕ) (g : HostValue) (ps : Places) (x x' : Sender D) (p : Party) (reply : Option ReplyValue) → CanTell n g ps x p reply → IfSome reply IsWideReply → IfSome reply (IsMadeReply p) → Replied moves reply x x'
+  replied : (n : ℕ) (g : HostValue) (ps : Places) (x x' : Sender D) (p : Party) (reply : Option ReplyValue) → CanTell n g ps x p reply → IfSome reply CanBeWide → IfSome reply (IsMadeReply p) → Replied moves reply x x'
       → L n (sending_as g x ps) p → L (n + 1) (sending_as g x' ps) p
   replied n g ps x x' p None tell wide made is holds =
       link.more n (n + 1) (sending_as g x' ps) p (omega arith) (subst (λ (y : Sender D). L n (sending_as g y ps) p) (sym is) holds)
@@ -79,10 +84,10 @@ module _ {D : Type 0} (moves : D → Move → D → Type 0) (t : ℤ) (names : L
       λ k. state x'.device (record g { inner = sym inner k; left = sym left k }) ps in
       link.more n (n + 1) (sending_as g x' ps) p (omega arith) (subst (λ (s : State D). L n s p) there (tell packet gone x'.device refl departs holds))
   replied n g ps x x' p (Some (Replies.Answers packet)) tell wide made (sent, goes, formed) holds =
-      link.goes n (sending_as g x ps) p packet sent x'.device x'.inner x'.left wide (λ done. made) goes holds
+      link.goes n (sending_as g x ps) p packet sent x'.device x'.inner x'.left (wide formed) (λ done. made) goes holds
 
-  read : (n : ℕ) (s s' : State D) (frame : List ℕ) (mid : D) → moves s.device (Took frame) mid → is_read frame ≡ true → Reads moves frame (at_device s mid) s' → F s → At n s → At (n + 1) s'
-  read n s s' frame mid took reads (content, is, receives) wide f =
+  read : (n : ℕ) (s s' : State D) (frame : List ℕ) (mid : D) → moves s.device (Took frame) mid → is_read frame ≡ true → Reads moves frame (at_device s mid) s' → At n s → At (n + 1) s'
+  read n s s' frame mid took reads (content, is, receives) f =
       let a = receives.0 in
       let p = party f.now side in
       let g : HostValue = record s.host { slots = s'.host.slots } in
@@ -95,7 +100,7 @@ module _ {D : Type 0} (moves : D → Move → D → Type 0) (t : ℤ) (names : L
       let tell : CanTell n g s.places x p' a.reply =
       λ packet gone d so departs holds. link.tells n s p' frame mid content s'.host.slots a packet gone d took reads is receives.1 so departs holds in
       let told : L (n + 1) (sending_as g (sender_of moves s') s.places) p' =
-      replied n g s.places x (sender_of moves s') p' a.reply tell (fits.replies s frame mid content s'.host.slots a took reads is receives.1 wide) end.made receives.3 given in
+      replied n g s.places x (sender_of moves s') p' a.reply tell (brings_wide s.host.inner s.places (brought s content) a receives.1.1) end.made receives.3 given in
       let placed : L (n + 1) (sending_as g (sender_of moves s') s'.places) p' =
       link.grown (n + 1) (sending_as g (sender_of moves s') s.places) s'.places p' p' (grows_not p') told in
       let there : sending_as g (sender_of moves s') s'.places ≡ s' =
@@ -107,46 +112,52 @@ module _ {D : Type 0} (moves : D → Move → D → Type 0) (t : ℤ) (names : L
         link = subst (λ (u : State D). L (n + 1) u p') there placed;
       }
 
-  arrivals : (n : ℕ) (s s' : State D) (answer : Option Bool) → F s → At n s → Takes moves s answer s' → At (n + 1) s'
-  arrivals n s s' None wide f takes = more n (n + 1) s' (omega arith) (subst (At n) (sym takes.1) (record {
+  arrivals : (n : ℕ) (s s' : State D) (answer : Option Bool) → At n s → Takes moves s answer s' → At (n + 1) s'
+  arrivals n s s' None f takes = more n (n + 1) s' (omega arith) (subst (At n) (sym takes.1) (record {
     now = f.now;
     reaches = f.reaches;
     sockets = f.sockets;
     link = link.looks n s (party f.now side) s'.device takes.0 f.link;
   }))
-  arrivals n s s' (Some false) wide f takes = more n (n + 1) s' (omega arith) (subst (At n) (sym takes.3) (record {
+  arrivals n s s' (Some false) f takes = more n (n + 1) s' (omega arith) (subst (At n) (sym takes.3) (record {
     now = f.now;
     reaches = f.reaches;
     sockets = f.sockets;
     link = link.skips n s (party f.now side) takes.0 s'.device takes.1 takes.2 f.link;
   }))
-  arrivals n s s' (Some true) wide f takes = read n s s' takes.0 takes.1 takes.2 takes.3 takes.4 wide f
+  arrivals n s s' (Some true) f takes = read n s s' takes.0 takes.1 takes.2 takes.3 takes.4 f
 
   -- ALL
 
+  abbrev Fit : State D → Type 0
+  Fit s = OfEach IsFit s.places
+
+  fit_kept : IsKept moves t Fit
+  fit_kept = kept IsFit fit_runs.polls moves t
+
   abbrev Both : ℕ → State D → Type 0
-  Both n s = F s × At n s
+  Both n s = Fit s × At n s
 
   all_priced : IsPriced moves t 0 Both
   all_priced = record {
     more = λ n m s up both. (both.0, more n m s up both.1);
-    maintenance = λ n s both. (fits.kept.maintenance s both.0, maintenance n s both.1);
-    arrivals = λ n s s' answer runs both takes. (fits.kept.arrivals s s' answer runs both.0 takes, arrivals n s s' answer both.0 both.1 takes);
+    maintenance = λ n s both. (fit_kept.maintenance s both.0, maintenance n s both.1);
+    arrivals = λ n s s' answer runs both takes. (fit_kept.arrivals s s' answer runs both.0 takes, arrivals n s s' answer both.1 takes);
     pieces = λ n h ps x x' l gone runs is both leaves same. (
-      fits.kept.pieces h ps x x' l gone runs is both.0 leaves same,
+      fit_kept.pieces h ps x x' l gone runs is both.0 leaves same,
       more n (n + 0) (sending_as h x' ps) (omega arith) (pieces n h ps x x' l gone is leaves same both.1),
     );
     turns = λ n h before after p p' x x' turned used runs both turn. (
-      fits.kept.turns h before after p p' x x' turned runs both.0 turn,
-      turn_follows moves t names side net (party net (other side)) L link F fits n h before after p p' x x' turned turn both.0 both.1,
+      fit_kept.turns h before after p p' x x' turned runs both.0 turn,
+      turn_follows moves names side net (party net (other side)) L link n h before after p p' x x' turned turn (middle IsFit before after p both.0) both.1,
     );
   }
 
   -- What holds before a poll holds behind it, where moves of this host have led to its sockets. It counted no more packets than one for
   -- each frame that it took and each socket's turn.
-  pub polls_follow : (budget n : ℕ) (s s' : State D) (changed : Bool) → F s → Follows names side (L n) net s → Polls moves t budget s changed s'
-      → F s' × Follows names side (L (n + budget * (1 + sockets_in s.places))) net s'
-  polls_follow budget n s s' changed wide f polls =
-      let both = (polls_cost moves t 0 Both all_priced budget n s s' changed (wide, f) polls).0 in
+  pub polls_follow : (budget n : ℕ) (s s' : State D) (changed : Bool) → OfEach IsFit s.places → Follows names side (L n) net s → Polls moves t budget s changed s'
+      → OfEach IsFit s'.places × Follows names side (L (n + budget * (1 + sockets_in s.places))) net s'
+  polls_follow budget n s s' changed fit f polls =
+      let both = (polls_cost moves t 0 Both all_priced budget n s s' changed (fit, f) polls).0 in
       let most : budget * (1 + (0 + sockets_in s.places)) ≤ budget * (1 + sockets_in s.places) = mul-le-mul_left budget (omega arith) in
       (both.0, more (n + budget * (1 + (0 + sockets_in s.places))) (n + budget * (1 + sockets_in s.places)) s' (omega (arith, most)) both.1)

@@ -1,6 +1,6 @@
 -- The header of a packet that a socket offers, and of one that answers, names what it carries.
 use Rattle.std.proofs.Common.{◌≡◌, ℕ, ◌+◌, Bool, true, false, if◌then◌else◌, not, List, length, Option, Some, None, IfSome, is_some, refl, sym, ap, ◌∙◌, subst}
-use Rattle.std.specs.Prelude.{◌^◌, ◌&&◌, ◌||◌, nat_lt, slice_get}
+use Rattle.std.specs.Prelude.{◌^◌, ◌&&◌, nat_lt}
 use Rattle.control_wire.specs.Icmpv4Header.{Icmpv4Header}
 use Rattle.control_wire.specs.Icmpv6.{MessageValue}
 use Rattle.ip_wire.specs.Ip.{carried_in}
@@ -61,13 +61,11 @@ use Rattle.sockets.specs.declared.socket.Socket.TheVariants as Is
 use Rattle.lan_moves.specs.Protocols.{NamesBehind, NamesItsPayload}
 use Rattle.interface_ingress.specs.Sent.{IsV4}
 use Rattle.interface_tables.specs.Inner.{InnerValue, context_of}
-use Rattle.interface_egress.specs.declared.socket_set.Item.{Item}
-use Rattle.interface_egress.specs.declared.socket_set.SocketStorage.{SocketStorage}
-use Rattle.interface_ingress.specs.Delivered.{datagram_place, packet_by, answer_of, answer_in, answer_by, segment_place, segment_answer_at, segment_answer}
-use Rattle.interface_ingress.specs.Handed.{handed_reply, is_known, names_nobody}
+use Rattle.interface_ingress.specs.Delivered.{packet_by}
+use Rattle.interface_ingress.specs.Handed.{handed_reply}
 use Rattle.lan_moves.proofs.Offering.{takes_one}
 use Rattle.lan_moves.proofs.Places.{Places}
-use Rattle.lan_moves.proofs.Replies.{control_v4_free, control_v6_free, port_error_free, protocol_error_free}
+use Rattle.lan_moves.proofs.Answering.{AnswersSegments, replied_all}
 
 -- HEADERS
 
@@ -314,46 +312,18 @@ packet_names : (a : Option Reply) → IsTcpReply a → IfSome (packet_by a) Name
 packet_names None names = tt
 packet_names (Some reply) names = names
 
-module _ (cx : ContextValue) (ip : IpRepr) (header : TcpHeader) (bytes : List ℕ) where
-  socket_names : (s : Socket) → IfSome (answer_of cx ip header bytes s) NamesItsPayload
-  socket_names (Is.Raw v) = tt
-  socket_names (Is.Icmp v) = tt
-  socket_names (Is.Udp v) = tt
-  socket_names (Is.Tcp v) = packet_names (arrives cx v ip header bytes).answer (arrives_tcp cx ip header v bytes)
-
-  item_names : (o : Option (Item Socket)) → IfSome (answer_in (answer_of cx ip header bytes) o) NamesItsPayload
-  item_names None = tt
-  item_names (Some item) = socket_names item.socket
-
-  place_names : (o : Option (SocketStorage Socket)) → IfSome (answer_by (answer_of cx ip header bytes) o) NamesItsPayload
-  place_names None = tt
-  place_names (Some place) = item_names place.inner
-
-  reset_names : (quiet : Bool) → IfSome (if quiet then None else packet_by (Some (rst_reply ip header (length bytes)))) NamesItsPayload
-  reset_names true = tt
-  reset_names false = names_tcp (addresses_in ip) 64 (header_len (reset_for header (length bytes)))
-
-  answer_names : (at : Option ℕ) (taken : Bool) (places : Places) → IfSome (segment_answer_at at cx ip header bytes taken places) NamesItsPayload
-  answer_names None taken places = reset_names (taken || is_rst header.control)
-  answer_names (Some at) taken places = place_names (slice_get places at)
-
-  unless_nobody : (nobody : Bool) (reply : Option PacketValue) → IfSome reply NamesItsPayload → IfSome (if nobody then None else reply) NamesItsPayload
-  unless_nobody true reply names = tt
-  unless_nobody false reply names = names
-
 four : (header : Ipv4Repr) (message : Icmpv4Header) (bytes : List ℕ) → header.next_header ≡ Protocol.Icmp → NamesItsPayload (packet_of (Ip.Ipv4 header) (ControlV4 message bytes))
 four header message bytes named = (named, tt)
 
 six : (header : Ipv6Repr) (message : MessageValue) (bytes : List ℕ) → header.next_header ≡ Protocol.Icmpv6 → NamesItsPayload (packet_of (Ip.Ipv6 header) (ControlV6 message bytes))
 six header message bytes named = named
 
+segments_name : (cx : ContextValue) (ip : IpRepr) (header : TcpHeader) (bytes : List ℕ) → AnswersSegments NamesItsPayload cx ip header bytes
+segments_name cx ip header bytes = record {
+  socket = λ v. packet_names (arrives cx v ip header bytes).answer (arrives_tcp cx ip header v bytes);
+  reset = names_tcp (addresses_in ip) 64 (header_len (reset_for header (length bytes)));
+}
+
 pub replied_names : (i : InnerValue) (places : Places) (ip : IpRepr) (payload : List ℕ) (taken : Bool) (carried : Option PayloadValue) → IfSome (handed_reply i places ip payload taken carried) NamesItsPayload
-replied_names i places ip payload taken None = protocol_error_free NamesItsPayload four six (is_known ip || taken) i ip payload
-replied_names i places ip payload taken (Some (ControlV4 message bytes)) = control_v4_free NamesItsPayload four six i ip message bytes
-replied_names i places ip payload taken (Some (ControlV6 message bytes)) = control_v6_free NamesItsPayload four six i ip message bytes
-replied_names i places ip payload taken (Some (Bytes bytes)) = tt
-replied_names i places ip payload taken (Some (Datagram udp bytes)) =
-    port_error_free NamesItsPayload four six (is_some (datagram_place (context_of i) ip udp places) || taken) i ip payload
-replied_names i places ip payload taken (Some (Segment header bytes)) =
-    unless_nobody (context_of i) ip header bytes (names_nobody ip) (segment_answer (context_of i) ip header bytes taken places)
-    (answer_names (context_of i) ip header bytes (segment_place ip header places) taken places)
+replied_names i places ip payload taken carried =
+    replied_all NamesItsPayload four six i places ip payload taken carried (λ header bytes is. segments_name (context_of i) ip header bytes)

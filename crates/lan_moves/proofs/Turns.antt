@@ -1,10 +1,11 @@
 -- A socket's turn is a move, or none.
 use Rattle.std.proofs.Common.{◌≡◌, ℕ, Bool, true, false, inl, inr, List, [], ◌∷◌, ◌++◌, length, Option, Some, None, IfSome, refl, sym, ap, ◌∙◌, subst, arith, append-nil, ◌+◌}
-use Rattle.std.specs.Prelude.{ℤ, slice_set, slice_index_or}
+use Rattle.std.specs.Prelude.{slice_set, slice_index_or}
 use Rattle.ip_wire.specs.Ip.{destination_in}
 use Rattle.net_base.specs.Device.{Move}
 use Rattle.socket_base.specs.Context.{ContextValue}
 use Rattle.socket_base.specs.Packet.{PacketValue}
+use Rattle.packet_widths.specs.WellFormed.{IsWellFormed}
 use Rattle.socket_base.specs.declared.offer.Offer as Answer
 use Rattle.socket_base.specs.declared.offer.Offer.TheVariants as Offer
 use Rattle.datagram_sockets.specs.Offers.{HasPacket}
@@ -40,17 +41,24 @@ use Rattle.lan_packets.specs.Parties as Parties
 use Rattle.lan_packets.specs.Parties.{Party, Net, party, datagrams_of}
 use Rattle.lan_stations.specs.Safe.{seen}
 use Rattle.lan_moves.specs.Follows.{Reaches, Follows, seen_place, sockets_of}
-use Rattle.lan_moves.specs.Link.{IsLink, IsFitting}
+use Rattle.lan_moves.specs.Fit.{IsFit}
+use Rattle.lan_moves.specs.Link.{IsLink}
 use Rattle.lan_moves.specs.Made.{Grows, MadeBy, IsMade, IsWide}
+use Rattle.lan_moves.specs.Raws.{OfItem}
 use Rattle.lan_moves.proofs.Nets.{Moved, stays, moves_by, there, grows_to, grows_not, grows_by}
 use Rattle.lan_moves.proofs.Offering.{if_some, some_so, takes_one, message_made, udp_made, tcp_made}
 use Rattle.lan_moves.proofs.Places.{Places, get-middle, set-middle, same-middle}
+use Rattle.lan_moves.proofs.Wide.{offered_wide}
 
 -- a place with this mark and this socket
 abbrev pub holding : Meta → Socket → SocketStorage Socket
 holding m s = record { inner = Some (record { meta = m; socket = s }) }
 
 -- AN OFFER
+
+-- a packet is wide, once its fields are of their widths
+abbrev CanBeWide : PacketValue → Type 0
+CanBeWide x = IsWellFormed x → IsWide x
 
 -- moves lead to these sockets, and a packet that is done with was made
 pub record Gives (names : List ℕ → Bool) (side : Side) (net now : Net) (sockets : List (Option Parties.Socket)) (sent : Bool) (packet : Option PacketValue) : Type 0 where
@@ -161,7 +169,7 @@ unsettled (Is.Tcp v) none = let no_offer : v.offered ≡ None = none_open v.offe
 
 -- THE TURN
 
-module _ {D : Type 0} (moves : D → Move → D → Type 0) (t : ℤ) (names : List ℕ → Bool) (side : Side) (net : Net) (q : Party) (L : ℕ → State D → Party → Type 0) (link : IsLink moves q L) (F : State D → Type 0) (fits : IsFitting moves t F) (n : ℕ) (h : HostValue) (before after : Places) where
+module _ {D : Type 0} (moves : D → Move → D → Type 0) (names : List ℕ → Bool) (side : Side) (net : Net) (q : Party) (L : ℕ → State D → Party → Type 0) (link : IsLink moves q L) (n : ℕ) (h : HostValue) (before after : Places) where
   abbrev At : Sender D → Option (Item Socket) → State D
   At x o = sending_as h x (before ++ record { inner = o } ∷ after)
 
@@ -215,7 +223,7 @@ module _ {D : Type 0} (moves : D → Move → D → Type 0) (t : ℤ) (names : L
       subst (λ (i : Item Socket). Now (At x' (Some i))) (sym answers.2)
       (subst (λ (y : Sender D). Now (At y (Some (record item { socket = offered })))) (sym answers.1) still)
 
-  sends : (x x' : Sender D) (item item' : Item Socket) (offered : Socket) (changed : Bool) (turned : Turned) (packet : Option PacketValue) → packet ≡ offered_by offered → IfSome packet IsWide
+  sends : (x x' : Sender D) (item item' : Item Socket) (offered : Socket) (changed : Bool) (turned : Turned) (packet : Option PacketValue) → packet ≡ offered_by offered → IfSome packet CanBeWide
       → Offers (context_of x.inner) item.socket (Offer.Packet changed) offered → SendsBy moves packet x (record item { socket = offered }) changed turned x' item'
       → Now (At x (Some item)) → Next (At x' (Some item'))
   sends x x' item item' offered changed turned None is wide offers goes f = absurd goes
@@ -229,33 +237,34 @@ module _ {D : Type 0} (moves : D → Move → D → Type 0) (t : ℤ) (names : L
         now = on.now;
         reaches = on.reaches;
         sockets = on.sockets;
-        link = leaves x x' places (party given.moved.next side) packet sent wide
+        link = leaves x x' places (party given.moved.next side) packet sent (wide goes.4)
             (λ done. some_so (offered_by offered) (IsMade (party given.moved.next side)) packet (sym is) (given.made done)) goes.1 on.link;
       } in
       subst (λ (i : Item Socket). Next (At x' (Some i))) (sym goes.3) told
 
-  asks : (x x' : Sender D) (item item' : Item Socket) (answer : Answer.Offer) (offered : Socket) (turned : Turned) → IfSome (offered_by offered) IsWide
+  asks : (x x' : Sender D) (item item' : Item Socket) (answer : Answer.Offer) (offered : Socket) (turned : Turned) → IfSome (offered_by offered) CanBeWide
       → Offers (context_of x.inner) item.socket answer offered → Answers moves answer x (record item { socket = offered }) turned x' item'
       → Now (At x (Some item)) → Next (At x' (Some item'))
   asks x x' item item' (Offer.Silent changed) offered turned wide offers answers f = uncounted (At x' (Some item')) (silent x x' item item' offered changed turned offers answers f)
   asks x x' item item' (Offer.Packet changed) offered turned wide offers answers f =
       sends x x' item item' offered changed turned (offered_by offered) refl wide offers answers f
 
-  turns : (waits : Bool) (x x' : Sender D) (item item' : Item Socket) (turned : Turned) → TurnsIf moves waits x (let_through x.inner item) turned x' item' → F (At x (Some item))
+  turns : (waits : Bool) (x x' : Sender D) (item item' : Item Socket) (turned : Turned) → TurnsIf moves waits x (let_through x.inner item) turned x' item' → IsFit item.socket
       → Now (At x (Some item)) → Next (At x' (Some item'))
-  turns true x x' item item' turned waits wide f =
+  turns true x x' item item' turned waits fit f =
       uncounted (At x' (Some item')) (stays_put x x' (Some item) (Some item') waits.1 (ap (λ (i : Item Socket). Some (seen i.socket)) waits.2) f)
-  turns false x x' item item' turned asked wide f =
+  turns false x x' item item' turned asked fit f =
       let through = let_through x.inner item in
-      asks x x' through item' asked.0 asked.1 turned (fits.offers h x before after item asked.0 asked.1 wide asked.2) asked.2 asked.3
+      asks x x' through item' asked.0 asked.1 turned
+      (if_some (offered_by asked.1) CanBeWide (λ p is formed. offered_wide (context_of x.inner) item.socket asked.1 asked.0 p fit asked.2 is formed)) asked.2 asked.3
       (stays_put x x (Some item) (Some through) refl refl f)
 
-  items : (x x' : Sender D) (o o' : Option (Item Socket)) (turned : Turned) → ItemTurns moves o x turned x' o' → F (At x o) → Now (At x o) → Next (At x' o')
-  items x x' None None turned turn wide f = uncounted (At x' None) (stays_put x x' None None turn.1 refl f)
-  items x x' (Some item) (Some item') turned turn wide f = turns (is_waiting x.inner item.meta) x x' item item' turned turn wide f
-  items x x' None (Some item') turned turn wide f = absurd turn
-  items x x' (Some item) None turned turn wide f = absurd turn
+  items : (x x' : Sender D) (o o' : Option (Item Socket)) (turned : Turned) → ItemTurns moves o x turned x' o' → OfItem IsFit o → Now (At x o) → Next (At x' o')
+  items x x' None None turned turn fit f = uncounted (At x' None) (stays_put x x' None None turn.1 refl f)
+  items x x' (Some item) (Some item') turned turn fit f = turns (is_waiting x.inner item.meta) x x' item item' turned turn fit f
+  items x x' None (Some item') turned turn fit f = absurd turn
+  items x x' (Some item) None turned turn fit f = absurd turn
 
-  pub turn_follows : (p p' : SocketStorage Socket) (x x' : Sender D) (turned : Turned) → PlaceTurns moves x p turned x' p' → F (sending_as h x (before ++ p ∷ after))
+  pub turn_follows : (p p' : SocketStorage Socket) (x x' : Sender D) (turned : Turned) → PlaceTurns moves x p turned x' p' → OfItem IsFit p.inner
       → Now (sending_as h x (before ++ p ∷ after)) → Next (sending_as h x' (before ++ p' ∷ after))
-  turn_follows p p' x x' turned turn wide f = items x x' p.inner p'.inner turned turn wide f
+  turn_follows p p' x x' turned turn fit f = items x x' p.inner p'.inner turned turn fit f

@@ -31,6 +31,7 @@ use Rattle.lan_moves.specs.Follows.{sockets_of, IsNetOf, Comes, IsNoPoll}
 use Rattle.lan_moves.specs.Joined.{first_net, IsJoined, HasCome}
 use Rattle.lan_moves.proofs.Calls.{names}
 use Rattle.lan_moves.proofs.Events.{call_comes, still_comes}
+use Rattle.lan_moves.proofs.Fits.{worlds_fit}
 use Rattle.lan_moves.proofs.Nets.{either_side}
 use Rattle.lan_moves.proofs.Places.{Places}
 
@@ -76,7 +77,7 @@ pub first_of : (starts : Starts) (s : Side) → (party (first_net starts) s).soc
 first_of starts A = refl
 first_of starts B = refl
 
-module _ (starts : Starts) (J : Stations → Net → Type 0) (joined : IsJoined starts J) where
+module _ (starts : Starts) (J : Stations → Net → Type 0) (joined : IsJoined starts J) (fresh : IsFreshWorld starts) where
   pub has_come : (history : List Entry) (hosts : Stations) → WorldRun history (unused_both starts) hosts → HasCome starts J history hosts
   has_come [] hosts is = subst (λ (h : Stations). HasCome starts J [] h) (sym is) (record {
     net = first_net starts;
@@ -88,7 +89,7 @@ module _ (starts : Starts) (J : Stations → Net → Type 0) (joined : IsJoined 
   })
   has_come (e ∷ past) hosts (before, ran, leads) =
       let came = has_come past before ran in
-      let next = joined.step came.net before hosts past e came.joined came.of leads in
+      let next = joined.step came.net before hosts past e came.joined (worlds_fit starts fresh past before ran) came.of leads in
       let c = next.0 in
       record {
         net = c.next;
@@ -175,4 +176,4 @@ came_safe starts J fresh history hosts came =
 -- a world that came by allowed events from fresh hosts is safe
 pub come_safe : (starts : Starts) (J : Stations → Net → Type 0) → IsJoined starts J → IsFreshWorld starts → (history : List Entry) (hosts : Stations)
     → WorldRun history (unused_both starts) hosts → IsSafe (first_port starts) (net_of (record { hosts = hosts; starts = starts; history = history }))
-come_safe starts J joined fresh history hosts ran = came_safe starts J fresh history hosts (has_come starts J joined history hosts ran)
+come_safe starts J joined fresh history hosts ran = came_safe starts J fresh history hosts (has_come starts J joined fresh history hosts ran)

@@ -4,3 +4,4 @@ pub mod Follows
 pub mod Joined
 pub mod Raws
 pub mod Protocols
+pub mod Fit

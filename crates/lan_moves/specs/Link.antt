@@ -1,31 +1,26 @@
--- What is asked of the link between two hosts, and of the widths of what they send, so that what a host does in a poll is a run of moves.
-use Rattle.std.specs.Prelude.{◌≡◌, ◌≤◌, ◌+◌, ℕ, ℤ, true, false, Bool, List, ◌∷◌, ◌++◌, Option, Some, IfSome, is_some}
+-- What is asked of the link between two hosts, so that what a host does in a poll is a run of moves.
+use Rattle.std.specs.Prelude.{◌≡◌, ◌+◌, ◌≤◌, ℕ, ℤ, true, false, Bool, List, Option, Some, is_some}
 use Rattle.net_base.specs.Device.{Move, Took, Empty, Allowed}
 use Rattle.ip_wire.specs.declared.arp.repr.ArpRepr.{ArpRepr}
 use Rattle.socket_base.specs.Packet.{PacketValue}
-use Rattle.socket_base.specs.declared.offer.Offer as Answer
-use Rattle.sockets.specs.Socket.{Offers, offered_by}
 use Rattle.sockets.specs.declared.socket.Socket.{Socket}
-use Rattle.interface_tables.specs.Inner.{InnerValue, context_of}
+use Rattle.interface_tables.specs.Inner.{InnerValue}
 use Rattle.interface_egress.specs.Departure as Departures
 use Rattle.interface_egress.specs.Fragments.{LeftValue}
 use Rattle.interface_egress.specs.GoesOut.{Departs, GoesOut, PieceGoesOut}
 use Rattle.interface_egress.specs.Plan.{plan_of}
-use Rattle.interface_egress.specs.declared.socket_set.Item.{Item}
 use Rattle.interface_egress.specs.declared.socket_set.SocketStorage.{SocketStorage}
 use Rattle.interface_egress.specs.declared.way_out.Sent.{Sent}
 use Rattle.interface_ingress.specs.Arrives as Replies
 use Rattle.interface_ingress.specs.Arrives.{Arrived, ArrivesAs, whole_after}
 use Rattle.interface_ingress.specs.Incoming.{IncomingValue, IsContent}
 use Rattle.interface_ingress.specs.Reassembled.{Slots, taken_in}
-use Rattle.interface.specs.Host.{HostValue, Sender}
 use Rattle.interface.specs.Ingress.{is_read}
 use Rattle.interface.specs.Polls.{begun}
 use Rattle.interface.specs.State.{State, state, at_device}
 use Rattle.interface.specs.Turn.{is_done}
-use Rattle.interface_laws.specs.Kept.{sending_as, IsKept}
 use Rattle.lan_packets.specs.Parties.{Party}
-use Rattle.lan_moves.specs.Made.{Grows, IsMade, IsWide, IsWideReply, BringsMade}
+use Rattle.lan_moves.specs.Made.{Grows, IsMade, IsWide, BringsMade}
 
 -- the frame carries this to the host
 abbrev pub IsContentAt : {D : Type 0} → State D → List ℕ → Option IncomingValue → Type 0
@@ -78,13 +73,3 @@ module _ {D : Type 0} (moves : D → Move → D → Type 0) where
     pub piece :
         (n : ℕ) (s : State D) (p : Party) (l : LeftValue) (gone : Bool) (d : D) (left : Option LeftValue) → s.host.left ≡ Some l → PieceGoesOut moves s.device s.host.inner l gone d left
         → L n s p → L n (sent_at s d s.host.inner left) p
-
-  -- F: what holds of a host with its sockets in a poll at a moment, so that each packet that they offer and each that answers has its widths
-  pub record IsFitting (t : ℤ) (F : State D → Type 0) : Type 0 where
-    pub kept : IsKept moves t F
-    pub offers :
-        (h : HostValue) (x : Sender D) (before after : List (SocketStorage Socket)) (item : Item Socket) (answer : Answer.Offer) (offered : Socket)
-        → F (sending_as h x (before ++ record { inner = Some item } ∷ after)) → Offers (context_of x.inner) item.socket answer offered → IfSome (offered_by offered) IsWide
-    pub replies :
-        (s : State D) (frame : List ℕ) (d : D) (content : Option IncomingValue) (slots : Slots) (a : Arrived) → moves s.device (Took frame) d → is_read frame ≡ true
-        → IsContentAt s frame content → ArrivesAt s content slots a → F s → IfSome a.reply IsWideReply

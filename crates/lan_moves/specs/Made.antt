@@ -56,10 +56,6 @@ pub record IsWide (x : PacketValue) : Type 0 where
   pub offered : IsOffered x
   pub fits : FitsBehind x.header x.payload
 
-abbrev pub IsWideReply : ReplyValue → Type 0
-IsWideReply (Tells packet) = Unit {0}
-IsWideReply (Answers x) = IsWide x
-
 -- WHAT COMES
 
 -- each segment and each datagram that this payload is read as was made by this host

@@ -5,13 +5,17 @@ ghost use Rattle.datagram_sockets.specs.Raw.{RawValue};
 ghost use Rattle.interface_delivery.specs.Delivered.{NamesNoPorts};
 ghost use Rattle.ip_wire.specs.Ip.{carried_in, normal};
 ghost use Rattle.ip_wire.specs.IpRepr.{IpRepr};
+ghost use Rattle.interface_ingress.specs.Arrives.{Answers, Arrived, Brings};
 ghost use Rattle.interface_ingress.specs.Delivered.{Places};
 ghost use Rattle.interface_ingress.specs.Handed.{handed_reply};
+ghost use Rattle.interface_ingress.specs.Incoming.{IncomingValue};
 ghost use Rattle.interface_tables.specs.Inner.{InnerValue};
 ghost use Rattle.sockets.specs.Socket.{Offers, offered_by};
 ghost use Rattle.sockets.specs.declared.socket.Socket.{Socket};
 ghost use Rattle.lan_frames.specs.Carried.{names_tcp_or_udp};
+ghost use Rattle.lan_moves.specs.Fit.{AreFit, IsFit};
 ghost use Rattle.lan_moves.specs.Follows.{Comes, IsNetOf, IsNoPoll};
+ghost use Rattle.lan_moves.specs.Made.{IsWide};
 ghost use Rattle.lan_moves.specs.Protocols.{NamesItsPayload};
 ghost use Rattle.lan_moves.specs.Raws.{OfEach, QueuesForeign};
 ghost use Rattle.lan_net.specs.History.{Entry};
@@ -22,6 +26,7 @@ ghost use Rattle.lan_stations.specs.Fresh.{IsFreshWorld};
 ghost use Rattle.lan_stations.specs.Runs.{Leads, Starts, WorldRun, unused_both};
 ghost use Rattle.lan_stations.specs.Station.{Stations, station};
 ghost use Rattle.net_base.specs.Medium.TheVariants as Medium;
+ghost use Rattle.packet_widths.specs.WellFormed.{IsWellFormed};
 ghost use Rattle.socket_base.specs.Context.{ContextValue};
 ghost use Rattle.socket_base.specs.Packet.{PacketValue, PayloadValue};
 ghost use Rattle.socket_base.specs.declared.offer.Offer as Answer;
@@ -61,4 +66,29 @@ pub fn packets_name_what_they_carry()
         → NamesItsPayload p }
     ensures answered { (i : InnerValue) (places : Places) (ip : IpRepr) (payload : List ℕ) (taken : Bool) (carried : Option PayloadValue)
         → IfSome (handed_reply i places ip payload taken carried) NamesItsPayload }
+{}
+
+/// Law: wherever two hosts came from a fresh start, each of their sockets is fit to send: no raw packet that it queues is of TCP or UDP, no
+/// datagram that it queues goes to port 0, and no end of its connection has that port.
+pub fn sockets_stay_fit()
+    ensures { (starts : Starts) (history : List Entry) (hosts : Stations)
+        → IsFreshWorld starts
+        → WorldRun history (unused_both starts) hosts
+        → AreFit hosts }
+{}
+
+/// Law: what a fit socket offers, and what answers a frame, another host can read, since a poll sends well-formed packets alone: the header
+/// names what is carried, and each field is a number of its width.
+pub fn packets_can_be_read()
+    ensures offered { (cx : ContextValue) (s s' : Socket) (answer : Answer.Offer) (p : PacketValue)
+        → IsFit s
+        → Offers cx s answer s'
+        → offered_by s' ≡ Some p
+        → IsWellFormed p
+        → IsWide p }
+    ensures answered { (i : InnerValue) (places : Places) (content : Option IncomingValue) (a : Arrived) (p : PacketValue)
+        → Brings i places content a
+        → a.reply ≡ Some (Answers p)
+        → IsWellFormed p
+        → IsWide p }
 {}
