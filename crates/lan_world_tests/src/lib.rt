@@ -1,0 +1,23 @@
+//! Tests of two hosts at a link, event by event, over public calls alone. What they expect comes from outside: worked examples and the
+//! standards. Each passes also where one allocation is refused, whichever it is, and then says so (`tools/try-without-memory` has each
+//! one refused in turn).
+#![tactic(auto)]
+
+#[cfg(test)]
+mod connections;
+#[cfg(test)]
+mod cuts;
+#[cfg(test)]
+mod datagrams;
+#[cfg(test)]
+mod floods;
+#[cfg(test)]
+mod hosts;
+#[cfg(test)]
+mod kinds;
+#[cfg(test)]
+mod made;
+#[cfg(test)]
+mod refusals;
+#[cfg(test)]
+mod table;
