@@ -17,7 +17,7 @@ use Rattle.lan_net.specs.Kinds.LinkAct.{Hands, Cuts}
 use Rattle.lan_net.specs.declared.event.Side.{Side}
 use Rattle.lan_stations.specs.Origins.{medium_of, frame_of_origin}
 use Rattle.lan_stations.specs.Refusals.{Tables, refusal}
-use Rattle.lan_stations.specs.Runs.{WorldRun, tables_in}
+use Rattle.lan_stations.specs.Runs.{WorldRun, Leads, tables_in}
 use Rattle.lan_stations.specs.Station.{Stations, station}
 use Rattle.net_base.specs.ChecksumCapabilities.{ChecksumCapabilities}
 use Rattle.net_base.specs.Medium.{Medium}
@@ -112,13 +112,20 @@ allowed_by hosts tables (OfLink (Hands o)) is = origin_there hosts tables o is
 allowed_by hosts tables (OfLink (Cuts from k at)) is = tt
 allowed_by hosts tables (OfHost side act) is = tt
 
-both_stay : (from : Stations) → WasHarmless from → (history : List Entry) (to : Stations) → HaveWords history → WorldRun history from to → DamageIsHarmless to history × AllAreThere to history
-both_stay from was [] to words run = (tt, tt)
-both_stay from was (e ∷ past) to words run =
-    let before = both_stay from was past run.0 words.1 run.1 in
-    let on = goes_on past run.0 to e run.2 in
-    let there : AllAreThere run.0 (e ∷ past) = (allowed_by run.0 (tables_in past run.0) (kind_of e.event) run.2.allowed, before.1) in
-    (all_still run.0 to on (e ∷ past) there (was past run.0 to e words.1 words.0 run.1 run.2, before.0), all_there run.0 to on (e ∷ past) there)
+-- of a history that is such, and whose rest then is such
+module _ (Such : List Entry → Type 0) (rest : (e : Entry) (past : List Entry) → Such (e ∷ past) → Such past) (from : Stations)
+    (was : (past : List Entry) (old new : Stations) (e : Entry) → Such (e ∷ past) → WorldRun past from old → Leads past old e new → IsHarmlessBy old (kind_of e.event)) where
+  both_stay : (history : List Entry) (to : Stations) → Such history → WorldRun history from to → DamageIsHarmless to history × AllAreThere to history
+  both_stay [] to such run = (tt, tt)
+  both_stay (e ∷ past) to such run =
+      let before = both_stay past run.0 (rest e past such) run.1 in
+      let on = goes_on past run.0 to e run.2 in
+      let there : AllAreThere run.0 (e ∷ past) = (allowed_by run.0 (tables_in past run.0) (kind_of e.event) run.2.allowed, before.1) in
+      (all_still run.0 to on (e ∷ past) there (was past run.0 to e such run.1 run.2, before.0), all_there run.0 to on (e ∷ past) there)
+
+  pub damage_kept : (history : List Entry) (to : Stations) → Such history → WorldRun history from to → DamageIsHarmless to history
+  damage_kept history to such run = (both_stay history to such run).0
 
 pub damage_stays : (from : Stations) → WasHarmless from → (history : List Entry) (to : Stations) → HaveWords history → WorldRun history from to → DamageIsHarmless to history
-damage_stays from was history to words run = (both_stay from was history to words run).0
+damage_stays from was history to words run =
+    damage_kept HaveWords (λ e past words. words.1) from (λ past old new e words ran leads. was past old new e words.1 words.0 ran leads) history to words run

@@ -15,4 +15,3 @@ pub mod Outcomes
 pub mod OneRoute
 pub mod OneWorld
 pub mod Harmless
-pub mod SafeWorlds

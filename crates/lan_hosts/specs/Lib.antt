@@ -5,4 +5,3 @@ pub mod GoesOn
 pub mod Quiet
 pub mod Outcome
 pub mod Damage
-pub mod SafeWorld

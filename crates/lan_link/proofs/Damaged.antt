@@ -11,6 +11,7 @@ use Rattle.ip_wire.specs.Tcp as Tcp
 use Rattle.ip_tcp.proofs.Sealed.{IsTcp-put16}
 use Rattle.socket_base.specs.Packet.{PacketValue, PayloadValue, ControlV4, ControlV6, Bytes, Datagram, Segment}
 use Rattle.interface_ingress.specs.Carried.{IsCarried}
+use Rattle.interface_ingress.specs.Kept.{IsDamaged}
 use Rattle.interface_ingress.specs.Sent.{normal_payload}
 use Rattle.interface_ingress.proofs.FramesArrive.{payload-arrives}
 use Rattle.lan_link.specs.Made.{sealed, HandsMade, bytes_of}
@@ -57,12 +58,16 @@ module _ (made : PayloadValue → Type 0) where
     | inr reads ↦ checked_by p.header (normal_payload p.payload) (bytes_of p) tcp (payload-arrives sealed sealed p.header p.payload (is.going.offered.packet.payload is.fits) reads.0 sealed_both)
   ]
 
-  -- with a word exchanged it is no segment, and nothing else
-  pub damaged_hands : (ip : IpRepr) (bytes : List ℕ) (place word : ℕ) → carried_in ip ≡ Protocol.Tcp → Tcp.IsChecked (source_in ip) (destination_in ip) bytes → place % 2 ≡ 0 → place + 2 ≤ length bytes → word < 2 ^ 16
-      → be16 bytes place % 65535 ≢ word % 65535 → HandsMade made ip (put16 bytes place word)
-  damaged_hands ip bytes place word tcp checked even within small other (Segment header carried_bytes) is =
-      absurd (IsTcp-put16 (source_in ip) (destination_in ip) bytes place word header checked even within small other is.format)
-  damaged_hands ip bytes place word tcp checked even within small other (Datagram udp carried_bytes) is = absurd (let p = is.protocol in cc)
-  damaged_hands ip bytes place word tcp checked even within small other (ControlV4 message carried_bytes) is = tt
-  damaged_hands ip bytes place word tcp checked even within small other (ControlV6 message carried_bytes) is = tt
-  damaged_hands ip bytes place word tcp checked even within small other (Bytes carried_bytes) is = tt
+  -- what is no segment brings nothing that was not made
+  pub hands_damaged : (ip : IpRepr) (payload : List ℕ) → IsDamaged sealed ip payload → HandsMade made ip payload
+  hands_damaged ip payload bad (Segment header bytes) is = absurd (bad.1 header bytes is)
+  hands_damaged ip payload bad (Datagram udp bytes) is = absurd (let p = is.protocol in let q = bad.0 in cc)
+  hands_damaged ip payload bad (ControlV4 message bytes) is = tt
+  hands_damaged ip payload bad (ControlV6 message bytes) is = tt
+  hands_damaged ip payload bad (Bytes bytes) is = tt
+
+-- a segment whose checksum holds, with a word exchanged, is none
+pub no_segment : (ip : IpRepr) (bytes : List ℕ) (place word : ℕ) → carried_in ip ≡ Protocol.Tcp → Tcp.IsChecked (source_in ip) (destination_in ip) bytes → place % 2 ≡ 0 → place + 2 ≤ length bytes → word < 2 ^ 16
+    → be16 bytes place % 65535 ≢ word % 65535 → IsDamaged sealed ip (put16 bytes place word)
+no_segment ip bytes place word tcp checked even within small other =
+    (tcp, λ header carried_bytes is. IsTcp-put16 (source_in ip) (destination_in ip) bytes place word header checked even within small other is.format)

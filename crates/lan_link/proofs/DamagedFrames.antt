@@ -1,5 +1,5 @@
 -- The link exchanges a word in a frame's TCP segment.
-use Rattle.std.proofs.Common.{◌≡◌, ◌≢◌, inl, inr, ℕ, ◌+◌, ◌-◌, ◌*◌, ◌/◌, ◌%◌, ◌^◌, ◌<◌, ◌≤◌, ◌==◌, ◌&&◌, ◌||◌, not, Bool, true, false, cond, List, [], ◌++◌, length, take, drop, slice_index, Option, Some, None, refl, sym, ◌∙◌, ap, subst, arith, length-append, append_assoc, append-nil}
+use Rattle.std.proofs.Common.{◌≡◌, ◌≢◌, ◌⊎◌, inl, inr, ℕ, ◌+◌, ◌-◌, ◌*◌, ◌/◌, ◌%◌, ◌^◌, ◌<◌, ◌≤◌, ◌==◌, ◌&&◌, ◌||◌, not, Bool, true, false, cond, List, [], ◌++◌, length, take, drop, slice_index, Option, Some, None, refl, sym, ◌∙◌, ap, subst, arith, length-append, append_assoc, append-nil}
 use Rattle.std.specs.Prelude.{nat_le, slice_range}
 use Rattle.std.proofs.lemmas.List.{drop_at, take_at}
 use Rattle.std.proofs.lemmas.Bool.Decides.{nat_tests}
@@ -22,9 +22,11 @@ use Rattle.ip_wire.specs.Parts.{has_flag}
 use Rattle.ip_wire.specs.Protocol.{protocol_of}
 use Rattle.ip_wire.specs.Tcp as Tcp
 use Rattle.ip_packet.specs.Ipv4.{header_len_of}
+use Rattle.ip_wire.specs.declared.ethernet.repr.EthernetRepr.{EthernetRepr}
 use Rattle.socket_base.specs.Packet.{PacketValue, PayloadValue}
-use Rattle.interface_ingress.specs.Incoming.{IsIncoming, IsPacketV4, IsPacketV6}
-use Rattle.interface_ingress.specs.Reassembled.{is_piece}
+use Rattle.interface_ingress.specs.Incoming.{IncomingValue, Ip4, Ip6, IsIncoming, IsPacketV4, IsPacketV6}
+use Rattle.interface_ingress.specs.Kept.{IsDamaged}
+use Rattle.interface_ingress.specs.Reassembled.{uncut}
 use Rattle.interface_ingress.proofs.FramesArrive.{piece-arrives}
 use Rattle.lan_frames.specs.Carried.{packet_in}
 use Rattle.lan_frames.specs.Parts.{may_carry, is_ipv4, is_ipv6, is_uncut, payload_v4, payload_v6, tcp_part, bytes_at, damaged}
@@ -34,7 +36,7 @@ use Rattle.lan_link.specs.Made.{sealed, bytes_of}
 use Rattle.lan_link.specs.Frames.{medium_on, IsSlice, IsWhole6, IsLinkHeader6, IsFrom, BringsFrom, AreOut}
 use Rattle.lan_link.specs.Sides.{IsHostFrame, IsDamage}
 use Rattle.lan_link.proofs.Behind.{sealed_both, with_len, value_with, count_of_slice, piece_of_slice, read_slice, read_v6, read_behind4, read_behind6, ether_front, said, none_left}
-use Rattle.lan_link.proofs.Damaged.{put_behind, put_len, segment_checked, damaged_hands}
+use Rattle.lan_link.proofs.Damaged.{put_behind, put_len, segment_checked, hands_damaged, no_segment}
 use Rattle.lan_link.proofs.HostFrames.{other_version}
 use Rattle.lan_link.proofs.Spelled.{length_v4, length_v6}
 
@@ -132,8 +134,33 @@ no_more packet more uncut low is =
     let none : slice_index packet 6 / 32 % 2 ≡ 0 = omega (arith, uncut, low) in
     is ∙ not_equal (slice_index packet 6 / 32 % 2) 1 0 none refl
 
-uncut_piece : (at : ℕ) (more : Bool) → at ≡ 0 → more ≡ false → more || not (at == 0) ≡ false
-uncut_piece at more start none = rw (start, none) refl
+-- WHAT IT BRINGS: a packet that nobody cut, of TCP, whose payload is no segment
+
+pub record IsBad4 (v : IncomingValue) : Type 0 where
+  pub link : Option EthernetRepr
+  pub header : Ipv4Repr
+  pub payload : List ℕ
+  pub value_is : v ≡ Ip4 link header uncut payload
+  pub bad : IsDamaged sealed (Ip.Ipv4 header) payload
+
+pub record IsBad6 (v : IncomingValue) : Type 0 where
+  pub link : Option EthernetRepr
+  pub header : Ipv6Repr
+  pub payload : List ℕ
+  pub value_is : v ≡ Ip6 link header payload
+  pub bad : IsDamaged sealed (Ip.Ipv6 header) payload
+
+abbrev pub IsBad : IncomingValue → Type 0
+IsBad v = IsBad4 v ⊎ IsBad6 v
+
+-- whatever such a host reads in the frame
+abbrev pub BringsBad : HardwareAddress → List ℕ → Type 0
+BringsBad hardware frame = (v : IncomingValue) → IsIncoming hardware sealed frame v → IsBad v
+
+bad_from : (made : PayloadValue → Type 0) (out : List PacketValue) (v : IncomingValue) → IsBad v → IsFrom made out v
+bad_from made out v (inl b) =
+    subst (IsFrom made out) (sym b.value_is) (inl (λ cut. absurd (let e : true ≡ false = sym cut ∙ refl in cc), hands_damaged made (Ip.Ipv4 b.header) b.payload b.bad))
+bad_from made out v (inr b) = subst (IsFrom made out) (sym b.value_is) (inl (hands_damaged made (Ip.Ipv6 b.header) b.payload b.bad))
 
 module _ (made : PayloadValue → Type 0) (hardware : HardwareAddress) (out : List PacketValue) (all : AreOut made out) (frame : List ℕ) (part : Part) (place word : ℕ) where
   module _ (f : IsSlice (medium_on hardware) out frame) (is_part : tcp_part (medium_on hardware) frame ≡ Some part) where
@@ -221,8 +248,8 @@ module _ (made : PayloadValue → Type 0) (hardware : HardwareAddress) (out : Li
         subst (λ (h : IpRepr). Tcp.IsChecked (source_in (Ips.normal h)) (destination_in (Ips.normal h)) (bytes_of f.sent.packet)) f.sent.header of_packet in
         subst (λ (b : List ℕ). Tcp.IsChecked (source_in (Ip.Ipv4 header)) (destination_in (Ip.Ipv4 header)) b) (sym (all_bytes ∙ f.sent.bytes_are)) of_header
 
-    slice_damaged : (padding : List ℕ) → IsDamage frame part place word → BringsFrom made out hardware (damaged frame part place word ++ padding)
-    slice_damaged padding damage v is =
+    slice_bad : (padding : List ℕ) → IsDamage frame part place word → BringsBad hardware (damaged frame part place word ++ padding)
+    slice_bad padding damage v is =
         let x' : List ℕ = put16 x place word in
         let joined : damaged frame part place word ++ padding ≡ f.link ++ ((w ++ x') ++ padding) = ap (λ (b : List ℕ). b ++ padding) damaged_is ∙ append_assoc f.link (w ++ x') padding in
         let len : f.slice.count ≡ length x' = sym (put_len x place word ∙ long_x) in
@@ -230,11 +257,16 @@ module _ (made : PayloadValue → Type 0) (hardware : HardwareAddress) (out : Li
         piece-arrives Hardware.Ip sealed sealed None (with_len f.header f.slice.count) (piece_of_slice f.slice) x' padding tt
         (let a = f.within.within in let b = f.sent.short in omega (arith, a, b)) (value_with f.header f.slice.count f.sent.value) len (let a = f.within.within in let b = f.sent.short in omega (arith, a, b)) f.unit sealed_both in
         let found = read_behind4 ((w ++ x') ++ padding) header (piece_of_slice f.slice) x' read hardware f.link v f.is_link (subst (λ (b : List ℕ). IsIncoming hardware sealed b v) joined is) in
-        let no_piece : is_piece (piece_of_slice f.slice) ≡ false = uncut_piece f.slice.at f.slice.more start ended in
+        let whole : piece_of_slice f.slice ≡ uncut = λ k. record { offset = start k; more = ended k } in
         let other : be16 x place % 65535 ≢ word % 65535 = subst (λ (b : List ℕ). be16 b place % 65535 ≢ word % 65535) segment_is damage.other in
         let room : place + 2 ≤ length x = let a = damage.within in omega (arith, a, part_len, long_x) in
-        subst (IsFrom made out) (sym found.1)
-        (inl (λ cut. absurd (let e : true ≡ false = sym cut ∙ no_piece in cc), damaged_hands made (Ip.Ipv4 header) x place word protocol checked damage.even room damage.small other))
+        inl (record {
+          link = found.0;
+          header = header;
+          payload = x';
+          value_is = found.1 ∙ ap (λ (p : Ipv4Piece). Ip4 found.0 header p x') whole;
+          bad = no_segment (Ip.Ipv4 header) x place word protocol checked damage.even room damage.small other;
+        })
 
   -- IPV6
 
@@ -293,24 +325,34 @@ module _ (made : PayloadValue → Type 0) (hardware : HardwareAddress) (out : Li
         subst (λ (h : IpRepr). Tcp.IsChecked (source_in (Ips.normal h)) (destination_in (Ips.normal h)) (bytes_of f.sent.packet)) f.sent.header of_packet in
         subst (λ (b : List ℕ). Tcp.IsChecked (source_in (Ip.Ipv6 header6)) (destination_in (Ip.Ipv6 header6)) b) (sym f.sent.bytes_are) of_header
 
-    whole6_damaged : (padding : List ℕ) → IsDamage frame part place word → BringsFrom made out hardware (damaged frame part place word ++ padding)
-    whole6_damaged padding damage v is =
+    whole6_bad : (padding : List ℕ) → IsDamage frame part place word → BringsBad hardware (damaged frame part place word ++ padding)
+    whole6_bad padding damage v is =
         let x' : List ℕ = put16 f.bytes place word in
         let joined : damaged frame part place word ++ padding ≡ f.link ++ ((w6 ++ x') ++ padding) = ap (λ (b : List ℕ). b ++ padding) damaged_is6 ∙ append_assoc f.link (w6 ++ x') padding in
         let len : f.header.payload_len ≡ length x' = f.sent.len ∙ sym (put_len f.bytes place word) in
         let found = read_behind6 ((w6 ++ x') ++ padding) header6 x' (read_v6 f.header x' padding f.sent.value f.sent.fits len) hardware f.link v f.is_link (subst (λ (b : List ℕ). IsIncoming hardware sealed b v) joined is) in
         let other : be16 f.bytes place % 65535 ≢ word % 65535 = subst (λ (b : List ℕ). be16 b place % 65535 ≢ word % 65535) segment_is6 damage.other in
         let room : place + 2 ≤ length f.bytes = let a = damage.within in omega (arith, a, part_len6) in
-        subst (IsFrom made out) (sym found.1) (inl (damaged_hands made (Ip.Ipv6 header6) f.bytes place word protocol6 checked6 damage.even room damage.small other))
+        inr (record {
+          link = found.0;
+          header = header6;
+          payload = x';
+          value_is = found.1;
+          bad = no_segment (Ip.Ipv6 header6) f.bytes place word protocol6 checked6 damage.even room damage.small other;
+        })
 
   -- EITHER
 
-  no_segment : (o : Option Part) → o ≡ None → o ≡ Some part → ⊥
-  no_segment o none some = cc
+  none_there : (o : Option Part) → o ≡ None → o ≡ Some part → ⊥
+  none_there o none some = cc
 
   -- a host's frame with a word of its TCP segment exchanged, and any padding
+  pub damaged_bad : (padding : List ℕ) → IsHostFrame (medium_on hardware) out frame → tcp_part (medium_on hardware) frame ≡ Some part → IsDamage frame part place word
+      → BringsBad hardware (damaged frame part place word ++ padding)
+  damaged_bad padding (inl f) is damage = slice_bad f is padding damage
+  damaged_bad padding (inr (inl f)) is damage = whole6_bad f is padding damage
+  damaged_bad padding (inr (inr f)) is damage = absurd (none_there (tcp_part (medium_on hardware) frame) f.no_segment is)
+
   pub damaged_brings : (padding : List ℕ) → IsHostFrame (medium_on hardware) out frame → tcp_part (medium_on hardware) frame ≡ Some part → IsDamage frame part place word
       → BringsFrom made out hardware (damaged frame part place word ++ padding)
-  damaged_brings padding (inl f) is damage = slice_damaged f is padding damage
-  damaged_brings padding (inr (inl f)) is damage = whole6_damaged f is padding damage
-  damaged_brings padding (inr (inr f)) is damage = absurd (no_segment (tcp_part (medium_on hardware) frame) f.no_segment is)
+  damaged_brings padding f is damage v read = bad_from made out v (damaged_bad padding f is damage v read)

@@ -23,7 +23,7 @@ use Rattle.interface_delivery.specs.Delivered.{NamesNoPorts}
 use Rattle.lan_link.specs.Made.{HandsMade, BringsMade, bytes_of}
 use Rattle.lan_link.specs.Frames.{IsSentV4, IsPieceOf, IsFrom, AreOut}
 use Rattle.lan_link.specs.Numbers.{AreNumbered, AreFew}
-use Rattle.lan_link.specs.Held.{HoldsSent, IsSlotOf, AreSlotsOf}
+use Rattle.lan_link.specs.Held.{HoldsSent, IsSlotOf, AreSlotsOf, IsRebuiltOf}
 use Rattle.lan_link.proofs.Hands.{hands_none, hands_v4}
 use Rattle.lan_link.proofs.Numbers.{one_number}
 
@@ -131,16 +131,14 @@ module _ (made : PayloadValue → Type 0) (first : ℕ) (out : List PacketValue)
         let same : Ipv4.key_of h ≡ key = cc in
         subst (λ (k : Ipv4FragKey). NamesNoPorts k.protocol ⊎ HoldsSent out k (put s)) same (put_by s from is)
 
-    -- what is complete at the place of the piece was made
-    complete_by : (s : Slot) (bytes : List ℕ) → NamesNoPorts h.next_header ⊎ HoldsSent out (Ipv4.key_of h) s → completed s ≡ Some bytes → HandsMade made (Ip.Ipv4 (record h { payload_len = length bytes })) bytes
-    complete_by s bytes (inl none) done = hands_none made (Ip.Ipv4 (record h { payload_len = length bytes })) bytes none
+    -- what is complete at the place of the piece is the payload of one packet
+    complete_by : (s : Slot) (bytes : List ℕ) → NamesNoPorts h.next_header ⊎ HoldsSent out (Ipv4.key_of h) s → completed s ≡ Some bytes → IsRebuiltOf out h bytes
+    complete_by s bytes (inl none) done = inl none
     complete_by s bytes (inr held) done =
         let is : bytes ≡ held.bytes = completed-payload runs_kept held.bytes s bytes held.holds done in
-        subst (λ (b : List ℕ). HandsMade made (Ip.Ipv4 (record h { payload_len = length bytes })) b) (sym is)
-        (hands_v4 made out held.sent_header (record h { payload_len = length bytes }) held.bytes all held.sent held.key_is)
+        inr (record { sent_header = held.sent_header; sent = subst (IsSentV4 out held.sent_header) (sym is) held.sent; key_is = held.key_is })
 
-    complete_at : (slots : Slots) (at : ℕ) (o : Option Slot) (bytes : List ℕ) → AreSlotsOf out slots → at_place (Some at) (changed_at put (Some at) slots) ≡ o → completed_in o ≡ Some bytes
-        → HandsMade made (Ip.Ipv4 (record h { payload_len = length bytes })) bytes
+    complete_at : (slots : Slots) (at : ℕ) (o : Option Slot) (bytes : List ℕ) → AreSlotsOf out slots → at_place (Some at) (changed_at put (Some at) slots) ≡ o → completed_in o ≡ Some bytes → IsRebuiltOf out h bytes
     complete_at slots at None bytes are_slots is done = absurd cc
     complete_at slots at (Some s) bytes are_slots is done =
         let there = changed_there put at (at_place (Some at) slots) slots s refl is in
@@ -148,9 +146,14 @@ module _ (made : PayloadValue → Type 0) (first : ℕ) (out : List PacketValue)
         let now : AreSlotsOf out (changed_at put (Some at) slots) = changed_keeps (IsSlotOf out) put (Some at) slots put_is are_slots in
         complete_by s bytes (all_at (IsSlotOf out) (changed_at put (Some at) slots) at s now is (Ipv4.key_of h) key) done
 
-    complete : (slots : Slots) (place : Option ℕ) (bytes : List ℕ) → AreSlotsOf out slots → bytes_at place (changed_at put place slots) ≡ Some bytes → HandsMade made (Ip.Ipv4 (record h { payload_len = length bytes })) bytes
+    complete : (slots : Slots) (place : Option ℕ) (bytes : List ℕ) → AreSlotsOf out slots → bytes_at place (changed_at put place slots) ≡ Some bytes → IsRebuiltOf out h bytes
     complete slots None bytes are_slots done = absurd cc
     complete slots (Some at) bytes are_slots done = complete_at slots at (at_place (Some at) (changed_at put (Some at) slots)) bytes are_slots refl done
+
+    -- and was made
+    hands_by : (bytes : List ℕ) → IsRebuiltOf out h bytes → HandsMade made (Ip.Ipv4 (record h { payload_len = length bytes })) bytes
+    hands_by bytes (inl none) = hands_none made (Ip.Ipv4 (record h { payload_len = length bytes })) bytes none
+    hands_by bytes (inr of) = hands_v4 made out of.sent_header (record h { payload_len = length bytes }) bytes all of.sent of.key_is
 
     rebuilt_made : (o : Option (List ℕ)) → ((bytes : List ℕ) → o ≡ Some bytes → HandsMade made (Ip.Ipv4 (record h { payload_len = length bytes })) bytes) → BringsMade made (rebuilt link h o)
     rebuilt_made None hands = tt
@@ -164,4 +167,9 @@ module _ (made : PayloadValue → Type 0) (first : ℕ) (out : List PacketValue)
         → BringsMade made (rebuilt link h (bytes_at (place_for is_same_datagram slots (Ipv4.key_of h)) (changed_at put (place_for is_same_datagram slots (Ipv4.key_of h)) slots)))
     piece_brings slots are_slots =
         let place = place_for is_same_datagram slots (Ipv4.key_of h) in
-        rebuilt_made (bytes_at place (changed_at put place slots)) (λ bytes done. complete slots place bytes are_slots done)
+        rebuilt_made (bytes_at place (changed_at put place slots)) (λ bytes done. hands_by bytes (complete slots place bytes are_slots done))
+
+    -- the payload that is rebuilt when the piece comes
+    pub piece_rebuilds : (slots : Slots) (bytes : List ℕ) → AreSlotsOf out slots
+        → bytes_at (place_for is_same_datagram slots (Ipv4.key_of h)) (changed_at put (place_for is_same_datagram slots (Ipv4.key_of h)) slots) ≡ Some bytes → IsRebuiltOf out h bytes
+    piece_rebuilds slots bytes are_slots done = complete slots (place_for is_same_datagram slots (Ipv4.key_of h)) bytes are_slots done

@@ -1,6 +1,6 @@
 -- A host takes a frame: what it brings, whole or rebuilt, was made.
-use Rattle.std.proofs.Common.{◌≡◌, ℕ, Bool, true, false, cond, List, [], ◌∷◌, ◌++◌, Option, Some, None, refl, sym, ◌∙◌, subst}
-use Rattle.std.specs.Prelude.{ℤ, is_some}
+use Rattle.std.proofs.Common.{◌≡◌, ℕ, ◌-◌, ◌^◌, Bool, true, false, cond, List, [], ◌∷◌, ◌++◌, length, Option, Some, None, refl, sym, ◌∙◌, ap, subst}
+use Rattle.std.specs.Prelude.{ℤ, is_some, nat_lt}
 use Rattle.std.specs.List.{AllByRecursion}
 use Rattle.ip_wire.specs.HardwareAddress.{HardwareAddress}
 use Rattle.ip_wire.specs.Ipv4 as Ipv4
@@ -15,15 +15,15 @@ use Rattle.interface_tables.specs.Slots.{changed_at, with_piece_of, without_expi
 use Rattle.interface_ingress.specs.Arrives.{Arrived, ArrivesAs, slots_after, whole_after}
 use Rattle.interface_ingress.specs.Delivered.{Places}
 use Rattle.interface_ingress.specs.Incoming.{IncomingValue, Arp, Ip4, Ip6, IsIncoming, IsContent}
-use Rattle.interface_ingress.specs.Reassembled.{Slots, is_piece, is_same_datagram, runs_kept, is_taken_in, taken_in, given_up_at, place_in, kept, bytes_at, rebuilt, released}
+use Rattle.interface_ingress.specs.Reassembled.{Slots, is_piece, is_same_datagram, runs_kept, is_taken_in, taken_in, given_up_at, place_in, kept, bytes_at, rebuilt, released, uncut}
 use Rattle.interface_ingress.proofs.Settings.{brings_same}
 use Rattle.lan_link.specs.Made.{sealed, BringsMade}
 use Rattle.lan_link.specs.Frames.{IsFrom, BringsFrom}
-use Rattle.lan_link.specs.Held.{IsSlotOf, AreSlotsOf}
+use Rattle.lan_link.specs.Held.{IsSlotOf, AreSlotsOf, IsRebuiltOf}
 use Rattle.lan_link.specs.Numbers.{AreFew}
 use Rattle.lan_link.specs.Sides.{AreSent, AreFrom, IsReceiver}
 use Rattle.lan_link.proofs.Hands.{brings_whole}
-use Rattle.lan_link.proofs.Slots.{all_more, changed_keeps, freed_is, expired_keep, piece_keeps, piece_brings}
+use Rattle.lan_link.proofs.Slots.{all_more, changed_keeps, freed_is, expired_keep, piece_keeps, piece_brings, piece_rebuilds}
 
 -- WHAT IS READ
 
@@ -103,6 +103,33 @@ module _ (made : PayloadValue → Type 0) (first : ℕ) (out : List PacketValue)
         slots_are = subst (AreSlotsOf out) (sym arrives.0) (slots_keep i timeout slots (taken_in i content) from r.slots_are);
         waits = same_waits i a.inner rest same.hardware r.waits.1;
       }
+
+  -- WHAT IS REBUILT
+
+  rebuilds_by : (i : InnerValue) (timeout : ℕ) (slots : Slots) (link : Option EthernetRepr) (h : Ipv4Repr) (p : Ipv4Piece) (x bytes : List ℕ) (cut : Bool) → is_piece p ≡ cut → cut ≡ true → IsFrom made out (Ip4 link h p x) → AreSlotsOf out slots
+      → bytes_at (cond cut (place_for is_same_datagram slots (Ipv4.key_of h)) None) (cond cut (with_piece_of runs_kept is_same_datagram slots (Ipv4.key_of h) (given_up_at i timeout) x p.offset p.more) slots) ≡ Some bytes → IsRebuiltOf out h bytes
+  rebuilds_by i timeout slots link h p x bytes true is cut from are done = piece_rebuilds made first out next sent.numbered few sent.packets link h p x (given_up_at i timeout) is from slots bytes are done
+  rebuilds_by i timeout slots link h p x bytes false is cut from are done = absurd cc
+
+  short_bytes : (link l : Option EthernetRepr) (h g : Ipv4Repr) (p : Ipv4Piece) (found bytes : List ℕ) (b : Bool) → cond b (Some (Ip4 link (record h { payload_len = length found }) uncut found)) None ≡ Some (Ip4 l g p bytes) → Some found ≡ Some bytes
+  short_bytes link l h g p found bytes true is = let e : found ≡ bytes = cc in ap Some e
+  short_bytes link l h g p found bytes false is = absurd cc
+
+  rebuilt_bytes : (link l : Option EthernetRepr) (h g : Ipv4Repr) (p : Ipv4Piece) (o : Option (List ℕ)) (bytes : List ℕ) → rebuilt link h o ≡ Some (Ip4 l g p bytes) → o ≡ Some bytes
+  rebuilt_bytes link l h g p None bytes is = absurd cc
+  rebuilt_bytes link l h g p (Some found) bytes is = short_bytes link l h g p found bytes (nat_lt (length found) (2 ^ 16 - 20)) is
+
+  whole_bytes : (slots : Slots) (at : Option ℕ) (link l : Option EthernetRepr) (h g : Ipv4Repr) (p r : Ipv4Piece) (x bytes : List ℕ) (cut : Bool) → cut ≡ true → cond cut (rebuilt link h (bytes_at at slots)) (Some (Ip4 link h p x)) ≡ Some (Ip4 l g r bytes) → bytes_at at slots ≡ Some bytes
+  whole_bytes slots at link l h g p r x bytes true cut is = rebuilt_bytes link l h g r (bytes_at at slots) bytes is
+  whole_bytes slots at link l h g p r x bytes false cut is = absurd cc
+
+  -- what is whole once a piece was taken in is the payload of one packet
+  pub taken_rebuilds : (i : InnerValue) (timeout : ℕ) (slots : Slots) (frame : List ℕ) (rest : List (List ℕ)) (link l : Option EthernetRepr) (h g : Ipv4Repr) (p r : Ipv4Piece) (x bytes : List ℕ) → IsReceiver made out i slots (frame ∷ rest)
+      → IsContent i.hardware i.checksums frame (Some (Ip4 link h p x)) → is_piece p ≡ true → whole_after i timeout slots (Some (Ip4 link h p x)) ≡ Some (Ip4 l g r bytes) → IsRebuiltOf out h bytes
+  taken_rebuilds i timeout slots frame rest link l h g p r x bytes receiver is cut whole =
+      let from = content_from made out i.hardware i.checksums frame (Some (Ip4 link h p x)) receiver.checksums receiver.waits.0 is in
+      rebuilds_by i timeout slots link h p x bytes (is_piece p) refl cut from receiver.slots_are
+      (whole_bytes (kept i timeout slots (Some (Ip4 link h p x))) (place_in slots (Some (Ip4 link h p x))) link l h g p r x bytes (is_piece p) cut whole)
 
 -- OTHER STEPS OF THE RECEIVER
 

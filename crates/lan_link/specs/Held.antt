@@ -25,3 +25,15 @@ IsSlotOf out s = (key : Ipv4FragKey) → s.key ≡ Some key → NamesNoPorts key
 
 abbrev pub AreSlotsOf : List PacketValue → Slots → Type 0
 AreSlotsOf out slots = AllByRecursion (IsSlotOf out) slots
+
+-- WHAT IS REBUILT
+
+-- these bytes are the whole payload of one packet that was sent, whose key is that of this header
+pub record IsPayloadOf (out : List PacketValue) (header : Ipv4Repr) (bytes : List ℕ) : Type 0 where
+  pub sent_header : Ipv4Repr
+  pub sent : IsSentV4 out sent_header bytes
+  pub key_is : Ipv4.key_of header ≡ Ipv4.key_of (Ipv4.normal sent_header)
+
+-- so they are, or of neither TCP nor UDP
+abbrev pub IsRebuiltOf : List PacketValue → Ipv4Repr → List ℕ → Type 0
+IsRebuiltOf out header bytes = NamesNoPorts header.next_header ⊎ IsPayloadOf out header bytes
