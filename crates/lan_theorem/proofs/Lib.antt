@@ -4,3 +4,8 @@ pub mod Told
 pub mod Keeps
 pub mod Settings
 pub mod Events
+pub mod Beginnings
+pub mod PolledJoins
+pub mod Runs
+pub mod Rebuilding
+pub mod Damages

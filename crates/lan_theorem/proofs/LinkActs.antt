@@ -36,7 +36,7 @@ use Rattle.lan_theorem.specs.Joins.{Sends, Receives, AreJoined}
 -- TESTS
 
 -- the first test doesn't hold, nor any of the rest
-passed : (b : Bool) (r : Refused) (rest : Option Refused) → cond b (Some r) rest ≡ None → (b ≡ false) × (rest ≡ None)
+pub passed : (b : Bool) (r : Refused) (rest : Option Refused) → cond b (Some r) rest ≡ None → (b ≡ false) × (rest ≡ None)
 passed true r rest none = absurd cc
 passed false r rest none = (refl, none)
 
@@ -83,11 +83,19 @@ unit_by n none = equal (n % 8) 0 (not_false (n % 8 == 0) none)
 inside_by : (n m : ℕ) → not (nat_lt n m) ≡ false → n ≤ m
 inside_by n m none = let h : n < m = below n m none in omega arith
 
+-- a word that may be exchanged
+pub damage_of : (frame : List ℕ) (part : Part) (place word : ℕ) → word < 2 ^ 16 → first_refusal (segment_tests frame (Some part) place word) ≡ None → IsDamage frame part place word
+damage_of frame part place word small allowed =
+    let first = passed (is_no_place part place) For.Place (first_refusal ((is_same_sum frame part place word, For.SameSum) ∷ [])) allowed in
+    let second = passed (is_same_sum frame part place word) For.SameSum None first.1 in
+    let place_is = either_none (place % 2 == 1) (nat_lt part.len (place + 2)) first.0 in
+    record { even = even_by place place_is.0; within = fits_by part.len place place_is.1; small = small; other = other_sum (be16 (bytes_at frame part) place % 65535) (word % 65535) second.0 }
+
 -- FRAMES THAT ARE HANDED OVER
 
 module _ (firsts most : Side → ℕ) (hosts : Stations) (net : Net) (j : AreJoined firsts most hosts net) where
   -- a sent frame is a host's
-  sent_frame : (from : Side) (k : ℕ) → is_no_frame (station hosts from) k ≡ false → IsHostFrame (medium_on (station hosts from).host.inner.hardware) (j.out from) (frame_sent hosts from k)
+  pub sent_frame : (from : Side) (k : ℕ) → is_no_frame (station hosts from) k ≡ false → IsHostFrame (medium_on (station hosts from).host.inner.hardware) (j.out from) (frame_sent hosts from k)
   sent_frame from k there =
       all_get (IsHostFrame (medium_on (station hosts from).host.inner.hardware) (j.out from)) (station hosts from).link.sent k [] (j.sends from).frames (below k (length (station hosts from).link.sent) there)
 
@@ -108,11 +116,8 @@ module _ (firsts most : Side → ℕ) (hosts : Stations) (net : Net) (j : AreJoi
     damage_by k place word padding None there small is allowed = absurd cc
     damage_by k place word padding (Some part) there small is allowed =
         let frame : List ℕ = frame_sent hosts from k in
-        let first = passed (is_no_place part place) For.Place (first_refusal ((is_same_sum frame part place word, For.SameSum) ∷ [])) allowed in
-        let second = passed (is_same_sum frame part place word) For.SameSum None first.1 in
-        let place_is = either_none (place % 2 == 1) (nat_lt part.len (place + 2)) first.0 in
         damaged_brings (MadeBy (party net from)) (station hosts to).host.inner.hardware (j.out from) (j.sends from).are_sent.packets frame part place word padding (there_frame k there) is
-        (record { even = even_by place place_is.0; within = fits_by part.len place place_is.1; small = small; other = other_sum (be16 (bytes_at frame part) place % 65535) (word % 65535) second.0 })
+        (damage_of frame part place word small allowed)
 
     damage : (k place word : ℕ) (padding : List ℕ) → word < 2 ^ 16 → first_refusal (link_tests hosts (Hands (Damaged from k place word padding))) ≡ None
         → Brings (damaged_in (tcp_part (medium_of (station hosts from)) (frame_sent hosts from k)) (frame_sent hosts from k) place word ++ padding)

@@ -1,3 +1,4 @@
 pub mod Events
 pub mod Linked
 pub mod Joins
+pub mod Rebuilt

@@ -1,20 +1,28 @@
 //! What follows from the definitions.
-ghost use Rattle.std.specs.Prelude.{◌≡◌, ℕ, List};
+ghost use Rattle.std.specs.Prelude.{◌≡◌, ℕ, List, None};
 ghost use Rattle.socket_base.specs.Packet.{PacketValue};
 ghost use Rattle.lan_port.specs.Port.{PortValue, PortMove};
 ghost use Rattle.lan_net.specs.History.{Entry};
-ghost use Rattle.lan_net.specs.Kinds.{Setting, other, kind_of};
+ghost use Rattle.lan_hosts.specs.Damage.{DamageIsHarmless, IsHarmlessFrom};
+ghost use Rattle.lan_net.specs.Kinds.{Origin, Setting, other, kind_of};
+ghost use Rattle.lan_net.specs.Kinds.LinkAct.{Hands};
+ghost use Rattle.lan_net.specs.Tables.{first_refusal};
+ghost use Rattle.lan_stations.specs.Refusals.{link_tests};
 ghost use Rattle.lan_net.specs.declared.answer.Answer.{Answer};
 ghost use Rattle.lan_net.specs.declared.event.Side.{Side};
 ghost use Rattle.lan_packets.specs.Parties.{Party, Net, party};
-ghost use Rattle.lan_stations.specs.Runs.{Leads};
+ghost use Rattle.lan_stations.specs.Runs.{Leads, Starts, WorldRun, unused_both};
 ghost use Rattle.lan_stations.specs.Sets.{Configures};
 ghost use Rattle.lan_stations.specs.Station.{Stations, station};
 ghost use Rattle.lan_moves.specs.Link.{IsLink};
 ghost use Rattle.lan_moves.specs.Made.{Grows};
-ghost use Rattle.lan_theorem.specs.Events.{HasRange, IsTyped};
+ghost use Rattle.lan_theorem.specs.Events.{HasRange, HasWord, IsTyped, AreTyped};
 ghost use Rattle.lan_theorem.specs.Joins.{AreJoined, IsPlain};
+ghost use Rattle.lan_packets.specs.Safe.{IsSafe};
+ghost use Rattle.lan_stations.specs.Fresh.{IsFreshWorld};
+ghost use Rattle.lan_stations.specs.Safe.{first_port, net_of};
 ghost use Rattle.lan_theorem.specs.Linked.{IsOther, IsLinked};
+ghost use Rattle.lan_theorem.specs.Rebuilt.{RebuiltWasMade};
 
 /// Law: while a host polls at its port, each thing that the poll does keeps what is said of its frames and of those that wait, and each
 /// frame that it takes brings only what the other host made, of which fewer than 65,536 are IPv4 packets. A packet's way out counts one
@@ -44,4 +52,46 @@ pub fn events_keep_the_link()
         → AreJoined firsts most hosts net
         → ((side : Side) → Grows (party net side) (party next side))
         → AreJoined firsts most hosts next }
+{}
+
+/// Law: a damaged frame that the link hands over, where it isn't refused, does no harm to whichever host of the medium takes it, whenever
+/// that is.
+pub fn damage_does_no_harm()
+    ensures { (firsts most : Side → ℕ) (hosts : Stations) (net : Net) (origin : Origin)
+        → AreJoined firsts most hosts net
+        → HasWord origin
+        → first_refusal (link_tests hosts (Hands origin)) ≡ None
+        → IsHarmlessFrom hosts origin }
+{}
+
+/// Law, the headline: wherever events led two fresh hosts at a link that may lose, repeat, reorder, pad, damage and cut frames, and add
+/// some, their sockets are safe. What a socket took in begins what its partner wrote, only bytes that were taken in are freed, a socket
+/// without a partner has nothing, the end of a stream means closed and complete, and each datagram read was accepted with these bytes
+/// and ports.
+pub fn worlds_are_safe()
+    ensures { (starts : Starts) (history : List Entry) (hosts : Stations)
+        → IsFreshWorld starts
+        → AreTyped history
+        → WorldRun history (unused_both starts) hosts
+        → IsSafe (first_port starts) (net_of (record { hosts = hosts; starts = starts; history = history })) }
+{}
+
+/// Law: wherever events led two fresh hosts, whatever TCP or UDP datagram a host rebuilds when it takes a frame that waits for it, its
+/// payload is that of one packet, whose segment or datagram the other host made.
+pub fn rebuilt_was_made()
+    ensures { (starts : Starts) (history : List Entry) (hosts : Stations)
+        → IsFreshWorld starts
+        → AreTyped history
+        → WorldRun history (unused_both starts) hosts
+        → RebuiltWasMade (record { hosts = hosts; starts = starts; history = history }) }
+{}
+
+/// Law: wherever events led two fresh hosts, each frame that the link damaged does no harm: it touches no TCP and no UDP socket of
+/// whichever host takes it, and has no reply.
+pub fn damage_was_harmless()
+    ensures { (starts : Starts) (history : List Entry) (hosts : Stations)
+        → IsFreshWorld starts
+        → AreTyped history
+        → WorldRun history (unused_both starts) hosts
+        → DamageIsHarmless hosts history }
 {}

@@ -13,7 +13,7 @@ use Rattle.lan_net.specs.Tables.{no_record}
 use Rattle.lan_net.specs.declared.event.Side.{Side}
 use Rattle.lan_net.specs.declared.event.Side.TheVariants.{A, B}
 use Rattle.lan_port.specs.Port.{LinkEnd, unused_end}
-use Rattle.lan_stations.specs.Fresh.{IsFreshStart, IsFreshWorld}
+use Rattle.lan_stations.specs.Fresh.{IsTypedHost, IsFreshStart, IsFreshWorld}
 use Rattle.lan_stations.specs.Origins.{medium_of, begins_datagram}
 use Rattle.lan_stations.specs.Refusals.{Table}
 use Rattle.lan_stations.specs.Runs.{unused, unused_both, table_in, tables_in}
@@ -73,8 +73,8 @@ module _ (s : StationValue) (fresh : is_fresh s ≡ true) where
   table_is side = rw parts.1 refl
 
   pub start_is : is_of_medium s.host.inner.hardware s.link.capabilities.medium ≡ true → has_checksums s ≡ true → has_mtu s ≡ true → IsIdle s.host.left s.host.slots
-      → IsFreshStart (start_of s)
-  start_is medium checksums mtu idle =
+      → s.host.inner.neighbors.entries ≡ [] → IsTypedHost s.host.inner → IsFreshStart (start_of s)
+  start_is medium checksums mtu idle unknown typed =
       let c = and_parts _ _ checksums in
       let m = and_parts _ _ mtu in
       let own : s.host.inner.mtu ≡ ip_mtu s.link.capabilities = eqb-true s.host.inner.mtu (ip_mtu s.link.capabilities) m.1 in
@@ -86,6 +86,8 @@ module _ (s : StationValue) (fresh : is_fresh s ≡ true) where
         own_mtu = own;
         fresh = parts.0;
         idle = idle;
+        unknown = unknown;
+        typed = typed;
         sockets = λ i socket is. unused_at s.places i socket (and_parts _ _ fresh).1 is;
       }
 
@@ -101,18 +103,19 @@ module _ (a b : StationValue) (none : new_error a b ≡ None) where
   fresh_b : is_fresh b ≡ true
   fresh_b = (and_parts _ _ passes.fresh).1
 
-  pub begun : IsIdle a.host.left a.host.slots → IsIdle b.host.left b.host.slots
+  pub begun : IsIdle a.host.left a.host.slots → IsIdle b.host.left b.host.slots → a.host.inner.neighbors.entries ≡ [] → b.host.inner.neighbors.entries ≡ [] → IsTypedHost a.host.inner → IsTypedHost b.host.inner
       → HasCome a b a b (record { records = replicate (length a.places) no_record; numbered = 0 }) (record { records = replicate (length b.places) no_record; numbered = 0 }) []
-  begun idle_a idle_b =
+  begun idle_a idle_b unknown_a unknown_b typed_a typed_b =
       let m = and_parts _ _ passes.medium in
       let n = and_parts _ _ m.0 in
       let c = and_parts _ _ passes.checksums in
       let u = and_parts _ _ passes.mtus in
-      let start_a : IsFreshStart (start_of a) = start_is a fresh_a n.0 c.0 u.0 idle_a in
-      let start_b : IsFreshStart (start_of b) = start_is b fresh_b m.1 c.1 u.1 idle_b in
+      let start_a : IsFreshStart (start_of a) = start_is a fresh_a n.0 c.0 u.0 idle_a unknown_a typed_a in
+      let start_b : IsFreshStart (start_of b) = start_is b fresh_b m.1 c.1 u.1 idle_b unknown_b typed_b in
       let of_both : (x y : StationValue) → x ≡ unused (start_of a) → y ≡ unused (start_of b) → both x y ≡ unused_both (starts_of a b) = λ x y p q. rw (p, q) refl in
       record {
         fresh = record { a = start_a; b = start_b; medium = same_medium a.host.inner.hardware a.link.capabilities.medium b.link.capabilities.medium n.0 n.1 };
         run = of_both a b (unused_is a fresh_a) (unused_is b fresh_b);
         tables = rw (table_is a fresh_a A, table_is b fresh_b B) refl;
+        typed = tt;
       }

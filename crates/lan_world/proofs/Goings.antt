@@ -13,6 +13,7 @@ use Rattle.lan_stations.specs.Refusals.{Table, Tables, refusal}
 use Rattle.lan_stations.specs.Runs.{WorldValue, Step, Leads, WorldRun, unused_both, table_in, tables_in, counts_of, refusal_in}
 use Rattle.lan_stations.specs.Station.{StationValue, Stations, station}
 use Rattle.lan_stations.specs.Steps.{Happens}
+use Rattle.lan_theorem.specs.Events.{IsTyped}
 use Rattle.lan_world.specs.Come.{starts_of, both, tables, world, HasCome}
 use Rattle.lan_world.specs.Past.{counts_in, entry}
 use Rattle.lan_world.specs.declared.history.Note.{Note}
@@ -41,12 +42,12 @@ module _ (start_a start_b a b new_a new_b : StationValue) (of_a of_b next_a next
       → Leads past (both a b) e (both new_a new_b)
   leads come allowed counted happens = record { allowed = allowed_in come allowed; counted = counted; happens = happens }
 
-  pub goes_on : TablesGoOn → HasCome start_a start_b a b of_a of_b past → refusal (both a b) (tables of_a of_b) (kind_of e.event) ≡ None
+  pub goes_on : TablesGoOn → IsTyped (kind_of e.event) → HasCome start_a start_b a b of_a of_b past → refusal (both a b) (tables of_a of_b) (kind_of e.event) ≡ None
       → e.before ≡ counts_of (both a b) → Happens (both a b) (kind_of e.event) e.answer e.found (both new_a new_b)
       → next_a ≡ table_next A (kind_of e.event) e.answer (length a.link.sent) new_a of_a
       → next_b ≡ table_next B (kind_of e.event) e.answer (length b.link.sent) new_b of_b
       → HasCome start_a start_b new_a new_b next_a next_b (e ∷ past)
-  goes_on law come allowed counted happens is_a is_b =
+  goes_on law typed come allowed counted happens is_a is_b =
       let of_a_is : of_a ≡ table_in past A a = ap (λ (t : Tables). t.a) come.tables in
       let of_b_is : of_b ≡ table_in past B b = ap (λ (t : Tables). t.b) come.tables in
       let a_is : next_a ≡ table_in (e ∷ past) A new_a =
@@ -57,6 +58,7 @@ module _ (start_a start_b a b new_a new_b : StationValue) (of_a of_b next_a next
         fresh = come.fresh;
         run = (both a b, come.run, leads come allowed counted happens);
         tables = rw (a_is, b_is) refl;
+        typed = (typed, come.typed);
       }
 
   -- it is a step of the world
@@ -94,10 +96,10 @@ module _ (start_a start_b a b new_a new_b : StationValue) (of_a of_b next_a next
   next_is : next ≡ entry event note answer ∷ past
   next_is = pushed ∙ ap (λ (es : List Entry). entry event note kept ∷ es) same ∙ ap (λ (x : Answer). entry event note x ∷ past) is
 
-  pub has_come : TablesGoOn → next_a ≡ table_next A (kind_of event) answer (length a.link.sent) new_a of_a → next_b ≡ table_next B (kind_of event) answer (length b.link.sent) new_b of_b
+  pub has_come : TablesGoOn → IsTyped (kind_of event) → next_a ≡ table_next A (kind_of event) answer (length a.link.sent) new_a of_a → next_b ≡ table_next B (kind_of event) answer (length b.link.sent) new_b of_b
       → HasCome start_a start_b new_a new_b next_a next_b next
-  has_come law is_a is_b =
-      rw next_is (goes_on start_a start_b a b new_a new_b of_a of_b next_a next_b past (entry event note answer) law come allowed counted happens is_a is_b)
+  has_come law typed is_a is_b =
+      rw next_is (goes_on start_a start_b a b new_a new_b of_a of_b next_a next_b past (entry event note answer) law typed come allowed counted happens is_a is_b)
 
   pub has_stepped : (old : WorldValue) → world start_a start_b a b past ≡ old → Step old event answer (world start_a start_b new_a new_b next)
   has_stepped old is_old =

@@ -3,15 +3,21 @@ use Rattle.std.proofs.Common.{◌≡◌, ℕ, List, subst, sym}
 use Rattle.lan_net.specs.History.{Entry}
 use Rattle.lan_net.specs.declared.event.Side.{Side}
 use Rattle.lan_net.specs.declared.event.Side.TheVariants.{A, B}
+use Rattle.lan_packets.specs.Safe.{IsSafe}
+use Rattle.lan_stations.specs.Fresh.{IsFreshWorld}
 use Rattle.lan_stations.specs.Refusals.{Table}
 use Rattle.lan_stations.specs.Runs.{Starts, WorldValue, WorldRun, unused_both, counts_of}
+use Rattle.lan_stations.specs.Safe.{first_port, net_of}
 use Rattle.lan_stations.specs.Station.{StationValue, Stations}
+use Rattle.lan_theorem.specs.Events.{AreTyped}
+use Rattle.lan_theorem.specs.Rebuilt.{RebuiltWasMade}
 use Rattle.lan_hosts.specs.Asked.{requests, AreApart}
+use Rattle.lan_hosts.specs.Damage.{DamageIsHarmless}
 use Rattle.lan_hosts.specs.HostRuns.{IsHostRun}
 use Rattle.lan_hosts.specs.Machine.{Turn, Machine, HostRun}
 use Rattle.lan_hosts.specs.Quiet.{PollsWereQuiet}
 use Rattle.lan_world.specs.Come.{starts_of, both, world, HasCome}
-use Rattle.lan_world.specs.Promises.{IsWellRun}
+use Rattle.lan_world.specs.Promises.{IsSafeWorld}
 
 abbrev pub HostsRun : Type 0
 HostsRun =
@@ -28,22 +34,49 @@ PollsAreQuiet =
     → WorldRun history (unused_both starts) hosts
     → PollsWereQuiet starts history (counts_of hosts)
 
+abbrev pub WorldsAreSafe : Type 0
+WorldsAreSafe =
+    (starts : Starts) (history : List Entry) (hosts : Stations)
+    → IsFreshWorld starts
+    → AreTyped history
+    → WorldRun history (unused_both starts) hosts
+    → IsSafe (first_port starts) (net_of (record { hosts = hosts; starts = starts; history = history }))
+
+abbrev pub RebuiltWereMade : Type 0
+RebuiltWereMade =
+    (starts : Starts) (history : List Entry) (hosts : Stations)
+    → IsFreshWorld starts
+    → AreTyped history
+    → WorldRun history (unused_both starts) hosts
+    → RebuiltWasMade (record { hosts = hosts; starts = starts; history = history })
+
+abbrev pub DamageWasHarmless : Type 0
+DamageWasHarmless =
+    (starts : Starts) (history : List Entry) (hosts : Stations)
+    → IsFreshWorld starts
+    → AreTyped history
+    → WorldRun history (unused_both starts) hosts
+    → DamageIsHarmless hosts history
+
 apart : RequestsAreApart → (w : WorldValue) (side : Side) (r : IsHostRun w side) → AreApart (requests r.turns)
 apart law w side r = law _ _ r.turns _ r.run
 
 pub well_run : (start_a start_b a b : StationValue) (of_a of_b : Table) (history : List Entry)
-    → HostsRun → RequestsAreApart → PollsAreQuiet → HasCome start_a start_b a b of_a of_b history
-    → IsWellRun (world start_a start_b a b history)
-well_run start_a start_b a b of_a of_b history hosts_run are_apart are_quiet come =
+    → HostsRun → RequestsAreApart → PollsAreQuiet → WorldsAreSafe → RebuiltWereMade → DamageWasHarmless → HasCome start_a start_b a b of_a of_b history
+    → IsSafeWorld (world start_a start_b a b history)
+well_run start_a start_b a b of_a of_b history hosts_run are_apart are_quiet are_safe were_made was_harmless come =
     let starts = starts_of start_a start_b in
     let w = world start_a start_b a b history in
     let of_host_a = hosts_run starts history (both a b) A come.run in
     let of_host_b = hosts_run starts history (both a b) B come.run in
     record {
+      sockets = are_safe starts history (both a b) come.fresh come.typed come.run;
       run = come.run;
       run_a = of_host_a;
       run_b = of_host_b;
       quiet = are_quiet starts history (both a b) come.run;
       asks_a = apart are_apart w A of_host_a;
       asks_b = apart are_apart w B of_host_b;
+      rebuilt = were_made starts history (both a b) come.fresh come.typed come.run;
+      damage = was_harmless starts history (both a b) come.fresh come.typed come.run;
     }

@@ -6,6 +6,7 @@ use Rattle.lan_stations.specs.Fresh.{IsFreshWorld}
 use Rattle.lan_stations.specs.Refusals.{Table, Tables}
 use Rattle.lan_stations.specs.Runs.{Start, Starts, WorldValue, WorldRun, Steps, unused_both, tables_in}
 use Rattle.lan_stations.specs.Station.{StationValue, Stations}
+use Rattle.lan_theorem.specs.Events.{AreTyped}
 
 -- a host as its world began with it
 abbrev pub start_of : StationValue → Start
@@ -29,11 +30,13 @@ tables a b = record { a = a; b = b }
 abbrev pub world : StationValue → StationValue → StationValue → StationValue → List Entry → WorldValue
 world start_a start_b a b history = record { hosts = both a b; starts = starts_of start_a start_b; history = history }
 
--- The hosts were fresh, and the history leads from them to what they are now. The tables, which refusals read, are the history's.
+-- The hosts were fresh, and the history leads from them to what they are now. The tables, which refusals read, are the history's. The
+-- numbers of its events have their widths.
 pub record HasCome (start_a start_b a b : StationValue) (of_a of_b : Table) (history : List Entry) : Type 0 where
   pub fresh : IsFreshWorld (starts_of start_a start_b)
   pub run : WorldRun history (unused_both (starts_of start_a start_b)) (both a b)
   pub tables : tables of_a of_b ≡ tables_in history (both a b)
+  pub typed : AreTyped history
 
 -- so many of the events have been taken, and these are left
 pub record HasRun (old : WorldValue) (events : List Event) (place : ℕ) (left : List Event) (now : WorldValue) : Type 0 where

@@ -1,11 +1,18 @@
--- What holds of a world, wherever its events led.
+-- What is promised of two hosts at a link that may lose, repeat, reorder, pad, damage and cut frames, and add some, wherever events led.
 use Rattle.lan_net.specs.declared.event.Side.TheVariants.{A, B}
+use Rattle.lan_packets.specs.Safe.{IsSafe}
 use Rattle.lan_stations.specs.Runs.{WorldValue, WorldRun, unused_both, counts_of}
+use Rattle.lan_stations.specs.Safe.{first_port, net_of}
 use Rattle.lan_hosts.specs.Asked.{requests, AreApart}
+use Rattle.lan_hosts.specs.Damage.{DamageIsHarmless}
 use Rattle.lan_hosts.specs.HostRuns.{IsHostRun}
 use Rattle.lan_hosts.specs.Quiet.{PollsWereQuiet}
+use Rattle.lan_theorem.specs.Rebuilt.{RebuiltWasMade}
 
-pub record IsWellRun (w : WorldValue) : Type 0 where
+pub record IsSafeWorld (w : WorldValue) : Type 0 where
+  -- of both hosts' sockets: what was read and what waits begins what the partner wrote, only bytes that the partner took in are freed, a
+  -- socket without a partner has nothing, the end of a stream is true, and each datagram read was accepted
+  pub sockets : IsSafe (first_port w.starts) (net_of w)
   -- the hosts and the link came here by this history, and no event was taken that had to be refused
   pub run : WorldRun w.history (unused_both w.starts) w.hosts
   -- each host is a run of its machine from what it was at first: it took the first frames of those that the link handed over, in
@@ -17,3 +24,8 @@ pub record IsWellRun (w : WorldValue) : Type 0 where
   -- a host's own requests for neighbours are a second apart
   pub asks_a : AreApart (requests run_a.turns)
   pub asks_b : AreApart (requests run_b.turns)
+  -- if a host takes a frame that waits for it next, and rebuilds a TCP or UDP datagram of pieces with it, its payload is that of one
+  -- packet that the other host made
+  pub rebuilt : RebuiltWasMade w
+  -- a frame of which the link exchanged a word touches no TCP and no UDP socket of whichever host takes it, and isn't answered
+  pub damage : DamageIsHarmless w.hosts w.history

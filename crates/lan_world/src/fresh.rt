@@ -1,5 +1,5 @@
 //! Whether two hosts make a world.
-ghost use Rattle.std.specs.Prelude.{◌≡◌, IsNone, IsTrue};
+ghost use Rattle.std.specs.Prelude.{◌≡◌, [], IsNone, IsTrue};
 ghost use Rattle.interface.specs.Made.{IsIdle};
 ghost use Rattle.interface_tables.specs.Settings.{is_of_medium};
 ghost use Rattle.std.specs.List.{list_all};
@@ -20,6 +20,8 @@ pub(crate) fn new_error(a: &Host, b: &Host) -> Option<WorldError>
     ensures value { result ≡ new_error a.now b.now }
     ensures idle_a { IsNone result → IsIdle a.now.host.left a.now.host.slots }
     ensures idle_b { IsNone result → IsIdle b.now.host.left b.now.host.slots }
+    ensures unknown_a { IsNone result → a.now.host.inner.neighbors.entries ≡ [] }
+    ensures unknown_b { IsNone result → b.now.host.inner.neighbors.entries ≡ [] }
 {
     if !has_one_medium(a, b) {
         Some(WorldError::Media)
@@ -109,6 +111,7 @@ fn has_buffers_in(socket: &Socket) -> bool
 fn is_fresh(host: &Host) -> bool
     ensures value { result ≡ is_fresh host.now }
     ensures idle { IsTrue result → IsIdle host.now.host.left host.now.host.slots }
+    ensures unknown { IsTrue result → host.now.host.inner.neighbors.entries ≡ [] }
 {
     host.interface.is_fresh()
         && host.port.sent().is_empty()

@@ -8,6 +8,7 @@ mod error;
 mod fresh;
 mod history;
 mod kept;
+mod typed;
 mod world;
 
 pub use error::WorldError;

@@ -8,16 +8,18 @@ ghost use Rattle.lan_stations.specs.Station.{station};
 ghost use Rattle.lan_net.specs.Kinds.{kind_of};
 ghost use Rattle.lan_world.specs.Come.{both, starts_of, world};
 ghost use Rattle.lan_world.specs.New.{new_error, MayFail};
-ghost use Rattle.lan_world.specs.Promises.{IsWellRun};
+ghost use Rattle.lan_world.specs.Promises.{IsSafeWorld};
 
 use crate::error::WorldError;
 use crate::fresh::new_error;
 use crate::history::{Counts, History, Note};
 use crate::kept::Kept;
+use crate::typed::{event_is_typed, host_is_typed};
 use lan_hosts::laws::{hosts_run, polls_are_quiet, requests_are_apart};
 use lan_net::{Answer, Event, Refused, Side};
 use lan_stations::laws::{numbers_are_few, tables_go_on};
 use lan_stations::{Host, Records, refusal_of, take};
+use lan_theorem::laws::{damage_was_harmless, rebuilt_was_made, worlds_are_safe};
 use std::alloc::{AllocError, Global};
 use std::marker::Model;
 
@@ -65,10 +67,14 @@ impl World {
         requires fresh { new_error a b ≡ None }
         requires idle_a { IsIdle a.host.left a.host.slots }
         requires idle_b { IsIdle b.host.left b.host.slots }
+        requires unknown_a { a.host.inner.neighbors.entries ≡ [] }
+        requires unknown_b { b.host.inner.neighbors.entries ≡ [] }
         ensures hosts { IfOk result (λ world. world.hosts ≡ both a b) }
         ensures starts { IfOk result (λ world. world.starts ≡ starts_of a b) }
         ensures history { IfOk result (λ world. world.history ≡ []) }
     {
+        host_is_typed(&a);
+        host_is_typed(&b);
         let records_a = Records::new(alloc, &a)?;
         let records_b = Records::new(alloc, &b)?;
         Ok(World {
@@ -94,7 +100,7 @@ impl World {
         ensures exact { IfSome (refusal_in self.old.history self.old.hosts event) (λ refused. result ≡ Err refused) }
         ensures memory { IfErr result (MayRefuse self.old.hosts (tables_in self.old.history self.old.hosts) (kind_of event)) }
         ensures unchanged { OnErr result (self.new ≡ self.old) }
-        ensures promises { IsWellRun self.new }
+        ensures promises { IsSafeWorld self.new }
     {
         let answer = match self.refusal(&event) {
             Some(refused) => Err(refused),
@@ -106,11 +112,14 @@ impl World {
 
     // What holds wherever the events led.
     fn well_run(&self)
-        ensures { IsWellRun self.now }
+        ensures { IsSafeWorld self.now }
     {
         hosts_run();
         requests_are_apart();
         polls_are_quiet();
+        worlds_are_safe();
+        rebuilt_was_made();
+        damage_was_harmless();
         // (a look at a field makes known what a world keeps)
         let _ = &self.history;
     }
@@ -130,6 +139,7 @@ impl World {
     {
         tables_go_on();
         numbers_are_few();
+        event_is_typed(&event);
         self.history.make_room()?;
         let before = Counts::of(&self.a, &self.b);
         let taken = take(
@@ -156,7 +166,7 @@ impl World {
         ensures refused { IfErr result (λ e. IfSome (slice_get events.items e.0)
             (λ event. MayRefuse self.new.hosts (tables_in self.new.history self.new.hosts) (kind_of event) e.1)) }
         ensures starts { self.new.starts ≡ self.old.starts }
-        ensures promises { IsWellRun self.new }
+        ensures promises { IsSafeWorld self.new }
     {
         let outcome = self.step_all(events);
         self.well_run();

@@ -1,10 +1,10 @@
 use Rattle.std.proofs.Common.{subst}
-use Rattle.lan_world.specs.Promises.{IsWellRun}
+use Rattle.lan_world.specs.Promises.{IsSafeWorld}
 use Rattle.lan_world.proofs.Promises.{well_run}
 use Rattle.lan_world.proofs.world.World.well_run.Goals as goal
 
 pub returns : goal.returns
 returns c =
-    subst IsWellRun c.self.view_is
+    subst IsSafeWorld c.self.view_is
     (well_run c.self.inside.start_a.value c.self.inside.start_b.value c.self.inside.a c.self.inside.b c.self.inside.records_a c.self.inside.records_b
-    c.self.inside.history.entries c.hosts_run.ensures c.requests_are_apart.ensures c.polls_are_quiet.ensures c.self.invariant)
+    c.self.inside.history.entries c.hosts_run.ensures c.requests_are_apart.ensures c.polls_are_quiet.ensures c.worlds_are_safe.ensures c.rebuilt_was_made.ensures c.damage_was_harmless.ensures c.self.invariant)

@@ -1,0 +1,61 @@
+-- What is rebuilt from pieces is what the other host made.
+use Rattle.std.specs.Prelude.{◌≡◌, ◌⊎◌, ℕ, true, List, [], length, slice_get, Option, None, Some}
+use Rattle.net_base.specs.Medium.TheVariants as Medium
+use Rattle.ip_wire.specs.IpProtocol.TheVariants as Protocol
+use Rattle.ip_wire.specs.IpRepr.TheVariants as Ip
+use Rattle.ip_wire.specs.Ipv4 as Ipv4
+use Rattle.ip_wire.specs.Ipv4Piece.{Ipv4Piece}
+use Rattle.ip_wire.specs.Ipv4Repr.{Ipv4Repr}
+use Rattle.ip_wire.specs.declared.ethernet.repr.EthernetRepr.{EthernetRepr}
+use Rattle.socket_base.specs.Packet.{PacketValue}
+use Rattle.interface_ingress.specs.Arrives.{whole_after}
+use Rattle.interface_ingress.specs.Incoming.{Ip4, IsContent}
+use Rattle.interface_ingress.specs.Reassembled.{is_piece, uncut}
+use Rattle.interface_ingress.specs.Sent.{normal_payload}
+use Rattle.lan_frames.specs.Carried.{names_tcp_or_udp}
+use Rattle.lan_net.specs.Kinds.{other}
+use Rattle.lan_net.specs.declared.event.Side.{Side}
+use Rattle.lan_packets.specs.Moves.{Step, IsRun, run}
+use Rattle.lan_packets.specs.Parties.{Party, Net, party}
+use Rattle.lan_stations.specs.Runs.{WorldValue}
+use Rattle.lan_stations.specs.Station.{StationValue, station}
+use Rattle.lan_moves.specs.Follows.{IsNetOf}
+use Rattle.lan_moves.specs.Joined.{first_net}
+use Rattle.lan_moves.specs.Made.{MadeBy}
+use Rattle.lan_link.specs.Made.{bytes_of}
+
+abbrev pub NamesPorts : Ipv4Repr → Type 0
+NamesPorts h = (h.next_header ≡ Protocol.Tcp) ⊎ (h.next_header ≡ Protocol.Udp)
+
+-- A frame that waits for a host brings a piece of a TCP or UDP datagram with this header; and if the host takes it next, the datagram is
+-- whole, with this payload.
+pub record Rebuilds (s : StationValue) (h : Ipv4Repr) (payload : List ℕ) : Type 0 where
+  pub place : ℕ
+  pub frame : List ℕ
+  pub waits : slice_get s.link.waiting place ≡ Some frame
+  pub link : Option EthernetRepr
+  pub piece : Ipv4Piece
+  pub slice : List ℕ
+  pub read : IsContent s.host.inner.hardware s.host.inner.checksums frame (Some (Ip4 link h piece slice))
+  pub cut : is_piece piece ≡ true
+  pub ports : NamesPorts h
+  pub whole : whole_after s.host.inner s.host.timeout s.host.slots (Some (Ip4 link h piece slice)) ≡ Some (Ip4 link (record h { payload_len = length payload }) uncut payload)
+
+-- It is the payload of one packet, with the same identification, addresses and protocol, whose segment or datagram this host made.
+pub record IsOfMade (q : Party) (h : Ipv4Repr) (payload : List ℕ) : Type 0 where
+  pub packet : PacketValue
+  pub header : Ipv4Repr
+  pub header_is : packet.header ≡ Ip.Ipv4 header
+  pub key_is : Ipv4.key_of h ≡ Ipv4.key_of (Ipv4.normal header)
+  pub bytes_are : payload ≡ bytes_of packet
+  pub made : MadeBy q (normal_payload packet.payload)
+
+-- Moves over packets lead from fresh hosts to these sockets by this history, and say what each host made on the way. Whatever a host
+-- rebuilds when it takes a frame next, the other one made.
+pub record RebuiltWasMade (w : WorldValue) : Type 0 where
+  pub net : Net
+  pub steps : List Step
+  pub may : IsRun (names_tcp_or_udp Medium.Ip) (first_net w.starts) steps
+  pub ends : run (first_net w.starts) steps ≡ net
+  pub of : IsNetOf net w.hosts w.history
+  pub rebuilt : (side : Side) (h : Ipv4Repr) (payload : List ℕ) → Rebuilds (station w.hosts side) h payload → IsOfMade (party net (other side)) h payload
