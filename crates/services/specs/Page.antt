@@ -1,6 +1,7 @@
 -- What a server of one page makes of its socket (RFC 1945, section 5).
-use Rattle.std.specs.Prelude.{◌≡◌, ℕ, ◌≤◌, ◌==◌, ◌||◌, Bool, true, false, List, [], ◌∷◌, length, take, min}
+use Rattle.std.specs.Prelude.{◌≡◌, ℕ, ◌≤◌, ◌==◌, ◌||◌, ◌⊎◌, Bool, true, false, List, [], ◌∷◌, length, take, min}
 use Rattle.httparse.specs.Grammar.{RequestHead, ReadsRequest, MayBecomeRequest}
+use Rattle.httparse.specs.Spans.{RequestOverflows}
 use Rattle.tcp_model.specs.Calls.{listen_after, send_after, close_after}
 use Rattle.tcp_model.specs.State.{State}
 use Rattle.tcp_model.specs.State.TheVariants as In
@@ -18,12 +19,21 @@ pub record AsksForThePage (head : RequestHead) : Type 0 where
 abbrev pub most_fields : ℕ
 most_fields = 16
 
--- it may become a request, unless no more will be looked at; it is a request for the page; or it isn't
+-- these bytes don't begin with a request for the page that has few enough fields
+abbrev pub AsksNot : List ℕ → Type 0
+AsksNot bytes =
+    (head : RequestHead) (rest : List ℕ) → ReadsRequest bytes head rest → length head.fields ≤ most_fields → AsksForThePage head → ⊥
+
+-- they begin with a whole request, or no bytes can follow that make them one with few enough fields
+abbrev pub IsSettled : List ℕ → Type 0
+IsSettled bytes = ((head : RequestHead) × (rest : List ℕ) × ReadsRequest bytes head rest) ⊎ RequestOverflows most_fields bytes
+
+-- It may become a request, unless no more will be looked at; it is a request for the page; or it isn't, and more bytes don't
+-- change that, unless no more will be looked at.
 abbrev pub Judges : List ℕ → Bool → Verdict → Type 0
 Judges bytes is_all Is.Wait = (is_all ≡ false) × MayBecomeRequest bytes
 Judges bytes is_all Is.Page = (head : RequestHead) × (rest : List ℕ) × ReadsRequest bytes head rest × AsksForThePage head
-Judges bytes is_all Is.Bad =
-    (head : RequestHead) (rest : List ℕ) → ReadsRequest bytes head rest → length head.fields ≤ most_fields → AsksForThePage head → ⊥
+Judges bytes is_all Is.Bad = AsksNot bytes × (is_all ≡ false → IsSettled bytes)
 
 -- what is sent before the close; a request that isn't whole is waited for
 abbrev pub answered : List ℕ → List ℕ → Verdict → TcpValue → TcpValue

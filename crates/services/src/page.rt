@@ -38,7 +38,8 @@ pub fn judge(bytes: &[u8], is_all: bool) -> Verdict
             }
         }
         Ok(Status::Partial) if !is_all => Verdict::Wait,
-        _ => Verdict::Bad,
+        Ok(Status::Partial) => Verdict::Bad,
+        Err(_) => Verdict::Bad,
     }
 }
 
