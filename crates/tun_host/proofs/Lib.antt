@@ -1,0 +1,4 @@
+mod Beginning
+mod Fresh
+mod Served
+mod Running

@@ -1,0 +1,4 @@
+pub mod Settings
+pub mod Services
+pub mod Begins
+pub mod Turns

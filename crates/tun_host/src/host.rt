@@ -1,80 +1,85 @@
 //! A host with its services.
+ghost use Rattle.std.specs.Prelude.{◌≡◌, ℕ, ◌≤◌, List, length, IfOk, IfErr, OnOk};
+ghost use Rattle.std.specs.Io.KnownBytes.{Appends};
+ghost use Rattle.interface_egress.specs.Set.{places};
 ghost use Rattle.net_base.specs.Time.{IsMoment};
+ghost use Rattle.tun_host.specs.Begins.{Begins, RefusesAddress};
+ghost use Rattle.tun_host.specs.Services.{echo_room, most_request, AreServed};
+ghost use Rattle.tun_host.specs.Turns.{state_of, HasBuffers, budget, TakesTurn, Answers};
+ghost use Rattle.interface.specs.State.{state};
+ghost use Rattle.interface.specs.Polls.{Polls, is_change};
+ghost use Rattle.tun_link.specs.Drain.{DrainMove};
 
+use crate::error::ServeError;
+use crate::interface_of::{capabilities, interface};
+use crate::place::serve_places;
 use crate::settings::Settings;
-use interface::{Config, Interface, SocketHandle, SocketSet};
-use ip_wire::{HardwareAddress, IpListenEndpoint};
-use net_base::{
-    ChecksumCapabilities, DeviceCapabilities, Instant, ManagedSlice, Medium, PacketBuffer,
-    PacketMetadata, RingBuffer,
-};
-use services::{Site, echo_datagram, echo_stream, serve_page};
-use sockets::{Socket, tcp, udp};
-use std::alloc::{AllocError, Global};
-use std::io::{self, Write};
+use crate::sockets_of::{ROOM, sockets};
+use interface::{Interface, PollResult, SocketSet};
+use net_base::{Instant, ManagedSlice};
+use sockets::Socket;
+use std::alloc::Global;
+use std::io::Write;
 use tun_link::{Drain, write_answer};
 
-/// The longest packet, in bytes.
-pub const MTU: usize = 1500;
-
-/// How many frames a turn takes, and how many passes over the sockets it makes, at most.
+/// How many frames a poll takes, and how many passes over the sockets it makes, at most.
 const BUDGET: u16 = 64;
-
-/// How many streams are echoed at a time.
-const ECHOES: usize = 4;
-
-/// How many connections ask for the page at a time. Each of them waits for ten seconds behind its end (TIME-WAIT).
-const PAGES: usize = 16;
-
-/// How many bytes a socket keeps each way.
-const ROOM: usize = 65_536;
-
-/// How many datagrams wait for their echo, at most.
-const DATAGRAMS: usize = 64;
 
 /// How many bytes of a request are looked at.
 const MOST_REQUEST: usize = 1024;
 
-const ECHO_PORT: u16 = 7;
-
-const PAGE_PORT: u16 = 80;
-
-const SITE: Site<'static> = Site {
-    page: b"HTTP/1.0 200 OK\r\nContent-Type: text/html\r\nContent-Length: 105\r\n\r\n<!DOCTYPE html>\n<title>Zemplovir</title>\n<p>This page came over a TCP/IP stack whose promises are proved.\n",
-    refusal: b"HTTP/1.0 400 Bad Request\r\nContent-Length: 0\r\n\r\n",
-};
-
-/// Why there is no host.
-#[derive(Clone, Copy, Debug, PartialEq, Eq)]
-pub enum HostError {
-    /// An interface can't begin so: the moment, or the address, isn't one that it takes.
-    Refused,
-    /// There is no memory for its buffers.
-    Memory,
-}
-
-/// A host on a link of packets, with a socket of datagrams, sockets that echo streams, and sockets that serve the page, in this
-/// order of places.
+/// A host on a link of packets, with its sockets, and buffers for its services.
 #[derive(Drop)]
 pub struct Host {
-    interface: Interface,
-    sockets: SocketSet<Socket>,
-    drain: Drain,
-    buffer: Vec<u8>,
-    request: Vec<u8>,
+    pub interface: Interface,
+    pub sockets: SocketSet<Socket>,
+    pub drain: Drain,
+    pub buffer: Vec<u8>,
+    pub request: Vec<u8>,
+}
+
+#[tactic(auto, unfolding(crate::specs::Turns::budget))]
+fn budget() -> u16
+    ensures { result ≡ budget }
+{
+    BUDGET
+}
+
+/// A poll of a host's interface.
+fn poll(
+    interface: &mut Interface,
+    drain: &mut Drain,
+    sockets: &mut SocketSet<Socket>,
+    now: Instant,
+) -> PollResult
+    requires { IsMoment now }
+    ensures { Polls DrainMove now budget (state drain.old interface.old (places sockets.old)) (is_change result) (state drain.new interface.new (places sockets.new)) }
+{
+    interface.poll(now, drain, sockets, budget())
+}
+
+/// The services do what can be done now.
+fn serve(sockets: &mut SocketSet<Socket>, buffer: &mut [u8], request: &mut [u8])
+    requires buffer { length buffer.old ≡ echo_room }
+    requires request { length request.old ≡ most_request }
+    ensures { AreServed (places sockets.old) (places sockets.new) }
+{
+    match &mut sockets.sockets {
+        ManagedSlice::Fixed(places) => serve_places(places.as_mut_slice(), buffer, request),
+        ManagedSlice::Owned(places) => serve_places(places.as_mut_slice(), buffer, request),
+    }
 }
 
 impl Host {
     /// A host of these settings, from this moment on.
-    pub fn new(alloc: Global, settings: &Settings, now: Instant) -> Result<Host, HostError> {
-        let drain = Drain::new(
-            alloc,
-            DeviceCapabilities {
-                medium: Medium::Ip,
-                max_transmission_unit: MTU,
-                checksum: ChecksumCapabilities::default(),
-            },
-        );
+    pub fn new(alloc: Global, settings: &Settings, now: Instant) -> Result<Host, ServeError>
+        requires moment { IsMoment now }
+        requires prefix_len { settings.now.prefix_len ≤ 32 }
+        ensures begins { IfOk result (λ host. Begins settings.now now (state_of host)) }
+        ensures buffers { IfOk result HasBuffers }
+        ensures refused { IfErr result (RefusesAddress settings.now) }
+    {
+        let drain = Drain::new(alloc, capabilities());
         let interface = interface(alloc, settings, &drain, now)?;
         let buffer = vec![in alloc; 0; ROOM];
         let request = vec![in alloc; 0; MOST_REQUEST];
@@ -86,119 +91,46 @@ impl Host {
                 buffer,
                 request,
             }),
-            _ => Err(HostError::Memory),
+            _ => Err(ServeError::Memory),
         }
     }
 
     /// One turn: the packet comes, is answered, and the services do what can be done now. It returns when the host wants its next
     /// turn.
     pub fn take_turn(&mut self, packet: Vec<u8>, now: Instant) -> Option<Instant>
-        requires { IsMoment now }
+        requires moment { IsMoment now }
+        requires buffers { HasBuffers self.old }
+        ensures turn { TakesTurn (state_of self.old) now packet.items result (state_of self.new) }
+        ensures buffers { HasBuffers self.new }
     {
         self.drain.put(packet);
-        self.poll(now);
-        self.serve();
-        self.poll(now);
+        let _ = poll(&mut self.interface, &mut self.drain, &mut self.sockets, now);
+        serve(
+            &mut self.sockets,
+            self.buffer.as_mut_slice(),
+            self.request.as_mut_slice(),
+        );
+        let _ = poll(&mut self.interface, &mut self.drain, &mut self.sockets, now);
         self.interface.poll_at(now, &self.sockets)
     }
 
-    /// Writes what was sent since the last answer, and the moment of the next turn.
-    pub fn answer<W: Write>(&mut self, writer: &mut W, next: Option<Instant>) -> io::Result<()> {
-        write_answer(&mut self.drain, writer, next)
-    }
-
-    fn poll(&mut self, now: Instant)
-        requires { IsMoment now }
+    /// One turn, and its answer: what was sent, and the moment of the next turn.
+    pub fn answer_turn<W: Write>(
+        &mut self,
+        writer: &mut W,
+        packet: Vec<u8>,
+        now: Instant,
+    ) -> Result<(), ServeError>
+        requires moment { IsMoment now }
+        requires buffers { HasBuffers self.old }
+        ensures answers { OnOk result ((said : List ℕ) × Answers (state_of self.old) now packet.items said (state_of self.new) × Appends (W.contents writer.old) (W.contents writer.new) said) }
+        ensures buffers { HasBuffers self.new }
+        ensures error { IfErr result (λ e. e ≡ ServeError.Writer) }
     {
-        let _ = self
-            .interface
-            .poll(now, &mut self.drain, &mut self.sockets, BUDGET);
-    }
-
-    /// The services do what can be done now.
-    fn serve(&mut self) {
-        if let Some(Socket::Udp(socket)) = self.sockets.get_mut(SocketHandle::at(0)) {
-            for _ in 0..DATAGRAMS {
-                echo_datagram(socket, self.buffer.as_mut_slice());
-            }
-        }
-        for i in 0..ECHOES {
-            if let Some(Socket::Tcp(socket)) = self.sockets.get_mut(SocketHandle::at(1 + i)) {
-                echo_stream(socket, ECHO_PORT, self.buffer.as_mut_slice());
-            }
-        }
-        for i in 0..PAGES {
-            let handle = SocketHandle::at(1 + ECHOES + i);
-            if let Some(Socket::Tcp(socket)) = self.sockets.get_mut(handle) {
-                serve_page(socket, PAGE_PORT, &SITE, self.request.as_mut_slice());
-            }
+        let next = self.take_turn(packet, now);
+        match write_answer(&mut self.drain, writer, next) {
+            Ok(()) => Ok(()),
+            Err(_) => Err(ServeError::Writer),
         }
     }
-}
-
-/// The interface at its own address, with a route by the router.
-fn interface(
-    alloc: Global,
-    settings: &Settings,
-    drain: &Drain,
-    now: Instant,
-) -> Result<Interface, HostError> {
-    let config = Config {
-        random_seed: settings.seed,
-        hardware_addr: HardwareAddress::Ip,
-    };
-    let Some(own) = settings.own() else {
-        return Err(HostError::Refused);
-    };
-    let Ok(mut interface) = Interface::new(alloc, &config, drain, now) else {
-        return Err(HostError::Refused);
-    };
-    let set = interface.update_ip_addrs(|addresses| {
-        let _ = addresses.try_push(own);
-    });
-    if set.is_err() {
-        return Err(HostError::Refused);
-    }
-    let router = settings.router;
-    interface.update_routes(|routes| {
-        let _ = routes.add_default_ipv4_route(router);
-    });
-    Ok(interface)
-}
-
-fn sockets(alloc: Global) -> Result<SocketSet<Socket>, AllocError> {
-    let mut sockets = SocketSet::new(ManagedSlice::Owned(Vec::new(alloc)));
-    let mut datagrams = udp::Socket::new(queue(alloc)?, queue(alloc)?);
-    let _ = datagrams.bind(IpListenEndpoint {
-        addr: None,
-        port: ECHO_PORT,
-    });
-    let mut all = Vec::new(alloc);
-    all.push(Socket::Udp(datagrams))?;
-    for _ in 0..ECHOES + PAGES {
-        all.push(Socket::Tcp(stream(alloc)?))?;
-    }
-    for socket in all {
-        if sockets.add(socket).is_err() {
-            return Err(AllocError);
-        }
-    }
-    Ok(sockets)
-}
-
-fn queue<H: Drop>(alloc: Global) -> Result<PacketBuffer<H>, AllocError> {
-    let mut entries = Vec::new(alloc);
-    for _ in 0..DATAGRAMS {
-        entries.push(PacketMetadata::EMPTY)?;
-    }
-    Ok(PacketBuffer::new(
-        ManagedSlice::Fixed(entries),
-        ManagedSlice::Fixed(vec![in alloc; 0; ROOM]?),
-    ))
-}
-
-fn stream(alloc: Global) -> Result<tcp::Socket, AllocError> {
-    let rx = RingBuffer::new(ManagedSlice::Owned(vec![in alloc; 0u8; ROOM]?));
-    let tx = RingBuffer::new(ManagedSlice::Owned(vec![in alloc; 0u8; ROOM]?));
-    Ok(tcp::Socket::new(rx, tx))
 }

@@ -2,10 +2,13 @@
 //! on port 7, and serves a page on port 80.
 #![tactic(auto)]
 
+mod error;
 mod host;
+mod interface_of;
+mod place;
 mod settings;
+mod sockets_of;
 mod turns;
 
-pub use host::{Host, MTU};
-pub use settings::{SETTINGS_LEN, Settings};
-pub use turns::{ServeError, serve};
+pub use error::ServeError;
+pub use turns::serve;

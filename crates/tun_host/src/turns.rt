@@ -1,65 +1,47 @@
 //! The run of a host over a reader and a writer.
-ghost use Rattle.std.specs.Prelude.{IfOk, IfSome};
+ghost use Rattle.std.specs.Prelude.{◌≡◌, ◌≢◌, ℕ, List, IfOk, IfErr, IfSome, Err};
+ghost use Rattle.std.specs.Option.{option_map};
+ghost use Rattle.std.specs.Io.KnownBytes.{Appends};
 ghost use Rattle.net_base.specs.Time.{IsMoment};
+ghost use Rattle.tun_link.specs.Turn.{Next, Refuses};
+ghost use Rattle.tun_link.specs.declared.turn.TurnError.{TurnError};
+ghost use Rattle.tun_host.specs.Settings.{settings_in};
+ghost use Rattle.tun_host.specs.Turns.{state_of, HasBuffers, Begun, Arrives, BeginsNone, ArrivesNot, IsServed};
 
-use crate::host::{Host, HostError, MTU};
+use crate::error::ServeError;
+use crate::host::Host;
+use crate::interface_of::MTU;
 use crate::settings::Settings;
 use net_base::Instant;
 use std::alloc::Global;
 use std::io::{Read, Write};
-use thiserror::Error;
-use tun_link::{TurnError, read_turn};
-
-/// Why a host ended before its input.
-#[derive(Clone, Copy, Debug, PartialEq, Eq, Drop, Error)]
-pub enum ServeError {
-    /// A turn couldn't be read.
-    #[error("{0}")]
-    Turn(TurnError),
-    /// The first turn doesn't bring settings.
-    #[error("the first turn has no settings")]
-    Settings,
-    /// No host begins with these settings at this moment.
-    #[error("no host begins with these settings")]
-    Refused,
-    /// There is no memory for the host's buffers.
-    #[error("out of memory")]
-    Memory,
-    /// The writer failed.
-    #[error("the writer failed")]
-    Writer,
-}
+use tun_link::read_turn;
 
 /// Takes turns until the reader ends. The first one brings the settings; each other one brings a packet, or none, and is answered
 /// with the packets that the host sends and the moment at which it wants its next turn.
+#[tactic(auto, using(crate::proofs::Running::running_none, crate::proofs::Running::at_end, crate::proofs::Running::counted_out))]
 pub fn serve<R: Read, W: Write>(
     alloc: Global,
     reader: &mut R,
     writer: &mut W,
-) -> Result<(), ServeError> {
-    let mut bytes = Vec::new(alloc);
-    let Some(start) = next_turn(reader, &mut bytes, Instant::ZERO)? else {
-        return Ok(());
-    };
-    let Some(settings) = Settings::read(bytes.as_slice()) else {
-        return Err(ServeError::Settings);
-    };
-    let mut host = match Host::new(alloc, &settings, start) {
-        Ok(host) => host,
-        Err(HostError::Refused) => return Err(ServeError::Refused),
-        Err(HostError::Memory) => return Err(ServeError::Memory),
-    };
-    answer_turn(&mut host, writer, Vec::new(alloc), start)?;
-    let mut last = start;
+) -> Result<(), ServeError>
+    ensures served { result ≢ Err ServeError.Writer → (output : List ℕ)
+        × IsServed (R.remaining reader.old) output result
+        × Appends (W.contents writer.old) (W.contents writer.new) output }
+{
+    let mut host = None;
+    let mut last = Instant::ZERO;
     for _ in 0..u64::MAX {
         let mut packet = Vec::new(alloc);
         let Some(now) = next_turn(reader, &mut packet, last)? else {
             return Ok(());
         };
-        answer_turn(&mut host, writer, packet, now)?;
+        let (mut current, packet) = arrive(alloc, host, packet, now)?;
+        current.answer_turn(writer, packet, now)?;
+        host = Some(current);
         last = now;
     }
-    Ok(())
+    Err(ServeError::Turns)
 }
 
 /// Reads the next turn's packet, and its moment.
@@ -69,7 +51,9 @@ fn next_turn<R: Read>(
     last: Instant,
 ) -> Result<Option<Instant>, ServeError>
     requires { IsMoment last }
-    ensures { IfOk result (λ moment. IfSome moment IsMoment) }
+    ensures turn { IfOk result (λ moment. IfSome (R.remaining reader.old) (λ bytes. Next MTU last bytes moment packet.new.items (R.remaining reader.new))) }
+    ensures moment { IfOk result (λ moment. IfSome moment IsMoment) }
+    ensures refused { IfErr result (λ error. (why : TurnError) × (error ≡ ServeError.Turn why) × IfSome (R.remaining reader.old) (λ bytes. Refuses MTU last bytes why)) }
 {
     match read_turn(reader, packet, MTU, last) {
         Ok(moment) => Ok(moment),
@@ -77,18 +61,34 @@ fn next_turn<R: Read>(
     }
 }
 
-/// The host takes a turn, and what it sends is written.
-fn answer_turn<W: Write>(
-    host: &mut Host,
-    writer: &mut W,
+/// A host of the settings in these bytes.
+fn begun(alloc: Global, bytes: &[u8], now: Instant) -> Result<Host, ServeError>
+    requires { IsMoment now }
+    ensures begun { IfOk result (λ host. Begun (settings_in bytes.now) now (state_of host)) }
+    ensures buffers { IfOk result HasBuffers }
+    ensures refused { IfErr result (BeginsNone (settings_in bytes.now)) }
+{
+    match Settings::read(bytes) {
+        Some(settings) => Host::new(alloc, &settings, now),
+        None => Err(ServeError::Settings),
+    }
+}
+
+/// The host that takes a turn, and the packet that it takes.
+fn arrive(
+    alloc: Global,
+    host: Option<Host>,
     packet: Vec<u8>,
     now: Instant,
-) -> Result<(), ServeError>
-    requires { IsMoment now }
+) -> Result<(Host, Vec<u8>), ServeError>
+    requires moment { IsMoment now }
+    requires buffers { IfSome host HasBuffers }
+    ensures arrives { IfOk result (λ r. Arrives (option_map state_of host) (record { moment = now; packet = packet.items }) (state_of r.0) r.1.items) }
+    ensures buffers { IfOk result (λ r. HasBuffers r.0) }
+    ensures refused { IfErr result (ArrivesNot (option_map state_of host) packet.items) }
 {
-    let next = host.take_turn(packet, now);
-    match host.answer(writer, next) {
-        Ok(()) => Ok(()),
-        Err(_) => Err(ServeError::Writer),
+    match host {
+        Some(host) => Ok((host, packet)),
+        None => Ok((begun(alloc, packet.as_slice(), now)?, Vec::new(alloc))),
     }
 }

@@ -1,0 +1,129 @@
+-- A host that begins: its interface, its device and its sockets.
+use Rattle.std.specs.Prelude.{◌≡◌, ℕ, ◌<◌, ◌||◌, ℤ, Bool, true, false, List, [], ◌∷◌, length, replicate, slice_index_or, Option, None, Some, ⊤}
+use Rattle.interface.specs.Host.{HostValue}
+use Rattle.interface.specs.Made.{new_host, with_inner}
+use Rattle.interface.specs.State.{State}
+use Rattle.interface_egress.specs.Set.{free}
+use Rattle.interface_egress.specs.declared.socket_set.Item.{Item}
+use Rattle.interface_egress.specs.declared.socket_set.SocketStorage.{SocketStorage}
+use Rattle.interface_tables.specs.Route.{IsGateway}
+use Rattle.interface_tables.specs.Settings.{made, with_addresses, with_routes}
+use Rattle.interface_tables.specs.declared.config.Config.{Config}
+use Rattle.interface_tables.specs.declared.route.Route.{Route}
+use Rattle.ip_wire.specs.AddressTests.{is_unicast, is_unspecified}
+use Rattle.ip_wire.specs.Block.{block_address, block_prefix_len}
+use Rattle.ip_wire.specs.HardwareAddress.TheVariants as Hardware
+use Rattle.ip_wire.specs.IpAddress.TheVariants as Ip
+use Rattle.ip_wire.specs.IpCidr.{IpCidr}
+use Rattle.ip_wire.specs.Ipv4Address.{Ipv4Address}
+use Rattle.net_base.specs.Capabilities.{all_checksums}
+use Rattle.net_base.specs.Checksum.TheVariants.{Both}
+use Rattle.net_base.specs.DeviceCapabilities.{DeviceCapabilities}
+use Rattle.net_base.specs.Medium.TheVariants as Medium
+use Rattle.net_base.specs.Packets.{packets_in}
+use Rattle.net_base.specs.Ring.{capacity}
+use Rattle.datagram_sockets.specs.Udp.{UdpValue, made as made_socket, bind_after}
+use Rattle.services.specs.Echo.{on_port}
+use Rattle.sockets.specs.declared.socket.Socket.{Socket}
+use Rattle.sockets.specs.declared.socket.Socket.TheVariants as Is
+use Rattle.tcp_model.specs.Blocks.{fresh_block, default_settings}
+use Rattle.tcp_model.specs.Value.{TcpValue, emptied, room_of}
+use Rattle.tun_host.specs.Services.{service_at, echo_room}
+use Rattle.tun_host.specs.declared.error.ServeError.{ServeError}
+use Rattle.tun_host.specs.declared.error.ServeError.TheVariants.{Address, Memory}
+use Rattle.tun_host.specs.declared.interface_of.TheConstants.{MTU}
+use Rattle.tun_host.specs.declared.place.Service.{Service}
+use Rattle.tun_host.specs.declared.place.Service.TheVariants.{Datagrams}
+use Rattle.tun_host.specs.declared.place.TheConstants.{ECHO_PORT, DATAGRAMS}
+use Rattle.tun_host.specs.declared.settings.Settings.{Settings}
+use Rattle.tun_link.specs.Drain.{DrainValue}
+
+-- THE INTERFACE
+
+-- packets without a link's header, and all checksums
+abbrev pub capabilities : DeviceCapabilities
+capabilities = record { medium = Medium.Ip; max_transmission_unit = MTU; checksum = all_checksums Both }
+
+abbrev pub config_of : Settings → Config
+config_of s = record { random_seed = s.seed; hardware_addr = Hardware.Ip }
+
+-- one host's address, or 0.0.0.0
+abbrev pub is_host_address : Ipv4Address → Bool
+is_host_address address = is_unicast (Ip.Ipv4 address) || is_unspecified (Ip.Ipv4 address)
+
+-- one route, for all destinations, by this router
+abbrev pub IsDefault : Ipv4Address → List Route → Type 0
+IsDefault router routes = (r : Route) × IsGateway r (replicate 4 0) (Ip.Ipv4 router) × (routes ≡ r ∷ [])
+
+-- a table without routes gets this router
+pub record AddsRouter (router : Ipv4Address) (old new : List Route) : Type 0 where
+  pub first : old ≡ [] → IsDefault router new
+
+abbrev pub begun_host : Settings → ℤ → IpCidr → List Route → HostValue
+begun_host s moment own routes =
+    with_inner (new_host (config_of s) capabilities moment)
+    (with_routes (with_addresses (made (config_of s) capabilities moment) (own ∷ [])) routes)
+
+-- a new interface with the own address in its network, and the router
+pub record IsInterface (s : Settings) (moment : ℤ) (h : HostValue) : Type 0 where
+  pub own : IpCidr
+  pub routes : List Route
+  pub address : block_address own ≡ Ip.Ipv4 s.address
+  pub prefix_len : block_prefix_len own ≡ s.prefix_len
+  pub is_host : is_host_address s.address ≡ true
+  pub router : IsDefault s.router routes
+  pub host : h ≡ begun_host s moment own routes
+
+-- why these settings make no interface; memory may be wanting at any
+abbrev pub RefusesAddress : Settings → ServeError → Type 0
+RefusesAddress s Address = is_host_address s.address ≡ false
+RefusesAddress s Memory = ⊤
+RefusesAddress s _ = ⊥
+
+-- THE SOCKETS
+
+-- bound to its port, with empty queues
+abbrev pub echo_socket : UdpValue
+echo_socket = bind_after (made_socket (packets_in [] 0 DATAGRAMS echo_room) (packets_in [] 0 DATAGRAMS echo_room)) (on_port ECHO_PORT)
+
+-- CLOSED, as before any OPEN, with room for so many bytes each way
+pub record IsUnopened (room : ℕ) (v : TcpValue) : Type 0 where
+  pub block : v.block ≡ fresh_block default_settings
+  pub received : v.received ≡ emptied v.received
+  pub queue : v.queued.queue ≡ []
+  pub offered : v.offered ≡ None
+  pub receive_room : room_of v.received ≡ room
+  pub send_room : capacity v.queued ≡ room
+
+abbrev pub IsFreshAs : Service → Socket → Type 0
+IsFreshAs Datagrams s = s ≡ Is.Udp echo_socket
+IsFreshAs service (Is.Tcp v) = IsUnopened echo_room v
+IsFreshAs service s = ⊥
+
+-- a socket that waits for no neighbour
+abbrev pub IsFreshItem : Service → Option (Item Socket) → Type 0
+IsFreshItem service None = ⊥
+IsFreshItem service (Some item) = IsFreshAs service item.socket × (item.meta ≡ record { waiting = None })
+
+abbrev pub IsFreshPlace : Service → SocketStorage Socket → Type 0
+IsFreshPlace service place = IsFreshItem service place.inner
+
+-- how many sockets a host has: for datagrams, for streams, for the page
+abbrev pub place_count : ℕ
+place_count = 21
+
+pub record AreFresh (places : List (SocketStorage Socket)) : Type 0 where
+  pub count : length places ≡ place_count
+  pub each : (i : ℕ) → i < place_count → IsFreshPlace (service_at i) (slice_index_or places i free)
+
+-- THE HOST
+
+-- nothing waits at the device, and nothing was sent
+abbrev pub fresh_device : DrainValue
+fresh_device = record { waiting = None; sent = []; refusals = 0; capabilities = capabilities }
+
+-- a host of these settings, from this moment on
+pub record Begins (s : Settings) (moment : ℤ) (new : State DrainValue) : Type 0 where
+  pub device : new.device ≡ fresh_device
+  pub host : IsInterface s moment new.host
+  pub sockets : AreFresh new.places

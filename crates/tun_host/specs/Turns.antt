@@ -1,0 +1,128 @@
+-- A host's turns: what one makes of it, what is written, and how a run of turns ends.
+use Rattle.std.specs.Prelude.{◌≡◌, ℕ, ◌-◌, ◌^◌, ℤ, pos, Bool, List, [], ◌∷◌, ◌++◌, length, vec_len, Option, None, Some, Result, Ok, Err, IfSome, ⊤}
+use Rattle.interface.specs.Host.{host_at}
+use Rattle.interface.specs.Instant.{poll_instant}
+use Rattle.interface.specs.Polls.{Polls}
+use Rattle.interface.specs.State.{State, state, at_device}
+use Rattle.interface_egress.specs.Set.{places}
+use Rattle.interface_egress.specs.declared.socket_set.SocketStorage.{SocketStorage}
+use Rattle.interface_tables.specs.Inner.{at_moment}
+use Rattle.sockets.specs.declared.socket.Socket.{Socket}
+use Rattle.tun_host.specs.Begins.{Begins, RefusesAddress}
+use Rattle.tun_host.specs.Services.{AreServed, echo_room, most_request}
+use Rattle.tun_host.specs.Settings.{settings_in}
+use Rattle.tun_host.specs.declared.error.ServeError.{ServeError}
+use Rattle.tun_host.specs.declared.error.ServeError.TheVariants.{Turn as NoTurn, Settings as NoSettings, Turns}
+use Rattle.tun_host.specs.declared.host.Host.{Host}
+use Rattle.tun_host.specs.declared.interface_of.TheConstants.{MTU}
+use Rattle.tun_host.specs.declared.settings.Settings.{Settings}
+use Rattle.tun_link.specs.Answer.{answer_end}
+use Rattle.tun_link.specs.Drain.{DrainValue, DrainMove, unless_empty}
+use Rattle.tun_link.specs.Turn.{Takes, Refuses}
+
+-- a host: its device, its interface, and its sockets
+abbrev pub HostState : Type 0
+HostState = State DrainValue
+
+abbrev pub state_of : Host → HostState
+state_of h = state h.drain h.interface (places h.sockets)
+
+-- its services' buffers have their lengths
+abbrev pub HasBuffers : Host → Type 0
+HasBuffers h = (vec_len h.buffer ≡ echo_room) × (vec_len h.request ≡ most_request)
+
+-- A TURN
+
+-- how many frames a poll takes, and how many passes over the sockets it makes, at most
+unfoldable pub budget : ℕ
+budget = 64
+
+-- the packet comes to the device; one of no bytes is none
+abbrev pub with_packet : HostState → List ℕ → HostState
+with_packet s packet = at_device s (record s.device { waiting = unless_empty packet })
+
+-- The packet comes, the interface is polled at the turn's moment, the services do what can be done, and the interface is polled
+-- again; then it is asked when it wants to be polled next. Nothing but the host before, the packet and the moment goes in.
+pub record TakesTurn (old : HostState) (moment : ℤ) (packet : List ℕ) (next : Option ℤ) (new : HostState) : Type 0 where
+  pub come : HostState
+  pub served : List (SocketStorage Socket)
+  pub gone : HostState
+  pub changed : Bool
+  pub changed_again : Bool
+  pub takes : Polls DrainMove moment budget (with_packet old packet) changed come
+  pub serves : AreServed come.places served
+  pub sends : Polls DrainMove moment budget (state come.device come.host served) changed_again gone
+  pub asked : next ≡ poll_instant (at_moment moment gone.host.inner) gone.host.left gone.places
+  pub after : new ≡ state gone.device (host_at moment gone.host) gone.places
+
+-- a turn, and what is written: the packets that were sent, and the moment of the next turn. After that the device has nothing sent.
+pub record Answers (old : HostState) (moment : ℤ) (packet said : List ℕ) (new : HostState) : Type 0 where
+  pub next : Option ℤ
+  pub turned : HostState
+  pub turn : TakesTurn old moment packet next turned
+  pub writes : said ≡ turned.device.sent ++ answer_end next
+  pub emptied : new ≡ at_device turned (record turned.device { sent = [] })
+
+-- A RUN
+
+-- a turn that was read
+pub record Turn : Type 0 where
+  pub moment : ℤ
+  pub packet : List ℕ
+
+abbrev pub Begun : Option Settings → ℤ → HostState → Type 0
+Begun None moment host = ⊥
+Begun (Some s) moment host = Begins s moment host
+
+-- which host takes a turn, and with which packet: the first turn brings the settings with which the host begins, and no packet
+abbrev pub Arrives : Option HostState → Turn → HostState → List ℕ → Type 0
+Arrives None t host packet = Begun (settings_in t.packet) t.moment host × (packet ≡ [])
+Arrives (Some old) t host packet = (host ≡ old) × (packet ≡ t.packet)
+
+pub record Serves (old : Option HostState) (t : Turn) (said : List ℕ) (new : HostState) : Type 0 where
+  pub host : HostState
+  pub packet : List ℕ
+  pub arrives : Arrives old t host packet
+  pub answers : Answers host t.moment packet said new
+
+-- what was written in these turns, the newest first, and the host behind them
+abbrev pub Runs : List Turn → List ℕ → Option HostState → Type 0
+Runs [] output host = (output ≡ []) × (host ≡ None)
+Runs (t ∷ past) output host =
+    (before : List ℕ) × (old : Option HostState) × (said : List ℕ) × (new : HostState)
+    × Runs past before old × Serves old t said new × (output ≡ before ++ said) × (host ≡ Some new)
+
+-- these turns, the newest first, stand at the front of the bytes, each at a moment that isn't before the one before it; the last
+-- moment, and the bytes that are left
+abbrev pub Reads : List ℕ → List Turn → ℤ → List ℕ → Type 0
+Reads bytes [] last left = (last ≡ pos 0) × (left ≡ bytes)
+Reads bytes (t ∷ past) last left =
+    (before : ℤ) × (mid : List ℕ) × Reads bytes past before mid × Takes MTU before mid t.moment t.packet left × (last ≡ t.moment)
+
+-- ITS END
+
+abbrev pub BeginsNone : Option Settings → ServeError → Type 0
+BeginsNone None NoSettings = ⊤
+BeginsNone None e = ⊥
+BeginsNone (Some s) e = RefusesAddress s e
+
+-- why no host takes a turn: the first one has no settings, or none that make a host
+abbrev pub ArrivesNot : Option HostState → List ℕ → ServeError → Type 0
+ArrivesNot None packet e = BeginsNone (settings_in packet) e
+ArrivesNot (Some host) packet e = ⊥
+
+-- where a run ends: at the end of the bytes, at a turn that can't be read, after as many turns as are counted, or at a turn that no
+-- host takes
+abbrev pub Ends : Result (Unit {0}) ServeError → List Turn → Option HostState → ℤ → List ℕ → Type 0
+Ends (Ok u) past host last left = left ≡ []
+Ends (Err (NoTurn e)) past host last left = Refuses MTU last left e
+Ends (Err Turns) past host last left = length past ≡ 2 ^ 64 - 1
+Ends (Err e) past host last left =
+    (t : Turn) × (rest : List ℕ) × Takes MTU last left t.moment t.packet rest × ArrivesNot host t.packet e
+
+-- what is written is what the turns at the front of the input write, up to the end of the run
+pub record IsServed (input : Option (List ℕ)) (output : List ℕ) (result : Result (Unit {0}) ServeError) : Type 0 where
+  pub past : List Turn
+  pub host : Option HostState
+  pub runs : Runs past output host
+  pub reads : IfSome input (λ bytes. (last : ℤ) × (left : List ℕ) × Reads bytes past last left × Ends result past host last left)

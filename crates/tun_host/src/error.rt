@@ -1,0 +1,26 @@
+//! How serving ends early.
+use thiserror::Error;
+use tun_link::TurnError;
+
+/// Why a host ended before its input.
+#[derive(Clone, Copy, Debug, PartialEq, Eq, Drop, Error)]
+pub enum ServeError {
+    /// A turn couldn't be read.
+    #[error("{0}")]
+    Turn(TurnError),
+    /// The first turn doesn't bring settings.
+    #[error("the first turn has no settings")]
+    Settings,
+    /// The settings' address isn't one that a host can have.
+    #[error("the address isn't a host's")]
+    Address,
+    /// There is no memory for the host's buffers.
+    #[error("out of memory")]
+    Memory,
+    /// The writer failed.
+    #[error("the writer failed")]
+    Writer,
+    /// More turns came than are counted: 2^64 - 1.
+    #[error("too many turns")]
+    Turns,
+}

@@ -1,0 +1,89 @@
+//! The sockets of a host that begins.
+ghost use Rattle.std.specs.Prelude.{◌≡◌, ◌≤◌, [], IfOk};
+ghost use Rattle.net_base.specs.Packets.{packets_in};
+ghost use Rattle.interface_egress.specs.Set.{places};
+ghost use Rattle.tun_host.specs.Begins.{echo_socket, IsUnopened, IsFreshAs, IsFreshPlace, AreFresh};
+
+use crate::place::{DATAGRAMS, ECHO_PORT, ECHOES, PAGES, Service, service_at};
+use interface::{Item, Meta, SocketSet, SocketStorage};
+use ip_wire::IpListenEndpoint;
+use net_base::{ManagedSlice, PacketBuffer, PacketMetadata, RingBuffer};
+use sockets::{Socket, tcp, udp};
+use std::alloc::{AllocError, Global};
+
+/// How many bytes a socket keeps each way.
+pub const ROOM: usize = 65_536;
+
+/// How many sockets a host has.
+const PLACES: usize = 1 + ECHOES + PAGES;
+
+/// A queue for so many datagrams of so many bytes together.
+fn queue<H: Drop>(alloc: Global, count: usize, room: usize) -> Result<PacketBuffer<H>, AllocError>
+    ensures { IfOk result (λ queue. queue ≡ packets_in [] 0 count room) }
+{
+    let mut entries = Vec::new(alloc);
+    for _ in 0..count {
+        entries.push(PacketMetadata::EMPTY)?;
+    }
+    Ok(PacketBuffer::new(
+        ManagedSlice::Fixed(entries),
+        ManagedSlice::Fixed(vec![in alloc; 0; room]?),
+    ))
+}
+
+fn datagrams(alloc: Global) -> Result<udp::Socket, AllocError>
+    ensures { IfOk result (λ socket. socket ≡ echo_socket) }
+{
+    let received = queue(alloc, DATAGRAMS, ROOM)?;
+    let queued = queue(alloc, DATAGRAMS, ROOM)?;
+    let mut socket = udp::Socket::new(received, queued);
+    let _ = socket.bind(IpListenEndpoint {
+        addr: None,
+        port: ECHO_PORT,
+    });
+    Ok(socket)
+}
+
+/// A stream's socket with room for so many bytes each way.
+fn stream(alloc: Global, room: usize) -> Result<tcp::Socket, AllocError>
+    requires { room ≤ 65536 }
+    ensures { IfOk result (IsUnopened room) }
+{
+    let rx = RingBuffer::new(ManagedSlice::Owned(vec![in alloc; 0u8; room]?));
+    let tx = RingBuffer::new(ManagedSlice::Owned(vec![in alloc; 0u8; room]?));
+    Ok(tcp::Socket::new(rx, tx))
+}
+
+fn socket(alloc: Global, service: Service) -> Result<Socket, AllocError>
+    ensures { IfOk result (IsFreshAs service) }
+{
+    match service {
+        Service::Datagrams => Ok(Socket::Udp(datagrams(alloc)?)),
+        Service::Streams => Ok(Socket::Tcp(stream(alloc, ROOM)?)),
+        Service::Page => Ok(Socket::Tcp(stream(alloc, ROOM)?)),
+    }
+}
+
+fn place(alloc: Global, service: Service) -> Result<SocketStorage<Socket>, AllocError>
+    ensures { IfOk result (IsFreshPlace service) }
+{
+    let socket = socket(alloc, service)?;
+    Ok(SocketStorage {
+        inner: Some(Item {
+            meta: Meta::default(),
+            socket,
+        }),
+    })
+}
+
+/// The sockets, each for the service of its place.
+#[tactic(auto, using(crate::proofs::Fresh::fresh_none, crate::proofs::Fresh::fresh_more, crate::proofs::Fresh::fresh_all))]
+pub fn sockets(alloc: Global) -> Result<SocketSet<Socket>, AllocError>
+    ensures { IfOk result (λ set. AreFresh (places set)) }
+{
+    let mut all = Vec::new(alloc);
+    for i in 0..PLACES {
+        all.push(place(alloc, service_at(i))?)?;
+    }
+    Ok(SocketSet::new(ManagedSlice::Owned(all)))
+}
