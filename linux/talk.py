@@ -121,4 +121,5 @@ def main():
     return 0 if all(well) else 1
 
 
-sys.exit(main())
+if __name__ == "__main__":
+    sys.exit(main())
