@@ -4,5 +4,7 @@ pub mod Hosts
 pub mod Shapes
 pub mod Priced
 pub mod Count
+pub mod HostCounts
+pub mod Idents
 pub mod Trace
 pub mod OneEnd

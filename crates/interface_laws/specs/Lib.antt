@@ -1,4 +1,5 @@
 pub mod Kept
 pub mod Priced
+pub mod Idents
 pub mod Touches
 pub mod Steady

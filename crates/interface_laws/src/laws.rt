@@ -4,6 +4,8 @@ ghost use Rattle.interface_egress.specs.Departing.{HasSettingsOf};
 ghost use Rattle.interface.specs.State.{State};
 ghost use Rattle.interface.specs.Polls.{Polls};
 ghost use Rattle.interface_egress.specs.Determined.{IsDetermined};
+ghost use Rattle.interface_laws.specs.Idents.{TakesIdents};
+ghost use Rattle.interface_laws.specs.Priced.{sockets_in};
 ghost use Rattle.interface_laws.specs.Steady.{IsSteady};
 ghost use Rattle.interface_laws.specs.Touches.{Traced};
 
@@ -24,6 +26,14 @@ pub fn asks_a_second_apart<D: Device>()
     ensures { (t : ℤ) (budget : ℕ) (s s' : State D) (changed : Bool)
         → Polls D.moves t budget s changed s'
         → Traced D.moves t (budget * (length s.places + 2)) s.device s.host.inner s'.device s'.host.inner }
+{}
+
+/// Law: a poll takes at most one identification for each frame that it may take and each turn of a socket: one for each step of its
+/// budget, and one for each socket. A later piece takes none.
+pub fn identifications_of_a_poll<D: Device>()
+    ensures { (t : ℤ) (budget : ℕ) (s s' : State D) (changed : Bool)
+        → Polls D.moves t budget s changed s'
+        → TakesIdents (budget * (1 + sockets_in s.places)) s.host.inner s'.host.inner }
 {}
 
 /// Law: at a device that stays determined a poll has one end: device, host, sockets, and whether anything changed.
