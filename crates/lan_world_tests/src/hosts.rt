@@ -189,7 +189,7 @@ fn made(alloc: Global, hosts: Hosts) -> Option<World> {
     World::new(alloc, a, b).ok()
 }
 
-/// Says that an allocation was refused: `tools/try-without-memory`, which has each one refused in turn, looks for it.
+/// Says that an allocation was refused: `tools/try-proved-without-memory`, which has each one refused in turn, looks for it.
 pub fn tell(rt: &HostRuntime, what: &str) -> Result<(), Fail> {
     println!(rt; "no memory: {what}")?;
     Ok(())
