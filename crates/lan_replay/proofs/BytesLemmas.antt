@@ -55,7 +55,10 @@ pub ends_so : (world : WorldValue) (line : Line) (end : End)
     → Ends (Running world) (Some line) end
 ends_so world line end (inl h) = inl h
 ends_so world line end (inr h) =
-    inr (h.0, elim h.1 [
-      | inl none ↦ inl none
-      | inr bytes ↦ let named = bytes_name line bytes in inr (named.0, no_bad_end world line named.1.0 named.1.1)
-    ])
+    inr (
+      h.0,
+      elim h.1 [
+        | inl none ↦ inl none
+        | inr bytes ↦ let named = bytes_name line bytes in inr (named.0, no_bad_end world line named.1.0 named.1.1)
+      ],
+    )

@@ -16,8 +16,8 @@ use lan_net::Side;
 use lan_port::Port;
 use lan_script::SocketSpec;
 use lan_world::{Host, World};
-use sockets::Socket;
 use net_base::{ChecksumCapabilities, DeviceCapabilities, Instant, Medium};
+use sockets::Socket;
 use std::alloc::{AllocError, Global};
 use std::marker::Model;
 

@@ -138,7 +138,5 @@ fn buffer(alloc: Global, bytes: usize) -> Result<RingBuffer<u8>, AllocError>
     ensures buffer { IfOk result (λ buffer. buffer ≡ ring [] (replicate bytes 0) 0) }
     ensures room { IfOk result (λ buffer. length buffer.queue + length buffer.free ≡ bytes) }
 {
-    Ok(RingBuffer::new(ManagedSlice::Fixed(
-        vec![in alloc; 0; bytes]?,
-    )))
+    Ok(RingBuffer::new(ManagedSlice::Fixed(vec![in alloc; 0; bytes]?)))
 }

@@ -50,7 +50,7 @@ impl Session {
     }
 
     // Takes what a line says.
-    #[tactic(auto, using(crate::proofs::BytesLemmas::ends_so))]
+    #[tactic(auto, using(crate::proofs::BytesLemmas::ends_so, crate::proofs::EndLemmas::start_ends))]
     fn take(self, alloc: Global, line: Line<'_>) -> Result<(Session, String), End>
         ensures allowed { IfOk result (λ r. end_of self (Some line.entry) ≡ None) }
         ensures leads { IfOk result (λ r. Leads self (Some line.entry) (string_bytes r.1) r.0) }
