@@ -7,31 +7,41 @@ use ip_wire::{
 use net_base::ChecksumCapabilities;
 
 #[test]
-fn headers_of_both_families(rt: HostRuntime) {
+fn ipv4_header_has_parts(rt: HostRuntime) {
     let mut header = IpRepr::new(LEFT, RIGHT, IpProtocol::Udp, 12, 64);
-    assert_eq!(rt; header.version(), IpVersion::Ipv4);
-    assert_eq!(rt; header.src_addr(), LEFT);
-    assert_eq!(rt; header.dst_addr(), RIGHT);
-    assert_eq!(rt; header.next_header(), IpProtocol::Udp);
-    assert_eq!(rt; header.hop_limit(), 64);
-    assert_eq!(rt; header.header_len(), 20);
-    assert_eq!(rt; header.buffer_len(), 32);
+    let parts = (
+        header.version(),
+        header.src_addr(),
+        header.dst_addr(),
+        header.next_header(),
+    );
+    assert_eq!(rt; parts, (IpVersion::Ipv4, LEFT, RIGHT, IpProtocol::Udp));
+    let lengths = (header.hop_limit(), header.header_len(), header.buffer_len());
+    assert_eq!(rt; lengths, (64, 20, 32));
     header.set_payload_len(95);
     assert_eq!(rt; header.payload_len(), 95);
-    let all = ChecksumCapabilities::default();
+}
+
+#[test]
+fn ipv4_header_is_written(rt: HostRuntime) {
     let mut bytes = [0xa5; 24];
-    IpRepr::from(ipv4_header(IpProtocol::Udp, 95)).emit(&mut bytes, &all);
+    let header = IpRepr::from(ipv4_header(IpProtocol::Udp, 95));
+    header.emit(&mut bytes, &ChecksumCapabilities::default());
     assert_eq!(rt; &bytes[..20], HEADER.as_slice());
     assert_eq!(rt; &bytes[20..], [0xa5; 4].as_slice());
+}
+
+#[test]
+fn ipv6_header_has_parts(rt: HostRuntime) {
     let packet = Ipv6Packet::new_unchecked(&OVER_V6);
     let ipv6 = Ipv6Repr::parse(&packet).expect(&rt, "valid");
     let header = IpRepr::from(ipv6);
-    assert_eq!(rt; header.version(), IpVersion::Ipv6);
-    assert_eq!(rt; header.header_len(), 40);
     assert_eq!(rt;
-        IpRepr::new(header.src_addr(), header.dst_addr(), IpProtocol::Udp, 4, 64),
-        header
+        (header.version(), header.header_len()),
+        (IpVersion::Ipv6, 40)
     );
+    let made = IpRepr::new(header.src_addr(), header.dst_addr(), IpProtocol::Udp, 4, 64);
+    assert_eq!(rt; made, header);
 }
 
 #[test]
@@ -39,10 +49,8 @@ fn packets_of_both_families_are_read(rt: HostRuntime) {
     let all = ChecksumCapabilities::default();
     let mut frame = [0; 115];
     frame[..20].copy_from_slice(&HEADER);
-    assert_eq!(rt;
-        IpRepr::parse(&frame, &all),
-        Ok(IpRepr::Ipv4(ipv4_header(IpProtocol::Udp, 95)))
-    );
+    let ipv4 = IpRepr::Ipv4(ipv4_header(IpProtocol::Udp, 95));
+    assert_eq!(rt; IpRepr::parse(&frame, &all), Ok(ipv4));
     assert_eq!(rt;
         IpRepr::parse(&frame[..114], &all),
         Err(Error),
@@ -50,26 +58,27 @@ fn packets_of_both_families_are_read(rt: HostRuntime) {
     );
     let ipv6 = Ipv6Repr::parse(&Ipv6Packet::new_unchecked(&OVER_V6)).expect(&rt, "valid");
     assert_eq!(rt; IpRepr::parse(&OVER_V6, &all), Ok(IpRepr::Ipv6(ipv6)));
-    assert_eq!(rt;
-        IpRepr::parse(&OVER_V6[..43], &all),
-        Err(Error),
-        "a payload length past the bytes"
-    );
-    frame[10] = 0;
-    assert_eq!(rt; IpRepr::parse(&frame, &all), Err(Error), "a wrong checksum");
-    assert!(rt; IpRepr::parse(&frame, &unverified()).is_ok());
-    frame[0] = 0x55;
-    assert_eq!(rt;
-        IpRepr::parse(&frame, &unverified()),
-        Err(Error),
-        "version 5"
-    );
-    assert_eq!(rt; IpRepr::parse(&[], &unverified()), Err(Error), "no bytes");
     ip_laws::ip_no_longer();
     ip_laws::ip_reads_back();
     ip_laws::ip_normal_again();
     ip_laws::ip_fits();
     ip_laws::ip_normal();
+}
+
+#[test]
+fn packets_are_refused(rt: HostRuntime) {
+    let all = ChecksumCapabilities::default();
+    let mut frame = [0; 115];
+    frame[..20].copy_from_slice(&HEADER);
+    frame[10] = 0;
+    assert!(rt; IpRepr::parse(&frame, &unverified()).is_ok());
+    let wrong_checksum = IpRepr::parse(&frame, &all);
+    frame[0] = 0x55;
+    let version_five = IpRepr::parse(&frame, &unverified());
+    let too_long = IpRepr::parse(&OVER_V6[..43], &all);
+    let no_bytes = IpRepr::parse(&[], &unverified());
+    let refused = [wrong_checksum, version_five, too_long, no_bytes];
+    assert_eq!(rt; refused, [Err(Error); 4]);
 }
 
 // The laws hold the places of fields and the meaning of `==`; the range of a payload is a call.

@@ -6,53 +6,119 @@ ghost use Rattle.ip_wire.specs.Udp as Udp;
 
 use crate::samples::{DATAGRAM, HEADER, WITH_OPTION, ipv4_header, starts_with, unverified};
 use ip_wire::{
-    Error, IpAddress, IpProtocol, Ipv4Address, Ipv4Packet, Ipv4PacketMut, Ipv4Piece, Ipv4Repr,
-    UdpPacketMut, UdpRepr, ipv4_laws,
+    Error, IpAddress, IpProtocol, Ipv4Address, Ipv4FragKey, Ipv4Packet, Ipv4PacketMut, Ipv4Piece,
+    Ipv4Repr, UdpPacketMut, UdpRepr, ipv4_laws,
 };
 use net_base::{Checksum, ChecksumCapabilities};
 
+/// Numbers in the order of a header: version, header length, class, congestion, total length, identification, offset, hops.
+type Numbers = (u8, u8, u8, u8, u16, u16, u16, u8);
+
+const NUMBERS: Numbers = (4, 24, 48, 0, 32, 0x1234, 0x105 * 8, 1);
+
+fn numbers(bytes: &[u8]) -> Option<Numbers> {
+    let packet = Ipv4Packet::new_checked(bytes).ok()?;
+    Some((
+        packet.version(),
+        packet.header_len(),
+        packet.dscp(),
+        packet.ecn(),
+        packet.total_len(),
+        packet.ident(),
+        packet.frag_offset(),
+        packet.hop_limit(),
+    ))
+}
+
+/// Whether a packet may not be cut, whether more follows, its protocol and addresses.
+type Named = (bool, bool, IpProtocol, Ipv4Address, Ipv4Address);
+
+const NAMED: Named = (
+    false,
+    true,
+    IpProtocol::Igmp,
+    Ipv4Address([10, 0, 0, 1]),
+    Ipv4Address([224, 0, 0, 22]),
+);
+
+fn named(bytes: &[u8]) -> Option<Named> {
+    let packet = Ipv4Packet::new_checked(bytes).ok()?;
+    Some((
+        packet.dont_frag(),
+        packet.more_frags(),
+        packet.next_header(),
+        packet.src_addr(),
+        packet.dst_addr(),
+    ))
+}
+
+/// Whether it is whole, its payload, what is the same in all its pieces, its place, and how long the view is.
+type Carried<'a> = (bool, &'a [u8], u16, Ipv4Piece, usize);
+
+fn carried(bytes: &[u8]) -> Option<Carried<'_>> {
+    let packet = Ipv4Packet::new_checked(bytes).ok()?;
+    Some((
+        packet.check_len().is_ok(),
+        packet.payload(),
+        packet.get_key().id,
+        packet.piece(),
+        packet.into_inner().len(),
+    ))
+}
+
+const EIGHT: [u8; 8] = [1, 2, 3, 4, 5, 6, 7, 8];
+
+const PLACE: Ipv4Piece = Ipv4Piece {
+    offset: 0x828,
+    more: true,
+};
+
 #[test]
 fn ipv4_is_read(rt: HostRuntime) {
-    let mut bytes = WITH_OPTION;
-    let mut packet = Ipv4PacketMut::new_checked(&mut bytes).expect(&rt, "whole");
-    packet.fill_checksum();
-    assert!(rt; packet.verify_checksum());
-    let packet = Ipv4Packet::new_checked(&bytes).expect(&rt, "whole");
-    assert!(rt; packet.check_len().is_ok());
-    assert_eq!(rt; packet.version(), 4);
-    assert_eq!(rt; packet.header_len(), 24);
-    assert_eq!(rt; packet.dscp(), 48);
-    assert_eq!(rt; packet.ecn(), 0);
-    assert_eq!(rt; packet.total_len(), 32);
-    assert_eq!(rt; packet.ident(), 0x1234);
-    assert!(rt; !packet.dont_frag());
-    assert!(rt; packet.more_frags());
-    assert_eq!(rt; packet.frag_offset(), 0x105 * 8);
-    assert_eq!(rt; packet.hop_limit(), 1);
-    assert_eq!(rt; packet.next_header(), IpProtocol::Igmp);
-    assert_eq!(rt; packet.src_addr(), Ipv4Address::new(10, 0, 0, 1));
-    assert_eq!(rt; packet.dst_addr(), Ipv4Address::new(224, 0, 0, 22));
-    assert_eq!(rt; packet.payload(), [1, 2, 3, 4, 5, 6, 7, 8].as_slice());
-    assert_eq!(rt; packet.get_key().id, 0x1234);
+    assert_eq!(rt; numbers(&WITH_OPTION), Some(NUMBERS));
+    assert_eq!(rt; named(&WITH_OPTION), Some(NAMED));
     assert_eq!(rt;
-        packet.piece(),
-        Ipv4Piece {
-            offset: 0x828,
-            more: true
-        }
+        carried(&WITH_OPTION),
+        Some((true, EIGHT.as_slice(), 0x1234, PLACE, 34))
     );
-    let header = Ipv4Repr::parse(&packet, &ChecksumCapabilities::default()).expect(&rt, "valid");
-    assert_eq!(rt; header.payload_len, 8);
-    assert_eq!(rt; header.ident, 0x1234);
-    assert!(rt; !header.dont_frag);
-    assert_eq!(rt; header.buffer_len(), 20);
-    assert_eq!(rt; packet.into_inner().len(), 34);
+}
+
+/// The header, once its checksum is filled in; what it is without options.
+fn parsed_after_filling(bytes: &mut [u8]) -> Option<(bool, Ipv4Repr, usize)> {
+    let mut packet = Ipv4PacketMut::new_checked(bytes).ok()?;
+    packet.fill_checksum();
+    let is_right = packet.verify_checksum();
+    let packet = Ipv4Packet::new_checked(packet.into_inner()).ok()?;
+    let header = Ipv4Repr::parse(&packet, &ChecksumCapabilities::default()).ok()?;
+    Some((is_right, header, header.buffer_len()))
+}
+
+#[test]
+fn ipv4_is_parsed(rt: HostRuntime) {
+    let header = Ipv4Repr {
+        src_addr: NAMED.3,
+        dst_addr: NAMED.4,
+        next_header: NAMED.2,
+        payload_len: 8,
+        hop_limit: 1,
+        ident: 0x1234,
+        dont_frag: false,
+    };
+    let mut bytes = WITH_OPTION;
+    assert_eq!(rt; parsed_after_filling(&mut bytes), Some((true, header, 20)));
     ipv4_laws::ipv4_spelled();
     ipv4_laws::ipv4_no_longer();
     ipv4_laws::ipv4_fits();
     ipv4_laws::ipv4_normal();
     ipv4_laws::ipv4_normal_again();
     ipv4_laws::ipv4_reads_back();
+    ipv4_laws::ipv4_piece_reads_back();
+    ipv4_laws::ipv4_key();
+    ipv4_laws::ipv4_quoted();
+    ipv4_laws::ipv4_quoted_spelled();
+    ipv4_laws::ipv4_quoted_fits();
+    ipv4_laws::ipv4_quoted_no_longer();
+    ipv4_laws::ipv4_quoted_reads_back();
 }
 
 #[test]
@@ -141,28 +207,46 @@ fn ipv4_is_set(rt: HostRuntime) {
     assert!(rt; starts_with(packet.into_inner(), &front));
 }
 
+fn numbers_in_place(bytes: &mut [u8]) -> Option<Numbers> {
+    let packet = Ipv4PacketMut::new_checked(bytes).ok()?;
+    Some((
+        packet.version(),
+        packet.header_len(),
+        packet.dscp(),
+        packet.ecn(),
+        packet.total_len(),
+        packet.ident(),
+        packet.frag_offset(),
+        packet.hop_limit(),
+    ))
+}
+
+fn named_in_place(bytes: &mut [u8]) -> Option<Named> {
+    let packet = Ipv4PacketMut::new_checked(bytes).ok()?;
+    Some((
+        packet.dont_frag(),
+        packet.more_frags(),
+        packet.next_header(),
+        packet.src_addr(),
+        packet.dst_addr(),
+    ))
+}
+
+/// Whether it is whole and carries these bytes, its checksum, the protocol of its pieces, and how long the view is.
+fn carried_in_place(bytes: &mut [u8], payload: &[u8]) -> Option<(bool, u16, IpProtocol, usize)> {
+    let packet = Ipv4PacketMut::new_checked(bytes).ok()?;
+    let is_whole = packet.check_len().is_ok() && packet.payload() == payload;
+    let (checksum, protocol) = (packet.checksum(), packet.get_key().protocol);
+    Some((is_whole, checksum, protocol, packet.into_inner().len()))
+}
+
 #[test]
 fn ipv4_is_read_where_it_is_written(rt: HostRuntime) {
     let mut bytes = WITH_OPTION;
-    let packet = Ipv4PacketMut::new_checked(&mut bytes).expect(&rt, "whole");
-    assert!(rt; packet.check_len().is_ok());
-    assert_eq!(rt; packet.version(), 4);
-    assert_eq!(rt; packet.header_len(), 24);
-    assert_eq!(rt; packet.dscp(), 48);
-    assert_eq!(rt; packet.ecn(), 0);
-    assert_eq!(rt; packet.total_len(), 32);
-    assert_eq!(rt; packet.ident(), 0x1234);
-    assert!(rt; !packet.dont_frag());
-    assert!(rt; packet.more_frags());
-    assert_eq!(rt; packet.frag_offset(), 0x105 * 8);
-    assert_eq!(rt; packet.hop_limit(), 1);
-    assert_eq!(rt; packet.next_header(), IpProtocol::Igmp);
-    assert_eq!(rt; packet.checksum(), 0);
-    assert_eq!(rt; packet.src_addr(), Ipv4Address::new(10, 0, 0, 1));
-    assert_eq!(rt; packet.dst_addr(), Ipv4Address::new(224, 0, 0, 22));
-    assert_eq!(rt; packet.get_key().protocol, IpProtocol::Igmp);
-    assert_eq!(rt; packet.payload(), [1, 2, 3, 4, 5, 6, 7, 8].as_slice());
-    assert_eq!(rt; packet.into_inner().len(), 34);
+    assert_eq!(rt; numbers_in_place(&mut bytes), Some(NUMBERS));
+    assert_eq!(rt; named_in_place(&mut bytes), Some(NAMED));
+    let whole = Some((true, 0, IpProtocol::Igmp, 34));
+    assert_eq!(rt; carried_in_place(&mut bytes, &EIGHT), whole);
 }
 
 #[test]
@@ -269,46 +353,58 @@ fn piece_header(payload_len: usize, offset: u16, more: bool) -> [u8; 20]
 }
 
 #[test]
-fn pieces_are_written_and_read(rt: HostRuntime) {
+fn pieces_are_written(rt: HostRuntime) {
+    let first = [
+        0x45, 0x00, 0x00, 0x1c, 0xc2, 0x4d, 0x20, 0x00, 0x40, 0x11, 0x15, 0x30, 0xc0, 0xa8, 0x01,
+        0x01, 0xc0, 0xa8, 0x01, 0x02,
+    ];
+    let last = [
+        0x45, 0x00, 0x00, 0x18, 0xc2, 0x4d, 0x00, 0x01, 0x40, 0x11, 0x35, 0x33, 0xc0, 0xa8, 0x01,
+        0x01, 0xc0, 0xa8, 0x01, 0x02,
+    ];
+    assert_eq!(rt; piece_header(8, 0, true), first);
+    assert_eq!(rt; piece_header(4, 8, false), last);
+}
+
+#[test]
+fn pieces_are_read(rt: HostRuntime) {
+    for (payload_len, offset, more) in [(8, 0, true), (4, 8, false)] {
+        let header = piece_header(payload_len, offset, more);
+        let place = Ipv4Piece { offset, more };
+        assert_eq!(rt; Ipv4Packet::new_unchecked(&header).piece(), place);
+    }
+}
+
+/// What all pieces have alike, as the piece's view and its quoted header tell it; identification and flag of the quoted one.
+fn quoted_key(header: &[u8]) -> Option<(Ipv4FragKey, Ipv4FragKey, u16, bool)>
+    requires { 20 ≤ length header.now }
+{
+    let (quoted, _) = Ipv4Repr::parse_quoted(header).ok()?;
+    let key = Ipv4Packet::new_unchecked(header).get_key();
+    Some((key, quoted.key(), quoted.ident, quoted.dont_frag))
+}
+
+#[test]
+fn pieces_have_one_key(rt: HostRuntime) {
     let first = piece_header(8, 0, true);
+    let key = Ipv4Packet::new_unchecked(&first).get_key();
     assert_eq!(rt;
-        first,
-        [
-            0x45, 0x00, 0x00, 0x1c, 0xc2, 0x4d, 0x20, 0x00, 0x40, 0x11, 0x15, 0x30, 0xc0, 0xa8,
-            0x01, 0x01, 0xc0, 0xa8, 0x01, 0x02,
-        ]
+        quoted_key(&piece_header(4, 8, false)),
+        Some((key, key, 0xc24d, false))
     );
-    let last = piece_header(4, 8, false);
-    assert_eq!(rt;
-        last,
-        [
-            0x45, 0x00, 0x00, 0x18, 0xc2, 0x4d, 0x00, 0x01, 0x40, 0x11, 0x35, 0x33, 0xc0, 0xa8,
-            0x01, 0x01, 0xc0, 0xa8, 0x01, 0x02,
-        ]
-    );
-    let first = Ipv4Packet::new_unchecked(&first);
-    let last = Ipv4Packet::new_unchecked(&last);
-    assert_eq!(rt;
-        first.piece(),
-        Ipv4Piece {
-            offset: 0,
-            more: true
-        }
-    );
-    assert_eq!(rt;
-        last.piece(),
-        Ipv4Piece {
-            offset: 8,
-            more: false
-        }
-    );
-    assert_eq!(rt; first.get_key(), last.get_key());
-    let (header, _) = Ipv4Repr::parse_quoted(last.into_inner()).expect(&rt, "a header");
-    assert_eq!(rt; header.key(), last.get_key());
-    assert_eq!(rt; header.ident, 0xc24d);
-    assert!(rt; !header.dont_frag);
-    ipv4_laws::ipv4_piece_reads_back();
-    ipv4_laws::ipv4_key();
+}
+
+/// That packet's header as it is quoted, with a payload of this length.
+fn quoted(payload_len: usize) -> Ipv4Repr {
+    Ipv4Repr {
+        src_addr: NAMED.3,
+        dst_addr: NAMED.4,
+        next_header: IpProtocol::Igmp,
+        payload_len,
+        hop_limit: 1,
+        ident: 0x1234,
+        dont_frag: false,
+    }
 }
 
 #[test]
@@ -319,23 +415,18 @@ fn quoted_ipv4_is_read(rt: HostRuntime) {
         Ok((header, 20)),
         "no payload is there"
     );
-    let (header, header_len) = Ipv4Repr::parse_quoted(&WITH_OPTION).expect(&rt, "a header");
-    assert_eq!(rt; header_len, 24);
-    assert_eq!(rt; header.payload_len, 8, "a checksum of 0 isn't tested");
-    assert_eq!(rt; header.next_header, IpProtocol::Igmp);
-    assert_eq!(rt; header.hop_limit, 1);
-    assert_eq!(rt; header.src_addr, Ipv4Address::new(10, 0, 0, 1));
-    assert_eq!(rt; header.dst_addr, Ipv4Address::new(224, 0, 0, 22));
+    assert_eq!(rt;
+        Ipv4Repr::parse_quoted(&WITH_OPTION),
+        Ok((quoted(8), 24)),
+        "a checksum of 0 isn't tested"
+    );
     let mut bytes = WITH_OPTION;
     bytes[3] = 23;
-    let (header, header_len) = Ipv4Repr::parse_quoted(&bytes).expect(&rt, "a header");
-    assert_eq!(rt; header_len, 24);
-    assert_eq!(rt; header.payload_len, 0, "a total length below the header's");
-    ipv4_laws::ipv4_quoted();
-    ipv4_laws::ipv4_quoted_spelled();
-    ipv4_laws::ipv4_quoted_fits();
-    ipv4_laws::ipv4_quoted_no_longer();
-    ipv4_laws::ipv4_quoted_reads_back();
+    assert_eq!(rt;
+        Ipv4Repr::parse_quoted(&bytes),
+        Ok((quoted(0), 24)),
+        "a total length below the header's"
+    );
 }
 
 #[test]

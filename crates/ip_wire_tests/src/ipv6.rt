@@ -5,32 +5,63 @@ use ip_wire::{
     ipv6_laws,
 };
 
+const LOCAL: Ipv6Address = Ipv6Address([0xfe, 0x80, 0, 0, 0, 0, 0, 0, 0, 0, 0, 0, 0, 0, 0, 1]);
+
+/// Version, class, flow, payload length, total length, header length and hops.
+type Numbers = (u8, u8, u32, u16, usize, usize, u8);
+
+const NUMBERS: Numbers = (6, 0xfe, 0x12345, 4, 44, 40, 64);
+
+fn numbers(bytes: &[u8]) -> Option<Numbers> {
+    let packet = Ipv6Packet::new_checked(bytes).ok()?;
+    Some((
+        packet.version(),
+        packet.traffic_class(),
+        packet.flow_label(),
+        packet.payload_len(),
+        packet.total_len(),
+        packet.header_len(),
+        packet.hop_limit(),
+    ))
+}
+
+/// Whether it is whole, its protocol and addresses, its payload, and how long the view is.
+type Named<'a> = (bool, IpProtocol, Ipv6Address, Ipv6Address, &'a [u8], usize);
+
+fn named(bytes: &[u8]) -> Option<Named<'_>> {
+    let packet = Ipv6Packet::new_checked(bytes).ok()?;
+    Some((
+        packet.check_len().is_ok(),
+        packet.next_header(),
+        packet.src_addr(),
+        packet.dst_addr(),
+        packet.payload(),
+        packet.into_inner().len(),
+    ))
+}
+
 #[test]
 fn ipv6_is_read(rt: HostRuntime) {
-    let packet = Ipv6Packet::new_checked(&OVER_V6).expect(&rt, "whole");
-    assert!(rt; packet.check_len().is_ok());
-    assert_eq!(rt; packet.version(), 6);
-    assert_eq!(rt; packet.traffic_class(), 0xfe);
-    assert_eq!(rt; packet.flow_label(), 0x12345);
-    assert_eq!(rt; packet.payload_len(), 4);
-    assert_eq!(rt; packet.total_len(), 44);
-    assert_eq!(rt; packet.header_len(), 40);
-    assert_eq!(rt; packet.next_header(), IpProtocol::Udp);
-    assert_eq!(rt; packet.hop_limit(), 64);
-    assert_eq!(rt;
-        packet.src_addr(),
-        Ipv6Address::new(0xfe80, 0, 0, 0, 0, 0, 0, 1)
+    assert_eq!(rt; numbers(&OVER_V6), Some(NUMBERS));
+    let named_so = (
+        true,
+        IpProtocol::Udp,
+        LOCAL,
+        IPV6_LINK_LOCAL_ALL_NODES,
+        [1, 2, 3, 4].as_slice(),
+        46,
     );
-    assert_eq!(rt; packet.dst_addr(), IPV6_LINK_LOCAL_ALL_NODES);
-    assert_eq!(rt; packet.payload(), [1, 2, 3, 4].as_slice());
+    assert_eq!(rt; named(&OVER_V6), Some(named_so));
+}
+
+#[test]
+fn ipv6_is_parsed_and_written(rt: HostRuntime) {
+    let packet = Ipv6Packet::new_unchecked(&OVER_V6);
     let header = Ipv6Repr::parse(&packet).expect(&rt, "valid");
-    assert_eq!(rt; header.payload_len, 4);
-    assert_eq!(rt; header.buffer_len(), 40);
-    assert_eq!(rt; packet.into_inner().len(), 46);
+    assert_eq!(rt; (header.payload_len, header.buffer_len()), (4, 40));
     let mut bytes = OVER_V6;
-    let mut packet = Ipv6PacketMut::new_checked(&mut bytes).expect(&rt, "whole");
-    header.emit(&mut packet);
-    assert_eq!(rt; &packet.into_inner()[..4], [0x60, 0, 0, 0].as_slice());
+    header.emit(&mut Ipv6PacketMut::new_unchecked(&mut bytes));
+    assert_eq!(rt; &bytes[..4], [0x60, 0, 0, 0].as_slice());
     assert_eq!(rt; &bytes[4..], &OVER_V6[4..]);
     ipv6_laws::ipv6_spelled();
     ipv6_laws::ipv6_no_longer();
@@ -58,6 +89,32 @@ fn ipv6_is_refused(rt: HostRuntime) {
     );
 }
 
+/// The same of a view that writes.
+fn numbers_in_place(bytes: &mut [u8]) -> Option<Numbers> {
+    let packet = Ipv6PacketMut::new_checked(bytes).ok()?;
+    Some((
+        packet.version(),
+        packet.traffic_class(),
+        packet.flow_label(),
+        packet.payload_len(),
+        packet.total_len(),
+        packet.header_len(),
+        packet.hop_limit(),
+    ))
+}
+
+/// Whether it is whole, its protocol and addresses, and how long its payload is.
+fn named_in_place(bytes: &mut [u8]) -> Option<(bool, IpProtocol, Ipv6Address, Ipv6Address, usize)> {
+    let packet = Ipv6PacketMut::new_checked(bytes).ok()?;
+    Some((
+        packet.check_len().is_ok(),
+        packet.next_header(),
+        packet.src_addr(),
+        packet.dst_addr(),
+        packet.payload().len(),
+    ))
+}
+
 #[test]
 fn ipv6_is_set(rt: HostRuntime) {
     let mut bytes = [0xff; 46];
@@ -68,24 +125,12 @@ fn ipv6_is_set(rt: HostRuntime) {
     packet.set_payload_len(4);
     packet.set_next_header(IpProtocol::Udp);
     packet.set_hop_limit(64);
-    packet.set_src_addr(Ipv6Address::new(0xfe80, 0, 0, 0, 0, 0, 0, 1));
+    packet.set_src_addr(LOCAL);
     packet.set_dst_addr(IPV6_LINK_LOCAL_ALL_NODES);
-    assert!(rt; packet.check_len().is_ok());
-    assert_eq!(rt; packet.version(), 6);
-    assert_eq!(rt; packet.traffic_class(), 0xfe);
-    assert_eq!(rt; packet.flow_label(), 0x12345);
-    assert_eq!(rt; packet.payload_len(), 4);
-    assert_eq!(rt; packet.total_len(), 44);
-    assert_eq!(rt; packet.header_len(), 40);
-    assert_eq!(rt; packet.next_header(), IpProtocol::Udp);
-    assert_eq!(rt; packet.hop_limit(), 64);
-    assert_eq!(rt;
-        packet.src_addr(),
-        Ipv6Address::new(0xfe80, 0, 0, 0, 0, 0, 0, 1)
-    );
-    assert_eq!(rt; packet.dst_addr(), IPV6_LINK_LOCAL_ALL_NODES);
-    assert_eq!(rt; packet.payload().len(), 4);
     assert!(rt; starts_with(&bytes, &OVER_V6[..40]));
+    assert_eq!(rt; numbers_in_place(&mut bytes), Some(NUMBERS));
+    let named_so = (true, IpProtocol::Udp, LOCAL, IPV6_LINK_LOCAL_ALL_NODES, 4);
+    assert_eq!(rt; named_in_place(&mut bytes), Some(named_so));
 }
 
 #[test]

@@ -40,25 +40,60 @@ fn request() -> ArpRepr {
     }
 }
 
+/// Whether the frame is whole, both addresses, what it carries, how long its payload and the view are.
+fn frame_parts(
+    bytes: &[u8],
+) -> Option<
+    (
+        bool,
+        EthernetAddress,
+        EthernetAddress,
+        EthernetProtocol,
+        usize,
+        usize,
+    ),
+> {
+    let frame = EthernetFrame::new_checked(bytes).ok()?;
+    Some((
+        frame.check_len().is_ok(),
+        frame.dst_addr(),
+        frame.src_addr(),
+        frame.ethertype(),
+        frame.payload().len(),
+        frame.into_inner().len(),
+    ))
+}
+
 #[test]
 fn frame_is_read(rt: HostRuntime) {
-    let frame = EthernetFrame::new_checked(&FRAME).expect(&rt, "whole");
-    assert!(rt; frame.check_len().is_ok());
-    assert_eq!(rt; frame.dst_addr(), EthernetAddress::BROADCAST);
-    assert_eq!(rt; frame.src_addr(), SENDER);
-    assert_eq!(rt; frame.ethertype(), EthernetProtocol::Arp);
-    assert_eq!(rt; frame.payload().len(), 46);
-    assert_eq!(rt; EthernetRepr::parse(&frame), Ok(header()));
-    assert_eq!(rt; header().buffer_len(), 14);
-    assert_eq!(rt; EthernetFrame::header_len(), 14);
-    assert_eq!(rt; EthernetFrame::buffer_len(46), 60);
-    assert_eq!(rt; EthernetFrameMut::header_len(), 14);
-    assert_eq!(rt; EthernetFrameMut::buffer_len(46), 60);
-    assert_eq!(rt; frame.into_inner().len(), 60);
-    assert_eq!(rt;
-        EthernetRepr::parse(&EthernetFrame::new_unchecked(&FRAME[..13])),
-        Err(Error)
+    let parts = (
+        true,
+        EthernetAddress::BROADCAST,
+        SENDER,
+        EthernetProtocol::Arp,
+        46,
+        60,
     );
+    assert_eq!(rt; frame_parts(&FRAME), Some(parts));
+    let frame = EthernetFrame::new_unchecked(&FRAME);
+    assert_eq!(rt; EthernetRepr::parse(&frame), Ok(header()));
+    let short = EthernetFrame::new_unchecked(&FRAME[..13]);
+    assert_eq!(rt; EthernetRepr::parse(&short), Err(Error));
+}
+
+#[test]
+fn frames_have_lengths(rt: HostRuntime) {
+    let headers = [
+        EthernetFrame::header_len(),
+        EthernetFrameMut::header_len(),
+        header().buffer_len(),
+    ];
+    assert_eq!(rt; headers, [14; 3]);
+    let frames = [
+        EthernetFrame::buffer_len(46),
+        EthernetFrameMut::buffer_len(46),
+    ];
+    assert_eq!(rt; frames, [60; 2]);
     ethernet_laws::ethernet_spelled();
     ethernet_laws::ethernet_no_longer();
     ethernet_laws::ethernet_fits();
@@ -76,15 +111,36 @@ fn frame_is_written(rt: HostRuntime) {
     header().emit(&mut frame);
     assert_eq!(rt; frame.payload(), [0xa5; 6].as_slice());
     assert_eq!(rt; &bytes[..14], &FRAME[..14]);
-    let mut frame = EthernetFrameMut::new_checked(&mut bytes).expect(&rt, "whole");
+}
+
+/// Whether the frame is whole, both addresses, and what it carries, where it is written.
+fn frame_parts_in_place(
+    bytes: &mut [u8],
+) -> Option<(bool, EthernetAddress, EthernetAddress, EthernetProtocol)> {
+    let frame = EthernetFrameMut::new_checked(bytes).ok()?;
+    Some((
+        frame.check_len().is_ok(),
+        frame.dst_addr(),
+        frame.src_addr(),
+        frame.ethertype(),
+    ))
+}
+
+#[test]
+fn frame_is_set(rt: HostRuntime) {
+    let mut bytes = [0xa5; 20];
+    let mut frame = EthernetFrameMut::new_unchecked(&mut bytes);
     frame.set_dst_addr(SENDER);
     frame.set_src_addr(EthernetAddress::BROADCAST);
     frame.set_ethertype(EthernetProtocol::Ipv6);
-    assert!(rt; frame.check_len().is_ok());
-    assert_eq!(rt; frame.dst_addr(), SENDER);
-    assert_eq!(rt; frame.src_addr(), EthernetAddress::BROADCAST);
-    assert_eq!(rt; frame.ethertype(), EthernetProtocol::Ipv6);
     assert_eq!(rt; &frame.into_inner()[12..14], [0x86, 0xdd].as_slice());
+    let parts = (
+        true,
+        SENDER,
+        EthernetAddress::BROADCAST,
+        EthernetProtocol::Ipv6,
+    );
+    assert_eq!(rt; frame_parts_in_place(&mut bytes), Some(parts));
 }
 
 #[test]
@@ -123,23 +179,63 @@ fn known_numbers_are_read_by_name(rt: HostRuntime) {
     assert_eq!(rt; ArpRepr::parse(&packet), Ok(request()));
 }
 
+/// Kinds, lengths and operation of a packet, and whether it is whole.
+type ArpNumbers = (bool, ArpHardware, EthernetProtocol, u8, u8, ArpOperation);
+
+const NUMBERS: ArpNumbers = (
+    true,
+    ArpHardware::Ethernet,
+    EthernetProtocol::Ipv4,
+    6,
+    4,
+    ArpOperation::Request,
+);
+
+fn arp_numbers(bytes: &[u8]) -> Option<ArpNumbers> {
+    let packet = ArpPacket::new_checked(bytes).ok()?;
+    Some((
+        packet.check_len().is_ok(),
+        packet.hardware_type(),
+        packet.protocol_type(),
+        packet.hardware_len(),
+        packet.protocol_len(),
+        packet.operation(),
+    ))
+}
+
+/// The four addresses of a packet, in their order.
+type ArpAddresses<'a> = (&'a [u8], &'a [u8], &'a [u8], &'a [u8]);
+
+fn arp_addresses(bytes: &[u8]) -> Option<ArpAddresses<'_>> {
+    let packet = ArpPacket::new_checked(bytes).ok()?;
+    Some((
+        packet.source_hardware_addr(),
+        packet.source_protocol_addr(),
+        packet.target_hardware_addr(),
+        packet.target_protocol_addr(),
+    ))
+}
+
 #[test]
 fn request_is_read(rt: HostRuntime) {
     let bytes = &FRAME[14..];
-    let packet = ArpPacket::new_checked(bytes).expect(&rt, "whole");
-    assert!(rt; packet.check_len().is_ok());
-    assert_eq!(rt; packet.hardware_type(), ArpHardware::Ethernet);
-    assert_eq!(rt; packet.protocol_type(), EthernetProtocol::Ipv4);
-    assert_eq!(rt; packet.hardware_len(), 6);
-    assert_eq!(rt; packet.protocol_len(), 4);
-    assert_eq!(rt; packet.operation(), ArpOperation::Request);
-    assert_eq!(rt; packet.source_hardware_addr(), SENDER.as_bytes());
-    assert_eq!(rt; packet.source_protocol_addr(), [192, 168, 1, 1].as_slice());
-    assert_eq!(rt; packet.target_hardware_addr(), [0; 6].as_slice());
-    assert_eq!(rt; packet.target_protocol_addr(), [192, 168, 1, 2].as_slice());
+    assert_eq!(rt; arp_numbers(bytes), Some(NUMBERS));
+    let (here, there) = ([192, 168, 1, 1], [192, 168, 1, 2]);
+    let addresses = (
+        SENDER.as_bytes(),
+        here.as_slice(),
+        [0; 6].as_slice(),
+        there.as_slice(),
+    );
+    assert_eq!(rt; arp_addresses(bytes), Some(addresses));
+    let packet = ArpPacket::new_unchecked(bytes);
     assert_eq!(rt; ArpRepr::parse(&packet), Ok(request()));
-    assert_eq!(rt; request().buffer_len(), 28);
     assert_eq!(rt; packet.into_inner().len(), 46);
+}
+
+#[test]
+fn request_has_its_length(rt: HostRuntime) {
+    assert_eq!(rt; request().buffer_len(), 28);
     arp_laws::arp_spelled();
     arp_laws::arp_no_longer();
     arp_laws::arp_fits();

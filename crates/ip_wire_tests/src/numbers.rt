@@ -61,11 +61,6 @@ fn numbers_name_ethernet_protocols(rt: HostRuntime) {
 // IANA's registries of multicast addresses; RFC 791, 8200, 4291 and 3810.
 #[test]
 fn constants_have_their_values(rt: HostRuntime) {
-    address_laws::hardware_constants();
-    address_laws::address_tests();
-    address_laws::hardware_tests();
-    address_laws::ipv4_constants();
-    address_laws::ipv6_constants();
     for (text, address) in [
         ("224.0.0.1", IpAddress::Ipv4(IPV4_MULTICAST_ALL_SYSTEMS)),
         ("224.0.0.2", IpAddress::Ipv4(IPV4_MULTICAST_ALL_ROUTERS)),
@@ -83,6 +78,15 @@ fn constants_have_their_values(rt: HostRuntime) {
     ] {
         assert_eq!(rt; text.parse(), Ok(address), "at {text}");
     }
+    address_laws::hardware_constants();
+    address_laws::address_tests();
+    address_laws::hardware_tests();
+    address_laws::ipv4_constants();
+    address_laws::ipv6_constants();
+}
+
+#[test]
+fn prefixes_have_their_values(rt: HostRuntime) {
     let (solicited, local) = address_laws::ipv6_prefixes();
     for (text, block) in [("fe80::/10", local), ("ff02::1:ff00:0/104", solicited)] {
         assert_eq!(rt; text.parse(), Ok(block), "at {text}");
@@ -112,23 +116,33 @@ fn reads_and_writes_in_network_order(rt: HostRuntime) {
 #[test]
 fn goes_round(rt: HostRuntime) {
     seq_number::sum_comes_after();
-    let last = SeqNumber(0xffff_ffff);
-    let first = SeqNumber(0);
-    let half = SeqNumber(0x8000_0000);
-    assert!(rt; last.comes_before(first));
-    assert!(rt; !first.comes_before(last));
-    assert!(rt; !first.comes_before(first));
-    assert!(rt; first.comes_before(half) && half.comes_before(first));
-    assert_eq!(rt; last + 3, SeqNumber(2));
-    assert_eq!(rt; first - 1, last);
-    assert_eq!(rt; last.distance(SeqNumber(4)), 5);
-    assert_eq!(rt; last.max(first), first);
-    assert_eq!(rt; last.min(first), last);
-    assert_eq!(rt; SeqNumber(7) - SeqNumber(7), 0);
-    assert_eq!(rt; SeqNumber(9) - SeqNumber(7), 2);
+    let (last, first, half) = (SeqNumber(0xffff_ffff), SeqNumber(0), SeqNumber(0x8000_0000));
+    for (left, right, comes_before) in [
+        (last, first, true),
+        (first, last, false),
+        (first, first, false),
+        (first, half, true),
+        (half, first, true),
+    ] {
+        assert_eq!(rt; left.comes_before(right), comes_before);
+    }
     let mut moved = last;
     moved += 1;
-    assert_eq!(rt; moved, first);
-    assert_eq!(rt; SeqNumber::default(), first);
-    assert_eq!(rt; address_laws::default_sequence_number(), first);
+    let numbers = [last + 3, first - 1, last.max(first), last.min(first), moved];
+    assert_eq!(rt; numbers, [SeqNumber(2), last, first, last, first]);
+    let distances = (
+        last.distance(SeqNumber(4)),
+        SeqNumber(7) - SeqNumber(7),
+        SeqNumber(9) - SeqNumber(7),
+    );
+    assert_eq!(rt; distances, (5, 0, 2));
+}
+
+#[test]
+fn begins_at_zero(rt: HostRuntime) {
+    let firsts = [
+        SeqNumber::default(),
+        address_laws::default_sequence_number(),
+    ];
+    assert_eq!(rt; firsts, [SeqNumber(0); 2]);
 }

@@ -50,45 +50,45 @@ fn reads_up_to_the_end(rt: HostRuntime) -> Result<(), Error> {
 
 #[test]
 fn refuses_malformed_options(rt: HostRuntime) {
-    assert_eq!(rt; TcpOptions::parse(&[2]), Err(Error));
-    assert_eq!(rt; TcpOptions::parse(&[9, 0]), Err(Error));
-    assert_eq!(rt; TcpOptions::parse(&[9, 1, 0]), Err(Error));
-    assert_eq!(rt; TcpOptions::parse(&[9, 4, 0]), Err(Error));
-    assert_eq!(rt; TcpOptions::parse(&[2, 3, 5]), Err(Error));
-    assert_eq!(rt; TcpOptions::parse(&[3, 2]), Err(Error));
-    assert_eq!(rt; TcpOptions::parse(&[4, 3, 0]), Err(Error));
-    assert_eq!(rt; TcpOptions::parse(&[5, 6, 0, 0, 0, 0]), Err(Error));
-    assert_eq!(rt; TcpOptions::parse(&[8, 6, 0, 0, 0, 0]), Err(Error));
+    let rows: [&[u8]; 9] = [
+        &[2],
+        &[9, 0],
+        &[9, 1, 0],
+        &[9, 4, 0],
+        &[2, 3, 5],
+        &[3, 2],
+        &[4, 3, 0],
+        &[5, 6, 0, 0, 0, 0],
+        &[8, 6, 0, 0, 0, 0],
+    ];
+    for bytes in rows {
+        assert_eq!(rt; TcpOptions::parse(bytes), Err(Error), "{bytes:?}");
+    }
 }
 
 #[test]
 fn writes_options(rt: HostRuntime) {
     let mut buffer = [0xff; 12];
-    assert_eq!(rt; TcpOption::MaxSegmentSize(1460).emit(&mut buffer), 4);
-    assert_eq!(rt;
-        buffer,
-        [
-            2, 4, 0x05, 0xb4, 0xff, 0xff, 0xff, 0xff, 0xff, 0xff, 0xff, 0xff
-        ]
-    );
+    let size = TcpOption::MaxSegmentSize(1460).emit(&mut buffer);
+    let first = buffer;
     let gap = TcpOption::SackRange([None, Some((5500, 6000)), None]);
-    assert_eq!(rt; gap.buffer_len(), 10);
-    assert_eq!(rt; gap.emit(&mut buffer), 10);
+    let lengths = (size, gap.buffer_len(), gap.emit(&mut buffer));
+    assert_eq!(rt; lengths, (4, 10, 10));
+    let second = buffer;
+    let unknown = TcpOption::Unknown {
+        kind: 0xfd,
+        bytes: &[1, 2],
+    };
+    assert_eq!(rt; unknown.emit(&mut buffer), 4);
     assert_eq!(rt;
-        buffer,
-        [5, 10, 0, 0, 0x15, 0x7c, 0, 0, 0x17, 0x70, 0xff, 0xff]
-    );
-    assert_eq!(rt;
-        TcpOption::Unknown {
-            kind: 0xfd,
-            bytes: &[1, 2]
-        }
-        .emit(&mut buffer),
-        4
-    );
-    assert_eq!(rt;
-        buffer,
-        [0xfd, 4, 1, 2, 0x15, 0x7c, 0, 0, 0x17, 0x70, 0xff, 0xff]
+        [first, second, buffer],
+        [
+            [
+                2, 4, 0x05, 0xb4, 0xff, 0xff, 0xff, 0xff, 0xff, 0xff, 0xff, 0xff
+            ],
+            [5, 10, 0, 0, 0x15, 0x7c, 0, 0, 0x17, 0x70, 0xff, 0xff],
+            [0xfd, 4, 1, 2, 0x15, 0x7c, 0, 0, 0x17, 0x70, 0xff, 0xff]
+        ]
     );
     tcp_laws::option_spelled();
     tcp_laws::option_reads_back();
@@ -97,47 +97,36 @@ fn writes_options(rt: HostRuntime) {
 // Each option by itself, as RFC 9293, section 3.2, RFC 7323, sections 2.2 and 3.2, and RFC 2018,
 // sections 2 and 3, spell it; 253 is a kind for experiments (RFC 4727, section 7.2).
 #[test]
-fn reads_each_option(rt: HostRuntime) -> Result<(), Error> {
-    let rest: &[u8] = &[9];
-    assert_eq!(rt; TcpOption::parse(&[0, 9])?, (rest, TcpOption::EndOfList));
-    assert_eq!(rt; TcpOption::parse(&[1, 9])?, (rest, TcpOption::NoOperation));
-    assert_eq!(rt;
-        TcpOption::parse(&[2, 4, 0x05, 0xdc, 9])?,
-        (rest, TcpOption::MaxSegmentSize(1500))
-    );
-    assert_eq!(rt;
-        TcpOption::parse(&[3, 3, 12, 9])?,
-        (rest, TcpOption::WindowScale(12))
-    );
-    assert_eq!(rt;
-        TcpOption::parse(&[4, 2, 9])?,
-        (rest, TcpOption::SackPermitted)
-    );
-    assert_eq!(rt;
-        TcpOption::parse(&[5, 10, 0, 0, 0x01, 0xf4, 0, 0, 0x05, 0xdc, 9])?,
-        (rest, TcpOption::SackRange([Some((500, 1500)), None, None]))
-    );
-    assert_eq!(rt;
-        TcpOption::parse(&[8, 10, 1, 2, 3, 4, 5, 6, 7, 8, 9])?,
+fn reads_each_option(rt: HostRuntime) {
+    let rows: [(&[u8], TcpOption<'_>); 8] = [
+        (&[0, 9], TcpOption::EndOfList),
+        (&[1, 9], TcpOption::NoOperation),
+        (&[2, 4, 0x05, 0xdc, 9], TcpOption::MaxSegmentSize(1500)),
+        (&[3, 3, 12, 9], TcpOption::WindowScale(12)),
+        (&[4, 2, 9], TcpOption::SackPermitted),
         (
-            rest,
+            &[5, 10, 0, 0, 0x01, 0xf4, 0, 0, 0x05, 0xdc, 9],
+            TcpOption::SackRange([Some((500, 1500)), None, None]),
+        ),
+        (
+            &[8, 10, 1, 2, 3, 4, 5, 6, 7, 8, 9],
             TcpOption::TimeStamp {
                 tsval: 0x0102_0304,
-                tsecr: 0x0506_0708
-            }
-        )
-    );
-    assert_eq!(rt;
-        TcpOption::parse(&[0xfd, 4, 1, 2, 9])?,
+                tsecr: 0x0506_0708,
+            },
+        ),
         (
-            rest,
+            &[0xfd, 4, 1, 2, 9],
             TcpOption::Unknown {
                 kind: 0xfd,
-                bytes: &[1, 2]
-            }
-        )
-    );
-    Ok(())
+                bytes: &[1, 2],
+            },
+        ),
+    ];
+    let rest: &[u8] = &[9];
+    for (bytes, option) in rows {
+        assert_eq!(rt; TcpOption::parse(bytes), Ok((rest, option)), "{bytes:?}");
+    }
 }
 
 // The same options, but for those of `writes_options`.
@@ -148,16 +137,22 @@ fn writes_each_option(rt: HostRuntime) {
         tsval: 0x0102_0304,
         tsecr: 0x0506_0708,
     };
-    assert_eq!(rt; clock.emit(&mut buffer), 10);
-    assert_eq!(rt; buffer, [8, 10, 1, 2, 3, 4, 5, 6, 7, 8, 0xff, 0xff]);
-    assert_eq!(rt; TcpOption::WindowScale(12).emit(&mut buffer), 3);
-    assert_eq!(rt; buffer, [3, 3, 12, 2, 3, 4, 5, 6, 7, 8, 0xff, 0xff]);
-    assert_eq!(rt; TcpOption::SackPermitted.emit(&mut buffer), 2);
-    assert_eq!(rt; buffer, [4, 2, 12, 2, 3, 4, 5, 6, 7, 8, 0xff, 0xff]);
-    assert_eq!(rt; TcpOption::NoOperation.emit(&mut buffer), 1);
-    assert_eq!(rt; buffer, [1, 2, 12, 2, 3, 4, 5, 6, 7, 8, 0xff, 0xff]);
-    assert_eq!(rt; TcpOption::EndOfList.emit(&mut buffer), 1);
-    assert_eq!(rt; buffer, [0, 2, 12, 2, 3, 4, 5, 6, 7, 8, 0xff, 0xff]);
+    let (ten, after_ten) = (clock.emit(&mut buffer), buffer);
+    let (three, after_three) = (TcpOption::WindowScale(12).emit(&mut buffer), buffer);
+    let (two, after_two) = (TcpOption::SackPermitted.emit(&mut buffer), buffer);
+    let (one, after_one) = (TcpOption::NoOperation.emit(&mut buffer), buffer);
+    let last = TcpOption::EndOfList.emit(&mut buffer);
+    assert_eq!(rt; [ten, three, two, one, last], [10, 3, 2, 1, 1]);
+    assert_eq!(rt;
+        [after_ten, after_three, after_two, after_one, buffer],
+        [
+            [8, 10, 1, 2, 3, 4, 5, 6, 7, 8, 0xff, 0xff],
+            [3, 3, 12, 2, 3, 4, 5, 6, 7, 8, 0xff, 0xff],
+            [4, 2, 12, 2, 3, 4, 5, 6, 7, 8, 0xff, 0xff],
+            [1, 2, 12, 2, 3, 4, 5, 6, 7, 8, 0xff, 0xff],
+            [0, 2, 12, 2, 3, 4, 5, 6, 7, 8, 0xff, 0xff]
+        ]
+    );
 }
 
 #[test]

@@ -75,7 +75,7 @@ fn reads_and_writes_a_syn(rt: HostRuntime) {
 }
 
 #[test]
-fn reads_and_writes_a_segment(rt: HostRuntime) -> Result<(), Error> {
+fn reads_a_segment(rt: HostRuntime) -> Result<(), Error> {
     let (source, destination) = addresses();
     let caps = ChecksumCapabilities::default();
     let read = TcpRepr::parse(
@@ -84,18 +84,33 @@ fn reads_and_writes_a_segment(rt: HostRuntime) -> Result<(), Error> {
         &destination,
         &caps,
     )?;
-    assert_eq!(rt; read.header(), syn_header());
-    assert_eq!(rt; read.payload, PAYLOAD.as_slice());
-    assert_eq!(rt; read.segment_len(), 5);
-    assert!(rt; !read.is_empty());
-    assert_eq!(rt; read.header_len(), 20);
-    assert_eq!(rt; read.buffer_len(), 24);
+    assert_eq!(rt;
+        (read.header(), read.payload),
+        (syn_header(), PAYLOAD.as_slice())
+    );
+    let lengths = (
+        read.segment_len(),
+        read.is_empty(),
+        read.header_len(),
+        read.buffer_len(),
+    );
+    assert_eq!(rt; lengths, (5, false, 20, 24));
+    Ok(())
+}
+
+#[test]
+fn writes_a_segment(rt: HostRuntime) {
+    let (source, destination) = addresses();
     let segment = TcpRepr::new(&syn_header(), &PAYLOAD);
     let mut buffer = [0x5a; 24];
     let mut frame = TcpPacketMut::new_unchecked(&mut buffer);
-    segment.emit(&mut frame, &source, &destination, &caps);
+    segment.emit(
+        &mut frame,
+        &source,
+        &destination,
+        &ChecksumCapabilities::default(),
+    );
     assert_eq!(rt; buffer, SYN_BYTES);
-    Ok(())
 }
 
 #[test]
@@ -103,48 +118,64 @@ fn reads_fields(rt: HostRuntime) -> Result<(), Error> {
     let source = IpAddress::v4(145, 254, 160, 237);
     let destination = IpAddress::v4(65, 208, 228, 223);
     let packet = TcpPacket::new_checked(&CALL)?;
-    assert!(rt; TcpPacket::new_unchecked(&CALL).verify_checksum(&source, &destination));
     assert_eq!(rt; packet.options(), &CALL[20..]);
-    let header = TcpHeader::parse(
-        &TcpPacket::new_unchecked(&CALL),
-        &source,
-        &destination,
-        &ChecksumCapabilities::default(),
-    )?;
-    assert_eq!(rt; header.src_port, 3372);
-    assert_eq!(rt; header.dst_port, 80);
-    assert_eq!(rt; header.control, TcpControl::Syn);
-    assert_eq!(rt; header.seq_number, SeqNumber(0x38affe13));
-    assert_eq!(rt; header.ack_number, None);
-    assert_eq!(rt; header.window_len, 8760);
-    assert_eq!(rt; header.options.max_seg_size, Some(1460));
-    assert!(rt; header.options.sack_permitted);
-    assert_eq!(rt; header.options.window_scale, None);
-    assert_eq!(rt; header.options.timestamp, None);
-    assert_eq!(rt; header.header_len(), 28);
+    assert!(rt; packet.verify_checksum(&source, &destination));
+    let wanted = TcpHeader {
+        src_port: 3372,
+        dst_port: 80,
+        control: TcpControl::Syn,
+        seq_number: SeqNumber(0x38affe13),
+        ack_number: None,
+        window_len: 8760,
+        options: TcpOptions {
+            max_seg_size: Some(1460),
+            sack_permitted: true,
+            ..no_options()
+        },
+    };
+    let caps = ChecksumCapabilities::default();
+    let header = TcpHeader::parse(&packet, &source, &destination, &caps)?;
+    assert_eq!(rt; (header, header.header_len()), (wanted, 28));
     Ok(())
+}
+
+/// Ports, both numbers and the length of the header.
+fn first_fields(bytes: &[u8]) -> Result<(u16, u16, SeqNumber, SeqNumber, u8), Error> {
+    let packet = TcpPacket::new_checked(bytes)?;
+    Ok((
+        packet.src_port(),
+        packet.dst_port(),
+        packet.seq_number(),
+        packet.ack_number(),
+        packet.header_len(),
+    ))
+}
+
+/// The flags from the lowest bit on.
+fn flags(bytes: &[u8]) -> Result<[bool; 9], Error> {
+    let packet = TcpPacket::new_checked(bytes)?;
+    Ok([
+        packet.fin(),
+        packet.syn(),
+        packet.rst(),
+        packet.psh(),
+        packet.ack(),
+        packet.urg(),
+        packet.ece(),
+        packet.cwr(),
+        packet.ns(),
+    ])
 }
 
 #[test]
 fn reads_every_field(rt: HostRuntime) {
+    let first = (48896, 80, SeqNumber(0x01234567), SeqNumber(0), 20);
+    assert_eq!(rt; first_fields(&SYN_BYTES), Ok(first));
+    let only_syn = [false, true, false, false, false, false, false, false, false];
+    assert_eq!(rt; flags(&SYN_BYTES), Ok(only_syn));
     let packet = TcpPacket::new_unchecked(&SYN_BYTES);
-    assert_eq!(rt; packet.src_port(), 48896);
-    assert_eq!(rt; packet.dst_port(), 80);
-    assert_eq!(rt; packet.seq_number(), SeqNumber(0x01234567));
-    assert_eq!(rt; packet.ack_number(), SeqNumber(0));
-    assert_eq!(rt; packet.header_len(), 20);
-    assert!(rt; packet.syn());
-    assert!(rt; !packet.fin());
-    assert!(rt; !packet.rst());
-    assert!(rt; !packet.psh());
-    assert!(rt; !packet.ack());
-    assert!(rt; !packet.urg());
-    assert!(rt; !packet.ece());
-    assert!(rt; !packet.cwr());
-    assert!(rt; !packet.ns());
-    assert_eq!(rt; packet.window_len(), 0x0123);
-    assert_eq!(rt; packet.checksum(), 0x7a8d);
-    assert_eq!(rt; packet.urgent_at(), 0);
+    let last = (packet.window_len(), packet.checksum(), packet.urgent_at());
+    assert_eq!(rt; last, (0x0123, 0x7a8d, 0));
     assert_eq!(rt; packet.into_inner(), SYN_BYTES.as_slice());
 }
 

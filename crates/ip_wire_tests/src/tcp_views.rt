@@ -3,25 +3,45 @@ use crate::tcp_segments::{RANGES, SYN_BYTES, addresses};
 use ip_wire::{Error, SeqNumber, TcpPacketMut, checksum};
 
 // The same fields through the writing view, and those of a segment with ranges.
+/// Ports, numbers, the header's length, window, checksum and urgent pointer.
+fn fields(bytes: &mut [u8]) -> Result<(u16, u16, SeqNumber, SeqNumber, u8, u16, u16, u16), Error> {
+    let packet = TcpPacketMut::new_checked(bytes)?;
+    Ok((
+        packet.src_port(),
+        packet.dst_port(),
+        packet.seq_number(),
+        packet.ack_number(),
+        packet.header_len(),
+        packet.window_len(),
+        packet.checksum(),
+        packet.urgent_at(),
+    ))
+}
+
 #[test]
-fn reads_what_it_can_write(rt: HostRuntime) -> Result<(), Error> {
+fn reads_what_it_can_write(rt: HostRuntime) {
+    let mut buffer = RANGES;
+    let wanted = (
+        49500,
+        80,
+        SeqNumber(100),
+        SeqNumber(5500),
+        56,
+        1000,
+        0x32b0,
+        0,
+    );
+    assert_eq!(rt; fields(&mut buffer), Ok(wanted));
+}
+
+#[test]
+fn reads_behind_the_header(rt: HostRuntime) -> Result<(), Error> {
     let mut buffer = RANGES;
     let packet = TcpPacketMut::new_checked(&mut buffer)?;
-    assert_eq!(rt; packet.check_len(), Ok(()));
-    assert_eq!(rt; packet.src_port(), 49500);
-    assert_eq!(rt; packet.dst_port(), 80);
-    assert_eq!(rt; packet.seq_number(), SeqNumber(100));
-    assert_eq!(rt; packet.ack_number(), SeqNumber(5500));
-    assert_eq!(rt; packet.header_len(), 56);
-    assert_eq!(rt; packet.window_len(), 1000);
-    assert_eq!(rt; packet.checksum(), 0x32b0);
-    assert_eq!(rt; packet.urgent_at(), 0);
-    assert_eq!(rt; packet.segment_len(), 3);
+    assert_eq!(rt; (packet.check_len(), packet.segment_len()), (Ok(()), 3));
     assert_eq!(rt; packet.selective_ack_permitted(), Ok(false));
-    assert_eq!(rt;
-        packet.selective_ack_ranges(),
-        Ok([Some((8000, 8500)), Some((7000, 7500)), Some((6000, 6500))])
-    );
+    let ranges = [Some((8000, 8500)), Some((7000, 7500)), Some((6000, 6500))];
+    assert_eq!(rt; packet.selective_ack_ranges(), Ok(ranges));
     assert_eq!(rt; packet.options(), &RANGES[20..56]);
     assert_eq!(rt; packet.payload(), b"ab\xff".as_slice());
     Ok(())
@@ -94,28 +114,35 @@ fn sets_each_flag(rt: HostRuntime) {
     let mut buffer = [0; 20];
     let mut packet = TcpPacketMut::new_unchecked(&mut buffer);
     packet.set_fin(true);
-    assert!(rt; packet.fin());
+    let fin = packet.fin();
     packet.set_syn(true);
-    assert!(rt; packet.syn());
+    let syn = packet.syn();
     packet.set_rst(true);
-    assert!(rt; packet.rst());
+    let rst = packet.rst();
     packet.set_psh(true);
-    assert!(rt; packet.psh());
+    let psh = packet.psh();
     packet.set_ack(true);
-    assert!(rt; packet.ack());
+    assert_eq!(rt; [fin, syn, rst, psh, packet.ack()], [true; 5]);
+    let written: &[u8] = packet.into_inner();
+    assert_eq!(rt; written[13], 0x1f);
+}
+
+#[test]
+fn sets_the_other_flags(rt: HostRuntime) {
+    let mut buffer = [0; 20];
+    buffer[13] = 0x1f;
+    let mut packet = TcpPacketMut::new_unchecked(&mut buffer);
     packet.set_urg(true);
-    assert!(rt; packet.urg());
+    let urg = packet.urg();
     packet.set_ece(true);
-    assert!(rt; packet.ece());
+    let ece = packet.ece();
     packet.set_cwr(true);
-    assert!(rt; packet.cwr());
+    let cwr = packet.cwr();
     packet.set_ns(true);
-    assert!(rt; packet.ns());
+    assert_eq!(rt; [urg, ece, cwr, packet.ns()], [true; 4]);
     packet.set_syn(false);
     packet.set_urg(false);
     packet.set_header_len(63);
     assert_eq!(rt; packet.header_len(), 60);
-    let written: &[u8] = packet.into_inner();
-    assert_eq!(rt; written[12], 0xf1);
-    assert_eq!(rt; written[13], 0xdd);
+    assert_eq!(rt; &packet.into_inner()[12..14], [0xf1, 0xdd].as_slice());
 }

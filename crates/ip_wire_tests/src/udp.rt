@@ -7,25 +7,37 @@ use crate::samples::{DATAGRAM, LEFT, RIGHT, unverified};
 use ip_wire::{Error, IpAddress, UdpPacket, UdpPacketMut, UdpRepr, udp_laws};
 use net_base::ChecksumCapabilities;
 
+/// Both ports, the length, the checksum, the payload and how long the view is.
+fn fields(bytes: &[u8]) -> Result<(u16, u16, u16, u16, &[u8], usize), Error> {
+    let packet = UdpPacket::new_checked(bytes)?;
+    Ok((
+        packet.src_port(),
+        packet.dst_port(),
+        packet.len(),
+        packet.checksum(),
+        packet.payload(),
+        packet.into_inner().len(),
+    ))
+}
+
 #[test]
 fn datagram_is_read(rt: HostRuntime) {
+    let payload = [0xaa, 0x00, 0x00, 0xff];
+    let wanted = (48896, 53, 12, 0x124d, payload.as_slice(), 12);
+    assert_eq!(rt; fields(&DATAGRAM), Ok(wanted));
     let packet = UdpPacket::new_checked(&DATAGRAM).expect(&rt, "whole");
     assert!(rt; packet.check_len().is_ok());
-    assert_eq!(rt; packet.src_port(), 48896);
-    assert_eq!(rt; packet.dst_port(), 53);
-    assert_eq!(rt; packet.len(), 12);
-    assert_eq!(rt; packet.checksum(), 0x124d);
-    assert_eq!(rt; packet.payload(), [0xaa, 0x00, 0x00, 0xff].as_slice());
     assert!(rt; packet.verify_checksum(&LEFT, &RIGHT));
-    let header = UdpRepr::parse(&packet, &LEFT, &RIGHT, &ChecksumCapabilities::default());
+}
+
+#[test]
+fn datagram_is_parsed(rt: HostRuntime) {
     let want = UdpRepr {
         src_port: 48896,
         dst_port: 53,
     };
-    assert_eq!(rt; header, Ok(want));
-    assert_eq!(rt; want.header_len(), 8);
-    assert_eq!(rt; want.buffer_len(4), 12);
-    assert_eq!(rt; packet.into_inner(), DATAGRAM.as_slice());
+    assert_eq!(rt; read(&DATAGRAM, &ChecksumCapabilities::default()), Ok(want));
+    assert_eq!(rt; (want.header_len(), want.buffer_len(4)), (8, 12));
     udp_laws::udp_spelled();
     udp_laws::udp_no_longer();
     udp_laws::udp_fits();
@@ -144,17 +156,22 @@ fn datagram_is_set(rt: HostRuntime) {
     packet.set_dst_port(53);
     packet.set_len(12);
     packet.set_checksum(0x124d);
-    assert_eq!(rt; packet.src_port(), 48896);
-    assert_eq!(rt; packet.dst_port(), 53);
-    assert_eq!(rt; packet.len(), 12);
-    assert_eq!(rt; packet.checksum(), 0x124d);
+    let set = (
+        packet.src_port(),
+        packet.dst_port(),
+        packet.len(),
+        packet.checksum(),
+    );
+    assert_eq!(rt; set, (48896, 53, 12, 0x124d));
     let bytes = packet.into_inner();
-    bytes[8] = 0xaa;
-    bytes[9] = 0x00;
-    bytes[10] = 0x00;
-    let mut packet = UdpPacketMut::new_checked(bytes).expect(&rt, "whole");
-    assert!(rt; packet.check_len().is_ok());
-    assert!(rt; packet.verify_checksum(&LEFT, &RIGHT));
+    assert_eq!(rt; &bytes[..8], &DATAGRAM[..8]);
+}
+
+#[test]
+fn checksum_is_filled_in(rt: HostRuntime) {
+    let mut bytes = DATAGRAM;
+    let mut packet = UdpPacketMut::new_checked(&mut bytes).expect(&rt, "whole");
+    assert!(rt; packet.check_len().is_ok() && packet.verify_checksum(&LEFT, &RIGHT));
     assert_eq!(rt; packet.payload(), [0xaa, 0x00, 0x00, 0xff].as_slice());
     packet.set_checksum(0xffff);
     packet.fill_checksum(&LEFT, &RIGHT);
