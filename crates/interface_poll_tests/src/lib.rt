@@ -6,6 +6,8 @@ mod common;
 #[cfg(test)]
 mod egress;
 #[cfg(test)]
+mod hostile;
+#[cfg(test)]
 mod ingress;
 #[cfg(test)]
 mod made;

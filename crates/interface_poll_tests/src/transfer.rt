@@ -7,7 +7,7 @@ use sockets::tcp::{RecvError, State};
 use std::test::Fail;
 
 /// How many bytes go each way.
-const LENGTH: usize = 262_144;
+const LENGTH: usize = 1_048_576;
 
 /// One side of the transfer: a host at its port, and how far its application has come.
 #[derive(Drop)]
