@@ -53,8 +53,12 @@ impl Context for Echoes {
 }
 
 pub fn context() -> Echoes {
+    context_from(1)
+}
+
+pub fn context_from(seed: u64) -> Echoes {
     Echoes {
-        words: Rand::new(1),
+        words: Rand::new(seed),
     }
 }
 

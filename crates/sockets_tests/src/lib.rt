@@ -14,4 +14,6 @@ mod raw;
 #[cfg(test)]
 mod tcp;
 #[cfg(test)]
+mod tcp_numbers;
+#[cfg(test)]
 mod udp;

@@ -104,7 +104,7 @@ fn ring(rt: &(impl Abort + AllocGlobal), size: usize) -> RingBuffer<u8> {
     RingBuffer::new(ManagedSlice::Fixed(room))
 }
 
-fn socket(rt: &(impl Abort + AllocGlobal), room: usize) -> Socket {
+pub fn socket(rt: &(impl Abort + AllocGlobal), room: usize) -> Socket {
     let (received, queued) = (ring(rt, room), ring(rt, 64));
     if !Socket::fits_buffer(&received) || !Socket::fits_buffer(&queued) {
         panic!(rt; "a buffer is too long");

@@ -82,7 +82,7 @@ fn buffer(rt: &HostRuntime) -> Result<SocketBuffer, Fail>
 }
 
 /// A closed socket with room for 64 bytes each way.
-pub fn socket(rt: &HostRuntime) -> Result<Socket, Fail>
+fn socket(rt: &HostRuntime) -> Result<Socket, Fail>
     ensures { IfOk result IsFresh }
 {
     let received = buffer(rt)?;

@@ -8,5 +8,3 @@ mod common;
 mod openings;
 #[cfg(test)]
 mod transfers;
-#[cfg(test)]
-mod wrap;

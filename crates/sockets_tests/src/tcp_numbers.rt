@@ -1,58 +1,9 @@
-//! Sequence numbers that pass 2^32 in the middle of a transfer. The contexts of a pair are fixed, and their first numbers
-//! lie too far from there; here the generator's first word is 2^32 - 3.
-use crate::common::socket;
+//! Sequence numbers that pass 2^32 in the middle of a transfer: the generator's first word is 2^32 - 3.
+use crate::common::{Echoes, context_from};
+use crate::tcp::socket;
 use ip_wire::{IpAddress, IpEndpoint, IpListenEndpoint, SeqNumber};
-use net_base::{ChecksumCapabilities, Instant, Rand};
-use socket_base::{Context, IpPayload};
-use std::test::Fail;
-use tcp_socket::{Socket, State};
-
-/// A context of one moment that takes a destination's own address as the source.
-#[derive(Drop)]
-struct Echoes {
-    words: Rand,
-}
-
-impl Context for Echoes {
-    ghost use Rattle.std.specs.Prelude.{pos, refl, false, Some};
-    ghost use Rattle.net_base.specs.RandomWords.{next_state};
-    ghost use Rattle.net_base.specs.Capabilities.{all_checksums};
-    ghost use Rattle.net_base.specs.Checksum.TheVariants as checksum;
-
-    ghost context = { λ c. record { moment = pos 0; has_ip_addr = λ a. false; source_for = λ a. Some a; is_broadcast = λ a. false; ip_mtu = 1500; checksums = all_checksums checksum.Both; random = c.words } };
-
-    ghost drawn = { λ c. record c { words = next_state c.words } };
-
-    fn now(&self) -> Instant {
-        Instant::ZERO
-    }
-
-    fn has_ip_addr(&self, _addr: &IpAddress) -> bool {
-        false
-    }
-
-    fn get_source_address(&self, dst_addr: &IpAddress) -> Option<IpAddress> {
-        Some(*dst_addr)
-    }
-
-    fn is_broadcast(&self, _addr: &IpAddress) -> bool {
-        false
-    }
-
-    fn ip_mtu(&self) -> usize {
-        1500
-    }
-
-    fn checksum_caps(&self) -> ChecksumCapabilities {
-        ChecksumCapabilities::default()
-    }
-
-    fn rand_u32(&mut self) -> u32 {
-        self.words.rand_u32()
-    }
-
-    ghost drawn_context = { λ c. refl };
-}
+use sockets::IpPayload;
+use sockets::tcp::{Socket, State};
 
 fn port(port: u16) -> IpListenEndpoint {
     IpListenEndpoint { addr: None, port }
@@ -107,13 +58,10 @@ fn passes_the_last_number(a: &mut Socket, b: &mut Socket, cx: &mut Echoes) -> bo
 }
 
 #[test]
-fn numbers_pass_the_last_one(rt: HostRuntime) -> Result<(), Fail> {
-    let mut a = socket(&rt)?;
-    let mut b = socket(&rt)?;
-    let mut cx = Echoes {
-        words: Rand::new(2_434_857_238_886_488_115),
-    };
+fn numbers_pass_the_last_one(rt: HostRuntime) {
+    let mut a = socket(&rt, 64);
+    let mut b = socket(&rt, 64);
+    let mut cx = context_from(2_434_857_238_886_488_115);
     let passes = passes_the_last_number(&mut a, &mut b, &mut cx);
     assert!(rt; passes);
-    Ok(())
 }
