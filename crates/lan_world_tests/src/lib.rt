@@ -1,6 +1,6 @@
 //! Tests of two hosts at a link, event by event, over public calls alone. What they expect comes from outside: worked examples and the
-//! standards. Each but that of a whole run passes also where one allocation is refused, whichever it is, and then says so
-//! (`tools/try-proved-without-memory` has each one refused in turn).
+//! standards. Each passes also where one allocation is refused, whichever it is, and then says so (`tools/try-proved-without-memory` has
+//! each one refused in turn).
 #![tactic(auto)]
 
 #[cfg(test)]

@@ -1,9 +1,10 @@
 //! Each refusal by its name, and calls that refuse by themselves.
-use crate::hosts::{Hosts, Sockets, world};
+use crate::hosts::{Hosts, Sockets, tell, world};
 use crate::table::Line::Step;
 use crate::table::{Case, Do, Line, Says, first_wrong_case};
-use lan_world::{Event, Fault, Refused, Side};
+use lan_world::{Event, Fault, Refused, Side, World};
 use net_base::Medium;
+use std::alloc::{AllocError, Global};
 use std::test::Fail;
 
 const DATAGRAMS: Hosts = Hosts {
@@ -186,25 +187,56 @@ const STREAM_FAULTS: [Line; 6] = [
     Step(Do::Abort(Side::A, 0), Says::Done),
 ];
 
-/// Three events, of which the second is refused.
-fn events(rt: &HostRuntime) -> Result<Vec<Event>, Fail> {
+/// The events from this place on, of three of which the second is refused.
+fn made(alloc: Global, place: usize) -> Result<Vec<Event>, AllocError> {
     let three = [
         Event::Bind(Side::A, 0, 9),
         Event::Bind(Side::A, 7, 9),
         Event::Bind(Side::B, 0, 9),
     ];
-    let mut events = Vec::with_capacity(rt.alloc(), 3)?;
+    let mut events = Vec::new(alloc);
+    let mut k = 0usize;
     for event in three {
-        events.push(event)?;
+        if k >= place {
+            events.push(event)?;
+        }
+        k = k.saturating_add(1);
     }
     Ok(events)
 }
 
+/// How a run of these events ends; they are made again where the allocation that is refused is their own.
+fn ended(
+    rt: &HostRuntime,
+    world: &mut World,
+    place: usize,
+) -> Result<Result<(), (usize, Refused)>, Fail> {
+    let events = match made(rt.alloc(), place) {
+        Ok(events) => events,
+        Err(_) => {
+            tell(rt, "events are made again")?;
+            made(rt.alloc(), place)?
+        }
+    };
+    Ok(
+        world
+            .run(events)
+            .map_err(|(more, refused)| (place.saturating_add(more), refused)),
+    )
+}
+
+/// Where it finds no memory, it goes on behind the steps that stay.
 #[test]
 fn a_run_stops_at_the_first_refusal(rt: HostRuntime) -> Result<(), Fail> {
     let mut world = world(&rt, DATAGRAMS)?;
-    let ended = world.run(events(&rt)?);
-    assert!(rt; ended == Err((1, Refused::NoSocket)));
+    let end = match ended(&rt, &mut world, 0)? {
+        Err((place, Refused::Memory)) => {
+            tell(&rt, "a run goes on")?;
+            ended(&rt, &mut world, place)?
+        }
+        end => end,
+    };
+    assert!(rt; end == Err((1, Refused::NoSocket)));
     assert_eq!(rt; world.answers().len(), 1);
     Ok(())
 }
