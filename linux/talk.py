@@ -1,5 +1,12 @@
 #!/usr/bin/env python3
-"""What Linux's stack says to the program `host`: talk.py HOST SECONDS [FOLDER], in a network namespace of its own."""
+"""What Linux's stack says to the program `host`, in a network namespace of its own:
+
+    talk.py HOST SECONDS [FOLDER]   first over a good link, then for so many seconds over one that loses, repeats and reorders
+    talk.py HOST echo FOLDER        a short exchange: pings, datagrams and a stream, each echoed
+    talk.py HOST page FOLDER        a short exchange: the page by curl, and a request that isn't understood
+
+FOLDER keeps what the program read and wrote (of the link that loses, in the first form): the files stdin and stdout.
+"""
 import os, random, socket, subprocess, sys, time
 
 HERE = os.path.dirname(os.path.abspath(__file__))
@@ -98,26 +105,50 @@ def stream(count, seconds=60):
 
 
 def page():
-    ran = subprocess.run(["curl", "-s", "-m", "20", f"http://{OURS}/"], capture_output=True)
-    return say("the page", b"promises are proved" in ran.stdout)
+    began = time.monotonic()
+    ran = subprocess.run(["curl", "-sS", "-m", "60", f"http://{OURS}/"], capture_output=True, text=True)
+    took = time.monotonic() - began
+    return say(f"the page in {took:.2f} s {ran.stderr.strip()}".strip(), ran.returncode == 0 and "promises are proved" in ran.stdout)
 
 
-def main():
-    program, seconds, folder = sys.argv[1], float(sys.argv[2]), sys.argv[3] if len(sys.argv) > 3 else ""
-    if folder:
-        pump = start(program, "--seed", "7", "--record", folder)
-        well = [pings(3), datagrams(5), page()]
-        stop(pump)
-        return 0 if all(well) else 1
-    pump = start(program)
-    well = [pings(), pings(20, 1400), datagrams(), stream(1_000_000), page()]
+def refusal():
+    """What a request that isn't understood is told."""
+    with socket.create_connection((OURS, 80), timeout=20) as it:
+        it.sendall(b"no request\r\n\r\n")
+        got = b""
+        while piece := it.recv(65536):
+            got += piece
+    return say("a request that isn't understood is refused", got.startswith(b"HTTP/1.0 400 "))
+
+
+def exchange(program, what, folder):
+    """A short exchange, which goes on until the last connection is forgotten."""
+    pump = start(program, "--seed", "7", "--record", folder)
+    well = [pings(3), datagrams(5), stream(5000)] if what == "echo" else [page(), refusal()]
+    time.sleep(11)
     stop(pump)
-    pump = start(program, "--lose", "5", "--repeat", "5", "--hold", "5")
+    return well
+
+
+def try_all(program, seconds, record):
+    pump = start(program)
+    well = [pings(), pings(20, 1400), datagrams(), stream(1_000_000), page(), refusal()]
+    stop(pump)
+    pump = start(program, "--lose", "5", "--repeat", "5", "--hold", "5", *record)
     end = time.monotonic() + seconds
     while time.monotonic() < end:
         well += [stream(100_000), page()]
     stop(pump)
     print(f"{sum(well)} of {len(well)} well")
+    return well
+
+
+def main():
+    program, what, folder = sys.argv[1], sys.argv[2], "".join(sys.argv[3:4])
+    if what in ("echo", "page"):
+        well = exchange(program, what, folder)
+    else:
+        well = try_all(program, float(what), ["--record", folder] if folder else [])
     return 0 if all(well) else 1
 
 

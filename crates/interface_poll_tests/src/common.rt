@@ -1,12 +1,12 @@
 //! Hosts with one socket.
 ghost use Rattle.net_base.specs.Time.{IsMoment};
 
-use interface::{Config, Interface, SocketHandle, SocketSet};
+use interface::{Config, Interface, PollIngressSingleResult, PollResult, SocketHandle, SocketSet};
 use ip_wire::{EthernetAddress, HardwareAddress, IpAddress, IpCidr, IpEndpoint, IpListenEndpoint};
 use lan_port::Port;
 use net_base::{
-    ChecksumCapabilities, Device, DeviceCapabilities, Instant, ManagedSlice, Medium, PacketBuffer,
-    PacketMetadata,
+    ChecksumCapabilities, Device, DeviceCapabilities, Duration, Instant, ManagedSlice, Medium,
+    PacketBuffer, PacketMetadata,
 };
 use sockets::{Socket, udp};
 use std::process::Abort;
@@ -44,12 +44,18 @@ pub fn host<D: Device>(
     let mut interface = Interface::new(rt.alloc(), &config, device, at(0)).map_err(
         |_| "an interface",
     )?;
+    add_address(&mut interface, own)?;
+    Ok(interface)
+}
+
+/// Gives the interface one more address.
+pub fn add_address(interface: &mut Interface, address: IpCidr) -> Result<(), Fail> {
     interface
         .update_ip_addrs(|addresses| {
-            let _ = addresses.try_push(own);
+            let _ = addresses.try_push(address);
         })
         .map_err(|_| "an address")?;
-    Ok(interface)
+    Ok(())
 }
 
 /// A frame comes, whose bytes are these in hex.
@@ -107,6 +113,99 @@ pub fn queue_datagram(
             .send_slice(bytes, udp::UdpMetadata::from(remote))
             .map_err(|_| "room in the queue")?,
         _ => return Err("a socket".into()),
+    }
+    Ok(())
+}
+
+/// A host with one UDP socket at port 48896, behind its device.
+#[derive(Drop)]
+pub struct UdpHost<D> {
+    pub interface: Interface,
+    pub device: D,
+    pub sockets: SocketSet<Socket>,
+    pub handle: SocketHandle,
+}
+
+/// A host at 192.168.1.1 behind this device, whose socket has room for so many bytes each way.
+pub fn host_behind<D: Device + Drop>(
+    rt: &impl AllocGlobal,
+    device: D,
+    hardware_addr: HardwareAddress,
+    room: usize,
+) -> Result<UdpHost<D>, Fail> {
+    let interface = interface(rt, &device, hardware_addr)?;
+    let (sockets, handle) = one_socket(rt, room)?;
+    Ok(UdpHost {
+        interface,
+        device,
+        sockets,
+        handle,
+    })
+}
+
+/// The same as `host_behind` at a port of medium IP.
+pub fn ip_host(rt: &impl AllocGlobal, room: usize) -> Result<UdpHost<Port>, Fail> {
+    host_behind(rt, ip_port(rt)?, HardwareAddress::Ip, room)
+}
+
+/// A port of medium IP.
+pub fn ip_port(rt: &impl AllocGlobal) -> Result<Port, Fail> {
+    port(rt, Medium::Ip)
+}
+
+impl<D: Device> UdpHost<D> {
+    /// Queues a datagram of these bytes for 192.168.1.2:53.
+    pub fn queue(&mut self, bytes: &[u8]) -> Result<(), Fail> {
+        queue_datagram(&mut self.sockets, self.handle, bytes)
+    }
+
+    pub fn egress(&mut self, micros: u32) -> PollResult {
+        self.interface
+            .poll_egress(at(micros), &mut self.device, &mut self.sockets)
+    }
+
+    /// Takes in one frame.
+    pub fn ingress(&mut self) -> PollIngressSingleResult {
+        self.interface
+            .poll_ingress_single(at(0), &mut self.device, &mut self.sockets)
+    }
+
+    /// How many bytes the datagram has that waits to be read.
+    pub fn received(&mut self) -> Option<usize> {
+        match self.sockets.get_mut(self.handle) {
+            Some(Socket::Udp(socket)) => match socket.recv() {
+                Ok((bytes, _metadata)) => Some(bytes.len()),
+                Err(_) => None,
+            },
+            _ => None,
+        }
+    }
+
+    pub fn poll(&mut self, micros: u32) -> PollResult {
+        self.interface
+            .poll(at(micros), &mut self.device, &mut self.sockets, 8)
+    }
+
+    pub fn due(&mut self, micros: u32) -> Option<Instant> {
+        self.interface.poll_at(at(micros), &self.sockets)
+    }
+
+    pub fn delay(&mut self, micros: u32) -> Option<Duration> {
+        self.interface.poll_delay(at(micros), &self.sockets)
+    }
+}
+
+/// Asserts of polls one after the other, each at its moment, what it answers, how many frames there are then, and of the
+/// last one its length and its first bytes in hex.
+pub fn assert_egress(
+    rt: &(impl Abort + AllocGlobal),
+    host: &mut UdpHost<Port>,
+    turns: &[(u32, PollResult, usize, usize, &str)],
+) -> Result<(), Fail> {
+    for (micros, answer, count, length, front) in turns {
+        let told = host.egress(*micros);
+        assert_eq!(rt; told, *answer);
+        assert_last_frame(rt, &host.device, *count, *length, front)?;
     }
     Ok(())
 }

@@ -6,6 +6,8 @@ mod common;
 #[cfg(test)]
 mod egress;
 #[cfg(test)]
+mod hostile;
+#[cfg(test)]
 mod ingress;
 #[cfg(test)]
 mod made;
@@ -14,6 +16,10 @@ mod refusals;
 #[cfg(test)]
 mod refusing;
 #[cfg(test)]
+mod replies;
+#[cfg(test)]
 mod streams;
+#[cfg(test)]
+mod timers;
 #[cfg(test)]
 mod transfer;

@@ -5,6 +5,7 @@ use ip_wire::{EthernetAddress, HardwareAddress};
 use lan_port::Port;
 use net_base::{ChecksumCapabilities, DeviceCapabilities, Instant, Medium};
 use std::alloc::Global;
+use std::test::Fail;
 
 /// Why there is no interface with this hardware address at such a device. Where the one allocation that was made to fail
 /// (`rt try --test --fail-alloc N`) was the interface's own, the next try has the memory that it asks for.
@@ -57,4 +58,20 @@ fn an_interface_begins_or_says_why_not(rt: HostRuntime) {
     assert_eq!(rt; refused(alloc, station, Medium::Ethernet, 590, at(0)), None);
     let early = refused(alloc, bare, Medium::Ip, 576, Instant::from_micros(-1));
     assert_eq!(rt; early, Some(NewError::Moment));
+}
+
+/// With ample memory there is an interface. Where a request for memory is refused, whichever it is, the answer says so, and the next
+/// try has that memory: `tools/try-proved-without-memory` has each one refused in turn.
+#[test]
+fn want_of_memory_has_its_name(rt: HostRuntime) -> Result<(), Fail> {
+    let (alloc, bare) = (rt.alloc(), HardwareAddress::Ip);
+    match tried(alloc, bare, Medium::Ip, 1_500, at(0)) {
+        Some(NewError::Memory) => {
+            println!(rt; "no memory: an interface is made again")?;
+            let again = tried(alloc, bare, Medium::Ip, 1_500, at(0));
+            assert_eq!(rt; again, None);
+        }
+        answer => assert_eq!(rt; answer, None),
+    }
+    Ok(())
 }

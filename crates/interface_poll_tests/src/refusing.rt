@@ -4,10 +4,11 @@ ghost use Rattle.std.specs.Prelude.{◌≡◌, ◌<◌, ◌+◌, ◌^◌, vec_le
 use net_base::{Device, DeviceCapabilities, Instant, OwnedRxToken, SendRefused, TxToken};
 use std::alloc::Global;
 
-/// A device to which nothing comes. It refuses as many of the next sends as it was told.
+/// A device that refuses as many of the next sends as it was told.
 #[derive(Drop)]
 pub struct Refusing {
     alloc: Global,
+    incoming: Option<Vec<u8>>,
     sent: Vec<Vec<u8>>,
     to_refuse: usize,
     refused: u64,
@@ -24,11 +25,29 @@ impl Refusing {
     pub fn new(alloc: Global, described: DeviceCapabilities) -> Refusing {
         Refusing {
             alloc,
+            incoming: None,
             sent: Vec::new(alloc),
             to_refuse: 0,
             refused: 0,
             described,
         }
+    }
+
+    /// A device to which this frame comes, and which can count one refusal more.
+    pub fn worn(alloc: Global, described: DeviceCapabilities, frame: Vec<u8>) -> Refusing {
+        Refusing {
+            alloc,
+            incoming: Some(frame),
+            sent: Vec::new(alloc),
+            to_refuse: 1,
+            refused: u64::MAX - 1,
+            described,
+        }
+    }
+
+    /// Whether a frame waits.
+    pub fn has_frame(&self) -> bool {
+        self.incoming.is_some()
     }
 
     /// The next sends, so many, are refused.
@@ -69,8 +88,10 @@ impl Device for Refusing {
 
     ghost described = { λ d. d.described };
 
-    fn receive(&mut self, _timestamp: Instant) -> Option<(OwnedRxToken, Leave)> {
-        None
+    fn receive(&mut self, timestamp: Instant) -> Option<(OwnedRxToken, Leave)> {
+        let leave = self.transmit(timestamp)?;
+        let frame = self.incoming.take()?;
+        Some((OwnedRxToken::new(frame), leave))
     }
 
     fn transmit(&mut self, _timestamp: Instant) -> Option<Leave> {

@@ -20,7 +20,7 @@ fn ring(rt: &impl AllocGlobal, room: usize) -> Result<RingBuffer<u8>, Fail> {
 }
 
 /// A closed socket with room for so many bytes each way.
-fn socket(rt: &impl AllocGlobal, room: usize) -> Result<tcp::Socket, Fail> {
+pub fn closed_socket(rt: &impl AllocGlobal, room: usize) -> Result<tcp::Socket, Fail> {
     let (received, queued) = (ring(rt, room)?, ring(rt, room)?);
     if !tcp::Socket::fits_buffer(&received) || !tcp::Socket::fits_buffer(&queued) {
         return Err("buffers of at most 2^30 bytes".into());
@@ -40,7 +40,7 @@ impl StreamHost {
         let interface = host(rt, device, HardwareAddress::Ip, own, u64::from(last))?;
         let mut sockets = SocketSet::new(ManagedSlice::Owned(Vec::new(rt.alloc())));
         let handle = sockets
-            .add(Socket::Tcp(socket(rt, room)?))
+            .add(Socket::Tcp(closed_socket(rt, room)?))
             .map_err(|_| "a place")?;
         Ok(StreamHost {
             interface,

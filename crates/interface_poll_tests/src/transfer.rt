@@ -7,7 +7,9 @@ use sockets::tcp::{RecvError, State};
 use std::test::Fail;
 
 /// How many bytes go each way.
-const LENGTH: usize = 262_144;
+const LENGTH: usize = 1_048_576;
+
+const MINUTE: u32 = 60_000_000;
 
 /// One side of the transfer: a host at its port, and how far its application has come.
 #[derive(Drop)]
@@ -87,6 +89,18 @@ impl Side {
         Ok(self.finished && matches!(state, State::TimeWait | State::Closed))
     }
 
+    /// In how many microseconds the host wants to be polled, at most a minute.
+    fn delay(&mut self, micros: u32) -> u32 {
+        match self
+            .host
+            .interface
+            .poll_delay(at(micros), &self.host.sockets)
+        {
+            Some(delay) => u32::try_from(delay.total_micros()).unwrap_or(MINUTE),
+            None => MINUTE,
+        }
+    }
+
     /// The application's turn, and then the host's.
     fn turn(&mut self, micros: u32, expected: &[u8]) -> Result<(), Fail> {
         self.write()?;
@@ -101,7 +115,7 @@ impl Side {
 
 /// Carries the frames that one side sent to the other: of eight one is lost, one comes twice, and one comes behind the next.
 fn carry(from: &mut Side, to: &mut Port, words: &mut Rand) -> Result<(), Fail> {
-    for frame in from.port.sent().iter().skip(from.carried) {
+    for frame in from.port.sent().get(from.carried..).ok_or("frames")? {
         match words.rand_u32() % 8 {
             0 => from.lost = from.lost.saturating_add(1),
             1 => {
@@ -121,25 +135,79 @@ fn carry(from: &mut Side, to: &mut Port, words: &mut Rand) -> Result<(), Fail> {
     Ok(())
 }
 
-#[test]
-fn all_bytes_arrive_over_a_bad_link(rt: HostRuntime) -> Result<(), Fail> {
-    let (mut client, mut server) = (make_side(&rt, 1)?, make_side(&rt, 2)?);
+/// Both sides at their link, at a moment.
+#[derive(Drop)]
+struct Transfer {
+    client: Side,
+    server: Side,
+    words: Rand,
+    micros: u32,
+}
+
+fn make_transfer(rt: &impl AllocGlobal) -> Result<Transfer, Fail> {
+    let mut client = make_side(rt, 1)?;
     client.host.connect()?;
+    let mut server = make_side(rt, 2)?;
     server.host.listen()?;
-    let mut words = Rand::new(9);
-    let mut micros: u32 = 0;
-    for _ in 0..400_000 {
-        client.turn(micros, server.text.as_slice())?;
-        server.turn(micros, client.text.as_slice())?;
-        carry(&mut client, &mut server.port, &mut words)?;
-        carry(&mut server, &mut client.port, &mut words)?;
-        micros = micros.saturating_add(10_000);
-        if client.is_done()? && server.is_done()? {
-            break;
+    Ok(Transfer {
+        client,
+        server,
+        words: Rand::new(9),
+        micros: 0,
+    })
+}
+
+impl Transfer {
+    /// How long it is to the next turns: a hundredth of a second, and where no frame is on its way, until a host wants to be
+    /// polled.
+    fn pause(&mut self) -> u32 {
+        let (client, server) = (&mut self.client, &mut self.server);
+        if client.port.waiting().is_empty() && server.port.waiting().is_empty() {
+            client
+                .delay(self.micros)
+                .min(server.delay(self.micros))
+                .clamp(10_000, MINUTE)
+        } else {
+            10_000
         }
     }
-    assert_eq!(rt; (client.read, server.read), (LENGTH, LENGTH));
-    assert!(rt; client.is_done()? && server.is_done()?);
-    assert!(rt; client.lost > 5 && server.lost > 5);
+
+    /// A turn of each side; then the link carries what they sent.
+    fn step(&mut self) -> Result<(), Fail> {
+        let (client, server) = (&mut self.client, &mut self.server);
+        client.turn(self.micros, server.text.as_slice())?;
+        server.turn(self.micros, client.text.as_slice())?;
+        carry(client, &mut server.port, &mut self.words)?;
+        carry(server, &mut client.port, &mut self.words)?;
+        self.micros = self.micros.saturating_add(self.pause());
+        Ok(())
+    }
+
+    fn is_done(&mut self) -> Result<bool, Fail> {
+        Ok(self.client.is_done()? && self.server.is_done()?)
+    }
+
+    /// How many bytes each side has read.
+    fn read(&self) -> (usize, usize) {
+        (self.client.read, self.server.read)
+    }
+
+    /// How many frames of each side were lost, at most six.
+    fn lost(&self) -> (usize, usize) {
+        (self.client.lost.min(6), self.server.lost.min(6))
+    }
+}
+
+#[test]
+fn all_bytes_arrive_over_a_bad_link(rt: HostRuntime) -> Result<(), Fail> {
+    let mut transfer = make_transfer(&rt)?;
+    for _ in 0..100_000 {
+        if transfer.is_done()? {
+            break;
+        }
+        transfer.step()?;
+    }
+    let end = (transfer.is_done()?, transfer.read(), transfer.lost());
+    assert!(rt; end == (true, (LENGTH, LENGTH), (6, 6)));
     Ok(())
 }

@@ -1,7 +1,9 @@
 -- What an interface knows of its neighbours, as a value (RFC 826; RFC 1122, section 2.3.2; RFC 4861, section 5.1).
-use Rattle.std.specs.Prelude.{ℕ, ℤ, pos, ◌+ℤ◌, int_lt, Bool, true, false, nat_lt, if◌then◌else◌, List, [], ◌∷◌, ◌++◌, length, slice_set, remove, Option, None, Some, position}
+use Rattle.std.specs.Prelude.{ℕ, ℤ, pos, ◌+ℤ◌, int_lt, Bool, true, false, nat_lt, if◌then◌else◌, List, [], ◌∷◌, ◌++◌, length, slice_set, remove, replicate, Option, None, Some, position}
 use Rattle.ip_wire.specs.HardwareAddress.{HardwareAddress}
+use Rattle.ip_wire.specs.HardwareAddress.TheVariants as Hardware
 use Rattle.ip_wire.specs.IpAddress.{IpAddress}
+use Rattle.ip_wire.specs.IpAddress.TheVariants as Address
 use Rattle.ip_wire.specs.AddressTests.{is_same_address, is_same_hardware}
 use Rattle.interface_tables.specs.Best.{at_place, place_of_first_best}
 use Rattle.interface_tables.specs.declared.neighbor.Neighbor.{Neighbor}
@@ -22,6 +24,10 @@ entry_lifetime = 60_000_000
 
 abbrev pub fresh : CacheValue
 fresh = record { entries = []; silent = pos 0 }
+
+-- what stands in an unused place of a table
+abbrev pub blank : Neighbor
+blank = record { protocol_addr = Address.Ipv4 (record { 0 = replicate 4 0 }); hardware_addr = Hardware.Ip; expires_at = pos 0 }
 
 -- LOOKUP
 

@@ -5,6 +5,7 @@ use Rattle.std.specs.Str.{bytes_eq}
 use Rattle.ip_wire.specs.AddressTests.{is_in_block, is_unicast, are_of_one_family}
 use Rattle.ip_wire.specs.Block.{block_prefix_len, IsBlock}
 use Rattle.ip_wire.specs.IpAddress.{IpAddress}
+use Rattle.ip_wire.specs.IpAddress.TheVariants as Address
 use Rattle.ip_wire.specs.IpCidr.{IpCidr}
 use Rattle.ip_wire.specs.IpCidr.TheVariants as Block
 use Rattle.interface_tables.specs.Best.{first_best}
@@ -61,6 +62,10 @@ pub record IsGateway (r : Route) (any : List ℕ) (router : IpAddress) : Type 0 
   pub via : r.via_router ≡ router
   pub preferred : r.preferred_until ≡ None
   pub expires : r.expires_at ≡ None
+
+-- what stands in an unused place of a table: the route of all IPv4 packets to 0.0.0.0
+abbrev pub IsBlank : Route → Type 0
+IsBlank r = IsGateway r (replicate 4 0) (Address.Ipv4 (record { 0 = replicate 4 0 }))
 
 abbrev pub without_at : Option ℕ → List Route → List Route
 without_at None routes = routes

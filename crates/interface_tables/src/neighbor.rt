@@ -42,6 +42,10 @@ impl Neighbor {
 
 /// What stands in an unused place of a table.
 impl Default for Neighbor {
+    ghost use Rattle.interface_tables.specs.Neighbor.{blank};
+
+    ghost is_default = { λ n. n ≡ blank };
+
     fn default() -> Neighbor {
         Neighbor {
             protocol_addr: IpAddress::Ipv4(Ipv4Address::UNSPECIFIED),

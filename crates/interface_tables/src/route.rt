@@ -96,6 +96,10 @@ impl Route {
 
 /// What stands in an unused place of a table.
 impl Default for Route {
+    ghost use Rattle.interface_tables.specs.Route.{IsBlank};
+
+    ghost is_default = { IsBlank };
+
     fn default() -> Route {
         Route::new_ipv4_gateway(Ipv4Address::UNSPECIFIED)
     }

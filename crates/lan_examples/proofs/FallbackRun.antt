@@ -1,5 +1,5 @@
 -- The run of a listener that falls back is a run.
-use Rattle.std.proofs.Common.{◌≡◌, refl}
+use Rattle.std.proofs.Common.{refl}
 use Rattle.lan_packets.specs.Moves.{IsRun, run}
 use Rattle.lan_packets.specs.Parties.Socket.{Tcp}
 use Rattle.lan_packets.specs.Safe.{IsFreshNet}

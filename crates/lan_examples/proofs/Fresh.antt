@@ -1,5 +1,5 @@
 -- Hosts of one or two sockets that are fresh.
-use Rattle.std.proofs.Common.{◌≡◌, ℕ, zero, suc, List, [], ◌∷◌, Option, Some, None, refl, sym, subst}
+use Rattle.std.proofs.Common.{◌≡◌, ℕ, zero, suc, [], ◌∷◌, Some, refl, subst}
 use Rattle.std.proofs.lemmas.Option.{none-some}
 use Rattle.lan_packets.specs.Parties.{Socket, socket_at}
 use Rattle.lan_packets.specs.Parties.Socket.{Tcp}

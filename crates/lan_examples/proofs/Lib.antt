@@ -5,3 +5,6 @@ pub mod CandidatesRun
 pub mod FallbackRun
 pub mod Playing
 pub mod OpeningRun
+pub mod Worlds
+pub mod ConnectionRun
+pub mod ConnectionEnd

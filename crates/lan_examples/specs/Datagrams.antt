@@ -2,7 +2,7 @@
 use Rattle.std.specs.Prelude.{ℕ, true, false, List, [], ◌∷◌, Option, Some, None}
 use Rattle.ip_wire.specs.IpProtocol.TheVariants as Protocol
 use Rattle.ip_wire.specs.IpRepr.{IpRepr}
-use Rattle.net_containers.specs.Packets.{packets_in, first}
+use Rattle.net_containers.specs.Packets.{packets_in}
 use Rattle.datagram_sockets.specs.Offers.{left_with}
 use Rattle.datagram_sockets.specs.Udp as Udps
 use Rattle.datagram_sockets.specs.Udp.{UdpValue, metadata_to}

@@ -6,3 +6,4 @@ pub mod Candidates
 pub mod Fallback
 pub mod Played
 pub mod Opening
+pub mod Connection

@@ -1,6 +1,5 @@
 -- Two hosts with a TCP socket each, by what their applications and the network do one after the other.
-use Rattle.std.specs.Prelude.{ℕ, List, [], ◌∷◌, ◌++◌, slice_index_or, Option, Some, None}
-use Rattle.tcp_model.specs.Value.{TcpValue}
+use Rattle.std.specs.Prelude.{ℕ, List, [], ◌∷◌, ◌++◌, slice_index_or, Some, None}
 use Rattle.lan_net.specs.declared.event.Side.{Side}
 use Rattle.lan_net.specs.declared.event.Side.TheVariants.{A, B}
 use Rattle.lan_net.specs.Call.{SocketCall}

@@ -1,5 +1,5 @@
 -- TCP sockets on numerals, with room for 8 bytes each way, and the steps that they take.
-use Rattle.std.specs.Prelude.{ℕ, ◌+◌, true, List, [], ◌∷◌, length, replicate, Option, Some, None}
+use Rattle.std.specs.Prelude.{ℕ, ◌+◌, true, List, [], replicate, Option, Some, None}
 use Rattle.ip_wire.specs.IpProtocol.TheVariants as Protocol
 use Rattle.ip_wire.specs.Options.{no_options}
 use Rattle.ip_wire.specs.SeqNumber.{SeqNumber}
@@ -8,18 +8,17 @@ use Rattle.ip_wire.specs.TcpHeader.{TcpHeader}
 use Rattle.net_base.specs.Ring.{ring}
 use Rattle.socket_base.specs.Packet.{PacketValue, PayloadValue}
 use Rattle.socket_base.specs.Packet as Carried
-use Rattle.tcp.specs.Host.{Made, made_of}
+use Rattle.tcp.specs.Host.{made_of}
 use Rattle.tcp_model.specs.Arrival.{arrives}
 use Rattle.tcp_model.specs.Offers.{offer_of, offered_packet}
 use Rattle.tcp_model.specs.Settled.{settled}
 use Rattle.tcp_model.specs.Value.{TcpValue, new_socket}
 use Rattle.lan_net.specs.declared.answer.Answer.TheVariants as To
 use Rattle.lan_net.specs.declared.event.Side.{Side}
-use Rattle.lan_net.specs.declared.event.Side.TheVariants.{A, B}
 use Rattle.lan_net.specs.Call.{SocketCall}
 use Rattle.lan_packets.specs.Calls.{Did, did, tcp_does}
 use Rattle.lan_packets.specs.Parties.{Socket, socket_at, Net, party}
-use Rattle.lan_packets.specs.Parties.Socket.{Tcp, Udp, Icmp, Raw}
+use Rattle.lan_packets.specs.Parties.Socket.{Tcp}
 use Rattle.lan_packets.specs.Moves.{Step}
 use Rattle.lan_packets.specs.Moves.Move.{Invokes, Offers, Takes, Resets}
 use Rattle.lan_examples.specs.Hosts.{context, packet_to, entry_of}

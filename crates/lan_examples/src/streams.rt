@@ -8,8 +8,9 @@ ghost use Rattle.tcp_model.specs.State.TheVariants as In;
 ghost use Rattle.lan_packets.specs.Moves.{IsRun, run};
 ghost use Rattle.lan_packets.specs.Safe.{IsFreshNet};
 ghost use Rattle.lan_examples.specs.Candidates as Candidates;
+ghost use Rattle.lan_examples.specs.Connection.{telling, told, ending, half_closed, closing, closed, whole};
 ghost use Rattle.lan_examples.specs.Fallback as Fallback;
-ghost use Rattle.lan_examples.specs.Hosts.{no_names, unbound, last_answer};
+ghost use Rattle.lan_examples.specs.Hosts.{no_names, unbound, text, last_answer};
 ghost use Rattle.lan_examples.specs.Lone as Lone;
 ghost use Rattle.lan_examples.specs.Opening.{opening, opened};
 ghost use Rattle.lan_examples.specs.Played.{start, steps_of};
@@ -54,4 +55,37 @@ pub fn three_segments_open_a_connection()
     ensures end { run start.net (steps_of start opening) ≡ opened.net }
     ensures caller { (tcp_at opened.net A 0).block.state ≡ In.Established }
     ensures listener { (tcp_at opened.net B 0).block.state ≡ In.Established }
+{}
+
+/// Three bytes go over it: they come twice, and are read once.
+#[tactic(auto, using(crate::proofs::ConnectionRun::telling_run, crate::proofs::ConnectionRun::telling_leads, crate::proofs::ConnectionEnd::reads))]
+pub fn three_bytes_are_read_once()
+    ensures run { IsRun no_names opened.net (steps_of opened telling) }
+    ensures end { run opened.net (steps_of opened telling) ≡ told.net }
+    ensures read { last_answer told.net ≡ To.Bytes text }
+{}
+
+/// The side that wrote them closes, and the other's next read is told the end of the stream.
+#[tactic(auto, using(crate::proofs::ConnectionRun::ending_run, crate::proofs::ConnectionRun::ending_leads, crate::proofs::ConnectionEnd::finishes))]
+pub fn a_close_is_read_as_the_end()
+    ensures run { IsRun no_names told.net (steps_of told ending) }
+    ensures end { run told.net (steps_of told ending) ≡ half_closed.net }
+    ensures read { last_answer half_closed.net ≡ To.Error Fault.Finished }
+{}
+
+/// The other closes too: the side that was first waits in TIME-WAIT, and the connection of the other is over.
+#[tactic(auto, using(crate::proofs::ConnectionRun::closing_run, crate::proofs::ConnectionRun::closing_leads, crate::proofs::ConnectionEnd::waits, crate::proofs::ConnectionEnd::is_over))]
+pub fn both_sides_close()
+    ensures run { IsRun no_names half_closed.net (steps_of half_closed closing) }
+    ensures end { run half_closed.net (steps_of half_closed closing) ≡ closed.net }
+    ensures caller { (tcp_at closed.net A 0).block.state ≡ In.TimeWait }
+    ensures listener { (tcp_at closed.net B 0).block.state ≡ In.Closed }
+{}
+
+/// All of it, from two fresh sockets on, is one run, and the two are partners.
+#[tactic(auto, using(crate::proofs::ConnectionRun::whole_run, crate::proofs::ConnectionRun::whole_leads, crate::proofs::ConnectionEnd::are_partners))]
+pub fn a_connection_from_open_to_close()
+    ensures run { IsRun no_names start.net (steps_of start whole) }
+    ensures end { run start.net (steps_of start whole) ≡ closed.net }
+    ensures partners { ArePartners closed.net.history A 0 0 }
 {}

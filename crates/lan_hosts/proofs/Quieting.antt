@@ -1,7 +1,6 @@
 -- A host that was asked when to poll, and left alone since, is as it was asked.
 use Rattle.std.proofs.Common.{◌≡◌, ◌≤ℤ◌, ◌⊎◌, inl, inr, ℕ, zero, suc, ℤ, pos, int_lt, Bool, true, List, [], ◌∷◌, Option, None, Some, refl, sym, ap, ◌∙◌, subst, arith}
 use Rattle.std.specs.Prelude.{slice_get, slice_set}
-use Rattle.net_base.specs.Device.{Took}
 use Rattle.interface.specs.Host.{HostValue, maintained}
 use Rattle.interface.specs.Instant.{poll_instant}
 use Rattle.interface.specs.QuietStep.{IsEarlier, IsEarly}

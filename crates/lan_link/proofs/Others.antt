@@ -18,7 +18,7 @@ use Rattle.ip_wire.specs.declared.arp.repr.ArpRepr.TheVariants as Arp
 use Rattle.interface_egress.specs.Departure.{arp_frame, arp_request, solicited_station, solicitation_header, solicitation, question_frame}
 use Rattle.interface_egress.specs.declared.frame.Question.{Question}
 use Rattle.interface_egress.specs.declared.frame.Question.TheVariants as Query
-use Rattle.interface_ingress.specs.Incoming.{IncomingValue, IsIncoming, IsFramed}
+use Rattle.interface_ingress.specs.Incoming.{IncomingValue, IsIncoming}
 use Rattle.interface_ingress.specs.Incoming as Content
 use Rattle.interface_delivery.specs.Delivered.{NamesNoPorts, HasNoPorts}
 use Rattle.lan_frames.specs.Carried.{packet_in}

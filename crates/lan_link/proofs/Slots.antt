@@ -12,7 +12,6 @@ use Rattle.ip_wire.specs.declared.ethernet.repr.EthernetRepr.{EthernetRepr}
 use Rattle.socket_base.specs.Packet.{PacketValue, PayloadValue}
 use Rattle.interface_tables.specs.Best.{at_place}
 use Rattle.interface_tables.specs.Pieces as Pieces
-use Rattle.interface_tables.specs.Pieces.{HoldsSlicesOf}
 use Rattle.interface_tables.specs.Reassembly.{SlotValue, freed, taken, placed, completed, is_of, place_for}
 use Rattle.interface_tables.specs.Slots.{changed, changed_at, completed_in, opened, is_expired, unless_expired, without_expired, IsTest}
 use Rattle.interface_tables.proofs.Apart.{placed-key, opened-key}

@@ -7,7 +7,7 @@ use Rattle.lan_net.specs.Kinds.Act.{Calls}
 use Rattle.lan_net.specs.declared.event.Side.{Side}
 use Rattle.lan_net.specs.declared.event.Side.TheVariants.{A, B}
 use Rattle.lan_packets.specs.Moves as Moves
-use Rattle.lan_packets.specs.Moves.{IsNoCall, IsRun, run, after}
+use Rattle.lan_packets.specs.Moves.{IsNoCall, IsRun, after}
 use Rattle.lan_packets.specs.Parties.{Party, Net, party}
 use Rattle.lan_packets.proofs.Extended.{run-append, IsRun-append}
 use Rattle.lan_stations.specs.Runs.{refusal_in}

@@ -1,5 +1,5 @@
 -- A run of both hosts is a run of moves, and so is safe.
-use Rattle.std.proofs.Common.{◌≡◌, ℕ, zero, suc, List, [], ◌∷◌, ◌++◌, Option, Some, None, refl, sym, ap, ◌∙◌, subst}
+use Rattle.std.proofs.Common.{◌≡◌, ℕ, zero, suc, List, [], ◌∷◌, Option, Some, None, refl, sym, ap, ◌∙◌, subst}
 use Rattle.std.specs.Prelude.{◌-◌, ◌≤◌, length, slice_index_or}
 use Rattle.tcp_law.specs.Safe.{IsPrefixOf}
 use Rattle.tcp_model.specs.Value.{TcpValue}
@@ -11,27 +11,25 @@ use Rattle.lan_net.specs.Kinds.LinkAct.{Hands, Cuts}
 use Rattle.lan_net.specs.declared.event.Side.{Side}
 use Rattle.lan_net.specs.declared.event.Side.TheVariants.{A, B}
 use Rattle.lan_net.specs.Partners.{ArePartners}
-use Rattle.lan_packets.specs.Moves.{IsRun, run, IsNoCall}
+use Rattle.lan_packets.specs.Moves.{IsNoCall}
 use Rattle.lan_packets.specs.Parties as Parties
 use Rattle.lan_packets.specs.Parties.{Party, Net, party}
 use Rattle.lan_packets.specs.Safe.{IsFreshSocket, IsFreshParty, IsFreshNet, IsSafe, IsTcpAt, taken_in, HasNothing}
-use Rattle.lan_packets.proofs.Extended.{run-append, IsRun-append}
 use Rattle.lan_packets.proofs.Runs.{runs_safe}
 use Rattle.interface_egress.specs.Set.{socket_at}
 use Rattle.sockets.specs.declared.socket.Socket.{Socket}
 use Rattle.sockets.specs.declared.socket.Socket.TheVariants as Is
 use Rattle.lan_stations.specs.Fresh.{IsUnused, IsFreshStart, IsFreshWorld}
-use Rattle.lan_stations.specs.Runs.{Start, Starts, unused, unused_both, WorldRun, Leads, refusal_in}
+use Rattle.lan_stations.specs.Runs.{Start, Starts, unused, unused_both, Leads, refusal_in}
 use Rattle.lan_stations.specs.Safe.{seen, seen_in, party_of, net_of, port_of, first_port}
 use Rattle.lan_stations.specs.Station.{StationValue, Stations, station, with_station, with_link}
 use Rattle.lan_stations.specs.Steps.{Happens, linked}
 use Rattle.lan_port.specs.Port.{LinkEnd}
 use Rattle.lan_stations.specs.Origins.{goes_to}
 use Rattle.lan_moves.specs.Follows.{sockets_of, IsNetOf, Comes, IsNoPoll}
-use Rattle.lan_moves.specs.Joined.{first_net, IsJoined, HasCome}
+use Rattle.lan_moves.specs.Joined.{first_net, HasCome}
 use Rattle.lan_moves.proofs.Calls.{names}
 use Rattle.lan_moves.proofs.Events.{call_comes, still_comes}
-use Rattle.lan_moves.proofs.Fits.{worlds_fit}
 use Rattle.lan_moves.proofs.Nets.{either_side}
 use Rattle.lan_moves.proofs.Places.{Places}
 
@@ -76,29 +74,6 @@ rest_comes net old new past e of quiet leads = by_kind net old new past e of (ki
 pub first_of : (starts : Starts) (s : Side) → (party (first_net starts) s).sockets ≡ sockets_of (station (unused_both starts) s).places
 first_of starts A = refl
 first_of starts B = refl
-
-module _ (starts : Starts) (J : Stations → Net → Type 0) (joined : IsJoined starts J) (fresh : IsFreshWorld starts) where
-  pub has_come : (history : List Entry) (hosts : Stations) → WorldRun history (unused_both starts) hosts → HasCome starts J history hosts
-  has_come [] hosts is = subst (λ (h : Stations). HasCome starts J [] h) (sym is) (record {
-    net = first_net starts;
-    steps = [];
-    may = tt;
-    ends = refl;
-    of = record { sockets = first_of starts; history = refl };
-    joined = joined.first;
-  })
-  has_come (e ∷ past) hosts (before, ran, leads) =
-      let came = has_come past before ran in
-      let next = joined.step came.net before hosts past e came.joined (worlds_fit starts fresh past before ran) came.of leads in
-      let c = next.0 in
-      record {
-        net = c.next;
-        steps = came.steps ++ c.steps;
-        may = IsRun-append names (first_net starts) came.steps c.steps came.may (subst (λ (n : Net). IsRun names n c.steps) (sym came.ends) c.may);
-        ends = run-append (first_net starts) came.steps c.steps ∙ ap (λ (n : Net). run n c.steps) came.ends ∙ c.ends;
-        of = c.of;
-        joined = next.1;
-      }
 
 -- FRESH
 
@@ -172,8 +147,3 @@ came_safe starts J fresh history hosts came =
       history = came.of.history k;
     } in
     subst (IsSafe (first_port starts)) same (unmade_safe (first_port starts) came.net safe)
-
--- a world that came by allowed events from fresh hosts is safe
-pub come_safe : (starts : Starts) (J : Stations → Net → Type 0) → IsJoined starts J → IsFreshWorld starts → (history : List Entry) (hosts : Stations)
-    → WorldRun history (unused_both starts) hosts → IsSafe (first_port starts) (net_of (record { hosts = hosts; starts = starts; history = history }))
-come_safe starts J joined fresh history hosts ran = came_safe starts J fresh history hosts (has_come starts J joined fresh history hosts ran)

@@ -1,26 +1,18 @@
 -- What is asked of the hosts and their link over a whole run.
-use Rattle.std.specs.Prelude.{◌≡◌, ◌∷◌, [], List}
+use Rattle.std.specs.Prelude.{◌≡◌, [], List}
 use Rattle.net_base.specs.Medium.TheVariants as Medium
 use Rattle.lan_frames.specs.Carried.{names_tcp_or_udp}
 use Rattle.lan_net.specs.History.{Entry}
 use Rattle.lan_packets.specs.Moves.{Step, IsRun, run}
 use Rattle.lan_packets.specs.Parties.{Net}
-use Rattle.lan_stations.specs.Runs.{Starts, unused, unused_both, Leads}
+use Rattle.lan_stations.specs.Runs.{Starts, unused}
 use Rattle.lan_stations.specs.Safe.{party_of}
 use Rattle.lan_stations.specs.Station.{Stations}
-use Rattle.lan_moves.specs.Fit.{AreFit}
-use Rattle.lan_moves.specs.Follows.{IsNetOf, Comes}
+use Rattle.lan_moves.specs.Follows.{IsNetOf}
 
 -- both hosts as they start, of which nothing was made
 abbrev pub first_net : Starts → Net
 first_net starts = record { a = party_of (unused starts.a); b = party_of (unused starts.b); history = [] }
-
--- J: what holds of the hosts at their link and of what both made. It holds at first, and each event that is taken, of hosts whose sockets are
--- fit, is moves after which it holds again.
-pub record IsJoined (starts : Starts) (J : Stations → Net → Type 0) : Type 0 where
-  pub first : J (unused_both starts) (first_net starts)
-  pub step : (net : Net) (old new : Stations) (past : List Entry) (e : Entry) → J old net → AreFit old → IsNetOf net old past → Leads past old e new
-      → (c : Comes (names_tcp_or_udp Medium.Ip) net new (e ∷ past)) × J new c.next
 
 -- moves of both hosts lead to these, with this history
 pub record HasCome (starts : Starts) (J : Stations → Net → Type 0) (history : List Entry) (hosts : Stations) : Type 0 where

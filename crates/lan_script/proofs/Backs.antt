@@ -90,7 +90,7 @@ hex_back [] h = refl
 hex_back (b ∷ bytes) h =
     hex_of (encode_lower (b ∷ bytes)) (b ∷ bytes) (omega (arith, length-encode_with lower_digits (b ∷ bytes))) (decode_of-encode_lower (b ∷ bytes) h)
 
-two_bytes : (w : ℕ) → w < 2 ^ 16 → IsBytes (w / 256 ∷ w % 256 ∷ [])
+pub two_bytes : (w : ℕ) → w < 2 ^ 16 → IsBytes (w / 256 ∷ w % 256 ∷ [])
 two_bytes w less zero = omega arith
 two_bytes w less (suc zero) = omega arith
 two_bytes w less (suc (suc i)) = omega arith

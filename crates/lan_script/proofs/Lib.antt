@@ -5,3 +5,7 @@ pub mod VerbLemmas
 pub mod TextLemmas
 pub mod Backs
 pub mod ReadBack
+pub mod Graphic
+pub mod JoinedLemmas
+pub mod PrintedLemmas
+pub mod Moments

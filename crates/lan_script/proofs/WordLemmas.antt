@@ -102,7 +102,7 @@ some_of_three false true false x y z = refl
 some_of_three false false true x y z = refl
 some_of_three false false false x y z = refl
 
-same_digits : (word : List ℕ) → list_all is_ascii_hexdigit word ≡ list_all is_hex_digit word
+pub same_digits : (word : List ℕ) → list_all is_ascii_hexdigit word ≡ list_all is_hex_digit word
 same_digits [] = refl
 same_digits (c ∷ cs) = rw (some_of_three (nat_le 65 c && nat_le c 70) (nat_le 97 c && nat_le c 102) (nat_le 48 c && nat_le c 57) (c - 55) (c - 87) (c - 48), same_digits cs) refl
 

@@ -1,6 +1,6 @@
 -- What the tests of an event leave: what it needs to happen.
-use Rattle.std.proofs.Common.{◌≡◌, ◌<◌, ◌≤◌, ◌+◌, ◌^◌, ℕ, ℤ, Bool, true, false, List, ◌∷◌, length, Option, None, Some, refl, sym, ap, subst, ◌∙◌, arith, cond}
-use Rattle.std.specs.Prelude.{◌||◌, ◌%◌, ◌==◌, not, is_some, nat_le, nat_lt, int_lt, if◌then◌else◌}
+use Rattle.std.proofs.Common.{◌≡◌, ◌<◌, ◌≤◌, ◌+◌, ◌^◌, ℕ, ℤ, Bool, true, false, List, length, Option, None, Some, refl, sym, ap, subst, ◌∙◌, arith}
+use Rattle.std.specs.Prelude.{◌||◌, ◌%◌, ◌==◌, not, nat_lt, int_lt, if◌then◌else◌}
 use Rattle.std.proofs.lemmas.Bool.Decides.{nat_tests}
 use Rattle.net_base.specs.Time.{IsMoment}
 use Rattle.interface_tables.specs.Settings.{is_moment}
@@ -15,7 +15,7 @@ use Rattle.lan_net.specs.Kinds.{same_side, Kind, Act, LinkAct, Delivered, Damage
 use Rattle.lan_net.specs.Kinds.Act.{Calls, Sets, Opens, Asks, Polls}
 use Rattle.lan_net.specs.Kinds.Kind.{OfHost, OfLink}
 use Rattle.lan_net.specs.Kinds.LinkAct.{Hands, Cuts}
-use Rattle.lan_net.specs.Tables.{first_refusal, call_tests, own_tests, has_call, is_wrong_kind, is_too_many, record_at}
+use Rattle.lan_net.specs.Tables.{first_refusal, call_tests, own_tests, has_call, is_too_many, record_at}
 use Rattle.lan_net.specs.declared.answer.Answer.TheVariants as To
 use Rattle.lan_net.specs.declared.answer.Refused.{Refused}
 use Rattle.lan_net.specs.declared.event.Side.{Side}
@@ -29,7 +29,6 @@ use Rattle.lan_stations.specs.Origins.{medium_of, frame_sent}
 use Rattle.lan_stations.specs.Records.{HasByteRoom}
 use Rattle.lan_stations.specs.Refusals.{Table, Tables, table, act_tests, link_tests, segment_tests, cut_tests, is_too_early, is_no_frame, is_no_place, is_no_cut, refusal}
 use Rattle.lan_stations.specs.Station.{StationValue, Stations, station, kind_at}
-use Rattle.lan_stations.specs.Steps.{Happens}
 use Rattle.lan_stations.specs.declared.answer.Taken.{Taken}
 
 -- TESTS

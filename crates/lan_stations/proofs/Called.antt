@@ -1,13 +1,12 @@
 -- A call at a place, as an act of its host.
-use Rattle.std.proofs.Common.{◌≡◌, ℕ, Bool, true, false, List, Option, None, Some, refl, sym, ap, ◌∙◌, subst}
-use Rattle.std.specs.Prelude.{slice_get, slice_set, if◌then◌else◌}
+use Rattle.std.proofs.Common.{◌≡◌, ℕ, true, List, Option, None, Some, refl, sym, ap, ◌∙◌, subst}
+use Rattle.std.specs.Prelude.{slice_get, slice_set}
 use Rattle.std.proofs.lemmas.List.{set-get_or}
 use Rattle.std.proofs.lemmas.Option.{get_or_from_slice_get}
 use Rattle.socket_base.specs.Context.{ContextValue}
 use Rattle.lan_port.specs.Port.{LinkEnd}
 use Rattle.interface.specs.Host.{HostValue}
-use Rattle.interface.specs.Made.{with_inner}
-use Rattle.interface_tables.specs.Inner.{context_of, drawn}
+use Rattle.interface_tables.specs.Inner.{context_of}
 use Rattle.interface_egress.specs.Set.{with_socket, socket_in, socket_of}
 use Rattle.interface_egress.specs.declared.socket_set.Item.{Item}
 use Rattle.interface_egress.specs.declared.socket_set.SocketStorage.{SocketStorage}
@@ -23,9 +22,9 @@ use Rattle.lan_net.specs.declared.event.Side.{Side}
 use Rattle.lan_packets.specs.Calls.{Did}
 use Rattle.lan_stations.specs.Acting.{ActsBy, ActsSo}
 use Rattle.lan_stations.specs.Answers.{HasTaken}
-use Rattle.lan_stations.specs.Calling.{did_by, draws_by, is_called, ItemCalls, PlaceCalls, IsCall}
-use Rattle.lan_stations.specs.Does.{does, draws, host_after, DidAt, ItemDoes, PlaceDoes}
-use Rattle.lan_stations.specs.Station.{StationValue, kind_in, kind_of_socket, kind_at}
+use Rattle.lan_stations.specs.Calling.{is_called, ItemCalls, PlaceCalls, IsCall}
+use Rattle.lan_stations.specs.Does.{does, host_after, DidAt, ItemDoes, PlaceDoes}
+use Rattle.lan_stations.specs.Station.{StationValue, kind_in, kind_of_socket}
 use Rattle.lan_stations.specs.declared.answer.Taken.{Taken}
 use Rattle.lan_stations.proofs.Setting.{of_parts}
 

@@ -4,7 +4,7 @@ use Rattle.std.proofs.lemmas.List.{length-take}
 use Rattle.std.specs.Prelude.{slice_set}
 use Rattle.lan_net.specs.Call as Call
 use Rattle.lan_net.specs.Call.{SocketCall}
-use Rattle.lan_net.specs.Kinds.{same_side, Kind, Act, LinkAct}
+use Rattle.lan_net.specs.Kinds.{same_side, Kind}
 use Rattle.lan_net.specs.Kinds.Act.{Calls, Sets, Opens, Asks, Polls}
 use Rattle.lan_net.specs.Kinds.Kind.{OfHost, OfLink}
 use Rattle.lan_net.specs.History.{bytes_written}

@@ -1,5 +1,5 @@
 -- A cut of a host's frame, as an act of the link.
-use Rattle.std.proofs.Common.{◌≡◌, ℕ, List, Result, Ok, Err, OnOk, OnErr, refl, sym, ap, ◌∙◌, subst}
+use Rattle.std.proofs.Common.{◌≡◌, ℕ, List, Result, Ok, Err, OnOk, OnErr, refl, sym, ap, ◌∙◌}
 use Rattle.lan_frames.specs.Cuts.{first_piece, second_piece}
 use Rattle.lan_port.specs.Port.{added}
 use Rattle.lan_net.specs.Kinds.{Kind}

@@ -1,7 +1,7 @@
 -- A poll at a port with buffers for all that it may send: none is refused.
-use Rattle.std.proofs.Common.{◌≡◌, ℕ, ◌+◌, ◌-◌, ◌*◌, ◌≤◌, ◌<◌, ℤ, Bool, true, false, List, ◌∷◌, ◌++◌, length, Option, None, Some, IfSome, is_some, inl, inr, refl, sym, ap, ◌∙◌, subst, arith}
+use Rattle.std.proofs.Common.{◌≡◌, ℕ, ◌+◌, ◌-◌, ◌*◌, ◌≤◌, ℤ, Bool, true, false, List, length, Option, None, Some, IfSome, is_some, inl, inr, refl, sym, ap, ◌∙◌, subst, arith}
 use Rattle.std.specs.Prelude.{nat_le, if◌then◌else◌}
-use Rattle.net_base.specs.Device.{Move, Took, Empty, Allowed, Emitted, Denied}
+use Rattle.net_base.specs.Device.{Took, Emitted, Denied}
 use Rattle.socket_base.specs.Context.{ContextValue}
 use Rattle.socket_base.specs.Packet.{PacketValue, IsSendable}
 use Rattle.socket_base.specs.declared.offer.Offer as Answer
@@ -13,7 +13,6 @@ use Rattle.datagram_sockets.specs.Icmp.{IcmpValue}
 use Rattle.datagram_sockets.specs.Raw as Raws
 use Rattle.datagram_sockets.specs.Raw.{RawValue}
 use Rattle.tcp_model.specs.Offers as TcpOffers
-use Rattle.tcp_model.specs.Value.{TcpValue}
 use Rattle.tcp_socket.proofs.Sendable.{fits_offered}
 use Rattle.sockets.specs.Socket.{Offers, offered_by}
 use Rattle.sockets.specs.declared.socket.Socket.{Socket}
@@ -34,14 +33,14 @@ use Rattle.interface_ingress.specs.Arrives as Replies
 use Rattle.interface_ingress.specs.Arrives.{ReplyValue, whole_after}
 use Rattle.interface_ingress.specs.Kept.{HasSameSettings}
 use Rattle.interface_ingress.specs.Reassembled.{taken_in}
-use Rattle.interface.specs.Host.{HostValue, Sender}
+use Rattle.interface.specs.Host.{Sender}
 use Rattle.interface.specs.Ingress.{Takes, Replied}
 use Rattle.interface.specs.Polls.{Polls}
 use Rattle.interface.specs.State.{State}
 use Rattle.interface.specs.Turn.{Leaves, SendsBy, Answers, TurnsIf, ItemTurns, PlaceTurns, is_waiting, let_through}
 use Rattle.interface.specs.WayOut.{PieceLeaves}
 use Rattle.interface.specs.declared.turn.Turned.{Turned}
-use Rattle.interface_laws.specs.Kept.{RunsAt, IsCounted}
+use Rattle.interface_laws.specs.Kept.{IsCounted}
 use Rattle.interface_laws.proofs.Count.{polls_count}
 use Rattle.interface_laws.proofs.Runs.{receives_same}
 use Rattle.lan_port.specs.Port.{PortValue, PortMove}

@@ -1,5 +1,5 @@
 -- A call's refusal, as that of its event.
-use Rattle.std.proofs.Common.{◌≡◌, ℕ, List, Option, refl, sym, ap, ◌∙◌, subst}
+use Rattle.std.proofs.Common.{◌≡◌, ℕ, List, Option, sym, ap, ◌∙◌}
 use Rattle.lan_frames.specs.Carried.{names_tcp_or_udp}
 use Rattle.net_base.specs.Medium.TheVariants as Medium
 use Rattle.lan_net.specs.Call.{SocketCall}

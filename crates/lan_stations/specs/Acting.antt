@@ -1,11 +1,10 @@
 -- What an event makes of the host that acts, and when it can.
-use Rattle.std.specs.Prelude.{◌≡◌, ◌<◌, ℕ, Bool, true, false, List, ◌∷◌, length, Option, None, Some}
+use Rattle.std.specs.Prelude.{◌≡◌, ℕ, Bool, true, List, ◌∷◌, Option, None, Some}
 use Rattle.net_base.specs.Time.{IsMoment}
 use Rattle.lan_net.specs.Kinds.{Kind, Act}
 use Rattle.lan_net.specs.Kinds.Act.{Calls, Asks, Polls}
 use Rattle.lan_net.specs.Kinds.Kind.{OfHost, OfLink}
 use Rattle.lan_net.specs.declared.event.Side.{Side}
-use Rattle.tcp_model.specs.State.{State}
 use Rattle.lan_stations.specs.Calling.{is_called}
 use Rattle.lan_stations.specs.Station.{StationValue, Stations, station, kind_at}
 use Rattle.lan_frames.specs.Cuts.{ipv4_part}

@@ -1,5 +1,5 @@
 -- What the link needs for its acts.
-use Rattle.std.specs.Prelude.{◌≡◌, ◌<◌, ◌≤◌, ◌+◌, ℕ, List, [], length, slice_index_or, Option, None, Some}
+use Rattle.std.specs.Prelude.{◌<◌, ◌≤◌, ◌+◌, ℕ, List, [], length, slice_index_or, Option, None, Some}
 use Rattle.lan_frames.specs.Cuts.{ipv4_part}
 use Rattle.lan_frames.specs.Parts.{tcp_part}
 use Rattle.lan_frames.specs.declared.part.Part.{Part}

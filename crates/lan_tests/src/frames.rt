@@ -2,7 +2,8 @@
 //! outside this repository, but for the first, which is a worked example.
 
 use ip_wire::{IpAddress, TcpPacket, TcpRepr};
-use lan_frames::{Part, cut_frame, damage, ipv4_part, names_tcp_or_udp, tcp_part};
+use lan::names_tcp_or_udp;
+use lan_frames::{Part, cut_frame, damage, ipv4_part, tcp_part};
 use net_base::{ChecksumCapabilities, Medium};
 use std::process::Abort;
 use std::test::Fail;

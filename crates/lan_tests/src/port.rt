@@ -1,4 +1,4 @@
-use lan_port::Port;
+use lan::Port;
 use net_base::{Device, DeviceCapabilities, Instant, Medium, RxToken};
 use std::alloc::Global;
 use std::test::Fail;

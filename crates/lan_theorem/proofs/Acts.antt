@@ -1,17 +1,14 @@
 -- One host acts, and the other rests.
-use Rattle.std.proofs.Common.{◌≡◌, ◌⊎◌, inl, inr, ℕ, ◌+◌, ◌^◌, ◌<◌, ◌≤◌, Bool, true, false, cond, List, [], ◌∷◌, Option, Some, None, IfSome, refl, sym, ◌∙◌, ap, subst, arith}
+use Rattle.std.proofs.Common.{◌≡◌, ℕ, ◌≤◌, Bool, true, false, cond, List, Option, Some, None, refl, sym, ◌∙◌, ap, subst, arith}
 use Rattle.std.specs.Prelude.{ℤ, slice_get, slice_set}
-use Rattle.net_base.specs.Medium.{Medium}
-use Rattle.ip_wire.specs.HardwareAddress.{HardwareAddress}
-use Rattle.socket_base.specs.Packet.{PacketValue, PayloadValue}
+use Rattle.socket_base.specs.Packet.{PacketValue}
 use Rattle.sockets.specs.declared.socket.Socket.{Socket}
-use Rattle.interface_tables.specs.Inner.{InnerValue, context_of, at_moment, drawn}
+use Rattle.interface_tables.specs.Inner.{InnerValue, context_of, drawn}
 use Rattle.interface_egress.specs.Fragments.{LeftValue}
 use Rattle.interface_egress.specs.Set.{with_socket}
 use Rattle.interface_ingress.specs.Reassembled.{Slots}
 use Rattle.interface_egress.specs.declared.socket_set.Item.{Item}
 use Rattle.interface_egress.specs.declared.socket_set.SocketStorage.{SocketStorage}
-use Rattle.interface.specs.Host.{HostValue}
 use Rattle.interface.specs.State.{State}
 use Rattle.lan_net.specs.Call.{SocketCall}
 use Rattle.lan_net.specs.Kinds.{other}

@@ -1,6 +1,5 @@
 -- Two fresh hosts at a link over which nothing went are joined.
-use Rattle.std.proofs.Common.{◌≡◌, ℕ, ◌^◌, ◌<◌, ◌≤◌, Bool, true, false, List, [], ◌∷◌, length, Option, Some, None, IfSome, refl, sym, ◌∙◌, ap, subst, arith}
-use Rattle.std.specs.Prelude.{not, ◌&&◌, nat_lt}
+use Rattle.std.proofs.Common.{◌≡◌, ℕ, ◌≤◌, true, List, [], ◌∷◌, Option, Some, None, IfSome, refl, sym, ◌∙◌, subst, arith}
 use Rattle.std.specs.List.{AllByRecursion}
 use Rattle.std.proofs.lemmas.Bool.Decides.{nat_tests}
 use Rattle.net_base.specs.Medium.{Medium}
@@ -18,10 +17,10 @@ use Rattle.interface_ingress.specs.Reassembled.{Slots}
 use Rattle.lan_net.specs.Kinds.{other}
 use Rattle.lan_net.specs.declared.event.Side.{Side}
 use Rattle.lan_net.specs.declared.event.Side.TheVariants.{A, B}
-use Rattle.lan_packets.specs.Parties.{Party, Net, party}
+use Rattle.lan_packets.specs.Parties.{Party, party}
 use Rattle.lan_stations.specs.Fresh.{IsHardware, IsFreshStart, IsFreshWorld}
 use Rattle.lan_stations.specs.Runs.{Start, Starts, start, unused, unused_both}
-use Rattle.lan_stations.specs.Station.{StationValue, Stations, station}
+use Rattle.lan_stations.specs.Station.{station}
 use Rattle.lan_moves.specs.Joined.{first_net}
 use Rattle.lan_moves.specs.Made.{MadeBy}
 use Rattle.lan_link.specs.Frames.{medium_on}

@@ -1,5 +1,5 @@
 -- Damage that the link hands over does no harm.
-use Rattle.std.proofs.Common.{◌≡◌, inl, inr, ℕ, ◌^◌, ◌<◌, true, false, List, ◌∷◌, ◌++◌, Option, Some, None, refl, sym, ◌∙◌, ap, subst}
+use Rattle.std.proofs.Common.{◌≡◌, inl, inr, ℕ, ◌^◌, ◌<◌, true, false, List, ◌++◌, Option, Some, None, refl, sym, ◌∙◌, ap, subst}
 use Rattle.net_base.specs.Medium.{Medium}
 use Rattle.net_base.specs.Medium.TheVariants as Medium
 use Rattle.ip_wire.specs.HardwareAddress.{HardwareAddress}
@@ -18,7 +18,7 @@ use Rattle.lan_net.specs.declared.event.Side.{Side}
 use Rattle.lan_packets.specs.Parties.{Net, party}
 use Rattle.lan_stations.specs.Origins.{medium_of, frame_sent, damaged_in, frame_of_origin}
 use Rattle.lan_stations.specs.Refusals.{is_no_frame, segment_tests, link_tests, refusal}
-use Rattle.lan_stations.specs.Runs.{WorldRun, Leads, tables_in}
+use Rattle.lan_stations.specs.Runs.{WorldRun, tables_in}
 use Rattle.lan_stations.specs.Station.{Stations, station}
 use Rattle.lan_hosts.specs.Damage.{IsHarmlessFrom, IsHarmlessBy, DamageIsHarmless, IsNoSegment, BringsNoSegment}
 use Rattle.lan_hosts.proofs.Harmless.{harmless, damage_kept}

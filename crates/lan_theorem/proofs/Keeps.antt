@@ -1,15 +1,12 @@
 -- Each thing that a poll does keeps what is said of the link.
-use Rattle.std.proofs.Common.{◌≡◌, ◌⊎◌, inl, inr, ℕ, ◌+◌, ◌≤◌, ℤ, Bool, true, false, List, [], ◌∷◌, ◌++◌, Option, Some, None, is_some, refl, sym, ◌∙◌, ap, subst, arith}
+use Rattle.std.proofs.Common.{◌≡◌, ◌⊎◌, inl, inr, ℕ, ◌+◌, ◌≤◌, ℤ, Bool, true, false, List, ◌∷◌, Option, Some, None, is_some, refl, sym, ap, subst, arith}
 use Rattle.net_base.specs.ChecksumCapabilities.{ChecksumCapabilities}
-use Rattle.net_base.specs.Device.{Move, Took, Empty, Allowed}
+use Rattle.net_base.specs.Device.{Took, Empty, Allowed}
 use Rattle.ip_wire.specs.Ip as Ips
 use Rattle.ip_wire.specs.Ip.{carried_in}
 use Rattle.ip_wire.specs.IpRepr.{IpRepr}
 use Rattle.ip_wire.specs.IpRepr.TheVariants as Ip
-use Rattle.ip_wire.specs.TcpHeader.{TcpHeader}
-use Rattle.ip_wire.specs.UdpRepr.{UdpRepr}
 use Rattle.socket_base.specs.Packet.{PacketValue, PayloadValue, ControlV4, ControlV6, Bytes, Datagram, Segment}
-use Rattle.sockets.specs.declared.socket.Socket.{Socket}
 use Rattle.interface_tables.specs.Inner.{InnerValue, at_moment}
 use Rattle.interface_tables.specs.Slots.{without_expired}
 use Rattle.interface_egress.specs.Departing.{HasSettingsOf, SendsOnce, departure_by, was_taken}
@@ -22,13 +19,11 @@ use Rattle.interface_egress.specs.declared.way_out.Sent.{Sent}
 use Rattle.interface_egress.specs.declared.way_out.Sent.TheVariants as Outcome
 use Rattle.interface_egress.proofs.Changes.{changes, piece_sends, same_settings}
 use Rattle.interface_ingress.specs.Arrives.{Arrived, ArrivesAs, whole_after}
-use Rattle.interface_ingress.specs.Carried.{IsCarried, IsDatagram, IsSegment}
 use Rattle.interface_ingress.specs.Delivered.{Places}
 use Rattle.interface_ingress.specs.Incoming.{IncomingValue, Arp, Ip4, Ip6, IsContent}
 use Rattle.interface_ingress.specs.Reassembled.{Slots, taken_in}
 use Rattle.interface_ingress.specs.Sent.{CanBeRead, normal_payload}
 use Rattle.interface_delivery.specs.Delivered.{NamesNoPorts}
-use Rattle.interface.specs.Host.{HostValue}
 use Rattle.interface.specs.Polls.{begun}
 use Rattle.interface.specs.Turn.{is_done}
 use Rattle.ip_wire.specs.declared.arp.repr.ArpRepr.{ArpRepr}
@@ -42,10 +37,10 @@ use Rattle.lan_moves.specs.Made as Moves
 use Rattle.lan_moves.specs.Made.{Grows, MadeBy, IsMade, IsWide, FitsBehind, datagram_of}
 use Rattle.lan_link.specs.Made as Links
 use Rattle.lan_link.specs.Made.{sealed, IsGoing}
-use Rattle.lan_link.specs.Frames.{medium_on, IsAmong}
+use Rattle.lan_link.specs.Frames.{medium_on}
 use Rattle.lan_link.specs.Numbers.{IsTied}
 use Rattle.lan_link.proofs.Begun.{tied_trans, tied_on}
-use Rattle.lan_link.specs.Sides.{AreSent, IsSender, IsReceiver, IsSound, HasSixBytes, IsStation, WentOut}
+use Rattle.lan_link.specs.Sides.{IsSender, IsReceiver, IsSound, HasSixBytes, IsStation, WentOut}
 use Rattle.lan_link.proofs.Grown.{sent_grows}
 use Rattle.lan_link.proofs.Sends.{goes_keeps, unsent_keeps, piece_keeps, tells_keeps}
 use Rattle.lan_link.proofs.Stations.{arrival_keeps_sender, sender_settled}

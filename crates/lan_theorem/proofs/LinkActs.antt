@@ -1,12 +1,10 @@
 -- The link hands a frame over, or cuts one.
-use Rattle.std.proofs.Common.{◌≡◌, ◌≢◌, ◌⊎◌, inl, inr, ℕ, zero, suc, ◌+◌, ◌%◌, ◌^◌, ◌<◌, ◌≤◌, ◌==◌, nat_le, Bool, true, false, cond, not, ◌||◌, List, [], ◌∷◌, ◌++◌, length, get_or, Option, Some, None, refl, sym, ◌∙◌, ap, subst, arith}
+use Rattle.std.proofs.Common.{◌≡◌, ◌≢◌, ℕ, zero, suc, ◌+◌, ◌%◌, ◌^◌, ◌<◌, ◌≤◌, ◌==◌, Bool, true, false, cond, not, ◌||◌, List, [], ◌∷◌, ◌++◌, length, get_or, Option, Some, None, refl, sym, ◌∙◌, ap, subst, arith}
 use Rattle.std.specs.Prelude.{nat_lt}
 use Rattle.std.specs.List.{AllByRecursion}
 use Rattle.std.proofs.lemmas.Bool.Decides.{nat_tests}
 use Rattle.net_base.specs.Medium.{Medium}
 use Rattle.ip_wire.specs.Fields.{be16}
-use Rattle.ip_wire.specs.HardwareAddress.{HardwareAddress}
-use Rattle.socket_base.specs.Packet.{PacketValue, PayloadValue}
 use Rattle.lan_frames.specs.Carried.{names_tcp_or_udp}
 use Rattle.lan_frames.specs.Cuts.{ipv4_part, first_piece, second_piece}
 use Rattle.lan_frames.specs.Parts.{tcp_part, bytes_at}
@@ -19,10 +17,10 @@ use Rattle.lan_net.specs.declared.event.Side.{Side}
 use Rattle.lan_net.specs.declared.event.Side.TheVariants.{A, B}
 use Rattle.lan_net.specs.Kinds.LinkAct.{Hands, Cuts}
 use Rattle.lan_packets.specs.Parties.{Net, party}
-use Rattle.lan_port.specs.Port.{LinkEnd, added, arrived}
+use Rattle.lan_port.specs.Port.{added, arrived}
 use Rattle.lan_stations.specs.Origins.{medium_of, frame_sent, damaged_in, frame_of_origin, handed, cut}
 use Rattle.lan_stations.specs.Refusals.{is_no_frame, is_no_place, is_same_sum, segment_tests, is_no_cut, cut_tests, link_tests}
-use Rattle.lan_stations.specs.Station.{StationValue, Stations, station, with_link}
+use Rattle.lan_stations.specs.Station.{Stations, station, with_link}
 use Rattle.lan_moves.specs.Made.{MadeBy}
 use Rattle.lan_link.specs.Frames.{medium_on, BringsFrom}
 use Rattle.lan_link.specs.Sides.{IsHostFrame, IsDamage}

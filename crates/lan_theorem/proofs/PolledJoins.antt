@@ -1,9 +1,7 @@
 -- A poll keeps what is said of both hosts and their link.
-use Rattle.std.proofs.Common.{◌≡◌, ℕ, ◌+◌, ◌*◌, ◌≤◌, List, ◌∷◌, Option, refl, sym, ◌∙◌, ap, subst, arith}
-use Rattle.std.specs.Prelude.{ℤ, Bool}
-use Rattle.socket_base.specs.Packet.{PacketValue}
+use Rattle.std.proofs.Common.{◌≡◌, ℕ, ◌+◌, ◌*◌, ◌≤◌, List, ◌∷◌, sym, ◌∙◌, ap, subst, arith}
+use Rattle.std.specs.Prelude.{ℤ}
 use Rattle.net_base.specs.DeviceCapabilities.{DeviceCapabilities}
-use Rattle.ip_wire.specs.HardwareAddress.{HardwareAddress}
 use Rattle.interface.specs.State.{State}
 use Rattle.interface_laws.proofs.Hosts.{settings_so}
 use Rattle.lan_net.specs.History.{Entry}
@@ -30,9 +28,9 @@ use Rattle.net_base.specs.Medium.{Medium}
 use Rattle.lan_stations.specs.Origins.{medium_of}
 use Rattle.lan_link.specs.Sides.{IsSender, IsReceiver}
 use Rattle.lan_link.proofs.Begun.{tied_same}
-use Rattle.lan_theorem.specs.Joins.{Sends, Receives, AreJoined}
-use Rattle.lan_theorem.specs.Linked.{IsOther, IsLinked}
-use Rattle.lan_theorem.proofs.Acts.{HasActed, joins_grow, acted_joins, polled_acts}
+use Rattle.lan_theorem.specs.Joins.{AreJoined}
+use Rattle.lan_theorem.specs.Linked.{IsLinked}
+use Rattle.lan_theorem.proofs.Acts.{joins_grow, acted_joins, polled_acts}
 use Rattle.lan_theorem.proofs.Keeps.{is_link}
 
 module _ (firsts most : Side → ℕ) (old new : Stations) (net : Net) (past : List Entry) (e : Entry) (j : AreJoined firsts most old net) (of : IsNetOf net old past)

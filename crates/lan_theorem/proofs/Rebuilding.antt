@@ -1,29 +1,26 @@
 -- What a host rebuilds, the other host made; and no damage did harm.
-use Rattle.std.proofs.Common.{◌≡◌, ◌⊎◌, inl, inr, ℕ, ◌^◌, ◌<◌, ◌≤◌, List, [], ◌∷◌, length, Option, Some, None, refl, sym, ◌∙◌, ap, arith}
+use Rattle.std.proofs.Common.{◌≡◌, ◌⊎◌, inl, inr, ℕ, List, [], length, sym, ◌∙◌, ap, arith}
 use Rattle.ip_wire.specs.Ip as Ips
 use Rattle.ip_wire.specs.Ip.{carried_in}
 use Rattle.ip_wire.specs.IpProtocol.{IpProtocol}
 use Rattle.ip_wire.specs.IpProtocol.TheVariants as Protocol
 use Rattle.ip_wire.specs.IpRepr.{IpRepr}
-use Rattle.ip_wire.specs.IpRepr.TheVariants as Ip
-use Rattle.ip_wire.specs.Ipv4 as Ipv4
 use Rattle.ip_wire.specs.Ipv4FragKey.{Ipv4FragKey}
 use Rattle.ip_wire.specs.Ipv4Repr.{Ipv4Repr}
-use Rattle.socket_base.specs.Packet.{PacketValue, PayloadValue}
+use Rattle.socket_base.specs.Packet.{PacketValue}
 use Rattle.interface_ingress.specs.Reassembled.{uncut}
-use Rattle.interface_ingress.specs.Sent.{CanBeRead, normal_payload}
+use Rattle.interface_ingress.specs.Sent.{normal_payload}
 use Rattle.interface_delivery.specs.Delivered.{NamesNoPorts}
 use Rattle.lan_net.specs.History.{Entry}
 use Rattle.lan_net.specs.Kinds.{other}
-use Rattle.lan_net.specs.declared.event.Side.{Side}
-use Rattle.lan_packets.specs.Parties.{Party, Net, party}
+use Rattle.lan_packets.specs.Parties.{Party, party}
 use Rattle.lan_stations.specs.Fresh.{IsFreshWorld}
 use Rattle.lan_stations.specs.Runs.{Starts, unused_both, WorldRun}
 use Rattle.lan_stations.specs.Station.{StationValue, Stations, station}
 use Rattle.lan_moves.specs.Made.{MadeBy}
 use Rattle.lan_link.specs.Frames.{BringsFrom}
 use Rattle.lan_link.specs.Held.{IsPayloadOf, IsRebuiltOf}
-use Rattle.lan_link.specs.Numbers.{count_v4, AreFew}
+use Rattle.lan_link.specs.Numbers.{AreFew}
 use Rattle.lan_link.specs.Sides.{AreSent}
 use Rattle.lan_link.proofs.Slots.{all_at}
 use Rattle.lan_link.proofs.Taken.{taken_rebuilds}

@@ -1,12 +1,11 @@
 -- Wherever a history of typed events led from two fresh hosts, they are joined, and so their sockets are safe.
-use Rattle.std.proofs.Common.{◌≡◌, ℕ, ◌+◌, ◌^◌, ◌<◌, ◌≤◌, List, [], ◌∷◌, ◌++◌, length, Option, Some, None, refl, sym, ◌∙◌, ap, subst, arith}
+use Rattle.std.proofs.Common.{◌≡◌, ℕ, ◌+◌, ◌^◌, ◌<◌, ◌≤◌, List, [], ◌∷◌, ◌++◌, refl, sym, ◌∙◌, ap, subst, arith}
 use Rattle.std.specs.Prelude.{ℤ}
 use Rattle.socket_base.specs.Packet.{PacketValue}
 use Rattle.lan_net.specs.History.{Entry}
-use Rattle.lan_net.specs.Kinds.{other, kind_of, Kind, Act, LinkAct, Setting}
+use Rattle.lan_net.specs.Kinds.{other, kind_of, Kind}
 use Rattle.lan_net.specs.Kinds.Act.{Calls, Sets, Opens, Asks, Polls}
 use Rattle.lan_net.specs.Kinds.Kind.{OfHost, OfLink}
-use Rattle.lan_net.specs.declared.answer.Answer.{Answer}
 use Rattle.lan_net.specs.declared.event.Side.{Side}
 use Rattle.lan_net.specs.declared.event.Side.TheVariants.{A, B}
 use Rattle.lan_packets.specs.Moves.{IsRun, run}
@@ -17,9 +16,8 @@ use Rattle.lan_stations.specs.Fresh.{IsFreshWorld}
 use Rattle.lan_stations.specs.Origins.{medium_of, numbered}
 use Rattle.lan_stations.specs.Runs.{Starts, unused_both, WorldRun, Leads}
 use Rattle.lan_stations.specs.Safe.{first_port, net_of}
-use Rattle.lan_stations.specs.Station.{StationValue, Stations, station}
+use Rattle.lan_stations.specs.Station.{Stations, station}
 use Rattle.lan_stations.specs.Steps.{Happens, ActsAt}
-use Rattle.tcp_model.specs.State as States
 use Rattle.lan_moves.specs.Follows.{IsNetOf, Comes, IsNoPoll}
 use Rattle.lan_moves.specs.Joined.{first_net, HasCome}
 use Rattle.lan_moves.specs.Fit.{IsFit, AreFit}

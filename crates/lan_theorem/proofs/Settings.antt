@@ -1,7 +1,6 @@
 -- A setting keeps what is said of a host's frames.
-use Rattle.std.proofs.Common.{◌≡◌, ℕ, Bool, true, false, cond, List, [], ◌∷◌, length, replicate, ◌≤◌, Option, Some, None, IfSome, refl, sym, ◌∙◌, ap, subst, arith}
+use Rattle.std.proofs.Common.{◌≡◌, ℕ, Bool, true, false, cond, List, length, replicate, ◌≤◌, Option, Some, None, IfSome, refl, sym, ap, subst, arith}
 use Rattle.std.specs.List.{AllByRecursion, list_any}
-use Rattle.net_base.specs.Medium.{Medium}
 use Rattle.ip_wire.specs.AddressTests.{is_ethernet_unicast}
 use Rattle.ip_wire.specs.EthernetAddress.{EthernetAddress}
 use Rattle.ip_wire.specs.HardwareAddress.{HardwareAddress}
@@ -10,16 +9,14 @@ use Rattle.ip_wire.specs.Address.{IsIpAddress}
 use Rattle.ip_wire.specs.IpAddress.{IpAddress}
 use Rattle.ip_wire.specs.IpAddress.TheVariants as Address
 use Rattle.ip_wire.specs.IpCidr.{IpCidr}
-use Rattle.socket_base.specs.Packet.{PacketValue, PayloadValue}
+use Rattle.socket_base.specs.Packet.{PacketValue}
 use Rattle.interface_tables.specs.Inner.{InnerValue}
 use Rattle.interface_tables.specs.Neighbor.{flushed}
 use Rattle.interface_tables.specs.Route.{is_gateway_v4, is_gateway_v6, IsGateway, IsAdded}
 use Rattle.interface_tables.specs.declared.route.Route.{Route}
-use Rattle.interface_tables.specs.Settings.{hardware_refusal, if_none, with_hardware, is_stranger, with_addresses, with_any_ip, with_routes, used}
-use Rattle.interface_tables.specs.declared.config.HardwareAddrError.{HardwareAddrError}
+use Rattle.interface_tables.specs.Settings.{hardware_refusal, if_none, is_stranger, with_addresses, with_any_ip, with_routes, used}
 use Rattle.interface_tables.specs.declared.config.HardwareAddrError.TheVariants as Set
 use Rattle.interface_egress.specs.Fragments.{LeftValue}
-use Rattle.interface_ingress.specs.Reassembled.{Slots}
 use Rattle.interface.specs.Host.{HostValue}
 use Rattle.interface.specs.Made.{with_inner, with_timeout}
 use Rattle.lan_net.specs.Kinds.{Setting, other}
@@ -33,7 +30,7 @@ use Rattle.lan_moves.specs.Made.{MadeBy}
 use Rattle.lan_link.specs.Frames.{medium_on, BringsFrom}
 use Rattle.lan_link.specs.Numbers.{count_v4}
 use Rattle.lan_link.proofs.Routers.{added_routers}
-use Rattle.lan_link.specs.Sides.{RoutersAre, IsSound, IsSameKind, IsLeft, IsHostFrame, IsSender, IsReceiver}
+use Rattle.lan_link.specs.Sides.{RoutersAre, IsSound, IsSameKind, IsLeft, IsHostFrame}
 use Rattle.lan_theorem.specs.Events.{HasRange}
 use Rattle.lan_theorem.specs.Joins.{Sends, Receives, AreJoined}
 use Rattle.lan_theorem.proofs.Acts.{IsSettled, HasActed, settled_acts, acted_joins}

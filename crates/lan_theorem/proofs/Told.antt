@@ -1,10 +1,9 @@
 -- An ARP packet that a host answers with goes between two stations.
-use Rattle.std.proofs.Common.{◌≡◌, ℕ, ◌+◌, ◌-◌, ◌^◌, ◌<◌, ◌≤◌, Bool, true, false, cond, List, length, take, drop, Option, Some, None, refl, sym, ◌∙◌, ap, subst, arith, length-take, length-drop}
+use Rattle.std.proofs.Common.{◌≡◌, ℕ, ◌-◌, ◌^◌, ◌≤◌, Bool, true, false, cond, List, length, take, drop, Option, Some, None, refl, sym, ◌∙◌, ap, subst, arith, length-take, length-drop}
 use Rattle.std.specs.Prelude.{nat_lt}
 use Rattle.net_base.specs.ChecksumCapabilities.{ChecksumCapabilities}
 use Rattle.ip_wire.specs.Arp as Wire
 use Rattle.ip_wire.specs.Ethernet as Ethernet
-use Rattle.ip_wire.specs.EthernetAddress.{EthernetAddress}
 use Rattle.ip_wire.specs.HardwareAddress.{HardwareAddress}
 use Rattle.ip_wire.specs.HardwareAddress.TheVariants as Hardware
 use Rattle.ip_wire.specs.IpAddress.TheVariants as Address
@@ -12,7 +11,6 @@ use Rattle.ip_wire.specs.IpRepr.{IpRepr}
 use Rattle.ip_wire.specs.IpRepr.TheVariants as Ip
 use Rattle.ip_wire.specs.Ipv4Piece.{Ipv4Piece}
 use Rattle.ip_wire.specs.Ipv4Repr.{Ipv4Repr}
-use Rattle.ip_wire.specs.declared.arp.kinds.ArpOperation.{ArpOperation}
 use Rattle.ip_wire.specs.declared.arp.kinds.ArpOperation.TheVariants as Operation
 use Rattle.ip_wire.specs.declared.arp.repr.ArpRepr.{ArpRepr}
 use Rattle.ip_wire.specs.declared.arp.repr.ArpRepr.TheVariants as ArpIs
@@ -22,7 +20,7 @@ use Rattle.interface_tables.specs.Inner.{InnerValue, is_for_us}
 use Rattle.interface_ingress.specs.Arp as Arps
 use Rattle.interface_ingress.specs.Arp.{arp_answer, answer_at}
 use Rattle.interface_ingress.specs.Arrives as Replies
-use Rattle.interface_ingress.specs.Arrives.{ReplyValue, Arrived, ArrivesV4, ArrivesV6, Brings, told, answered, whole_after}
+use Rattle.interface_ingress.specs.Arrives.{Arrived, ArrivesV4, ArrivesV6, Brings, told, answered, whole_after}
 use Rattle.interface_ingress.specs.Delivered.{Places}
 use Rattle.interface_ingress.specs.Incoming.{IncomingValue, Arp, Ip4, Ip6, IsIncoming, IsContent}
 use Rattle.interface_ingress.specs.Reassembled.{Slots, is_piece, is_taken_in, taken_in, bytes_at, kept, place_in, rebuilt, uncut, whole_of}

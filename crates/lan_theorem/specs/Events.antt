@@ -2,7 +2,7 @@
 use Rattle.std.specs.Prelude.{◌<◌, ◌^◌, List, [], ◌∷◌}
 use Rattle.ip_wire.specs.Address.{IsEthernetAddress, IsIpAddress}
 use Rattle.lan_net.specs.History.{Entry}
-use Rattle.lan_net.specs.Kinds.{Kind, Act, Setting, LinkAct, Origin, Delivered, Damaged, Noisy, kind_of}
+use Rattle.lan_net.specs.Kinds.{Kind, Setting, Origin, Delivered, Damaged, Noisy, kind_of}
 use Rattle.lan_net.specs.Kinds as Settings
 use Rattle.lan_net.specs.Kinds.Kind.{OfHost, OfLink}
 use Rattle.lan_net.specs.Kinds.Act.{Calls, Sets, Opens, Asks, Polls}

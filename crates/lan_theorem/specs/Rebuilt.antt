@@ -1,5 +1,5 @@
 -- What is rebuilt from pieces is what the other host made.
-use Rattle.std.specs.Prelude.{◌≡◌, ◌⊎◌, ℕ, true, List, [], length, slice_get, Option, None, Some}
+use Rattle.std.specs.Prelude.{◌≡◌, ◌⊎◌, ℕ, true, List, length, slice_get, Option, Some}
 use Rattle.net_base.specs.Medium.TheVariants as Medium
 use Rattle.ip_wire.specs.IpProtocol.TheVariants as Protocol
 use Rattle.ip_wire.specs.IpRepr.TheVariants as Ip
@@ -9,7 +9,7 @@ use Rattle.ip_wire.specs.Ipv4Repr.{Ipv4Repr}
 use Rattle.ip_wire.specs.declared.ethernet.repr.EthernetRepr.{EthernetRepr}
 use Rattle.socket_base.specs.Packet.{PacketValue}
 use Rattle.interface_ingress.specs.Arrives.{whole_after}
-use Rattle.interface_ingress.specs.Incoming.{Ip4, IsContent}
+use Rattle.interface_ingress.specs.Incoming.{IncomingValue, Ip4, IsContent}
 use Rattle.interface_ingress.specs.Reassembled.{is_piece, uncut}
 use Rattle.interface_ingress.specs.Sent.{normal_payload}
 use Rattle.lan_frames.specs.Carried.{names_tcp_or_udp}
@@ -23,6 +23,10 @@ use Rattle.lan_moves.specs.Follows.{IsNetOf}
 use Rattle.lan_moves.specs.Joined.{first_net}
 use Rattle.lan_moves.specs.Made.{MadeBy}
 use Rattle.lan_link.specs.Made.{bytes_of}
+
+-- what a content is to a host that takes it next: itself, the whole datagram that it completes, or nothing yet
+abbrev pub taken_next : StationValue → Option IncomingValue → Option IncomingValue
+taken_next s = whole_after s.host.inner s.host.timeout s.host.slots
 
 abbrev pub NamesPorts : Ipv4Repr → Type 0
 NamesPorts h = (h.next_header ≡ Protocol.Tcp) ⊎ (h.next_header ≡ Protocol.Udp)
@@ -39,7 +43,7 @@ pub record Rebuilds (s : StationValue) (h : Ipv4Repr) (payload : List ℕ) : Typ
   pub read : IsContent s.host.inner.hardware s.host.inner.checksums frame (Some (Ip4 link h piece slice))
   pub cut : is_piece piece ≡ true
   pub ports : NamesPorts h
-  pub whole : whole_after s.host.inner s.host.timeout s.host.slots (Some (Ip4 link h piece slice)) ≡ Some (Ip4 link (record h { payload_len = length payload }) uncut payload)
+  pub whole : taken_next s (Some (Ip4 link h piece slice)) ≡ Some (Ip4 link (record h { payload_len = length payload }) uncut payload)
 
 -- It is the payload of one packet, with the same identification, addresses and protocol, whose segment or datagram this host made.
 pub record IsOfMade (q : Party) (h : Ipv4Repr) (payload : List ℕ) : Type 0 where

@@ -1,6 +1,5 @@
 -- A world that was just made.
-use Rattle.std.proofs.Common.{◌≡◌, ℕ, Bool, true, false, not, ◌&&◌, if◌then◌else◌, List, [], ◌∷◌, length, replicate, Option, None, Some, refl, sym, subst, ◌∙◌, ap}
-use Rattle.std.specs.List.{count_by}
+use Rattle.std.proofs.Common.{◌≡◌, ℕ, Bool, true, false, not, ◌&&◌, List, [], ◌∷◌, length, replicate, None, refl, ◌∙◌, ap}
 use Rattle.std.proofs.lemmas.Bool.{false≢true, and_parts, eqb-true}
 use Rattle.ip_wire.specs.HardwareAddress.{HardwareAddress}
 use Rattle.ip_wire.specs.HardwareAddress.TheVariants as Hardware
@@ -8,19 +7,16 @@ use Rattle.net_base.specs.Capabilities.{ip_mtu}
 use Rattle.net_base.specs.Medium.{Medium}
 use Rattle.net_base.specs.Medium.TheVariants as Medium
 use Rattle.interface.specs.Made.{IsIdle}
-use Rattle.interface_tables.specs.Settings.{is_of_medium, is_mtu}
+use Rattle.interface_tables.specs.Settings.{is_of_medium}
 use Rattle.lan_net.specs.Tables.{no_record}
 use Rattle.lan_net.specs.declared.event.Side.{Side}
 use Rattle.lan_net.specs.declared.event.Side.TheVariants.{A, B}
-use Rattle.lan_port.specs.Port.{LinkEnd, unused_end}
-use Rattle.lan_stations.specs.Fresh.{IsTypedHost, IsFreshStart, IsFreshWorld}
-use Rattle.lan_stations.specs.Origins.{medium_of, begins_datagram}
-use Rattle.lan_stations.specs.Refusals.{Table}
-use Rattle.lan_stations.specs.Runs.{unused, unused_both, table_in, tables_in}
-use Rattle.lan_stations.specs.Station.{StationValue, Stations}
+use Rattle.lan_port.specs.Port.{LinkEnd}
+use Rattle.lan_stations.specs.Fresh.{IsTypedHost, IsFreshStart}
+use Rattle.lan_stations.specs.Runs.{unused, unused_both, table_in}
+use Rattle.lan_stations.specs.Station.{StationValue}
 use Rattle.lan_world.specs.Come.{start_of, starts_of, both, tables, HasCome}
-use Rattle.lan_world.specs.New.{has_one_medium, has_checksums, has_mtu, has_buffers, of_each, is_fresh, is_empty, first_error, new_error}
-use Rattle.lan_world.specs.declared.error.WorldError.{WorldError}
+use Rattle.lan_world.specs.New.{has_one_medium, has_checksums, has_mtu, has_buffers, of_each, is_fresh, first_error, new_error}
 use Rattle.lan_world.specs.declared.error.WorldError.TheVariants as Since
 use Rattle.lan_world.proofs.Unused.{empty, on_is, unused_at}
 

@@ -1,5 +1,5 @@
 -- One event more.
-use Rattle.std.proofs.Common.{◌≡◌, ◌≤◌, ℕ, List, ◌∷◌, length, Option, None, refl, sym, subst, ◌∙◌, ap}
+use Rattle.std.proofs.Common.{◌≡◌, ◌≤◌, ℕ, List, ◌∷◌, length, None, refl, sym, subst, ◌∙◌, ap}
 use Rattle.lan_net.specs.History.{Entry}
 use Rattle.lan_net.specs.Kinds.{kind_of}
 use Rattle.lan_net.specs.declared.event.Side.{Side}
@@ -10,11 +10,11 @@ use Rattle.net_base.specs.Medium.{Medium}
 use Rattle.lan_stations.specs.Origins.{medium_of, numbered}
 use Rattle.lan_stations.specs.Records.{table_next}
 use Rattle.lan_stations.specs.Refusals.{Table, Tables, refusal}
-use Rattle.lan_stations.specs.Runs.{WorldValue, Step, Leads, WorldRun, unused_both, table_in, tables_in, counts_of, refusal_in}
+use Rattle.lan_stations.specs.Runs.{WorldValue, Step, Leads, table_in, counts_of, refusal_in}
 use Rattle.lan_stations.specs.Station.{StationValue, Stations, station}
 use Rattle.lan_stations.specs.Steps.{Happens}
 use Rattle.lan_theorem.specs.Events.{IsTyped}
-use Rattle.lan_world.specs.Come.{starts_of, both, tables, world, HasCome}
+use Rattle.lan_world.specs.Come.{both, tables, world, HasCome}
 use Rattle.lan_world.specs.Past.{counts_in, entry}
 use Rattle.lan_world.specs.declared.history.Note.{Note}
 

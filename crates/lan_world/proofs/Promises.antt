@@ -1,5 +1,5 @@
 -- The laws of worlds, of a world that came from fresh hosts.
-use Rattle.std.proofs.Common.{◌≡◌, ℕ, List, subst, sym}
+use Rattle.std.proofs.Common.{ℕ, List}
 use Rattle.lan_net.specs.History.{Entry}
 use Rattle.lan_net.specs.declared.event.Side.{Side}
 use Rattle.lan_net.specs.declared.event.Side.TheVariants.{A, B}

@@ -1,6 +1,6 @@
 -- What the tests of a fresh host find.
 use Rattle.std.proofs.Common.{◌≡◌, ℕ, zero, suc, Bool, true, false, not, ◌||◌, if◌then◌else◌, List, [], ◌∷◌, length, Option, None, Some, refl, sym, subst, arith}
-use Rattle.std.specs.Prelude.{◌==◌, slice_get}
+use Rattle.std.specs.Prelude.{◌==◌}
 use Rattle.std.specs.List.{list_all}
 use Rattle.std.proofs.lemmas.Bool.{false≢true, and_parts, not-true, eqb-true}
 use Rattle.net_base.specs.Capabilities.{all_checksums}
@@ -9,7 +9,7 @@ use Rattle.net_base.specs.Checksum.TheVariants as On
 use Rattle.net_base.specs.ChecksumCapabilities.{ChecksumCapabilities}
 use Rattle.net_base.specs.Packets.{QueuedPacket, Packets, packets_in, contents}
 use Rattle.datagram_sockets.specs.SocketValue.{has_packets, due}
-use Rattle.interface_egress.specs.Set.{socket_at, socket_in, socket_of}
+use Rattle.interface_egress.specs.Set.{socket_at, socket_of}
 use Rattle.interface_egress.specs.declared.socket_set.SocketStorage.{SocketStorage}
 use Rattle.interface_egress.specs.declared.socket_set.Item.{Item}
 use Rattle.sockets.specs.declared.socket.Socket.{Socket}
@@ -20,7 +20,7 @@ use Rattle.tcp_control.specs.States.{is_closed, takes_text}
 use Rattle.tcp_control.specs.declared.state.State.{State}
 use Rattle.tcp_control.specs.declared.state.State.TheVariants as In
 use Rattle.tcp_control.specs.declared.endpoints.EndpointPair.{EndpointPair}
-use Rattle.tcp_model.specs.Calls.{recv_refusal, nothing_left}
+use Rattle.tcp_model.specs.Calls.{nothing_left}
 use Rattle.tcp_model.specs.Value.{TcpValue}
 use Rattle.tcp_socket.specs.Socket.{local_in}
 use Rattle.std.specs.Prelude.{is_some}

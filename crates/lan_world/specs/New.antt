@@ -1,5 +1,5 @@
 -- Why two hosts make no world. The first test that holds says why.
-use Rattle.std.specs.Prelude.{◌≡◌, ◌⊎◌, ℕ, ◌+◌, ◌==◌, not, ◌&&◌, Bool, true, false, if◌then◌else◌, List, [], ◌∷◌, length, Option, None, Some, is_some}
+use Rattle.std.specs.Prelude.{◌≡◌, ◌⊎◌, ◌+◌, ◌==◌, not, ◌&&◌, Bool, true, false, if◌then◌else◌, List, [], ◌∷◌, length, Option, None, Some, is_some}
 use Rattle.std.specs.List.{list_all}
 use Rattle.datagram_sockets.specs.SocketValue.{has_packets, due}
 use Rattle.interface_egress.specs.declared.socket_set.SocketStorage.{SocketStorage}

@@ -1,5 +1,5 @@
 -- The history that events, notes and answers say, each list in the order in which they came.
-use Rattle.std.specs.Prelude.{◌≡◌, ℕ, ◌-◌, min, List, [], ◌∷◌, length, vec_len, vec_capacity}
+use Rattle.std.specs.Prelude.{◌≡◌, ℕ, ◌-◌, List, [], ◌∷◌, length, vec_len, vec_capacity}
 use Rattle.std.specs.Global.{Vec}
 use Rattle.lan_net.specs.History.{Counts, Entry}
 use Rattle.lan_net.specs.declared.answer.Answer.{Answer}

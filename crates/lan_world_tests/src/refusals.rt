@@ -2,6 +2,8 @@
 use crate::hosts::{Hosts, Sockets, tell, world};
 use crate::table::Line::Step;
 use crate::table::{Case, Do, Line, Says, first_wrong_case};
+use lan_net::{SocketKind, SocketRecord};
+use lan_stations::refusal::send_refusal;
 use lan_world::{Event, Fault, Refused, Side, World};
 use net_base::Medium;
 use std::alloc::{AllocError, Global};
@@ -238,6 +240,22 @@ fn a_run_stops_at_the_first_refusal(rt: HostRuntime) -> Result<(), Fail> {
     };
     assert!(rt; end == Err((1, Refused::NoSocket)));
     assert_eq!(rt; world.answers().len(), 1);
+    Ok(())
+}
+
+/// Of the bytes that a socket accepted a world keeps the count: so the last one that is taken is shown without half a gigabyte.
+#[test]
+fn a_socket_accepts_fewer_than_2_to_the_29_bytes(rt: HostRuntime) -> Result<(), Fail> {
+    let nearly = SocketRecord {
+        opened: None,
+        accepted: (1 << 29) - 3,
+    };
+    let kind = Some(SocketKind::Tcp);
+    let two = send_refusal(kind, &[nearly], 0, b"ab");
+    let three = send_refusal(kind, &[nearly], 0, b"abc");
+    let fresh = SocketRecord::NONE;
+    let all = (fresh.is_too_many((1 << 29) - 1), fresh.is_too_many(1 << 29));
+    assert!(rt; (two, three, all) == (None, Some(Refused::TooManyBytes), (false, true)));
     Ok(())
 }
 

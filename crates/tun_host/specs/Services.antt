@@ -1,5 +1,6 @@
 -- The services at the places of a host's sockets, and what a turn makes of them.
-use Rattle.std.specs.Prelude.{◌≡◌, ℕ, zero, suc, ◌==◌, nat_lt, if◌then◌else◌, List, length, codes, slice_index_or, Option, None, Some}
+use Rattle.std.specs.Prelude.{◌≡◌, ℕ, zero, suc, ◌==◌, nat_lt, ◌||◌, if◌then◌else◌, List, ◌++◌, length, take, drop, codes, slice_index_or, Option, None, Some, IsPermutation}
+use Rattle.std.specs.List.Sorted.{IsNonDecreasingBy}
 use Rattle.interface_egress.specs.Set.{free}
 use Rattle.interface_egress.specs.declared.socket_set.Item.{Item}
 use Rattle.interface_egress.specs.declared.socket_set.SocketStorage.{SocketStorage}
@@ -7,6 +8,7 @@ use Rattle.services.specs.Echo.{datagram_echoed, stream_echoed}
 use Rattle.services.specs.Page.{IsServed}
 use Rattle.sockets.specs.declared.socket.Socket.{Socket}
 use Rattle.sockets.specs.declared.socket.Socket.TheVariants as Is
+use Rattle.tcp_control.specs.States.{is_closed, is_listening}
 use Rattle.tun_host.specs.declared.place.Service.{Service}
 use Rattle.tun_host.specs.declared.place.Service.TheVariants.{Datagrams, Streams, Page}
 use Rattle.tun_host.specs.declared.place.TheConstants.{ECHO_PORT, PAGE_PORT}
@@ -75,3 +77,31 @@ PlaceServes service old new = ItemServes service old.inner new.inner
 pub record AreServed (old new : List (SocketStorage Socket)) : Type 0 where
   pub count : length new ≡ length old
   pub each : (i : ℕ) → PlaceServes (service_at i) (slice_index_or old i free) (slice_index_or new i free)
+
+-- THE ORDER OF THE PLACES
+
+-- 1 of a TCP socket without a connection, else 0
+abbrev pub socket_rank : Socket → ℕ
+socket_rank (Is.Tcp v) = if is_closed v.block.state || is_listening v.block.state then 1 else 0
+socket_rank s = 0
+
+abbrev pub item_rank : Option (Item Socket) → ℕ
+item_rank None = 0
+item_rank (Some item) = socket_rank item.socket
+
+abbrev pub rank : SocketStorage Socket → ℕ
+rank place = item_rank place.inner
+
+-- the same sockets, and each that has a connection before each that has none
+pub record ConnectedFirst (old new : List (SocketStorage Socket)) : Type 0 where
+  pub moved : IsPermutation old new
+  pub ranks : IsNonDecreasingBy rank new
+
+-- within the places of each service, the sockets that have a connection come first: so a segment, which goes to the first socket that
+-- accepts it, comes to the one that has its connection, and not to a listener in front of it
+pub record AreArranged (old new : List (SocketStorage Socket)) : Type 0 where
+  pub streams : List (SocketStorage Socket)
+  pub pages : List (SocketStorage Socket)
+  pub streams_first : ConnectedFirst (take 4 (drop 1 old)) streams
+  pub pages_first : ConnectedFirst (drop 4 (drop 1 old)) pages
+  pub whole : new ≡ take 1 old ++ (streams ++ pages)

@@ -9,7 +9,7 @@ use Rattle.interface_egress.specs.declared.socket_set.SocketStorage.{SocketStora
 use Rattle.interface_tables.specs.Inner.{at_moment}
 use Rattle.sockets.specs.declared.socket.Socket.{Socket}
 use Rattle.tun_host.specs.Begins.{Begins, RefusesAddress}
-use Rattle.tun_host.specs.Services.{AreServed, echo_room, most_request}
+use Rattle.tun_host.specs.Services.{AreServed, AreArranged, echo_room, most_request}
 use Rattle.tun_host.specs.Settings.{settings_in}
 use Rattle.tun_host.specs.declared.error.ServeError.{ServeError}
 use Rattle.tun_host.specs.declared.error.ServeError.TheVariants.{Turn as NoTurn, Settings as NoSettings, Turns}
@@ -41,17 +41,20 @@ budget = 64
 abbrev pub with_packet : HostState → List ℕ → HostState
 with_packet s packet = at_device s (record s.device { waiting = unless_empty packet })
 
--- The packet comes, the interface is polled at the turn's moment, the services do what can be done, and the interface is polled
--- again; then it is asked when it wants to be polled next. Nothing but the host before, the packet and the moment goes in.
+-- The packet comes, the interface is polled at the turn's moment, the services do what can be done, their sockets are arranged, and
+-- the interface is polled again; then it is asked when it wants to be polled next. Nothing but the host before, the packet and the
+-- moment goes in.
 pub record TakesTurn (old : HostState) (moment : ℤ) (packet : List ℕ) (next : Option ℤ) (new : HostState) : Type 0 where
   pub come : HostState
   pub served : List (SocketStorage Socket)
+  pub arranged : List (SocketStorage Socket)
   pub gone : HostState
   pub changed : Bool
   pub changed_again : Bool
   pub takes : Polls DrainMove moment budget (with_packet old packet) changed come
   pub serves : AreServed come.places served
-  pub sends : Polls DrainMove moment budget (state come.device come.host served) changed_again gone
+  pub arranges : AreArranged served arranged
+  pub sends : Polls DrainMove moment budget (state come.device come.host arranged) changed_again gone
   pub asked : next ≡ poll_instant (at_moment moment gone.host.inner) gone.host.left gone.places
   pub after : new ≡ state gone.device (host_at moment gone.host) gone.places
 

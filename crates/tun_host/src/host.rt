@@ -4,12 +4,13 @@ ghost use Rattle.std.specs.Io.KnownBytes.{Appends};
 ghost use Rattle.interface_egress.specs.Set.{places};
 ghost use Rattle.net_base.specs.Time.{IsMoment};
 ghost use Rattle.tun_host.specs.Begins.{Begins, RefusesAddress};
-ghost use Rattle.tun_host.specs.Services.{echo_room, most_request, AreServed};
+ghost use Rattle.tun_host.specs.Services.{echo_room, most_request, AreServed, AreArranged};
 ghost use Rattle.tun_host.specs.Turns.{state_of, HasBuffers, budget, TakesTurn, Answers};
 ghost use Rattle.interface.specs.State.{state};
 ghost use Rattle.interface.specs.Polls.{Polls, is_change};
 ghost use Rattle.tun_link.specs.Drain.{DrainMove};
 
+use crate::arrange::arrange_places;
 use crate::error::ServeError;
 use crate::interface_of::{capabilities, interface};
 use crate::place::serve_places;
@@ -70,6 +71,16 @@ fn serve(sockets: &mut SocketSet<Socket>, buffer: &mut [u8], request: &mut [u8])
     }
 }
 
+/// The sockets that have a connection go before those of their service that have none.
+fn arrange(sockets: &mut SocketSet<Socket>)
+    ensures { AreArranged (places sockets.old) (places sockets.new) }
+{
+    match &mut sockets.sockets {
+        ManagedSlice::Fixed(places) => arrange_places(places.as_mut_slice()),
+        ManagedSlice::Owned(places) => arrange_places(places.as_mut_slice()),
+    }
+}
+
 impl Host {
     /// A host of these settings, from this moment on.
     pub fn new(alloc: Global, settings: &Settings, now: Instant) -> Result<Host, ServeError>
@@ -110,6 +121,7 @@ impl Host {
             self.buffer.as_mut_slice(),
             self.request.as_mut_slice(),
         );
+        arrange(&mut self.sockets);
         let _ = poll(&mut self.interface, &mut self.drain, &mut self.sockets, now);
         self.interface.poll_at(now, &self.sockets)
     }

@@ -2,13 +2,16 @@
 //! on port 7, and serves a page on port 80.
 #![tactic(auto)]
 
+mod arrange;
 mod error;
 mod host;
 mod interface_of;
 mod place;
+mod program;
 mod settings;
 mod sockets_of;
 mod turns;
 
 pub use error::ServeError;
+pub use program::run;
 pub use turns::serve;

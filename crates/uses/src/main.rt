@@ -3,12 +3,10 @@
 
 mod containers;
 mod packets;
-mod simulation;
 mod sockets_in_use;
 
 use anyhow::Result;
 use ip_wire::IpAddress;
-use lan::Side;
 
 fn main(rt: HostRuntime) -> Result<()> {
     let alloc = rt.alloc();
@@ -26,13 +24,5 @@ fn main(rt: HostRuntime) -> Result<()> {
         &[0xaa, 0x00, 0x00, 0xff],
     );
     println!(rt; "datagram: {}", hex::encode(alloc, &datagram)?)?;
-
-    let world = simulation::delivered_twice(alloc, b"query")?;
-    for frame in world.sent(Side::A) {
-        println!(rt; "frame: {}", hex::encode(alloc, frame.as_slice())?)?;
-    }
-    for answer in world.answers() {
-        println!(rt; "{}", simulation::described(alloc, answer)?)?;
-    }
     Ok(())
 }

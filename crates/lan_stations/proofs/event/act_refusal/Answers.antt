@@ -1,4 +1,4 @@
-use Rattle.std.proofs.Common.{◌≡◌, ℕ, Bool, List, refl, sym, ap, ◌∙◌}
+use Rattle.std.proofs.Common.{ℕ, Bool, List, refl, sym, ap, ◌∙◌}
 use Rattle.lan_frames.specs.Carried.{names_tcp_or_udp}
 use Rattle.net_base.specs.Medium.TheVariants as Medium
 use Rattle.lan_net.specs.Call as Call

@@ -1,4 +1,4 @@
-use Rattle.std.proofs.Common.{◌≡◌, ℕ, List, ap, ◌∙◌}
+use Rattle.std.proofs.Common.{ℕ, List, ap, ◌∙◌}
 use Rattle.lan_frames.specs.Cuts.{first_piece, second_piece}
 use Rattle.net_base.specs.Medium.{Medium}
 use Rattle.lan_stations.specs.Linking.{frame_at}

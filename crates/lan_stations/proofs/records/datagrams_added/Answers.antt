@@ -1,4 +1,4 @@
-use Rattle.std.proofs.Common.{◌≡◌, ℕ, List, sym, ap, ◌∙◌}
+use Rattle.std.proofs.Common.{ℕ, List, sym, ap, ◌∙◌}
 use Rattle.std.specs.List.{count_by}
 use Rattle.net_base.specs.Device.{frames_of}
 use Rattle.net_base.specs.Medium.{Medium}

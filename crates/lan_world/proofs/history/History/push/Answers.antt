@@ -1,5 +1,4 @@
 use Rattle.std.proofs.Common.{◌∷◌, ◌∙◌, ap}
-use Rattle.lan_net.specs.History.{Entry}
 use Rattle.lan_world.specs.Past.{PastValue, entry}
 use Rattle.lan_world.proofs.Pasts.{pushed}
 use Rattle.lan_world.proofs.history.History.push.Goals as goal

@@ -15,11 +15,13 @@ returns-clause-turn c =
     record {
       come = come;
       served = places c.serve.new.sockets;
+      arranged = places c.arrange.new.sockets;
       gone = gone;
       changed = is_change c.poll.result;
       changed_again = is_change c.poll-2.result;
       takes = subst (λ (d : DrainValue). Polls DrainMove c.args.now budget (state d before.interface (places before.sockets)) (is_change c.poll.result) come) c.put.ensures c.poll.ensures;
       serves = c.serve.ensures;
+      arranges = c.arrange.ensures;
       sends = c.poll-2.ensures;
       asked = c.poll_at.ensures.value;
       after = ap (λ (h : HostValue). state c.poll-2.new.drain h (places c.poll-2.new.sockets)) c.poll_at.ensures.after;

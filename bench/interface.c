@@ -1,0 +1,149 @@
+// Times whole runs of interfaces over a link in memory whose buffers are used again: polls of a host whose sockets have
+// nothing to do, datagrams to another host and back, and a TCP connection's bytes. Each figure is the best of several runs.
+// It counts what each run allocates (linked with --wrap for malloc, calloc and realloc).
+#include <stdbool.h>
+#include <stdint.h>
+#include <stdio.h>
+#include <stdlib.h>
+#include <string.h>
+#include <time.h>
+
+uint32_t bench_idle(uint16_t sockets, uint32_t polls);
+uint32_t bench_trips(const uint8_t *payload, size_t len, uint8_t *out, size_t out_len, size_t mtu, uint32_t trips, bool polls);
+uint64_t bench_stream(const uint8_t *text, size_t len, uint8_t *out, size_t out_len, size_t mtu, size_t room, uint64_t total, bool check);
+
+enum { ROUNDS = 9, PERIOD = 256, READ = 65536, TEXT = READ + PERIOD };
+static const uint64_t MIB = 1 << 20;
+static uint8_t text[TEXT], out[READ];
+static uint64_t allocations;
+
+void *__real_malloc(size_t);
+void *__real_calloc(size_t, size_t);
+void *__real_realloc(void *, size_t);
+void *__wrap_malloc(size_t len) { allocations++; return __real_malloc(len); }
+void *__wrap_calloc(size_t count, size_t len) { allocations++; return __real_calloc(count, len); }
+void *__wrap_realloc(void *at, size_t len) { allocations++; return __real_realloc(at, len); }
+
+static double now(void) {
+    struct timespec t;
+    clock_gettime(CLOCK_MONOTONIC, &t);
+    return t.tv_sec + t.tv_nsec * 1e-9;
+}
+
+static void fail(const char *why) {
+    fprintf(stderr, "%s\n", why);
+    exit(1);
+}
+
+// What a poll takes in ns, without what making the host takes.
+static double idle(uint16_t sockets, uint32_t polls) {
+    double start = now();
+    if (bench_idle(sockets, polls + 1) != polls + 1) fail("no memory for idle sockets");
+    double many = now() - start;
+    start = now();
+    if (bench_idle(sockets, 1) != 1) fail("no memory for idle sockets");
+    return (many - (now() - start)) / polls * 1e9;
+}
+
+// Round trips a second.
+static double trips(size_t len, size_t mtu, uint32_t count, bool polls) {
+    memset(out, 0, len);
+    double start = now();
+    if (bench_trips(text, len, out, READ, mtu, count, polls) != count) fail("a datagram didn't come back");
+    double took = now() - start;
+    if (memcmp(out, text, len)) fail("other bytes came back");
+    return count / took;
+}
+
+// Bytes a second.
+static double stream(size_t mtu, size_t room, uint64_t total, bool check) {
+    double start = now();
+    uint64_t came = bench_stream(text, TEXT, out, READ, mtu, room, total, check);
+    double took = now() - start;
+    if (came < total) fail("other bytes were read, or the transfer stood still");
+    return came / took;
+}
+
+static void keep_best(double *best, double is) {
+    if (is > *best) *best = is;
+}
+
+static void show_idle(uint16_t sockets) {
+    double least = 1e9;
+    for (int r = 0; r < ROUNDS; r++) {
+        double is = idle(sockets, sockets > 100 ? 20000 : 200000);
+        if (is < least) least = is;
+    }
+    printf("%5u idle sockets: %9.1f ns a poll\n", sockets, least);
+}
+
+static void show_trips(size_t len, size_t mtu, bool polls) {
+    double best = 0;
+    for (int r = 0; r < ROUNDS; r++) keep_best(&best, trips(len, mtu, 200000, polls));
+    printf("%5zu bytes, MTU %5zu, %s: %9.0f round trips a second, %7.1f ns each\n", len, mtu, polls ? "polls" : "steps", best, 1e9 / best);
+}
+
+static void show_stream(size_t mtu, size_t room) {
+    double best = 0;
+    stream(mtu, room, 16 * MIB, true);
+    for (int r = 0; r < ROUNDS; r++) keep_best(&best, stream(mtu, room, 256 * MIB, false));
+    printf("MTU %5zu, buffers of %6zu bytes: %7.1f MB/s, %7.1f ns a segment\n", mtu, room, best / 1e6, (mtu - 40) / best * 1e9);
+}
+
+// What a run allocates, and one of 16 times its length.
+static void show_allocations(void) {
+    static const size_t mtus[] = {1500, 65535};
+    uint64_t start = allocations;
+    for (size_t i = 0; i < 2; i++) {
+        size_t mtu = mtus[i], room = mtu > 1500 ? 262144 : 65536;
+        stream(mtu, room, 16 * MIB, false);
+        printf("TCP, MTU %5zu: 16 MiB %llu, ", mtu, (unsigned long long)(allocations - start));
+        start = allocations;
+        stream(mtu, room, 256 * MIB, false);
+        printf("256 MiB %llu\n", (unsigned long long)(allocations - start));
+        start = allocations;
+    }
+    trips(64, 1500, 10000, true);
+    printf("UDP: 10,000 round trips %llu, ", (unsigned long long)(allocations - start));
+    start = allocations;
+    trips(64, 1500, 160000, true);
+    printf("160,000 %llu\n", (unsigned long long)(allocations - start));
+}
+
+// One figure of one round, for a script that runs several programs in turn.
+static void one(char **word, int count) {
+    uint64_t n[3] = {0};
+    for (int i = 1; i < count && i < 4; i++) n[i - 1] = strtoull(word[i], NULL, 10);
+    if (count == 4 && !strcmp(word[0], "stream")) {
+        stream(n[0], n[1], 16 * MIB, true);
+        printf("%.1f\n", stream(n[0], n[1], n[2] * MIB, false) / 1e6);
+    } else if (count == 4 && (!strcmp(word[0], "trips") || !strcmp(word[0], "polled"))) {
+        printf("%.0f\n", trips(n[0], n[1], (uint32_t)n[2], word[0][0] == 'p'));
+    } else if (count == 3 && !strcmp(word[0], "idle")) {
+        printf("%.1f\n", idle((uint16_t)n[0], (uint32_t)n[1]));
+    } else {
+        fail("interface [stream MTU ROOM MIB | trips LENGTH MTU COUNT | polled LENGTH MTU COUNT | idle SOCKETS POLLS]");
+    }
+}
+
+int main(int argc, char **argv) {
+    for (size_t i = 0; i < TEXT; i++) text[i] = (uint8_t)i;
+    if (argc > 1) {
+        one(argv + 1, argc - 1);
+        return 0;
+    }
+    puts("polls of a host with nothing to do");
+    static const uint16_t counts[] = {0, 1, 10, 100, 1000};
+    for (size_t i = 0; i < 5; i++) show_idle(counts[i]);
+    puts("UDP, to the other host and back");
+    show_trips(64, 1500, false);
+    show_trips(64, 1500, true);
+    show_trips(1472, 1500, false);
+    puts("TCP, one way");
+    show_stream(1500, 65536);
+    show_stream(1500, 262144);
+    show_stream(65535, 262144);
+    puts("allocations of a whole run, the making of both hosts among them");
+    show_allocations();
+    return 0;
+}

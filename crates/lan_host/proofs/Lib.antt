@@ -1,6 +1,0 @@
-pub mod Delivered
-pub mod Found
-pub mod Passes
-pub mod Prepared
-pub mod Queues
-pub mod Leave

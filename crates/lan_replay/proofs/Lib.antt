@@ -1,0 +1,11 @@
+pub mod AnswerLemmas
+pub mod TextsOnce
+mod LinesOnce
+pub mod BytesLemmas
+pub mod RunLemmas
+pub mod PieceLemmas
+pub mod Outcomes
+pub mod Beginnings
+pub mod SocketLemmas
+pub mod RouteLemmas
+pub mod EndLemmas
