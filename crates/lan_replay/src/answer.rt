@@ -2,10 +2,10 @@
 ghost use Rattle.std.specs.Prelude.{◌≡◌, ◌++◌, drop, IfOk, OnOk};
 ghost use Rattle.std.specs.String.{string_bytes};
 ghost use Rattle.net_base.specs.Device.{frames_of};
-ghost use Rattle.lan_script.specs.Text.{hex_word};
 ghost use Rattle.lan_replay.specs.Answers.{side_name, fault_name, answer_line, sent_line, sent_lines};
 
 use lan_net::{Answer, Fault, Side};
+use lan_script::hex_text;
 use std::alloc::{AllocError, Global};
 
 fn side_name(side: Side) -> &'static str
@@ -30,16 +30,6 @@ fn fault_name(fault: Fault) -> &'static str
         Fault::Medium => "Medium",
         Fault::NotUnicast => "NotUnicast",
         Fault::RouteTableFull => "RouteTableFull",
-    }
-}
-
-fn hex_text(alloc: Global, bytes: &[u8]) -> Result<String, AllocError>
-    ensures { IfOk result (λ text. string_bytes text ≡ hex_word bytes.now) }
-{
-    if bytes.is_empty() {
-        String::from_str(alloc, "-")
-    } else {
-        hex::encode(alloc, bytes)
     }
 }
 

@@ -4,8 +4,9 @@ ghost use Rattle.interface.specs.Made.{Makes};
 ghost use Rattle.interface_egress.specs.Set.{places};
 ghost use Rattle.lan_net.specs.declared.answer.Refused.TheVariants.{Memory};
 ghost use Rattle.lan_net.specs.declared.event.Side.TheVariants.{A, B};
+ghost use Rattle.lan_port.specs.Port.{unused_end};
 ghost use Rattle.lan_replay.specs.declared.end.End.TheVariants.{Refusal};
-ghost use Rattle.lan_replay.specs.Hosts.{number, hardware_of, block_v4, block_v6, config_of, device_of, interface_of, with_sockets, host_of, first_world, no_interface, no_world, no_start};
+ghost use Rattle.lan_replay.specs.Hosts.{number, hardware_of, block_v4, block_v6, config_of, device_of, interface_of, host_of, first_world, no_interface, no_world, no_start};
 
 use crate::end::End;
 use crate::own_sockets::own_sockets_of;
@@ -67,22 +68,14 @@ impl Header {
         let interface_b = interface(alloc, self.medium, self.mtu, Side::B)?;
         let sockets_a = own_sockets_of(alloc, Side::A, self.sockets.as_slice())?;
         let sockets_b = own_sockets_of(alloc, Side::B, self.sockets.as_slice())?;
-        let a = self.host(alloc, Side::A, interface_a, sockets_a);
-        let b = self.host(alloc, Side::B, interface_b, sockets_b);
+        let a = self.host(alloc, interface_a, sockets_a);
+        let b = self.host(alloc, interface_b, sockets_b);
         begin(alloc, a, b)
     }
 
     // A host of this interface and these sockets, at a device that wasn't used.
-    fn host(
-        &self,
-        alloc: Global,
-        side: Side,
-        interface: Interface,
-        sockets: SocketSet<Socket>,
-    ) -> Host
-        requires interface { interface ≡ interface_of self.now.medium self.now.mtu side }
-        requires sockets { places sockets ≡ with_sockets side [] self.now.sockets }
-        ensures { result ≡ host_of self.now side }
+    fn host(&self, alloc: Global, interface: Interface, sockets: SocketSet<Socket>) -> Host
+        ensures { result ≡ record { host = interface; places = places sockets; link = unused_end (device_of self.now.medium self.now.mtu) } }
     {
         Host {
             interface,

@@ -17,4 +17,5 @@ pub use blocks::Blocks;
 pub use hex_bytes::HexBytes;
 pub use kinds::{QueueSizes, Side, SocketKind, SocketSpec, StreamSizes};
 pub use line::Line;
+pub use text::hex_text;
 pub use verb::{DatagramVerb, HostVerb, LinkVerb, StreamVerb, Verb};

@@ -87,15 +87,22 @@ fn endpoint(alloc: Global, remote: IpEndpoint) -> Result<String, AllocError>
     }
 }
 
+/// The word for bytes: pairs of lower case hex digits, or `-` for no bytes.
+pub fn hex_text(alloc: Global, bytes: &[u8]) -> Result<String, AllocError>
+    ensures { IfOk result (λ text. string_bytes text ≡ hex_word bytes.now) }
+{
+    if bytes.is_empty() {
+        String::from_str(alloc, "-")
+    } else {
+        hex::encode(alloc, bytes)
+    }
+}
+
 fn hex(alloc: Global, bytes: &HexBytes<'_>) -> Result<String, AllocError>
     ensures { IfOk result (λ text. string_bytes text ≡ hex_word bytes.now) }
 {
     let bytes = bytes.decode(alloc)?;
-    if bytes.is_empty() {
-        String::from_str(alloc, "-")
-    } else {
-        hex::encode(alloc, bytes.as_slice())
-    }
+    hex_text(alloc, bytes.as_slice())
 }
 
 fn word_text(alloc: Global, word: u16) -> Result<String, AllocError>
