@@ -1,9 +1,9 @@
 -- Routes, and the one that a packet takes (RFC 1812, section 5.2.4.3).
-use Rattle.std.specs.Prelude.{◌≡◌, ℕ, ◌==◌, ◌||◌, nat_lt, not, ◌&&◌, Bool, false, if◌then◌else◌, ℤ, int_lt, List, [], ◌∷◌, ◌++◌, length, remove, reverse, position, replicate, Option, None, Some, is_some}
+use Rattle.std.specs.Prelude.{◌≡◌, ℕ, ◌==◌, ◌||◌, nat_lt, not, ◌&&◌, Bool, true, false, if◌then◌else◌, ℤ, int_lt, List, [], ◌∷◌, ◌++◌, length, remove, reverse, position, replicate, Option, None, Some, is_some}
 use Rattle.std.specs.List.{filter_map}
 use Rattle.std.specs.Str.{bytes_eq}
 use Rattle.ip_wire.specs.AddressTests.{is_in_block, is_unicast, are_of_one_family}
-use Rattle.ip_wire.specs.Block.{block_prefix_len, IsBlock}
+use Rattle.ip_wire.specs.Block.{block_address, block_prefix_len, IsBlock}
 use Rattle.ip_wire.specs.IpAddress.{IpAddress}
 use Rattle.ip_wire.specs.IpAddress.TheVariants as Address
 use Rattle.ip_wire.specs.IpCidr.{IpCidr}
@@ -59,6 +59,7 @@ is_gateway_v6 r = is_all_v6 r.cidr
 -- the route for every destination of its family, forever
 pub record IsGateway (r : Route) (any : List ℕ) (router : IpAddress) : Type 0 where
   pub block : IsBlock r.cidr any 0
+  pub family : are_of_one_family (block_address r.cidr) router ≡ true
   pub via : r.via_router ≡ router
   pub preferred : r.preferred_until ≡ None
   pub expires : r.expires_at ≡ None

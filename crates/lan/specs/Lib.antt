@@ -3,7 +3,6 @@
 pub use Rattle.lan_frames.specs.Carried
 pub use Rattle.lan_hosts.specs.Damage
 pub use Rattle.lan_hosts.specs.HostRuns
-pub use Rattle.lan_hosts.specs.Outcome
 pub use Rattle.lan_hosts.specs.Quiet
 pub use Rattle.lan_net.specs.History
 pub use Rattle.lan_net.specs.Kinds

@@ -1,9 +1,9 @@
--- A default route that is added is one, where the addresses of blocks have the bytes of their family.
-use Rattle.std.proofs.Common.{◌≡◌, ◌≤◌, ℕ, Bool, true, false, List, [], ◌∷◌, ◌++◌, length, refl, sym, ap, ◌∙◌, subst, arith}
+-- A default route that is added is one.
+use Rattle.std.proofs.Common.{◌≡◌, ◌≤◌, ℕ, Bool, true, false, List, [], ◌∷◌, ◌++◌, sym, ap, ◌∙◌}
 use Rattle.std.specs.Prelude.{replicate}
 use mathlib.Core.HLevel.{is_prop→PathP}
 use native.Mathlib.Bridge.{le_prop}
-use Rattle.ip_wire.specs.Address.{IsIpAddress, IsIpv4Address, IsIpv6Address}
+use Rattle.ip_wire.specs.AddressTests.{are_of_one_family}
 use Rattle.ip_wire.specs.Block.{block_address, IsBlock}
 use Rattle.ip_wire.specs.IpAddress.{IpAddress}
 use Rattle.ip_wire.specs.IpAddress.TheVariants as Address
@@ -16,11 +16,6 @@ use Rattle.ip_wire.specs.IpCidr.TheVariants as Block
 use Rattle.interface_tables.specs.Route.{is_gateway_v4, is_gateway_v6, IsGateway, IsAdded, without}
 use Rattle.interface_tables.specs.declared.route.Route.{Route}
 use Rattle.lan_stations.specs.Sets.{RoutedIf}
-use Rattle.lan_hosts.specs.Outcome.{AreSound}
-
-last_sound : (rs : List Route) (r : Route) → AreSound (rs ++ r ∷ []) → IsIpAddress (block_address r.cidr)
-last_sound [] r sound = sound.0
-last_sound (q ∷ rs) r sound = last_sound rs r sound.1
 
 -- BLOCKS
 
@@ -38,38 +33,22 @@ same-v6 a b e f = λ i. record {
   in_range = is_prop→PathP (λ j. f j ≤ 128) (λ j. le_prop) a.in_range b.in_range i;
 }
 
-four : length {A = ℕ} (replicate 4 0) ≡ 4
-four = refl
+-- two blocks of these bytes, both of one family with an address
+abbrev OneBlock : List ℕ → IpAddress → Type 0
+OneBlock any router = (a b : IpCidr) → IsBlock a any 0 → IsBlock b any 0
+    → are_of_one_family (block_address a) router ≡ true → are_of_one_family (block_address b) router ≡ true → a ≡ b
 
-sixteen : length {A = ℕ} (replicate 16 0) ≡ 16
-sixteen = refl
-
-not_v6 : (c : Ipv6Cidr) → c.address.0 ≡ replicate 4 0 → IsIpv6Address c.address → ⊥
-not_v6 c is sound =
-    let few : length c.address.0 ≡ 4 = ap (λ (xs : List ℕ). length xs) is ∙ four in
-    let many = sound.0 in
-    absurd (omega (arith, few, many))
-
-not_v4 : (c : Ipv4Cidr) → c.address.0 ≡ replicate 16 0 → IsIpv4Address c.address → ⊥
-not_v4 c is sound =
-    let many : length c.address.0 ≡ 16 = ap (λ (xs : List ℕ). length xs) is ∙ sixteen in
-    let few = sound.0 in
-    absurd (omega (arith, few, many))
-
-abbrev OneBlock : List ℕ → Type 0
-OneBlock any = (a b : IpCidr) → IsBlock a any 0 → IsBlock b any 0 → IsIpAddress (block_address a) → IsIpAddress (block_address b) → a ≡ b
-
-one_v4 : OneBlock (replicate 4 0)
-one_v4 (Block.Ipv4 c) (Block.Ipv4 d) one other left right =
+one_v4 : (any : List ℕ) (router : Ipv4Address) → OneBlock any (Address.Ipv4 router)
+one_v4 any router (Block.Ipv4 c) (Block.Ipv4 d) one other left right =
     ap Block.Ipv4 (same-v4 c d (ap (λ (xs : List ℕ). let a : Ipv4Address = record { 0 = xs } in a) (one.0 ∙ sym other.0)) (one.1 ∙ sym other.1))
-one_v4 (Block.Ipv6 c) b one other left right = absurd (not_v6 c one.0 left)
-one_v4 (Block.Ipv4 c) (Block.Ipv6 d) one other left right = absurd (not_v6 d other.0 right)
+one_v4 any router (Block.Ipv6 c) b one other left right = absurd cc
+one_v4 any router (Block.Ipv4 c) (Block.Ipv6 d) one other left right = absurd cc
 
-one_v6 : OneBlock (replicate 16 0)
-one_v6 (Block.Ipv6 c) (Block.Ipv6 d) one other left right =
+one_v6 : (any : List ℕ) (router : Ipv6Address) → OneBlock any (Address.Ipv6 router)
+one_v6 any router (Block.Ipv6 c) (Block.Ipv6 d) one other left right =
     ap Block.Ipv6 (same-v6 c d (ap (λ (xs : List ℕ). let a : Ipv6Address = record { 0 = xs } in a) (one.0 ∙ sym other.0)) (one.1 ∙ sym other.1))
-one_v6 (Block.Ipv4 c) b one other left right = absurd (not_v4 c one.0 left)
-one_v6 (Block.Ipv6 c) (Block.Ipv4 d) one other left right = absurd (not_v4 d other.0 right)
+one_v6 any router (Block.Ipv4 c) b one other left right = absurd cc
+one_v6 any router (Block.Ipv6 c) (Block.Ipv4 d) one other left right = absurd cc
 
 -- ROUTES
 
@@ -80,18 +59,17 @@ same_route any router r s one other blocks =
     let expires = one.expires ∙ sym other.expires in
     λ k. record { cidr = blocks k; via_router = via k; preferred_until = preferred k; expires_at = expires k }
 
-added_once : (test : Route → Bool) (any : List ℕ) (router : IpAddress) → OneBlock any → (old one other : List Route)
-    → IsAdded test (λ r. IsGateway r any router) old one → IsAdded test (λ r. IsGateway r any router) old other → AreSound one → AreSound other → one ≡ other
-added_once test any router one_block old one other first second left right =
+added_once : (test : Route → Bool) (any : List ℕ) (router : IpAddress) → OneBlock any router → (old one other : List Route)
+    → IsAdded test (λ r. IsGateway r any router) old one → IsAdded test (λ r. IsGateway r any router) old other → one ≡ other
+added_once test any router one_block old one other first second =
     let r = first.0 in
     let s = second.0 in
-    let blocks = one_block r.cidr s.cidr first.1.block second.1.block (last_sound (without test old) r (subst AreSound first.2 left))
-    (last_sound (without test old) s (subst AreSound second.2 right)) in
+    let blocks = one_block r.cidr s.cidr first.1.block second.1.block first.1.family second.1.family in
     first.2 ∙ ap (λ (x : Route). without test old ++ x ∷ []) (same_route any router r s first.1 second.1 blocks) ∙ sym second.2
 
-pub routed_once : (room : Bool) (router : IpAddress) (old one other : List Route) → RoutedIf room router old one → RoutedIf room router old other → AreSound one → AreSound other → one ≡ other
-routed_once true (Address.Ipv4 router) old one other first second left right =
-    added_once is_gateway_v4 (replicate 4 0) (Address.Ipv4 router) one_v4 old one other first second left right
-routed_once true (Address.Ipv6 router) old one other first second left right =
-    added_once is_gateway_v6 (replicate 16 0) (Address.Ipv6 router) one_v6 old one other first second left right
-routed_once false router old one other first second left right = first ∙ sym second
+pub routed_once : (room : Bool) (router : IpAddress) (old one other : List Route) → RoutedIf room router old one → RoutedIf room router old other → one ≡ other
+routed_once true (Address.Ipv4 router) old one other first second =
+    added_once is_gateway_v4 (replicate 4 0) (Address.Ipv4 router) (one_v4 (replicate 4 0) router) old one other first second
+routed_once true (Address.Ipv6 router) old one other first second =
+    added_once is_gateway_v6 (replicate 16 0) (Address.Ipv6 router) (one_v6 (replicate 16 0) router) old one other first second
+routed_once false router old one other first second = first ∙ sym second

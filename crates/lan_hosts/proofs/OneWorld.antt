@@ -22,13 +22,12 @@ use Rattle.lan_net.specs.declared.event.Side.{Side}
 use Rattle.lan_net.specs.declared.event.Side.TheVariants.{A, B}
 use Rattle.lan_packets.specs.Calls.{Did}
 use Rattle.lan_stations.specs.Does.{does, DidAt, ItemDoes, PlaceDoes, Does}
-use Rattle.lan_stations.specs.Runs.{WorldValue, Step}
+use Rattle.lan_stations.specs.Runs.{WorldValue, Step, Steps}
 use Rattle.lan_stations.specs.Sets.{SetsTo, Configures, has_route_room}
 use Rattle.lan_stations.specs.Station.{StationValue, Stations}
 use Rattle.lan_stations.specs.Steps.{Acts, ActsAt, Happens}
 use Rattle.sockets.specs.declared.socket.Socket.{Socket}
 use Rattle.tcp_model.specs.State.{State}
-use Rattle.lan_hosts.specs.Outcome.{AreSound, HasSoundRoutes, SoundSteps}
 use Rattle.lan_hosts.proofs.OneRoute.{routed_once}
 use Rattle.lan_hosts.proofs.Outcomes.{polls_once}
 
@@ -55,57 +54,50 @@ module _ (s one other : StationValue) (i : ℕ) (call : SocketCall) (a b : Answe
 
 -- SETTINGS
 
-setting_once : (h one other : HostValue) (setting : Setting) → AreSound one.inner.routes → AreSound other.inner.routes → SetsTo h setting one → SetsTo h setting other → one ≡ other
-setting_once h one other (Set.HardwareAddr address) left right first second = first ∙ sym second
-setting_once h one other (Set.Addrs blocks) left right first second = first ∙ sym second
-setting_once h one other (Set.Route router) left right first second =
-    let one_is : one.inner.routes ≡ first.0 = ap (λ (x : HostValue). x.inner.routes) first.2 in
-    let other_is : other.inner.routes ≡ second.0 = ap (λ (x : HostValue). x.inner.routes) second.2 in
-    let routes = routed_once (has_route_room router h.inner.routes) router h.inner.routes first.0 second.0 first.1 second.1 (subst AreSound one_is left) (subst AreSound other_is right) in
+setting_once : (h one other : HostValue) (setting : Setting) → SetsTo h setting one → SetsTo h setting other → one ≡ other
+setting_once h one other (Set.HardwareAddr address) first second = first ∙ sym second
+setting_once h one other (Set.Addrs blocks) first second = first ∙ sym second
+setting_once h one other (Set.Route router) first second =
+    let routes = routed_once (has_route_room router h.inner.routes) router h.inner.routes first.0 second.0 first.1 second.1 in
     first.2 ∙ ap (λ (rs : List Route). with_inner h (with_routes h.inner rs)) routes ∙ sym second.2
-setting_once h one other (Set.AnyIp any) left right first second = first ∙ sym second
-setting_once h one other (Set.ReassemblyTimeout timeout) left right first second = first ∙ sym second
+setting_once h one other (Set.AnyIp any) first second = first ∙ sym second
+setting_once h one other (Set.ReassemblyTimeout timeout) first second = first ∙ sym second
 
-configured_once : (s one other : StationValue) (setting : Setting) (a b : Answer) → HasSoundRoutes one → HasSoundRoutes other → Configures s setting a one → Configures s setting b other → (a ≡ b) × (one ≡ other)
-configured_once s one other setting a b left right first second =
-    let one_is : one.host.inner.routes ≡ first.0.inner.routes = ap (λ (x : StationValue). x.host.inner.routes) first.3 in
-    let other_is : other.host.inner.routes ≡ second.0.inner.routes = ap (λ (x : StationValue). x.host.inner.routes) second.3 in
-    let hosts = setting_once s.host first.0 second.0 setting (subst AreSound one_is left) (subst AreSound other_is right) first.1 second.1 in
+configured_once : (s one other : StationValue) (setting : Setting) (a b : Answer) → Configures s setting a one → Configures s setting b other → (a ≡ b) × (one ≡ other)
+configured_once s one other setting a b first second =
+    let hosts = setting_once s.host first.0 second.0 setting first.1 second.1 in
     (first.2 ∙ sym second.2, first.3 ∙ ap (λ (h : HostValue). record s { host = h }) hosts ∙ sym second.3)
 
 -- ACTS
 
 module _ (one_offer : OneOffer) where
-  acts_once : (s one other : StationValue) (act : Act) (a b : Answer) (f g : Option State) → HasSoundRoutes one → HasSoundRoutes other → Acts s act a f one → Acts s act b g other
+  acts_once : (s one other : StationValue) (act : Act) (a b : Answer) (f g : Option State) → Acts s act a f one → Acts s act b g other
       → Same a f one b g other
-  acts_once s one other (Calls i call) a b f g left right first second = call_once s one other i call a b f g first second
-  acts_once s one other (Sets setting) a b f g left right first second =
-      let same = configured_once s one other setting a b left right first.0 second.0 in
+  acts_once s one other (Calls i call) a b f g first second = call_once s one other i call a b f g first second
+  acts_once s one other (Sets setting) a b f g first second =
+      let same = configured_once s one other setting a b first.0 second.0 in
       (same.0, first.1 ∙ sym second.1, same.1)
-  acts_once s one other (Opens n) a b f g left right first second = (first.0 ∙ sym second.0, first.1 ∙ sym second.1, first.2 ∙ sym second.2)
-  acts_once s one other (Asks moment) a b f g left right first second = (first.0 ∙ sym second.0, first.1 ∙ sym second.1, first.2 ∙ sym second.2)
-  acts_once s one other (Polls moment budget) a b f g left right first second =
+  acts_once s one other (Opens n) a b f g first second = (first.0 ∙ sym second.0, first.1 ∙ sym second.1, first.2 ∙ sym second.2)
+  acts_once s one other (Asks moment) a b f g first second = (first.0 ∙ sym second.0, first.1 ∙ sym second.1, first.2 ∙ sym second.2)
+  acts_once s one other (Polls moment budget) a b f g first second =
       let same = polls_once one_offer s one other moment budget first.0 second.0 first.1 second.1 in
       (first.2 ∙ ap (λ (c : Bool). To.Poll c) same.0 ∙ sym second.2, first.3 ∙ sym second.3, same.1)
 
   same_stations : (one other : Stations) → one.a ≡ other.a → one.b ≡ other.b → one ≡ other
   same_stations one other first second = λ k. record { a = first k; b = second k }
 
-  abbrev AreSoundAt : Stations → Type 0
-  AreSoundAt hosts = HasSoundRoutes hosts.a × HasSoundRoutes hosts.b
-
-  acts_at_once : (old one other : Stations) (act : Act) (side : Side) (a b : Answer) (f g : Option State) → AreSoundAt one → AreSoundAt other → ActsAt old side act a f one → ActsAt old side act b g other
+  acts_at_once : (old one other : Stations) (act : Act) (side : Side) (a b : Answer) (f g : Option State) → ActsAt old side act a f one → ActsAt old side act b g other
       → Same a f one b g other
-  acts_at_once old one other act A a b f g left right first second =
-      let same = acts_once old.a one.a other.a act a b f g left.0 right.0 first.acts second.acts in
+  acts_at_once old one other act A a b f g first second =
+      let same = acts_once old.a one.a other.a act a b f g first.acts second.acts in
       (same.0, same.1, same_stations one other same.2 (first.rests ∙ sym second.rests))
-  acts_at_once old one other act B a b f g left right first second =
-      let same = acts_once old.b one.b other.b act a b f g left.1 right.1 first.acts second.acts in
+  acts_at_once old one other act B a b f g first second =
+      let same = acts_once old.b one.b other.b act a b f g first.acts second.acts in
       (same.0, same.1, same_stations one other (first.rests ∙ sym second.rests) same.2)
 
-  happens_once : (old one other : Stations) (k : Kind) (a b : Answer) (f g : Option State) → AreSoundAt one → AreSoundAt other → Happens old k a f one → Happens old k b g other → Same a f one b g other
-  happens_once old one other (OfHost side act) a b f g left right first second = acts_at_once old one other act side a b f g left right first second
-  happens_once old one other (OfLink act) a b f g left right first second = (first.0 ∙ sym second.0, first.1 ∙ sym second.1, first.2 ∙ sym second.2)
+  happens_once : (old one other : Stations) (k : Kind) (a b : Answer) (f g : Option State) → Happens old k a f one → Happens old k b g other → Same a f one b g other
+  happens_once old one other (OfHost side act) a b f g first second = acts_at_once old one other act side a b f g first second
+  happens_once old one other (OfLink act) a b f g first second = (first.0 ∙ sym second.0, first.1 ∙ sym second.1, first.2 ∙ sym second.2)
 
   -- WORLDS
 
@@ -115,20 +107,20 @@ module _ (one_offer : OneOffer) where
   same_world : (one other : WorldValue) → one.hosts ≡ other.hosts → one.starts ≡ other.starts → one.history ≡ other.history → one ≡ other
   same_world one other hosts starts history = λ k. record { hosts = hosts k; starts = starts k; history = history k }
 
-  step_once : (old one other : WorldValue) (event : Event) (a b : Answer) → AreSoundAt one.hosts → AreSoundAt other.hosts → Step old event a one → Step old event b other → (a ≡ b) × (one ≡ other)
-  step_once old one other event a b sound right_sound first second =
+  step_once : (old one other : WorldValue) (event : Event) (a b : Answer) → Step old event a one → Step old event b other → (a ≡ b) × (one ≡ other)
+  step_once old one other event a b first second =
       let e = first.entry in
       let d = second.entry in
       let left = subst (λ (x : Event). Happens old.hosts (kind_of x) e.answer e.found one.hosts) first.event_kept first.leads.happens in
       let right = subst (λ (x : Event). Happens old.hosts (kind_of x) d.answer d.found other.hosts) second.event_kept second.leads.happens in
-      let same = happens_once old.hosts one.hosts other.hosts (kind_of event) e.answer d.answer e.found d.found sound right_sound left right in
+      let same = happens_once old.hosts one.hosts other.hosts (kind_of event) e.answer d.answer e.found d.found left right in
       let entries : e ≡ d = same_entry e d (first.event_kept ∙ sym second.event_kept) same.0 (first.leads.counted ∙ sym second.leads.counted) same.1 in (
         sym first.answer_kept ∙ same.0 ∙ second.answer_kept,
         same_world one other same.2 (first.starts ∙ sym second.starts) (first.history ∙ ap (λ (x : Entry). x ∷ old.history) entries ∙ sym second.history),
       )
 
-  pub steps_once : (old one other : WorldValue) (events : List Event) → SoundSteps old events one → SoundSteps old events other → one ≡ other
+  pub steps_once : (old one other : WorldValue) (events : List Event) → Steps old events one → Steps old events other → one ≡ other
   steps_once old one other [] first second = first ∙ sym second
   steps_once old one other (event ∷ events) first second =
-      let same = step_once old first.1 second.1 event first.0 second.0 (first.3, first.4) (second.3, second.4) first.2 second.2 in
-      steps_once second.1 one other events (subst (λ (w : WorldValue). SoundSteps w events one) same.1 first.5) second.5
+      let same = step_once old first.1 second.1 event first.0 second.0 first.2 second.2 in
+      steps_once second.1 one other events (subst (λ (w : WorldValue). Steps w events one) same.1 first.3) second.3

@@ -3,5 +3,4 @@ pub mod HostRuns
 pub mod Asked
 pub mod GoesOn
 pub mod Quiet
-pub mod Outcome
 pub mod Damage

@@ -3,12 +3,11 @@ ghost use Rattle.std.specs.Prelude.{◌≡◌, ℕ, ℤ, Bool, List};
 ghost use Rattle.lan_net.specs.History.{Entry};
 ghost use Rattle.lan_net.specs.declared.event.Event.{Event};
 ghost use Rattle.lan_net.specs.declared.event.Side.{Side};
-ghost use Rattle.lan_stations.specs.Runs.{Starts, unused_both, WorldValue, WorldRun, counts_of};
+ghost use Rattle.lan_stations.specs.Runs.{Starts, Steps, unused_both, WorldValue, WorldRun, counts_of};
 ghost use Rattle.lan_stations.specs.Station.{StationValue, Stations, station};
 ghost use Rattle.lan_stations.specs.Steps.{PollsAt};
 ghost use Rattle.lan_hosts.specs.Asked.{requests, AreApart};
 ghost use Rattle.lan_hosts.specs.Damage.{IsHarmless, BringsNoSegment, WasHarmless, HaveWords, DamageIsHarmless};
-ghost use Rattle.lan_hosts.specs.Outcome.{SoundSteps};
 ghost use Rattle.net_base.specs.Medium.{Medium};
 ghost use Rattle.lan_hosts.specs.GoesOn.{GoesOn};
 ghost use Rattle.lan_hosts.specs.HostRuns.{IsHostRun};
@@ -60,12 +59,11 @@ pub fn polls_have_one_end()
     one_offer();
 }
 
-/// Law: a list of events leads from one world to one world. The routes' blocks have addresses of as many bytes as their family has,
-/// as in every host.
+/// Law: a list of events leads from one world to one world.
 pub fn one_outcome()
     ensures { (old one other : WorldValue) (events : List Event)
-        → SoundSteps old events one
-        → SoundSteps old events other
+        → Steps old events one
+        → Steps old events other
         → one ≡ other }
 {
     one_offer();

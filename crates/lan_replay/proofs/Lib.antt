@@ -7,5 +7,4 @@ pub mod PieceLemmas
 pub mod Outcomes
 pub mod Beginnings
 pub mod SocketLemmas
-pub mod RouteLemmas
 pub mod EndLemmas

@@ -1,13 +1,12 @@
 -- A script has one output and one status, but for want of memory.
 use Rattle.std.proofs.Common.{◌≡◌, ℕ, ◌+◌, List, [], ◌∷◌, ◌++◌, Option, Some, None, inl, inr, ◌⊎◌, refl, sym, ◌∙◌, ap, subst, append_assoc}
-use Rattle.lan_hosts.specs.Outcome.{SoundSteps}
 use Rattle.lan_net.specs.History.{Entry}
 use Rattle.lan_net.specs.declared.answer.Answer.{Answer}
 use Rattle.lan_net.specs.declared.answer.Refused.TheVariants.{Memory}
 use Rattle.lan_net.specs.declared.event.Event.{Event}
 use Rattle.lan_script.specs.declared.line.Line.{Line}
 use Rattle.lan_script.specs.declared.line.Line.TheVariants.{World, Socket, Start, Listen, Connect, Send, Recv, Close, Abort, State, Bind, Ident, SendTo, SendIcmp, SendRaw, RecvFrom, Addrs, Hw, Route, Poll, PollAt, Deliver, Damage, Noise, Room, Cut}
-use Rattle.lan_stations.specs.Runs.{WorldValue, Step}
+use Rattle.lan_stations.specs.Runs.{WorldValue, Step, Steps}
 use Rattle.lan_replay.specs.declared.end.End.{End}
 use Rattle.lan_replay.specs.declared.end.End.TheVariants.{Refusal}
 use Rattle.lan_replay.specs.declared.session.Session.{Session}
@@ -29,7 +28,7 @@ said_once text None None h k = refl
 
 -- events lead from a world to one world
 abbrev pub OneWorld : Type 0
-OneWorld = (old one other : WorldValue) (events : List Event) → SoundSteps old events one → SoundSteps old events other → one ≡ other
+OneWorld = (old one other : WorldValue) (events : List Event) → Steps old events one → Steps old events other → one ≡ other
 
 same_head : (e d : Entry) (past : List Entry) → e ∷ past ≡ d ∷ past → e ≡ d
 same_head e d past same = cc
@@ -86,11 +85,11 @@ ended n end last output other status final is also one again (inr (inr memory)) 
 module _ (once : OneWorld) where
   takes_once : (old one other : WorldValue) (event : Event) (text more : List ℕ) → Takes old event text one → Takes old event more other → (text ≡ more) × (one ≡ other)
   takes_once old one other event text more h k =
-      let left : SoundSteps old (event ∷ []) one = (h.0, one, h.1, h.2.0, h.2.1, refl) in
-      let right : SoundSteps old (event ∷ []) other = (k.0, other, k.1, k.2.0, k.2.1, refl) in
+      let left : Steps old (event ∷ []) one = (h.0, one, h.1, refl) in
+      let right : Steps old (event ∷ []) other = (k.0, other, k.1, refl) in
       let same = once old one other (event ∷ []) left right in
       let answers = answer_once old one other event h.0 k.0 same h.1 k.1 in
-      (h.3 ∙ same_text old one other h.0 k.0 answers same ∙ sym k.3, same)
+      (h.2 ∙ same_text old one other h.0 k.0 answers same ∙ sym k.2, same)
 
   event_once : (world : WorldValue) (event : Option Event) (text more : List ℕ) (one other : Session) → EventLeads world event text one → EventLeads world event more other → (text ≡ more) × (one ≡ other)
   event_once world None text more one other h k = absurd h

@@ -1,6 +1,5 @@
 -- A run of a script: what each line does and writes, and what the whole writes.
 use Rattle.std.specs.Prelude.{◌≡◌, ◌≢◌, ℕ, ◌+◌, Bool, true, false, List, [], ◌∷◌, ◌++◌, length, drop, codes, ◌⊎◌, Option, Some, None, option_map}
-use Rattle.lan_hosts.specs.Outcome.{HasSoundRoutes}
 use Rattle.lan_net.specs.declared.answer.Answer.{Answer}
 use Rattle.lan_net.specs.declared.answer.Refused.TheVariants.{Memory}
 use Rattle.lan_net.specs.declared.event.Event.{Event}
@@ -29,13 +28,9 @@ new_frames side old new = let k = length (station old side).link.sent in sent_li
 abbrev pub event_text : WorldValue → Answer → WorldValue → List ℕ
 event_text old answer new = answer_line answer ++ (new_frames A old.hosts new.hosts ++ new_frames B old.hosts new.hosts)
 
--- the blocks of both hosts' routes have addresses with the bytes of their families
-abbrev pub HasRoutes : WorldValue → Type 0
-HasRoutes w = HasSoundRoutes w.hosts.a × HasSoundRoutes w.hosts.b
-
 -- an event is a step of the world, and writes this
 abbrev pub Takes : WorldValue → Event → List ℕ → WorldValue → Type 0
-Takes old event text new = (answer : Answer) × Step old event answer new × HasRoutes new × (text ≡ event_text old answer new)
+Takes old event text new = (answer : Answer) × Step old event answer new × (text ≡ event_text old answer new)
 
 -- LINES
 

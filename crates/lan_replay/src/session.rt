@@ -6,9 +6,6 @@ ghost use Rattle.lan_stations.specs.Runs.{refusal_in};
 ghost use Rattle.lan_replay.specs.declared.end.End.TheVariants.{Refusal};
 ghost use Rattle.lan_replay.specs.Runs.{Takes, MayEnd, event_end, EventLeads, Leads};
 ghost use Rattle.lan_replay.specs.Events.{event_of};
-ghost use Rattle.ip_wire.specs.Address.{IsIpAddress, IsIpv4Address, IsIpv6Address};
-ghost use Rattle.lan_hosts.specs.Outcome.{AreSound};
-ghost use Rattle.lan_replay.specs.Runs.{HasRoutes};
 ghost use Rattle.lan_replay.specs.declared.session.Session.TheVariants.{Header as Begins, Running};
 ghost use Rattle.lan_script.specs.declared.line.Line.TheVariants.{Start};
 ghost use Rattle.lan_replay.specs.Hosts.{no_start};
@@ -17,8 +14,6 @@ use crate::answer::{answer_line, push_sent};
 use crate::end::End;
 use crate::event::{event_of, side_of};
 use crate::header::Header;
-use interface::Route;
-use ip_wire::{IpAddress, Ipv4Address, Ipv6Address};
 use lan_net::{Event, Side};
 use lan_script::Line;
 use lan_world::World;
@@ -116,42 +111,8 @@ fn take_event(alloc: Global, world: &mut World, event: Event) -> Result<String, 
     let sent_by_a = world.sent(Side::A).len();
     let sent_by_b = world.sent(Side::B).len();
     let answer = world.step(event)?;
-    have_routes(world);
     let mut text = answer_line(alloc, &answer)?;
     push_sent(alloc, &mut text, Side::A, sent_by_a, world.sent(Side::A))?;
     push_sent(alloc, &mut text, Side::B, sent_by_b, world.sent(Side::B))?;
     Ok(text)
 }
-
-// A world has routes whose blocks have addresses with the bytes of their families.
-fn have_routes(world: &World)
-    ensures { HasRoutes world.now }
-{
-    are_sound(world.routes(Side::A).as_slice());
-    are_sound(world.routes(Side::B).as_slice());
-}
-
-fn are_sound(routes: &[Route])
-    ensures { AreSound routes.now }
-{
-    for route in routes {
-        address_has_bytes(route.cidr.address());
-    }
-}
-
-fn address_has_bytes(address: IpAddress)
-    ensures { IsIpAddress address }
-{
-    match address {
-        IpAddress::Ipv4(address) => ipv4_has_bytes(address),
-        IpAddress::Ipv6(address) => ipv6_has_bytes(address),
-    }
-}
-
-fn ipv4_has_bytes(address: Ipv4Address)
-    ensures { IsIpv4Address address }
-{}
-
-fn ipv6_has_bytes(address: Ipv6Address)
-    ensures { IsIpv6Address address }
-{}

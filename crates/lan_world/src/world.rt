@@ -15,7 +15,6 @@ use crate::fresh::new_error;
 use crate::history::{Counts, History, Note};
 use crate::kept::Kept;
 use crate::typed::{event_is_typed, host_is_typed};
-use interface::{Routes, TABLE_ROOM};
 use lan_hosts::laws::{hosts_run, polls_are_quiet, requests_are_apart};
 use lan_net::{Answer, Event, Refused, Side};
 use lan_stations::laws::{numbers_are_few, tables_go_on};
@@ -208,16 +207,6 @@ impl World {
         match side {
             Side::A => self.a.port.sent(),
             Side::B => self.b.port.sent(),
-        }
-    }
-
-    /// The routes of a host.
-    pub fn routes(&self, side: Side) -> &Routes<TABLE_ROOM>
-        ensures { result.now ≡ (station self.now.hosts side).host.inner.routes }
-    {
-        match side {
-            Side::A => self.a.interface.routes(),
-            Side::B => self.b.interface.routes(),
         }
     }
 }
