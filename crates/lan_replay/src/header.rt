@@ -6,7 +6,7 @@ ghost use Rattle.lan_net.specs.declared.answer.Refused.TheVariants.{Memory};
 ghost use Rattle.lan_net.specs.declared.event.Side.TheVariants.{A, B};
 ghost use Rattle.lan_port.specs.Port.{unused_end};
 ghost use Rattle.lan_replay.specs.declared.end.End.TheVariants.{Refusal};
-ghost use Rattle.lan_replay.specs.Hosts.{number, hardware_of, block_v4, block_v6, config_of, device_of, interface_of, host_of, first_world, no_interface, no_world, no_start};
+ghost use Rattle.lan_replay.specs.Hosts.{number, hardware_of, block_v4, block_v6, config_of, device_of, interface_of, with_sockets, host_of, first_world, first_of, no_interface, no_sockets, no_world, no_start};
 
 use crate::end::End;
 use crate::own_sockets::own_sockets_of;
@@ -64,13 +64,37 @@ impl Header {
         ensures allowed { OnOk result (no_start self.now ≡ None) }
         ensures ends { IfErr result (λ end. (no_start self.now ≡ Some end) ⊎ (end ≡ Refusal Memory)) }
     {
-        let interface_a = interface(alloc, self.medium, self.mtu, Side::A)?;
-        let interface_b = interface(alloc, self.medium, self.mtu, Side::B)?;
-        let sockets_a = own_sockets_of(alloc, Side::A, self.sockets.as_slice())?;
-        let sockets_b = own_sockets_of(alloc, Side::B, self.sockets.as_slice())?;
+        let (interface_a, interface_b) = self.interfaces(alloc)?;
+        let (sockets_a, sockets_b) = self.socket_sets(alloc)?;
         let a = self.host(alloc, interface_a, sockets_a);
         let b = self.host(alloc, interface_b, sockets_b);
         begin(alloc, a, b)
+    }
+
+    // The interface of A, and that of B.
+    fn interfaces(&self, alloc: Global) -> Result<(Interface, Interface), End>
+        ensures a { IfOk result (λ made. made.0 ≡ interface_of self.now.medium self.now.mtu A) }
+        ensures b { IfOk result (λ made. made.1 ≡ interface_of self.now.medium self.now.mtu B) }
+        ensures a_allowed { OnOk result (no_interface self.now.medium self.now.mtu A ≡ None) }
+        ensures b_allowed { OnOk result (no_interface self.now.medium self.now.mtu B ≡ None) }
+        ensures ends { IfErr result (λ end. (no_start self.now ≡ Some end) ⊎ (end ≡ Refusal Memory)) }
+    {
+        let a = interface(alloc, self.medium, self.mtu, Side::A)?;
+        let b = interface(alloc, self.medium, self.mtu, Side::B)?;
+        Ok((a, b))
+    }
+
+    // The sockets of A, and those of B.
+    fn socket_sets(&self, alloc: Global) -> Result<(SocketSet<Socket>, SocketSet<Socket>), End>
+        ensures a { IfOk result (λ made. places made.0 ≡ with_sockets A [] self.now.sockets) }
+        ensures b { IfOk result (λ made. places made.1 ≡ with_sockets B [] self.now.sockets) }
+        ensures a_allowed { OnOk result (no_sockets A self.now.sockets ≡ None) }
+        ensures b_allowed { OnOk result (no_sockets B self.now.sockets ≡ None) }
+        ensures ends { IfErr result (λ end. (first_of (no_sockets A self.now.sockets ∷ no_sockets B self.now.sockets ∷ no_world (host_of self.now A) (host_of self.now B) ∷ []) ≡ Some end) ⊎ (end ≡ Refusal Memory)) }
+    {
+        let a = own_sockets_of(alloc, Side::A, self.sockets.as_slice())?;
+        let b = own_sockets_of(alloc, Side::B, self.sockets.as_slice())?;
+        Ok((a, b))
     }
 
     // A host of this interface and these sockets, at a device that wasn't used.
