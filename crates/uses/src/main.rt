@@ -4,6 +4,7 @@
 mod containers;
 mod packets;
 mod sockets_in_use;
+mod two_hosts;
 
 use anyhow::Result;
 use ip_wire::IpAddress;
@@ -24,5 +25,9 @@ fn main(rt: HostRuntime) -> Result<()> {
         &[0xaa, 0x00, 0x00, 0xff],
     );
     println!(rt; "datagram: {}", hex::encode(alloc, &datagram)?)?;
+
+    if let Some(text) = two_hosts::run(alloc)? {
+        println!(rt; "B read: {}", hex::encode(alloc, text.as_slice())?)?;
+    }
     Ok(())
 }
