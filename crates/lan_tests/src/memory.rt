@@ -1,9 +1,8 @@
 //! Scripts where an allocation is refused. Each test passes whichever one it is, and then says so (`tools/try-proved-without-memory` has
 //! each one refused in turn): the script ends there, and what was written before is as in the whole run.
-use crate::common::{LONG, STREAMS};
-use crate::rows::{FIRST, ITS_ANSWERS, long_datagram, two_long_datagrams};
-use crate::streams::connection;
-use lan::replay;
+use crate::common::{LONG, STREAMS, played, texts};
+use crate::rows::{FIRST, ITS_ANSWERS, LONG_DATAGRAM, TWO_LONG_DATAGRAMS};
+use crate::streams::CONNECTION;
 use std::alloc::{AllocError, Global};
 use std::test::Fail;
 
@@ -15,37 +14,17 @@ enum Script {
     TwoLongDatagrams,
 }
 
-fn with_header(
-    alloc: Global,
-    header: &str,
-    texts: (String, String),
-) -> Result<(String, String), AllocError> {
-    let (lines, answers) = texts;
-    Ok((
-        format!(in alloc; "{header}{lines}")?,
-        format!(in alloc; "ok\n{answers}")?,
-    ))
-}
-
 /// A script, and what it writes.
-fn texts(alloc: Global, script: Script) -> Result<(String, String), AllocError> {
+fn script_texts(alloc: Global, script: Script) -> Result<(String, String), AllocError> {
     match script {
         Script::Datagram => Ok((
             String::from_str(alloc, FIRST)?,
             String::from_str(alloc, ITS_ANSWERS)?,
         )),
-        Script::Connection => with_header(alloc, STREAMS, connection(alloc)?),
-        Script::LongDatagram => with_header(alloc, LONG, long_datagram(alloc)?),
-        Script::TwoLongDatagrams => with_header(alloc, LONG, two_long_datagrams(alloc)?),
+        Script::Connection => texts(alloc, STREAMS, "ok\n", CONNECTION),
+        Script::LongDatagram => texts(alloc, LONG, "ok\n", LONG_DATAGRAM),
+        Script::TwoLongDatagrams => texts(alloc, LONG, "ok\n", TWO_LONG_DATAGRAMS),
     }
-}
-
-/// The status of a script, and what it writes.
-fn played(alloc: Global, script: &str) -> (u8, Vec<u8>) {
-    let mut reader = script.as_bytes();
-    let mut writer = Vec::new(alloc);
-    let status = replay(alloc, &mut reader, &mut writer);
-    (status, writer)
 }
 
 /// Whether a run ended so for want of memory, where the whole one writes this.
@@ -63,32 +42,54 @@ fn is_cut_short(status: u8, written: &[u8], whole: &[u8]) -> bool {
     }
 }
 
+/// How a script ended.
+#[derive(Clone, Copy)]
+enum End {
+    Whole,
+    CutShort,
+    Wrong,
+}
+
+fn end(alloc: Global, script: &str, whole: &str) -> End {
+    let (status, written) = played(alloc, script);
+    if status == 0 && written.as_slice() == whole.as_bytes() {
+        End::Whole
+    } else if is_cut_short(status, written.as_slice(), whole.as_bytes()) {
+        End::CutShort
+    } else {
+        End::Wrong
+    }
+}
+
 fn tell(rt: &HostRuntime, what: &str) -> Result<(), Fail> {
     println!(rt; "no memory: {what}")?;
     Ok(())
 }
 
 /// Whether a script is played whole, or ends for want of memory and is then played again.
+fn is_played(rt: &HostRuntime, script: &str, whole: &str) -> Result<bool, Fail> {
+    match end(rt.alloc(), script, whole) {
+        End::Whole => Ok(true),
+        End::Wrong => Ok(false),
+        End::CutShort => {
+            tell(rt, "a script is played again")?;
+            Ok(match end(rt.alloc(), script, whole) {
+                End::Whole => true,
+                _ => false,
+            })
+        }
+    }
+}
+
 fn survives(rt: &HostRuntime, script: Script) -> Result<bool, Fail> {
-    let alloc = rt.alloc();
-    let (lines, whole) = match texts(alloc, script) {
+    let (lines, whole) = match script_texts(rt.alloc(), script) {
         Ok(texts) => texts,
         Err(_) => {
             tell(rt, "a script is written again")?;
-            texts(alloc, script)?
+            script_texts(rt.alloc(), script)?
         }
     };
-    let (status, written) = played(alloc, lines.as_str());
-    if status == 0 && written.as_slice() == whole.as_bytes() {
-        return Ok(true);
-    }
-    tell(rt, "a script is played again")?;
-    let (again, all) = played(alloc, lines.as_str());
-    Ok(
-        is_cut_short(status, written.as_slice(), whole.as_bytes())
-            && again == 0
-            && all.as_slice() == whole.as_bytes(),
-    )
+    is_played(rt, lines.as_str(), whole.as_str())
 }
 
 #[test]
