@@ -4,17 +4,21 @@ use crate::common::{at, ip_port, push};
 use crate::streams::StreamHost;
 use interface::{PollIngressSingleResult, PollResult};
 use lan_port::Port;
-use net_base::Instant;
+use net_base::{Duration, Instant};
 use sockets::tcp::State;
 use std::test::Fail;
 
 const CHANGED: PollResult = PollResult::SocketStateChanged;
 
-/// What comes from 192.168.1.2:80: its first segment, three bytes, and its end.
-const COMES: [&str; 3] = [
+/// What comes from 192.168.1.2:80: its first segment, three bytes, its end, a window of no byte, one of 4,096 bytes, and an
+/// acknowledgement of one byte.
+const COMES: [&str; 6] = [
     "45000028000040004006b77cc0a80102c0a801010050c15c01234567dc9072b350121000c5030000",
     "4500002b000040004006b779c0a80102c0a801010050c15c01234568dc9072b35018100000970000616263",
     "45000028000040004006b77cc0a80102c0a801010050c15c0123456bdc9072b450111000c4ff0000",
+    "45000028000040004006b77cc0a80102c0a801010050c15c01234568dc9072b350100000d5040000",
+    "45000028000040004006b77cc0a80102c0a801010050c15c01234568dc9072b350101000c5040000",
+    "45000028000040004006b77cc0a80102c0a801010050c15c01234568dc9072b450101000c5030000",
 ];
 
 /// What the client sends: its first segment, an acknowledgement, one of the three bytes, its end, and an acknowledgement of the
@@ -205,5 +209,111 @@ fn a_wrong_acknowledgement_is_reset(rt: HostRuntime) -> Result<(), Fail> {
     assert_eq!(rt; told, PollIngressSingleResult::SocketStateChanged);
     assert_eq!(rt; client.sent(&rt, RESET)?, (2, true));
     assert_eq!(rt; client.host.socket()?.state(), State::SynSent);
+    Ok(())
+}
+
+/// The connection opens.
+const OPENED: [Turn; 2] = [
+    (0, None, CHANGED, 1, Some(1_000_000)),
+    (1, Some(0), CHANGED, 2, None),
+];
+
+/// A host whose connection is open at moment 1.
+fn connected(rt: &impl AllocGlobal) -> Result<Client, Fail> {
+    let mut client = connecting(rt)?;
+    match client.first_wrong(rt, &GOES, &OPENED)? {
+        None => Ok(client),
+        Some(_) => Err("an open connection".into()),
+    }
+}
+
+/// The third and the fourth frame: one byte 0 below those that are acknowledged.
+const KEEP_ALIVES: [&str; 4] = [
+    "",
+    "",
+    "45000029c24f00004006352cc0a80101c0a80102c15c0050dc9072b20123456850100040d4c4000000",
+    "45000029c25000004006352bc0a80101c0a80102c15c0050dc9072b20123456850100040d4c4000000",
+];
+
+/// One goes at once, and the next two seconds later.
+const KEPT_ALIVE: [Turn; 3] = [
+    (1_000_000, None, CHANGED, 3, Some(3_000_000)),
+    (2_999_999, None, PollResult::None, 3, Some(3_000_000)),
+    (3_000_000, None, CHANGED, 4, Some(5_000_000)),
+];
+
+#[test]
+fn a_keep_alive_says_when_to_poll(rt: HostRuntime) -> Result<(), Fail> {
+    let mut client = connected(&rt)?;
+    client
+        .host
+        .socket()?
+        .set_keep_alive(Some(Duration::from_secs(2)));
+    assert_eq!(rt; client.due(1_000_000), Some(at(0)));
+    assert_eq!(rt; client.first_wrong(&rt, &KEEP_ALIVES, &KEPT_ALIVE)?, None);
+    Ok(())
+}
+
+/// The acknowledgement, the first byte twice, and all three.
+const PROBES: [&str; 5] = [
+    "",
+    "45000028c24e00004006352ec0a80101c0a80102c15c0050dc9072b30123456850100040d4c40000",
+    "45000029c24f00004006352cc0a80101c0a80102c15c0050dc9072b3012345685010004073c3000061",
+    "45000029c25000004006352bc0a80101c0a80102c15c0050dc9072b3012345685010004073c3000061",
+    "4500002bc251000040063528c0a80101c0a80102c15c0050dc9072b3012345685018004010570000616263",
+];
+
+/// The first poll finds that the window is closed. A second later the first byte probes it, and again after twice that. Where it
+/// opens, all three bytes go at once; they would go again after twice that once more.
+const PROBED: [Turn; 5] = [
+    (2_000_100, None, PollResult::None, 2, Some(3_000_100)),
+    (3_000_099, None, PollResult::None, 2, Some(3_000_100)),
+    (3_000_100, None, CHANGED, 3, Some(5_000_100)),
+    (5_000_100, None, CHANGED, 4, Some(9_000_100)),
+    (6_000_000, Some(4), CHANGED, 5, Some(10_000_000)),
+];
+
+#[test]
+fn a_closed_window_says_when_to_poll(rt: HostRuntime) -> Result<(), Fail> {
+    let mut client = connected(&rt)?;
+    let closes = [(2_000_000, Some(3), CHANGED, 2, None)];
+    assert_eq!(rt; client.first_wrong(&rt, &PROBES, &closes)?, None);
+    assert_eq!(rt; client.host.socket()?.send_slice(b"abc"), Ok(3));
+    assert_eq!(rt; client.due(2_000_000), Some(at(0)));
+    assert_eq!(rt; client.first_wrong(&rt, &PROBES, &PROBED)?, None);
+    Ok(())
+}
+
+/// Three bytes, the two of them that weren't acknowledged, and a reset.
+const TIMED_OUT: [&str; 5] = [
+    "",
+    "",
+    "4500002bc24f00004006352ac0a80101c0a80102c15c0050dc9072b3012345685018004010570000616263",
+    "4500002ac25000004006352ac0a80101c0a80102c15c0050dc9072b40123456850180040725600006263",
+    "45000028c25100004006352bc0a80101c0a80102c15c0050dc9072b60123456850140040d4bd0000",
+];
+
+/// They would go again after a second, and do so a second after one of them is acknowledged. A second and a half after that the
+/// connection is given up.
+const TIMES_OUT: [Turn; 5] = [
+    (2_000_000, None, CHANGED, 3, Some(3_000_000)),
+    (2_500_000, Some(5), CHANGED, 3, Some(3_500_000)),
+    (3_500_000, None, CHANGED, 4, Some(4_000_000)),
+    (3_999_999, None, PollResult::None, 4, Some(4_000_000)),
+    (4_000_000, None, CHANGED, 5, None),
+];
+
+#[test]
+fn a_user_timeout_says_when_to_poll(rt: HostRuntime) -> Result<(), Fail> {
+    let mut client = connected(&rt)?;
+    client
+        .host
+        .socket()?
+        .set_timeout(Some(Duration::from_millis(1_500)));
+    assert_eq!(rt; client.due(1_000_000), None);
+    assert_eq!(rt; client.host.socket()?.send_slice(b"abc"), Ok(3));
+    assert_eq!(rt; client.due(1_000_000), Some(at(0)));
+    assert_eq!(rt; client.first_wrong(&rt, &TIMED_OUT, &TIMES_OUT)?, None);
+    assert_eq!(rt; client.host.socket()?.state(), State::Closed);
     Ok(())
 }
