@@ -1,9 +1,11 @@
 -- The steps of an arrival, as its functions join them.
-use Rattle.std.proofs.Common.{◌≡◌, ℕ, ◌+◌, ◌-◌, ◌==◌, ◌&&◌, not, nat_lt, ◌<◌, ◌≤◌, ◌^◌, min, Bool, true, false, ℤ, List, [], length, take, Option, Some, None, if◌then◌else◌, refl, sym, ap, subst, ◌∙◌, arith}
+use Rattle.std.proofs.Common.{◌≡◌, ℕ, ◌+◌, ◌-◌, ◌==◌, ◌&&◌, not, nat_lt, ◌<◌, ◌≤◌, ◌^◌, min, nat_le, Bool, true, false, ℤ, List, [], length, take, drop, Option, Some, None, if◌then◌else◌, refl, sym, ap, subst, ◌∙◌, arith}
 use Rattle.std.specs.Prelude.{IfSome}
 use Rattle.std.proofs.lemmas.Bool.Decides.{nat_tests}
 use Rattle.net_base.specs.Ring.{Ring}
 use Rattle.ip_wire.specs.IpRepr.{IpRepr}
+use Rattle.held_bytes.specs.Held.{runs_of}
+use Rattle.ip_wire.specs.SeqNumber.{SeqNumber}
 use Rattle.ip_wire.specs.Tcp.{header_of}
 use Rattle.ip_wire.specs.TcpHeader.{TcpHeader}
 use Rattle.ip_wire.specs.TcpRepr.{TcpRepr}
@@ -13,11 +15,12 @@ use Rattle.socket_base.specs.Packet as Carried
 use Rattle.tcp_law.specs.ReceiveMap.{store, front}
 use Rattle.tcp_model.specs.Acknowledged.{acknowledged, window_set, counted, duplicates_after}
 use Rattle.tcp_model.specs.Answers.{answer_for}
-use Rattle.tcp_model.specs.Arrival.{timers_moved, finished, continued, taken, checked, arrives_in}
+use Rattle.tcp_model.specs.Arrival.{timers_moved, finished, taken, checked, arrives_in}
 use Rattle.tcp_model.specs.Checks.{acknowledgement_check}
 use Rattle.tcp_model.specs.States.{is_closed, takes_text}
-use Rattle.tcp_model.specs.Text.{Texted, texted, with_text, with_text_at, with_bytes_at, taken_in_order, held_early, with_fin}
-use Rattle.tcp_model.specs.Value.{TcpValue, Received, Arrived, with_block, dropped, queued_in, free_in}
+use Rattle.tcp_model.specs.Text.{Texted, texted, laid, has_new_text, with_text, with_text_at, with_bytes_at, taken_in_order, held_early, with_fin}
+use Rattle.tcp_model.specs.Offsets.{past_by, before_by}
+use Rattle.tcp_model.specs.Value.{TcpValue, Received, Arrived, received_of, with_block, dropped, queued_in, free_in}
 use Rattle.tcp_model.specs.declared.block.Block.{Block}
 use Rattle.tcp_model.specs.OpenOffer.{OpenOffer}
 use Rattle.tcp_model.specs.Reply.{Reply}
@@ -25,6 +28,7 @@ use Rattle.tcp_model.specs.State.{State}
 use Rattle.tcp_model.specs.State.TheVariants as In
 use Rattle.tcp_socket.proofs.Answered.{checked_draws, takes_answer_draws, later_arrives}
 use Rattle.tcp_socket.proofs.Arrivals.{length-store, length-front, stored_cut}
+use Rattle.tcp_socket.specs.Answering.{next_at, continued_by}
 use Rattle.tcp_socket.specs.Replies.{replies_in, packet_in, packet_with}
 
 abbrev pub value_of : Block → Received → Ring ℕ → Option OpenOffer → TcpValue
@@ -63,46 +67,83 @@ pub leads_to : (F : TcpValue → Arrived) (w w' : TcpValue) (answer : Option Rep
 leads_to F w w' answer socket is a s = subst (λ (x : TcpValue). Leads (F x) answer socket) is (record { answer = a; socket = s })
 
 -- the FIN is taken, and then the timers are moved
-pub finish_leads : (cx : ContextValue) (old b b1 b2 : Block) (r : Received) (q : Ring ℕ) (o : Option OpenOffer) (v : TcpValue) (advance : ℕ) (early : Option ℕ) (ip : IpRepr) (header : TcpHeader) (size n : ℕ) (now : ℤ) (answer : Option Reply) (socket : TcpValue)
-    → value_of b r q o ≡ v → now ≡ cx.moment → n ≡ length q.queue → b1 ≡ with_fin b old header size advance now → b2 ≡ timers_moved b1 now n
+pub finish_leads : (cx : ContextValue) (next : SeqNumber) (b b2 : Block) (r : Received) (q : Ring ℕ) (o : Option OpenOffer) (v w : TcpValue) (advance : ℕ) (early : Option ℕ) (ip : IpRepr) (header : TcpHeader) (size n : ℕ) (now : ℤ) (answer : Option Reply) (socket : TcpValue)
+    → value_of b r q o ≡ w → now ≡ cx.moment → n ≡ length q.queue → w ≡ with_block v (with_fin v.block (next_at v.block next) header size advance now) → b2 ≡ timers_moved b now n
     → answer ≡ (answer_for cx (value_of b2 r q o) ip header size early).answer → socket ≡ (answer_for cx (value_of b2 r q o) ip header size early).socket
-    → Leads (finished cx old (texted v advance early) ip header size) answer socket
-finish_leads cx old b b1 b2 r q o v advance early ip header size n now answer socket is now_is n_is b1_is b2_is a s =
-    let moved : b2 ≡ timers_moved (with_fin b old header size advance cx.moment) cx.moment (length q.queue) = rw (b2_is, b1_is, now_is, n_is) refl in
-    let F = λ (x : Block). answer_for cx (value_of x r q o) ip header size early in
-    let base : Leads (F (timers_moved (with_fin b old header size advance cx.moment) cx.moment (length q.queue))) answer socket =
-    subst (λ (x : Block). Leads (F x) answer socket) moved (record { answer = a; socket = s })
+    → Leads (finished cx (next_at v.block next) (texted v advance early) ip header size) answer socket
+finish_leads cx next b b2 r q o v w advance early ip header size n now answer socket is now_is n_is w_is b2_is a s =
+    let moved : b2 ≡ timers_moved b cx.moment (length q.queue) = rw (b2_is, now_is, n_is) refl in
+    let F = λ (x : TcpValue). answer_for cx (with_block x (timers_moved x.block cx.moment (queued_in x))) ip header size early in
+    let first : Leads (F (value_of b r q o)) answer socket =
+    subst (λ (x : Block). Leads (answer_for cx (value_of x r q o) ip header size early) answer socket) moved (record { answer = a; socket = s })
     in
-    subst (λ (w : TcpValue). Leads (finished cx old (texted w advance early) ip header size) answer socket) is base
+    let all : value_of b r q o ≡ with_block v (with_fin v.block (next_at v.block next) header size advance cx.moment) =
+    is ∙ w_is ∙ ap (λ (m : ℤ). with_block v (with_fin v.block (next_at v.block next) header size advance m)) now_is
+    in
+    subst (λ (x : TcpValue). Leads (F x) answer socket) all first
+
+-- TEXT LEAVES THE STATE
+
+state_held : (v : TcpValue) (place : ℕ) (map : List (Option ℕ)) → (held_early v place map).socket.block.state ≡ v.block.state
+state_held v place map =
+    elim (nat_le (length (runs_of map)) 4) as (λ t. (if t then texted (record v { received = received_of v.received.waiting map v.received.start }) 0 (Some place) else texted v 0 None).socket.block.state ≡ v.block.state) [ true ↦ refl | false ↦ refl ]
+
+state_bytes : (v : TcpValue) (place : ℕ) (bytes : List ℕ) → (with_bytes_at v place bytes).socket.block.state ≡ v.block.state
+state_bytes v place bytes =
+    let map = laid v place bytes in
+    elim (place == 0) as (λ t. (if t then taken_in_order v map else held_early v place map).socket.block.state ≡ v.block.state) [ true ↦ refl | false ↦ state_held v place map ]
+
+state_text : (v : TcpValue) (place : ℕ) (bytes : List ℕ) → (with_text_at v place bytes).socket.block.state ≡ v.block.state
+state_text v place bytes =
+    elim (takes_text v.block.state && has_new_text v place bytes) as (λ t. (if t then with_bytes_at v place bytes else texted v 0 None).socket.block.state ≡ v.block.state) [ true ↦ state_bytes v place bytes | false ↦ refl ]
+
+-- the FIN is taken by the state and RCV.NXT alone
+abbrev fin_by : ContextValue → State → SeqNumber → Texted → IpRepr → TcpHeader → ℕ → Arrived
+fin_by cx state next t ip header size =
+    finished cx (record (next_at t.socket.block next) { state = state }) t ip header size
+
+-- the text is taken, then the FIN
+pub content_leads : (cx : ContextValue) (next : SeqNumber) (v w : TcpValue) (advance : ℕ) (early : Option ℕ) (ip : IpRepr) (header : TcpHeader) (bytes : List ℕ) (answer : Option Reply) (socket : TcpValue)
+    → next ≡ v.block.receiver.next → texted w advance early ≡ with_text v header bytes
+    → answer ≡ (finished cx (next_at w.block next) (texted w advance early) ip header (length bytes)).answer → socket ≡ (finished cx (next_at w.block next) (texted w advance early) ip header (length bytes)).socket
+    → Leads (finished cx v.block (with_text v header bytes) ip header (length bytes)) answer socket
+content_leads cx next v w advance early ip header bytes answer socket next_is text a s =
+    let size = length bytes in
+    let t = with_text v header bytes in
+    let first : Leads (fin_by cx t.socket.block.state next t ip header size) answer socket =
+    subst (λ (x : Texted). Leads (fin_by cx x.socket.block.state next x ip header size) answer socket) text (record { answer = a; socket = s })
+    in
+    let second : Leads (fin_by cx t.socket.block.state v.block.receiver.next t ip header size) answer socket =
+    subst (λ (n : SeqNumber). Leads (fin_by cx t.socket.block.state n t ip header size) answer socket) next_is first
+    in
+    let state = state_text v (past_by v.block.receiver.next header.seq_number) (drop (before_by v.block.receiver.next header.seq_number) bytes) in
+    subst (λ (x : State). Leads (fin_by cx x v.block.receiver.next t ip header size) answer socket) state second
 
 if_open : (closed : Bool) (a b : Arrived) (answer : Option Reply) (socket : TcpValue) → closed ≡ false → Leads b answer socket → Leads (if closed then a else b) answer socket
 if_open true a b answer socket is leads = absurd (cc)
 if_open false a b answer socket is leads = leads
 
 -- the window is taken, then text and FIN
-pub rest_leads : (cx : ContextValue) (old acked : Block) (v w : TcpValue) (ip : IpRepr) (header : TcpHeader) (bytes : List ℕ) (by : ℕ) (answer : Option Reply) (socket : TcpValue)
-    → is_closed v.block.state ≡ false → acked ≡ v.block → w ≡ with_block v (counted (window_set v.block header) (duplicates_after old header (length bytes) by))
-    → answer ≡ (finished cx acked (with_text w header bytes) ip header (length bytes)).answer → socket ≡ (finished cx acked (with_text w header bytes) ip header (length bytes)).socket
-    → Leads (continued cx old v ip header bytes by) answer socket
-rest_leads cx old acked v w ip header bytes by answer socket opened acked_is w_is a s =
-    let counts = with_block v (counted (window_set v.block header) (duplicates_after old header (length bytes) by)) in
-    let first : Leads (finished cx v.block (with_text w header bytes) ip header (length bytes)) answer socket =
-    subst (λ (b : Block). Leads (finished cx b (with_text w header bytes) ip header (length bytes)) answer socket) acked_is (record { answer = a; socket = s })
-    in
-    let second = leads_to (λ (x : TcpValue). finished cx v.block (with_text x header bytes) ip header (length bytes)) w counts answer socket w_is first.answer first.socket in
-    if_open (is_closed v.block.state) (dropped v) (finished cx v.block (with_text counts header bytes) ip header (length bytes)) answer socket opened second
+pub rest_leads : (cx : ContextValue) (duplicates : ℕ) (v w : TcpValue) (ip : IpRepr) (header : TcpHeader) (bytes : List ℕ) (answer : Option Reply) (socket : TcpValue)
+    → is_closed v.block.state ≡ false → w ≡ with_block v (counted (window_set v.block header) duplicates)
+    → answer ≡ (finished cx w.block (with_text w header bytes) ip header (length bytes)).answer → socket ≡ (finished cx w.block (with_text w header bytes) ip header (length bytes)).socket
+    → Leads (continued_by cx duplicates v ip header bytes) answer socket
+rest_leads cx duplicates v w ip header bytes answer socket opened w_is a s =
+    let counts = with_block v (counted (window_set v.block header) duplicates) in
+    let first = leads_to (λ (x : TcpValue). finished cx x.block (with_text x header bytes) ip header (length bytes)) w counts answer socket w_is a s in
+    if_open (is_closed v.block.state) (dropped v) (finished cx v.block (with_text counts header bytes) ip header (length bytes)) answer socket opened (record { answer = first.answer; socket = first.socket })
 
 -- the acknowledgement is taken, then the rest
-pub taken_leads : (cx : ContextValue) (old : Block) (v w : TcpValue) (now : ℤ) (ip : IpRepr) (header : TcpHeader) (bytes : List ℕ) (by : ℕ) (answer : Option Reply) (socket : TcpValue)
-    → old ≡ v.block → now ≡ cx.moment → w ≡ acknowledged v by now
-    → answer ≡ (continued cx old w ip header bytes by).answer → socket ≡ (continued cx old w ip header bytes by).socket
+pub taken_leads : (cx : ContextValue) (duplicates : ℕ) (v w : TcpValue) (now : ℤ) (ip : IpRepr) (header : TcpHeader) (bytes : List ℕ) (by : ℕ) (answer : Option Reply) (socket : TcpValue)
+    → duplicates ≡ duplicates_after v.block header (length bytes) by → now ≡ cx.moment → w ≡ acknowledged v by now
+    → answer ≡ (continued_by cx duplicates w ip header bytes).answer → socket ≡ (continued_by cx duplicates w ip header bytes).socket
     → Leads (taken cx v ip header bytes by) answer socket
-taken_leads cx old v w now ip header bytes by answer socket old_is now_is w_is a s =
+taken_leads cx duplicates v w now ip header bytes by answer socket count now_is w_is a s =
     let acked : w ≡ acknowledged v by cx.moment = w_is ∙ ap (acknowledged v by) now_is in
-    let first : Leads (continued cx v.block w ip header bytes by) answer socket =
-    subst (λ (b : Block). Leads (continued cx b w ip header bytes by) answer socket) old_is (record { answer = a; socket = s })
+    let first : Leads (continued_by cx (duplicates_after v.block header (length bytes) by) w ip header bytes) answer socket =
+    subst (λ (n : ℕ). Leads (continued_by cx n w ip header bytes) answer socket) count (record { answer = a; socket = s })
     in
-    leads_to (λ (x : TcpValue). continued cx v.block x ip header bytes by) w (acknowledged v by cx.moment) answer socket acked first.answer first.socket
+    leads_to (λ (x : TcpValue). continued_by cx (duplicates_after v.block header (length bytes) by) x ip header bytes) w (acknowledged v by cx.moment) answer socket acked first.answer first.socket
 
 -- no word is drawn but in LISTEN
 pub quiet_in : (state : State) (cx : ContextValue) (v : TcpValue) (ip : IpRepr) (header : TcpHeader) (bytes : List ℕ) → (state ≡ In.Listen → ⊥) → (arrives_in state cx v ip header bytes).draws ≡ false

@@ -3,3 +3,4 @@ pub mod Socket
 pub mod Replies
 pub mod Dispatch
 pub mod Opening
+pub mod Answering

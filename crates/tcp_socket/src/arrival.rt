@@ -4,31 +4,32 @@ ghost use Rattle.net_base.specs.Time.{IsMoment};
 ghost use Rattle.socket_base.specs.Context.{ContextValue};
 ghost use Rattle.socket_base.specs.Packet.{IsSendable};
 ghost use Rattle.ip_wire.specs.Tcp.{header_of};
-ghost use Rattle.tcp_model.specs.Acknowledged.{acknowledged, window_set, counted, duplicates_after};
-ghost use Rattle.tcp_model.specs.Answers.{acked, drawn, range_held, answer_for};
-ghost use Rattle.tcp_model.specs.Arrival.{waiting_anew, outside, finished, continued, taken, inside, checked, is_void_syn, arrives_in, arrives};
+ghost use Rattle.tcp_model.specs.Acknowledged.{acknowledged, window_set, counted};
+ghost use Rattle.tcp_model.specs.Answers.{ack_recorded, drawn, range_held, answer_for};
+ghost use Rattle.tcp_model.specs.Arrival.{waiting_anew, outside, finished, taken, inside, checked, is_void_syn, arrives_in, arrives};
 ghost use Rattle.tcp_model.specs.Checks.{acknowledgement_check, taken_down};
 ghost use Rattle.tcp_model.specs.Checks.Check.{Passes};
 ghost use Rattle.tcp_model.specs.Names.{accepts};
 ghost use Rattle.tcp_model.specs.Opening.{is_first_syn, opens, takes_answer};
 ghost use Rattle.tcp_model.specs.Segments.{rst_reply};
-ghost use Rattle.tcp_model.specs.Text.{texted, with_text, with_text_at, with_bytes_at};
+ghost use Rattle.tcp_model.specs.Text.{texted, with_text, with_text_at, with_bytes_at, with_fin};
 ghost use Rattle.tcp_model.specs.Value.{queued_in, window_of, with_block};
 ghost use Rattle.tcp_socket.specs.Replies.{replies_in, packet_with};
+ghost use Rattle.tcp_socket.specs.Answering.{acknowledgement, reply_of, answer_of, next_at, continued_by};
 
 use crate::Socket;
-use ip_wire::{IpRepr, TcpHeader, TcpRepr};
+use ip_wire::{IpRepr, SeqNumber, TcpHeader, TcpRepr};
 use net_base::Instant;
 use socket_base::Context;
 use tcp_model::{
-    Block, EndpointPair, Reply, State, Verdict, before_by, is_fin, is_first_syn, is_rst, is_syn,
+    EndpointPair, Reply, State, Verdict, before_by, is_fin, is_first_syn, is_rst, is_syn,
     is_void_syn, next_draw_from, numbers_of, past_by, reply_to, rst_reply, time_wait_from,
 };
 
 /// A segment with what it came in.
 #[derive(Clone, Copy)]
 pub(crate) struct Incoming<'a> {
-    pub(crate) ip_repr: IpRepr,
+    pub(crate) ip_repr: &'a IpRepr,
     pub(crate) header: TcpHeader,
     pub(crate) bytes: &'a [u8],
 }
@@ -64,20 +65,48 @@ impl Socket {
         ensures drawn { cx.new ≡ (if (arrives (C.context cx.old) self.old ip_repr.now (header_of repr.now) repr.now.payload.now).draws then C.drawn cx.old else cx.old) }
     {
         let incoming = Incoming {
-            ip_repr: *ip_repr,
+            ip_repr,
             header: repr.header(),
             bytes: repr.payload,
         };
+        let now = cx.now();
         match self.arrive(cx, &incoming) {
             None => None,
-            Some(reply) => Some(replied(&reply)),
+            Some(due) => Some(replied(&self.reply(due, now, &incoming))),
         }
     }
 
-    fn arrive<C: Context>(&mut self, cx: &mut C, incoming: &Incoming<'_>) -> Option<Reply>
-        ensures answer { result ≡ (arrives (C.context cx.old) self.old incoming.now.ip_repr incoming.now.header incoming.now.bytes.now).answer }
-        ensures socket { self.new ≡ (arrives (C.context cx.old) self.old incoming.now.ip_repr incoming.now.header incoming.now.bytes.now).socket }
-        ensures drawn { cx.new ≡ (if (arrives (C.context cx.old) self.old incoming.now.ip_repr incoming.now.header incoming.now.bytes.now).draws then C.drawn cx.old else cx.old) }
+    /// The answer that is due to a segment, which was taken already.
+    fn reply(&self, due: Due, now: Instant, incoming: &Incoming<'_>) -> Reply
+        requires { IsMoment now }
+        ensures { result ≡ reply_of due now self.now incoming.now.ip_repr.now incoming.now.header (length incoming.now.bytes.now) }
+    {
+        match due {
+            Due::Reset => rst_reply(incoming.ip_repr, &incoming.header, incoming.bytes.len()),
+            Due::Ack => self.acknowledgement(now, incoming, None),
+            Due::AckHeld(place) => self.acknowledgement(now, incoming, self.range_held(place)),
+        }
+    }
+
+    /// The acknowledgement that answers a segment, with a range that is held out of order.
+    fn acknowledgement(
+        &self,
+        now: Instant,
+        incoming: &Incoming<'_>,
+        range: Option<(u32, u32)>,
+    ) -> Reply
+        requires { IsMoment now }
+        ensures { result ≡ acknowledgement now self.now incoming.now.ip_repr.now incoming.now.header range }
+    {
+        let pair = EndpointPair::of_segment(incoming.ip_repr, &incoming.header);
+        let segment = self.block.sack_segment(&pair, now, self.window(), range);
+        reply_to(incoming.ip_repr, self.block.hops(), segment)
+    }
+
+    fn arrive<C: Context>(&mut self, cx: &mut C, incoming: &Incoming<'_>) -> Option<Due>
+        ensures answer { answer_of result (C.context cx.old).moment self.new incoming.now.ip_repr.now incoming.now.header (length incoming.now.bytes.now) ≡ (arrives (C.context cx.old) self.old incoming.now.ip_repr.now incoming.now.header incoming.now.bytes.now).answer }
+        ensures socket { self.new ≡ (arrives (C.context cx.old) self.old incoming.now.ip_repr.now incoming.now.header incoming.now.bytes.now).socket }
+        ensures drawn { cx.new ≡ (if (arrives (C.context cx.old) self.old incoming.now.ip_repr.now incoming.now.header incoming.now.bytes.now).draws then C.drawn cx.old else cx.old) }
     {
         self.offered = None;
         if is_void_syn(&incoming.header) {
@@ -88,12 +117,12 @@ impl Socket {
     }
 
     /// A segment comes that isn't a SYN with an MSS of 0.
-    fn arrive_in_state<C: Context>(&mut self, cx: &mut C, incoming: &Incoming<'_>) -> Option<Reply>
+    fn arrive_in_state<C: Context>(&mut self, cx: &mut C, incoming: &Incoming<'_>) -> Option<Due>
         requires unoffered { self.old.offered ≡ None }
         requires sized { is_void_syn incoming.now.header ≡ false }
-        ensures answer { result ≡ (arrives_in self.old.block.state (C.context cx.old) self.old incoming.now.ip_repr incoming.now.header incoming.now.bytes.now).answer }
-        ensures socket { self.new ≡ (arrives_in self.old.block.state (C.context cx.old) self.old incoming.now.ip_repr incoming.now.header incoming.now.bytes.now).socket }
-        ensures drawn { cx.new ≡ (if (arrives_in self.old.block.state (C.context cx.old) self.old incoming.now.ip_repr incoming.now.header incoming.now.bytes.now).draws then C.drawn cx.old else cx.old) }
+        ensures answer { answer_of result (C.context cx.old).moment self.new incoming.now.ip_repr.now incoming.now.header (length incoming.now.bytes.now) ≡ (arrives_in self.old.block.state (C.context cx.old) self.old incoming.now.ip_repr.now incoming.now.header incoming.now.bytes.now).answer }
+        ensures socket { self.new ≡ (arrives_in self.old.block.state (C.context cx.old) self.old incoming.now.ip_repr.now incoming.now.header incoming.now.bytes.now).socket }
+        ensures drawn { cx.new ≡ (if (arrives_in self.old.block.state (C.context cx.old) self.old incoming.now.ip_repr.now incoming.now.header incoming.now.bytes.now).draws then C.drawn cx.old else cx.old) }
     {
         match self.block.state {
             State::Closed => None,
@@ -104,30 +133,30 @@ impl Socket {
     }
 
     /// LISTEN: a SYN is taken, and answered later.
-    fn take_first<C: Context>(&mut self, cx: &mut C, incoming: &Incoming<'_>) -> Option<Reply>
+    fn take_first<C: Context>(&mut self, cx: &mut C, incoming: &Incoming<'_>) -> Option<Due>
         requires unoffered { self.old.offered ≡ None }
         requires sized { is_void_syn incoming.now.header ≡ false }
-        ensures answer { result ≡ (opens (C.context cx.old) self.old incoming.now.ip_repr incoming.now.header).answer }
-        ensures socket { self.new ≡ (opens (C.context cx.old) self.old incoming.now.ip_repr incoming.now.header).socket }
-        ensures drawn { cx.new ≡ (if (opens (C.context cx.old) self.old incoming.now.ip_repr incoming.now.header).draws then C.drawn cx.old else cx.old) }
+        ensures answer { answer_of result (C.context cx.old).moment self.new incoming.now.ip_repr.now incoming.now.header (length incoming.now.bytes.now) ≡ (opens (C.context cx.old) self.old incoming.now.ip_repr.now incoming.now.header).answer }
+        ensures socket { self.new ≡ (opens (C.context cx.old) self.old incoming.now.ip_repr.now incoming.now.header).socket }
+        ensures drawn { cx.new ≡ (if (opens (C.context cx.old) self.old incoming.now.ip_repr.now incoming.now.header).draws then C.drawn cx.old else cx.old) }
     {
         if !is_first_syn(&incoming.header) {
             return None;
         }
         let number = cx.rand_u32();
         self.block
-            .answer_syn(&incoming.ip_repr, &incoming.header, number);
+            .answer_syn(incoming.ip_repr, &incoming.header, number);
         self.block.restart_timeout(cx.now(), 0);
         None
     }
 
     /// SYN-SENT: a reset counts if it acknowledges the SYN; then an acknowledgement of anything else is
     /// answered by a reset; then a SYN is taken.
-    fn take_answer<C: Context>(&mut self, cx: &C, incoming: &Incoming<'_>) -> Option<Reply>
+    fn take_answer<C: Context>(&mut self, cx: &C, incoming: &Incoming<'_>) -> Option<Due>
         requires unoffered { self.old.offered ≡ None }
         requires sized { is_void_syn incoming.now.header ≡ false }
-        ensures answer { result ≡ (takes_answer (C.context cx.now) self.old incoming.now.ip_repr incoming.now.header incoming.now.bytes.now).answer }
-        ensures socket { self.new ≡ (takes_answer (C.context cx.now) self.old incoming.now.ip_repr incoming.now.header incoming.now.bytes.now).socket }
+        ensures answer { answer_of result (C.context cx.now).moment self.new incoming.now.ip_repr.now incoming.now.header (length incoming.now.bytes.now) ≡ (takes_answer (C.context cx.now) self.old incoming.now.ip_repr.now incoming.now.header incoming.now.bytes.now).answer }
+        ensures socket { self.new ≡ (takes_answer (C.context cx.now) self.old incoming.now.ip_repr.now incoming.now.header incoming.now.bytes.now).socket }
     {
         let (now, header) = (cx.now(), &incoming.header);
         let acks_syn = self.block.is_syn_acked(header.ack_number);
@@ -138,7 +167,7 @@ impl Socket {
             return None;
         }
         if header.ack_number.is_some() && !acks_syn {
-            return Some(rst_reply(&incoming.ip_repr, header, incoming.bytes.len()));
+            return Some(Due::Reset);
         }
         if is_syn(header.control) {
             self.block.take_answer(header, now);
@@ -148,25 +177,27 @@ impl Socket {
     }
 
     /// From SYN-RECEIVED on.
-    fn check<C: Context>(&mut self, cx: &C, incoming: &Incoming<'_>) -> Option<Reply>
+    fn check<C: Context>(&mut self, cx: &C, incoming: &Incoming<'_>) -> Option<Due>
         requires unoffered { self.old.offered ≡ None }
-        ensures answer { result ≡ (checked (acknowledgement_check self.old.block (queued_in self.old) incoming.now.header) (C.context cx.now) self.old incoming.now.ip_repr incoming.now.header incoming.now.bytes.now).answer }
-        ensures socket { self.new ≡ (checked (acknowledgement_check self.old.block (queued_in self.old) incoming.now.header) (C.context cx.now) self.old incoming.now.ip_repr incoming.now.header incoming.now.bytes.now).socket }
+        ensures answer { answer_of result (C.context cx.now).moment self.new incoming.now.ip_repr.now incoming.now.header (length incoming.now.bytes.now) ≡ (checked (acknowledgement_check self.old.block (queued_in self.old) incoming.now.header) (C.context cx.now) self.old incoming.now.ip_repr.now incoming.now.header incoming.now.bytes.now).answer }
+        ensures socket { self.new ≡ (checked (acknowledgement_check self.old.block (queued_in self.old) incoming.now.header) (C.context cx.now) self.old incoming.now.ip_repr.now incoming.now.header incoming.now.bytes.now).socket }
     {
-        let header = &incoming.header;
-        match self.block.check_acknowledgement(self.queued.len(), header) {
+        match self
+            .block
+            .check_acknowledgement(self.queued.len(), &incoming.header)
+        {
             Verdict::Passes(by) => self.take_passed(cx, incoming, by),
             Verdict::Drops => None,
             Verdict::Draws => self.draw(cx, incoming),
-            Verdict::Resets => Some(rst_reply(&incoming.ip_repr, header, incoming.bytes.len())),
+            Verdict::Resets => Some(Due::Reset),
         }
     }
 
     /// A segment whose acknowledgement passes, so far past SND.UNA.
-    fn take_passed<C: Context>(&mut self, cx: &C, incoming: &Incoming<'_>, by: u32) -> Option<Reply>
+    fn take_passed<C: Context>(&mut self, cx: &C, incoming: &Incoming<'_>, by: u32) -> Option<Due>
         requires unoffered { self.old.offered ≡ None }
-        ensures answer { result ≡ (checked (Passes by) (C.context cx.now) self.old incoming.now.ip_repr incoming.now.header incoming.now.bytes.now).answer }
-        ensures socket { self.new ≡ (checked (Passes by) (C.context cx.now) self.old incoming.now.ip_repr incoming.now.header incoming.now.bytes.now).socket }
+        ensures answer { answer_of result (C.context cx.now).moment self.new incoming.now.ip_repr.now incoming.now.header (length incoming.now.bytes.now) ≡ (checked (Passes by) (C.context cx.now) self.old incoming.now.ip_repr.now incoming.now.header incoming.now.bytes.now).answer }
+        ensures socket { self.new ≡ (checked (Passes by) (C.context cx.now) self.old incoming.now.ip_repr.now incoming.now.header incoming.now.bytes.now).socket }
     {
         let free = self.received.window();
         if self
@@ -180,10 +211,10 @@ impl Socket {
     }
 
     /// Outside the window: an answer may be drawn, but for a reset.
-    fn answer_outside<C: Context>(&mut self, cx: &C, incoming: &Incoming<'_>) -> Option<Reply>
+    fn answer_outside<C: Context>(&mut self, cx: &C, incoming: &Incoming<'_>) -> Option<Due>
         requires unoffered { self.old.offered ≡ None }
-        ensures answer { result ≡ (outside (C.context cx.now) self.old incoming.now.ip_repr incoming.now.header).answer }
-        ensures socket { self.new ≡ (outside (C.context cx.now) self.old incoming.now.ip_repr incoming.now.header).socket }
+        ensures answer { answer_of result (C.context cx.now).moment self.new incoming.now.ip_repr.now incoming.now.header (length incoming.now.bytes.now) ≡ (outside (C.context cx.now) self.old incoming.now.ip_repr.now incoming.now.header).answer }
+        ensures socket { self.new ≡ (outside (C.context cx.now) self.old incoming.now.ip_repr.now incoming.now.header).socket }
     {
         if is_rst(incoming.header.control) {
             return None;
@@ -204,10 +235,10 @@ impl Socket {
     }
 
     /// Inside the window: a reset, a SYN, or a segment to take.
-    fn take_inside<C: Context>(&mut self, cx: &C, incoming: &Incoming<'_>, by: u32) -> Option<Reply>
+    fn take_inside<C: Context>(&mut self, cx: &C, incoming: &Incoming<'_>, by: u32) -> Option<Due>
         requires unoffered { self.old.offered ≡ None }
-        ensures answer { result ≡ (inside (C.context cx.now) self.old incoming.now.ip_repr incoming.now.header incoming.now.bytes.now by).answer }
-        ensures socket { self.new ≡ (inside (C.context cx.now) self.old incoming.now.ip_repr incoming.now.header incoming.now.bytes.now by).socket }
+        ensures answer { answer_of result (C.context cx.now).moment self.new incoming.now.ip_repr.now incoming.now.header (length incoming.now.bytes.now) ≡ (inside (C.context cx.now) self.old incoming.now.ip_repr.now incoming.now.header incoming.now.bytes.now by).answer }
+        ensures socket { self.new ≡ (inside (C.context cx.now) self.old incoming.now.ip_repr.now incoming.now.header incoming.now.bytes.now by).socket }
     {
         if is_rst(incoming.header.control) {
             self.take_down();
@@ -232,42 +263,42 @@ impl Socket {
     }
 
     /// An accepted segment.
-    fn take<C: Context>(&mut self, cx: &C, incoming: &Incoming<'_>, by: u32) -> Option<Reply>
+    fn take<C: Context>(&mut self, cx: &C, incoming: &Incoming<'_>, by: u32) -> Option<Due>
         requires unoffered { self.old.offered ≡ None }
-        ensures answer { result ≡ (taken (C.context cx.now) self.old incoming.now.ip_repr incoming.now.header incoming.now.bytes.now by).answer }
-        ensures socket { self.new ≡ (taken (C.context cx.now) self.old incoming.now.ip_repr incoming.now.header incoming.now.bytes.now by).socket }
+        ensures answer { answer_of result (C.context cx.now).moment self.new incoming.now.ip_repr.now incoming.now.header (length incoming.now.bytes.now) ≡ (taken (C.context cx.now) self.old incoming.now.ip_repr.now incoming.now.header incoming.now.bytes.now by).answer }
+        ensures socket { self.new ≡ (taken (C.context cx.now) self.old incoming.now.ip_repr.now incoming.now.header incoming.now.bytes.now by).socket }
     {
-        let old = self.block;
+        let duplicates = self
+            .block
+            .duplicates_after(&incoming.header, incoming.bytes.len(), by);
         self.acknowledge(by, cx.now());
-        self.take_rest(cx, &old, incoming, by)
+        self.take_rest(cx, duplicates, incoming)
     }
 
-    /// What is left of a segment whose acknowledgement was taken. `old` is the block before that.
+    /// What is left of a segment whose acknowledgement was taken, and which is so many duplicates in a
+    /// row.
     fn take_rest<C: Context>(
         &mut self,
         cx: &C,
-        old: &Block,
+        duplicates: u8,
         incoming: &Incoming<'_>,
-        by: u32,
-    ) -> Option<Reply>
+    ) -> Option<Due>
         requires unoffered { self.old.offered ≡ None }
-        ensures answer { result ≡ (continued (C.context cx.now) old.now self.old incoming.now.ip_repr incoming.now.header incoming.now.bytes.now by).answer }
-        ensures socket { self.new ≡ (continued (C.context cx.now) old.now self.old incoming.now.ip_repr incoming.now.header incoming.now.bytes.now by).socket }
+        ensures answer { answer_of result (C.context cx.now).moment self.new incoming.now.ip_repr.now incoming.now.header (length incoming.now.bytes.now) ≡ (continued_by (C.context cx.now) duplicates self.old incoming.now.ip_repr.now incoming.now.header incoming.now.bytes.now).answer }
+        ensures socket { self.new ≡ (continued_by (C.context cx.now) duplicates self.old incoming.now.ip_repr.now incoming.now.header incoming.now.bytes.now).socket }
     {
         if self.block.state.is_closed() {
             return None;
         }
-        let acked = self.block;
-        self.take_window(old, &incoming.header, incoming.bytes.len(), by);
-        self.take_content(cx, &acked, incoming)
+        self.take_window(&incoming.header, duplicates);
+        self.take_content(cx, incoming)
     }
 
-    /// The window of a segment, and whether it is a duplicate.
-    fn take_window(&mut self, old: &Block, header: &TcpHeader, size: usize, by: u32)
+    /// The window of a segment, which is so many duplicates in a row.
+    fn take_window(&mut self, header: &TcpHeader, duplicates: u8)
         requires unoffered { self.old.offered ≡ None }
-        ensures { self.new ≡ with_block self.old (counted (window_set self.old.block header.now) (duplicates_after old.now header.now size by)) }
+        ensures { self.new ≡ with_block self.old (counted (window_set self.old.block header.now) duplicates) }
     {
-        let duplicates = old.duplicates_after(header, size, by);
         self.block.set_window(header);
         self.block.count(duplicates);
     }
@@ -284,39 +315,55 @@ impl Socket {
         self.queued.dequeue_allocated(freed);
     }
 
-    /// The text and the FIN of an accepted segment, and what answers it. `old` is the block before its
-    /// window was taken.
-    fn take_content<C: Context>(
-        &mut self,
-        cx: &C,
-        old: &Block,
-        incoming: &Incoming<'_>,
-    ) -> Option<Reply>
+    /// The text and the FIN of an accepted segment, and what answers it.
+    fn take_content<C: Context>(&mut self, cx: &C, incoming: &Incoming<'_>) -> Option<Due>
         requires unoffered { self.old.offered ≡ None }
-        ensures answer { result ≡ (finished (C.context cx.now) old.now (with_text self.old incoming.now.header incoming.now.bytes.now) incoming.now.ip_repr incoming.now.header (length incoming.now.bytes.now)).answer }
-        ensures socket { self.new ≡ (finished (C.context cx.now) old.now (with_text self.old incoming.now.header incoming.now.bytes.now) incoming.now.ip_repr incoming.now.header (length incoming.now.bytes.now)).socket }
+        ensures answer { answer_of result (C.context cx.now).moment self.new incoming.now.ip_repr.now incoming.now.header (length incoming.now.bytes.now) ≡ (finished (C.context cx.now) self.old.block (with_text self.old incoming.now.header incoming.now.bytes.now) incoming.now.ip_repr.now incoming.now.header (length incoming.now.bytes.now)).answer }
+        ensures socket { self.new ≡ (finished (C.context cx.now) self.old.block (with_text self.old incoming.now.header incoming.now.bytes.now) incoming.now.ip_repr.now incoming.now.header (length incoming.now.bytes.now)).socket }
     {
+        let next = self.block.receiver.next;
         let text = self.take_text(&incoming.header, incoming.bytes);
-        self.finish(cx, old, &text, incoming)
+        self.finish(cx, next, &text, incoming)
     }
 
-    /// The FIN of a segment whose text was taken, and what answers it. `old` is the block before that.
+    /// The FIN of a segment whose text was taken, and what answers it. RCV.NXT was `next` before that.
     fn finish<C: Context>(
         &mut self,
         cx: &C,
-        old: &Block,
+        next: SeqNumber,
         text: &Text,
         incoming: &Incoming<'_>,
-    ) -> Option<Reply>
+    ) -> Option<Due>
         requires unoffered { self.old.offered ≡ None }
         requires small { text.now.advance ≤ 2 ^ 30 }
-        ensures answer { result ≡ (finished (C.context cx.now) old.now (texted self.old text.now.advance text.now.early) incoming.now.ip_repr incoming.now.header (length incoming.now.bytes.now)).answer }
-        ensures socket { self.new ≡ (finished (C.context cx.now) old.now (texted self.old text.now.advance text.now.early) incoming.now.ip_repr incoming.now.header (length incoming.now.bytes.now)).socket }
+        ensures answer { answer_of result (C.context cx.now).moment self.new incoming.now.ip_repr.now incoming.now.header (length incoming.now.bytes.now) ≡ (finished (C.context cx.now) (next_at self.old.block next) (texted self.old text.now.advance text.now.early) incoming.now.ip_repr.now incoming.now.header (length incoming.now.bytes.now)).answer }
+        ensures socket { self.new ≡ (finished (C.context cx.now) (next_at self.old.block next) (texted self.old text.now.advance text.now.early) incoming.now.ip_repr.now incoming.now.header (length incoming.now.bytes.now)).socket }
     {
-        let (now, header, size) = (cx.now(), &incoming.header, incoming.bytes.len());
-        self.block.take_fin(old, header, size, text.advance, now);
+        let (now, size) = (cx.now(), incoming.bytes.len());
+        self.take_fin(next, &incoming.header, size, text.advance, now);
         self.block.move_timers(now, self.queued.len());
         self.answer(cx, incoming, text.early)
+    }
+
+    /// Takes the FIN of a segment whose text made RCV.NXT rise by so much from `next`.
+    fn take_fin(
+        &mut self,
+        next: SeqNumber,
+        header: &TcpHeader,
+        size: usize,
+        advance: usize,
+        now: Instant,
+    )
+        requires unoffered { self.old.offered ≡ None }
+        requires moment { IsMoment now }
+        requires small { advance ≤ 2 ^ 30 }
+        ensures { self.new ≡ with_block self.old (with_fin self.old.block (next_at self.old.block next) header.now size advance now) }
+    {
+        if is_fin(header.control) {
+            let mut before = self.block;
+            before.receiver.next = next;
+            self.block.take_fin(&before, header, size, advance, now);
+        }
     }
 
     /// Text that is held early is acknowledged at once; else an acknowledgement may become due.
@@ -325,15 +372,15 @@ impl Socket {
         cx: &C,
         incoming: &Incoming<'_>,
         early: Option<usize>,
-    ) -> Option<Reply>
+    ) -> Option<Due>
         requires unoffered { self.old.offered ≡ None }
-        ensures answer { result ≡ (answer_for (C.context cx.now) self.old incoming.now.ip_repr incoming.now.header (length incoming.now.bytes.now) early).answer }
-        ensures socket { self.new ≡ (answer_for (C.context cx.now) self.old incoming.now.ip_repr incoming.now.header (length incoming.now.bytes.now) early).socket }
+        ensures answer { answer_of result (C.context cx.now).moment self.new incoming.now.ip_repr.now incoming.now.header (length incoming.now.bytes.now) ≡ (answer_for (C.context cx.now) self.old incoming.now.ip_repr.now incoming.now.header (length incoming.now.bytes.now) early).answer }
+        ensures socket { self.new ≡ (answer_for (C.context cx.now) self.old incoming.now.ip_repr.now incoming.now.header (length incoming.now.bytes.now) early).socket }
     {
         match early {
             Some(place) => {
-                let range = self.range_held(place);
-                Some(self.acknowledge_with(cx, incoming, range))
+                self.acknowledge_all();
+                Some(Due::AckHeld(place))
             }
             None => {
                 self.block
@@ -407,36 +454,27 @@ impl Socket {
     }
 
     /// An acknowledgement that answers a segment which isn't acceptable, at most one a second.
-    fn draw<C: Context>(&mut self, cx: &C, incoming: &Incoming<'_>) -> Option<Reply>
+    fn draw<C: Context>(&mut self, cx: &C, incoming: &Incoming<'_>) -> Option<Due>
         requires unoffered { self.old.offered ≡ None }
-        ensures answer { result ≡ (drawn (C.context cx.now) self.old incoming.now.ip_repr incoming.now.header).answer }
-        ensures socket { self.new ≡ (drawn (C.context cx.now) self.old incoming.now.ip_repr incoming.now.header).socket }
+        ensures answer { answer_of result (C.context cx.now).moment self.new incoming.now.ip_repr.now incoming.now.header (length incoming.now.bytes.now) ≡ (drawn (C.context cx.now) self.old incoming.now.ip_repr.now incoming.now.header).answer }
+        ensures socket { self.new ≡ (drawn (C.context cx.now) self.old incoming.now.ip_repr.now incoming.now.header).socket }
     {
         if self.block.may_draw(cx.now()) {
             self.block.timers.draws_from = Some(next_draw_from(cx.now()));
-            Some(self.acknowledge_with(cx, incoming, None))
+            self.acknowledge_all();
+            Some(Due::Ack)
         } else {
             None
         }
     }
 
-    /// The acknowledgement that answers a segment, with a range that is held out of order.
-    fn acknowledge_with<C: Context>(
-        &mut self,
-        cx: &C,
-        incoming: &Incoming<'_>,
-        range: Option<(u32, u32)>,
-    ) -> Reply
+    /// An acknowledgement of all that came answers a segment.
+    fn acknowledge_all(&mut self)
         requires unoffered { self.old.offered ≡ None }
-        ensures answer { Some result ≡ (acked (C.context cx.now) self.old incoming.now.ip_repr incoming.now.header range).answer }
-        ensures socket { self.new ≡ (acked (C.context cx.now) self.old incoming.now.ip_repr incoming.now.header range).socket }
+        ensures { self.new ≡ with_block self.old (ack_recorded self.old.block (window_of self.old)) }
     {
         let window = self.window();
-        let pair = EndpointPair::of_segment(&incoming.ip_repr, &incoming.header);
-        let segment = self.block.sack_segment(&pair, cx.now(), window, range);
-        let reply = reply_to(&incoming.ip_repr, self.block.hops(), segment);
         self.block.record_ack(window);
-        reply
     }
 
     /// The window field, but on a SYN.
@@ -446,6 +484,15 @@ impl Socket {
         self.block
             .window_field(self.received.capacity(), self.received.window())
     }
+}
+
+/// Which answer to a segment is due.
+#[derive(Clone, Copy)]
+enum Due {
+    Reset,
+    Ack,
+    /// An acknowledgement that tells of the run which is held with its first byte at this place.
+    AckHeld(usize),
 }
 
 /// The text of a segment: how far RCV.NXT rose, and of text that is held early the place of its first

@@ -1,6 +1,7 @@
 use Rattle.std.proofs.Common.{◌≡◌, ℕ, ◌+◌, ◌-◌, ◌==◌, ◌<◌, ◌≤◌, ◌^◌, min, Bool, true, false, List, [], length, take, Option, Some, None, if◌then◌else◌, refl, sym, ap, subst, ◌∙◌, arith}
 use Rattle.tcp_model.specs.Value.{TcpValue}
 use Rattle.tcp_model.specs.States.{is_closed}
+use Rattle.tcp_socket.specs.Answering.{answer_of}
 use Rattle.tcp_socket.proofs.Steps.{rest_leads}
 use Rattle.tcp_socket.proofs.socket.Socket.take_rest.Goals as goal
 
@@ -11,7 +12,7 @@ returns-clause-answer g c =
     let v = c.args.self.now in
     let state : is_closed c.self.inside.block.state ≡ is_closed v.block.state = ap (λ (w : TcpValue). is_closed w.block.state) c.self.view_is in
     let opened : is_closed v.block.state ≡ false = sym state ∙ sym c.is_closed.ensures ∙ c.if-is_closed.false in
-    (rest_leads cx c.args.old.now c.self.inside.block v c.take_window.new.self i.ip_repr i.header i.bytes.now c.args.by c.take_content.result c.take_content.new.self opened (ap (λ (w : TcpValue). w.block) c.self.view_is) c.take_window.ensures c.take_content.ensures.answer c.take_content.ensures.socket).answer
+    (rest_leads cx c.args.duplicates v c.take_window.new.self i.ip_repr.now i.header i.bytes.now (answer_of c.take_content.result cx.moment c.take_content.new.self i.ip_repr.now i.header (length i.bytes.now)) c.take_content.new.self opened c.take_window.ensures c.take_content.ensures.answer c.take_content.ensures.socket).answer
 
 pub returns-clause-socket : goal.returns-clause-socket
 returns-clause-socket g c =
@@ -20,4 +21,4 @@ returns-clause-socket g c =
     let v = c.args.self.now in
     let state : is_closed c.self.inside.block.state ≡ is_closed v.block.state = ap (λ (w : TcpValue). is_closed w.block.state) c.self.view_is in
     let opened : is_closed v.block.state ≡ false = sym state ∙ sym c.is_closed.ensures ∙ c.if-is_closed.false in
-    (rest_leads cx c.args.old.now c.self.inside.block v c.take_window.new.self i.ip_repr i.header i.bytes.now c.args.by c.take_content.result c.take_content.new.self opened (ap (λ (w : TcpValue). w.block) c.self.view_is) c.take_window.ensures c.take_content.ensures.answer c.take_content.ensures.socket).socket
+    (rest_leads cx c.args.duplicates v c.take_window.new.self i.ip_repr.now i.header i.bytes.now (answer_of c.take_content.result cx.moment c.take_content.new.self i.ip_repr.now i.header (length i.bytes.now)) c.take_content.new.self opened c.take_window.ensures c.take_content.ensures.answer c.take_content.ensures.socket).socket

@@ -1,0 +1,14 @@
+use Rattle.std.proofs.Common.{◌≡◌, ℕ, ◌∙◌, None, refl, sym, ap}
+use Rattle.tcp_model.specs.Value.{TcpValue}
+use Rattle.tcp_socket.specs.Answering.{next_at}
+use Rattle.tcp_socket.proofs.Kept.{none_open, kept_fin}
+use Rattle.tcp_socket.proofs.socket.Socket.take_fin.Goals as goal
+
+pub invariant_of-self : goal.invariant_of-self
+invariant_of-self c =
+    let none : c.self.inside.offered ≡ None = ap (λ (v : TcpValue). v.offered) c.self.view_is ∙ c.requires.unoffered in
+    record {
+      room = c.self.invariant.room;
+      block = rw c.take_fin.ensures (kept_fin c.self.inside.block (next_at c.self.inside.block c.args.next) c.args.header.now c.args.size c.args.advance c.args.now c.self.invariant.block);
+      unsettled = none_open c.self.inside.offered c.take_fin.new.self c.self.inside.queued none;
+    }
