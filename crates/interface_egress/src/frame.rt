@@ -1,7 +1,7 @@
 //! The frames that leave a host.
 ghost use Rattle.std.specs.Prelude.{◌≡◌, ◌+◌, ◌<◌, ◌^◌, length};
 ghost use Rattle.ip_wire.specs.Address.{solicited_of};
-ghost use Rattle.socket_base.specs.Packet.{packet_value, IsSendable};
+ghost use Rattle.socket_base.specs.Packet.{packet_value, packet_of, payload_value, IsSendable};
 ghost use Rattle.interface_egress.specs.Emits.{Emits};
 ghost use Rattle.interface_egress.specs.Departure.{link_header, link_len, ether_for, packet_frame, packet_frame_len, piece_frame, piece_frame_len, arp_frame, arp_request, solicited_node, solicited_station, solicitation, question_frame, question_len};
 
@@ -44,6 +44,16 @@ pub struct Whole<'a> {
     pub from: HardwareAddress,
     pub to: HardwareAddress,
     pub packet: Packet<'a>,
+    pub checksums: ChecksumCapabilities,
+}
+
+/// A frame that carries a packet of this header and this payload.
+#[derive(Drop)]
+pub(crate) struct LentPacket<'a> {
+    pub from: HardwareAddress,
+    pub to: HardwareAddress,
+    pub header: &'a IpRepr,
+    pub payload: &'a IpPayload<'a>,
     pub checksums: ChecksumCapabilities,
 }
 
@@ -103,11 +113,34 @@ impl<'a> Fill for Whole<'a> {
 
     fn fill(&self, buffer: &mut [u8]) {
         let header = self.packet.ip_repr();
+        let frame = LentPacket {
+            from: self.from,
+            to: self.to,
+            header: &header,
+            payload: self.packet.payload(),
+            checksums: self.checksums,
+        };
+        frame.fill(buffer);
+    }
+}
+
+impl<'a> Fill for LentPacket<'a> {
+    ghost filled = { λ w. packet_frame w.checksums w.from w.to (packet_of w.header.now (payload_value w.payload.now)) };
+
+    ghost len = { λ w. packet_frame_len w.from w.to (packet_of w.header.now (payload_value w.payload.now)) };
+
+    ghost fits = { λ w. IsSendable (packet_of w.header.now (payload_value w.payload.now)) };
+
+    fn frame_len(&self) -> usize {
+        link_len(&self.from, &self.to) + self.header.buffer_len()
+    }
+
+    fn fill(&self, buffer: &mut [u8]) {
         let (front, rest) = buffer.split_at_mut(link_len(&self.from, &self.to));
-        write_link(&self.from, &self.to, ether_for(&header), front);
-        let (head, body) = rest.split_at_mut(header.header_len());
-        header.emit(head, &self.checksums);
-        self.packet.emit_payload(body, &self.checksums);
+        write_link(&self.from, &self.to, ether_for(self.header), front);
+        let (head, body) = rest.split_at_mut(self.header.header_len());
+        self.header.emit(head, &self.checksums);
+        self.payload.emit(self.header, body, &self.checksums);
     }
 }
 

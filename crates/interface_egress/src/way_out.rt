@@ -9,7 +9,7 @@ ghost use Rattle.interface_egress.specs.GoesOut.{GoesOut, PieceGoesOut, Asked, W
 
 use crate::fill::send;
 use crate::fragmenter::{Cut, Fragmenter};
-use crate::frame::{Question, Whole, ask};
+use crate::frame::{LentPacket, Question, ask};
 use crate::plan::{Plan, plan_for};
 use interface_tables::InterfaceInner;
 use ip_wire::{HardwareAddress, IpRepr, Ipv4Repr};
@@ -105,10 +105,12 @@ fn send_whole<D: Device>(
         (Departures.Whole to (numbered inner.old (packet_value packet.now))) result device.new inner.new }
     ensures capabilities { D.described device.new ≡ D.described device.old }
 {
-    let frame = Whole {
+    let header = numbered_header(inner, &packet.ip_repr());
+    let frame = LentPacket {
         from: inner.hardware_addr(),
         to,
-        packet: numbered(inner, packet),
+        header: &header,
+        payload: packet.payload(),
         checksums: inner.checksum_caps(),
     };
     if !send(device, token, &frame) {

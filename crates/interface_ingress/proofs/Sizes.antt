@@ -1,17 +1,19 @@
--- The data of a message that arrived can be sent back.
-use Rattle.std.proofs.Common.{◌≡◌, ℕ, ◌+◌, ◌-◌, ◌<◌, ◌≤◌, ◌^◌, Bool, List, length, drop, ap, sym, arith, length-drop}
+-- What a control message's packet carries, and that its data can be sent back.
+use Rattle.std.proofs.Common.{◌≡◌, ◌≢◌, ℕ, ◌+◌, ◌-◌, ◌<◌, ◌≤◌, ◌^◌, Bool, List, length, drop, ap, sym, arith, length-drop}
 use Rattle.std.specs.Prelude.{Option, Some, None}
 use Rattle.net_base.specs.ChecksumCapabilities.{ChecksumCapabilities}
 use Rattle.control_wire.specs.Icmpv4 as Icmpv4
 use Rattle.control_wire.specs.Icmpv4Header.{Icmpv4Header}
 use Rattle.control_wire.specs.Icmpv4Header.TheVariants as V4
 use Rattle.control_wire.specs.Icmpv6 as Icmpv6
-use Rattle.ip_wire.specs.Ip.{Fits, payload_len_in}
+use Rattle.ip_wire.specs.Ip.{Fits, payload_len_in, carried_in}
+use Rattle.ip_wire.specs.IpProtocol.TheVariants as Protocol
 use Rattle.ip_wire.specs.IpRepr.{IpRepr}
 use Rattle.ip_wire.specs.IpRepr.TheVariants as Ip
 use Rattle.socket_base.specs.Packet.{PayloadValue, ControlV4, ControlV6, Bytes, Datagram, Segment}
 use Rattle.interface_ingress.specs.Carried.{IsCarriedContent}
 use Rattle.interface_ingress.specs.Handed.{FitsBack}
+use Rattle.interface_ingress.specs.Read.{IsControl}
 
 -- MESSAGES
 
@@ -43,3 +45,12 @@ fits_back caps ip payload (Some (Bytes bytes)) is fits len = tt
 fits_back caps ip payload (Some (Datagram udp bytes)) is fits len = tt
 fits_back caps ip payload (Some (Segment header bytes)) is fits len = tt
 fits_back caps ip payload None is fits len = tt
+
+-- a header that names neither UDP nor TCP has no datagram and no segment behind it
+pub only_control : (caps : ChecksumCapabilities) (ip : IpRepr) (payload : List ℕ) (carried : Option PayloadValue) → IsCarriedContent caps ip payload carried → carried_in ip ≢ Protocol.Udp → carried_in ip ≢ Protocol.Tcp → IsControl carried
+only_control caps ip payload (Some (ControlV4 m bytes)) is udp tcp = tt
+only_control caps ip payload (Some (ControlV6 m bytes)) is udp tcp = tt
+only_control caps ip payload (Some (Bytes bytes)) is udp tcp = tt
+only_control caps ip payload (Some (Datagram header bytes)) is udp tcp = udp is.protocol
+only_control caps ip payload (Some (Segment header bytes)) is udp tcp = tcp is.protocol
+only_control caps ip payload None is udp tcp = tt

@@ -3,11 +3,19 @@ ghost use Rattle.std.specs.Prelude.{◌≡◌, ◌<◌, ◌^◌, length};
 ghost use Rattle.ip_wire.specs.Ip.{carried_in};
 ghost use Rattle.ip_wire.specs.IpProtocol.TheVariants as Protocol;
 ghost use Rattle.interface_ingress.specs.Carried.{IsCarriedContent, carried_of};
+ghost use Rattle.interface_ingress.specs.Read.{datagram_of, segment_of};
 
 use control_wire::{Icmpv4Packet, Icmpv4Repr, Icmpv6Packet, Icmpv6Repr};
 use ip_wire::{IpProtocol, IpRepr, TcpPacket, TcpRepr, UdpPacket, UdpRepr};
 use net_base::ChecksumCapabilities;
 use socket_base::IpPayload;
+
+/// A user datagram that was read: its header and its bytes.
+#[derive(Clone, Copy, Debug)]
+pub struct ReadDatagram<'a> {
+    pub header: UdpRepr,
+    pub bytes: &'a [u8],
+}
 
 /// What stands behind this header: a control message of the header's family, a user datagram or a
 /// segment, or none. Checksums are tested where the capabilities say that the stack does so.
@@ -22,9 +30,27 @@ pub fn read_payload<'a>(
     match header.next_header() {
         IpProtocol::Icmp => read_icmpv4(header, payload, checksums),
         IpProtocol::Icmpv6 => read_icmpv6(header, payload, checksums),
-        IpProtocol::Udp => read_udp(header, payload, checksums),
-        IpProtocol::Tcp => read_tcp(header, payload, checksums),
+        IpProtocol::Udp => datagram_payload(&read_udp(header, payload, checksums)),
+        IpProtocol::Tcp => segment_payload(&read_tcp(header, payload, checksums)),
         _ => None,
+    }
+}
+
+fn datagram_payload<'a>(datagram: &Option<ReadDatagram<'a>>) -> Option<IpPayload<'a>>
+    ensures { carried_of result ≡ datagram_of datagram.now }
+{
+    match datagram {
+        Some(datagram) => Some(IpPayload::Udp(datagram.header, datagram.bytes)),
+        None => None,
+    }
+}
+
+fn segment_payload<'a>(segment: &Option<TcpRepr<'a>>) -> Option<IpPayload<'a>>
+    ensures { carried_of result ≡ segment_of segment.now }
+{
+    match segment {
+        Some(segment) => Some(IpPayload::Tcp(*segment)),
+        None => None,
     }
 }
 
@@ -68,36 +94,39 @@ fn read_icmpv6<'a>(
 }
 
 /// The user datagram behind a header of either family.
-fn read_udp<'a>(
+pub(crate) fn read_udp<'a>(
     header: &IpRepr,
     payload: &'a [u8],
     checksums: &ChecksumCapabilities,
-) -> Option<IpPayload<'a>>
+) -> Option<ReadDatagram<'a>>
     requires { carried_in header.now ≡ Protocol.Udp }
-    ensures { IsCarriedContent checksums.now header.now payload.now (carried_of result) }
+    ensures { IsCarriedContent checksums.now header.now payload.now (datagram_of result) }
 {
     let packet = UdpPacket::new_unchecked(payload);
     let (source, destination) = (header.src_addr(), header.dst_addr());
-    let Ok(udp) = UdpRepr::parse(&packet, &source, &destination, checksums) else {
+    let Ok(header) = UdpRepr::parse(&packet, &source, &destination, checksums) else {
         return None;
     };
-    Some(IpPayload::Udp(udp, packet.payload()))
+    Some(ReadDatagram {
+        header,
+        bytes: packet.payload(),
+    })
 }
 
 /// The segment behind a header of either family.
-fn read_tcp<'a>(
+pub(crate) fn read_tcp<'a>(
     header: &IpRepr,
     payload: &'a [u8],
     checksums: &ChecksumCapabilities,
-) -> Option<IpPayload<'a>>
+) -> Option<TcpRepr<'a>>
     requires protocol { carried_in header.now ≡ Protocol.Tcp }
     requires short { length payload.now < 2 ^ 16 }
-    ensures { IsCarriedContent checksums.now header.now payload.now (carried_of result) }
+    ensures { IsCarriedContent checksums.now header.now payload.now (segment_of result) }
 {
     let packet = TcpPacket::new_unchecked(payload);
     let (source, destination) = (header.src_addr(), header.dst_addr());
     let Ok(segment) = TcpRepr::parse(&packet, &source, &destination, checksums) else {
         return None;
     };
-    Some(IpPayload::Tcp(segment))
+    Some(segment)
 }

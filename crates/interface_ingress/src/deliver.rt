@@ -1,16 +1,17 @@
 //! What arrived, given to the sockets that it is for.
-ghost use Rattle.std.specs.Prelude.{◌≡◌, ◌<◌, length, is_some, IfSome, Some};
+ghost use Rattle.std.specs.Prelude.{◌≡◌, ◌<◌, length, is_some, Some};
 ghost use Rattle.std.specs.Option.{ForSome};
 ghost use Rattle.control_wire.specs.Icmpv4 as Icmpv4;
 ghost use Rattle.control_wire.specs.Icmpv6 as Icmpv6;
 ghost use Rattle.ip_wire.specs.IpAddress.TheVariants as Address;
 ghost use Rattle.ip_wire.specs.Tcp as Tcp;
-ghost use Rattle.sockets.specs.Packet.{option_value, IsSendable};
 ghost use Rattle.sockets.specs.Socket.{accepts_segment};
 ghost use Rattle.interface_tables.specs.Inner.{context_of};
+ghost use Rattle.interface_ingress.specs.Arrives.{IfCanGo, answered, reply_of};
 ghost use Rattle.interface_ingress.specs.Delivered.{is_taken_raw, packet_delivered, icmpv4_delivered, icmpv6_delivered, datagram_place, datagram_delivered, with_change, with_segment, answer_of, answer_in, answer_at, draws_of, drawn_if, passes, passes_at, changed_at, segment_place, segment_delivered, segment_answer, segment_draws, reset_for};
 
 use crate::places::{Arrival, first_place, give_all, give_at, is_for_any};
+use crate::reply::Reply;
 use control_wire::{Icmpv4Repr, Icmpv6Repr};
 use interface_egress::{Item, SocketStorage};
 use interface_tables::InterfaceInner;
@@ -242,15 +243,18 @@ fn process_segment(
     socket: &mut Socket,
     header: &IpRepr,
     segment: &TcpRepr<'_>,
-) -> Option<Packet<'static>>
-    ensures answer { option_value result ≡ answer_of (context_of inner.old) header.now (Tcp.header_of segment.now) segment.now.payload.now socket.old }
-    ensures sendable { IfSome (option_value result) IsSendable }
+) -> Option<Reply<'static>>
+    ensures answer { reply_of result ≡ answered (answer_of (context_of inner.old) header.now (Tcp.header_of segment.now) segment.now.payload.now socket.old) }
+    ensures sendable { IfCanGo (reply_of result) }
     ensures socket { socket.new ≡ with_segment (context_of inner.old) header.now (Tcp.header_of segment.now) segment.now.payload.now socket.old }
     ensures host { inner.new ≡ drawn_if (draws_of (context_of inner.old) header.now (Tcp.header_of segment.now) segment.now.payload.now socket.old) inner.old }
 {
     match socket {
         Socket::Tcp(socket) => match socket.process(inner, header, segment) {
-            Some((header, segment)) => Some(Packet::new(header, IpPayload::Tcp(segment))),
+            Some((header, segment)) => Some(Reply::Packet(Packet::new(
+                header,
+                IpPayload::Tcp(segment),
+            ))),
             None => None,
         },
         _ => None,
@@ -263,9 +267,9 @@ fn process_in(
     place: &mut SocketStorage<Socket>,
     header: &IpRepr,
     segment: &TcpRepr<'_>,
-) -> Option<Packet<'static>>
-    ensures answer { option_value result ≡ answer_in (answer_of (context_of inner.old) header.now (Tcp.header_of segment.now) segment.now.payload.now) place.old.inner }
-    ensures sendable { IfSome (option_value result) IsSendable }
+) -> Option<Reply<'static>>
+    ensures answer { reply_of result ≡ answered (answer_in (answer_of (context_of inner.old) header.now (Tcp.header_of segment.now) segment.now.payload.now) place.old.inner) }
+    ensures sendable { IfCanGo (reply_of result) }
     ensures place { place.new ≡ with_change (with_segment (context_of inner.old) header.now (Tcp.header_of segment.now) segment.now.payload.now) place.old }
     ensures host { inner.new ≡ drawn_if (passes (draws_of (context_of inner.old) header.now (Tcp.header_of segment.now) segment.now.payload.now) place.old) inner.old }
 {
@@ -283,10 +287,10 @@ fn process_at(
     at: usize,
     header: &IpRepr,
     segment: &TcpRepr<'_>,
-) -> Option<Packet<'static>>
+) -> Option<Reply<'static>>
     requires { at < length places.old }
-    ensures answer { option_value result ≡ answer_at (answer_of (context_of inner.old) header.now (Tcp.header_of segment.now) segment.now.payload.now) (Some at) places.old }
-    ensures sendable { IfSome (option_value result) IsSendable }
+    ensures answer { reply_of result ≡ answered (answer_at (answer_of (context_of inner.old) header.now (Tcp.header_of segment.now) segment.now.payload.now) (Some at) places.old) }
+    ensures sendable { IfCanGo (reply_of result) }
     ensures places { places.new ≡ changed_at (with_segment (context_of inner.old) header.now (Tcp.header_of segment.now) segment.now.payload.now) (Some at) places.old }
     ensures host { inner.new ≡ drawn_if (passes_at (draws_of (context_of inner.old) header.now (Tcp.header_of segment.now) segment.now.payload.now) (Some at) places.old) inner.old }
 {
@@ -294,15 +298,15 @@ fn process_at(
 }
 
 /// The reset that answers a segment which no socket accepts, but for a reset and a segment that a raw socket took.
-fn reset(header: &IpRepr, segment: &TcpRepr<'_>, is_taken: bool) -> Option<Packet<'static>>
-    ensures answer { option_value result ≡ reset_for header.now (Tcp.header_of segment.now) segment.now.payload.now is_taken }
-    ensures sendable { IfSome (option_value result) IsSendable }
+fn reset(header: &IpRepr, segment: &TcpRepr<'_>, is_taken: bool) -> Option<Reply<'static>>
+    ensures answer { reply_of result ≡ answered (reset_for header.now (Tcp.header_of segment.now) segment.now.payload.now is_taken) }
+    ensures sendable { IfCanGo (reply_of result) }
 {
     if is_taken || is_rst(segment.control) {
         return None;
     }
     let (header, segment) = tcp::Socket::rst_reply(header, segment);
-    Some(Packet::new(header, IpPayload::Tcp(segment)))
+    Some(Reply::Packet(Packet::new(header, IpPayload::Tcp(segment))))
 }
 
 /// Gives a segment to the first socket that accepts it, and returns the packet that answers it: the socket's, or a reset where
@@ -313,9 +317,9 @@ pub fn deliver_segment(
     header: &IpRepr,
     segment: &TcpRepr<'_>,
     is_taken: bool,
-) -> Option<Packet<'static>>
-    ensures answer { option_value result ≡ segment_answer (context_of inner.old) header.now (Tcp.header_of segment.now) segment.now.payload.now is_taken places.old }
-    ensures sendable { IfSome (option_value result) IsSendable }
+) -> Option<Reply<'static>>
+    ensures answer { reply_of result ≡ answered (segment_answer (context_of inner.old) header.now (Tcp.header_of segment.now) segment.now.payload.now is_taken places.old) }
+    ensures sendable { IfCanGo (reply_of result) }
     ensures places { places.new ≡ segment_delivered (context_of inner.old) header.now (Tcp.header_of segment.now) segment.now.payload.now places.old }
     ensures host { inner.new ≡ drawn_if (segment_draws (context_of inner.old) header.now (Tcp.header_of segment.now) segment.now.payload.now places.old) inner.old }
 {

@@ -1,17 +1,19 @@
 //! What a packet for the host carries, given to sockets and tables.
-ghost use Rattle.std.specs.Prelude.{◌≡◌, ◌+◌, ◌<◌, ◌^◌, length, None, IfSome};
-ghost use Rattle.ip_wire.specs.Ip.{Fits, payload_len_in};
+ghost use Rattle.std.specs.Prelude.{◌≡◌, ◌≢◌, ◌+◌, ◌<◌, ◌^◌, length, None, IfSome};
+ghost use Rattle.ip_wire.specs.Ip.{Fits, payload_len_in, carried_in};
+ghost use Rattle.ip_wire.specs.IpProtocol.TheVariants as Protocol;
 ghost use Rattle.ip_wire.specs.Tcp as Tcp;
 ghost use Rattle.control_wire.specs.Icmpv4 as Icmpv4;
 ghost use Rattle.control_wire.specs.Icmpv6 as Icmpv6;
 ghost use Rattle.socket_base.specs.Packet.{option_value, IsSendable};
 ghost use Rattle.interface_ingress.specs.Carried.{carried_of};
+ghost use Rattle.interface_ingress.specs.Read.{IsControl, datagram_of, segment_of};
 ghost use Rattle.interface_tables.specs.Inner.{context_of};
 ghost use Rattle.interface_ingress.specs.Delivered.{datagram_delivered};
 ghost use Rattle.interface_ingress.specs.Handed.{control_v4_places, control_v4_reply, message_host, message_reply, control_v6_host, control_v6_places, control_v6_reply, names_nobody, datagram_reply, segment_host, segment_places, segment_reply, is_known, unread_reply, handed_host, handed_places, handed_reply, FitsBack};
-ghost use Rattle.interface_ingress.specs.Arrives.{Hands, IfCanGo, arrived, reply_of};
+ghost use Rattle.interface_ingress.specs.Arrives.{Hands, IfCanGo, answered, arrived, reply_of};
 
-use crate::carried::read_payload;
+use crate::carried::{ReadDatagram, read_payload, read_tcp, read_udp};
 use crate::deliver::{deliver_datagram, deliver_icmpv4, deliver_icmpv6, deliver_segment};
 use crate::heard::hear;
 use crate::icmp_reply::{echo_ipv4, echo_ipv6, port_unreachable, protocol_unreachable};
@@ -19,7 +21,7 @@ use crate::reply::{Reply, packet_reply};
 use control_wire::{Icmpv4Repr, Icmpv6Repr};
 use interface_egress::SocketStorage;
 use interface_tables::InterfaceInner;
-use ip_wire::{IpProtocol, IpRepr, Ipv6Repr, TcpRepr, UdpRepr};
+use ip_wire::{IpProtocol, IpRepr, Ipv6Repr, TcpRepr};
 use socket_base::addresses::is_unspecified;
 use socket_base::{Context, IpPayload, Packet};
 use sockets::Socket;
@@ -80,51 +82,11 @@ fn hand_icmpv6<'a>(
     answer_icmpv6(inner, header, message)
 }
 
-/// Gives a datagram to the first socket that accepts it. Without one, and where no raw socket took it, an error answers it.
-fn hand_datagram<'a>(
-    inner: &InterfaceInner,
-    places: &mut [SocketStorage<Socket>],
-    header: &IpRepr,
-    payload: &'a [u8],
-    is_taken: bool,
-    udp: &UdpRepr,
-    bytes: &[u8],
-) -> Option<Packet<'a>>
-    requires { Fits header.now }
-    ensures places { places.new ≡ datagram_delivered (context_of inner.now) header.now udp.now bytes.now places.old }
-    ensures reply { option_value result ≡ datagram_reply inner.now places.old header.now payload.now is_taken udp.now }
-    ensures sendable { IfSome (option_value result) IsSendable }
-{
-    if deliver_datagram(inner, places, header, udp, bytes) || is_taken {
-        return None;
-    }
-    port_unreachable(inner, header, payload)
-}
-
 /// Whether an address of the packet is unspecified, so that it names no end of a connection.
 fn names_nobody(header: &IpRepr) -> bool
     ensures { result ≡ names_nobody header.now }
 {
     is_unspecified(&header.src_addr()) || is_unspecified(&header.dst_addr())
-}
-
-/// Gives a segment to the first socket that accepts it, and answers it.
-fn hand_segment(
-    inner: &mut InterfaceInner,
-    places: &mut [SocketStorage<Socket>],
-    header: &IpRepr,
-    is_taken: bool,
-    segment: &TcpRepr<'_>,
-) -> Option<Packet<'static>>
-    ensures host { inner.new ≡ segment_host inner.old places.old header.now (Tcp.header_of segment.now) segment.now.payload.now }
-    ensures places { places.new ≡ segment_places inner.old places.old header.now (Tcp.header_of segment.now) segment.now.payload.now }
-    ensures reply { option_value result ≡ segment_reply inner.old places.old header.now is_taken (Tcp.header_of segment.now) segment.now.payload.now }
-    ensures sendable { IfSome (option_value result) IsSendable }
-{
-    if names_nobody(header) {
-        return None;
-    }
-    deliver_segment(inner, places, header, segment, is_taken)
 }
 
 /// Whether the host knows what is behind the header.
@@ -160,8 +122,124 @@ fn reply_to_unread<'a>(
     protocol_unreachable(inner, header, payload)
 }
 
-/// Gives what a packet carries to whom it concerns, and answers it.
-fn hand_carried<'a>(
+/// Gives a datagram to the first socket that accepts it. Without one, and where no raw socket took it, an error answers it.
+fn give_datagram<'a>(
+    inner: &InterfaceInner,
+    places: &mut [SocketStorage<Socket>],
+    header: &IpRepr,
+    payload: &'a [u8],
+    is_taken: bool,
+    datagram: &ReadDatagram<'_>,
+) -> Option<Reply<'a>>
+    requires { Fits header.now }
+    ensures places { places.new ≡ datagram_delivered (context_of inner.now) header.now datagram.now.header datagram.now.bytes.now places.old }
+    ensures reply { reply_of result ≡ answered (datagram_reply inner.now places.old header.now payload.now is_taken datagram.now.header) }
+    ensures sendable { IfCanGo (reply_of result) }
+{
+    if deliver_datagram(inner, places, header, &datagram.header, datagram.bytes) || is_taken {
+        return None;
+    }
+    packet_reply(&port_unreachable(inner, header, payload))
+}
+
+/// Gives the datagram of a packet to whom it concerns, and answers it.
+fn hand_datagram<'a>(
+    inner: &InterfaceInner,
+    places: &mut [SocketStorage<Socket>],
+    header: &IpRepr,
+    payload: &'a [u8],
+    is_taken: bool,
+    datagram: &Option<ReadDatagram<'_>>,
+) -> Option<Reply<'a>>
+    requires { Fits header.now }
+    ensures host { inner.now ≡ handed_host inner.now places.old header.now (datagram_of datagram.now) }
+    ensures places { places.new ≡ handed_places inner.now places.old header.now (datagram_of datagram.now) }
+    ensures reply { reply_of result ≡ answered (handed_reply inner.now places.old header.now payload.now is_taken (datagram_of datagram.now)) }
+    ensures sendable { IfCanGo (reply_of result) }
+{
+    match datagram {
+        Some(datagram) => give_datagram(inner, places, header, payload, is_taken, datagram),
+        None => packet_reply(&reply_to_unread(inner, header, payload, is_taken)),
+    }
+}
+
+/// Reads the datagram of a packet for the host, gives it to whom it concerns, and answers it.
+fn hand_udp<'a>(
+    inner: &InterfaceInner,
+    places: &mut [SocketStorage<Socket>],
+    header: &IpRepr,
+    payload: &'a [u8],
+    is_taken: bool,
+) -> Option<Reply<'a>>
+    requires protocol { carried_in header.now ≡ Protocol.Udp }
+    requires fits { Fits header.now }
+    ensures hands { Hands inner.now places.old header.now payload.now is_taken (arrived inner.now places.new (reply_of result)) }
+    ensures sendable { IfCanGo (reply_of result) }
+{
+    let datagram = read_udp(header, payload, &inner.checksum_caps());
+    hand_datagram(inner, places, header, payload, is_taken, &datagram)
+}
+
+/// Gives a segment to the first socket that accepts it, and answers it.
+fn give_segment(
+    inner: &mut InterfaceInner,
+    places: &mut [SocketStorage<Socket>],
+    header: &IpRepr,
+    is_taken: bool,
+    segment: &TcpRepr<'_>,
+) -> Option<Reply<'static>>
+    ensures host { inner.new ≡ segment_host inner.old places.old header.now (Tcp.header_of segment.now) segment.now.payload.now }
+    ensures places { places.new ≡ segment_places inner.old places.old header.now (Tcp.header_of segment.now) segment.now.payload.now }
+    ensures reply { reply_of result ≡ answered (segment_reply inner.old places.old header.now is_taken (Tcp.header_of segment.now) segment.now.payload.now) }
+    ensures sendable { IfCanGo (reply_of result) }
+{
+    if names_nobody(header) {
+        return None;
+    }
+    deliver_segment(inner, places, header, segment, is_taken)
+}
+
+/// Gives the segment of a packet to whom it concerns, and answers it.
+fn hand_segment<'a>(
+    inner: &mut InterfaceInner,
+    places: &mut [SocketStorage<Socket>],
+    header: &IpRepr,
+    payload: &'a [u8],
+    is_taken: bool,
+    segment: &Option<TcpRepr<'_>>,
+) -> Option<Reply<'a>>
+    requires { Fits header.now }
+    ensures host { inner.new ≡ handed_host inner.old places.old header.now (segment_of segment.now) }
+    ensures places { places.new ≡ handed_places inner.old places.old header.now (segment_of segment.now) }
+    ensures reply { reply_of result ≡ answered (handed_reply inner.old places.old header.now payload.now is_taken (segment_of segment.now)) }
+    ensures sendable { IfCanGo (reply_of result) }
+{
+    match segment {
+        Some(segment) => give_segment(inner, places, header, is_taken, segment),
+        None => packet_reply(&reply_to_unread(inner, header, payload, is_taken)),
+    }
+}
+
+/// Reads the segment of a packet for the host, gives it to whom it concerns, and answers it.
+fn hand_tcp<'a>(
+    inner: &mut InterfaceInner,
+    places: &mut [SocketStorage<Socket>],
+    header: &IpRepr,
+    payload: &'a [u8],
+    is_taken: bool,
+) -> Option<Reply<'a>>
+    requires protocol { carried_in header.now ≡ Protocol.Tcp }
+    requires fits { Fits header.now }
+    requires short { length payload.now < 2 ^ 16 }
+    ensures hands { Hands inner.old places.old header.now payload.now is_taken (arrived inner.new places.new (reply_of result)) }
+    ensures sendable { IfCanGo (reply_of result) }
+{
+    let segment = read_tcp(header, payload, &inner.checksum_caps());
+    hand_segment(inner, places, header, payload, is_taken, &segment)
+}
+
+/// Gives a packet's control message to whom it concerns, and answers it, or answers that nothing was read.
+fn hand_message<'a>(
     inner: &mut InterfaceInner,
     places: &mut [SocketStorage<Socket>],
     header: &IpRepr,
@@ -171,6 +249,7 @@ fn hand_carried<'a>(
 ) -> Option<Packet<'a>>
     requires fits { Fits header.now }
     requires back { FitsBack (carried_of carried.now) }
+    requires control { IsControl (carried_of carried.now) }
     ensures host { inner.new ≡ handed_host inner.old places.old header.now (carried_of carried.now) }
     ensures places { places.new ≡ handed_places inner.old places.old header.now (carried_of carried.now) }
     ensures reply { option_value result ≡ handed_reply inner.old places.old header.now payload.now is_taken (carried_of carried.now) }
@@ -180,16 +259,36 @@ fn hand_carried<'a>(
         Some(IpPayload::Icmpv4(message)) => hand_icmpv4(inner, places, header, message),
         Some(IpPayload::Icmpv6(message)) => hand_icmpv6(inner, places, header, message),
         Some(IpPayload::Raw(_)) => None,
-        Some(IpPayload::Udp(udp, bytes)) => {
-            hand_datagram(inner, places, header, payload, is_taken, udp, bytes)
-        }
-        Some(IpPayload::Tcp(segment)) => hand_segment(inner, places, header, is_taken, segment),
+        Some(IpPayload::Udp(..) | IpPayload::Tcp(_)) => unreachable!(),
         None => reply_to_unread(inner, header, payload, is_taken),
     }
 }
 
+/// Reads what is behind the header of a packet for the host that carries neither a datagram nor a segment, gives it to whom
+/// it concerns, and answers it.
+fn hand_control<'a>(
+    inner: &mut InterfaceInner,
+    places: &mut [SocketStorage<Socket>],
+    header: &IpRepr,
+    payload: &'a [u8],
+    is_taken: bool,
+) -> Option<Reply<'a>>
+    requires udp { carried_in header.now ≢ Protocol.Udp }
+    requires tcp { carried_in header.now ≢ Protocol.Tcp }
+    requires fits { Fits header.now }
+    requires len { length payload.now ≡ payload_len_in header.now }
+    requires short { length payload.now < 2 ^ 16 }
+    ensures hands { Hands inner.old places.old header.now payload.now is_taken (arrived inner.new places.new (reply_of result)) }
+    ensures sendable { IfCanGo (reply_of result) }
+{
+    let carried = read_payload(header, payload, &inner.checksum_caps());
+    packet_reply(&hand_message(inner, places, header, payload, is_taken, &carried))
+}
+
 /// Reads what is behind the header of a packet for the host, gives it to whom it concerns, and answers it. `is_taken` says
 /// that a raw socket took the packet.
+///
+/// Datagrams and segments go ways of their own, by values of their own size: `IpPayload` is as large as all that it can be.
 pub(crate) fn hand<'a>(
     inner: &mut InterfaceInner,
     places: &mut [SocketStorage<Socket>],
@@ -203,7 +302,9 @@ pub(crate) fn hand<'a>(
     ensures hands { Hands inner.old places.old header.now payload.now is_taken (arrived inner.new places.new (reply_of result)) }
     ensures sendable { IfCanGo (reply_of result) }
 {
-    let carried = read_payload(header, payload, &inner.checksum_caps());
-    let reply = hand_carried(inner, places, header, payload, is_taken, &carried);
-    packet_reply(&reply)
+    match header.next_header() {
+        IpProtocol::Udp => hand_udp(inner, places, header, payload, is_taken),
+        IpProtocol::Tcp => hand_tcp(inner, places, header, payload, is_taken),
+        _ => hand_control(inner, places, header, payload, is_taken),
+    }
 }
