@@ -1,15 +1,13 @@
-//! Hosts with one socket.
+//! Hosts: what they are made of, and their calls.
 ghost use Rattle.net_base.specs.Time.{IsMoment};
 
+use crate::streams::closed_socket;
+use crate::wire::{Kind, Wire};
 use interface::{Config, Interface, PollIngressSingleResult, PollResult, SocketHandle, SocketSet};
 use ip_wire::{EthernetAddress, HardwareAddress, IpAddress, IpCidr, IpEndpoint, IpListenEndpoint};
-use lan_port::Port;
-use net_base::{
-    ChecksumCapabilities, Device, DeviceCapabilities, Duration, Instant, ManagedSlice, Medium,
-    PacketBuffer, PacketMetadata,
-};
+use net_base::{Device, Instant, ManagedSlice, Medium, PacketBuffer, PacketMetadata};
 use sockets::{Socket, udp};
-use std::process::Abort;
+use std::alloc::Global;
 use std::test::Fail;
 
 /// So many microseconds after the start.
@@ -19,245 +17,248 @@ pub fn at(micros: u32) -> Instant
     Instant::from_micros(i64::from(micros))
 }
 
-/// An interface of seed 1 at 192.168.1.1 behind this device.
-pub fn interface<D: Device>(
-    rt: &impl AllocGlobal,
-    device: &D,
-    hardware_addr: HardwareAddress,
-) -> Result<Interface, Fail> {
-    let own = IpCidr::new(IpAddress::v4(192, 168, 1, 1), 24);
-    host(rt, device, hardware_addr, own, 1)
+/// The socket of a host: of UDP and bound to this port, or of TCP and closed.
+#[derive(Clone, Copy, Drop)]
+pub enum Has {
+    Nothing,
+    Udp(u16),
+    Tcp,
 }
 
-/// An interface of this seed at this address behind this device.
-pub fn host<D: Device>(
-    rt: &impl AllocGlobal,
-    device: &D,
-    hardware_addr: HardwareAddress,
-    own: IpCidr,
-    random_seed: u64,
-) -> Result<Interface, Fail> {
+/// What a host is made of.
+#[derive(Clone, Copy, Drop)]
+pub struct Plan {
+    pub device: Kind,
+    pub medium: Medium,
+    /// The host's seed, and the last byte of its addresses: 192.168.1.n, over Ethernet 02-00-00-00-00-n.
+    pub number: u8,
+    /// Whether fd00::n is its address, too.
+    pub has_ipv6: bool,
+    pub socket: Has,
+    /// For how many bytes the socket has room each way.
+    pub room: usize,
+}
+
+/// A host at a port of medium IP with a UDP socket at port 48896.
+pub const UDP: Plan = Plan {
+    device: Kind::Port,
+    medium: Medium::Ip,
+    number: 1,
+    has_ipv6: false,
+    socket: Has::Udp(48_896),
+    room: 64,
+};
+
+/// The same with a TCP socket.
+pub const TCP: Plan = Plan {
+    socket: Has::Tcp,
+    ..UDP
+};
+
+/// The same over Ethernet, with a UDP socket.
+pub const ETHERNET: Plan = Plan {
+    medium: Medium::Ethernet,
+    ..UDP
+};
+
+fn hardware(plan: &Plan) -> HardwareAddress {
+    match plan.medium {
+        Medium::Ethernet => {
+            HardwareAddress::Ethernet(EthernetAddress([2, 0, 0, 0, 0, plan.number]))
+        }
+        Medium::Ip => HardwareAddress::Ip,
+    }
+}
+
+/// An interface without addresses.
+fn bare<D: Device>(alloc: Global, plan: &Plan, device: &D) -> Option<Interface> {
     let config = Config {
-        random_seed,
-        hardware_addr,
+        random_seed: u64::from(plan.number),
+        hardware_addr: hardware(plan),
     };
-    let mut interface = Interface::new(rt.alloc(), &config, device, at(0)).map_err(
-        |_| "an interface",
-    )?;
-    add_address(&mut interface, own)?;
-    Ok(interface)
+    match Interface::new(alloc, &config, device, at(0)) {
+        Ok(interface) => Some(interface),
+        Err(_) => None,
+    }
 }
 
 /// Gives the interface one more address.
-pub fn add_address(interface: &mut Interface, address: IpCidr) -> Result<(), Fail> {
+fn add_address(interface: &mut Interface, address: IpCidr) -> bool {
     interface
         .update_ip_addrs(|addresses| {
             let _ = addresses.try_push(address);
         })
-        .map_err(|_| "an address")?;
-    Ok(())
+        .is_ok()
 }
 
-/// A frame comes, whose bytes are these in hex.
-pub fn push(rt: &impl AllocGlobal, port: &mut Port, frame: &str) -> Result<(), Fail> {
-    port.push(hex::decode(rt.alloc(), frame)?)?;
-    Ok(())
+fn ipv4(number: u8) -> IpCidr {
+    IpCidr::new(IpAddress::v4(192, 168, 1, number), 24)
 }
 
-/// A set of one UDP socket, bound to port 48896, with room for so many bytes each way.
-pub fn one_socket(
-    rt: &impl AllocGlobal,
-    room: usize,
-) -> Result<(SocketSet<Socket>, SocketHandle), Fail> {
-    bound_socket(rt, room, 48_896)
+fn ipv6(number: u8) -> IpCidr {
+    IpCidr::new(
+        IpAddress::v6(0xfd00, 0, 0, 0, 0, 0, 0, u16::from(number)),
+        64,
+    )
 }
 
-/// The same, bound to this port.
-pub fn bound_socket(
-    rt: &impl AllocGlobal,
-    room: usize,
-    port: u16,
-) -> Result<(SocketSet<Socket>, SocketHandle), Fail> {
-    let mut socket = udp::Socket::new(queue(rt, room)?, queue(rt, room)?);
-    let endpoint = IpListenEndpoint { addr: None, port };
-    socket.bind(endpoint).map_err(|_| "a port")?;
-    let mut sockets = SocketSet::new(ManagedSlice::Owned(Vec::new(rt.alloc())));
-    let handle = sockets.add(Socket::Udp(socket)).map_err(|_| "a place")?;
-    Ok((sockets, handle))
+/// The planned host's interface at this device.
+pub fn begin<D: Device>(alloc: Global, plan: &Plan, device: &D) -> Result<Interface, Fail> {
+    let Some(mut interface) = bare(alloc, plan, device) else {
+        return Err("an interface".into());
+    };
+    if add_address(&mut interface, ipv4(plan.number))
+        && (!plan.has_ipv6 || add_address(&mut interface, ipv6(plan.number)))
+    {
+        Ok(interface)
+    } else {
+        Err("its addresses".into())
+    }
 }
 
 /// A queue of two entries and so many bytes.
-fn queue<H>(rt: &impl AllocGlobal, bytes: usize) -> Result<PacketBuffer<H>, Fail>
+fn queue<H>(alloc: Global, bytes: usize) -> Result<PacketBuffer<H>, Fail>
 where
     H: Drop,
 {
-    let mut entries = Vec::new(rt.alloc());
+    let mut entries = Vec::new(alloc);
     for _ in 0..2 {
         entries.push(PacketMetadata::EMPTY)?;
     }
     Ok(PacketBuffer::new(
         ManagedSlice::Fixed(entries),
-        ManagedSlice::Fixed(vec![in rt.alloc(); 0; bytes]?),
+        ManagedSlice::Fixed(vec![in alloc; 0; bytes]?),
     ))
 }
 
-/// Queues a datagram of these bytes for 192.168.1.2:53.
-pub fn queue_datagram(
-    sockets: &mut SocketSet<Socket>,
-    handle: SocketHandle,
-    bytes: &[u8],
-) -> Result<(), Fail> {
-    let remote = IpEndpoint::new(IpAddress::v4(192, 168, 1, 2), 53);
-    match sockets.get_mut(handle) {
-        Some(Socket::Udp(socket)) => socket
-            .send_slice(bytes, udp::UdpMetadata::from(remote))
-            .map_err(|_| "room in the queue")?,
-        _ => return Err("a socket".into()),
+/// A UDP socket, bound to this port.
+fn bound_socket(alloc: Global, room: usize, port: u16) -> Result<udp::Socket, Fail> {
+    let mut socket = udp::Socket::new(queue(alloc, room)?, queue(alloc, room)?);
+    match socket.bind(IpListenEndpoint { addr: None, port }) {
+        Ok(()) => Ok(socket),
+        Err(_) => Err("a port".into()),
     }
-    Ok(())
 }
 
-/// A host with one UDP socket at port 48896, behind its device.
+fn planned_socket(alloc: Global, plan: &Plan) -> Result<Option<Socket>, Fail> {
+    match plan.socket {
+        Has::Nothing => Ok(None),
+        Has::Udp(port) => Ok(Some(Socket::Udp(bound_socket(alloc, plan.room, port)?))),
+        Has::Tcp => Ok(Some(Socket::Tcp(closed_socket(alloc, plan.room)?))),
+    }
+}
+
+/// A set of no sockets.
+pub fn no_sockets(alloc: Global) -> SocketSet<Socket> {
+    SocketSet::new(ManagedSlice::Owned(Vec::new(alloc)))
+}
+
+/// A host at its device, with the socket of this handle, if any.
 #[derive(Drop)]
-pub struct UdpHost<D> {
+pub struct Host {
     pub interface: Interface,
-    pub device: D,
+    pub wire: Wire,
     pub sockets: SocketSet<Socket>,
-    pub handle: SocketHandle,
+    pub handle: Option<SocketHandle>,
+    /// The moment of its calls, in microseconds.
+    pub now: u32,
 }
 
-/// A host at 192.168.1.1 behind this device, whose socket has room for so many bytes each way.
-pub fn host_behind<D: Device + Drop>(
-    rt: &impl AllocGlobal,
-    device: D,
-    hardware_addr: HardwareAddress,
-    room: usize,
-) -> Result<UdpHost<D>, Fail> {
-    let interface = interface(rt, &device, hardware_addr)?;
-    let (sockets, handle) = one_socket(rt, room)?;
-    Ok(UdpHost {
-        interface,
-        device,
-        sockets,
-        handle,
-    })
-}
-
-/// The same as `host_behind` at a port of medium IP.
-pub fn ip_host(rt: &impl AllocGlobal, room: usize) -> Result<UdpHost<Port>, Fail> {
-    host_behind(rt, ip_port(rt)?, HardwareAddress::Ip, room)
-}
-
-/// A port of medium IP.
-pub fn ip_port(rt: &impl AllocGlobal) -> Result<Port, Fail> {
-    port(rt, Medium::Ip)
-}
-
-impl<D: Device> UdpHost<D> {
-    /// Queues a datagram of these bytes for 192.168.1.2:53.
-    pub fn queue(&mut self, bytes: &[u8]) -> Result<(), Fail> {
-        queue_datagram(&mut self.sockets, self.handle, bytes)
+impl Host {
+    /// The planned host, at moment 0.
+    pub fn new(alloc: Global, plan: &Plan) -> Result<Host, Fail> {
+        let socket = planned_socket(alloc, plan)?;
+        let wire = Wire::new(alloc, plan.device, plan.medium)?;
+        let interface = wire.interface(alloc, plan)?;
+        let mut host = Host {
+            interface,
+            wire,
+            sockets: no_sockets(alloc),
+            handle: None,
+            now: 0,
+        };
+        if let Some(socket) = socket {
+            host.handle = host.add(socket);
+        }
+        Ok(host)
     }
 
-    pub fn egress(&mut self, micros: u32) -> PollResult {
-        self.interface
-            .poll_egress(at(micros), &mut self.device, &mut self.sockets)
+    /// Adds a socket to its set.
+    pub fn add(&mut self, socket: Socket) -> Option<SocketHandle> {
+        match self.sockets.add(socket) {
+            Ok(handle) => Some(handle),
+            Err(_) => None,
+        }
+    }
+
+    pub fn poll(&mut self, budget: u16) -> PollResult {
+        let (now, sockets) = (at(self.now), &mut self.sockets);
+        match &mut self.wire {
+            Wire::Port(port) => self.interface.poll(now, port, sockets, budget),
+            Wire::Refusing(device) => self.interface.poll(now, device, sockets, budget),
+        }
+    }
+
+    pub fn egress(&mut self) -> PollResult {
+        let (now, sockets) = (at(self.now), &mut self.sockets);
+        match &mut self.wire {
+            Wire::Port(port) => self.interface.poll_egress(now, port, sockets),
+            Wire::Refusing(device) => self.interface.poll_egress(now, device, sockets),
+        }
     }
 
     /// Takes in one frame.
     pub fn ingress(&mut self) -> PollIngressSingleResult {
-        self.interface
-            .poll_ingress_single(at(0), &mut self.device, &mut self.sockets)
+        let (now, sockets) = (at(self.now), &mut self.sockets);
+        match &mut self.wire {
+            Wire::Port(port) => self.interface.poll_ingress_single(now, port, sockets),
+            Wire::Refusing(device) => self.interface.poll_ingress_single(now, device, sockets),
+        }
     }
 
-    /// How many bytes the datagram has that waits to be read.
-    pub fn received(&mut self) -> Option<usize> {
-        match self.sockets.get_mut(self.handle) {
-            Some(Socket::Udp(socket)) => match socket.recv() {
-                Ok((bytes, _metadata)) => Some(bytes.len()),
-                Err(_) => None,
-            },
+    pub fn maintain(&mut self) {
+        self.interface.poll_maintenance(at(self.now));
+    }
+
+    /// The moment at which it wants to be polled, in microseconds.
+    pub fn due(&mut self) -> Option<u64> {
+        match self.interface.poll_at(at(self.now), &self.sockets) {
+            Some(moment) => Some(u64::try_from(moment.total_micros()).unwrap_or(u64::MAX)),
+            None => None,
+        }
+    }
+
+    /// In how many microseconds it wants to be polled.
+    pub fn delay(&mut self) -> Option<u64> {
+        match self.interface.poll_delay(at(self.now), &self.sockets) {
+            Some(delay) => Some(delay.total_micros()),
+            None => None,
+        }
+    }
+
+    fn udp(&mut self) -> Option<&mut udp::Socket> {
+        match self.sockets.get_mut(self.handle?) {
+            Some(Socket::Udp(socket)) => Some(socket),
             _ => None,
         }
     }
 
-    pub fn poll(&mut self, micros: u32) -> PollResult {
-        self.interface
-            .poll(at(micros), &mut self.device, &mut self.sockets, 8)
+    /// Queues a datagram of these bytes for 192.168.1.2:53.
+    pub fn queue(&mut self, bytes: &[u8]) -> bool {
+        let remote = IpEndpoint::new(IpAddress::v4(192, 168, 1, 2), 53);
+        match self.udp() {
+            Some(socket) => socket
+                .send_slice(bytes, udp::UdpMetadata::from(remote))
+                .is_ok(),
+            None => false,
+        }
     }
 
-    pub fn due(&mut self, micros: u32) -> Option<Instant> {
-        self.interface.poll_at(at(micros), &self.sockets)
+    /// Reads the next datagram, if one waits, and says how many bytes it has.
+    pub fn received(&mut self) -> Option<u64> {
+        match self.udp()?.recv() {
+            Ok((bytes, _metadata)) => Some(bytes.len() as u64),
+            Err(_) => None,
+        }
     }
-
-    pub fn delay(&mut self, micros: u32) -> Option<Duration> {
-        self.interface.poll_delay(at(micros), &self.sockets)
-    }
-}
-
-/// Asserts of polls one after the other, each at its moment, what it answers, how many frames there are then, and of the
-/// last one its length and its first bytes in hex.
-pub fn assert_egress(
-    rt: &(impl Abort + AllocGlobal),
-    host: &mut UdpHost<Port>,
-    turns: &[(u32, PollResult, usize, usize, &str)],
-) -> Result<(), Fail> {
-    for (micros, answer, count, length, front) in turns {
-        let told = host.egress(*micros);
-        assert_eq!(rt; told, *answer);
-        assert_last_frame(rt, &host.device, *count, *length, front)?;
-    }
-    Ok(())
-}
-
-/// The Ethernet address 02-00-00-00-00-01.
-pub fn ethernet() -> HardwareAddress {
-    HardwareAddress::Ethernet(EthernetAddress([2, 0, 0, 0, 0, 1]))
-}
-
-/// A device of this medium whose longest packet has 1500 bytes, and which leaves all checksums to the host.
-pub fn capabilities(medium: Medium) -> DeviceCapabilities {
-    let header = match medium {
-        Medium::Ethernet => 14,
-        Medium::Ip => 0,
-    };
-    DeviceCapabilities {
-        medium,
-        max_transmission_unit: 1_500 + header,
-        checksum: ChecksumCapabilities::default(),
-    }
-}
-
-/// A port of this medium whose longest packet has 1500 bytes, with buffers for twelve frames.
-pub fn port(rt: &impl AllocGlobal, medium: Medium) -> Result<Port, Fail> {
-    let mut port = Port::new(rt.alloc(), capabilities(medium));
-    port.prepare(12, 1_514)?;
-    Ok(port)
-}
-
-/// Asserts how many frames the port sent so far, and of the last one its length and its first bytes in hex.
-pub fn assert_last_frame(
-    rt: &(impl Abort + AllocGlobal),
-    port: &Port,
-    count: usize,
-    length: usize,
-    front: &str,
-) -> Result<(), Fail> {
-    assert_last(rt, port.sent(), count, length, front)
-}
-
-/// Asserts how many frames these are, and of the last one its length and its first bytes in hex.
-pub fn assert_last(
-    rt: &(impl Abort + AllocGlobal),
-    frames: &[Vec<u8>],
-    count: usize,
-    length: usize,
-    front: &str,
-) -> Result<(), Fail> {
-    assert_eq!(rt; frames.len(), count);
-    let frame = frames.last().ok_or("a frame")?;
-    assert_eq!(rt; frame.len(), length);
-    let front = hex::decode(rt.alloc(), front)?;
-    assert!(rt; frame.as_slice().starts_with(front.as_slice()));
-    Ok(())
 }

@@ -1,147 +1,133 @@
 //! What an interface sends for its sockets, and when it wants to be polled.
-use crate::common::{
-    assert_egress, assert_last_frame, at, ethernet, host_behind, ip_host, port, push,
-};
-use interface::{PollIngressSingleResult, PollResult};
-use net_base::{Duration, Medium};
+use crate::common::{ETHERNET, Plan, UDP};
+use crate::script::play;
 use std::test::Fail;
 
-const CHANGED: PollResult = PollResult::SocketStateChanged;
+/// Room for a datagram in pieces.
+const LONG: Plan = Plan { room: 4_096, ..UDP };
+
+/// Room for two of them.
+const LONGER: Plan = Plan { room: 8_192, ..UDP };
+
+const IDLE: &str = "
+fresh yes, due none, fresh no, delay none, egress none
+at 1, maintain, sent 0
+";
 
 #[test]
 fn an_idle_host_need_not_be_polled(rt: HostRuntime) -> Result<(), Fail> {
-    let mut host = ip_host(&rt, 4_096)?;
-    assert!(rt; host.interface.is_fresh());
-    assert_eq!(rt; host.due(0), None);
-    assert!(rt; !host.interface.is_fresh());
-    assert_eq!(rt; host.delay(0), None);
-    assert_eq!(rt; host.egress(0), PollResult::None);
-    host.interface.poll_maintenance(at(1));
-    assert_eq!(rt; host.device.sent().len(), 0);
-    Ok(())
+    play(rt.alloc(), &LONG, &[], &[IDLE])
 }
+
+const TWO_PIECES: &str = "
+queue 00*2000
+at 7, due 0, egress changed, sent 1, front 1500 450005dcc24d200040110f70
+# The rest waits: the next poll is due at once, and changes no socket.
+due 0, delay 0
+egress none, sent 2, front 548 45000224c24d00b94011326f, due none
+";
 
 #[test]
 fn a_long_datagram_goes_piece_by_piece(rt: HostRuntime) -> Result<(), Fail> {
-    let mut host = ip_host(&rt, 4_096)?;
-    host.queue(&[0; 2_000])?;
-    assert_eq!(rt; host.due(7), Some(at(0)));
-    let first = (7, CHANGED, 1, 1_500, "450005dcc24d200040110f70");
-    assert_egress(&rt, &mut host, &[first])?;
-    // The rest waits: the next poll is due at once, and changes no socket.
-    assert_eq!(rt;
-        (host.due(7), host.delay(7)),
-        (Some(at(0)), Some(Duration::ZERO))
-    );
-    let second = (7, PollResult::None, 2, 548, "45000224c24d00b94011326f");
-    assert_egress(&rt, &mut host, &[second])?;
-    assert_eq!(rt; host.due(7), None);
-    Ok(())
+    play(rt.alloc(), &LONG, &[], &[TWO_PIECES])
 }
+
+const TWO_DATAGRAMS: &str = "
+queue 00*4000, queue 00*4000
+egress changed, sent 1, front 1500 45
+egress none, sent 2, front 1500 45
+# The last piece of the first one goes, and the first of the second.
+egress changed, sent 4, front 1500 45
+egress none, sent 5, front 1500 45
+egress none, sent 6, front 1068 45
+length 2 1068, due none
+";
 
 #[test]
 fn a_datagram_waits_for_the_pieces_of_another(rt: HostRuntime) -> Result<(), Fail> {
-    let mut host = ip_host(&rt, 8_192)?;
-    host.queue(&[0; 4_000])?;
-    host.queue(&[0; 4_000])?;
-    let turns = [
-        (0, CHANGED, 1, 1_500, "45"),
-        (0, PollResult::None, 2, 1_500, "45"),
-        // The last piece of the first one goes, and the first of the second.
-        (0, CHANGED, 4, 1_500, "45"),
-        (0, PollResult::None, 5, 1_500, "45"),
-        (0, PollResult::None, 6, 1_068, "45"),
-    ];
-    assert_egress(&rt, &mut host, &turns)?;
-    let third = host.device.sent().get(2).ok_or("a frame")?;
-    assert_eq!(rt; third.len(), 1_068);
-    assert_eq!(rt; host.due(0), None);
-    Ok(())
+    play(rt.alloc(), &LONGER, &[], &[TWO_DATAGRAMS])
 }
+
+const TOO_LONG: &str = "
+queue 00*4069, egress changed, sent 0
+queue 00*4068
+egress changed, sent 1, front 1500 45
+egress none, sent 2, front 1500 45
+egress none, sent 3, front 1136 45
+due none
+";
 
 #[test]
 fn a_datagram_of_more_than_4096_bytes_is_dropped(rt: HostRuntime) -> Result<(), Fail> {
-    let mut host = ip_host(&rt, 8_192)?;
-    host.queue(&[0; 4_069])?;
-    assert_eq!(rt; (host.egress(0), host.device.sent().len()), (CHANGED, 0));
-    host.queue(&[0; 4_068])?;
-    let turns = [
-        (0, CHANGED, 1, 1_500, "45"),
-        (0, PollResult::None, 2, 1_500, "45"),
-        (0, PollResult::None, 3, 1_136, "45"),
-    ];
-    assert_egress(&rt, &mut host, &turns)?;
-    assert_eq!(rt; host.due(0), None);
-    Ok(())
+    play(rt.alloc(), &LONGER, &[], &[TOO_LONG])
 }
+
+/// Who has 192.168.1.2, the answer, and the datagram that waited for it.
+const NEIGHBOUR: [(&str, &str); 3] = [
+    (
+        "request",
+        "ffffffffffff02000000000108060001080006040001020000000001c0a80101ffffffffffffc0a80102",
+    ),
+    (
+        "reply",
+        "02000000000102000000000208060001080006040002020000000002c0a80102020000000001c0a80101",
+    ),
+    (
+        "datagram",
+        "02000000000202000000000108004500001fc24d00004011352dc0a80101c0a80102bf000035000bf8eb616263",
+    ),
+];
+
+const ASKED: &str = "
+queue 616263
+at 0, egress none, sent 1, front 42 request
+at 1, egress none, sent 1, front 42 request
+at 999999, egress none, sent 1, front 42 request
+at 1000000, egress none, sent 2, front 42 request
+at 1999999, egress none, sent 2, front 42 request
+at 2000000, egress none, sent 3, front 42 request
+due 3000000
+at 2400000, delay 600000
+";
 
 #[test]
 fn a_neighbour_is_asked_for_once_a_second(rt: HostRuntime) -> Result<(), Fail> {
-    let request =
-        "ffffffffffff02000000000108060001080006040001020000000001c0a80101ffffffffffffc0a80102";
-    let mut host = host_behind(&rt, port(&rt, Medium::Ethernet)?, ethernet(), 64)?;
-    host.queue(b"abc")?;
-    let turns = [
-        (0, PollResult::None, 1, 42, request),
-        (1, PollResult::None, 1, 42, request),
-        (999_999, PollResult::None, 1, 42, request),
-        (1_000_000, PollResult::None, 2, 42, request),
-        (1_999_999, PollResult::None, 2, 42, request),
-        (2_000_000, PollResult::None, 3, 42, request),
-    ];
-    assert_egress(&rt, &mut host, &turns)?;
-    assert_eq!(rt; host.due(2_000_000), Some(at(3_000_000)));
-    assert_eq!(rt; host.delay(2_400_000), Some(Duration::from_millis(600)));
-    Ok(())
+    play(rt.alloc(), &ETHERNET, &NEIGHBOUR, &[ASKED])
 }
+
+const FOUND: &str = "
+queue 616263, egress none, due 1000000
+comes reply, ingress changed
+at 1, due 0, delay 0
+egress changed, sent 2, front 45 datagram, due none
+";
 
 #[test]
 fn a_found_neighbour_ends_the_waiting(rt: HostRuntime) -> Result<(), Fail> {
-    let mut host = host_behind(&rt, port(&rt, Medium::Ethernet)?, ethernet(), 64)?;
-    host.queue(b"abc")?;
-    let asked = (host.egress(0), host.due(0));
-    assert_eq!(rt; asked, (PollResult::None, Some(at(1_000_000))));
-    let told =
-        "02000000000102000000000208060001080006040002020000000002c0a80102020000000001c0a80101";
-    push(&rt, &mut host.device, told)?;
-    assert_eq!(rt; host.ingress(), PollIngressSingleResult::SocketStateChanged);
-    assert_eq!(rt;
-        (host.due(1), host.delay(1)),
-        (Some(at(0)), Some(Duration::ZERO))
-    );
-    let sent =
-        "02000000000202000000000108004500001fc24d00004011352dc0a80101c0a80102bf000035000bf8eb616263";
-    assert_egress(&rt, &mut host, &[(1, CHANGED, 2, 45, sent)])?;
-    assert_eq!(rt; host.due(1), None);
-    Ok(())
+    play(rt.alloc(), &ETHERNET, &NEIGHBOUR, &[FOUND])
 }
+
+const REFUSED: &str = "
+queue 616263
+room 0, egress none, sent 0, due 0
+# The refused one took no number.
+room 1, egress changed, sent 1, front 31 4500001fc24d0000
+";
 
 #[test]
 fn a_refused_frame_stays(rt: HostRuntime) -> Result<(), Fail> {
-    let mut host = ip_host(&rt, 64)?;
-    host.queue(b"abc")?;
-    host.device.set_room(0);
-    let refused = (host.egress(0), host.device.sent().len(), host.due(0));
-    assert_eq!(rt; refused, (PollResult::None, 0, Some(at(0))));
-    host.device.set_room(1);
-    // The refused one took no number.
-    let sent = (0, CHANGED, 1, 31, "4500001fc24d0000");
-    assert_egress(&rt, &mut host, &[sent])
+    play(rt.alloc(), &UDP, &[], &[REFUSED])
 }
+
+const POLLED: &str = "
+queue 00*4000, queue 00*4000
+poll changed, sent 2, front 1500 45
+poll changed, sent 5, front 1500 45
+poll none, sent 6, front 1068 45
+poll none, sent 6, front 1068 45
+";
 
 #[test]
 fn two_long_datagrams_go_in_three_polls(rt: HostRuntime) -> Result<(), Fail> {
-    let mut host = ip_host(&rt, 8_192)?;
-    host.queue(&[0; 4_000])?;
-    host.queue(&[0; 4_000])?;
-    for (answer, count, length) in [
-        (CHANGED, 2, 1_500),
-        (CHANGED, 5, 1_500),
-        (PollResult::None, 6, 1_068),
-        (PollResult::None, 6, 1_068),
-    ] {
-        assert_eq!(rt; host.poll(0), answer);
-        assert_last_frame(&rt, &host.device, count, length, "45")?;
-    }
-    Ok(())
+    play(rt.alloc(), &LONGER, &[], &[POLLED])
 }

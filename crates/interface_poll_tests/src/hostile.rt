@@ -1,11 +1,12 @@
 //! Hostile bytes: whatever frames come, each is taken, and a poll answers one of its results.
-use crate::common::{UdpHost, add_address, capabilities, ethernet, host_behind, ip_host};
-use crate::streams::closed_socket;
+use crate::common::{Host, Plan, UDP};
+use crate::streams::listening_socket;
+use crate::wire::{Wire, capabilities};
 use interface::{PollIngressSingleResult, PollResult};
-use ip_wire::{HardwareAddress, IpAddress, IpCidr};
 use lan_port::Port;
 use net_base::{ChecksumCapabilities, Medium, Rand};
 use sockets::Socket;
+use std::alloc::Global;
 use std::test::Fail;
 
 /// How many frames come over each medium.
@@ -93,9 +94,9 @@ fn ethertype(packet: &[u8]) -> [u8; 2] {
 }
 
 /// A frame: one of the packets, of which some bytes are others, or whose end is missing, or as it is.
-fn frame(rt: &impl AllocGlobal, medium: Medium, words: &mut Rand) -> Result<Vec<u8>, Fail> {
+fn frame(alloc: Global, medium: Medium, words: &mut Rand) -> Result<Vec<u8>, Fail> {
     let packet = packet(medium, words.rand_u32());
-    let mut frame = Vec::with_capacity(rt.alloc(), 128)?;
+    let mut frame = Vec::with_capacity(alloc, 128)?;
     if medium == Medium::Ethernet {
         frame.extend_from_slice(&[2, 0, 0, 0, 0, 1, 2, 0, 0, 0, 0, 2])?;
         frame.extend_from_slice(&ethertype(packet))?;
@@ -122,12 +123,12 @@ fn frame(rt: &impl AllocGlobal, medium: Medium, words: &mut Rand) -> Result<Vec<
 }
 
 /// A port of this medium; every second one leaves no checksum to the host, so that damaged frames are read, too.
-fn port(rt: &impl AllocGlobal, medium: Medium, number: u32) -> Port {
+fn port(alloc: Global, medium: Medium, number: u32) -> Wire {
     let mut described = capabilities(medium);
     if number % 2 == 1 {
         described.checksum = ChecksumCapabilities::ignored();
     }
-    Port::new(rt.alloc(), described)
+    Wire::Port(Port::new(alloc, described))
 }
 
 /// What came of the frames: polls that changed something, datagrams that were read, frames that were sent, and frames that
@@ -140,90 +141,95 @@ struct Seen {
     left: usize,
 }
 
+impl Seen {
+    /// Polls the host once, and counts.
+    fn poll(&mut self, host: &mut Host) {
+        match host.poll(8) {
+            PollResult::SocketStateChanged => self.changes = self.changes.saturating_add(1),
+            PollResult::None => {}
+        }
+        if host.received().is_some() {
+            self.read = self.read.saturating_add(1);
+        }
+        self.left = self.left.saturating_add(host.wire.left());
+    }
+
+    /// Whether every frame was taken, and more than a thousand times each came of it.
+    fn is_ample(&self) -> bool {
+        self.left == 0 && self.changes > 1_000 && self.read > 1_000 && self.sent > 1_000
+    }
+}
+
 /// Lets so many frames come at a port, each with a poll a millisecond after the one before.
 fn come(
-    rt: &impl AllocGlobal,
+    alloc: Global,
     medium: Medium,
-    host: &mut UdpHost<Port>,
+    host: &mut Host,
     words: &mut Rand,
     first: u32,
     seen: &mut Seen,
 ) -> Result<(), Fail> {
     for number in 0..AT_A_PORT {
-        host.device.push(frame(rt, medium, words)?)?;
-        let micros = first.saturating_add(number).saturating_mul(1_000);
-        match host.poll(micros) {
-            PollResult::SocketStateChanged => seen.changes = seen.changes.saturating_add(1),
-            PollResult::None => {}
+        if !host.wire.comes(frame(alloc, medium, words)?) {
+            return Err("a place".into());
         }
-        if host.received().is_some() {
-            seen.read = seen.read.saturating_add(1);
-        }
-        seen.left = seen.left.saturating_add(host.device.waiting().len());
+        host.now = first.saturating_add(number).saturating_mul(1_000);
+        seen.poll(host);
     }
-    seen.sent = seen.sent.saturating_add(host.device.sent().len());
+    seen.sent = seen.sent.saturating_add(host.wire.sent().len());
     Ok(())
 }
 
-/// A host at 192.168.1.1 and fd00::1 with a UDP socket at port 48896 and a TCP socket that listens at port 80.
-fn victim(
-    rt: &impl AllocGlobal,
-    medium: Medium,
-    hardware_addr: HardwareAddress,
-) -> Result<UdpHost<Port>, Fail> {
-    let mut host = host_behind(rt, port(rt, medium, 0), hardware_addr, 64)?;
-    let other = IpCidr::new(IpAddress::v6(0xfd00, 0, 0, 0, 0, 0, 0, 1), 64);
-    add_address(&mut host.interface, other)?;
-    let mut listener = closed_socket(rt, 64)?;
-    listener.listen(80).map_err(|_| "a closed socket")?;
-    let _handle = host
-        .sockets
-        .add(Socket::Tcp(listener))
-        .map_err(|_| "a place")?;
-    Ok(host)
+fn come_all(alloc: Global, medium: Medium, host: &mut Host, seen: &mut Seen) -> Result<(), Fail> {
+    let mut words = Rand::new(7);
+    for number in 0..FRAMES / AT_A_PORT {
+        host.wire = port(alloc, medium, number);
+        let first = number.saturating_mul(AT_A_PORT);
+        come(alloc, medium, host, &mut words, first, seen)?;
+    }
+    Ok(())
 }
 
-fn all_seen(
-    rt: &impl AllocGlobal,
-    medium: Medium,
-    hardware_addr: HardwareAddress,
-) -> Result<Seen, Fail> {
-    let mut host = victim(rt, medium, hardware_addr)?;
-    let mut words = Rand::new(7);
+/// Sends them to a host at 192.168.1.1 and fd00::1 with a UDP socket at port 48896 and a TCP socket that listens at port 80.
+fn all_seen(alloc: Global, medium: Medium) -> Result<Seen, Fail> {
+    let plan = Plan {
+        medium,
+        has_ipv6: true,
+        ..UDP
+    };
+    let listener = listening_socket(alloc, 64)?;
+    let mut host = Host::new(alloc, &plan)?;
+    if host.add(Socket::Tcp(listener)).is_none() {
+        return Err("a place".into());
+    }
     let mut seen = Seen {
         changes: 0,
         read: 0,
         sent: 0,
         left: 0,
     };
-    for number in 0..FRAMES / AT_A_PORT {
-        host.device = port(rt, medium, number);
-        let first = number.saturating_mul(AT_A_PORT);
-        come(rt, medium, &mut host, &mut words, first, &mut seen)?;
-    }
+    come_all(alloc, medium, &mut host, &mut seen)?;
     Ok(seen)
 }
 
 #[test]
 fn hostile_packets_bring_named_results(rt: HostRuntime) -> Result<(), Fail> {
-    let seen = all_seen(&rt, Medium::Ip, HardwareAddress::Ip)?;
-    assert_eq!(rt; seen.left, 0);
-    assert!(rt; seen.changes > 1_000 && seen.read > 1_000 && seen.sent > 1_000);
+    let seen = all_seen(rt.alloc(), Medium::Ip)?;
+    assert!(rt; seen.is_ample());
     Ok(())
 }
 
 #[test]
 fn hostile_frames_bring_named_results(rt: HostRuntime) -> Result<(), Fail> {
-    let seen = all_seen(&rt, Medium::Ethernet, ethernet())?;
-    assert_eq!(rt; seen.left, 0);
-    assert!(rt; seen.changes > 1_000 && seen.read > 1_000 && seen.sent > 1_000);
+    let seen = all_seen(rt.alloc(), Medium::Ethernet)?;
+    assert!(rt; seen.is_ample());
     Ok(())
 }
 
 /// A datagram to 192.168.1.1, of which about every eighth byte is another.
-fn damaged(rt: &impl AllocGlobal, words: &mut Rand) -> Result<Vec<u8>, Fail> {
+fn damaged(alloc: Global, words: &mut Rand) -> Result<Vec<u8>, Fail> {
     let mut frame = hex::decode(
-        rt.alloc(),
+        alloc,
         "45000020000040004011b779c0a80102c0a80101bf00bf00000c124daa0000ff",
     )?;
     for byte in frame.as_mut_slice() {
@@ -235,14 +241,23 @@ fn damaged(rt: &impl AllocGlobal, words: &mut Rand) -> Result<Vec<u8>, Fail> {
     Ok(frame)
 }
 
+/// Whether each of so many comes and is taken by one call.
+fn are_taken(alloc: Global, host: &mut Host, count: u32) -> Result<bool, Fail> {
+    let mut words = Rand::new(7);
+    for _ in 0..count {
+        if !host.wire.comes(damaged(alloc, &mut words)?)
+            || host.ingress() != PollIngressSingleResult::SocketStateChanged
+        {
+            return Ok(false);
+        }
+    }
+    Ok(host.wire.left() == 0)
+}
+
 #[test]
 fn damaged_datagrams_are_taken(rt: HostRuntime) -> Result<(), Fail> {
-    let mut host = ip_host(&rt, 64)?;
-    let mut words = Rand::new(7);
-    for _ in 0..2_000 {
-        host.device.push(damaged(&rt, &mut words)?)?;
-        assert_eq!(rt; host.ingress(), PollIngressSingleResult::SocketStateChanged);
-    }
-    assert!(rt; host.device.waiting().is_empty());
+    let mut host = Host::new(rt.alloc(), &UDP)?;
+    let taken = are_taken(rt.alloc(), &mut host, 2_000)?;
+    assert!(rt; taken);
     Ok(())
 }

@@ -18,8 +18,12 @@ mod refusing;
 #[cfg(test)]
 mod replies;
 #[cfg(test)]
+mod script;
+#[cfg(test)]
 mod streams;
 #[cfg(test)]
 mod timers;
 #[cfg(test)]
 mod transfer;
+#[cfg(test)]
+mod wire;

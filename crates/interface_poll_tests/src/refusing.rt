@@ -10,7 +10,7 @@ pub struct Refusing {
     alloc: Global,
     incoming: Option<Vec<u8>>,
     sent: Vec<Vec<u8>>,
-    to_refuse: usize,
+    to_refuse: u64,
     refused: u64,
     described: DeviceCapabilities,
 }
@@ -33,16 +33,18 @@ impl Refusing {
         }
     }
 
-    /// A device to which this frame comes, and which can count one refusal more.
-    pub fn worn(alloc: Global, described: DeviceCapabilities, frame: Vec<u8>) -> Refusing {
-        Refusing {
-            alloc,
-            incoming: Some(frame),
-            sent: Vec::new(alloc),
-            to_refuse: 1,
-            refused: u64::MAX - 1,
-            described,
+    /// A frame comes, unless one waits already.
+    pub fn comes(&mut self, frame: Vec<u8>) -> bool {
+        if self.incoming.is_some() {
+            return false;
         }
+        self.incoming = Some(frame);
+        true
+    }
+
+    /// It has refused so many sends before.
+    pub fn wear(&mut self, refused: u64) {
+        self.refused = refused;
     }
 
     /// Whether a frame waits.
@@ -51,7 +53,7 @@ impl Refusing {
     }
 
     /// The next sends, so many, are refused.
-    pub fn refuse(&mut self, count: usize) {
+    pub fn refuse(&mut self, count: u64) {
         self.to_refuse = count;
     }
 

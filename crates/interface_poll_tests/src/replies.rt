@@ -1,10 +1,10 @@
 //! What a host without sockets answers at once: every kind of answer, over a loopback and over a port. The frames are worked
 //! examples, or made by another program.
-use crate::common::{add_address, at, host, port};
-use interface::{Interface, PollIngressSingleResult, SocketSet};
-use ip_wire::{EthernetAddress, HardwareAddress, IpAddress, IpCidr};
-use net_base::{Device, Loopback, ManagedSlice, Medium, RxToken};
-use sockets::Socket;
+use crate::common::{Has, Host, Plan, at, begin, no_sockets};
+use crate::script::is_last;
+use crate::wire::Kind;
+use interface::PollIngressSingleResult;
+use net_base::{Device, Loopback, Medium, RxToken};
 use std::alloc::Global;
 use std::test::Fail;
 
@@ -111,38 +111,27 @@ const OVER_IPV6: [Reply; 4] = [
 ];
 
 /// The host at 192.168.1.n and fd00::n, whose seed is n too.
-fn answering<D: Device>(
-    rt: &impl AllocGlobal,
-    device: &D,
-    reply: &Reply,
-) -> Result<Interface, Fail> {
-    let hardware_addr = match reply.medium {
-        Medium::Ethernet => {
-            HardwareAddress::Ethernet(EthernetAddress([2, 0, 0, 0, 0, reply.host]))
-        }
-        Medium::Ip => HardwareAddress::Ip,
-    };
-    let own = IpCidr::new(IpAddress::v4(192, 168, 1, reply.host), 24);
-    let mut interface = host(rt, device, hardware_addr, own, u64::from(reply.host))?;
-    let number = u16::from(reply.host);
-    let other = IpCidr::new(IpAddress::v6(0xfd00, 0, 0, 0, 0, 0, 0, number), 64);
-    add_address(&mut interface, other)?;
-    Ok(interface)
-}
-
-fn no_sockets(alloc: Global) -> SocketSet<Socket> {
-    SocketSet::new(ManagedSlice::Owned(Vec::new(alloc)))
+fn answering(reply: &Reply) -> Plan {
+    Plan {
+        device: Kind::Port,
+        medium: reply.medium,
+        number: reply.host,
+        has_ipv6: true,
+        socket: Has::Nothing,
+        room: 0,
+    }
 }
 
 /// Puts a frame into a loopback, where it is the next that comes.
-fn put(device: &mut Loopback, frame: &[u8]) -> Result<(), Fail> {
-    let token = device.transmit(at(0)).ok_or("a token")?;
+fn put(device: &mut Loopback, frame: &[u8]) -> bool {
+    let Some(token) = device.transmit(at(0)) else {
+        return false;
+    };
     device
         .send(token, frame.len(), |buffer: &mut [u8]| {
             buffer.copy_from_slice(frame)
         })
-        .map_err(|_| "a place")?;
-    Ok(())
+        .is_ok()
 }
 
 /// Whether the next frame of the loopback is this one, and the last.
@@ -154,56 +143,73 @@ fn is_only(device: &mut Loopback, frame: &[u8]) -> bool {
     is_next && device.receive(at(0)).is_none()
 }
 
-/// Whether the reply comes out of a loopback into which the frame was put, and took one call.
-fn is_given_over_loopback(rt: &impl AllocGlobal, reply: &Reply) -> Result<bool, Fail> {
-    let alloc = rt.alloc();
-    let mut device = Loopback::new(alloc, reply.medium);
-    let mut interface = answering(rt, &device, reply)?;
+/// What a host behind a loopback answers to what comes out of it.
+fn told(
+    alloc: Global,
+    reply: &Reply,
+    device: &mut Loopback,
+) -> Result<PollIngressSingleResult, Fail> {
+    let mut interface = begin(alloc, &answering(reply), device)?;
     let mut sockets = no_sockets(alloc);
-    let frame = hex::decode(alloc, reply.comes)?;
-    put(&mut device, frame.as_slice())?;
-    let told = interface.poll_ingress_single(at(0), &mut device, &mut sockets);
-    let wanted = hex::decode(alloc, reply.goes)?;
-    Ok(
-        told == PollIngressSingleResult::SocketStateChanged
-            && is_only(&mut device, wanted.as_slice()),
-    )
+    Ok(interface.poll_ingress_single(at(0), device, &mut sockets))
+}
+
+/// Whether the reply comes out of a loopback into which the frame was put, and took one call.
+fn is_given_over_loopback(
+    alloc: Global,
+    reply: &Reply,
+    comes: &[u8],
+    goes: &[u8],
+) -> Result<bool, Fail> {
+    let mut device = Loopback::new(alloc, reply.medium);
+    if !put(&mut device, comes) {
+        return Ok(false);
+    }
+    let answer = told(alloc, reply, &mut device)?;
+    Ok(answer == PollIngressSingleResult::SocketStateChanged && is_only(&mut device, goes))
 }
 
 /// Whether it is all that was sent by a port at which the frame came, and took one call.
-fn is_given_over_port(rt: &impl AllocGlobal, reply: &Reply) -> Result<bool, Fail> {
-    let alloc = rt.alloc();
-    let mut device = port(rt, reply.medium)?;
-    let mut interface = answering(rt, &device, reply)?;
-    let mut sockets = no_sockets(alloc);
-    device.push(hex::decode(alloc, reply.comes)?)?;
-    let told = interface.poll_ingress_single(at(0), &mut device, &mut sockets);
-    let nothing = interface.poll_ingress_single(at(0), &mut device, &mut sockets);
-    let answers = (
-        PollIngressSingleResult::SocketStateChanged,
-        PollIngressSingleResult::None,
-    );
-    let wanted = hex::decode(alloc, reply.goes)?;
-    match device.sent() {
-        [frame] => Ok((told, nothing) == answers && frame.as_slice() == wanted.as_slice()),
-        _ => Ok(false),
-    }
+fn is_given_over_port(
+    alloc: Global,
+    reply: &Reply,
+    comes: Vec<u8>,
+    goes: &[u8],
+) -> Result<bool, Fail> {
+    let mut host = Host::new(alloc, &answering(reply))?;
+    Ok(host.wire.comes(comes) && replies_once(&mut host, goes))
 }
 
-/// The first of these that isn't given over both devices.
-fn first_missing(rt: &impl AllocGlobal, replies: &[Reply]) -> Result<Option<&'static str>, Fail> {
+fn replies_once(host: &mut Host, goes: &[u8]) -> bool {
+    host.ingress() == PollIngressSingleResult::SocketStateChanged
+        && host.ingress() == PollIngressSingleResult::None
+        && host.wire.sent().len() == 1
+        && is_last(host, goes)
+}
+
+/// Whether it is given over both devices.
+fn is_given(alloc: Global, reply: &Reply) -> Result<bool, Fail> {
+    let comes = hex::decode(alloc, reply.comes)?;
+    let goes = hex::decode(alloc, reply.goes)?;
+    Ok(
+        is_given_over_loopback(alloc, reply, comes.as_slice(), goes.as_slice())?
+            && is_given_over_port(alloc, reply, comes, goes.as_slice())?,
+    )
+}
+
+/// The failure names the first of these that isn't given.
+fn are_given(alloc: Global, replies: &[Reply]) -> Result<(), Fail> {
     for reply in replies {
-        if !is_given_over_loopback(rt, reply)? || !is_given_over_port(rt, reply)? {
-            return Ok(Some(reply.name));
+        if !is_given(alloc, reply)? {
+            return Err(reply.name.into());
         }
     }
-    Ok(None)
+    Ok(())
 }
 
 #[test]
 fn each_reply_is_given_at_once(rt: HostRuntime) -> Result<(), Fail> {
-    assert_eq!(rt; first_missing(&rt, &OVER_ETHERNET)?, None);
-    assert_eq!(rt; first_missing(&rt, &OVER_IPV4)?, None);
-    assert_eq!(rt; first_missing(&rt, &OVER_IPV6)?, None);
-    Ok(())
+    are_given(rt.alloc(), &OVER_ETHERNET)?;
+    are_given(rt.alloc(), &OVER_IPV4)?;
+    are_given(rt.alloc(), &OVER_IPV6)
 }

@@ -1,79 +1,113 @@
-//! Hosts with one TCP socket.
-use crate::common::{at, host};
-use interface::{Interface, SocketHandle, SocketSet};
-use ip_wire::{HardwareAddress, IpAddress, IpCidr, IpEndpoint};
-use net_base::{Device, ManagedSlice, RingBuffer};
+//! Hosts' TCP sockets.
+use crate::common::Host;
+use ip_wire::{IpAddress, IpEndpoint};
+use net_base::{Duration, ManagedSlice, RingBuffer};
+use sockets::tcp::State;
 use sockets::{Socket, tcp};
+use std::alloc::Global;
 use std::test::Fail;
 
-/// A host at 192.168.1.x/24 with one TCP socket, without its device.
-#[derive(Drop)]
-pub struct StreamHost {
-    pub interface: Interface,
-    pub sockets: SocketSet<Socket>,
-    pub handle: SocketHandle,
-}
-
-fn ring(rt: &impl AllocGlobal, room: usize) -> Result<RingBuffer<u8>, Fail> {
-    let bytes = vec![in rt.alloc(); 0; room]?;
+fn ring(alloc: Global, room: usize) -> Result<RingBuffer<u8>, Fail> {
+    let bytes = vec![in alloc; 0; room]?;
     Ok(RingBuffer::new(ManagedSlice::Fixed(bytes)))
 }
 
 /// A closed socket with room for so many bytes each way.
-pub fn closed_socket(rt: &impl AllocGlobal, room: usize) -> Result<tcp::Socket, Fail> {
-    let (received, queued) = (ring(rt, room)?, ring(rt, room)?);
+pub fn closed_socket(alloc: Global, room: usize) -> Result<tcp::Socket, Fail> {
+    let (received, queued) = (ring(alloc, room)?, ring(alloc, room)?);
     if !tcp::Socket::fits_buffer(&received) || !tcp::Socket::fits_buffer(&queued) {
         return Err("buffers of at most 2^30 bytes".into());
     }
     Ok(tcp::Socket::new(received, queued))
 }
 
-impl StreamHost {
-    /// A host of this last number of its address, which is its seed too. Its socket has room for so many bytes each way.
-    pub fn new<D: Device>(
-        rt: &impl AllocGlobal,
-        device: &D,
-        last: u8,
-        room: usize,
-    ) -> Result<StreamHost, Fail> {
-        let own = IpCidr::new(IpAddress::v4(192, 168, 1, last), 24);
-        let interface = host(rt, device, HardwareAddress::Ip, own, u64::from(last))?;
-        let mut sockets = SocketSet::new(ManagedSlice::Owned(Vec::new(rt.alloc())));
-        let handle = sockets
-            .add(Socket::Tcp(closed_socket(rt, room)?))
-            .map_err(|_| "a place")?;
-        Ok(StreamHost {
-            interface,
-            sockets,
-            handle,
-        })
+/// A socket that listens at port 80.
+pub fn listening_socket(alloc: Global, room: usize) -> Result<tcp::Socket, Fail> {
+    let mut socket = closed_socket(alloc, room)?;
+    if listens(&mut socket) {
+        Ok(socket)
+    } else {
+        Err("a closed socket".into())
     }
+}
 
-    /// The socket.
-    pub fn socket(&mut self) -> Result<&mut tcp::Socket, Fail> {
-        match self.sockets.get_mut(self.handle) {
-            Some(Socket::Tcp(socket)) => Ok(socket),
-            _ => Err("a socket".into()),
+fn listens(socket: &mut tcp::Socket) -> bool {
+    socket.listen(80).is_ok()
+}
+
+impl Host {
+    /// Its TCP socket.
+    pub fn tcp(&mut self) -> Option<&mut tcp::Socket> {
+        match self.sockets.get_mut(self.handle?) {
+            Some(Socket::Tcp(socket)) => Some(socket),
+            _ => None,
         }
     }
 
     /// Connects from port 49500 to port 80 of 192.168.1.2.
-    pub fn connect(&mut self) -> Result<(), Fail> {
+    pub fn connect(&mut self) -> bool {
         let remote = IpEndpoint::new(IpAddress::v4(192, 168, 1, 2), 80);
-        match self.sockets.get_mut(self.handle) {
+        let Some(handle) = self.handle else {
+            return false;
+        };
+        match self.sockets.get_mut(handle) {
             Some(Socket::Tcp(socket)) => {
-                socket
-                    .connect(&mut self.interface, remote, 49_500)
-                    .map_err(|_| "a way to the other host")?;
-                Ok(())
+                socket.connect(&mut self.interface, remote, 49_500).is_ok()
             }
-            _ => Err("a socket".into()),
+            _ => false,
         }
     }
 
     /// Listens at port 80.
-    pub fn listen(&mut self) -> Result<(), Fail> {
-        self.socket()?.listen(80).map_err(|_| "a closed socket")?;
-        Ok(())
+    pub fn listen(&mut self) -> bool {
+        match self.tcp() {
+            Some(socket) => listens(socket),
+            None => false,
+        }
+    }
+
+    pub fn close(&mut self) -> bool {
+        match self.tcp() {
+            Some(socket) => {
+                socket.close();
+                true
+            }
+            None => false,
+        }
+    }
+
+    pub fn state(&mut self) -> Option<State> {
+        match self.tcp() {
+            Some(socket) => Some(socket.state()),
+            None => None,
+        }
+    }
+
+    /// Writes of these bytes those for which there is room, and says how many.
+    pub fn write(&mut self, bytes: &[u8]) -> Option<usize> {
+        match self.tcp()?.send_slice(bytes) {
+            Ok(count) => Some(count),
+            Err(_) => None,
+        }
+    }
+
+    pub fn set_keep_alive(&mut self, micros: u64) -> bool {
+        match self.tcp() {
+            Some(socket) => {
+                socket.set_keep_alive(Some(Duration::from_micros(micros)));
+                true
+            }
+            None => false,
+        }
+    }
+
+    pub fn set_timeout(&mut self, micros: u64) -> bool {
+        match self.tcp() {
+            Some(socket) => {
+                socket.set_timeout(Some(Duration::from_micros(micros)));
+                true
+            }
+            None => false,
+        }
     }
 }

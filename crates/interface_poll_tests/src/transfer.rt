@@ -1,9 +1,9 @@
 //! Two connected TCP sockets over a link that loses, repeats and reorders frames: all bytes arrive, in order.
-use crate::common::{at, capabilities};
-use crate::streams::StreamHost;
-use lan_port::Port;
-use net_base::{Medium, Rand};
+use crate::common::{Host, Plan, TCP};
+use net_base::Rand;
+use sockets::tcp;
 use sockets::tcp::{RecvError, State};
+use std::alloc::Global;
 use std::test::Fail;
 
 /// How many bytes go each way.
@@ -11,11 +11,10 @@ const LENGTH: usize = 1_048_576;
 
 const MINUTE: u32 = 60_000_000;
 
-/// One side of the transfer: a host at its port, and how far its application has come.
+/// One side of the transfer: a host, and how far its application has come.
 #[derive(Drop)]
 struct Side {
-    host: StreamHost,
-    port: Port,
+    host: Host,
     text: Vec<u8>,
     written: usize,
     read: usize,
@@ -29,17 +28,25 @@ struct Side {
     held: Option<Vec<u8>>,
 }
 
-/// A side whose text is the bytes 0 to 250 again and again, beginning with this number.
-fn make_side(rt: &impl AllocGlobal, last: u8) -> Result<Side, Fail> {
-    let port = Port::new(rt.alloc(), capabilities(Medium::Ip));
-    let host = StreamHost::new(rt, &port, last, 8_192)?;
-    let mut text = Vec::with_capacity(rt.alloc(), LENGTH)?;
+/// The bytes 0 to 250 again and again, beginning with this number.
+fn make_text(alloc: Global, first: u8) -> Result<Vec<u8>, Fail> {
+    let mut text = Vec::with_capacity(alloc, LENGTH)?;
     for place in 0..LENGTH {
-        text.push((place % 251) as u8 ^ last)?;
+        text.push((place % 251) as u8 ^ first)?;
     }
+    Ok(text)
+}
+
+/// A side whose host and whose text have this number.
+fn make_side(alloc: Global, number: u8) -> Result<Side, Fail> {
+    let plan = Plan {
+        number,
+        room: 8_192,
+        ..TCP
+    };
+    let text = make_text(alloc, number)?;
     Ok(Side {
-        host,
-        port,
+        host: Host::new(alloc, &plan)?,
         text,
         written: 0,
         read: 0,
@@ -50,89 +57,109 @@ fn make_side(rt: &impl AllocGlobal, last: u8) -> Result<Side, Fail> {
     })
 }
 
+/// Writes those of the bytes for which there is room, and closes where there are none. The answer is how many it wrote.
+fn write(socket: &mut tcp::Socket, rest: &[u8]) -> Option<usize> {
+    if !socket.may_send() {
+        return Some(0);
+    }
+    if rest.is_empty() {
+        socket.close();
+        return Some(0);
+    }
+    socket.send_slice(rest).ok()
+}
+
 impl Side {
     /// Writes what there is room for, and closes behind the last byte.
-    fn write(&mut self) -> Result<(), Fail> {
-        let socket = self.host.socket()?;
-        if !socket.may_send() {
-            return Ok(());
+    fn write(&mut self) -> bool {
+        let (Some(socket), Some(rest)) = (self.host.tcp(), self.text.get(self.written..)) else {
+            return false;
+        };
+        match write(socket, rest) {
+            Some(count) => {
+                self.written = self.written.saturating_add(count);
+                true
+            }
+            None => false,
         }
-        if self.written == self.text.len() {
-            socket.close();
-        } else if let Some(rest) = self.text.get(self.written..) {
-            let count = socket.send_slice(rest).map_err(|_| "a way out")?;
-            self.written = self.written.saturating_add(count);
-        }
-        Ok(())
     }
 
     /// Reads what has come, which must be the next bytes of this text.
-    fn read(&mut self, expected: &[u8]) -> Result<(), Fail> {
+    fn read(&mut self, expected: &[u8]) -> bool {
         let mut bytes = [0; 4_096];
-        match self.host.socket()?.recv_slice(&mut bytes) {
-            Ok(count) => {
-                let came = bytes.get(..count).ok_or("bytes")?;
-                let until = self.read.saturating_add(count);
-                if expected.get(self.read..until) != Some(came) {
-                    return Err("the bytes that were sent".into());
-                }
-                self.read = until;
+        let Some(socket) = self.host.tcp() else {
+            return false;
+        };
+        match socket.recv_slice(&mut bytes) {
+            Ok(count) => self.takes(bytes.get(..count), count, expected),
+            Err(RecvError::Finished) => {
+                self.finished = self.read == expected.len();
+                true
             }
-            Err(RecvError::Finished) => self.finished = self.read == expected.len(),
-            Err(RecvError::InvalidState) => {}
+            Err(RecvError::InvalidState) => true,
         }
-        Ok(())
     }
 
-    fn is_done(&mut self) -> Result<bool, Fail> {
-        let state = self.host.socket()?.state();
-        Ok(self.finished && matches!(state, State::TimeWait | State::Closed))
+    /// So many bytes were read, which must be the next of this text.
+    fn takes(&mut self, came: Option<&[u8]>, count: usize, expected: &[u8]) -> bool {
+        let until = self.read.saturating_add(count);
+        let (Some(came), Some(wanted)) = (came, expected.get(self.read..until)) else {
+            return false;
+        };
+        self.read = until;
+        came == wanted
+    }
+
+    fn is_done(&mut self) -> bool {
+        self.finished && matches!(self.host.state(), Some(State::TimeWait | State::Closed))
     }
 
     /// In how many microseconds the host wants to be polled, at most a minute.
     fn delay(&mut self, micros: u32) -> u32 {
-        match self
-            .host
-            .interface
-            .poll_delay(at(micros), &self.host.sockets)
-        {
-            Some(delay) => u32::try_from(delay.total_micros()).unwrap_or(MINUTE),
+        self.host.now = micros;
+        match self.host.delay() {
+            Some(delay) => u32::try_from(delay).unwrap_or(MINUTE),
             None => MINUTE,
         }
     }
 
     /// The application's turn, and then the host's.
-    fn turn(&mut self, micros: u32, expected: &[u8]) -> Result<(), Fail> {
-        self.write()?;
-        self.read(expected)?;
-        let _told = self
-            .host
-            .interface
-            .poll(at(micros), &mut self.port, &mut self.host.sockets, 64);
-        Ok(())
+    fn turn(&mut self, micros: u32, expected: &[u8]) -> bool {
+        if !self.write() || !self.read(expected) {
+            return false;
+        }
+        self.host.now = micros;
+        let _told = self.host.poll(64);
+        true
+    }
+}
+
+/// A copy of the frame comes.
+fn pass(to: &mut Host, frame: &Vec<u8>) -> bool {
+    match frame.clone() {
+        Ok(frame) => to.wire.comes(frame),
+        Err(_) => false,
     }
 }
 
 /// Carries the frames that one side sent to the other: of eight one is lost, one comes twice, and one comes behind the next.
-fn carry(from: &mut Side, to: &mut Port, words: &mut Rand) -> Result<(), Fail> {
-    for frame in from.port.sent().get(from.carried..).ok_or("frames")? {
+fn carry(from: &mut Side, to: &mut Host, words: &mut Rand) -> Result<bool, Fail> {
+    let mut came = true;
+    for frame in from.host.wire.sent().get(from.carried..).ok_or("frames")? {
         match words.rand_u32() % 8 {
             0 => from.lost = from.lost.saturating_add(1),
-            1 => {
-                to.push(frame.clone()?)?;
-                to.push(frame.clone()?)?;
-            }
+            1 => came = came && pass(to, frame) && pass(to, frame),
             2 if from.held.is_none() => from.held = Some(frame.clone()?),
             _ => {
-                to.push(frame.clone()?)?;
+                came = came && pass(to, frame);
                 if let Some(earlier) = from.held.take() {
-                    to.push(earlier)?;
+                    came = to.wire.comes(earlier) && came;
                 }
             }
         }
     }
-    from.carried = from.port.sent().len();
-    Ok(())
+    from.carried = from.host.wire.sent().len();
+    Ok(came)
 }
 
 /// Both sides at their link, at a moment.
@@ -144,11 +171,9 @@ struct Transfer {
     micros: u32,
 }
 
-fn make_transfer(rt: &impl AllocGlobal) -> Result<Transfer, Fail> {
-    let mut client = make_side(rt, 1)?;
-    client.host.connect()?;
-    let mut server = make_side(rt, 2)?;
-    server.host.listen()?;
+fn make_transfer(alloc: Global) -> Result<Transfer, Fail> {
+    let client = make_side(alloc, 1)?;
+    let server = make_side(alloc, 2)?;
     Ok(Transfer {
         client,
         server,
@@ -158,11 +183,16 @@ fn make_transfer(rt: &impl AllocGlobal) -> Result<Transfer, Fail> {
 }
 
 impl Transfer {
+    /// The client connects, and the server listens.
+    fn opens(&mut self) -> bool {
+        self.client.host.connect() && self.server.host.listen()
+    }
+
     /// How long it is to the next turns: a hundredth of a second, and where no frame is on its way, until a host wants to be
     /// polled.
     fn pause(&mut self) -> u32 {
         let (client, server) = (&mut self.client, &mut self.server);
-        if client.port.waiting().is_empty() && server.port.waiting().is_empty() {
+        if client.host.wire.left() == 0 && server.host.wire.left() == 0 {
             client
                 .delay(self.micros)
                 .min(server.delay(self.micros))
@@ -173,41 +203,48 @@ impl Transfer {
     }
 
     /// A turn of each side; then the link carries what they sent.
-    fn step(&mut self) -> Result<(), Fail> {
+    fn step(&mut self) -> Result<bool, Fail> {
         let (client, server) = (&mut self.client, &mut self.server);
-        client.turn(self.micros, server.text.as_slice())?;
-        server.turn(self.micros, client.text.as_slice())?;
-        carry(client, &mut server.port, &mut self.words)?;
-        carry(server, &mut client.port, &mut self.words)?;
+        if !client.turn(self.micros, server.text.as_slice())
+            || !server.turn(self.micros, client.text.as_slice())
+        {
+            return Ok(false);
+        }
+        let came = carry(client, &mut server.host, &mut self.words)?
+            && carry(server, &mut client.host, &mut self.words)?;
         self.micros = self.micros.saturating_add(self.pause());
-        Ok(())
+        Ok(came)
     }
 
-    fn is_done(&mut self) -> Result<bool, Fail> {
-        Ok(self.client.is_done()? && self.server.is_done()?)
+    fn is_done(&mut self) -> bool {
+        self.client.is_done() && self.server.is_done()
     }
 
-    /// How many bytes each side has read.
-    fn read(&self) -> (usize, usize) {
-        (self.client.read, self.server.read)
+    /// Takes so many steps, or until both sides are done. The answer is whether each went well.
+    fn run(&mut self, steps: u32) -> Result<bool, Fail> {
+        for _ in 0..steps {
+            if self.is_done() {
+                break;
+            }
+            if !self.step()? {
+                return Ok(false);
+            }
+        }
+        Ok(true)
     }
 
-    /// How many frames of each side were lost, at most six.
-    fn lost(&self) -> (usize, usize) {
-        (self.client.lost.min(6), self.server.lost.min(6))
+    /// Whether both sides have read everything, and the link lost at least six frames of each.
+    fn has_all(&self) -> bool {
+        let (client, server) = (&self.client, &self.server);
+        (client.read, server.read) == (LENGTH, LENGTH) && client.lost >= 6 && server.lost >= 6
     }
 }
 
 #[test]
 fn all_bytes_arrive_over_a_bad_link(rt: HostRuntime) -> Result<(), Fail> {
-    let mut transfer = make_transfer(&rt)?;
-    for _ in 0..100_000 {
-        if transfer.is_done()? {
-            break;
-        }
-        transfer.step()?;
-    }
-    let end = (transfer.is_done()?, transfer.read(), transfer.lost());
-    assert!(rt; end == (true, (LENGTH, LENGTH), (6, 6)));
+    let mut transfer = make_transfer(rt.alloc())?;
+    let went = transfer.opens() && transfer.run(100_000)?;
+    let end = went && transfer.is_done() && transfer.has_all();
+    assert!(rt; end);
     Ok(())
 }

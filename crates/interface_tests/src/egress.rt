@@ -111,7 +111,7 @@ fn assert_frame(
     let (frame, _token) = device.receive(START).ok_or("a frame")?;
     let mut bytes = hex::decode(rt.alloc(), front)?;
     bytes.extend_from_slice(rest)?;
-    assert_eq!(rt; frame.bytes(), bytes.as_slice());
+    assert!(rt; frame.bytes() == bytes.as_slice());
     Ok(())
 }
 
@@ -123,23 +123,14 @@ fn a_long_datagram_goes_in_pieces(rt: HostRuntime) -> Result<(), Fail> {
     let mut device = Loopback::new(alloc, Medium::Ip);
     let long = data(alloc, 2_000)?;
     let short = data(alloc, 4)?;
-    assert_eq!(rt;
-        send(&mut inner, &mut fragmenter, &mut device, long.as_slice())?,
-        Sent::Gone
-    );
+    assert!(rt; send(&mut inner, &mut fragmenter, &mut device, long.as_slice())? == Sent::Gone);
     // Another long one has to wait, and takes no number; a short one goes.
-    assert_eq!(rt;
-        send(&mut inner, &mut fragmenter, &mut device, long.as_slice())?,
-        Sent::Busy
-    );
-    assert_eq!(rt;
-        send(&mut inner, &mut fragmenter, &mut device, short.as_slice())?,
-        Sent::Gone
-    );
+    assert!(rt; send(&mut inner, &mut fragmenter, &mut device, long.as_slice())? == Sent::Busy);
+    assert!(rt; send(&mut inner, &mut fragmenter, &mut device, short.as_slice())? == Sent::Gone);
     assert!(rt; piece(&inner, &mut fragmenter, &mut device)?);
     assert!(rt; !fragmenter.is_waiting());
 
-    assert_eq!(rt; long.len(), 2_000);
+    assert!(rt; long.len() == 2_000);
     let (front, back) = long.as_slice().split_at(1_472);
     let first = "450005dcc24d200040110f70c0a80101c0a80102bf00003507d8616c";
     assert_frame(&rt, &mut device, first, front)?;
@@ -159,19 +150,15 @@ fn the_longest_datagram_has_4096_bytes(rt: HostRuntime) -> Result<(), Fail> {
     let mut device = Loopback::new(alloc, Medium::Ip);
     let longer = data(alloc, 4_069)?;
     let longest = data(alloc, 4_068)?;
-    assert_eq!(rt;
-        send(&mut inner, &mut fragmenter, &mut device, longer.as_slice())?,
-        Sent::Dropped
+    assert!(rt;
+        send(&mut inner, &mut fragmenter, &mut device, longer.as_slice())? == Sent::Dropped
     );
-    assert_eq!(rt;
-        send(&mut inner, &mut fragmenter, &mut device, longest.as_slice())?,
-        Sent::Gone
-    );
+    assert!(rt; send(&mut inner, &mut fragmenter, &mut device, longest.as_slice())? == Sent::Gone);
     assert!(rt; piece(&inner, &mut fragmenter, &mut device)?);
     assert!(rt; piece(&inner, &mut fragmenter, &mut device)?);
     assert!(rt; !piece(&inner, &mut fragmenter, &mut device)?);
 
-    assert_eq!(rt; longest.len(), 4_068);
+    assert!(rt; longest.len() == 4_068);
     let (front, rest) = longest.as_slice().split_at(1_472);
     let (middle, back) = rest.split_at(1_480);
     let first = "450005dcc24d200040110f70c0a80101c0a80102bf0000350fecc095";
@@ -196,9 +183,8 @@ fn an_unknown_neighbour_is_asked_for_once_a_second(rt: HostRuntime) -> Result<()
         "ffffffffffff02000000000108060001080006040001020000000001c0a80101ffffffffffffc0a80102";
     for moment in [0, 999_999, 1_000_000, 1_999_999] {
         inner.set_now(Instant::from_micros(moment));
-        assert_eq!(rt;
-            send(&mut inner, &mut fragmenter, &mut device, bytes.as_slice())?,
-            Sent::Waits
+        assert!(rt;
+            send(&mut inner, &mut fragmenter, &mut device, bytes.as_slice())? == Sent::Waits
         );
     }
     assert_frame(&rt, &mut device, request, &[])?;
@@ -207,10 +193,7 @@ fn an_unknown_neighbour_is_asked_for_once_a_second(rt: HostRuntime) -> Result<()
 
     let other = HardwareAddress::Ethernet(EthernetAddress([2, 0, 0, 0, 0, 2]));
     inner.fill_neighbor(IpAddress::v4(192, 168, 1, 2), other);
-    assert_eq!(rt;
-        send(&mut inner, &mut fragmenter, &mut device, bytes.as_slice())?,
-        Sent::Gone
-    );
+    assert!(rt; send(&mut inner, &mut fragmenter, &mut device, bytes.as_slice())? == Sent::Gone);
     let whole =
         "020000000002020000000001080045000020c24d00004011352cc0a80101c0a80102bf000035000cbb48";
     assert_frame(&rt, &mut device, whole, bytes.as_slice())?;
@@ -234,10 +217,7 @@ fn an_ipv6_neighbour_is_solicited(rt: HostRuntime) -> Result<(), Fail> {
     };
     let packet = Packet::new(IpRepr::Ipv6(header), IpPayload::Raw(&[]));
     let token = device.transmit(START).ok_or("a token")?;
-    assert_eq!(rt;
-        dispatch(&mut inner, &mut fragmenter, &mut device, token, &packet),
-        Sent::Waits
-    );
+    assert!(rt; dispatch(&mut inner, &mut fragmenter, &mut device, token, &packet) == Sent::Waits);
     let request =
         "3333ff00000202000000000186dd6000000000203afffd000000000000000000000000000001ff0200000000000000000001ff00000287007d9700000000fd0000000000000000000000000000020101020000000001";
     assert_frame(&rt, &mut device, request, &[])?;

@@ -81,26 +81,26 @@ fn a_datagram_is_read_without_its_padding(rt: HostRuntime) -> Result<(), Fail> {
         ident: 0,
         dont_frag: true,
     };
-    assert_eq!(rt; header, expected);
+    assert!(rt; header == expected);
     let whole = Ipv4Piece {
         offset: 0,
         more: false,
     };
-    assert_eq!(rt; piece, whole);
+    assert!(rt; piece == whole);
     let ports = UdpRepr {
         src_port: 48_896,
         dst_port: 53,
     };
-    assert_eq!(rt;
-        carried(IpRepr::Ipv4(header), payload, &verified()),
-        Some(IpPayload::Udp(ports, &[0xaa, 0, 0, 0xff]))
+    assert!(rt;
+        carried(IpRepr::Ipv4(header), payload, &verified())
+            == Some(IpPayload::Udp(ports, &[0xaa, 0, 0, 0xff]))
     );
     // Over another protocol's number the same bytes are nothing known.
     let other = Ipv4Repr {
         next_header: IpProtocol::Igmp,
         ..header
     };
-    assert_eq!(rt; carried(IpRepr::Ipv4(other), payload, &verified()), None);
+    assert!(rt; carried(IpRepr::Ipv4(other), payload, &verified()) == None);
     Ok(())
 }
 
@@ -113,7 +113,7 @@ fn a_changed_byte_is_found_where_it_is_tested(rt: HostRuntime) -> Result<(), Fai
     let mut frame = hex::decode(rt.alloc(), DATAGRAM)?;
     set(frame.as_mut_slice(), 31, 0xfe);
     let (header, _piece, payload) = ipv4(frame.as_slice(), &verified()).ok_or("a packet")?;
-    assert_eq!(rt; carried(IpRepr::Ipv4(header), payload, &verified()), None);
+    assert!(rt; carried(IpRepr::Ipv4(header), payload, &verified()) == None);
     assert!(rt; carried(IpRepr::Ipv4(header), payload, &unverified).is_some());
     set(frame.as_mut_slice(), 8, 63);
     assert!(rt; ipv4(frame.as_slice(), &verified()).is_none());
@@ -130,10 +130,10 @@ fn a_segment_and_an_echo_request_are_read(rt: HostRuntime) -> Result<(), Fail> {
     let Some(IpPayload::Tcp(segment)) = carried(IpRepr::Ipv4(header), payload, &verified()) else {
         return Err("a segment".into());
     };
-    assert_eq!(rt; (segment.src_port, segment.dst_port), (49_500, 81));
-    assert_eq!(rt; segment.seq_number, SeqNumber(0x0123_4567));
-    assert_eq!(rt; segment.control, TcpControl::Syn);
-    assert_eq!(rt; segment.payload.len(), 0);
+    assert!(rt; (segment.src_port, segment.dst_port) == (49_500, 81));
+    assert!(rt; segment.seq_number == SeqNumber(0x0123_4567));
+    assert!(rt; segment.control == TcpControl::Syn);
+    assert!(rt; segment.payload.len() == 0);
 
     let echo = "4500001c000040004001b78dc0a80102c0a801010800e5ca12340001";
     let frame = hex::decode(rt.alloc(), echo)?;
@@ -143,9 +143,8 @@ fn a_segment_and_an_echo_request_are_read(rt: HostRuntime) -> Result<(), Fail> {
         seq_no: 1,
         bytes: &[],
     };
-    assert_eq!(rt;
-        carried(IpRepr::Ipv4(header), payload, &verified()),
-        Some(IpPayload::Icmpv4(request))
+    assert!(rt;
+        carried(IpRepr::Ipv4(header), payload, &verified()) == Some(IpPayload::Icmpv4(request))
     );
     Ok(())
 }
@@ -160,10 +159,7 @@ fn pieces_say_where_they_stand(rt: HostRuntime) -> Result<(), Fail> {
         offset: 0,
         more: true,
     };
-    assert_eq!(rt;
-        (header.ident, piece, payload.len()),
-        (0xc24d, begins, 1_480)
-    );
+    assert!(rt; (header.ident, piece, payload.len()) == (0xc24d, begins, 1_480));
     let mut last = hex::decode(alloc, "45000224c24d00b94011326fc0a80101c0a80102")?;
     last.extend_from_slice(&[0; 528])?;
     let (header, piece, payload) = ipv4(last.as_slice(), &verified()).ok_or("a piece")?;
@@ -171,7 +167,7 @@ fn pieces_say_where_they_stand(rt: HostRuntime) -> Result<(), Fail> {
         offset: 1_480,
         more: false,
     };
-    assert_eq!(rt; (header.ident, piece, payload.len()), (0xc24d, ends, 528));
+    assert!(rt; (header.ident, piece, payload.len()) == (0xc24d, ends, 528));
     // A packet of which a byte is missing is none.
     last.pop();
     assert!(rt; ipv4(last.as_slice(), &verified()).is_none());
@@ -196,7 +192,7 @@ fn an_arp_request_is_read(rt: HostRuntime) -> Result<(), Fail> {
         dst_addr: EthernetAddress::BROADCAST,
         ethertype: EthernetProtocol::Arp,
     };
-    assert_eq!(rt; link, header);
+    assert!(rt; link == header);
     let asks = ArpRepr::EthernetIpv4 {
         operation: ArpOperation::Request,
         source_hardware_addr: SECOND,
@@ -204,7 +200,7 @@ fn an_arp_request_is_read(rt: HostRuntime) -> Result<(), Fail> {
         target_hardware_addr: EthernetAddress([0; 6]),
         target_protocol_addr: Ipv4Address::new(192, 168, 1, 1),
     };
-    assert_eq!(rt; packet, asks);
+    assert!(rt; packet == asks);
     // On a medium of bare packets it is none: its first four bits are 15.
     assert!(rt; read(&HardwareAddress::Ip, frame.as_slice(), &verified()).is_none());
     Ok(())
@@ -277,21 +273,21 @@ fn a_solicitation_is_answered(rt: HostRuntime) -> Result<(), Fail> {
     let (header, solicitation) = message(asks.as_slice()).ok_or("a solicitation")?;
     let mut inner = host(FIRST, 1)?;
     let answer = hear(&mut inner, &header, &solicitation).ok_or("an answer")?;
-    assert_eq!(rt;
-        inner.lookup_neighbor(&IpAddress::Ipv6(below(2))),
-        Answer::Found(HardwareAddress::Ethernet(SECOND))
+    assert!(rt;
+        inner.lookup_neighbor(&IpAddress::Ipv6(below(2)))
+            == Answer::Found(HardwareAddress::Ethernet(SECOND))
     );
     // It is the packet of the worked answer.
     let tells = hex::decode(rt.alloc(), ADVERTISEMENT)?;
     let (header, advertisement) = message(tells.as_slice()).ok_or("an advertisement")?;
     let payload = IpPayload::Icmpv6(Icmpv6Repr::Ndisc(advertisement));
-    assert_eq!(rt; answer, Packet::new(IpRepr::Ipv6(header), payload));
+    assert!(rt; answer == Packet::new(IpRepr::Ipv6(header), payload));
     // And who asked learns from it.
     let mut asker = host(SECOND, 2)?;
-    assert_eq!(rt; hear(&mut asker, &header, &advertisement), None);
-    assert_eq!(rt;
-        asker.lookup_neighbor(&IpAddress::Ipv6(below(1))),
-        Answer::Found(HardwareAddress::Ethernet(FIRST))
+    assert!(rt; hear(&mut asker, &header, &advertisement) == None);
+    assert!(rt;
+        asker.lookup_neighbor(&IpAddress::Ipv6(below(1)))
+            == Answer::Found(HardwareAddress::Ethernet(FIRST))
     );
     Ok(())
 }
@@ -302,11 +298,8 @@ fn a_message_that_was_passed_on_does_not_count(rt: HostRuntime) -> Result<(), Fa
     set(asks.as_mut_slice(), 21, 254);
     let (header, solicitation) = message(asks.as_slice()).ok_or("a solicitation")?;
     let mut inner = host(FIRST, 1)?;
-    assert_eq!(rt; hear(&mut inner, &header, &solicitation), None);
-    assert_eq!(rt;
-        inner.lookup_neighbor(&IpAddress::Ipv6(below(2))),
-        Answer::NotFound
-    );
+    assert!(rt; hear(&mut inner, &header, &solicitation) == None);
+    assert!(rt; inner.lookup_neighbor(&IpAddress::Ipv6(below(2))) == Answer::NotFound);
     Ok(())
 }
 
@@ -330,14 +323,14 @@ fn an_advertisement_replaces_where_it_says_so(rt: HostRuntime) -> Result<(), Fai
     };
     let plain = NdiscNeighborFlags::SOLICITED;
     let overrides = NdiscNeighborFlags::OVERRIDE;
-    assert_eq!(rt; hear(&mut inner, &header, &tells(overrides, group)), None);
-    assert_eq!(rt; inner.lookup_neighbor(&sender), Answer::NotFound);
-    assert_eq!(rt; hear(&mut inner, &header, &tells(plain, SECOND)), None);
-    assert_eq!(rt; hear(&mut inner, &header, &tells(plain, third)), None);
+    assert!(rt; hear(&mut inner, &header, &tells(overrides, group)) == None);
+    assert!(rt; inner.lookup_neighbor(&sender) == Answer::NotFound);
+    assert!(rt; hear(&mut inner, &header, &tells(plain, SECOND)) == None);
+    assert!(rt; hear(&mut inner, &header, &tells(plain, third)) == None);
     let second = Answer::Found(HardwareAddress::Ethernet(SECOND));
-    assert_eq!(rt; inner.lookup_neighbor(&sender), second);
-    assert_eq!(rt; hear(&mut inner, &header, &tells(overrides, third)), None);
+    assert!(rt; inner.lookup_neighbor(&sender) == second);
+    assert!(rt; hear(&mut inner, &header, &tells(overrides, third)) == None);
     let found = Answer::Found(HardwareAddress::Ethernet(third));
-    assert_eq!(rt; inner.lookup_neighbor(&sender), found);
+    assert!(rt; inner.lookup_neighbor(&sender) == found);
     Ok(())
 }

@@ -5,19 +5,17 @@ use ip_wire::{IpAddress, IpProtocol, checksum};
 #[test]
 fn sums_the_example(rt: HostRuntime) {
     let bytes = [0x00, 0x01, 0xf2, 0x03, 0xf4, 0xf5, 0xf6, 0xf7];
-    assert_eq!(rt; checksum::data(&bytes), 0xddf2);
-    assert_eq!(rt; checksum::data(&bytes[..7]), 0xdcfb);
-    assert_eq!(rt; checksum::data(&[]), 0);
-    assert_eq!(rt; checksum::data(&[0xff; 64]), 0xffff);
-    assert_eq!(rt;
-        checksum::combine(&[checksum::data(&bytes[..2]), checksum::data(&bytes[2..])]),
-        0xddf2
+    assert!(rt; checksum::data(&bytes) == 0xddf2);
+    assert!(rt; checksum::data(&bytes[..7]) == 0xdcfb);
+    assert!(rt; checksum::data(&[]) == 0);
+    assert!(rt; checksum::data(&[0xff; 64]) == 0xffff);
+    assert!(rt;
+        checksum::combine(&[checksum::data(&bytes[..2]), checksum::data(&bytes[2..])]) == 0xddf2
     );
-    assert_eq!(rt;
-        checksum::add(checksum::add(0x0001, 0xf203), checksum::add(0xf4f5, 0xf6f7)),
-        0xddf2
+    assert!(rt;
+        checksum::add(checksum::add(0x0001, 0xf203), checksum::add(0xf4f5, 0xf6f7)) == 0xddf2
     );
-    assert_eq!(rt; checksum::add(0xffff, 0xffff), 0xffff);
+    assert!(rt; checksum::add(0xffff, 0xffff) == 0xffff);
     checksum::joined();
     checksum::covered_combines();
     checksum::holds_at_all_ones();
@@ -36,10 +34,7 @@ fn holds_over_packets(rt: HostRuntime) {
     let source = IpAddress::v4(192, 168, 1, 1);
     let destination = IpAddress::v4(192, 168, 1, 2);
     let header = checksum::pseudo_header(&source, &destination, IpProtocol::Tcp, 24);
-    assert_eq!(rt;
-        checksum::combine(&[header, checksum::data(&segment)]),
-        0xffff
-    );
+    assert!(rt; checksum::combine(&[header, checksum::data(&segment)]) == 0xffff);
 
     let message = [
         0x87, 0x00, 0x7d, 0x97, 0, 0, 0, 0, 0xfd, 0, 0, 0, 0, 0, 0, 0, 0, 0, 0, 0, 0, 0, 0, 1,
@@ -48,8 +43,5 @@ fn holds_over_packets(rt: HostRuntime) {
     let source = IpAddress::v6(0xfd00, 0, 0, 0, 0, 0, 0, 2);
     let destination = IpAddress::v6(0xff02, 0, 0, 0, 0, 1, 0xff00, 1);
     let header = checksum::pseudo_header(&source, &destination, IpProtocol::Icmpv6, 32);
-    assert_eq!(rt;
-        checksum::combine(&[header, checksum::data(&message)]),
-        0xffff
-    );
+    assert!(rt; checksum::combine(&[header, checksum::data(&message)]) == 0xffff);
 }

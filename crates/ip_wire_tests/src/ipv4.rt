@@ -75,12 +75,9 @@ const PLACE: Ipv4Piece = Ipv4Piece {
 
 #[test]
 fn ipv4_is_read(rt: HostRuntime) {
-    assert_eq!(rt; numbers(&WITH_OPTION), Some(NUMBERS));
-    assert_eq!(rt; named(&WITH_OPTION), Some(NAMED));
-    assert_eq!(rt;
-        carried(&WITH_OPTION),
-        Some((true, EIGHT.as_slice(), 0x1234, PLACE, 34))
-    );
+    assert!(rt; numbers(&WITH_OPTION) == Some(NUMBERS));
+    assert!(rt; named(&WITH_OPTION) == Some(NAMED));
+    assert!(rt; carried(&WITH_OPTION) == Some((true, EIGHT.as_slice(), 0x1234, PLACE, 34)));
 }
 
 /// The header, once its checksum is filled in; what it is without options.
@@ -105,7 +102,7 @@ fn ipv4_is_parsed(rt: HostRuntime) {
         dont_frag: false,
     };
     let mut bytes = WITH_OPTION;
-    assert_eq!(rt; parsed_after_filling(&mut bytes), Some((true, header, 20)));
+    assert!(rt; parsed_after_filling(&mut bytes) == Some((true, header, 20)));
     ipv4_laws::ipv4_spelled();
     ipv4_laws::ipv4_no_longer();
     ipv4_laws::ipv4_fits();
@@ -131,20 +128,17 @@ fn ipv4_checksum_is_that_of_the_capture(rt: HostRuntime) {
     let header = ipv4_header(IpProtocol::Udp, 95);
     let mut packet = Ipv4PacketMut::new_unchecked(&mut frame);
     header.emit(&mut packet, &ChecksumCapabilities::default());
-    assert_eq!(rt; &frame[..20], HEADER.as_slice());
+    assert!(rt; &frame[..20] == HEADER.as_slice());
     let packet = Ipv4Packet::new_checked(&frame).expect(&rt, "whole");
-    assert_eq!(rt; packet.checksum(), 0xb861);
-    assert_eq!(rt;
-        Ipv4Repr::parse(&packet, &ChecksumCapabilities::default()),
-        Ok(header)
-    );
+    assert!(rt; packet.checksum() == 0xb861);
+    assert!(rt; Ipv4Repr::parse(&packet, &ChecksumCapabilities::default()) == Ok(header));
     let none = ChecksumCapabilities {
         ipv4: Checksum::Rx,
         ..ChecksumCapabilities::default()
     };
     let mut packet = Ipv4PacketMut::new_unchecked(&mut frame);
     header.emit(&mut packet, &none);
-    assert_eq!(rt; packet.checksum(), 0);
+    assert!(rt; packet.checksum() == 0);
 }
 
 fn read_ipv4(at: usize, byte: u8, len: usize, checksum_caps: &ChecksumCapabilities) -> bool
@@ -243,10 +237,10 @@ fn carried_in_place(bytes: &mut [u8], payload: &[u8]) -> Option<(bool, u16, IpPr
 #[test]
 fn ipv4_is_read_where_it_is_written(rt: HostRuntime) {
     let mut bytes = WITH_OPTION;
-    assert_eq!(rt; numbers_in_place(&mut bytes), Some(NUMBERS));
-    assert_eq!(rt; named_in_place(&mut bytes), Some(NAMED));
+    assert!(rt; numbers_in_place(&mut bytes) == Some(NUMBERS));
+    assert!(rt; named_in_place(&mut bytes) == Some(NAMED));
     let whole = Some((true, 0, IpProtocol::Igmp, 34));
-    assert_eq!(rt; carried_in_place(&mut bytes, &EIGHT), whole);
+    assert!(rt; carried_in_place(&mut bytes, &EIGHT) == whole);
 }
 
 #[test]
@@ -254,8 +248,8 @@ fn ipv4_payload_alone_is_lent(rt: HostRuntime) {
     let mut bytes = WITH_OPTION;
     let mut packet = Ipv4PacketMut::new_checked(&mut bytes).expect(&rt, "whole");
     packet.payload_mut().fill(7);
-    assert_eq!(rt; &bytes[..24], &WITH_OPTION[..24]);
-    assert_eq!(rt; &bytes[24..], [7, 7, 7, 7, 7, 7, 7, 7, 0, 0].as_slice());
+    assert!(rt; &bytes[..24] == &WITH_OPTION[..24]);
+    assert!(rt; &bytes[24..] == [7, 7, 7, 7, 7, 7, 7, 7, 0, 0].as_slice());
 }
 
 #[test]
@@ -264,12 +258,11 @@ fn ipv4_is_read_in_its_normal_form(rt: HostRuntime) {
     let mut bytes = [0; 24];
     let mut packet = Ipv4PacketMut::new_unchecked(&mut bytes);
     header.emit(&mut packet, &ChecksumCapabilities::default());
-    assert_eq!(rt;
+    assert!(rt;
         Ipv4Repr::parse(
             &Ipv4Packet::new_unchecked(&bytes),
             &ChecksumCapabilities::default()
-        ),
-        Ok(ipv4_header(IpProtocol::Udp, 4))
+        ) == Ok(ipv4_header(IpProtocol::Udp, 4))
     );
 }
 
@@ -323,13 +316,10 @@ fn frame_is_written_in_place(rt: HostRuntime) {
         0x45, 0x00, 0x00, 0x20, 0xc2, 0x4d, 0x00, 0x00, 0x40, 0x11, 0x35, 0x2c, 0xc0, 0xa8, 0x01,
         0x01, 0xc0, 0xa8, 0x01, 0x02,
     ];
-    assert_eq!(rt; &frame[14..34], header.as_slice());
-    assert_eq!(rt; &frame[34..], DATAGRAM.as_slice());
+    assert!(rt; &frame[14..34] == header.as_slice());
+    assert!(rt; &frame[34..] == DATAGRAM.as_slice());
     let packet = Ipv4Packet::new_checked(&frame[14..]).expect(&rt, "whole");
-    assert_eq!(rt;
-        Ipv4Repr::parse(&packet, &ChecksumCapabilities::default()),
-        Ok(ip)
-    );
+    assert!(rt; Ipv4Repr::parse(&packet, &ChecksumCapabilities::default()) == Ok(ip));
 }
 
 /// The header of a piece of that datagram.
@@ -362,8 +352,8 @@ fn pieces_are_written(rt: HostRuntime) {
         0x45, 0x00, 0x00, 0x18, 0xc2, 0x4d, 0x00, 0x01, 0x40, 0x11, 0x35, 0x33, 0xc0, 0xa8, 0x01,
         0x01, 0xc0, 0xa8, 0x01, 0x02,
     ];
-    assert_eq!(rt; piece_header(8, 0, true), first);
-    assert_eq!(rt; piece_header(4, 8, false), last);
+    assert!(rt; piece_header(8, 0, true) == first);
+    assert!(rt; piece_header(4, 8, false) == last);
 }
 
 #[test]
@@ -371,7 +361,7 @@ fn pieces_are_read(rt: HostRuntime) {
     for (payload_len, offset, more) in [(8, 0, true), (4, 8, false)] {
         let header = piece_header(payload_len, offset, more);
         let place = Ipv4Piece { offset, more };
-        assert_eq!(rt; Ipv4Packet::new_unchecked(&header).piece(), place);
+        assert!(rt; Ipv4Packet::new_unchecked(&header).piece() == place);
     }
 }
 
@@ -388,10 +378,7 @@ fn quoted_key(header: &[u8]) -> Option<(Ipv4FragKey, Ipv4FragKey, u16, bool)>
 fn pieces_have_one_key(rt: HostRuntime) {
     let first = piece_header(8, 0, true);
     let key = Ipv4Packet::new_unchecked(&first).get_key();
-    assert_eq!(rt;
-        quoted_key(&piece_header(4, 8, false)),
-        Some((key, key, 0xc24d, false))
-    );
+    assert!(rt; quoted_key(&piece_header(4, 8, false)) == Some((key, key, 0xc24d, false)));
 }
 
 /// That packet's header as it is quoted, with a payload of this length.
@@ -410,45 +397,39 @@ fn quoted(payload_len: usize) -> Ipv4Repr {
 #[test]
 fn quoted_ipv4_is_read(rt: HostRuntime) {
     let header = ipv4_header(IpProtocol::Udp, 95);
-    assert_eq!(rt;
-        Ipv4Repr::parse_quoted(&HEADER),
-        Ok((header, 20)),
+    assert!(rt;
+        Ipv4Repr::parse_quoted(&HEADER) == Ok((header, 20)),
         "no payload is there"
     );
-    assert_eq!(rt;
-        Ipv4Repr::parse_quoted(&WITH_OPTION),
-        Ok((quoted(8), 24)),
+    assert!(rt;
+        Ipv4Repr::parse_quoted(&WITH_OPTION) == Ok((quoted(8), 24)),
         "a checksum of 0 isn't tested"
     );
     let mut bytes = WITH_OPTION;
     bytes[3] = 23;
-    assert_eq!(rt;
-        Ipv4Repr::parse_quoted(&bytes),
-        Ok((quoted(0), 24)),
+    assert!(rt;
+        Ipv4Repr::parse_quoted(&bytes) == Ok((quoted(0), 24)),
         "a total length below the header's"
     );
 }
 
 #[test]
 fn quoted_ipv4_is_refused(rt: HostRuntime) {
-    assert_eq!(rt;
-        Ipv4Repr::parse_quoted(&HEADER[..19]),
-        Err(Error),
+    assert!(rt;
+        Ipv4Repr::parse_quoted(&HEADER[..19]) == Err(Error),
         "no header"
     );
-    assert_eq!(rt;
-        Ipv4Repr::parse_quoted(&WITH_OPTION[..23]),
-        Err(Error),
+    assert!(rt;
+        Ipv4Repr::parse_quoted(&WITH_OPTION[..23]) == Err(Error),
         "options past the bytes"
     );
     assert!(rt; Ipv4Repr::parse_quoted(&WITH_OPTION[..24]).is_ok());
     let mut bytes = WITH_OPTION;
     bytes[0] = 0x66;
-    assert_eq!(rt; Ipv4Repr::parse_quoted(&bytes), Err(Error), "version 6");
+    assert!(rt; Ipv4Repr::parse_quoted(&bytes) == Err(Error), "version 6");
     bytes[0] = 0x44;
-    assert_eq!(rt;
-        Ipv4Repr::parse_quoted(&bytes),
-        Err(Error),
+    assert!(rt;
+        Ipv4Repr::parse_quoted(&bytes) == Err(Error),
         "a header under 20 bytes"
     );
 }

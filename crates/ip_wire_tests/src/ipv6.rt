@@ -42,7 +42,7 @@ fn named(bytes: &[u8]) -> Option<Named<'_>> {
 
 #[test]
 fn ipv6_is_read(rt: HostRuntime) {
-    assert_eq!(rt; numbers(&OVER_V6), Some(NUMBERS));
+    assert!(rt; numbers(&OVER_V6) == Some(NUMBERS));
     let named_so = (
         true,
         IpProtocol::Udp,
@@ -51,18 +51,18 @@ fn ipv6_is_read(rt: HostRuntime) {
         [1, 2, 3, 4].as_slice(),
         46,
     );
-    assert_eq!(rt; named(&OVER_V6), Some(named_so));
+    assert!(rt; named(&OVER_V6) == Some(named_so));
 }
 
 #[test]
 fn ipv6_is_parsed_and_written(rt: HostRuntime) {
     let packet = Ipv6Packet::new_unchecked(&OVER_V6);
     let header = Ipv6Repr::parse(&packet).expect(&rt, "valid");
-    assert_eq!(rt; (header.payload_len, header.buffer_len()), (4, 40));
+    assert!(rt; (header.payload_len, header.buffer_len()) == (4, 40));
     let mut bytes = OVER_V6;
     header.emit(&mut Ipv6PacketMut::new_unchecked(&mut bytes));
-    assert_eq!(rt; &bytes[..4], [0x60, 0, 0, 0].as_slice());
-    assert_eq!(rt; &bytes[4..], &OVER_V6[4..]);
+    assert!(rt; &bytes[..4] == [0x60, 0, 0, 0].as_slice());
+    assert!(rt; &bytes[4..] == &OVER_V6[4..]);
     ipv6_laws::ipv6_spelled();
     ipv6_laws::ipv6_no_longer();
     ipv6_laws::ipv6_fits();
@@ -128,16 +128,16 @@ fn ipv6_is_set(rt: HostRuntime) {
     packet.set_src_addr(LOCAL);
     packet.set_dst_addr(IPV6_LINK_LOCAL_ALL_NODES);
     assert!(rt; starts_with(&bytes, &OVER_V6[..40]));
-    assert_eq!(rt; numbers_in_place(&mut bytes), Some(NUMBERS));
+    assert!(rt; numbers_in_place(&mut bytes) == Some(NUMBERS));
     let named_so = (true, IpProtocol::Udp, LOCAL, IPV6_LINK_LOCAL_ALL_NODES, 4);
-    assert_eq!(rt; named_in_place(&mut bytes), Some(named_so));
+    assert!(rt; named_in_place(&mut bytes) == Some(named_so));
 }
 
 #[test]
 fn ipv6_payload_alone_is_lent(rt: HostRuntime) {
     let mut bytes = OVER_V6;
     let mut packet = Ipv6PacketMut::new_checked(&mut bytes).expect(&rt, "whole");
-    assert_eq!(rt; packet.header_len(), 40);
+    assert!(rt; packet.header_len() == 40);
     packet.payload_mut().fill(7);
     assert!(rt; starts_with(&bytes, &OVER_V6[..40]));
     assert!(rt; bytes.ends_with(&[7, 7, 7, 7, 0, 0]));
@@ -152,20 +152,18 @@ fn quoted_ipv6_is_read(rt: HostRuntime) {
         payload_len: 4,
         hop_limit: 64,
     };
-    assert_eq!(rt;
-        Ipv6Repr::parse_quoted(&OVER_V6[..40]),
-        Ok((want, 40)),
+    assert!(rt;
+        Ipv6Repr::parse_quoted(&OVER_V6[..40]) == Ok((want, 40)),
         "no payload is there"
     );
-    assert_eq!(rt; Ipv6Repr::parse_quoted(&OVER_V6), Ok((want, 40)));
-    assert_eq!(rt;
-        Ipv6Repr::parse_quoted(&OVER_V6[..39]),
-        Err(Error),
+    assert!(rt; Ipv6Repr::parse_quoted(&OVER_V6) == Ok((want, 40)));
+    assert!(rt;
+        Ipv6Repr::parse_quoted(&OVER_V6[..39]) == Err(Error),
         "no header"
     );
     let mut bytes = OVER_V6;
     bytes[0] = 0x4f;
-    assert_eq!(rt; Ipv6Repr::parse_quoted(&bytes), Err(Error), "version 4");
+    assert!(rt; Ipv6Repr::parse_quoted(&bytes) == Err(Error), "version 4");
     ipv6_laws::ipv6_quoted();
     ipv6_laws::ipv6_quoted_spelled();
     ipv6_laws::ipv6_quoted_fits();

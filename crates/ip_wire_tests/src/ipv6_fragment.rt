@@ -24,18 +24,18 @@ fn fields(bytes: &[u8]) -> Result<(bool, u16, bool, u32, usize), Error> {
 #[test]
 fn fragment_header_is_read(rt: HostRuntime) {
     let bytes = [0x01, 0x2d, 0x12, 0x34, 0x56, 0x78];
-    assert_eq!(rt; fields(&bytes), Ok((true, 0x25, true, 0x12345678, 6)));
-    assert_eq!(rt; fields(&bytes[..5]), Err(Error));
+    assert!(rt; fields(&bytes) == Ok((true, 0x25, true, 0x12345678, 6)));
+    assert!(rt; fields(&bytes[..5]) == Err(Error));
     let header = Ipv6FragmentHeader::new_unchecked(&bytes);
-    assert_eq!(rt; Ipv6FragmentRepr::parse(&header), Ok(PLACE));
+    assert!(rt; Ipv6FragmentRepr::parse(&header) == Ok(PLACE));
 }
 
 #[test]
 fn fragment_header_is_written(rt: HostRuntime) {
     let mut out = [0xa5; 7];
     PLACE.emit(&mut Ipv6FragmentHeaderMut::new_unchecked(&mut out));
-    assert_eq!(rt; out, [0x01, 0x29, 0x12, 0x34, 0x56, 0x78, 0xa5]);
-    assert_eq!(rt; PLACE.buffer_len(), 6);
+    assert!(rt; out == [0x01, 0x29, 0x12, 0x34, 0x56, 0x78, 0xa5]);
+    assert!(rt; PLACE.buffer_len() == 6);
     ipv6_fragment_laws::ipv6_fragment_spelled();
     ipv6_fragment_laws::ipv6_fragment_no_longer();
     ipv6_fragment_laws::ipv6_fragment_fits();
@@ -59,13 +59,13 @@ fn fragment_header_is_set(rt: HostRuntime) {
         header.more_frags(),
         header.ident(),
     );
-    assert_eq!(rt; set, (true, 0x1fff, false, 1));
-    assert_eq!(rt; &header.into_inner()[..2], [0xff, 0xf8].as_slice());
+    assert!(rt; set == (true, 0x1fff, false, 1));
+    assert!(rt; &header.into_inner()[..2] == [0xff, 0xf8].as_slice());
 }
 
 #[test]
 fn reserved_bits_are_cleared(rt: HostRuntime) {
     let mut out = [0xff; 6];
     Ipv6FragmentHeaderMut::new_unchecked(&mut out).clear_reserved();
-    assert_eq!(rt; out[1], 0xf9);
+    assert!(rt; out[1] == 0xf9);
 }

@@ -74,11 +74,11 @@ fn frame_is_read(rt: HostRuntime) {
         46,
         60,
     );
-    assert_eq!(rt; frame_parts(&FRAME), Some(parts));
+    assert!(rt; frame_parts(&FRAME) == Some(parts));
     let frame = EthernetFrame::new_unchecked(&FRAME);
-    assert_eq!(rt; EthernetRepr::parse(&frame), Ok(header()));
+    assert!(rt; EthernetRepr::parse(&frame) == Ok(header()));
     let short = EthernetFrame::new_unchecked(&FRAME[..13]);
-    assert_eq!(rt; EthernetRepr::parse(&short), Err(Error));
+    assert!(rt; EthernetRepr::parse(&short) == Err(Error));
 }
 
 #[test]
@@ -88,12 +88,12 @@ fn frames_have_lengths(rt: HostRuntime) {
         EthernetFrameMut::header_len(),
         header().buffer_len(),
     ];
-    assert_eq!(rt; headers, [14; 3]);
+    assert!(rt; headers == [14; 3]);
     let frames = [
         EthernetFrame::buffer_len(46),
         EthernetFrameMut::buffer_len(46),
     ];
-    assert_eq!(rt; frames, [60; 2]);
+    assert!(rt; frames == [60; 2]);
     ethernet_laws::ethernet_spelled();
     ethernet_laws::ethernet_no_longer();
     ethernet_laws::ethernet_fits();
@@ -109,8 +109,8 @@ fn frame_is_written(rt: HostRuntime) {
     let mut bytes = [0xa5; 20];
     let mut frame = EthernetFrameMut::new_unchecked(&mut bytes);
     header().emit(&mut frame);
-    assert_eq!(rt; frame.payload(), [0xa5; 6].as_slice());
-    assert_eq!(rt; &bytes[..14], &FRAME[..14]);
+    assert!(rt; frame.payload() == [0xa5; 6].as_slice());
+    assert!(rt; &bytes[..14] == &FRAME[..14]);
 }
 
 /// Whether the frame is whole, both addresses, and what it carries, where it is written.
@@ -133,14 +133,14 @@ fn frame_is_set(rt: HostRuntime) {
     frame.set_dst_addr(SENDER);
     frame.set_src_addr(EthernetAddress::BROADCAST);
     frame.set_ethertype(EthernetProtocol::Ipv6);
-    assert_eq!(rt; &frame.into_inner()[12..14], [0x86, 0xdd].as_slice());
+    assert!(rt; &frame.into_inner()[12..14] == [0x86, 0xdd].as_slice());
     let parts = (
         true,
         SENDER,
         EthernetAddress::BROADCAST,
         EthernetProtocol::Ipv6,
     );
-    assert_eq!(rt; frame_parts_in_place(&mut bytes), Some(parts));
+    assert!(rt; frame_parts_in_place(&mut bytes) == Some(parts));
 }
 
 #[test]
@@ -174,9 +174,9 @@ fn known_numbers_are_read_by_name(rt: HostRuntime) {
     reply.emit(&mut packet);
     assert!(rt; starts_with(&FRAME, &bytes));
     let frame = EthernetFrame::new_unchecked(&bytes);
-    assert_eq!(rt; EthernetRepr::parse(&frame), Ok(header()));
+    assert!(rt; EthernetRepr::parse(&frame) == Ok(header()));
     let packet = ArpPacket::new_unchecked(&bytes[14..]);
-    assert_eq!(rt; ArpRepr::parse(&packet), Ok(request()));
+    assert!(rt; ArpRepr::parse(&packet) == Ok(request()));
 }
 
 /// Kinds, lengths and operation of a packet, and whether it is whole.
@@ -219,7 +219,7 @@ fn arp_addresses(bytes: &[u8]) -> Option<ArpAddresses<'_>> {
 #[test]
 fn request_is_read(rt: HostRuntime) {
     let bytes = &FRAME[14..];
-    assert_eq!(rt; arp_numbers(bytes), Some(NUMBERS));
+    assert!(rt; arp_numbers(bytes) == Some(NUMBERS));
     let (here, there) = ([192, 168, 1, 1], [192, 168, 1, 2]);
     let addresses = (
         SENDER.as_bytes(),
@@ -227,15 +227,15 @@ fn request_is_read(rt: HostRuntime) {
         [0; 6].as_slice(),
         there.as_slice(),
     );
-    assert_eq!(rt; arp_addresses(bytes), Some(addresses));
+    assert!(rt; arp_addresses(bytes) == Some(addresses));
     let packet = ArpPacket::new_unchecked(bytes);
-    assert_eq!(rt; ArpRepr::parse(&packet), Ok(request()));
-    assert_eq!(rt; packet.into_inner().len(), 46);
+    assert!(rt; ArpRepr::parse(&packet) == Ok(request()));
+    assert!(rt; packet.into_inner().len() == 46);
 }
 
 #[test]
 fn request_has_its_length(rt: HostRuntime) {
-    assert_eq!(rt; request().buffer_len(), 28);
+    assert!(rt; request().buffer_len() == 28);
     arp_laws::arp_spelled();
     arp_laws::arp_no_longer();
     arp_laws::arp_fits();
@@ -272,7 +272,7 @@ fn request_is_written(rt: HostRuntime) {
     let mut bytes = [0xa5; 30];
     request().emit(&mut ArpPacketMut::new_unchecked(&mut bytes));
     assert!(rt; starts_with(&bytes, &FRAME[14..42]));
-    assert_eq!(rt; bytes.last().copied(), Some(0xa5));
+    assert!(rt; bytes.last().copied() == Some(0xa5));
 }
 
 #[test]
@@ -286,9 +286,9 @@ fn packet_is_set(rt: HostRuntime) {
     packet.set_operation(ArpOperation::Request);
     let mut packet = ArpPacketMut::new_checked(packet.into_inner()).expect(&rt, "whole");
     assert!(rt; packet.check_len().is_ok());
-    assert_eq!(rt; packet.hardware_type(), ArpHardware::Ethernet);
-    assert_eq!(rt; packet.protocol_type(), EthernetProtocol::Ipv4);
-    assert_eq!(rt; packet.operation(), ArpOperation::Request);
+    assert!(rt; packet.hardware_type() == ArpHardware::Ethernet);
+    assert!(rt; packet.protocol_type() == EthernetProtocol::Ipv4);
+    assert!(rt; packet.operation() == ArpOperation::Request);
     if packet.hardware_len() == 6 && packet.protocol_len() == 4 {
         packet.set_source_hardware_addr(SENDER.as_bytes());
     }
@@ -302,10 +302,10 @@ fn packet_is_set(rt: HostRuntime) {
         packet.set_target_protocol_addr(&[192, 168, 1, 2]);
     }
     if packet.check_len().is_ok() {
-        assert_eq!(rt; packet.source_hardware_addr(), SENDER.as_bytes());
-        assert_eq!(rt; packet.source_protocol_addr(), [192, 168, 1, 1].as_slice());
-        assert_eq!(rt; packet.target_hardware_addr(), [0; 6].as_slice());
-        assert_eq!(rt; packet.target_protocol_addr(), [192, 168, 1, 2].as_slice());
+        assert!(rt; packet.source_hardware_addr() == SENDER.as_bytes());
+        assert!(rt; packet.source_protocol_addr() == [192, 168, 1, 1].as_slice());
+        assert!(rt; packet.target_hardware_addr() == [0; 6].as_slice());
+        assert!(rt; packet.target_protocol_addr() == [192, 168, 1, 2].as_slice());
     }
     assert!(rt; starts_with(packet.into_inner(), &FRAME[14..42]));
 }

@@ -64,14 +64,11 @@ fn reads_and_writes_a_syn(rt: HostRuntime) {
     let caps = ChecksumCapabilities::default();
     let packet = TcpPacket::new_unchecked(&SYN_BYTES);
     let header = syn_header();
-    assert_eq!(rt;
-        TcpHeader::parse(&packet, &source, &destination, &caps),
-        Ok(header)
-    );
+    assert!(rt; TcpHeader::parse(&packet, &source, &destination, &caps) == Ok(header));
     let mut buffer = [0xa5; 24];
     let mut frame = TcpPacketMut::new_unchecked(&mut buffer);
     header.emit(&mut frame, &source, &destination, &PAYLOAD, &caps);
-    assert_eq!(rt; buffer, SYN_BYTES);
+    assert!(rt; buffer == SYN_BYTES);
 }
 
 #[test]
@@ -84,17 +81,14 @@ fn reads_a_segment(rt: HostRuntime) -> Result<(), Error> {
         &destination,
         &caps,
     )?;
-    assert_eq!(rt;
-        (read.header(), read.payload),
-        (syn_header(), PAYLOAD.as_slice())
-    );
+    assert!(rt; (read.header(), read.payload) == (syn_header(), PAYLOAD.as_slice()));
     let lengths = (
         read.segment_len(),
         read.is_empty(),
         read.header_len(),
         read.buffer_len(),
     );
-    assert_eq!(rt; lengths, (5, false, 20, 24));
+    assert!(rt; lengths == (5, false, 20, 24));
     Ok(())
 }
 
@@ -110,7 +104,7 @@ fn writes_a_segment(rt: HostRuntime) {
         &destination,
         &ChecksumCapabilities::default(),
     );
-    assert_eq!(rt; buffer, SYN_BYTES);
+    assert!(rt; buffer == SYN_BYTES);
 }
 
 #[test]
@@ -118,7 +112,7 @@ fn reads_fields(rt: HostRuntime) -> Result<(), Error> {
     let source = IpAddress::v4(145, 254, 160, 237);
     let destination = IpAddress::v4(65, 208, 228, 223);
     let packet = TcpPacket::new_checked(&CALL)?;
-    assert_eq!(rt; packet.options(), &CALL[20..]);
+    assert!(rt; packet.options() == &CALL[20..]);
     assert!(rt; packet.verify_checksum(&source, &destination));
     let wanted = TcpHeader {
         src_port: 3372,
@@ -135,7 +129,7 @@ fn reads_fields(rt: HostRuntime) -> Result<(), Error> {
     };
     let caps = ChecksumCapabilities::default();
     let header = TcpHeader::parse(&packet, &source, &destination, &caps)?;
-    assert_eq!(rt; (header, header.header_len()), (wanted, 28));
+    assert!(rt; (header, header.header_len()) == (wanted, 28));
     Ok(())
 }
 
@@ -170,13 +164,13 @@ fn flags(bytes: &[u8]) -> Result<[bool; 9], Error> {
 #[test]
 fn reads_every_field(rt: HostRuntime) {
     let first = (48896, 80, SeqNumber(0x01234567), SeqNumber(0), 20);
-    assert_eq!(rt; first_fields(&SYN_BYTES), Ok(first));
+    assert!(rt; first_fields(&SYN_BYTES) == Ok(first));
     let only_syn = [false, true, false, false, false, false, false, false, false];
-    assert_eq!(rt; flags(&SYN_BYTES), Ok(only_syn));
+    assert!(rt; flags(&SYN_BYTES) == Ok(only_syn));
     let packet = TcpPacket::new_unchecked(&SYN_BYTES);
     let last = (packet.window_len(), packet.checksum(), packet.urgent_at());
-    assert_eq!(rt; last, (0x0123, 0x7a8d, 0));
-    assert_eq!(rt; packet.into_inner(), SYN_BYTES.as_slice());
+    assert!(rt; last == (0x0123, 0x7a8d, 0));
+    assert!(rt; packet.into_inner() == SYN_BYTES.as_slice());
 }
 
 // A SYN that is acknowledged, with every option that a SYN may have. These bytes and those below
@@ -225,14 +219,14 @@ fn reads_and_writes_an_answer(rt: HostRuntime) -> Result<(), Error> {
     let (source, destination) = addresses();
     let caps = ChecksumCapabilities::default();
     let packet = TcpPacket::new_checked(&ANSWER)?;
-    assert_eq!(rt; packet.selective_ack_permitted(), Ok(true));
-    assert_eq!(rt; packet.selective_ack_ranges(), Ok([None; 3]));
-    assert_eq!(rt; packet.payload(), [].as_slice());
-    assert_eq!(rt; read(&ANSWER, &caps), Ok(answer_header()));
+    assert!(rt; packet.selective_ack_permitted() == Ok(true));
+    assert!(rt; packet.selective_ack_ranges() == Ok([None; 3]));
+    assert!(rt; packet.payload() == [].as_slice());
+    assert!(rt; read(&ANSWER, &caps) == Ok(answer_header()));
     let mut buffer = [0xa5; 40];
     let mut frame = TcpPacketMut::new_unchecked(&mut buffer);
     answer_header().emit(&mut frame, &source, &destination, &[], &caps);
-    assert_eq!(rt; buffer, ANSWER);
+    assert!(rt; buffer == ANSWER);
     Ok(())
 }
 
@@ -272,18 +266,15 @@ fn reads_and_writes_ranges(rt: HostRuntime) -> Result<(), Error> {
     let caps = ChecksumCapabilities::default();
     let packet = TcpPacket::new_checked(&RANGES)?;
     let wanted = ranges_header();
-    assert_eq!(rt; packet.selective_ack_permitted(), Ok(false));
-    assert_eq!(rt;
-        packet.selective_ack_ranges(),
-        Ok(wanted.options.sack_ranges)
-    );
-    assert_eq!(rt; packet.segment_len(), 3);
+    assert!(rt; packet.selective_ack_permitted() == Ok(false));
+    assert!(rt; packet.selective_ack_ranges() == Ok(wanted.options.sack_ranges));
+    assert!(rt; packet.segment_len() == 3);
     let segment = TcpRepr::parse(&packet, &source, &destination, &caps)?;
-    assert_eq!(rt; segment, TcpRepr::new(&wanted, b"ab\xff"));
+    assert!(rt; segment == TcpRepr::new(&wanted, b"ab\xff"));
     let mut buffer = [0xa5; 59];
     let mut frame = TcpPacketMut::new_unchecked(&mut buffer);
     wanted.emit(&mut frame, &source, &destination, segment.payload, &caps);
-    assert_eq!(rt; buffer, RANGES);
+    assert!(rt; buffer == RANGES);
     Ok(())
 }
 
@@ -297,13 +288,10 @@ const ODD: [u8; 32] = [
 #[test]
 fn reads_what_is_not_sent(rt: HostRuntime) -> Result<(), Error> {
     let header = read(&ODD, &ChecksumCapabilities::default())?;
-    assert_eq!(rt; header.control, TcpControl::Fin);
-    assert_eq!(rt; header.ack_number, None);
-    assert_eq!(rt;
-        header.options.sack_ranges,
-        [Some((6000, 6500)), None, None]
-    );
-    assert_eq!(rt; header.header_len(), 32);
+    assert!(rt; header.control == TcpControl::Fin);
+    assert!(rt; header.ack_number == None);
+    assert!(rt; header.options.sack_ranges == [Some((6000, 6500)), None, None]);
+    assert!(rt; header.header_len() == 32);
     tcp_laws::tcp_spelled();
     tcp_laws::tcp_no_longer();
     tcp_laws::tcp_written_again();
@@ -349,7 +337,7 @@ fn leaves_out_ranges_without_acknowledgement(rt: HostRuntime) {
         0x05, 0x00, 0x00, 0x00, 0x00, 0x00, 0x00, 0x00, 0x00, 0x00, 0x00, 0x00, 0x00, 0x00, 0x00,
         0x00, 0x00,
     ];
-    assert_eq!(rt; buffer, wanted);
+    assert!(rt; buffer == wanted);
     tcp_laws::tcp_reads_back();
     tcp_laws::tcp_told_apart();
 }
@@ -367,9 +355,8 @@ fn changed(at: usize, byte: u8) -> [u8; 24]
 #[test]
 fn refuses_what_is_no_segment(rt: HostRuntime) {
     let unverified = ChecksumCapabilities::ignored();
-    assert_eq!(rt;
-        read(&SYN_BYTES[..19], &unverified),
-        Err(Error),
+    assert!(rt;
+        read(&SYN_BYTES[..19], &unverified) == Err(Error),
         "no header"
     );
     assert!(rt; TcpPacket::new_checked(&SYN_BYTES[..19]).is_err());
@@ -381,17 +368,22 @@ fn refuses_what_is_no_segment(rt: HostRuntime) {
         (13, 0x05, "RST and FIN"),
         (13, 0x07, "SYN, RST and FIN"),
     ] {
-        assert_eq!(rt; read(&changed(at, byte), &unverified), Err(Error), "{why}");
+        assert!(rt;
+            read(&changed(at, byte), &unverified) == Err(Error),
+            "{why}"
+        );
     }
     let mut bytes = SYN_BYTES;
     bytes[0] = 0;
-    assert_eq!(rt; read(&bytes, &unverified), Err(Error), "from port 0");
-    assert_eq!(rt; read(&changed(3, 0), &unverified), Err(Error), "to port 0");
+    assert!(rt; read(&bytes, &unverified) == Err(Error), "from port 0");
+    assert!(rt;
+        read(&changed(3, 0), &unverified) == Err(Error),
+        "to port 0"
+    );
     let damaged = changed(23, 0xfe);
     assert!(rt; read(&damaged, &unverified).is_ok());
-    assert_eq!(rt;
-        read(&damaged, &ChecksumCapabilities::default()),
-        Err(Error),
+    assert!(rt;
+        read(&damaged, &ChecksumCapabilities::default()) == Err(Error),
         "a wrong checksum"
     );
     tcp_laws::tcp_damaged();
@@ -422,10 +414,7 @@ fn refuses_malformed_headers(rt: HostRuntime) {
         ([0xfe, 0x04, 0x05, 0xb4], Ok(None)),
     ] {
         let bytes = with_options(&options);
-        assert_eq!(rt;
-            read(&bytes, &unverified).map(|header| header.options.max_seg_size),
-            read_as
-        );
+        assert!(rt; read(&bytes, &unverified).map(|header| header.options.max_seg_size) == read_as);
     }
 }
 
@@ -438,13 +427,13 @@ fn counts_flags(rt: HostRuntime) {
         (TcpControl::Fin, 1),
         (TcpControl::Rst, 0),
     ] {
-        assert_eq!(rt; control.len(), len);
+        assert!(rt; control.len() == len);
         let quashed = if control == TcpControl::Psh {
             TcpControl::None
         } else {
             control
         };
-        assert_eq!(rt; control.quash_psh(), quashed);
+        assert!(rt; control.quash_psh() == quashed);
     }
 }
 
@@ -462,10 +451,10 @@ fn counts_sequence_numbers(rt: HostRuntime) {
             ..syn_header()
         };
         let bare = TcpRepr::new(&header, &[]);
-        assert_eq!(rt; bare.segment_len(), len);
-        assert_eq!(rt; bare.is_empty(), empty);
+        assert!(rt; bare.segment_len() == len);
+        assert!(rt; bare.is_empty() == empty);
         let full = TcpRepr::new(&header, &PAYLOAD);
-        assert_eq!(rt; full.segment_len(), len + 4);
+        assert!(rt; full.segment_len() == len + 4);
         assert!(rt; !full.is_empty());
     }
 }

@@ -31,19 +31,19 @@ fn reads_what_it_can_write(rt: HostRuntime) {
         0x32b0,
         0,
     );
-    assert_eq!(rt; fields(&mut buffer), Ok(wanted));
+    assert!(rt; fields(&mut buffer) == Ok(wanted));
 }
 
 #[test]
 fn reads_behind_the_header(rt: HostRuntime) -> Result<(), Error> {
     let mut buffer = RANGES;
     let packet = TcpPacketMut::new_checked(&mut buffer)?;
-    assert_eq!(rt; (packet.check_len(), packet.segment_len()), (Ok(()), 3));
-    assert_eq!(rt; packet.selective_ack_permitted(), Ok(false));
+    assert!(rt; (packet.check_len(), packet.segment_len()) == (Ok(()), 3));
+    assert!(rt; packet.selective_ack_permitted() == Ok(false));
     let ranges = [Some((8000, 8500)), Some((7000, 7500)), Some((6000, 6500))];
-    assert_eq!(rt; packet.selective_ack_ranges(), Ok(ranges));
-    assert_eq!(rt; packet.options(), &RANGES[20..56]);
-    assert_eq!(rt; packet.payload(), b"ab\xff".as_slice());
+    assert!(rt; packet.selective_ack_ranges() == Ok(ranges));
+    assert!(rt; packet.options() == &RANGES[20..56]);
+    assert!(rt; packet.payload() == b"ab\xff".as_slice());
     Ok(())
 }
 
@@ -52,9 +52,9 @@ fn writes_through_the_options(rt: HostRuntime) -> Result<(), Error> {
     let mut buffer = RANGES;
     let mut packet = TcpPacketMut::new_checked(&mut buffer)?;
     packet.options_mut().fill(1);
-    assert_eq!(rt; &buffer[..20], &RANGES[..20]);
-    assert_eq!(rt; &buffer[20..56], [1; 36].as_slice());
-    assert_eq!(rt; &buffer[56..], &RANGES[56..]);
+    assert!(rt; &buffer[..20] == &RANGES[..20]);
+    assert!(rt; &buffer[20..56] == [1; 36].as_slice());
+    assert!(rt; &buffer[56..] == &RANGES[56..]);
     Ok(())
 }
 
@@ -67,7 +67,7 @@ fn writes_through_the_payload(rt: HostRuntime) -> Result<(), Error> {
     wanted[56] = 2;
     wanted[57] = 2;
     wanted[58] = 2;
-    assert_eq!(rt; buffer, wanted);
+    assert!(rt; buffer == wanted);
     Ok(())
 }
 
@@ -105,7 +105,7 @@ fn writes_every_field(rt: HostRuntime) {
         0xff, 0x12, 0x34, 0x00, 0x09, 0xaa, 0x00, 0x00, 0xff,
     ];
     let written: &[u8] = packet.into_inner();
-    assert_eq!(rt; written, wanted.as_slice());
+    assert!(rt; written == wanted.as_slice());
 }
 
 // RFC 9293, section 3.1, and RFC 3540, section 9: the bits of bytes 12 and 13.
@@ -122,9 +122,9 @@ fn sets_each_flag(rt: HostRuntime) {
     packet.set_psh(true);
     let psh = packet.psh();
     packet.set_ack(true);
-    assert_eq!(rt; [fin, syn, rst, psh, packet.ack()], [true; 5]);
+    assert!(rt; [fin, syn, rst, psh, packet.ack()] == [true; 5]);
     let written: &[u8] = packet.into_inner();
-    assert_eq!(rt; written[13], 0x1f);
+    assert!(rt; written[13] == 0x1f);
 }
 
 #[test]
@@ -139,10 +139,10 @@ fn sets_the_other_flags(rt: HostRuntime) {
     packet.set_cwr(true);
     let cwr = packet.cwr();
     packet.set_ns(true);
-    assert_eq!(rt; [urg, ece, cwr, packet.ns()], [true; 4]);
+    assert!(rt; [urg, ece, cwr, packet.ns()] == [true; 4]);
     packet.set_syn(false);
     packet.set_urg(false);
     packet.set_header_len(63);
-    assert_eq!(rt; packet.header_len(), 60);
-    assert_eq!(rt; &packet.into_inner()[12..14], [0xf1, 0xdd].as_slice());
+    assert!(rt; packet.header_len() == 60);
+    assert!(rt; &packet.into_inner()[12..14] == [0xf1, 0xdd].as_slice());
 }

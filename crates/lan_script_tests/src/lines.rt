@@ -8,7 +8,7 @@ use std::test::Fail;
 fn assert_line(rt: &(impl Abort + AllocGlobal), text: &str, printed: &str) -> Result<(), Fail> {
     let alloc = rt.alloc();
     let line = Line::read(text.as_bytes()).ok_or("a line")?;
-    assert_eq!(rt; line.to_text(alloc)?, String::from_str(alloc, printed)?);
+    assert!(rt; line.to_text(alloc)? == String::from_str(alloc, printed)?);
     Ok(())
 }
 
@@ -118,11 +118,11 @@ fn words_say_their_values(rt: HostRuntime) -> Result<(), Fail> {
     let alloc = rt.alloc();
     match Line::read(b"damage A 3 20 6163 5A00") {
         Some(Line::Damage(side, frame, place, word, padding)) => {
-            assert_eq!(rt; side, Side::A);
-            assert_eq!(rt; frame, 3);
-            assert_eq!(rt; place, 20);
-            assert_eq!(rt; word, 0x6163);
-            assert_eq!(rt; padding.decode(alloc)?.as_slice(), [0x5a, 0].as_slice());
+            assert!(rt; side == Side::A);
+            assert!(rt; frame == 3);
+            assert!(rt; place == 20);
+            assert!(rt; word == 0x6163);
+            assert!(rt; padding.decode(alloc)?.as_slice() == [0x5a, 0].as_slice());
         }
         _ => return Err(Fail::from("a damaged frame")),
     }

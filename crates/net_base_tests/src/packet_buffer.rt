@@ -13,18 +13,14 @@ fn begins_with_no_packet(rt: HostRuntime) -> Result<(), Fail> {
         ManagedSlice::Fixed(entries),
         ManagedSlice::Fixed(bytes),
     );
-    assert_eq!(rt;
-        (packets.packet_capacity(), packets.payload_capacity()),
-        (2, 16)
-    );
+    assert!(rt; (packets.packet_capacity(), packets.payload_capacity()) == (2, 16));
     packets.reset();
-    assert_eq!(rt;
+    assert!(rt;
         (
             packets.is_empty(),
             packets.is_full(),
             packets.payload_bytes_count()
-        ),
-        (true, false, 0)
+        ) == (true, false, 0)
     );
     Ok(())
 }
@@ -128,12 +124,9 @@ fn pads_at_the_end(rt: HostRuntime) -> Result<(), Fail> {
         Step::Gives(5, b"abcdefghijklmno"),
         Step::Puts(6, b"0123456789abcdef"),
     ];
-    assert_eq!(rt; first_wrong(&mut queue, &steps), None);
+    assert!(rt; first_wrong(&mut queue, &steps) == None);
     queue.reset();
-    assert_eq!(rt;
-        first_wrong(&mut queue, &[Step::IsEmpty, Step::Counts(0)]),
-        None
-    );
+    assert!(rt; first_wrong(&mut queue, &[Step::IsEmpty, Step::Counts(0)]) == None);
     Ok(())
 }
 
@@ -154,7 +147,7 @@ fn refuses_what_has_no_room(rt: HostRuntime) -> Result<(), Fail> {
         Step::Gives(2, b"12345678"),
         Step::Gives(3, b"ab"),
     ];
-    assert_eq!(rt; first_wrong(&mut queue, &steps), None);
+    assert!(rt; first_wrong(&mut queue, &steps) == None);
     Ok(())
 }
 
@@ -174,7 +167,7 @@ fn refuses_what_the_padding_leaves_no_room_for(rt: HostRuntime) -> Result<(), Fa
         Step::Gives(3, b"abcd"),
         Step::Gives(4, b"efgh"),
     ];
-    assert_eq!(rt; first_wrong(&mut queue, &steps), None);
+    assert!(rt; first_wrong(&mut queue, &steps) == None);
     Ok(())
 }
 
@@ -196,11 +189,8 @@ fn keeps_the_queue_where_it_refuses(rt: HostRuntime) -> Result<(), Fail> {
         Step::Puts(4, b"0123456789abcdef"),
         Step::Gives(4, b"0123456789abcdef"),
     ];
-    assert_eq!(rt; first_wrong(&mut queue, &steps), None);
-    assert_eq!(rt;
-        (queue.packet_capacity(), queue.payload_capacity()),
-        (2, 16)
-    );
+    assert!(rt; first_wrong(&mut queue, &steps) == None);
+    assert!(rt; (queue.packet_capacity(), queue.payload_capacity()) == (2, 16));
     Ok(())
 }
 
@@ -228,11 +218,11 @@ fn queues_what_closures_write(rt: HostRuntime) -> Result<(), Fail> {
         bytes.copy_from_slice(b"wxyz");
         3
     });
-    assert_eq!(rt; size, Ok(3));
+    assert!(rt; size == Ok(3));
     let size = queue.enqueue_with_infallible(4, 4, |_bytes: &mut [u8]| 0);
-    assert_eq!(rt; size, Err(Full));
+    assert!(rt; size == Err(Full));
     let steps = [Step::Counts(3), Step::Gives(3, b"wxy"), Step::IsEmpty];
-    assert_eq!(rt; first_wrong(&mut queue, &steps), None);
+    assert!(rt; first_wrong(&mut queue, &steps) == None);
     Ok(())
 }
 
@@ -248,9 +238,9 @@ fn keeps_what_a_closure_refused(rt: HostRuntime) -> Result<(), Fail> {
             Err(9)
         },
     );
-    assert_eq!(rt; kept, Ok(Err(9)));
+    assert!(rt; kept == Ok(Err(9)));
     let steps = [Step::Counts(3), Step::Shows(7, b"Wxy")];
-    assert_eq!(rt; first_wrong(&mut queue, &steps), None);
+    assert!(rt; first_wrong(&mut queue, &steps) == None);
     Ok(())
 }
 
@@ -260,12 +250,12 @@ fn gives_up_what_a_closure_took(rt: HostRuntime) -> Result<(), Fail> {
     let taken: Result<Result<(u16, usize), ()>, Empty> = queue.dequeue_with(
         |header: &mut u16, bytes: &mut [u8]| Ok((*header, bytes.len())),
     );
-    assert_eq!(rt; taken, Ok(Ok((3, 3))));
+    assert!(rt; taken == Ok(Ok((3, 3))));
     assert!(rt; queue.is_empty());
     let none: Result<Result<(), ()>, Empty> = queue.dequeue_with(
         |_header: &mut u16, _bytes: &mut [u8]| Ok(()),
     );
-    assert_eq!(rt; none, Err(Empty));
+    assert!(rt; none == Err(Empty));
     Ok(())
 }
 

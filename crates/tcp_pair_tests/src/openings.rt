@@ -60,13 +60,13 @@ const CROSSED: [Line; 24] = [
 #[test]
 fn a_listener_that_fell_back_takes_an_old_syn(rt: HostRuntime) -> Result<(), Fail> {
     let wrong = first_wrong(&rt, &FELL_BACK, &[])?;
-    assert_eq!(rt; wrong, None);
+    assert!(rt; wrong == None);
     Ok(())
 }
 
 #[test]
 fn both_call(rt: HostRuntime) -> Result<(), Fail> {
     let wrong = first_wrong(&rt, &CROSSED, &[])?;
-    assert_eq!(rt; wrong, None);
+    assert!(rt; wrong == None);
     Ok(())
 }

@@ -101,7 +101,7 @@ const REFUSALS: [Line; 17] = [
 #[test]
 fn bytes_are_read_once_and_to_the_end(rt: HostRuntime) -> Result<(), Fail> {
     let wrong = first_wrong(&rt, &OPENED, &CLOSED)?;
-    assert_eq!(rt; wrong, None);
+    assert!(rt; wrong == None);
     Ok(())
 }
 
@@ -122,6 +122,6 @@ fn a_run_stops_at_the_first_refusal(rt: HostRuntime) -> Result<(), Fail> {
 #[test]
 fn refusals_come_where_they_are_due(rt: HostRuntime) -> Result<(), Fail> {
     let wrong = first_wrong(&rt, &REFUSALS, &[])?;
-    assert_eq!(rt; wrong, None);
+    assert!(rt; wrong == None);
     Ok(())
 }
