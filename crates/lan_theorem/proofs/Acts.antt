@@ -22,14 +22,14 @@ use Rattle.lan_stations.specs.Does.{Does, PlaceDoes, ItemDoes, DidAt, draws, doe
 use Rattle.lan_stations.specs.Sets.{with_room, asked}
 use Rattle.lan_stations.specs.Station.{StationValue, Stations, station, at_port}
 use Rattle.tcp_model.specs.State as States
-use Rattle.lan_moves.specs.Made.{Grows, MadeBy}
-use Rattle.lan_link.specs.Frames.{medium_on}
-use Rattle.lan_link.specs.Numbers.{count_v4}
-use Rattle.lan_link.specs.Sides.{IsSound, IsSender, IsReceiver}
-use Rattle.lan_link.specs.Sides as Links
-use Rattle.lan_link.proofs.Grown.{receiver_grows}
-use Rattle.lan_link.proofs.Stations.{sender_settled}
-use Rattle.lan_link.proofs.Taken.{receiver_same}
+use Rattle.lan_theorem.specs.Moves.Made.{Grows, MadeBy}
+use Rattle.lan_theorem.specs.Link.Frames.{medium_on}
+use Rattle.lan_theorem.specs.Link.Numbers.{count_v4}
+use Rattle.lan_theorem.specs.Link.Sides.{IsSound, IsSender, IsReceiver}
+use Rattle.lan_theorem.specs.Link.Sides as Links
+use Rattle.lan_theorem.proofs.Link.Grown.{receiver_grows}
+use Rattle.lan_theorem.proofs.Link.Stations.{sender_settled}
+use Rattle.lan_theorem.proofs.Link.Taken.{receiver_same}
 use Rattle.lan_theorem.specs.Joins.{Sends, Receives, AreJoined}
 use Rattle.lan_theorem.specs.Linked.{IsLinked}
 use Rattle.lan_theorem.proofs.Keeps.{sender_grows, more_made, moment_sound}

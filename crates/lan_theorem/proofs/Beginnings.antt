@@ -21,11 +21,11 @@ use Rattle.lan_packets.specs.Parties.{Party, party}
 use Rattle.lan_stations.specs.Fresh.{IsHardware, IsFreshStart, IsFreshWorld}
 use Rattle.lan_stations.specs.Runs.{Start, Starts, start, unused, unused_both}
 use Rattle.lan_stations.specs.Station.{station}
-use Rattle.lan_moves.specs.Joined.{first_net}
-use Rattle.lan_moves.specs.Made.{MadeBy}
-use Rattle.lan_link.specs.Frames.{medium_on}
-use Rattle.lan_link.specs.Held.{IsSlotOf, AreSlotsOf}
-use Rattle.lan_link.specs.Sides.{HasSixBytes, IsStation, IsSound, IsLeft, AreSent}
+use Rattle.lan_theorem.specs.Moves.Joined.{first_net}
+use Rattle.lan_theorem.specs.Moves.Made.{MadeBy}
+use Rattle.lan_theorem.specs.Link.Frames.{medium_on}
+use Rattle.lan_theorem.specs.Link.Held.{IsSlotOf, AreSlotsOf}
+use Rattle.lan_theorem.specs.Link.Sides.{HasSixBytes, IsStation, IsSound, IsLeft, AreSent}
 use Rattle.lan_theorem.specs.Joins.{Sends, Receives, AreJoined}
 
 -- A HOST

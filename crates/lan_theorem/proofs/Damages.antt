@@ -20,13 +20,13 @@ use Rattle.lan_stations.specs.Origins.{medium_of, frame_sent, damaged_in, frame_
 use Rattle.lan_stations.specs.Refusals.{is_no_frame, segment_tests, link_tests, refusal}
 use Rattle.lan_stations.specs.Runs.{WorldRun, tables_in}
 use Rattle.lan_stations.specs.Station.{Stations, station}
-use Rattle.lan_hosts.specs.Damage.{IsHarmlessFrom, IsHarmlessBy, DamageIsHarmless, IsNoSegment, BringsNoSegment}
-use Rattle.lan_hosts.proofs.Harmless.{harmless, damage_kept}
-use Rattle.lan_moves.specs.Made.{MadeBy}
-use Rattle.lan_link.specs.Made.{sealed}
-use Rattle.lan_link.specs.Frames.{medium_on}
-use Rattle.lan_link.specs.Sides.{IsHostFrame}
-use Rattle.lan_link.proofs.DamagedFrames.{IsBad, BringsBad, damaged_bad}
+use Rattle.lan_theorem.specs.Hosts.Damage.{IsHarmlessFrom, IsHarmlessBy, DamageIsHarmless, IsNoSegment, BringsNoSegment}
+use Rattle.lan_theorem.proofs.Hosts.Harmless.{harmless, damage_kept}
+use Rattle.lan_theorem.specs.Moves.Made.{MadeBy}
+use Rattle.lan_theorem.specs.Link.Made.{sealed}
+use Rattle.lan_theorem.specs.Link.Frames.{medium_on}
+use Rattle.lan_theorem.specs.Link.Sides.{IsHostFrame}
+use Rattle.lan_theorem.proofs.Link.DamagedFrames.{IsBad, BringsBad, damaged_bad}
 use Rattle.lan_theorem.specs.Events.{HasWord, IsTyped, AreTyped}
 use Rattle.lan_theorem.specs.Joins.{AreJoined}
 use Rattle.lan_theorem.proofs.LinkActs.{passed, sent_frame, damage_of}

@@ -33,19 +33,19 @@ use Rattle.interface.specs.State.{State, state, at_device}
 use Rattle.lan_port.specs.Port.{PortValue, PortMove}
 use Rattle.lan_packets.specs.Parties.{Party}
 use Rattle.tcp.specs.Host.{made_of}
-use Rattle.lan_moves.specs.Made as Moves
-use Rattle.lan_moves.specs.Made.{Grows, MadeBy, IsMade, IsWide, FitsBehind, datagram_of}
-use Rattle.lan_link.specs.Made as Links
-use Rattle.lan_link.specs.Made.{sealed, IsGoing}
-use Rattle.lan_link.specs.Frames.{medium_on}
-use Rattle.lan_link.specs.Numbers.{IsTied}
-use Rattle.lan_link.proofs.Begun.{tied_trans, tied_on}
-use Rattle.lan_link.specs.Sides.{IsSender, IsReceiver, IsSound, HasSixBytes, IsStation, WentOut}
-use Rattle.lan_link.proofs.Grown.{sent_grows}
-use Rattle.lan_link.proofs.Sends.{goes_keeps, unsent_keeps, piece_keeps, tells_keeps}
-use Rattle.lan_link.proofs.Stations.{arrival_keeps_sender, sender_settled}
-use Rattle.lan_link.proofs.Taken.{taken_was_made, taken_keeps, skipped_keeps, expired_receiver, receiver_same}
-use Rattle.lan_moves.specs.Link.{IsLink}
+use Rattle.lan_theorem.specs.Moves.Made as Moves
+use Rattle.lan_theorem.specs.Moves.Made.{Grows, MadeBy, IsMade, IsWide, FitsBehind, datagram_of}
+use Rattle.lan_theorem.specs.Link.Made as Links
+use Rattle.lan_theorem.specs.Link.Made.{sealed, IsGoing}
+use Rattle.lan_theorem.specs.Link.Frames.{medium_on}
+use Rattle.lan_theorem.specs.Link.Numbers.{IsTied}
+use Rattle.lan_theorem.proofs.Link.Begun.{tied_trans, tied_on}
+use Rattle.lan_theorem.specs.Link.Sides.{IsSender, IsReceiver, IsSound, HasSixBytes, IsStation, WentOut}
+use Rattle.lan_theorem.proofs.Link.Grown.{sent_grows}
+use Rattle.lan_theorem.proofs.Link.Sends.{goes_keeps, unsent_keeps, piece_keeps, tells_keeps}
+use Rattle.lan_theorem.proofs.Link.Stations.{arrival_keeps_sender, sender_settled}
+use Rattle.lan_theorem.proofs.Link.Taken.{taken_was_made, taken_keeps, skipped_keeps, expired_receiver, receiver_same}
+use Rattle.lan_theorem.specs.Moves.Link.{IsLink}
 use Rattle.lan_theorem.specs.Linked.{IsOther, IsLinked}
 use Rattle.lan_theorem.proofs.Told.{told_between}
 

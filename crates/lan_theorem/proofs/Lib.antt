@@ -1,3 +1,6 @@
+pub mod Hosts
+pub mod Moves
+pub mod Link
 pub mod Acts
 pub mod LinkActs
 pub mod Told

@@ -21,13 +21,13 @@ use Rattle.lan_port.specs.Port.{added, arrived}
 use Rattle.lan_stations.specs.Origins.{medium_of, frame_sent, damaged_in, frame_of_origin, handed, cut}
 use Rattle.lan_stations.specs.Refusals.{is_no_frame, is_no_place, is_same_sum, segment_tests, is_no_cut, cut_tests, link_tests}
 use Rattle.lan_stations.specs.Station.{Stations, station, with_link}
-use Rattle.lan_moves.specs.Made.{MadeBy}
-use Rattle.lan_link.specs.Frames.{medium_on, BringsFrom}
-use Rattle.lan_link.specs.Sides.{IsHostFrame, IsDamage}
-use Rattle.lan_link.proofs.DamagedFrames.{damaged_brings}
-use Rattle.lan_link.proofs.HostFrames.{host_frame_brings, noise_brings, cut_is_host}
-use Rattle.lan_link.proofs.Slots.{all_more}
-use Rattle.lan_link.proofs.Taken.{handed_receiver}
+use Rattle.lan_theorem.specs.Moves.Made.{MadeBy}
+use Rattle.lan_theorem.specs.Link.Frames.{medium_on, BringsFrom}
+use Rattle.lan_theorem.specs.Link.Sides.{IsHostFrame, IsDamage}
+use Rattle.lan_theorem.proofs.Link.DamagedFrames.{damaged_brings}
+use Rattle.lan_theorem.proofs.Link.HostFrames.{host_frame_brings, noise_brings, cut_is_host}
+use Rattle.lan_theorem.proofs.Link.Slots.{all_more}
+use Rattle.lan_theorem.proofs.Link.Taken.{handed_receiver}
 use Rattle.lan_theorem.specs.Events.{HasWord}
 use Rattle.lan_theorem.specs.Joins.{Sends, Receives, AreJoined}
 

@@ -15,19 +15,19 @@ use Rattle.lan_stations.specs.Refusals.{socket_count}
 use Rattle.lan_stations.specs.Station.{StationValue, Stations, station, at_port}
 use Rattle.lan_stations.specs.Steps.{PollsAt, ActsAt}
 use Rattle.lan_stations.proofs.Growing.{happens_stays}
-use Rattle.lan_moves.specs.Follows.{IsNetOf, Comes}
-use Rattle.lan_moves.specs.Fit.{IsFit}
-use Rattle.lan_moves.specs.Link.{IsLink}
-use Rattle.lan_moves.specs.Raws.{OfEach}
-use Rattle.lan_moves.specs.Made.{MadeBy}
-use Rattle.lan_moves.proofs.Calls.{names}
-use Rattle.lan_moves.proofs.PollEvents.{AtPorts, Polled, poll_comes}
-use Rattle.lan_link.specs.Frames.{medium_on}
-use Rattle.lan_link.specs.Numbers.{count_v4, AreFew, IsTied}
+use Rattle.lan_theorem.specs.Moves.Follows.{IsNetOf, Comes}
+use Rattle.lan_theorem.specs.Moves.Fit.{IsFit}
+use Rattle.lan_theorem.specs.Moves.Link.{IsLink}
+use Rattle.lan_theorem.specs.Moves.Raws.{OfEach}
+use Rattle.lan_theorem.specs.Moves.Made.{MadeBy}
+use Rattle.lan_theorem.proofs.Moves.Calls.{names}
+use Rattle.lan_theorem.proofs.Moves.PollEvents.{AtPorts, Polled, poll_comes}
+use Rattle.lan_theorem.specs.Link.Frames.{medium_on}
+use Rattle.lan_theorem.specs.Link.Numbers.{count_v4, AreFew, IsTied}
 use Rattle.net_base.specs.Medium.{Medium}
 use Rattle.lan_stations.specs.Origins.{medium_of}
-use Rattle.lan_link.specs.Sides.{IsSender, IsReceiver}
-use Rattle.lan_link.proofs.Begun.{tied_same}
+use Rattle.lan_theorem.specs.Link.Sides.{IsSender, IsReceiver}
+use Rattle.lan_theorem.proofs.Link.Begun.{tied_same}
 use Rattle.lan_theorem.specs.Joins.{AreJoined}
 use Rattle.lan_theorem.specs.Linked.{IsLinked}
 use Rattle.lan_theorem.proofs.Acts.{joins_grow, acted_joins, polled_acts}

@@ -17,17 +17,17 @@ use Rattle.lan_packets.specs.Parties.{Party, party}
 use Rattle.lan_stations.specs.Fresh.{IsFreshWorld}
 use Rattle.lan_stations.specs.Runs.{Starts, unused_both, WorldRun}
 use Rattle.lan_stations.specs.Station.{StationValue, Stations, station}
-use Rattle.lan_moves.specs.Made.{MadeBy}
-use Rattle.lan_link.specs.Frames.{BringsFrom}
-use Rattle.lan_link.specs.Held.{IsPayloadOf, IsRebuiltOf}
-use Rattle.lan_link.specs.Numbers.{AreFew}
-use Rattle.lan_link.specs.Sides.{AreSent}
-use Rattle.lan_link.proofs.Slots.{all_at}
-use Rattle.lan_link.proofs.Taken.{taken_rebuilds}
+use Rattle.lan_theorem.specs.Moves.Made.{MadeBy}
+use Rattle.lan_theorem.specs.Link.Frames.{BringsFrom}
+use Rattle.lan_theorem.specs.Link.Held.{IsPayloadOf, IsRebuiltOf}
+use Rattle.lan_theorem.specs.Link.Numbers.{AreFew}
+use Rattle.lan_theorem.specs.Link.Sides.{AreSent}
+use Rattle.lan_theorem.proofs.Link.Slots.{all_at}
+use Rattle.lan_theorem.proofs.Link.Taken.{taken_rebuilds}
 use Rattle.lan_theorem.specs.Events.{AreTyped}
 use Rattle.lan_theorem.specs.Joins.{Receives}
 use Rattle.lan_theorem.specs.Rebuilt.{NamesPorts, Rebuilds, IsOfMade, RebuiltWasMade}
-use Rattle.lan_hosts.specs.Damage.{DamageIsHarmless}
+use Rattle.lan_theorem.specs.Hosts.Damage.{DamageIsHarmless}
 use Rattle.lan_theorem.proofs.Beginnings.{firsts}
 use Rattle.lan_theorem.proofs.Damages.{damage_along}
 use Rattle.lan_theorem.proofs.Runs.{has_come}

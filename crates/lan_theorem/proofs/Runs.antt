@@ -18,16 +18,16 @@ use Rattle.lan_stations.specs.Runs.{Starts, unused_both, WorldRun, Leads}
 use Rattle.lan_stations.specs.Safe.{first_port, net_of}
 use Rattle.lan_stations.specs.Station.{Stations, station}
 use Rattle.lan_stations.specs.Steps.{Happens, ActsAt}
-use Rattle.lan_moves.specs.Follows.{IsNetOf, Comes, IsNoPoll}
-use Rattle.lan_moves.specs.Joined.{first_net, HasCome}
-use Rattle.lan_moves.specs.Fit.{IsFit, AreFit}
-use Rattle.lan_moves.specs.Raws.{OfEach}
-use Rattle.lan_moves.proofs.Calls.{names}
-use Rattle.lan_moves.proofs.Fits.{worlds_fit}
-use Rattle.lan_moves.proofs.Nets.{either_side}
-use Rattle.lan_moves.proofs.Worlds.{rest_comes, first_of, came_safe}
-use Rattle.lan_link.specs.Numbers.{count_v4, AreFew}
-use Rattle.lan_link.proofs.Sufficient.{numbers_grow, polled_few}
+use Rattle.lan_theorem.specs.Moves.Follows.{IsNetOf, Comes, IsNoPoll}
+use Rattle.lan_theorem.specs.Moves.Joined.{first_net, HasCome}
+use Rattle.lan_theorem.specs.Moves.Fit.{IsFit, AreFit}
+use Rattle.lan_theorem.specs.Moves.Raws.{OfEach}
+use Rattle.lan_theorem.proofs.Moves.Calls.{names}
+use Rattle.lan_theorem.proofs.Moves.Fits.{worlds_fit}
+use Rattle.lan_theorem.proofs.Moves.Nets.{either_side}
+use Rattle.lan_theorem.proofs.Moves.Worlds.{rest_comes, first_of, came_safe}
+use Rattle.lan_theorem.specs.Link.Numbers.{count_v4, AreFew}
+use Rattle.lan_theorem.proofs.Link.Sufficient.{numbers_grow, polled_few}
 use Rattle.lan_theorem.specs.Events.{IsTyped, AreTyped}
 use Rattle.lan_theorem.specs.Joins.{AreJoined, IsPlain}
 use Rattle.lan_theorem.proofs.Acts.{joins_grow}

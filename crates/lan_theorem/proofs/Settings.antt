@@ -26,11 +26,11 @@ use Rattle.lan_net.specs.declared.event.Side.{Side}
 use Rattle.lan_packets.specs.Parties.{Party, Net, party}
 use Rattle.lan_stations.specs.Sets.{SetsTo, Configures, RoutedIf, has_route_room}
 use Rattle.lan_stations.specs.Station.{StationValue, Stations, station}
-use Rattle.lan_moves.specs.Made.{MadeBy}
-use Rattle.lan_link.specs.Frames.{medium_on, BringsFrom}
-use Rattle.lan_link.specs.Numbers.{count_v4}
-use Rattle.lan_link.proofs.Routers.{added_routers}
-use Rattle.lan_link.specs.Sides.{RoutersAre, IsSound, IsSameKind, IsLeft, IsHostFrame}
+use Rattle.lan_theorem.specs.Moves.Made.{MadeBy}
+use Rattle.lan_theorem.specs.Link.Frames.{medium_on, BringsFrom}
+use Rattle.lan_theorem.specs.Link.Numbers.{count_v4}
+use Rattle.lan_theorem.proofs.Link.Routers.{added_routers}
+use Rattle.lan_theorem.specs.Link.Sides.{RoutersAre, IsSound, IsSameKind, IsLeft, IsHostFrame}
 use Rattle.lan_theorem.specs.Events.{HasRange}
 use Rattle.lan_theorem.specs.Joins.{Sends, Receives, AreJoined}
 use Rattle.lan_theorem.proofs.Acts.{IsSettled, HasActed, settled_acts, acted_joins}

@@ -24,7 +24,7 @@ use Rattle.interface_ingress.specs.Arrives.{Arrived, ArrivesV4, ArrivesV6, Bring
 use Rattle.interface_ingress.specs.Delivered.{Places}
 use Rattle.interface_ingress.specs.Incoming.{IncomingValue, Arp, Ip4, Ip6, IsIncoming, IsContent}
 use Rattle.interface_ingress.specs.Reassembled.{Slots, is_piece, is_taken_in, taken_in, bytes_at, kept, place_in, rebuilt, uncut, whole_of}
-use Rattle.lan_link.specs.Sides.{IsStation, HasSixBytes, IsBetweenStations}
+use Rattle.lan_theorem.specs.Link.Sides.{IsStation, HasSixBytes, IsBetweenStations}
 
 -- WHICH CONTENT IS ANSWERED SO
 

@@ -7,10 +7,10 @@ use Rattle.lan_net.specs.Kinds.Act.{Calls, Sets, Opens, Asks, Polls}
 use Rattle.lan_net.specs.declared.event.Side.{Side}
 use Rattle.lan_packets.specs.Parties.{Party, Net, party}
 use Rattle.lan_stations.specs.Station.{StationValue, Stations, station}
-use Rattle.lan_moves.specs.Made.{MadeBy}
-use Rattle.lan_link.specs.Frames.{medium_on}
-use Rattle.lan_link.specs.Numbers.{count_v4}
-use Rattle.lan_link.specs.Sides.{IsSender, IsReceiver}
+use Rattle.lan_theorem.specs.Moves.Made.{MadeBy}
+use Rattle.lan_theorem.specs.Link.Frames.{medium_on}
+use Rattle.lan_theorem.specs.Link.Numbers.{count_v4}
+use Rattle.lan_theorem.specs.Link.Sides.{IsSender, IsReceiver}
 
 -- a host that sends: its own packets, and the frames of them
 abbrev pub Sends : Party → ℕ → StationValue → List PacketValue → Type 0

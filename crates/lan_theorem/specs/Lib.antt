@@ -1,3 +1,6 @@
+pub mod Hosts
+pub mod Moves
+pub mod Link
 pub mod Events
 pub mod Linked
 pub mod Joins

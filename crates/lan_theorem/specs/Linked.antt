@@ -5,10 +5,10 @@ use Rattle.socket_base.specs.Packet.{PacketValue}
 use Rattle.interface.specs.State.{State}
 use Rattle.lan_port.specs.Port.{PortValue}
 use Rattle.lan_packets.specs.Parties.{Party}
-use Rattle.lan_moves.specs.Made.{MadeBy}
-use Rattle.lan_link.specs.Frames.{medium_on}
-use Rattle.lan_link.specs.Numbers.{count_v4, AreFew, IsTied}
-use Rattle.lan_link.specs.Sides.{Grows, AreSent, IsSender, IsReceiver}
+use Rattle.lan_theorem.specs.Moves.Made.{MadeBy}
+use Rattle.lan_theorem.specs.Link.Frames.{medium_on}
+use Rattle.lan_theorem.specs.Link.Numbers.{count_v4, AreFew, IsTied}
+use Rattle.lan_theorem.specs.Link.Sides.{Grows, AreSent, IsSender, IsReceiver}
 
 -- what the other host `q` sent stays as it is
 pub record IsOther (q : Party) (first next : ℕ) (out : List PacketValue) : Type 0 where

@@ -19,10 +19,10 @@ use Rattle.lan_packets.specs.Moves.{Step, IsRun, run}
 use Rattle.lan_packets.specs.Parties.{Party, Net, party}
 use Rattle.lan_stations.specs.Runs.{WorldValue}
 use Rattle.lan_stations.specs.Station.{StationValue, station}
-use Rattle.lan_moves.specs.Follows.{IsNetOf}
-use Rattle.lan_moves.specs.Joined.{first_net}
-use Rattle.lan_moves.specs.Made.{MadeBy}
-use Rattle.lan_link.specs.Made.{bytes_of}
+use Rattle.lan_theorem.specs.Moves.Follows.{IsNetOf}
+use Rattle.lan_theorem.specs.Moves.Joined.{first_net}
+use Rattle.lan_theorem.specs.Moves.Made.{MadeBy}
+use Rattle.lan_theorem.specs.Link.Made.{bytes_of}
 
 -- what a content is to a host that takes it next: itself, the whole datagram that it completes, or nothing yet
 abbrev pub taken_next : StationValue → Option IncomingValue → Option IncomingValue

@@ -1,9 +1,9 @@
-//! What follows from the definitions.
+//! Each event keeps the link between the hosts, so worlds are safe.
 ghost use Rattle.std.specs.Prelude.{◌≡◌, ℕ, List, None};
 ghost use Rattle.socket_base.specs.Packet.{PacketValue};
 ghost use Rattle.lan_port.specs.Port.{PortValue, PortMove};
 ghost use Rattle.lan_net.specs.History.{Entry};
-ghost use Rattle.lan_hosts.specs.Damage.{DamageIsHarmless, IsHarmlessFrom};
+ghost use Rattle.lan_theorem.specs.Hosts.Damage.{DamageIsHarmless, IsHarmlessFrom};
 ghost use Rattle.lan_net.specs.Kinds.{Origin, Setting, other, kind_of};
 ghost use Rattle.lan_net.specs.Kinds.LinkAct.{Hands};
 ghost use Rattle.lan_net.specs.Tables.{first_refusal};
@@ -14,8 +14,8 @@ ghost use Rattle.lan_packets.specs.Parties.{Party, Net, party};
 ghost use Rattle.lan_stations.specs.Runs.{Leads, Starts, WorldRun, unused_both};
 ghost use Rattle.lan_stations.specs.Sets.{Configures};
 ghost use Rattle.lan_stations.specs.Station.{Stations, station};
-ghost use Rattle.lan_moves.specs.Link.{IsLink};
-ghost use Rattle.lan_moves.specs.Made.{Grows};
+ghost use Rattle.lan_theorem.specs.Moves.Link.{IsLink};
+ghost use Rattle.lan_theorem.specs.Moves.Made.{Grows};
 ghost use Rattle.lan_theorem.specs.Events.{HasRange, HasWord, IsTyped, AreTyped};
 ghost use Rattle.lan_theorem.specs.Joins.{AreJoined, IsPlain};
 ghost use Rattle.lan_packets.specs.Safe.{IsSafe};

@@ -1,4 +1,14 @@
 //! Two hosts' interfaces over the link: what a poll takes in was made, so that the theorem over packets holds of hosts with frames.
+//!
+//! `host_laws` has the hosts as machines: each is a run, sends nothing when it is polled too early, and waits a second between its own
+//! requests. `move_laws` has what one host does, in a poll and beside it, as a run of moves over packets: each of its sockets' turns,
+//! each frame that it takes, and each call of its applications; `specs/Moves/Link` says what is asked of the link, so that what is taken
+//! was made by the other host, and `specs/Moves/Follows` where the moves lead. `link_laws` has that the link hands over what was made:
+//! whatever a frame brings to a host's TCP and UDP sockets, whole or in pieces, the other host's sockets or the host itself made.
+//! `laws` joins them.
 #![tactic(auto)]
 
+pub mod host_laws;
 pub mod laws;
+pub mod link_laws;
+pub mod move_laws;

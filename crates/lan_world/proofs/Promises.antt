@@ -11,11 +11,11 @@ use Rattle.lan_stations.specs.Safe.{first_port, net_of}
 use Rattle.lan_stations.specs.Station.{StationValue, Stations}
 use Rattle.lan_theorem.specs.Events.{AreTyped}
 use Rattle.lan_theorem.specs.Rebuilt.{RebuiltWasMade}
-use Rattle.lan_hosts.specs.Asked.{requests, AreApart}
-use Rattle.lan_hosts.specs.Damage.{DamageIsHarmless}
-use Rattle.lan_hosts.specs.HostRuns.{IsHostRun}
-use Rattle.lan_hosts.specs.Machine.{Turn, Machine, HostRun}
-use Rattle.lan_hosts.specs.Quiet.{PollsWereQuiet}
+use Rattle.lan_theorem.specs.Hosts.Asked.{requests, AreApart}
+use Rattle.lan_theorem.specs.Hosts.Damage.{DamageIsHarmless}
+use Rattle.lan_theorem.specs.Hosts.HostRuns.{IsHostRun}
+use Rattle.lan_theorem.specs.Hosts.Machine.{Turn, Machine, HostRun}
+use Rattle.lan_theorem.specs.Hosts.Quiet.{PollsWereQuiet}
 use Rattle.lan_world.specs.Come.{starts_of, both, world, HasCome}
 use Rattle.lan_world.specs.Promises.{IsSafeWorld}
 

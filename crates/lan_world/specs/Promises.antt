@@ -3,10 +3,10 @@ use Rattle.lan_net.specs.declared.event.Side.TheVariants.{A, B}
 use Rattle.lan_packets.specs.Safe.{IsSafe}
 use Rattle.lan_stations.specs.Runs.{WorldValue, WorldRun, unused_both, counts_of}
 use Rattle.lan_stations.specs.Safe.{first_port, net_of}
-use Rattle.lan_hosts.specs.Asked.{requests, AreApart}
-use Rattle.lan_hosts.specs.Damage.{DamageIsHarmless}
-use Rattle.lan_hosts.specs.HostRuns.{IsHostRun}
-use Rattle.lan_hosts.specs.Quiet.{PollsWereQuiet}
+use Rattle.lan_theorem.specs.Hosts.Asked.{requests, AreApart}
+use Rattle.lan_theorem.specs.Hosts.Damage.{DamageIsHarmless}
+use Rattle.lan_theorem.specs.Hosts.HostRuns.{IsHostRun}
+use Rattle.lan_theorem.specs.Hosts.Quiet.{PollsWereQuiet}
 use Rattle.lan_theorem.specs.Rebuilt.{RebuiltWasMade}
 
 pub record IsSafeWorld (w : WorldValue) : Type 0 where

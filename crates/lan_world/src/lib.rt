@@ -14,4 +14,5 @@ mod world;
 pub use error::WorldError;
 pub use lan_net::{Answer, Bytes, Event, Fault, Refused, Side, TcpSetting};
 pub use lan_stations::Host;
+pub use lan_theorem::host_laws;
 pub use world::World;

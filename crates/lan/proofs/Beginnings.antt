@@ -1,0 +1,10 @@
+-- A world that begins.
+use Rattle.std.proofs.Common.{◌≡◌, List, []}
+use Rattle.lan_net.specs.History.{Entry}
+use Rattle.lan_stations.specs.Runs.{Starts, WorldValue}
+use Rattle.lan_stations.specs.Station.{StationValue, Stations}
+use Rattle.lan_world.specs.Come.{both, starts_of}
+use Rattle.lan.specs.Hosts.{first_world}
+
+pub begins : (world : WorldValue) (a b : StationValue) → world.hosts ≡ both a b → world.starts ≡ starts_of a b → world.history ≡ [] → world ≡ first_world a b
+begins world a b hosts starts history = λ k. record { hosts = hosts k; starts = starts k; history = history k }

@@ -1,0 +1,61 @@
+use Rattle.std.proofs.Common.{◌≡◌, ◌+◌, ◌++◌, [], ◌∷◌, take, length-drop, refl, sym, arith}
+use Rattle.std.proofs.KnownBytes.{Appends-nil, Appends-trans}
+use Rattle.lan.proofs.PieceLemmas.{unbroken-take, unbroken-none, take-drop_end, none_run, line_goes_on, line_goes_out}
+use Rattle.lan.proofs.run.Run.take_piece.Goals as goal
+
+pub loop-end-init : goal.loop-end-init
+loop-end-init g c =
+    record {
+      runs = (
+        [],
+        [],
+        Appends-nil (g.W.Write.contents c.args.writer.now),
+        refl,
+        none_run c.args.self.number c.args.self.session c.args.self.begun.items,
+      );
+      number = omega arith;
+    }
+
+pub begin-requires : goal.begin-requires
+begin-requires g c = unbroken-take c.loop-end.rest.now c.in-Some.end (sym c.in-Some.ensures.place)
+
+pub begin-requires-2 : goal.begin-requires-2
+begin-requires-2 g c = unbroken-none c.loop-end.rest.now (sym c.in_default.ensures.place)
+
+-- a line ends the run
+pub returns-in_default-2-clause-runs : goal.returns-in_default-2-clause-runs
+returns-in_default-2-clause-runs g c =
+    let before = c.loop-end.invariant.runs in
+    let ran = rw c.in_default-2.is at c.in_ok-next.ensures in (
+      before.1 ++ ran.0,
+      Appends-trans _ _ _ _ _ before.2 ran.1,
+      line_goes_out c.args.self.number c.loop-end.run.number c.begin.new.self.number c.args.self.session c.loop-end.run.session c.begin.new.self.session
+          c.args.self.begun.items c.args.piece.now before.0 c.loop-end.rest.now before.1 c.loop-end.run.begun.items c.begin.new.self.begun.items ran.0 c.in-Some.end ran.2.0
+          before.3 before.4 (sym c.in-Some.ensures.place) c.in_ok-begin.ensures.begun c.begin.new.self.unbroken
+          c.begin.ensures.session c.begin.ensures.number ran.2.1 ran.2.2,
+    )
+
+pub loop-end-preserved : goal.loop-end-preserved
+loop-end-preserved g c =
+    let before = c.loop-end.invariant.runs in
+    let ran = rw c.in-Some-2.is at c.in_ok-next.ensures in
+    let step =
+    line_goes_on c.args.self.number c.loop-end.run.number c.begin.new.self.number c.in-Some-2.next.number
+    c.args.self.session c.loop-end.run.session c.begin.new.self.session c.in-Some-2.next.session
+    c.args.self.begun.items c.args.piece.now before.0 c.loop-end.rest.now before.1 c.loop-end.run.begun.items c.begin.new.self.begun.items ran.0
+    c.in-Some-2.next.begun.items c.in-Some.end
+    before.3 before.4 (sym c.in-Some.ensures.place) c.in_ok-begin.ensures.begun c.begin.new.self.unbroken
+    c.begin.ensures.session c.begin.ensures.number ran.2.0 ran.2.1 ran.2.2 in
+    let numbered : c.in-Some-2.next.number ≡ c.begin.new.self.number + 1 = ran.2.1 in
+    rw (take-drop_end c.loop-end.rest.now (c.in-Some.end + 1)) (
+    record {
+      runs = (
+        before.0 ++ (take c.in-Some.end c.loop-end.rest.now ++ 10 ∷ []),
+        before.1 ++ ran.0,
+        Appends-trans _ _ _ _ _ before.2 ran.1,
+        step.0,
+        step.1,
+      );
+      number = omega (arith, numbered, c.begin.ensures.number, c.in-Some.ensures.found, c.loop-end.invariant.number, length-drop (c.in-Some.end + 1) c.loop-end.rest.now);
+    }
+    )

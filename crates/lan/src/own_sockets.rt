@@ -1,0 +1,140 @@
+//! The sockets that a header asks for.
+ghost use Rattle.std.specs.Prelude.{◌≡◌, ◌⊎◌, ◌+◌, [], true, false, IfOk, OnOk, IfErr, length, replicate};
+ghost use Rattle.interface_egress.specs.Set.{places};
+ghost use Rattle.lan_net.specs.Kinds.{same_side};
+ghost use Rattle.lan_net.specs.declared.answer.Refused.TheVariants.{Memory};
+ghost use Rattle.lan_world.specs.declared.error.WorldError.TheVariants.{Buffers};
+ghost use Rattle.net_base.specs.Ring.{ring};
+ghost use Rattle.lan.specs.declared.end.End.TheVariants.{Refusal, World};
+ghost use Rattle.lan_script.specs.declared.kinds.SocketSpec.TheVariants as Asks;
+ghost use Rattle.tcp_model.specs.Value.{new_socket};
+ghost use Rattle.lan.specs.Hosts.{queue, received, queued, socket_of, with_sockets, is_large, has_large};
+
+use crate::end::End;
+use interface::{AddError, SocketSet};
+use ip_wire::IpProtocol;
+use lan_net::{Refused, Side};
+use lan_script::{QueueSizes, SocketSpec, StreamSizes};
+use lan_world::WorldError;
+use net_base::{ManagedSlice, PacketBuffer, PacketMetadata, RingBuffer};
+use sockets::{Socket, icmp, raw, tcp, udp};
+use std::alloc::{AllocError, Global};
+
+/// A host's own of these sockets, in order.
+pub fn own_sockets_of(
+    alloc: Global,
+    side: Side,
+    specs: &[(Side, SocketSpec)],
+) -> Result<SocketSet<Socket>, End>
+    ensures made { IfOk result (λ set. places set ≡ with_sockets side [] specs.now) }
+    ensures small { OnOk result (has_large side specs.now ≡ false) }
+    ensures ends { IfErr result (λ end. ((has_large side specs.now ≡ true) × (end ≡ World Buffers)) ⊎ (end ≡ Refusal Memory)) }
+{
+    let mut sockets = SocketSet::new(ManagedSlice::Owned(Vec::new(alloc)));
+    for spec in specs {
+        let (owner, spec) = *spec;
+        if is_same(owner, side) {
+            let socket = socket_of(alloc, spec)?;
+            match sockets.add(socket) {
+                Ok(_) => {}
+                Err(AddError::Full(_)) | Err(AddError::Memory(_)) => {
+                    return Err(End::Refusal(Refused::Memory));
+                }
+            }
+        }
+    }
+    Ok(sockets)
+}
+
+fn is_same(owner: Side, side: Side) -> bool
+    ensures { result ≡ same_side owner side }
+{
+    match (owner, side) {
+        (Side::A, Side::A) | (Side::B, Side::B) => true,
+        _ => false,
+    }
+}
+
+fn socket_of(alloc: Global, spec: SocketSpec) -> Result<Socket, End>
+    ensures made { IfOk result (λ socket. socket ≡ socket_of spec) }
+    ensures small { OnOk result (is_large spec ≡ false) }
+    ensures ends { IfErr result (λ end. ((is_large spec ≡ true) × (end ≡ World Buffers)) ⊎ (end ≡ Refusal Memory)) }
+{
+    Ok(match spec {
+        SocketSpec::Udp(sizes) => Socket::Udp(udp::Socket::new(
+            received(alloc, sizes)?,
+            queued(alloc, sizes)?,
+        )),
+        SocketSpec::Icmp(sizes) => Socket::Icmp(icmp::Socket::new(
+            received(alloc, sizes)?,
+            queued(alloc, sizes)?,
+        )),
+        SocketSpec::Raw(version, protocol, sizes) => Socket::Raw(raw::Socket::new(
+            version,
+            protocol.map(IpProtocol::from),
+            received(alloc, sizes)?,
+            queued(alloc, sizes)?,
+        )),
+        SocketSpec::Tcp(sizes) => Socket::Tcp(stream(alloc, sizes)?),
+    })
+}
+
+fn received<H: Drop>(alloc: Global, sizes: QueueSizes) -> Result<PacketBuffer<H>, AllocError>
+    ensures { IfOk result (λ q. q ≡ received sizes) }
+{
+    queue(alloc, sizes.receive_packets, sizes.receive_bytes)
+}
+
+fn queued<H: Drop>(alloc: Global, sizes: QueueSizes) -> Result<PacketBuffer<H>, AllocError>
+    ensures { IfOk result (λ q. q ≡ queued sizes) }
+{
+    queue(alloc, sizes.send_packets, sizes.send_bytes)
+}
+
+// A queue of so many entries and bytes.
+fn queue<H: Drop>(
+    alloc: Global,
+    packets: usize,
+    bytes: usize,
+) -> Result<PacketBuffer<H>, AllocError>
+    ensures { IfOk result (λ q. q ≡ queue packets bytes) }
+{
+    Ok(PacketBuffer::new(
+        ManagedSlice::Fixed(entries(alloc, packets)?),
+        ManagedSlice::Fixed(vec![in alloc; 0; bytes]?),
+    ))
+}
+
+// So many free entries.
+fn entries<H: Drop>(alloc: Global, count: usize) -> Result<Vec<PacketMetadata<H>>, AllocError>
+    ensures { IfOk result (λ entries. length entries.items ≡ count) }
+{
+    let mut entries = Vec::with_capacity(alloc, count)?;
+    for _ in 0..count {
+        entries.push(PacketMetadata::EMPTY)?;
+    }
+    Ok(entries)
+}
+
+const MOST_BYTES: usize = 1 << 30;
+
+// A TCP socket, whose buffers hold 2^30 bytes at most.
+fn stream(alloc: Global, sizes: StreamSizes) -> Result<tcp::Socket, End>
+    ensures made { IfOk result (λ socket. socket ≡ new_socket sizes.receive_bytes (ring [] (replicate sizes.send_bytes 0) 0)) }
+    ensures small { OnOk result (is_large (Asks.Tcp sizes) ≡ false) }
+    ensures ends { IfErr result (λ end. ((is_large (Asks.Tcp sizes) ≡ true) × (end ≡ World Buffers)) ⊎ (end ≡ Refusal Memory)) }
+{
+    if sizes.receive_bytes > MOST_BYTES || sizes.send_bytes > MOST_BYTES {
+        return Err(End::World(WorldError::Buffers));
+    }
+    let received = buffer(alloc, sizes.receive_bytes)?;
+    let queued = buffer(alloc, sizes.send_bytes)?;
+    Ok(tcp::Socket::new(received, queued))
+}
+
+fn buffer(alloc: Global, bytes: usize) -> Result<RingBuffer<u8>, AllocError>
+    ensures buffer { IfOk result (λ buffer. buffer ≡ ring [] (replicate bytes 0) 0) }
+    ensures room { IfOk result (λ buffer. length buffer.queue + length buffer.free ≡ bytes) }
+{
+    Ok(RingBuffer::new(ManagedSlice::Fixed(vec![in alloc; 0; bytes]?)))
+}

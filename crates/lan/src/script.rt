@@ -1,0 +1,77 @@
+//! A script in, its answers out.
+ghost use Rattle.std.specs.Prelude.{◌≡◌, ◌≢◌, ◌≤◌, ⊤, List, ℕ, IfOk, OnOk, IfSome, MatchOption};
+ghost use Rattle.std.specs.Io.KnownBytes.{Appends};
+ghost use Rattle.lan.specs.Pieces.{ReadsOn, RunsSoFar};
+ghost use Rattle.lan.specs.Scripts.{IsReplay};
+
+use crate::run::Run;
+use std::alloc::Global;
+use std::io::{self, ErrorKind, Read, Write};
+
+/// How often `replay` reads from its reader at most.
+pub const MOST_READS: u64 = 1 << 32;
+
+// How many bytes a read may give.
+const PIECE: usize = 4096;
+
+/// Runs a script that the reader gives, and writes what each line answers as soon as the end of the
+/// line was read. Before each further read the writer is flushed. Of the script's text nothing is
+/// kept but the line that was begun, and nothing is read behind the piece in which a line ended the
+/// run.
+///
+/// The status is 0 at the end of the script, 1 after a line that ends the run early, which what is
+/// written last says, and 2 after a fault of the reader or the writer, after 2^32 reads, or where a
+/// line finds no memory.
+pub fn replay<R: Read, W: Write>(alloc: Global, reader: &mut R, writer: &mut W) -> u8
+    ensures status { result ≤ 2 }
+    ensures replays { result ≢ 2 → (script output : List ℕ)
+        × IfSome (R.remaining reader.old) (λ input. script ≡ input)
+        × IsReplay script output result
+        × Appends (W.contents writer.old) (W.contents writer.new) output }
+    ensures reads { result ≢ 2 → ReadsOn (R.remaining reader.old) (R.remaining reader.new) }
+{
+    match try_replay(alloc, reader, writer) {
+        Ok(Some(status)) => status,
+        Ok(None) => 2,
+        Err(_) => 2,
+    }
+}
+
+// `None`: the reader failed, or came to no end in 2^32 reads. The lines that it gave have been run.
+fn try_replay<R: Read, W: Write>(
+    alloc: Global,
+    reader: &mut R,
+    writer: &mut W,
+) -> io::Result<Option<u8>>
+    ensures ended { IfOk result (λ ended. IfSome ended (λ status. (script output : List ℕ)
+        × IfSome (R.remaining reader.old) (λ input. script ≡ input)
+        × IsReplay script output status
+        × Appends (W.contents writer.old) (W.contents writer.new) output)) }
+    ensures unended { IfOk result (λ ended. MatchOption ended ((output : List ℕ)
+        × RunsSoFar (R.remaining reader.old) (R.remaining reader.new) output
+        × Appends (W.contents writer.old) (W.contents writer.new) output) (λ status. ⊤)) }
+    ensures reads { OnOk result (ReadsOn (R.remaining reader.old) (R.remaining reader.new)) }
+{
+    let mut run = Run::new(alloc);
+    let mut piece = [0; PIECE];
+    for count in 0..MOST_READS {
+        match reader.read(&mut piece) {
+            Ok(0) => {
+                let status = run.finish(alloc, writer)?;
+                writer.flush()?;
+                return Ok(Some(status));
+            }
+            Ok(len) => {
+                let led = run.take_piece(alloc, &piece[..len], writer)?;
+                writer.flush()?;
+                let Some(next) = led else {
+                    return Ok(Some(1));
+                };
+                run = next;
+            }
+            Err(error) if error.kind() == ErrorKind::Interrupted => {}
+            Err(_) => return Ok(None),
+        }
+    }
+    Ok(None)
+}

@@ -1,0 +1,118 @@
+//! A script as far as it has come, line by line.
+ghost use Rattle.std.specs.Prelude.{◌≡◌, ◌⊎◌, Some, None, IfOk, OnOk, IfErr, option_map};
+ghost use Rattle.std.specs.String.{string_bytes};
+ghost use Rattle.lan_net.specs.declared.answer.Refused.TheVariants.{Memory};
+ghost use Rattle.lan_stations.specs.Runs.{refusal_in};
+ghost use Rattle.lan.specs.declared.end.End.TheVariants.{Refusal};
+ghost use Rattle.lan.specs.Scripts.{Takes, MayEnd, event_end, EventLeads, Leads};
+ghost use Rattle.lan.specs.Events.{event_of};
+ghost use Rattle.lan.specs.declared.session.Session.TheVariants.{Header as Begins, Running};
+ghost use Rattle.lan_script.specs.declared.line.Line.TheVariants.{Start};
+ghost use Rattle.lan.specs.Hosts.{no_start};
+
+use crate::answer::{answer_line, push_sent};
+use crate::end::End;
+use crate::event::{event_of, side_of};
+use crate::header::Header;
+use lan_net::{Event, Side};
+use lan_script::Line;
+use lan_world::World;
+use std::alloc::Global;
+
+/// How far a script has come.
+#[derive(Drop)]
+pub enum Session {
+    /// No line has been read.
+    Begun,
+    /// The header is being read.
+    Header(Header),
+    /// The hosts run.
+    Running(World),
+}
+
+impl Session {
+    ghost use Rattle.std.specs.Prelude.{◌≡◌, None, Some, IfOk, IfErr};
+    ghost use Rattle.std.specs.String.{string_bytes};
+    ghost use Rattle.lan.specs.Scripts.{end_of, LineLeads, LineEnds, Ends};
+
+    /// Takes one line, without the byte 0a that ends it: what it leads to, and what it writes.
+    pub fn take_line(self, alloc: Global, text: &[u8]) -> Result<(Session, String), End>
+        ensures leads { IfOk result (λ r. LineLeads self text.now (string_bytes r.1) r.0) }
+        ensures ends { IfErr result (LineEnds self text.now) }
+    {
+        match Line::read(text) {
+            Some(line) => self.take(alloc, line),
+            None => Err(End::BadEvent),
+        }
+    }
+
+    // Takes what a line says.
+    #[tactic(auto, using(crate::proofs::BytesLemmas::ends_so, crate::proofs::EndLemmas::start_ends))]
+    fn take(self, alloc: Global, line: Line<'_>) -> Result<(Session, String), End>
+        ensures allowed { IfOk result (λ r. end_of self (Some line.entry) ≡ None) }
+        ensures leads { IfOk result (λ r. Leads self (Some line.entry) (string_bytes r.1) r.0) }
+        ensures ends { IfErr result (Ends self (Some line.entry)) }
+    {
+        match (self, line) {
+            (Session::Begun, Line::World(medium, mtu)) => Ok((
+                Session::Header(Header::new(alloc, medium, mtu)),
+                String::new(alloc),
+            )),
+            (Session::Header(mut header), Line::Socket(side, spec)) => {
+                header.push(side_of(side), spec)?;
+                Ok((Session::Header(header), String::new(alloc)))
+            }
+            (Session::Header(header), Line::Start) => start(alloc, &header),
+            (Session::Running(world), line) => go_on(alloc, world, line),
+            _ => Err(End::BadEvent),
+        }
+    }
+}
+
+// The hosts of a header run from now on.
+fn start(alloc: Global, header: &Header) -> Result<(Session, String), End>
+    ensures allowed { OnOk result (no_start header.now ≡ None) }
+    ensures leads { IfOk result (λ r. Leads (Begins header.now) (Some Start) (string_bytes r.1) r.0) }
+    ensures ends { IfErr result (λ end. (no_start header.now ≡ Some end) ⊎ (end ≡ Refusal Memory)) }
+{
+    let world = header.start(alloc)?;
+    Ok((Session::Running(world), String::from_str(alloc, "ok\n")?))
+}
+
+// Takes a line once the hosts run.
+fn go_on(alloc: Global, world: World, line: Line<'_>) -> Result<(Session, String), End>
+    ensures allowed { OnOk result (event_end world (event_of line.entry) ≡ None) }
+    ensures leads { IfOk result (λ r. EventLeads world (event_of line.entry) (string_bytes r.1) r.0) }
+    ensures ends { IfErr result (MayEnd world line.entry) }
+{
+    let mut world = world;
+    let text = take_event_line(alloc, &mut world, line)?;
+    Ok((Session::Running(world), text))
+}
+
+// The same: what the line writes.
+fn take_event_line(alloc: Global, world: &mut World, line: Line<'_>) -> Result<String, End>
+    ensures allowed { IfOk result (λ text. event_end world.old (event_of line.entry) ≡ None) }
+    ensures takes { IfOk result (λ text. EventLeads world.old (event_of line.entry) (string_bytes text) (Running world.new)) }
+    ensures ends { IfErr result (MayEnd world.old line.entry) }
+{
+    let Some(event) = event_of(alloc, line)? else {
+        return Err(End::BadEvent);
+    };
+    take_event(alloc, world, event)
+}
+
+// Takes one event: what it writes.
+fn take_event(alloc: Global, world: &mut World, event: Event) -> Result<String, End>
+    ensures takes { IfOk result (λ text. Takes world.old event (string_bytes text) world.new) }
+    ensures allowed { IfOk result (λ text. refusal_in world.old.history world.old.hosts event ≡ None) }
+    ensures ends { IfErr result (λ end. (option_map Refusal (refusal_in world.old.history world.old.hosts event) ≡ Some end) ⊎ ((refusal_in world.old.history world.old.hosts event ≡ None) × (end ≡ Refusal Memory))) }
+{
+    let sent_by_a = world.sent(Side::A).len();
+    let sent_by_b = world.sent(Side::B).len();
+    let answer = world.step(event)?;
+    let mut text = answer_line(alloc, &answer)?;
+    push_sent(alloc, &mut text, Side::A, sent_by_a, world.sent(Side::A))?;
+    push_sent(alloc, &mut text, Side::B, sent_by_b, world.sent(Side::B))?;
+    Ok(text)
+}

@@ -1,7 +1,0 @@
-use Rattle.std.proofs.Common.{refl}
-use Rattle.lan_stations.specs.Runs.{counts_of}
-use Rattle.lan_hosts.proofs.QuietRuns.{polls_quiet}
-use Rattle.lan_hosts.proofs.laws.polls_are_quiet.Goals as goal
-
-pub returns : goal.returns
-returns c = λ starts history hosts run. polls_quiet c.due_as_before.ensures starts history hosts (counts_of hosts) refl run

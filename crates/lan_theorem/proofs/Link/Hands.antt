@@ -1,0 +1,134 @@
+-- What a packet that was sent is read as behind its header.
+use Rattle.std.proofs.Common.{◌≡◌, ◌⊎◌, inl, inr, ℕ, ◌+◌, Bool, true, false, not, ◌||◌, ◌==◌, List, length, drop, Option, Some, refl, sym, ◌∙◌, ap, subst, arith}
+use Rattle.std.proofs.lemmas.Bool.Decides.{nat_tests}
+use Rattle.tcp_law.specs.ReceiveMap.{Begins}
+use Rattle.tcp_law.proofs.Lists.{Begins-whole}
+use Rattle.ip_wire.specs.Ip as Ips
+use Rattle.ip_wire.specs.Ip.{carried_in, source_in, destination_in}
+use Rattle.ip_wire.specs.IpAddress.{IpAddress}
+use Rattle.ip_wire.specs.IpAddress.TheVariants as Address
+use Rattle.ip_wire.specs.IpRepr.{IpRepr}
+use Rattle.ip_wire.specs.IpRepr.TheVariants as Ip
+use Rattle.ip_wire.specs.Ipv4 as Ipv4
+use Rattle.ip_wire.specs.Ipv4FragKey.{Ipv4FragKey}
+use Rattle.ip_wire.specs.Ipv4Piece.{Ipv4Piece}
+use Rattle.ip_wire.specs.Ipv4Repr.{Ipv4Repr}
+use Rattle.ip_wire.specs.Tcp as Tcp
+use Rattle.ip_wire.specs.Udp as Udp
+use Rattle.ip_wire.specs.declared.ethernet.repr.EthernetRepr.{EthernetRepr}
+use Rattle.socket_base.specs.Packet.{PacketValue, PayloadValue, ControlV4, ControlV6, Bytes, Datagram, Segment}
+use Rattle.interface_tables.specs.Pieces as Pieces
+use Rattle.interface_ingress.specs.Carried.{IsCarried}
+use Rattle.interface_ingress.specs.Incoming.{IncomingValue, Arp, Ip4, Ip6}
+use Rattle.interface_ingress.specs.Reassembled.{is_piece}
+use Rattle.interface_ingress.specs.Sent.{CanBeRead, normal_payload}
+use Rattle.interface_ingress.proofs.FramesArrive.{payload-arrives}
+use Rattle.interface_ingress.proofs.OneContent.{one-carried-content}
+use Rattle.interface_delivery.specs.Delivered.{NamesNoPorts}
+use Rattle.lan_theorem.specs.Link.Made.{sealed, WasMade, HandsMade, BringsMade, bytes_of}
+use Rattle.lan_theorem.specs.Link.Frames.{IsSentV4, IsFrom, IsOut, AreOut}
+use Rattle.lan_theorem.proofs.Link.Behind.{sealed_both}
+
+module _ (made : PayloadValue → Type 0) where
+  -- PROTOCOLS
+
+  -- behind a header that names neither TCP nor UDP there is nothing of them
+  pub hands_none : (ip : IpRepr) (payload : List ℕ) → NamesNoPorts (carried_in ip) → HandsMade made ip payload
+  hands_none ip payload none (Datagram udp bytes) is = absurd (none.1 is.protocol)
+  hands_none ip payload none (Segment header bytes) is = absurd (none.0 is.protocol)
+  hands_none ip payload none (ControlV4 message bytes) is = tt
+  hands_none ip payload none (ControlV6 message bytes) is = tt
+  hands_none ip payload none (Bytes bytes) is = tt
+
+  -- PACKETS
+
+  was_made : (x : PayloadValue) → made x → WasMade made x
+  was_made (Datagram udp bytes) was = was
+  was_made (Segment header bytes) was = was
+  was_made (ControlV4 message bytes) was = tt
+  was_made (ControlV6 message bytes) was = tt
+  was_made (Bytes bytes) was = tt
+
+  same_some : {A : Type 0} (x y : A) → Some x ≡ Some y → x ≡ y
+  same_some x y same = cc
+
+  hands_by : (p : PacketValue) → IsOut made p → (NamesNoPorts (carried_in (Ips.normal p.header))) ⊎ (CanBeRead p.header p.payload × made (normal_payload p.payload)) → HandsMade made (Ips.normal p.header) (bytes_of p)
+  hands_by p is (inl none) = hands_none (Ips.normal p.header) (bytes_of p) none
+  hands_by p is (inr reads) = λ x carried.
+      let read : IsCarried sealed (Ips.normal p.header) (bytes_of p) (normal_payload p.payload) =
+      payload-arrives sealed sealed p.header p.payload (is.going.offered.packet.payload is.fits) reads.0 sealed_both in
+      let same : normal_payload p.payload ≡ x =
+      same_some (normal_payload p.payload) x (one-carried-content sealed (Ips.normal p.header) (bytes_of p) (Some (normal_payload p.payload)) (Some x) read carried) in
+      was_made x (subst made same reads.1)
+
+  -- what is read behind the header of a packet that was sent was made
+  pub hands_sent : (p : PacketValue) → IsOut made p → HandsMade made (Ips.normal p.header) (bytes_of p)
+  hands_sent p is = hands_by p is is.going.carries
+
+  -- KEYS
+
+  module _ (h h' : Ipv4Repr) (payload : List ℕ) (same : Ipv4.key_of h ≡ Ipv4.key_of h') where
+    source_same : source_in (Ip.Ipv4 h) ≡ source_in (Ip.Ipv4 h')
+    source_same = ap (λ (k : Ipv4FragKey). Address.Ipv4 k.src_addr) same
+
+    destination_same : destination_in (Ip.Ipv4 h) ≡ destination_in (Ip.Ipv4 h')
+    destination_same = ap (λ (k : Ipv4FragKey). Address.Ipv4 k.dst_addr) same
+
+    protocol_same : h.next_header ≡ h'.next_header
+    protocol_same = ap (λ (k : Ipv4FragKey). k.protocol) same
+
+    -- behind two headers of one key the same is read of TCP and UDP
+    pub hands_by_key : HandsMade made (Ip.Ipv4 h') payload → HandsMade made (Ip.Ipv4 h) payload
+    hands_by_key hands (Datagram udp bytes) is = hands (Datagram udp bytes) (record {
+      protocol = sym protocol_same ∙ is.protocol;
+      format = subst (λ (a : IpAddress). Udp.IsUdp a (destination_in (Ip.Ipv4 h')) true payload udp) source_same
+          (subst (λ (a : IpAddress). Udp.IsUdp (source_in (Ip.Ipv4 h)) a true payload udp) destination_same is.format);
+      bytes_are = is.bytes_are;
+    })
+    hands_by_key hands (Segment header bytes) is = hands (Segment header bytes) (record {
+      protocol = sym protocol_same ∙ is.protocol;
+      format = subst (λ (a : IpAddress). Tcp.IsTcp a (destination_in (Ip.Ipv4 h')) true payload header) source_same
+          (subst (λ (a : IpAddress). Tcp.IsTcp (source_in (Ip.Ipv4 h)) a true payload header) destination_same is.format);
+      bytes_are = is.bytes_are;
+    })
+    hands_by_key hands (ControlV4 message bytes) is = tt
+    hands_by_key hands (ControlV6 message bytes) is = tt
+    hands_by_key hands (Bytes bytes) is = tt
+
+  -- what a host sent as IPv4, behind a header of its key
+  pub hands_v4 : (out : List PacketValue) (v h : Ipv4Repr) (bytes : List ℕ) → AreOut made out → IsSentV4 out v bytes → Ipv4.key_of h ≡ Ipv4.key_of (Ipv4.normal v) → HandsMade made (Ip.Ipv4 h) bytes
+  hands_v4 out v h bytes all sent same =
+      let of_packet : HandsMade made (Ips.normal sent.packet.header) (bytes_of sent.packet) = hands_sent sent.packet (all sent.packet sent.among) in
+      let of_header : HandsMade made (Ip.Ipv4 (Ipv4.normal v)) (bytes_of sent.packet) =
+      subst (λ (ip : IpRepr). HandsMade made (Ips.normal ip) (bytes_of sent.packet)) sent.header of_packet in
+      hands_by_key h (Ipv4.normal v) bytes same (subst (λ (b : List ℕ). HandsMade made (Ip.Ipv4 (Ipv4.normal v)) b) (sym sent.bytes_are) of_header)
+
+  -- WHOLE
+
+  first_none : (more other : Bool) → more || other ≡ false → more ≡ false
+  first_none false other none = refl
+  first_none true other none = cc
+
+  second_none : (more other : Bool) → more || not other ≡ false → other ≡ true
+  second_none false true none = refl
+  second_none false false none = cc
+  second_none true other none = cc
+
+  -- a slice that is no piece is the whole
+  all_of_it : (bytes payload : List ℕ) (piece : Ipv4Piece) → is_piece piece ≡ false → Pieces.IsSliceOf bytes (record { offset = piece.offset; more = piece.more; bytes = payload }) → payload ≡ bytes
+  all_of_it bytes payload piece none slice =
+      let more : piece.more ≡ false = first_none piece.more (not (piece.offset == 0)) none in
+      let first : piece.offset == 0 ≡ true = second_none piece.more (piece.offset == 0) none in
+      let zero : piece.offset ≡ 0 = grind (arith, nat_tests, first) in
+      let count : piece.offset + length payload ≡ length bytes = slice.last more in
+      Begins-whole payload bytes (subst (λ (n : ℕ). Begins payload (drop n bytes)) zero slice.slice) (omega (arith, count, zero))
+
+  -- a content that is no piece brings what was made
+  pub brings_whole : (out : List PacketValue) (v : IncomingValue) → AreOut made out → IsFrom made out v → ((link : Option EthernetRepr) (h : Ipv4Repr) (p : Ipv4Piece) (x : List ℕ) → v ≡ Ip4 link h p x → is_piece p ≡ false) → BringsMade made (Some v)
+  brings_whole out (Arp link packet) all from whole = tt
+  brings_whole out (Ip4 link h p x) all (inl made_whole) whole = made_whole.1
+  brings_whole out (Ip4 link h p x) all (inr piece) whole =
+      let none = whole link h p x refl in
+      subst (λ (b : List ℕ). HandsMade made (Ip.Ipv4 h) b) (sym (all_of_it piece.bytes x p none piece.slice)) (hands_v4 out piece.sent_header h piece.bytes all piece.sent piece.key)
+  brings_whole out (Ip6 link h x) all (inl made_whole) whole = made_whole
+  brings_whole out (Ip6 link h x) all (inr piece) whole = absurd piece

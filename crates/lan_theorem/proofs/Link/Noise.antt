@@ -1,0 +1,50 @@
+-- Bytes that name neither TCP nor UDP bring nothing of them.
+use Rattle.std.proofs.Common.{◌≡◌, ℕ, ◌/◌, false, ◌&&◌, ◌==◌, List, slice_index, Some, None, sym, ◌∙◌, ap}
+use Rattle.ip_wire.specs.EthernetAddress.{EthernetAddress}
+use Rattle.ip_wire.specs.Fields.{be16}
+use Rattle.ip_wire.specs.HardwareAddress.{HardwareAddress}
+use Rattle.ip_wire.specs.HardwareAddress.TheVariants as Hardware
+use Rattle.ip_wire.specs.IpRepr.TheVariants as Ip
+use Rattle.ip_wire.specs.Protocol.{protocol_of}
+use Rattle.socket_base.specs.Packet.{PayloadValue}
+use Rattle.net_base.specs.Medium.TheVariants as Medium
+use Rattle.interface_ingress.specs.Incoming.{IncomingValue, Arp, Ip4, Ip6, IsIncoming}
+use Rattle.interface_delivery.specs.Delivered.{HasNoPorts}
+use Rattle.lan_frames.specs.Carried.{is_tcp_or_udp, names_tcp_or_udp}
+use Rattle.lan_frames.proofs.Named.{neither_first, neither_second, ether_is, byte_behind}
+use Rattle.lan_theorem.specs.Link.Made.{sealed, IsWholeMade}
+use Rattle.lan_theorem.specs.Link.Frames.{medium_on}
+use Rattle.lan_theorem.proofs.Link.Hands.{hands_none}
+
+on_ethernet : (own : EthernetAddress) (bytes : List ℕ) (v : IncomingValue) → names_tcp_or_udp Medium.Ethernet bytes ≡ false → IsIncoming (Hardware.Ethernet own) sealed bytes v → HasNoPorts v
+on_ethernet own bytes (Arp link packet) none is = tt
+on_ethernet own bytes (Ip4 None h p x) none is = absurd is
+on_ethernet own bytes (Ip4 (Some link) h p x) none is =
+    neither_first (be16 bytes 12) 0x0800 (slice_index bytes 23) ((be16 bytes 12 == 0x86dd) && is_tcp_or_udp (slice_index bytes 20)) h.next_header
+    (ether_is (be16 bytes 12) 0x0800 (sym is.0.format.carried ∙ is.0.carried_is)) none (is.1.format.protocol ∙ ap protocol_of (byte_behind bytes 14 9))
+on_ethernet own bytes (Ip6 None h x) none is = absurd is
+on_ethernet own bytes (Ip6 (Some link) h x) none is =
+    neither_second (be16 bytes 12) 0x86dd (slice_index bytes 20) ((be16 bytes 12 == 0x0800) && is_tcp_or_udp (slice_index bytes 23)) h.next_header
+    (ether_is (be16 bytes 12) 0x86dd (sym is.0.format.carried ∙ is.0.carried_is)) none (is.1.format.protocol ∙ ap protocol_of (byte_behind bytes 14 6))
+
+bare : (bytes : List ℕ) (v : IncomingValue) → names_tcp_or_udp Medium.Ip bytes ≡ false → IsIncoming Hardware.Ip sealed bytes v → HasNoPorts v
+bare bytes (Arp link packet) none is = absurd is
+bare bytes (Ip4 (Some link) h p x) none is = absurd is
+bare bytes (Ip4 None h p x) none is =
+    neither_first (slice_index bytes 0 / 16) 4 (slice_index bytes 9) ((slice_index bytes 0 / 16 == 6) && is_tcp_or_udp (slice_index bytes 6)) h.next_header
+    is.format.version none is.format.protocol
+bare bytes (Ip6 (Some link) h x) none is = absurd is
+bare bytes (Ip6 None h x) none is =
+    neither_second (slice_index bytes 0 / 16) 6 (slice_index bytes 6) ((slice_index bytes 0 / 16 == 4) && is_tcp_or_udp (slice_index bytes 9)) h.next_header
+    is.format.version none is.format.protocol
+
+-- no content of TCP or UDP, whatever medium and version
+pub noise_names_neither : (hardware : HardwareAddress) (bytes : List ℕ) (v : IncomingValue) → names_tcp_or_udp (medium_on hardware) bytes ≡ false → IsIncoming hardware sealed bytes v → HasNoPorts v
+noise_names_neither (Hardware.Ethernet own) bytes v none is = on_ethernet own bytes v none is
+noise_names_neither Hardware.Ip bytes v none is = bare bytes v none is
+
+-- so it brings nothing of them
+pub whole_where_none : (made : PayloadValue → Type 0) (v : IncomingValue) → HasNoPorts v → IsWholeMade made v
+whole_where_none made (Arp link packet) none = tt
+whole_where_none made (Ip4 link h p x) none = (λ _. none, hands_none made (Ip.Ipv4 h) x none)
+whole_where_none made (Ip6 link h x) none = hands_none made (Ip.Ipv6 h) x none

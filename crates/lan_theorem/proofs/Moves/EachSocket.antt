@@ -1,0 +1,188 @@
+-- What each thing that a poll does to a socket keeps of it is kept of all sockets by a poll.
+use Rattle.std.proofs.Common.{◌≡◌, ℕ, zero, suc, Bool, true, false, if◌then◌else◌, List, [], ◌∷◌, ◌++◌, Option, Some, None, refl, sym, ◌∙◌, subst}
+use Rattle.std.specs.Prelude.{ℤ, slice_get, slice_set}
+use Rattle.control_wire.specs.Icmpv4Header.{Icmpv4Header}
+use Rattle.control_wire.specs.Icmpv6.{MessageValue}
+use Rattle.ip_wire.specs.IpAddress.TheVariants as Address
+use Rattle.ip_wire.specs.IpRepr.{IpRepr}
+use Rattle.ip_wire.specs.IpRepr.TheVariants as Ip
+use Rattle.ip_wire.specs.Ipv4Repr.{Ipv4Repr}
+use Rattle.ip_wire.specs.Ipv6Repr.{Ipv6Repr}
+use Rattle.ip_wire.specs.TcpHeader.{TcpHeader}
+use Rattle.ip_wire.specs.UdpRepr.{UdpRepr}
+use Rattle.ip_wire.specs.declared.ethernet.repr.EthernetRepr.{EthernetRepr}
+use Rattle.net_base.specs.ChecksumCapabilities.{ChecksumCapabilities}
+use Rattle.net_base.specs.Device.{Move}
+use Rattle.socket_base.specs.Context.{ContextValue}
+use Rattle.socket_base.specs.Packet.{PacketValue, PayloadValue, ControlV4, ControlV6, Bytes, Datagram, Segment}
+use Rattle.socket_base.specs.declared.offer.Offer as Answer
+use Rattle.socket_base.specs.declared.offer.Offer.TheVariants as Offer
+use Rattle.sockets.specs.Socket.{Offers, offered_by, settled, accepts_packet, accepts_icmpv4, accepts_icmpv6}
+use Rattle.sockets.specs.declared.socket.Socket.{Socket}
+use Rattle.interface_tables.specs.Inner.{InnerValue, context_of, is_for_us}
+use Rattle.interface_egress.specs.declared.socket_set.Item.{Item}
+use Rattle.interface_egress.specs.declared.socket_set.SocketStorage.{SocketStorage}
+use Rattle.interface_ingress.specs.Arrives.{Arrived, ArrivesV4, ArrivesV6, Brings, Hands, renewed}
+use Rattle.interface_ingress.specs.Carried.{IsSegment, IsCarriedContent}
+use Rattle.interface_ingress.specs.Delivered.{with_change, given, all_given, changed_in, changed_at, with_packet, packet_delivered, is_taken_raw, with_icmpv4, with_icmpv6, with_datagram, datagram_place, with_segment, segment_place, segment_delivered}
+use Rattle.interface_ingress.specs.Handed.{control_v4_places, control_v6_places, names_nobody, handed_places}
+use Rattle.interface_ingress.specs.Incoming.{IncomingValue, Arp, Ip4, Ip6}
+use Rattle.interface.specs.Host.{Sender}
+use Rattle.interface.specs.Ingress.{Takes}
+use Rattle.interface.specs.Polls.{Polls}
+use Rattle.interface.specs.State.{State}
+use Rattle.interface.specs.Turn.{ItemTurns, TurnsIf, Answers, SendsBy, is_waiting, let_through, is_done}
+use Rattle.interface.specs.declared.turn.Turned.{Turned}
+use Rattle.interface_laws.specs.Kept.{IsKept}
+use Rattle.interface_laws.proofs.Keep.{polls_keep}
+use Rattle.lan_theorem.specs.Moves.Fit.{AreNamed}
+use Rattle.lan_theorem.specs.Moves.Raws.{OfItem, OfEach}
+use Rattle.lan_theorem.proofs.Moves.Places.{Places}
+
+-- what a poll may do to a socket keeps it
+pub record IsOfSockets (W : Socket → Type 0) : Type 0 where
+  pub offers : (cx : ContextValue) (s s' : Socket) (answer : Answer.Offer) → Offers cx s answer s' → W s → W s'
+  pub settles : (sent : Bool) (s : Socket) → W s → W (settled sent s)
+  pub packet : (ip : IpRepr) (payload : List ℕ) (s : Socket) → W s → W (with_packet ip payload s)
+  pub icmpv4 : (ip : Ipv4Repr) (message : Icmpv4Header) (bytes : List ℕ) (s : Socket) → W s → W (with_icmpv4 ip message bytes s)
+  pub icmpv6 : (ip : Ipv6Repr) (message : MessageValue) (bytes : List ℕ) (s : Socket) → W s → W (with_icmpv6 ip message bytes s)
+  pub datagram : (ip : IpRepr) (udp : UdpRepr) (bytes : List ℕ) (s : Socket) → W s → W (with_datagram ip udp bytes s)
+  pub segment : (cx : ContextValue) (ip : IpRepr) (header : TcpHeader) (bytes : List ℕ) (s : Socket) → AreNamed header.src_port header.dst_port → W s → W (with_segment cx ip header bytes s)
+
+-- a segment that is read names both ports
+pub segment_named : (caps : ChecksumCapabilities) (ip : IpRepr) (payload : List ℕ) (header : TcpHeader) (bytes : List ℕ) → IsSegment caps ip payload header bytes → AreNamed header.src_port header.dst_port
+segment_named caps ip payload header bytes is =
+    (λ zero. is.format.source_accepted (sym is.format.source_port ∙ zero), λ zero. is.format.destination_accepted (sym is.format.destination_port ∙ zero))
+
+module _ (W : Socket → Type 0) where
+  pub middle : (before after : Places) (p : SocketStorage Socket) → OfEach W (before ++ p ∷ after) → OfItem W p.inner
+  middle [] after p all = all.0
+  middle (x ∷ before) after p all = middle before after p all.1
+
+  exchanged : (before after : Places) (p p' : SocketStorage Socket) → OfItem W p'.inner → OfEach W (before ++ p ∷ after) → OfEach W (before ++ p' ∷ after)
+  exchanged [] after p p' new all = (new, all.1)
+  exchanged (x ∷ before) after p p' new all = (all.0, exchanged before after p p' new all.1)
+
+  pub found : (places : Places) (at : ℕ) (place : SocketStorage Socket) → slice_get places at ≡ Some place → OfEach W places → OfItem W place.inner
+  found [] zero place is all = absurd (cc)
+  found [] (suc at) place is all = absurd (cc)
+  found (p ∷ ps) zero place is all = let same : p ≡ place = cc in subst (λ (x : SocketStorage Socket). OfItem W x.inner) same all.0
+  found (p ∷ ps) (suc at) place is all = found ps at place is all.1
+
+  pub with_set : (places : Places) (at : ℕ) (place : SocketStorage Socket) → OfItem W place.inner → OfEach W places → OfEach W (slice_set places at place)
+  with_set [] zero place new all = tt
+  with_set [] (suc at) place new all = tt
+  with_set (p ∷ ps) zero place new all = (new, all.1)
+  with_set (p ∷ ps) (suc at) place new all = (all.0, with_set ps at place new all.1)
+
+  module _ (change : Socket → Socket) (keeps : (s : Socket) → W s → W (change s)) where
+    item_changed : (o : Option (Item Socket)) → OfItem W o → OfItem W (with_change change (record { inner = o })).inner
+    item_changed None holds = tt
+    item_changed (Some item) holds = keeps item.socket holds
+
+    changed_by : (at : ℕ) (o : Option (SocketStorage Socket)) (places : Places) → slice_get places at ≡ o → OfEach W places → OfEach W (changed_in change (Some at) o places)
+    changed_by at None places is all = all
+    changed_by at (Some place) places is all = with_set places at (with_change change place) (item_changed place.inner (found places at place is all)) all
+
+    changed : (at : Option ℕ) (places : Places) → OfEach W places → OfEach W (changed_at change at places)
+    changed None places all = all
+    changed (Some at) places all = changed_by at (slice_get places at) places refl all
+
+  module _ (test : Socket → Bool) (change : Socket → Socket) (keeps : (s : Socket) → W s → W (change s)) where
+    given_so : (passing : Bool) (s : Socket) → W s → W (if passing then change s else s)
+    given_so true s holds = keeps s holds
+    given_so false s holds = holds
+
+    all_so : (places : Places) → OfEach W places → OfEach W (all_given test change places)
+    all_so [] all = tt
+    all_so (p ∷ ps) all = (item_changed (given test change) (λ s holds. given_so (test s) s holds) p.inner all.0, all_so ps all.1)
+
+  module _ (law : IsOfSockets W) where
+    -- ARRIVALS
+
+    packets : (ip : IpRepr) (payload : List ℕ) (places : Places) → OfEach W places → OfEach W (packet_delivered ip payload places)
+    packets ip payload places all = all_so (λ s. accepts_packet s ip) (with_packet ip payload) (law.packet ip payload) places all
+
+    messages : (ip : IpRepr) (message : Icmpv4Header) (bytes : List ℕ) (places : Places) → OfEach W places → OfEach W (control_v4_places ip message bytes places)
+    messages (Ip.Ipv4 header) message bytes places all =
+        all_so (λ s. accepts_icmpv4 s (Address.Ipv4 header.dst_addr) message bytes) (with_icmpv4 header message bytes) (law.icmpv4 header message bytes) places all
+    messages (Ip.Ipv6 header) message bytes places all = all
+
+    messages_v6 : (ip : IpRepr) (message : MessageValue) (bytes : List ℕ) (places : Places) → OfEach W places → OfEach W (control_v6_places ip message bytes places)
+    messages_v6 (Ip.Ipv4 header) message bytes places all = all
+    messages_v6 (Ip.Ipv6 header) message bytes places all =
+        all_so (λ s. accepts_icmpv6 s (Address.Ipv6 header.dst_addr) message bytes) (with_icmpv6 header message bytes) (law.icmpv6 header message bytes) places all
+
+    segments : (nobody : Bool) (cx : ContextValue) (ip : IpRepr) (header : TcpHeader) (bytes : List ℕ) (places : Places) → AreNamed header.src_port header.dst_port → OfEach W places
+        → OfEach W (if nobody then places else segment_delivered cx ip header bytes places)
+    segments true cx ip header bytes places named all = all
+    segments false cx ip header bytes places named all =
+        changed (with_segment cx ip header bytes) (λ s holds. law.segment cx ip header bytes s named holds) (segment_place ip header places) places all
+
+    handed : (caps : ChecksumCapabilities) (i : InnerValue) (places : Places) (ip : IpRepr) (payload : List ℕ) (carried : Option PayloadValue) → IsCarriedContent caps ip payload carried → OfEach W places → OfEach W (handed_places i places ip carried)
+    handed caps i places ip payload None is all = all
+    handed caps i places ip payload (Some (ControlV4 message bytes)) is all = messages ip message bytes places all
+    handed caps i places ip payload (Some (ControlV6 message bytes)) is all = messages_v6 ip message bytes places all
+    handed caps i places ip payload (Some (Bytes bytes)) is all = all
+    handed caps i places ip payload (Some (Datagram udp bytes)) is all = changed (with_datagram ip udp bytes) (law.datagram ip udp bytes) (datagram_place (context_of i) ip udp places) places all
+    handed caps i places ip payload (Some (Segment header bytes)) is all =
+        segments (names_nobody ip) (context_of i) ip header bytes places (segment_named caps ip payload header bytes is) all
+
+    hands : (i : InnerValue) (places : Places) (ip : IpRepr) (payload : List ℕ) (taken : Bool) (a : Arrived) → Hands i places ip payload taken a → OfEach W places → OfEach W a.places
+    hands i places ip payload taken a (carried, is, so) all = subst (OfEach W) (sym so.places_are) (handed i.checksums i places ip payload carried is all)
+
+    v4 : (ours : Bool) (i : InnerValue) (places : Places) (link : Option EthernetRepr) (ip : IpRepr) (payload : List ℕ) (a : Arrived) → ArrivesV4 ours i places link ip payload a → OfEach W places → OfEach W a.places
+    v4 true i places link ip payload a is all =
+        hands (renewed i link ip) (packet_delivered ip payload places) ip payload (is_taken_raw ip places) a is (packets ip payload places all)
+    v4 false i places link ip payload a is all = subst (OfEach W) (sym is.places_are) (packets ip payload places all)
+
+    v6 : (ours : Bool) (i : InnerValue) (places : Places) (link : Option EthernetRepr) (ip : IpRepr) (payload : List ℕ) (a : Arrived) → ArrivesV6 ours i places link ip payload a → OfEach W places → OfEach W a.places
+    v6 true i places link ip payload a is all =
+        hands (renewed i link ip) (packet_delivered ip payload places) ip payload (is_taken_raw ip places) a is (packets ip payload places all)
+    v6 false i places link ip payload a is all = subst (OfEach W) (sym is.places_are) all
+
+    brings : (i : InnerValue) (places : Places) (content : Option IncomingValue) (a : Arrived) → Brings i places content a → OfEach W places → OfEach W a.places
+    brings i places None a is all = subst (OfEach W) (sym is.places_are) all
+    brings i places (Some (Arp link packet)) a is all = subst (OfEach W) (sym is.places_are) all
+    brings i places (Some (Ip4 link header piece payload)) a is all = v4 (is_for_us i (Address.Ipv4 header.dst_addr)) i places link (Ip.Ipv4 header) payload a is all
+    brings i places (Some (Ip6 link header payload)) a is all = v6 (is_for_us i (Address.Ipv6 header.dst_addr)) i places link (Ip.Ipv6 header) payload a is all
+
+    module _ {D : Type 0} (moves : D → Move → D → Type 0) (t : ℤ) where
+      takes : (s s' : State D) (answer : Option Bool) → OfEach W s.places → Takes moves s answer s' → OfEach W s'.places
+      takes s s' None all is = subst (λ (x : State D). OfEach W x.places) (sym is.1) all
+      takes s s' (Some false) all is = subst (λ (x : State D). OfEach W x.places) (sym is.3) all
+      takes s s' (Some true) all (frame, mid, took, reads, (content, read, receives)) =
+          subst (OfEach W) (sym receives.2) (brings s.host.inner s.places _ receives.0 receives.1.1 all)
+
+      -- TURNS
+
+      sends : (x x' : Sender D) (item item' : Item Socket) (changes : Bool) (turned : Turned) (packet : Option PacketValue) → W item.socket → SendsBy moves packet x item changes turned x' item' → W item'.socket
+      sends x x' item item' changes turned None holds is = absurd is
+      sends x x' item item' changes turned (Some packet) holds is =
+          subst (λ (i : Item Socket). W i.socket) (sym is.3) (law.settles (is_done is.0) item.socket holds)
+
+      answers : (x x' : Sender D) (item item' : Item Socket) (answer : Answer.Offer) (turned : Turned) → W item.socket → Answers moves answer x item turned x' item' → W item'.socket
+      answers x x' item item' (Offer.Silent changes) turned holds is = subst (λ (i : Item Socket). W i.socket) (sym is.2) holds
+      answers x x' item item' (Offer.Packet changes) turned holds is = sends x x' item item' changes turned (offered_by item.socket) holds is
+
+      turns : (waits : Bool) (x x' : Sender D) (item item' : Item Socket) (turned : Turned) → W item.socket → TurnsIf moves waits x (let_through x.inner item) turned x' item' → W item'.socket
+      turns true x x' item item' turned holds is = subst (λ (i : Item Socket). W i.socket) (sym is.2) holds
+      turns false x x' item item' turned holds (answer, offered, offers, is) =
+          answers x x' (record (let_through x.inner item) { socket = offered }) item' answer turned (law.offers (context_of x.inner) item.socket offered answer offers holds) is
+
+      items : (x x' : Sender D) (o o' : Option (Item Socket)) (turned : Turned) → OfItem W o → ItemTurns moves o x turned x' o' → OfItem W o'
+      items x x' None None turned holds is = tt
+      items x x' (Some item) (Some item') turned holds is = turns (is_waiting x.inner item.meta) x x' item item' turned holds is
+      items x x' None (Some item') turned holds is = absurd is
+      items x x' (Some item) None turned holds is = absurd is
+
+      pub kept : IsKept moves t (λ s. OfEach W s.places)
+      kept = record {
+        maintenance = λ s all. all;
+        arrivals = λ s s' answer runs all is. takes s s' answer all is;
+        pieces = λ h ps x x' l gone runs is all leaves same. all;
+        turns = λ h before after p p' x x' turned runs all is. exchanged before after p p' (items x x' p.inner p'.inner turned (middle before after p all) is) all;
+      }
+
+      pub polls_of_each : (budget : ℕ) (s s' : State D) (changes : Bool) → OfEach W s.places → Polls moves t budget s changes s' → OfEach W s'.places
+      polls_of_each budget s s' changes all polls = (polls_keep moves t (λ s. OfEach W s.places) kept budget s s' changes all polls).0

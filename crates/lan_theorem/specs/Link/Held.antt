@@ -1,0 +1,39 @@
+-- What a host holds of the datagrams that come to it in pieces.
+use Rattle.std.specs.Prelude.{◌≡◌, ◌⊎◌, ℕ, List, Some}
+use Rattle.std.specs.List.{AllByRecursion}
+use Rattle.ip_wire.specs.Ipv4 as Ipv4
+use Rattle.ip_wire.specs.Ipv4FragKey.{Ipv4FragKey}
+use Rattle.ip_wire.specs.Ipv4Repr.{Ipv4Repr}
+use Rattle.socket_base.specs.Packet.{PacketValue}
+use Rattle.interface_tables.specs.Pieces.{HoldsSlicesOf}
+use Rattle.interface_tables.specs.Reassembly.{SlotValue}
+use Rattle.interface_ingress.specs.Reassembled.{Slots, runs_kept}
+use Rattle.interface_delivery.specs.Delivered.{NamesNoPorts}
+use Rattle.lan_theorem.specs.Link.Frames.{IsSentV4}
+
+-- a slot with this key holds slices of one packet that was sent, whose key this is
+pub record HoldsSent (out : List PacketValue) (key : Ipv4FragKey) (s : SlotValue Ipv4FragKey) : Type 0 where
+  pub sent_header : Ipv4Repr
+  pub bytes : List ℕ
+  pub sent : IsSentV4 out sent_header bytes
+  pub key_is : key ≡ Ipv4.key_of (Ipv4.normal sent_header)
+  pub holds : HoldsSlicesOf runs_kept bytes s
+
+-- a slot is free, or of neither TCP nor UDP, or holds slices of one packet that was sent
+abbrev pub IsSlotOf : List PacketValue → SlotValue Ipv4FragKey → Type 0
+IsSlotOf out s = (key : Ipv4FragKey) → s.key ≡ Some key → NamesNoPorts key.protocol ⊎ HoldsSent out key s
+
+abbrev pub AreSlotsOf : List PacketValue → Slots → Type 0
+AreSlotsOf out slots = AllByRecursion (IsSlotOf out) slots
+
+-- WHAT IS REBUILT
+
+-- these bytes are the whole payload of one packet that was sent, whose key is that of this header
+pub record IsPayloadOf (out : List PacketValue) (header : Ipv4Repr) (bytes : List ℕ) : Type 0 where
+  pub sent_header : Ipv4Repr
+  pub sent : IsSentV4 out sent_header bytes
+  pub key_is : Ipv4.key_of header ≡ Ipv4.key_of (Ipv4.normal sent_header)
+
+-- so they are, or of neither TCP nor UDP
+abbrev pub IsRebuiltOf : List PacketValue → Ipv4Repr → List ℕ → Type 0
+IsRebuiltOf out header bytes = NamesNoPorts header.next_header ⊎ IsPayloadOf out header bytes

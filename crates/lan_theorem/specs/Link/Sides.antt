@@ -1,0 +1,132 @@
+-- The invariant of two hosts at a link: what each sent, and what waits for it.
+use Rattle.std.specs.Prelude.{◌≡◌, ◌≢◌, ◌⊎◌, ◌%◌, ◌^◌, ◌+◌, ◌<◌, ◌≤◌, ℕ, List, ◌++◌, length, Option, None, Some, IfSome}
+use Rattle.std.specs.List.{AllByRecursion}
+use Rattle.net_base.specs.Medium.{Medium}
+use Rattle.ip_wire.specs.Address.{IsIpAddress}
+use Rattle.ip_wire.specs.HardwareAddress.{HardwareAddress}
+use Rattle.ip_wire.specs.HardwareAddress.TheVariants as Hardware
+use Rattle.ip_wire.specs.declared.arp.repr.ArpRepr.{ArpRepr}
+use Rattle.ip_wire.specs.declared.arp.repr.ArpRepr.TheVariants as Arp
+use Rattle.socket_base.specs.Packet.{PacketValue, PayloadValue}
+use Rattle.interface_tables.specs.Inner.{InnerValue}
+use Rattle.interface_tables.specs.declared.neighbor.Neighbor.{Neighbor}
+use Rattle.interface_tables.specs.declared.route.Route.{Route}
+use Rattle.interface_egress.specs.declared.frame.Question.{Question}
+use Rattle.interface_egress.specs.declared.frame.Question.TheVariants as Query
+use Rattle.interface_egress.specs.Fragments.{LeftValue}
+use Rattle.interface_ingress.specs.Incoming.{IncomingValue, IsIncoming}
+use Rattle.interface_ingress.specs.Reassembled.{Slots}
+use Rattle.interface_delivery.specs.Delivered.{HasNoPorts}
+use Rattle.interface_delivery.specs.Taken.{HasWidths, IsHalfSent}
+use Rattle.lan_frames.specs.Cuts.{ipv4_part}
+use Rattle.ip_wire.specs.Fields.{be16}
+use Rattle.lan_frames.specs.Parts.{tcp_part, bytes_at}
+use Rattle.lan_frames.specs.declared.part.Part.{Part}
+use Rattle.lan_theorem.specs.Link.Made.{sealed}
+use Rattle.lan_theorem.specs.Link.Frames.{medium_on, IsAmong, IsSentV4, IsSlice, IsWhole6, IsFrom, BringsFrom, AreOut}
+use Rattle.lan_theorem.specs.Link.Held.{AreSlotsOf}
+use Rattle.lan_theorem.specs.Link.Numbers.{count_v4, AreNumbered, IsTied}
+
+-- WHAT A HOST SENT
+
+-- The packets of which a host sent the first frame at least, the newest first: what each carries was made, and each has its number.
+pub record AreSent (made : PayloadValue → Type 0) (first next : ℕ) (out : List PacketValue) : Type 0 where
+  pub packets : AreOut made out
+  pub numbered : AreNumbered first out next
+
+-- each content is of a frame that is brought to a host
+abbrev pub AreFrom : (PayloadValue → Type 0) → List PacketValue → Option IncomingValue → Type 0
+AreFrom made out None = Unit {0}
+AreFrom made out (Some v) = IsFrom made out v
+
+-- a frame that can't be cut, has no TCP segment, and brings neither TCP nor UDP, whatever padding follows: an ARP packet, or a question
+-- for a neighbour
+pub record IsOther (medium : Medium) (frame : List ℕ) : Type 0 where
+  pub uncut : ipv4_part medium frame ≡ None
+  pub no_segment : tcp_part medium frame ≡ None
+  pub brings : (hardware : HardwareAddress) (padding : List ℕ) (v : IncomingValue) → medium_on hardware ≡ medium → IsIncoming hardware sealed (frame ++ padding) v → HasNoPorts v
+
+-- a frame that a host sent, or that the link made of one by a cut
+abbrev pub IsHostFrame : Medium → List PacketValue → List ℕ → Type 0
+IsHostFrame medium out frame = IsSlice medium out frame ⊎ IsWhole6 medium out frame ⊎ IsOther medium frame
+
+-- how a word is exchanged: at an even place, within the segment, for a word of another sum
+pub record IsDamage (frame : List ℕ) (part : Part) (place word : ℕ) : Type 0 where
+  pub even : place % 2 ≡ 0
+  pub within : place + 2 ≤ part.len
+  pub small : word < 2 ^ 16
+  pub other : be16 (bytes_at frame part) place % 65535 ≢ word % 65535
+
+-- WHAT COMES TO A HOST: `made` and `out` are the other host's
+
+pub record IsReceiver (made : PayloadValue → Type 0) (out : List PacketValue) (i : InnerValue) (slots : Slots) (waiting : List (List ℕ)) : Type 0 where
+  pub checksums : i.checksums ≡ sealed
+  pub slots_are : AreSlotsOf out slots
+  pub waits : AllByRecursion (BringsFrom made out i.hardware) waiting
+
+-- A HOST
+
+-- both are Ethernet addresses, or neither is
+abbrev pub IsSameKind : HardwareAddress → HardwareAddress → Type 0
+IsSameKind (Hardware.Ethernet own) (Hardware.Ethernet to) = Unit {0}
+IsSameKind (Hardware.Ethernet own) Hardware.Ip = ⊥
+IsSameKind Hardware.Ip (Hardware.Ethernet to) = ⊥
+IsSameKind Hardware.Ip Hardware.Ip = Unit {0}
+
+abbrev pub HasSixBytes : HardwareAddress → Type 0
+HasSixBytes (Hardware.Ethernet own) = length own.0 ≡ 6
+HasSixBytes Hardware.Ip = Unit {0}
+
+abbrev pub IsStation : HardwareAddress → Type 0
+IsStation (Hardware.Ethernet to) = Unit {0}
+IsStation Hardware.Ip = ⊥
+
+-- the router of each route is an address
+abbrev pub RoutersAre : List Route → Type 0
+RoutersAre routes = AllByRecursion (λ r. IsIpAddress r.via_router) routes
+
+-- its numbers and addresses are of their widths, its neighbours are stations, and it writes and tests every checksum
+pub record IsSound (i : InnerValue) : Type 0 where
+  pub own : HasSixBytes i.hardware
+  pub neighbors : AllByRecursion (λ (n : Neighbor). IsStation n.hardware_addr) i.neighbors.entries
+  pub routers : RoutersAre i.routes
+  pub widths : HasWidths i
+  pub checksums : i.checksums ≡ sealed
+
+-- what is left to send is the rest of a packet that was sent
+pub record IsLeft (hardware : HardwareAddress) (out : List PacketValue) (l : LeftValue) : Type 0 where
+  pub sent : IsSentV4 out l.header l.payload
+  pub half : IsHalfSent l
+  pub to : IsSameKind hardware l.to
+
+-- A host that sends. `made` and `out` are its own, `first` its first number, and `sent` the frames that left it with those that the link
+-- made of them.
+pub record IsSender (made : PayloadValue → Type 0) (first : ℕ) (i : InnerValue) (left : Option LeftValue) (sent : List (List ℕ)) (out : List PacketValue) : Type 0 where
+  pub sound : IsSound i
+  pub are_sent : AreSent made first i.ident out
+  pub left_is : IfSome left (IsLeft i.hardware out)
+  pub frames : AllByRecursion (IsHostFrame (medium_on i.hardware) out) sent
+
+-- WHAT MAY GO
+
+-- a question for a neighbour whose address is one
+abbrev pub IsAsked : Question → Type 0
+IsAsked (Query.Arp own source target) = Unit {0}
+IsAsked (Query.Neighbor own source target) = length target.0 ≡ 16
+
+-- an ARP packet between two stations
+abbrev pub IsBetweenStations : ArpRepr → Type 0
+IsBetweenStations (Arp.EthernetIpv4 operation source source_protocol target target_protocol) = (length source.0 ≡ 6) × (length target.0 ≡ 6)
+
+-- AFTER SOMETHING WENT
+
+abbrev pub Grows : List PacketValue → List PacketValue → Type 0
+Grows out out' = (p : PacketValue) → IsAmong p out → IsAmong p out'
+
+-- It is a sender still, of more packets: so many more of IPv4 at most, each of which has a first frame.
+pub record WentOut (made : PayloadValue → Type 0) (first most : ℕ) (out : List PacketValue) (sent : List (List ℕ)) (i' : InnerValue) (l' : Option LeftValue) (sent' : List (List ℕ)) : Type 0 where
+  pub out_after : List PacketValue
+  pub grows : Grows out out_after
+  pub count : count_v4 out_after ≤ count_v4 out + most
+  pub tied : IsTied (medium_on i'.hardware) out sent out_after sent'
+  pub sender : IsSender made first i' l' sent' out_after
