@@ -34,7 +34,7 @@ ghost use Rattle.sockets.specs.declared.socket.Socket.TheVariants as Is;
 
 /// Law: each event that is taken, but for a poll, is a move: a call is one of the socket at its place, and any other event leaves every
 /// socket as it was.
-#[tactic(auto, using(crate::proofs::Worlds::rest_comes))]
+#[tactic(auto, using(crate::proofs::Moves::Worlds::rest_comes))]
 pub fn events_are_moves()
     ensures { (net : Net) (old new : Stations) (past : List Entry) (e : Entry)
         → IsNetOf net old past
