@@ -1,6 +1,6 @@
 //! Answers as texts.
 use crate::events::other_address;
-use crate::texts::{are_bytes, cut, is_moment, is_number};
+use crate::texts::{are_bytes, cut, is_moment, is_number, shown};
 use ip_wire::IpAddress;
 use lan_world::{Answer, Bytes, Fault, Refused, Side};
 use net_base::Instant;
@@ -49,7 +49,7 @@ fn is_rest(answer: &Result<Answer, Refused>, side: Side, rest: &str) -> bool {
 }
 
 fn are_those(bytes: &Bytes, text: &str) -> bool {
-    are_bytes(bytes.as_slice(), text)
+    are_bytes(shown(bytes), text)
 }
 
 fn is_other(source: &IpAddress, side: Side) -> bool {

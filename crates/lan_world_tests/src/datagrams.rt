@@ -10,8 +10,6 @@ const LONG: &str = "ip, udp 2 8192";
 
 const ETHERNET: &str = "ethernet, udp 1 64";
 
-const FIRST: &str = "45000020c24d00004011352cc0a80101c0a80102bf000035000c124daa0000ff";
-
 /// Both sockets are bound.
 const BOUND: &str = "
 A bind 0 48896
@@ -140,9 +138,6 @@ A poll -> idle
 A sent -> 2
 A poll-at 0 -> never
 ";
-
-const REQUEST: &str =
-    "ffffffffffff02000000000108060001080006040001020000000001c0a80101ffffffffffffc0a80102";
 
 /// Requests for a neighbour are a second apart.
 const SILENCE: &str = "

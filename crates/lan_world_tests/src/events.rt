@@ -1,6 +1,6 @@
 //! Events as texts.
-use crate::hosts::tell;
-use crate::texts::{bytes, count, cut, moment, number, short};
+use crate::hosts::{block, tell, v4};
+use crate::texts::{bytes, count, cut, moment, number, short, shown};
 use arrayvec::ArrayVec;
 use ip_wire::{EthernetAddress, IpAddress, IpCidr, IpEndpoint, TcpTimestampGenerator};
 use lan_world::{Bytes, Event, Side, TcpSetting};
@@ -86,10 +86,6 @@ pub fn other_address(side: Side) -> IpAddress {
     v4(192, 168, 1, number)
 }
 
-fn v4(a: u8, b: u8, c: u8, d: u8) -> IpAddress {
-    IpAddress::v4(a, b, c, d)
-}
-
 /// A port of the other host.
 fn remote(side: Side, port: u16) -> IpEndpoint {
     IpEndpoint {
@@ -161,7 +157,7 @@ fn host_event(act: &Act, now: i64) -> Option<Event> {
         "poll" => Event::Poll(side, at(now), 8),
         "poll-with" => Event::Poll(side, at(act.moment?), act.short?),
         "poll-at" => Event::PollAt(side, at(act.moment?)),
-        "no-address" => Event::Addrs(side, ArrayVec::new()),
+        "no-address" => Event::Addrs(side, no_blocks()),
         "any-ip" => Event::AnyIp(side, true),
         _ => return None,
     })
@@ -195,10 +191,14 @@ fn hardware_address(octets: &[u8]) -> Option<EthernetAddress> {
     }
 }
 
+fn no_blocks() -> ArrayVec<IpCidr, 4> {
+    ArrayVec::new()
+}
+
 /// This address with a prefix of 24 bits, and no other.
-fn block(address: IpAddress) -> ArrayVec<IpCidr, 4> {
-    let mut blocks = ArrayVec::new();
-    let _ = blocks.try_push(IpCidr::new(address, 24));
+fn one_block(address: IpAddress) -> ArrayVec<IpCidr, 4> {
+    let mut blocks = no_blocks();
+    let _ = blocks.try_push(block(address));
     blocks
 }
 
@@ -207,17 +207,19 @@ fn address_event(act: &Act, octets: &[u8]) -> Option<Event> {
     let side = act.side;
     Some(match act.verb {
         "hardware-address" => Event::HardwareAddr(side, hardware_address(octets)?),
-        "address" => Event::Addrs(side, block(address(octets)?)),
+        "address" => Event::Addrs(side, one_block(address(octets)?)),
         "route" => Event::Route(side, address(octets)?),
         _ => return None,
     })
 }
 
 fn event_with(act: &Act, bytes: Bytes) -> Option<Event> {
-    match (act.verb, act.place) {
-        ("noise", _) => Some(Event::Noise(act.side, bytes)),
-        (_, Some(place)) => event_at(act, place, bytes),
-        (_, None) => address_event(act, bytes.as_slice()),
+    if act.verb == "noise" {
+        return Some(Event::Noise(act.side, bytes));
+    }
+    match act.place {
+        Some(place) => event_at(act, place, bytes),
+        None => address_event(act, shown(&bytes)),
     }
 }
 

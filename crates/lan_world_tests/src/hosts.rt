@@ -37,22 +37,51 @@ fn hardware_addr(medium: Medium, n: u8) -> HardwareAddress {
     }
 }
 
-/// An interface of seed n at 192.168.1.n and fd00::n.
-fn interface(alloc: Global, n: u8, port: &Port, medium: Medium) -> Option<Interface> {
+pub fn v4(a: u8, b: u8, c: u8, d: u8) -> IpAddress {
+    IpAddress::v4(a, b, c, d)
+}
+
+/// The block of this address with a prefix of 24 bits.
+pub fn block(address: IpAddress) -> IpCidr {
+    IpCidr::new(address, 24)
+}
+
+fn block_v6(n: u8) -> IpCidr {
+    let address = IpAddress::v6(0xfd00, 0, 0, 0, 0, 0, 0, u16::from(n));
+    IpCidr::new(address, 64)
+}
+
+/// An interface of this seed without addresses.
+fn bare(alloc: Global, n: u8, port: &Port, medium: Medium) -> Option<Interface> {
     let config = Config {
         random_seed: u64::from(n),
         hardware_addr: hardware_addr(medium, n),
     };
-    let Ok(mut interface) = Interface::new(alloc, &config, port, Instant::ZERO) else {
-        return None;
-    };
-    let v4 = IpCidr::new(IpAddress::v4(192, 168, 1, n), 24);
-    let v6 = IpCidr::new(IpAddress::v6(0xfd00, 0, 0, 0, 0, 0, 0, u16::from(n)), 64);
-    let _ = interface.update_ip_addrs(|addresses| {
-        let _ = addresses.try_push(v4);
-        let _ = addresses.try_push(v6);
-    });
-    Some(interface)
+    match Interface::new(alloc, &config, port, Instant::ZERO) {
+        Ok(interface) => Some(interface),
+        Err(_) => None,
+    }
+}
+
+/// Gives the interface one more address.
+fn add_address(interface: &mut Interface, address: IpCidr) -> bool {
+    interface
+        .update_ip_addrs(|addresses| {
+            let _ = addresses.try_push(address);
+        })
+        .is_ok()
+}
+
+/// An interface of seed n at 192.168.1.n and fd00::n.
+fn interface(alloc: Global, n: u8, port: &Port, medium: Medium) -> Option<Interface> {
+    let mut interface = bare(alloc, n, port, medium)?;
+    if add_address(&mut interface, block(v4(192, 168, 1, n)))
+        && add_address(&mut interface, block_v6(n))
+    {
+        Some(interface)
+    } else {
+        None
+    }
 }
 
 fn queue<H: Drop>(
@@ -70,22 +99,32 @@ fn queue<H: Drop>(
     ))
 }
 
-/// A UDP socket, whose queues hold so many datagrams and so many bytes each way.
-fn udp_socket(alloc: Global, packets: usize, bytes: usize) -> Result<Socket, AllocError> {
-    let received = queue(alloc, packets, bytes)?;
-    let queued = queue(alloc, packets, bytes)?;
-    Ok(Socket::Udp(udp::Socket::new(received, queued)))
+/// The queues of a socket: what it received, and what it is to send.
+fn queues<H: Drop>(
+    alloc: Global,
+    packets: usize,
+    bytes: usize,
+) -> Result<(PacketBuffer<H>, PacketBuffer<H>), AllocError> {
+    Ok((queue(alloc, packets, bytes)?, queue(alloc, packets, bytes)?))
+}
+
+/// A UDP socket, whose queues hold so many datagrams and so many bytes each way, if the text says both.
+fn udp_socket(alloc: Global, sizes: &str) -> Result<Option<Socket>, AllocError> {
+    let (packets, bytes) = cut(sizes, " ");
+    let (Some(packets), Some(bytes)) = (count(packets), count(bytes)) else {
+        return Ok(None);
+    };
+    let (received, queued) = queues(alloc, packets, bytes)?;
+    Ok(Some(Socket::Udp(udp::Socket::new(received, queued))))
 }
 
 fn icmp_socket(alloc: Global) -> Result<Socket, AllocError> {
-    let received = queue(alloc, 2, 64)?;
-    let queued = queue(alloc, 2, 64)?;
+    let (received, queued) = queues(alloc, 2, 64)?;
     Ok(Socket::Icmp(icmp::Socket::new(received, queued)))
 }
 
 fn raw_socket(alloc: Global) -> Result<Socket, AllocError> {
-    let received = queue(alloc, 2, 64)?;
-    let queued = queue(alloc, 2, 64)?;
+    let (received, queued) = queues(alloc, 2, 64)?;
     let protocol = IpProtocol::from(89u8);
     Ok(Socket::Raw(raw::Socket::new(Some(IpVersion::Ipv4), Some(protocol), received, queued)))
 }
@@ -94,8 +133,11 @@ fn ring(alloc: Global, bytes: usize) -> Result<RingBuffer<u8>, AllocError> {
     Ok(RingBuffer::new(ManagedSlice::Fixed(vec![in alloc; 0; bytes]?)))
 }
 
-/// A TCP socket with room for so many bytes each way, unless no socket takes as many.
-fn tcp_socket(alloc: Global, bytes: usize) -> Result<Option<Socket>, AllocError> {
+/// A TCP socket with room for so many bytes each way, if a socket takes as many.
+fn tcp_socket(alloc: Global, size: &str) -> Result<Option<Socket>, AllocError> {
+    let Some(bytes) = count(size) else {
+        return Ok(None);
+    };
     let received = ring(alloc, bytes)?;
     let queued = ring(alloc, bytes)?;
     if !tcp::Socket::fits_buffer(&received) || !tcp::Socket::fits_buffer(&queued) {
@@ -107,12 +149,11 @@ fn tcp_socket(alloc: Global, bytes: usize) -> Result<Option<Socket>, AllocError>
 /// The socket of a text, as `udp 1 64`, if it is one.
 fn socket(alloc: Global, text: &str) -> Result<Option<Socket>, AllocError> {
     let (kind, sizes) = cut(text, " ");
-    let (first, second) = cut(sizes, " ");
-    match (kind, count(first), count(second)) {
-        ("udp", Some(packets), Some(bytes)) => Ok(Some(udp_socket(alloc, packets, bytes)?)),
-        ("tcp", Some(bytes), None) => tcp_socket(alloc, bytes),
-        ("icmp", None, None) => Ok(Some(icmp_socket(alloc)?)),
-        ("raw", None, None) => Ok(Some(raw_socket(alloc)?)),
+    match kind {
+        "udp" => udp_socket(alloc, sizes),
+        "tcp" => tcp_socket(alloc, sizes),
+        "icmp" => Ok(Some(icmp_socket(alloc)?)),
+        "raw" => Ok(Some(raw_socket(alloc)?)),
         _ => Ok(None),
     }
 }

@@ -69,9 +69,10 @@ fn outcome(rt: &HostRuntime, wrong: &str) -> Result<Option<&'static str>, Fail> 
 
 /// Fails where the two don't become what is wanted, and names what is wrong with A.
 fn becomes(rt: &HostRuntime, wrong: &'static str, want: &str) -> Result<(), Fail> {
-    match outcome(rt, wrong)? {
-        Some(outcome) if outcome == want => Ok(()),
-        _ => Err(wrong.into()),
+    if outcome(rt, wrong)?.unwrap_or("no memory") == want {
+        Ok(())
+    } else {
+        Err(wrong.into())
     }
 }
 

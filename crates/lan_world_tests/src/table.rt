@@ -40,14 +40,19 @@ use std::test::Fail;
 ///                           behind it, until neither has anything to do within five seconds
 pub type Case = (&'static str, &'static str, [&'static str; 2]);
 
-/// Plays each case. The failure names the first line that goes otherwise.
+/// Plays each case. The failure is the first line that goes otherwise, and the case's name is printed with it.
 pub fn play(rt: &HostRuntime, cases: &[Case]) -> Result<(), Fail> {
     for (name, hosts, texts) in cases {
         if let Some(line) = first_wrong(rt, hosts, texts)? {
-            return Err(Fail::new(format_args!("{name}: {line}")));
+            return fails(rt, name, line);
         }
     }
     Ok(())
+}
+
+fn fails(rt: &HostRuntime, name: &str, line: &'static str) -> Result<(), Fail> {
+    println!(rt; "{name}: {line}")?;
+    Err(line.into())
 }
 
 /// The first line of these texts that goes otherwise at two such hosts.

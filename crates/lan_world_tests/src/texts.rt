@@ -94,6 +94,11 @@ pub fn bytes(alloc: Global, text: &str) -> Result<Bytes, AllocError> {
     Ok(Bytes::from_vec(bytes))
 }
 
+/// The bytes of a value.
+pub fn shown(bytes: &Bytes) -> &[u8] {
+    bytes.as_slice()
+}
+
 /// Whether the bytes begin with these, in hex.
 pub fn begins(bytes: &[u8], hex: &str) -> bool {
     let mut same = hex.len() / 2 <= bytes.len();
