@@ -1,278 +1,188 @@
 //! Datagrams, whole and cut by the host that sends them.
-use crate::hosts::{Hosts, Sockets};
-use crate::table::Line::{All, Begins, Frame, Sent, Step};
-use crate::table::{Case, Do, Line, Says, first_wrong_case};
-use lan_world::{Fault, Side};
-use net_base::Medium;
+use crate::table::{Case, play};
 use std::test::Fail;
 
 /// Hosts on bare IP with one UDP socket each.
-const IP: Hosts = Hosts {
-    medium: Medium::Ip,
-    sockets: Sockets::Udp(1, 64),
-};
+const IP: &str = "ip, udp 1 64";
 
 /// The same with long queues.
-const LONG: Hosts = Hosts {
-    medium: Medium::Ip,
-    sockets: Sockets::Udp(2, 8192),
-};
+const LONG: &str = "ip, udp 2 8192";
 
-const ETHERNET: Hosts = Hosts {
-    medium: Medium::Ethernet,
-    sockets: Sockets::Udp(1, 64),
-};
-
-const FIRST: &str = "45000020c24d00004011352cc0a80101c0a80102bf000035000c124daa0000ff";
+const ETHERNET: &str = "ethernet, udp 1 64";
 
 /// Both sockets are bound.
-const BOUND: [Line; 2] = [
-    Step(Do::Bind(Side::A, 0, 48_896), Says::Done),
-    Step(Do::Bind(Side::B, 0, 53), Says::Done),
-];
+const BOUND: &str = "
+A bind 0 48896
+B bind 0 53
+";
 
 /// A datagram goes, is read, and goes a second time with the next number.
-const ONE: [Line; 9] = [
-    Step(Do::SendTo(Side::A, 0, 53, "aa0000ff"), Says::Done),
-    Step(Do::Poll(Side::A), Says::Changed),
-    Frame(Side::A, 0, FIRST),
-    Step(Do::Deliver(Side::A, 0), Says::Done),
-    Step(Do::Poll(Side::B), Says::Changed),
-    Step(Do::RecvFrom(Side::B, 0, 64), Says::From(48_896, "aa0000ff")),
-    Step(Do::SendTo(Side::A, 0, 53, "aa0000ff"), Says::Done),
-    Step(Do::Poll(Side::A), Says::Changed),
-    Frame(
-        Side::A,
-        1,
-        "45000020c24e00004011352bc0a80101c0a80102bf000035000c124daa0000ff",
-    ),
-];
+const ONE: &str = "
+A send-to 0 53: aa0000ff
+A poll -> changed
+A frame 0 -> 45000020c24d00004011352cc0a80101c0a80102bf000035000c124daa0000ff
+A deliver 0
+B poll -> changed
+B receive-from 0 64 -> from 48896 aa0000ff
+A send-to 0 53: aa0000ff
+A poll -> changed
+A frame 1 -> 45000020c24e00004011352bc0a80101c0a80102bf000035000c124daa0000ff
+";
 
 /// Delivered with padding and twice, it is read twice.
-const TWICE: [Line; 8] = [
-    Step(Do::SendTo(Side::A, 0, 53, "aa0000ff"), Says::Done),
-    Step(Do::Poll(Side::A), Says::Changed),
-    Step(Do::Pad(Side::A, 0, 20), Says::Done),
-    Step(Do::Pad(Side::A, 0, 1), Says::Done),
-    Step(Do::Poll(Side::B), Says::Changed),
-    Step(Do::RecvFrom(Side::B, 0, 64), Says::From(48_896, "aa0000ff")),
-    Step(Do::RecvFrom(Side::B, 0, 64), Says::From(48_896, "aa0000ff")),
-    Step(Do::RecvFrom(Side::B, 0, 64), Says::Error(Fault::Exhausted)),
-];
+const TWICE: &str = "
+A send-to 0 53: aa0000ff
+A poll -> changed
+A deliver 0: 5a*20
+A deliver 0: 5a*1
+B poll -> changed
+B receive-from 0 64 -> from 48896 aa0000ff
+B receive-from 0 64 -> from 48896 aa0000ff
+B receive-from 0 64 -> error exhausted
+";
 
 /// A datagram to a port that isn't bound is answered with an error that quotes it.
-const UNREACHABLE: [Line; 6] = [
-    Step(Do::Bind(Side::A, 0, 48_896), Says::Done),
-    Step(Do::SendTo(Side::A, 0, 53, "aa0000ff"), Says::Done),
-    Step(Do::Poll(Side::A), Says::Changed),
-    Step(Do::Deliver(Side::A, 0), Says::Done),
-    Step(Do::Poll(Side::B), Says::Changed),
-    Frame(
-        Side::B,
-        0,
-        "4500003ce145000040011628c0a80102c0a801010303806e0000000045000020c24d00004011352cc0a80101c0a80102bf000035000c124daa0000ff",
-    ),
-];
+const UNREACHABLE: &str = "
+A bind 0 48896
+A send-to 0 53: aa0000ff
+A poll -> changed
+A deliver 0
+B poll -> changed
+B frame 0 -> 4500003ce145000040011628c0a80102c0a801010303806e0000000045000020c24d00004011352cc0a80101c0a80102bf000035000c124daa0000ff
+";
 
 /// A device without room takes nothing, and the datagram stays.
-const NO_ROOM: [Line; 8] = [
-    Step(Do::SendTo(Side::A, 0, 53, "aa0000ff"), Says::Done),
-    Step(Do::Room(Side::A, 0), Says::Done),
-    Step(Do::Poll(Side::A), Says::Idle),
-    Sent(Side::A, 0),
-    Step(Do::Room(Side::A, 1), Says::Done),
-    Step(Do::Poll(Side::A), Says::Changed),
-    Sent(Side::A, 1),
-    Frame(Side::A, 0, FIRST),
-];
+const NO_ROOM: &str = "
+A send-to 0 53: aa0000ff
+A room 0
+A poll -> idle
+A sent -> 0
+A room 1
+A poll -> changed
+A sent -> 1
+A frame 0 -> 45000020c24d00004011352cc0a80101c0a80102bf000035000c124daa0000ff
+";
 
 /// With no room, frames that wait are not taken either.
-const NOT_TAKEN: [Line; 9] = [
-    Step(Do::SendTo(Side::A, 0, 53, "aa0000ff"), Says::Done),
-    Step(Do::Poll(Side::A), Says::Changed),
-    Step(Do::Deliver(Side::A, 0), Says::Done),
-    Step(Do::Room(Side::B, 0), Says::Done),
-    Step(Do::Poll(Side::B), Says::Idle),
-    Step(Do::RecvFrom(Side::B, 0, 64), Says::Error(Fault::Exhausted)),
-    Step(Do::Room(Side::B, 1), Says::Done),
-    Step(Do::Poll(Side::B), Says::Changed),
-    Step(Do::RecvFrom(Side::B, 0, 64), Says::From(48_896, "aa0000ff")),
-];
+const NOT_TAKEN: &str = "
+A send-to 0 53: aa0000ff
+A poll -> changed
+A deliver 0
+B room 0
+B poll -> idle
+B receive-from 0 64 -> error exhausted
+B room 1
+B poll -> changed
+B receive-from 0 64 -> from 48896 aa0000ff
+";
 
 /// A long datagram goes in two pieces; both are needed, in either order.
-const PIECES: [Line; 11] = [
-    Step(Do::SendLong(Side::A, 0, 53, 2_000, 7), Says::Done),
-    Step(Do::Poll(Side::A), Says::Changed),
-    Sent(Side::A, 2),
-    Begins(Side::A, 0, 1_500, "450005dcc24d200040110f70"),
-    Begins(Side::A, 1, 548, "45000224c24d00b94011326f"),
-    Step(Do::Deliver(Side::A, 1), Says::Done),
-    Step(Do::Poll(Side::B), Says::Changed),
-    Step(
-        Do::RecvFrom(Side::B, 0, 4_000),
-        Says::Error(Fault::Exhausted),
-    ),
-    Step(Do::Deliver(Side::A, 0), Says::Done),
-    Step(Do::Poll(Side::B), Says::Changed),
-    Step(
-        Do::RecvFrom(Side::B, 0, 4_000),
-        Says::FromLong(48_896, 2_000, 7),
-    ),
-];
+const PIECES: &str = "
+A send-to 0 53: 07*2000
+A poll -> changed
+A sent -> 2
+A begins 0 -> 1500 450005dcc24d200040110f70
+A begins 1 -> 548 45000224c24d00b94011326f
+A deliver 1
+B poll -> changed
+B receive-from 0 4000 -> error exhausted
+A deliver 0
+B poll -> changed
+B receive-from 0 4000 -> from 48896 07*2000
+";
 
 /// While pieces wait the next datagram is not cut.
-const BUSY: [Line; 12] = [
-    Step(Do::SendLong(Side::A, 0, 53, 4_000, 1), Says::Done),
-    Step(Do::SendLong(Side::A, 0, 53, 4_000, 2), Says::Done),
-    Step(Do::Poll(Side::A), Says::Changed),
-    Sent(Side::A, 2),
-    Step(Do::Poll(Side::A), Says::Changed),
-    Sent(Side::A, 5),
-    Step(Do::Poll(Side::A), Says::Idle),
-    Sent(Side::A, 6),
-    Begins(Side::A, 2, 1_068, "4500042c"),
-    Begins(Side::A, 3, 1_500, "450005dc"),
-    Begins(Side::A, 4, 1_500, "450005dc"),
-    Begins(Side::A, 5, 1_068, "4500042c"),
-];
+const BUSY: &str = "
+A send-to 0 53: 01*4000
+A send-to 0 53: 02*4000
+A poll -> changed
+A sent -> 2
+A poll -> changed
+A sent -> 5
+A poll -> idle
+A sent -> 6
+A begins 2 -> 1068 4500042c
+A begins 3 -> 1500 450005dc
+A begins 4 -> 1500 450005dc
+A begins 5 -> 1068 4500042c
+";
 
-const BOTH_READ: [Line; 4] = [
-    All(1, 0),
-    Step(
-        Do::RecvFrom(Side::B, 0, 8_000),
-        Says::FromLong(48_896, 4_000, 1),
-    ),
-    Step(
-        Do::RecvFrom(Side::B, 0, 8_000),
-        Says::FromLong(48_896, 4_000, 2),
-    ),
-    Step(
-        Do::RecvFrom(Side::B, 0, 8_000),
-        Says::Error(Fault::Exhausted),
-    ),
-];
+const BOTH_READ: &str = "
+settle 1
+B receive-from 0 8000 -> from 48896 01*4000
+B receive-from 0 8000 -> from 48896 02*4000
+B receive-from 0 8000 -> error exhausted
+";
 
 /// A datagram that the fragmentation buffer just can't hold is dropped; one byte less goes.
-const LONGEST: [Line; 8] = [
-    Step(Do::SendLong(Side::A, 0, 53, 4_069, 0), Says::Done),
-    Step(Do::Poll(Side::A), Says::Changed),
-    Sent(Side::A, 0),
-    Step(Do::SendLong(Side::A, 0, 53, 4_068, 0), Says::Done),
-    All(1, 0),
-    Begins(Side::A, 0, 1_500, "450005dcc24d2000"),
-    Begins(Side::A, 1, 1_500, "450005dcc24d20b9"),
-    Begins(Side::A, 2, 1_136, "45000470c24d0172"),
-];
+const LONGEST: &str = "
+A send-to 0 53: 00*4069
+A poll -> changed
+A sent -> 0
+A send-to 0 53: 00*4068
+settle 1
+A begins 0 -> 1500 450005dcc24d2000
+A begins 1 -> 1500 450005dcc24d20b9
+A begins 2 -> 1136 45000470c24d0172
+";
 
 /// An idle host needn't be polled; one with a piece that waits is to be polled at once.
-const WHEN: [Line; 9] = [
-    Step(Do::PollAt(Side::A, 0), Says::Never),
-    Step(Do::SendLong(Side::A, 0, 53, 2_000, 7), Says::Done),
-    Step(Do::Room(Side::A, 1), Says::Done),
-    Step(Do::Poll(Side::A), Says::Changed),
-    Step(Do::PollAt(Side::A, 0), Says::At(0)),
-    Step(Do::Room(Side::A, 1), Says::Done),
-    Step(Do::Poll(Side::A), Says::Idle),
-    Sent(Side::A, 2),
-    Step(Do::PollAt(Side::A, 0), Says::Never),
-];
-
-const REQUEST: &str =
-    "ffffffffffff02000000000108060001080006040001020000000001c0a80101ffffffffffffc0a80102";
+const WHEN: &str = "
+A poll-at 0 -> never
+A send-to 0 53: 07*2000
+A room 1
+A poll -> changed
+A poll-at 0 -> at 0
+A room 1
+A poll -> idle
+A sent -> 2
+A poll-at 0 -> never
+";
 
 /// Requests for a neighbour are a second apart.
-const SILENCE: [Line; 10] = [
-    Step(Do::Bind(Side::A, 0, 48_896), Says::Done),
-    Step(Do::SendTo(Side::A, 0, 53, "aa"), Says::Done),
-    Step(Do::Poll(Side::A), Says::Idle),
-    Frame(Side::A, 0, REQUEST),
-    Step(Do::PollAt(Side::A, 0), Says::At(1_000_000)),
-    Step(Do::PollWith(Side::A, 999_999, 8), Says::Idle),
-    Sent(Side::A, 1),
-    Step(Do::PollWith(Side::A, 1_000_000, 8), Says::Idle),
-    Sent(Side::A, 2),
-    Frame(Side::A, 1, REQUEST),
-];
+const SILENCE: &str = "
+A bind 0 48896
+A send-to 0 53: aa
+A poll -> idle
+A frame 0 -> ffffffffffff02000000000108060001080006040001020000000001c0a80101ffffffffffffc0a80102
+A poll-at 0 -> at 1000000
+A poll-with 999999 8 -> idle
+A sent -> 1
+A poll-with 1000000 8 -> idle
+A sent -> 2
+A frame 1 -> ffffffffffff02000000000108060001080006040001020000000001c0a80101ffffffffffffc0a80102
+";
 
-const TWO_LONG: [Line; 4] = [
-    Step(Do::Bind(Side::A, 0, 48_896), Says::Done),
-    Step(Do::Bind(Side::B, 0, 53), Says::Done),
-    Step(Do::SendLong(Side::A, 0, 53, 4_000, 1), Says::Done),
-    Step(Do::SendLong(Side::A, 0, 53, 4_000, 2), Says::Done),
-];
+const TWO_LONG: &str = "
+A bind 0 48896
+B bind 0 53
+A send-to 0 53: 01*4000
+A send-to 0 53: 02*4000
+";
 
 const CASES: [Case; 11] = [
-    Case {
-        name: "a datagram is read and the next is numbered on",
-        hosts: IP,
-        first: &BOUND,
-        then: &ONE,
-    },
-    Case {
-        name: "what comes twice is read twice",
-        hosts: LONG,
-        first: &BOUND,
-        then: &TWICE,
-    },
-    Case {
-        name: "an unbound port is unreachable",
-        hosts: IP,
-        first: &UNREACHABLE,
-        then: &[],
-    },
-    Case {
-        name: "nothing goes without room",
-        hosts: IP,
-        first: &BOUND,
-        then: &NO_ROOM,
-    },
-    Case {
-        name: "nothing comes without room",
-        hosts: IP,
-        first: &BOUND,
-        then: &NOT_TAKEN,
-    },
-    Case {
-        name: "a long datagram is rebuilt in reverse",
-        hosts: LONG,
-        first: &BOUND,
-        then: &PIECES,
-    },
-    Case {
-        name: "the second long datagram waits",
-        hosts: LONG,
-        first: &BOUND,
-        then: &BUSY,
-    },
-    Case {
-        name: "two long datagrams are read",
-        hosts: LONG,
-        first: &TWO_LONG,
-        then: &BOTH_READ,
-    },
-    Case {
-        name: "the longest datagram goes",
-        hosts: LONG,
-        first: &BOUND,
-        then: &LONGEST,
-    },
-    Case {
-        name: "a host says when to poll",
-        hosts: LONG,
-        first: &BOUND,
-        then: &WHEN,
-    },
-    Case {
-        name: "requests are a second apart",
-        hosts: ETHERNET,
-        first: &SILENCE,
-        then: &[],
-    },
+    (
+        "a datagram is read and the next is numbered on",
+        IP,
+        [BOUND, ONE],
+    ),
+    ("what comes twice is read twice", LONG, [BOUND, TWICE]),
+    ("an unbound port is unreachable", IP, [UNREACHABLE, ""]),
+    ("nothing goes without room", IP, [BOUND, NO_ROOM]),
+    ("nothing comes without room", IP, [BOUND, NOT_TAKEN]),
+    (
+        "a long datagram is rebuilt in reverse",
+        LONG,
+        [BOUND, PIECES],
+    ),
+    ("the second long datagram waits", LONG, [BOUND, BUSY]),
+    ("two long datagrams are read", LONG, [TWO_LONG, BOTH_READ]),
+    ("the longest datagram goes", LONG, [BOUND, LONGEST]),
+    ("a host says when to poll", LONG, [BOUND, WHEN]),
+    ("requests are a second apart", ETHERNET, [SILENCE, ""]),
 ];
 
 #[test]
 fn each_case_holds(rt: HostRuntime) -> Result<(), Fail> {
-    let wrong = first_wrong_case(&rt, &CASES)?;
-    assert_eq!(rt; wrong, None);
-    Ok(())
+    play(&rt, &CASES)
 }

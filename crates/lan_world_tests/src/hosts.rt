@@ -1,7 +1,5 @@
 //! Hosts, and worlds of two of them.
-ghost use Rattle.std.specs.Prelude.{IfOk};
-ghost use Rattle.tcp_socket.specs.Receive.{FitsBuffer};
-
+use crate::texts::{count, cut};
 use interface::{Config, Interface, SocketSet};
 use ip_wire::{EthernetAddress, HardwareAddress, IpAddress, IpCidr, IpProtocol, IpVersion};
 use lan_port::Port;
@@ -14,41 +12,7 @@ use sockets::{Socket, icmp, raw, tcp, udp};
 use std::alloc::{AllocError, Global};
 use std::test::Fail;
 
-/// The sockets of a host.
-#[derive(Clone, Copy)]
-pub enum Sockets {
-    /// One UDP socket, whose queues hold so many datagrams of so many bytes each way.
-    Udp(usize, usize),
-    TwoUdp,
-    /// One TCP socket, with room for so many bytes each way.
-    Tcp(usize),
-    TwoTcp,
-    /// One socket of each kind: UDP, ICMP, raw (of protocol 89 in IPv4), TCP.
-    Each,
-}
-
-/// How both hosts are made.
-#[derive(Clone, Copy)]
-pub struct Hosts {
-    pub medium: Medium,
-    pub sockets: Sockets,
-}
-
-/// Why no host was made.
-#[derive(Clone, Copy)]
-pub enum Missing {
-    Memory,
-    Interface,
-    Place,
-}
-
-impl From<AllocError> for Missing {
-    fn from(_error: AllocError) -> Missing {
-        Missing::Memory
-    }
-}
-
-/// A device of this medium, whose longest IP packet has so many bytes, without checksums where these are left out.
+/// A device of this medium, whose longest IP packet has so many bytes.
 pub fn capabilities(medium: Medium, ip_mtu: u16) -> DeviceCapabilities {
     let header = match medium {
         Medium::Ethernet => 14,
@@ -61,6 +25,11 @@ pub fn capabilities(medium: Medium, ip_mtu: u16) -> DeviceCapabilities {
     }
 }
 
+/// A port of such a device.
+pub fn port(alloc: Global, described: DeviceCapabilities) -> Port {
+    Port::new(alloc, described)
+}
+
 fn hardware_addr(medium: Medium, n: u8) -> HardwareAddress {
     match medium {
         Medium::Ethernet => HardwareAddress::Ethernet(EthernetAddress([2, 0, 0, 0, 0, n])),
@@ -68,22 +37,51 @@ fn hardware_addr(medium: Medium, n: u8) -> HardwareAddress {
     }
 }
 
-/// An interface of seed n at 192.168.1.n and fd00::n.
-fn interface(alloc: Global, n: u8, port: &Port, medium: Medium) -> Result<Interface, Missing> {
+pub fn v4(a: u8, b: u8, c: u8, d: u8) -> IpAddress {
+    IpAddress::v4(a, b, c, d)
+}
+
+/// The block of this address with a prefix of 24 bits.
+pub fn block(address: IpAddress) -> IpCidr {
+    IpCidr::new(address, 24)
+}
+
+fn block_v6(n: u8) -> IpCidr {
+    let address = IpAddress::v6(0xfd00, 0, 0, 0, 0, 0, 0, u16::from(n));
+    IpCidr::new(address, 64)
+}
+
+/// An interface of this seed without addresses.
+fn bare(alloc: Global, n: u8, port: &Port, medium: Medium) -> Option<Interface> {
     let config = Config {
         random_seed: u64::from(n),
         hardware_addr: hardware_addr(medium, n),
     };
-    let mut interface = Interface::new(alloc, &config, port, Instant::ZERO).map_err(
-        |_| Missing::Interface,
-    )?;
-    let v4 = IpCidr::new(IpAddress::v4(192, 168, 1, n), 24);
-    let v6 = IpCidr::new(IpAddress::v6(0xfd00, 0, 0, 0, 0, 0, 0, u16::from(n)), 64);
-    let _ = interface.update_ip_addrs(|addresses| {
-        let _ = addresses.try_push(v4);
-        let _ = addresses.try_push(v6);
-    });
-    Ok(interface)
+    match Interface::new(alloc, &config, port, Instant::ZERO) {
+        Ok(interface) => Some(interface),
+        Err(_) => None,
+    }
+}
+
+/// Gives the interface one more address.
+fn add_address(interface: &mut Interface, address: IpCidr) -> bool {
+    interface
+        .update_ip_addrs(|addresses| {
+            let _ = addresses.try_push(address);
+        })
+        .is_ok()
+}
+
+/// An interface of seed n at 192.168.1.n and fd00::n.
+fn interface(alloc: Global, n: u8, port: &Port, medium: Medium) -> Option<Interface> {
+    let mut interface = bare(alloc, n, port, medium)?;
+    if add_address(&mut interface, block(v4(192, 168, 1, n)))
+        && add_address(&mut interface, block_v6(n))
+    {
+        Some(interface)
+    } else {
+        None
+    }
 }
 
 fn queue<H: Drop>(
@@ -101,92 +99,113 @@ fn queue<H: Drop>(
     ))
 }
 
-fn udp_socket(alloc: Global, packets: usize, bytes: usize) -> Result<Socket, AllocError> {
-    let received = queue(alloc, packets, bytes)?;
-    let queued = queue(alloc, packets, bytes)?;
-    Ok(Socket::Udp(udp::Socket::new(received, queued)))
+/// The queues of a socket: what it received, and what it is to send.
+fn queues<H: Drop>(
+    alloc: Global,
+    packets: usize,
+    bytes: usize,
+) -> Result<(PacketBuffer<H>, PacketBuffer<H>), AllocError> {
+    Ok((queue(alloc, packets, bytes)?, queue(alloc, packets, bytes)?))
+}
+
+/// A UDP socket, whose queues hold so many datagrams and so many bytes each way, if the text says both.
+fn udp_socket(alloc: Global, sizes: &str) -> Result<Option<Socket>, AllocError> {
+    let (packets, bytes) = cut(sizes, " ");
+    let (Some(packets), Some(bytes)) = (count(packets), count(bytes)) else {
+        return Ok(None);
+    };
+    let (received, queued) = queues(alloc, packets, bytes)?;
+    Ok(Some(Socket::Udp(udp::Socket::new(received, queued))))
 }
 
 fn icmp_socket(alloc: Global) -> Result<Socket, AllocError> {
-    let received = queue(alloc, 2, 64)?;
-    let queued = queue(alloc, 2, 64)?;
+    let (received, queued) = queues(alloc, 2, 64)?;
     Ok(Socket::Icmp(icmp::Socket::new(received, queued)))
 }
 
 fn raw_socket(alloc: Global) -> Result<Socket, AllocError> {
-    let received = queue(alloc, 2, 64)?;
-    let queued = queue(alloc, 2, 64)?;
+    let (received, queued) = queues(alloc, 2, 64)?;
     let protocol = IpProtocol::from(89u8);
     Ok(Socket::Raw(raw::Socket::new(Some(IpVersion::Ipv4), Some(protocol), received, queued)))
 }
 
-/// A buffer of so many bytes, or of 64 where a socket takes no longer one.
-fn ring(alloc: Global, bytes: usize) -> Result<RingBuffer<u8>, AllocError>
-    ensures { IfOk result FitsBuffer }
-{
-    let buffer = RingBuffer::new(ManagedSlice::Fixed(vec![in alloc; 0; bytes]?));
-    if tcp::Socket::fits_buffer(&buffer) {
-        return Ok(buffer);
-    }
-    Ok(RingBuffer::new(ManagedSlice::Fixed(vec![in alloc; 0; 64]?)))
+fn ring(alloc: Global, bytes: usize) -> Result<RingBuffer<u8>, AllocError> {
+    Ok(RingBuffer::new(ManagedSlice::Fixed(vec![in alloc; 0; bytes]?)))
 }
 
-fn tcp_socket(alloc: Global, bytes: usize) -> Result<Socket, AllocError> {
+/// A TCP socket with room for so many bytes each way, if a socket takes as many.
+fn tcp_socket(alloc: Global, size: &str) -> Result<Option<Socket>, AllocError> {
+    let Some(bytes) = count(size) else {
+        return Ok(None);
+    };
     let received = ring(alloc, bytes)?;
     let queued = ring(alloc, bytes)?;
-    Ok(Socket::Tcp(tcp::Socket::new(received, queued)))
+    if !tcp::Socket::fits_buffer(&received) || !tcp::Socket::fits_buffer(&queued) {
+        return Ok(None);
+    }
+    Ok(Some(Socket::Tcp(tcp::Socket::new(received, queued))))
 }
 
-fn push(set: &mut SocketSet<Socket>, socket: Socket) -> Result<(), Missing> {
-    let _ = set.add(socket).map_err(|_| Missing::Place)?;
-    Ok(())
+/// The socket of a text, as `udp 1 64`, if it is one.
+fn socket(alloc: Global, text: &str) -> Result<Option<Socket>, AllocError> {
+    let (kind, sizes) = cut(text, " ");
+    match kind {
+        "udp" => udp_socket(alloc, sizes),
+        "tcp" => tcp_socket(alloc, sizes),
+        "icmp" => Ok(Some(icmp_socket(alloc)?)),
+        "raw" => Ok(Some(raw_socket(alloc)?)),
+        _ => Ok(None),
+    }
 }
 
-fn socket_set(alloc: Global, sockets: Sockets) -> Result<SocketSet<Socket>, Missing> {
+/// Adds the socket, unless no memory is left for it.
+fn add(set: &mut SocketSet<Socket>, socket: Socket) -> bool {
+    set.add(socket).is_ok()
+}
+
+/// The sockets of a text, with `, ` between them.
+fn socket_set(alloc: Global, text: &str) -> Option<SocketSet<Socket>> {
     let mut set = SocketSet::new(ManagedSlice::Owned(Vec::new(alloc)));
-    match sockets {
-        Sockets::Udp(packets, bytes) => push(&mut set, udp_socket(alloc, packets, bytes)?)?,
-        Sockets::TwoUdp => {
-            push(&mut set, udp_socket(alloc, 1, 64)?)?;
-            push(&mut set, udp_socket(alloc, 1, 64)?)?;
-        }
-        Sockets::Tcp(bytes) => push(&mut set, tcp_socket(alloc, bytes)?)?,
-        Sockets::TwoTcp => {
-            push(&mut set, tcp_socket(alloc, 64)?)?;
-            push(&mut set, tcp_socket(alloc, 64)?)?;
-        }
-        Sockets::Each => {
-            push(&mut set, udp_socket(alloc, 1, 64)?)?;
-            push(&mut set, icmp_socket(alloc)?)?;
-            push(&mut set, raw_socket(alloc)?)?;
-            push(&mut set, tcp_socket(alloc, 64)?)?;
+    for part in text.split(", ") {
+        let Ok(Some(socket)) = socket(alloc, part) else {
+            return None;
+        };
+        if !add(&mut set, socket) {
+            return None;
         }
     }
-    Ok(set)
+    Some(set)
 }
 
-/// The host of this number over this device.
-pub fn host(
-    alloc: Global,
-    n: u8,
-    described: DeviceCapabilities,
-    sockets: Sockets,
-) -> Result<Host, Missing> {
-    let port = Port::new(alloc, described);
-    let interface = interface(alloc, n, &port, described.medium)?;
-    let sockets = socket_set(alloc, sockets)?;
-    Ok(Host {
-        interface,
-        sockets,
+/// The host of this number over this device, with the sockets of this text.
+pub fn host(alloc: Global, n: u8, described: DeviceCapabilities, sockets: &str) -> Option<Host> {
+    let port = port(alloc, described);
+    Some(Host {
+        interface: interface(alloc, n, &port, described.medium)?,
+        sockets: socket_set(alloc, sockets)?,
         port,
     })
 }
 
-fn made(alloc: Global, hosts: Hosts) -> Option<World> {
-    let described = capabilities(hosts.medium, 1500);
-    let a = host(alloc, 1, described, hosts.sockets).ok()?;
-    let b = host(alloc, 2, described, hosts.sockets).ok()?;
-    World::new(alloc, a, b).ok()
+/// A world of these two, or why they make none.
+pub fn world_of(alloc: Global, a: Host, b: Host) -> Result<World, WorldError> {
+    World::new(alloc, a, b)
+}
+
+fn made(alloc: Global, hosts: &str) -> Option<World> {
+    let (medium, sockets) = cut(hosts, ", ");
+    let medium = match medium {
+        "ethernet" => Medium::Ethernet,
+        "ip" => Medium::Ip,
+        _ => return None,
+    };
+    let described = capabilities(medium, 1_500);
+    let a = host(alloc, 1, described, sockets)?;
+    let b = host(alloc, 2, described, sockets)?;
+    match world_of(alloc, a, b) {
+        Ok(world) => Some(world),
+        Err(_) => None,
+    }
 }
 
 /// Says that an allocation was refused: `tools/try-proved-without-memory`, which has each one refused in turn, looks for it.
@@ -196,12 +215,13 @@ pub fn tell(rt: &HostRuntime, what: &str) -> Result<(), Fail> {
 }
 
 /// A world of two such hosts at an IP MTU of 1500; made again where the allocation that is refused is one of its own.
-pub fn world(rt: &HostRuntime, hosts: Hosts) -> Result<World, Fail> {
+pub fn world(rt: &HostRuntime, hosts: &str) -> Result<World, Fail> {
+    if let Some(world) = made(rt.alloc(), hosts) {
+        return Ok(world);
+    }
+    tell(rt, "a world is made again")?;
     match made(rt.alloc(), hosts) {
         Some(world) => Ok(world),
-        None => {
-            tell(rt, "a world is made again")?;
-            Ok(made(rt.alloc(), hosts).ok_or("a world")?)
-        }
+        None => Err("a world".into()),
     }
 }

@@ -4,11 +4,15 @@
 #![tactic(auto)]
 
 #[cfg(test)]
+mod answers;
+#[cfg(test)]
 mod connections;
 #[cfg(test)]
 mod cuts;
 #[cfg(test)]
 mod datagrams;
+#[cfg(test)]
+mod events;
 #[cfg(test)]
 mod floods;
 #[cfg(test)]
@@ -21,3 +25,5 @@ mod made;
 mod refusals;
 #[cfg(test)]
 mod table;
+#[cfg(test)]
+mod texts;

@@ -1,97 +1,100 @@
 //! Which two hosts make a world.
-use crate::hosts::{Missing, Sockets, capabilities, host, tell};
-use lan_port::Port;
-use lan_world::{Host, World, WorldError};
+use crate::hosts::{capabilities, host, port, tell, world_of};
+use lan_world::{Host, WorldError};
 use net_base::{ChecksumCapabilities, DeviceCapabilities, Medium};
 use std::alloc::Global;
 use std::test::Fail;
 
-/// What is wrong with the hosts.
-#[derive(Clone, Copy)]
-enum Wrong {
-    Nothing,
-    Media,
-    Checksums,
-    /// Of A's port, which isn't the one that its interface was made over.
-    Mtu(u16),
-    Buffers,
-    AnyIp,
-    /// A frame waits.
-    Waiting,
-    /// Media and checksums.
-    Two,
-}
-
-const ONE: Sockets = Sockets::Udp(1, 64);
-
-fn without_checksums(medium: Medium) -> DeviceCapabilities {
+/// The device of A, which is as B's but for what is wrong with it.
+fn described(wrong: &str) -> DeviceCapabilities {
+    let medium = match wrong {
+        "its medium" | "its medium and its checksums" => Medium::Ethernet,
+        _ => Medium::Ip,
+    };
     let mut described = capabilities(medium, 1_500);
-    described.checksum = ChecksumCapabilities::ignored();
+    if wrong == "its checksums" || wrong == "its medium and its checksums" {
+        described.checksum = ChecksumCapabilities::ignored();
+    }
     described
 }
 
-fn host_a(alloc: Global, wrong: Wrong) -> Result<Host, Missing> {
-    let ip = capabilities(Medium::Ip, 1_500);
-    let mut a = match wrong {
-        Wrong::Media => host(alloc, 1, capabilities(Medium::Ethernet, 1_500), ONE)?,
-        Wrong::Two => host(alloc, 1, without_checksums(Medium::Ethernet), ONE)?,
-        Wrong::Checksums => host(alloc, 1, without_checksums(Medium::Ip), ONE)?,
-        Wrong::Buffers => host(alloc, 1, ip, Sockets::Tcp(0))?,
-        _ => host(alloc, 1, ip, ONE)?,
+fn host_a(alloc: Global, wrong: &str) -> Option<Host> {
+    let sockets = if wrong == "its buffers" {
+        "tcp 0"
+    } else {
+        "udp 1 64"
     };
-    match wrong {
-        Wrong::Mtu(mtu) => a.port = Port::new(alloc, capabilities(Medium::Ip, mtu)),
-        Wrong::AnyIp => a.interface.set_any_ip(true),
-        Wrong::Waiting => a.port.push(Vec::new(alloc))?,
-        _ => {}
+    let mut a = host(alloc, 1, described(wrong), sockets)?;
+    // The MTU of A's port needn't be that of the device that its interface was made over.
+    let mtu = match wrong {
+        "an MTU of 1499" => 1_499,
+        "an MTU of 575" => 575,
+        _ => 0,
+    };
+    if mtu > 0 {
+        a.port = port(alloc, capabilities(Medium::Ip, mtu));
     }
-    Ok(a)
+    if wrong == "any IP" {
+        a.interface.set_any_ip(true);
+    }
+    if wrong == "a frame waits" && a.port.push(Vec::new(alloc)).is_err() {
+        return None;
+    }
+    Some(a)
 }
 
-/// What becomes of the two; `None` where there was no memory for the hosts.
-fn made(alloc: Global, wrong: Wrong) -> Option<Result<(), WorldError>> {
-    let a = host_a(alloc, wrong).ok()?;
-    let b = host(alloc, 2, capabilities(Medium::Ip, 1_500), ONE).ok()?;
-    match World::new(alloc, a, b) {
-        Ok(_) => Some(Ok(())),
+/// What becomes of the two, in a word; `None` where there was no memory for the hosts.
+fn made(alloc: Global, wrong: &str) -> Option<&'static str> {
+    let a = host_a(alloc, wrong)?;
+    let b = host(alloc, 2, capabilities(Medium::Ip, 1_500), "udp 1 64")?;
+    match world_of(alloc, a, b) {
+        Ok(_) => Some("a world"),
+        Err(WorldError::Media) => Some("media"),
+        Err(WorldError::Checksums) => Some("checksums"),
+        Err(WorldError::Mtu) => Some("mtu"),
+        Err(WorldError::Buffers) => Some("buffers"),
+        Err(WorldError::NotFresh) => Some("not fresh"),
         Err(WorldError::Memory) => None,
-        Err(error) => Some(Err(error)),
     }
 }
 
-/// Whether the two are answered so; made again where an allocation is refused.
-fn is_made(rt: &HostRuntime, wrong: Wrong, want: Result<(), WorldError>) -> Result<bool, Fail> {
-    match made(rt.alloc(), wrong) {
-        Some(found) => Ok(found == want),
-        None => {
-            tell(rt, "hosts are made again")?;
-            Ok(made(rt.alloc(), wrong) == Some(want))
-        }
+/// The same; made again where an allocation is refused.
+fn outcome(rt: &HostRuntime, wrong: &str) -> Result<Option<&'static str>, Fail> {
+    if let Some(outcome) = made(rt.alloc(), wrong) {
+        return Ok(Some(outcome));
+    }
+    tell(rt, "hosts are made again")?;
+    Ok(made(rt.alloc(), wrong))
+}
+
+/// Fails where the two don't become what is wanted, and names what is wrong with A.
+fn becomes(rt: &HostRuntime, wrong: &'static str, want: &str) -> Result<(), Fail> {
+    if outcome(rt, wrong)?.unwrap_or("no memory") == want {
+        Ok(())
+    } else {
+        Err(wrong.into())
     }
 }
 
 #[test]
 fn fresh_hosts_make_a_world(rt: HostRuntime) -> Result<(), Fail> {
-    let made = is_made(&rt, Wrong::Nothing, Ok(()))?;
-    assert!(rt; made);
-    Ok(())
+    becomes(&rt, "nothing", "a world")
 }
 
 #[test]
 fn other_hosts_do_not(rt: HostRuntime) -> Result<(), Fail> {
     let cases = [
-        (Wrong::Media, WorldError::Media),
-        (Wrong::Checksums, WorldError::Checksums),
-        (Wrong::Two, WorldError::Media),
-        (Wrong::Mtu(1_499), WorldError::Mtu),
-        (Wrong::Mtu(575), WorldError::Mtu),
-        (Wrong::Buffers, WorldError::Buffers),
-        (Wrong::AnyIp, WorldError::NotFresh),
-        (Wrong::Waiting, WorldError::NotFresh),
+        ("its medium", "media"),
+        ("its checksums", "checksums"),
+        ("its medium and its checksums", "media"),
+        ("an MTU of 1499", "mtu"),
+        ("an MTU of 575", "mtu"),
+        ("its buffers", "buffers"),
+        ("any IP", "not fresh"),
+        ("a frame waits", "not fresh"),
     ];
-    for (wrong, error) in cases {
-        let refused = is_made(&rt, wrong, Err(error))?;
-        assert!(rt; refused, "{error}");
+    for (wrong, want) in cases {
+        becomes(&rt, wrong, want)?;
     }
     Ok(())
 }

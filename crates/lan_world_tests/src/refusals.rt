@@ -1,193 +1,109 @@
 //! Each refusal by its name, and calls that refuse by themselves.
-use crate::hosts::{Hosts, Sockets, tell, world};
-use crate::table::Line::Step;
-use crate::table::{Case, Do, Line, Says, first_wrong_case};
+use crate::hosts::{tell, world};
+use crate::table::{Case, play};
 use lan_net::{SocketKind, SocketRecord};
 use lan_stations::refusal::send_refusal;
-use lan_world::{Event, Fault, Refused, Side, World};
-use net_base::Medium;
+use lan_world::{Event, Refused, Side, World};
 use std::alloc::{AllocError, Global};
 use std::test::Fail;
 
-const DATAGRAMS: Hosts = Hosts {
-    medium: Medium::Ip,
-    sockets: Sockets::Udp(1, 64),
-};
+const DATAGRAMS: &str = "ip, udp 1 64";
 
-const TWO: Hosts = Hosts {
-    medium: Medium::Ip,
-    sockets: Sockets::TwoUdp,
-};
+const TWO: &str = "ip, udp 1 64, udp 1 64";
 
-const STREAMS: Hosts = Hosts {
-    medium: Medium::Ip,
-    sockets: Sockets::TwoTcp,
-};
+const STREAMS: &str = "ip, tcp 64, tcp 64";
 
-const EACH: Hosts = Hosts {
-    medium: Medium::Ip,
-    sockets: Sockets::Each,
-};
+const EACH: &str = "ip, udp 1 64, icmp, raw, tcp 64";
 
-const LAST: i64 = 1 << 61;
+const OF_SOCKETS: &str = "
+A state 9 -> refused no-socket
+B receive-from 4 8 -> refused no-socket
+A state 0 -> refused wrong-kind
+A receive 1 8 -> refused wrong-kind
+A close 2 -> refused wrong-kind
+A receive-from 3 8 -> refused wrong-kind
+A bind 1 8 -> refused wrong-kind
+A ident 0 8 -> refused wrong-kind
+A send-icmp 2: 00 -> refused wrong-kind
+A send-to 3 53: 00 -> refused wrong-kind
+";
 
-const OF_SOCKETS: [Line; 10] = [
-    Step(Do::State(Side::A, 9), Says::Refused(Refused::NoSocket)),
-    Step(
-        Do::RecvFrom(Side::B, 4, 8),
-        Says::Refused(Refused::NoSocket),
-    ),
-    Step(Do::State(Side::A, 0), Says::Refused(Refused::WrongKind)),
-    Step(Do::Recv(Side::A, 1, 8), Says::Refused(Refused::WrongKind)),
-    Step(Do::Close(Side::A, 2), Says::Refused(Refused::WrongKind)),
-    Step(
-        Do::RecvFrom(Side::A, 3, 8),
-        Says::Refused(Refused::WrongKind),
-    ),
-    Step(Do::Bind(Side::A, 1, 8), Says::Refused(Refused::WrongKind)),
-    Step(Do::Ident(Side::A, 0, 8), Says::Refused(Refused::WrongKind)),
-    Step(
-        Do::SendIcmp(Side::A, 2, "00"),
-        Says::Refused(Refused::WrongKind),
-    ),
-    Step(
-        Do::SendTo(Side::A, 3, 53, "00"),
-        Says::Refused(Refused::WrongKind),
-    ),
-];
+const OF_FRAMES: &str = "
+A deliver 0 -> refused no-frame
+A damage 0 0 1 -> refused no-frame
+A cut 0 8 -> refused no-frame
+A bind 0 48896
+A send-to 0 53: aa0000ff
+A poll -> changed
+A damage 0 0 1 -> refused not-tcp
+A cut 0 4 -> refused cut-place
+A noise: 45000000000000000011 -> refused names-tcp-or-udp
+B deliver 0 -> refused no-frame
+A deliver 0
+";
 
-const OF_FRAMES: [Line; 11] = [
-    Step(Do::Deliver(Side::A, 0), Says::Refused(Refused::NoFrame)),
-    Step(
-        Do::Damage(Side::A, 0, 0, 1),
-        Says::Refused(Refused::NoFrame),
-    ),
-    Step(Do::Cut(Side::A, 0, 8), Says::Refused(Refused::NoFrame)),
-    Step(Do::Bind(Side::A, 0, 48_896), Says::Done),
-    Step(Do::SendTo(Side::A, 0, 53, "aa0000ff"), Says::Done),
-    Step(Do::Poll(Side::A), Says::Changed),
-    Step(Do::Damage(Side::A, 0, 0, 1), Says::Refused(Refused::NotTcp)),
-    Step(Do::Cut(Side::A, 0, 4), Says::Refused(Refused::CutPlace)),
-    Step(
-        Do::Noise(Side::A, "45000000000000000011"),
-        Says::Refused(Refused::NamesTcpOrUdp),
-    ),
-    Step(Do::Deliver(Side::B, 0), Says::Refused(Refused::NoFrame)),
-    Step(Do::Deliver(Side::A, 0), Says::Done),
-];
+const OF_PORTS: &str = "
+A connect 0 80 49500
+A connect 0 80 49501 -> refused opened-twice
+A listen 0 81 -> refused opened-twice
+A connect 1 80 49501 -> refused port-taken
+A listen 1 49500 -> refused port-taken
+A connect 1 81 49501
+";
 
-const OF_PORTS: [Line; 6] = [
-    Step(Do::Connect(Side::A, 0, 80, 49_500), Says::Done),
-    Step(
-        Do::Connect(Side::A, 0, 80, 49_501),
-        Says::Refused(Refused::OpenedTwice),
-    ),
-    Step(
-        Do::Listen(Side::A, 0, 81),
-        Says::Refused(Refused::OpenedTwice),
-    ),
-    Step(
-        Do::Connect(Side::A, 1, 80, 49_501),
-        Says::Refused(Refused::PortTaken),
-    ),
-    Step(
-        Do::Listen(Side::A, 1, 49_500),
-        Says::Refused(Refused::PortTaken),
-    ),
-    Step(Do::Connect(Side::A, 1, 81, 49_501), Says::Done),
-];
+const RAW: &str = "
+A send-raw 2: 45000018000000004011f739c0a80101c0a8010201020304 -> refused raw-protocol
+A send-raw 2: 45000018000000004006f739c0a80101c0a8010201020304 -> refused raw-protocol
+A send-raw 2: 45000018000000004059f739c0a80101c0a8010201020304
+A send-raw 2: 00
+";
 
-const RAW: [Line; 4] = [
-    Step(
-        Do::SendRaw(
-            Side::A,
-            2,
-            "45000018000000004011f739c0a80101c0a8010201020304",
-        ),
-        Says::Refused(Refused::RawProtocol),
-    ),
-    Step(
-        Do::SendRaw(
-            Side::A,
-            2,
-            "45000018000000004006f739c0a80101c0a8010201020304",
-        ),
-        Says::Refused(Refused::RawProtocol),
-    ),
-    Step(
-        Do::SendRaw(
-            Side::A,
-            2,
-            "45000018000000004059f739c0a80101c0a8010201020304",
-        ),
-        Says::Done,
-    ),
-    Step(Do::SendRaw(Side::A, 2, "00"), Says::Done),
-];
+/// The last moment is 2^61.
+const OF_MOMENTS: &str = "
+A poll-with -1 0 -> refused moment
+A poll-with 7 0 -> idle
+A poll-with 6 0 -> refused moment
+A poll-at 9 -> never
+A poll-with 8 0 -> refused moment
+B poll-with 6 0 -> idle
+A poll-with 2305843009213693952 0 -> idle
+A poll-with 2305843009213693953 0 -> refused moment
+";
 
-const OF_MOMENTS: [Line; 8] = [
-    Step(Do::PollWith(Side::A, -1, 0), Says::Refused(Refused::Moment)),
-    Step(Do::PollWith(Side::A, 7, 0), Says::Idle),
-    Step(Do::PollWith(Side::A, 6, 0), Says::Refused(Refused::Moment)),
-    Step(Do::PollAt(Side::A, 9), Says::Never),
-    Step(Do::PollWith(Side::A, 8, 0), Says::Refused(Refused::Moment)),
-    Step(Do::PollWith(Side::B, 6, 0), Says::Idle),
-    Step(Do::PollWith(Side::A, LAST, 0), Says::Idle),
-    Step(
-        Do::PollWith(Side::A, LAST + 1, 0),
-        Says::Refused(Refused::Moment),
-    ),
-];
-
-const OF_BUDGETS: [Line; 2] = [
-    Step(
-        Do::PollWith(Side::A, 0, 32_768),
-        Says::Refused(Refused::TooManyCut),
-    ),
-    Step(Do::PollWith(Side::A, 0, 8), Says::Idle),
-];
+const OF_BUDGETS: &str = "
+A poll-with 0 32768 -> refused too-many-cut
+A poll-with 0 8 -> idle
+";
 
 /// With two sockets.
-const OF_MORE_SOCKETS: [Line; 2] = [
-    Step(
-        Do::PollWith(Side::A, 0, 21_846),
-        Says::Refused(Refused::TooManyCut),
-    ),
-    Step(Do::PollWith(Side::A, 0, 21_845), Says::Idle),
-];
+const OF_MORE_SOCKETS: &str = "
+A poll-with 0 21846 -> refused too-many-cut
+A poll-with 0 21845 -> idle
+";
 
 /// Calls that a socket refuses are answered, and go on.
-const FAULTS: [Line; 11] = [
-    Step(
-        Do::SendTo(Side::A, 0, 53, "00"),
-        Says::Error(Fault::Unaddressable),
-    ),
-    Step(Do::Bind(Side::A, 0, 0), Says::Error(Fault::Unaddressable)),
-    Step(Do::Bind(Side::A, 0, 7), Says::Done),
-    Step(Do::Bind(Side::A, 0, 8), Says::Error(Fault::InvalidState)),
-    Step(Do::SendTo(Side::A, 0, 53, "00"), Says::Done),
-    Step(
-        Do::SendTo(Side::A, 0, 53, "00"),
-        Says::Error(Fault::BufferFull),
-    ),
-    Step(Do::Poll(Side::A), Says::Changed),
-    Step(Do::Bind(Side::B, 0, 53), Says::Done),
-    Step(Do::Deliver(Side::A, 0), Says::Done),
-    Step(Do::Poll(Side::B), Says::Changed),
-    Step(Do::RecvFrom(Side::B, 0, 0), Says::Error(Fault::Truncated)),
-];
+const FAULTS: &str = "
+A send-to 0 53: 00 -> error unaddressable
+A bind 0 0 -> error unaddressable
+A bind 0 7
+A bind 0 8 -> error invalid-state
+A send-to 0 53: 00
+A send-to 0 53: 00 -> error buffer-full
+A poll -> changed
+B bind 0 53
+A deliver 0
+B poll -> changed
+B receive-from 0 0 -> error truncated
+";
 
-const STREAM_FAULTS: [Line; 6] = [
-    Step(Do::Send(Side::A, 0, "00"), Says::Error(Fault::InvalidState)),
-    Step(Do::Listen(Side::A, 0, 0), Says::Error(Fault::Unaddressable)),
-    Step(
-        Do::Connect(Side::A, 0, 0, 7),
-        Says::Error(Fault::Unaddressable),
-    ),
-    Step(Do::Listen(Side::A, 0, 7), Says::Done),
-    Step(Do::Recv(Side::A, 0, 8), Says::Error(Fault::InvalidState)),
-    Step(Do::Abort(Side::A, 0), Says::Done),
-];
+const STREAM_FAULTS: &str = "
+A send 0: 00 -> error invalid-state
+A listen 0 0 -> error unaddressable
+A connect 0 0 7 -> error unaddressable
+A listen 0 7
+A receive 0 8 -> error invalid-state
+A abort 0
+";
 
 /// The events from this place on, of three of which the second is refused.
 fn made(alloc: Global, place: usize) -> Result<Vec<Event>, AllocError> {
@@ -220,11 +136,10 @@ fn ended(
             made(rt.alloc(), place)?
         }
     };
-    Ok(
-        world
-            .run(events)
-            .map_err(|(more, refused)| (place.saturating_add(more), refused)),
-    )
+    Ok(match world.run(events) {
+        Ok(()) => Ok(()),
+        Err((more, refused)) => Err((place.saturating_add(more), refused)),
+    })
 }
 
 /// Where it finds no memory, it goes on behind the steps that stay.
@@ -238,87 +153,64 @@ fn a_run_stops_at_the_first_refusal(rt: HostRuntime) -> Result<(), Fail> {
         }
         end => end,
     };
-    assert!(rt; end == Err((1, Refused::NoSocket)));
-    assert_eq!(rt; world.answers().len(), 1);
+    assert!(rt; matches!(end, Err((1, Refused::NoSocket))));
+    assert!(rt; world.answers().len() == 1);
     Ok(())
+}
+
+/// Why a stream that accepted 2^29 - 3 bytes doesn't accept these.
+fn refusal_near_the_end(bytes: &[u8]) -> Option<Refused> {
+    let nearly = SocketRecord {
+        opened: None,
+        accepted: (1 << 29) - 3,
+    };
+    send_refusal(Some(SocketKind::Tcp), &[nearly], 0, bytes)
+}
+
+/// Whether a fresh socket doesn't accept so many bytes.
+fn is_too_many(bytes: usize) -> bool {
+    SocketRecord::NONE.is_too_many(bytes)
 }
 
 /// Of the bytes that a socket accepted a world keeps the count: so the last one that is taken is shown without half a gigabyte.
 #[test]
 fn a_socket_accepts_fewer_than_2_to_the_29_bytes(rt: HostRuntime) -> Result<(), Fail> {
-    let nearly = SocketRecord {
-        opened: None,
-        accepted: (1 << 29) - 3,
-    };
-    let kind = Some(SocketKind::Tcp);
-    let two = send_refusal(kind, &[nearly], 0, b"ab");
-    let three = send_refusal(kind, &[nearly], 0, b"abc");
-    let fresh = SocketRecord::NONE;
-    let all = (fresh.is_too_many((1 << 29) - 1), fresh.is_too_many(1 << 29));
-    assert!(rt; (two, three, all) == (None, Some(Refused::TooManyBytes), (false, true)));
+    assert!(rt; matches!(refusal_near_the_end(b"ab"), None));
+    assert!(rt; matches!(refusal_near_the_end(b"abc"), Some(Refused::TooManyBytes)));
+    assert!(rt; !is_too_many((1 << 29) - 1));
+    assert!(rt; is_too_many(1 << 29));
     Ok(())
 }
 
 const CASES: [Case; 9] = [
-    Case {
-        name: "sockets are there and of their kind",
-        hosts: EACH,
-        first: &OF_SOCKETS,
-        then: &[],
-    },
-    Case {
-        name: "frames are there and of their kind",
-        hosts: DATAGRAMS,
-        first: &OF_FRAMES,
-        then: &[],
-    },
-    Case {
-        name: "a port is taken once",
-        hosts: STREAMS,
-        first: &OF_PORTS,
-        then: &[],
-    },
-    Case {
-        name: "raw packets are no segments",
-        hosts: EACH,
-        first: &RAW,
-        then: &[],
-    },
-    Case {
-        name: "moments go on",
-        hosts: DATAGRAMS,
-        first: &OF_MOMENTS,
-        then: &[],
-    },
-    Case {
-        name: "budgets are bounded",
-        hosts: DATAGRAMS,
-        first: &OF_BUDGETS,
-        then: &[],
-    },
-    Case {
-        name: "budgets are bounded, with two sockets",
-        hosts: TWO,
-        first: &OF_MORE_SOCKETS,
-        then: &[],
-    },
-    Case {
-        name: "datagram sockets refuse by themselves",
-        hosts: DATAGRAMS,
-        first: &FAULTS,
-        then: &[],
-    },
-    Case {
-        name: "so do stream sockets",
-        hosts: STREAMS,
-        first: &STREAM_FAULTS,
-        then: &[],
-    },
+    (
+        "sockets are there and of their kind",
+        EACH,
+        [OF_SOCKETS, ""],
+    ),
+    (
+        "frames are there and of their kind",
+        DATAGRAMS,
+        [OF_FRAMES, ""],
+    ),
+    ("a port is taken once", STREAMS, [OF_PORTS, ""]),
+    ("raw packets are no segments", EACH, [RAW, ""]),
+    ("moments go on", DATAGRAMS, [OF_MOMENTS, ""]),
+    ("budgets are bounded", DATAGRAMS, [OF_BUDGETS, ""]),
+    (
+        "budgets are bounded, with two sockets",
+        TWO,
+        [OF_MORE_SOCKETS, ""],
+    ),
+    (
+        "datagram sockets refuse by themselves",
+        DATAGRAMS,
+        [FAULTS, ""],
+    ),
+    ("so do stream sockets", STREAMS, [STREAM_FAULTS, ""]),
 ];
 
 #[test]
 fn each_case_holds(rt: HostRuntime) -> Result<(), Fail> {
-    let wrong = first_wrong_case(&rt, &CASES)?;
-    assert_eq!(rt; wrong, None);
-    Ok(())
+    play(&rt, &CASES)
 }
