@@ -1,118 +1,172 @@
-//! Scripts over memory.
+//! Scripts as texts, each line with what it writes behind it.
+//!
+//!     bind A 0 48896         a line of the script
+//!     > ok                   a line that is written
+//!     ! line 5: bad event    the last line that is written, where the run ends there with status 1
+//!     ==                     alone, between two scripts
+//!
+//! At the end of a line `{2000*00}` stands for 2000 times `00`, and `{end}` for a line without its end.
 use lan::replay;
 use std::alloc::{AllocError, Global};
-use std::process::Abort;
 use std::test::Fail;
 
 /// Hosts on bare IP with one UDP socket each.
-pub const IP: &str = "world ip 1500\nsocket A udp 1 64 1 64\nsocket B udp 1 64 1 64\nstart\n";
+pub const IP: &str = "\
+world ip 1500
+socket A udp 1 64 1 64
+socket B udp 1 64 1 64
+start
+> ok
+";
 
 /// The same on Ethernet.
-pub const ETHERNET: &str =
-    "world eth 1514\nsocket A udp 1 64 1 64\nsocket B udp 1 64 1 64\nstart\n";
+pub const ETHERNET: &str = "\
+world eth 1514
+socket A udp 1 64 1 64
+socket B udp 1 64 1 64
+start
+> ok
+";
 
 /// Hosts on bare IP with one UDP socket of long queues each, both bound.
-pub const LONG: &str =
-    "world ip 1500\nsocket A udp 2 8192 2 8192\nsocket B udp 2 8192 2 8192\nstart\nbind A 0 48896\nbind B 0 53\n";
+pub const LONG: &str = "\
+world ip 1500
+socket A udp 2 8192 2 8192
+socket B udp 2 8192 2 8192
+start
+> ok
+bind A 0 48896
+> ok
+bind B 0 53
+> ok
+";
 
 /// Hosts on Ethernet with one TCP socket each.
-pub const STREAMS: &str = "world eth 1514\nsocket A tcp 64 64\nsocket B tcp 64 64\nstart\n";
+pub const STREAMS: &str = "\
+world eth 1514
+socket A tcp 64 64
+socket B tcp 64 64
+start
+> ok
+";
 
-/// Asserts the status of a script, and what it writes.
-pub fn assert_script(
-    rt: &impl Abort,
-    alloc: Global,
-    script: &str,
-    status: u8,
-    output: &str,
-) -> Result<(), Fail> {
+/// A script, and what it is to write with which status.
+#[derive(Drop)]
+pub struct Case {
+    pub script: String,
+    pub output: String,
+    pub status: u8,
+}
+
+impl Case {
+    /// What a text says behind these.
+    pub fn new(alloc: Global, before: &[&str], text: &str) -> Result<Case, AllocError> {
+        let mut case = Case {
+            script: String::new(alloc),
+            output: String::new(alloc),
+            status: 0,
+        };
+        for part in before {
+            case.take(part)?;
+        }
+        case.take(text)?;
+        Ok(case)
+    }
+
+    // No `lines`: a carriage return at the end of a line belongs to the script.
+    fn take(&mut self, text: &str) -> Result<(), AllocError> {
+        for line in text.split_terminator('\n') {
+            match line.split_once(' ') {
+                Some((">", written)) => push_line(&mut self.output, written)?,
+                Some(("!", written)) => {
+                    self.status = 1;
+                    push_line(&mut self.output, written)?;
+                }
+                _ => push_line(&mut self.script, line)?,
+            }
+        }
+        Ok(())
+    }
+}
+
+/// Puts a line behind others, its repetition written out.
+fn push_line(text: &mut String, line: &str) -> Result<(), AllocError> {
+    let Some((front, rest)) = line.split_once('{') else {
+        text.push_str(line)?;
+        return text.push_str("\n");
+    };
+    text.push_str(front)?;
+    // What is left otherwise is `{end}`.
+    if let Some((count, byte)) = rest.split_once('*') {
+        for _ in 0..count.parse::<u32>().unwrap_or(0) {
+            text.push_str(byte.trim_end_matches('}'))?;
+        }
+        text.push_str("\n")?;
+    }
+    Ok(())
+}
+
+/// The status of a script, and what it writes.
+pub fn played(alloc: Global, script: &str) -> (u8, Vec<u8>) {
     let mut reader = script.as_bytes();
     let mut writer = Vec::new(alloc);
-    let found = replay(alloc, &mut reader, &mut writer);
-    assert!(rt;
-        String::from_utf8(writer)?.as_str() == output,
-        "of {script}"
-    );
-    assert!(rt; found == status, "of {script}");
-    Ok(())
+    let status = replay(alloc, &mut reader, &mut writer);
+    (status, writer)
 }
 
-/// The same of each of these scripts.
-pub fn assert_scripts(
-    rt: &impl Abort,
-    alloc: Global,
-    scripts: &[(&str, u8, &str)],
-) -> Result<(), Fail> {
-    for (script, status, output) in scripts {
-        assert_script(rt, alloc, script, *status, output)?;
+/// Fails where another status was found, or something else was written. The failure names the first line that is another one.
+fn compare(case: &Case, status: u8, written: &str) -> Result<(), Fail> {
+    if status == case.status && written == case.output.as_str() {
+        return Ok(());
+    }
+    for (line, wanted) in written.lines().zip(case.output.lines()) {
+        if line != wanted {
+            return Err(line.into());
+        }
+    }
+    Err("another status, or lines that are wanting or too many".into())
+}
+
+fn play_case(alloc: Global, case: &Case) -> Result<(), Fail> {
+    let (status, written) = played(alloc, case.script.as_str());
+    compare(case, status, String::from_utf8(written)?.as_str())
+}
+
+/// Plays each script of a text behind these lines.
+pub fn play(alloc: Global, before: &[&str], text: &str) -> Result<(), Fail> {
+    for script in text.split("==\n") {
+        play_case(alloc, &Case::new(alloc, before, script)?)?;
     }
     Ok(())
 }
 
-/// The same of these lines behind a header, which is answered `ok`.
-pub fn assert_events(
-    rt: &impl Abort,
-    alloc: Global,
-    header: &str,
-    events: &[(&str, u8, &str)],
-) -> Result<(), Fail> {
-    for (lines, status, answers) in events {
-        let script = format!(in alloc; "{header}{lines}")?;
-        let output = format!(in alloc; "ok\n{answers}")?;
-        assert_script(rt, alloc, script.as_str(), *status, output.as_str())?;
-    }
-    Ok(())
-}
-
-/// What was written but for the lines of sent frames.
-fn without_frames(alloc: Global, output: &str) -> Result<String, AllocError> {
+/// Plays a script whose text leaves out the frames that are sent.
+pub fn play_without_frames(alloc: Global, before: &[&str], text: &str) -> Result<(), Fail> {
+    let case = Case::new(alloc, before, text)?;
+    let (status, written) = played(alloc, case.script.as_str());
     let mut rest = String::new(alloc);
-    for line in output.lines() {
+    for line in String::from_utf8(written)?.lines() {
         if !line.starts_with("sent ") {
             rest.push_str(line)?;
             rest.push_str("\n")?;
         }
     }
-    Ok(rest)
+    compare(&case, status, rest.as_str())
 }
 
-/// Asserts what a script's lines answer, frames left out. The status is 0.
-pub fn assert_answers(
-    rt: &impl Abort,
-    alloc: Global,
-    script: &str,
-    answers: &str,
-) -> Result<(), Fail> {
-    let mut reader = script.as_bytes();
-    let mut writer = Vec::new(alloc);
-    let found = replay(alloc, &mut reader, &mut writer);
-    let output = String::from_utf8(writer)?;
-    assert!(rt;
-        without_frames(alloc, output.as_str())?.as_str() == answers,
-        "of {script}"
-    );
-    assert!(rt; found == 0, "of {script}");
-    Ok(())
-}
-
-/// The same of these lines behind a header, which is answered `ok`.
-pub fn assert_answered(
-    rt: &impl Abort,
-    alloc: Global,
-    header: &str,
-    lines: &str,
-    answers: &str,
-) -> Result<(), Fail> {
-    let script = format!(in alloc; "{header}{lines}")?;
-    let answers = format!(in alloc; "ok\n{answers}")?;
-    assert_answers(rt, alloc, script.as_str(), answers.as_str())
-}
-
-/// So many times this text.
-pub fn repeated(alloc: Global, text: &str, count: usize) -> Result<String, AllocError> {
-    let mut all = String::new(alloc);
-    for _ in 0..count {
-        all.push_str(text)?;
+/// Plays a script with padding behind each frame that is handed over.
+pub fn play_padded(alloc: Global, before: &[&str], text: &str) -> Result<(), Fail> {
+    let mut case = Case::new(alloc, before, text)?;
+    let mut padded = String::new(alloc);
+    for line in case.script.lines() {
+        let bare = line.trim_end_matches('-');
+        padded.push_str(bare)?;
+        padded.push_str(if bare.len() < line.len() {
+            "5a5a5a5a5a5a5a5a5a5a5a5a5a5a5a5a5a5a5a5a\n"
+        } else {
+            "\n"
+        })?;
     }
-    Ok(all)
+    case.script = padded;
+    play_case(alloc, &case)
 }

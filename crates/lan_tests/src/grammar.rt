@@ -1,144 +1,291 @@
 //! What is outside the language, or out of order.
-use crate::common::{ETHERNET, IP, STREAMS, assert_events, assert_scripts};
+use crate::common::{ETHERNET, IP, STREAMS, play};
 use std::test::Fail;
+
+const ENDS: &str = "\
+==
+world ip 1500
+==
+world ip 1500
+socket A udp 1 2 3 4{end}
+==
+world ip 1500
+start{end}
+> ok
+==
+world ip 00001500
+start
+> ok
+";
 
 #[test]
 fn a_script_may_end_anywhere(rt: HostRuntime) -> Result<(), Fail> {
-    let scripts = [
-        ("", 0, ""),
-        ("world ip 1500\n", 0, ""),
-        ("world ip 1500\nsocket A udp 1 2 3 4", 0, ""),
-        ("world ip 1500\nstart", 0, "ok\n"),
-        ("world ip 00001500\nstart\n", 0, "ok\n"),
-    ];
-    assert_scripts(&rt, rt.alloc(), &scripts)
+    play(rt.alloc(), &[], ENDS)
 }
+
+const OUT_OF_ORDER: &str = "\
+world ip 1500
+socket A udp 1 64 1 64
+bogus
+! line 3: bad event
+==
+start
+! line 1: bad event
+==
+socket A udp 1 2 3 4
+! line 1: bad event
+==
+bind A 0 1
+! line 1: bad event
+==
+world ip 1500
+world ip 1500
+! line 2: bad event
+==
+world ip 1500
+bind A 0 1
+! line 2: bad event
+==
+world ip 1500
+start
+> ok
+start
+! line 3: bad event
+==
+world ip 1500
+start
+> ok
+world ip 1500
+! line 3: bad event
+==
+world ip 1500
+start
+> ok
+socket A udp 1 2 3 4
+! line 3: bad event
+";
 
 #[test]
 fn lines_come_in_their_order(rt: HostRuntime) -> Result<(), Fail> {
-    let first = "line 1: bad event\n";
-    let second = "line 2: bad event\n";
-    let third = "ok\nline 3: bad event\n";
-    let bogus = "world ip 1500\nsocket A udp 1 64 1 64\nbogus\n";
-    let scripts = [
-        (bogus, 1, "line 3: bad event\n"),
-        ("start\n", 1, first),
-        ("socket A udp 1 2 3 4\n", 1, first),
-        ("bind A 0 1\n", 1, first),
-        ("world ip 1500\nworld ip 1500\n", 1, second),
-        ("world ip 1500\nbind A 0 1\n", 1, second),
-        ("world ip 1500\nstart\nstart\n", 1, third),
-        ("world ip 1500\nstart\nworld ip 1500\n", 1, third),
-        ("world ip 1500\nstart\nsocket A udp 1 2 3 4\n", 1, third),
-    ];
-    assert_scripts(&rt, rt.alloc(), &scripts)
+    play(rt.alloc(), &[], OUT_OF_ORDER)
 }
+
+const HEADER_LINES: &str = "\n\
+! line 1: bad event
+==
+world ip 1500
+
+! line 2: bad event
+start
+==
+world ipx 1500
+! line 1: bad event
+==
+world  ip 1500
+! line 1: bad event
+==
+world ip 1500\x20
+! line 1: bad event
+==
+\x20world ip 1500
+! line 1: bad event
+==
+world ip 1500\r
+! line 1: bad event
+==
+world ip +1500
+! line 1: bad event
+==
+world ip 1500é
+! line 1: bad event
+==
+world ip 18446744073709551616
+! line 1: bad event
+==
+world ip
+! line 1: bad event
+==
+World ip 1500
+! line 1: bad event
+";
 
 #[test]
 fn header_lines_are_in_the_grammar(rt: HostRuntime) -> Result<(), Fail> {
-    let first = "line 1: bad event\n";
-    let second = "line 2: bad event\n";
-    let scripts = [
-        ("\n", 1, first),
-        ("world ip 1500\n\nstart\n", 1, second),
-        ("world ipx 1500\n", 1, first),
-        ("world  ip 1500\n", 1, first),
-        ("world ip 1500 \n", 1, first),
-        (" world ip 1500\n", 1, first),
-        ("world ip 1500\r\n", 1, first),
-        ("world ip +1500\n", 1, first),
-        ("world ip 1500é\n", 1, first),
-        ("world ip 18446744073709551616\n", 1, first),
-        ("world ip\n", 1, first),
-        ("World ip 1500\n", 1, first),
-    ];
-    assert_scripts(&rt, rt.alloc(), &scripts)
+    play(rt.alloc(), &[], HEADER_LINES)
 }
+
+const SOCKET_LINES: &str = "\
+socket C udp 1 2 3 4
+! line 2: bad event
+==
+socket A tcp 1 2 3 4
+! line 2: bad event
+==
+socket A udp 1 2 3
+! line 2: bad event
+==
+socket A raw 5 17 1 2 3 4
+! line 2: bad event
+==
+socket A raw 4 256 1 2 3 4
+! line 2: bad event
+==
+socket A raw 1 2 3 4
+! line 2: bad event
+==
+socket A icmp 1 2 3 4 5
+! line 2: bad event
+==
+start now
+! line 2: bad event
+";
 
 #[test]
 fn socket_lines_are_in_the_grammar(rt: HostRuntime) -> Result<(), Fail> {
-    let second = "line 2: bad event\n";
-    let scripts = [
-        ("world ip 1500\nsocket C udp 1 2 3 4\n", 1, second),
-        ("world ip 1500\nsocket A tcp 1 2 3 4\n", 1, second),
-        ("world ip 1500\nsocket A udp 1 2 3\n", 1, second),
-        ("world ip 1500\nsocket A raw 5 17 1 2 3 4\n", 1, second),
-        ("world ip 1500\nsocket A raw 4 256 1 2 3 4\n", 1, second),
-        ("world ip 1500\nsocket A raw 1 2 3 4\n", 1, second),
-        ("world ip 1500\nsocket A icmp 1 2 3 4 5\n", 1, second),
-        ("world ip 1500\nstart now\n", 1, second),
-    ];
-    assert_scripts(&rt, rt.alloc(), &scripts)
+    play(rt.alloc(), &["world ip 1500\n"], SOCKET_LINES)
 }
+
+const STREAM_LINES: &str = "\
+listen A 0
+! line 5: bad event
+==
+listen A 0 65536
+! line 5: bad event
+==
+connect A 0 192.168.1.2:80
+! line 5: bad event
+==
+connect A 0 192.168.1.2 80
+! line 5: bad event
+==
+send A 0 616
+! line 5: bad event
+==
+send A 0 61 62
+! line 5: bad event
+==
+recv A 0 -
+! line 5: bad event
+==
+close A
+! line 5: bad event
+==
+abort A 0 0
+! line 5: bad event
+==
+state a 0
+! line 5: bad event
+";
 
 #[test]
 fn stream_lines_are_in_the_grammar(rt: HostRuntime) -> Result<(), Fail> {
-    let bad = "line 5: bad event\n";
-    let events = [
-        ("listen A 0\n", 1, bad),
-        ("listen A 0 65536\n", 1, bad),
-        ("connect A 0 192.168.1.2:80\n", 1, bad),
-        ("connect A 0 192.168.1.2 80\n", 1, bad),
-        ("send A 0 616\n", 1, bad),
-        ("send A 0 61 62\n", 1, bad),
-        ("recv A 0 -\n", 1, bad),
-        ("close A\n", 1, bad),
-        ("abort A 0 0\n", 1, bad),
-        ("state a 0\n", 1, bad),
-    ];
-    assert_events(&rt, rt.alloc(), STREAMS, &events)
+    play(rt.alloc(), &[STREAMS], STREAM_LINES)
 }
+
+const DATAGRAM_LINES: &str = "\
+bind A 0 65536
+! line 5: bad event
+==
+ident A 0 65536
+! line 5: bad event
+==
+sendto A 0 10.0.0:7 00
+! line 5: bad event
+==
+sendto A 0 10.0.0.256:7 00
+! line 5: bad event
+==
+sendto A 0 fd00::2:7 00
+! line 5: bad event
+==
+sendto A 0 10.0.0.1:7 0g
+! line 5: bad event
+==
+sendto A 0 10.0.0.1:7\x20
+! line 5: bad event
+==
+sendicmp A 0 10.0.0.1:7 00
+! line 5: bad event
+==
+sendraw A 0
+! line 5: bad event
+==
+recvfrom A 0 x
+! line 5: bad event
+";
 
 #[test]
 fn datagram_lines_are_in_the_grammar(rt: HostRuntime) -> Result<(), Fail> {
-    let bad = "line 5: bad event\n";
-    let events = [
-        ("bind A 0 65536\n", 1, bad),
-        ("ident A 0 65536\n", 1, bad),
-        ("sendto A 0 10.0.0:7 00\n", 1, bad),
-        ("sendto A 0 10.0.0.256:7 00\n", 1, bad),
-        ("sendto A 0 fd00::2:7 00\n", 1, bad),
-        ("sendto A 0 10.0.0.1:7 0g\n", 1, bad),
-        ("sendto A 0 10.0.0.1:7 \n", 1, bad),
-        ("sendicmp A 0 10.0.0.1:7 00\n", 1, bad),
-        ("sendraw A 0\n", 1, bad),
-        ("recvfrom A 0 x\n", 1, bad),
-    ];
-    assert_events(&rt, rt.alloc(), IP, &events)
+    play(rt.alloc(), &[IP], DATAGRAM_LINES)
 }
+
+const HOST_LINES: &str = "\
+addrs A 10.0.0.1/8 10.0.0.2/8 10.0.0.3/8 10.0.0.4/8 10.0.0.5/8
+! line 5: bad event
+==
+addrs A 10.0.0.1
+! line 5: bad event
+==
+addrs A 10.0.0.1/33
+! line 5: bad event
+==
+hw A 02-00-00-00-00
+! line 5: bad event
+==
+route A 10.0.0.1/8
+! line 5: bad event
+==
+poll A 0
+! line 5: bad event
+==
+poll A -1 0
+! line 5: bad event
+==
+poll A 9223372036854775808 0
+! line 5: bad event
+==
+poll A 0 65536
+! line 5: bad event
+==
+pollat A
+! line 5: bad event
+==
+room A
+! line 5: bad event
+";
 
 #[test]
 fn host_lines_are_in_the_grammar(rt: HostRuntime) -> Result<(), Fail> {
-    let bad = "line 5: bad event\n";
-    let five = "addrs A 10.0.0.1/8 10.0.0.2/8 10.0.0.3/8 10.0.0.4/8 10.0.0.5/8\n";
-    let events = [
-        (five, 1, bad),
-        ("addrs A 10.0.0.1\n", 1, bad),
-        ("addrs A 10.0.0.1/33\n", 1, bad),
-        ("hw A 02-00-00-00-00\n", 1, bad),
-        ("route A 10.0.0.1/8\n", 1, bad),
-        ("poll A 0\n", 1, bad),
-        ("poll A -1 0\n", 1, bad),
-        ("poll A 9223372036854775808 0\n", 1, bad),
-        ("poll A 0 65536\n", 1, bad),
-        ("pollat A\n", 1, bad),
-        ("room A\n", 1, bad),
-    ];
-    assert_events(&rt, rt.alloc(), ETHERNET, &events)
+    play(rt.alloc(), &[ETHERNET], HOST_LINES)
 }
+
+const LINK_LINES: &str = "\
+deliver A 0
+! line 5: bad event
+==
+damage A 0 0 123 -
+! line 5: bad event
+==
+damage A 0 0 12345 -
+! line 5: bad event
+==
+damage A 0 0 1234
+! line 5: bad event
+==
+noise A
+! line 5: bad event
+==
+noise A 0
+! line 5: bad event
+==
+cut A 0
+! line 5: bad event
+==
+cut A 0 8 8
+! line 5: bad event
+";
 
 #[test]
 fn link_lines_are_in_the_grammar(rt: HostRuntime) -> Result<(), Fail> {
-    let bad = "line 5: bad event\n";
-    let events = [
-        ("deliver A 0\n", 1, bad),
-        ("damage A 0 0 123 -\n", 1, bad),
-        ("damage A 0 0 12345 -\n", 1, bad),
-        ("damage A 0 0 1234\n", 1, bad),
-        ("noise A\n", 1, bad),
-        ("noise A 0\n", 1, bad),
-        ("cut A 0\n", 1, bad),
-        ("cut A 0 8 8\n", 1, bad),
-    ];
-    assert_events(&rt, rt.alloc(), ETHERNET, &events)
+    play(rt.alloc(), &[ETHERNET], LINK_LINES)
 }

@@ -1,15 +1,15 @@
 //! Scripts that come in pieces, and readers and writers that fail.
-use crate::rows::{FIRST, ITS_ANSWERS};
+use crate::common::{Case, IP};
+use crate::rows::{CARRIED, QUEUED};
 use lan::replay;
 use std::alloc::Global;
 use std::io::{self, ErrorKind, Read, Write};
-use std::process::Abort;
 use std::test::Fail;
 
 // A reader that gives so many bytes a read, and fails after so many reads.
 #[derive(Drop)]
 struct Pieces<'a> {
-    reads: u32,
+    reads: usize,
     size: usize,
     text: &'a [u8],
 }
@@ -34,14 +34,6 @@ struct Failing {
 }
 
 impl Failing {
-    fn new(alloc: Global, calls: u32) -> Failing {
-        Failing {
-            calls,
-            inner: Vec::new(alloc),
-            flushed: 0,
-        }
-    }
-
     fn call(&mut self) -> io::Result<()> {
         if self.calls == 0 {
             return Err(io::Error::from(ErrorKind::BrokenPipe));
@@ -64,128 +56,179 @@ impl Write for Failing {
     }
 }
 
-// Asserts what a script of these lines writes, and its status, for pieces of each size.
-fn assert_pieces(
-    rt: &impl Abort,
-    alloc: Global,
-    script: &str,
-    status: u8,
-    output: &str,
-) -> Result<(), Fail> {
-    for size in [1usize, 7, 4096] {
-        let mut reader = Pieces {
-            reads: u32::MAX,
-            size,
-            text: script.as_bytes(),
-        };
-        let mut writer = Vec::new(alloc);
-        let found = replay(alloc, &mut reader, &mut writer);
-        assert!(rt;
-            String::from_utf8(writer)?.as_str() == output,
-            "in pieces of {size}"
-        );
-        assert!(rt; found == status, "in pieces of {size}");
+// How a script is read and written: so many bytes a read, and so many reads and so many calls of the writer before a failure.
+#[derive(Clone, Copy)]
+struct Way {
+    size: usize,
+    reads: usize,
+    calls: u32,
+}
+
+const WHOLE: Way = Way {
+    size: 4096,
+    reads: usize::MAX,
+    calls: u32::MAX,
+};
+
+fn played(alloc: Global, way: Way, script: &str) -> (u8, Failing) {
+    let mut reader = Pieces {
+        reads: way.reads,
+        size: way.size,
+        text: script.as_bytes(),
+    };
+    let mut writer = Failing {
+        calls: way.calls,
+        inner: Vec::new(alloc),
+        flushed: 0,
+    };
+    let status = replay(alloc, &mut reader, &mut writer);
+    (status, writer)
+}
+
+// Whether a script ends with this status, and has written and flushed this.
+fn ends_so(alloc: Global, way: Way, script: &str, status: u8, output: &str) -> bool {
+    let (found, writer) = played(alloc, way, script);
+    found == status
+        && writer.inner.as_slice() == output.as_bytes()
+        && writer.flushed == output.len()
+}
+
+// Plays each script of a text behind these, in pieces of each size.
+fn play_in_pieces(alloc: Global, before: &[&str], text: &str) -> Result<(), Fail> {
+    for part in text.split("==\n") {
+        let case = Case::new(alloc, before, part)?;
+        for size in [1usize, 7, 4096] {
+            let way = Way { size, ..WHOLE };
+            let (script, output) = (case.script.as_str(), case.output.as_str());
+            if !ends_so(alloc, way, script, case.status, output) {
+                return Err(Fail::new(format_args!("in pieces of {size}")));
+            }
+        }
     }
     Ok(())
 }
 
+const ONE_SOCKET: &str = "\
+world ip 1500
+socket A udp 1 64 1 64
+start
+> ok
+";
+
+const ENDS: &str = "\
+bind A 0 9{end}
+> ok
+==
+bind A 1 9{end}
+! line 4: refused NoSocket
+==
+bind A 0 9
+> ok
+bind A{end}
+! line 5: bad event
+==
+bind A 0 9
+> ok
+
+! line 5: bad event
+bind A 0 9
+==
+poll A 7 0
+> none
+poll A 6 0
+! line 5: refused Moment
+bogus
+";
+
 #[test]
 fn pieces_of_any_size_write_the_same(rt: HostRuntime) -> Result<(), Fail> {
-    let alloc = rt.alloc();
-    assert_pieces(&rt, alloc, FIRST, 0, ITS_ANSWERS)?;
-    let header = "world ip 1500\nsocket A udp 1 64 1 64\nstart\n";
-    for (lines, status, answers) in [
-        ("bind A 0 9", 0, "ok\n"),
-        ("bind A 1 9", 1, "line 4: refused NoSocket\n"),
-        ("bind A 0 9\nbind A", 1, "ok\nline 5: bad event\n"),
-        ("bind A 0 9\n\nbind A 0 9\n", 1, "ok\nline 5: bad event\n"),
-        (
-            "poll A 7 0\npoll A 6 0\nbogus\n",
-            1,
-            "none\nline 5: refused Moment\n",
-        ),
-    ] {
-        let script = format!(in alloc; "{header}{lines}")?;
-        let output = format!(in alloc; "ok\n{answers}")?;
-        assert_pieces(&rt, alloc, script.as_str(), status, output.as_str())?;
+    play_in_pieces(rt.alloc(), &[IP, QUEUED], CARRIED)?;
+    play_in_pieces(rt.alloc(), &[ONE_SOCKET], ENDS)
+}
+
+// Plays both texts by a reader that fails where the second one would come.
+fn play_first(alloc: Global, first: &str, second: &str) -> Result<(), Fail> {
+    let begun = Case::new(alloc, &[IP], first)?;
+    let whole = Case::new(alloc, &[IP, first], second)?;
+    for size in [1usize, 2, 3, 6] {
+        let way = Way {
+            size,
+            reads: begun.script.len().div_ceil(size),
+            ..WHOLE
+        };
+        if !ends_so(alloc, way, whole.script.as_str(), 2, begun.output.as_str()) {
+            return Err(Fail::new(format_args!("in pieces of {size}")));
+        }
     }
     Ok(())
 }
 
 #[test]
 fn answers_are_written_as_soon_as_their_lines_were_read(rt: HostRuntime) -> Result<(), Fail> {
-    let alloc = rt.alloc();
-    // The reader fails where the eighth line would come.
-    let seven =
-        "world ip 1500\nsocket A udp 1 64 1 64\nsocket B udp 1 64 1 64\nstart\nbind A 0 48896\nbind B 0 53\nsendto A 0 192.168.1.2:53 aa0000ff\n";
-    assert!(rt; FIRST.starts_with(seven));
-    for size in [1usize, 2, 3, 6] {
-        let reads = seven.len().div_ceil(size);
-        let mut reader = Pieces {
-            reads: reads as u32,
-            size,
-            text: FIRST.as_bytes(),
+    play_first(rt.alloc(), QUEUED, CARRIED)
+}
+
+const LAST_LINES: &str = "\
+world ip 1500
+start
+> ok
+bogus
+! line 3: bad event
+==
+world ip 1500
+start
+> ok
+bind A 0 9
+! line 3: refused NoSocket
+";
+
+// Plays each script of a text by a reader that fails behind its last byte: one more read, and the status would be 2.
+fn play_to_the_last_byte(alloc: Global, text: &str) -> Result<(), Fail> {
+    for part in text.split("==\n") {
+        let case = Case::new(alloc, &[], part)?;
+        let way = Way {
+            size: 1,
+            reads: case.script.len(),
+            ..WHOLE
         };
-        let mut writer = Failing::new(alloc, u32::MAX);
-        assert!(rt; replay(alloc, &mut reader, &mut writer) == 2);
-        assert!(rt; writer.inner.as_slice() == b"ok\nok\nok\nok\n".as_slice());
-        assert!(rt;
-            writer.flushed == 12,
-            "it was flushed before the read that failed"
-        );
+        let (script, output) = (case.script.as_str(), case.output.as_str());
+        if !ends_so(alloc, way, script, 1, output) {
+            return Err("of a line that ends the run".into());
+        }
     }
     Ok(())
 }
 
 #[test]
 fn nothing_is_read_behind_a_line_that_ends_the_run(rt: HostRuntime) -> Result<(), Fail> {
-    let alloc = rt.alloc();
-    for (line, end) in [
-        ("bogus\n", "ok\nline 3: bad event\n"),
-        ("bind A 0 9\n", "ok\nline 3: refused NoSocket\n"),
-    ] {
-        let script = format!(in alloc; "world ip 1500\nstart\n{line}")?;
-        let mut reader = Pieces {
-            reads: script.len() as u32,
-            size: 1,
-            text: script.as_bytes(),
-        };
-        let mut writer = Failing::new(alloc, u32::MAX);
-        // One more read would fail, and the status would be 2.
-        assert!(rt; replay(alloc, &mut reader, &mut writer) == 1);
-        assert!(rt; writer.inner.as_slice() == end.as_bytes());
-        assert!(rt; writer.flushed == end.len());
-    }
-    Ok(())
+    play_to_the_last_byte(rt.alloc(), LAST_LINES)
+}
+
+// Whether a datagram's script ends with this status.
+fn has_status(alloc: Global, way: Way, status: u8) -> Result<bool, Fail> {
+    let case = Case::new(alloc, &[IP, QUEUED], CARRIED)?;
+    let (found, _writer) = played(alloc, way, case.script.as_str());
+    Ok(found == status)
 }
 
 #[test]
 fn a_failing_reader_or_writer_is_a_status_of_its_own(rt: HostRuntime) -> Result<(), Fail> {
     let alloc = rt.alloc();
-    let script = FIRST.as_bytes();
     // 26 reads of 7 bytes give the script, and one more its end.
-    for reads in 0..30u32 {
-        let mut reader = Pieces {
-            reads,
+    for reads in 0..30usize {
+        let way = Way {
             size: 7,
-            text: script,
+            reads,
+            ..WHOLE
         };
-        let mut writer = Vec::new(alloc);
-        let status = replay(alloc, &mut reader, &mut writer);
-        assert!(rt;
-            status == (if reads < 27 { 2 } else { 0 }),
-            "after {reads} reads"
-        );
+        let wanted = if reads < 27 { 2 } else { 0 };
+        assert!(rt; has_status(alloc, way, wanted)?, "after {reads} reads");
     }
     // Eight lines are answered with one write each. Behind each of the two reads is a flush.
     for calls in 0..13u32 {
-        let mut reader = script;
-        let mut writer = Failing::new(alloc, calls);
-        let status = replay(alloc, &mut reader, &mut writer);
-        assert!(rt;
-            status == (if calls < 10 { 2 } else { 0 }),
-            "after {calls} calls"
-        );
+        let way = Way { calls, ..WHOLE };
+        let wanted = if calls < 10 { 2 } else { 0 };
+        assert!(rt; has_status(alloc, way, wanted)?, "after {calls} calls");
     }
     Ok(())
 }

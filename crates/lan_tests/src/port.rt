@@ -1,3 +1,4 @@
+//! The device in memory, played by texts.
 use lan::Port;
 use net_base::{Device, DeviceCapabilities, Instant, Medium, RxToken};
 use std::alloc::Global;
@@ -25,10 +26,18 @@ fn echo<D: Device>(device: &mut D) -> bool {
         .is_ok()
 }
 
-/// Puts a frame of these bytes behind those that wait.
-fn pushes(port: &mut Port, alloc: Global, bytes: &[u8]) -> bool {
+/// Puts a frame of these bytes behind those that wait, in a buffer of this capacity.
+fn holds(port: &mut Port, alloc: Global, capacity: usize, bytes: &[u8]) -> bool {
+    match Vec::with_capacity(alloc, capacity) {
+        Ok(mut frame) => frame.extend_from_slice(bytes).is_ok() && port.push(frame).is_ok(),
+        Err(_) => false,
+    }
+}
+
+/// The link puts a frame of these bytes behind the sent ones.
+fn adds(port: &mut Port, alloc: Global, bytes: &[u8]) -> bool {
     match bytes.to_vec(alloc) {
-        Ok(frame) => port.push(frame).is_ok(),
+        Ok(frame) => port.add(frame).is_ok(),
         Err(_) => false,
     }
 }
@@ -77,27 +86,30 @@ fn sent(port: &Port, place: usize, bytes: &[u8]) -> bool {
     }
 }
 
-#[test]
-fn frames_come_in_order(rt: HostRuntime) {
-    let mut port = ip_port(rt.alloc());
-    assert!(rt; pushes(&mut port, rt.alloc(), b"one"));
-    assert!(rt; pushes(&mut port, rt.alloc(), b"two"));
-    assert!(rt; port.waiting().len() == 2);
-    assert!(rt; consumes(&mut port, b"one"));
-    assert!(rt; consumes(&mut port, b"two"));
-    assert!(rt; port.waiting().is_empty() && received(&mut port).is_none());
+/// The capacity of each sent frame is this.
+fn have_capacity(port: &Port, capacity: usize) -> bool {
+    for frame in port.sent() {
+        if frame.capacity() != capacity {
+            return false;
+        }
+    }
+    true
 }
 
-#[test]
-fn a_frame_keeps_its_buffer(rt: HostRuntime) -> Result<(), Fail> {
-    let mut port = ip_port(rt.alloc());
-    let mut frame = Vec::with_capacity(rt.alloc(), 100)?;
-    frame.extend_from_slice(b"one")?;
-    port.push(frame)?;
-    let frame = received(&mut port).ok_or("a frame waits")?;
-    assert!(rt; frame.as_slice() == b"one".as_slice());
-    assert!(rt; frame.capacity() == 100);
-    Ok(())
+/// Whether the next frame has these bytes, in a buffer of this capacity.
+fn takes(port: &mut Port, capacity: usize, bytes: &[u8]) -> bool {
+    match received(port) {
+        Some(frame) => frame.as_slice() == bytes && frame.capacity() == capacity,
+        None => false,
+    }
+}
+
+/// Whether the frame that was sent at this place is of so many bytes, each 7.
+fn has_sevens(port: &Port, place: usize, length: usize) -> bool {
+    match port.sent().get(place) {
+        Some(frame) => frame.len() == length && frame.iter().all(|byte| *byte == 7),
+        None => false,
+    }
 }
 
 /// Sends what a closure writes, whose answer is its buffer's length.
@@ -110,114 +122,220 @@ fn writes(port: &mut Port, bytes: &[u8]) -> Option<usize> {
     answer.ok()
 }
 
-#[test]
-fn sends_what_the_closure_leaves(rt: HostRuntime) {
-    let mut port = ip_port(rt.alloc());
-    assert!(rt; writes(&mut port, b"abc") == Some(3));
-    assert!(rt; pushes(&mut port, rt.alloc(), b"ping"));
-    assert!(rt; echo(&mut port));
-    assert!(rt; !echo(&mut port), "nothing waits");
-    assert!(rt; sent(&port, 0, b"abc") && sent(&port, 1, b"ping"));
-    assert!(rt; port.sent().len() == 2 && port.refusals() == 0);
-}
-
-#[test]
-fn a_port_has_its_capabilities(rt: HostRuntime) {
-    assert!(rt; ip_port(rt.alloc()).capabilities().ip_mtu() == 1500);
-}
-
-#[test]
-fn refuses_before_the_closure_runs(rt: HostRuntime) {
-    let mut port = ip_port(rt.alloc());
-    assert!(rt; refuses(&mut port));
-    assert!(rt; port.refusals() == 1);
-    assert!(rt; port.sent().is_empty());
-}
-
-#[test]
-fn prepared_frames_are_not_refused(rt: HostRuntime) {
-    let mut port = ip_port(rt.alloc());
-    assert!(rt; port.prepare(2, 1500).is_ok());
-    assert!(rt; sends(&mut port, 1500) && sends(&mut port, 20));
-    assert!(rt; port.prepare(1, 9000).is_ok());
-    assert!(rt; port.prepare(1, usize::MAX).is_err());
-    assert!(rt; port.sent().len() == 2);
-    assert!(rt; sent(&port, 0, &[7; 1500]) && sent(&port, 1, &[7; 20]));
-}
-
-#[test]
-fn no_sent_frame_keeps_a_whole_buffer(rt: HostRuntime) {
-    let mut port = ip_port(rt.alloc());
-    assert!(rt; port.prepare(2, 1500).is_ok());
-    assert!(rt; sends(&mut port, 20));
-    for frame in port.sent() {
-        assert!(rt; frame.capacity() == 20);
+/// What a phrase of two numbers, or of a number and bytes, comes to.
+fn goes_at(port: &mut Port, alloc: Global, verb: &str, rest: &str) -> Option<bool> {
+    let (first, second) = rest.split_once(' ').unwrap_or((rest, ""));
+    let value = first.parse::<usize>().ok()?;
+    match verb {
+        "hold" => Some(holds(port, alloc, value, second.as_bytes())),
+        "take" => Some(takes(port, value, second.as_bytes())),
+        "write" => Some(writes(port, second.as_bytes()) == Some(value)),
+        "sent" => Some(sent(port, value, second.as_bytes())),
+        "sevens" => Some(has_sevens(port, value, second.parse::<usize>().ok()?)),
+        "prepare" => Some(port.prepare(value, second.parse::<usize>().ok()?).is_ok()),
+        _ => goes_by(port, verb, value),
     }
 }
 
-#[test]
-fn each_sent_frame_takes_room(rt: HostRuntime) {
-    let mut port = ip_port(rt.alloc());
-    assert!(rt; port.room() == usize::MAX);
-    assert!(rt; sends(&mut port, 0));
-    assert!(rt; port.room() == usize::MAX - 1);
-    port.set_room(2);
-    assert!(rt; sends(&mut port, 0) && port.room() == 1);
-    assert!(rt; sends(&mut port, 0) && port.room() == 0);
+/// What a phrase of one number comes to.
+fn goes_by(port: &mut Port, verb: &str, value: usize) -> Option<bool> {
+    match verb {
+        "send" => Some(sends(port, value)),
+        "set-room" => {
+            port.set_room(value);
+            Some(true)
+        }
+        "room" => Some(port.room() == value),
+        "mtu" => Some(port.capabilities().ip_mtu() == value),
+        "waiting" => Some(port.waiting().len() == value),
+        "frames" => Some(port.sent().len() == value),
+        "refusals" => Some(port.refusals() == value as u64),
+        "capacities" => Some(have_capacity(port, value)),
+        _ => None,
+    }
 }
 
-#[test]
-fn a_port_without_room_gives_no_token(rt: HostRuntime) {
-    let mut port = ip_port(rt.alloc());
-    port.set_room(0);
-    assert!(rt; pushes(&mut port, rt.alloc(), b"ping"));
-    assert!(rt; port.transmit(Instant::ZERO).is_none());
-    assert!(rt; port.receive(Instant::ZERO).is_none());
-    assert!(rt; port.waiting().len() == 1, "what waits goes on waiting");
+/// Whether a phrase goes well. `None`: it isn't known.
+fn goes(port: &mut Port, alloc: Global, phrase: &str) -> Option<bool> {
+    let (verb, rest) = phrase.split_once(' ').unwrap_or((phrase, ""));
+    match verb {
+        "push" => Some(holds(port, alloc, rest.len(), rest.as_bytes())),
+        "add" => Some(adds(port, alloc, rest.as_bytes())),
+        "consume" => Some(consumes(port, rest.as_bytes())),
+        "echo" => Some(echo(port)),
+        "refuse" => Some(refuses(port)),
+        "leave" => Some(port.transmit(Instant::ZERO).is_some()),
+        "receive" => Some(received(port).is_some()),
+        _ => goes_at(port, alloc, verb, rest),
+    }
 }
 
-#[test]
-fn a_refused_send_takes_no_room(rt: HostRuntime) {
-    let mut port = ip_port(rt.alloc());
-    assert!(rt; pushes(&mut port, rt.alloc(), b"ping"));
-    port.set_room(1);
-    assert!(rt; refuses(&mut port) && port.room() == 1);
-    assert!(rt; echo(&mut port));
-    assert!(rt; port.room() == 0);
-}
-
-#[test]
-fn the_link_adds_frames(rt: HostRuntime) -> Result<(), Fail> {
-    let mut port = ip_port(rt.alloc());
-    port.prepare(1, 100)?;
-    assert!(rt; sends(&mut port, 0));
-    port.set_room(0);
-    port.add(b"piece".to_vec(rt.alloc())?)?;
-    assert!(rt; port.room() == 0);
-    port.set_room(1);
-    assert!(rt; sends(&mut port, 0));
-    assert!(rt; port.sent().len() == 3 && sent(&port, 1, b"piece"));
-    assert!(rt; sent(&port, 0, b"") && sent(&port, 2, b""));
+/// Plays a text at a new port. The failure names the first phrase that goes otherwise.
+///
+/// A line's phrases stand with `, ` between them, and are done in their order; `300 times` before them, so often. Each has to go well,
+/// and one that begins with `not` has to fail. BYTES are characters.
+///
+///     push BYTES           a frame comes to those that wait
+///     hold 7 BYTES         the same, in a buffer of this capacity
+///     consume BYTES        the next frame has these bytes, when it is seen and when it is consumed
+///     take 7 BYTES         the next frame has these bytes, in a buffer of this capacity
+///     receive, leave       there is a frame, leave to send
+///     echo                 the next frame is answered with its own bytes
+///     send 7               a frame of seven bytes, each 7
+///     write 7 BYTES        a frame that a closure writes, which answers 7
+///     refuse               there is leave, and the send of more than any allocator has is refused before the closure runs
+///     add BYTES            the link adds a frame to the sent ones
+///     prepare 7 20         for seven frames of 20 bytes
+///     set-room 7, room 7   room for seven frames
+///     mtu 7, waiting 7, frames 7, refusals 7   of the port; what was sent are its frames
+///     sent 7 BYTES         the frame behind seven others
+///     sevens 7 20          the one behind seven others is of 20 bytes, each 7
+///     capacities 7         of each sent frame's buffer
+fn play(alloc: Global, text: &str) -> Result<(), Fail> {
+    let mut port = ip_port(alloc);
+    for line in text.lines() {
+        let (count, phrases) = line.split_once(" times ").unwrap_or(("1", line));
+        for _ in 0..count.parse::<u32>()? {
+            for phrase in phrases.split(", ") {
+                let wanted = match phrase.strip_prefix("not ") {
+                    Some(refused) => goes(&mut port, alloc, refused) == Some(false),
+                    None => goes(&mut port, alloc, phrase) == Some(true),
+                };
+                if !wanted {
+                    return Err(phrase.into());
+                }
+            }
+        }
+    }
     Ok(())
 }
 
-#[test]
-fn many_frames_are_not_refused(rt: HostRuntime) {
-    let mut port = ip_port(rt.alloc());
-    for _ in 0..300 {
-        assert!(rt; pushes(&mut port, rt.alloc(), b"ping"));
-    }
-    for _ in 0..300 {
-        assert!(rt; echo(&mut port));
-    }
-    assert!(rt; port.sent().len() == 300 && port.refusals() == 0);
-}
+const IN_ORDER: &str = "\
+push one, push two, waiting 2
+consume one, consume two
+waiting 0, not receive
+";
 
 #[test]
-fn long_frames_are_not_refused(rt: HostRuntime) {
-    let mut port = ip_port(rt.alloc());
-    for length in [0, 65_535, 70_000] {
-        assert!(rt; sends(&mut port, length));
-    }
-    assert!(rt; port.sent().len() == 3 && port.refusals() == 0);
+fn frames_come_in_order(rt: HostRuntime) -> Result<(), Fail> {
+    play(rt.alloc(), IN_ORDER)
+}
+
+const KEPT: &str = "\
+hold 100 one
+take 100 one
+";
+
+#[test]
+fn a_frame_keeps_its_buffer(rt: HostRuntime) -> Result<(), Fail> {
+    play(rt.alloc(), KEPT)
+}
+
+const LEFT: &str = "\
+write 3 abc
+push ping, echo
+not echo
+sent 0 abc, sent 1 ping, frames 2, refusals 0
+";
+
+#[test]
+fn sends_what_the_closure_leaves(rt: HostRuntime) -> Result<(), Fail> {
+    play(rt.alloc(), LEFT)
+}
+
+const CAPABILITIES: &str = "mtu 1500";
+
+#[test]
+fn a_port_has_its_capabilities(rt: HostRuntime) -> Result<(), Fail> {
+    play(rt.alloc(), CAPABILITIES)
+}
+
+const REFUSED: &str = "refuse, refusals 1, frames 0";
+
+#[test]
+fn refuses_before_the_closure_runs(rt: HostRuntime) -> Result<(), Fail> {
+    play(rt.alloc(), REFUSED)
+}
+
+const PREPARED: &str = "\
+prepare 2 1500, send 1500, send 20
+prepare 1 9000, not prepare 1 18446744073709551615
+frames 2, sevens 0 1500, sevens 1 20
+";
+
+#[test]
+fn prepared_frames_are_not_refused(rt: HostRuntime) -> Result<(), Fail> {
+    play(rt.alloc(), PREPARED)
+}
+
+const SHORT: &str = "prepare 2 1500, send 20, frames 1, capacities 20";
+
+#[test]
+fn no_sent_frame_keeps_a_whole_buffer(rt: HostRuntime) -> Result<(), Fail> {
+    play(rt.alloc(), SHORT)
+}
+
+const ROOM: &str = "\
+room 18446744073709551615, send 0, room 18446744073709551614
+set-room 2, send 0, room 1, send 0, room 0
+";
+
+#[test]
+fn each_sent_frame_takes_room(rt: HostRuntime) -> Result<(), Fail> {
+    play(rt.alloc(), ROOM)
+}
+
+const NO_ROOM: &str = "\
+set-room 0, push ping
+not leave, not receive, waiting 1
+";
+
+/// What waits goes on waiting.
+#[test]
+fn a_port_without_room_gives_no_token(rt: HostRuntime) -> Result<(), Fail> {
+    play(rt.alloc(), NO_ROOM)
+}
+
+const REFUSED_SEND: &str = "\
+push ping, set-room 1
+refuse, room 1
+echo, room 0
+";
+
+#[test]
+fn a_refused_send_takes_no_room(rt: HostRuntime) -> Result<(), Fail> {
+    play(rt.alloc(), REFUSED_SEND)
+}
+
+const ADDED: &str = "\
+prepare 1 100, send 0
+set-room 0, add piece, room 0
+set-room 1, send 0
+frames 3, sent 1 piece, sent 0, sent 2
+";
+
+#[test]
+fn the_link_adds_frames(rt: HostRuntime) -> Result<(), Fail> {
+    play(rt.alloc(), ADDED)
+}
+
+const MANY: &str = "\
+300 times push ping
+300 times echo
+frames 300, refusals 0
+";
+
+#[test]
+fn many_frames_are_not_refused(rt: HostRuntime) -> Result<(), Fail> {
+    play(rt.alloc(), MANY)
+}
+
+const LONG: &str = "\
+send 0, send 65535, send 70000
+frames 3, refusals 0
+";
+
+#[test]
+fn long_frames_are_not_refused(rt: HostRuntime) -> Result<(), Fail> {
+    play(rt.alloc(), LONG)
 }
