@@ -1,4 +1,6 @@
 //! Addresses compared, and told apart by their tests.
+use crate::texts::ipv6;
+use ip_wire::address_laws::Comparison;
 use ip_wire::{
     AddressExt, EthernetAddress, EthernetProtocol, HardwareAddress, IPV4_MULTICAST_ALL_ROUTERS,
     IPV4_MULTICAST_ALL_SYSTEMS, IPV6_LINK_LOCAL_ALL_MLDV2_ROUTERS, IPV6_LINK_LOCAL_ALL_NODES,
@@ -6,63 +8,122 @@ use ip_wire::{
     IpVersion, Ipv4Address, Ipv4Cidr, Ipv4FragKey, Ipv6Address, Ipv6Cidr, RawHardwareAddress,
     SeqNumber, address_laws,
 };
-use std::test::Fail;
 
 const STATION: EthernetAddress = EthernetAddress([0xde, 0xad, 0xbe, 0xef, 0x00, 0x09]);
 
-#[test]
-fn compares_addresses(rt: HostRuntime) {
-    let low = Ipv4Address::new(9, 255, 255, 255);
-    let high = Ipv4Address::new(10, 0, 0, 0);
-    let other = Ipv6Address::UNSPECIFIED;
-    let (first, second) = (IpAddress::from(low), IpAddress::from(other));
-    let (here, there) = (IpEndpoint::new(first, 2), IpEndpoint::new(first, 10));
+const LOW: Ipv4Address = Ipv4Address([9, 255, 255, 255]);
+
+const FIRST: IpAddress = IpAddress::Ipv4(LOW);
+
+const OTHER: Ipv6Address = Ipv6Address::UNSPECIFIED;
+
+const SECOND: IpAddress = IpAddress::Ipv6(OTHER);
+
+fn compared_hardware() -> [Comparison; 3] {
     let raw = RawHardwareAddress::from(STATION);
     let longer = RawHardwareAddress::from_bytes(&[0xde, 0xad, 0xbe, 0xef, 0x01]);
-    for said in [
+    [
         address_laws::compare_raw_hardware_addresses(&raw, &longer),
+        address_laws::compare_ethernet_addresses(&STATION, &EthernetAddress::BROADCAST),
+        address_laws::compare_hardware_addresses(
+            &HardwareAddress::Ip,
+            &HardwareAddress::Ethernet(STATION),
+        ),
+    ]
+}
+
+fn compared_protocols() -> [Comparison; 3] {
+    [
         address_laws::compare_versions(&IpVersion::Ipv4, &IpVersion::Ipv6),
         address_laws::compare_ip_protocols(&IpProtocol::Udp, &IpProtocol::Unknown(17)),
         address_laws::compare_ethernet_protocols(
             &EthernetProtocol::Ipv6,
             &EthernetProtocol::Unknown(0x86dd),
         ),
-        address_laws::compare_ethernet_addresses(&STATION, &EthernetAddress::BROADCAST),
-        address_laws::compare_hardware_addresses(
-            &HardwareAddress::Ip,
-            &HardwareAddress::from(STATION),
-        ),
-        address_laws::compare_ipv4_addresses(&low, &high),
-        address_laws::compare_ipv6_addresses(&other, &Ipv6Address::LOCALHOST),
-        address_laws::compare_ip_addresses(&first, &second),
-        address_laws::compare_ipv4_blocks(&Ipv4Cidr::new(low, 8), &Ipv4Cidr::new(low, 9)),
-        address_laws::compare_ipv6_blocks(&Ipv6Cidr::new(other, 8), &Ipv6Cidr::new(other, 9)),
-        address_laws::compare_ip_blocks(&IpCidr::new(first, 9), &IpCidr::new(second, 8)),
-        address_laws::compare_endpoints(&here, &there),
-        address_laws::compare_listen_endpoints(&IpListenEndpoint::from(80), &here.into()),
-    ] {
-        assert!(rt; !said.equal && said.order.is_lt(), "{said:?}");
+    ]
+}
+
+fn compared_addresses() -> [Comparison; 3] {
+    [
+        address_laws::compare_ipv4_addresses(&LOW, &Ipv4Address([10, 0, 0, 0])),
+        address_laws::compare_ipv6_addresses(&OTHER, &Ipv6Address::LOCALHOST),
+        address_laws::compare_ip_addresses(&FIRST, &SECOND),
+    ]
+}
+
+fn compared_blocks() -> [Comparison; 3] {
+    [
+        address_laws::compare_ipv4_blocks(&Ipv4Cidr::new(LOW, 8), &Ipv4Cidr::new(LOW, 9)),
+        address_laws::compare_ipv6_blocks(&Ipv6Cidr::new(OTHER, 8), &Ipv6Cidr::new(OTHER, 9)),
+        address_laws::compare_ip_blocks(&IpCidr::new(FIRST, 9), &IpCidr::new(SECOND, 8)),
+    ]
+}
+
+const HERE: IpEndpoint = IpEndpoint {
+    addr: FIRST,
+    port: 2,
+};
+
+/// Compares that endpoint with this one, and port 80 of all addresses, too.
+fn compared_endpoints(there: &IpEndpoint) -> (Comparison, Comparison) {
+    let (all, one) = (IpListenEndpoint::from(80), IpListenEndpoint::from(HERE));
+    (
+        address_laws::compare_endpoints(&HERE, there),
+        address_laws::compare_listen_endpoints(&all, &one),
+    )
+}
+
+fn is_less(said: &Comparison) -> bool {
+    !said.equal && said.order.is_lt()
+}
+
+fn all_less(all: &[Comparison]) -> bool {
+    for said in all {
+        if !is_less(said) {
+            return false;
+        }
     }
+    true
+}
+
+#[test]
+fn compares_addresses(rt: HostRuntime) {
+    assert!(rt; all_less(&compared_hardware()));
+    assert!(rt; all_less(&compared_protocols()));
+    assert!(rt; all_less(&compared_addresses()));
+    assert!(rt; all_less(&compared_blocks()));
+    let there = IpEndpoint {
+        addr: FIRST,
+        port: 10,
+    };
+    let (one, listening) = compared_endpoints(&there);
+    assert!(rt; is_less(&one) && is_less(&listening));
+}
+
+/// Whether two hardware addresses of any kind are equal.
+fn are_equal(left: &RawHardwareAddress, right: &RawHardwareAddress) -> bool {
+    address_laws::compare_raw_hardware_addresses(left, right).equal
 }
 
 #[test]
 fn equal_values_have_equal_hashes(rt: HostRuntime) {
-    let here = IpEndpoint::new(IpAddress::v4(9, 255, 255, 255), 2);
-    let raw = RawHardwareAddress::from(STATION);
-    let said = address_laws::compare_endpoints(&here, &here);
+    let (said, _) = compared_endpoints(&HERE);
     assert!(rt; said.equal && said.order.is_eq() && said.hashes.0 == said.hashes.1);
     // The bytes and not what stands behind them: a zero more is another address.
     let (two, three) = (
         RawHardwareAddress::from_bytes(&[1, 2]),
         RawHardwareAddress::from_bytes(&[1, 2, 0]),
     );
-    assert!(rt; !address_laws::compare_raw_hardware_addresses(&two, &three).equal);
-    assert!(rt;
-        address_laws::compare_raw_hardware_addresses(&raw, &RawHardwareAddress::from(STATION)).equal
-    );
+    assert!(rt; !are_equal(&two, &three));
+    let raw = RawHardwareAddress::from(STATION);
+    assert!(rt; are_equal(&raw, &RawHardwareAddress::from(STATION)));
     let next = SeqNumber(7) + 1;
     let (equal, first, second) = address_laws::compare_sequence_numbers(SeqNumber(8), next);
     assert!(rt; equal && first == second);
+}
+
+fn compared_keys(left: &Ipv4FragKey, right: &Ipv4FragKey) -> Comparison {
+    address_laws::compare_fragment_keys(left, right)
 }
 
 // RFC 791, section 3.2: pieces of one packet have the same of all four.
@@ -70,21 +131,42 @@ fn equal_values_have_equal_hashes(rt: HostRuntime) {
 fn tells_cut_packets_apart(rt: HostRuntime) {
     let key = Ipv4FragKey {
         id: 7,
-        src_addr: Ipv4Address::new(10, 0, 0, 1),
-        dst_addr: Ipv4Address::new(10, 0, 0, 2),
+        src_addr: Ipv4Address([10, 0, 0, 1]),
+        dst_addr: Ipv4Address([10, 0, 0, 2]),
         protocol: IpProtocol::Udp,
     };
     let (mut id, mut source, mut destination, mut protocol) = (key, key, key, key);
     id.id = 8;
-    source.src_addr = Ipv4Address::new(10, 0, 0, 3);
-    destination.dst_addr = Ipv4Address::new(10, 0, 0, 3);
+    source.src_addr = Ipv4Address([10, 0, 0, 3]);
+    destination.dst_addr = Ipv4Address([10, 0, 0, 3]);
     protocol.protocol = IpProtocol::Icmpv6;
     for other in [id, source, destination, protocol] {
-        let said = address_laws::compare_fragment_keys(&key, &other);
-        assert!(rt; !said.equal && said.order.is_lt(), "{other:?}");
+        assert!(rt; is_less(&compared_keys(&key, &other)), "{other:?}");
     }
-    let said = address_laws::compare_fragment_keys(&key, &key);
+    let said = compared_keys(&key, &key);
     assert!(rt; said.equal && said.hashes.0 == said.hashes.1);
+}
+
+#[derive(Drop)]
+enum Kind {
+    Loopback,
+    Unspecified,
+    Multicast,
+    Unicast,
+}
+
+fn is_of(address: &Ipv6Address, kind: &Kind) -> bool {
+    match kind {
+        Kind::Loopback => address.is_loopback(),
+        Kind::Unspecified => address.is_unspecified(),
+        Kind::Multicast => address.is_multicast(),
+        Kind::Unicast => address.x_is_unicast(),
+    }
+}
+
+/// Whether the address is of a link, and its scope.
+fn reach(address: &Ipv6Address) -> (bool, u8) {
+    (address.is_link_local(), address.x_multicast_scope())
 }
 
 #[test]
@@ -100,13 +182,20 @@ fn tells_ipv6_addresses_apart(rt: HostRuntime) {
         (IPV6_LINK_LOCAL_ALL_ROUTERS, false, 2),
         (Ipv6Address::new(0xff3e, 0, 0, 0, 0, 0, 0, 1), false, 14),
     ] {
-        assert!(rt; address.is_link_local() == link_local, "{address}");
-        assert!(rt; address.x_multicast_scope() == scope, "{address}");
+        assert!(rt; reach(&address) == (link_local, scope), "{address}");
     }
-    assert!(rt; Ipv6Address::LOCALHOST.is_loopback() && !local.is_loopback());
-    assert!(rt; Ipv6Address::UNSPECIFIED.is_unspecified() && !local.is_unspecified());
-    assert!(rt; IPV6_LINK_LOCAL_ALL_ROUTERS.is_multicast() && !local.is_multicast());
-    assert!(rt; local.x_is_unicast() && !IPV6_LINK_LOCAL_ALL_MLDV2_ROUTERS.x_is_unicast());
+    for (address, kind, is_so) in &[
+        (Ipv6Address::LOCALHOST, Kind::Loopback, true),
+        (local, Kind::Loopback, false),
+        (Ipv6Address::UNSPECIFIED, Kind::Unspecified, true),
+        (local, Kind::Unspecified, false),
+        (IPV6_LINK_LOCAL_ALL_ROUTERS, Kind::Multicast, true),
+        (local, Kind::Multicast, false),
+        (local, Kind::Unicast, true),
+        (IPV6_LINK_LOCAL_ALL_MLDV2_ROUTERS, Kind::Unicast, false),
+    ] {
+        assert!(rt; is_of(address, kind) == *is_so, "{address}");
+    }
     assert!(rt; local.octets()[1] == 0x80);
 }
 
@@ -116,7 +205,7 @@ fn tells_ipv4_addresses_apart(rt: HostRuntime) {
     for (address, unicast, multicast, broadcast, unspecified, loopback) in [
         (host, true, false, false, false, false),
         (
-            Ipv4Address::new(127, 255, 0, 1),
+            Ipv4Address([127, 255, 0, 1]),
             true,
             false,
             false,
@@ -124,7 +213,7 @@ fn tells_ipv4_addresses_apart(rt: HostRuntime) {
             true,
         ),
         (
-            Ipv4Address::new(240, 0, 0, 1),
+            Ipv4Address([240, 0, 0, 1]),
             true,
             false,
             false,
@@ -136,34 +225,43 @@ fn tells_ipv4_addresses_apart(rt: HostRuntime) {
         (Ipv4Address::BROADCAST, false, false, true, false, false),
         (Ipv4Address::UNSPECIFIED, false, false, false, true, false),
     ] {
-        let either = IpAddress::from(address);
-        assert!(rt; address.x_is_unicast() == unicast, "{address}");
-        assert!(rt; either.is_unicast() == unicast, "{address}");
-        assert!(rt; either.is_multicast() == multicast, "{address}");
-        assert!(rt; either.is_broadcast() == broadcast, "{address}");
-        assert!(rt; either.is_unspecified() == unspecified, "{address}");
-        assert!(rt; address.is_loopback() == loopback, "{address}");
-        assert!(rt; either.version() == IpVersion::Ipv4, "{address}");
+        let own = (unicast, loopback);
+        assert!(rt;
+            (address.x_is_unicast(), address.is_loopback()) == own,
+            "{address}"
+        );
+        let as_either = (unicast, multicast, broadcast, unspecified, true);
+        assert!(rt; kinds(&IpAddress::from(address)) == as_either, "{address}");
     }
-    assert!(rt; !IpAddress::Ipv6(IPV6_LINK_LOCAL_ALL_NODES).is_broadcast());
+    assert!(rt; !kinds(&IpAddress::Ipv6(IPV6_LINK_LOCAL_ALL_NODES)).2);
     assert!(rt; host.octets() == [192, 168, 1, 1]);
+}
+
+/// Whether the address is one host's, a group's, all hosts', none, and of IPv4.
+fn kinds(address: &IpAddress) -> (bool, bool, bool, bool, bool) {
+    (
+        address.is_unicast(),
+        address.is_multicast(),
+        address.is_broadcast(),
+        address.is_unspecified(),
+        address.version() == IpVersion::Ipv4,
+    )
 }
 
 // RFC 4291, section 2.7.1: the solicited-node address of 4037::01:800:200e:8c6c.
 #[test]
-fn gives_solicited_node_addresses(rt: HostRuntime) -> Result<(), Fail> {
+fn gives_solicited_node_addresses(rt: HostRuntime) {
     let address = Ipv6Address::new(0x4037, 0, 0, 0, 1, 0x800, 0x200e, 0x8c6c);
     assert!(rt; address.x_is_unicast() && !address.is_solicited_node_multicast());
     let solicited = address.solicited_node();
-    assert!(rt; "ff02::1:ff0e:8c6c".parse() == Ok(solicited));
+    assert!(rt; ipv6("ff02::1:ff0e:8c6c") == Some(solicited));
     assert!(rt; solicited.is_solicited_node_multicast());
     assert!(rt; Ipv6Cidr::SOLICITED_NODE_PREFIX.contains_addr(&solicited));
-    Ok(())
 }
 
 // RFC 6724, section 2.2: the length of the longest prefix that two addresses have in common.
 #[test]
-fn counts_common_first_bits(rt: HostRuntime) -> Result<(), Fail> {
+fn counts_common_first_bits(rt: HostRuntime) {
     for (one, other, bits) in [
         ("2001:db8::1", "2001:db8::1", 128),
         ("2001:db8::1", "2001:db8::2", 126),
@@ -172,9 +270,10 @@ fn counts_common_first_bits(rt: HostRuntime) -> Result<(), Fail> {
         ("::", "8000::", 0),
         ("2001:db8::", "2001:db9::", 31),
     ] {
-        let one: Ipv6Address = one.parse().map_err(|_| "refused")?;
-        let other: Ipv6Address = other.parse().map_err(|_| "refused")?;
-        assert!(rt; one.common_prefix_len(&other) == bits, "{one} and {other}");
+        assert!(rt; common_bits(one, other) == Some(bits), "{one} and {other}");
     }
-    Ok(())
+}
+
+fn common_bits(one: &str, other: &str) -> Option<u8> {
+    Some(ipv6(one)?.common_prefix_len(&ipv6(other)?))
 }

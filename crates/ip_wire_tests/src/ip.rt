@@ -1,23 +1,33 @@
 //! Headers of either family, and the places of all fields.
-use crate::samples::{HEADER, LEFT, OVER_V6, RIGHT, ipv4_header, unverified};
-use ip_wire::{
-    Error, IpProtocol, IpRepr, IpVersion, Ipv6Packet, Ipv6Repr, ip_laws, ipv4_laws, ipv6_laws,
-    udp_field, udp_laws,
+use crate::ipv6;
+use crate::samples::{
+    HEADER, LEFT, OVER_V6, RIGHT, SAID, behind, captured, checksums, first, is_same, put,
 };
-use net_base::ChecksumCapabilities;
+use ip_wire::{
+    Error, IPV6_LINK_LOCAL_ALL_NODES, IpAddress, IpProtocol, IpRepr, IpVersion, ip_laws, ipv4_laws,
+    ipv6_laws, udp_field, udp_laws,
+};
 
-#[test]
-fn ipv4_header_has_parts(rt: HostRuntime) {
-    let mut header = IpRepr::new(LEFT, RIGHT, IpProtocol::Udp, 12, 64);
-    let parts = (
+/// Version, addresses, protocol, hops and the header's length.
+type Parts = (IpVersion, IpAddress, IpAddress, IpProtocol, u8, usize);
+
+fn parts(header: &IpRepr) -> Parts {
+    (
         header.version(),
         header.src_addr(),
         header.dst_addr(),
         header.next_header(),
-    );
-    assert!(rt; parts == (IpVersion::Ipv4, LEFT, RIGHT, IpProtocol::Udp));
-    let lengths = (header.hop_limit(), header.header_len(), header.buffer_len());
-    assert!(rt; lengths == (64, 20, 32));
+        header.hop_limit(),
+        header.header_len(),
+    )
+}
+
+#[test]
+fn ipv4_header_has_parts(rt: HostRuntime) {
+    let mut header = IpRepr::new(LEFT, RIGHT, IpProtocol::Udp, 12, 64);
+    assert!(rt; header.buffer_len() == 32);
+    let wanted = (IpVersion::Ipv4, LEFT, RIGHT, IpProtocol::Udp, 64, 20);
+    assert!(rt; parts(&header) == wanted);
     header.set_payload_len(95);
     assert!(rt; header.payload_len() == 95);
 }
@@ -25,56 +35,66 @@ fn ipv4_header_has_parts(rt: HostRuntime) {
 #[test]
 fn ipv4_header_is_written(rt: HostRuntime) {
     let mut bytes = [0xa5; 24];
-    let header = IpRepr::from(ipv4_header(IpProtocol::Udp, 95));
-    header.emit(&mut bytes, &ChecksumCapabilities::default());
-    assert!(rt; &bytes[..20] == HEADER.as_slice());
-    assert!(rt; &bytes[20..] == [0xa5; 4].as_slice());
+    IpRepr::from(SAID).emit(&mut bytes, &checksums(true));
+    assert!(rt; is_same(first(&bytes, 20), &HEADER));
+    assert!(rt; is_same(behind(&bytes, 20), &[0xa5; 4]));
 }
 
 #[test]
-fn ipv6_header_has_parts(rt: HostRuntime) {
-    let packet = Ipv6Packet::new_unchecked(&OVER_V6);
-    let ipv6 = Ipv6Repr::parse(&packet).expect(&rt, "valid");
-    let header = IpRepr::from(ipv6);
-    assert!(rt; (header.version(), header.header_len()) == (IpVersion::Ipv6, 40));
-    let made = IpRepr::new(header.src_addr(), header.dst_addr(), IpProtocol::Udp, 4, 64);
-    assert!(rt; made == header);
+fn ipv6_header_has_parts(rt: HostRuntime) -> Result<(), Error> {
+    let header = IpRepr::from(ipv6::parsed(&OVER_V6)?);
+    let (source, destination) = (
+        IpAddress::Ipv6(ipv6::LOCAL),
+        IpAddress::Ipv6(IPV6_LINK_LOCAL_ALL_NODES),
+    );
+    let udp = IpProtocol::Udp;
+    let wanted = (IpVersion::Ipv6, source, destination, udp, 64, 40);
+    assert!(rt; parts(&header) == wanted);
+    assert!(rt; IpRepr::new(source, destination, udp, 4, 64) == header);
+    Ok(())
+}
+
+fn read(bytes: &[u8], is_tested: bool) -> Result<IpRepr, Error> {
+    IpRepr::parse(bytes, &checksums(is_tested))
+}
+
+fn is_read_as(bytes: &[u8], is_tested: bool, wanted: Result<IpRepr, Error>) -> bool {
+    read(bytes, is_tested) == wanted
 }
 
 #[test]
-fn packets_of_both_families_are_read(rt: HostRuntime) {
-    let all = ChecksumCapabilities::default();
-    let mut frame = [0; 115];
-    frame[..20].copy_from_slice(&HEADER);
-    let ipv4 = IpRepr::Ipv4(ipv4_header(IpProtocol::Udp, 95));
-    assert!(rt; IpRepr::parse(&frame, &all) == Ok(ipv4));
+fn packets_of_both_families_are_read(rt: HostRuntime) -> Result<(), Error> {
+    let frame = captured();
+    assert!(rt; is_read_as(&frame, true, Ok(IpRepr::Ipv4(SAID))));
     assert!(rt;
-        IpRepr::parse(&frame[..114], &all) == Err(Error),
+        is_read_as(first(&frame, 114), true, Err(Error)),
         "a total length past the bytes"
     );
-    let ipv6 = Ipv6Repr::parse(&Ipv6Packet::new_unchecked(&OVER_V6)).expect(&rt, "valid");
-    assert!(rt; IpRepr::parse(&OVER_V6, &all) == Ok(IpRepr::Ipv6(ipv6)));
+    let ipv6 = ipv6::parsed(&OVER_V6)?;
+    assert!(rt; is_read_as(&OVER_V6, true, Ok(IpRepr::Ipv6(ipv6))));
     ip_laws::ip_no_longer();
     ip_laws::ip_reads_back();
     ip_laws::ip_normal_again();
     ip_laws::ip_fits();
     ip_laws::ip_normal();
+    Ok(())
 }
 
 #[test]
 fn packets_are_refused(rt: HostRuntime) {
-    let all = ChecksumCapabilities::default();
-    let mut frame = [0; 115];
-    frame[..20].copy_from_slice(&HEADER);
-    frame[10] = 0;
-    assert!(rt; IpRepr::parse(&frame, &unverified()).is_ok());
-    let wrong_checksum = IpRepr::parse(&frame, &all);
-    frame[0] = 0x55;
-    let version_five = IpRepr::parse(&frame, &unverified());
-    let too_long = IpRepr::parse(&OVER_V6[..43], &all);
-    let no_bytes = IpRepr::parse(&[], &unverified());
-    let refused = [wrong_checksum, version_five, too_long, no_bytes];
-    assert!(rt; refused == [Err(Error); 4]);
+    let mut damaged = captured();
+    put(&mut damaged, 10, 0);
+    assert!(rt; read(&damaged, false).is_ok());
+    let mut version_five = damaged;
+    put(&mut version_five, 0, 0x55);
+    for (bytes, is_tested, why) in [
+        (first(&damaged, 115), true, "a wrong checksum"),
+        (first(&version_five, 115), false, "version 5"),
+        (first(&OVER_V6, 43), true, "too long"),
+        (&[], false, "no bytes"),
+    ] {
+        assert!(rt; is_read_as(bytes, is_tested, Err(Error)), "{why}");
+    }
 }
 
 // The laws hold the places of fields and the meaning of `==`; the range of a payload is a call.

@@ -1,11 +1,11 @@
 //! IPv6 packets, and their headers as error messages quote them.
-use crate::samples::{OVER_V6, starts_with};
+use crate::samples::{OVER_V6, behind, ends_with, first, is_same, put, starts_with};
 use ip_wire::{
     Error, IPV6_LINK_LOCAL_ALL_NODES, IpProtocol, Ipv6Address, Ipv6Packet, Ipv6PacketMut, Ipv6Repr,
     ipv6_laws,
 };
 
-const LOCAL: Ipv6Address = Ipv6Address([0xfe, 0x80, 0, 0, 0, 0, 0, 0, 0, 0, 0, 0, 0, 0, 0, 1]);
+pub const LOCAL: Ipv6Address = Ipv6Address([0xfe, 0x80, 0, 0, 0, 0, 0, 0, 0, 0, 0, 0, 0, 0, 0, 1]);
 
 /// Version, class, flow, payload length, total length, header length and hops.
 type Numbers = (u8, u8, u32, u16, usize, usize, u8);
@@ -54,39 +54,54 @@ fn ipv6_is_read(rt: HostRuntime) {
     assert!(rt; named(&OVER_V6) == Some(named_so));
 }
 
+/// The header before a whole packet.
+pub fn parsed(bytes: &[u8]) -> Result<Ipv6Repr, Error> {
+    Ipv6Repr::parse(&Ipv6Packet::new_unchecked(bytes))
+}
+
 #[test]
-fn ipv6_is_parsed_and_written(rt: HostRuntime) {
-    let packet = Ipv6Packet::new_unchecked(&OVER_V6);
-    let header = Ipv6Repr::parse(&packet).expect(&rt, "valid");
+fn ipv6_is_parsed_and_written(rt: HostRuntime) -> Result<(), Error> {
+    let header = parsed(&OVER_V6)?;
     assert!(rt; (header.payload_len, header.buffer_len()) == (4, 40));
     let mut bytes = OVER_V6;
-    header.emit(&mut Ipv6PacketMut::new_unchecked(&mut bytes));
-    assert!(rt; &bytes[..4] == [0x60, 0, 0, 0].as_slice());
-    assert!(rt; &bytes[4..] == &OVER_V6[4..]);
+    assert!(rt; is_emitted(&header, &mut bytes));
+    assert!(rt; is_same(first(&bytes, 4), &[0x60, 0, 0, 0]));
+    assert!(rt; is_same(behind(&bytes, 4), behind(&OVER_V6, 4)));
     ipv6_laws::ipv6_spelled();
     ipv6_laws::ipv6_no_longer();
     ipv6_laws::ipv6_fits();
     ipv6_laws::ipv6_normal();
     ipv6_laws::ipv6_normal_again();
     ipv6_laws::ipv6_reads_back();
+    Ok(())
+}
+
+/// Writes a header, if there is a place for it.
+fn is_emitted(header: &Ipv6Repr, bytes: &mut [u8]) -> bool {
+    if bytes.len() < 40 || header.payload_len > 0xffff {
+        return false;
+    }
+    header.emit(&mut Ipv6PacketMut::new_unchecked(bytes));
+    true
+}
+
+/// The packet under the number of version 4.
+fn of_version_four() -> [u8; 46] {
+    let mut bytes = OVER_V6;
+    put(&mut bytes, 0, 0x4f);
+    bytes
 }
 
 #[test]
 fn ipv6_is_refused(rt: HostRuntime) {
-    assert!(rt;
-        Ipv6Repr::parse(&Ipv6Packet::new_unchecked(&OVER_V6[..39])).is_err(),
-        "no header"
-    );
-    assert!(rt;
-        Ipv6Repr::parse(&Ipv6Packet::new_unchecked(&OVER_V6[..43])).is_err(),
-        "too short"
-    );
-    let mut bytes = OVER_V6;
-    bytes[0] = 0x4f;
-    assert!(rt;
-        Ipv6Repr::parse(&Ipv6Packet::new_unchecked(&bytes)).is_err(),
-        "version 4"
-    );
+    let other = of_version_four();
+    for (bytes, why) in [
+        (first(&OVER_V6, 39), "no header"),
+        (first(&OVER_V6, 43), "too short"),
+        (first(&other, 46), "version 4"),
+    ] {
+        assert!(rt; parsed(bytes).is_err(), "{why}");
+    }
 }
 
 /// The same of a view that writes.
@@ -115,55 +130,97 @@ fn named_in_place(bytes: &mut [u8]) -> Option<(bool, IpProtocol, Ipv6Address, Ip
     ))
 }
 
+/// A field to be set.
+#[derive(Drop)]
+enum Field {
+    Version(u8),
+    TrafficClass(u8),
+    FlowLabel(u32),
+    PayloadLen(u16),
+    NextHeader(IpProtocol),
+    HopLimit(u8),
+    SrcAddr(Ipv6Address),
+    DstAddr(Ipv6Address),
+}
+
+/// Sets a field, if there is a header.
+fn set(bytes: &mut [u8], field: &Field) {
+    if bytes.len() < 40 {
+        return;
+    }
+    let mut packet = Ipv6PacketMut::new_unchecked(bytes);
+    match field {
+        Field::Version(value) => packet.set_version(*value),
+        Field::TrafficClass(value) => packet.set_traffic_class(*value),
+        Field::FlowLabel(value) => packet.set_flow_label(*value),
+        Field::PayloadLen(value) => packet.set_payload_len(*value),
+        Field::NextHeader(value) => packet.set_next_header(*value),
+        Field::HopLimit(value) => packet.set_hop_limit(*value),
+        Field::SrcAddr(value) => packet.set_src_addr(*value),
+        Field::DstAddr(value) => packet.set_dst_addr(*value),
+    }
+}
+
 #[test]
 fn ipv6_is_set(rt: HostRuntime) {
     let mut bytes = [0xff; 46];
-    let mut packet = Ipv6PacketMut::new_unchecked(&mut bytes);
-    packet.set_version(6);
-    packet.set_traffic_class(0xfe);
-    packet.set_flow_label(0x12345);
-    packet.set_payload_len(4);
-    packet.set_next_header(IpProtocol::Udp);
-    packet.set_hop_limit(64);
-    packet.set_src_addr(LOCAL);
-    packet.set_dst_addr(IPV6_LINK_LOCAL_ALL_NODES);
-    assert!(rt; starts_with(&bytes, &OVER_V6[..40]));
+    for field in &[
+        Field::Version(6),
+        Field::TrafficClass(0xfe),
+        Field::FlowLabel(0x12345),
+        Field::PayloadLen(4),
+        Field::NextHeader(IpProtocol::Udp),
+        Field::HopLimit(64),
+        Field::SrcAddr(LOCAL),
+        Field::DstAddr(IPV6_LINK_LOCAL_ALL_NODES),
+    ] {
+        set(&mut bytes, field);
+    }
+    assert!(rt; starts_with(&bytes, first(&OVER_V6, 40)));
     assert!(rt; numbers_in_place(&mut bytes) == Some(NUMBERS));
     let named_so = (true, IpProtocol::Udp, LOCAL, IPV6_LINK_LOCAL_ALL_NODES, 4);
     assert!(rt; named_in_place(&mut bytes) == Some(named_so));
 }
 
+/// Fills the payload, and tells the header's length.
+fn filled(bytes: &mut [u8], byte: u8) -> Option<usize> {
+    let mut packet = Ipv6PacketMut::new_checked(bytes).ok()?;
+    let len = packet.header_len();
+    packet.payload_mut().fill(byte);
+    Some(len)
+}
+
 #[test]
 fn ipv6_payload_alone_is_lent(rt: HostRuntime) {
     let mut bytes = OVER_V6;
-    let mut packet = Ipv6PacketMut::new_checked(&mut bytes).expect(&rt, "whole");
-    assert!(rt; packet.header_len() == 40);
-    packet.payload_mut().fill(7);
-    assert!(rt; starts_with(&bytes, &OVER_V6[..40]));
-    assert!(rt; bytes.ends_with(&[7, 7, 7, 7, 0, 0]));
+    assert!(rt; filled(&mut bytes, 7) == Some(40));
+    assert!(rt; starts_with(&bytes, first(&OVER_V6, 40)));
+    assert!(rt; ends_with(&bytes, &[7, 7, 7, 7, 0, 0]));
+}
+
+/// Whether the header that these bytes quote is read as this one, or refused.
+fn is_quoted(bytes: &[u8], wanted: Result<(Ipv6Repr, usize), Error>) -> bool {
+    Ipv6Repr::parse_quoted(bytes) == wanted
 }
 
 #[test]
 fn quoted_ipv6_is_read(rt: HostRuntime) {
-    let want = Ipv6Repr {
-        src_addr: Ipv6Address::new(0xfe80, 0, 0, 0, 0, 0, 0, 1),
+    let header = Ipv6Repr {
+        src_addr: LOCAL,
         dst_addr: IPV6_LINK_LOCAL_ALL_NODES,
         next_header: IpProtocol::Udp,
         payload_len: 4,
         hop_limit: 64,
     };
-    assert!(rt;
-        Ipv6Repr::parse_quoted(&OVER_V6[..40]) == Ok((want, 40)),
-        "no payload is there"
-    );
-    assert!(rt; Ipv6Repr::parse_quoted(&OVER_V6) == Ok((want, 40)));
-    assert!(rt;
-        Ipv6Repr::parse_quoted(&OVER_V6[..39]) == Err(Error),
-        "no header"
-    );
-    let mut bytes = OVER_V6;
-    bytes[0] = 0x4f;
-    assert!(rt; Ipv6Repr::parse_quoted(&bytes) == Err(Error), "version 4");
+    let other = of_version_four();
+    for (bytes, wanted, what) in [
+        (first(&OVER_V6, 40), Ok((header, 40)), "no payload is there"),
+        (first(&OVER_V6, 46), Ok((header, 40)), "a whole packet"),
+        (first(&OVER_V6, 39), Err(Error), "no header"),
+        (first(&other, 46), Err(Error), "version 4"),
+    ] {
+        assert!(rt; is_quoted(bytes, wanted), "{what}");
+    }
     ipv6_laws::ipv6_quoted();
     ipv6_laws::ipv6_quoted_spelled();
     ipv6_laws::ipv6_quoted_fits();

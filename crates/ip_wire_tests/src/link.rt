@@ -1,6 +1,5 @@
 //! Ethernet frames and ARP packets from outside, read and written.
-ghost use Rattle.std.specs.Prelude.{◌<◌, ◌≤◌};
-
+use crate::samples::{behind, ends_with, first, is_same, put, starts_with};
 use ip_wire::{
     ArpHardware, ArpOperation, ArpPacket, ArpPacketMut, ArpRepr, Error, EthernetAddress,
     EthernetFrame, EthernetFrameMut, EthernetProtocol, EthernetRepr, Ipv4Address, arp_laws,
@@ -18,25 +17,20 @@ const FRAME: [u8; 60] = [
 
 const SENDER: EthernetAddress = EthernetAddress([0x02, 0x00, 0x00, 0x00, 0x00, 0x01]);
 
-fn starts_with(bytes: &[u8], front: &[u8]) -> bool {
-    bytes.starts_with(front)
-}
+const HEADER: EthernetRepr = EthernetRepr {
+    src_addr: SENDER,
+    dst_addr: EthernetAddress::BROADCAST,
+    ethertype: EthernetProtocol::Arp,
+};
 
-fn header() -> EthernetRepr {
-    EthernetRepr {
-        src_addr: SENDER,
-        dst_addr: EthernetAddress::BROADCAST,
-        ethertype: EthernetProtocol::Arp,
-    }
-}
-
-fn request() -> ArpRepr {
+/// That packet, or one of another operation.
+fn request(operation: ArpOperation) -> ArpRepr {
     ArpRepr::EthernetIpv4 {
-        operation: ArpOperation::Request,
+        operation,
         source_hardware_addr: SENDER,
-        source_protocol_addr: Ipv4Address::new(192, 168, 1, 1),
+        source_protocol_addr: Ipv4Address([192, 168, 1, 1]),
         target_hardware_addr: EthernetAddress([0; 6]),
-        target_protocol_addr: Ipv4Address::new(192, 168, 1, 2),
+        target_protocol_addr: Ipv4Address([192, 168, 1, 2]),
     }
 }
 
@@ -64,6 +58,11 @@ fn frame_parts(
     ))
 }
 
+/// Whether a frame's header is read as this one, or refused.
+fn is_header(bytes: &[u8], wanted: Result<EthernetRepr, Error>) -> bool {
+    EthernetRepr::parse(&EthernetFrame::new_unchecked(bytes)) == wanted
+}
+
 #[test]
 fn frame_is_read(rt: HostRuntime) {
     let parts = (
@@ -75,10 +74,8 @@ fn frame_is_read(rt: HostRuntime) {
         60,
     );
     assert!(rt; frame_parts(&FRAME) == Some(parts));
-    let frame = EthernetFrame::new_unchecked(&FRAME);
-    assert!(rt; EthernetRepr::parse(&frame) == Ok(header()));
-    let short = EthernetFrame::new_unchecked(&FRAME[..13]);
-    assert!(rt; EthernetRepr::parse(&short) == Err(Error));
+    assert!(rt; is_header(&FRAME, Ok(HEADER)));
+    assert!(rt; is_header(first(&FRAME, 13), Err(Error)));
 }
 
 #[test]
@@ -86,7 +83,7 @@ fn frames_have_lengths(rt: HostRuntime) {
     let headers = [
         EthernetFrame::header_len(),
         EthernetFrameMut::header_len(),
-        header().buffer_len(),
+        HEADER.buffer_len(),
     ];
     assert!(rt; headers == [14; 3]);
     let frames = [
@@ -104,13 +101,23 @@ fn frames_have_lengths(rt: HostRuntime) {
     ethernet_laws::ethernet_written_fields_are_read();
 }
 
+/// Writes a header, and says whether the payload behind it is this one.
+fn is_emitted(header: &EthernetRepr, bytes: &mut [u8], payload: &[u8]) -> bool {
+    if bytes.len() < 14 {
+        return false;
+    }
+    header.emit(&mut EthernetFrameMut::new_unchecked(bytes));
+    match EthernetFrameMut::new_checked(bytes) {
+        Ok(frame) => frame.payload() == payload,
+        Err(_) => false,
+    }
+}
+
 #[test]
 fn frame_is_written(rt: HostRuntime) {
     let mut bytes = [0xa5; 20];
-    let mut frame = EthernetFrameMut::new_unchecked(&mut bytes);
-    header().emit(&mut frame);
-    assert!(rt; frame.payload() == [0xa5; 6].as_slice());
-    assert!(rt; &bytes[..14] == &FRAME[..14]);
+    assert!(rt; is_emitted(&HEADER, &mut bytes, &[0xa5; 6]));
+    assert!(rt; is_same(first(&bytes, 14), first(&FRAME, 14)));
 }
 
 /// Whether the frame is whole, both addresses, and what it carries, where it is written.
@@ -133,7 +140,7 @@ fn frame_is_set(rt: HostRuntime) {
     frame.set_dst_addr(SENDER);
     frame.set_src_addr(EthernetAddress::BROADCAST);
     frame.set_ethertype(EthernetProtocol::Ipv6);
-    assert!(rt; &frame.into_inner()[12..14] == [0x86, 0xdd].as_slice());
+    assert!(rt; is_same(&frame.into_inner()[12..14], &[0x86, 0xdd]));
     let parts = (
         true,
         SENDER,
@@ -143,40 +150,55 @@ fn frame_is_set(rt: HostRuntime) {
     assert!(rt; frame_parts_in_place(&mut bytes) == Some(parts));
 }
 
+/// Fills the payload, and says whether there is a frame.
+fn is_filled(bytes: &mut [u8], byte: u8) -> bool {
+    match EthernetFrameMut::new_checked(bytes) {
+        Ok(mut frame) => {
+            frame.payload_mut().fill(byte);
+            true
+        }
+        Err(_) => false,
+    }
+}
+
 #[test]
 fn payload_alone_is_lent(rt: HostRuntime) {
     let mut bytes = [0xa5; 20];
     bytes[..14].copy_from_slice(&FRAME[..14]);
-    let mut frame = EthernetFrameMut::new_checked(&mut bytes).expect(&rt, "whole");
-    frame.payload_mut().fill(7);
-    assert!(rt; starts_with(&bytes, &FRAME[..14]));
-    assert!(rt; bytes.ends_with(&[7; 6]));
+    assert!(rt; is_filled(&mut bytes, 7));
+    assert!(rt; starts_with(&bytes, first(&FRAME, 14)));
+    assert!(rt; ends_with(&bytes, &[7; 6]));
+}
+
+/// Writes a packet, if there is a place for it.
+fn emit_arp(packet: &ArpRepr, bytes: &mut [u8]) {
+    if bytes.len() >= 28 {
+        packet.emit(&mut ArpPacketMut::new_unchecked(bytes));
+    }
+}
+
+/// Whether a packet is read as this one.
+fn is_packet(bytes: &[u8], wanted: ArpRepr) -> bool {
+    read_arp(bytes) == Ok(wanted)
+}
+
+fn read_arp(bytes: &[u8]) -> Result<ArpRepr, Error> {
+    ArpRepr::parse(&ArpPacket::new_unchecked(bytes))
 }
 
 #[test]
 fn known_numbers_are_read_by_name(rt: HostRuntime) {
     let mut bytes = [0; 42];
-    let (front, behind) = bytes.split_at_mut(14);
+    let (front, packet) = bytes.split_at_mut(14);
     let unnamed = EthernetRepr {
         ethertype: EthernetProtocol::Unknown(0x0806),
-        ..header()
+        ..HEADER
     };
-    let mut frame = EthernetFrameMut::new_unchecked(front);
-    unnamed.emit(&mut frame);
-    let reply = ArpRepr::EthernetIpv4 {
-        operation: ArpOperation::Unknown(1),
-        source_hardware_addr: SENDER,
-        source_protocol_addr: Ipv4Address::new(192, 168, 1, 1),
-        target_hardware_addr: EthernetAddress([0; 6]),
-        target_protocol_addr: Ipv4Address::new(192, 168, 1, 2),
-    };
-    let mut packet = ArpPacketMut::new_unchecked(behind);
-    reply.emit(&mut packet);
+    assert!(rt; is_emitted(&unnamed, front, &[]));
+    emit_arp(&request(ArpOperation::Unknown(1)), packet);
     assert!(rt; starts_with(&FRAME, &bytes));
-    let frame = EthernetFrame::new_unchecked(&bytes);
-    assert!(rt; EthernetRepr::parse(&frame) == Ok(header()));
-    let packet = ArpPacket::new_unchecked(&bytes[14..]);
-    assert!(rt; ArpRepr::parse(&packet) == Ok(request()));
+    assert!(rt; is_header(&bytes, Ok(HEADER)));
+    assert!(rt; is_packet(behind(&bytes, 14), request(ArpOperation::Request)));
 }
 
 /// Kinds, lengths and operation of a packet, and whether it is whole.
@@ -218,24 +240,23 @@ fn arp_addresses(bytes: &[u8]) -> Option<ArpAddresses<'_>> {
 
 #[test]
 fn request_is_read(rt: HostRuntime) {
-    let bytes = &FRAME[14..];
+    let bytes = behind(&FRAME, 14);
     assert!(rt; arp_numbers(bytes) == Some(NUMBERS));
     let (here, there) = ([192, 168, 1, 1], [192, 168, 1, 2]);
     let addresses = (
-        SENDER.as_bytes(),
+        SENDER.0.as_slice(),
         here.as_slice(),
         [0; 6].as_slice(),
         there.as_slice(),
     );
     assert!(rt; arp_addresses(bytes) == Some(addresses));
-    let packet = ArpPacket::new_unchecked(bytes);
-    assert!(rt; ArpRepr::parse(&packet) == Ok(request()));
-    assert!(rt; packet.into_inner().len() == 46);
+    assert!(rt; is_packet(bytes, request(ArpOperation::Request)));
+    assert!(rt; ArpPacket::new_unchecked(bytes).into_inner().len() == 46);
 }
 
 #[test]
 fn request_has_its_length(rt: HostRuntime) {
-    assert!(rt; request().buffer_len() == 28);
+    assert!(rt; request(ArpOperation::Request).buffer_len() == 28);
     arp_laws::arp_spelled();
     arp_laws::arp_no_longer();
     arp_laws::arp_fits();
@@ -246,82 +267,159 @@ fn request_has_its_length(rt: HostRuntime) {
     arp_laws::arp_written_fields_are_read();
 }
 
-fn read_arp(at: usize, byte: u8, len: usize) -> bool
-    requires place { at < 46 }
-    requires within { len ≤ 46 }
-{
-    let mut bytes = [0; 46];
-    bytes.copy_from_slice(&FRAME[14..]);
-    bytes[at] = byte;
-    ArpRepr::parse(&ArpPacket::new_unchecked(&bytes[..len])).is_ok()
+/// Whether the request is read with this byte in this place, cut to so many bytes.
+fn is_read(at: usize, byte: u8, len: usize) -> bool {
+    let mut frame = FRAME;
+    put(&mut frame, at.saturating_add(14), byte);
+    read_arp(first(behind(&frame, 14), len)).is_ok()
 }
 
 #[test]
 fn packets_are_refused(rt: HostRuntime) {
-    assert!(rt; read_arp(45, 0, 28));
-    assert!(rt; !read_arp(45, 0, 27), "under 28 bytes");
-    assert!(rt; !read_arp(1, 6, 46), "another kind of hardware addresses");
-    assert!(rt; !read_arp(2, 0x86, 46), "another protocol");
-    assert!(rt; !read_arp(4, 8, 46), "longer hardware addresses");
-    assert!(rt; !read_arp(5, 16, 46), "longer protocol addresses");
-    assert!(rt; read_arp(7, 9, 46), "an unknown operation");
+    for (at, byte, len, read, what) in [
+        (45, 0, 28, true, "28 bytes"),
+        (45, 0, 27, false, "under 28 bytes"),
+        (1, 6, 46, false, "another kind of hardware addresses"),
+        (2, 0x86, 46, false, "another protocol"),
+        (4, 8, 46, false, "longer hardware addresses"),
+        (5, 16, 46, false, "longer protocol addresses"),
+        (7, 9, 46, true, "an unknown operation"),
+    ] {
+        assert!(rt; is_read(at, byte, len) == read, "{what}");
+    }
 }
 
 #[test]
 fn request_is_written(rt: HostRuntime) {
     let mut bytes = [0xa5; 30];
-    request().emit(&mut ArpPacketMut::new_unchecked(&mut bytes));
-    assert!(rt; starts_with(&bytes, &FRAME[14..42]));
+    emit_arp(&request(ArpOperation::Request), &mut bytes);
+    assert!(rt; starts_with(&bytes, first(behind(&FRAME, 14), 28)));
     assert!(rt; bytes.last().copied() == Some(0xa5));
+}
+
+/// A number to be set.
+#[derive(Drop)]
+enum Field {
+    HardwareType(ArpHardware),
+    ProtocolType(EthernetProtocol),
+    HardwareLen(u8),
+    ProtocolLen(u8),
+    Operation(ArpOperation),
+}
+
+/// Sets a number, if there is a place for it.
+fn set(bytes: &mut [u8], number: &Field) {
+    if bytes.len() < 8 {
+        return;
+    }
+    let mut packet = ArpPacketMut::new_unchecked(bytes);
+    match number {
+        Field::HardwareType(value) => packet.set_hardware_type(*value),
+        Field::ProtocolType(value) => packet.set_protocol_type(*value),
+        Field::HardwareLen(value) => packet.set_hardware_len(*value),
+        Field::ProtocolLen(value) => packet.set_protocol_len(*value),
+        Field::Operation(value) => packet.set_operation(*value),
+    }
+}
+
+/// Kinds, lengths and operation, and whether it is whole, where the packet is written.
+fn arp_numbers_in_place(bytes: &mut [u8]) -> Option<ArpNumbers> {
+    let packet = ArpPacketMut::new_checked(bytes).ok()?;
+    Some((
+        packet.check_len().is_ok(),
+        packet.hardware_type(),
+        packet.protocol_type(),
+        packet.hardware_len(),
+        packet.protocol_len(),
+        packet.operation(),
+    ))
+}
+
+/// Sets the hardware addresses of sender and target, if they have room for six bytes.
+fn set_hardware_addresses(bytes: &mut [u8], source: &[u8; 6], target: &[u8; 6]) -> Option<()> {
+    let mut packet = ArpPacketMut::new_checked(bytes).ok()?;
+    if packet.hardware_len() != 6 {
+        return None;
+    }
+    packet.set_source_hardware_addr(source);
+    if packet.check_len().is_ok() && packet.hardware_len() == 6 {
+        packet.set_target_hardware_addr(target);
+    }
+    Some(())
+}
+
+/// Sets the protocol addresses of sender and target, if they have room for four bytes.
+fn set_protocol_addresses(bytes: &mut [u8], source: &[u8; 4], target: &[u8; 4]) -> Option<()> {
+    let mut packet = ArpPacketMut::new_checked(bytes).ok()?;
+    if packet.protocol_len() != 4 {
+        return None;
+    }
+    packet.set_source_protocol_addr(source);
+    if packet.check_len().is_ok() && packet.protocol_len() == 4 {
+        packet.set_target_protocol_addr(target);
+    }
+    Some(())
+}
+
+/// Whether these are the four addresses of the packet, where it is written.
+fn has_addresses(bytes: &mut [u8], wanted: ArpAddresses<'_>) -> bool {
+    match ArpPacketMut::new_checked(bytes) {
+        Ok(packet) => {
+            packet.source_hardware_addr() == wanted.0
+                && packet.source_protocol_addr() == wanted.1
+                && packet.target_hardware_addr() == wanted.2
+                && packet.target_protocol_addr() == wanted.3
+        }
+        Err(_) => false,
+    }
 }
 
 #[test]
 fn packet_is_set(rt: HostRuntime) {
     let mut bytes = [0xff; 28];
-    let mut packet = ArpPacketMut::new_unchecked(&mut bytes);
-    packet.set_hardware_type(ArpHardware::Ethernet);
-    packet.set_protocol_type(EthernetProtocol::Ipv4);
-    packet.set_hardware_len(6);
-    packet.set_protocol_len(4);
-    packet.set_operation(ArpOperation::Request);
-    let mut packet = ArpPacketMut::new_checked(packet.into_inner()).expect(&rt, "whole");
-    assert!(rt; packet.check_len().is_ok());
-    assert!(rt; packet.hardware_type() == ArpHardware::Ethernet);
-    assert!(rt; packet.protocol_type() == EthernetProtocol::Ipv4);
-    assert!(rt; packet.operation() == ArpOperation::Request);
-    if packet.hardware_len() == 6 && packet.protocol_len() == 4 {
-        packet.set_source_hardware_addr(SENDER.as_bytes());
+    for number in &[
+        Field::HardwareType(ArpHardware::Ethernet),
+        Field::ProtocolType(EthernetProtocol::Ipv4),
+        Field::HardwareLen(6),
+        Field::ProtocolLen(4),
+        Field::Operation(ArpOperation::Request),
+    ] {
+        set(&mut bytes, number);
     }
-    if packet.check_len().is_ok() && packet.protocol_len() == 4 {
-        packet.set_source_protocol_addr(&[192, 168, 1, 1]);
-    }
-    if packet.check_len().is_ok() && packet.hardware_len() == 6 {
-        packet.set_target_hardware_addr(&[0; 6]);
-    }
-    if packet.check_len().is_ok() && packet.protocol_len() == 4 {
-        packet.set_target_protocol_addr(&[192, 168, 1, 2]);
-    }
-    if packet.check_len().is_ok() {
-        assert!(rt; packet.source_hardware_addr() == SENDER.as_bytes());
-        assert!(rt; packet.source_protocol_addr() == [192, 168, 1, 1].as_slice());
-        assert!(rt; packet.target_hardware_addr() == [0; 6].as_slice());
-        assert!(rt; packet.target_protocol_addr() == [192, 168, 1, 2].as_slice());
-    }
-    assert!(rt; starts_with(packet.into_inner(), &FRAME[14..42]));
+    assert!(rt; arp_numbers_in_place(&mut bytes) == Some(NUMBERS));
+    let (here, there, nobody) = ([192, 168, 1, 1], [192, 168, 1, 2], [0; 6]);
+    assert!(rt; set_hardware_addresses(&mut bytes, &SENDER.0, &nobody).is_some());
+    assert!(rt; set_protocol_addresses(&mut bytes, &here, &there).is_some());
+    let addresses = (
+        SENDER.0.as_slice(),
+        here.as_slice(),
+        nobody.as_slice(),
+        there.as_slice(),
+    );
+    assert!(rt; has_addresses(&mut bytes, addresses));
+    assert!(rt; starts_with(&bytes, first(behind(&FRAME, 14), 28)));
 }
 
 // RFC 826: a known number under the name of an unknown one is another value.
 #[test]
 fn compares_kinds_and_operations(rt: HostRuntime) {
     let request = ArpOperation::Request;
-    for other in [ArpOperation::Reply, ArpOperation::Unknown(1)] {
+    for (other, are_equal) in [
+        (ArpOperation::Reply, false),
+        (ArpOperation::Unknown(1), false),
+        (request, true),
+    ] {
         let said = arp_laws::compare_arp_operations(&request, &other);
-        assert!(rt; !said.equal && said.order.is_lt(), "{other:?}");
+        assert!(rt; said.equal == are_equal, "{other:?}");
+        if are_equal {
+            assert!(rt; said.hashes.0 == said.hashes.1);
+        } else {
+            assert!(rt; said.order.is_lt(), "{other:?}");
+        }
     }
-    let said = arp_laws::compare_arp_operations(&request, &request);
-    assert!(rt; said.equal && said.hashes.0 == said.hashes.1);
     let kind = ArpHardware::Ethernet;
-    let said = arp_laws::compare_arp_hardware(&kind, &ArpHardware::Unknown(1));
-    assert!(rt; !said.equal && said.order.is_lt());
-    assert!(rt; arp_laws::compare_arp_hardware(&kind, &kind).equal);
+    for (other, are_equal) in [(ArpHardware::Unknown(1), false), (kind, true)] {
+        let said = arp_laws::compare_arp_hardware(&kind, &other);
+        assert!(rt; said.equal == are_equal && (are_equal || said.order.is_lt()));
+    }
 }

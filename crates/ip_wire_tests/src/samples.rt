@@ -1,6 +1,7 @@
-//! Packets from outside that several tests read and write.
-ghost use Rattle.std.specs.Prelude.{◌≡◌};
-
+//! Packets from outside that several tests read and write, and the comparisons of tests.
+//!
+//! A call of a function with a contract is proved at each place where it stands. So tests reach such functions through helpers
+//! that have none, in which each call stands once, and hand them tables.
 use ip_wire::{IpAddress, IpProtocol, Ipv4Address, Ipv4Repr};
 use net_base::ChecksumCapabilities;
 
@@ -32,24 +33,58 @@ pub const OVER_V6: [u8; 46] = [
     0, 1, 0xff, 0x02, 0, 0, 0, 0, 0, 0, 0, 0, 0, 0, 0, 0, 0, 1, 1, 2, 3, 4, 0, 0,
 ];
 
+/// What that header says.
+pub const SAID: Ipv4Repr = Ipv4Repr {
+    src_addr: Ipv4Address([192, 168, 0, 1]),
+    dst_addr: Ipv4Address([192, 168, 0, 199]),
+    next_header: IpProtocol::Udp,
+    payload_len: 95,
+    hop_limit: 64,
+    ident: 0,
+    dont_frag: true,
+};
+
+/// That header, and zeros for its payload.
+pub fn captured() -> [u8; 115] {
+    let mut frame = [0; 115];
+    frame[..20].copy_from_slice(&HEADER);
+    frame
+}
+
 pub fn starts_with(bytes: &[u8], front: &[u8]) -> bool {
     bytes.starts_with(front)
 }
 
-pub fn unverified() -> ChecksumCapabilities {
-    ChecksumCapabilities::ignored()
+pub fn ends_with(bytes: &[u8], end: &[u8]) -> bool {
+    bytes.ends_with(end)
 }
 
-pub fn ipv4_header(next_header: IpProtocol, payload_len: usize) -> Ipv4Repr
-    ensures { result.payload_len ≡ payload_len }
-{
-    Ipv4Repr {
-        src_addr: Ipv4Address::new(192, 168, 0, 1),
-        dst_addr: Ipv4Address::new(192, 168, 0, 199),
-        next_header,
-        payload_len,
-        hop_limit: 64,
-        ident: 0,
-        dont_frag: true,
+pub fn is_same(found: &[u8], wanted: &[u8]) -> bool {
+    found == wanted
+}
+
+/// Puts a byte at a place, if there is one.
+pub fn put(bytes: &mut [u8], at: usize, byte: u8) {
+    if let Some(place) = bytes.get_mut(at) {
+        *place = byte;
+    }
+}
+
+/// The first of these bytes, so many.
+pub fn first(bytes: &[u8], len: usize) -> &[u8] {
+    bytes.get(..len).unwrap_or(bytes)
+}
+
+/// The bytes behind so many.
+pub fn behind(bytes: &[u8], len: usize) -> &[u8] {
+    bytes.get(len..).unwrap_or(bytes)
+}
+
+/// All checksums are verified and written, or none is.
+pub fn checksums(are_ours: bool) -> ChecksumCapabilities {
+    if are_ours {
+        ChecksumCapabilities::default()
+    } else {
+        ChecksumCapabilities::ignored()
     }
 }

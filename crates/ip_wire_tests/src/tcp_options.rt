@@ -2,30 +2,45 @@
 use ip_wire::{Error, TcpOption, TcpOptions, TcpTimestampGenerator, TcpTimestampRepr, tcp_laws};
 use net_base::Instant;
 
+fn options(area: &[u8]) -> Result<TcpOptions, Error> {
+    TcpOptions::parse(area)
+}
+
+fn is_read_as(area: &[u8], wanted: Result<TcpOptions, Error>) -> bool {
+    options(area) == wanted
+}
+
+/// Whether this option stands in front, and these bytes behind it.
+fn is_front(bytes: &[u8], option: TcpOption<'_>, rest: &[u8]) -> bool {
+    TcpOption::parse(bytes) == Ok((rest, option))
+}
+
 // The formats of RFC 9293, section 3.2, RFC 7323, sections 2.2 and 3.2, and RFC 2018, sections 2
 // and 3, and the first range of its section 4.
 #[test]
-fn reads_options(rt: HostRuntime) -> Result<(), Error> {
+fn reads_options(rt: HostRuntime) {
     let area = [
         2, 4, 0x05, 0xb4, 3, 3, 7, 1, 4, 2, 5, 10, 0, 0, 0x15, 0x7c, 0, 0, 0x17, 0x70, 8, 10, 0,
         0x9c, 0x27, 0x24, 0, 0, 0, 5, 0xfd, 4, 9, 9, 0, 7,
     ];
-    let options = TcpOptions::parse(&area)?;
-    assert!(rt; options.max_seg_size == Some(1460));
-    assert!(rt; options.window_scale == Some(7));
-    assert!(rt; options.sack_permitted);
-    assert!(rt; options.sack_ranges == [Some((5500, 6000)), None, None]);
-    assert!(rt; options.timestamp == Some(TcpTimestampRepr::new(0x9c2724, 5)));
-    Ok(())
+    let wanted = TcpOptions {
+        max_seg_size: Some(1460),
+        window_scale: Some(7),
+        sack_permitted: true,
+        sack_ranges: [Some((5500, 6000)), None, None],
+        timestamp: Some(TcpTimestampRepr::new(0x9c2724, 5)),
+    };
+    assert!(rt; is_read_as(&area, Ok(wanted)));
 }
 
 #[test]
 fn counts_the_last_of_a_kind_and_caps_the_scale(rt: HostRuntime) -> Result<(), Error> {
-    let options = TcpOptions::parse(&[2, 4, 1, 0, 2, 4, 2, 0, 3, 3, 15])?;
+    let options = options(&[2, 4, 1, 0, 2, 4, 2, 0, 3, 3, 15])?;
     assert!(rt; options.max_seg_size == Some(512));
     assert!(rt; options.window_scale == Some(14));
-    assert!(rt; TcpOptions::parse(&[]) == Ok(TcpOptions::none()));
-    assert!(rt; TcpOptions::parse(&[5, 2]) == Ok(TcpOptions::none()));
+    let none = TcpOptions::none();
+    assert!(rt; is_read_as(&[], Ok(none)));
+    assert!(rt; is_read_as(&[5, 2], Ok(none)));
     Ok(())
 }
 
@@ -33,18 +48,16 @@ fn counts_the_last_of_a_kind_and_caps_the_scale(rt: HostRuntime) -> Result<(), E
 // first three count.
 #[test]
 fn reads_up_to_the_end(rt: HostRuntime) -> Result<(), Error> {
-    let options = TcpOptions::parse(&[4, 2, 0, 2, 4, 1, 0, 9])?;
-    assert!(rt; options.sack_permitted);
-    assert!(rt; options.max_seg_size == None);
+    let early = options(&[4, 2, 0, 2, 4, 1, 0, 9])?;
+    assert!(rt; early.sack_permitted);
+    assert!(rt; early.max_seg_size == None);
     let four = [
         5, 34, 0, 0, 0, 1, 0, 0, 0, 2, 0, 0, 0, 3, 0, 0, 0, 4, 0, 0, 0, 5, 0, 0, 0, 6, 0, 0, 0, 7,
         0, 0, 0, 8,
     ];
     let wanted = [Some((1, 2)), Some((3, 4)), Some((5, 6))];
-    assert!(rt; TcpOptions::parse(&four)?.sack_ranges == wanted);
-    let (behind, option) = TcpOption::parse(&[3, 3, 15, 1])?;
-    assert!(rt; option == TcpOption::WindowScale(15));
-    assert!(rt; behind == [1].as_slice());
+    assert!(rt; options(&four)?.sack_ranges == wanted);
+    assert!(rt; is_front(&[3, 3, 15, 1], TcpOption::WindowScale(15), &[1]));
     Ok(())
 }
 
@@ -62,7 +75,7 @@ fn refuses_malformed_options(rt: HostRuntime) {
         &[8, 6, 0, 0, 0, 0],
     ];
     for bytes in rows {
-        assert!(rt; TcpOptions::parse(bytes) == Err(Error), "{bytes:?}");
+        assert!(rt; is_read_as(bytes, Err(Error)), "{bytes:?}");
     }
 }
 
@@ -123,9 +136,8 @@ fn reads_each_option(rt: HostRuntime) {
             },
         ),
     ];
-    let rest: &[u8] = &[9];
     for (bytes, option) in rows {
-        assert!(rt; TcpOption::parse(bytes) == Ok((rest, option)), "{bytes:?}");
+        assert!(rt; is_front(bytes, option, &[9]), "{bytes:?}");
     }
 }
 
@@ -157,10 +169,12 @@ fn writes_each_option(rt: HostRuntime) {
 
 #[test]
 fn answers_timestamps(rt: HostRuntime) {
-    let stamp = TcpTimestampRepr::new(7, 1);
+    let stamp = TcpTimestampRepr { tsval: 7, tsecr: 1 };
     let now = Instant::from_micros(2_999);
     let generator = TcpTimestampGenerator(0xffff_ffff);
     assert!(rt; generator.value_at(now) == 1);
-    assert!(rt; stamp.generate_reply(Some(generator), now) == Some(TcpTimestampRepr::new(1, 7)));
+    assert!(rt;
+        stamp.generate_reply(Some(generator), now) == Some(TcpTimestampRepr { tsval: 1, tsecr: 7 })
+    );
     assert!(rt; stamp.generate_reply(None, now) == None);
 }

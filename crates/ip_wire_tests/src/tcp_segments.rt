@@ -1,12 +1,11 @@
 //! TCP segments from outside, read and written.
-ghost use Rattle.std.specs.Prelude.{◌≡◌, ◌<◌, ◌^◌, length};
-ghost use Rattle.ip_wire.specs.Address.{version_of};
-ghost use Rattle.ip_wire.specs.Options.{no_options};
+ghost use Rattle.std.specs.Prelude.{◌≡◌};
 ghost use Rattle.ip_wire.specs.Tcp.{header_len};
 
+use crate::samples::{behind, checksums, first, is_same, put};
 use ip_wire::{
-    Error, IpAddress, SeqNumber, TcpControl, TcpHeader, TcpOptions, TcpPacket, TcpPacketMut,
-    TcpRepr, TcpTimestampRepr, checksum, tcp_laws,
+    Error, IpAddress, Ipv4Address, SeqNumber, TcpControl, TcpHeader, TcpOptions, TcpPacket,
+    TcpPacketMut, TcpRepr, TcpTimestampRepr, tcp_laws,
 };
 use net_base::ChecksumCapabilities;
 
@@ -24,96 +23,131 @@ const CALL: [u8; 28] = [
     0xc3, 0x0c, 0x00, 0x00, 0x02, 0x04, 0x05, 0xb4, 0x01, 0x01, 0x04, 0x02,
 ];
 
-fn no_options() -> TcpOptions
-    ensures { result ≡ no_options }
-{
-    TcpOptions::none()
-}
+const NO_OPTIONS: TcpOptions = TcpOptions {
+    max_seg_size: None,
+    window_scale: None,
+    sack_permitted: false,
+    sack_ranges: [None; 3],
+    timestamp: None,
+};
 
-fn syn_header() -> TcpHeader
-    ensures { result ≡ record {
-      src_port = 48896;
-      dst_port = 80;
-      control = TcpControl.Syn;
-      seq_number = record { 0 = 0x01234567 };
-      ack_number = None;
-      window_len = 0x0123;
-      options = no_options;
-    } }
-{
-    TcpHeader {
-        src_port: 48896,
-        dst_port: 80,
-        control: TcpControl::Syn,
-        seq_number: SeqNumber(0x01234567),
-        ack_number: None,
-        window_len: 0x0123,
-        options: no_options(),
+/// The header of that SYN.
+const SYN: TcpHeader = TcpHeader {
+    src_port: 48896,
+    dst_port: 80,
+    control: TcpControl::Syn,
+    seq_number: SeqNumber(0x01234567),
+    ack_number: None,
+    window_len: 0x0123,
+    options: NO_OPTIONS,
+};
+
+/// Where segments come from and go to.
+type Ends = (Ipv4Address, Ipv4Address);
+
+const ENDS: Ends = (Ipv4Address([192, 168, 1, 1]), Ipv4Address([192, 168, 1, 2]));
+
+fn read_between(ends: &Ends, bytes: &[u8], is_tested: bool) -> Result<TcpHeader, Error> {
+    if bytes.len() > 0xffff {
+        return Err(Error);
     }
+    TcpHeader::parse(
+        &TcpPacket::new_unchecked(bytes),
+        &IpAddress::Ipv4(ends.0),
+        &IpAddress::Ipv4(ends.1),
+        &checksums(is_tested),
+    )
 }
 
-pub fn addresses() -> (IpAddress, IpAddress)
-    ensures { version_of result.0 ≡ version_of result.1 }
-{
-    (IpAddress::v4(192, 168, 1, 1), IpAddress::v4(192, 168, 1, 2))
+fn read(bytes: &[u8], is_tested: bool) -> Result<TcpHeader, Error> {
+    read_between(&ENDS, bytes, is_tested)
+}
+
+fn is_read_as(bytes: &[u8], is_tested: bool, wanted: Result<TcpHeader, Error>) -> bool {
+    read(bytes, is_tested) == wanted
+}
+
+/// Writes a segment into bytes for it, and says whether they are as long.
+fn is_emitted(header: &TcpHeader, payload: &[u8], bytes: &mut [u8], are_ours: bool) -> bool {
+    let len = header.header_len();
+    if len > 60 || payload.len() > 0xffff - 60 || bytes.len() != len + payload.len() {
+        return false;
+    }
+    header.emit(
+        &mut TcpPacketMut::new_unchecked(bytes),
+        &IpAddress::Ipv4(ENDS.0),
+        &IpAddress::Ipv4(ENDS.1),
+        payload,
+        &checksums(are_ours),
+    );
+    true
 }
 
 #[test]
 fn reads_and_writes_a_syn(rt: HostRuntime) {
-    let (source, destination) = addresses();
-    let caps = ChecksumCapabilities::default();
-    let packet = TcpPacket::new_unchecked(&SYN_BYTES);
-    let header = syn_header();
-    assert!(rt; TcpHeader::parse(&packet, &source, &destination, &caps) == Ok(header));
+    assert!(rt; is_read_as(&SYN_BYTES, true, Ok(SYN)));
     let mut buffer = [0xa5; 24];
-    let mut frame = TcpPacketMut::new_unchecked(&mut buffer);
-    header.emit(&mut frame, &source, &destination, &PAYLOAD, &caps);
-    assert!(rt; buffer == SYN_BYTES);
+    assert!(rt; is_emitted(&SYN, &PAYLOAD, &mut buffer, true));
+    assert!(rt; is_same(&buffer, &SYN_BYTES));
+}
+
+/// The numbers that the segment takes, whether it takes none, the lengths of its header and of all.
+fn lengths(segment: &TcpRepr<'_>) -> (usize, bool, usize, usize) {
+    (
+        segment.segment_len(),
+        segment.is_empty(),
+        segment.header_len(),
+        segment.buffer_len(),
+    )
 }
 
 #[test]
 fn reads_a_segment(rt: HostRuntime) -> Result<(), Error> {
-    let (source, destination) = addresses();
-    let caps = ChecksumCapabilities::default();
-    let read = TcpRepr::parse(
-        &TcpPacket::new_unchecked(&SYN_BYTES),
-        &source,
-        &destination,
-        &caps,
-    )?;
-    assert!(rt; (read.header(), read.payload) == (syn_header(), PAYLOAD.as_slice()));
-    let lengths = (
-        read.segment_len(),
-        read.is_empty(),
-        read.header_len(),
-        read.buffer_len(),
-    );
-    assert!(rt; lengths == (5, false, 20, 24));
+    let (source, destination) = (IpAddress::Ipv4(ENDS.0), IpAddress::Ipv4(ENDS.1));
+    let packet = TcpPacket::new_unchecked(&SYN_BYTES);
+    let read = TcpRepr::parse(&packet, &source, &destination, &checksums(true))?;
+    assert!(rt; (read.header(), read.payload) == (SYN, PAYLOAD.as_slice()));
+    assert!(rt; lengths(&read) == (5, false, 20, 24));
     Ok(())
+}
+
+/// Writes a segment into bytes for it.
+fn emit_segment(segment: &TcpRepr<'_>, bytes: &mut [u8]) {
+    let (header, all) = (segment.header_len(), segment.buffer_len());
+    if header <= 60 && all <= 0xffff && bytes.len() == all {
+        segment.emit(
+            &mut TcpPacketMut::new_unchecked(bytes),
+            &IpAddress::Ipv4(ENDS.0),
+            &IpAddress::Ipv4(ENDS.1),
+            &checksums(true),
+        );
+    }
 }
 
 #[test]
 fn writes_a_segment(rt: HostRuntime) {
-    let (source, destination) = addresses();
-    let segment = TcpRepr::new(&syn_header(), &PAYLOAD);
     let mut buffer = [0x5a; 24];
-    let mut frame = TcpPacketMut::new_unchecked(&mut buffer);
-    segment.emit(
-        &mut frame,
-        &source,
-        &destination,
-        &ChecksumCapabilities::default(),
-    );
-    assert!(rt; buffer == SYN_BYTES);
+    emit_segment(&TcpRepr::new(&SYN, &PAYLOAD), &mut buffer);
+    assert!(rt; is_same(&buffer, &SYN_BYTES));
+}
+
+/// The options of a whole segment, and whether its checksum is right.
+fn options_between<'a>(ends: &Ends, bytes: &'a [u8]) -> Option<(&'a [u8], bool)> {
+    if bytes.len() > 0xffff {
+        return None;
+    }
+    let packet = TcpPacket::new_checked(bytes).ok()?;
+    let is_right = packet.verify_checksum(&IpAddress::Ipv4(ends.0), &IpAddress::Ipv4(ends.1));
+    Some((packet.options(), is_right))
 }
 
 #[test]
 fn reads_fields(rt: HostRuntime) -> Result<(), Error> {
-    let source = IpAddress::v4(145, 254, 160, 237);
-    let destination = IpAddress::v4(65, 208, 228, 223);
-    let packet = TcpPacket::new_checked(&CALL)?;
-    assert!(rt; packet.options() == &CALL[20..]);
-    assert!(rt; packet.verify_checksum(&source, &destination));
+    let ends = (
+        Ipv4Address([145, 254, 160, 237]),
+        Ipv4Address([65, 208, 228, 223]),
+    );
+    assert!(rt; options_between(&ends, &CALL) == Some((behind(&CALL, 20), true)));
     let wanted = TcpHeader {
         src_port: 3372,
         dst_port: 80,
@@ -124,11 +158,10 @@ fn reads_fields(rt: HostRuntime) -> Result<(), Error> {
         options: TcpOptions {
             max_seg_size: Some(1460),
             sack_permitted: true,
-            ..no_options()
+            ..NO_OPTIONS
         },
     };
-    let caps = ChecksumCapabilities::default();
-    let header = TcpHeader::parse(&packet, &source, &destination, &caps)?;
+    let header = read_between(&ends, &CALL, true)?;
     assert!(rt; (header, header.header_len()) == (wanted, 28));
     Ok(())
 }
@@ -161,16 +194,24 @@ fn flags(bytes: &[u8]) -> Result<[bool; 9], Error> {
     ])
 }
 
+/// Window, checksum, urgent pointer and all bytes.
+fn last_fields(bytes: &[u8]) -> Result<(u16, u16, u16, &[u8]), Error> {
+    let packet = TcpPacket::new_checked(bytes)?;
+    Ok((
+        packet.window_len(),
+        packet.checksum(),
+        packet.urgent_at(),
+        packet.into_inner(),
+    ))
+}
+
 #[test]
 fn reads_every_field(rt: HostRuntime) {
     let first = (48896, 80, SeqNumber(0x01234567), SeqNumber(0), 20);
     assert!(rt; first_fields(&SYN_BYTES) == Ok(first));
     let only_syn = [false, true, false, false, false, false, false, false, false];
     assert!(rt; flags(&SYN_BYTES) == Ok(only_syn));
-    let packet = TcpPacket::new_unchecked(&SYN_BYTES);
-    let last = (packet.window_len(), packet.checksum(), packet.urgent_at());
-    assert!(rt; last == (0x0123, 0x7a8d, 0));
-    assert!(rt; packet.into_inner() == SYN_BYTES.as_slice());
+    assert!(rt; last_fields(&SYN_BYTES) == Ok((0x0123, 0x7a8d, 0, SYN_BYTES.as_slice())));
 }
 
 // A SYN that is acknowledged, with every option that a SYN may have. These bytes and those below
@@ -182,52 +223,50 @@ const ANSWER: [u8; 40] = [
     0x02, 0x03, 0x04, 0x05, 0x06, 0x07, 0x08, 0x00,
 ];
 
-fn answer_header() -> TcpHeader
-    ensures { header_len result ≡ 40 }
-{
-    TcpHeader {
-        src_port: 80,
-        dst_port: 49500,
-        control: TcpControl::Syn,
-        seq_number: SeqNumber(0xffff_fffe),
-        ack_number: Some(SeqNumber(0x8000_0000)),
-        window_len: 0xffff,
-        options: TcpOptions {
-            max_seg_size: Some(1460),
-            window_scale: Some(7),
-            sack_permitted: true,
-            sack_ranges: [None; 3],
-            timestamp: Some(TcpTimestampRepr::new(0x0102_0304, 0x0506_0708)),
-        },
-    }
-}
+/// Its header.
+const ANSWER_HEADER: TcpHeader = TcpHeader {
+    src_port: 80,
+    dst_port: 49500,
+    control: TcpControl::Syn,
+    seq_number: SeqNumber(0xffff_fffe),
+    ack_number: Some(SeqNumber(0x8000_0000)),
+    window_len: 0xffff,
+    options: TcpOptions {
+        max_seg_size: Some(1460),
+        window_scale: Some(7),
+        sack_permitted: true,
+        sack_ranges: [None; 3],
+        timestamp: Some(TcpTimestampRepr {
+            tsval: 0x0102_0304,
+            tsecr: 0x0506_0708,
+        }),
+    },
+};
 
-fn read(bytes: &[u8], caps: &ChecksumCapabilities) -> Result<TcpHeader, Error>
-    requires { length bytes.now < 2 ^ 16 }
-{
-    let (source, destination) = addresses();
-    TcpHeader::parse(
-        &TcpPacket::new_unchecked(bytes),
-        &source,
-        &destination,
-        caps,
-    )
+/// Whether acknowledgements may have ranges, the ranges, and the payload.
+type Acknowledged<'a> = (
+    Result<bool, Error>,
+    Result<[Option<(u32, u32)>; 3], Error>,
+    &'a [u8],
+);
+
+fn acknowledged(bytes: &[u8]) -> Result<Acknowledged<'_>, Error> {
+    let packet = TcpPacket::new_checked(bytes)?;
+    Ok((
+        packet.selective_ack_permitted(),
+        packet.selective_ack_ranges(),
+        packet.payload(),
+    ))
 }
 
 #[test]
-fn reads_and_writes_an_answer(rt: HostRuntime) -> Result<(), Error> {
-    let (source, destination) = addresses();
-    let caps = ChecksumCapabilities::default();
-    let packet = TcpPacket::new_checked(&ANSWER)?;
-    assert!(rt; packet.selective_ack_permitted() == Ok(true));
-    assert!(rt; packet.selective_ack_ranges() == Ok([None; 3]));
-    assert!(rt; packet.payload() == [].as_slice());
-    assert!(rt; read(&ANSWER, &caps) == Ok(answer_header()));
+fn reads_and_writes_an_answer(rt: HostRuntime) {
+    let none: &[u8] = &[];
+    assert!(rt; acknowledged(&ANSWER) == Ok((Ok(true), Ok([None; 3]), none)));
+    assert!(rt; is_read_as(&ANSWER, true, Ok(ANSWER_HEADER)));
     let mut buffer = [0xa5; 40];
-    let mut frame = TcpPacketMut::new_unchecked(&mut buffer);
-    answer_header().emit(&mut frame, &source, &destination, &[], &caps);
-    assert!(rt; buffer == ANSWER);
-    Ok(())
+    assert!(rt; is_emitted(&ANSWER_HEADER, &[], &mut buffer, true));
+    assert!(rt; is_same(&buffer, &ANSWER));
 }
 
 // The last row of the third case of RFC 2018, section 4, over IPv6 with timestamps: 5500 is
@@ -254,7 +293,7 @@ fn ranges_header() -> TcpHeader
             window_scale: None,
             sack_permitted: false,
             sack_ranges: [Some((8000, 8500)), Some((7000, 7500)), Some((6000, 6500))],
-            timestamp: Some(TcpTimestampRepr::new(7, 9)),
+            timestamp: Some(TcpTimestampRepr { tsval: 7, tsecr: 9 }),
         },
     }
 }
@@ -264,17 +303,17 @@ fn reads_and_writes_ranges(rt: HostRuntime) -> Result<(), Error> {
     let source = IpAddress::v6(0xfd00, 0, 0, 0, 0, 0, 0, 1);
     let destination = IpAddress::v6(0xfd00, 0, 0, 0, 0, 0, 0, 2);
     let caps = ChecksumCapabilities::default();
-    let packet = TcpPacket::new_checked(&RANGES)?;
     let wanted = ranges_header();
-    assert!(rt; packet.selective_ack_permitted() == Ok(false));
-    assert!(rt; packet.selective_ack_ranges() == Ok(wanted.options.sack_ranges));
+    let (is_permitted, ranges, _payload) = acknowledged(&RANGES)?;
+    assert!(rt; (is_permitted, ranges) == (Ok(false), Ok(wanted.options.sack_ranges)));
+    let packet = TcpPacket::new_checked(&RANGES)?;
     assert!(rt; packet.segment_len() == 3);
     let segment = TcpRepr::parse(&packet, &source, &destination, &caps)?;
     assert!(rt; segment == TcpRepr::new(&wanted, b"ab\xff"));
     let mut buffer = [0xa5; 59];
     let mut frame = TcpPacketMut::new_unchecked(&mut buffer);
     wanted.emit(&mut frame, &source, &destination, segment.payload, &caps);
-    assert!(rt; buffer == RANGES);
+    assert!(rt; is_same(&buffer, &RANGES));
     Ok(())
 }
 
@@ -287,7 +326,7 @@ const ODD: [u8; 32] = [
 
 #[test]
 fn reads_what_is_not_sent(rt: HostRuntime) -> Result<(), Error> {
-    let header = read(&ODD, &ChecksumCapabilities::default())?;
+    let header = read(&ODD, true)?;
     assert!(rt; header.control == TcpControl::Fin);
     assert!(rt; header.ack_number == None);
     assert!(rt; header.options.sack_ranges == [Some((6000, 6500)), None, None]);
@@ -304,10 +343,10 @@ fn reads_what_is_not_sent(rt: HostRuntime) -> Result<(), Error> {
     Ok(())
 }
 
-fn unsent_header() -> TcpHeader
-    ensures { header_len result ≡ 32 }
-{
-    TcpHeader {
+// Room is made for ranges also where they aren't sent, and holds zeros.
+#[test]
+fn leaves_out_ranges_without_acknowledgement(rt: HostRuntime) {
+    let header = TcpHeader {
         src_port: 1,
         dst_port: 2,
         control: TcpControl::Fin,
@@ -315,51 +354,34 @@ fn unsent_header() -> TcpHeader
         ack_number: None,
         window_len: 5,
         options: TcpOptions {
-            max_seg_size: None,
-            window_scale: None,
-            sack_permitted: false,
             sack_ranges: [None, Some((6000, 6500)), None],
-            timestamp: None,
+            ..NO_OPTIONS
         },
-    }
-}
-
-// Room is made for ranges also where they aren't sent, and holds zeros.
-#[test]
-fn leaves_out_ranges_without_acknowledgement(rt: HostRuntime) {
-    let (source, destination) = addresses();
+    };
     let mut buffer = [0xa5; 32];
-    let mut frame = TcpPacketMut::new_unchecked(&mut buffer);
-    let ignored = ChecksumCapabilities::ignored();
-    unsent_header().emit(&mut frame, &source, &destination, &[], &ignored);
+    assert!(rt; is_emitted(&header, &[], &mut buffer, false));
     let wanted = [
         0x00, 0x01, 0x00, 0x02, 0x00, 0x00, 0x00, 0x03, 0x00, 0x00, 0x00, 0x00, 0x80, 0x01, 0x00,
         0x05, 0x00, 0x00, 0x00, 0x00, 0x00, 0x00, 0x00, 0x00, 0x00, 0x00, 0x00, 0x00, 0x00, 0x00,
         0x00, 0x00,
     ];
-    assert!(rt; buffer == wanted);
+    assert!(rt; is_same(&buffer, &wanted));
     tcp_laws::tcp_reads_back();
     tcp_laws::tcp_told_apart();
 }
 
 /// The SYN with one byte changed.
-fn changed(at: usize, byte: u8) -> [u8; 24]
-    requires { at < 24 }
-    ensures { length result ≡ 24 }
-{
+fn changed(at: usize, byte: u8) -> [u8; 24] {
     let mut bytes = SYN_BYTES;
-    bytes[at] = byte;
+    put(&mut bytes, at, byte);
     bytes
 }
 
 #[test]
 fn refuses_what_is_no_segment(rt: HostRuntime) {
-    let unverified = ChecksumCapabilities::ignored();
-    assert!(rt;
-        read(&SYN_BYTES[..19], &unverified) == Err(Error),
-        "no header"
-    );
-    assert!(rt; TcpPacket::new_checked(&SYN_BYTES[..19]).is_err());
+    let short = first(&SYN_BYTES, 19);
+    assert!(rt; is_read_as(short, false, Err(Error)), "no header");
+    assert!(rt; last_fields(short).is_err());
     for (at, byte, why) in [
         (12, 0x40, "a header under 20 bytes"),
         (12, 0x70, "a header past the bytes"),
@@ -367,44 +389,34 @@ fn refuses_what_is_no_segment(rt: HostRuntime) {
         (13, 0x06, "SYN and RST"),
         (13, 0x05, "RST and FIN"),
         (13, 0x07, "SYN, RST and FIN"),
+        (0, 0, "from port 0"),
+        (3, 0, "to port 0"),
     ] {
-        assert!(rt;
-            read(&changed(at, byte), &unverified) == Err(Error),
-            "{why}"
-        );
+        assert!(rt; is_read_as(&changed(at, byte), false, Err(Error)), "{why}");
     }
-    let mut bytes = SYN_BYTES;
-    bytes[0] = 0;
-    assert!(rt; read(&bytes, &unverified) == Err(Error), "from port 0");
-    assert!(rt;
-        read(&changed(3, 0), &unverified) == Err(Error),
-        "to port 0"
-    );
     let damaged = changed(23, 0xfe);
-    assert!(rt; read(&damaged, &unverified).is_ok());
-    assert!(rt;
-        read(&damaged, &ChecksumCapabilities::default()) == Err(Error),
-        "a wrong checksum"
-    );
+    assert!(rt; read(&damaged, false).is_ok());
+    assert!(rt; is_read_as(&damaged, true, Err(Error)), "a wrong checksum");
     tcp_laws::tcp_damaged();
 }
 
 /// The SYN with options in the place of its payload.
-fn with_options(options: &[u8; 4]) -> [u8; 24]
-    ensures { length result ≡ 24 }
-{
+fn with_options(options: &[u8; 4]) -> [u8; 24] {
     let mut bytes = changed(12, 0x60);
-    bytes[20] = options[0];
-    bytes[21] = options[1];
-    bytes[22] = options[2];
-    bytes[23] = options[3];
+    let [first, second, third, fourth] = *options;
+    for (at, byte) in [(20, first), (21, second), (22, third), (23, fourth)] {
+        put(&mut bytes, at, byte);
+    }
     bytes
+}
+
+fn max_seg_size(bytes: &[u8]) -> Result<Option<u16>, Error> {
+    Ok(read(bytes, false)?.options.max_seg_size)
 }
 
 // The end of the options may stand anywhere, and the header then ends with any bytes.
 #[test]
 fn refuses_malformed_headers(rt: HostRuntime) {
-    let unverified = ChecksumCapabilities::ignored();
     for (options, read_as) in [
         ([0xaa, 0x00, 0x00, 0xff], Err(Error)),
         ([0x02, 0x04, 0x05, 0xb4], Ok(Some(1460))),
@@ -414,7 +426,7 @@ fn refuses_malformed_headers(rt: HostRuntime) {
         ([0xfe, 0x04, 0x05, 0xb4], Ok(None)),
     ] {
         let bytes = with_options(&options);
-        assert!(rt; read(&bytes, &unverified).map(|header| header.options.max_seg_size) == read_as);
+        assert!(rt; max_seg_size(&bytes) == read_as);
     }
 }
 
@@ -446,15 +458,10 @@ fn counts_sequence_numbers(rt: HostRuntime) {
         (TcpControl::Fin, 1, false),
         (TcpControl::Rst, 0, false),
     ] {
-        let header = TcpHeader {
-            control,
-            ..syn_header()
-        };
-        let bare = TcpRepr::new(&header, &[]);
-        assert!(rt; bare.segment_len() == len);
-        assert!(rt; bare.is_empty() == empty);
-        let full = TcpRepr::new(&header, &PAYLOAD);
-        assert!(rt; full.segment_len() == len + 4);
-        assert!(rt; !full.is_empty());
+        let header = TcpHeader { control, ..SYN };
+        let (bare, is_empty, _, _) = lengths(&TcpRepr::new(&header, &[]));
+        assert!(rt; (bare, is_empty) == (len, empty));
+        let (full, is_empty, _, _) = lengths(&TcpRepr::new(&header, &PAYLOAD));
+        assert!(rt; (full, is_empty) == (len + 4, false));
     }
 }

@@ -3,11 +3,117 @@ use ip_wire::{
     Error, IpAddress, IpCidr, IpEndpoint, IpListenEndpoint, Ipv4Address, Ipv4Cidr, Ipv6Address,
     Ipv6Cidr, address_laws, text,
 };
+use std::alloc::Global;
 use std::test::Fail;
+
+pub fn ipv4(text: &str) -> Option<Ipv4Address> {
+    text.parse().ok()
+}
+
+pub fn ipv6(text: &str) -> Option<Ipv6Address> {
+    text.parse().ok()
+}
+
+/// An address of either family.
+pub fn either(text: &str) -> Option<IpAddress> {
+    text.parse().ok()
+}
+
+/// A block of either family.
+pub fn block(text: &str) -> Option<IpCidr> {
+    text.parse().ok()
+}
+
+fn ipv4_block(text: &str) -> Option<Ipv4Cidr> {
+    text.parse().ok()
+}
+
+pub fn ipv6_block(text: &str) -> Option<Ipv6Cidr> {
+    text.parse().ok()
+}
+
+fn endpoint(text: &str) -> Option<IpEndpoint> {
+    text.parse().ok()
+}
+
+fn shown_ipv4(alloc: Global, address: &Ipv4Address) -> Option<String> {
+    format!(in alloc; "{address}").ok()
+}
+
+fn shown_ipv6(alloc: Global, address: &Ipv6Address) -> Option<String> {
+    format!(in alloc; "{address}").ok()
+}
+
+fn shown_block(alloc: Global, block: &IpCidr) -> Option<String> {
+    format!(in alloc; "{block}").ok()
+}
+
+fn shown_endpoint(alloc: Global, endpoint: &IpEndpoint) -> Option<String> {
+    format!(in alloc; "{endpoint}").ok()
+}
+
+fn is_text(shown: Option<String>, wanted: &str) -> bool {
+    match shown {
+        Some(shown) => shown.as_str() == wanted,
+        None => false,
+    }
+}
+
+fn is_ipv6(address: Option<Ipv6Address>, wanted: Ipv6Address) -> bool {
+    address == Some(wanted)
+}
+
+fn is_either(address: Option<IpAddress>, wanted: IpAddress) -> bool {
+    address == Some(wanted)
+}
+
+/// Whether an IPv6 address is printed so, and the print read as the same address.
+fn prints_ipv6_as(alloc: Global, text: &str, printed: &str) -> bool {
+    match ipv6(text) {
+        Some(address) => {
+            is_text(shown_ipv6(alloc, &address), printed)
+                && is_either(either(printed), IpAddress::Ipv6(address))
+        }
+        None => false,
+    }
+}
+
+/// Whether both texts are of one address, and it is printed so.
+fn reads_as(alloc: Global, text: &str, in_hex: &str, printed: &str) -> bool {
+    match ipv6(text) {
+        Some(address) => {
+            is_ipv6(ipv6(in_hex), address) && is_text(shown_ipv6(alloc, &address), printed)
+        }
+        None => false,
+    }
+}
+
+/// Whether an IPv4 address is printed so, and the text read as one of either family, too.
+fn prints_ipv4_as(alloc: Global, text: &str, printed: &str) -> bool {
+    match ipv4(text) {
+        Some(address) => {
+            is_text(shown_ipv4(alloc, &address), printed)
+                && is_either(either(text), IpAddress::Ipv4(address))
+        }
+        None => false,
+    }
+}
+
+fn prints_block_as(alloc: Global, text: &str, printed: &str) -> bool {
+    match block(text) {
+        Some(block) => is_text(shown_block(alloc, &block), printed),
+        None => false,
+    }
+}
+
+/// Whether the text is read as this endpoint, and it is printed so.
+fn prints_endpoint_as(alloc: Global, text: &str, wanted: &IpEndpoint, printed: &str) -> bool {
+    endpoint(text) == Some(*wanted) && is_text(shown_endpoint(alloc, wanted), printed)
+}
 
 // RFC 4291, section 2.2, and RFC 5952, sections 1 and 4: what is read, and how it is printed.
 #[test]
-fn prints_ipv6(rt: HostRuntime) -> Result<(), Fail> {
+fn prints_ipv6(rt: HostRuntime) {
     for (text, printed) in [
         (
             "ABCD:EF01:2345:6789:ABCD:EF01:2345:6789",
@@ -24,18 +130,13 @@ fn prints_ipv6(rt: HostRuntime) -> Result<(), Fail> {
         ("2001:0:0:1:0:0:0:1", "2001:0:0:1::1"),
         ("2001:db8:0:0:1:0:0:1", "2001:db8::1:0:0:1"),
     ] {
-        let address: Ipv6Address = text.parse().map_err(|_| "refused")?;
-        let shown = format!(in rt.alloc(); "{address}")?;
-        assert!(rt; shown.as_str() == printed, "at {text}");
-        let again: IpAddress = printed.parse().map_err(|_| "refused")?;
-        assert!(rt; again == IpAddress::Ipv6(address), "at {text}");
+        assert!(rt; prints_ipv6_as(rt.alloc(), text, printed), "at {text}");
     }
-    Ok(())
 }
 
 // RFC 4291, section 2.2, form 3: the last two groups as four decimal numbers of one to three digits.
 #[test]
-fn reads_a_dotted_end(rt: HostRuntime) -> Result<(), Fail> {
+fn reads_a_dotted_end(rt: HostRuntime) {
     for (text, in_hex, printed) in [
         ("0:0:0:0:0:0:13.1.68.3", "::d01:4403", "::d01:4403"),
         ("::13.1.68.3", "::d01:4403", "::d01:4403"),
@@ -57,12 +158,8 @@ fn reads_a_dotted_end(rt: HostRuntime) -> Result<(), Fail> {
         ),
         ("fe80::000.0.00.1", "fe80::1", "fe80::1"),
     ] {
-        let address: Ipv6Address = text.parse().map_err(|_| "refused")?;
-        assert!(rt; in_hex.parse() == Ok(address), "at {text}");
-        let shown = format!(in rt.alloc(); "{address}")?;
-        assert!(rt; shown.as_str() == printed, "at {text}");
+        assert!(rt; reads_as(rt.alloc(), text, in_hex, printed), "at {text}");
     }
-    Ok(())
 }
 
 #[test]
@@ -83,8 +180,7 @@ fn refuses_other_ipv6_texts(rt: HostRuntime) {
         "+1::",
         "ABCD:EF01:2345:6789:ABCD:EF01:2345:6789:",
     ] {
-        assert!(rt; text.parse::<Ipv6Address>() == Err(()), "at {text}");
-        assert!(rt; text.parse::<IpAddress>() == Err(()), "at {text}");
+        assert!(rt; ipv6(text).is_none() && either(text).is_none(), "at {text}");
     }
 }
 
@@ -112,27 +208,21 @@ fn refuses_other_dotted_ends(rt: HostRuntime) {
         "1:2:3:4:5:6:7:1.2.3.4",
         "1:2:3:4:5:6::1.2.3.4",
     ] {
-        assert!(rt; text.parse::<Ipv6Address>() == Err(()), "at {text}");
-        assert!(rt; text.parse::<IpAddress>() == Err(()), "at {text}");
+        assert!(rt; ipv6(text).is_none() && either(text).is_none(), "at {text}");
     }
 }
 
 // Four decimal numbers of one to three digits.
 #[test]
-fn prints_ipv4(rt: HostRuntime) -> Result<(), Fail> {
+fn prints_ipv4(rt: HostRuntime) {
     for (text, printed) in [
         ("192.168.1.1", "192.168.1.1"),
         ("0.0.0.0", "0.0.0.0"),
         ("255.255.255.255", "255.255.255.255"),
         ("010.001.000.009", "10.1.0.9"),
     ] {
-        let address: Ipv4Address = text.parse().map_err(|_| "refused")?;
-        let shown = format!(in rt.alloc(); "{address}")?;
-        assert!(rt; shown.as_str() == printed, "at {text}");
-        let either: IpAddress = text.parse().map_err(|_| "refused")?;
-        assert!(rt; either == IpAddress::Ipv4(address), "at {text}");
+        assert!(rt; prints_ipv4_as(rt.alloc(), text, printed), "at {text}");
     }
-    Ok(())
 }
 
 #[test]
@@ -150,13 +240,12 @@ fn refuses_other_ipv4_texts(rt: HostRuntime) {
         "1.2.3.4 ",
         "a.b.c.d",
     ] {
-        assert!(rt; text.parse::<Ipv4Address>() == Err(()), "at {text}");
-        assert!(rt; text.parse::<IpAddress>() == Err(()), "at {text}");
+        assert!(rt; ipv4(text).is_none() && either(text).is_none(), "at {text}");
     }
 }
 
 #[test]
-fn prints_blocks(rt: HostRuntime) -> Result<(), Fail> {
+fn prints_blocks(rt: HostRuntime) {
     for (text, printed) in [
         ("192.168.1.1/24", "192.168.1.1/24"),
         ("0.0.0.0/0", "0.0.0.0/0"),
@@ -166,15 +255,11 @@ fn prints_blocks(rt: HostRuntime) -> Result<(), Fail> {
         ("ff02::1:ff00:0/104", "ff02::1:ff00:0/104"),
         ("::ffff:010.0.0.1/096", "::ffff:10.0.0.1/96"),
     ] {
-        let block: IpCidr = text.parse().map_err(|_| "refused")?;
-        let shown = format!(in rt.alloc(); "{block}")?;
-        assert!(rt; shown.as_str() == printed, "at {text}");
+        assert!(rt; prints_block_as(rt.alloc(), text, printed), "at {text}");
     }
-    let block: Ipv4Cidr = "10.0.0.1/008".parse().map_err(|_| "refused")?;
-    assert!(rt; block == Ipv4Cidr::new(Ipv4Address::new(10, 0, 0, 1), 8));
-    let block: Ipv6Cidr = "fe80::/10".parse().map_err(|_| "refused")?;
-    assert!(rt; block == Ipv6Cidr::LINK_LOCAL_PREFIX);
-    Ok(())
+    let wanted = Ipv4Cidr::new(Ipv4Address([10, 0, 0, 1]), 8);
+    assert!(rt; ipv4_block("10.0.0.1/008") == Some(wanted));
+    assert!(rt; ipv6_block("fe80::/10") == Some(Ipv6Cidr::LINK_LOCAL_PREFIX));
 }
 
 #[test]
@@ -190,9 +275,11 @@ fn refuses_other_block_texts(rt: HostRuntime) {
         "fd00::1/-1",
         "::ffff:0010.0.0.1/96",
     ] {
-        assert!(rt; text.parse::<IpCidr>() == Err(()), "at {text}");
-        assert!(rt; text.parse::<Ipv4Cidr>() == Err(()), "at {text}");
-        assert!(rt; text.parse::<Ipv6Cidr>() == Err(()), "at {text}");
+        assert!(rt; block(text).is_none(), "at {text}");
+        assert!(rt;
+            ipv4_block(text).is_none() && ipv6_block(text).is_none(),
+            "at {text}"
+        );
     }
 }
 
@@ -204,28 +291,47 @@ fn prints_endpoints(rt: HostRuntime) -> Result<(), Fail> {
     for (text, endpoint, printed) in [
         (
             "192.168.1.1:48896",
-            IpEndpoint::new(here, 48896),
+            IpEndpoint {
+                addr: here,
+                port: 48896,
+            },
             "192.168.1.1:48896",
         ),
         ("[fd00::1]:53", IpEndpoint::from((there, 53)), "fd00::1:53"),
         (
             "[::ffff:010.0.0.1]:0080",
-            IpEndpoint::new(mapped, 80),
+            IpEndpoint {
+                addr: mapped,
+                port: 80,
+            },
             "::ffff:10.0.0.1:80",
         ),
     ] {
-        assert!(rt; text.parse() == Ok(endpoint), "at {text}");
-        let shown = format!(in rt.alloc(); "{endpoint}")?;
-        assert!(rt; shown.as_str() == printed, "at {text}");
+        let is_right = prints_endpoint_as(rt.alloc(), text, &endpoint, printed);
+        assert!(rt; is_right, "at {text}");
     }
     let listening = IpListenEndpoint::from(IpEndpoint::new(there, 53));
-    let shown = format!(in rt.alloc(); "{listening} {}", IpListenEndpoint::from(80))?;
+    let shown = format!(in rt.alloc(); "{listening} {}", at_port(80))?;
     assert!(rt; shown.as_str() == "fd00::1:53 *:80");
-    assert!(rt; listening.is_specified() && !IpListenEndpoint::default().is_specified());
-    assert!(rt; IpListenEndpoint::from((there, 53)) == listening);
-    assert!(rt; IpListenEndpoint::default() == IpListenEndpoint::from(0));
-    assert!(rt; address_laws::default_listen_endpoint() == IpListenEndpoint::from(0));
+    assert!(rt; is_specified(&listening) && !is_specified(&IpListenEndpoint::default()));
+    assert!(rt; is_listening(&IpListenEndpoint::from((there, 53)), &listening));
+    let zero = at_port(0);
+    assert!(rt; is_listening(&IpListenEndpoint::default(), &zero));
+    assert!(rt; is_listening(&address_laws::default_listen_endpoint(), &zero));
     Ok(())
+}
+
+/// This port of all addresses.
+fn at_port(port: u16) -> IpListenEndpoint {
+    IpListenEndpoint::from(port)
+}
+
+fn is_specified(endpoint: &IpListenEndpoint) -> bool {
+    endpoint.is_specified()
+}
+
+fn is_listening(endpoint: &IpListenEndpoint, wanted: &IpListenEndpoint) -> bool {
+    *endpoint == *wanted
 }
 
 #[test]
@@ -242,7 +348,7 @@ fn refuses_other_endpoint_texts(rt: HostRuntime) {
         "[fd00::1:53",
         "[::ffff:1.2.3]:53",
     ] {
-        assert!(rt; text.parse::<IpEndpoint>() == Err(()), "at {text}");
+        assert!(rt; endpoint(text).is_none(), "at {text}");
     }
 }
 
