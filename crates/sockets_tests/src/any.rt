@@ -1,74 +1,55 @@
 //! Sockets of all kinds as one type.
-use crate::common::{context, queue};
-use ip_wire::{IpAddress, IpEndpoint, IpListenEndpoint};
-use sockets::udp::UdpMetadata;
-use sockets::{AnySocket, Offer, PollAt, Socket, icmp, raw, udp};
-use std::process::Abort;
+use crate::script::Step::{Settle, Shows, Silent, Waits};
+use crate::script::{Kind, Step, made, play_at};
+use crate::udp::{ABC, Call, V4, goes};
+use sockets::{AnySocket, Socket, icmp, raw, udp};
+use std::alloc::Global;
+use std::test::Fail;
 
-fn raw_socket(rt: &(impl Abort + AllocGlobal)) -> Socket {
-    raw::Socket::new(None, None, queue(rt, 64), queue(rt, 64)).upcast()
-}
-
-fn icmp_socket(rt: &(impl Abort + AllocGlobal)) -> Socket {
-    icmp::Socket::new(queue(rt, 64), queue(rt, 64)).upcast()
-}
-
-fn udp_socket(rt: &(impl Abort + AllocGlobal)) -> Socket {
-    udp::Socket::new(queue(rt, 64), queue(rt, 64)).upcast()
-}
-
-/// Of which kinds the socket is: raw, ICMP, UDP.
-fn kinds(socket: &Socket) -> [bool; 3] {
-    [
-        <raw::Socket as AnySocket>::downcast(socket).is_some(),
-        <icmp::Socket as AnySocket>::downcast(socket).is_some(),
-        <udp::Socket as AnySocket>::downcast(socket).is_some(),
-    ]
+/// Of which kinds a new socket is: raw, ICMP, UDP.
+fn kinds(alloc: Global, kind: &Kind) -> Result<[bool; 3], Fail> {
+    let socket = made(alloc, kind)?;
+    Ok([
+        <raw::Socket as AnySocket>::downcast(&socket).is_some(),
+        <icmp::Socket as AnySocket>::downcast(&socket).is_some(),
+        <udp::Socket as AnySocket>::downcast(&socket).is_some(),
+    ])
 }
 
 #[test]
-fn a_socket_is_of_its_own_kind(rt: HostRuntime) {
-    assert!(rt; kinds(&raw_socket(&rt)) == [true, false, false]);
-    assert!(rt; kinds(&icmp_socket(&rt)) == [false, true, false]);
-    assert!(rt; kinds(&udp_socket(&rt)) == [false, false, true]);
+fn a_socket_is_of_its_own_kind(rt: HostRuntime) -> Result<(), Fail> {
+    assert!(rt; kinds(rt.alloc(), &Kind::Raw(None, None))? == [true, false, false]);
+    assert!(rt; kinds(rt.alloc(), &Kind::Icmp)? == [false, true, false]);
+    assert!(rt; kinds(rt.alloc(), &Kind::Udp(64))? == [false, false, true]);
+    Ok(())
 }
 
-fn queues_a_datagram(socket: &mut udp::Socket) -> bool {
-    let remote = IpEndpoint::new(IpAddress::v4(192, 168, 1, 2), 53);
-    let local = IpListenEndpoint {
-        addr: None,
-        port: 48896,
+/// Binds the socket, if it is of UDP, and queues a datagram.
+fn queues_a_datagram(alloc: Global, any: &mut Socket) -> Result<bool, Fail> {
+    let Some(socket) = <udp::Socket as AnySocket>::downcast_mut(any) else {
+        return Ok(false);
     };
-    socket.bind(local).is_ok() && socket.send_slice(b"abc", UdpMetadata::from(remote)).is_ok()
+    Ok(
+        goes(alloc, socket, &Call::Bind(48896, Ok(())))?
+            && goes(alloc, socket, &Call::Send(b"abc", V4, Ok(())))?,
+    )
 }
 
-/// Whether the socket is due now and offers a datagram of eleven bytes.
-fn offers(any: &mut Socket) -> bool {
-    let cx = context();
-    any.poll_at(&cx) == PollAt::Now
-        && any.offer(&cx) == (Offer::Packet { changed: false })
-        && match any.offered() {
-            Some(packet) => packet.ip_repr().payload_len() == 11,
-            None => false,
-        }
-}
+const BEFORE: [Step; 2] = [Waits, Silent(false)];
 
-/// Whether the socket waits, and offers nothing.
-fn is_silent(any: &mut Socket) -> bool {
-    let cx = context();
-    any.poll_at(&cx) == PollAt::Ingress && any.offer(&cx) == (Offer::Silent { changed: false })
-}
+const BEHIND: [Step; 6] = [
+    Shows(ABC),
+    Settle(false),
+    Shows(ABC),
+    Settle(true),
+    Waits,
+    Silent(false),
+];
 
 #[test]
-fn any_socket_offers_and_settles(rt: HostRuntime) {
-    let mut any = udp_socket(&rt);
-    assert!(rt; is_silent(&mut any));
-    if let Some(socket) = <udp::Socket as AnySocket>::downcast_mut(&mut any) {
-        assert!(rt; queues_a_datagram(socket));
-    }
-    assert!(rt; offers(&mut any));
-    any.settle(false);
-    assert!(rt; offers(&mut any));
-    any.settle(true);
-    assert!(rt; is_silent(&mut any));
+fn any_socket_offers_and_settles(rt: HostRuntime) -> Result<(), Fail> {
+    let mut any = made(rt.alloc(), &Kind::Udp(64))?;
+    play_at(rt.alloc(), &mut any, &BEFORE)?;
+    assert!(rt; queues_a_datagram(rt.alloc(), &mut any)?);
+    play_at(rt.alloc(), &mut any, &BEHIND)
 }

@@ -1,12 +1,45 @@
 //! Messages of other programs, sent and received by a socket.
-use crate::common::{context, prints, queue};
+use crate::common::{Refusal, are_named, make_host, queue, zeros};
+use crate::script::Step::{Anew, Icmp, Offers, Settle, Shows, Silent, Unoffered, Waits};
+use crate::script::{Kind, Shown, Step, play, shows};
 use control_wire::{Icmpv4DstUnreachable, Icmpv4Repr, Icmpv6Repr};
 use ip_wire::{
     IpAddress, IpListenEndpoint, IpProtocol, Ipv4Address, Ipv4Repr, Ipv6Address, Ipv6Repr,
 };
 use sockets::icmp::{BindError, Endpoint, RecvError, SendError, Socket};
-use sockets::{IpPayload, Offer, Packet, PollAt};
-use std::process::Abort;
+use sockets::{IpPayload, Packet};
+use std::alloc::Global;
+use std::test::Fail;
+
+/// A call of an ICMP socket with its answer.
+pub enum Call {
+    Bind(Endpoint, Result<(), BindError>),
+    /// `accepts_v4`
+    Takes(Message, bool),
+    /// `process_v4`
+    Comes(Message),
+    /// `accepts_v6`, `process_v6`, with the reply over IPv6.
+    TakesV6(bool),
+    ComesV6,
+    /// `send_slice`: so many of these bytes, to this address.
+    Send(&'static [u8], usize, IpAddress, Result<(), SendError>),
+    /// `recv_slice`: into a slice of as many bytes 0, which then holds these.
+    Read(Result<(usize, IpAddress), RecvError>, &'static [u8]),
+    /// `dispatch` hands this packet out.
+    Dispatch(Shown),
+}
+
+use Call::{Bind, Comes, ComesV6, Dispatch, Read, Send, Takes, TakesV6};
+
+/// A message from 192.168.1.2 to 192.168.1.1.
+pub enum Message {
+    /// An echo reply to this identifier.
+    Reply(u16),
+    /// 192.168.1.2 says that it has no port 53, to which a datagram went. It quotes so many of the datagram's bytes.
+    PortUnreachable(usize),
+}
+
+use Message::{PortUnreachable, Reply};
 
 /// An echo request with 0 for its checksum, which is e5ca.
 const REQUEST: [u8; 8] = [0x08, 0x00, 0x00, 0x00, 0x12, 0x34, 0x00, 0x01];
@@ -24,15 +57,52 @@ const DATAGRAM: [u8; 12] = [
     0xbf, 0x00, 0x00, 0x35, 0x00, 0x0c, 0x12, 0x4d, 0xaa, 0x00, 0x00, 0xff,
 ];
 
-fn socket(rt: &(impl Abort + AllocGlobal)) -> Socket {
-    Socket::new(queue(rt, 64), queue(rt, 64))
+pub fn made(alloc: Global) -> Result<Socket, Fail> {
+    Ok(Socket::new(queue(alloc, 64)?, queue(alloc, 64)?))
 }
 
-/// The header of a packet from 192.168.1.2 to 192.168.1.1.
-fn header(next_header: IpProtocol, payload_len: usize) -> Ipv4Repr {
+/// Whether a call is answered as it says.
+pub fn goes(alloc: Global, socket: &mut Socket, call: &Call) -> Result<bool, Fail> {
+    if let Read(answer, holds) = call {
+        let mut slice = zeros(alloc, holds.len())?;
+        return Ok(socket.recv_slice(&mut slice) == *answer && slice.as_slice() == *holds);
+    }
+    Ok(goes_alone(socket, call))
+}
+
+/// The same of a call that takes no memory.
+fn goes_alone(socket: &mut Socket, call: &Call) -> bool {
+    match call {
+        Bind(endpoint, answer) => socket.bind(*endpoint) == *answer,
+        Takes(message, answer) => takes(socket, message) == *answer,
+        Comes(message) => {
+            comes(socket, message);
+            true
+        }
+        TakesV6(answer) => socket.accepts_v6(&HEADER_V6, &MESSAGE_V6) == *answer,
+        ComesV6 => {
+            socket.process_v6(&HEADER_V6, &MESSAGE_V6);
+            true
+        }
+        Send(bytes, count, remote, answer) => match bytes.get(..*count) {
+            Some(bytes) => socket.send_slice(bytes, *remote) == *answer,
+            None => false,
+        },
+        Dispatch(shown) => dispatches(socket, shown),
+        _ => false,
+    }
+}
+
+/// A header between these that says nothing of its own.
+fn header(
+    src_addr: Ipv4Address,
+    dst_addr: Ipv4Address,
+    next_header: IpProtocol,
+    payload_len: usize,
+) -> Ipv4Repr {
     Ipv4Repr {
-        src_addr: Ipv4Address::new(192, 168, 1, 2),
-        dst_addr: Ipv4Address::new(192, 168, 1, 1),
+        src_addr,
+        dst_addr,
         next_header,
         payload_len,
         hop_limit: 64,
@@ -41,237 +111,246 @@ fn header(next_header: IpProtocol, payload_len: usize) -> Ipv4Repr {
     }
 }
 
-fn reply(ident: u16) -> Icmpv4Repr<'static> {
-    Icmpv4Repr::EchoReply {
-        ident,
-        seq_no: 1,
-        bytes: &[],
-    }
-}
-
-/// 192.168.1.2 says that it has no port 53, to which this datagram went.
-fn port_unreachable(bytes: &[u8]) -> Icmpv4Repr<'_> {
-    Icmpv4Repr::DstUnreachable {
-        reason: Icmpv4DstUnreachable::PortUnreachable,
-        header: Ipv4Repr {
-            src_addr: Ipv4Address::new(192, 168, 1, 1),
-            dst_addr: Ipv4Address::new(192, 168, 1, 2),
-            next_header: IpProtocol::Udp,
-            payload_len: 12,
-            hop_limit: 64,
-            ident: 0,
-            dont_frag: false,
-        },
-        bytes,
-    }
-}
-
-fn bound(rt: &(impl Abort + AllocGlobal), endpoint: Endpoint) -> Socket {
-    let mut socket = socket(rt);
-    assert!(rt; socket.bind(endpoint).is_ok());
-    socket
-}
-
-fn is_request(packet: &Packet<'_>) -> bool {
-    match packet.payload() {
-        IpPayload::Icmpv4(
-            Icmpv4Repr::EchoRequest {
-                ident,
-                seq_no,
-                bytes,
-            },
-        ) => *ident == 0x1234 && *seq_no == 1 && bytes.is_empty(),
-        _ => false,
-    }
-}
-
-/// Whether the socket offers the request behind a header of 64 hops.
-fn offers_request(socket: &Socket) -> bool {
-    match socket.offered() {
-        Some(packet) => {
-            packet.ip_repr().hop_limit() == 64
-                && packet.ip_repr().payload_len() == 8
-                && packet.ip_repr().next_header() == IpProtocol::Icmp
-                && is_request(&packet)
+/// The message, and how many bytes it has behind its IPv4 header.
+fn read_message(message: &Message) -> (Icmpv4Repr<'static>, usize) {
+    match message {
+        Reply(ident) => {
+            let reply = Icmpv4Repr::EchoReply {
+                ident: *ident,
+                seq_no: 1,
+                bytes: &[],
+            };
+            (reply, 8)
         }
-        None => false,
+        PortUnreachable(count) => {
+            let error = Icmpv4Repr::DstUnreachable {
+                reason: Icmpv4DstUnreachable::PortUnreachable,
+                header: header(NEAR, THERE, IpProtocol::Udp, 12),
+                bytes: DATAGRAM.get(..*count).unwrap_or(&[]),
+            };
+            (error, 40)
+        }
     }
 }
 
-/// Whether the socket takes a reply to this identifier.
-fn takes_reply(socket: &Socket, ident: u16) -> bool {
-    socket.accepts_v4(&header(IpProtocol::Icmp, 8), &reply(ident))
+fn takes(socket: &Socket, message: &Message) -> bool {
+    let (message, length) = read_message(message);
+    socket.accepts_v4(&header(THERE, NEAR, IpProtocol::Icmp, length), &message)
 }
 
-/// Whether the socket takes an error that quotes these bytes.
-fn takes_error(socket: &Socket, bytes: &[u8]) -> bool {
-    socket.accepts_v4(&header(IpProtocol::Icmp, 40), &port_unreachable(bytes))
+fn comes(socket: &mut Socket, message: &Message) {
+    let (message, length) = read_message(message);
+    socket.process_v4(&header(THERE, NEAR, IpProtocol::Icmp, length), &message);
 }
 
-#[test]
-fn a_socket_is_bound_once(rt: HostRuntime) {
-    let mut socket = socket(&rt);
-    assert!(rt; socket.bind(Endpoint::Unspecified) == Err(BindError::Unaddressable));
-    assert!(rt; socket.bind(Endpoint::Ident(0x1234)).is_ok());
-    assert!(rt; socket.bind(Endpoint::Ident(1)) == Err(BindError::InvalidState));
-    assert!(rt; takes_reply(&socket, 0x1234));
+fn dispatches(socket: &mut Socket, shown: &Shown) -> bool {
+    let answer = socket.dispatch(&make_host(1, None), |packet: Packet<'_>| {
+        if shows(&packet, shown) {
+            Ok(())
+        } else {
+            Err(())
+        }
+    });
+    answer.is_ok()
 }
 
-#[test]
-fn a_reply_is_for_its_identifier(rt: HostRuntime) {
-    assert!(rt; !takes_reply(&socket(&rt), 0x1234));
-    let socket = bound(&rt, Endpoint::Ident(0x1234));
-    assert!(rt; takes_reply(&socket, 0x1234));
-    assert!(rt; !takes_reply(&socket, 0x1235));
-    assert!(rt; !takes_error(&socket, &DATAGRAM));
-}
+const NEAR: Ipv4Address = Ipv4Address([192, 168, 1, 1]);
 
-/// Whether the reply is read as other programs write it.
-fn reads_reply(socket: &mut Socket) -> bool {
-    let mut read = [0; 8];
-    socket.recv_slice(&mut read) == Ok((8, IpAddress::v4(192, 168, 1, 2))) && read == REPLY
-}
+const THERE: Ipv4Address = Ipv4Address([192, 168, 1, 2]);
 
-/// The answer to a read of four bytes at most.
-fn short_read(socket: &mut Socket) -> Option<RecvError> {
-    let mut four = [0; 4];
-    socket.recv_slice(&mut four).err()
-}
+const V4: IpAddress = IpAddress::Ipv4(THERE);
 
-#[test]
-fn a_reply_is_read(rt: HostRuntime) {
-    let mut socket = bound(&rt, Endpoint::Ident(0x1234));
-    for _ in 0..2 {
-        socket.process_v4(&header(IpProtocol::Icmp, 8), &reply(0x1234));
-    }
-    assert!(rt; reads_reply(&mut socket));
-    assert!(rt; short_read(&mut socket) == Some(RecvError::Truncated));
-    assert!(rt; short_read(&mut socket) == Some(RecvError::Exhausted));
-}
+const THERE_V6: Ipv6Address = Ipv6Address([0xfd, 0, 0, 0, 0, 0, 0, 0, 0, 0, 0, 0, 0, 0, 0, 2]);
+
+const V6: IpAddress = IpAddress::Ipv6(THERE_V6);
 
 /// A message from fd00::2 to fd00::1.
 const HEADER_V6: Ipv6Repr = Ipv6Repr {
-    src_addr: Ipv6Address([0xfd, 0, 0, 0, 0, 0, 0, 0, 0, 0, 0, 0, 0, 0, 0, 2]),
+    src_addr: THERE_V6,
     dst_addr: Ipv6Address([0xfd, 0, 0, 0, 0, 0, 0, 0, 0, 0, 0, 0, 0, 0, 0, 1]),
     next_header: IpProtocol::Icmpv6,
     payload_len: 11,
     hop_limit: 64,
 };
 
-#[test]
-fn a_reply_over_ipv6_is_read(rt: HostRuntime) {
-    let mut socket = bound(&rt, Endpoint::Ident(0x1234));
-    let icmp_repr = Icmpv6Repr::EchoReply {
+const MESSAGE_V6: Icmpv6Repr<'static> = Icmpv6Repr::EchoReply {
+    ident: 0x1234,
+    seq_no: 0xabcd,
+    bytes: &[0xaa, 0, 0],
+};
+
+/// The packet in which the request goes to 192.168.1.2.
+const REQUESTING: Shown = Shown {
+    hops: 64,
+    destination: V4,
+    protocol: IpProtocol::Icmp,
+    length: 8,
+    payload: IpPayload::Icmpv4(Icmpv4Repr::EchoRequest {
         ident: 0x1234,
-        seq_no: 0xabcd,
-        bytes: &[0xaa, 0, 0],
-    };
-    assert!(rt; socket.accepts_v6(&HEADER_V6, &icmp_repr));
-    socket.process_v6(&HEADER_V6, &icmp_repr);
-    let mut read = [0; 11];
-    let remote = IpAddress::Ipv6(HEADER_V6.src_addr);
-    assert!(rt; socket.recv_slice(&mut read) == Ok((11, remote)));
-    assert!(rt; read == REPLY_V6);
-}
+        seq_no: 1,
+        bytes: &[],
+    }),
+};
 
-/// Port 48896, at one address or at all.
-fn sender(addr: Option<IpAddress>) -> IpListenEndpoint {
-    IpListenEndpoint { addr, port: 48896 }
-}
+/// Port 48896, at every address, at the one that sent the datagram, and at another one.
+const ANYWHERE: IpListenEndpoint = IpListenEndpoint {
+    addr: None,
+    port: 48896,
+};
 
-/// Whether a socket of this endpoint takes an error that quotes the datagram.
-fn is_told(rt: &(impl Abort + AllocGlobal), endpoint: Endpoint) -> bool {
-    takes_error(&bound(rt, endpoint), &DATAGRAM)
-}
+const AT_NEAR: IpListenEndpoint = IpListenEndpoint {
+    addr: Some(IpAddress::Ipv4(NEAR)),
+    port: 48896,
+};
 
-#[test]
-fn an_error_is_for_the_port_that_it_quotes(rt: HostRuntime) {
-    let (near, far) = (IpAddress::v4(192, 168, 1, 1), IpAddress::v4(192, 168, 1, 3));
-    assert!(rt; is_told(&rt, Endpoint::Udp(sender(None))));
-    assert!(rt; !is_told(&rt, Endpoint::Tcp(sender(None))));
-    assert!(rt; is_told(&rt, Endpoint::Udp(sender(Some(near)))));
-    assert!(rt; !is_told(&rt, Endpoint::Udp(sender(Some(far)))));
-}
+const AT_FAR: IpListenEndpoint = IpListenEndpoint {
+    addr: Some(IpAddress::Ipv4(Ipv4Address([192, 168, 1, 3]))),
+    port: 48896,
+};
+
+const BOUND_ONCE: [Step; 4] = [
+    Icmp(Bind(Endpoint::Unspecified, Err(BindError::Unaddressable))),
+    Icmp(Bind(Endpoint::Ident(0x1234), Ok(()))),
+    Icmp(Bind(Endpoint::Ident(1), Err(BindError::InvalidState))),
+    Icmp(Takes(Reply(0x1234), true)),
+];
 
 #[test]
-fn an_error_quotes_eight_bytes(rt: HostRuntime) {
-    let socket = bound(&rt, Endpoint::Udp(sender(None)));
-    assert!(rt; takes_error(&socket, &DATAGRAM[..8]));
-    assert!(rt; !takes_error(&socket, &DATAGRAM[..7]));
-    assert!(rt; !takes_reply(&socket, 48896));
+fn a_socket_is_bound_once(rt: HostRuntime) -> Result<(), Fail> {
+    play(rt.alloc(), &Kind::Icmp, &BOUND_ONCE)
 }
 
-/// The answer where this is sent to 192.168.1.2.
-fn sends(socket: &mut Socket, bytes: &[u8]) -> Result<(), SendError> {
-    socket.send_slice(bytes, IpAddress::v4(192, 168, 1, 2))
-}
-
-#[test]
-fn a_full_queue_takes_no_more(rt: HostRuntime) {
-    let mut socket = socket(&rt);
-    let nobody = IpAddress::v4(0, 0, 0, 0);
-    assert!(rt; socket.send_slice(&REQUEST, nobody) == Err(SendError::Unaddressable));
-    assert!(rt; sends(&mut socket, &REQUEST).is_ok());
-    assert!(rt; sends(&mut socket, &REQUEST).is_ok());
-    assert!(rt; sends(&mut socket, &REQUEST) == Err(SendError::BufferFull));
-}
-
-/// Whether the socket is due now and offers the request.
-fn offers(socket: &mut Socket) -> bool {
-    socket.poll_at() == PollAt::Now
-        && socket.offer(&context()) == (Offer::Packet { changed: false })
-        && offers_request(socket)
-}
-
-/// Whether the socket hands out the request.
-fn dispatches(socket: &mut Socket) -> bool {
-    let answer = socket.dispatch(&context(), |packet: Packet<'_>| {
-        if is_request(&packet) { Ok(()) } else { Err(()) }
-    });
-    answer.is_ok()
-}
+const IDENTIFIED: [Step; 5] = [
+    Icmp(Takes(Reply(0x1234), false)),
+    Icmp(Bind(Endpoint::Ident(0x1234), Ok(()))),
+    Icmp(Takes(Reply(0x1234), true)),
+    Icmp(Takes(Reply(0x1235), false)),
+    Icmp(Takes(PortUnreachable(12), false)),
+];
 
 #[test]
-fn an_unsent_message_stays_first(rt: HostRuntime) {
-    let mut socket = socket(&rt);
-    assert!(rt; sends(&mut socket, &REQUEST).is_ok());
-    assert!(rt; sends(&mut socket, &REQUEST).is_ok());
-    for sent in [false, false, true] {
-        assert!(rt; offers(&mut socket));
-        socket.settle(sent);
-    }
-    assert!(rt; socket.offered().is_none());
-    assert!(rt; dispatches(&mut socket));
-    assert!(rt; socket.poll_at() == PollAt::Ingress);
+fn a_reply_is_for_its_identifier(rt: HostRuntime) -> Result<(), Fail> {
+    play(rt.alloc(), &Kind::Icmp, &IDENTIFIED)
 }
 
-/// Whether the socket waits after an offer of nothing.
-fn is_silent(socket: &mut Socket, changed: bool) -> bool {
-    socket.offer(&context()) == (Offer::Silent { changed }) && socket.poll_at() == PollAt::Ingress
-}
+const READ: [Step; 6] = [
+    Icmp(Bind(Endpoint::Ident(0x1234), Ok(()))),
+    Icmp(Comes(Reply(0x1234))),
+    Icmp(Comes(Reply(0x1234))),
+    Icmp(Read(Ok((8, V4)), &REPLY)),
+    Icmp(Read(Err(RecvError::Truncated), &[0; 4])),
+    Icmp(Read(Err(RecvError::Exhausted), &[0; 4])),
+];
 
 #[test]
-fn an_empty_queue_is_silent(rt: HostRuntime) {
-    let mut socket = socket(&rt);
-    assert!(rt; socket.poll_at() == PollAt::Ingress);
-    assert!(rt; is_silent(&mut socket, false));
+fn a_reply_is_read(rt: HostRuntime) -> Result<(), Fail> {
+    play(rt.alloc(), &Kind::Icmp, &READ)
 }
 
-#[test]
-fn what_is_no_message_is_dropped(rt: HostRuntime) {
-    let mut socket = socket(&rt);
-    let ipv6 = IpAddress::Ipv6(HEADER_V6.src_addr);
-    assert!(rt; sends(&mut socket, &REQUEST[..7]).is_ok());
-    assert!(rt; is_silent(&mut socket, true));
-    assert!(rt; socket.send_slice(&REQUEST, ipv6).is_ok());
-    assert!(rt; is_silent(&mut socket, true));
-    assert!(rt; socket.send_slice(&REPLY_V6, ipv6).is_ok());
-    assert!(rt; socket.offer(&context()) == (Offer::Packet { changed: false }));
-}
+const READ_V6: [Step; 4] = [
+    Icmp(Bind(Endpoint::Ident(0x1234), Ok(()))),
+    Icmp(TakesV6(true)),
+    Icmp(ComesV6),
+    Icmp(Read(Ok((11, V6)), &REPLY_V6)),
+];
 
 #[test]
-fn texts_name_the_errors(rt: HostRuntime) {
-    assert!(rt; prints(&rt, &BindError::InvalidState, "invalid state"));
-    assert!(rt; prints(&rt, &SendError::BufferFull, "buffer full"));
-    assert!(rt; prints(&rt, &RecvError::Truncated, "truncated"));
+fn a_reply_over_ipv6_is_read(rt: HostRuntime) -> Result<(), Fail> {
+    play(rt.alloc(), &Kind::Icmp, &READ_V6)
+}
+
+const QUOTED: [Step; 11] = [
+    Icmp(Bind(Endpoint::Udp(ANYWHERE), Ok(()))),
+    Icmp(Takes(PortUnreachable(12), true)),
+    Anew(Kind::Icmp),
+    Icmp(Bind(Endpoint::Tcp(ANYWHERE), Ok(()))),
+    Icmp(Takes(PortUnreachable(12), false)),
+    Anew(Kind::Icmp),
+    Icmp(Bind(Endpoint::Udp(AT_NEAR), Ok(()))),
+    Icmp(Takes(PortUnreachable(12), true)),
+    Anew(Kind::Icmp),
+    Icmp(Bind(Endpoint::Udp(AT_FAR), Ok(()))),
+    Icmp(Takes(PortUnreachable(12), false)),
+];
+
+#[test]
+fn an_error_is_for_the_port_that_it_quotes(rt: HostRuntime) -> Result<(), Fail> {
+    play(rt.alloc(), &Kind::Icmp, &QUOTED)
+}
+
+const EIGHT: [Step; 4] = [
+    Icmp(Bind(Endpoint::Udp(ANYWHERE), Ok(()))),
+    Icmp(Takes(PortUnreachable(8), true)),
+    Icmp(Takes(PortUnreachable(7), false)),
+    Icmp(Takes(Reply(48896), false)),
+];
+
+#[test]
+fn an_error_quotes_eight_bytes(rt: HostRuntime) -> Result<(), Fail> {
+    play(rt.alloc(), &Kind::Icmp, &EIGHT)
+}
+
+const NOBODY: IpAddress = IpAddress::Ipv4(Ipv4Address([0, 0, 0, 0]));
+
+const FULL: [Step; 4] = [
+    Icmp(Send(&REQUEST, 8, NOBODY, Err(SendError::Unaddressable))),
+    Icmp(Send(&REQUEST, 8, V4, Ok(()))),
+    Icmp(Send(&REQUEST, 8, V4, Ok(()))),
+    Icmp(Send(&REQUEST, 8, V4, Err(SendError::BufferFull))),
+];
+
+#[test]
+fn a_full_queue_takes_no_more(rt: HostRuntime) -> Result<(), Fail> {
+    play(rt.alloc(), &Kind::Icmp, &FULL)
+}
+
+const UNSENT: [Step; 11] = [
+    Icmp(Send(&REQUEST, 8, V4, Ok(()))),
+    Icmp(Send(&REQUEST, 8, V4, Ok(()))),
+    Shows(REQUESTING),
+    Settle(false),
+    Shows(REQUESTING),
+    Settle(false),
+    Shows(REQUESTING),
+    Settle(true),
+    Unoffered,
+    Icmp(Dispatch(REQUESTING)),
+    Waits,
+];
+
+#[test]
+fn an_unsent_message_stays_first(rt: HostRuntime) -> Result<(), Fail> {
+    play(rt.alloc(), &Kind::Icmp, &UNSENT)
+}
+
+const EMPTY: [Step; 2] = [Waits, Silent(false)];
+
+#[test]
+fn an_empty_queue_is_silent(rt: HostRuntime) -> Result<(), Fail> {
+    play(rt.alloc(), &Kind::Icmp, &EMPTY)
+}
+
+const DROPPED: [Step; 6] = [
+    Icmp(Send(&REQUEST, 7, V4, Ok(()))),
+    Silent(true),
+    Icmp(Send(&REQUEST, 8, V6, Ok(()))),
+    Silent(true),
+    Icmp(Send(&REPLY_V6, 11, V6, Ok(()))),
+    Offers,
+];
+
+#[test]
+fn what_is_no_message_is_dropped(rt: HostRuntime) -> Result<(), Fail> {
+    play(rt.alloc(), &Kind::Icmp, &DROPPED)
+}
+
+const NAMES: [(Refusal, &str); 3] = [
+    (Refusal::Bind(BindError::InvalidState), "invalid state"),
+    (Refusal::Send(SendError::BufferFull), "buffer full"),
+    (Refusal::Receive(RecvError::Truncated), "truncated"),
+];
+
+#[test]
+fn texts_name_the_errors(rt: HostRuntime) -> Result<(), Fail> {
+    are_named(rt.alloc(), &NAMES)
 }

@@ -12,6 +12,8 @@ mod packets;
 #[cfg(test)]
 mod raw;
 #[cfg(test)]
+mod script;
+#[cfg(test)]
 mod tcp;
 #[cfg(test)]
 mod udp;

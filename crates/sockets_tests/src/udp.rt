@@ -1,36 +1,109 @@
-use crate::common::{context, prints, queue};
-use ip_wire::{IpAddress, IpEndpoint, IpListenEndpoint, IpProtocol, IpRepr, UdpRepr};
+use crate::common::{Refusal, are_named, make_host, queue, zeros};
+use crate::script::Step::{Anew, Offers, Settle, Shows, Silent, Udp, Unoffered, Waits};
+use crate::script::{Kind, Shown, Step, play, shows};
+use ip_wire::{
+    IpAddress, IpEndpoint, IpListenEndpoint, IpProtocol, IpRepr, Ipv4Address, Ipv6Address, UdpRepr,
+};
 use net_base::PacketMeta;
 use sockets::udp::{BindError, RecvError, SendError, Socket, UdpMetadata};
-use sockets::{IpPayload, Offer, Packet, PollAt};
-use std::process::Abort;
+use sockets::{IpPayload, Packet};
+use std::alloc::Global;
+use std::test::Fail;
 
-fn socket(rt: &(impl Abort + AllocGlobal), bytes: usize) -> Socket {
-    Socket::new(queue(rt, bytes), queue(rt, bytes))
+/// A call of a UDP socket with its answer. What is sent goes to port 53.
+pub enum Call {
+    /// To this port of every address.
+    Bind(u16, Result<(), BindError>),
+    /// `send_slice`: these bytes to this address.
+    Send(&'static [u8], IpAddress, Result<(), SendError>),
+    /// The same of so many bytes 7.
+    SendMany(usize, IpAddress, Result<(), SendError>),
+    /// `send`: these bytes to 192.168.1.2, written into a room that the socket lends.
+    Write(&'static [u8], Result<(), SendError>),
+    /// A datagram of the bytes abcdef comes, from 192.168.1.2:53 to 192.168.1.1:48896.
+    Comes,
+    CanReceive(bool),
+    /// `recv_queue`, `send_queue`: how many bytes wait.
+    Received(usize),
+    Queued(usize),
+    /// `peek_slice`, `recv_slice`: into a slice of as many bytes 0, which then holds these.
+    PeekSlice(Result<(usize, UdpMetadata), RecvError>, &'static [u8]),
+    ReadSlice(Result<(usize, UdpMetadata), RecvError>, &'static [u8]),
+    /// `peek`, `recv`
+    Peek(Result<(&'static [u8], UdpMetadata), RecvError>),
+    Read(Result<(&'static [u8], UdpMetadata), RecvError>),
+    /// `dispatch` hands this packet out.
+    Dispatch(Shown),
 }
 
-fn bound(rt: &(impl Abort + AllocGlobal), bytes: usize) -> Socket {
-    let mut socket = socket(rt, bytes);
-    assert!(rt; socket.bind(port(48896)).is_ok());
-    socket
+use Call::{
+    Bind, CanReceive, Comes, Dispatch, Peek, PeekSlice, Queued, Read, ReadSlice, Received, Send,
+    SendMany, Write,
+};
+
+pub fn made(alloc: Global, room: usize) -> Result<Socket, Fail> {
+    Ok(Socket::new(queue(alloc, room)?, queue(alloc, room)?))
 }
 
-/// A socket that received a datagram of six bytes.
-fn received(rt: &(impl Abort + AllocGlobal)) -> Socket {
-    let mut socket = socket(rt, 64);
-    arrives(&mut socket);
-    socket
+/// Whether a call is answered as it says.
+pub fn goes(alloc: Global, socket: &mut Socket, call: &Call) -> Result<bool, Fail> {
+    match call {
+        Bind(port, answer) => Ok(bind(socket, *port) == *answer),
+        Send(bytes, remote, answer) => Ok(send(socket, bytes, *remote) == *answer),
+        SendMany(count, remote, answer) => {
+            let bytes = vec![in alloc; 7; *count]?;
+            Ok(send(socket, bytes.as_slice(), *remote) == *answer)
+        }
+        Write(bytes, answer) => Ok(write(socket, bytes) == *answer),
+        PeekSlice(answer, holds) => {
+            let mut slice = zeros(alloc, holds.len())?;
+            Ok(peek_slice(socket, &mut slice) == *answer && slice.as_slice() == *holds)
+        }
+        ReadSlice(answer, holds) => {
+            let mut slice = zeros(alloc, holds.len())?;
+            Ok(socket.recv_slice(&mut slice) == *answer && slice.as_slice() == *holds)
+        }
+        _ => Ok(goes_alone(socket, call)),
+    }
 }
 
-/// An IPv4 packet with a datagram of six bytes, from 192.168.1.2:53 to 192.168.1.1:48896.
-fn arrives(socket: &mut Socket) {
-    let header = IpRepr::new(
-        IpAddress::v4(192, 168, 1, 2),
-        IpAddress::v4(192, 168, 1, 1),
-        IpProtocol::Udp,
-        14,
-        64,
-    );
+/// The same of a call that takes no memory and gives no refusal to send.
+fn goes_alone(socket: &mut Socket, call: &Call) -> bool {
+    match call {
+        Comes => {
+            comes(socket);
+            true
+        }
+        CanReceive(answer) => socket.can_recv() == *answer,
+        Received(count) => socket.recv_queue() == *count,
+        Queued(count) => socket.send_queue() == *count,
+        Peek(answer) => peeks(socket, answer),
+        Read(answer) => socket.recv() == *answer,
+        Dispatch(shown) => dispatches(socket, shown),
+        _ => false,
+    }
+}
+
+fn bind(socket: &mut Socket, port: u16) -> Result<(), BindError> {
+    socket.bind(IpListenEndpoint { addr: None, port })
+}
+
+fn to(address: IpAddress) -> UdpMetadata {
+    UdpMetadata::from(IpEndpoint::new(address, 53))
+}
+
+fn send(socket: &mut Socket, bytes: &[u8], remote: IpAddress) -> Result<(), SendError> {
+    socket.send_slice(bytes, to(remote))
+}
+
+fn write(socket: &mut Socket, bytes: &[u8]) -> Result<(), SendError> {
+    let room = socket.send(bytes.len(), to(V4))?;
+    room.copy_from_slice(bytes);
+    Ok(())
+}
+
+fn comes(socket: &mut Socket) {
+    let header = IpRepr::new(V4, OWN, IpProtocol::Udp, 14, 64);
     let repr = UdpRepr {
         src_port: 53,
         dst_port: 48896,
@@ -38,159 +111,23 @@ fn arrives(socket: &mut Socket) {
     socket.process(PacketMeta {}, &header, &repr, b"abcdef");
 }
 
-fn to(address: IpAddress) -> UdpMetadata {
-    UdpMetadata::from(IpEndpoint::new(address, 53))
-}
-
-fn port(port: u16) -> IpListenEndpoint {
-    IpListenEndpoint { addr: None, port }
-}
-
-fn first_offered(packet: &Packet<'_>, bytes: &[u8]) -> bool {
-    match packet.payload() {
-        IpPayload::Udp(header, payload) => {
-            header.src_port == 48896 && header.dst_port == 53 && *payload == bytes
-        }
-        _ => false,
+fn peek_slice(socket: &mut Socket, slice: &mut [u8]) -> Result<(usize, UdpMetadata), RecvError> {
+    match socket.peek_slice(slice) {
+        Ok((count, metadata)) => Ok((count, *metadata)),
+        Err(error) => Err(error),
     }
 }
 
-/// Whether the socket offers a packet of 64 hops that carries these bytes.
-fn offers(socket: &Socket, bytes: &[u8]) -> bool {
-    match socket.offered() {
-        Some(packet) => {
-            packet.ip_repr().hop_limit() == 64
-                && packet.ip_repr().payload_len() == 8 + bytes.len()
-                && first_offered(&packet, bytes)
-        }
-        None => false,
-    }
-}
-
-#[test]
-fn what_arrives_can_be_read(rt: HostRuntime) {
-    assert!(rt; !socket(&rt, 64).can_recv());
-    let socket = received(&rt);
-    assert!(rt; socket.can_recv());
-    assert!(rt; socket.recv_queue() == 6);
-}
-
-#[test]
-fn a_short_slice_truncates(rt: HostRuntime) {
-    let mut socket = received(&rt);
-    let mut four = [0; 4];
-    assert!(rt; matches!(socket.peek_slice(&mut four), Err(RecvError::Truncated)));
-    assert!(rt; matches!(socket.recv_slice(&mut four), Err(RecvError::Truncated)));
-    assert!(rt; matches!(socket.peek_slice(&mut four), Err(RecvError::Exhausted)));
-    assert!(rt; four == [0; 4]);
-    assert!(rt; !socket.can_recv());
-}
-
-/// Whether a datagram came from 192.168.1.2:53 to 192.168.1.1.
-fn is_from_there(metadata: &UdpMetadata) -> bool {
-    metadata.endpoint == IpEndpoint::new(IpAddress::v4(192, 168, 1, 2), 53)
-        && metadata.local_address == Some(IpAddress::v4(192, 168, 1, 1))
-}
-
-fn peeks(socket: &mut Socket) -> bool {
+fn peeks(socket: &mut Socket, answer: &Result<(&'static [u8], UdpMetadata), RecvError>) -> bool {
     match socket.peek() {
-        Ok((bytes, metadata)) => bytes == b"abcdef".as_slice() && is_from_there(metadata),
-        Err(_) => false,
+        Ok((bytes, metadata)) => *answer == Ok((bytes, *metadata)),
+        Err(error) => *answer == Err(error),
     }
 }
 
-/// Whether the datagram is read, after which the slice holds these bytes.
-fn reads(socket: &mut Socket, bytes: &[u8; 8]) -> bool {
-    let mut eight = [0; 8];
-    match socket.recv_slice(&mut eight) {
-        Ok((count, metadata)) => count == 6 && eight == *bytes && is_from_there(&metadata),
-        Err(_) => false,
-    }
-}
-
-#[test]
-fn a_datagram_is_read(rt: HostRuntime) {
-    let mut socket = received(&rt);
-    assert!(rt; peeks(&mut socket));
-    assert!(rt; reads(&mut socket, b"abcdef\0\0"));
-    assert!(rt; !socket.can_recv());
-}
-
-/// Whether the datagram is lent.
-fn lends(socket: &mut Socket) -> bool {
-    match socket.recv() {
-        Ok((bytes, metadata)) => bytes == b"abcdef".as_slice() && is_from_there(&metadata),
-        Err(_) => false,
-    }
-}
-
-#[test]
-fn a_datagram_is_lent(rt: HostRuntime) {
-    assert!(rt; matches!(socket(&rt, 64).recv(), Err(RecvError::Exhausted)));
-    let mut socket = received(&rt);
-    assert!(rt; lends(&mut socket));
-    assert!(rt; !socket.can_recv());
-}
-
-fn there() -> UdpMetadata {
-    to(IpAddress::v4(192, 168, 1, 2))
-}
-
-#[test]
-fn a_lent_room_is_refused(rt: HostRuntime) {
-    let unbound = socket(&rt, 6).send(3, there()).err();
-    assert!(rt; matches!(unbound, Some(SendError::Unaddressable)));
-    let long = bound(&rt, 6).send(7, there()).err();
-    assert!(rt; matches!(long, Some(SendError::BufferFull)));
-}
-
-/// Whether three bytes are queued in a room that the socket lent.
-fn writes(socket: &mut Socket) -> bool {
-    match socket.send(3, there()) {
-        Ok(room) => {
-            room.copy_from_slice(b"abc");
-            true
-        }
-        Err(_) => false,
-    }
-}
-
-/// Whether the socket is due now and offers a packet that carries these bytes.
-fn offers_next(socket: &mut Socket, bytes: &[u8]) -> bool {
-    socket.poll_at() == PollAt::Now
-        && socket.offer(&context()) == (Offer::Packet { changed: false })
-        && offers(socket, bytes)
-}
-
-#[test]
-fn a_lent_room_is_queued(rt: HostRuntime) {
-    let mut socket = bound(&rt, 6);
-    assert!(rt; writes(&mut socket));
-    assert!(rt; socket.send_queue() == 3);
-    assert!(rt; offers_next(&mut socket, b"abc"));
-}
-
-#[test]
-fn a_socket_is_bound_once(rt: HostRuntime) {
-    let mut socket = socket(&rt, 64);
-    assert!(rt; socket.send_slice(b"abc", there()) == Err(SendError::Unaddressable));
-    assert!(rt; socket.bind(port(0)) == Err(BindError::Unaddressable));
-    assert!(rt; socket.bind(port(48896)).is_ok());
-    assert!(rt; socket.bind(port(1)) == Err(BindError::InvalidState));
-}
-
-#[test]
-fn a_full_queue_takes_no_more(rt: HostRuntime) {
-    let mut socket = bound(&rt, 64);
-    assert!(rt; socket.send_slice(b"abc", there()).is_ok());
-    assert!(rt; socket.send_slice(b"defg", there()).is_ok());
-    assert!(rt; socket.send_slice(b"h", there()) == Err(SendError::BufferFull));
-}
-
-/// Whether the socket hands out a datagram of these bytes.
-fn dispatches(socket: &mut Socket, bytes: &[u8]) -> bool {
-    let answer = socket.dispatch(&context(), |packet: Packet<'_>| {
-        if first_offered(&packet, bytes) {
+fn dispatches(socket: &mut Socket, shown: &Shown) -> bool {
+    let answer = socket.dispatch(&make_host(1, None), |packet: Packet<'_>| {
+        if shows(&packet, shown) {
             Ok(())
         } else {
             Err(())
@@ -199,53 +136,191 @@ fn dispatches(socket: &mut Socket, bytes: &[u8]) -> bool {
     answer.is_ok()
 }
 
+const OWN: IpAddress = IpAddress::Ipv4(Ipv4Address([192, 168, 1, 1]));
+
+pub const V4: IpAddress = IpAddress::Ipv4(Ipv4Address([192, 168, 1, 2]));
+
+const V6: IpAddress = IpAddress::Ipv6(Ipv6Address([
+    0xfd, 0, 0, 0, 0, 0, 0, 0, 0, 0, 0, 0, 0, 0, 0, 2,
+]));
+
+const FROM_V4: UdpMetadata = UdpMetadata {
+    endpoint: IpEndpoint { addr: V4, port: 53 },
+    local_address: Some(OWN),
+    meta: PacketMeta {},
+};
+
+const PORTS: UdpRepr = UdpRepr {
+    src_port: 48896,
+    dst_port: 53,
+};
+
+/// The packets in which these bytes go to 192.168.1.2.
+pub const ABC: Shown = Shown {
+    hops: 64,
+    destination: V4,
+    protocol: IpProtocol::Udp,
+    length: 11,
+    payload: IpPayload::Udp(PORTS, b"abc"),
+};
+
+const DEFG: Shown = Shown {
+    hops: 64,
+    destination: V4,
+    protocol: IpProtocol::Udp,
+    length: 12,
+    payload: IpPayload::Udp(PORTS, b"defg"),
+};
+
+const ARRIVING: [Step; 4] = [
+    Udp(CanReceive(false)),
+    Udp(Comes),
+    Udp(CanReceive(true)),
+    Udp(Received(6)),
+];
+
 #[test]
-fn an_unsent_datagram_stays_first(rt: HostRuntime) {
-    let mut socket = bound(&rt, 64);
-    assert!(rt; socket.send_slice(b"abc", there()).is_ok());
-    assert!(rt; socket.send_slice(b"defg", there()).is_ok());
-    for sent in [false, false, true] {
-        assert!(rt; offers_next(&mut socket, b"abc"));
-        socket.settle(sent);
-    }
-    assert!(rt; socket.offered().is_none());
-    assert!(rt; dispatches(&mut socket, b"defg"));
-    assert!(rt; socket.poll_at() == PollAt::Ingress);
+fn what_arrives_can_be_read(rt: HostRuntime) -> Result<(), Fail> {
+    play(rt.alloc(), &Kind::Udp(64), &ARRIVING)
 }
 
-/// Whether the socket waits after an offer of nothing.
-fn is_silent(socket: &mut Socket, changed: bool) -> bool {
-    socket.offer(&context()) == (Offer::Silent { changed }) && socket.poll_at() == PollAt::Ingress
-}
+const TRUNCATED: [Step; 5] = [
+    Udp(Comes),
+    Udp(PeekSlice(Err(RecvError::Truncated), &[0; 4])),
+    Udp(ReadSlice(Err(RecvError::Truncated), &[0; 4])),
+    Udp(PeekSlice(Err(RecvError::Exhausted), &[0; 4])),
+    Udp(CanReceive(false)),
+];
 
 #[test]
-fn an_empty_queue_is_silent(rt: HostRuntime) {
-    let mut socket = bound(&rt, 64);
-    assert!(rt; socket.poll_at() == PollAt::Ingress);
-    assert!(rt; is_silent(&mut socket, false));
+fn a_short_slice_truncates(rt: HostRuntime) -> Result<(), Fail> {
+    play(rt.alloc(), &Kind::Udp(64), &TRUNCATED)
 }
 
-/// A socket that has so many bytes to send to this address.
-fn sending(rt: &(impl Abort + AllocGlobal), size: usize, address: IpAddress) -> Socket {
-    let mut socket = bound(rt, 65_536);
-    let bytes = vec![in rt.alloc(); 7; size].expect(rt, "memory");
-    assert!(rt; socket.send_slice(&bytes, to(address)).is_ok());
-    socket
-}
+const READ: [Step; 4] = [
+    Udp(Comes),
+    Udp(Peek(Ok((b"abcdef", FROM_V4)))),
+    Udp(ReadSlice(Ok((6, FROM_V4)), b"abcdef\0\0")),
+    Udp(CanReceive(false)),
+];
 
 #[test]
-fn what_no_length_holds_is_dropped(rt: HostRuntime) {
-    let ipv4 = IpAddress::v4(192, 168, 1, 2);
-    let ipv6 = IpAddress::v6(0xfd00, 0, 0, 0, 0, 0, 0, 2);
-    let offered = Offer::Packet { changed: false };
-    assert!(rt; is_silent(&mut sending(&rt, 65_508, ipv4), true));
-    assert!(rt; sending(&rt, 65_508, ipv6).offer(&context()) == offered);
-    assert!(rt; sending(&rt, 65_507, ipv4).offer(&context()) == offered);
+fn a_datagram_is_read(rt: HostRuntime) -> Result<(), Fail> {
+    play(rt.alloc(), &Kind::Udp(64), &READ)
 }
 
+const LENT: [Step; 4] = [
+    Udp(Read(Err(RecvError::Exhausted))),
+    Udp(Comes),
+    Udp(Read(Ok((b"abcdef", FROM_V4)))),
+    Udp(CanReceive(false)),
+];
+
 #[test]
-fn texts_name_the_errors(rt: HostRuntime) {
-    assert!(rt; prints(&rt, &BindError::InvalidState, "invalid state"));
-    assert!(rt; prints(&rt, &SendError::BufferFull, "buffer full"));
-    assert!(rt; prints(&rt, &RecvError::Truncated, "truncated"));
+fn a_datagram_is_lent(rt: HostRuntime) -> Result<(), Fail> {
+    play(rt.alloc(), &Kind::Udp(64), &LENT)
+}
+
+const ROOM_REFUSED: [Step; 3] = [
+    Udp(Write(b"abc", Err(SendError::Unaddressable))),
+    Udp(Bind(48896, Ok(()))),
+    Udp(Write(&[0; 7], Err(SendError::BufferFull))),
+];
+
+#[test]
+fn a_lent_room_is_refused(rt: HostRuntime) -> Result<(), Fail> {
+    play(rt.alloc(), &Kind::Udp(6), &ROOM_REFUSED)
+}
+
+const ROOM_QUEUED: [Step; 4] = [
+    Udp(Bind(48896, Ok(()))),
+    Udp(Write(b"abc", Ok(()))),
+    Udp(Queued(3)),
+    Shows(ABC),
+];
+
+#[test]
+fn a_lent_room_is_queued(rt: HostRuntime) -> Result<(), Fail> {
+    play(rt.alloc(), &Kind::Udp(6), &ROOM_QUEUED)
+}
+
+const BOUND_ONCE: [Step; 4] = [
+    Udp(Send(b"abc", V4, Err(SendError::Unaddressable))),
+    Udp(Bind(0, Err(BindError::Unaddressable))),
+    Udp(Bind(48896, Ok(()))),
+    Udp(Bind(1, Err(BindError::InvalidState))),
+];
+
+#[test]
+fn a_socket_is_bound_once(rt: HostRuntime) -> Result<(), Fail> {
+    play(rt.alloc(), &Kind::Udp(64), &BOUND_ONCE)
+}
+
+const FULL: [Step; 4] = [
+    Udp(Bind(48896, Ok(()))),
+    Udp(Send(b"abc", V4, Ok(()))),
+    Udp(Send(b"defg", V4, Ok(()))),
+    Udp(Send(b"h", V4, Err(SendError::BufferFull))),
+];
+
+#[test]
+fn a_full_queue_takes_no_more(rt: HostRuntime) -> Result<(), Fail> {
+    play(rt.alloc(), &Kind::Udp(64), &FULL)
+}
+
+const UNSENT: [Step; 12] = [
+    Udp(Bind(48896, Ok(()))),
+    Udp(Send(b"abc", V4, Ok(()))),
+    Udp(Send(b"defg", V4, Ok(()))),
+    Shows(ABC),
+    Settle(false),
+    Shows(ABC),
+    Settle(false),
+    Shows(ABC),
+    Settle(true),
+    Unoffered,
+    Udp(Dispatch(DEFG)),
+    Waits,
+];
+
+#[test]
+fn an_unsent_datagram_stays_first(rt: HostRuntime) -> Result<(), Fail> {
+    play(rt.alloc(), &Kind::Udp(64), &UNSENT)
+}
+
+const EMPTY: [Step; 3] = [Udp(Bind(48896, Ok(()))), Waits, Silent(false)];
+
+#[test]
+fn an_empty_queue_is_silent(rt: HostRuntime) -> Result<(), Fail> {
+    play(rt.alloc(), &Kind::Udp(64), &EMPTY)
+}
+
+const TOO_LONG: [Step; 11] = [
+    Udp(Bind(48896, Ok(()))),
+    Udp(SendMany(65_508, V4, Ok(()))),
+    Silent(true),
+    Anew(Kind::Udp(65_536)),
+    Udp(Bind(48896, Ok(()))),
+    Udp(SendMany(65_508, V6, Ok(()))),
+    Offers,
+    Anew(Kind::Udp(65_536)),
+    Udp(Bind(48896, Ok(()))),
+    Udp(SendMany(65_507, V4, Ok(()))),
+    Offers,
+];
+
+#[test]
+fn what_no_length_holds_is_dropped(rt: HostRuntime) -> Result<(), Fail> {
+    play(rt.alloc(), &Kind::Udp(65_536), &TOO_LONG)
+}
+
+const NAMES: [(Refusal, &str); 3] = [
+    (Refusal::Bind(BindError::InvalidState), "invalid state"),
+    (Refusal::Send(SendError::BufferFull), "buffer full"),
+    (Refusal::Receive(RecvError::Truncated), "truncated"),
+];
+
+#[test]
+fn texts_name_the_errors(rt: HostRuntime) -> Result<(), Fail> {
+    are_named(rt.alloc(), &NAMES)
 }
