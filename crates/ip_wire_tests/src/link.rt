@@ -374,6 +374,11 @@ fn has_addresses(bytes: &mut [u8], wanted: ArpAddresses<'_>) -> bool {
     }
 }
 
+/// The bytes that the view holds.
+fn held(bytes: &mut [u8]) -> &[u8] {
+    ArpPacketMut::new_unchecked(bytes).into_inner()
+}
+
 #[test]
 fn packet_is_set(rt: HostRuntime) {
     let mut bytes = [0xff; 28];
@@ -397,7 +402,7 @@ fn packet_is_set(rt: HostRuntime) {
         there.as_slice(),
     );
     assert!(rt; has_addresses(&mut bytes, addresses));
-    assert!(rt; starts_with(&bytes, first(behind(&FRAME, 14), 28)));
+    assert!(rt; starts_with(held(&mut bytes), first(behind(&FRAME, 14), 28)));
 }
 
 // RFC 826: a known number under the name of an unknown one is another value.

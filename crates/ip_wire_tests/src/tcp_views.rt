@@ -141,6 +141,11 @@ fn seal(bytes: &mut [u8]) {
     }
 }
 
+/// The bytes that the view holds.
+fn held(bytes: &mut [u8]) -> &[u8] {
+    TcpPacketMut::new_unchecked(bytes).into_inner()
+}
+
 #[test]
 fn writes_every_field(rt: HostRuntime) {
     let mut buffer = SYN_BYTES;
@@ -169,7 +174,7 @@ fn writes_every_field(rt: HostRuntime) {
         0x00, 0x01, 0x00, 0x02, 0xff, 0xff, 0xff, 0xfe, 0x80, 0x00, 0x00, 0x01, 0x61, 0x90, 0xff,
         0xff, 0x12, 0x34, 0x00, 0x09, 0xaa, 0x00, 0x00, 0xff,
     ];
-    assert!(rt; is_same(&buffer, &wanted));
+    assert!(rt; is_same(held(&mut buffer), &wanted));
 }
 
 /// The flags from the lowest bit on, where the segment is written.
