@@ -31,22 +31,27 @@ fn decoded(alloc: Global, texts: &[&str]) -> Result<Vec<u8>, Fail> {
     Ok(hex::decode(alloc, all.as_str())?)
 }
 
+// The bytes of two texts, the second behind the first.
+fn behind(alloc: Global, link: &str, packet: &str) -> Result<Vec<u8>, Fail> {
+    let mut all = String::new(alloc);
+    all.push_str(link)?;
+    all.push_str(packet)?;
+    Ok(hex::decode(alloc, all.as_str())?)
+}
+
 // Cuts a frame, in bare packets and behind an Ethernet header, and compares both pieces.
 fn check_cut(alloc: Global, frame: &str, at: usize, first: &str, second: &str) -> Result<(), Fail> {
     for (medium, link) in [
         (Medium::Ip, ""),
         (Medium::Ethernet, "0200000000020200000000010800"),
     ] {
-        let whole = decoded(alloc, &[link, frame])?;
+        let whole = behind(alloc, link, frame)?;
         let part = ipv4_part(medium, whole.as_slice()).ok_or("an IPv4 packet")?;
         if at > part.len {
             return Err("a place in the packet".into());
         }
         let pieces = cut_frame(alloc, medium, whole.as_slice(), at)?;
-        let wanted = (
-            decoded(alloc, &[link, first])?,
-            decoded(alloc, &[link, second])?,
-        );
+        let wanted = (behind(alloc, link, first)?, behind(alloc, link, second)?);
         if pieces != wanted {
             return Err(Fail::new(format_args!("of {frame} at {at}")));
         }
