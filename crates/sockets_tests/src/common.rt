@@ -73,7 +73,9 @@ pub fn queue<H>(alloc: Global, bytes: usize) -> Result<PacketBuffer<H>, Fail>
 where
     H: Drop,
 {
-    let entries = vec![in alloc; PacketMetadata::EMPTY, PacketMetadata::EMPTY]?;
+    let mut entries = Vec::new(alloc);
+    entries.push(PacketMetadata::EMPTY)?;
+    entries.push(PacketMetadata::EMPTY)?;
     Ok(PacketBuffer::new(
         ManagedSlice::Fixed(entries),
         ManagedSlice::Fixed(zeros(alloc, bytes)?),

@@ -92,7 +92,7 @@ fn goes_alone(socket: &mut Socket, call: &Call) -> bool {
         }
         CanReceive(answer) => socket.can_recv() == *answer,
         Received(count) => socket.recv_queue() == *count,
-        Peek(answer) => socket.peek() == *answer,
+        Peek(answer) => peeks(socket, answer),
         Write(answer) => write(socket) == *answer,
         Send(bytes, count, answer) => match bytes.get(..*count) {
             Some(bytes) => socket.send_slice(bytes) == *answer,
@@ -100,6 +100,13 @@ fn goes_alone(socket: &mut Socket, call: &Call) -> bool {
         },
         Dispatch(shown) => dispatches(socket, shown),
         _ => false,
+    }
+}
+
+fn peeks(socket: &mut Socket, answer: &Result<&'static [u8], RecvError>) -> bool {
+    match socket.peek() {
+        Ok(bytes) => *answer == Ok(bytes),
+        Err(error) => *answer == Err(error),
     }
 }
 

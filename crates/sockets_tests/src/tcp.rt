@@ -261,9 +261,13 @@ fn goes_alone(ends: &mut Ends, step: &Step) -> bool {
         Is(who, state) => ends.of(*who).socket.state() == *state,
         Send(who, bytes) => ends.of(*who).socket.send_slice(bytes) == Ok(bytes.len()),
         Read(who, answer, holds) => reads(ends.of(*who), answer, holds),
-        Last(who, bytes) => ends.of(*who).last.as_slice() == *bytes,
+        Last(who, bytes) => is_last(ends.of(*who), bytes),
         _ => false,
     }
+}
+
+fn is_last(end: &End, bytes: &[u8]) -> bool {
+    end.last.as_slice() == bytes
 }
 
 fn connects(end: &mut End) -> bool {

@@ -78,7 +78,7 @@ fn goes_alone(socket: &mut Socket, call: &Call) -> bool {
         Received(count) => socket.recv_queue() == *count,
         Queued(count) => socket.send_queue() == *count,
         Peek(answer) => peeks(socket, answer),
-        Read(answer) => socket.recv() == *answer,
+        Read(answer) => reads(socket, answer),
         Dispatch(shown) => dispatches(socket, shown),
         _ => false,
     }
@@ -115,6 +115,13 @@ fn peek_slice(socket: &mut Socket, slice: &mut [u8]) -> Result<(usize, UdpMetada
     match socket.peek_slice(slice) {
         Ok((count, metadata)) => Ok((count, *metadata)),
         Err(error) => Err(error),
+    }
+}
+
+fn reads(socket: &mut Socket, answer: &Result<(&'static [u8], UdpMetadata), RecvError>) -> bool {
+    match socket.recv() {
+        Ok((bytes, metadata)) => *answer == Ok((bytes, metadata)),
+        Err(error) => *answer == Err(error),
     }
 }
 
