@@ -306,26 +306,24 @@ fn quoting(first: u8, check: u8) -> [u8; 28] {
 #[test]
 fn quoted_headers_are_refused(rt: HostRuntime) {
     let all = ChecksumCapabilities::default();
-    for (first, check, refused, text) in [
-        (0x45, 0xf4, false, "a whole header"),
-        (0x65, 0xd4, true, "version 6"),
-        (0x44, 0xf5, true, "a header length of 16"),
-        (0x46, 0xf3, true, "24, with 20 bytes there"),
-    ] {
-        assert!(rt;
-            is_refused(&quoting(first, check), &all) == refused,
-            "{text}"
-        );
-    }
+    assert!(rt; !is_refused(&quoting(0x45, 0xf4), &all));
+    assert!(rt; is_refused(&quoting(0x65, 0xd4), &all), "version 6");
+    assert!(rt;
+        is_refused(&quoting(0x44, 0xf5), &all),
+        "a header length of 16"
+    );
+    assert!(rt;
+        is_refused(&quoting(0x46, 0xf3), &all),
+        "24, with 20 bytes there"
+    );
     assert!(rt; is_refused(&FRAG_EXPIRED[..27], &unverified()), "19 bytes");
 }
 
 #[test]
 fn refused_headers_have_checksums(rt: HostRuntime) {
-    for (first, check) in [(0x65, 0xd4), (0x44, 0xf5), (0x46, 0xf3)] {
-        let bytes = quoting(first, check);
-        assert!(rt; Icmpv4Packet::new_unchecked(&bytes).verify_checksum());
-    }
+    assert!(rt; Icmpv4Packet::new_unchecked(&quoting(0x65, 0xd4)).verify_checksum());
+    assert!(rt; Icmpv4Packet::new_unchecked(&quoting(0x44, 0xf5)).verify_checksum());
+    assert!(rt; Icmpv4Packet::new_unchecked(&quoting(0x46, 0xf3)).verify_checksum());
 }
 
 #[test]
@@ -362,9 +360,6 @@ fn numbers_of_known_reasons(rt: HostRuntime) {
     assert!(rt; u8::from(Icmpv4TimeExceeded::from(7)) == 7);
 }
 
-/// What a view of an echo reads: type, code, identifier, number, and the header's length.
-type Echo = (Icmpv4Message, u8, u16, u16, usize);
-
 #[test]
 fn message_is_viewed(rt: HostRuntime) {
     let packet = Icmpv4Packet::new_checked(&ODD_REQUEST).expect(&rt, "whole");
@@ -390,65 +385,47 @@ fn short_message_is_refused(rt: HostRuntime) {
     assert!(rt; Icmpv4Packet::new_checked(&ODD_REQUEST[..7]).is_err());
 }
 
-/// Writes the data by a view, and nothing else.
-fn set_data(bytes: &mut [u8; 11]) {
-    let mut packet = Icmpv4PacketMut::new_unchecked(bytes);
-    packet.data_mut().copy_from_slice(b"abc");
-}
-
 #[test]
 fn data_alone_is_lent(rt: HostRuntime) {
     let mut bytes = [0xa5; 11];
-    set_data(&mut bytes);
+    let mut packet = Icmpv4PacketMut::new_unchecked(&mut bytes);
+    packet.data_mut().copy_from_slice(b"abc");
     assert!(rt; &bytes[..8] == [0xa5; 8].as_slice(), "the header stays");
     assert!(rt; &bytes[8..] == b"abc".as_slice());
-}
-
-/// Writes the echo request before its data by a view. The answer is what this view reads of it, whether
-/// it finds these data, and the checksum that it writes at last, if that holds.
-fn set_request(bytes: &mut [u8; 11], data: &[u8]) -> Option<(Echo, bool, u16)> {
-    let mut packet = Icmpv4PacketMut::new_checked(bytes).ok()?;
-    packet.set_msg_type(Icmpv4Message::EchoRequest);
-    packet.set_msg_code(0);
-    packet.set_echo_ident(0x1234);
-    packet.set_echo_seq_no(1);
-    let echo = (
-        packet.msg_type(),
-        packet.msg_code(),
-        packet.echo_ident(),
-        packet.echo_seq_no(),
-        packet.header_len(),
-    );
-    let has_data = packet.data() == data;
-    packet.fill_checksum();
-    if packet.check_len().is_ok() && packet.verify_checksum() {
-        Some((echo, has_data, packet.checksum()))
-    } else {
-        None
-    }
 }
 
 #[test]
 fn message_is_set(rt: HostRuntime) {
     let mut bytes = [0xa5; 11];
-    set_data(&mut bytes);
-    let (_, _, checksum) = set_request(&mut bytes, b"abc").expect(&rt, "whole");
-    assert!(rt; checksum == 0x2168);
-    assert!(rt; bytes == ODD_REQUEST);
+    let mut packet = Icmpv4PacketMut::new_unchecked(&mut bytes);
+    packet.data_mut().copy_from_slice(b"abc");
+    let mut packet = Icmpv4PacketMut::new_checked(&mut bytes).expect(&rt, "whole");
+    packet.set_msg_type(Icmpv4Message::EchoRequest);
+    packet.set_msg_code(0);
+    packet.set_echo_ident(0x1234);
+    packet.set_echo_seq_no(1);
+    packet.fill_checksum();
+    assert!(rt; packet.check_len().is_ok() && packet.verify_checksum());
+    assert!(rt; packet.checksum() == 0x2168);
+    assert!(rt; &*packet.into_inner() == ODD_REQUEST.as_slice());
 }
 
 #[test]
 fn set_fields_are_read(rt: HostRuntime) {
     let mut bytes = [0xa5; 11];
-    set_data(&mut bytes);
-    let (echo, has_data, _) = set_request(&mut bytes, b"abc").expect(&rt, "whole");
-    let (kind, code, ident, seq_no, header_len) = echo;
-    assert!(rt; kind == Icmpv4Message::EchoRequest);
-    assert!(rt; code == 0);
-    assert!(rt; ident == 0x1234);
-    assert!(rt; seq_no == 1);
-    assert!(rt; header_len == 8);
-    assert!(rt; has_data);
+    let mut packet = Icmpv4PacketMut::new_unchecked(&mut bytes);
+    packet.data_mut().copy_from_slice(b"abc");
+    let mut packet = Icmpv4PacketMut::new_checked(&mut bytes).expect(&rt, "whole");
+    packet.set_msg_type(Icmpv4Message::EchoRequest);
+    packet.set_msg_code(0);
+    packet.set_echo_ident(0x1234);
+    packet.set_echo_seq_no(1);
+    assert!(rt; packet.msg_type() == Icmpv4Message::EchoRequest);
+    assert!(rt; packet.msg_code() == 0);
+    assert!(rt; packet.echo_ident() == 0x1234);
+    assert!(rt; packet.echo_seq_no() == 1);
+    assert!(rt; packet.header_len() == 8);
+    assert!(rt; packet.data() == b"abc".as_slice());
 }
 
 #[test]

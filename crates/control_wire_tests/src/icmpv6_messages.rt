@@ -58,30 +58,28 @@ fn error(front: &[u8; 8]) -> [u8; 60]
     message
 }
 
-/// A message from fd00::2 to fd00::1 of at most 60 bytes, its checksum tested.
-fn read<'a>(message: &'a [u8]) -> Result<Icmpv6Repr<'a>, Error> {
-    if message.len() > 60 {
-        return Err(Error);
-    }
+/// So many of the first bytes.
+fn cut(message: &[u8], count: usize) -> &[u8]
+    requires { count ≤ length message.now }
+    ensures { length result.now ≡ count }
+{
+    &message[..count]
+}
+
+/// A message from fd00::2 to fd00::1, its checksum tested.
+fn read<'a>(message: &'a [u8]) -> Result<Icmpv6Repr<'a>, Error>
+    requires { length message.now < 2 ^ 32 }
+{
     let packet = Icmpv6Packet::new_unchecked(message);
     Icmpv6Repr::parse(&RIGHT, &LEFT, &packet, &ChecksumCapabilities::default())
 }
 
 /// The same, its checksum not tested.
-fn read_untested<'a>(message: &'a [u8]) -> Result<Icmpv6Repr<'a>, Error> {
-    if message.len() > 60 {
-        return Err(Error);
-    }
+fn read_untested<'a>(message: &'a [u8]) -> Result<Icmpv6Repr<'a>, Error>
+    requires { length message.now < 2 ^ 32 }
+{
     let packet = Icmpv6Packet::new_unchecked(message);
     Icmpv6Repr::parse(&RIGHT, &LEFT, &packet, &ChecksumCapabilities::ignored())
-}
-
-fn is_refused(message: &[u8]) -> bool {
-    read(message).is_err()
-}
-
-fn is_refused_untested(message: &[u8]) -> bool {
-    read_untested(message).is_err()
 }
 
 /// Writes a message from fd00::2 to fd00::1.
@@ -135,70 +133,56 @@ fn views_test_checksums(rt: HostRuntime) {
     assert!(rt; !packet.verify_checksum(&LEFT, &LEFT));
 }
 
-/// What a view of an echo reads: type, code, identifier, number, and the lengths of header and payload.
-type Echo = (Icmpv6Message, u8, u16, u16, usize, usize);
-
-/// Writes the echo request by a view, all but its checksum. The answer is what this view reads, if it
-/// finds the message long enough.
-fn set_request(bytes: &mut [u8; 12]) -> Option<Echo> {
-    let mut packet = Icmpv6PacketMut::new_unchecked(bytes);
+#[test]
+fn views_write(rt: HostRuntime) {
+    let mut bytes = [0xff; 12];
+    let mut packet = Icmpv6PacketMut::new_unchecked(&mut bytes);
     packet.set_msg_type(Icmpv6Message::EchoRequest);
     packet.set_msg_code(0);
     packet.clear_reserved();
     packet.set_echo_ident(0x1234);
     packet.set_echo_seq_no(0xabcd);
-    if packet.check_len().is_err() {
-        return None;
-    }
-    let echo = (
-        packet.msg_type(),
-        packet.msg_code(),
-        packet.echo_ident(),
-        packet.echo_seq_no(),
-        packet.header_len(),
-        packet.payload().len(),
-    );
-    let end = packet.into_inner();
-    end[8..].copy_from_slice(&[0xaa, 0x00, 0x00, 0xff]);
-    Some(echo)
-}
-
-/// Writes the checksum. The answer is what the view then reads as the checksum, whether that holds,
-/// and the length of the payload that it lends.
-fn seal(bytes: &mut [u8; 12]) -> Option<(u16, bool, usize)> {
-    let mut packet = Icmpv6PacketMut::new_checked(bytes).ok()?;
-    packet.fill_checksum(&LEFT, &RIGHT);
-    let (checksum, holds) = (packet.checksum(), packet.verify_checksum(&LEFT, &RIGHT));
-    Some((checksum, holds, packet.payload_mut().len()))
-}
-
-#[test]
-fn views_write(rt: HostRuntime) {
-    let (kind, code, ident, seq_no, _, _) = set_request(&mut [0xff; 12]).expect(&rt, "whole");
-    assert!(rt; kind == Icmpv6Message::EchoRequest);
-    assert!(rt; code == 0);
-    assert!(rt; ident == 0x1234);
-    assert!(rt; seq_no == 0xabcd);
+    assert!(rt; packet.check_len().is_ok());
+    assert!(rt; packet.msg_type() == Icmpv6Message::EchoRequest);
+    assert!(rt; packet.msg_code() == 0);
+    assert!(rt; packet.echo_ident() == 0x1234);
+    assert!(rt; packet.echo_seq_no() == 0xabcd);
 }
 
 #[test]
 fn views_write_whole_messages(rt: HostRuntime) {
     let mut bytes = [0xff; 12];
-    let (_, _, _, _, header_len, payload_len) = set_request(&mut bytes).expect(&rt, "whole");
-    assert!(rt; header_len == 8);
-    assert!(rt; payload_len == 4);
-    let (checksum, _, _) = seal(&mut bytes).expect(&rt, "whole");
-    assert!(rt; checksum == 0x1cb3);
+    let mut packet = Icmpv6PacketMut::new_unchecked(&mut bytes);
+    packet.set_msg_type(Icmpv6Message::EchoRequest);
+    packet.set_msg_code(0);
+    packet.clear_reserved();
+    packet.set_echo_ident(0x1234);
+    packet.set_echo_seq_no(0xabcd);
+    assert!(rt; packet.header_len() == 8);
+    assert!(rt; packet.payload().len() == 4);
+    let end = packet.into_inner();
+    end[8..].copy_from_slice(&[0xaa, 0x00, 0x00, 0xff]);
+    let mut packet = Icmpv6PacketMut::new_checked(&mut bytes).expect(&rt, "whole");
+    packet.fill_checksum(&LEFT, &RIGHT);
+    assert!(rt; packet.checksum() == 0x1cb3);
     assert!(rt; bytes == REQUEST);
 }
 
 #[test]
 fn views_test_what_they_wrote(rt: HostRuntime) {
     let mut bytes = [0xff; 12];
-    assert!(rt; set_request(&mut bytes).is_some());
-    let (_, holds, payload_len) = seal(&mut bytes).expect(&rt, "whole");
-    assert!(rt; holds);
-    assert!(rt; payload_len == 4);
+    let mut packet = Icmpv6PacketMut::new_unchecked(&mut bytes);
+    packet.set_msg_type(Icmpv6Message::EchoRequest);
+    packet.set_msg_code(0);
+    packet.clear_reserved();
+    packet.set_echo_ident(0x1234);
+    packet.set_echo_seq_no(0xabcd);
+    let end = packet.into_inner();
+    end[8..].copy_from_slice(&[0xaa, 0x00, 0x00, 0xff]);
+    let mut packet = Icmpv6PacketMut::new_checked(&mut bytes).expect(&rt, "whole");
+    packet.fill_checksum(&LEFT, &RIGHT);
+    assert!(rt; packet.verify_checksum(&LEFT, &RIGHT));
+    assert!(rt; packet.payload_mut().len() == 4);
 }
 
 #[test]
@@ -259,32 +243,24 @@ fn messages_have_numbers(rt: HostRuntime) {
 
 #[test]
 fn errors_are_told_apart(rt: HostRuntime) {
-    for (message, is_error) in [
-        (Icmpv6Message::ParamProblem, true),
-        (Icmpv6Message::Unknown(127), true),
-        (Icmpv6Message::EchoRequest, false),
-    ] {
-        assert!(rt; message.is_error() == is_error);
-    }
-}
-
-fn is_ndisc(message: Icmpv6Message) -> bool {
-    message.is_ndisc()
+    assert!(rt; Icmpv6Message::ParamProblem.is_error());
+    assert!(rt; Icmpv6Message::Unknown(127).is_error());
+    assert!(rt; !Icmpv6Message::EchoRequest.is_error());
 }
 
 #[test]
 fn neighbour_messages_are_told_apart(rt: HostRuntime) {
-    assert!(rt; is_ndisc(Icmpv6Message::NeighborSolicit));
-    assert!(rt; is_ndisc(Icmpv6Message::Redirect));
-    assert!(rt; !is_ndisc(Icmpv6Message::EchoReply));
-    assert!(rt; !is_ndisc(Icmpv6Message::MldReport));
+    assert!(rt; Icmpv6Message::NeighborSolicit.is_ndisc());
+    assert!(rt; Icmpv6Message::Redirect.is_ndisc());
+    assert!(rt; !Icmpv6Message::EchoReply.is_ndisc());
+    assert!(rt; !Icmpv6Message::MldReport.is_ndisc());
 }
 
 #[test]
 fn unknown_messages_are_told_apart(rt: HostRuntime) {
-    assert!(rt; is_ndisc(Icmpv6Message::Unknown(135)));
-    assert!(rt; !is_ndisc(Icmpv6Message::Unknown(132)));
-    assert!(rt; !is_ndisc(Icmpv6Message::Unknown(138)));
+    assert!(rt; Icmpv6Message::Unknown(135).is_ndisc());
+    assert!(rt; !Icmpv6Message::Unknown(132).is_ndisc());
+    assert!(rt; !Icmpv6Message::Unknown(138).is_ndisc());
 }
 
 #[test]
@@ -294,24 +270,12 @@ fn reasons_are_codes(rt: HostRuntime) {
         assert!(rt; u8::from(Icmpv6TimeExceeded::from(code)) == code);
         assert!(rt; u8::from(Icmpv6ParamProblem::from(code)) == code);
     }
-    for (code, reason) in [
-        (4, Icmpv6DstUnreachable::PortUnreachable),
-        (7, Icmpv6DstUnreachable::Unknown(7)),
-    ] {
-        assert!(rt; Icmpv6DstUnreachable::from(code) == reason);
-    }
-    for (code, reason) in [
-        (1, Icmpv6TimeExceeded::FragReassemExceeded),
-        (2, Icmpv6TimeExceeded::Unknown(2)),
-    ] {
-        assert!(rt; Icmpv6TimeExceeded::from(code) == reason);
-    }
-    for (code, reason) in [
-        (1, Icmpv6ParamProblem::UnrecognizedNxtHdr),
-        (3, Icmpv6ParamProblem::Unknown(3)),
-    ] {
-        assert!(rt; Icmpv6ParamProblem::from(code) == reason);
-    }
+    assert!(rt; Icmpv6DstUnreachable::from(4) == Icmpv6DstUnreachable::PortUnreachable);
+    assert!(rt; Icmpv6DstUnreachable::from(7) == Icmpv6DstUnreachable::Unknown(7));
+    assert!(rt; Icmpv6TimeExceeded::from(1) == Icmpv6TimeExceeded::FragReassemExceeded);
+    assert!(rt; Icmpv6TimeExceeded::from(2) == Icmpv6TimeExceeded::Unknown(2));
+    assert!(rt; Icmpv6ParamProblem::from(1) == Icmpv6ParamProblem::UnrecognizedNxtHdr);
+    assert!(rt; Icmpv6ParamProblem::from(3) == Icmpv6ParamProblem::Unknown(3));
 }
 
 /// Whether the error with this front, about the whole datagram, is read as the message, and whether
@@ -374,7 +338,7 @@ fn errors(rt: HostRuntime) {
 #[test]
 fn quotes_without_payload(rt: HostRuntime) {
     let whole = error(&[0x01, 0x00, 0x99, 0x3f, 0, 0, 0, 0]);
-    let message = &whole[..48];
+    let message = cut(&whole, 48);
     let want = Icmpv6Repr::DstUnreachable {
         reason: Icmpv6DstUnreachable::NoRoute,
         header: HEADER,
@@ -438,27 +402,26 @@ fn echo_is_read_and_written(rt: HostRuntime) {
 
 #[test]
 fn echoes_are_refused(rt: HostRuntime) {
-    assert!(rt; is_refused_untested(&REQUEST[..7]), "no header");
-    for (echo, text) in [
-        ([0x80, 0x01, 0x73, 0x82, 0x12, 0x34, 0, 1], "echo of code 1"),
-        (
-            [0x81, 0x01, 0x72, 0x82, 0x12, 0x34, 0, 1],
-            "reply of code 1",
-        ),
-    ] {
-        assert!(rt; is_refused(&echo), "{text}");
-    }
+    assert!(rt; read_untested(&REQUEST[..7]) == Err(Error), "no header");
+    assert!(rt;
+        read(&[0x80, 0x01, 0x73, 0x82, 0x12, 0x34, 0, 1]) == Err(Error),
+        "echo of code 1"
+    );
+    assert!(rt;
+        read(&[0x81, 0x01, 0x72, 0x82, 0x12, 0x34, 0, 1]) == Err(Error),
+        "reply of code 1"
+    );
     let mut changed = REPLY;
     changed[10] = 1;
-    assert!(rt; is_refused(&changed), "a wrong checksum");
+    assert!(rt; read(&changed) == Err(Error), "a wrong checksum");
     assert!(rt;
-        !is_refused_untested(&changed),
+        read_untested(&changed).is_ok(),
         "a checksum that isn't tested"
     );
     let packet = Icmpv6Packet::new_unchecked(&REPLY);
     let caps = ChecksumCapabilities::default();
     assert!(rt;
-        Icmpv6Repr::parse(&RIGHT, &RIGHT, &packet, &caps).is_err(),
+        Icmpv6Repr::parse(&RIGHT, &RIGHT, &packet, &caps) == Err(Error),
         "the checksum of other addresses"
     );
 }
@@ -466,13 +429,21 @@ fn echoes_are_refused(rt: HostRuntime) {
 #[test]
 fn errors_are_refused(rt: HostRuntime) {
     let short = error(&[0x01, 0x04, 0, 0, 0, 0, 0, 0]);
-    assert!(rt; !is_refused_untested(&short[..48]));
-    assert!(rt; is_refused_untested(&short[..47]), "no whole quoted header");
+    assert!(rt; read_untested(cut(&short, 48)).is_ok());
+    assert!(rt;
+        read_untested(cut(&short, 47)) == Err(Error),
+        "no whole quoted header"
+    );
     let mut other = short;
     other[8] = 0x40;
-    assert!(rt; is_refused_untested(&other), "a quoted header of version 4");
-    let too_big = error(&[0x02, 0x01, 0, 0, 0, 0, 5, 0]);
-    assert!(rt; is_refused_untested(&too_big), "too big of code 1");
+    assert!(rt;
+        read_untested(&other) == Err(Error),
+        "a quoted header of version 4"
+    );
+    assert!(rt;
+        read_untested(&error(&[0x02, 0x01, 0, 0, 0, 0, 5, 0])) == Err(Error),
+        "too big of code 1"
+    );
 }
 
 #[test]
@@ -480,11 +451,11 @@ fn other_types_are_refused(rt: HostRuntime) {
     let mut message = error(&[0, 0, 0, 0, 0, 0, 0, 0]);
     for kind in [0, 5, 100, 127, 130, 131, 133, 134, 137, 143, 155, 200, 255] {
         message[0] = kind;
-        assert!(rt; is_refused_untested(&message), "type {kind}");
+        assert!(rt; read_untested(&message) == Err(Error), "type {kind}");
     }
     for kind in [1, 2, 3, 4, 128, 129] {
         message[0] = kind;
-        assert!(rt; !is_refused_untested(&message), "type {kind}");
+        assert!(rt; read_untested(&message).is_ok(), "type {kind}");
     }
 }
 

@@ -1,5 +1,8 @@
 //! Neighbour messages from outside, read and written. Their checksums were computed by another
 //! program.
+ghost use Rattle.std.specs.Prelude.{◌≡◌, ◌≤◌};
+ghost use Rattle.control_wire.specs.Ndisc.{buffer_len, neighbor_message};
+
 use control_wire::{
     Icmpv6Packet, Icmpv6PacketMut, Icmpv6Repr, NdiscNeighborFlags, NdiscRepr, icmpv6_laws,
 };
@@ -25,41 +28,32 @@ const ANNOUNCEMENT: [u8; 24] = [
 
 const NO_OPTIONS: [u8; 16] = [0; 16];
 
-/// Two options: a link address of the sender, and one of another kind.
-const OPTIONS: [u8; 16] = [1, 1, 2, 0, 0, 0, 0, 2, 14, 1, 7, 7, 7, 7, 7, 7];
-
 fn host(last: u16) -> Ipv6Address {
     Ipv6Address::new(0xfd00, 0, 0, 0, 0, 0, 0, last)
 }
 
-/// ff02::1:ff00:1, to which a solicitation for fd00::1 goes.
-fn all() -> Ipv6Address {
-    Ipv6Address::new(0xff02, 0, 0, 0, 0, 1, 0xff00, 1)
-}
-
-fn link(bytes: &[u8]) -> Option<RawHardwareAddress> {
-    if bytes.len() > 6 {
-        return None;
-    }
-    Some(RawHardwareAddress::from_bytes(bytes))
-}
-
-fn solicitation() -> NdiscRepr {
+fn solicitation() -> NdiscRepr
+    ensures { buffer_len (neighbor_message result) ≡ 32 }
+{
     NdiscRepr::NeighborSolicit {
         target_addr: host(1),
-        lladdr: link(&[2, 0, 0, 0, 0, 2]),
+        lladdr: Some(RawHardwareAddress::from_bytes(&[2, 0, 0, 0, 0, 2])),
     }
 }
 
-fn advertisement() -> NdiscRepr {
+fn advertisement() -> NdiscRepr
+    ensures { buffer_len (neighbor_message result) ≡ 32 }
+{
     NdiscRepr::NeighborAdvert {
         flags: NdiscNeighborFlags::SOLICITED,
         target_addr: host(1),
-        lladdr: link(&[2, 0, 0, 0, 0, 1]),
+        lladdr: Some(RawHardwareAddress::from_bytes(&[2, 0, 0, 0, 0, 1])),
     }
 }
 
-fn announcement() -> NdiscRepr {
+fn announcement() -> NdiscRepr
+    ensures { buffer_len (neighbor_message result) ≡ 24 }
+{
     NdiscRepr::NeighborAdvert {
         flags: NdiscNeighborFlags::ROUTER | NdiscNeighborFlags::OVERRIDE,
         target_addr: Ipv6Address::new(0xfe80, 0, 0, 0, 0, 0, 0, 7),
@@ -73,19 +67,16 @@ fn read(bytes: &[u8]) -> Result<NdiscRepr, Error> {
 
 #[test]
 fn neighbour_messages_are_read(rt: HostRuntime) {
-    for (bytes, message) in [
-        (SOLICITATION.as_slice(), solicitation()),
-        (ADVERTISEMENT.as_slice(), advertisement()),
-        (ANNOUNCEMENT.as_slice(), announcement()),
-    ] {
-        assert!(rt; read(bytes) == Ok(message));
-    }
+    assert!(rt; read(&SOLICITATION) == Ok(solicitation()));
+    assert!(rt; read(&ADVERTISEMENT) == Ok(advertisement()));
+    assert!(rt; read(&ANNOUNCEMENT) == Ok(announcement()));
 }
 
 #[test]
 fn solicitation_is_viewed(rt: HostRuntime) {
+    let all = Ipv6Address::new(0xff02, 0, 0, 0, 0, 1, 0xff00, 1);
     let packet = Icmpv6Packet::new_unchecked(&SOLICITATION);
-    assert!(rt; packet.verify_checksum(&host(2), &all()));
+    assert!(rt; packet.verify_checksum(&host(2), &all));
     assert!(rt; packet.target_addr() == host(1));
 }
 
@@ -106,70 +97,47 @@ fn laws_hold(_rt: HostRuntime) {
     icmpv6_laws::ndisc_normal();
 }
 
-/// The message's bytes over others, with the checksum for these addresses, if it has 32.
-fn written(message: &NdiscRepr, from: u16, to: &Ipv6Address, fill: u8) -> Option<[u8; 32]> {
-    let mut bytes = [fill; 32];
-    if message.buffer_len() != bytes.len() {
-        return None;
-    }
-    let mut packet = Icmpv6PacketMut::new_unchecked(&mut bytes);
-    message.emit(&mut packet);
-    packet.fill_checksum(&host(from), to);
-    Some(bytes)
-}
-
-/// The checksum's place and what is behind it of a message without a checksum, if it has 24 bytes.
-fn unsealed(message: &NdiscRepr) -> Option<(u16, [u8; 24])> {
-    let mut bytes = [0xff; 24];
-    if message.buffer_len() != bytes.len() {
-        return None;
-    }
-    let mut packet = Icmpv6PacketMut::new_unchecked(&mut bytes);
-    message.emit(&mut packet);
-    Some((packet.checksum(), bytes))
-}
-
 #[test]
 fn neighbour_messages_are_written(rt: HostRuntime) {
-    for (message, from, to, fill, bytes) in [
-        (solicitation(), 2, all(), 0xa5, SOLICITATION),
-        (advertisement(), 1, host(2), 0x5a, ADVERTISEMENT),
-    ] {
-        assert!(rt; written(&message, from, &to, fill) == Some(bytes));
-    }
-    let (checksum, bytes) = unsealed(&announcement()).expect(&rt, "24 bytes");
-    assert!(rt; checksum == 0);
-    assert!(rt; &bytes[4..] == &ANNOUNCEMENT[4..]);
-}
-
-/// The whole message over other bytes, written with its checksum, if it has 32.
-fn sealed(message: NdiscRepr, from: u16, to: &Ipv6Address, fill: u8) -> Option<[u8; 32]> {
-    let mut bytes = [fill; 32];
-    if message.buffer_len() != bytes.len() {
-        return None;
-    }
+    assert!(rt; solicitation().buffer_len() == 32);
+    assert!(rt; announcement().buffer_len() == 24);
+    let all = Ipv6Address::new(0xff02, 0, 0, 0, 0, 1, 0xff00, 1);
+    let mut bytes = [0xa5; 32];
     let mut packet = Icmpv6PacketMut::new_unchecked(&mut bytes);
-    let caps = ChecksumCapabilities::default();
-    Icmpv6Repr::Ndisc(message).emit(&host(from), to, &mut packet, &caps);
-    Some(bytes)
-}
-
-/// The message that these bytes are between these addresses, their checksum tested.
-fn opened<'a>(bytes: &'a [u8; 32], from: u16, to: &Ipv6Address) -> Result<Icmpv6Repr<'a>, Error> {
-    let packet = Icmpv6Packet::new_unchecked(bytes);
-    Icmpv6Repr::parse(&host(from), to, &packet, &ChecksumCapabilities::default())
+    solicitation().emit(&mut packet);
+    packet.fill_checksum(&host(2), &all);
+    assert!(rt; bytes == SOLICITATION);
+    let mut bytes = [0x5a; 32];
+    let mut packet = Icmpv6PacketMut::new_unchecked(&mut bytes);
+    advertisement().emit(&mut packet);
+    packet.fill_checksum(&host(1), &host(2));
+    assert!(rt; bytes == ADVERTISEMENT);
+    let mut bytes = [0xff; 24];
+    let mut packet = Icmpv6PacketMut::new_unchecked(&mut bytes);
+    announcement().emit(&mut packet);
+    assert!(rt; packet.checksum() == 0);
+    assert!(rt; &packet.into_inner()[4..] == &ANNOUNCEMENT[4..]);
 }
 
 #[test]
 fn neighbour_messages_have_a_checksum(rt: HostRuntime) {
-    for (message, from, to, fill, bytes) in [
-        (solicitation(), 2, all(), 0xa5, SOLICITATION),
-        (advertisement(), 1, host(2), 0x5a, ADVERTISEMENT),
-    ] {
-        assert!(rt; sealed(message, from, &to, fill) == Some(bytes));
-        assert!(rt; opened(&bytes, from, &to) == Ok(Icmpv6Repr::Ndisc(message)));
-    }
-    assert!(rt; opened(&SOLICITATION, 3, &all()).is_err());
+    let caps = ChecksumCapabilities::default();
+    let all = Ipv6Address::new(0xff02, 0, 0, 0, 0, 1, 0xff00, 1);
+    let message = Icmpv6Repr::Ndisc(solicitation());
+    let mut bytes = [0xa5; 32];
+    let mut packet = Icmpv6PacketMut::new_unchecked(&mut bytes);
+    message.emit(&host(2), &all, &mut packet, &caps);
+    assert!(rt; bytes == SOLICITATION);
+    let packet = Icmpv6Packet::new_unchecked(&SOLICITATION);
+    assert!(rt; Icmpv6Repr::parse(&host(2), &all, &packet, &caps) == Ok(message));
+    assert!(rt; Icmpv6Repr::parse(&host(3), &all, &packet, &caps) == Err(Error));
+    let message = Icmpv6Repr::Ndisc(advertisement());
+    let mut bytes = [0x5a; 32];
+    let mut packet = Icmpv6PacketMut::new_unchecked(&mut bytes);
+    message.emit(&host(1), &host(2), &mut packet, &caps);
+    assert!(rt; bytes == ADVERTISEMENT);
+    let packet = Icmpv6Packet::new_unchecked(&ADVERTISEMENT);
+    assert!(rt; Icmpv6Repr::parse(&host(1), &host(2), &packet, &caps) == Ok(message));
 }
 
 /// A message of this type and code about fd00::1 with all reserved bits set, then these options.
@@ -182,83 +150,79 @@ fn message(kind: u8, code: u8, options: &[u8; 16]) -> [u8; 40] {
     bytes
 }
 
-/// Whether the first bytes of such a message, so many, are read.
-fn is_read(kind: u8, code: u8, options: &[u8; 16], len: usize) -> bool {
-    let bytes = message(kind, code, options);
-    len <= bytes.len() && read(&bytes[..len]).is_ok()
-}
-
-/// Whether none of these messages, of a type, a code and a length, is read. None has options.
-fn are_refused(messages: &[(u8, u8, usize)]) -> bool {
-    for (kind, code, len) in messages {
-        if is_read(*kind, *code, &NO_OPTIONS, *len) {
-            return false;
-        }
-    }
-    true
+fn is_read(kind: u8, code: u8, options: &[u8; 16], len: usize) -> bool
+    requires { len ≤ 40 }
+{
+    read(&message(kind, code, options)[..len]).is_ok()
 }
 
 #[test]
 fn neighbour_messages_have_24_bytes(rt: HostRuntime) {
-    for kind in [135, 136] {
-        assert!(rt; is_read(kind, 0, &NO_OPTIONS, 24), "type {kind}");
-    }
-    assert!(rt; are_refused(&[(135, 0, 23)]), "no room for the target");
+    assert!(rt; is_read(135, 0, &NO_OPTIONS, 24));
+    assert!(rt; is_read(136, 0, &NO_OPTIONS, 24));
+    assert!(rt; !is_read(135, 0, &NO_OPTIONS, 23), "no room for the target");
 }
 
 #[test]
 fn neighbour_messages_have_a_code(rt: HostRuntime) {
-    assert!(rt; are_refused(&[(135, 1, 24), (136, 1, 24)]));
+    assert!(rt; !is_read(135, 1, &NO_OPTIONS, 24), "a solicitation's code");
+    assert!(rt;
+        !is_read(136, 1, &NO_OPTIONS, 24),
+        "an advertisement's code"
+    );
 }
 
-// A router solicitation, an echo request and an unknown type.
 #[test]
 fn other_messages_are_refused(rt: HostRuntime) {
-    assert!(rt; are_refused(&[(133, 0, 24), (128, 0, 24), (138, 0, 24)]));
+    assert!(rt; !is_read(133, 0, &NO_OPTIONS, 24), "a router solicitation");
+    assert!(rt; !is_read(128, 0, &NO_OPTIONS, 24), "an echo request");
+    assert!(rt; !is_read(138, 0, &NO_OPTIONS, 24), "an unknown type");
 }
 
-// An option past the end is refused, also where it ends in the very next unit.
 #[test]
 fn options_past_the_end_are_refused(rt: HostRuntime) {
-    let mut options = OPTIONS;
-    for (units, len, reads) in [
-        (1, 40, true),
-        (1, 33, false),
-        (1, 39, false),
-        (2, 40, false),
-    ] {
-        options[9] = units;
-        assert!(rt;
-            is_read(135, 0, &options, len) == reads,
-            "{units} units of {len} bytes"
-        );
-    }
+    let mut options = [1, 1, 2, 0, 0, 0, 0, 2, 14, 1, 7, 7, 7, 7, 7, 7];
+    assert!(rt; is_read(135, 0, &options, 40));
+    assert!(rt;
+        !is_read(135, 0, &options, 33),
+        "one byte behind the options"
+    );
+    assert!(rt; !is_read(135, 0, &options, 39), "an option past the end");
+    options[9] = 2;
+    assert!(rt;
+        !is_read(135, 0, &options, 40),
+        "an option past the end by a unit"
+    );
 }
 
 #[test]
 fn options_have_a_length(rt: HostRuntime) {
-    let mut options = OPTIONS;
+    let mut options = [1, 1, 2, 0, 0, 0, 0, 2, 14, 1, 7, 7, 7, 7, 7, 7];
     options[9] = 0;
     assert!(rt; !is_read(135, 0, &options, 40), "an option of length 0");
 }
 
-// A link address of two units is refused, and one of the other kind is passed over.
 #[test]
 fn link_addresses_have_one_unit(rt: HostRuntime) {
-    let mut options = OPTIONS;
+    let mut options = [1, 1, 2, 0, 0, 0, 0, 2, 14, 1, 7, 7, 7, 7, 7, 7];
     options[1] = 2;
-    for (option, kind, reads) in [
-        (1, 135, false),
-        (1, 136, true),
-        (2, 136, false),
-        (2, 135, true),
-    ] {
-        options[0] = option;
-        assert!(rt;
-            is_read(kind, 0, &options, 40) == reads,
-            "option {option} in type {kind}"
-        );
-    }
+    assert!(rt;
+        !is_read(135, 0, &options, 40),
+        "a link address of two units"
+    );
+    assert!(rt;
+        is_read(136, 0, &options, 40),
+        "the other kind's of two units"
+    );
+    options[0] = 2;
+    assert!(rt;
+        !is_read(136, 0, &options, 40),
+        "a link address of two units"
+    );
+    assert!(rt;
+        is_read(135, 0, &options, 40),
+        "the other kind's of two units"
+    );
 }
 
 fn link_of(kind: u8, options: &[u8; 16]) -> Option<RawHardwareAddress> {
@@ -271,54 +235,48 @@ fn link_of(kind: u8, options: &[u8; 16]) -> Option<RawHardwareAddress> {
 
 #[test]
 fn the_last_link_address_of_the_kind_counts(rt: HostRuntime) {
-    let (first, last) = (link(&[2, 0, 0, 0, 0, 1]), link(&[2, 0, 0, 0, 0, 2]));
+    let first = Some(RawHardwareAddress::from_bytes(&[2, 0, 0, 0, 0, 1]));
+    let last = Some(RawHardwareAddress::from_bytes(&[2, 0, 0, 0, 0, 2]));
     let mut options = [1, 1, 2, 0, 0, 0, 0, 1, 1, 1, 2, 0, 0, 0, 0, 2];
-    for (one, other, kind, found) in [
-        (1, 1, 135, last),
-        (1, 1, 136, None),
-        (1, 2, 135, first),
-        (1, 2, 136, last),
-        (14, 2, 135, None),
-    ] {
-        options[0] = one;
-        options[8] = other;
-        assert!(rt;
-            link_of(kind, &options) == found,
-            "options {one} and {other} in type {kind}"
-        );
-    }
-}
-
-fn all_flags() -> NdiscNeighborFlags {
-    NdiscNeighborFlags::ROUTER | NdiscNeighborFlags::SOLICITED | NdiscNeighborFlags::OVERRIDE
+    assert!(rt; link_of(135, &options) == last);
+    assert!(rt; link_of(136, &options) == None);
+    options[8] = 2;
+    assert!(rt; link_of(135, &options) == first);
+    assert!(rt; link_of(136, &options) == last);
+    options[0] = 14;
+    assert!(rt; link_of(135, &options) == None);
 }
 
 #[test]
 fn flags_are_bits(rt: HostRuntime) {
-    for (flag, bits) in [
-        (NdiscNeighborFlags::ROUTER, 0x80),
-        (NdiscNeighborFlags::SOLICITED, 0x40),
-        (NdiscNeighborFlags::OVERRIDE, 0x20),
-    ] {
-        assert!(rt; flag.bits() == bits);
-    }
-    for (flags, contains) in [(all_flags(), true), (NdiscNeighborFlags::OVERRIDE, false)] {
-        assert!(rt; flags.contains(NdiscNeighborFlags::SOLICITED) == contains);
-    }
+    let all = NdiscNeighborFlags::ROUTER
+        | NdiscNeighborFlags::SOLICITED
+        | NdiscNeighborFlags::OVERRIDE;
+    assert!(rt; NdiscNeighborFlags::ROUTER.bits() == 0x80);
+    assert!(rt; NdiscNeighborFlags::SOLICITED.bits() == 0x40);
+    assert!(rt; NdiscNeighborFlags::OVERRIDE.bits() == 0x20);
+    assert!(rt; all.contains(NdiscNeighborFlags::SOLICITED));
+    assert!(rt; !NdiscNeighborFlags::OVERRIDE.contains(NdiscNeighborFlags::SOLICITED));
 }
 
 #[test]
 fn other_bits_are_no_flags(rt: HostRuntime) {
-    for (bits, flags) in [(0x1f, NdiscNeighborFlags::empty()), (0xff, all_flags())] {
-        assert!(rt; NdiscNeighborFlags::from_bits_truncate(bits) == flags);
-    }
+    let none = NdiscNeighborFlags::empty();
+    let all = NdiscNeighborFlags::ROUTER
+        | NdiscNeighborFlags::SOLICITED
+        | NdiscNeighborFlags::OVERRIDE;
+    assert!(rt; NdiscNeighborFlags::from_bits_truncate(0x1f) == none);
+    assert!(rt; NdiscNeighborFlags::from_bits_truncate(0xff) == all);
 }
 
 #[test]
 fn flags_are_read_and_written(rt: HostRuntime) {
+    let all = NdiscNeighborFlags::ROUTER
+        | NdiscNeighborFlags::SOLICITED
+        | NdiscNeighborFlags::OVERRIDE;
     let mut bytes = message(136, 0, &NO_OPTIONS);
     let mut packet = Icmpv6PacketMut::new_unchecked(&mut bytes);
-    assert!(rt; packet.neighbor_flags() == all_flags());
+    assert!(rt; packet.neighbor_flags() == all);
     packet.set_neighbor_flags(NdiscNeighborFlags::OVERRIDE);
     packet.set_target_addr(host(9));
     assert!(rt; packet.neighbor_flags() == NdiscNeighborFlags::OVERRIDE);
@@ -342,7 +300,7 @@ fn an_ethernet_address_is_a_link_address(rt: HostRuntime) {
 fn a_short_link_address_is_padded(rt: HostRuntime) {
     let short = NdiscRepr::NeighborSolicit {
         target_addr: host(1),
-        lladdr: link(&[3, 4]),
+        lladdr: Some(RawHardwareAddress::from_bytes(&[3, 4])),
     };
     let mut bytes = [0xff; 32];
     if short.buffer_len() == bytes.len() {
