@@ -33,14 +33,10 @@ fn parts_of_a_duration(rt: HostRuntime) {
 
 #[test]
 fn tells_moments(rt: HostRuntime) {
-    for (micros, is_moment) in [
-        (0, true),
-        (-1, false),
-        (2_305_843_009_213_693_952, true),
-        (2_305_843_009_213_693_953, false),
-    ] {
-        assert!(rt; Instant::from_micros(micros).is_moment() == is_moment);
-    }
+    assert!(rt; Instant::from_micros(0).is_moment());
+    assert!(rt; !Instant::from_micros(-1).is_moment());
+    assert!(rt; Instant::from_micros(2_305_843_009_213_693_952).is_moment());
+    assert!(rt; !Instant::from_micros(2_305_843_009_213_693_953).is_moment());
 }
 
 #[test]
@@ -71,186 +67,68 @@ fn prints_durations(rt: HostRuntime) {
     }
 }
 
-/// The instant so many microseconds later, or earlier, as `+=` and `-=` make it, if it is one.
-fn moved(start: i64, sign: &str, length: u64) -> Option<Instant> {
-    let mut instant = Instant::from_micros(start);
-    let length = Duration::from_micros(length);
-    if sign == "+" {
-        if !instant.fits_add(length) {
-            return None;
-        }
-        instant += length;
-    } else {
-        if !instant.fits_sub(length) {
-            return None;
-        }
-        instant -= length;
-    }
-    Some(instant)
-}
-
-/// Whether `+`, or `-`, makes the same instant.
-fn is_moved(start: i64, sign: &str, length: u64, end: Instant) -> bool {
-    let (start, length) = (Instant::from_micros(start), Duration::from_micros(length));
-    if sign == "+" {
-        start.fits_add(length) && start + length == end
-    } else {
-        start.fits_sub(length) && start - length == end
-    }
-}
-
-/// The whole milliseconds of a sum or a difference of microseconds, if it is an instant, and if both
-/// forms of the operator agree.
-fn moved_millis(start: i64, sign: &str, length: u64) -> Option<i64> {
-    let end = moved(start, sign, length)?;
-    if is_moved(start, sign, length, end) {
-        Some(end.total_millis())
-    } else {
-        None
-    }
-}
-
 #[test]
 fn calculates_with_instants(rt: HostRuntime) {
-    for (start, sign, length, millis) in [(4_000, "+", 6_000, 10), (10_000, "-", 13_000, -3)] {
-        assert!(rt; moved_millis(start, sign, length) == Some(millis));
-    }
+    let mut instant = Instant::from_millis(4);
+    instant += Duration::from_millis(6);
+    assert!(rt; instant == Instant::from_millis(4) + Duration::from_millis(6));
+    instant -= Duration::from_millis(13);
+    assert!(rt; instant == Instant::from_millis(10) - Duration::from_millis(13));
+    assert!(rt; instant.total_millis() == -3);
 }
 
 #[test]
 fn instants_have_bounds(rt: HostRuntime) {
-    for (one, other) in [(i64::MAX, i64::MIN), (i64::MIN, i64::MAX)] {
-        let distance = Instant::from_micros(one) - Instant::from_micros(other);
-        assert!(rt; distance == Duration::MAX);
-    }
-    for (start, sign, length, fits) in [
-        (i64::MIN, "+", u64::MAX, true),
-        (0, "+", u64::MAX, false),
-        (i64::MAX, "-", u64::MAX, true),
-        (i64::MIN, "-", 1, false),
-    ] {
-        assert!(rt; moved(start, sign, length).is_some() == fits);
-    }
+    let (first, last) = (
+        Instant::from_micros(i64::MIN),
+        Instant::from_micros(i64::MAX),
+    );
+    assert!(rt; last - first == Duration::MAX);
+    assert!(rt; first - last == Duration::MAX);
+    assert!(rt; first.fits_add(Duration::MAX) && !Instant::ZERO.fits_add(Duration::MAX));
+    assert!(rt; last.fits_sub(Duration::MAX) && !first.fits_sub(Duration::from_micros(1)));
     assert!(rt; Instant::from_micros(-1) < Instant::ZERO);
-}
-
-/// A duration that an operator takes, and the one that it makes by the form that assigns.
-fn assigned(length: Duration, operator: &str, number: u32) -> Option<Duration> {
-    let mut made = length;
-    match operator {
-        "*" => {
-            if !made.fits_mul(number) {
-                return None;
-            }
-            made *= number;
-        }
-        "/" => {
-            if number == 0 {
-                return None;
-            }
-            made /= number;
-        }
-        "<<" => {
-            made <<= number;
-        }
-        _ => {
-            made >>= number;
-        }
-    }
-    Some(made)
-}
-
-/// Whether the form that doesn't assign makes the same duration.
-fn is_made(length: Duration, operator: &str, number: u32, made: Duration) -> bool {
-    match operator {
-        "*" => length.fits_mul(number) && length * number == made,
-        "/" => number > 0 && length / number == made,
-        "<<" => length << number == made,
-        _ => length >> number == made,
-    }
-}
-
-/// The microseconds that an operator makes of others, if that is a duration, and if both forms of the
-/// operator agree.
-fn scaled(micros: u64, operator: &str, number: u32) -> Option<u64> {
-    let length = Duration::from_micros(micros);
-    let made = assigned(length, operator, number)?;
-    if is_made(length, operator, number, made) {
-        Some(made.total_micros())
-    } else {
-        None
-    }
-}
-
-/// The same for the sum and the difference of two durations.
-fn summed(micros: u64, sign: &str, more: u64) -> Option<u64> {
-    let (length, more) = (Duration::from_micros(micros), Duration::from_micros(more));
-    let mut made = length;
-    let agrees = if sign == "+" {
-        if !length.fits_add(more) {
-            return None;
-        }
-        made += more;
-        length + more == made
-    } else {
-        if !length.fits_sub(more) {
-            return None;
-        }
-        made -= more;
-        length - more == made
-    };
-    if agrees {
-        Some(made.total_micros())
-    } else {
-        None
-    }
 }
 
 #[test]
 fn adds_durations(rt: HostRuntime) {
-    for (micros, sign, more, made) in [
-        (4_934_000, "+", 1_000_000, 5_934_000),
-        (5_934_000, "-", 934_000, 5_000_000),
-    ] {
-        assert!(rt; summed(micros, sign, more) == Some(made));
-    }
+    let mut length = Duration::from_millis(4934);
+    length += Duration::from_millis(1000);
+    assert!(rt; length == Duration::from_millis(4934) + Duration::from_millis(1000));
+    length -= Duration::from_millis(934);
+    assert!(rt; length == Duration::from_millis(5934) - Duration::from_millis(934));
+    assert!(rt; length.total_micros() == 5_000_000);
 }
 
 #[test]
 fn multiplies_durations(rt: HostRuntime) {
-    for (micros, operator, number, made) in [
-        (5_000_000, "*", 2, 10_000_000),
-        (10_000_000, "/", 3, 3_333_333),
-    ] {
-        assert!(rt; scaled(micros, operator, number) == Some(made));
-    }
+    let mut length = Duration::from_millis(5000);
+    length *= 2;
+    assert!(rt; length == Duration::from_millis(5000) * 2);
+    length /= 3;
+    assert!(rt; length == Duration::from_millis(10_000) / 3);
+    assert!(rt; length.total_micros() == 3_333_333);
 }
 
 #[test]
 fn shifts_durations(rt: HostRuntime) {
-    for (micros, operator, number, made) in [
-        (3_333_333, "<<", 2, 13_333_332),
-        (13_333_332, ">>", 3, 1_666_666),
-    ] {
-        assert!(rt; scaled(micros, operator, number) == Some(made));
-    }
+    let mut length = Duration::from_micros(3_333_333);
+    length <<= 2;
+    assert!(rt; length == Duration::from_micros(3_333_333) << 2);
+    length >>= 3;
+    assert!(rt; length == Duration::from_micros(13_333_332) >> 3);
+    assert!(rt; length.total_micros() == 1_666_666);
 }
 
 #[test]
 fn durations_have_bounds(rt: HostRuntime) {
-    let (none, all) = (Duration::ZERO.total_micros(), Duration::MAX.total_micros());
-    for (micros, operator, number, made) in [
-        (all, "<<", 4, Some(0xffff_ffff_ffff_fff0)),
-        (all, "<<", 64, Some(none)),
-        (all, ">>", 64, Some(none)),
-        (1 << 33, "*", 1 << 30, Some(1 << 63)),
-        (1 << 33, "*", 1 << 31, None),
-    ] {
-        assert!(rt; scaled(micros, operator, number) == made);
-    }
-    for (micros, sign) in [(all, "+"), (none, "-")] {
-        assert!(rt; summed(micros, sign, 1) == None);
-    }
+    assert!(rt; (Duration::MAX << 4).total_micros() == 0xffff_ffff_ffff_fff0);
+    assert!(rt; Duration::MAX << 64 == Duration::ZERO);
+    assert!(rt; Duration::MAX >> 64 == Duration::ZERO);
+    assert!(rt; !Duration::MAX.fits_add(Duration::from_micros(1)));
+    assert!(rt; !Duration::ZERO.fits_sub(Duration::from_micros(1)));
+    let long = Duration::from_micros(1 << 33);
+    assert!(rt; long.fits_mul(1 << 30) && !long.fits_mul(1 << 31));
 }
 
 #[test]
