@@ -4,13 +4,12 @@ ghost use Rattle.std.specs.Prelude.{◌<◌, ◌^◌, length};
 ghost use Rattle.socket_base.specs.Packet.{packet_value};
 ghost use Rattle.interface_egress.specs.Plan.{IsPacket};
 
-use crate::common::station;
 use arrayvec::ArrayVec;
 use interface_egress::{Fragmenter, Sent, dispatch, send_next};
 use interface_tables::{Config, InterfaceInner};
 use ip_wire::{
-    HardwareAddress, IpAddress, IpCidr, IpProtocol, IpRepr, Ipv4Address, Ipv4Repr, Ipv6Address,
-    Ipv6Repr, UdpRepr,
+    EthernetAddress, HardwareAddress, IpAddress, IpCidr, IpProtocol, IpRepr, Ipv4Address, Ipv4Repr,
+    Ipv6Address, Ipv6Repr, UdpRepr,
 };
 use net_base::{
     ChecksumCapabilities, Device, DeviceCapabilities, Instant, Loopback, Medium, RxToken,
@@ -45,10 +44,10 @@ fn host(
     Ok(inner)
 }
 
-/// These bytes in hex, and those of a datagram's data from one place to another: each is its place modulo 251.
-fn data(alloc: Global, front: &str, from: usize, to: usize) -> Result<Vec<u8>, Fail> {
-    let mut bytes = hex::decode(alloc, front)?;
-    for place in from..to {
+/// So many bytes, each its place modulo 251.
+fn data(alloc: Global, len: usize) -> Result<Vec<u8>, Fail> {
+    let mut bytes = Vec::new(alloc);
+    for place in 0..len {
         bytes.push((place % 251) as u8)?;
     }
     Ok(bytes)
@@ -60,8 +59,8 @@ fn datagram(bytes: &[u8]) -> Packet<'_>
     ensures { IsPacket (packet_value result) }
 {
     let header = Ipv4Repr {
-        src_addr: Ipv4Address([192, 168, 1, 1]),
-        dst_addr: Ipv4Address([192, 168, 1, 2]),
+        src_addr: Ipv4Address::new(192, 168, 1, 1),
+        dst_addr: Ipv4Address::new(192, 168, 1, 2),
         next_header: IpProtocol::Udp,
         payload_len: 8 + bytes.len(),
         hop_limit: 64,
@@ -75,146 +74,140 @@ fn datagram(bytes: &[u8]) -> Packet<'_>
     Packet::new(IpRepr::Ipv4(header), IpPayload::Udp(ports, bytes))
 }
 
-/// A host and its device.
-#[derive(Drop)]
-struct Sender {
-    inner: InterfaceInner,
-    fragmenter: Fragmenter,
-    device: Loopback,
+/// Sends such a datagram.
+fn send(
+    inner: &mut InterfaceInner,
+    fragmenter: &mut Fragmenter,
+    device: &mut Loopback,
+    bytes: &[u8],
+) -> Result<Sent, Fail> {
+    if bytes.len() > 65_535 {
+        return Ok(Sent::Dropped);
+    }
+    let token = device.transmit(START).ok_or("a token")?;
+    Ok(dispatch(inner, fragmenter, device, token, &datagram(bytes)))
 }
 
-impl Sender {
-    fn new(alloc: Global, medium: Medium) -> Result<Sender, Fail> {
-        let (own, mtu) = match medium {
-            Medium::Ethernet => (station(1), 1_514),
-            Medium::Ip => (HardwareAddress::Ip, 1_500),
-        };
-        Ok(Sender {
-            inner: host(own, medium, mtu)?,
-            fragmenter: Fragmenter::new(alloc)?,
-            device: Loopback::new(alloc, medium),
-        })
+/// Sends the next piece.
+fn piece(
+    inner: &InterfaceInner,
+    fragmenter: &mut Fragmenter,
+    device: &mut Loopback,
+) -> Result<bool, Fail> {
+    if !fragmenter.is_waiting() {
+        return Ok(false);
     }
-
-    /// Whether such a datagram goes so.
-    fn sends(&mut self, bytes: &[u8], expected: Sent) -> bool {
-        if bytes.len() > 65_535 {
-            return false;
-        }
-        match self.device.transmit(START) {
-            Some(token) => {
-                let device = &mut self.device;
-                let packet = datagram(bytes);
-                dispatch(
-                    &mut self.inner,
-                    &mut self.fragmenter,
-                    device,
-                    token,
-                    &packet,
-                ) == expected
-            }
-            None => false,
-        }
-    }
-
-    /// Sends the next piece, if one waits.
-    fn piece(&mut self) -> bool {
-        if !self.fragmenter.is_waiting() {
-            return false;
-        }
-        match self.device.transmit(START) {
-            Some(token) => send_next(&self.inner, &mut self.fragmenter, &mut self.device, token),
-            None => false,
-        }
-    }
-
-    /// Whether the next frame has these bytes.
-    fn sent(&mut self, bytes: &[u8]) -> bool {
-        match self.device.receive(START) {
-            Some((frame, _token)) => frame.bytes() == bytes,
-            None => false,
-        }
-    }
+    let token = device.transmit(START).ok_or("a token")?;
+    Ok(send_next(inner, fragmenter, device, token))
 }
 
-/// Asserts that these frames were sent, and no others: the first bytes of each in hex, and from where to where the data goes.
-fn assert_frames(
+/// Asserts the next frame: its first bytes in hex, and the others.
+fn assert_frame(
     rt: &(impl Abort + AllocGlobal),
-    sender: &mut Sender,
-    frames: &[(&str, usize, usize)],
+    device: &mut Loopback,
+    front: &str,
+    rest: &[u8],
 ) -> Result<(), Fail> {
-    for (front, from, to) in frames {
-        let bytes = data(rt.alloc(), front, *from, *to)?;
-        assert!(rt; sender.sent(bytes.as_slice()), "{front}");
-    }
-    assert!(rt; sender.device.receive(START).is_none());
+    let (frame, _token) = device.receive(START).ok_or("a frame")?;
+    let mut bytes = hex::decode(rt.alloc(), front)?;
+    bytes.extend_from_slice(rest)?;
+    assert!(rt; frame.bytes() == bytes.as_slice());
     Ok(())
 }
 
 #[test]
 fn a_long_datagram_goes_in_pieces(rt: HostRuntime) -> Result<(), Fail> {
-    let mut sender = Sender::new(rt.alloc(), Medium::Ip)?;
+    let alloc = rt.alloc();
+    let mut inner = host(HardwareAddress::Ip, Medium::Ip, 1_500)?;
+    let mut fragmenter = Fragmenter::new(alloc)?;
+    let mut device = Loopback::new(alloc, Medium::Ip);
+    let long = data(alloc, 2_000)?;
+    let short = data(alloc, 4)?;
+    assert!(rt; send(&mut inner, &mut fragmenter, &mut device, long.as_slice())? == Sent::Gone);
     // Another long one has to wait, and takes no number; a short one goes.
-    for (len, expected) in [(2_000, Sent::Gone), (2_000, Sent::Busy), (4, Sent::Gone)] {
-        let bytes = data(rt.alloc(), "", 0, len)?;
-        assert!(rt; sender.sends(bytes.as_slice(), expected), "{len}");
-    }
-    assert!(rt; sender.piece());
-    assert!(rt; !sender.fragmenter.is_waiting());
+    assert!(rt; send(&mut inner, &mut fragmenter, &mut device, long.as_slice())? == Sent::Busy);
+    assert!(rt; send(&mut inner, &mut fragmenter, &mut device, short.as_slice())? == Sent::Gone);
+    assert!(rt; piece(&inner, &mut fragmenter, &mut device)?);
+    assert!(rt; !fragmenter.is_waiting());
 
+    assert!(rt; long.len() == 2_000);
+    let (front, back) = long.as_slice().split_at(1_472);
     let first = "450005dcc24d200040110f70c0a80101c0a80102bf00003507d8616c";
+    assert_frame(&rt, &mut device, first, front)?;
     let between = "45000020c24e00004011352bc0a80101c0a80102bf000035000cbb48";
+    assert_frame(&rt, &mut device, between, short.as_slice())?;
     let last = "45000224c24d00b94011326fc0a80101c0a80102";
-    let frames = [(first, 0, 1_472), (between, 0, 4), (last, 1_472, 2_000)];
-    assert_frames(&rt, &mut sender, &frames)
+    assert_frame(&rt, &mut device, last, back)?;
+    assert!(rt; device.receive(START).is_none());
+    Ok(())
 }
 
 #[test]
 fn the_longest_datagram_has_4096_bytes(rt: HostRuntime) -> Result<(), Fail> {
-    let mut sender = Sender::new(rt.alloc(), Medium::Ip)?;
-    for (len, expected) in [(4_069, Sent::Dropped), (4_068, Sent::Gone)] {
-        let bytes = data(rt.alloc(), "", 0, len)?;
-        assert!(rt; sender.sends(bytes.as_slice(), expected), "{len}");
-    }
-    for goes in [true, true, false] {
-        assert!(rt; sender.piece() == goes);
-    }
+    let alloc = rt.alloc();
+    let mut inner = host(HardwareAddress::Ip, Medium::Ip, 1_500)?;
+    let mut fragmenter = Fragmenter::new(alloc)?;
+    let mut device = Loopback::new(alloc, Medium::Ip);
+    let longer = data(alloc, 4_069)?;
+    let longest = data(alloc, 4_068)?;
+    assert!(rt;
+        send(&mut inner, &mut fragmenter, &mut device, longer.as_slice())? == Sent::Dropped
+    );
+    assert!(rt; send(&mut inner, &mut fragmenter, &mut device, longest.as_slice())? == Sent::Gone);
+    assert!(rt; piece(&inner, &mut fragmenter, &mut device)?);
+    assert!(rt; piece(&inner, &mut fragmenter, &mut device)?);
+    assert!(rt; !piece(&inner, &mut fragmenter, &mut device)?);
 
+    assert!(rt; longest.len() == 4_068);
+    let (front, rest) = longest.as_slice().split_at(1_472);
+    let (middle, back) = rest.split_at(1_480);
     let first = "450005dcc24d200040110f70c0a80101c0a80102bf0000350fecc095";
+    assert_frame(&rt, &mut device, first, front)?;
     let second = "450005dcc24d20b940110eb7c0a80101c0a80102";
+    assert_frame(&rt, &mut device, second, middle)?;
     let third = "45000470c24d017240112f6ac0a80101c0a80102";
-    let frames = [
-        (first, 0, 1_472),
-        (second, 1_472, 2_952),
-        (third, 2_952, 4_068),
-    ];
-    assert_frames(&rt, &mut sender, &frames)
+    assert_frame(&rt, &mut device, third, back)?;
+    assert!(rt; device.receive(START).is_none());
+    Ok(())
 }
 
 #[test]
 fn an_unknown_neighbour_is_asked_for_once_a_second(rt: HostRuntime) -> Result<(), Fail> {
-    let mut sender = Sender::new(rt.alloc(), Medium::Ethernet)?;
-    let bytes = data(rt.alloc(), "", 0, 4)?;
-    for moment in [0, 999_999, 1_000_000, 1_999_999] {
-        sender.inner.set_now(Instant::from_micros(moment));
-        assert!(rt; sender.sends(bytes.as_slice(), Sent::Waits), "{moment}");
-    }
+    let alloc = rt.alloc();
+    let own = HardwareAddress::Ethernet(EthernetAddress([2, 0, 0, 0, 0, 1]));
+    let mut inner = host(own, Medium::Ethernet, 1_514)?;
+    let mut fragmenter = Fragmenter::new(alloc)?;
+    let mut device = Loopback::new(alloc, Medium::Ethernet);
+    let bytes = data(alloc, 4)?;
     let request =
         "ffffffffffff02000000000108060001080006040001020000000001c0a80101ffffffffffffc0a80102";
-    assert_frames(&rt, &mut sender, &[(request, 0, 0), (request, 0, 0)])?;
+    for moment in [0, 999_999, 1_000_000, 1_999_999] {
+        inner.set_now(Instant::from_micros(moment));
+        assert!(rt;
+            send(&mut inner, &mut fragmenter, &mut device, bytes.as_slice())? == Sent::Waits
+        );
+    }
+    assert_frame(&rt, &mut device, request, &[])?;
+    assert_frame(&rt, &mut device, request, &[])?;
+    assert!(rt; device.receive(START).is_none());
 
-    sender
-        .inner
-        .fill_neighbor(IpAddress::v4(192, 168, 1, 2), station(2));
-    assert!(rt; sender.sends(bytes.as_slice(), Sent::Gone));
+    let other = HardwareAddress::Ethernet(EthernetAddress([2, 0, 0, 0, 0, 2]));
+    inner.fill_neighbor(IpAddress::v4(192, 168, 1, 2), other);
+    assert!(rt; send(&mut inner, &mut fragmenter, &mut device, bytes.as_slice())? == Sent::Gone);
     let whole =
         "020000000002020000000001080045000020c24d00004011352cc0a80101c0a80102bf000035000cbb48";
-    assert_frames(&rt, &mut sender, &[(whole, 0, 4)])
+    assert_frame(&rt, &mut device, whole, bytes.as_slice())?;
+    assert!(rt; device.receive(START).is_none());
+    Ok(())
 }
 
 #[test]
 fn an_ipv6_neighbour_is_solicited(rt: HostRuntime) -> Result<(), Fail> {
-    let mut sender = Sender::new(rt.alloc(), Medium::Ethernet)?;
+    let alloc = rt.alloc();
+    let own = HardwareAddress::Ethernet(EthernetAddress([2, 0, 0, 0, 0, 1]));
+    let mut inner = host(own, Medium::Ethernet, 1_514)?;
+    let mut fragmenter = Fragmenter::new(alloc)?;
+    let mut device = Loopback::new(alloc, Medium::Ethernet);
     let header = Ipv6Repr {
         src_addr: Ipv6Address::new(0xfd00, 0, 0, 0, 0, 0, 0, 1),
         dst_addr: Ipv6Address::new(0xfd00, 0, 0, 0, 0, 0, 0, 2),
@@ -223,14 +216,11 @@ fn an_ipv6_neighbour_is_solicited(rt: HostRuntime) -> Result<(), Fail> {
         hop_limit: 64,
     };
     let packet = Packet::new(IpRepr::Ipv6(header), IpPayload::Raw(&[]));
-    let Sender {
-        inner,
-        fragmenter,
-        device,
-    } = &mut sender;
     let token = device.transmit(START).ok_or("a token")?;
-    assert!(rt; dispatch(inner, fragmenter, device, token, &packet) == Sent::Waits);
+    assert!(rt; dispatch(&mut inner, &mut fragmenter, &mut device, token, &packet) == Sent::Waits);
     let request =
         "3333ff00000202000000000186dd6000000000203afffd000000000000000000000000000001ff0200000000000000000001ff00000287007d9700000000fd0000000000000000000000000000020101020000000001";
-    assert_frames(&rt, &mut sender, &[(request, 0, 0)])
+    assert_frame(&rt, &mut device, request, &[])?;
+    assert!(rt; device.receive(START).is_none());
+    Ok(())
 }

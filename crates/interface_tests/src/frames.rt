@@ -1,16 +1,14 @@
 //! Frames that come in: worked examples, and changes of them.
-use crate::common::station;
 use control_wire::{Icmpv4Repr, Icmpv6Repr, NdiscNeighborFlags, NdiscRepr};
 use interface_ingress::{Incoming, hear, read, read_payload};
 use interface_tables::{Answer, Config, InterfaceInner};
 use ip_wire::{
     ArpOperation, ArpRepr, EthernetAddress, EthernetProtocol, EthernetRepr, HardwareAddress,
-    IpAddress, IpCidr, IpProtocol, IpRepr, Ipv4Address, Ipv4Piece, Ipv4Repr, Ipv6Address, Ipv6Cidr,
-    Ipv6Repr, RawHardwareAddress, TcpControl, UdpRepr,
+    IpAddress, IpCidr, IpProtocol, IpRepr, Ipv4Address, Ipv4Piece, Ipv4Repr, Ipv6Address, Ipv6Repr,
+    RawHardwareAddress, SeqNumber, TcpControl, UdpRepr,
 };
 use net_base::{Checksum, ChecksumCapabilities, DeviceCapabilities, Instant, Medium};
 use socket_base::{IpPayload, Packet};
-use std::alloc::Global;
 use std::test::Fail;
 
 const FIRST: EthernetAddress = EthernetAddress([2, 0, 0, 0, 0, 1]);
@@ -28,51 +26,12 @@ const SOLICITATION: &str =
 const ADVERTISEMENT: &str =
     "02000000000202000000000186dd6000000000203afffd000000000000000000000000000001fd00000000000000000000000000000288003c9c40000000fd0000000000000000000000000000010201020000000001";
 
-const OWN: HardwareAddress = HardwareAddress::Ethernet(FIRST);
-
-const BARE: HardwareAddress = HardwareAddress::Ip;
-
-/// Nothing stands behind a frame.
-const ENDS: (usize, u8) = (0, 0);
-
-/// The frame of this text with these bytes changed, at their places, and this byte behind it so many times.
-fn frame(
-    alloc: Global,
-    text: &str,
-    changes: &[(usize, u8)],
-    behind: (usize, u8),
-) -> Result<Vec<u8>, Fail> {
-    let mut frame = hex::decode(alloc, text)?;
-    for (at, byte) in changes {
-        if let Some(place) = frame.get_mut(*at) {
-            *place = *byte;
-        }
-    }
-    for _ in 0..behind.0 {
-        frame.push(behind.1)?;
-    }
-    Ok(frame)
-}
-
-fn verified() -> ChecksumCapabilities {
-    ChecksumCapabilities::default()
-}
-
-/// What a frame carries to a host with this hardware address.
-fn taken<'a>(
-    own: &HardwareAddress,
-    frame: &'a [u8],
-    checksums: &ChecksumCapabilities,
-) -> Option<Incoming<'a>> {
-    read(own, frame, checksums)
-}
-
 /// The packet of IPv4 in a bare frame: its header, which piece it is, and its payload.
 fn ipv4<'a>(
     frame: &'a [u8],
     checksums: &ChecksumCapabilities,
 ) -> Option<(Ipv4Repr, Ipv4Piece, &'a [u8])> {
-    match taken(&BARE, frame, checksums) {
+    match read(&HardwareAddress::Ip, frame, checksums) {
         Some(
             Incoming::Ipv4 {
                 link: None,
@@ -97,37 +56,51 @@ fn carried<'a>(
     read_payload(&header, payload, checksums)
 }
 
-/// Whether this stands behind a header of IPv4.
-fn carries(header: Ipv4Repr, payload: &[u8], expected: Option<IpPayload<'_>>) -> bool {
-    carried(IpRepr::Ipv4(header), payload, &verified()) == expected
+fn verified() -> ChecksumCapabilities {
+    ChecksumCapabilities::default()
+}
+
+/// Replaces a byte.
+fn set(frame: &mut [u8], at: usize, byte: u8) {
+    if at < frame.len() {
+        frame[at] = byte;
+    }
 }
 
 #[test]
 fn a_datagram_is_read_without_its_padding(rt: HostRuntime) -> Result<(), Fail> {
-    let frame = frame(rt.alloc(), DATAGRAM, &[], (14, 0xee))?;
+    let mut frame = hex::decode(rt.alloc(), DATAGRAM)?;
+    frame.extend_from_slice(&[0xee; 14])?;
     let (header, piece, payload) = ipv4(frame.as_slice(), &verified()).ok_or("a packet")?;
     let expected = Ipv4Repr {
-        src_addr: Ipv4Address([192, 168, 1, 1]),
-        dst_addr: Ipv4Address([192, 168, 1, 2]),
+        src_addr: Ipv4Address::new(192, 168, 1, 1),
+        dst_addr: Ipv4Address::new(192, 168, 1, 2),
         next_header: IpProtocol::Udp,
         payload_len: 12,
         hop_limit: 64,
         ident: 0,
         dont_frag: true,
     };
-    assert!(rt; header == expected && piece.offset == 0 && !piece.more);
+    assert!(rt; header == expected);
+    let whole = Ipv4Piece {
+        offset: 0,
+        more: false,
+    };
+    assert!(rt; piece == whole);
     let ports = UdpRepr {
         src_port: 48_896,
         dst_port: 53,
     };
-    let datagram = IpPayload::Udp(ports, &[0xaa, 0, 0, 0xff]);
-    assert!(rt; carries(header, payload, Some(datagram)));
+    assert!(rt;
+        carried(IpRepr::Ipv4(header), payload, &verified())
+            == Some(IpPayload::Udp(ports, &[0xaa, 0, 0, 0xff]))
+    );
     // Over another protocol's number the same bytes are nothing known.
     let other = Ipv4Repr {
         next_header: IpProtocol::Igmp,
         ..header
     };
-    assert!(rt; carries(other, payload, None));
+    assert!(rt; carried(IpRepr::Ipv4(other), payload, &verified()) == None);
     Ok(())
 }
 
@@ -137,15 +110,14 @@ fn a_changed_byte_is_found_where_it_is_tested(rt: HostRuntime) -> Result<(), Fai
         udp: Checksum::None,
         ..verified()
     };
-    let changed = frame(rt.alloc(), DATAGRAM, &[(31, 0xfe)], ENDS)?;
-    let (header, _piece, payload) = ipv4(changed.as_slice(), &verified()).ok_or("a packet")?;
-    assert!(rt; carries(header, payload, None));
+    let mut frame = hex::decode(rt.alloc(), DATAGRAM)?;
+    set(frame.as_mut_slice(), 31, 0xfe);
+    let (header, _piece, payload) = ipv4(frame.as_slice(), &verified()).ok_or("a packet")?;
+    assert!(rt; carried(IpRepr::Ipv4(header), payload, &verified()) == None);
     assert!(rt; carried(IpRepr::Ipv4(header), payload, &unverified).is_some());
-    let changed = frame(rt.alloc(), DATAGRAM, &[(31, 0xfe), (8, 63)], ENDS)?;
-    let ignored = ChecksumCapabilities::ignored();
-    for (checksums, is_read) in [(verified(), false), (ignored, true)] {
-        assert!(rt; ipv4(changed.as_slice(), &checksums).is_some() == is_read);
-    }
+    set(frame.as_mut_slice(), 8, 63);
+    assert!(rt; ipv4(frame.as_slice(), &verified()).is_none());
+    assert!(rt; ipv4(frame.as_slice(), &ChecksumCapabilities::ignored()).is_some());
     Ok(())
 }
 
@@ -153,41 +125,52 @@ fn a_changed_byte_is_found_where_it_is_tested(rt: HostRuntime) -> Result<(), Fai
 fn a_segment_and_an_echo_request_are_read(rt: HostRuntime) -> Result<(), Fail> {
     let segment =
         "45000028000040004006b77cc0a80101c0a80102c15c005101234567000000005002012323340000";
-    let bytes = frame(rt.alloc(), segment, &[], ENDS)?;
-    let (header, _piece, payload) = ipv4(bytes.as_slice(), &verified()).ok_or("a packet")?;
+    let frame = hex::decode(rt.alloc(), segment)?;
+    let (header, _piece, payload) = ipv4(frame.as_slice(), &verified()).ok_or("a packet")?;
     let Some(IpPayload::Tcp(segment)) = carried(IpRepr::Ipv4(header), payload, &verified()) else {
         return Err("a segment".into());
     };
-    assert!(rt; segment.src_port == 49_500 && segment.dst_port == 81);
-    assert!(rt; segment.seq_number.0 == 0x0123_4567);
-    assert!(rt; matches!(segment.control, TcpControl::Syn));
+    assert!(rt; (segment.src_port, segment.dst_port) == (49_500, 81));
+    assert!(rt; segment.seq_number == SeqNumber(0x0123_4567));
+    assert!(rt; segment.control == TcpControl::Syn);
     assert!(rt; segment.payload.len() == 0);
 
     let echo = "4500001c000040004001b78dc0a80102c0a801010800e5ca12340001";
-    let bytes = frame(rt.alloc(), echo, &[], ENDS)?;
-    let (header, _piece, payload) = ipv4(bytes.as_slice(), &verified()).ok_or("a packet")?;
+    let frame = hex::decode(rt.alloc(), echo)?;
+    let (header, _piece, payload) = ipv4(frame.as_slice(), &verified()).ok_or("a packet")?;
     let request = Icmpv4Repr::EchoRequest {
         ident: 0x1234,
         seq_no: 1,
         bytes: &[],
     };
-    assert!(rt; carries(header, payload, Some(IpPayload::Icmpv4(request))));
+    assert!(rt;
+        carried(IpRepr::Ipv4(header), payload, &verified()) == Some(IpPayload::Icmpv4(request))
+    );
     Ok(())
 }
 
 #[test]
 fn pieces_say_where_they_stand(rt: HostRuntime) -> Result<(), Fail> {
-    let first = "450005dcc24d200040110f70c0a80101c0a80102";
-    let last = "45000224c24d00b94011326fc0a80101c0a80102";
-    for (text, len, offset, more) in [(first, 1_480, 0, true), (last, 528, 1_480, false)] {
-        let bytes = frame(rt.alloc(), text, &[], (len, 0))?;
-        let (header, piece, payload) = ipv4(bytes.as_slice(), &verified()).ok_or("a piece")?;
-        assert!(rt; header.ident == 0xc24d && payload.len() == len);
-        assert!(rt; piece.offset == offset && piece.more == more);
-    }
+    let alloc = rt.alloc();
+    let mut first = hex::decode(alloc, "450005dcc24d200040110f70c0a80101c0a80102")?;
+    first.extend_from_slice(&[0; 1_480])?;
+    let (header, piece, payload) = ipv4(first.as_slice(), &verified()).ok_or("a piece")?;
+    let begins = Ipv4Piece {
+        offset: 0,
+        more: true,
+    };
+    assert!(rt; (header.ident, piece, payload.len()) == (0xc24d, begins, 1_480));
+    let mut last = hex::decode(alloc, "45000224c24d00b94011326fc0a80101c0a80102")?;
+    last.extend_from_slice(&[0; 528])?;
+    let (header, piece, payload) = ipv4(last.as_slice(), &verified()).ok_or("a piece")?;
+    let ends = Ipv4Piece {
+        offset: 1_480,
+        more: false,
+    };
+    assert!(rt; (header.ident, piece, payload.len()) == (0xc24d, ends, 528));
     // A packet of which a byte is missing is none.
-    let short = frame(rt.alloc(), last, &[], (527, 0))?;
-    assert!(rt; ipv4(short.as_slice(), &verified()).is_none());
+    last.pop();
+    assert!(rt; ipv4(last.as_slice(), &verified()).is_none());
     Ok(())
 }
 
@@ -195,8 +178,13 @@ fn pieces_say_where_they_stand(rt: HostRuntime) -> Result<(), Fail> {
 fn an_arp_request_is_read(rt: HostRuntime) -> Result<(), Fail> {
     let request =
         "ffffffffffff02000000000208060001080006040001020000000002c0a80102000000000000c0a80101";
-    let frame = frame(rt.alloc(), request, &[], (18, 0))?;
-    let Some(Incoming::Arp { link, packet }) = taken(&OWN, frame.as_slice(), &verified()) else {
+    let mut frame = hex::decode(rt.alloc(), request)?;
+    frame.extend_from_slice(&[0; 18])?;
+    let Some(Incoming::Arp { link, packet }) = read(
+        &HardwareAddress::Ethernet(FIRST),
+        frame.as_slice(),
+        &verified(),
+    ) else {
         return Err("an ARP packet".into());
     };
     let header = EthernetRepr {
@@ -208,49 +196,45 @@ fn an_arp_request_is_read(rt: HostRuntime) -> Result<(), Fail> {
     let asks = ArpRepr::EthernetIpv4 {
         operation: ArpOperation::Request,
         source_hardware_addr: SECOND,
-        source_protocol_addr: Ipv4Address([192, 168, 1, 2]),
+        source_protocol_addr: Ipv4Address::new(192, 168, 1, 2),
         target_hardware_addr: EthernetAddress([0; 6]),
-        target_protocol_addr: Ipv4Address([192, 168, 1, 1]),
+        target_protocol_addr: Ipv4Address::new(192, 168, 1, 1),
     };
     assert!(rt; packet == asks);
     // On a medium of bare packets it is none: its first four bits are 15.
-    assert!(rt; taken(&BARE, frame.as_slice(), &verified()).is_none());
+    assert!(rt; read(&HardwareAddress::Ip, frame.as_slice(), &verified()).is_none());
     Ok(())
 }
 
 #[test]
 fn other_bytes_carry_nothing(rt: HostRuntime) -> Result<(), Fail> {
-    // What the link header says: IPv6, IPv4, or nothing known.
-    let (ipv6, ipv4, unknown) = (
-        [(12, 0x86), (13, 0xdd)],
-        [(12, 0x08), (13, 0x00)],
-        [(12, 0x88), (13, 0xb5)],
-    );
-    for (own, text, protocol, behind, is_read) in [
-        (OWN, SOLICITATION, ipv6, ENDS, true),
-        (OWN, SOLICITATION, ipv4, ENDS, false),
-        (OWN, SOLICITATION, unknown, ENDS, false),
-        (OWN, "", ipv6, (13, 0), false),
-        (OWN, "", ipv6, ENDS, false),
-        (BARE, "", ipv6, ENDS, false),
-        (BARE, "", ipv6, (60, 0x55), false),
-    ] {
-        let frame = frame(rt.alloc(), text, &protocol, behind)?;
-        assert!(rt; taken(&own, frame.as_slice(), &verified()).is_some() == is_read);
-    }
+    let own = HardwareAddress::Ethernet(FIRST);
+    let mut frame = hex::decode(rt.alloc(), SOLICITATION)?;
+    assert!(rt; read(&own, frame.as_slice(), &verified()).is_some());
+    // The link header says IPv4, or nothing known.
+    set(frame.as_mut_slice(), 12, 0x08);
+    set(frame.as_mut_slice(), 13, 0x00);
+    assert!(rt; read(&own, frame.as_slice(), &verified()).is_none());
+    set(frame.as_mut_slice(), 12, 0x88);
+    set(frame.as_mut_slice(), 13, 0xb5);
+    assert!(rt; read(&own, frame.as_slice(), &verified()).is_none());
+    assert!(rt; read(&own, &[0; 13], &verified()).is_none());
+    assert!(rt; read(&own, &[], &verified()).is_none());
+    assert!(rt; read(&HardwareAddress::Ip, &[], &verified()).is_none());
+    assert!(rt; read(&HardwareAddress::Ip, &[0x55; 60], &verified()).is_none());
     Ok(())
 }
 
 /// A host on Ethernet with this hardware address and this number below fd00::/64.
-fn host(hardware_addr: HardwareAddress, number: u8) -> Result<InterfaceInner, Fail> {
+fn host(hardware: EthernetAddress, number: u16) -> Result<InterfaceInner, Fail> {
     let device = DeviceCapabilities {
         medium: Medium::Ethernet,
         max_transmission_unit: 1_514,
         checksum: verified(),
     };
-    let config = Config::new(hardware_addr);
+    let config = Config::new(HardwareAddress::Ethernet(hardware));
     let mut inner = InterfaceInner::new(&config, &device, Instant::ZERO).map_err(|_| "a host")?;
-    let own = IpCidr::Ipv6(Ipv6Cidr::new(below(number), 64));
+    let own = IpCidr::new(IpAddress::Ipv6(below(number)), 64);
     inner
         .update_ip_addrs(|addresses| {
             let _ = addresses.try_push(own);
@@ -260,19 +244,20 @@ fn host(hardware_addr: HardwareAddress, number: u8) -> Result<InterfaceInner, Fa
 }
 
 /// This number below fd00::/64.
-fn below(number: u8) -> Ipv6Address {
-    Ipv6Address([0xfd, 0, 0, 0, 0, 0, 0, 0, 0, 0, 0, 0, 0, 0, 0, number])
+fn below(number: u16) -> Ipv6Address {
+    Ipv6Address::new(0xfd00, 0, 0, 0, 0, 0, 0, number)
 }
 
 /// The neighbour message in a frame, and its packet's header.
 fn message(frame: &[u8]) -> Option<(Ipv6Repr, NdiscRepr)> {
+    let own = HardwareAddress::Ethernet(FIRST);
     let Some(
         Incoming::Ipv6 {
             header,
             payload,
             ..
         },
-    ) = taken(&OWN, frame, &verified())
+    ) = read(&own, frame, &verified())
     else {
         return None;
     };
@@ -282,52 +267,46 @@ fn message(frame: &[u8]) -> Option<(Ipv6Repr, NdiscRepr)> {
     }
 }
 
-/// What a host that hears this answers.
-fn heard(
-    inner: &mut InterfaceInner,
-    header: &Ipv6Repr,
-    message: &NdiscRepr,
-) -> Option<Packet<'static>> {
-    hear(inner, header, message)
-}
-
-/// Whether the host has this answer to where the station of this number is.
-fn finds(inner: &InterfaceInner, number: u8, answer: Answer) -> bool {
-    inner.lookup_neighbor(&IpAddress::Ipv6(below(number))) == answer
-}
-
 #[test]
 fn a_solicitation_is_answered(rt: HostRuntime) -> Result<(), Fail> {
-    let asks = frame(rt.alloc(), SOLICITATION, &[], ENDS)?;
+    let asks = hex::decode(rt.alloc(), SOLICITATION)?;
     let (header, solicitation) = message(asks.as_slice()).ok_or("a solicitation")?;
-    let mut inner = host(station(1), 1)?;
-    let answer = heard(&mut inner, &header, &solicitation).ok_or("an answer")?;
-    assert!(rt; finds(&inner, 2, Answer::Found(station(2))));
+    let mut inner = host(FIRST, 1)?;
+    let answer = hear(&mut inner, &header, &solicitation).ok_or("an answer")?;
+    assert!(rt;
+        inner.lookup_neighbor(&IpAddress::Ipv6(below(2)))
+            == Answer::Found(HardwareAddress::Ethernet(SECOND))
+    );
     // It is the packet of the worked answer.
-    let tells = frame(rt.alloc(), ADVERTISEMENT, &[], ENDS)?;
+    let tells = hex::decode(rt.alloc(), ADVERTISEMENT)?;
     let (header, advertisement) = message(tells.as_slice()).ok_or("an advertisement")?;
     let payload = IpPayload::Icmpv6(Icmpv6Repr::Ndisc(advertisement));
     assert!(rt; answer == Packet::new(IpRepr::Ipv6(header), payload));
     // And who asked learns from it.
-    let mut asker = host(station(2), 2)?;
-    assert!(rt; heard(&mut asker, &header, &advertisement).is_none());
-    assert!(rt; finds(&asker, 1, Answer::Found(station(1))));
+    let mut asker = host(SECOND, 2)?;
+    assert!(rt; hear(&mut asker, &header, &advertisement) == None);
+    assert!(rt;
+        asker.lookup_neighbor(&IpAddress::Ipv6(below(1)))
+            == Answer::Found(HardwareAddress::Ethernet(FIRST))
+    );
     Ok(())
 }
 
 #[test]
 fn a_message_that_was_passed_on_does_not_count(rt: HostRuntime) -> Result<(), Fail> {
-    let asks = frame(rt.alloc(), SOLICITATION, &[(21, 254)], ENDS)?;
+    let mut asks = hex::decode(rt.alloc(), SOLICITATION)?;
+    set(asks.as_mut_slice(), 21, 254);
     let (header, solicitation) = message(asks.as_slice()).ok_or("a solicitation")?;
-    let mut inner = host(station(1), 1)?;
-    assert!(rt; heard(&mut inner, &header, &solicitation).is_none());
-    assert!(rt; finds(&inner, 2, Answer::NotFound));
+    let mut inner = host(FIRST, 1)?;
+    assert!(rt; hear(&mut inner, &header, &solicitation) == None);
+    assert!(rt; inner.lookup_neighbor(&IpAddress::Ipv6(below(2))) == Answer::NotFound);
     Ok(())
 }
 
 #[test]
 fn an_advertisement_replaces_where_it_says_so(rt: HostRuntime) -> Result<(), Fail> {
-    let mut inner = host(station(1), 1)?;
+    let mut inner = host(FIRST, 1)?;
+    let sender = IpAddress::Ipv6(below(2));
     let header = Ipv6Repr {
         src_addr: below(2),
         dst_addr: below(1),
@@ -337,21 +316,21 @@ fn an_advertisement_replaces_where_it_says_so(rt: HostRuntime) -> Result<(), Fai
     };
     let third = EthernetAddress([2, 0, 0, 0, 0, 3]);
     let group = EthernetAddress([3, 0, 0, 0, 0, 3]);
+    let tells = |flags, station| NdiscRepr::NeighborAdvert {
+        flags,
+        target_addr: below(2),
+        lladdr: Some(RawHardwareAddress::from(station)),
+    };
     let plain = NdiscNeighborFlags::SOLICITED;
     let overrides = NdiscNeighborFlags::OVERRIDE;
-    for (flags, told, answer) in [
-        (overrides, group, Answer::NotFound),
-        (plain, SECOND, Answer::Found(station(2))),
-        (plain, third, Answer::Found(station(2))),
-        (overrides, third, Answer::Found(station(3))),
-    ] {
-        let tells = NdiscRepr::NeighborAdvert {
-            flags,
-            target_addr: below(2),
-            lladdr: Some(RawHardwareAddress::from(told)),
-        };
-        assert!(rt; heard(&mut inner, &header, &tells).is_none());
-        assert!(rt; finds(&inner, 2, answer));
-    }
+    assert!(rt; hear(&mut inner, &header, &tells(overrides, group)) == None);
+    assert!(rt; inner.lookup_neighbor(&sender) == Answer::NotFound);
+    assert!(rt; hear(&mut inner, &header, &tells(plain, SECOND)) == None);
+    assert!(rt; hear(&mut inner, &header, &tells(plain, third)) == None);
+    let second = Answer::Found(HardwareAddress::Ethernet(SECOND));
+    assert!(rt; inner.lookup_neighbor(&sender) == second);
+    assert!(rt; hear(&mut inner, &header, &tells(overrides, third)) == None);
+    let found = Answer::Found(HardwareAddress::Ethernet(third));
+    assert!(rt; inner.lookup_neighbor(&sender) == found);
     Ok(())
 }

@@ -1,5 +1,3 @@
-//! What is kept beside a socket.
-use crate::common::at;
 use interface_egress::Meta;
 use ip_wire::{IpAddress, Ipv4Address};
 use net_base::{Duration, Instant};
@@ -10,55 +8,45 @@ const NEIGHBOR: IpAddress = IpAddress::Ipv4(Ipv4Address([192, 168, 1, 2]));
 /// The mark of a socket whose neighbour was missing at 1000 ms.
 fn waiting() -> Meta {
     let mut meta = Meta::default();
-    meta.neighbor_missing(at(1_000_000), NEIGHBOR);
+    meta.neighbor_missing(Instant::from_micros(1_000_000), NEIGHBOR);
     meta
-}
-
-/// Whether a socket that wants this, with its neighbour known or not, is polled then; in microseconds.
-fn polls(meta: &Meta, wanted: PollAt, has_neighbor: bool, micros: u32, then: PollAt) -> bool {
-    meta.poll_at(wanted, has_neighbor, at(micros)) == then
-}
-
-fn permits(meta: &mut Meta, micros: u32, has_neighbor: bool) -> bool {
-    meta.egress_permitted(at(micros), has_neighbor)
-}
-
-fn misses(meta: &Meta, neighbor: Option<IpAddress>) -> bool {
-    meta.neighbor() == neighbor
 }
 
 #[test]
 fn a_new_socket_does_not_wait(rt: HostRuntime) {
     let mut meta = Meta::default();
-    assert!(rt; polls(&meta, PollAt::Now, false, 1_500_000, PollAt::Now));
-    assert!(rt; permits(&mut meta, 1_500_000, false));
-    assert!(rt; misses(&meta, None));
+    let now = Instant::from_micros(1_500_000);
+    assert!(rt; meta.poll_at(PollAt::Now, false, now) == PollAt::Now);
+    assert!(rt; meta.egress_permitted(now, false));
+    assert!(rt; meta.neighbor().is_none());
 }
 
 /// It waits for a second.
 #[test]
 fn waits_for_its_neighbor(rt: HostRuntime) {
     let mut meta = waiting();
+    let now = Instant::from_micros(1_500_000);
     let end = PollAt::Time(Instant::from_micros(2_000_000));
-    assert!(rt; misses(&meta, Some(NEIGHBOR)));
-    assert!(rt; polls(&meta, PollAt::Ingress, false, 1_500_000, end));
-    assert!(rt; polls(&meta, PollAt::Now, false, 1_500_000, end));
-    assert!(rt; !permits(&mut meta, 1_500_000, false));
-    assert!(rt; polls(&meta, PollAt::Now, true, 1_500_000, PollAt::Now));
+    assert!(rt; meta.neighbor() == Some(NEIGHBOR));
+    assert!(rt; meta.poll_at(PollAt::Ingress, false, now) == end);
+    assert!(rt; meta.poll_at(PollAt::Now, false, now) == end);
+    assert!(rt; !meta.egress_permitted(now, false));
+    assert!(rt; meta.poll_at(PollAt::Now, true, now) == PollAt::Now);
 }
 
 #[test]
 fn asks_again_after_a_second(rt: HostRuntime) {
     let mut meta = waiting();
-    assert!(rt; polls(&meta, PollAt::Ingress, false, 2_000_000, PollAt::Ingress));
-    assert!(rt; permits(&mut meta, 2_000_000, false));
-    assert!(rt; misses(&meta, Some(NEIGHBOR)));
+    let end = Instant::from_micros(2_000_000);
+    assert!(rt; meta.poll_at(PollAt::Ingress, false, end) == PollAt::Ingress);
+    assert!(rt; meta.egress_permitted(end, false));
+    assert!(rt; meta.neighbor() == Some(NEIGHBOR));
     assert!(rt; Meta::discovery_silent_time() == Duration::from_micros(1_000_000));
 }
 
 #[test]
 fn a_found_neighbor_ends_the_wait(rt: HostRuntime) {
     let mut meta = waiting();
-    assert!(rt; permits(&mut meta, 1_500_000, true));
-    assert!(rt; misses(&meta, None));
+    assert!(rt; meta.egress_permitted(Instant::from_micros(1_500_000), true));
+    assert!(rt; meta.neighbor().is_none());
 }

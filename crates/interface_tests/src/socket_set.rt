@@ -1,4 +1,3 @@
-//! Sets of sockets, played by steps.
 use interface_egress::{AddError, SocketHandle, SocketSet, SocketStorage};
 use net_base::ManagedSlice;
 use std::alloc::AllocError;
@@ -6,42 +5,13 @@ use std::process::Abort;
 
 type Sockets = SocketSet<u32>;
 
-/// A call, the place of the socket that it is about, and this socket, if one is there. A socket that is added comes to the
-/// place; where the set is full, it comes back.
-type Step = (&'static str, usize, Option<u32>);
-
-/// Adds a socket, if there is a place.
-fn added(set: &mut Sockets, socket: u32) -> Option<SocketHandle> {
-    match set.add(socket) {
-        Ok(handle) => Some(handle),
-        Err(_) => None,
-    }
+/// The handle of a socket that was added.
+fn added(rt: &impl Abort, set: &mut Sockets, socket: u32) -> SocketHandle {
+    set.add(socket).ok().expect(rt, "a place")
 }
 
-/// Whether a step goes as it says. One that isn't known doesn't.
-fn goes(set: &mut Sockets, step: &Step) -> bool {
-    let (verb, place, socket) = *step;
-    let handle = SocketHandle::at(place);
-    match (verb, socket) {
-        ("add", Some(socket)) => match added(set, socket) {
-            Some(new) => new == handle && new.place() == place,
-            None => false,
-        },
-        ("full", Some(socket)) => match set.add(socket) {
-            Err(AddError::Full(back)) => back == socket,
-            _ => false,
-        },
-        ("get", _) => set.get(handle).copied() == socket,
-        ("remove", _) => set.remove(handle) == socket,
-        _ => false,
-    }
-}
-
-/// Plays these steps at a set.
-fn play(rt: &impl Abort, set: &mut Sockets, steps: &[Step]) {
-    for step in steps {
-        assert!(rt; goes(set, step), "{} {}", step.0, step.1);
-    }
+fn holds(set: &Sockets, handle: SocketHandle, socket: Option<u32>) -> bool {
+    set.get(handle).copied() == socket
 }
 
 fn one_place(rt: &HostRuntime) -> Result<Sockets, AllocError> {
@@ -49,39 +19,31 @@ fn one_place(rt: &HostRuntime) -> Result<Sockets, AllocError> {
     Ok(SocketSet::new(ManagedSlice::Fixed(storage)))
 }
 
-/// A set that grows.
-fn growing(rt: &impl AllocGlobal) -> Sockets {
-    SocketSet::new(ManagedSlice::Owned(Vec::new(rt.alloc())))
-}
-
 /// A set of one place: a second socket comes back.
 #[test]
 fn fixed_storage_is_full(rt: HostRuntime) -> Result<(), AllocError> {
-    let steps = [
-        ("add", 0, Some(7)),
-        ("full", 0, Some(8)),
-        ("get", 0, Some(7)),
-    ];
-    play(&rt, &mut one_place(&rt)?, &steps);
+    let mut set = one_place(&rt)?;
+    let first = added(&rt, &mut set, 7);
+    assert!(rt; first.place() == 0);
+    assert!(rt; matches!(set.add(8), Err(AddError::Full(8))));
+    assert!(rt; holds(&set, first, Some(7)));
     Ok(())
 }
 
 #[test]
 fn a_removed_socket_is_gone(rt: HostRuntime) -> Result<(), AllocError> {
-    let steps = [
-        ("add", 0, Some(7)),
-        ("remove", 0, Some(7)),
-        ("remove", 0, None),
-        ("get", 0, None),
-    ];
-    play(&rt, &mut one_place(&rt)?, &steps);
+    let mut set = one_place(&rt)?;
+    let first = added(&rt, &mut set, 7);
+    assert!(rt; set.remove(first) == Some(7));
+    assert!(rt; set.remove(first).is_none());
+    assert!(rt; holds(&set, first, None));
     Ok(())
 }
 
 #[test]
 fn a_handle_is_printed_by_its_place(rt: HostRuntime) -> Result<(), AllocError> {
-    let handle = added(&mut one_place(&rt)?, 7).expect(&rt, "a place");
-    let text = handle.to_string(rt.alloc())?;
+    let mut set = one_place(&rt)?;
+    let text = added(&rt, &mut set, 7).to_string(rt.alloc())?;
     assert!(rt; text.as_str() == "#0");
     Ok(())
 }
@@ -89,94 +51,91 @@ fn a_handle_is_printed_by_its_place(rt: HostRuntime) -> Result<(), AllocError> {
 /// The handle of a place is the one that a socket there has.
 #[test]
 fn a_place_has_its_handle(rt: HostRuntime) -> Result<(), AllocError> {
-    let steps = [("add", 0, Some(7)), ("get", 0, Some(7)), ("get", 1, None)];
-    play(&rt, &mut one_place(&rt)?, &steps);
+    let mut set = one_place(&rt)?;
+    assert!(rt; added(&rt, &mut set, 7) == SocketHandle::at(0));
+    assert!(rt; holds(&set, SocketHandle::at(0), Some(7)));
+    assert!(rt; holds(&set, SocketHandle::at(1), None));
     Ok(())
 }
 
 /// Storage that grows; a place that becomes free is taken first.
 #[test]
 fn owned_storage_grows(rt: HostRuntime) {
-    let steps = [
-        ("add", 0, Some(7)),
-        ("add", 1, Some(8)),
-        ("remove", 0, Some(7)),
-        ("add", 0, Some(9)),
-        ("get", 1, Some(8)),
-        ("get", 0, Some(9)),
-    ];
-    play(&rt, &mut growing(&rt), &steps);
+    let mut set: Sockets = SocketSet::new(ManagedSlice::Owned(Vec::new(rt.alloc())));
+    let (first, second) = (added(&rt, &mut set, 7), added(&rt, &mut set, 8));
+    assert!(rt; first.place() == 0 && second.place() == 1);
+    assert!(rt; set.remove(first) == Some(7));
+    let third = added(&rt, &mut set, 9);
+    assert!(rt; third.place() == 0);
+    assert!(rt; holds(&set, second, Some(8)));
+    assert!(rt; holds(&set, third, Some(9)));
 }
 
-/// Sockets 7 and 9 at places 0 and 2, with an unused place between them.
-fn apart(rt: &(impl Abort + AllocGlobal)) -> Sockets {
-    let mut set = growing(rt);
-    let steps = [
-        ("add", 0, Some(7)),
-        ("add", 1, Some(8)),
-        ("add", 2, Some(9)),
-        ("remove", 1, Some(8)),
-    ];
-    play(rt, &mut set, &steps);
-    set
+/// Sockets 7 and 9, with an unused place between them.
+#[derive(Drop)]
+struct TwoSockets {
+    set: Sockets,
+    first: SocketHandle,
+    unused: SocketHandle,
+    last: SocketHandle,
+}
+
+fn apart(rt: &(impl Abort + AllocGlobal)) -> TwoSockets {
+    let mut set: Sockets = SocketSet::new(ManagedSlice::Owned(Vec::new(rt.alloc())));
+    let first = added(rt, &mut set, 7);
+    let unused = added(rt, &mut set, 8);
+    let last = added(rt, &mut set, 9);
+    assert!(rt; set.remove(unused) == Some(8));
+    TwoSockets {
+        set,
+        first,
+        unused,
+        last,
+    }
 }
 
 /// The used places in order, and the end.
 #[test]
 fn used_places_in_order(rt: HostRuntime) {
-    let set = apart(&rt);
-    let mut sockets = set.iter();
-    for expected in [Some((0, 7)), Some((2, 9)), None, None] {
-        let found = match sockets.next() {
-            Some((handle, socket)) => Some((handle.place(), *socket)),
-            None => None,
-        };
-        assert!(rt; found == expected);
-    }
+    let apart = apart(&rt);
+    let mut sockets = apart.set.iter();
+    assert!(rt; matches!(sockets.next(), Some((handle, 7)) if handle == apart.first));
+    assert!(rt; matches!(sockets.next(), Some((handle, 9)) if handle == apart.last));
+    assert!(rt; sockets.next().is_none() && sockets.next().is_none());
 }
 
 #[test]
 fn used_handles_in_order(rt: HostRuntime) {
-    let set = apart(&rt);
-    let mut handles = set.handles();
-    for expected in [Some(0), Some(2), None] {
-        let found = match handles.next() {
-            Some(handle) => Some(handle.place()),
-            None => None,
-        };
-        assert!(rt; found == expected);
-    }
+    let apart = apart(&rt);
+    let mut handles = apart.set.handles();
+    assert!(rt; handles.next() == Some(apart.first));
+    assert!(rt; handles.next() == Some(apart.last));
+    assert!(rt; handles.next().is_none());
 }
 
 /// A socket is lent where it stands.
 #[test]
 fn a_socket_is_lent(rt: HostRuntime) {
-    let mut set = apart(&rt);
-    for (place, expected) in [(2, Some(9)), (1, None)] {
-        let lent = match set.get_mut(SocketHandle::at(place)) {
-            Some(socket) => {
-                let old = *socket;
-                *socket = 19;
-                Some(old)
-            }
-            None => None,
-        };
-        assert!(rt; lent == expected);
+    let mut apart = apart(&rt);
+    if let Some(socket) = apart.set.get_mut(apart.last)
+        && *socket == 9
+    {
+        *socket = 19;
     }
-    play(&rt, &mut set, &[("get", 2, Some(19))]);
+    assert!(rt; holds(&apart.set, apart.last, Some(19)));
+    assert!(rt; apart.set.get_mut(apart.unused).is_none());
 }
 
 /// A socket is updated where it stands.
 #[test]
 fn a_socket_is_updated(rt: HostRuntime) {
-    let mut set = apart(&rt);
-    for (place, expected) in [(2, Some(9)), (1, None)] {
-        let old = set.update(SocketHandle::at(place), |socket| {
-            let old = *socket;
-            *socket = 1;
-            old
-        });
-        assert!(rt; old == expected);
-    }
-    play(&rt, &mut set, &[("get", 2, Some(1))]);
+    let mut apart = apart(&rt);
+    let old = apart.set.update(apart.last, |socket| {
+        let old = *socket;
+        *socket = 1;
+        old
+    });
+    assert!(rt; old == Some(9));
+    assert!(rt; holds(&apart.set, apart.last, Some(1)));
+    assert!(rt; apart.set.update(apart.unused, |socket| *socket).is_none());
 }

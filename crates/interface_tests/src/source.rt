@@ -1,76 +1,70 @@
-//! Which own address a packet comes from.
-use crate::common::{address, block};
 use interface_tables::source::{source_for, source_ipv4, source_ipv6};
-use ip_wire::IpAddress;
-use std::process::Abort;
-use std::test::Fail;
+use ip_wire::{IpAddress, IpCidr, Ipv4Address, Ipv6Address};
 
-/// What is asked: `by family` one of the functions for an address of one family, or `for any` the one for both. Then the
-/// destination, and the source that is chosen, or `none`.
-type Row = (&'static str, &'static str, &'static str);
+fn block(text: &str) -> Option<IpCidr> {
+    text.parse::<IpCidr>().ok()
+}
 
-/// Asserts what is chosen from these own addresses.
-fn chooses(rt: &(impl Abort + AllocGlobal), blocks: &[&str], rows: &[Row]) -> Result<(), Fail> {
-    let mut own = Vec::new(rt.alloc());
-    for text in blocks {
-        own.push(block(rt, text))?;
-    }
-    for (asked, destination, source) in rows {
-        let chosen = match (*asked, address(rt, destination)) {
-            ("by family", IpAddress::Ipv6(there)) => {
-                Some(IpAddress::Ipv6(source_ipv6(own.as_slice(), &there)))
-            }
-            ("by family", IpAddress::Ipv4(there)) => match source_ipv4(own.as_slice(), &there) {
-                Some(source) => Some(IpAddress::Ipv4(source)),
-                None => None,
-            },
-            (_, there) => source_for(own.as_slice(), &there),
-        };
-        let expected = match *source {
-            "none" => None,
-            text => Some(address(rt, text)),
-        };
-        assert!(rt; chosen == expected, "{asked} {destination}: {source}");
-    }
-    Ok(())
+fn address(text: &str) -> Option<Ipv6Address> {
+    text.parse::<Ipv6Address>().ok()
 }
 
 /// With fd00::1/64 and fe80::1/64.
 #[test]
-fn chooses_by_scope(rt: HostRuntime) -> Result<(), Fail> {
-    let rows = [
-        ("by family", "fe80::2", "fe80::1"),
-        ("by family", "fd00::9", "fd00::1"),
-        ("by family", "::1", "::1"),
-        ("by family", "ff02::1", "fe80::1"),
-        ("by family", "2001:db8::1", "fd00::1"),
-        ("for any", "::", "none"),
-        ("for any", "192.0.2.1", "none"),
+fn chooses_by_scope(rt: HostRuntime) {
+    let own = [
+        block("fd00::1/64").expect(&rt, "a block"),
+        block("fe80::1/64").expect(&rt, "a block"),
     ];
-    chooses(&rt, &["fd00::1/64", "fe80::1/64"], &rows)
+    for (destination, source) in [
+        ("fe80::2", "fe80::1"),
+        ("fd00::9", "fd00::1"),
+        ("::1", "::1"),
+        ("ff02::1", "fe80::1"),
+        ("2001:db8::1", "fd00::1"),
+    ] {
+        let destination = address(destination).expect(&rt, "an address");
+        assert!(rt; Some(source_ipv6(&own, &destination)) == address(source));
+    }
+    assert!(rt; source_for(&own, &IpAddress::Ipv6(Ipv6Address::UNSPECIFIED)) == None);
+    assert!(rt; source_for(&own, &IpAddress::v4(192, 0, 2, 1)) == None);
 }
 
 /// With several global addresses: the destination itself, then the longest common prefix, then the first.
 #[test]
-fn chooses_by_prefix(rt: HostRuntime) -> Result<(), Fail> {
-    let own = ["2001:db8:1::1/48", "2001:db8:2::1/48", "2001:db8:2::2/48"];
-    let rows = [
-        ("by family", "2001:db8:2::9", "2001:db8:2::1"),
-        ("by family", "2001:db8:2::2", "2001:db8:2::2"),
-        ("by family", "2001:db8:1::9", "2001:db8:1::1"),
-        ("by family", "2620::1", "2001:db8:1::1"),
-        ("by family", "fe80::2", "2001:db8:1::1"),
+fn chooses_by_prefix(rt: HostRuntime) {
+    let own = [
+        block("2001:db8:1::1/48").expect(&rt, "a block"),
+        block("2001:db8:2::1/48").expect(&rt, "a block"),
+        block("2001:db8:2::2/48").expect(&rt, "a block"),
     ];
-    chooses(&rt, &own, &rows)?;
-    chooses(&rt, &[], &[("by family", "2001:db8::1", "::1")])
+    for (destination, source) in [
+        ("2001:db8:2::9", "2001:db8:2::1"),
+        ("2001:db8:2::2", "2001:db8:2::2"),
+        ("2001:db8:1::9", "2001:db8:1::1"),
+        ("2620::1", "2001:db8:1::1"),
+        ("fe80::2", "2001:db8:1::1"),
+    ] {
+        let destination = address(destination).expect(&rt, "an address");
+        assert!(rt; Some(source_ipv6(&own, &destination)) == address(source));
+    }
+    let none: [IpCidr; 0] = [];
+    let destination = address("2001:db8::1").expect(&rt, "an address");
+    assert!(rt; source_ipv6(&none, &destination) == Ipv6Address::LOCALHOST);
 }
 
 #[test]
-fn chooses_by_network(rt: HostRuntime) -> Result<(), Fail> {
-    let rows = [
-        ("by family", "192.168.1.2", "192.168.1.1"),
-        ("by family", "8.8.8.8", "10.0.0.1"),
+fn chooses_by_network(rt: HostRuntime) {
+    let own = [
+        block("10.0.0.1/8").expect(&rt, "a block"),
+        block("192.168.1.1/24").expect(&rt, "a block"),
     ];
-    chooses(&rt, &["10.0.0.1/8", "192.168.1.1/24"], &rows)?;
-    chooses(&rt, &[], &[("by family", "8.8.8.8", "none")])
+    let (first, second) = (
+        Ipv4Address::new(10, 0, 0, 1),
+        Ipv4Address::new(192, 168, 1, 1),
+    );
+    assert!(rt; source_ipv4(&own, &Ipv4Address::new(192, 168, 1, 2)) == Some(second));
+    assert!(rt; source_ipv4(&own, &Ipv4Address::new(8, 8, 8, 8)) == Some(first));
+    let none: [IpCidr; 0] = [];
+    assert!(rt; source_ipv4(&none, &Ipv4Address::new(8, 8, 8, 8)) == None);
 }
