@@ -4,7 +4,7 @@ ghost use Rattle.ip_wire.specs.Tcp.{Fits, header_of};
 
 use crate::common::{Host, make_host, zeros};
 use ip_wire::{
-    IpAddress, IpEndpoint, IpProtocol, IpRepr, TcpPacket, TcpPacketMut, TcpRepr,
+    IpAddress, IpEndpoint, IpProtocol, IpRepr, Ipv4Address, TcpPacket, TcpPacketMut, TcpRepr,
     TcpTimestampGenerator,
 };
 use net_base::{ChecksumCapabilities, Duration, Instant, ManagedSlice, RingBuffer};
@@ -153,12 +153,13 @@ fn offers(alloc: Global, end: &mut End, millis: u32) -> Result<bool, Fail> {
 fn hands(
     alloc: Global,
     bytes: &[u8],
-    (source, destination): (IpAddress, IpAddress),
+    (source, destination): (Ipv4Address, Ipv4Address),
     to: &mut End,
 ) -> Result<bool, Fail> {
     if bytes.len() >= 65_536 {
         return Ok(false);
     }
+    let (source, destination) = (IpAddress::Ipv4(source), IpAddress::Ipv4(destination));
     let header = IpRepr::new(source, destination, IpProtocol::Tcp, bytes.len(), 64);
     let packet = TcpPacket::new_unchecked(bytes);
     let caps = ChecksumCapabilities::default();
@@ -176,7 +177,7 @@ fn hands(
 /// Hands the last segment that one end sent to the other.
 fn delivers(alloc: Global, from: &End, to: &mut End) -> Result<bool, Fail> {
     match (from.host.own, to.host.own) {
-        (Some(source), Some(destination)) => {
+        (Some(IpAddress::Ipv4(source)), Some(IpAddress::Ipv4(destination))) => {
             hands(alloc, from.last.as_slice(), (source, destination), to)
         }
         _ => Ok(false),
