@@ -167,28 +167,29 @@ pub struct Host {
 impl Host {
     /// The planned host, at moment 0.
     pub fn new(alloc: Global, plan: &Plan) -> Result<Host, Fail> {
-        let socket = planned_socket(alloc, plan)?;
-        let wire = Wire::new(alloc, plan.device, plan.medium)?;
-        let interface = wire.interface(alloc, plan)?;
-        let mut host = Host {
-            interface,
-            wire,
-            sockets: no_sockets(alloc),
-            handle: None,
-            now: 0,
-        };
-        if let Some(socket) = socket {
+        let mut host = Host::bare(alloc, plan)?;
+        if let Some(socket) = planned_socket(alloc, plan)? {
             host.handle = host.add(socket);
         }
         Ok(host)
     }
 
+    /// The same without its socket.
+    fn bare(alloc: Global, plan: &Plan) -> Result<Host, Fail> {
+        let wire = Wire::new(alloc, plan.device, plan.medium)?;
+        let interface = wire.interface(alloc, plan)?;
+        Ok(Host {
+            interface,
+            wire,
+            sockets: no_sockets(alloc),
+            handle: None,
+            now: 0,
+        })
+    }
+
     /// Adds a socket to its set.
     pub fn add(&mut self, socket: Socket) -> Option<SocketHandle> {
-        match self.sockets.add(socket) {
-            Ok(handle) => Some(handle),
-            Err(_) => None,
-        }
+        self.sockets.add(socket).ok()
     }
 
     pub fn poll(&mut self, budget: u16) -> PollResult {

@@ -197,18 +197,25 @@ fn all_seen(alloc: Global, medium: Medium) -> Result<Seen, Fail> {
         has_ipv6: true,
         ..UDP
     };
-    let listener = listening_socket(alloc, 64)?;
     let mut host = Host::new(alloc, &plan)?;
-    if host.add(Socket::Tcp(listener)).is_none() {
+    if host
+        .add(Socket::Tcp(listening_socket(alloc, 64)?))
+        .is_none()
+    {
         return Err("a place".into());
     }
+    seen_at(alloc, medium, &mut host)
+}
+
+/// The same at this host.
+fn seen_at(alloc: Global, medium: Medium, host: &mut Host) -> Result<Seen, Fail> {
     let mut seen = Seen {
         changes: 0,
         read: 0,
         sent: 0,
         left: 0,
     };
-    come_all(alloc, medium, &mut host, &mut seen)?;
+    come_all(alloc, medium, host, &mut seen)?;
     Ok(seen)
 }
 

@@ -67,9 +67,18 @@ fn first_wrong(
         next_b: 0,
         now: 0,
     };
+    first_wrong_of(rt, &mut run, texts)
+}
+
+/// The same of a run that has begun.
+fn first_wrong_of(
+    rt: &HostRuntime,
+    run: &mut Run,
+    texts: &[&'static str],
+) -> Result<Option<&'static str>, Fail> {
     for text in texts {
         for line in text.lines() {
-            if !line.is_empty() && !goes(rt, &mut run, line)? {
+            if !line.is_empty() && !goes(rt, run, line)? {
                 return Ok(Some(line));
             }
         }
