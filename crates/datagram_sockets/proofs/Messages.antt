@@ -63,16 +63,16 @@ carried_v6 message (V6.Ndisc neighbor) carried is =
 
 -- a header between addresses of a family has the length that was asked for, which fits
 between_v4 : (a b : Ipv4Address) (protocol : IpProtocol) (len limit : ℕ) (h : IpRepr) → header_between (Address.Ipv4 a) (Address.Ipv4 b) protocol len limit ≡ Some h
-    → Ip.Fits h × (Ip.payload_len_in h ≡ len)
+    → Ip.Fits h × (Ip.payload_len_of h ≡ len)
 between_v4 a b protocol len limit h is =
     let found = some_when (nat_lt (20 + len) (2 ^ 16)) _ h is in
-    subst (λ h. Ip.Fits h × (Ip.payload_len_in h ≡ len)) found.1 (ltb-true (20 + len) (2 ^ 16) found.0, refl)
+    subst (λ h. Ip.Fits h × (Ip.payload_len_of h ≡ len)) found.1 (ltb-true (20 + len) (2 ^ 16) found.0, refl)
 
 between_v6 : (a b : Ipv6Address) (protocol : IpProtocol) (len limit : ℕ) (h : IpRepr) (v : V6.MessageValue) (carried : List ℕ) → V6.Fits v → V6.header_len v + length carried < 2 ^ 32 → header_between (Address.Ipv6 a) (Address.Ipv6 b) protocol len limit ≡ Some h
-    → Ip.Fits h × PayloadFits h (Carried.ControlV6 v carried) × (Ip.payload_len_in h ≡ len)
+    → Ip.Fits h × PayloadFits h (Carried.ControlV6 v carried) × (Ip.payload_len_of h ≡ len)
 between_v6 a b protocol len limit h v carried fits small is =
     let found = some_when (nat_lt len (2 ^ 16)) _ h is in
-    subst (λ h. Ip.Fits h × PayloadFits h (Carried.ControlV6 v carried) × (Ip.payload_len_in h ≡ len)) found.1 (ltb-true len (2 ^ 16) found.0, (fits, small), refl)
+    subst (λ h. Ip.Fits h × PayloadFits h (Carried.ControlV6 v carried) × (Ip.payload_len_of h ≡ len)) found.1 (ltb-true len (2 ^ 16) found.0, (fits, small), refl)
 
 -- Of a message that is read in one way there is one packet.
 only_v4 : (source remote : Ipv4Address) (bytes : List ℕ) (limit : ℕ) (m : Icmpv4Header) (payload : List ℕ) (h : IpRepr)

@@ -16,7 +16,7 @@ range_len : (bytes : List ℕ) (i k : ℕ) → i ≤ k → k ≤ length bytes �
 range_len bytes i k le within = omega (arith, length-take (k - i) (drop i bytes), length-drop i bytes)
 
 -- the payload is as long as the header says
-carried_len : (header : IpRepr) (bytes : List ℕ) → Ip.IsIp false bytes header → Ip.payload_len_in header ≡ length (carried_by header bytes)
+carried_len : (header : IpRepr) (bytes : List ℕ) → Ip.IsIp false bytes header → Ip.payload_len_of header ≡ length (carried_by header bytes)
 carried_len (Either.Ipv4 v) bytes is =
     omega (arith, range_len bytes (Ipv4.header_len_of bytes) (be16 bytes 2) is.whole.least is.whole.within, is.payload)
 carried_len (Either.Ipv6 v) bytes is =

@@ -18,7 +18,7 @@ use Rattle.datagram_sockets.proofs.OfferLaws.{some_same}
 -- what holds of a header that takes these bytes behind that of a datagram
 abbrev Takes : List ℕ → IpRepr → Type 0
 Takes bytes header =
-    Ip.Fits header × Datagram.Fits (Ip.source_in header) (Ip.destination_in header) bytes × (Ip.payload_len_in header ≡ 8 + length bytes)
+    Ip.Fits header × Datagram.Fits (Ip.source_of header) (Ip.destination_of header) bytes × (Ip.payload_len_of header ≡ 8 + length bytes)
 
 pub some_when : (b : Bool) (x y : IpRepr) → (if b then Some x else None) ≡ Some y → (b ≡ true) × (x ≡ y)
 some_when true x y is = (refl, some_same x y is)

@@ -80,7 +80,7 @@ process_after v header payload =
 -- a socket with these filters may send a packet with this header: it passes them, and its destination is specified
 abbrev pub may_send : RawFilters → IpRepr → Bool
 may_send s header =
-    if is_unspecified (Ip.destination_in header) then false else passes s.version s.protocol header
+    if is_unspecified (Ip.destination_of header) then false else passes s.version s.protocol header
 
 -- the bytes behind the header of a packet in the bytes, as many as the header says
 abbrev pub carried_by : IpRepr → List ℕ → List ℕ

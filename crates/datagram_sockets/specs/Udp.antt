@@ -6,7 +6,7 @@ use Rattle.ip_wire.specs.IpEndpoint.{IpEndpoint}
 use Rattle.ip_wire.specs.IpListenEndpoint.{IpListenEndpoint}
 use Rattle.ip_wire.specs.IpProtocol.TheVariants as Protocol
 use Rattle.ip_wire.specs.IpRepr.{IpRepr}
-use Rattle.ip_wire.specs.Ip.{destination_in, source_in}
+use Rattle.ip_wire.specs.Ip.{destination_of, source_of}
 use Rattle.ip_wire.specs.UdpRepr.{UdpRepr}
 use Rattle.socket_base.specs.Addresses.{is_unspecified, is_multicast, is_same_address}
 use Rattle.socket_base.specs.Context.{ContextValue}
@@ -86,13 +86,13 @@ takes_address cx (Some bound) destination =
 -- is one of many hosts.
 abbrev pub accepts : ContextValue → UdpValue → IpRepr → UdpRepr → Bool
 accepts cx v ip udp =
-    is_open v && ((v.settings.endpoint.port == udp.dst_port) && takes_address cx v.settings.endpoint.addr (destination_in ip))
+    is_open v && ((v.settings.endpoint.port == udp.dst_port) && takes_address cx v.settings.endpoint.addr (destination_of ip))
 
 -- where an arrived datagram came from, and which address it was sent to
 abbrev pub metadata_of : IpRepr → UdpRepr → UdpMetadata
 metadata_of ip udp = record {
-  endpoint = record { addr = source_in ip; port = udp.src_port };
-  local_address = Some (destination_in ip);
+  endpoint = record { addr = source_of ip; port = udp.src_port };
+  local_address = Some (destination_of ip);
   meta = record {};
 }
 

@@ -49,13 +49,13 @@ settled_once (Kind.Tcp v) = refl
 module _ {D : Type 0} (moves : D → Move → D → Type 0) (s s' : Sender D) where
   -- a packet that stays
   kept : (sent : Sent) (changed : Bool) (before : Socket) (item item' : Item Socket) (turned : Turned) (p : PacketValue) → (changed ≡ false → IsUnchanged before item.socket)
-      → turned ≡ turned_by sent changed → item' ≡ settled_by sent s.inner.moment (Rattle.ip_wire.specs.Ip.destination_in p.header) item → said turned ≡ false → IsUnchanged before item'.socket
+      → turned ≡ turned_by sent changed → item' ≡ settled_by sent s.inner.moment (Rattle.ip_wire.specs.Ip.destination_of p.header) item → said turned ≡ false → IsUnchanged before item'.socket
   kept sent changed before item item' turned p same_offered is settles quiet = by sent is settles where
     stays : changed ≡ false → item'.socket ≡ settled false item.socket → IsUnchanged before item'.socket
     stays off kept =
         subst (λ (x : Socket). IsSameButForPlaces before x) (sym (settled_once item.socket) ∙ sym (ap (settled false) kept)) (same_offered off)
 
-    by : (sent : Sent) → turned ≡ turned_by sent changed → item' ≡ settled_by sent s.inner.moment (Rattle.ip_wire.specs.Ip.destination_in p.header) item → IsUnchanged before item'.socket
+    by : (sent : Sent) → turned ≡ turned_by sent changed → item' ≡ settled_by sent s.inner.moment (Rattle.ip_wire.specs.Ip.destination_of p.header) item → IsUnchanged before item'.socket
     by Outcome.Gone is settles = absurd (let off = ap said is in cc)
     by Outcome.Dropped is settles = absurd (let off = ap said is in cc)
     by Outcome.Waits is settles = stays (sym (ap said is) ∙ quiet) (ap (λ (x : Item Socket). x.socket) settles)

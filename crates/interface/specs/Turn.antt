@@ -1,7 +1,7 @@
 -- A socket's turn: it is asked for a packet, which goes out, or stays with it.
 use Rattle.std.specs.Prelude.{◌≡◌, ℤ, pos, ◌+ℤ◌, Bool, true, false, ◌⊎◌, Option, None, Some, is_some}
 use Rattle.net_base.specs.Device.{Move, Allowed}
-use Rattle.ip_wire.specs.Ip.{destination_in}
+use Rattle.ip_wire.specs.Ip.{destination_of}
 use Rattle.ip_wire.specs.IpAddress.{IpAddress}
 use Rattle.socket_base.specs.Packet.{PacketValue}
 use Rattle.socket_base.specs.declared.offer.Offer as Answer
@@ -93,7 +93,7 @@ module _ {D : Type 0} (moves : D → Move → D → Type 0) where
   SendsBy None s item changed turned s' item' = ⊥
   SendsBy (Some p) s item changed turned s' item' =
       (sent : Sent) × Leaves s p sent s' × (turned ≡ turned_by sent changed)
-      × (item' ≡ settled_by sent s.inner.moment (destination_in p.header) item) × IsWellFormed p
+      × (item' ≡ settled_by sent s.inner.moment (destination_of p.header) item) × IsWellFormed p
 
   abbrev pub Sends : Sender D → Item Socket → Bool → Turned → Sender D → Item Socket → Type 0
   Sends s item changed turned s' item' = SendsBy (offered_by item.socket) s item changed turned s' item'

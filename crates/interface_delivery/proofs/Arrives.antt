@@ -42,7 +42,7 @@ use Rattle.interface_delivery.specs.Delivered.{IsOfMedium, link_of, packet_read,
 lengths : Lengths
 lengths = record { udp = length-datagram; tcp = length-segment; icmpv4 = Lengths4.length-message; icmpv6 = Lengths6.length-message }
 
-pub length-written : (caps : ChecksumCapabilities) (p : PacketValue) → IsWritable p → Ips.payload_len_in p.header ≡ length (payload_written caps p.header p.payload)
+pub length-written : (caps : ChecksumCapabilities) (p : PacketValue) → IsWritable p → Ips.payload_len_of p.header ≡ length (payload_written caps p.header p.payload)
 length-written caps p writable =
     writable.sendable.len ∙ sym (length-payload lengths caps p.header p.payload writable.sendable.payload writable.payload)
 

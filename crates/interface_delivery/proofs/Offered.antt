@@ -118,9 +118,9 @@ pub begun_half : (i : InnerValue) (busy : Bool) (p : PacketValue) (to : Hardware
 begun_half i busy p to v wide offered plan =
     let short = cut_short i busy p.header to v plan in
     let w : IsWritable (numbered i p) = writes i p wide offered (rw short.0 (omega (arith, short.1))) in
-    let len : Ips.payload_len_in (numbered_header i p.header) ≡ length (payload_written i.checksums (numbered_header i p.header) p.payload) = length-written i.checksums (numbered i p) w in
+    let len : Ips.payload_len_of (numbered_header i p.header) ≡ length (payload_written i.checksums (numbered_header i p.header) p.payload) = length-written i.checksums (numbered i p) w in
     let header : Ips.IsValue (Ip.Ipv4 v) = subst Ips.IsValue short.0 offered.header in
-    let size : v.payload_len ≡ Ips.payload_len_in (numbered_header i p.header) = ap (λ (h : IpRepr). Ips.payload_len_in (numbered_header i h)) (sym short.0) in
+    let size : v.payload_len ≡ Ips.payload_len_of (numbered_header i p.header) = ap (λ (h : IpRepr). Ips.payload_len_of (numbered_header i h)) (sym short.0) in
     record {
       header_is = record { source = header.source; destination = header.destination; identification = wide.ident; protocol = header.protocol; hops = header.hops };
       short = omega (arith, len, size, short.1);

@@ -7,7 +7,7 @@ use Rattle.ip_wire.specs.AddressTests.{is_unspecified, is_multicast}
 use Rattle.ip_wire.specs.EthernetAddress.{EthernetAddress}
 use Rattle.ip_wire.specs.HardwareAddress.{HardwareAddress}
 use Rattle.ip_wire.specs.HardwareAddress.TheVariants as Hardware
-use Rattle.ip_wire.specs.Ip.{destination_in}
+use Rattle.ip_wire.specs.Ip.{destination_of}
 use Rattle.ip_wire.specs.IpAddress.{IpAddress}
 use Rattle.ip_wire.specs.IpAddress.TheVariants as Address
 use Rattle.ip_wire.specs.IpRepr.{IpRepr}
@@ -145,16 +145,16 @@ by_link own i busy h Link.NoRoute is = tt
 by_link own i busy h Link.Silent is = tt
 by_link own i busy h (Link.Unknown hop) is = ask_by own i.hardware i hop
 
-plan_stays : (i : InnerValue) (busy : Bool) (h : IpRepr) → KnowsItsMedium i → IsIpAddress (destination_in h) → PlanStays i.hardware (plan_of i busy h)
-plan_stays i busy h knows is = elim (is_unspecified (destination_in h)) as (λ b. PlanStays i.hardware (cond b Way.Drop (plan_by (link_address i (destination_in h)) i busy h))) [
+plan_stays : (i : InnerValue) (busy : Bool) (h : IpRepr) → KnowsItsMedium i → IsIpAddress (destination_of h) → PlanStays i.hardware (plan_of i busy h)
+plan_stays i busy h knows is = elim (is_unspecified (destination_of h)) as (λ b. PlanStays i.hardware (cond b Way.Drop (plan_by (link_address i (destination_of h)) i busy h))) [
   | true ↦ tt
-  | false ↦ by_link i.hardware i busy h (link_address i (destination_in h)) (link_stays i.hardware i (destination_in h) is (λ o. hops i o knows))
+  | false ↦ by_link i.hardware i busy h (link_address i (destination_of h)) (link_stays i.hardware i (destination_of h) is (λ o. hops i o knows))
 ]
 
-pub go_stays : (i : InnerValue) (busy : Bool) (h : IpRepr) (to : HardwareAddress) → KnowsItsMedium i → IsIpAddress (destination_in h) → plan_of i busy h ≡ Way.Go to → IsOfMedium i.hardware to
+pub go_stays : (i : InnerValue) (busy : Bool) (h : IpRepr) (to : HardwareAddress) → KnowsItsMedium i → IsIpAddress (destination_of h) → plan_of i busy h ≡ Way.Go to → IsOfMedium i.hardware to
 go_stays i busy h to knows is plan = subst (PlanStays i.hardware) plan (plan_stays i busy h knows is)
 
-pub cut_stays : (i : InnerValue) (busy : Bool) (h : IpRepr) (to : HardwareAddress) (v : Ipv4Repr) → KnowsItsMedium i → IsIpAddress (destination_in h) → plan_of i busy h ≡ Way.Cut to v → IsOfMedium i.hardware to
+pub cut_stays : (i : InnerValue) (busy : Bool) (h : IpRepr) (to : HardwareAddress) (v : Ipv4Repr) → KnowsItsMedium i → IsIpAddress (destination_of h) → plan_of i busy h ≡ Way.Cut to v → IsOfMedium i.hardware to
 cut_stays i busy h to v knows is plan = subst (PlanStays i.hardware) plan (plan_stays i busy h knows is)
 
 -- TWO HOSTS

@@ -3,7 +3,7 @@ ghost use Rattle.std.specs.Prelude.{◌≡◌, ℕ, Bool, true, List, ◌++◌, 
 ghost use Rattle.net_base.specs.ChecksumCapabilities.{ChecksumCapabilities};
 ghost use Rattle.ip_wire.specs.Address.{IsIpAddress};
 ghost use Rattle.ip_wire.specs.HardwareAddress.{HardwareAddress};
-ghost use Rattle.ip_wire.specs.Ip.{destination_in};
+ghost use Rattle.ip_wire.specs.Ip.{destination_of};
 ghost use Rattle.ip_wire.specs.Ipv4Repr.{Ipv4Repr};
 ghost use Rattle.socket_base.specs.Packet.{PacketValue};
 ghost use Rattle.interface_tables.specs.Inner.{InnerValue};
@@ -115,12 +115,12 @@ pub fn questions_arrive<D: Device>()
 pub fn frames_stay_on_the_medium()
     ensures whole { (i : InnerValue) (busy : Bool) (p : PacketValue) (to : HardwareAddress)
         → KnowsItsMedium i
-        → IsIpAddress (destination_in p.header)
+        → IsIpAddress (destination_of p.header)
         → plan_of i busy p.header ≡ Way.Go to
         → IsOfMedium i.hardware to }
     ensures cut { (i : InnerValue) (busy : Bool) (p : PacketValue) (to : HardwareAddress) (header : Ipv4Repr)
         → KnowsItsMedium i
-        → IsIpAddress (destination_in p.header)
+        → IsIpAddress (destination_of p.header)
         → plan_of i busy p.header ≡ Way.Cut to header
         → IsOfMedium i.hardware to }
     ensures readers { (own to other : HardwareAddress) → IsOfMedium other own → IsOfMedium own to → AreOfOneMedium own to other }

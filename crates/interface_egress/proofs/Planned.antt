@@ -7,7 +7,7 @@ use Rattle.ip_wire.specs.EthernetAddress.{EthernetAddress}
 use Rattle.ip_wire.specs.HardwareAddress.{HardwareAddress}
 use Rattle.ip_wire.specs.HardwareAddress.TheVariants as Hardware
 use Rattle.ip_wire.specs.Ip as Ips
-use Rattle.ip_wire.specs.Ip.{destination_in}
+use Rattle.ip_wire.specs.Ip.{destination_of}
 use Rattle.ip_wire.specs.IpAddress.{IpAddress}
 use Rattle.ip_wire.specs.IpAddress.TheVariants as Address
 use Rattle.ip_wire.specs.IpRepr.{IpRepr}
@@ -112,16 +112,16 @@ module _ (i : InnerValue) (busy : Bool) (h : IpRepr) (P : Plan → Type 0) (out 
   ask_on_by Hardware.Ip hop is may = none
   ask_on_by (Hardware.Ethernet own) hop is may = ask_from_by own hop may is
 
-  link_cases : (l : LinkAddress) → link_address i (destination_in h) ≡ l → P (plan_by l i busy h)
+  link_cases : (l : LinkAddress) → link_address i (destination_of h) ≡ l → P (plan_by l i busy h)
   link_cases (Link.Known to) is = to_by to (nat_le (total_len h) i.mtu) refl
   link_cases Link.NoRoute is = none
   link_cases Link.Silent is = wait
-  link_cases (Link.Unknown hop) is = ask_on_by i.hardware hop refl (on_is i.hardware i (destination_in h) hop is)
+  link_cases (Link.Unknown hop) is = ask_on_by i.hardware hop refl (on_is i.hardware i (destination_of h) hop is)
 
   pub plan_cases : P (plan_of i busy h)
-  plan_cases = elim (is_unspecified (destination_in h)) as (λ b. P (cond b Way.Drop (plan_by (link_address i (destination_in h)) i busy h))) [
+  plan_cases = elim (is_unspecified (destination_of h)) as (λ b. P (cond b Way.Drop (plan_by (link_address i (destination_of h)) i busy h))) [
     | true ↦ out
-    | false ↦ link_cases (link_address i (destination_in h)) refl
+    | false ↦ link_cases (link_address i (destination_of h)) refl
   ]
 
 -- WHAT IS PLANNED CAN BE DONE

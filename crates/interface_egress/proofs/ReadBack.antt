@@ -17,7 +17,7 @@ use Rattle.ip_wire.specs.declared.ethernet.repr.EthernetRepr.{EthernetRepr}
 use Rattle.ip_wire.specs.Fields.{be16}
 use Rattle.ip_wire.specs.HardwareAddress.TheVariants as Hardware
 use Rattle.ip_wire.specs.Ip as Ips
-use Rattle.ip_wire.specs.Ip.{header_len_in, payload_len_in}
+use Rattle.ip_wire.specs.Ip.{header_len_in, payload_len_of}
 use Rattle.ip_wire.specs.IpRepr.{IpRepr}
 use Rattle.ip_wire.specs.IpRepr.TheVariants as Ip
 use Rattle.ip_wire.specs.Ipv4 as Ipv4
@@ -94,7 +94,7 @@ packet-read caps tested p padding sendable value len both =
     let header : List ℕ = Ips.written (computes caps.ipv4) p.header in
     let bytes : List ℕ = payload_written caps p.header p.payload in
     let joined : (header ++ bytes) ++ padding ≡ header ++ (bytes ++ padding) = append_assoc header bytes padding in
-    let within : payload_len_in p.header ≤ length (bytes ++ padding) = omega (arith, sendable.len, len, length-append bytes padding) in (
+    let within : payload_len_of p.header ≤ length (bytes ++ padding) = omega (arith, sendable.len, len, length-append bytes padding) in (
       subst (λ (frame : List ℕ). Ips.IsIp tested frame (Ips.normal p.header)) (sym joined) (IsIp-written tested (computes caps.ipv4) p.header (bytes ++ padding) sendable.header value within both),
       ap (λ (frame : List ℕ). take (payload_len p.payload) (drop (header_len_in p.header) frame)) joined
           ∙ ap (take (payload_len p.payload)) (drop_at header (bytes ++ padding) (header_len_in p.header) (header-len (computes caps.ipv4) p.header value))

@@ -5,7 +5,7 @@ use Rattle.ip_wire.specs.EthernetAddress.{EthernetAddress}
 use Rattle.ip_wire.specs.declared.arp.repr.ArpRepr.{ArpRepr}
 use Rattle.ip_wire.specs.HardwareAddress.{HardwareAddress}
 use Rattle.ip_wire.specs.HardwareAddress.TheVariants as Hardware
-use Rattle.ip_wire.specs.Ip.{header_len_in, payload_len_in}
+use Rattle.ip_wire.specs.Ip.{header_len_in, payload_len_of}
 use Rattle.ip_wire.specs.IpRepr.{IpRepr}
 use Rattle.ip_wire.specs.IpRepr.TheVariants as Ip
 use Rattle.socket_base.specs.Packet.{PacketValue, payload_len}
@@ -51,7 +51,7 @@ IsShort i d = frame_len_of i d ≤ link_room i.hardware + i.mtu
 some_is : (x d : Departure) → (let o : Option Departure = Some x in o) ≡ Some d → x ≡ d
 some_is x d is = cc
 
-pub planned_short : (i : InnerValue) (busy : Bool) (p : PacketValue) (d : Departure) → 576 ≤ i.mtu → payload_len_in p.header ≡ payload_len p.payload
+pub planned_short : (i : InnerValue) (busy : Bool) (p : PacketValue) (d : Departure) → 576 ≤ i.mtu → payload_len_of p.header ≡ payload_len p.payload
     → departure_by i p (plan_of i busy p.header) ≡ Some d → frame_len_of i d ≤ link_room i.hardware + i.mtu
 planned_short i busy p d low len =
     plan_cases i busy p.header (λ plan. departure_by i p plan ≡ Some d → frame_len_of i d ≤ link_room i.hardware + i.mtu)

@@ -4,7 +4,7 @@ use Rattle.ip_wire.specs.AddressTests.{is_unspecified}
 use Rattle.ip_wire.specs.HardwareAddress.{HardwareAddress}
 use Rattle.ip_wire.specs.HardwareAddress.TheVariants as Hardware
 use Rattle.ip_wire.specs.Ip as Ips
-use Rattle.ip_wire.specs.Ip.{destination_in, header_len_in, payload_len_in}
+use Rattle.ip_wire.specs.Ip.{destination_of, header_len_in, payload_len_of}
 use Rattle.ip_wire.specs.IpAddress.{IpAddress}
 use Rattle.ip_wire.specs.IpAddress.TheVariants as Address
 use Rattle.ip_wire.specs.IpRepr.{IpRepr}
@@ -27,7 +27,7 @@ abbrev pub longest_cut : ℕ
 longest_cut = 4096
 
 abbrev pub total_len : IpRepr → ℕ
-total_len header = header_len_in header + payload_len_in header
+total_len header = header_len_in header + payload_len_of header
 
 -- a datagram that is too long for one frame goes in pieces, one after the other
 abbrev pub cut_if_idle : Bool → HardwareAddress → Ipv4Repr → Plan
@@ -64,12 +64,12 @@ plan_by (Link.Unknown hop) i busy header = ask_on i.hardware i hop
 -- length counts. The host is busy while pieces of a datagram wait.
 abbrev pub plan_of : InnerValue → Bool → IpRepr → Plan
 plan_of i busy header =
-    if is_unspecified (destination_in header) then Way.Drop
-    else plan_by (link_address i (destination_in header)) i busy header
+    if is_unspecified (destination_of header) then Way.Drop
+    else plan_by (link_address i (destination_of header)) i busy header
 
 -- a packet whose header says its length, and which can be sent where that fits its field
 pub record IsPacket (p : PacketValue) : Type 0 where
-  pub len : payload_len_in p.header ≡ payload_len p.payload
+  pub len : payload_len_of p.header ≡ payload_len p.payload
   pub payload : Ips.Fits p.header → PayloadFits p.header p.payload
 
 -- a datagram that is cut: its payload fits the buffer, and not one frame, and no other one is half sent

@@ -33,7 +33,7 @@ use net_base::Device;
 /// Law: no frame is longer than the device's: not the one that a plan sends, nor that of a later piece, nor an ARP packet.
 pub fn frames_are_short()
     ensures planned { (i : InnerValue) (busy : Bool) (p : PacketValue) (d : Departure) → 576 ≤ i.mtu
-        → Ips.payload_len_in p.header ≡ payload_len p.payload
+        → Ips.payload_len_of p.header ≡ payload_len p.payload
         → departure_by i p (plan_of i busy p.header) ≡ Some d
         → frame_len_of i d ≤ link_room i.hardware + i.mtu }
     ensures piece { (i : InnerValue) (l : LeftValue) → 576 ≤ i.mtu
@@ -76,7 +76,7 @@ pub fn one_send_at_most<D: Device>()
 /// Law: at a device whose next move is determined, a packet's way out has one outcome, and so has a later piece's.
 pub fn one_outcome<D: Device>()
     ensures packet { (old : D) (i : InnerValue) (l : Option LeftValue) (busy : Bool) (p : PacketValue) → 576 ≤ i.mtu
-        → Ips.payload_len_in p.header ≡ payload_len p.payload
+        → Ips.payload_len_of p.header ≡ payload_len p.payload
         → IsDetermined D.moves (link_room i.hardware + i.mtu) old
         → (s t : Sent) (new other : D) (j j' : InnerValue) (k k' : Option LeftValue)
         → GoesOut D.moves old i l p (plan_of i busy p.header) s new j k

@@ -27,7 +27,7 @@ use Rattle.ip_wire.specs.Fields.{be16}
 use Rattle.ip_wire.specs.HardwareAddress.{HardwareAddress}
 use Rattle.ip_wire.specs.HardwareAddress.TheVariants as Hardware
 use Rattle.ip_wire.specs.Ip as Ips
-use Rattle.ip_wire.specs.Ip.{source_in, destination_in}
+use Rattle.ip_wire.specs.Ip.{source_of, destination_of}
 use Rattle.ip_wire.specs.IpAddress.{IpAddress}
 use Rattle.ip_wire.specs.IpProtocol.{IpProtocol}
 use Rattle.ip_wire.specs.IpRepr.{IpRepr}
@@ -134,7 +134,7 @@ all_of_it = record { offset = 0; more = false }
 
 pub packet-arrives :
     (hardware : HardwareAddress) (sender receiver : ChecksumCapabilities) (link : Option EthernetRepr) (header : IpRepr) (payload padding : List ℕ) →
-    CanFrame hardware link (ether_for header) → Ips.Fits header → Ips.IsValue header → Ips.payload_len_in header ≡ length payload → AreSealed sender receiver →
+    CanFrame hardware link (ether_for header) → Ips.Fits header → Ips.IsValue header → Ips.payload_len_of header ≡ length payload → AreSealed sender receiver →
     IsIncoming hardware receiver (framed link (Ips.written (computes sender.ipv4) header ++ payload) ++ padding) (uncut link (Ips.normal header) payload)
 packet-arrives hardware sender receiver link (Ip.Ipv4 v) payload padding can fits value len sealed =
     piece-arrives hardware sender receiver link v all_of_it payload padding can fits value len (omega arith) refl sealed
@@ -170,20 +170,20 @@ payload-arrives sender receiver (Ip.Ipv6 h) (ControlV6 message bytes) fits can s
 }
 payload-arrives sender receiver header (Bytes bytes) fits can sealed = absurd can
 payload-arrives sender receiver (Ip.Ipv4 h) (Datagram udp bytes) fits can sealed =
-    let read = read-udp (source_in (Ip.Ipv4 h)) (destination_in (Ip.Ipv4 h)) (verifies receiver.udp) (computes sender.udp) udp bytes fits can.1 sealed.udp in
+    let read = read-udp (source_of (Ip.Ipv4 h)) (destination_of (Ip.Ipv4 h)) (verifies receiver.udp) (computes sender.udp) udp bytes fits can.1 sealed.udp in
     record { protocol = named _ _ can.0 refl; format = read.0; bytes_are = read.1 }
 payload-arrives sender receiver (Ip.Ipv6 h) (Datagram udp bytes) fits can sealed =
-    let read = read-udp (source_in (Ip.Ipv6 h)) (destination_in (Ip.Ipv6 h)) (verifies receiver.udp) (computes sender.udp) udp bytes fits can.1 sealed.udp in
+    let read = read-udp (source_of (Ip.Ipv6 h)) (destination_of (Ip.Ipv6 h)) (verifies receiver.udp) (computes sender.udp) udp bytes fits can.1 sealed.udp in
     record { protocol = named _ _ can.0 refl; format = read.0; bytes_are = read.1 }
 payload-arrives sender receiver (Ip.Ipv4 h) (Segment tcp bytes) fits can sealed = record {
   protocol = named _ _ can.0 refl;
-  format = Tcps.IsTcp-written (source_in (Ip.Ipv4 h)) (destination_in (Ip.Ipv4 h)) (verifies receiver.tcp) (computes sender.tcp) tcp bytes can.1 sealed.tcp;
-  bytes_are = sym (Tcps.payload_of-written (source_in (Ip.Ipv4 h)) (destination_in (Ip.Ipv4 h)) (computes sender.tcp) tcp bytes);
+  format = Tcps.IsTcp-written (source_of (Ip.Ipv4 h)) (destination_of (Ip.Ipv4 h)) (verifies receiver.tcp) (computes sender.tcp) tcp bytes can.1 sealed.tcp;
+  bytes_are = sym (Tcps.payload_of-written (source_of (Ip.Ipv4 h)) (destination_of (Ip.Ipv4 h)) (computes sender.tcp) tcp bytes);
 }
 payload-arrives sender receiver (Ip.Ipv6 h) (Segment tcp bytes) fits can sealed = record {
   protocol = named _ _ can.0 refl;
-  format = Tcps.IsTcp-written (source_in (Ip.Ipv6 h)) (destination_in (Ip.Ipv6 h)) (verifies receiver.tcp) (computes sender.tcp) tcp bytes can.1 sealed.tcp;
-  bytes_are = sym (Tcps.payload_of-written (source_in (Ip.Ipv6 h)) (destination_in (Ip.Ipv6 h)) (computes sender.tcp) tcp bytes);
+  format = Tcps.IsTcp-written (source_of (Ip.Ipv6 h)) (destination_of (Ip.Ipv6 h)) (verifies receiver.tcp) (computes sender.tcp) tcp bytes can.1 sealed.tcp;
+  bytes_are = sym (Tcps.payload_of-written (source_of (Ip.Ipv6 h)) (destination_of (Ip.Ipv6 h)) (computes sender.tcp) tcp bytes);
 }
 
 -- BOTH
@@ -198,5 +198,5 @@ widths header (Bytes bytes) can = absurd can
 widths header (Datagram udp bytes) can = tt
 widths header (Segment tcp bytes) can = tt
 
-pub length-carried : (sender : ChecksumCapabilities) (p : PacketValue) → IsSendable p → CanBeRead p.header p.payload → Ips.payload_len_in p.header ≡ length (payload_written sender p.header p.payload)
+pub length-carried : (sender : ChecksumCapabilities) (p : PacketValue) → IsSendable p → CanBeRead p.header p.payload → Ips.payload_len_of p.header ≡ length (payload_written sender p.header p.payload)
 length-carried sender p sendable can = sendable.len ∙ sym (length-payload lengths sender p.header p.payload sendable.payload (widths p.header p.payload can))

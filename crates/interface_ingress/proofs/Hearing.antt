@@ -7,7 +7,7 @@ use Rattle.control_wire.specs.NdiscNeighborFlags.{NdiscNeighborFlags}
 use Rattle.ip_wire.specs.EthernetAddress.{EthernetAddress}
 use Rattle.ip_wire.specs.HardwareAddress.{HardwareAddress}
 use Rattle.ip_wire.specs.HardwareAddress.TheVariants as Hardware
-use Rattle.ip_wire.specs.Ip.{source_in, destination_in, hops_in}
+use Rattle.ip_wire.specs.Ip.{source_of, destination_of, hops_in}
 use Rattle.ip_wire.specs.IpAddress.TheVariants as Address
 use Rattle.ip_wire.specs.Ipv6Address.{Ipv6Address}
 use Rattle.ip_wire.specs.Ipv6Repr.{Ipv6Repr}
@@ -74,7 +74,7 @@ medium i header message bare = ap (λ (h : HardwareAddress). heard_on h i header
 -- ANSWERS
 
 abbrev IsAnswer : InnerValue → Ipv6Repr → PacketValue → Type 0
-IsAnswer i header p = (destination_in p.header ≡ Address.Ipv6 header.src_addr) × IsTrue (is_own i (source_in p.header)) × (hops_in p.header ≡ 255)
+IsAnswer i header p = (destination_of p.header ≡ Address.Ipv6 header.src_addr) × IsTrue (is_own i (source_of p.header)) × (hops_in p.header ≡ 255)
 
 second : (a b : Bool) → IsTrue (a && b) → IsTrue b
 second true b both = both

@@ -11,7 +11,7 @@ use Rattle.ip_wire.specs.EthernetProtocol.{EthernetProtocol}
 use Rattle.ip_wire.specs.declared.ethernet.repr.EthernetRepr.{EthernetRepr}
 use Rattle.ip_wire.specs.HardwareAddress.{HardwareAddress}
 use Rattle.ip_wire.specs.HardwareAddress.TheVariants as Hardware
-use Rattle.ip_wire.specs.Ip.{source_in, destination_in, carried_in}
+use Rattle.ip_wire.specs.Ip.{source_of, destination_of, carried_in}
 use Rattle.ip_wire.specs.IpProtocol.{IpProtocol}
 use Rattle.ip_wire.specs.IpProtocol.TheVariants as Protocol
 use Rattle.ip_wire.specs.IpRepr.{IpRepr}
@@ -140,9 +140,9 @@ one-payload : (caps : ChecksumCapabilities) (header : IpRepr) (payload : List �
 one-payload caps header payload (ControlV4 m x) (ControlV4 n y) one other = one-control-v4 caps header payload m n x y one other
 one-payload caps header payload (ControlV6 m x) (ControlV6 n y) one other = one-control-v6 caps header payload m n x y one other
 one-payload caps header payload (Datagram m x) (Datagram n y) one other =
-    ap (λ (k : UdpRepr). Datagram k x) (one-udp (source_in header) (destination_in header) (verifies caps.udp) payload m n one.format other.format) ∙ ap (Datagram n) (one.bytes_are ∙ sym other.bytes_are)
+    ap (λ (k : UdpRepr). Datagram k x) (one-udp (source_of header) (destination_of header) (verifies caps.udp) payload m n one.format other.format) ∙ ap (Datagram n) (one.bytes_are ∙ sym other.bytes_are)
 one-payload caps header payload (Segment m x) (Segment n y) one other =
-    ap (λ (k : TcpHeader). Segment k x) (IsTcp-one (source_in header) (destination_in header) (verifies caps.tcp) payload m n one.format other.format) ∙ ap (Segment n) (one.bytes_are ∙ sym other.bytes_are)
+    ap (λ (k : TcpHeader). Segment k x) (IsTcp-one (source_of header) (destination_of header) (verifies caps.tcp) payload m n one.format other.format) ∙ ap (Segment n) (one.bytes_are ∙ sym other.bytes_are)
 one-payload caps header payload (Bytes x) w one other = absurd one
 one-payload caps header payload v (Bytes y) one other = absurd other
 one-payload caps header payload v w one other = absurd (let e = one-name caps header payload v w one other in cc e)

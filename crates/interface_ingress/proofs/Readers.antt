@@ -10,7 +10,7 @@ use Rattle.ip_wire.specs.EthernetProtocol.{EthernetProtocol}
 use Rattle.ip_wire.specs.EthernetProtocol.TheVariants as Ether
 use Rattle.ip_wire.specs.declared.ethernet.repr.EthernetRepr.{EthernetRepr}
 use Rattle.ip_wire.specs.Fields.{IsBytes, be16}
-use Rattle.ip_wire.specs.Ip.{source_in, destination_in, carried_in}
+use Rattle.ip_wire.specs.Ip.{source_of, destination_of, carried_in}
 use Rattle.ip_wire.specs.IpAddress.{IpAddress}
 use Rattle.ip_wire.specs.IpProtocol.TheVariants as Protocol
 use Rattle.ip_wire.specs.IpRepr.{IpRepr}
@@ -148,7 +148,7 @@ framed-v6 caps frame link (Some (Ip6 None header payload)) framed is = absurd (l
 pub moved-udp : (tested : Bool) (s t d e : IpAddress) (xs ys : List ℕ) (v : UdpRepr) → s ≡ t → d ≡ e → xs ≡ ys → Udp.IsUdp t e tested ys v → Udp.IsUdp s d tested xs v
 moved-udp tested s t d e xs ys v source destination bytes is = rw (source, destination, bytes) is
 
-pub refused-udp : (caps : ChecksumCapabilities) (header : IpRepr) (payload : List ℕ) → carried_in header ≡ Protocol.Udp → ((u : UdpRepr) → Udp.IsUdp (source_in header) (destination_in header) (verifies caps.udp) payload u → ⊥)
+pub refused-udp : (caps : ChecksumCapabilities) (header : IpRepr) (payload : List ℕ) → carried_in header ≡ Protocol.Udp → ((u : UdpRepr) → Udp.IsUdp (source_of header) (destination_of header) (verifies caps.udp) payload u → ⊥)
     → (v : PayloadValue) → IsCarried caps header payload v → ⊥
 refused-udp caps (Ip.Ipv4 h) payload protocol none (ControlV4 message bytes) is = absurd (let e = sym protocol ∙ is.protocol in cc e)
 refused-udp caps (Ip.Ipv6 h) payload protocol none (ControlV4 message bytes) is = is

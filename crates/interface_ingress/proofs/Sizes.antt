@@ -6,7 +6,7 @@ use Rattle.control_wire.specs.Icmpv4 as Icmpv4
 use Rattle.control_wire.specs.Icmpv4Header.{Icmpv4Header}
 use Rattle.control_wire.specs.Icmpv4Header.TheVariants as V4
 use Rattle.control_wire.specs.Icmpv6 as Icmpv6
-use Rattle.ip_wire.specs.Ip.{Fits, payload_len_in, carried_in}
+use Rattle.ip_wire.specs.Ip.{Fits, payload_len_of, carried_in}
 use Rattle.ip_wire.specs.IpProtocol.TheVariants as Protocol
 use Rattle.ip_wire.specs.IpRepr.{IpRepr}
 use Rattle.ip_wire.specs.IpRepr.TheVariants as Ip
@@ -34,7 +34,7 @@ data_of_v6 payload bytes (Icmpv6.EchoRequest ident seq_no) is = omega (arith, ap
 data_of_v6 payload bytes (Icmpv6.EchoReply ident seq_no) is = omega (arith, ap length is, length-drop 8 payload)
 data_of_v6 payload bytes (Icmpv6.Ndisc message) is = omega (arith, ap length is)
 
-pub fits_back : (caps : ChecksumCapabilities) (ip : IpRepr) (payload : List ℕ) (carried : Option PayloadValue) → IsCarriedContent caps ip payload carried → Fits ip → length payload ≡ payload_len_in ip → FitsBack carried
+pub fits_back : (caps : ChecksumCapabilities) (ip : IpRepr) (payload : List ℕ) (carried : Option PayloadValue) → IsCarriedContent caps ip payload carried → Fits ip → length payload ≡ payload_len_of ip → FitsBack carried
 fits_back caps (Ip.Ipv4 header) payload (Some (ControlV4 m bytes)) is fits len =
     let short = data_of_says payload bytes m is.format.says in omega (arith, is.format.whole, fits, len)
 fits_back caps (Ip.Ipv6 header) payload (Some (ControlV4 m bytes)) is fits len = absurd is

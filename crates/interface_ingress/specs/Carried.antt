@@ -5,7 +5,7 @@ use Rattle.net_base.specs.ChecksumCapabilities.{ChecksumCapabilities}
 use Rattle.control_wire.specs.Icmpv4 as Icmpv4
 use Rattle.control_wire.specs.Icmpv4Header.{Icmpv4Header}
 use Rattle.control_wire.specs.Icmpv6 as Icmpv6
-use Rattle.ip_wire.specs.Ip.{source_in, destination_in, carried_in}
+use Rattle.ip_wire.specs.Ip.{source_of, destination_of, carried_in}
 use Rattle.ip_wire.specs.IpProtocol.TheVariants as Protocol
 use Rattle.ip_wire.specs.IpRepr.{IpRepr}
 use Rattle.ip_wire.specs.IpRepr.TheVariants as Ip
@@ -33,13 +33,13 @@ pub record IsControlV6 (caps : ChecksumCapabilities) (header : Ipv6Repr) (payloa
 -- a user datagram (RFC 768), up to the end that its own length says
 pub record IsDatagram (caps : ChecksumCapabilities) (header : IpRepr) (payload : List ℕ) (udp : UdpRepr) (bytes : List ℕ) : Type 0 where
   pub protocol : carried_in header ≡ Protocol.Udp
-  pub format : Udp.IsUdp (source_in header) (destination_in header) (verifies caps.udp) payload udp
+  pub format : Udp.IsUdp (source_of header) (destination_of header) (verifies caps.udp) payload udp
   pub bytes_are : bytes ≡ Udp.payload_of payload
 
 -- a segment (RFC 9293, section 3.1), up to the payload's end
 pub record IsSegment (caps : ChecksumCapabilities) (header : IpRepr) (payload : List ℕ) (tcp : TcpHeader) (bytes : List ℕ) : Type 0 where
   pub protocol : carried_in header ≡ Protocol.Tcp
-  pub format : Tcp.IsTcp (source_in header) (destination_in header) (verifies caps.tcp) payload tcp
+  pub format : Tcp.IsTcp (source_of header) (destination_of header) (verifies caps.tcp) payload tcp
   pub bytes_are : bytes ≡ Tcp.payload_of payload
 
 -- each family has control messages of its own

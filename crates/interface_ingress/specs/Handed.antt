@@ -5,7 +5,7 @@ use Rattle.control_wire.specs.Icmpv4Header.{Icmpv4Header}
 use Rattle.control_wire.specs.Icmpv6 as Icmpv6
 use Rattle.control_wire.specs.Icmpv6.{MessageValue}
 use Rattle.ip_wire.specs.AddressTests.{is_unspecified}
-use Rattle.ip_wire.specs.Ip.{source_in, destination_in}
+use Rattle.ip_wire.specs.Ip.{source_of, destination_of}
 use Rattle.ip_wire.specs.IpProtocol.{IpProtocol}
 use Rattle.ip_wire.specs.IpProtocol.TheVariants as Protocol
 use Rattle.ip_wire.specs.IpRepr.{IpRepr}
@@ -54,7 +54,7 @@ control_v6_reply i (Ip.Ipv6 header) message bytes = message_reply i header messa
 
 -- an unspecified address names no end of a connection
 abbrev pub names_nobody : IpRepr → Bool
-names_nobody ip = is_unspecified (source_in ip) || is_unspecified (destination_in ip)
+names_nobody ip = is_unspecified (source_of ip) || is_unspecified (destination_of ip)
 
 -- a datagram that neither a socket nor a raw socket took is answered by an error
 abbrev pub datagram_reply : InnerValue → Places → IpRepr → List ℕ → Bool → UdpRepr → Option PacketValue

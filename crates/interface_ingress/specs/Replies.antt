@@ -33,8 +33,8 @@ is_echo_reply message = false
 
 -- The address that a message is sent from. Nothing answers a packet that is from no one host, and nothing but an echo reply
 -- one that is for all hosts; nothing answers a packet for a group.
-abbrev pub source_in_reply : InnerValue → Ipv4Repr → Icmpv4Header → Option Ipv4Address
-source_in_reply i header message =
+abbrev pub source_of_reply : InnerValue → Ipv4Repr → Icmpv4Header → Option Ipv4Address
+source_of_reply i header message =
     if not (is_one_host i header.src_addr) then None
     else if is_one_host i header.dst_addr then Some header.dst_addr
     else if is_echo_reply message && is_local_broadcast i (Address.Ipv4 header.dst_addr) then first_v4 i.addresses
@@ -48,20 +48,20 @@ sent_v4 (Some from) to message =
 
 -- the message that answers a packet with this header
 abbrev pub reply_v4 : InnerValue → Ipv4Repr → Icmpv4Header → List ℕ → Option PacketValue
-reply_v4 i header message bytes = sent_v4 (source_in_reply i header message) header.src_addr (ControlV4 message bytes)
+reply_v4 i header message bytes = sent_v4 (source_of_reply i header message) header.src_addr (ControlV4 message bytes)
 
 -- IPv6
 
 -- a packet for a group is answered from the address that is chosen for its sender
-abbrev pub source_in_v6_reply : InnerValue → Ipv6Repr → Ipv6Address
-source_in_v6_reply i header = if is_unicast_v6 header.dst_addr then header.dst_addr else source_v6 i.addresses header.src_addr
+abbrev pub source_of_v6_reply : InnerValue → Ipv6Repr → Ipv6Address
+source_of_v6_reply i header = if is_unicast_v6 header.dst_addr then header.dst_addr else source_v6 i.addresses header.src_addr
 
 abbrev pub sent_v6 : Ipv6Address → Ipv6Address → PayloadValue → PacketValue
 sent_v6 from to message =
     packet_of (Ip.Ipv6 (record { src_addr = from; dst_addr = to; next_header = Protocol.Icmpv6; payload_len = payload_len message; hop_limit = 64 })) message
 
 abbrev pub reply_v6 : InnerValue → Ipv6Repr → Icmpv6.MessageValue → List ℕ → PacketValue
-reply_v6 i header message bytes = sent_v6 (source_in_v6_reply i header) header.src_addr (ControlV6 message bytes)
+reply_v6 i header message bytes = sent_v6 (source_of_v6_reply i header) header.src_addr (ControlV6 message bytes)
 
 -- ECHO
 

@@ -1,6 +1,6 @@
 //! What a frame's content brings to a host.
 ghost use Rattle.std.specs.Prelude.{◌≡◌, ◌+◌, ◌<◌, ◌^◌, length, Some};
-ghost use Rattle.ip_wire.specs.Ip.{Fits, payload_len_in};
+ghost use Rattle.ip_wire.specs.Ip.{Fits, payload_len_of};
 ghost use Rattle.ip_wire.specs.Ipv4 as Ipv4;
 ghost use Rattle.ip_wire.specs.Ipv6 as Ipv6;
 ghost use Rattle.ip_wire.specs.IpAddress.TheVariants as Address;
@@ -58,7 +58,7 @@ fn accept<'a>(
     is_taken: bool,
 ) -> Option<Reply<'a>>
     requires fits { Fits header.now }
-    requires len { length payload.now ≡ payload_len_in header.now }
+    requires len { length payload.now ≡ payload_len_of header.now }
     requires short { length payload.now < 2 ^ 16 }
     ensures hands { Hands (renewed inner.old link.now header.now) places.old header.now payload.now is_taken (arrived inner.new places.new (reply_of result)) }
     ensures sendable { IfCanGo (reply_of result) }

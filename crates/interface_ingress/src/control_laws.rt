@@ -2,7 +2,7 @@
 ghost use Rattle.std.specs.Prelude.{◌≡◌, ◌≢◌, IsTrue, Some, None};
 ghost use Rattle.control_wire.specs.Ndisc.{NeighborMessage};
 ghost use Rattle.ip_wire.specs.HardwareAddress.TheVariants as Hardware;
-ghost use Rattle.ip_wire.specs.Ip.{source_in, destination_in, hops_in};
+ghost use Rattle.ip_wire.specs.Ip.{source_of, destination_of, hops_in};
 ghost use Rattle.ip_wire.specs.IpAddress.TheVariants as Address;
 ghost use Rattle.ip_wire.specs.Ipv6Repr.{Ipv6Repr};
 ghost use Rattle.socket_base.specs.Packet.{PacketValue};
@@ -31,7 +31,7 @@ pub fn only_neighbors_count()
 pub fn answers_the_sender()
     ensures { (i : InnerValue) (header : Ipv6Repr) (message : NeighborMessage) (p : PacketValue)
         → (neighbor_heard i header message).reply ≡ Some p
-        → (destination_in p.header ≡ Address.Ipv6 header.src_addr)
-        × IsTrue (is_own i (source_in p.header))
+        → (destination_of p.header ≡ Address.Ipv6 header.src_addr)
+        × IsTrue (is_own i (source_of p.header))
         × (hops_in p.header ≡ 255) }
 {}

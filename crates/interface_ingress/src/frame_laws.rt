@@ -49,7 +49,7 @@ pub fn frames_arrive()
         → CanFrame hardware link (ether_for header)
         → Ips.Fits header
         → Ips.IsValue header
-        → Ips.payload_len_in header ≡ length payload
+        → Ips.payload_len_of header ≡ length payload
         → AreSealed sender receiver
         → IsContent hardware receiver (framed link (Ips.written (computes sender.ipv4) header ++ payload) ++ padding) (Some (uncut link (Ips.normal header) payload)) }
     ensures piece { (hardware : HardwareAddress) (sender receiver : ChecksumCapabilities) (link : Option EthernetRepr) (header : Ipv4Repr) (piece : Ipv4Piece) (payload padding : List ℕ)

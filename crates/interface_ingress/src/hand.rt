@@ -1,6 +1,6 @@
 //! What a packet for the host carries, given to sockets and tables.
 ghost use Rattle.std.specs.Prelude.{◌≡◌, ◌≢◌, ◌+◌, ◌<◌, ◌^◌, length, None, IfSome};
-ghost use Rattle.ip_wire.specs.Ip.{Fits, payload_len_in, carried_in};
+ghost use Rattle.ip_wire.specs.Ip.{Fits, payload_len_of, carried_in};
 ghost use Rattle.ip_wire.specs.IpProtocol.TheVariants as Protocol;
 ghost use Rattle.ip_wire.specs.Tcp as Tcp;
 ghost use Rattle.control_wire.specs.Icmpv4 as Icmpv4;
@@ -276,7 +276,7 @@ fn hand_control<'a>(
     requires udp { carried_in header.now ≢ Protocol.Udp }
     requires tcp { carried_in header.now ≢ Protocol.Tcp }
     requires fits { Fits header.now }
-    requires len { length payload.now ≡ payload_len_in header.now }
+    requires len { length payload.now ≡ payload_len_of header.now }
     requires short { length payload.now < 2 ^ 16 }
     ensures hands { Hands inner.old places.old header.now payload.now is_taken (arrived inner.new places.new (reply_of result)) }
     ensures sendable { IfCanGo (reply_of result) }
@@ -297,7 +297,7 @@ pub(crate) fn hand<'a>(
     is_taken: bool,
 ) -> Option<Reply<'a>>
     requires fits { Fits header.now }
-    requires len { length payload.now ≡ payload_len_in header.now }
+    requires len { length payload.now ≡ payload_len_of header.now }
     requires short { length payload.now < 2 ^ 16 }
     ensures hands { Hands inner.old places.old header.now payload.now is_taken (arrived inner.new places.new (reply_of result)) }
     ensures sendable { IfCanGo (reply_of result) }

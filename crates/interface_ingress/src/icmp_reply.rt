@@ -6,7 +6,7 @@ ghost use Rattle.ip_wire.specs.Ip.{Fits};
 ghost use Rattle.ip_wire.specs.Ipv4 as Ipv4;
 ghost use Rattle.ip_wire.specs.Ipv6 as Ipv6;
 ghost use Rattle.socket_base.specs.Packet.{packet_value, option_value, IsSendable};
-ghost use Rattle.interface_ingress.specs.Replies.{is_one_host, is_echo_reply, source_in_reply, reply_v4, source_in_v6_reply, reply_v6, echo_v4, echo_v6, error_v4, port_unreachable, protocol_unreachable};
+ghost use Rattle.interface_ingress.specs.Replies.{is_one_host, is_echo_reply, source_of_reply, reply_v4, source_of_v6_reply, reply_v6, echo_v4, echo_v6, error_v4, port_unreachable, protocol_unreachable};
 
 use control_wire::{
     Icmpv4DstUnreachable, Icmpv4Repr, Icmpv6DstUnreachable, Icmpv6ParamProblem, Icmpv6Repr,
@@ -37,12 +37,12 @@ pub fn is_one_host(inner: &InterfaceInner, address: &Ipv4Address) -> bool
 }
 
 /// The address that a message is sent from in answer to a packet with this header, if one may be sent.
-fn source_in_reply(
+fn source_of_reply(
     inner: &InterfaceInner,
     header: &Ipv4Repr,
     message: &Icmpv4Repr<'_>,
 ) -> Option<Ipv4Address>
-    ensures { result ≡ source_in_reply inner.now header.now (Icmpv4.header_of message.now) }
+    ensures { result ≡ source_of_reply inner.now header.now (Icmpv4.header_of message.now) }
 {
     if !is_one_host(inner, &header.src_addr) {
         return None;
@@ -76,7 +76,7 @@ fn reply_ipv4<'a>(
     ensures packet { option_value result ≡ reply_v4 inner.now header.now (Icmpv4.header_of message.now) (Icmpv4.payload_of message.now) }
     ensures sendable { IfSome (option_value result) IsSendable }
 {
-    match source_in_reply(inner, header, message) {
+    match source_of_reply(inner, header, message) {
         Some(src_addr) => {
             let header = Ipv4Repr {
                 src_addr,
@@ -94,8 +94,8 @@ fn reply_ipv4<'a>(
 }
 
 /// The address that a message is sent from in answer to a packet with this header.
-fn source_in_ipv6_reply(inner: &InterfaceInner, header: &Ipv6Repr) -> Ipv6Address
-    ensures { result ≡ source_in_v6_reply inner.now header.now }
+fn source_of_ipv6_reply(inner: &InterfaceInner, header: &Ipv6Repr) -> Ipv6Address
+    ensures { result ≡ source_of_v6_reply inner.now header.now }
 {
     if header.dst_addr.x_is_unicast() {
         header.dst_addr
@@ -112,7 +112,7 @@ fn reply_ipv6<'a>(inner: &InterfaceInner, header: &Ipv6Repr, message: &Icmpv6Rep
     ensures sendable { IsSendable (packet_value result) }
 {
     let header = Ipv6Repr {
-        src_addr: source_in_ipv6_reply(inner, header),
+        src_addr: source_of_ipv6_reply(inner, header),
         dst_addr: header.src_addr,
         next_header: IpProtocol::Icmpv6,
         payload_len: message.buffer_len(),

@@ -1,7 +1,7 @@
 -- At a device whose moves are determined a poll has one end.
 use Rattle.std.proofs.Common.{◌≡◌, ◌≤◌, ℕ, zero, suc, ℤ, Bool, true, false, ◌||◌, inl, inr, List, [], ◌∷◌, ◌++◌, Option, Some, None, is_some, refl, sym, ap, ◌∙◌, subst}
 use Rattle.net_base.specs.Device.{Move, Took, Empty, Allowed, Emitted, Denied}
-use Rattle.ip_wire.specs.Ip.{destination_in}
+use Rattle.ip_wire.specs.Ip.{destination_of}
 use Rattle.socket_base.specs.Context.{ContextValue}
 use Rattle.socket_base.specs.Packet.{PacketValue}
 use Rattle.socket_base.specs.declared.offer.Offer as Answer
@@ -128,7 +128,7 @@ module _ (one_offer : OneOffer) {D : Type 0} (moves : D → Move → D → Type 
       let same = one_leaves x y z p one.0 two.0 det one.1 two.1 in (
         one.2 ∙ ap (λ (s : Sent). turned_by s changed) same.0 ∙ sym two.2,
         same.1,
-        one.3 ∙ ap (λ (s : Sent). settled_by s x.inner.moment (destination_in p.header) item) same.0 ∙ sym two.3,
+        one.3 ∙ ap (λ (s : Sent). settled_by s x.inner.moment (destination_of p.header) item) same.0 ∙ sym two.3,
       )
 
   det_sends : (o : Option PacketValue) (x y : Sender D) (item m : Item Socket) (changed : Bool) (a : Turned) → SendsBy moves o x item changed a y m → Det x.device → Det y.device

@@ -1,7 +1,7 @@
 -- Headers of either family, written and read.
 use Rattle.std.proofs.Common.{◌≡◌, ℕ, ◌≤◌, ◌+◌, ◌/◌, Bool, IsTrue, List, ◌++◌, length, ap, sym, subst, arith}
 use Rattle.std.specs.Prelude.{slice_index}
-use Rattle.ip_packet.specs.Ip.{IsIp, IsValue, Fits, written, normal, header_len_in, payload_len_in}
+use Rattle.ip_packet.specs.Ip.{IsIp, IsValue, Fits, written, normal, header_len_in, payload_len_of}
 use Rattle.ip_packet.specs.Ipv4 as Ipv4
 use Rattle.ip_packet.specs.Ipv6 as Ipv6
 use Rattle.ip_packet.specs.declared.ip.repr.IpRepr.{IpRepr}
@@ -17,12 +17,12 @@ use Rattle.ip_packet.proofs.Runs.{named-again}
 use Rattle.ip_address.proofs.Numbers.{protocol_number-protocol_of, protocol_of-again}
 
 -- a packet and its header take no more room than the bytes that they were read from
-pub within : (tested : Bool) (bytes : List ℕ) (v : IpRepr) → IsIp tested bytes v → header_len_in v + payload_len_in v ≤ length bytes
+pub within : (tested : Bool) (bytes : List ℕ) (v : IpRepr) → IsIp tested bytes v → header_len_in v + payload_len_of v ≤ length bytes
 within tested bytes (Ip.Ipv4 v) is = omega (arith, is.whole.header, is.whole.within, is.payload)
 within tested bytes (Ip.Ipv6 v) is = omega (arith, is.whole.within, is.payload)
 
 -- a packet whose header was emitted is read back in its normal form, whatever follows the payload
-pub IsIp-written : (tested sealed : Bool) (v : IpRepr) (rest : List ℕ) → Fits v → IsValue v → payload_len_in v ≤ length rest → (IsTrue tested → IsTrue sealed)
+pub IsIp-written : (tested sealed : Bool) (v : IpRepr) (rest : List ℕ) → Fits v → IsValue v → payload_len_of v ≤ length rest → (IsTrue tested → IsTrue sealed)
     → IsIp tested (written sealed v ++ rest) (normal v)
 IsIp-written tested sealed (Ip.Ipv4 v) rest fits value within both = V4.IsIpv4-written tested sealed v rest fits value within both
 IsIp-written tested sealed (Ip.Ipv6 v) rest fits value within both = V6.IsIpv6-written v rest fits value within

@@ -16,14 +16,14 @@ version_in (Ip.Ipv4 v) = Version.Ipv4
 version_in (Ip.Ipv6 v) = Version.Ipv6
 
 -- the source address
-abbrev pub source_in : IpRepr → IpAddress
-source_in (Ip.Ipv4 v) = Address.Ipv4 v.src_addr
-source_in (Ip.Ipv6 v) = Address.Ipv6 v.src_addr
+abbrev pub source_of : IpRepr → IpAddress
+source_of (Ip.Ipv4 v) = Address.Ipv4 v.src_addr
+source_of (Ip.Ipv6 v) = Address.Ipv6 v.src_addr
 
 -- the destination address
-abbrev pub destination_in : IpRepr → IpAddress
-destination_in (Ip.Ipv4 v) = Address.Ipv4 v.dst_addr
-destination_in (Ip.Ipv6 v) = Address.Ipv6 v.dst_addr
+abbrev pub destination_of : IpRepr → IpAddress
+destination_of (Ip.Ipv4 v) = Address.Ipv4 v.dst_addr
+destination_of (Ip.Ipv6 v) = Address.Ipv6 v.dst_addr
 
 -- what the packet carries
 abbrev pub carried_in : IpRepr → IpProtocol
@@ -31,9 +31,9 @@ carried_in (Ip.Ipv4 v) = v.next_header
 carried_in (Ip.Ipv6 v) = v.next_header
 
 -- how long the payload is
-abbrev pub payload_len_in : IpRepr → ℕ
-payload_len_in (Ip.Ipv4 v) = v.payload_len
-payload_len_in (Ip.Ipv6 v) = v.payload_len
+abbrev pub payload_len_of : IpRepr → ℕ
+payload_len_of (Ip.Ipv4 v) = v.payload_len
+payload_len_of (Ip.Ipv6 v) = v.payload_len
 
 -- the hop limit
 abbrev pub hops_in : IpRepr → ℕ

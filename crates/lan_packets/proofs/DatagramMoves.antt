@@ -1,7 +1,7 @@
 -- Each move keeps what is kept of UDP sockets and datagrams.
 use Rattle.std.proofs.Common.{◌≡◌, ◌≢◌, ◌⊎◌, inl, inr, ℕ, ◌==◌, ◌&&◌, not, Bool, true, false, List, [], ◌∷◌, ◌++◌, length, Option, Some, None, is_some, refl, sym, ap, ◌∙◌, subst}
 use Rattle.std.proofs.lemmas.Bool.{eqb-true, eqb-false, ne_eqb, and_parts}
-use Rattle.ip_wire.specs.Ip.{destination_in}
+use Rattle.ip_wire.specs.Ip.{destination_of}
 use Rattle.ip_wire.specs.IpRepr.{IpRepr}
 use Rattle.ip_wire.specs.UdpRepr.{UdpRepr}
 use Rattle.net_base.specs.Packets.{Packets, contents, first, without_first}
@@ -81,8 +81,8 @@ module _ (starts : Side → ℕ → ℕ) (h : List Entry) (side : Side) (i : ℕ
       (cx : ContextValue) (v : UdpValue) (ip : IpRepr) (udp : UdpRepr) (bytes : List ℕ) → Udps.accepts cx v ip udp ≡ true
       → Accepted starts h (other side) udp.src_port udp.dst_port bytes → UdpOk starts h side i v → UdpOk starts h side i (Udps.process_after v ip udp bytes)
   receives cx v ip udp bytes accepts accepted k =
-      let parts = and_parts (is_open v) ((v.settings.endpoint.port == udp.dst_port) && takes_address cx v.settings.endpoint.addr (destination_in ip)) accepts in
-      let ports = and_parts (v.settings.endpoint.port == udp.dst_port) (takes_address cx v.settings.endpoint.addr (destination_in ip)) parts.1 in
+      let parts = and_parts (is_open v) ((v.settings.endpoint.port == udp.dst_port) && takes_address cx v.settings.endpoint.addr (destination_of ip)) accepts in
+      let ports = and_parts (v.settings.endpoint.port == udp.dst_port) (takes_address cx v.settings.endpoint.addr (destination_of ip)) parts.1 in
       let to : udp.dst_port ≡ bound_port starts h side i = sym (eqb-true v.settings.endpoint.port udp.dst_port ports.0) ∙ k.bound in
       let came : Accepted starts h (other side) udp.src_port (bound_port starts h side i) bytes = subst (λ (port : ℕ). Accepted starts h (other side) udp.src_port port bytes) to accepted in
       record {

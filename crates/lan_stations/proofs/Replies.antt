@@ -7,7 +7,7 @@ use Rattle.control_wire.specs.Icmpv4DstUnreachable.TheVariants as V4Reason
 use Rattle.control_wire.specs.Icmpv6 as Icmpv6
 use Rattle.control_wire.specs.Icmpv6.{MessageValue}
 use Rattle.control_wire.specs.Ndisc.{NeighborMessage, Solicitation, Advertisement}
-use Rattle.ip_wire.specs.Ip.{payload_len_in}
+use Rattle.ip_wire.specs.Ip.{payload_len_of}
 use Rattle.ip_wire.specs.IpRepr.{IpRepr}
 use Rattle.ip_wire.specs.IpRepr.TheVariants as Ip
 use Rattle.ip_wire.specs.Ipv4Address.{Ipv4Address}
@@ -32,7 +32,7 @@ use Rattle.interface_ingress.specs.Delivered.{Places, packet_delivered, is_taken
 use Rattle.interface_ingress.specs.Handed.{handed_reply, control_v4_reply, control_v6_reply, message_reply, names_nobody, is_known}
 use Rattle.interface_ingress.specs.Heard.{Heard, heard, heard_on, counts, is_asked, learned, advertised, advertisement, answer}
 use Rattle.interface_ingress.specs.Incoming.{IncomingValue, Arp, Ip4, Ip6}
-use Rattle.interface_ingress.specs.Replies.{echo_v4, sent_v4, source_in_reply, port_unreachable, protocol_unreachable, reply_v4, quoted_v4}
+use Rattle.interface_ingress.specs.Replies.{echo_v4, sent_v4, source_of_reply, port_unreachable, protocol_unreachable, reply_v4, quoted_v4}
 use Rattle.interface_tables.specs.Inner.{InnerValue, context_of}
 use Rattle.interface_tables.specs.Best.{at_place}
 use Rattle.sockets.specs.declared.socket.Socket.{Socket}
@@ -44,7 +44,7 @@ use Rattle.tcp_socket.specs.Replies.{packet_in}
 use Rattle.tcp_socket.proofs.Answered.{sendable_answer, sendable_reset}
 
 abbrev pub IsMeasured : PacketValue → Type 0
-IsMeasured p = payload_len_in p.header ≡ payload_len p.payload
+IsMeasured p = payload_len_of p.header ≡ payload_len p.payload
 
 abbrev pub IfMeasured : Option PacketValue → Type 0
 IfMeasured o = IfSome o IsMeasured
@@ -60,7 +60,7 @@ sent_v4_so None to message = tt
 sent_v4_so (Some from) to message = refl
 
 reply_v4_so : (i : InnerValue) (header : Ipv4Repr) (message : Icmpv4Header) (bytes : List ℕ) → IfMeasured (reply_v4 i header message bytes)
-reply_v4_so i header message bytes = sent_v4_so (source_in_reply i header message) header.src_addr (ControlV4 message bytes)
+reply_v4_so i header message bytes = sent_v4_so (source_of_reply i header message) header.src_addr (ControlV4 message bytes)
 
 echo_v4_so : (i : InnerValue) (header : Ipv4Repr) (message : Icmpv4Header) (bytes : List ℕ) → IfMeasured (echo_v4 i header message bytes)
 echo_v4_so i header (V4.EchoRequest ident seq_no) bytes = reply_v4_so i header (V4.EchoReply ident seq_no) bytes

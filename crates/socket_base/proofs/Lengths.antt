@@ -2,7 +2,7 @@
 use Rattle.std.proofs.Common.{◌≡◌, ℕ, ◌+◌, Bool, List, length, refl}
 use Rattle.net_base.specs.Capabilities.{computes}
 use Rattle.net_base.specs.ChecksumCapabilities.{ChecksumCapabilities}
-use Rattle.ip_wire.specs.Ip.{source_in, destination_in}
+use Rattle.ip_wire.specs.Ip.{source_of, destination_of}
 use Rattle.ip_wire.specs.IpAddress.{IpAddress}
 use Rattle.ip_wire.specs.Ipv6Address.{Ipv6Address}
 use Rattle.ip_wire.specs.IpRepr.{IpRepr}
@@ -29,5 +29,5 @@ length-payload laws caps ip (ControlV4 message bytes) fits value = laws.icmpv4 (
 length-payload laws caps (Ip.Ipv4 header) (ControlV6 message bytes) fits value = absurd fits
 length-payload laws caps (Ip.Ipv6 header) (ControlV6 message bytes) fits value = laws.icmpv6 header.src_addr header.dst_addr (computes caps.icmpv6) message bytes value.0 value.1
 length-payload laws caps ip (Bytes bytes) fits value = refl
-length-payload laws caps ip (Datagram header bytes) fits value = laws.udp (source_in ip) (destination_in ip) (computes caps.udp) header bytes
-length-payload laws caps ip (Segment header bytes) fits value = laws.tcp (source_in ip) (destination_in ip) (computes caps.tcp) header bytes
+length-payload laws caps ip (Datagram header bytes) fits value = laws.udp (source_of ip) (destination_of ip) (computes caps.udp) header bytes
+length-payload laws caps ip (Segment header bytes) fits value = laws.tcp (source_of ip) (destination_of ip) (computes caps.tcp) header bytes

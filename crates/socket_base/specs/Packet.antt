@@ -5,7 +5,7 @@ use Rattle.net_base.specs.ChecksumCapabilities.{ChecksumCapabilities}
 use Rattle.ip_wire.specs.IpRepr.{IpRepr}
 use Rattle.ip_wire.specs.IpRepr.TheVariants as Ip
 use Rattle.ip_wire.specs.Ip as Ips
-use Rattle.ip_wire.specs.Ip.{source_in, destination_in}
+use Rattle.ip_wire.specs.Ip.{source_of, destination_of}
 use Rattle.ip_wire.specs.Udp as Udp
 use Rattle.ip_wire.specs.UdpRepr.{UdpRepr}
 use Rattle.ip_wire.specs.Tcp as Tcp
@@ -66,8 +66,8 @@ abbrev pub PayloadFits : IpRepr → PayloadValue → Type 0
 PayloadFits ip (ControlV4 message bytes) = Icmpv4.Fits message
 PayloadFits ip (ControlV6 message bytes) = ControlV6Fits ip message bytes
 PayloadFits ip (Bytes bytes) = Unit {0}
-PayloadFits ip (Datagram header bytes) = Udp.Fits (source_in ip) (destination_in ip) bytes
-PayloadFits ip (Segment header bytes) = Tcp.Fits (source_in ip) (destination_in ip) header bytes
+PayloadFits ip (Datagram header bytes) = Udp.Fits (source_of ip) (destination_of ip) bytes
+PayloadFits ip (Segment header bytes) = Tcp.Fits (source_of ip) (destination_of ip) header bytes
 
 abbrev pub control_v6_written : ChecksumCapabilities → IpRepr → Icmpv6.MessageValue → List ℕ → List ℕ
 control_v6_written caps (Ip.Ipv4 header) message bytes = bytes
@@ -79,12 +79,12 @@ abbrev pub payload_written : ChecksumCapabilities → IpRepr → PayloadValue �
 payload_written caps ip (ControlV4 message bytes) = Icmpv4.written (computes caps.ipv4) (computes caps.icmpv4) message bytes
 payload_written caps ip (ControlV6 message bytes) = control_v6_written caps ip message bytes
 payload_written caps ip (Bytes bytes) = bytes
-payload_written caps ip (Datagram header bytes) = Udp.written (source_in ip) (destination_in ip) (computes caps.udp) header bytes
-payload_written caps ip (Segment header bytes) = Tcp.written (source_in ip) (destination_in ip) (computes caps.tcp) header bytes
+payload_written caps ip (Datagram header bytes) = Udp.written (source_of ip) (destination_of ip) (computes caps.udp) header bytes
+payload_written caps ip (Segment header bytes) = Tcp.written (source_of ip) (destination_of ip) (computes caps.tcp) header bytes
 
 -- a packet that can be sent: its lengths fit their fields, its header can stand before what it carries, and says the
 -- length of that
 pub record IsSendable (p : PacketValue) : Type 0 where
   pub header : Ips.Fits p.header
   pub payload : PayloadFits p.header p.payload
-  pub len : Ips.payload_len_in p.header ≡ payload_len p.payload
+  pub len : Ips.payload_len_of p.header ≡ payload_len p.payload

@@ -1,5 +1,5 @@
 //! Two TCP sockets, each with the last segment that it sent.
-ghost use Rattle.ip_wire.specs.Ip.{source_in, destination_in};
+ghost use Rattle.ip_wire.specs.Ip.{source_of, destination_of};
 ghost use Rattle.ip_wire.specs.Tcp.{Fits, header_of};
 
 use crate::common::{Host, make_host, zeros};
@@ -123,7 +123,7 @@ fn make_end(alloc: Global, number: u8, room: usize) -> Result<End, Fail> {
 
 /// The bytes of a segment.
 fn written(alloc: Global, header: &IpRepr, segment: &TcpRepr<'_>) -> Result<Vec<u8>, Fail>
-    requires { Fits (source_in header.now) (destination_in header.now) (header_of segment.now) segment.now.payload.now }
+    requires { Fits (source_of header.now) (destination_of header.now) (header_of segment.now) segment.now.payload.now }
 {
     let mut bytes = vec![in alloc; 0u8; segment.buffer_len()]?;
     segment.emit(

@@ -3,7 +3,7 @@ use Rattle.std.proofs.Common.{◌≡◌, ◌≢◌, ◌⊎◌, inl, inr, ℕ, �
 use Rattle.std.proofs.lemmas.Bool.{and_parts, cond_both, eqb-true}
 use Rattle.std.proofs.lemmas.Slice.Eq.{bytes_eq-Decides}
 use Rattle.ip_wire.specs.AddressTests.{is_same_address}
-use Rattle.ip_wire.specs.Ip.{source_in, destination_in}
+use Rattle.ip_wire.specs.Ip.{source_of, destination_of}
 use Rattle.ip_wire.specs.IpAddress.{IpAddress}
 use Rattle.ip_wire.specs.IpAddress.TheVariants as Address
 use Rattle.ip_wire.specs.IpListenEndpoint.{IpListenEndpoint}
@@ -76,13 +76,13 @@ module _ (b : Block) (ip : IpRepr) (header : TcpHeader) where
   came_between : (pair : EndpointPair) → is_between pair ip header ≡ true → CameBetween pair ip header
   came_between pair e =
       let one =
-      and_parts (is_same_address (local_of pair.addresses) (destination_in ip))
-      (is_same_address (remote_of pair.addresses) (source_in ip) && ((pair.local_port == header.dst_port) && (pair.remote_port == header.src_port))) e in
-      let two = and_parts (is_same_address (remote_of pair.addresses) (source_in ip)) ((pair.local_port == header.dst_port) && (pair.remote_port == header.src_port)) one.1 in
+      and_parts (is_same_address (local_of pair.addresses) (destination_of ip))
+      (is_same_address (remote_of pair.addresses) (source_of ip) && ((pair.local_port == header.dst_port) && (pair.remote_port == header.src_port))) e in
+      let two = and_parts (is_same_address (remote_of pair.addresses) (source_of ip)) ((pair.local_port == header.dst_port) && (pair.remote_port == header.src_port)) one.1 in
       let ports = and_parts (pair.local_port == header.dst_port) (pair.remote_port == header.src_port) two.1 in
       record {
-        source = sym (same_address (remote_of pair.addresses) (source_in ip) two.0);
-        destination = sym (same_address (local_of pair.addresses) (destination_in ip) one.0);
+        source = sym (same_address (remote_of pair.addresses) (source_of ip) two.0);
+        destination = sym (same_address (local_of pair.addresses) (destination_of ip) one.0);
         source_port = sym (eqb-true pair.remote_port header.src_port ports.1);
         destination_port = sym (eqb-true pair.local_port header.dst_port ports.0);
       }
@@ -100,11 +100,11 @@ module _ (b : Block) (ip : IpRepr) (header : TcpHeader) where
 
   listening_for :
       b.state ≡ In.Listen
-      → ((b.names.listen.port == header.dst_port) && (takes_address b.names.listen.addr (destination_in ip) && is_bare header.ack_number header.control)) ≡ true
+      → ((b.names.listen.port == header.dst_port) && (takes_address b.names.listen.addr (destination_of ip) && is_bare header.ack_number header.control)) ≡ true
       → IsFor b ip header
   listening_for at e =
-      let parts = and_parts (b.names.listen.port == header.dst_port) (takes_address b.names.listen.addr (destination_in ip) && is_bare header.ack_number header.control) e in
-      let rest = and_parts (takes_address b.names.listen.addr (destination_in ip)) (is_bare header.ack_number header.control) parts.1 in
+      let parts = and_parts (b.names.listen.port == header.dst_port) (takes_address b.names.listen.addr (destination_of ip) && is_bare header.ack_number header.control) e in
+      let rest = and_parts (takes_address b.names.listen.addr (destination_of ip)) (is_bare header.ack_number header.control) parts.1 in
       let bare = bare_of header.ack_number header.control rest.1 in
       record {
         opened = ap is_closed at;
@@ -164,7 +164,7 @@ abort_names v = keeps_off v.block (abort_after v).block refl refl
 
 -- WHEN A SEGMENT COMES
 
-header_back : (ip : IpRepr) (hops len : ℕ) → (source_in (header_for (addresses_in ip) hops len) ≡ destination_in ip) × (destination_in (header_for (addresses_in ip) hops len) ≡ source_in ip)
+header_back : (ip : IpRepr) (hops len : ℕ) → (source_of (header_for (addresses_in ip) hops len) ≡ destination_of ip) × (destination_of (header_for (addresses_in ip) hops len) ≡ source_of ip)
 header_back (Ip.Ipv4 v) hops len = (refl, refl)
 header_back (Ip.Ipv6 v) hops len = (refl, refl)
 
@@ -369,7 +369,7 @@ answer_back cx v ip header bytes = (arrival_renamed cx ip header v bytes).1
 
 -- WHEN IT IS ASKED FOR A SEGMENT
 
-header_between : (pair : AddressPair) (hops len : ℕ) → (source_in (header_for pair hops len) ≡ local_of pair) × (destination_in (header_for pair hops len) ≡ remote_of pair)
+header_between : (pair : AddressPair) (hops len : ℕ) → (source_of (header_for pair hops len) ≡ local_of pair) × (destination_of (header_for pair hops len) ≡ remote_of pair)
 header_between (Pair.Ipv4 local remote) hops len = (refl, refl)
 header_between (Pair.Ipv6 local remote) hops len = (refl, refl)
 
@@ -383,8 +383,8 @@ module _ (cx : ContextValue) (pair : EndpointPair) where
   between x hops len header source destination =
       let ends = header_between pair.addresses hops len in
       record {
-        source = ap source_in header ∙ ends.0;
-        destination = ap destination_in header ∙ ends.1;
+        source = ap source_of header ∙ ends.0;
+        destination = ap destination_of header ∙ ends.1;
         source_port = source;
         destination_port = destination;
       }

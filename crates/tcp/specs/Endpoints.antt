@@ -1,6 +1,6 @@
 -- The endpoints of a socket: between which its segments go, and what becomes of its names.
 use Rattle.std.specs.Prelude.{◌≡◌, ◌⊎◌, ℕ, ◌==◌, true, false, Option, Some, None}
-use Rattle.ip_wire.specs.Ip.{source_in, destination_in}
+use Rattle.ip_wire.specs.Ip.{source_of, destination_of}
 use Rattle.ip_wire.specs.IpRepr.{IpRepr}
 use Rattle.ip_wire.specs.TcpHeader.{TcpHeader}
 use Rattle.tcp_model.specs.declared.block.Block.{Block}
@@ -18,22 +18,22 @@ use Rattle.tcp_model.specs.Value.{TcpValue}
 
 -- what it offers goes from the local endpoint of its pair to the remote one
 pub record GoesBetween (pair : EndpointPair) (o : OpenOffer) : Type 0 where
-  pub source : source_in o.header ≡ local_of pair.addresses
-  pub destination : destination_in o.header ≡ remote_of pair.addresses
+  pub source : source_of o.header ≡ local_of pair.addresses
+  pub destination : destination_of o.header ≡ remote_of pair.addresses
   pub source_port : o.segment.src_port ≡ pair.local_port
   pub destination_port : o.segment.dst_port ≡ pair.remote_port
 
 -- what answers a packet goes between the same endpoints, exchanged
 pub record GoesBack (ip : IpRepr) (header : TcpHeader) (reply : Reply) : Type 0 where
-  pub source : source_in reply.header ≡ destination_in ip
-  pub destination : destination_in reply.header ≡ source_in ip
+  pub source : source_of reply.header ≡ destination_of ip
+  pub destination : destination_of reply.header ≡ source_of ip
   pub source_port : reply.segment.src_port ≡ header.dst_port
   pub destination_port : reply.segment.dst_port ≡ header.src_port
 
 -- a packet that came went between the endpoints of the connection
 pub record CameBetween (pair : EndpointPair) (ip : IpRepr) (header : TcpHeader) : Type 0 where
-  pub source : source_in ip ≡ remote_of pair.addresses
-  pub destination : destination_in ip ≡ local_of pair.addresses
+  pub source : source_of ip ≡ remote_of pair.addresses
+  pub destination : destination_of ip ≡ local_of pair.addresses
   pub source_port : header.src_port ≡ pair.remote_port
   pub destination_port : header.dst_port ≡ pair.local_port
 

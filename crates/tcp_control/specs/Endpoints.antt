@@ -1,6 +1,6 @@
 -- The two endpoints of a connection, in a packet and in the header of a packet; which endpoint a socket listens on.
 use Rattle.std.specs.Prelude.{ℕ, ◌==◌, ◌&&◌, Bool, true, false, Option, Some, None}
-use Rattle.ip_wire.specs.Ip.{source_in, destination_in}
+use Rattle.ip_wire.specs.Ip.{source_of, destination_of}
 use Rattle.ip_wire.specs.IpAddress.{IpAddress}
 use Rattle.ip_wire.specs.IpAddress.TheVariants as Address
 use Rattle.ip_wire.specs.IpListenEndpoint.{IpListenEndpoint}
@@ -75,7 +75,7 @@ is_same_listener one other = is_same_choice one.addr other.addr && (one.port == 
 -- the endpoints of a packet that came are those of the connection
 abbrev pub is_between : EndpointPair → IpRepr → TcpHeader → Bool
 is_between pair ip header =
-    is_same_address (local_of pair.addresses) (destination_in ip) && (is_same_address (remote_of pair.addresses) (source_in ip)
+    is_same_address (local_of pair.addresses) (destination_of ip) && (is_same_address (remote_of pair.addresses) (source_of ip)
     && ((pair.local_port == header.dst_port) && (pair.remote_port == header.src_port)))
 
 abbrev pub is_connected_by : Option EndpointPair → IpRepr → TcpHeader → Bool

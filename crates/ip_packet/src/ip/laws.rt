@@ -1,7 +1,7 @@
 //! Laws of the formats.
 ghost use Rattle.std.specs.Prelude.{◌≡◌, ◌↔◌, ℕ, ◌+◌, ◌≤◌, Bool, IsTrue, List, ◌++◌, length};
 ghost use Rattle.ip_address.specs.Fields.{IsBytes};
-ghost use Rattle.ip_packet.specs.Ip.{payload_len_in, header_len_in, IsIp, IsValue, Fits, written, normal};
+ghost use Rattle.ip_packet.specs.Ip.{payload_len_of, header_len_in, IsIp, IsValue, Fits, written, normal};
 
 use super::repr::IpRepr;
 
@@ -9,7 +9,7 @@ use super::repr::IpRepr;
 pub fn ip_no_longer()
     ensures { (tested : Bool) (bytes : List ℕ) (v : IpRepr)
         → IsIp tested bytes v
-        → header_len_in v + payload_len_in v ≤ length bytes }
+        → header_len_in v + payload_len_of v ≤ length bytes }
 {}
 
 /// Law: how many bytes a header has that is sent.
@@ -38,7 +38,7 @@ pub fn ip_reads_back()
     ensures { (tested sealed : Bool) (v : IpRepr) (rest : List ℕ)
         → Fits v
         → IsValue v
-        → payload_len_in v ≤ length rest
+        → payload_len_of v ≤ length rest
         → (IsTrue tested → IsTrue sealed)
         → IsIp tested (written sealed v ++ rest) (normal v) }
 {}

@@ -2,7 +2,7 @@
 ghost use Rattle.std.specs.Prelude.{◌≡◌, ◌+◌, ◌≤◌, ◌<◌, ◌^◌, IfOk, ◌++◌, length, drop};
 ghost use Rattle.ip_address.specs.Address.{version_of};
 ghost use Rattle.net_devices.specs.Capabilities.{verifies, computes};
-ghost use Rattle.ip_packet.specs.Ip.{version_in, source_in, destination_in, carried_in, payload_len_in, hops_in, IsUnnumbered, header_len_in, with_payload_len, IsIp, Fits, written};
+ghost use Rattle.ip_packet.specs.Ip.{version_in, source_of, destination_of, carried_in, payload_len_of, hops_in, IsUnnumbered, header_len_in, with_payload_len, IsIp, Fits, written};
 ghost use Rattle.ip_packet.specs.declared.ip.repr.IpRepr.{IpRepr};
 ghost use Rattle.ip_packet.specs.declared.ip.repr.IpRepr.TheVariants as Either;
 
@@ -49,10 +49,10 @@ impl IpRepr {
         hop_limit: u8,
     ) -> IpRepr
         requires { version_of src_addr ≡ version_of dst_addr }
-        ensures source { source_in result ≡ src_addr }
-        ensures destination { destination_in result ≡ dst_addr }
+        ensures source { source_of result ≡ src_addr }
+        ensures destination { destination_of result ≡ dst_addr }
         ensures protocol { carried_in result ≡ next_header }
-        ensures payload { payload_len_in result ≡ payload_len }
+        ensures payload { payload_len_of result ≡ payload_len }
         ensures hops { hops_in result ≡ hop_limit }
         ensures unnumbered { IsUnnumbered result }
     {
@@ -88,7 +88,7 @@ impl IpRepr {
     }
 
     pub const fn src_addr(&self) -> IpAddress
-        ensures { result ≡ source_in self.now }
+        ensures { result ≡ source_of self.now }
     {
         match self {
             IpRepr::Ipv4(header) => IpAddress::Ipv4(header.src_addr),
@@ -97,7 +97,7 @@ impl IpRepr {
     }
 
     pub const fn dst_addr(&self) -> IpAddress
-        ensures { result ≡ destination_in self.now }
+        ensures { result ≡ destination_of self.now }
     {
         match self {
             IpRepr::Ipv4(header) => IpAddress::Ipv4(header.dst_addr),
@@ -116,7 +116,7 @@ impl IpRepr {
     }
 
     pub const fn payload_len(&self) -> usize
-        ensures { result ≡ payload_len_in self.now }
+        ensures { result ≡ payload_len_of self.now }
     {
         match self {
             IpRepr::Ipv4(header) => header.payload_len,
@@ -154,8 +154,8 @@ impl IpRepr {
 
     /// The length of header and payload.
     pub const fn buffer_len(&self) -> usize
-        requires { header_len_in self.now + payload_len_in self.now < 2 ^ 64 }
-        ensures { result ≡ header_len_in self.now + payload_len_in self.now }
+        requires { header_len_in self.now + payload_len_of self.now < 2 ^ 64 }
+        ensures { result ≡ header_len_in self.now + payload_len_of self.now }
     {
         self.header_len() + self.payload_len()
     }

@@ -9,7 +9,7 @@ use Rattle.ip_wire.specs.Fields.{be16, put16}
 use Rattle.ip_wire.specs.HardwareAddress.{HardwareAddress}
 use Rattle.ip_wire.specs.HardwareAddress.TheVariants as Hardware
 use Rattle.ip_wire.specs.Ip as Ips
-use Rattle.ip_wire.specs.Ip.{carried_in, source_in, destination_in}
+use Rattle.ip_wire.specs.Ip.{carried_in, source_of, destination_of}
 use Rattle.ip_wire.specs.IpProtocol.TheVariants as Protocol
 use Rattle.ip_wire.specs.IpRepr.{IpRepr}
 use Rattle.ip_wire.specs.IpRepr.TheVariants as Ip
@@ -241,12 +241,12 @@ module _ (made : PayloadValue → Type 0) (hardware : HardwareAddress) (out : Li
     protocol_sent : carried_in (Ips.normal f.sent.packet.header) ≡ Protocol.Tcp
     protocol_sent = ap (λ (h : IpRepr). carried_in (Ips.normal h)) f.sent.header ∙ protocol
 
-    checked : Tcp.IsChecked (source_in (Ip.Ipv4 header)) (destination_in (Ip.Ipv4 header)) x
+    checked : Tcp.IsChecked (source_of (Ip.Ipv4 header)) (destination_of (Ip.Ipv4 header)) x
     checked =
         let of_packet = segment_checked made f.sent.packet (all f.sent.packet f.sent.among) protocol_sent in
-        let of_header : Tcp.IsChecked (source_in (Ip.Ipv4 header)) (destination_in (Ip.Ipv4 header)) (bytes_of f.sent.packet) =
-        subst (λ (h : IpRepr). Tcp.IsChecked (source_in (Ips.normal h)) (destination_in (Ips.normal h)) (bytes_of f.sent.packet)) f.sent.header of_packet in
-        subst (λ (b : List ℕ). Tcp.IsChecked (source_in (Ip.Ipv4 header)) (destination_in (Ip.Ipv4 header)) b) (sym (all_bytes ∙ f.sent.bytes_are)) of_header
+        let of_header : Tcp.IsChecked (source_of (Ip.Ipv4 header)) (destination_of (Ip.Ipv4 header)) (bytes_of f.sent.packet) =
+        subst (λ (h : IpRepr). Tcp.IsChecked (source_of (Ips.normal h)) (destination_of (Ips.normal h)) (bytes_of f.sent.packet)) f.sent.header of_packet in
+        subst (λ (b : List ℕ). Tcp.IsChecked (source_of (Ip.Ipv4 header)) (destination_of (Ip.Ipv4 header)) b) (sym (all_bytes ∙ f.sent.bytes_are)) of_header
 
     slice_bad : (padding : List ℕ) → IsDamage frame part place word → BringsBad hardware (damaged frame part place word ++ padding)
     slice_bad padding damage v is =
@@ -318,12 +318,12 @@ module _ (made : PayloadValue → Type 0) (hardware : HardwareAddress) (out : Li
     protocol_sent6 : carried_in (Ips.normal f.sent.packet.header) ≡ Protocol.Tcp
     protocol_sent6 = ap (λ (h : IpRepr). carried_in (Ips.normal h)) f.sent.header ∙ protocol6
 
-    checked6 : Tcp.IsChecked (source_in (Ip.Ipv6 header6)) (destination_in (Ip.Ipv6 header6)) f.bytes
+    checked6 : Tcp.IsChecked (source_of (Ip.Ipv6 header6)) (destination_of (Ip.Ipv6 header6)) f.bytes
     checked6 =
         let of_packet = segment_checked made f.sent.packet (all f.sent.packet f.sent.among) protocol_sent6 in
-        let of_header : Tcp.IsChecked (source_in (Ip.Ipv6 header6)) (destination_in (Ip.Ipv6 header6)) (bytes_of f.sent.packet) =
-        subst (λ (h : IpRepr). Tcp.IsChecked (source_in (Ips.normal h)) (destination_in (Ips.normal h)) (bytes_of f.sent.packet)) f.sent.header of_packet in
-        subst (λ (b : List ℕ). Tcp.IsChecked (source_in (Ip.Ipv6 header6)) (destination_in (Ip.Ipv6 header6)) b) (sym f.sent.bytes_are) of_header
+        let of_header : Tcp.IsChecked (source_of (Ip.Ipv6 header6)) (destination_of (Ip.Ipv6 header6)) (bytes_of f.sent.packet) =
+        subst (λ (h : IpRepr). Tcp.IsChecked (source_of (Ips.normal h)) (destination_of (Ips.normal h)) (bytes_of f.sent.packet)) f.sent.header of_packet in
+        subst (λ (b : List ℕ). Tcp.IsChecked (source_of (Ip.Ipv6 header6)) (destination_of (Ip.Ipv6 header6)) b) (sym f.sent.bytes_are) of_header
 
     whole6_bad : (padding : List ℕ) → IsDamage frame part place word → BringsBad hardware (damaged frame part place word ++ padding)
     whole6_bad padding damage v is =

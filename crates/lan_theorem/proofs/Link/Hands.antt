@@ -4,7 +4,7 @@ use Rattle.std.proofs.lemmas.Bool.Decides.{nat_tests}
 use Rattle.tcp_law.specs.ReceiveMap.{Begins}
 use Rattle.tcp_law.proofs.Lists.{Begins-whole}
 use Rattle.ip_wire.specs.Ip as Ips
-use Rattle.ip_wire.specs.Ip.{carried_in, source_in, destination_in}
+use Rattle.ip_wire.specs.Ip.{carried_in, source_of, destination_of}
 use Rattle.ip_wire.specs.IpAddress.{IpAddress}
 use Rattle.ip_wire.specs.IpAddress.TheVariants as Address
 use Rattle.ip_wire.specs.IpRepr.{IpRepr}
@@ -68,10 +68,10 @@ module _ (made : PayloadValue → Type 0) where
   -- KEYS
 
   module _ (h h' : Ipv4Repr) (payload : List ℕ) (same : Ipv4.key_of h ≡ Ipv4.key_of h') where
-    source_same : source_in (Ip.Ipv4 h) ≡ source_in (Ip.Ipv4 h')
+    source_same : source_of (Ip.Ipv4 h) ≡ source_of (Ip.Ipv4 h')
     source_same = ap (λ (k : Ipv4FragKey). Address.Ipv4 k.src_addr) same
 
-    destination_same : destination_in (Ip.Ipv4 h) ≡ destination_in (Ip.Ipv4 h')
+    destination_same : destination_of (Ip.Ipv4 h) ≡ destination_of (Ip.Ipv4 h')
     destination_same = ap (λ (k : Ipv4FragKey). Address.Ipv4 k.dst_addr) same
 
     protocol_same : h.next_header ≡ h'.next_header
@@ -81,14 +81,14 @@ module _ (made : PayloadValue → Type 0) where
     pub hands_by_key : HandsMade made (Ip.Ipv4 h') payload → HandsMade made (Ip.Ipv4 h) payload
     hands_by_key hands (Datagram udp bytes) is = hands (Datagram udp bytes) (record {
       protocol = sym protocol_same ∙ is.protocol;
-      format = subst (λ (a : IpAddress). Udp.IsUdp a (destination_in (Ip.Ipv4 h')) true payload udp) source_same
-          (subst (λ (a : IpAddress). Udp.IsUdp (source_in (Ip.Ipv4 h)) a true payload udp) destination_same is.format);
+      format = subst (λ (a : IpAddress). Udp.IsUdp a (destination_of (Ip.Ipv4 h')) true payload udp) source_same
+          (subst (λ (a : IpAddress). Udp.IsUdp (source_of (Ip.Ipv4 h)) a true payload udp) destination_same is.format);
       bytes_are = is.bytes_are;
     })
     hands_by_key hands (Segment header bytes) is = hands (Segment header bytes) (record {
       protocol = sym protocol_same ∙ is.protocol;
-      format = subst (λ (a : IpAddress). Tcp.IsTcp a (destination_in (Ip.Ipv4 h')) true payload header) source_same
-          (subst (λ (a : IpAddress). Tcp.IsTcp (source_in (Ip.Ipv4 h)) a true payload header) destination_same is.format);
+      format = subst (λ (a : IpAddress). Tcp.IsTcp a (destination_of (Ip.Ipv4 h')) true payload header) source_same
+          (subst (λ (a : IpAddress). Tcp.IsTcp (source_of (Ip.Ipv4 h)) a true payload header) destination_same is.format);
       bytes_are = is.bytes_are;
     })
     hands_by_key hands (ControlV4 message bytes) is = tt

@@ -7,7 +7,7 @@ use Rattle.ip_wire.specs.AddressTests.{is_unspecified, is_multicast}
 use Rattle.ip_wire.specs.EthernetAddress.{EthernetAddress}
 use Rattle.ip_wire.specs.HardwareAddress.{HardwareAddress}
 use Rattle.ip_wire.specs.HardwareAddress.TheVariants as Hardware
-use Rattle.ip_wire.specs.Ip.{destination_in}
+use Rattle.ip_wire.specs.Ip.{destination_of}
 use Rattle.ip_wire.specs.IpAddress.{IpAddress}
 use Rattle.ip_wire.specs.IpAddress.TheVariants as Address
 use Rattle.ip_wire.specs.IpRepr.{IpRepr}
@@ -140,8 +140,8 @@ by_link own i busy h Link.NoRoute is = tt
 by_link own i busy h Link.Silent is = tt
 by_link own i busy h (Link.Unknown hop) is = ask_by own i.hardware i hop is
 
-pub plan_kind : (i : InnerValue) (busy : Bool) (h : IpRepr) → IsSound i → IsIpAddress (destination_in h) → PlanKind i.hardware (plan_of i busy h)
-plan_kind i busy h sound is = elim (is_unspecified (destination_in h)) as (λ b. PlanKind i.hardware (cond b Way.Drop (plan_by (link_address i (destination_in h)) i busy h))) [
+pub plan_kind : (i : InnerValue) (busy : Bool) (h : IpRepr) → IsSound i → IsIpAddress (destination_of h) → PlanKind i.hardware (plan_of i busy h)
+plan_kind i busy h sound is = elim (is_unspecified (destination_of h)) as (λ b. PlanKind i.hardware (cond b Way.Drop (plan_by (link_address i (destination_of h)) i busy h))) [
   | true ↦ tt
-  | false ↦ by_link i.hardware i busy h (link_address i (destination_in h)) (link_kind i.hardware i (destination_in h) sound is)
+  | false ↦ by_link i.hardware i busy h (link_address i (destination_of h)) (link_kind i.hardware i (destination_of h) sound is)
 ]

@@ -7,7 +7,7 @@ use Rattle.ip_wire.specs.Address.{IsIpAddress}
 use Rattle.ip_wire.specs.HardwareAddress.{HardwareAddress}
 use Rattle.ip_wire.specs.HardwareAddress.TheVariants as Hardware
 use Rattle.ip_wire.specs.Ip as Ips
-use Rattle.ip_wire.specs.Ip.{carried_in, destination_in}
+use Rattle.ip_wire.specs.Ip.{carried_in, destination_of}
 use Rattle.ip_wire.specs.IpRepr.{IpRepr}
 use Rattle.ip_wire.specs.IpRepr.TheVariants as Ip
 use Rattle.ip_wire.specs.Ipv4Repr.{Ipv4Repr}
@@ -94,7 +94,7 @@ silent_sound i s = record { own = s.own; neighbors = s.neighbors; routers = s.ro
 
 -- WHAT A HOST IS AFTER SOMETHING WENT
 
-to_address : (h : IpRepr) → Ips.IsValue h → IsIpAddress (destination_in h)
+to_address : (h : IpRepr) → Ips.IsValue h → IsIpAddress (destination_of h)
 to_address (Ip.Ipv4 v) is = is.destination
 to_address (Ip.Ipv6 v) is = is.destination
 

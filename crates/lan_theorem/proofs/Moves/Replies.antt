@@ -21,7 +21,7 @@ use Rattle.interface_tables.specs.Inner.{InnerValue}
 use Rattle.interface_ingress.specs.Arrives.{told, answered}
 use Rattle.interface_ingress.specs.Handed.{control_v4_reply, control_v6_reply, message_reply}
 use Rattle.interface_ingress.specs.Heard.{Heard, heard, heard_on, counts, learned, advertised, answer, advertisement, is_asked}
-use Rattle.interface_ingress.specs.Replies.{sent_v4, echo_v4, port_unreachable, protocol_unreachable, source_in_reply, quoted_v4, quoted_v6}
+use Rattle.interface_ingress.specs.Replies.{sent_v4, echo_v4, port_unreachable, protocol_unreachable, source_of_reply, quoted_v4, quoted_v6}
 use Rattle.lan_packets.specs.Parties.{Party}
 use Rattle.lan_theorem.specs.Moves.Made.{IsMade, IsMadeReply}
 
@@ -42,7 +42,7 @@ module _ (Q : PacketValue → Type 0)
 
   echo_free : (i : InnerValue) (header : Ipv4Repr) (message : Icmpv4Header) (bytes : List ℕ) → Free (echo_v4 i header message bytes)
   echo_free i header (V4.EchoRequest ident seq_no) bytes =
-      sent_free (source_in_reply i header (V4.EchoReply ident seq_no)) header.src_addr (V4.EchoReply ident seq_no) bytes
+      sent_free (source_of_reply i header (V4.EchoReply ident seq_no)) header.src_addr (V4.EchoReply ident seq_no) bytes
   echo_free i header message bytes = tt
 
   pub control_v4_free : (i : InnerValue) (ip : IpRepr) (message : Icmpv4Header) (bytes : List ℕ) → Free (control_v4_reply i ip message bytes)

@@ -1,7 +1,7 @@
 -- A socket's turn is a move, or none.
 use Rattle.std.proofs.Common.{◌≡◌, ℕ, Bool, true, false, inl, inr, List, [], ◌∷◌, ◌++◌, length, Option, Some, None, IfSome, refl, sym, ap, ◌∙◌, subst, arith, append-nil, ◌+◌}
 use Rattle.std.specs.Prelude.{slice_set, slice_index_or}
-use Rattle.ip_wire.specs.Ip.{destination_in}
+use Rattle.ip_wire.specs.Ip.{destination_of}
 use Rattle.net_base.specs.Device.{Move}
 use Rattle.socket_base.specs.Context.{ContextValue}
 use Rattle.socket_base.specs.Packet.{PacketValue}
@@ -229,7 +229,7 @@ module _ {D : Type 0} (moves : D → Move → D → Type 0) (names : List ℕ �
   sends x x' item item' offered changed turned None is wide offers goes f = absurd goes
   sends x x' item item' offered changed turned (Some packet) is wide offers goes f =
       let sent = goes.0 in
-      let meta = marked sent x.inner.moment (destination_in packet.header) item.meta in
+      let meta = marked sent x.inner.moment (destination_of packet.header) item.meta in
       let places = before ++ holding meta (settled (is_done sent) offered) ∷ after in
       let given = gives names side net f.now f.reaches before after item.meta meta (context_of x.inner) item.socket offered (Offer.Packet changed) (is_done sent) offers f.sockets in
       let on = moved_on x (Some item) places f given.moved in

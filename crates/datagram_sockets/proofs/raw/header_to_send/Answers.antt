@@ -24,7 +24,7 @@ returns-then-passes c =
     let only = λ (other : IpRepr) (is : Ip.IsIp false c.args.bytes.now other).
     sym (ok_same header other c.parse.result c.in-Ok.is (c.parse.ensures.only other (subst (λ (caps : ChecksumCapabilities). Ip.IsIp (verifies caps.ipv4) c.args.bytes.now other) (sym c.ignored.ensures) is)))
     in
-    let specified : is_unspecified (Ip.destination_in header) ≡ false = ap is_unspecified (sym c.dst_addr.ensures) ∙ sym c.is_unspecified.ensures ∙ c.if-not-is_unspecified.true in
+    let specified : is_unspecified (Ip.destination_of header) ≡ false = ap is_unspecified (sym c.dst_addr.ensures) ∙ sym c.is_unspecified.ensures ∙ c.if-not-is_unspecified.true in
     let may : may_send (filters c.args.version c.args.protocol) header ≡ true =
     ap (λ b. if b then false else passes c.args.version c.args.protocol header) specified ∙ sym c.passes.ensures ∙ c.if-passes.true
     in
