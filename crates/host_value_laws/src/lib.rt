@@ -4,4 +4,8 @@
 //! Each law is a function of its own, with nothing to do. The crate stands on top, so that no crate below is proved anew for it.
 #![tactic(auto)]
 
+pub mod interface_equal;
+pub mod interface_refusals;
+pub mod interface_values;
+pub mod lan_net_equal;
 pub mod script_equal;
