@@ -1,8 +1,7 @@
 -- When values of an interface are equal, by the laws of their addresses, headers and packets.
-use Rattle.std.proofs.Common.{rules, ◌≡◌, ℕ, refl, ap, ap₂}
+use Rattle.std.proofs.Common.{◌≡◌, refl, ap, ap₂}
 use Rattle.std.specs.Bool.{Decides}
-use Rattle.std.specs.Cmp.{booleans_Decides}
-use Rattle.std.proofs.lemmas.Bool.Decides.{Decides-and, Decides-eqb}
+use Rattle.std.proofs.lemmas.Bool.Decides.{Decides-and}
 use Rattle.std.proofs.lemmas.Slice.Eq.{bytes_eq-Decides}
 use Rattle.ip_wire.specs.EthernetAddress.{EthernetAddress}
 use Rattle.ip_wire.specs.HardwareAddress.{HardwareAddress}
