@@ -1,0 +1,4 @@
+pub mod Told
+pub mod InterfaceEqual
+pub mod TunEqual
+pub mod Begins

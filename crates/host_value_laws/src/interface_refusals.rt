@@ -1,0 +1,75 @@
+//! When calls of an interface refuse, and what a refusal leaves as it was: each function makes one call, and says again what the
+//! call promises.
+ghost use Rattle.std.specs.Prelude.{◌≡◌, ◌↔◌, ◌<◌, ◌∷◌, ◌++◌, [], length, remove, replicate, slice_get, slice_set, IsTrue, IsOk, IfOk, OnOk, OnErr, IsSome, IfNone};
+ghost use Rattle.ip_wire.specs.IpAddress.TheVariants as Address;
+ghost use Rattle.interface_tables.specs.Best.{first_that};
+ghost use Rattle.interface_tables.specs.Route.{is_gateway_v4, is_gateway_v6, IsGateway, has_room, IsAdded};
+ghost use Rattle.interface_egress.specs.Set.{places, is_fixed, free, free_place, socket_at, Adds};
+
+use interface_egress::{AddError, SocketHandle, SocketSet};
+use interface_tables::{Route, RouteTableFull, Routes, TABLE_ROOM};
+use ip_wire::{Ipv4Address, Ipv6Address};
+
+/// A table takes four routes, and stays as it was where it refuses one.
+pub fn push_route(routes: &mut Routes<TABLE_ROOM>, route: Route) -> Result<(), RouteTableFull>
+    ensures ok { IsOk result ↔ (length routes.old < 4) }
+    ensures added { OnOk result (routes.new ≡ routes.old ++ route ∷ []) }
+    ensures err { OnErr result (routes.new ≡ routes.old) }
+{
+    routes.push(route)
+}
+
+/// A route is taken out where there is one.
+pub fn remove_route(routes: &mut Routes<TABLE_ROOM>, at: usize) -> Option<Route>
+    ensures value { result ≡ slice_get routes.old at }
+    ensures after { IsSome result → routes.new ≡ remove routes.old at }
+    ensures none { IfNone result (routes.new ≡ routes.old) }
+{
+    routes.remove(at)
+}
+
+/// A router of all IPv4 packets takes the place of the one before, or a free one.
+pub fn set_ipv4_router(
+    routes: &mut Routes<TABLE_ROOM>,
+    gateway: Ipv4Address,
+) -> Result<Option<Route>, RouteTableFull>
+    ensures ok { IsOk result ↔ IsTrue (has_room 4 is_gateway_v4 routes.old) }
+    ensures replaced { IfOk result (λ old. old ≡ first_that is_gateway_v4 routes.old) }
+    ensures added { OnOk result (IsAdded is_gateway_v4 (λ r. IsGateway r (replicate 4 0) (Address.Ipv4 gateway)) routes.old routes.new) }
+    ensures err { OnErr result (routes.new ≡ routes.old) }
+{
+    routes.add_default_ipv4_route(gateway)
+}
+
+/// The same of IPv6 packets.
+pub fn set_ipv6_router(
+    routes: &mut Routes<TABLE_ROOM>,
+    gateway: Ipv6Address,
+) -> Result<Option<Route>, RouteTableFull>
+    ensures ok { IsOk result ↔ IsTrue (has_room 4 is_gateway_v6 routes.old) }
+    ensures replaced { IfOk result (λ old. old ≡ first_that is_gateway_v6 routes.old) }
+    ensures added { OnOk result (IsAdded is_gateway_v6 (λ r. IsGateway r (replicate 16 0) (Address.Ipv6 gateway)) routes.old routes.new) }
+    ensures err { OnErr result (routes.new ≡ routes.old) }
+{
+    routes.add_default_ipv6_route(gateway)
+}
+
+/// A socket goes to the first free place. A full set, or want of memory, hands it back.
+pub fn add_socket<T: Drop>(
+    sockets: &mut SocketSet<T>,
+    socket: T,
+) -> Result<SocketHandle, AddError<T>>
+    ensures added { Adds (free_place (places sockets.old)) (is_fixed sockets.old) (places sockets.old) socket result (places sockets.new) }
+    ensures fixed { is_fixed sockets.new ≡ is_fixed sockets.old }
+{
+    sockets.add(socket)
+}
+
+/// A socket is taken out where there is one.
+pub fn remove_socket<T: Drop>(sockets: &mut SocketSet<T>, handle: SocketHandle) -> Option<T>
+    ensures value { result ≡ socket_at (places sockets.old) handle.0 }
+    ensures after { places sockets.new ≡ slice_set (places sockets.old) handle.0 free }
+    ensures fixed { is_fixed sockets.new ≡ is_fixed sockets.old }
+{
+    sockets.remove(handle)
+}

@@ -1,0 +1,22 @@
+//! What the values of the upper crates are: what `==` says of them, the numbers that their constants and defaults are, the
+//! texts of their errors, and that what a crate passes on is its member's, under its own name.
+//!
+//! Each law is a small function, with nothing to do or one call to make. The crate stands on top, so that no crate below is
+//! proved anew for it.
+#![tactic(auto)]
+
+pub mod host_polls;
+pub mod host_refusals;
+pub mod interface_equal;
+pub mod interface_facade;
+pub mod interface_host;
+pub mod interface_refusals;
+pub mod interface_values;
+pub mod lan_net_equal;
+pub mod lan_net_values;
+pub mod script_equal;
+pub mod tun_equal;
+pub mod tun_served;
+pub mod world_equal;
+pub mod world_facade;
+pub mod world_refusals;

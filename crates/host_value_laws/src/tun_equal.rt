@@ -1,0 +1,25 @@
+//! What `==` says of the values of a host over a reader and a writer, and of its services: two are equal exactly where they are
+//! the same value.
+ghost use Rattle.std.specs.Prelude.{◌≡◌, ◌↔◌, IsTrue};
+ghost use Rattle.tun_host.specs.contracts.place.ServicePartialEq.TheImpl as Services;
+ghost use Rattle.tun_host.specs.contracts.settings.SettingsPartialEq.TheImpl as AllSettings;
+ghost use Rattle.tun_host.specs.declared.place.Service.{Service};
+ghost use Rattle.tun_host.specs.declared.settings.Settings.{Settings};
+
+use services::Verdict;
+use tun_host::ServeError;
+use tun_link::TurnError;
+
+/// Law: `==` says of why two turns aren't taken, of why two hosts ended, and of two verdicts on requests whether they are the
+/// same.
+pub fn errors_are_equated()
+    ensures turns { (a b : TurnError) → IsTrue (⟦<TurnError as PartialEq>⟧.eq a b) ↔ (a ≡ b) }
+    ensures ends { (a b : ServeError) → IsTrue (⟦<ServeError as PartialEq>⟧.eq a b) ↔ (a ≡ b) }
+    ensures verdicts { (a b : Verdict) → IsTrue (⟦<Verdict as PartialEq>⟧.eq a b) ↔ (a ≡ b) }
+{}
+
+/// Law: `==` says of what two sockets are for, and of what two hosts begin with, whether it is the same.
+pub fn settings_are_equated()
+    ensures services { (a b : Service) → IsTrue (Services.ghosts.eq a b) ↔ (a ≡ b) }
+    ensures settings { (a b : Settings) → IsTrue (AllSettings.ghosts.eq a b) ↔ (a ≡ b) }
+{}
