@@ -1,6 +1,7 @@
 //! A script in, its answers out.
-ghost use Rattle.std.specs.Prelude.{◌≡◌, ◌≢◌, ◌≤◌, ⊤, List, ℕ, IfOk, OnOk, IfSome, MatchOption};
+ghost use Rattle.std.specs.Prelude.{◌≡◌, ◌≢◌, ◌≤◌, ⊤, List, [], ℕ, IfOk, OnOk, IfSome, MatchOption};
 ghost use Rattle.std.specs.Io.KnownBytes.{Appends};
+ghost use Rattle.lan.specs.declared.session.Session.TheVariants.{Begun};
 ghost use Rattle.lan.specs.Pieces.{ReadsOn, RunsSoFar};
 ghost use Rattle.lan.specs.Scripts.{IsReplay};
 
@@ -53,6 +54,28 @@ fn try_replay<R: Read, W: Write>(
     ensures reads { OnOk result (ReadsOn (R.remaining reader.old) (R.remaining reader.new)) }
 {
     let mut run = Run::new(alloc);
+    replay_on(alloc, &mut run, reader, writer)
+}
+
+// The same of a run before its first line, which isn't owned here: that keeps the proof short.
+fn replay_on<R: Read, W: Write>(
+    alloc: Global,
+    run: &mut Run,
+    reader: &mut R,
+    writer: &mut W,
+) -> io::Result<Option<u8>>
+    requires session { run.old.session ≡ Begun }
+    requires number { run.old.number ≡ 1 }
+    requires begun { run.old.begun.items ≡ [] }
+    ensures ended { IfOk result (λ ended. IfSome ended (λ status. (script output : List ℕ)
+        × IfSome (R.remaining reader.old) (λ input. script ≡ input)
+        × IsReplay script output status
+        × Appends (W.contents writer.old) (W.contents writer.new) output)) }
+    ensures unended { IfOk result (λ ended. MatchOption ended ((output : List ℕ)
+        × RunsSoFar (R.remaining reader.old) (R.remaining reader.new) output
+        × Appends (W.contents writer.old) (W.contents writer.new) output) (λ status. ⊤)) }
+    ensures reads { OnOk result (ReadsOn (R.remaining reader.old) (R.remaining reader.new)) }
+{
     let mut piece = [0; PIECE];
     for count in 0..MOST_READS {
         match reader.read(&mut piece) {
@@ -64,10 +87,9 @@ fn try_replay<R: Read, W: Write>(
             Ok(len) => {
                 let led = run.take_piece(alloc, &piece[..len], writer)?;
                 writer.flush()?;
-                let Some(next) = led else {
+                if !led {
                     return Ok(Some(1));
-                };
-                run = next;
+                }
             }
             Err(error) if error.kind() == ErrorKind::Interrupted => {}
             Err(_) => return Ok(None),
