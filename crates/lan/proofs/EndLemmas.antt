@@ -1,5 +1,5 @@
 -- Why a script's lines end the run.
-use Rattle.std.proofs.Common.{◌≡◌, ℕ, Bool, true, false, List, [], ◌∷◌, Option, Some, None, Result, Ok, Err, IfErr, inl, inr, ◌⊎◌, refl}
+use Rattle.std.proofs.Common.{◌≡◌, ℕ, Bool, true, false, List, [], ◌∷◌, Option, Some, None, inl, inr, ◌⊎◌, refl}
 use Rattle.std.specs.Prelude.{◌≢◌, pos, option_map, if◌then◌else◌}
 use Rattle.interface_tables.specs.Settings.{refusal}
 use Rattle.interface_tables.specs.declared.config.NewError.{NewError}
@@ -73,11 +73,7 @@ no_bad_start h =
     (no_bad_new h.medium h.mtu A) (no_bad_new h.medium h.mtu B) (no_bad_sockets (has_large A h.sockets)) (no_bad_sockets (has_large B h.sockets))
     (no_bad_both (host_of h A) (host_of h B))
 
-start_end : (h : HeaderValue) (end : End) → (no_start h ≡ Some end) ⊎ (end ≡ Refusal Memory) → Ends (Header h) (Some Start) end
+-- how `start` ends the run
+pub start_end : (h : HeaderValue) (end : End) → (no_start h ≡ Some end) ⊎ (end ≡ Refusal Memory) → Ends (Header h) (Some Start) end
 start_end h end (inl is) = inl is
 start_end h end (inr memory) = inr (memory, inr (refl, no_bad_start h))
-
--- how `start` ends the run
-pub start_ends : {R : Type 0} (h : HeaderValue) (r : Result R End) → IfErr r (λ end. (no_start h ≡ Some end) ⊎ (end ≡ Refusal Memory)) → IfErr r (Ends (Header h) (Some Start))
-start_ends h (Ok x) ends = ends
-start_ends h (Err end) ends = start_end h end ends

@@ -1,6 +1,6 @@
 //! The sockets that a header asks for.
-ghost use Rattle.std.specs.Prelude.{◌≡◌, ◌⊎◌, ◌+◌, [], true, false, IfOk, OnOk, IfErr, length, replicate};
-ghost use Rattle.interface_egress.specs.Set.{places};
+ghost use Rattle.std.specs.Prelude.{◌≡◌, ◌⊎◌, ◌+◌, [], ◌∷◌, ◌++◌, true, false, None, IfOk, OnOk, IfErr, length, replicate};
+ghost use Rattle.interface_egress.specs.Set.{places, free_place, is_fixed, unmarked};
 ghost use Rattle.lan_net.specs.Kinds.{same_side};
 ghost use Rattle.lan_net.specs.declared.answer.Refused.TheVariants.{Memory};
 ghost use Rattle.lan_world.specs.declared.error.WorldError.TheVariants.{Buffers};
@@ -31,19 +31,47 @@ pub fn own_sockets_of(
     ensures ends { IfErr result (λ end. ((has_large side specs.now ≡ true) × (end ≡ World Buffers)) ⊎ (end ≡ Refusal Memory)) }
 {
     let mut sockets = SocketSet::new(ManagedSlice::Owned(Vec::new(alloc)));
+    add_own(alloc, &mut sockets, side, specs)?;
+    Ok(sockets)
+}
+
+// Adds a host's own of these sockets, in order, behind those that there are. (What owns a set has no loop: that keeps its proof short.)
+fn add_own(
+    alloc: Global,
+    sockets: &mut SocketSet<Socket>,
+    side: Side,
+    specs: &[(Side, SocketSpec)],
+) -> Result<(), End>
+    requires used { free_place (places sockets.old) ≡ None }
+    requires grows { is_fixed sockets.old ≡ false }
+    ensures made { OnOk result (places sockets.new ≡ with_sockets side (places sockets.old) specs.now) }
+    ensures small { OnOk result (has_large side specs.now ≡ false) }
+    ensures ends { IfErr result (λ end. ((has_large side specs.now ≡ true) × (end ≡ World Buffers)) ⊎ (end ≡ Refusal Memory)) }
+{
     for spec in specs {
         let (owner, spec) = *spec;
         if is_same(owner, side) {
-            let socket = socket_of(alloc, spec)?;
-            match sockets.add(socket) {
-                Ok(_) => {}
-                Err(AddError::Full(_)) | Err(AddError::Memory(_)) => {
-                    return Err(End::Refusal(Refused::Memory));
-                }
-            }
+            add_socket(alloc, sockets, spec)?;
         }
     }
-    Ok(sockets)
+    Ok(())
+}
+
+// One socket more.
+fn add_socket(alloc: Global, sockets: &mut SocketSet<Socket>, spec: SocketSpec) -> Result<(), End>
+    requires used { free_place (places sockets.old) ≡ None }
+    requires grows { is_fixed sockets.old ≡ false }
+    ensures made { OnOk result (places sockets.new ≡ places sockets.old ++ unmarked (socket_of spec) ∷ []) }
+    ensures used { OnOk result (free_place (places sockets.new) ≡ None) }
+    ensures grows { OnOk result (is_fixed sockets.new ≡ false) }
+    ensures small { OnOk result (is_large spec ≡ false) }
+    ensures ends { IfErr result (λ end. ((is_large spec ≡ true) × (end ≡ World Buffers)) ⊎ (end ≡ Refusal Memory)) }
+{
+    let socket = socket_of(alloc, spec)?;
+    match sockets.add(socket) {
+        Ok(_) => Ok(()),
+        Err(AddError::Full(_)) | Err(AddError::Memory(_)) => Err(End::Refusal(Refused::Memory)),
+    }
 }
 
 fn is_same(owner: Side, side: Side) -> bool

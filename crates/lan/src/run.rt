@@ -1,5 +1,6 @@
 //! A run of a script whose text comes in pieces.
-ghost use Rattle.std.specs.Prelude.{◌≡◌, ◌+◌, ◌<◌, ◌≤◌, ◌^◌, ℕ, List, [], ◌∷◌, ◌++◌, length, IfOk, IfSome, MatchOption, IsTrue, position, ◌==◌};
+ghost use Rattle.std.specs.Prelude.{◌≡◌, ◌+◌, ◌<◌, ◌≤◌, ◌^◌, ℕ, List, [], ◌∷◌, ◌++◌, length, IfOk, IfSome, MatchBool, IsTrue, position, ◌==◌};
+ghost use Rattle.std.specs.Bool.{OnTrue};
 ghost use Rattle.std.specs.Io.KnownBytes.{Appends};
 ghost use Rattle.lan.specs.declared.end.End.{End};
 ghost use Rattle.lan.specs.declared.session.Session.TheVariants.{Begun};
@@ -38,47 +39,46 @@ impl Run {
     }
 
     /// Takes the next piece of the text. Each line that ends in it is run, and what it answers is
-    /// written. `None`: one of them ended the run.
+    /// written. False: one of them ended the run.
     pub(crate) fn take_piece<W: Write>(
-        self,
+        &mut self,
         alloc: Global,
         piece: &[u8],
         writer: &mut W,
-    ) -> io::Result<Option<Run>>
-        requires { self.number + length piece.now < 2 ^ 64 }
+    ) -> io::Result<bool>
+        requires { self.old.number + length piece.now < 2 ^ 64 }
         ensures runs { IfOk result (λ led. (output : List ℕ)
             × Appends (W.contents writer.old) (W.contents writer.new) output
-            × MatchOption led (RunsOut self.number self.session (self.begun.items ++ piece.now) output)
-            (λ next. RunsOn self.number self.session (self.begun.items ++ piece.now) output next.number next.session next.begun.items)) }
-        ensures number { IfOk result (λ led. IfSome led (λ next. next.number ≤ self.number + length piece.now)) }
+            × MatchBool led
+            (RunsOn self.old.number self.old.session (self.old.begun.items ++ piece.now) output self.new.number self.new.session self.new.begun.items)
+            (RunsOut self.old.number self.old.session (self.old.begun.items ++ piece.now) output)) }
+        ensures number { IfOk result (λ led. OnTrue led (self.new.number ≤ self.old.number + length piece.now)) }
     {
-        let mut run = self;
         let mut rest = piece;
         while let Some(end) = line_end(rest) {
-            run.begin(&rest[..end])?;
-            let Some(next) = run.take_line(alloc, writer)? else {
-                return Ok(None);
-            };
-            run = next;
+            self.begin(&rest[..end])?;
+            if !self.take_line(alloc, writer)? {
+                return Ok(false);
+            }
             rest = &rest[end + 1..];
         }
-        run.begin(rest)?;
-        Ok(Some(run))
+        self.begin(rest)?;
+        Ok(true)
     }
 
     /// Takes the end of the text, which ends a line that was begun: the status.
-    pub(crate) fn finish<W: Write>(self, alloc: Global, writer: &mut W) -> io::Result<u8>
-        requires { self.number + 1 < 2 ^ 64 }
+    pub(crate) fn finish<W: Write>(&mut self, alloc: Global, writer: &mut W) -> io::Result<u8>
+        requires { self.old.number + 1 < 2 ^ 64 }
         ensures { IfOk result (λ status. (output : List ℕ)
             × Appends (W.contents writer.old) (W.contents writer.new) output
-            × Replays self.number self.session (lines_of self.begun.items) output status) }
+            × Replays self.old.number self.old.session (lines_of self.old.begun.items) output status) }
     {
         if self.begun.as_slice().is_empty() {
             return Ok(0);
         }
-        let Some(_) = self.take_line(alloc, writer)? else {
+        if !self.take_line(alloc, writer)? {
             return Ok(1);
-        };
+        }
         Ok(0)
     }
 
@@ -93,34 +93,26 @@ impl Run {
         Ok(())
     }
 
-    // Runs the line that was begun, which has come to its end.
-    fn take_line<W: Write>(self, alloc: Global, writer: &mut W) -> io::Result<Option<Run>>
-        requires { self.number + 1 < 2 ^ 64 }
+    // Runs the line that was begun, which has come to its end. False: it ended the run.
+    fn take_line<W: Write>(&mut self, alloc: Global, writer: &mut W) -> io::Result<bool>
+        requires { self.old.number + 1 < 2 ^ 64 }
         ensures { IfOk result (λ led. (output : List ℕ)
             × Appends (W.contents writer.old) (W.contents writer.new) output
-            × MatchOption led
-            ((end : End) × LineEnds self.session self.begun.items end × (output ≡ end_line self.number end))
-            (λ next. LineLeads self.session self.begun.items output next.session
-            × (next.number ≡ self.number + 1) × (next.begun.items ≡ []))) }
+            × MatchBool led
+            (LineLeads self.old.session self.old.begun.items output self.new.session
+            × (self.new.number ≡ self.old.number + 1) × (self.new.begun.items ≡ []))
+            ((end : End) × LineEnds self.old.session self.old.begun.items end × (output ≡ end_line self.old.number end))) }
     {
-        let Run {
-            session,
-            number,
-            mut begun,
-        } = self;
-        match session.take_line(alloc, begun.as_slice()) {
-            Ok((session, text)) => {
+        match self.session.take_line(alloc, self.begun.as_slice()) {
+            Ok(text) => {
                 writer.write_all(text.as_bytes())?;
-                begun.clear();
-                Ok(Some(Run {
-                    session,
-                    number: number + 1,
-                    begun,
-                }))
+                self.begun.clear();
+                self.number += 1;
+                Ok(true)
             }
             Err(end) => {
-                write!(writer, "line {number}: {end}\n")?;
-                Ok(None)
+                write!(writer, "line {}: {end}\n", self.number)?;
+                Ok(false)
             }
         }
     }

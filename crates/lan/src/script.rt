@@ -1,6 +1,7 @@
 //! A script in, its answers out.
-ghost use Rattle.std.specs.Prelude.{◌≡◌, ◌≢◌, ◌≤◌, ⊤, List, ℕ, IfOk, OnOk, IfSome, MatchOption};
+ghost use Rattle.std.specs.Prelude.{◌≡◌, ◌≢◌, ◌≤◌, ⊤, List, [], ℕ, IfOk, OnOk, IfSome, MatchOption};
 ghost use Rattle.std.specs.Io.KnownBytes.{Appends};
+ghost use Rattle.lan.specs.declared.session.Session.TheVariants.{Begun};
 ghost use Rattle.lan.specs.Pieces.{ReadsOn, RunsSoFar};
 ghost use Rattle.lan.specs.Scripts.{IsReplay};
 
@@ -30,19 +31,25 @@ pub fn replay<R: Read, W: Write>(alloc: Global, reader: &mut R, writer: &mut W) 
         × Appends (W.contents writer.old) (W.contents writer.new) output }
     ensures reads { result ≢ 2 → ReadsOn (R.remaining reader.old) (R.remaining reader.new) }
 {
-    match try_replay(alloc, reader, writer) {
+    let mut run = Run::new(alloc);
+    match try_replay(alloc, &mut run, reader, writer) {
         Ok(Some(status)) => status,
         Ok(None) => 2,
         Err(_) => 2,
     }
 }
 
-// `None`: the reader failed, or came to no end in 2^32 reads. The lines that it gave have been run.
+// Runs a script from a run before its first line. `None`: the reader failed, or came to no end in 2^32 reads. The lines that it
+// gave have been run. (The run is borrowed: in what owns it each way out would let it go, which makes a long proof.)
 fn try_replay<R: Read, W: Write>(
     alloc: Global,
+    run: &mut Run,
     reader: &mut R,
     writer: &mut W,
 ) -> io::Result<Option<u8>>
+    requires session { run.old.session ≡ Begun }
+    requires number { run.old.number ≡ 1 }
+    requires begun { run.old.begun.items ≡ [] }
     ensures ended { IfOk result (λ ended. IfSome ended (λ status. (script output : List ℕ)
         × IfSome (R.remaining reader.old) (λ input. script ≡ input)
         × IsReplay script output status
@@ -52,7 +59,6 @@ fn try_replay<R: Read, W: Write>(
         × Appends (W.contents writer.old) (W.contents writer.new) output) (λ status. ⊤)) }
     ensures reads { OnOk result (ReadsOn (R.remaining reader.old) (R.remaining reader.new)) }
 {
-    let mut run = Run::new(alloc);
     let mut piece = [0; PIECE];
     for count in 0..MOST_READS {
         match reader.read(&mut piece) {
@@ -64,10 +70,9 @@ fn try_replay<R: Read, W: Write>(
             Ok(len) => {
                 let led = run.take_piece(alloc, &piece[..len], writer)?;
                 writer.flush()?;
-                let Some(next) = led else {
+                if !led {
                     return Ok(Some(1));
-                };
-                run = next;
+                }
             }
             Err(error) if error.kind() == ErrorKind::Interrupted => {}
             Err(_) => return Ok(None),

@@ -4,11 +4,11 @@ ghost use Rattle.std.specs.String.{string_bytes};
 ghost use Rattle.lan_net.specs.declared.answer.Refused.TheVariants.{Memory};
 ghost use Rattle.lan_stations.specs.Runs.{refusal_in};
 ghost use Rattle.lan.specs.declared.end.End.TheVariants.{Refusal};
-ghost use Rattle.lan.specs.Scripts.{Takes, MayEnd, event_end, EventLeads, Leads};
+ghost use Rattle.lan.specs.Scripts.{Takes, MayEnd, event_end, EventLeads};
 ghost use Rattle.lan.specs.Events.{event_of};
-ghost use Rattle.lan.specs.declared.session.Session.TheVariants.{Header as Begins, Running};
-ghost use Rattle.lan_script.specs.declared.line.Line.TheVariants.{Start};
-ghost use Rattle.lan.specs.Hosts.{no_start};
+ghost use Rattle.lan.specs.declared.session.Session.TheVariants.{Running};
+ghost use Rattle.lan_net.specs.declared.event.Side.TheVariants.{A, B};
+ghost use Rattle.lan.specs.Hosts.{first_world, host_of, no_start};
 
 use crate::answer::{answer_line, push_sent};
 use crate::end::End;
@@ -31,14 +31,14 @@ pub enum Session {
 }
 
 impl Session {
-    ghost use Rattle.std.specs.Prelude.{◌≡◌, None, Some, IfOk, IfErr};
+    ghost use Rattle.std.specs.Prelude.{◌≡◌, None, Some, IfOk, OnOk, IfErr};
     ghost use Rattle.std.specs.String.{string_bytes};
-    ghost use Rattle.lan.specs.Scripts.{end_of, LineLeads, LineEnds, Ends};
+    ghost use Rattle.lan.specs.Scripts.{end_of, Leads, LineLeads, LineEnds, Ends};
 
-    /// Takes one line, without the byte 0a that ends it: what it leads to, and what it writes.
-    pub fn take_line(self, alloc: Global, text: &[u8]) -> Result<(Session, String), End>
-        ensures leads { IfOk result (λ r. LineLeads self text.now (string_bytes r.1) r.0) }
-        ensures ends { IfErr result (LineEnds self text.now) }
+    /// Takes one line, without the byte 0a that ends it: what it writes.
+    pub fn take_line(&mut self, alloc: Global, text: &[u8]) -> Result<String, End>
+        ensures leads { IfOk result (λ output. LineLeads self.old text.now (string_bytes output) self.new) }
+        ensures ends { IfErr result (LineEnds self.old text.now) }
     {
         match Line::read(text) {
             Some(line) => self.take(alloc, line),
@@ -47,53 +47,49 @@ impl Session {
     }
 
     // Takes what a line says.
-    #[tactic(auto, using(crate::proofs::BytesLemmas::ends_so, crate::proofs::EndLemmas::start_ends))]
-    fn take(self, alloc: Global, line: Line<'_>) -> Result<(Session, String), End>
-        ensures allowed { IfOk result (λ r. end_of self (Some line.entry) ≡ None) }
-        ensures leads { IfOk result (λ r. Leads self (Some line.entry) (string_bytes r.1) r.0) }
-        ensures ends { IfErr result (Ends self (Some line.entry)) }
+    #[tactic(auto, using(crate::proofs::BytesLemmas::ends_so, crate::proofs::EndLemmas::start_end))]
+    fn take(&mut self, alloc: Global, line: Line<'_>) -> Result<String, End>
+        ensures allowed { OnOk result (end_of self.old (Some line.entry) ≡ None) }
+        ensures leads { IfOk result (λ text. Leads self.old (Some line.entry) (string_bytes text) self.new) }
+        ensures ends { IfErr result (Ends self.old (Some line.entry)) }
     {
-        match (self, line) {
-            (Session::Begun, Line::World(medium, mtu)) => Ok((
-                Session::Header(Header::new(alloc, medium, mtu)),
-                String::new(alloc),
-            )),
-            (Session::Header(mut header), Line::Socket(side, spec)) => {
-                header.push(side_of(side), spec)?;
-                Ok((Session::Header(header), String::new(alloc)))
+        match self {
+            Session::Begun => {
+                let Line::World(medium, mtu) = line else {
+                    return Err(End::BadEvent);
+                };
+                *self = Session::Header(Header::new(alloc, medium, mtu));
+                Ok(String::new(alloc))
             }
-            (Session::Header(header), Line::Start) => start(alloc, &header),
-            (Session::Running(world), line) => go_on(alloc, world, line),
-            _ => Err(End::BadEvent),
+            Session::Header(header) => match line {
+                Line::Socket(side, spec) => {
+                    header.push(side_of(side), spec)?;
+                    Ok(String::new(alloc))
+                }
+                Line::Start => {
+                    *self = start(alloc, header)?;
+                    Ok(String::from_str(alloc, "ok\n")?)
+                }
+                _ => Err(End::BadEvent),
+            },
+            Session::Running(world) => go_on(alloc, world, line),
         }
     }
 }
 
 // The hosts of a header run from now on.
-fn start(alloc: Global, header: &Header) -> Result<(Session, String), End>
+fn start(alloc: Global, header: &Header) -> Result<Session, End>
     ensures allowed { OnOk result (no_start header.now ≡ None) }
-    ensures leads { IfOk result (λ r. Leads (Begins header.now) (Some Start) (string_bytes r.1) r.0) }
+    ensures runs { IfOk result (λ next. next ≡ Running (first_world (host_of header.now A) (host_of header.now B))) }
     ensures ends { IfErr result (λ end. (no_start header.now ≡ Some end) ⊎ (end ≡ Refusal Memory)) }
 {
-    let world = header.start(alloc)?;
-    Ok((Session::Running(world), String::from_str(alloc, "ok\n")?))
+    Ok(Session::Running(header.start(alloc)?))
 }
 
-// Takes a line once the hosts run.
-fn go_on(alloc: Global, world: World, line: Line<'_>) -> Result<(Session, String), End>
-    ensures allowed { OnOk result (event_end world (event_of line.entry) ≡ None) }
-    ensures leads { IfOk result (λ r. EventLeads world (event_of line.entry) (string_bytes r.1) r.0) }
-    ensures ends { IfErr result (MayEnd world line.entry) }
-{
-    let mut world = world;
-    let text = take_event_line(alloc, &mut world, line)?;
-    Ok((Session::Running(world), text))
-}
-
-// The same: what the line writes.
-fn take_event_line(alloc: Global, world: &mut World, line: Line<'_>) -> Result<String, End>
-    ensures allowed { IfOk result (λ text. event_end world.old (event_of line.entry) ≡ None) }
-    ensures takes { IfOk result (λ text. EventLeads world.old (event_of line.entry) (string_bytes text) (Running world.new)) }
+// Takes a line once the hosts run: what it writes.
+fn go_on(alloc: Global, world: &mut World, line: Line<'_>) -> Result<String, End>
+    ensures allowed { OnOk result (event_end world.old (event_of line.entry) ≡ None) }
+    ensures leads { IfOk result (λ text. EventLeads world.old (event_of line.entry) (string_bytes text) (Running world.new)) }
     ensures ends { IfErr result (MayEnd world.old line.entry) }
 {
     let Some(event) = event_of(alloc, line)? else {

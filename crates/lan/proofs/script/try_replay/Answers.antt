@@ -5,7 +5,7 @@ use Rattle.lan.specs.declared.session.Session.TheVariants.{Begun}
 use Rattle.lan.proofs.RunLemmas.{all_read}
 use Rattle.lan.proofs.PieceLemmas.{script_ends, script_ends_early, pieces_run, reads_on, nothing_behind, runs_so_far}
 use Rattle.lan.proofs.script.try_replay.Goals as goal
-use Rattle.lan.proofs.script.try_replay.Goals.{in-Ok+in_ok-led-in-Ok+in_ok-flush-in-Ok+in-Some, in-Err}
+use Rattle.lan.proofs.script.try_replay.Goals.{in-Ok+in_ok-led-in-Ok+in_ok-flush-in-Ok+else-not-led, in-Err}
 
 -- a read of nothing into a buffer with room is the end
 pub returns-in-Ok-eq0-clause-ended : goal.returns-in-Ok-eq0-clause-ended
@@ -31,11 +31,11 @@ returns-in-Ok-eq0-clause-reads g c =
     (omega arith)
 
 -- a line ended the run
-pub returns-in_default-clause-ended : goal.returns-in_default-clause-ended
-returns-in_default-clause-ended g c =
+pub returns-then-not-led-clause-ended : goal.returns-then-not-led-clause-ended
+returns-then-not-led-clause-ended g c =
     let before = c.loop-count.invariant.runs in
     let read = rw c.in-Ok.is at c.read.ensures.bytes in
-    let ran = rw c.in_default.is at c.in_ok-led-in-Ok.ensures.runs in
+    let ran = rw c.if-not-led.true at c.in_ok-led-in-Ok.ensures.runs in
     let ended = script_ends_early (g.R.Read.remaining c.args.reader.now) (g.R.Read.remaining c.loop-count.reader) (g.R.Read.remaining c.read.new.self)
     before.0 c.loop-count.run.begun.items _ before.1 ran.0 c.loop-count.run.number c.loop-count.run.session before.2 read.0 before.4 ran.2 in (
       ended.0,
@@ -45,8 +45,8 @@ returns-in_default-clause-ended g c =
       Appends-kept _ _ _ _ (Appends-trans _ _ _ _ _ before.3 ran.1) c.flush-in-Ok.ensures.bytes,
     )
 
-pub returns-in_default-clause-reads : goal.returns-in_default-clause-reads
-returns-in_default-clause-reads g c =
+pub returns-then-not-led-clause-reads : goal.returns-then-not-led-clause-reads
+returns-then-not-led-clause-reads g c =
     let before = c.loop-count.invariant.runs in
     let read = rw c.in-Ok.is at c.read.ensures.bytes in
     reads_on _ _ _ before.0 before.1 c.loop-count.run.begun.items _ c.loop-count.run.number c.loop-count.run.session before.2 read.0 before.4 c.loop-count.run.unbroken
@@ -87,10 +87,10 @@ pub loop-count-preserved : goal.loop-count-preserved
 loop-count-preserved g c =
     let before = c.loop-count.invariant.runs in
     elim c.match-read.branch [
-      | in-Ok+in_ok-led-in-Ok+in_ok-flush-in-Ok+in-Some w ↦
+      | in-Ok+in_ok-led-in-Ok+in_ok-flush-in-Ok+else-not-led w ↦
           let read = rw w.in-Ok.is at c.read.ensures.bytes in
-          let ran = rw w.in-Some.is at w.in_ok-led-in-Ok.ensures.runs in
-          let number = rw w.in-Some.is at w.in_ok-led-in-Ok.ensures.number in
+          let ran = rw w.if-not-led.false at w.in_ok-led-in-Ok.ensures.runs in
+          let number = rw w.if-not-led.false at w.in_ok-led-in-Ok.ensures.number in
           rw (w.writer-is, w.run-is) (
           record {
             runs = (
@@ -98,7 +98,7 @@ loop-count-preserved g c =
               before.1 ++ ran.0,
               Consumes-trans _ _ _ _ _ before.2 read.0,
               Appends-kept _ _ _ _ (Appends-trans _ _ _ _ _ before.3 ran.1) w.flush-in-Ok.ensures.bytes,
-              pieces_run 1 w.in-Some.next.number Begun w.in-Some.next.session before.0 c.loop-count.run.begun.items _ w.in-Some.next.begun.items before.1 ran.0
+              pieces_run 1 w.take_piece.new.self.number Begun w.take_piece.new.self.session before.0 c.loop-count.run.begun.items _ w.take_piece.new.self.begun.items before.1 ran.0
                   c.loop-count.run.number c.loop-count.run.session before.4 ran.2,
             );
             number = omega (arith, number, length-take w.in-Ok.len c.read.new.buf, c.read.auto.buf, c.loop-count.invariant.number, c.loop-count.invariant.room);

@@ -11,7 +11,7 @@ loop-end-init g c =
         [],
         Appends-nil (g.W.Write.contents c.args.writer.now),
         refl,
-        none_run c.args.self.number c.args.self.session c.args.self.begun.items,
+        none_run c.args.self.now.number c.args.self.now.session c.args.self.now.begun.items,
       );
       number = omega arith;
     }
@@ -23,14 +23,14 @@ pub begin-requires-2 : goal.begin-requires-2
 begin-requires-2 g c = unbroken-none c.loop-end.rest.now (sym c.in_default.ensures.place)
 
 -- a line ends the run
-pub returns-in_default-2-clause-runs : goal.returns-in_default-2-clause-runs
-returns-in_default-2-clause-runs g c =
+pub returns-then-not-branch-clause-runs : goal.returns-then-not-branch-clause-runs
+returns-then-not-branch-clause-runs g c =
     let before = c.loop-end.invariant.runs in
-    let ran = rw c.in_default-2.is at c.in_ok-next.ensures in (
+    let ran = rw c.if-not-branch.true at c.in_ok-take_line.ensures in (
       before.1 ++ ran.0,
       Appends-trans _ _ _ _ _ before.2 ran.1,
-      line_goes_out c.args.self.number c.loop-end.run.number c.begin.new.self.number c.args.self.session c.loop-end.run.session c.begin.new.self.session
-          c.args.self.begun.items c.args.piece.now before.0 c.loop-end.rest.now before.1 c.loop-end.run.begun.items c.begin.new.self.begun.items ran.0 c.in-Some.end ran.2.0
+      line_goes_out c.args.self.now.number c.loop-end.self.number c.begin.new.self.number c.args.self.now.session c.loop-end.self.session c.begin.new.self.session
+          c.args.self.now.begun.items c.args.piece.now before.0 c.loop-end.rest.now before.1 c.loop-end.self.begun.items c.begin.new.self.begun.items ran.0 c.in-Some.end ran.2.0
           before.3 before.4 (sym c.in-Some.ensures.place) c.in_ok-begin.ensures.begun c.begin.new.self.unbroken
           c.begin.ensures.session c.begin.ensures.number ran.2.1 ran.2.2,
     )
@@ -38,15 +38,15 @@ returns-in_default-2-clause-runs g c =
 pub loop-end-preserved : goal.loop-end-preserved
 loop-end-preserved g c =
     let before = c.loop-end.invariant.runs in
-    let ran = rw c.in-Some-2.is at c.in_ok-next.ensures in
+    let ran = rw c.if-not-branch.false at c.in_ok-take_line.ensures in
     let step =
-    line_goes_on c.args.self.number c.loop-end.run.number c.begin.new.self.number c.in-Some-2.next.number
-    c.args.self.session c.loop-end.run.session c.begin.new.self.session c.in-Some-2.next.session
-    c.args.self.begun.items c.args.piece.now before.0 c.loop-end.rest.now before.1 c.loop-end.run.begun.items c.begin.new.self.begun.items ran.0
-    c.in-Some-2.next.begun.items c.in-Some.end
+    line_goes_on c.args.self.now.number c.loop-end.self.number c.begin.new.self.number c.take_line.new.self.number
+    c.args.self.now.session c.loop-end.self.session c.begin.new.self.session c.take_line.new.self.session
+    c.args.self.now.begun.items c.args.piece.now before.0 c.loop-end.rest.now before.1 c.loop-end.self.begun.items c.begin.new.self.begun.items ran.0
+    c.take_line.new.self.begun.items c.in-Some.end
     before.3 before.4 (sym c.in-Some.ensures.place) c.in_ok-begin.ensures.begun c.begin.new.self.unbroken
     c.begin.ensures.session c.begin.ensures.number ran.2.0 ran.2.1 ran.2.2 in
-    let numbered : c.in-Some-2.next.number ≡ c.begin.new.self.number + 1 = ran.2.1 in
+    let numbered : c.take_line.new.self.number ≡ c.begin.new.self.number + 1 = ran.2.1 in
     rw (take-drop_end c.loop-end.rest.now (c.in-Some.end + 1)) (
     record {
       runs = (

@@ -9,8 +9,8 @@ invariant-loop-end g l = record {
   runs : (before output : List ℕ)
       × Appends (g.W.Write.contents l.initial.writer) (g.W.Write.contents l.writer) output
       × (l.piece ≡ before ++ l.rest)
-      × RunsOn l.fn.self.number l.fn.self.session (l.fn.self.begun.items ++ before) output l.run.number l.run.session l.run.begun.items;
-  number : l.run.number + length l.rest ≤ l.fn.self.number + length l.piece;
+      × RunsOn l.fn.self.number l.fn.self.session (l.fn.self.begun.items ++ before) output l.self.number l.self.session l.self.begun.items;
+  number : l.self.number + length l.rest ≤ l.fn.self.number + length l.piece;
 }
 
 abbrev pub decreases-loop-end : goal.decreases-loop-end

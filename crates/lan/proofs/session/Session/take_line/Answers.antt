@@ -8,4 +8,4 @@ none_some o line none some = let both : None ≡ Some line = sym none ∙ some i
 
 -- no line was read, so the text is none
 pub returns-in-None-clause-ends : goal.returns-in-None-clause-ends
-returns-in-None-clause-ends c = (None, λ line says. none_some c.read.result line c.in-None.is (c.read.ensures.only line says), inl (bad_line c.args.self))
+returns-in-None-clause-ends c = (None, λ line says. none_some c.read.result line c.in-None.is (c.read.ensures.only line says), inl (bad_line c.args.self.now))
