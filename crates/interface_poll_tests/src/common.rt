@@ -1,9 +1,12 @@
 //! Hosts: what they are made of, and their calls.
 ghost use Rattle.net_base.specs.Time.{IsMoment};
 
-use crate::streams::closed_socket;
+use crate::streams::{closed_socket, listening_socket};
 use crate::wire::{Kind, Wire};
-use interface::{Config, Interface, PollIngressSingleResult, PollResult, SocketHandle, SocketSet};
+use interface::{
+    Config, Interface, Item, Meta, PollIngressSingleResult, PollResult, SocketHandle, SocketSet,
+    SocketStorage,
+};
 use ip_wire::{EthernetAddress, HardwareAddress, IpAddress, IpCidr, IpEndpoint, IpListenEndpoint};
 use net_base::{Device, Instant, ManagedSlice, Medium, PacketBuffer, PacketMetadata};
 use sockets::{Socket, udp};
@@ -17,12 +20,14 @@ pub fn at(micros: u32) -> Instant
     Instant::from_micros(i64::from(micros))
 }
 
-/// The socket of a host: of UDP and bound to this port, or of TCP and closed.
+/// The sockets of a host: of UDP and bound to this port, of TCP and closed, or of UDP and, behind it, of TCP and listening at
+/// port 80.
 #[derive(Clone, Copy, Drop)]
 pub enum Has {
     Nothing,
     Udp(u16),
     Tcp,
+    UdpAndListener(u16),
 }
 
 /// What a host is made of.
@@ -76,10 +81,7 @@ fn bare<D: Device>(alloc: Global, plan: &Plan, device: &D) -> Option<Interface> 
         random_seed: u64::from(plan.number),
         hardware_addr: hardware(plan),
     };
-    match Interface::new(alloc, &config, device, at(0)) {
-        Ok(interface) => Some(interface),
-        Err(_) => None,
-    }
+    Interface::new(alloc, &config, device, at(0)).ok()
 }
 
 /// Gives the interface one more address.
@@ -89,6 +91,17 @@ fn add_address(interface: &mut Interface, address: IpCidr) -> bool {
             let _ = addresses.try_push(address);
         })
         .is_ok()
+}
+
+/// Gives the interface the planned addresses.
+fn add_addresses(interface: &mut Interface, plan: &Plan) -> Result<(), Fail> {
+    if add_address(interface, ipv4(plan.number))
+        && (!plan.has_ipv6 || add_address(interface, ipv6(plan.number)))
+    {
+        Ok(())
+    } else {
+        Err("its addresses".into())
+    }
 }
 
 fn ipv4(number: u8) -> IpCidr {
@@ -104,16 +117,9 @@ fn ipv6(number: u8) -> IpCidr {
 
 /// The planned host's interface at this device.
 pub fn begin<D: Device>(alloc: Global, plan: &Plan, device: &D) -> Result<Interface, Fail> {
-    let Some(mut interface) = bare(alloc, plan, device) else {
-        return Err("an interface".into());
-    };
-    if add_address(&mut interface, ipv4(plan.number))
-        && (!plan.has_ipv6 || add_address(&mut interface, ipv6(plan.number)))
-    {
-        Ok(interface)
-    } else {
-        Err("its addresses".into())
-    }
+    let mut interface = bare(alloc, plan, device).ok_or("an interface")?;
+    add_addresses(&mut interface, plan)?;
+    Ok(interface)
 }
 
 /// A queue of two entries and so many bytes.
@@ -131,26 +137,84 @@ where
     ))
 }
 
-/// A UDP socket, bound to this port.
-fn bound_socket(alloc: Global, room: usize, port: u16) -> Result<udp::Socket, Fail> {
-    let mut socket = udp::Socket::new(queue(alloc, room)?, queue(alloc, room)?);
+fn unbound_socket(alloc: Global, room: usize) -> Result<udp::Socket, Fail> {
+    Ok(udp::Socket::new(queue(alloc, room)?, queue(alloc, room)?))
+}
+
+fn bind(socket: &mut udp::Socket, port: u16) -> Result<(), Fail> {
     match socket.bind(IpListenEndpoint { addr: None, port }) {
-        Ok(()) => Ok(socket),
+        Ok(()) => Ok(()),
         Err(_) => Err("a port".into()),
     }
 }
 
-fn planned_socket(alloc: Global, plan: &Plan) -> Result<Option<Socket>, Fail> {
-    match plan.socket {
-        Has::Nothing => Ok(None),
-        Has::Udp(port) => Ok(Some(Socket::Udp(bound_socket(alloc, plan.room, port)?))),
-        Has::Tcp => Ok(Some(Socket::Tcp(closed_socket(alloc, plan.room)?))),
+/// A UDP socket, bound to this port.
+fn bound_socket(alloc: Global, room: usize, port: u16) -> Result<udp::Socket, Fail> {
+    let mut socket = unbound_socket(alloc, room)?;
+    bind(&mut socket, port)?;
+    Ok(socket)
+}
+
+/// A place with this socket.
+fn place(socket: Socket) -> SocketStorage<Socket> {
+    SocketStorage {
+        inner: Some(Item {
+            meta: Meta::default(),
+            socket,
+        }),
     }
+}
+
+/// A place with a UDP socket that is bound to this port.
+fn udp_place(alloc: Global, plan: &Plan, port: u16) -> Result<SocketStorage<Socket>, Fail> {
+    let socket = bound_socket(alloc, plan.room, port)?;
+    Ok(place(Socket::Udp(socket)))
 }
 
 /// A set of no sockets.
 pub fn no_sockets(alloc: Global) -> SocketSet<Socket> {
     SocketSet::new(ManagedSlice::Owned(Vec::new(alloc)))
+}
+
+/// A set of these places.
+fn set_of<const N: usize>(
+    alloc: Global,
+    places: [SocketStorage<Socket>; N],
+) -> Result<SocketSet<Socket>, Fail> {
+    Ok(SocketSet::new(ManagedSlice::Owned(Vec::from_array(alloc, places)?)))
+}
+
+fn udp_set(alloc: Global, plan: &Plan, port: u16) -> Result<SocketSet<Socket>, Fail> {
+    let udp = udp_place(alloc, plan, port)?;
+    set_of(alloc, [udp])
+}
+
+fn tcp_set(alloc: Global, plan: &Plan) -> Result<SocketSet<Socket>, Fail> {
+    let tcp = closed_socket(alloc, plan.room)?;
+    set_of(alloc, [place(Socket::Tcp(tcp))])
+}
+
+fn both_set(alloc: Global, plan: &Plan, port: u16) -> Result<SocketSet<Socket>, Fail> {
+    let udp = udp_place(alloc, plan, port)?;
+    let tcp = listening_socket(alloc, plan.room)?;
+    set_of(alloc, [udp, place(Socket::Tcp(tcp))])
+}
+
+fn planned_sockets(alloc: Global, plan: &Plan) -> Result<SocketSet<Socket>, Fail> {
+    match plan.socket {
+        Has::Nothing => Ok(no_sockets(alloc)),
+        Has::Udp(port) => udp_set(alloc, plan, port),
+        Has::Tcp => tcp_set(alloc, plan),
+        Has::UdpAndListener(port) => both_set(alloc, plan, port),
+    }
+}
+
+/// The handle of the first planned socket.
+fn planned_handle(plan: &Plan) -> Option<SocketHandle> {
+    match plan.socket {
+        Has::Nothing => None,
+        _ => Some(SocketHandle::at(0)),
+    }
 }
 
 /// A host at its device, with the socket of this handle, if any.
@@ -167,29 +231,15 @@ pub struct Host {
 impl Host {
     /// The planned host, at moment 0.
     pub fn new(alloc: Global, plan: &Plan) -> Result<Host, Fail> {
-        let mut host = Host::bare(alloc, plan)?;
-        if let Some(socket) = planned_socket(alloc, plan)? {
-            host.handle = host.add(socket);
-        }
-        Ok(host)
-    }
-
-    /// The same without its socket.
-    fn bare(alloc: Global, plan: &Plan) -> Result<Host, Fail> {
         let wire = Wire::new(alloc, plan.device, plan.medium)?;
         let interface = wire.interface(alloc, plan)?;
         Ok(Host {
             interface,
             wire,
-            sockets: no_sockets(alloc),
-            handle: None,
+            sockets: planned_sockets(alloc, plan)?,
+            handle: planned_handle(plan),
             now: 0,
         })
-    }
-
-    /// Adds a socket to its set.
-    pub fn add(&mut self, socket: Socket) -> Option<SocketHandle> {
-        self.sockets.add(socket).ok()
     }
 
     pub fn poll(&mut self, budget: u16) -> PollResult {
