@@ -167,7 +167,7 @@ A send 0: 616263 -> count 3
 A poll -> changed
 ";
 
-const CASES: [Case; 10] = [
+static CASES: [Case; 10] = [
     ("bytes are read once", STREAMS, [OPENED, READ_ONCE]),
     (
         "frames that come twice change nothing",

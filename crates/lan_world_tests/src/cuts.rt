@@ -130,7 +130,7 @@ B send 0: 78797a -> count 3
 B poll -> changed
 ";
 
-const CASES: [Case; 6] = [
+static CASES: [Case; 6] = [
     ("a datagram is rebuilt from pieces", IP, [SENT, REBUILT]),
     ("a cut has its places", IP, [SENT, NO_PLACE]),
     (

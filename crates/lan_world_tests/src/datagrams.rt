@@ -160,7 +160,7 @@ A send-to 0 53: 01*4000
 A send-to 0 53: 02*4000
 ";
 
-const CASES: [Case; 11] = [
+static CASES: [Case; 11] = [
     (
         "a datagram is read and the next is numbered on",
         IP,

@@ -72,16 +72,15 @@ fn add_address(interface: &mut Interface, address: IpCidr) -> bool {
         .is_ok()
 }
 
+/// Gives the interface the addresses 192.168.1.n and fd00::n.
+fn add_addresses(interface: &mut Interface, n: u8) -> bool {
+    add_address(interface, block(v4(192, 168, 1, n))) && add_address(interface, block_v6(n))
+}
+
 /// An interface of seed n at 192.168.1.n and fd00::n.
 fn interface(alloc: Global, n: u8, port: &Port, medium: Medium) -> Option<Interface> {
     let mut interface = bare(alloc, n, port, medium)?;
-    if add_address(&mut interface, block(v4(192, 168, 1, n)))
-        && add_address(&mut interface, block_v6(n))
-    {
-        Some(interface)
-    } else {
-        None
-    }
+    add_addresses(&mut interface, n).then_some(interface)
 }
 
 fn queue<H: Drop>(
@@ -158,23 +157,28 @@ fn socket(alloc: Global, text: &str) -> Result<Option<Socket>, AllocError> {
     }
 }
 
-/// Adds the socket, unless no memory is left for it.
-fn add(set: &mut SocketSet<Socket>, socket: Socket) -> bool {
-    set.add(socket).is_ok()
+/// Adds the socket of a text, if it is one and memory is left.
+fn add_socket(alloc: Global, set: &mut SocketSet<Socket>, text: &str) -> bool {
+    match socket(alloc, text) {
+        Ok(Some(socket)) => set.add(socket).is_ok(),
+        _ => false,
+    }
 }
 
-/// The sockets of a text, with `, ` between them.
-fn socket_set(alloc: Global, text: &str) -> Option<SocketSet<Socket>> {
-    let mut set = SocketSet::new(ManagedSlice::Owned(Vec::new(alloc)));
+/// Adds the sockets of a text, with `, ` between them.
+fn add_sockets(alloc: Global, set: &mut SocketSet<Socket>, text: &str) -> bool {
     for part in text.split(", ") {
-        let Ok(Some(socket)) = socket(alloc, part) else {
-            return None;
-        };
-        if !add(&mut set, socket) {
-            return None;
+        if !add_socket(alloc, set, part) {
+            return false;
         }
     }
-    Some(set)
+    true
+}
+
+/// The sockets of a text.
+fn socket_set(alloc: Global, text: &str) -> Option<SocketSet<Socket>> {
+    let mut set = SocketSet::new(ManagedSlice::Owned(Vec::new(alloc)));
+    add_sockets(alloc, &mut set, text).then_some(set)
 }
 
 /// The host of this number over this device, with the sockets of this text.
@@ -192,6 +196,13 @@ pub fn world_of(alloc: Global, a: Host, b: Host) -> Result<World, WorldError> {
     World::new(alloc, a, b)
 }
 
+/// A world of two hosts over such devices, with the sockets of this text.
+fn made_over(alloc: Global, described: DeviceCapabilities, sockets: &str) -> Option<World> {
+    let a = host(alloc, 1, described, sockets)?;
+    let b = host(alloc, 2, described, sockets)?;
+    world_of(alloc, a, b).ok()
+}
+
 fn made(alloc: Global, hosts: &str) -> Option<World> {
     let (medium, sockets) = cut(hosts, ", ");
     let medium = match medium {
@@ -199,13 +210,7 @@ fn made(alloc: Global, hosts: &str) -> Option<World> {
         "ip" => Medium::Ip,
         _ => return None,
     };
-    let described = capabilities(medium, 1_500);
-    let a = host(alloc, 1, described, sockets)?;
-    let b = host(alloc, 2, described, sockets)?;
-    match world_of(alloc, a, b) {
-        Ok(world) => Some(world),
-        Err(_) => None,
-    }
+    made_over(alloc, capabilities(medium, 1_500), sockets)
 }
 
 /// Says that an allocation was refused: `tools/try-proved-without-memory`, which has each one refused in turn, looks for it.

@@ -91,7 +91,7 @@ A abort 3
 A hardware-address: 020000000009 -> error medium
 ";
 
-const CASES: [Case; 6] = [
+static CASES: [Case; 6] = [
     ("each kind of socket sends", EACH, [OPEN, SENT]),
     ("each setting of a stream is taken", EACH, [SET, ""]),
     ("a hop limit is written", EACH, [LIMITED, ""]),

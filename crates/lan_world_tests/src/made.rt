@@ -18,6 +18,26 @@ fn described(wrong: &str) -> DeviceCapabilities {
     described
 }
 
+/// The MTU of A's port, which needn't be that of the device that its interface was made over.
+fn other_mtu(wrong: &str) -> Option<u16> {
+    match wrong {
+        "an MTU of 1499" => Some(1_499),
+        "an MTU of 575" => Some(575),
+        _ => None,
+    }
+}
+
+/// Makes of A what is wrong with it, but for its device and its sockets; not where there is no memory for that.
+fn spoil(alloc: Global, a: &mut Host, wrong: &str) -> bool {
+    if let Some(mtu) = other_mtu(wrong) {
+        a.port = port(alloc, capabilities(Medium::Ip, mtu));
+    }
+    if wrong == "any IP" {
+        a.interface.set_any_ip(true);
+    }
+    wrong != "a frame waits" || a.port.push(Vec::new(alloc)).is_ok()
+}
+
 fn host_a(alloc: Global, wrong: &str) -> Option<Host> {
     let sockets = if wrong == "its buffers" {
         "tcp 0"
@@ -25,22 +45,7 @@ fn host_a(alloc: Global, wrong: &str) -> Option<Host> {
         "udp 1 64"
     };
     let mut a = host(alloc, 1, described(wrong), sockets)?;
-    // The MTU of A's port needn't be that of the device that its interface was made over.
-    let mtu = match wrong {
-        "an MTU of 1499" => 1_499,
-        "an MTU of 575" => 575,
-        _ => 0,
-    };
-    if mtu > 0 {
-        a.port = port(alloc, capabilities(Medium::Ip, mtu));
-    }
-    if wrong == "any IP" {
-        a.interface.set_any_ip(true);
-    }
-    if wrong == "a frame waits" && a.port.push(Vec::new(alloc)).is_err() {
-        return None;
-    }
-    Some(a)
+    spoil(alloc, &mut a, wrong).then_some(a)
 }
 
 /// What becomes of the two, in a word; `None` where there was no memory for the hosts.
@@ -81,19 +86,21 @@ fn fresh_hosts_make_a_world(rt: HostRuntime) -> Result<(), Fail> {
     becomes(&rt, "nothing", "a world")
 }
 
+/// What is wrong with A, and what becomes of the two.
+static OTHERS: [(&str, &str); 8] = [
+    ("its medium", "media"),
+    ("its checksums", "checksums"),
+    ("its medium and its checksums", "media"),
+    ("an MTU of 1499", "mtu"),
+    ("an MTU of 575", "mtu"),
+    ("its buffers", "buffers"),
+    ("any IP", "not fresh"),
+    ("a frame waits", "not fresh"),
+];
+
 #[test]
 fn other_hosts_do_not(rt: HostRuntime) -> Result<(), Fail> {
-    let cases = [
-        ("its medium", "media"),
-        ("its checksums", "checksums"),
-        ("its medium and its checksums", "media"),
-        ("an MTU of 1499", "mtu"),
-        ("an MTU of 575", "mtu"),
-        ("its buffers", "buffers"),
-        ("any IP", "not fresh"),
-        ("a frame waits", "not fresh"),
-    ];
-    for (wrong, want) in cases {
+    for &(wrong, want) in &OTHERS {
         becomes(&rt, wrong, want)?;
     }
     Ok(())

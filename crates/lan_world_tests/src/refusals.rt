@@ -142,19 +142,33 @@ fn ended(
     })
 }
 
-/// Where it finds no memory, it goes on behind the steps that stay.
+/// How a run of the three ends: where it finds no memory, it goes on behind the steps that stay.
+fn end_of_three(rt: &HostRuntime, world: &mut World) -> Result<Result<(), (usize, Refused)>, Fail> {
+    match ended(rt, world, 0)? {
+        Err((place, Refused::Memory)) => {
+            tell(rt, "a run goes on")?;
+            ended(rt, world, place)
+        }
+        end => Ok(end),
+    }
+}
+
+/// Whether the second of the three stops the run.
+fn second_stops(rt: &HostRuntime, world: &mut World) -> Result<bool, Fail> {
+    let end = end_of_three(rt, world)?;
+    Ok(matches!(end, Err((1, Refused::NoSocket))) && world.answers().len() == 1)
+}
+
+/// The same of a world that is made for it.
+fn second_stops_anew(rt: &HostRuntime) -> Result<bool, Fail> {
+    let mut world = world(rt, DATAGRAMS)?;
+    second_stops(rt, &mut world)
+}
+
 #[test]
 fn a_run_stops_at_the_first_refusal(rt: HostRuntime) -> Result<(), Fail> {
-    let mut world = world(&rt, DATAGRAMS)?;
-    let end = match ended(&rt, &mut world, 0)? {
-        Err((place, Refused::Memory)) => {
-            tell(&rt, "a run goes on")?;
-            ended(&rt, &mut world, place)?
-        }
-        end => end,
-    };
-    assert!(rt; matches!(end, Err((1, Refused::NoSocket))));
-    assert!(rt; world.answers().len() == 1);
+    let stops = second_stops_anew(&rt)?;
+    assert!(rt; stops);
     Ok(())
 }
 
@@ -182,7 +196,53 @@ fn a_socket_accepts_fewer_than_2_to_the_29_bytes(rt: HostRuntime) -> Result<(), 
     Ok(())
 }
 
-const CASES: [Case; 9] = [
+/// A socket that was never opened, and then one that accepted three bytes: of both the byte that makes 2^29 is refused, and nothing has
+/// changed. One byte less is taken, as far as the queue has room.
+const NEAR_THE_END: &str = "
+A send 0: 5a*536870912 -> refused too-many-bytes
+A answers -> 0
+B listen 0 80
+A connect 0 80 49500
+A poll -> changed
+A deliver 0
+B poll -> changed
+B deliver 0
+A poll -> changed
+A send 0: 616263 -> count 3
+A answers -> 8
+A sent -> 2
+A send 0: 5a*536870909 -> refused too-many-bytes
+A answers -> 8
+A sent -> 2
+A state 0 -> state established
+";
+
+const LAST_TAKEN: &str = "
+A send 0: 5a*536870908 -> count 61
+A answers -> 10
+A sent -> 2
+A poll -> changed
+A sent -> 3
+A deliver 2
+B poll -> changed
+B receive 0 3 -> bytes 616263
+B receive 0 64 -> bytes 5a*61
+B receive 0 64 -> bytes
+";
+
+static BOUNDED: [Case; 1] = [(
+    "bytes are bounded",
+    "ip, tcp 64",
+    [NEAR_THE_END, LAST_TAKEN],
+)];
+
+/// Half a gigabyte is offered three times, and kept once.
+#[test]
+fn the_byte_that_makes_2_to_the_29_is_refused(rt: HostRuntime) -> Result<(), Fail> {
+    play(&rt, &BOUNDED)
+}
+
+static CASES: [Case; 9] = [
     (
         "sockets are there and of their kind",
         EACH,

@@ -36,6 +36,7 @@ use std::test::Fail;
 ///     A sent -> COUNT       how many frames the host sent
 ///     A frame FRAME -> BYTES
 ///     A begins FRAME -> COUNT BYTES                      it has so many bytes, which begin so
+///     A answers -> COUNT    how many events the world took
 ///     settle TIMES: BYTES   both hosts are polled when they ask for it, and each new frame is delivered so often with these bytes
 ///                           behind it, until neither has anything to do within five seconds
 pub type Case = (&'static str, &'static str, [&'static str; 2]);
@@ -114,9 +115,10 @@ fn goes(rt: &HostRuntime, run: &mut Run, line: &str) -> Result<bool, Fail> {
     Ok(is_answer(&given, act.side, answer))
 }
 
-/// Whether the frames that a host sent are as a line says, if it speaks of them.
+/// Whether what the world keeps is as a line says, if it speaks of that.
 fn shows(run: &Run, act: &Act, text: &str) -> Option<bool> {
     match act.verb {
+        "answers" => Some(is_number(text, run.world.answers().len() as u64)),
         "sent" => Some(is_number(text, sent(run, act.side).len() as u64)),
         "frame" => Some(are_bytes(frame(run, act), text)),
         "begins" => {
