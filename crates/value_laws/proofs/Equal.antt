@@ -1,0 +1,280 @@
+-- When what a TCP socket goes by is equal.
+use Rattle.std.proofs.Common.{rules, ◌≡◌, ℕ, ℤ, Bool, List, Option, ap, ap₂}
+use Rattle.std.specs.Prelude.{◌==◌}
+use Rattle.std.specs.Ordering.{int_eq}
+use Rattle.std.specs.Bool.{Decides}
+use Rattle.std.specs.Cmp.{booleans_Decides}
+use Rattle.std.proofs.lemmas.Bool.Decides.{Decides-and, Decides-eqb, Decides-int_eq}
+use Rattle.std.proofs.lemmas.Slice.Eq.{bytes_eq-Decides}
+use Rattle.ip_packet.proofs.Equal.{Decides-ip}
+use Rattle.ip_tcp.proofs.Equal.{both, Decides-header, Decides-number, Decides-option}
+use Rattle.ip_address.specs.contracts.ip.IpAddressPartialEq.TheImpl as Address
+use Rattle.ip_address.specs.contracts.ip.IpListenEndpointPartialEq.TheImpl as Listening
+use Rattle.ip_tcp.specs.contracts.timestamp.TcpTimestampGeneratorPartialEq.TheImpl as Generator
+use Rattle.ip_wire.specs.IpAddress.{IpAddress}
+use Rattle.ip_wire.specs.IpAddress.TheVariants as Is
+use Rattle.ip_wire.specs.IpListenEndpoint.{IpListenEndpoint}
+use Rattle.ip_wire.specs.TcpTimestampGenerator.{TcpTimestampGenerator}
+use Rattle.tcp_control.specs.contracts.endpoints.AddressPairPartialEq.TheImpl as Addresses
+use Rattle.tcp_control.specs.contracts.endpoints.EndpointPairPartialEq.TheImpl as Pair
+use Rattle.tcp_control.specs.contracts.offer.OfferKindPartialEq.TheImpl as Kind
+use Rattle.tcp_control.specs.contracts.offer.OpenOfferPartialEq.TheImpl as Opened
+use Rattle.tcp_control.specs.contracts.offer.ReplyPartialEq.TheImpl as Replied
+use Rattle.tcp_control.specs.contracts.reno.RenoPartialEq.TheImpl as Window
+use Rattle.tcp_control.specs.contracts.round_trip.EstimatePartialEq.TheImpl as Estimated
+use Rattle.tcp_control.specs.contracts.round_trip.RoundTripPartialEq.TheImpl as Trip
+use Rattle.tcp_control.specs.contracts.round_trip.SamplePartialEq.TheImpl as Sampled
+use Rattle.tcp_control.specs.contracts.state.StatePartialEq.TheImpl as States
+use Rattle.tcp_control.specs.declared.endpoints.AddressPair.{AddressPair}
+use Rattle.tcp_control.specs.declared.endpoints.AddressPair.TheVariants as Both
+use Rattle.tcp_control.specs.declared.endpoints.EndpointPair.{EndpointPair}
+use Rattle.tcp_control.specs.declared.offer.OfferKind.{OfferKind}
+use Rattle.tcp_control.specs.declared.offer.OpenOffer.{OpenOffer}
+use Rattle.tcp_control.specs.declared.offer.Reply.{Reply}
+use Rattle.tcp_control.specs.declared.round_trip.Estimate.{Estimate}
+use Rattle.tcp_control.specs.declared.round_trip.Sample.{Sample}
+use Rattle.tcp_control.specs.declared.state.State.{State}
+use Rattle.tcp_control.specs.Reno.{RenoValue}
+use Rattle.tcp_control.specs.RoundTrip.{RoundTripValue}
+use Rattle.tcp_model.specs.contracts.block.BlockPartialEq.TheImpl as Blocks
+use Rattle.tcp_model.specs.contracts.block.CongestionControlPartialEq.TheImpl as Congestion
+use Rattle.tcp_model.specs.contracts.block.NamesPartialEq.TheImpl as Named
+use Rattle.tcp_model.specs.contracts.block.PeerPartialEq.TheImpl as Remote
+use Rattle.tcp_model.specs.contracts.block.ReceiverPartialEq.TheImpl as Receiving
+use Rattle.tcp_model.specs.contracts.block.SenderPartialEq.TheImpl as Sending
+use Rattle.tcp_model.specs.contracts.block.SettingsPartialEq.TheImpl as Set
+use Rattle.tcp_model.specs.contracts.block.TimersPartialEq.TheImpl as Timed
+use Rattle.tcp_model.specs.contracts.block.checks.VerdictPartialEq.TheImpl as Judged
+use Rattle.tcp_model.specs.contracts.block.rules.PartPartialEq.TheImpl as Parted
+use Rattle.tcp_model.specs.declared.block.Block.{Block}
+use Rattle.tcp_model.specs.declared.block.CongestionControl.{CongestionControl}
+use Rattle.tcp_model.specs.declared.block.Names.{Names}
+use Rattle.tcp_model.specs.declared.block.Peer.{Peer}
+use Rattle.tcp_model.specs.declared.block.Receiver.{Receiver}
+use Rattle.tcp_model.specs.declared.block.Sender.{Sender}
+use Rattle.tcp_model.specs.declared.block.Settings.{Settings}
+use Rattle.tcp_model.specs.declared.block.Timers.{Timers}
+use Rattle.tcp_model.specs.declared.block.checks.Verdict.{Verdict}
+use Rattle.tcp_model.specs.declared.block.rules.Part.{Part}
+
+Decides-address : (a b : IpAddress) → Decides (Address.ghosts.eq a b) (a ≡ b)
+Decides-address (Is.Ipv4 a) (Is.Ipv4 b) =
+    let same = bytes_eq-Decides a.0 b.0 in
+    let make : List ℕ → IpAddress = λ octets. Is.Ipv4 (record { 0 = octets }) in
+    (λ yes. ap make (same.0 yes), λ e. same.1 (cc))
+Decides-address (Is.Ipv6 a) (Is.Ipv6 b) =
+    let same = bytes_eq-Decides a.0 b.0 in
+    let make : List ℕ → IpAddress = λ octets. Is.Ipv6 (record { 0 = octets }) in
+    (λ yes. ap make (same.0 yes), λ e. same.1 (cc))
+Decides-address a b = (λ yes. absurd (cc), λ e. absurd (cc))
+
+pub Decides-addresses : (a b : AddressPair) → Decides (Addresses.ghosts.eq a b) (a ≡ b)
+Decides-addresses (Both.Ipv4 a b) (Both.Ipv4 c d) =
+    let same = Decides-and _ _ (bytes_eq-Decides a.0 c.0) (bytes_eq-Decides b.0 d.0) in
+    let make : List ℕ → List ℕ → AddressPair = λ own other. Both.Ipv4 (record { 0 = own }) (record { 0 = other }) in
+    (λ yes. ap₂ make (same.0 yes).0 (same.0 yes).1, λ e. let own : a.0 ≡ c.0 = cc in let other : b.0 ≡ d.0 = cc in same.1 (both own other))
+Decides-addresses (Both.Ipv6 a b) (Both.Ipv6 c d) =
+    let same = Decides-and _ _ (bytes_eq-Decides a.0 c.0) (bytes_eq-Decides b.0 d.0) in
+    let make : List ℕ → List ℕ → AddressPair = λ own other. Both.Ipv6 (record { 0 = own }) (record { 0 = other }) in
+    (λ yes. ap₂ make (same.0 yes).0 (same.0 yes).1, λ e. let own : a.0 ≡ c.0 = cc in let other : b.0 ≡ d.0 = cc in same.1 (both own other))
+Decides-addresses a b = (λ yes. absurd (cc), λ e. absurd (cc))
+
+Decides-generator : (a b : TcpTimestampGenerator) → Decides (Generator.ghosts.eq a b) (a ≡ b)
+Decides-generator a b = search rules
+
+Decides-listening : (a b : IpListenEndpoint) → Decides (Listening.ghosts.eq a b) (a ≡ b)
+Decides-listening a b =
+    let all = Decides-and _ _ (Decides-option (λ x y. Address.ghosts.eq x y) Decides-address a.addr b.addr) (Decides-eqb a.port b.port) in (
+      λ yes.
+          let parts = all.0 yes in
+          λ i. record { addr = parts.0 i; port = parts.1 i },
+      λ e. all.1 (both (ap (λ (v : IpListenEndpoint). v.addr) e) (ap (λ (v : IpListenEndpoint). v.port) e)),
+    )
+
+pub Decides-state : (a b : State) → Decides (States.ghosts.eq a b) (a ≡ b)
+Decides-state a b = search rules
+
+pub Decides-kind : (a b : OfferKind) → Decides (Kind.ghosts.eq a b) (a ≡ b)
+Decides-kind a b = search rules
+
+pub Decides-pair : (a b : EndpointPair) → Decides (Pair.ghosts.eq a b) (a ≡ b)
+Decides-pair a b =
+    let from_local_port = Decides-and _ _ (Decides-eqb a.local_port b.local_port) (Decides-eqb a.remote_port b.remote_port) in
+    let all = Decides-and _ _ (Decides-addresses a.addresses b.addresses) (from_local_port) in (
+      λ yes.
+          let parts = all.0 yes in
+          λ i. record { addresses = parts.0 i; local_port = parts.1.0 i; remote_port = parts.1.1 i },
+      λ e. all.1 (both (ap (λ (v : EndpointPair). v.addresses) e) (both (ap (λ (v : EndpointPair). v.local_port) e) (ap (λ (v : EndpointPair). v.remote_port) e))),
+    )
+
+pub Decides-open_offer : (a b : OpenOffer) → Decides (Opened.ghosts.eq a b) (a ≡ b)
+Decides-open_offer a b =
+    let from_place = Decides-and _ _ (Decides-eqb a.place b.place) (Decides-eqb a.len b.len) in
+    let from_segment = Decides-and _ _ (Decides-header a.segment b.segment) (from_place) in
+    let from_header = Decides-and _ _ (Decides-ip a.header b.header) (from_segment) in
+    let from_moment = Decides-and _ _ (Decides-int_eq a.moment b.moment) (from_header) in
+    let all = Decides-and _ _ (Decides-kind a.kind b.kind) (from_moment) in (
+      λ yes.
+          let parts = all.0 yes in
+          λ i. record { kind = parts.0 i; moment = parts.1.0 i; header = parts.1.1.0 i; segment = parts.1.1.1.0 i; place = parts.1.1.1.1.0 i; len = parts.1.1.1.1.1 i },
+      λ e. all.1 (both (ap (λ (v : OpenOffer). v.kind) e) (both (ap (λ (v : OpenOffer). v.moment) e) (both (ap (λ (v : OpenOffer). v.header) e) (both (ap (λ (v : OpenOffer). v.segment) e) (both (ap (λ (v : OpenOffer). v.place) e) (ap (λ (v : OpenOffer). v.len) e)))))),
+    )
+
+pub Decides-reply : (a b : Reply) → Decides (Replied.ghosts.eq a b) (a ≡ b)
+Decides-reply a b =
+    let all = Decides-and _ _ (Decides-ip a.header b.header) (Decides-header a.segment b.segment) in (
+      λ yes.
+          let parts = all.0 yes in
+          λ i. record { header = parts.0 i; segment = parts.1 i },
+      λ e. all.1 (both (ap (λ (v : Reply). v.header) e) (ap (λ (v : Reply). v.segment) e)),
+    )
+
+pub Decides-reno : (a b : RenoValue) → Decides (Window.ghosts.eq a b) (a ≡ b)
+Decides-reno a b =
+    let from_recovers = Decides-and _ _ (booleans_Decides a.recovers b.recovers) (booleans_Decides a.timed_out b.timed_out) in
+    let from_ssthresh = Decides-and _ _ (Decides-eqb a.ssthresh b.ssthresh) (from_recovers) in
+    let from_cwnd = Decides-and _ _ (Decides-eqb a.cwnd b.cwnd) (from_ssthresh) in
+    let all = Decides-and _ _ (Decides-eqb a.mss b.mss) (from_cwnd) in (
+      λ yes.
+          let parts = all.0 yes in
+          λ i. record { mss = parts.0 i; cwnd = parts.1.0 i; ssthresh = parts.1.1.0 i; recovers = parts.1.1.1.0 i; timed_out = parts.1.1.1.1 i },
+      λ e. all.1 (both (ap (λ (v : RenoValue). v.mss) e) (both (ap (λ (v : RenoValue). v.cwnd) e) (both (ap (λ (v : RenoValue). v.ssthresh) e) (both (ap (λ (v : RenoValue). v.recovers) e) (ap (λ (v : RenoValue). v.timed_out) e))))),
+    )
+
+Decides-estimate : (a b : Estimate) → Decides (Estimated.ghosts.eq a b) (a ≡ b)
+Decides-estimate a b =
+    let all = Decides-and _ _ (Decides-eqb a.smoothed b.smoothed) (Decides-eqb a.variation b.variation) in (
+      λ yes.
+          let parts = all.0 yes in
+          λ i. record { smoothed = parts.0 i; variation = parts.1 i },
+      λ e. all.1 (both (ap (λ (v : Estimate). v.smoothed) e) (ap (λ (v : Estimate). v.variation) e)),
+    )
+
+Decides-sample : (a b : Sample) → Decides (Sampled.ghosts.eq a b) (a ≡ b)
+Decides-sample a b =
+    let all = Decides-and _ _ (Decides-eqb a.ends b.ends) (Decides-int_eq a.since b.since) in (
+      λ yes.
+          let parts = all.0 yes in
+          λ i. record { ends = parts.0 i; since = parts.1 i },
+      λ e. all.1 (both (ap (λ (v : Sample). v.ends) e) (ap (λ (v : Sample). v.since) e)),
+    )
+
+pub Decides-round_trip : (a b : RoundTripValue) → Decides (Trip.ghosts.eq a b) (a ≡ b)
+Decides-round_trip a b =
+    let from_timeout = Decides-and _ _ (Decides-eqb a.timeout b.timeout) (Decides-option (λ x y. Sampled.ghosts.eq x y) Decides-sample a.sample b.sample) in
+    let all = Decides-and _ _ (Decides-option (λ x y. Estimated.ghosts.eq x y) Decides-estimate a.estimate b.estimate) (from_timeout) in (
+      λ yes.
+          let parts = all.0 yes in
+          λ i. record { estimate = parts.0 i; timeout = parts.1.0 i; sample = parts.1.1 i },
+      λ e. all.1 (both (ap (λ (v : RoundTripValue). v.estimate) e) (both (ap (λ (v : RoundTripValue). v.timeout) e) (ap (λ (v : RoundTripValue). v.sample) e))),
+    )
+
+pub Decides-names : (a b : Names) → Decides (Named.ghosts.eq a b) (a ≡ b)
+Decides-names a b =
+    let all = Decides-and _ _ (Decides-listening a.listen b.listen) (Decides-option (λ x y. Pair.ghosts.eq x y) Decides-pair a.pair b.pair) in (
+      λ yes.
+          let parts = all.0 yes in
+          λ i. record { listen = parts.0 i; pair = parts.1 i },
+      λ e. all.1 (both (ap (λ (v : Names). v.listen) e) (ap (λ (v : Names). v.pair) e)),
+    )
+
+pub Decides-sender : (a b : Sender) → Decides (Sending.ghosts.eq a b) (a ≡ b)
+Decides-sender a b =
+    let from_stamped = Decides-and _ _ (booleans_Decides a.stamped b.stamped) (booleans_Decides a.reset_due b.reset_due) in
+    let from_resend = Decides-and _ _ (booleans_Decides a.resend b.resend) (from_stamped) in
+    let from_duplicates = Decides-and _ _ (Decides-eqb a.duplicates b.duplicates) (from_resend) in
+    let from_in_flight = Decides-and _ _ (Decides-eqb a.in_flight b.in_flight) (from_duplicates) in
+    let from_syn_unacked = Decides-and _ _ (booleans_Decides a.syn_unacked b.syn_unacked) (from_in_flight) in
+    let all = Decides-and _ _ (Decides-number a.una b.una) (from_syn_unacked) in (
+      λ yes.
+          let parts = all.0 yes in
+          λ i. record { una = parts.0 i; syn_unacked = parts.1.0 i; in_flight = parts.1.1.0 i; duplicates = parts.1.1.1.0 i; resend = parts.1.1.1.1.0 i; stamped = parts.1.1.1.1.1.0 i; reset_due = parts.1.1.1.1.1.1 i },
+      λ e. all.1 (both (ap (λ (v : Sender). v.una) e) (both (ap (λ (v : Sender). v.syn_unacked) e) (both (ap (λ (v : Sender). v.in_flight) e) (both (ap (λ (v : Sender). v.duplicates) e) (both (ap (λ (v : Sender). v.resend) e) (both (ap (λ (v : Sender). v.stamped) e) (ap (λ (v : Sender). v.reset_due) e))))))),
+    )
+
+pub Decides-receiver : (a b : Receiver) → Decides (Receiving.ghosts.eq a b) (a ≡ b)
+Decides-receiver a b =
+    let from_took_fin = Decides-and _ _ (booleans_Decides a.took_fin b.took_fin) (Decides-eqb a.advertised b.advertised) in
+    let from_took_syn = Decides-and _ _ (booleans_Decides a.took_syn b.took_syn) (from_took_fin) in
+    let all = Decides-and _ _ (Decides-number a.next b.next) (from_took_syn) in (
+      λ yes.
+          let parts = all.0 yes in
+          λ i. record { next = parts.0 i; took_syn = parts.1.0 i; took_fin = parts.1.1.0 i; advertised = parts.1.1.1 i },
+      λ e. all.1 (both (ap (λ (v : Receiver). v.next) e) (both (ap (λ (v : Receiver). v.took_syn) e) (both (ap (λ (v : Receiver). v.took_fin) e) (ap (λ (v : Receiver). v.advertised) e)))),
+    )
+
+pub Decides-peer : (a b : Peer) → Decides (Remote.ghosts.eq a b) (a ≡ b)
+Decides-peer a b =
+    let from_timestamps = Decides-and _ _ (booleans_Decides a.timestamps b.timestamps) (Decides-eqb a.recent b.recent) in
+    let from_sack = Decides-and _ _ (booleans_Decides a.sack b.sack) (from_timestamps) in
+    let from_scale = Decides-and _ _ (Decides-option (λ (x y : ℕ). x == y) Decides-eqb a.scale b.scale) (from_sack) in
+    let from_mss = Decides-and _ _ (Decides-eqb a.mss b.mss) (from_scale) in
+    let all = Decides-and _ _ (Decides-eqb a.window b.window) (from_mss) in (
+      λ yes.
+          let parts = all.0 yes in
+          λ i. record { window = parts.0 i; mss = parts.1.0 i; scale = parts.1.1.0 i; sack = parts.1.1.1.0 i; timestamps = parts.1.1.1.1.0 i; recent = parts.1.1.1.1.1 i },
+      λ e. all.1 (both (ap (λ (v : Peer). v.window) e) (both (ap (λ (v : Peer). v.mss) e) (both (ap (λ (v : Peer). v.scale) e) (both (ap (λ (v : Peer). v.sack) e) (both (ap (λ (v : Peer). v.timestamps) e) (ap (λ (v : Peer). v.recent) e)))))),
+    )
+
+pub Decides-timers : (a b : Timers) → Decides (Timed.ghosts.eq a b) (a ≡ b)
+Decides-timers a b =
+    let from_time_wait_ends = Decides-and _ _ (Decides-option (λ (x y : ℤ). int_eq x y) Decides-int_eq a.time_wait_ends b.time_wait_ends) (Decides-option (λ (x y : ℤ). int_eq x y) Decides-int_eq a.timeout_since b.timeout_since) in
+    let from_draws_from = Decides-and _ _ (Decides-option (λ (x y : ℤ). int_eq x y) Decides-int_eq a.draws_from b.draws_from) (from_time_wait_ends) in
+    let from_text_unacked = Decides-and _ _ (booleans_Decides a.text_unacked b.text_unacked) (from_draws_from) in
+    let from_ack_at = Decides-and _ _ (Decides-option (λ (x y : ℤ). int_eq x y) Decides-int_eq a.ack_at b.ack_at) (from_text_unacked) in
+    let from_probe_at = Decides-and _ _ (Decides-option (λ (x y : ℤ). int_eq x y) Decides-int_eq a.probe_at b.probe_at) (from_ack_at) in
+    let all = Decides-and _ _ (Decides-option (λ (x y : ℤ). int_eq x y) Decides-int_eq a.retransmit_at b.retransmit_at) (from_probe_at) in (
+      λ yes.
+          let parts = all.0 yes in
+          λ i. record { retransmit_at = parts.0 i; probe_at = parts.1.0 i; ack_at = parts.1.1.0 i; text_unacked = parts.1.1.1.0 i; draws_from = parts.1.1.1.1.0 i; time_wait_ends = parts.1.1.1.1.1.0 i; timeout_since = parts.1.1.1.1.1.1 i },
+      λ e. all.1 (both (ap (λ (v : Timers). v.retransmit_at) e) (both (ap (λ (v : Timers). v.probe_at) e) (both (ap (λ (v : Timers). v.ack_at) e) (both (ap (λ (v : Timers). v.text_unacked) e) (both (ap (λ (v : Timers). v.draws_from) e) (both (ap (λ (v : Timers). v.time_wait_ends) e) (ap (λ (v : Timers). v.timeout_since) e))))))),
+    )
+
+pub Decides-congestion : (a b : CongestionControl) → Decides (Congestion.ghosts.eq a b) (a ≡ b)
+Decides-congestion a b = search rules
+
+pub Decides-settings : (a b : Settings) → Decides (Set.ghosts.eq a b) (a ≡ b)
+Decides-settings a b =
+    let from_congestion_control = Decides-and _ _ (Decides-congestion a.congestion_control b.congestion_control) (booleans_Decides a.synack_paused b.synack_paused) in
+    let from_timestamps = Decides-and _ _ (Decides-option (λ x y. Generator.ghosts.eq x y) Decides-generator a.timestamps b.timestamps) (from_congestion_control) in
+    let from_hop_limit = Decides-and _ _ (Decides-option (λ (x y : ℕ). x == y) Decides-eqb a.hop_limit b.hop_limit) (from_timestamps) in
+    let from_nagle = Decides-and _ _ (booleans_Decides a.nagle b.nagle) (from_hop_limit) in
+    let from_keep_alive_at = Decides-and _ _ (Decides-option (λ (x y : ℤ). int_eq x y) Decides-int_eq a.keep_alive_at b.keep_alive_at) (from_nagle) in
+    let from_keep_alive = Decides-and _ _ (Decides-option (λ (x y : ℕ). x == y) Decides-eqb a.keep_alive b.keep_alive) (from_keep_alive_at) in
+    let from_ack_delay = Decides-and _ _ (Decides-option (λ (x y : ℕ). x == y) Decides-eqb a.ack_delay b.ack_delay) (from_keep_alive) in
+    let all = Decides-and _ _ (Decides-option (λ (x y : ℕ). x == y) Decides-eqb a.timeout b.timeout) (from_ack_delay) in (
+      λ yes.
+          let parts = all.0 yes in
+          λ i. record { timeout = parts.0 i; ack_delay = parts.1.0 i; keep_alive = parts.1.1.0 i; keep_alive_at = parts.1.1.1.0 i; nagle = parts.1.1.1.1.0 i; hop_limit = parts.1.1.1.1.1.0 i; timestamps = parts.1.1.1.1.1.1.0 i; congestion_control = parts.1.1.1.1.1.1.1.0 i; synack_paused = parts.1.1.1.1.1.1.1.1 i },
+      λ e. all.1 (both (ap (λ (v : Settings). v.timeout) e) (both (ap (λ (v : Settings). v.ack_delay) e) (both (ap (λ (v : Settings). v.keep_alive) e) (both (ap (λ (v : Settings). v.keep_alive_at) e) (both (ap (λ (v : Settings). v.nagle) e) (both (ap (λ (v : Settings). v.hop_limit) e) (both (ap (λ (v : Settings). v.timestamps) e) (both (ap (λ (v : Settings). v.congestion_control) e) (ap (λ (v : Settings). v.synack_paused) e))))))))),
+    )
+
+-- the control block is compared whole
+pub Decides-block : (a b : Block) → Decides (Blocks.ghosts.eq a b) (a ≡ b)
+Decides-block a b =
+    let from_reno = Decides-and _ _ (Decides-reno a.reno b.reno) (Decides-settings a.settings b.settings) in
+    let from_round_trip = Decides-and _ _ (Decides-round_trip a.round_trip b.round_trip) (from_reno) in
+    let from_timers = Decides-and _ _ (Decides-timers a.timers b.timers) (from_round_trip) in
+    let from_peer = Decides-and _ _ (Decides-peer a.peer b.peer) (from_timers) in
+    let from_receiver = Decides-and _ _ (Decides-receiver a.receiver b.receiver) (from_peer) in
+    let from_sender = Decides-and _ _ (Decides-sender a.sender b.sender) (from_receiver) in
+    let from_names = Decides-and _ _ (Decides-names a.names b.names) (from_sender) in
+    let all = Decides-and _ _ (Decides-state a.state b.state) (from_names) in (
+      λ yes.
+          let parts = all.0 yes in
+          λ i. record { state = parts.0 i; names = parts.1.0 i; sender = parts.1.1.0 i; receiver = parts.1.1.1.0 i; peer = parts.1.1.1.1.0 i; timers = parts.1.1.1.1.1.0 i; round_trip = parts.1.1.1.1.1.1.0 i; reno = parts.1.1.1.1.1.1.1.0 i; settings = parts.1.1.1.1.1.1.1.1 i },
+      λ e. all.1 (both (ap (λ (v : Block). v.state) e) (both (ap (λ (v : Block). v.names) e) (both (ap (λ (v : Block). v.sender) e) (both (ap (λ (v : Block). v.receiver) e) (both (ap (λ (v : Block). v.peer) e) (both (ap (λ (v : Block). v.timers) e) (both (ap (λ (v : Block). v.round_trip) e) (both (ap (λ (v : Block). v.reno) e) (ap (λ (v : Block). v.settings) e))))))))),
+    )
+
+pub Decides-verdict : (a b : Verdict) → Decides (Judged.ghosts.eq a b) (a ≡ b)
+Decides-verdict a b = search rules
+
+pub Decides-part : (a b : Part) → Decides (Parted.ghosts.eq a b) (a ≡ b)
+Decides-part a b =
+    let from_len = Decides-and _ _ (Decides-eqb a.len b.len) (booleans_Decides a.fin b.fin) in
+    let all = Decides-and _ _ (Decides-eqb a.place b.place) (from_len) in (
+      λ yes.
+          let parts = all.0 yes in
+          λ i. record { place = parts.0 i; len = parts.1.0 i; fin = parts.1.1 i },
+      λ e. all.1 (both (ap (λ (v : Part). v.place) e) (both (ap (λ (v : Part). v.len) e) (ap (λ (v : Part). v.fin) e))),
+    )

@@ -1,0 +1,65 @@
+//! What a TCP socket goes by, under the names that `tcp_model` passes on.
+ghost use Rattle.std.specs.Prelude.{◌≡◌, ◌↔◌, IsTrue, codes, Some, None, false};
+ghost use Rattle.tcp_model.specs.AddressPair.{AddressPair};
+ghost use Rattle.tcp_model.specs.EndpointPair.{EndpointPair};
+ghost use Rattle.tcp_model.specs.OfferKind.{OfferKind};
+ghost use Rattle.tcp_model.specs.OpenOffer.{OpenOffer};
+ghost use Rattle.tcp_model.specs.Reply.{Reply};
+ghost use Rattle.tcp_model.specs.Reno.{RenoValue};
+ghost use Rattle.tcp_model.specs.RoundTrip.{RoundTripValue};
+ghost use Rattle.tcp_model.specs.State.{State};
+ghost use Rattle.tcp_model.specs.declared.block.Block.{Block};
+ghost use Rattle.tcp_model.specs.declared.block.CongestionControl.{CongestionControl};
+ghost use Rattle.tcp_model.specs.declared.block.Names.{Names};
+ghost use Rattle.tcp_model.specs.declared.block.Peer.{Peer};
+ghost use Rattle.tcp_model.specs.declared.block.Receiver.{Receiver};
+ghost use Rattle.tcp_model.specs.declared.block.Sender.{Sender};
+ghost use Rattle.tcp_model.specs.declared.block.Settings.{Settings};
+ghost use Rattle.tcp_model.specs.declared.block.Timers.{Timers};
+ghost use Rattle.tcp_model.specs.declared.block.checks.Verdict.{Verdict};
+ghost use Rattle.tcp_model.specs.declared.block.rules.Part.{Part};
+
+use std::fmt::Display;
+use tcp_model::{
+    AddressPair, Block, CongestionControl, EndpointPair, Names, OfferKind, OpenOffer, PROBE, Part,
+    Peer, Receiver, Reno, Reply, RoundTrip, Sender, Settings, State, Timers, Verdict,
+};
+
+/// Law: `==` of a control block, and of each part of it, says whether they are the same.
+pub fn blocks_are_equated()
+    ensures state { (a b : State) → IsTrue (⟦<State as PartialEq>⟧.eq a b) ↔ (a ≡ b) }
+    ensures names { (a b : Names) → IsTrue (⟦<Names as PartialEq>⟧.eq a b) ↔ (a ≡ b) }
+    ensures sender { (a b : Sender) → IsTrue (⟦<Sender as PartialEq>⟧.eq a b) ↔ (a ≡ b) }
+    ensures receiver { (a b : Receiver) → IsTrue (⟦<Receiver as PartialEq>⟧.eq a b) ↔ (a ≡ b) }
+    ensures peer { (a b : Peer) → IsTrue (⟦<Peer as PartialEq>⟧.eq a b) ↔ (a ≡ b) }
+    ensures timers { (a b : Timers) → IsTrue (⟦<Timers as PartialEq>⟧.eq a b) ↔ (a ≡ b) }
+    ensures round_trip { (a b : RoundTripValue) → IsTrue (⟦<RoundTrip as PartialEq>⟧.eq a b) ↔ (a ≡ b) }
+    ensures reno { (a b : RenoValue) → IsTrue (⟦<Reno as PartialEq>⟧.eq a b) ↔ (a ≡ b) }
+    ensures congestion { (a b : CongestionControl) → IsTrue (⟦<CongestionControl as PartialEq>⟧.eq a b) ↔ (a ≡ b) }
+    ensures settings { (a b : Settings) → IsTrue (⟦<Settings as PartialEq>⟧.eq a b) ↔ (a ≡ b) }
+    ensures block { (a b : Block) → IsTrue (⟦<Block as PartialEq>⟧.eq a b) ↔ (a ≡ b) }
+{}
+
+/// Law: the same of endpoints, offers, answers and what becomes of a segment.
+pub fn offers_are_equated()
+    ensures addresses { (a b : AddressPair) → IsTrue (⟦<AddressPair as PartialEq>⟧.eq a b) ↔ (a ≡ b) }
+    ensures pair { (a b : EndpointPair) → IsTrue (⟦<EndpointPair as PartialEq>⟧.eq a b) ↔ (a ≡ b) }
+    ensures kind { (a b : OfferKind) → IsTrue (⟦<OfferKind as PartialEq>⟧.eq a b) ↔ (a ≡ b) }
+    ensures open_offer { (a b : OpenOffer) → IsTrue (⟦<OpenOffer as PartialEq>⟧.eq a b) ↔ (a ≡ b) }
+    ensures reply { (a b : Reply) → IsTrue (⟦<Reply as PartialEq>⟧.eq a b) ↔ (a ≡ b) }
+    ensures verdict { (a b : Verdict) → IsTrue (⟦<Verdict as PartialEq>⟧.eq a b) ↔ (a ≡ b) }
+    ensures part { (a b : Part) → IsTrue (⟦<Part as PartialEq>⟧.eq a b) ↔ (a ≡ b) }
+{}
+
+/// Law: no names, and the byte that probes a closed window.
+pub fn constants()
+    ensures names { Names.NONE ≡ record { listen = record { addr = None; port = 0 }; pair = None } }
+    ensures probe { PROBE ≡ record { place = 0; len = 1; fin = false } }
+{}
+
+/// Law: the names of the states are those of RFC 9293, section 3.3.2.
+pub fn states_have_names()
+    ensures closed { ⟦<State as Display>⟧.output State.Closed ≡ Some (codes "CLOSED") }
+    ensures listen { ⟦<State as Display>⟧.output State.Listen ≡ Some (codes "LISTEN") }
+    ensures time_wait { ⟦<State as Display>⟧.output State.TimeWait ≡ Some (codes "TIME-WAIT") }
+{}

@@ -1,0 +1,18 @@
+//! Of `tun_link` and `services`.
+ghost use Rattle.std.specs.Prelude.{◌≡◌, ◌↔◌, IsTrue};
+ghost use Rattle.services.specs.declared.page.Verdict.{Verdict};
+ghost use Rattle.tun_link.specs.declared.turn.TurnError.{TurnError};
+
+use services::Verdict;
+use tun_link::{HEAD_LEN, TurnError};
+
+/// Law: `==` says of two verdicts, and of two reasons why a turn isn't taken, whether they are the same.
+pub fn answers_are_equated()
+    ensures verdict { (a b : Verdict) → IsTrue (⟦<Verdict as PartialEq>⟧.eq a b) ↔ (a ≡ b) }
+    ensures turn { (a b : TurnError) → IsTrue (⟦<TurnError as PartialEq>⟧.eq a b) ↔ (a ≡ b) }
+{}
+
+/// Law: before a turn's packet stand its length, two bytes, and the moment, eight.
+pub fn constants()
+    ensures { HEAD_LEN ≡ 10 }
+{}
