@@ -17,6 +17,7 @@ pub mod lan_net_values;
 pub mod script_equal;
 pub mod tun_equal;
 pub mod tun_served;
+pub mod tun_values;
 pub mod world_equal;
 pub mod world_facade;
 pub mod world_refusals;

@@ -24,3 +24,5 @@ mod refusals;
 mod rows;
 #[cfg(test)]
 mod streams;
+#[cfg(test)]
+mod texts;

@@ -1,0 +1,28 @@
+//! The numbers of a host over a reader and a writer.
+ghost use Rattle.std.specs.Prelude.{◌≡◌};
+ghost use Rattle.tun_host.specs.Begins.{place_count};
+ghost use Rattle.tun_host.specs.Services.{echo_room, most_request, datagram_count};
+ghost use Rattle.tun_host.specs.Turns.{budget};
+ghost use Rattle.tun_host.specs.declared.interface_of.TheConstants.{MTU};
+ghost use Rattle.tun_host.specs.declared.place.TheConstants.{ECHO_PORT, PAGE_PORT, DATAGRAMS};
+
+use tun_link::HEAD_LEN;
+
+/// Law: the ports of the services (RFC 862, RFC 1945), the longest packet, how many datagrams wait and are echoed, how many sockets
+/// there are and how much each keeps, how much of a request is looked at, and how many frames a poll takes.
+pub fn tun_numbers()
+    ensures echo { ECHO_PORT ≡ 7 }
+    ensures page { PAGE_PORT ≡ 80 }
+    ensures longest { MTU ≡ 1500 }
+    ensures waiting { DATAGRAMS ≡ 64 }
+    ensures echoed { datagram_count ≡ 64 }
+    ensures places { place_count ≡ 21 }
+    ensures room { echo_room ≡ 65536 }
+    ensures request { most_request ≡ 1024 }
+    ensures budget { budget ≡ 64 }
+{}
+
+/// Law: before a turn's packet stand its length in two bytes and the moment in eight.
+pub fn turn_numbers()
+    ensures { HEAD_LEN ≡ 10 }
+{}
