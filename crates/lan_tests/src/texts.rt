@@ -37,10 +37,7 @@ const FAULTS: [(Fault, &str); 9] = [
 const WORLDS: [(WorldError, &str); 6] = [
     (WorldError::Media, "two media"),
     (WorldError::Checksums, "a checksum is off"),
-    (
-        WorldError::Mtu,
-        "an IP MTU is out of 576 to 65535 bytes",
-    ),
+    (WorldError::Mtu, "an IP MTU is out of 576 to 65535 bytes"),
     (WorldError::Buffers, "a TCP buffer of no bytes"),
     (WorldError::NotFresh, "a host was used before"),
     (WorldError::Memory, "out of memory"),
