@@ -1,5 +1,5 @@
 //! What a frame's content brings to a host.
-ghost use Rattle.std.specs.Prelude.{◌≡◌, ◌+◌, ◌<◌, ◌^◌, length, Some};
+ghost use Rattle.std.specs.Prelude.{◌≡◌, ◌+◌, ◌<◌, ◌^◌, length, None, Some};
 ghost use Rattle.ip_wire.specs.Ip.{Fits, payload_len_of};
 ghost use Rattle.ip_wire.specs.Ipv4 as Ipv4;
 ghost use Rattle.ip_wire.specs.Ipv6 as Ipv6;
@@ -56,15 +56,17 @@ fn accept<'a>(
     header: &IpRepr,
     payload: &'a [u8],
     is_taken: bool,
-) -> Option<Reply<'a>>
+    reply: &mut Option<Reply<'a>>,
+)
     requires fits { Fits header.now }
     requires len { length payload.now ≡ payload_len_of header.now }
     requires short { length payload.now < 2 ^ 16 }
-    ensures hands { Hands (renewed inner.old link.now header.now) places.old header.now payload.now is_taken (arrived inner.new places.new (reply_of result)) }
-    ensures sendable { IfCanGo (reply_of result) }
+    requires none { reply.old ≡ None }
+    ensures hands { Hands (renewed inner.old link.now header.now) places.old header.now payload.now is_taken (arrived inner.new places.new (reply_of reply.new)) }
+    ensures sendable { IfCanGo (reply_of reply.new) }
 {
     renew(inner, link, header);
-    hand(inner, places, header, payload, is_taken)
+    hand(inner, places, header, payload, is_taken, reply);
 }
 
 /// Takes in a whole IPv4 packet: raw sockets get it first, whomever it is for.
@@ -74,18 +76,18 @@ fn arrive_ipv4<'a>(
     link: &Option<EthernetRepr>,
     header: &Ipv4Repr,
     payload: &'a [u8],
-) -> Option<Reply<'a>>
+    reply: &mut Option<Reply<'a>>,
+)
     requires fits { Ipv4.Fits header.now }
     requires len { length payload.now ≡ header.now.payload_len }
-    ensures arrives { ArrivesV4 (is_for_us inner.old (Address.Ipv4 header.now.dst_addr)) inner.old places.old link.now (Ip.Ipv4 header.now) payload.now (arrived inner.new places.new (reply_of result)) }
-    ensures sendable { IfCanGo (reply_of result) }
+    requires none { reply.old ≡ None }
+    ensures arrives { ArrivesV4 (is_for_us inner.old (Address.Ipv4 header.now.dst_addr)) inner.old places.old link.now (Ip.Ipv4 header.now) payload.now (arrived inner.new places.new (reply_of reply.new)) }
+    ensures sendable { IfCanGo (reply_of reply.new) }
 {
     let ip = IpRepr::Ipv4(*header);
     let is_taken = deliver_packet(places, &ip, payload);
     if inner.is_for_us(&IpAddress::Ipv4(header.dst_addr)) {
-        accept(inner, places, link, &ip, payload, is_taken)
-    } else {
-        None
+        accept(inner, places, link, &ip, payload, is_taken, reply);
     }
 }
 
@@ -96,43 +98,47 @@ fn arrive_ipv6<'a>(
     link: &Option<EthernetRepr>,
     header: &Ipv6Repr,
     payload: &'a [u8],
-) -> Option<Reply<'a>>
+    reply: &mut Option<Reply<'a>>,
+)
     requires fits { Ipv6.Fits header.now }
     requires len { length payload.now ≡ header.now.payload_len }
-    ensures arrives { ArrivesV6 (is_for_us inner.old (Address.Ipv6 header.now.dst_addr)) inner.old places.old link.now (Ip.Ipv6 header.now) payload.now (arrived inner.new places.new (reply_of result)) }
-    ensures sendable { IfCanGo (reply_of result) }
+    requires none { reply.old ≡ None }
+    ensures arrives { ArrivesV6 (is_for_us inner.old (Address.Ipv6 header.now.dst_addr)) inner.old places.old link.now (Ip.Ipv6 header.now) payload.now (arrived inner.new places.new (reply_of reply.new)) }
+    ensures sendable { IfCanGo (reply_of reply.new) }
 {
     if !inner.is_for_us(&IpAddress::Ipv6(header.dst_addr)) {
-        return None;
+        return;
     }
     let ip = IpRepr::Ipv6(*header);
     let is_taken = deliver_packet(places, &ip, payload);
-    accept(inner, places, link, &ip, payload, is_taken)
+    accept(inner, places, link, &ip, payload, is_taken, reply);
 }
 
-/// Takes in what a frame carries.
+/// Takes in what a frame carries, and writes what answers it.
 fn bring_in<'a>(
     inner: &mut InterfaceInner,
     places: &mut [SocketStorage<Socket>],
     incoming: &Incoming<'a>,
-) -> Option<Reply<'a>>
-    requires { IsMeasured (incoming_value incoming.now) }
-    ensures brings { Brings inner.old places.old (Some (incoming_value incoming.now)) (arrived inner.new places.new (reply_of result)) }
-    ensures sendable { IfCanGo (reply_of result) }
+    reply: &mut Option<Reply<'a>>,
+)
+    requires measured { IsMeasured (incoming_value incoming.now) }
+    requires none { reply.old ≡ None }
+    ensures brings { Brings inner.old places.old (Some (incoming_value incoming.now)) (arrived inner.new places.new (reply_of reply.new)) }
+    ensures sendable { IfCanGo (reply_of reply.new) }
 {
     match incoming {
-        Incoming::Arp { packet, .. } => arp_reply(&arp::process(inner, packet)),
+        Incoming::Arp { packet, .. } => *reply = arp_reply(&arp::process(inner, packet)),
         Incoming::Ipv4 {
             link,
             header,
             payload,
             ..
-        } => arrive_ipv4(inner, places, link, header, payload),
+        } => arrive_ipv4(inner, places, link, header, payload, reply),
         Incoming::Ipv6 {
             link,
             header,
             payload,
-        } => arrive_ipv6(inner, places, link, header, payload),
+        } => arrive_ipv6(inner, places, link, header, payload, reply),
     }
 }
 
@@ -147,7 +153,11 @@ pub fn bring<'a>(
     ensures sendable { IfCanGo (reply_of result) }
 {
     match content {
-        Some(incoming) => bring_in(inner, places, incoming),
+        Some(incoming) => {
+            let mut reply = None;
+            bring_in(inner, places, incoming, &mut reply);
+            reply
+        }
         None => None,
     }
 }
