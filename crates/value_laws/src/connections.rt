@@ -61,5 +61,13 @@ pub fn constants()
 pub fn states_have_names()
     ensures closed { ⟦<State as Display>⟧.output State.Closed ≡ Some (codes "CLOSED") }
     ensures listen { ⟦<State as Display>⟧.output State.Listen ≡ Some (codes "LISTEN") }
+    ensures syn_sent { ⟦<State as Display>⟧.output State.SynSent ≡ Some (codes "SYN-SENT") }
+    ensures syn_received { ⟦<State as Display>⟧.output State.SynReceived ≡ Some (codes "SYN-RECEIVED") }
+    ensures established { ⟦<State as Display>⟧.output State.Established ≡ Some (codes "ESTABLISHED") }
+    ensures fin_wait1 { ⟦<State as Display>⟧.output State.FinWait1 ≡ Some (codes "FIN-WAIT-1") }
+    ensures fin_wait2 { ⟦<State as Display>⟧.output State.FinWait2 ≡ Some (codes "FIN-WAIT-2") }
+    ensures close_wait { ⟦<State as Display>⟧.output State.CloseWait ≡ Some (codes "CLOSE-WAIT") }
+    ensures closing { ⟦<State as Display>⟧.output State.Closing ≡ Some (codes "CLOSING") }
+    ensures last_ack { ⟦<State as Display>⟧.output State.LastAck ≡ Some (codes "LAST-ACK") }
     ensures time_wait { ⟦<State as Display>⟧.output State.TimeWait ≡ Some (codes "TIME-WAIT") }
 {}

@@ -42,7 +42,7 @@ pub fn datagram_read(
     socket.recv_slice(bytes)
 }
 
-/// Law: the bytes that `recv` lends are the first datagram's, and it says `Exhausted` where none waits.
+/// Law: `recv` says `Exhausted` exactly where no datagram waits, and refuses for nothing else.
 pub fn datagram_lent(socket: &mut udp::Socket, bytes: &mut [u8]) -> Result<usize, udp::RecvError>
     ensures exhausted { IsErr result ↔ (first socket.old.received ≡ None) }
     ensures refused { OnErr result (result ≡ Err Recv.Exhausted) }
