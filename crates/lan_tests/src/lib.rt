@@ -24,5 +24,3 @@ mod refusals;
 mod rows;
 #[cfg(test)]
 mod streams;
-#[cfg(test)]
-mod texts;
