@@ -159,7 +159,9 @@ impl Socket {
         self.offer_segment(kind, cx, pair, &header, part.place, part.len)
     }
 
-    /// Offers this segment, whose payload is this part of the send queue.
+    /// Offers this segment, whose payload is this part of the send queue. Inlined, it makes the header
+    /// where the offer lies, in place of copying it there.
+    #[inline(always)]
     fn offer_segment<C: Context>(
         &mut self,
         kind: OfferKind,
