@@ -1,12 +1,9 @@
 //! Hosts: what they are made of, and their calls.
 ghost use Rattle.net_base.specs.Time.{IsMoment};
 
-use crate::streams::{closed_socket, listening_socket};
+use crate::streams::closed_socket;
 use crate::wire::{Kind, Wire};
-use interface::{
-    Config, Interface, Item, Meta, PollIngressSingleResult, PollResult, SocketHandle, SocketSet,
-    SocketStorage,
-};
+use interface::{Config, Interface, PollIngressSingleResult, PollResult, SocketHandle, SocketSet};
 use ip_wire::{EthernetAddress, HardwareAddress, IpAddress, IpCidr, IpEndpoint, IpListenEndpoint};
 use net_base::{Device, Instant, ManagedSlice, Medium, PacketBuffer, PacketMetadata};
 use sockets::{Socket, udp};
@@ -20,14 +17,12 @@ pub fn at(micros: u32) -> Instant
     Instant::from_micros(i64::from(micros))
 }
 
-/// The sockets of a host: of UDP and bound to this port, of TCP and closed, or of UDP and, behind it, of TCP and listening at
-/// port 80.
+/// The socket of a host: of UDP and bound to this port, or of TCP and closed.
 #[derive(Clone, Copy, Drop)]
 pub enum Has {
     Nothing,
     Udp(u16),
     Tcp,
-    UdpAndListener(u16),
 }
 
 /// What a host is made of.
@@ -81,7 +76,10 @@ fn bare<D: Device>(alloc: Global, plan: &Plan, device: &D) -> Option<Interface> 
         random_seed: u64::from(plan.number),
         hardware_addr: hardware(plan),
     };
-    Interface::new(alloc, &config, device, at(0)).ok()
+    match Interface::new(alloc, &config, device, at(0)) {
+        Ok(interface) => Some(interface),
+        Err(_) => None,
+    }
 }
 
 /// Gives the interface one more address.
@@ -91,17 +89,6 @@ fn add_address(interface: &mut Interface, address: IpCidr) -> bool {
             let _ = addresses.try_push(address);
         })
         .is_ok()
-}
-
-/// Gives the interface the planned addresses.
-fn add_addresses(interface: &mut Interface, plan: &Plan) -> Result<(), Fail> {
-    if add_address(interface, ipv4(plan.number))
-        && (!plan.has_ipv6 || add_address(interface, ipv6(plan.number)))
-    {
-        Ok(())
-    } else {
-        Err("its addresses".into())
-    }
 }
 
 fn ipv4(number: u8) -> IpCidr {
@@ -117,9 +104,16 @@ fn ipv6(number: u8) -> IpCidr {
 
 /// The planned host's interface at this device.
 pub fn begin<D: Device>(alloc: Global, plan: &Plan, device: &D) -> Result<Interface, Fail> {
-    let mut interface = bare(alloc, plan, device).ok_or("an interface")?;
-    add_addresses(&mut interface, plan)?;
-    Ok(interface)
+    let Some(mut interface) = bare(alloc, plan, device) else {
+        return Err("an interface".into());
+    };
+    if add_address(&mut interface, ipv4(plan.number))
+        && (!plan.has_ipv6 || add_address(&mut interface, ipv6(plan.number)))
+    {
+        Ok(interface)
+    } else {
+        Err("its addresses".into())
+    }
 }
 
 /// A queue of two entries and so many bytes.
@@ -137,84 +131,26 @@ where
     ))
 }
 
-fn unbound_socket(alloc: Global, room: usize) -> Result<udp::Socket, Fail> {
-    Ok(udp::Socket::new(queue(alloc, room)?, queue(alloc, room)?))
-}
-
-fn bind(socket: &mut udp::Socket, port: u16) -> Result<(), Fail> {
+/// A UDP socket, bound to this port.
+fn bound_socket(alloc: Global, room: usize, port: u16) -> Result<udp::Socket, Fail> {
+    let mut socket = udp::Socket::new(queue(alloc, room)?, queue(alloc, room)?);
     match socket.bind(IpListenEndpoint { addr: None, port }) {
-        Ok(()) => Ok(()),
+        Ok(()) => Ok(socket),
         Err(_) => Err("a port".into()),
     }
 }
 
-/// A UDP socket, bound to this port.
-fn bound_socket(alloc: Global, room: usize, port: u16) -> Result<udp::Socket, Fail> {
-    let mut socket = unbound_socket(alloc, room)?;
-    bind(&mut socket, port)?;
-    Ok(socket)
-}
-
-/// A place with this socket.
-fn place(socket: Socket) -> SocketStorage<Socket> {
-    SocketStorage {
-        inner: Some(Item {
-            meta: Meta::default(),
-            socket,
-        }),
+fn planned_socket(alloc: Global, plan: &Plan) -> Result<Option<Socket>, Fail> {
+    match plan.socket {
+        Has::Nothing => Ok(None),
+        Has::Udp(port) => Ok(Some(Socket::Udp(bound_socket(alloc, plan.room, port)?))),
+        Has::Tcp => Ok(Some(Socket::Tcp(closed_socket(alloc, plan.room)?))),
     }
-}
-
-/// A place with a UDP socket that is bound to this port.
-fn udp_place(alloc: Global, plan: &Plan, port: u16) -> Result<SocketStorage<Socket>, Fail> {
-    let socket = bound_socket(alloc, plan.room, port)?;
-    Ok(place(Socket::Udp(socket)))
 }
 
 /// A set of no sockets.
 pub fn no_sockets(alloc: Global) -> SocketSet<Socket> {
     SocketSet::new(ManagedSlice::Owned(Vec::new(alloc)))
-}
-
-/// A set of these places.
-fn set_of<const N: usize>(
-    alloc: Global,
-    places: [SocketStorage<Socket>; N],
-) -> Result<SocketSet<Socket>, Fail> {
-    Ok(SocketSet::new(ManagedSlice::Owned(Vec::from_array(alloc, places)?)))
-}
-
-fn udp_set(alloc: Global, plan: &Plan, port: u16) -> Result<SocketSet<Socket>, Fail> {
-    let udp = udp_place(alloc, plan, port)?;
-    set_of(alloc, [udp])
-}
-
-fn tcp_set(alloc: Global, plan: &Plan) -> Result<SocketSet<Socket>, Fail> {
-    let tcp = closed_socket(alloc, plan.room)?;
-    set_of(alloc, [place(Socket::Tcp(tcp))])
-}
-
-fn both_set(alloc: Global, plan: &Plan, port: u16) -> Result<SocketSet<Socket>, Fail> {
-    let udp = udp_place(alloc, plan, port)?;
-    let tcp = listening_socket(alloc, plan.room)?;
-    set_of(alloc, [udp, place(Socket::Tcp(tcp))])
-}
-
-fn planned_sockets(alloc: Global, plan: &Plan) -> Result<SocketSet<Socket>, Fail> {
-    match plan.socket {
-        Has::Nothing => Ok(no_sockets(alloc)),
-        Has::Udp(port) => udp_set(alloc, plan, port),
-        Has::Tcp => tcp_set(alloc, plan),
-        Has::UdpAndListener(port) => both_set(alloc, plan, port),
-    }
-}
-
-/// The handle of the first planned socket.
-fn planned_handle(plan: &Plan) -> Option<SocketHandle> {
-    match plan.socket {
-        Has::Nothing => None,
-        _ => Some(SocketHandle::at(0)),
-    }
 }
 
 /// A host at its device, with the socket of this handle, if any.
@@ -231,15 +167,29 @@ pub struct Host {
 impl Host {
     /// The planned host, at moment 0.
     pub fn new(alloc: Global, plan: &Plan) -> Result<Host, Fail> {
+        let mut host = Host::bare(alloc, plan)?;
+        if let Some(socket) = planned_socket(alloc, plan)? {
+            host.handle = host.add(socket);
+        }
+        Ok(host)
+    }
+
+    /// The same without its socket.
+    fn bare(alloc: Global, plan: &Plan) -> Result<Host, Fail> {
         let wire = Wire::new(alloc, plan.device, plan.medium)?;
         let interface = wire.interface(alloc, plan)?;
         Ok(Host {
             interface,
             wire,
-            sockets: planned_sockets(alloc, plan)?,
-            handle: planned_handle(plan),
+            sockets: no_sockets(alloc),
+            handle: None,
             now: 0,
         })
+    }
+
+    /// Adds a socket to its set.
+    pub fn add(&mut self, socket: Socket) -> Option<SocketHandle> {
+        self.sockets.add(socket).ok()
     }
 
     pub fn poll(&mut self, budget: u16) -> PollResult {

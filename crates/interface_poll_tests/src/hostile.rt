@@ -1,9 +1,11 @@
 //! Hostile bytes: whatever frames come, each is taken, and a poll answers one of its results.
-use crate::common::{Has, Host, Plan, UDP};
+use crate::common::{Host, Plan, UDP};
+use crate::streams::listening_socket;
 use crate::wire::{Wire, capabilities};
 use interface::{PollIngressSingleResult, PollResult};
 use lan_port::Port;
 use net_base::{ChecksumCapabilities, Medium, Rand};
+use sockets::Socket;
 use std::alloc::Global;
 use std::test::Fail;
 
@@ -193,10 +195,15 @@ fn all_seen(alloc: Global, medium: Medium) -> Result<Seen, Fail> {
     let plan = Plan {
         medium,
         has_ipv6: true,
-        socket: Has::UdpAndListener(48_896),
         ..UDP
     };
     let mut host = Host::new(alloc, &plan)?;
+    if host
+        .add(Socket::Tcp(listening_socket(alloc, 64)?))
+        .is_none()
+    {
+        return Err("a place".into());
+    }
     seen_at(alloc, medium, &mut host)
 }
 
@@ -257,13 +264,7 @@ fn are_taken(alloc: Global, host: &mut Host, count: u32) -> Result<bool, Fail> {
 #[test]
 fn damaged_datagrams_are_taken(rt: HostRuntime) -> Result<(), Fail> {
     let mut host = Host::new(rt.alloc(), &UDP)?;
-    all_taken(rt.alloc(), &mut host)
-}
-
-fn all_taken(alloc: Global, host: &mut Host) -> Result<(), Fail> {
-    if are_taken(alloc, host, 2_000)? {
-        Ok(())
-    } else {
-        Err("a datagram isn't taken".into())
-    }
+    let taken = are_taken(rt.alloc(), &mut host, 2_000)?;
+    assert!(rt; taken);
+    Ok(())
 }

@@ -46,7 +46,10 @@ fn tried(
     };
     let port = Port::new(alloc, capabilities);
     let config = Config::new(hardware_addr);
-    Interface::new(alloc, &config, &port, now).err()
+    match Interface::new(alloc, &config, &port, now) {
+        Ok(_) => None,
+        Err(error) => Some(error),
+    }
 }
 
 /// Whether the case goes so. Where the one allocation that was made to fail (`rt try --test --fail-alloc N`) was the interface's

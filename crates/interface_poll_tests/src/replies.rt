@@ -162,42 +162,29 @@ fn is_given_over_loopback(
     goes: &[u8],
 ) -> Result<bool, Fail> {
     let mut device = Loopback::new(alloc, reply.medium);
-    is_given_at(alloc, reply, &mut device, comes, goes)
-}
-
-fn is_given_at(
-    alloc: Global,
-    reply: &Reply,
-    device: &mut Loopback,
-    comes: &[u8],
-    goes: &[u8],
-) -> Result<bool, Fail> {
-    Ok(
-        put(device, comes)
-            && told(alloc, reply, device)? == PollIngressSingleResult::SocketStateChanged
-            && is_only(device, goes),
-    )
+    if !put(&mut device, comes) {
+        return Ok(false);
+    }
+    let answer = told(alloc, reply, &mut device)?;
+    Ok(answer == PollIngressSingleResult::SocketStateChanged && is_only(&mut device, goes))
 }
 
 /// Whether it is all that was sent by a port at which the frame came, and took one call.
 fn is_given_over_port(
     alloc: Global,
     reply: &Reply,
-    comes: &[u8],
+    comes: Vec<u8>,
     goes: &[u8],
 ) -> Result<bool, Fail> {
     let mut host = Host::new(alloc, &answering(reply))?;
-    replies_once(alloc, &mut host, comes, goes)
+    Ok(host.wire.comes(comes) && replies_once(&mut host, goes))
 }
 
-fn replies_once(alloc: Global, host: &mut Host, comes: &[u8], goes: &[u8]) -> Result<bool, Fail> {
-    let came = host.wire.comes(comes.to_vec(alloc)?);
-    Ok(
-        came && host.ingress() == PollIngressSingleResult::SocketStateChanged
-            && host.ingress() == PollIngressSingleResult::None
-            && host.wire.sent().len() == 1
-            && is_last(host, goes),
-    )
+fn replies_once(host: &mut Host, goes: &[u8]) -> bool {
+    host.ingress() == PollIngressSingleResult::SocketStateChanged
+        && host.ingress() == PollIngressSingleResult::None
+        && host.wire.sent().len() == 1
+        && is_last(host, goes)
 }
 
 /// Whether it is given over both devices.
@@ -206,7 +193,7 @@ fn is_given(alloc: Global, reply: &Reply) -> Result<bool, Fail> {
     let goes = hex::decode(alloc, reply.goes)?;
     Ok(
         is_given_over_loopback(alloc, reply, comes.as_slice(), goes.as_slice())?
-            && is_given_over_port(alloc, reply, comes.as_slice(), goes.as_slice())?,
+            && is_given_over_port(alloc, reply, comes, goes.as_slice())?,
     )
 }
 

@@ -243,13 +243,8 @@ impl Transfer {
 #[test]
 fn all_bytes_arrive_over_a_bad_link(rt: HostRuntime) -> Result<(), Fail> {
     let mut transfer = make_transfer(rt.alloc())?;
-    all_arrive(&mut transfer)
-}
-
-fn all_arrive(transfer: &mut Transfer) -> Result<(), Fail> {
-    if transfer.opens() && transfer.run(100_000)? && transfer.is_done() && transfer.has_all() {
-        Ok(())
-    } else {
-        Err("not all bytes arrive".into())
-    }
+    let went = transfer.opens() && transfer.run(100_000)?;
+    let end = went && transfer.is_done() && transfer.has_all();
+    assert!(rt; end);
+    Ok(())
 }

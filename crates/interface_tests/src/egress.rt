@@ -4,51 +4,72 @@ ghost use Rattle.std.specs.Prelude.{◌<◌, ◌^◌, length};
 ghost use Rattle.socket_base.specs.Packet.{packet_value};
 ghost use Rattle.interface_egress.specs.Plan.{IsPacket};
 
-use crate::common::{START, at, host, joined};
+use arrayvec::ArrayVec;
 use interface_egress::{Fragmenter, Sent, dispatch, send_next};
 use interface_tables::{Config, InterfaceInner};
 use ip_wire::{
-    EthernetAddress, HardwareAddress, IpAddress, IpProtocol, IpRepr, Ipv4Address, Ipv4Repr,
+    EthernetAddress, HardwareAddress, IpAddress, IpCidr, IpProtocol, IpRepr, Ipv4Address, Ipv4Repr,
     Ipv6Address, Ipv6Repr, UdpRepr,
 };
-use net_base::{Device, Loopback, Medium, RxToken};
+use net_base::{
+    ChecksumCapabilities, Device, DeviceCapabilities, Instant, Loopback, Medium, RxToken,
+};
 use socket_base::{IpPayload, Packet};
 use std::alloc::Global;
 use std::process::Abort;
 use std::test::Fail;
 
-/// A host of seed 1 at 192.168.1.1 and fd00::1, and its loopback device.
+const START: Instant = Instant::ZERO;
+
+/// A host of seed 1 at 192.168.1.1 and fd00::1.
+fn host(
+    hardware_addr: HardwareAddress,
+    medium: Medium,
+    mtu: usize,
+) -> Result<InterfaceInner, Fail> {
+    let config = Config {
+        random_seed: 1,
+        hardware_addr,
+    };
+    let device = DeviceCapabilities {
+        medium,
+        max_transmission_unit: mtu,
+        checksum: ChecksumCapabilities::default(),
+    };
+    let mut inner = InterfaceInner::new(&config, &device, START).map_err(|_| "new")?;
+    let mut addresses = ArrayVec::new();
+    let _ = addresses.try_push(IpCidr::new(IpAddress::v4(192, 168, 1, 1), 24));
+    let _ = addresses.try_push(IpCidr::new(IpAddress::v6(0xfd00, 0, 0, 0, 0, 0, 0, 1), 64));
+    inner.set_ip_addrs(addresses).map_err(|_| "addresses")?;
+    Ok(inner)
+}
+
+/// A host at a loopback device. The tests borrow it: what owns it has few ends, which keeps its check short.
 #[derive(Drop)]
 struct End {
+    inner: InterfaceInner,
     fragmenter: Fragmenter,
     device: Loopback,
-    inner: InterfaceInner,
 }
 
 impl End {
-    fn bare(rt: &(impl Abort + AllocGlobal)) -> Result<End, Fail> {
-        End::of(rt, HardwareAddress::Ip, Medium::Ip)
+    fn bare(alloc: Global) -> Result<End, Fail> {
+        let inner = host(HardwareAddress::Ip, Medium::Ip, 1_500)?;
+        End::of(alloc, inner, Medium::Ip)
     }
 
     /// At 02-00-00-00-00-01.
-    fn ethernet(rt: &(impl Abort + AllocGlobal)) -> Result<End, Fail> {
+    fn ethernet(alloc: Global) -> Result<End, Fail> {
         let own = HardwareAddress::Ethernet(EthernetAddress([2, 0, 0, 0, 0, 1]));
-        End::of(rt, own, Medium::Ethernet)
+        let inner = host(own, Medium::Ethernet, 1_514)?;
+        End::of(alloc, inner, Medium::Ethernet)
     }
 
-    fn of(
-        rt: &(impl Abort + AllocGlobal),
-        hardware_addr: HardwareAddress,
-        medium: Medium,
-    ) -> Result<End, Fail> {
-        let config = Config {
-            random_seed: 1,
-            hardware_addr,
-        };
+    fn of(alloc: Global, inner: InterfaceInner, medium: Medium) -> Result<End, Fail> {
         Ok(End {
-            fragmenter: Fragmenter::new(rt.alloc())?,
-            device: Loopback::new(rt.alloc(), medium),
-            inner: host(rt, &config, medium, &["192.168.1.1/24", "fd00::1/64"]),
+            inner,
+            fragmenter: Fragmenter::new(alloc)?,
+            device: Loopback::new(alloc, medium),
         })
     }
 }
@@ -83,14 +104,14 @@ fn datagram(bytes: &[u8]) -> Packet<'_>
     Packet::new(IpRepr::Ipv4(header), IpPayload::Udp(ports, bytes))
 }
 
-/// Sends such a datagram, where it isn't too long for one.
-fn send(end: &mut End, bytes: &[u8]) -> Option<Sent> {
+/// Sends such a datagram.
+fn send(end: &mut End, bytes: &[u8]) -> Result<Sent, Fail> {
     if bytes.len() > 65_535 {
-        return None;
+        return Ok(Sent::Dropped);
     }
-    let token = end.device.transmit(START)?;
+    let token = end.device.transmit(START).ok_or("a token")?;
     let packet = datagram(bytes);
-    Some(dispatch(
+    Ok(dispatch(
         &mut end.inner,
         &mut end.fragmenter,
         &mut end.device,
@@ -99,184 +120,124 @@ fn send(end: &mut End, bytes: &[u8]) -> Option<Sent> {
     ))
 }
 
-/// The same at a moment in microseconds.
-fn send_at(end: &mut End, micros: u32, bytes: &[u8]) -> Option<Sent> {
-    end.inner.set_now(at(micros));
-    send(end, bytes)
-}
-
-/// Sends the next piece, if one waits.
-fn piece(end: &mut End) -> Option<bool> {
+/// Sends the next piece.
+fn piece(end: &mut End) -> Result<bool, Fail> {
     if !end.fragmenter.is_waiting() {
-        return Some(false);
+        return Ok(false);
     }
-    let token = end.device.transmit(START)?;
-    Some(send_next(&end.inner, &mut end.fragmenter, &mut end.device, token))
+    let token = end.device.transmit(START).ok_or("a token")?;
+    Ok(send_next(&end.inner, &mut end.fragmenter, &mut end.device, token))
 }
 
-/// A frame: its first bytes in hex, and from where to where in the text the others stand.
-type Frame = (&'static str, usize, usize);
-
-/// Whether the next frame that was sent is this one.
-fn is_next(alloc: Global, end: &mut End, text: &[u8], frame: &Frame) -> Option<bool> {
-    let (front, from, to) = *frame;
-    let bytes = joined(alloc, front, text.get(from..to)?)?;
-    let (token, _leave) = end.device.receive(START)?;
-    Some(token.bytes() == bytes.as_slice())
-}
-
-/// Whether these frames were sent, and no other.
-fn are_sent(alloc: Global, end: &mut End, text: &[u8], frames: &[Frame]) -> bool {
-    for frame in frames {
-        if is_next(alloc, end, text, frame) != Some(true) {
-            return false;
-        }
-    }
-    end.device.receive(START).is_none()
-}
-
-const GONE: Option<Sent> = Some(Sent::Gone);
-
-const WAITS: Option<Sent> = Some(Sent::Waits);
-
-const IN_PIECES: [Frame; 3] = [
-    (
-        "450005dcc24d200040110f70c0a80101c0a80102bf00003507d8616c",
-        0,
-        1_472,
-    ),
-    (
-        "45000020c24e00004011352bc0a80101c0a80102bf000035000cbb48",
-        0,
-        4,
-    ),
-    ("45000224c24d00b94011326fc0a80101c0a80102", 1_472, 2_000),
-];
-
-/// Another long one has to wait, and takes no number; a short one goes.
-#[test]
-fn a_long_datagram_goes_in_pieces(rt: HostRuntime) -> Result<(), Fail> {
-    let text = data(rt.alloc(), 2_000)?;
-    let mut end = End::bare(&rt)?;
-    let seen = in_pieces(rt.alloc(), &mut end, text.as_slice());
-    assert!(rt; seen == ([GONE, Some(Sent::Busy), GONE], Some(true), false, true));
+/// Asserts the next frame: its first bytes in hex, and the others.
+fn assert_frame(
+    rt: &(impl Abort + AllocGlobal),
+    end: &mut End,
+    front: &str,
+    rest: &[u8],
+) -> Result<(), Fail> {
+    let (frame, _token) = end.device.receive(START).ok_or("a frame")?;
+    let mut bytes = hex::decode(rt.alloc(), front)?;
+    bytes.extend_from_slice(rest)?;
+    assert!(rt; frame.bytes() == bytes.as_slice());
     Ok(())
 }
 
-/// What became of a long datagram, another one and a short one; whether a piece went, and more wait; whether the frames are there.
-fn in_pieces(
-    alloc: Global,
-    end: &mut End,
-    text: &[u8],
-) -> ([Option<Sent>; 3], Option<bool>, bool, bool) {
-    let short = [0, 1, 2, 3];
-    let sent = [send(end, text), send(end, text), send(end, &short)];
-    let went = piece(end);
-    let is_waiting = end.fragmenter.is_waiting();
-    (
-        sent,
-        went,
-        is_waiting,
-        are_sent(alloc, end, text, &IN_PIECES),
-    )
+#[test]
+fn a_long_datagram_goes_in_pieces(rt: HostRuntime) -> Result<(), Fail> {
+    let mut end = End::bare(rt.alloc())?;
+    send_in_pieces(&rt, &mut end)
 }
 
-const THE_LONGEST: [Frame; 3] = [
-    (
-        "450005dcc24d200040110f70c0a80101c0a80102bf0000350fecc095",
-        0,
-        1_472,
-    ),
-    ("450005dcc24d20b940110eb7c0a80101c0a80102", 1_472, 2_952),
-    ("45000470c24d017240112f6ac0a80101c0a80102", 2_952, 4_068),
-];
+fn send_in_pieces(rt: &(impl Abort + AllocGlobal), end: &mut End) -> Result<(), Fail> {
+    let alloc = rt.alloc();
+    let long = data(alloc, 2_000)?;
+    let short = data(alloc, 4)?;
+    assert!(rt; send(end, long.as_slice())? == Sent::Gone);
+    // Another long one has to wait, and takes no number; a short one goes.
+    assert!(rt; send(end, long.as_slice())? == Sent::Busy);
+    assert!(rt; send(end, short.as_slice())? == Sent::Gone);
+    assert!(rt; piece(end)?);
+    assert!(rt; !end.fragmenter.is_waiting());
+
+    assert!(rt; long.len() == 2_000);
+    let (front, back) = long.as_slice().split_at(1_472);
+    let first = "450005dcc24d200040110f70c0a80101c0a80102bf00003507d8616c";
+    assert_frame(rt, end, first, front)?;
+    let between = "45000020c24e00004011352bc0a80101c0a80102bf000035000cbb48";
+    assert_frame(rt, end, between, short.as_slice())?;
+    let last = "45000224c24d00b94011326fc0a80101c0a80102";
+    assert_frame(rt, end, last, back)?;
+    assert!(rt; end.device.receive(START).is_none());
+    Ok(())
+}
 
 #[test]
 fn the_longest_datagram_has_4096_bytes(rt: HostRuntime) -> Result<(), Fail> {
-    let longer = data(rt.alloc(), 4_069)?;
-    let longest = data(rt.alloc(), 4_068)?;
-    let mut end = End::bare(&rt)?;
-    let seen = long_ones(rt.alloc(), &mut end, longer.as_slice(), longest.as_slice());
-    let went = [Some(true), Some(true), Some(false)];
-    assert!(rt; seen == (Some(Sent::Dropped), GONE, went, true));
+    let mut end = End::bare(rt.alloc())?;
+    send_the_longest(&rt, &mut end)
+}
+
+fn send_the_longest(rt: &(impl Abort + AllocGlobal), end: &mut End) -> Result<(), Fail> {
+    let alloc = rt.alloc();
+    let longer = data(alloc, 4_069)?;
+    let longest = data(alloc, 4_068)?;
+    assert!(rt; send(end, longer.as_slice())? == Sent::Dropped);
+    assert!(rt; send(end, longest.as_slice())? == Sent::Gone);
+    assert!(rt; piece(end)?);
+    assert!(rt; piece(end)?);
+    assert!(rt; !piece(end)?);
+
+    assert!(rt; longest.len() == 4_068);
+    let (front, rest) = longest.as_slice().split_at(1_472);
+    let (middle, back) = rest.split_at(1_480);
+    let first = "450005dcc24d200040110f70c0a80101c0a80102bf0000350fecc095";
+    assert_frame(rt, end, first, front)?;
+    let second = "450005dcc24d20b940110eb7c0a80101c0a80102";
+    assert_frame(rt, end, second, middle)?;
+    let third = "45000470c24d017240112f6ac0a80101c0a80102";
+    assert_frame(rt, end, third, back)?;
+    assert!(rt; end.device.receive(START).is_none());
     Ok(())
 }
-
-/// What became of one that is too long and of the longest; whether pieces went, and the frames are there.
-fn long_ones(
-    alloc: Global,
-    end: &mut End,
-    longer: &[u8],
-    longest: &[u8],
-) -> (Option<Sent>, Option<Sent>, [Option<bool>; 3], bool) {
-    let dropped = send(end, longer);
-    let gone = send(end, longest);
-    let went = [piece(end), piece(end), piece(end)];
-    (
-        dropped,
-        gone,
-        went,
-        are_sent(alloc, end, longest, &THE_LONGEST),
-    )
-}
-
-const REQUEST: Frame = (
-    "ffffffffffff02000000000108060001080006040001020000000001c0a80101ffffffffffffc0a80102",
-    0,
-    0,
-);
-
-const WHOLE: Frame = (
-    "020000000002020000000001080045000020c24d00004011352cc0a80101c0a80102bf000035000cbb48",
-    0,
-    4,
-);
 
 #[test]
 fn an_unknown_neighbour_is_asked_for_once_a_second(rt: HostRuntime) -> Result<(), Fail> {
-    let mut end = End::ethernet(&rt)?;
-    let seen = asked(rt.alloc(), &mut end);
-    assert!(rt; seen == ([WAITS; 4], true, GONE, true));
-    Ok(())
+    let mut end = End::ethernet(rt.alloc())?;
+    ask_once_a_second(&rt, &mut end)
 }
 
-/// What became of a datagram at four moments, and whether two requests are there; what became of it when the neighbour was known,
-/// and whether it is there.
-fn asked(alloc: Global, end: &mut End) -> ([Option<Sent>; 4], bool, Option<Sent>, bool) {
-    let bytes = [0, 1, 2, 3];
-    let sent = [
-        send_at(end, 0, &bytes),
-        send_at(end, 999_999, &bytes),
-        send_at(end, 1_000_000, &bytes),
-        send_at(end, 1_999_999, &bytes),
-    ];
-    let asked = are_sent(alloc, end, &bytes, &[REQUEST, REQUEST]);
+fn ask_once_a_second(rt: &(impl Abort + AllocGlobal), end: &mut End) -> Result<(), Fail> {
+    let alloc = rt.alloc();
+    let bytes = data(alloc, 4)?;
+    let request =
+        "ffffffffffff02000000000108060001080006040001020000000001c0a80101ffffffffffffc0a80102";
+    for moment in [0, 999_999, 1_000_000, 1_999_999] {
+        end.inner.set_now(Instant::from_micros(moment));
+        assert!(rt; send(end, bytes.as_slice())? == Sent::Waits);
+    }
+    assert_frame(rt, end, request, &[])?;
+    assert_frame(rt, end, request, &[])?;
+    assert!(rt; end.device.receive(START).is_none());
+
     let other = HardwareAddress::Ethernet(EthernetAddress([2, 0, 0, 0, 0, 2]));
     end.inner
         .fill_neighbor(IpAddress::v4(192, 168, 1, 2), other);
-    let gone = send(end, &bytes);
-    (sent, asked, gone, are_sent(alloc, end, &bytes, &[WHOLE]))
-}
-
-const SOLICITATION: [Frame; 1] = [(
-    "3333ff00000202000000000186dd6000000000203afffd000000000000000000000000000001ff0200000000000000000001ff00000287007d9700000000fd0000000000000000000000000000020101020000000001",
-    0,
-    0,
-)];
-
-#[test]
-fn an_ipv6_neighbour_is_solicited(rt: HostRuntime) -> Result<(), Fail> {
-    let mut end = End::ethernet(&rt)?;
-    let seen = (
-        send_ipv6(&mut end),
-        are_sent(rt.alloc(), &mut end, &[], &SOLICITATION),
-    );
-    assert!(rt; seen == (WAITS, true));
+    assert!(rt; send(end, bytes.as_slice())? == Sent::Gone);
+    let whole =
+        "020000000002020000000001080045000020c24d00004011352cc0a80101c0a80102bf000035000cbb48";
+    assert_frame(rt, end, whole, bytes.as_slice())?;
+    assert!(rt; end.device.receive(START).is_none());
     Ok(())
 }
 
-/// Sends an empty packet to fd00::2.
-fn send_ipv6(end: &mut End) -> Option<Sent> {
+#[test]
+fn an_ipv6_neighbour_is_solicited(rt: HostRuntime) -> Result<(), Fail> {
+    let mut end = End::ethernet(rt.alloc())?;
+    solicit(&rt, &mut end)
+}
+
+fn solicit(rt: &(impl Abort + AllocGlobal), end: &mut End) -> Result<(), Fail> {
     let header = Ipv6Repr {
         src_addr: Ipv6Address::new(0xfd00, 0, 0, 0, 0, 0, 0, 1),
         dst_addr: Ipv6Address::new(0xfd00, 0, 0, 0, 0, 0, 0, 2),
@@ -285,12 +246,19 @@ fn send_ipv6(end: &mut End) -> Option<Sent> {
         hop_limit: 64,
     };
     let packet = Packet::new(IpRepr::Ipv6(header), IpPayload::Raw(&[]));
-    let token = end.device.transmit(START)?;
-    Some(dispatch(
-        &mut end.inner,
-        &mut end.fragmenter,
-        &mut end.device,
-        token,
-        &packet,
-    ))
+    let token = end.device.transmit(START).ok_or("a token")?;
+    assert!(rt;
+        dispatch(
+            &mut end.inner,
+            &mut end.fragmenter,
+            &mut end.device,
+            token,
+            &packet
+        ) == Sent::Waits
+    );
+    let request =
+        "3333ff00000202000000000186dd6000000000203afffd000000000000000000000000000001ff0200000000000000000001ff00000287007d9700000000fd0000000000000000000000000000020101020000000001";
+    assert_frame(rt, end, request, &[])?;
+    assert!(rt; end.device.receive(START).is_none());
+    Ok(())
 }

@@ -2,8 +2,6 @@
 #![tactic(auto)]
 
 #[cfg(test)]
-mod common;
-#[cfg(test)]
 mod egress;
 #[cfg(test)]
 mod fragmentation;

@@ -1,83 +1,70 @@
 use interface_tables::source::{source_for, source_ipv4, source_ipv6};
 use ip_wire::{IpAddress, IpCidr, Ipv4Address, Ipv6Address};
-use std::process::Abort;
 
-fn block(rt: &impl Abort, text: &str) -> IpCidr {
-    text.parse::<IpCidr>().ok().expect(rt, "a block")
+fn block(text: &str) -> Option<IpCidr> {
+    text.parse::<IpCidr>().ok()
 }
 
-/// The source for a destination, as texts say them.
-fn is_source(own: &[IpCidr], destination: &str, source: &str) -> bool {
-    let (Ok(destination), Ok(source)) = (
-        destination.parse::<Ipv6Address>(),
-        source.parse::<Ipv6Address>(),
-    ) else {
-        return false;
-    };
-    source_ipv6(own, &destination) == source
+fn address(text: &str) -> Option<Ipv6Address> {
+    text.parse::<Ipv6Address>().ok()
 }
-
-/// The first destination with another source than it says.
-fn first_wrong(own: &[IpCidr], cases: &[(&'static str, &'static str)]) -> Option<&'static str> {
-    for (destination, source) in cases {
-        if !is_source(own, destination, source) {
-            return Some(*destination);
-        }
-    }
-    None
-}
-
-const BY_SCOPE: [(&str, &str); 5] = [
-    ("fe80::2", "fe80::1"),
-    ("fd00::9", "fd00::1"),
-    ("::1", "::1"),
-    ("ff02::1", "fe80::1"),
-    ("2001:db8::1", "fd00::1"),
-];
 
 /// With fd00::1/64 and fe80::1/64.
 #[test]
 fn chooses_by_scope(rt: HostRuntime) {
-    let own = [block(&rt, "fd00::1/64"), block(&rt, "fe80::1/64")];
-    let unspecified = source_for(&own, &IpAddress::Ipv6(Ipv6Address::UNSPECIFIED));
-    let ipv4 = source_for(&own, &IpAddress::v4(192, 0, 2, 1));
-    assert!(rt; (first_wrong(&own, &BY_SCOPE), unspecified, ipv4) == (None, None, None));
+    let own = [
+        block("fd00::1/64").expect(&rt, "a block"),
+        block("fe80::1/64").expect(&rt, "a block"),
+    ];
+    for (destination, source) in [
+        ("fe80::2", "fe80::1"),
+        ("fd00::9", "fd00::1"),
+        ("::1", "::1"),
+        ("ff02::1", "fe80::1"),
+        ("2001:db8::1", "fd00::1"),
+    ] {
+        let destination = address(destination).expect(&rt, "an address");
+        assert!(rt; Some(source_ipv6(&own, &destination)) == address(source));
+    }
+    assert!(rt; source_for(&own, &IpAddress::Ipv6(Ipv6Address::UNSPECIFIED)) == None);
+    assert!(rt; source_for(&own, &IpAddress::v4(192, 0, 2, 1)) == None);
 }
-
-const BY_PREFIX: [(&str, &str); 5] = [
-    ("2001:db8:2::9", "2001:db8:2::1"),
-    ("2001:db8:2::2", "2001:db8:2::2"),
-    ("2001:db8:1::9", "2001:db8:1::1"),
-    ("2620::1", "2001:db8:1::1"),
-    ("fe80::2", "2001:db8:1::1"),
-];
-
-const OF_NONE: [(&str, &str); 1] = [("2001:db8::1", "::1")];
 
 /// With several global addresses: the destination itself, then the longest common prefix, then the first.
 #[test]
 fn chooses_by_prefix(rt: HostRuntime) {
     let own = [
-        block(&rt, "2001:db8:1::1/48"),
-        block(&rt, "2001:db8:2::1/48"),
-        block(&rt, "2001:db8:2::2/48"),
+        block("2001:db8:1::1/48").expect(&rt, "a block"),
+        block("2001:db8:2::1/48").expect(&rt, "a block"),
+        block("2001:db8:2::2/48").expect(&rt, "a block"),
     ];
-    let wrong = (first_wrong(&own, &BY_PREFIX), first_wrong(&[], &OF_NONE));
-    assert!(rt; wrong == (None, None));
+    for (destination, source) in [
+        ("2001:db8:2::9", "2001:db8:2::1"),
+        ("2001:db8:2::2", "2001:db8:2::2"),
+        ("2001:db8:1::9", "2001:db8:1::1"),
+        ("2620::1", "2001:db8:1::1"),
+        ("fe80::2", "2001:db8:1::1"),
+    ] {
+        let destination = address(destination).expect(&rt, "an address");
+        assert!(rt; Some(source_ipv6(&own, &destination)) == address(source));
+    }
+    let none: [IpCidr; 0] = [];
+    let destination = address("2001:db8::1").expect(&rt, "an address");
+    assert!(rt; source_ipv6(&none, &destination) == Ipv6Address::LOCALHOST);
 }
 
 #[test]
 fn chooses_by_network(rt: HostRuntime) {
-    let own = [block(&rt, "10.0.0.1/8"), block(&rt, "192.168.1.1/24")];
-    let elsewhere = Ipv4Address::new(8, 8, 8, 8);
-    let sources = [
-        source_ipv4(&own, &Ipv4Address::new(192, 168, 1, 2)),
-        source_ipv4(&own, &elsewhere),
-        source_ipv4(&[], &elsewhere),
+    let own = [
+        block("10.0.0.1/8").expect(&rt, "a block"),
+        block("192.168.1.1/24").expect(&rt, "a block"),
     ];
     let (first, second) = (
         Ipv4Address::new(10, 0, 0, 1),
         Ipv4Address::new(192, 168, 1, 1),
     );
-    assert!(rt; sources == [Some(second), Some(first), None]);
+    assert!(rt; source_ipv4(&own, &Ipv4Address::new(192, 168, 1, 2)) == Some(second));
+    assert!(rt; source_ipv4(&own, &Ipv4Address::new(8, 8, 8, 8)) == Some(first));
+    let none: [IpCidr; 0] = [];
+    assert!(rt; source_ipv4(&none, &Ipv4Address::new(8, 8, 8, 8)) == None);
 }
