@@ -4,12 +4,12 @@ use Rattle.sockets.specs.declared.socket.Socket.{Socket}
 use Rattle.lan.proofs.SocketLemmas.{still_used}
 use Rattle.lan.proofs.own_sockets.add_socket.Goals as goal
 
-pub returns-in-Ok-clause-made : goal.returns-in-Ok-clause-made
-returns-in-Ok-clause-made c =
+pub returns-clause-made : goal.returns-clause-made
+returns-clause-made c =
     let added = rw (c.requires.used, c.requires.grows, c.in-Ok.is) at c.add.ensures.added in
     added.1 ∙ ap (λ (s : Socket). places c.args.sockets.now ++ unmarked s ∷ []) c.in_ok-socket.ensures.made
 
-pub returns-in-Ok-clause-used : goal.returns-in-Ok-clause-used
-returns-in-Ok-clause-used c =
+pub returns-clause-used : goal.returns-clause-used
+returns-clause-used c =
     let added = rw (c.requires.used, c.requires.grows, c.in-Ok.is) at c.add.ensures.added in
     rw added.1 (still_used (places c.args.sockets.now) c.in_ok-socket.socket c.requires.used)
