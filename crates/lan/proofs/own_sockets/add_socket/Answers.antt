@@ -6,10 +6,7 @@ use Rattle.lan.proofs.own_sockets.add_socket.Goals as goal
 
 pub returns-clause-made : goal.returns-clause-made
 returns-clause-made c =
-    let added = rw (c.requires.used, c.requires.grows, c.in-Ok.is) at c.add.ensures.added in
-    added.1 ∙ ap (λ (s : Socket). places c.args.sockets.now ++ unmarked s ∷ []) c.in_ok-socket.ensures.made
+    c.in_ok-put.ensures.made ∙ ap (λ (s : Socket). places c.args.sockets.now ++ unmarked s ∷ []) c.in_ok-socket.ensures.made
 
 pub returns-clause-used : goal.returns-clause-used
-returns-clause-used c =
-    let added = rw (c.requires.used, c.requires.grows, c.in-Ok.is) at c.add.ensures.added in
-    rw added.1 (still_used (places c.args.sockets.now) c.in_ok-socket.socket c.requires.used)
+returns-clause-used c = rw c.in_ok-put.ensures.made (still_used (places c.args.sockets.now) c.in_ok-socket.socket c.requires.used)
