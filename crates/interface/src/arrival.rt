@@ -8,7 +8,7 @@ ghost use Rattle.interface.specs.Ingress.{is_read, Replied, Receives, Reads, Tak
 
 use interface_egress::{ArpFrame, Fragmenter, SocketStorage, dispatch, send};
 use interface_ingress::laws::same_settings;
-use interface_ingress::{Incoming, Reply, bring, keep, read, release, take_in, whole};
+use interface_ingress::{Incoming, Reply, bring, keep, read, release, take_in};
 use interface_tables::{InterfaceInner, PacketAssemblerSet};
 use net_base::{Device, Duration, RxToken};
 use packet_widths::laws::fields_have_widths;
@@ -97,9 +97,9 @@ fn receive<D: Device, const N: usize>(
 {
     same_settings();
     let taken = take_in(inner, content);
-    let place = keep(inner, slots, timeout, &taken);
-    let whole = whole(slots, place, &taken);
-    let reply = bring(inner, places, &whole);
+    let place = keep(inner, slots, timeout, taken);
+    let mut reply = None;
+    bring(inner, places, slots, place, taken, &mut reply);
     answer(inner, fragmenter, device, token, &reply);
     release(slots, place);
 }

@@ -1,11 +1,13 @@
 //! What a frame's content brings to a host.
-ghost use Rattle.std.specs.Prelude.{◌≡◌, ◌+◌, ◌<◌, ◌^◌, length, Some};
+ghost use Rattle.std.specs.Prelude.{◌≡◌, ◌+◌, ◌<◌, ◌^◌, length, None, Some};
+ghost use Rattle.std.specs.Option.{option_copied};
 ghost use Rattle.ip_wire.specs.Ip.{Fits, payload_len_of};
 ghost use Rattle.ip_wire.specs.Ipv4 as Ipv4;
 ghost use Rattle.ip_wire.specs.Ipv6 as Ipv6;
 ghost use Rattle.ip_wire.specs.IpAddress.TheVariants as Address;
 ghost use Rattle.ip_wire.specs.IpRepr.TheVariants as Ip;
 ghost use Rattle.interface_ingress.specs.Incoming.{IsMeasured, AreMeasured, incoming_value, content_of};
+ghost use Rattle.interface_ingress.specs.Reassembled.{whole_of};
 ghost use Rattle.interface_tables.specs.Inner.{is_for_us};
 ghost use Rattle.interface_ingress.specs.Arrives.{Hands, ArrivesV4, ArrivesV6, Brings, IfCanGo, arrived, is_direct, renewed_by, renewed, reply_of, sender_of};
 
@@ -14,9 +16,10 @@ use crate::deliver::deliver_packet;
 use crate::hand::hand;
 use crate::icmp_reply::is_one_host;
 use crate::incoming::Incoming;
+use crate::reassemble::{bytes_at, is_piece, rebuilt};
 use crate::reply::{Reply, arp_reply};
 use interface_egress::SocketStorage;
-use interface_tables::InterfaceInner;
+use interface_tables::{InterfaceInner, PacketAssemblerSet};
 use ip_wire::{AddressExt, EthernetRepr, HardwareAddress, IpAddress, IpRepr, Ipv4Repr, Ipv6Repr};
 use sockets::Socket;
 
@@ -56,15 +59,17 @@ fn accept<'a>(
     header: &IpRepr,
     payload: &'a [u8],
     is_taken: bool,
-) -> Option<Reply<'a>>
+    reply: &mut Option<Reply<'a>>,
+)
     requires fits { Fits header.now }
     requires len { length payload.now ≡ payload_len_of header.now }
     requires short { length payload.now < 2 ^ 16 }
-    ensures hands { Hands (renewed inner.old link.now header.now) places.old header.now payload.now is_taken (arrived inner.new places.new (reply_of result)) }
-    ensures sendable { IfCanGo (reply_of result) }
+    requires none { reply.old ≡ None }
+    ensures hands { Hands (renewed inner.old link.now header.now) places.old header.now payload.now is_taken (arrived inner.new places.new (reply_of reply.new)) }
+    ensures sendable { IfCanGo (reply_of reply.new) }
 {
     renew(inner, link, header);
-    hand(inner, places, header, payload, is_taken)
+    hand(inner, places, header, payload, is_taken, reply);
 }
 
 /// Takes in a whole IPv4 packet: raw sockets get it first, whomever it is for.
@@ -74,18 +79,18 @@ fn arrive_ipv4<'a>(
     link: &Option<EthernetRepr>,
     header: &Ipv4Repr,
     payload: &'a [u8],
-) -> Option<Reply<'a>>
+    reply: &mut Option<Reply<'a>>,
+)
     requires fits { Ipv4.Fits header.now }
     requires len { length payload.now ≡ header.now.payload_len }
-    ensures arrives { ArrivesV4 (is_for_us inner.old (Address.Ipv4 header.now.dst_addr)) inner.old places.old link.now (Ip.Ipv4 header.now) payload.now (arrived inner.new places.new (reply_of result)) }
-    ensures sendable { IfCanGo (reply_of result) }
+    requires none { reply.old ≡ None }
+    ensures arrives { ArrivesV4 (is_for_us inner.old (Address.Ipv4 header.now.dst_addr)) inner.old places.old link.now (Ip.Ipv4 header.now) payload.now (arrived inner.new places.new (reply_of reply.new)) }
+    ensures sendable { IfCanGo (reply_of reply.new) }
 {
     let ip = IpRepr::Ipv4(*header);
     let is_taken = deliver_packet(places, &ip, payload);
     if inner.is_for_us(&IpAddress::Ipv4(header.dst_addr)) {
-        accept(inner, places, link, &ip, payload, is_taken)
-    } else {
-        None
+        accept(inner, places, link, &ip, payload, is_taken, reply);
     }
 }
 
@@ -96,58 +101,95 @@ fn arrive_ipv6<'a>(
     link: &Option<EthernetRepr>,
     header: &Ipv6Repr,
     payload: &'a [u8],
-) -> Option<Reply<'a>>
+    reply: &mut Option<Reply<'a>>,
+)
     requires fits { Ipv6.Fits header.now }
     requires len { length payload.now ≡ header.now.payload_len }
-    ensures arrives { ArrivesV6 (is_for_us inner.old (Address.Ipv6 header.now.dst_addr)) inner.old places.old link.now (Ip.Ipv6 header.now) payload.now (arrived inner.new places.new (reply_of result)) }
-    ensures sendable { IfCanGo (reply_of result) }
+    requires none { reply.old ≡ None }
+    ensures arrives { ArrivesV6 (is_for_us inner.old (Address.Ipv6 header.now.dst_addr)) inner.old places.old link.now (Ip.Ipv6 header.now) payload.now (arrived inner.new places.new (reply_of reply.new)) }
+    ensures sendable { IfCanGo (reply_of reply.new) }
 {
     if !inner.is_for_us(&IpAddress::Ipv6(header.dst_addr)) {
-        return None;
+        return;
     }
     let ip = IpRepr::Ipv6(*header);
     let is_taken = deliver_packet(places, &ip, payload);
-    accept(inner, places, link, &ip, payload, is_taken)
+    accept(inner, places, link, &ip, payload, is_taken, reply);
 }
 
-/// Takes in what a frame carries.
+/// Takes in what a frame carries, and writes what answers it.
 fn bring_in<'a>(
     inner: &mut InterfaceInner,
     places: &mut [SocketStorage<Socket>],
     incoming: &Incoming<'a>,
-) -> Option<Reply<'a>>
-    requires { IsMeasured (incoming_value incoming.now) }
-    ensures brings { Brings inner.old places.old (Some (incoming_value incoming.now)) (arrived inner.new places.new (reply_of result)) }
-    ensures sendable { IfCanGo (reply_of result) }
+    reply: &mut Option<Reply<'a>>,
+)
+    requires measured { IsMeasured (incoming_value incoming.now) }
+    requires none { reply.old ≡ None }
+    ensures brings { Brings inner.old places.old (Some (incoming_value incoming.now)) (arrived inner.new places.new (reply_of reply.new)) }
+    ensures sendable { IfCanGo (reply_of reply.new) }
 {
     match incoming {
-        Incoming::Arp { packet, .. } => arp_reply(&arp::process(inner, packet)),
+        Incoming::Arp { packet, .. } => *reply = arp_reply(&arp::process(inner, packet)),
         Incoming::Ipv4 {
             link,
             header,
             payload,
             ..
-        } => arrive_ipv4(inner, places, link, header, payload),
+        } => arrive_ipv4(inner, places, link, header, payload, reply),
         Incoming::Ipv6 {
             link,
             header,
             payload,
-        } => arrive_ipv6(inner, places, link, header, payload),
+        } => arrive_ipv6(inner, places, link, header, payload, reply),
     }
 }
 
-/// Takes in what is whole of a frame's content, and returns what answers it.
-pub fn bring<'a>(
+/// Takes in the datagram that a piece completed, if it did, and writes what answers it.
+fn bring_rebuilt<'a>(
     inner: &mut InterfaceInner,
     places: &mut [SocketStorage<Socket>],
-    content: &Option<Incoming<'a>>,
-) -> Option<Reply<'a>>
-    requires { AreMeasured (content_of content.now) }
-    ensures brings { Brings inner.old places.old (content_of content.now) (arrived inner.new places.new (reply_of result)) }
-    ensures sendable { IfCanGo (reply_of result) }
+    datagram: &Option<Incoming<'a>>,
+    reply: &mut Option<Reply<'a>>,
+)
+    requires measured { AreMeasured (content_of datagram.now) }
+    requires none { reply.old ≡ None }
+    ensures brings { Brings inner.old places.old (content_of datagram.now) (arrived inner.new places.new (reply_of reply.new)) }
+    ensures sendable { IfCanGo (reply_of reply.new) }
+{
+    if let Some(incoming) = datagram {
+        bring_in(inner, places, incoming, reply);
+    }
+}
+
+/// Takes in what is whole of a frame's content, and writes what answers it: the content itself, or in place of a piece the
+/// datagram that it completes. A piece that completes none brings nothing. `place` is what `keep` returned.
+pub fn bring<'a, const N: usize>(
+    inner: &mut InterfaceInner,
+    places: &mut [SocketStorage<Socket>],
+    slots: &'a PacketAssemblerSet<N>,
+    place: Option<usize>,
+    content: Option<&Incoming<'a>>,
+    reply: &mut Option<Reply<'a>>,
+)
+    requires measured { AreMeasured (content_of (option_copied content)) }
+    requires none { reply.old ≡ None }
+    ensures brings { Brings inner.old places.old (whole_of slots.now place (content_of (option_copied content.entry))) (arrived inner.new places.new (reply_of reply.new)) }
+    ensures sendable { IfCanGo (reply_of reply.new) }
 {
     match content {
-        Some(incoming) => bring_in(inner, places, incoming),
-        None => None,
+        Some(
+            Incoming::Ipv4 {
+                link,
+                header,
+                piece,
+                ..
+            },
+        ) if is_piece(*piece) => {
+            let datagram = rebuilt(link, header, &bytes_at(slots, place));
+            bring_rebuilt(inner, places, &datagram, reply);
+        }
+        Some(incoming) => bring_in(inner, places, incoming, reply),
+        None => {}
     }
 }

@@ -1,5 +1,5 @@
 //! What arrived, given to the sockets that it is for.
-ghost use Rattle.std.specs.Prelude.{◌≡◌, ◌<◌, length, is_some, Some};
+ghost use Rattle.std.specs.Prelude.{◌≡◌, ◌<◌, length, is_some, None, Some};
 ghost use Rattle.std.specs.Option.{ForSome};
 ghost use Rattle.control_wire.specs.Icmpv4 as Icmpv4;
 ghost use Rattle.control_wire.specs.Icmpv6 as Icmpv6;
@@ -237,94 +237,97 @@ fn segment_place(
         .position(|place| accepts_segment(inner, place, header, segment))
 }
 
-/// Gives a segment to a socket, and returns the packet that answers it.
-fn process_segment(
+/// Gives a segment to a socket, and writes the packet that answers it.
+fn process_segment<'a>(
     inner: &mut InterfaceInner,
     socket: &mut Socket,
     header: &IpRepr,
     segment: &TcpRepr<'_>,
-) -> Option<Reply<'static>>
-    ensures answer { reply_of result ≡ answered (answer_of (context_of inner.old) header.now (Tcp.header_of segment.now) segment.now.payload.now socket.old) }
-    ensures sendable { IfCanGo (reply_of result) }
+    reply: &mut Option<Reply<'a>>,
+)
+    requires { reply.old ≡ None }
+    ensures answer { reply_of reply.new ≡ answered (answer_of (context_of inner.old) header.now (Tcp.header_of segment.now) segment.now.payload.now socket.old) }
+    ensures sendable { IfCanGo (reply_of reply.new) }
     ensures socket { socket.new ≡ with_segment (context_of inner.old) header.now (Tcp.header_of segment.now) segment.now.payload.now socket.old }
     ensures host { inner.new ≡ drawn_if (draws_of (context_of inner.old) header.now (Tcp.header_of segment.now) segment.now.payload.now socket.old) inner.old }
 {
-    match socket {
-        Socket::Tcp(socket) => match socket.process(inner, header, segment) {
-            Some((header, segment)) => Some(Reply::Packet(Packet::new(
-                header,
-                IpPayload::Tcp(segment),
-            ))),
-            None => None,
-        },
-        _ => None,
+    if let Socket::Tcp(socket) = socket {
+        if let Some((header, segment)) = socket.process(inner, header, segment) {
+            *reply = Some(Reply::Packet(Packet::new(header, IpPayload::Tcp(segment))));
+        }
     }
 }
 
 /// Gives a segment to the socket, if there is one at this place.
-fn process_in(
+fn process_in<'a>(
     inner: &mut InterfaceInner,
     place: &mut SocketStorage<Socket>,
     header: &IpRepr,
     segment: &TcpRepr<'_>,
-) -> Option<Reply<'static>>
-    ensures answer { reply_of result ≡ answered (answer_in (answer_of (context_of inner.old) header.now (Tcp.header_of segment.now) segment.now.payload.now) place.old.inner) }
-    ensures sendable { IfCanGo (reply_of result) }
+    reply: &mut Option<Reply<'a>>,
+)
+    requires { reply.old ≡ None }
+    ensures answer { reply_of reply.new ≡ answered (answer_in (answer_of (context_of inner.old) header.now (Tcp.header_of segment.now) segment.now.payload.now) place.old.inner) }
+    ensures sendable { IfCanGo (reply_of reply.new) }
     ensures place { place.new ≡ with_change (with_segment (context_of inner.old) header.now (Tcp.header_of segment.now) segment.now.payload.now) place.old }
     ensures host { inner.new ≡ drawn_if (passes (draws_of (context_of inner.old) header.now (Tcp.header_of segment.now) segment.now.payload.now) place.old) inner.old }
 {
-    match &mut place.inner {
-        Some(item) => process_segment(inner, &mut item.socket, header, segment),
-        None => None,
+    if let Some(item) = &mut place.inner {
+        process_segment(inner, &mut item.socket, header, segment, reply);
     }
 }
 
 /// Gives a segment to the socket at this place.
 #[tactic(auto, using(crate::proofs::AtPlace::changed_here, crate::proofs::AtPlace::answer_here, crate::proofs::AtPlace::passes_here))]
-fn process_at(
+fn process_at<'a>(
     inner: &mut InterfaceInner,
     places: &mut [SocketStorage<Socket>],
     at: usize,
     header: &IpRepr,
     segment: &TcpRepr<'_>,
-) -> Option<Reply<'static>>
-    requires { at < length places.old }
-    ensures answer { reply_of result ≡ answered (answer_at (answer_of (context_of inner.old) header.now (Tcp.header_of segment.now) segment.now.payload.now) (Some at) places.old) }
-    ensures sendable { IfCanGo (reply_of result) }
+    reply: &mut Option<Reply<'a>>,
+)
+    requires in_range { at < length places.old }
+    requires none { reply.old ≡ None }
+    ensures answer { reply_of reply.new ≡ answered (answer_at (answer_of (context_of inner.old) header.now (Tcp.header_of segment.now) segment.now.payload.now) (Some at) places.old) }
+    ensures sendable { IfCanGo (reply_of reply.new) }
     ensures places { places.new ≡ changed_at (with_segment (context_of inner.old) header.now (Tcp.header_of segment.now) segment.now.payload.now) (Some at) places.old }
     ensures host { inner.new ≡ drawn_if (passes_at (draws_of (context_of inner.old) header.now (Tcp.header_of segment.now) segment.now.payload.now) (Some at) places.old) inner.old }
 {
-    process_in(inner, &mut places[at], header, segment)
+    process_in(inner, &mut places[at], header, segment, reply);
 }
 
 /// The reset that answers a segment which no socket accepts, but for a reset and a segment that a raw socket took.
-fn reset(header: &IpRepr, segment: &TcpRepr<'_>, is_taken: bool) -> Option<Reply<'static>>
-    ensures answer { reply_of result ≡ answered (reset_for header.now (Tcp.header_of segment.now) segment.now.payload.now is_taken) }
-    ensures sendable { IfCanGo (reply_of result) }
+fn reset<'a>(header: &IpRepr, segment: &TcpRepr<'_>, is_taken: bool, reply: &mut Option<Reply<'a>>)
+    requires { reply.old ≡ None }
+    ensures answer { reply_of reply.new ≡ answered (reset_for header.now (Tcp.header_of segment.now) segment.now.payload.now is_taken) }
+    ensures sendable { IfCanGo (reply_of reply.new) }
 {
     if is_taken || is_rst(segment.control) {
-        return None;
+        return;
     }
     let (header, segment) = tcp::Socket::rst_reply(header, segment);
-    Some(Reply::Packet(Packet::new(header, IpPayload::Tcp(segment))))
+    *reply = Some(Reply::Packet(Packet::new(header, IpPayload::Tcp(segment))));
 }
 
-/// Gives a segment to the first socket that accepts it, and returns the packet that answers it: the socket's, or a reset where
+/// Gives a segment to the first socket that accepts it, and writes the packet that answers it: the socket's, or a reset where
 /// no socket accepts it. `is_taken` says that a raw socket took it.
-pub fn deliver_segment(
+pub fn deliver_segment<'a>(
     inner: &mut InterfaceInner,
     places: &mut [SocketStorage<Socket>],
     header: &IpRepr,
     segment: &TcpRepr<'_>,
     is_taken: bool,
-) -> Option<Reply<'static>>
-    ensures answer { reply_of result ≡ answered (segment_answer (context_of inner.old) header.now (Tcp.header_of segment.now) segment.now.payload.now is_taken places.old) }
-    ensures sendable { IfCanGo (reply_of result) }
+    reply: &mut Option<Reply<'a>>,
+)
+    requires { reply.old ≡ None }
+    ensures answer { reply_of reply.new ≡ answered (segment_answer (context_of inner.old) header.now (Tcp.header_of segment.now) segment.now.payload.now is_taken places.old) }
+    ensures sendable { IfCanGo (reply_of reply.new) }
     ensures places { places.new ≡ segment_delivered (context_of inner.old) header.now (Tcp.header_of segment.now) segment.now.payload.now places.old }
     ensures host { inner.new ≡ drawn_if (segment_draws (context_of inner.old) header.now (Tcp.header_of segment.now) segment.now.payload.now places.old) inner.old }
 {
     match segment_place(inner, places, header, segment) {
-        Some(at) => process_at(inner, places, at, header, segment),
-        None => reset(header, segment, is_taken),
+        Some(at) => process_at(inner, places, at, header, segment, reply),
+        None => reset(header, segment, is_taken, reply),
     }
 }

@@ -130,16 +130,18 @@ fn give_datagram<'a>(
     payload: &'a [u8],
     is_taken: bool,
     datagram: &ReadDatagram<'_>,
-) -> Option<Reply<'a>>
-    requires { Fits header.now }
+    reply: &mut Option<Reply<'a>>,
+)
+    requires fits { Fits header.now }
+    requires none { reply.old ≡ None }
     ensures places { places.new ≡ datagram_delivered (context_of inner.now) header.now datagram.now.header datagram.now.bytes.now places.old }
-    ensures reply { reply_of result ≡ answered (datagram_reply inner.now places.old header.now payload.now is_taken datagram.now.header) }
-    ensures sendable { IfCanGo (reply_of result) }
+    ensures reply { reply_of reply.new ≡ answered (datagram_reply inner.now places.old header.now payload.now is_taken datagram.now.header) }
+    ensures sendable { IfCanGo (reply_of reply.new) }
 {
     if deliver_datagram(inner, places, header, &datagram.header, datagram.bytes) || is_taken {
-        return None;
+        return;
     }
-    packet_reply(&port_unreachable(inner, header, payload))
+    *reply = packet_reply(&port_unreachable(inner, header, payload));
 }
 
 /// Gives the datagram of a packet to whom it concerns, and answers it.
@@ -150,16 +152,18 @@ fn hand_datagram<'a>(
     payload: &'a [u8],
     is_taken: bool,
     datagram: &Option<ReadDatagram<'_>>,
-) -> Option<Reply<'a>>
-    requires { Fits header.now }
+    reply: &mut Option<Reply<'a>>,
+)
+    requires fits { Fits header.now }
+    requires none { reply.old ≡ None }
     ensures host { inner.now ≡ handed_host inner.now places.old header.now (datagram_of datagram.now) }
     ensures places { places.new ≡ handed_places inner.now places.old header.now (datagram_of datagram.now) }
-    ensures reply { reply_of result ≡ answered (handed_reply inner.now places.old header.now payload.now is_taken (datagram_of datagram.now)) }
-    ensures sendable { IfCanGo (reply_of result) }
+    ensures reply { reply_of reply.new ≡ answered (handed_reply inner.now places.old header.now payload.now is_taken (datagram_of datagram.now)) }
+    ensures sendable { IfCanGo (reply_of reply.new) }
 {
     match datagram {
-        Some(datagram) => give_datagram(inner, places, header, payload, is_taken, datagram),
-        None => packet_reply(&reply_to_unread(inner, header, payload, is_taken)),
+        Some(datagram) => give_datagram(inner, places, header, payload, is_taken, datagram, reply),
+        None => *reply = packet_reply(&reply_to_unread(inner, header, payload, is_taken)),
     }
 }
 
@@ -170,33 +174,37 @@ fn hand_udp<'a>(
     header: &IpRepr,
     payload: &'a [u8],
     is_taken: bool,
-) -> Option<Reply<'a>>
+    reply: &mut Option<Reply<'a>>,
+)
     requires protocol { carried_in header.now ≡ Protocol.Udp }
     requires fits { Fits header.now }
-    ensures hands { Hands inner.now places.old header.now payload.now is_taken (arrived inner.now places.new (reply_of result)) }
-    ensures sendable { IfCanGo (reply_of result) }
+    requires none { reply.old ≡ None }
+    ensures hands { Hands inner.now places.old header.now payload.now is_taken (arrived inner.now places.new (reply_of reply.new)) }
+    ensures sendable { IfCanGo (reply_of reply.new) }
 {
     let datagram = read_udp(header, payload, &inner.checksum_caps());
-    hand_datagram(inner, places, header, payload, is_taken, &datagram)
+    hand_datagram(inner, places, header, payload, is_taken, &datagram, reply);
 }
 
 /// Gives a segment to the first socket that accepts it, and answers it.
-fn give_segment(
+fn give_segment<'a>(
     inner: &mut InterfaceInner,
     places: &mut [SocketStorage<Socket>],
     header: &IpRepr,
     is_taken: bool,
     segment: &TcpRepr<'_>,
-) -> Option<Reply<'static>>
+    reply: &mut Option<Reply<'a>>,
+)
+    requires { reply.old ≡ None }
     ensures host { inner.new ≡ segment_host inner.old places.old header.now (Tcp.header_of segment.now) segment.now.payload.now }
     ensures places { places.new ≡ segment_places inner.old places.old header.now (Tcp.header_of segment.now) segment.now.payload.now }
-    ensures reply { reply_of result ≡ answered (segment_reply inner.old places.old header.now is_taken (Tcp.header_of segment.now) segment.now.payload.now) }
-    ensures sendable { IfCanGo (reply_of result) }
+    ensures reply { reply_of reply.new ≡ answered (segment_reply inner.old places.old header.now is_taken (Tcp.header_of segment.now) segment.now.payload.now) }
+    ensures sendable { IfCanGo (reply_of reply.new) }
 {
     if names_nobody(header) {
-        return None;
+        return;
     }
-    deliver_segment(inner, places, header, segment, is_taken)
+    deliver_segment(inner, places, header, segment, is_taken, reply);
 }
 
 /// Gives the segment of a packet to whom it concerns, and answers it.
@@ -207,16 +215,18 @@ fn hand_segment<'a>(
     payload: &'a [u8],
     is_taken: bool,
     segment: &Option<TcpRepr<'_>>,
-) -> Option<Reply<'a>>
-    requires { Fits header.now }
+    reply: &mut Option<Reply<'a>>,
+)
+    requires fits { Fits header.now }
+    requires none { reply.old ≡ None }
     ensures host { inner.new ≡ handed_host inner.old places.old header.now (segment_of segment.now) }
     ensures places { places.new ≡ handed_places inner.old places.old header.now (segment_of segment.now) }
-    ensures reply { reply_of result ≡ answered (handed_reply inner.old places.old header.now payload.now is_taken (segment_of segment.now)) }
-    ensures sendable { IfCanGo (reply_of result) }
+    ensures reply { reply_of reply.new ≡ answered (handed_reply inner.old places.old header.now payload.now is_taken (segment_of segment.now)) }
+    ensures sendable { IfCanGo (reply_of reply.new) }
 {
     match segment {
-        Some(segment) => give_segment(inner, places, header, is_taken, segment),
-        None => packet_reply(&reply_to_unread(inner, header, payload, is_taken)),
+        Some(segment) => give_segment(inner, places, header, is_taken, segment, reply),
+        None => *reply = packet_reply(&reply_to_unread(inner, header, payload, is_taken)),
     }
 }
 
@@ -227,15 +237,17 @@ fn hand_tcp<'a>(
     header: &IpRepr,
     payload: &'a [u8],
     is_taken: bool,
-) -> Option<Reply<'a>>
+    reply: &mut Option<Reply<'a>>,
+)
     requires protocol { carried_in header.now ≡ Protocol.Tcp }
     requires fits { Fits header.now }
     requires short { length payload.now < 2 ^ 16 }
-    ensures hands { Hands inner.old places.old header.now payload.now is_taken (arrived inner.new places.new (reply_of result)) }
-    ensures sendable { IfCanGo (reply_of result) }
+    requires none { reply.old ≡ None }
+    ensures hands { Hands inner.old places.old header.now payload.now is_taken (arrived inner.new places.new (reply_of reply.new)) }
+    ensures sendable { IfCanGo (reply_of reply.new) }
 {
     let segment = read_tcp(header, payload, &inner.checksum_caps());
-    hand_segment(inner, places, header, payload, is_taken, &segment)
+    hand_segment(inner, places, header, payload, is_taken, &segment, reply);
 }
 
 /// Gives a packet's control message to whom it concerns, and answers it, or answers that nothing was read.
@@ -285,26 +297,29 @@ fn hand_control<'a>(
     packet_reply(&hand_message(inner, places, header, payload, is_taken, &carried))
 }
 
-/// Reads what is behind the header of a packet for the host, gives it to whom it concerns, and answers it. `is_taken` says
-/// that a raw socket took the packet.
+/// Reads what is behind the header of a packet for the host, gives it to whom it concerns, and writes what answers it.
+/// `is_taken` says that a raw socket took the packet.
 ///
 /// Datagrams and segments go ways of their own, by values of their own size: `IpPayload` is as large as all that it can be.
+/// So is a reply, which nearly always is none: it is written where the caller wants it, in place of going up through each call.
 pub(crate) fn hand<'a>(
     inner: &mut InterfaceInner,
     places: &mut [SocketStorage<Socket>],
     header: &IpRepr,
     payload: &'a [u8],
     is_taken: bool,
-) -> Option<Reply<'a>>
+    reply: &mut Option<Reply<'a>>,
+)
     requires fits { Fits header.now }
     requires len { length payload.now ≡ payload_len_of header.now }
     requires short { length payload.now < 2 ^ 16 }
-    ensures hands { Hands inner.old places.old header.now payload.now is_taken (arrived inner.new places.new (reply_of result)) }
-    ensures sendable { IfCanGo (reply_of result) }
+    requires none { reply.old ≡ None }
+    ensures hands { Hands inner.old places.old header.now payload.now is_taken (arrived inner.new places.new (reply_of reply.new)) }
+    ensures sendable { IfCanGo (reply_of reply.new) }
 {
     match header.next_header() {
-        IpProtocol::Udp => hand_udp(inner, places, header, payload, is_taken),
-        IpProtocol::Tcp => hand_tcp(inner, places, header, payload, is_taken),
-        _ => hand_control(inner, places, header, payload, is_taken),
+        IpProtocol::Udp => hand_udp(inner, places, header, payload, is_taken, reply),
+        IpProtocol::Tcp => hand_tcp(inner, places, header, payload, is_taken, reply),
+        _ => *reply = hand_control(inner, places, header, payload, is_taken),
     }
 }

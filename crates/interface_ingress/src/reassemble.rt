@@ -5,7 +5,7 @@ ghost use Rattle.net_base.specs.Time.{IsMoment};
 ghost use Rattle.ip_wire.specs.AddressTests.{is_same_hardware};
 ghost use Rattle.ip_wire.specs.HardwareAddress.TheVariants as Hardware;
 ghost use Rattle.interface_ingress.specs.Incoming.{AreMeasured, content_of, incoming_value};
-ghost use Rattle.interface_ingress.specs.Reassembled.{is_heard, is_sender, is_taken_in, taken_in, is_piece, given_up_at, place_of, place_in, with_piece, kept, bytes_at, rebuilt, whole_of, released};
+ghost use Rattle.interface_ingress.specs.Reassembled.{is_heard, is_sender, is_taken_in, taken_in, is_piece, given_up_at, place_of, place_in, with_piece, kept, bytes_at, rebuilt, released};
 
 use crate::icmp_reply::is_one_host;
 use crate::incoming::Incoming;
@@ -29,17 +29,20 @@ const UNCUT: Ipv4Piece = Ipv4Piece {
     more: false,
 };
 
-/// What the host takes in of a frame's content: a frame for this station, for all or for a group, and an IP packet from one
-/// host.
-pub fn take_in<'a>(inner: &InterfaceInner, content: &Option<Incoming<'a>>) -> Option<Incoming<'a>>
+/// Lends what the host takes in of a frame's content: a frame for this station, for all or for a group, and an IP packet from
+/// one host.
+pub fn take_in<'a, 'b>(
+    inner: &InterfaceInner,
+    content: &'b Option<Incoming<'a>>,
+) -> Option<&'b Incoming<'a>>
     requires { AreMeasured (content_of content.now) }
-    ensures content { content_of result ≡ taken_in inner.now (content_of content.now) }
-    ensures measured { AreMeasured (content_of result) }
+    ensures content { content_of (option_copied result) ≡ taken_in inner.now (content_of content.now) }
+    ensures measured { AreMeasured (content_of (option_copied result)) }
 {
     match content {
         Some(incoming) => {
             if is_taken_in(inner, incoming) {
-                Some(*incoming)
+                Some(incoming)
             } else {
                 None
             }
@@ -94,7 +97,7 @@ fn is_sender(inner: &InterfaceInner, address: &Ipv4Address) -> bool
 }
 
 /// Whether a packet is one piece of its datagram.
-fn is_piece(piece: Ipv4Piece) -> bool
+pub(crate) fn is_piece(piece: Ipv4Piece) -> bool
     ensures { result ≡ is_piece piece }
 {
     piece.more || piece.offset != 0
@@ -113,11 +116,11 @@ pub fn keep<const N: usize>(
     inner: &InterfaceInner,
     slots: &mut PacketAssemblerSet<N>,
     timeout: Duration,
-    content: &Option<Incoming<'_>>,
+    content: Option<&Incoming<'_>>,
 ) -> Option<usize>
-    ensures place { result ≡ place_in slots.old (content_of content.now) }
+    ensures place { result ≡ place_in slots.old (content_of (option_copied content.entry)) }
     ensures in_range { ForSome result (λ at. at < N) }
-    ensures after { slots.new ≡ kept inner.now timeout slots.old (content_of content.now) }
+    ensures after { slots.new ≡ kept inner.now timeout slots.old (content_of (option_copied content.entry)) }
 {
     match content {
         Some(
@@ -157,32 +160,8 @@ fn keep_piece<const N: usize>(
     )
 }
 
-/// The content, in which the datagram that a piece completes stands for that piece. A piece that completes none brings
-/// nothing. `place` is what `keep` returned.
-pub fn whole<'a, const N: usize>(
-    slots: &'a PacketAssemblerSet<N>,
-    place: Option<usize>,
-    content: &Option<Incoming<'a>>,
-) -> Option<Incoming<'a>>
-    requires { AreMeasured (content_of content.now) }
-    ensures content { content_of result ≡ whole_of slots.now place (content_of content.now) }
-    ensures measured { AreMeasured (content_of result) }
-{
-    match content {
-        Some(
-            Incoming::Ipv4 {
-                link,
-                header,
-                piece,
-                ..
-            },
-        ) if is_piece(*piece) => rebuilt(link, header, &bytes_at(slots, place)),
-        _ => *content,
-    }
-}
-
 /// A datagram of these bytes, if there are some and their length fits the header's field.
-fn rebuilt<'a>(
+pub(crate) fn rebuilt<'a>(
     link: &Option<EthernetRepr>,
     header: &Ipv4Repr,
     bytes: &Option<&'a [u8]>,
@@ -205,7 +184,10 @@ fn rebuilt<'a>(
 }
 
 /// The datagram at a place, if every byte of it came.
-fn bytes_at<const N: usize>(slots: &PacketAssemblerSet<N>, place: Option<usize>) -> Option<&[u8]>
+pub(crate) fn bytes_at<const N: usize>(
+    slots: &PacketAssemblerSet<N>,
+    place: Option<usize>,
+) -> Option<&[u8]>
     ensures { option_copied result ≡ bytes_at place slots.now }
 {
     match place {

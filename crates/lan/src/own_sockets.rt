@@ -11,7 +11,7 @@ ghost use Rattle.tcp_model.specs.Value.{new_socket};
 ghost use Rattle.lan.specs.Hosts.{queue, received, queued, socket_of, with_sockets, is_large, has_large};
 
 use crate::end::End;
-use interface::{AddError, SocketSet};
+use interface::SocketSet;
 use ip_wire::IpProtocol;
 use lan_net::{Refused, Side};
 use lan_script::{QueueSizes, SocketSpec, StreamSizes};
@@ -68,10 +68,22 @@ fn add_socket(alloc: Global, sockets: &mut SocketSet<Socket>, spec: SocketSpec) 
     ensures ends { IfErr result (λ end. ((is_large spec ≡ true) × (end ≡ World Buffers)) ⊎ (end ≡ Refusal Memory)) }
 {
     let socket = socket_of(alloc, spec)?;
-    match sockets.add(socket) {
-        Ok(_) => Ok(()),
-        Err(AddError::Full(_)) | Err(AddError::Memory(_)) => Err(End::Refusal(Refused::Memory)),
-    }
+    put(sockets, socket)?;
+    Ok(())
+}
+
+// Puts a socket behind the others.
+fn put(sockets: &mut SocketSet<Socket>, socket: Socket) -> Result<(), End>
+    requires used { free_place (places sockets.old) ≡ None }
+    requires grows { is_fixed sockets.old ≡ false }
+    ensures made { OnOk result (places sockets.new ≡ places sockets.old ++ unmarked socket ∷ []) }
+    ensures grows { is_fixed sockets.new ≡ false }
+    ensures ends { IfErr result (λ end. end ≡ Refusal Memory) }
+{
+    let Ok(_) = sockets.add(socket) else {
+        return Err(End::Refusal(Refused::Memory));
+    };
+    Ok(())
 }
 
 fn is_same(owner: Side, side: Side) -> bool

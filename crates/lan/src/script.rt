@@ -31,17 +31,34 @@ pub fn replay<R: Read, W: Write>(alloc: Global, reader: &mut R, writer: &mut W) 
         × Appends (W.contents writer.old) (W.contents writer.new) output }
     ensures reads { result ≢ 2 → ReadsOn (R.remaining reader.old) (R.remaining reader.new) }
 {
-    let mut run = Run::new(alloc);
-    match try_replay(alloc, &mut run, reader, writer) {
+    match try_replay(alloc, reader, writer) {
         Ok(Some(status)) => status,
         Ok(None) => 2,
         Err(_) => 2,
     }
 }
 
-// Runs a script from a run before its first line. `None`: the reader failed, or came to no end in 2^32 reads. The lines that it
-// gave have been run. (The run is borrowed: in what owns it each way out would let it go, which makes a long proof.)
+// `None`: the reader failed, or came to no end in 2^32 reads. The lines that it gave have been run.
 fn try_replay<R: Read, W: Write>(
+    alloc: Global,
+    reader: &mut R,
+    writer: &mut W,
+) -> io::Result<Option<u8>>
+    ensures ended { IfOk result (λ ended. IfSome ended (λ status. (script output : List ℕ)
+        × IfSome (R.remaining reader.old) (λ input. script ≡ input)
+        × IsReplay script output status
+        × Appends (W.contents writer.old) (W.contents writer.new) output)) }
+    ensures unended { IfOk result (λ ended. MatchOption ended ((output : List ℕ)
+        × RunsSoFar (R.remaining reader.old) (R.remaining reader.new) output
+        × Appends (W.contents writer.old) (W.contents writer.new) output) (λ status. ⊤)) }
+    ensures reads { OnOk result (ReadsOn (R.remaining reader.old) (R.remaining reader.new)) }
+{
+    let mut run = Run::new(alloc);
+    replay_from(alloc, &mut run, reader, writer)
+}
+
+// The same from a run before its first line. (It is borrowed: where it is owned each way out lets it go, which makes a long proof.)
+fn replay_from<R: Read, W: Write>(
     alloc: Global,
     run: &mut Run,
     reader: &mut R,

@@ -7,8 +7,6 @@ ghost use Rattle.lan.specs.declared.end.End.TheVariants.{Refusal};
 ghost use Rattle.lan.specs.Scripts.{Takes, MayEnd, event_end, EventLeads};
 ghost use Rattle.lan.specs.Events.{event_of};
 ghost use Rattle.lan.specs.declared.session.Session.TheVariants.{Running};
-ghost use Rattle.lan_net.specs.declared.event.Side.TheVariants.{A, B};
-ghost use Rattle.lan.specs.Hosts.{first_world, host_of, no_start};
 
 use crate::answer::{answer_line, push_sent};
 use crate::end::End;
@@ -33,6 +31,8 @@ pub enum Session {
 impl Session {
     ghost use Rattle.std.specs.Prelude.{◌≡◌, None, Some, IfOk, OnOk, IfErr};
     ghost use Rattle.std.specs.String.{string_bytes};
+    ghost use Rattle.lan_script.specs.declared.line.Line.TheVariants.{Start};
+    ghost use Rattle.lan.specs.declared.session.Session.TheVariants.{Header as Begins};
     ghost use Rattle.lan.specs.Scripts.{end_of, Leads, LineLeads, LineEnds, Ends};
 
     /// Takes one line, without the byte 0a that ends it: what it writes.
@@ -47,7 +47,7 @@ impl Session {
     }
 
     // Takes what a line says.
-    #[tactic(auto, using(crate::proofs::BytesLemmas::ends_so, crate::proofs::EndLemmas::start_end))]
+    #[tactic(auto, using(crate::proofs::BytesLemmas::ends_so))]
     fn take(&mut self, alloc: Global, line: Line<'_>) -> Result<String, End>
         ensures allowed { OnOk result (end_of self.old (Some line.entry) ≡ None) }
         ensures leads { IfOk result (λ text. Leads self.old (Some line.entry) (string_bytes text) self.new) }
@@ -58,7 +58,7 @@ impl Session {
                 let Line::World(medium, mtu) = line else {
                     return Err(End::BadEvent);
                 };
-                *self = Session::Header(Header::new(alloc, medium, mtu));
+                self.begin(Header::new(alloc, medium, mtu));
                 Ok(String::new(alloc))
             }
             Session::Header(header) => match line {
@@ -66,24 +66,33 @@ impl Session {
                     header.push(side_of(side), spec)?;
                     Ok(String::new(alloc))
                 }
-                Line::Start => {
-                    *self = start(alloc, header)?;
-                    Ok(String::from_str(alloc, "ok\n")?)
-                }
+                Line::Start => self.start(alloc),
                 _ => Err(End::BadEvent),
             },
             Session::Running(world) => go_on(alloc, world, line),
         }
     }
-}
 
-// The hosts of a header run from now on.
-fn start(alloc: Global, header: &Header) -> Result<Session, End>
-    ensures allowed { OnOk result (no_start header.now ≡ None) }
-    ensures runs { IfOk result (λ next. next ≡ Running (first_world (host_of header.now A) (host_of header.now B))) }
-    ensures ends { IfErr result (λ end. (no_start header.now ≡ Some end) ⊎ (end ≡ Refusal Memory)) }
-{
-    Ok(Session::Running(header.start(alloc)?))
+    // The header is being read from now on.
+    fn begin(&mut self, header: Header)
+        ensures { self.new ≡ Begins header }
+    {
+        *self = Session::Header(header);
+    }
+
+    // Takes the line `start`: the hosts of the header run from now on.
+    #[tactic(auto, using(crate::proofs::EndLemmas::start_end))]
+    fn start(&mut self, alloc: Global) -> Result<String, End>
+        ensures allowed { OnOk result (end_of self.old (Some Start) ≡ None) }
+        ensures leads { IfOk result (λ text. Leads self.old (Some Start) (string_bytes text) self.new) }
+        ensures ends { IfErr result (Ends self.old (Some Start)) }
+    {
+        let Session::Header(header) = self else {
+            return Err(End::BadEvent);
+        };
+        *self = Session::Running(header.start(alloc)?);
+        Ok(String::from_str(alloc, "ok\n")?)
+    }
 }
 
 // Takes a line once the hosts run: what it writes.

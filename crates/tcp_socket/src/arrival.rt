@@ -26,7 +26,8 @@ use tcp_model::{
     is_void_syn, next_draw_from, numbers_of, past_by, reply_to, rst_reply, time_wait_from,
 };
 
-/// A segment with what it came in.
+/// A segment with what it came in. Functions that are called from several places get copies of it, so
+/// that in `process` it needn't lie in memory.
 #[derive(Clone, Copy)]
 pub(crate) struct Incoming<'a> {
     pub(crate) ip_repr: &'a IpRepr,
@@ -72,7 +73,10 @@ impl Socket {
         let now = cx.now();
         match self.arrive(cx, &incoming) {
             None => None,
-            Some(due) => Some(replied(&self.reply(due, now, &incoming))),
+            Some(due) => {
+                let incoming = incoming;
+                Some(replied(&self.reply(due, now, &incoming)))
+            }
         }
     }
 
@@ -108,7 +112,7 @@ impl Socket {
         ensures socket { self.new ≡ (arrives (C.context cx.old) self.old incoming.now.ip_repr.now incoming.now.header incoming.now.bytes.now).socket }
         ensures drawn { cx.new ≡ (if (arrives (C.context cx.old) self.old incoming.now.ip_repr.now incoming.now.header incoming.now.bytes.now).draws then C.drawn cx.old else cx.old) }
     {
-        self.offered = None;
+        self.unoffer();
         if is_void_syn(&incoming.header) {
             None
         } else {
@@ -143,9 +147,8 @@ impl Socket {
         if !is_first_syn(&incoming.header) {
             return None;
         }
-        let number = cx.rand_u32();
-        self.block
-            .answer_syn(incoming.ip_repr, &incoming.header, number);
+        let (number, header) = (cx.rand_u32(), incoming.header);
+        self.block.answer_syn(incoming.ip_repr, &header, number);
         self.block.restart_timeout(cx.now(), 0);
         None
     }
@@ -158,7 +161,7 @@ impl Socket {
         ensures answer { answer_of result (C.context cx.now).moment self.new incoming.now.ip_repr.now incoming.now.header (length incoming.now.bytes.now) ≡ (takes_answer (C.context cx.now) self.old incoming.now.ip_repr.now incoming.now.header incoming.now.bytes.now).answer }
         ensures socket { self.new ≡ (takes_answer (C.context cx.now) self.old incoming.now.ip_repr.now incoming.now.header incoming.now.bytes.now).socket }
     {
-        let (now, header) = (cx.now(), &incoming.header);
+        let (now, header) = (cx.now(), incoming.header);
         let acks_syn = self.block.is_syn_acked(header.ack_number);
         if is_rst(header.control) {
             if acks_syn {
@@ -170,7 +173,7 @@ impl Socket {
             return Some(Due::Reset);
         }
         if is_syn(header.control) {
-            self.block.take_answer(header, now);
+            self.block.take_answer(&header, now);
             self.block.restart_timeout(now, self.queued.len());
         }
         None

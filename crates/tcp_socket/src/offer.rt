@@ -31,7 +31,7 @@ impl Socket {
         ensures answer { result ≡ (offer_of (C.context cx.now) self.old).answer }
         ensures socket { self.new ≡ (offer_of (C.context cx.now) self.old).socket }
     {
-        self.offered = None;
+        self.unoffer();
         match self.block.names.pair {
             None => Offer::Silent { changed: false },
             Some(pair) => self.offer_between(cx, &pair),
@@ -69,7 +69,7 @@ impl Socket {
         }
         let window = self.window();
         let header = self.block.reset_segment(pair, cx.now(), window);
-        self.offer_segment(OfferKind::Reset, cx, pair, header, 0, 0)
+        self.offer_segment(OfferKind::Reset, cx, pair, &header, 0, 0)
     }
 
     /// The SYN, the segment at SND.UNA after the third duplicate, text from SND.NXT on.
@@ -119,7 +119,7 @@ impl Socket {
         let header = self
             .block
             .syn_segment(pair, cx.now(), cx.ip_mtu(), capacity, free);
-        self.offer_segment(OfferKind::Syn, cx, pair, header, 0, 0)
+        self.offer_segment(OfferKind::Syn, cx, pair, &header, 0, 0)
     }
 
     fn offer_ack<C: Context>(&mut self, kind: OfferKind, cx: &C, pair: &EndpointPair) -> Offer
@@ -128,7 +128,7 @@ impl Socket {
     {
         let window = self.window();
         let header = self.block.ack_segment(pair, cx.now(), window);
-        self.offer_segment(kind, cx, pair, header, 0, 0)
+        self.offer_segment(kind, cx, pair, &header, 0, 0)
     }
 
     fn offer_keep_alive<C: Context>(&mut self, cx: &C, pair: &EndpointPair) -> Offer
@@ -137,7 +137,7 @@ impl Socket {
     {
         let window = self.window();
         let header = self.block.keep_alive_segment(pair, cx.now(), window);
-        self.offer_segment(OfferKind::KeepAlive, cx, pair, header, 0, 1)
+        self.offer_segment(OfferKind::KeepAlive, cx, pair, &header, 0, 1)
     }
 
     /// Offers a part of the send queue.
@@ -156,23 +156,25 @@ impl Socket {
         let number = self.block.number_at(part.place);
         let window = self.window();
         let header = self.block.segment(pair, cx.now(), window, control, number);
-        self.offer_segment(kind, cx, pair, header, part.place, part.len)
+        self.offer_segment(kind, cx, pair, &header, part.place, part.len)
     }
 
-    /// Offers this segment, whose payload is this part of the send queue.
+    /// Offers this segment, whose payload is this part of the send queue. Inlined, it makes the header
+    /// where the offer lies, in place of copying it there.
+    #[inline(always)]
     fn offer_segment<C: Context>(
         &mut self,
         kind: OfferKind,
         cx: &C,
         pair: &EndpointPair,
-        segment: TcpHeader,
+        segment: &TcpHeader,
         place: usize,
         len: usize,
     ) -> Offer
-        requires open { MayOpen self.old (open_offer kind (C.context cx.now) self.old pair.now segment place len) }
+        requires open { MayOpen self.old (open_offer kind (C.context cx.now) self.old pair.now segment.now place len) }
         requires small { len < 2 ^ 32 }
-        ensures answer { result ≡ (offer_segment kind (C.context cx.now) self.old pair.now segment place len).answer }
-        ensures socket { self.new ≡ (offer_segment kind (C.context cx.now) self.old pair.now segment place len).socket }
+        ensures answer { result ≡ (offer_segment kind (C.context cx.now) self.old pair.now segment.now place len).answer }
+        ensures socket { self.new ≡ (offer_segment kind (C.context cx.now) self.old pair.now segment.now place len).socket }
     {
         let header = pair
             .addresses
@@ -181,7 +183,7 @@ impl Socket {
             kind,
             moment: cx.now(),
             header,
-            segment,
+            segment: *segment,
             place,
             len,
         });
@@ -253,17 +255,28 @@ impl Socket {
     {
         if sent {
             self.record();
+        } else {
+            self.unoffer();
         }
-        self.offered = None;
     }
 
     /// Records that what was offered was sent.
     fn record(&mut self)
-        ensures { unoffered self.new ≡ settled true self.old }
+        ensures { self.new ≡ settled true self.old }
     {
-        if let Some(offer) = self.offered {
+        if let Some(offer) = &self.offered {
+            self.block.sent(offer, self.queued.len());
             self.offered = None;
-            self.block.sent(&offer, self.queued.len());
+        }
+    }
+
+    /// An offer that isn't settled counts as not sent. Mostly there is none, and then nothing is
+    /// written.
+    pub(crate) fn unoffer(&mut self)
+        ensures { self.new ≡ unoffered self.old }
+    {
+        if self.offered.is_some() {
+            self.offered = None;
         }
     }
 

@@ -4,8 +4,8 @@ use Rattle.std.proofs.KnownBytes.{Appends-trans, Appends-kept, Consumes-trans, C
 use Rattle.lan.specs.declared.session.Session.TheVariants.{Begun}
 use Rattle.lan.proofs.RunLemmas.{all_read}
 use Rattle.lan.proofs.PieceLemmas.{script_ends, script_ends_early, pieces_run, reads_on, nothing_behind, runs_so_far}
-use Rattle.lan.proofs.script.try_replay.Goals as goal
-use Rattle.lan.proofs.script.try_replay.Goals.{in-Ok+in_ok-led-in-Ok+in_ok-flush-in-Ok+else-not-led, in-Err}
+use Rattle.lan.proofs.script.replay_from.Goals as goal
+use Rattle.lan.proofs.script.replay_from.Goals.{in-Ok+in_ok-led-in-Ok+in_ok-flush-in-Ok+else-not-led, in-Err}
 
 -- a read of nothing into a buffer with room is the end
 pub returns-in-Ok-eq0-clause-ended : goal.returns-in-Ok-eq0-clause-ended

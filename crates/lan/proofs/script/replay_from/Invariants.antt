@@ -3,7 +3,7 @@ use Rattle.std.proofs.Common.{◌≡◌, ℕ, ◌+◌, ◌*◌, ◌≤◌, List,
 use Rattle.std.specs.Io.KnownBytes.{Appends, Consumes}
 use Rattle.lan.specs.declared.session.Session.TheVariants.{Begun}
 use Rattle.lan.specs.Pieces.{RunsOn}
-use Rattle.lan.proofs.script.try_replay.Given as goal
+use Rattle.lan.proofs.script.replay_from.Given as goal
 
 abbrev pub invariant-loop-count : goal.invariant-loop-count
 invariant-loop-count g l = record {
