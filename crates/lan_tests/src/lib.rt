@@ -1,5 +1,5 @@
-//! Tests of the program's scripts, of the device in memory and of what the link makes of frames, over public calls alone. What they expect
-//! comes from outside: worked examples, the language's rules, and frames that another program made.
+//! Tests of the program's scripts, of their lines, of the device in memory and of what the link makes of frames, over public calls
+//! alone. What they expect comes from outside: worked examples, the language's rules, and frames that another program made.
 #![tactic(auto)]
 
 #[cfg(test)]
@@ -10,6 +10,8 @@ mod frames;
 mod grammar;
 #[cfg(test)]
 mod kinds;
+#[cfg(test)]
+mod lines;
 #[cfg(test)]
 mod long;
 #[cfg(test)]
