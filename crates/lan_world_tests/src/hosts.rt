@@ -157,18 +157,22 @@ fn socket(alloc: Global, text: &str) -> Result<Option<Socket>, AllocError> {
     }
 }
 
+/// The same, if memory is left.
+fn socket_of(alloc: Global, text: &str) -> Option<Socket> {
+    socket(alloc, text).ok()?
+}
+
 /// Adds the socket of a text, if it is one and memory is left.
-fn add_socket(alloc: Global, set: &mut SocketSet<Socket>, text: &str) -> bool {
-    match socket(alloc, text) {
-        Ok(Some(socket)) => set.add(socket).is_ok(),
-        _ => false,
-    }
+fn add_socket(alloc: Global, set: &mut SocketSet<Socket>, text: &str) -> Option<()> {
+    let socket = socket_of(alloc, text)?;
+    set.add(socket).ok()?;
+    Some(())
 }
 
 /// Adds the sockets of a text, with `, ` between them.
 fn add_sockets(alloc: Global, set: &mut SocketSet<Socket>, text: &str) -> bool {
     for part in text.split(", ") {
-        if !add_socket(alloc, set, part) {
+        if add_socket(alloc, set, part).is_none() {
             return false;
         }
     }
