@@ -13,6 +13,21 @@ fn said<T: Display>(rt: &HostRuntime, it: &T) -> Result<String, Fail> {
     Ok(it.to_string(rt.alloc())?)
 }
 
+/// Whether it says this.
+fn says<T: Display>(rt: &HostRuntime, it: &T, text: &str) -> Result<bool, Fail> {
+    Ok(said(rt, it)?.as_str() == text)
+}
+
+/// Fails at the first that doesn't say what stands beside it.
+fn say<T: Display>(rt: &HostRuntime, texts: &[(T, &'static str)]) -> Result<(), Fail> {
+    for (it, text) in texts {
+        if !says(rt, it, text)? {
+            return Err((*text).into());
+        }
+    }
+    Ok(())
+}
+
 static FAULTS: [(Fault, &str); 9] = [
     (Fault::InvalidState, "invalid state"),
     (Fault::Unaddressable, "unaddressable"),
@@ -27,10 +42,7 @@ static FAULTS: [(Fault, &str); 9] = [
 
 #[test]
 fn faults_have_their_texts(rt: HostRuntime) -> Result<(), Fail> {
-    for &(fault, text) in &FAULTS {
-        assert!(rt; said(&rt, &fault)?.as_str() == text, "at {text}");
-    }
-    Ok(())
+    say(&rt, &FAULTS)
 }
 
 static REFUSALS: [(Refused, &str); 16] = [
@@ -54,10 +66,7 @@ static REFUSALS: [(Refused, &str); 16] = [
 
 #[test]
 fn refusals_have_their_texts(rt: HostRuntime) -> Result<(), Fail> {
-    for &(refused, text) in &REFUSALS {
-        assert!(rt; said(&rt, &refused)?.as_str() == text, "at {text}");
-    }
-    Ok(())
+    say(&rt, &REFUSALS)
 }
 
 static ERRORS: [(WorldError, &str); 6] = [
@@ -71,8 +80,5 @@ static ERRORS: [(WorldError, &str); 6] = [
 
 #[test]
 fn errors_have_their_texts(rt: HostRuntime) -> Result<(), Fail> {
-    for &(error, text) in &ERRORS {
-        assert!(rt; said(&rt, &error)?.as_str() == text, "at {text}");
-    }
-    Ok(())
+    say(&rt, &ERRORS)
 }
