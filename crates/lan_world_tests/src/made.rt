@@ -48,6 +48,10 @@ fn host_a(alloc: Global, wrong: &str) -> Option<Host> {
     spoil(alloc, &mut a, wrong).then_some(a)
 }
 
+fn host_b(alloc: Global) -> Option<Host> {
+    host(alloc, 2, capabilities(Medium::Ip, 1_500), "udp 1 64")
+}
+
 /// Why the two make no world, if they don't.
 fn refusal(alloc: Global, a: Host, b: Host) -> Option<WorldError> {
     world_of(alloc, a, b).err()
@@ -68,8 +72,7 @@ fn word_for(refusal: Option<WorldError>) -> Option<&'static str> {
 
 /// The same of two hosts that are made so; `None` also where there was no memory for these.
 fn made(alloc: Global, wrong: &str) -> Option<&'static str> {
-    let a = host_a(alloc, wrong)?;
-    let b = host(alloc, 2, capabilities(Medium::Ip, 1_500), "udp 1 64")?;
+    let (a, b) = host_a(alloc, wrong).zip(host_b(alloc))?;
     word_for(refusal(alloc, a, b))
 }
 

@@ -160,7 +160,7 @@ fn second_stops(rt: &HostRuntime, world: &mut World) -> Result<bool, Fail> {
 }
 
 /// The same of a world of its own.
-fn second_stops_at(rt: &HostRuntime, mut world: World) -> Result<bool, Fail> {
+fn second_stops_at(rt: &HostRuntime, mut world: Box<World>) -> Result<bool, Fail> {
     second_stops(rt, &mut world)
 }
 

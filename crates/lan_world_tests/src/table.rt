@@ -68,14 +68,14 @@ fn first_wrong(
 /// The same at a world that has taken no event. Only here is a run owned, and the function has one end.
 fn first_wrong_at(
     rt: &HostRuntime,
-    world: World,
+    world: Box<World>,
     texts: &[&'static str],
 ) -> Result<Option<&'static str>, Fail> {
     let mut run = begun(world);
     first_wrong_of(rt, &mut run, texts)
 }
 
-fn begun(world: World) -> Run {
+fn begun(world: Box<World>) -> Run {
     Run {
         world,
         next_a: 0,
@@ -103,7 +103,7 @@ fn first_wrong_of(
 /// A world, how many of each host's frames were delivered, and the last moment.
 #[derive(Drop)]
 struct Run {
-    world: World,
+    world: Box<World>,
     next_a: usize,
     next_b: usize,
     now: i64,
