@@ -1,7 +1,7 @@
 //! Answers as texts.
 use crate::events::other_address;
 use crate::texts::{are_bytes, cut, is_moment, is_number, shown};
-use ip_wire::IpAddress;
+use ip_wire::{IpAddress, IpEndpoint};
 use lan_world::{Answer, Bytes, Fault, Refused, Side};
 use net_base::Instant;
 use sockets::tcp::State;
@@ -36,16 +36,22 @@ fn is_rest(answer: &Result<Answer, Refused>, side: Side, rest: &str) -> bool {
         Ok(Answer::State(state)) => rest == state_word(*state),
         Ok(Answer::Count(count)) => is_number(rest, *count as u64),
         Ok(Answer::Bytes(bytes)) => are_those(bytes, rest),
-        Ok(Answer::FromEndpoint(source, bytes)) => {
-            let (port, hex) = cut(rest, " ");
-            is_number(port, source.port as u64)
-                && is_other(&source.addr, side)
-                && are_those(bytes, hex)
-        }
-        Ok(Answer::FromAddr(source, bytes)) => is_other(source, side) && are_those(bytes, rest),
+        Ok(Answer::FromEndpoint(source, bytes)) => is_datagram(source, bytes, side, rest),
+        Ok(Answer::FromAddr(source, bytes)) => is_message(source, bytes, side, rest),
         Ok(Answer::At(Some(instant))) => is_moment(rest, micros(*instant)),
         _ => rest.is_empty(),
     }
+}
+
+/// Whether a datagram came from the other host's port with these bytes.
+fn is_datagram(source: &IpEndpoint, bytes: &Bytes, side: Side, text: &str) -> bool {
+    let (port, hex) = cut(text, " ");
+    is_number(port, source.port as u64) && is_message(&source.addr, bytes, side, hex)
+}
+
+/// Whether the other host sent these bytes.
+fn is_message(source: &IpAddress, bytes: &Bytes, side: Side, hex: &str) -> bool {
+    is_other(source, side) && are_those(bytes, hex)
 }
 
 fn are_those(bytes: &Bytes, text: &str) -> bool {

@@ -106,19 +106,39 @@ fn octet(value: u16) -> Option<u8> {
     if value < 256 { Some(value as u8) } else { None }
 }
 
+/// A setting that is a span.
+fn span_setting(name: &str, micros: u64) -> Option<TcpSetting> {
+    let span = Some(span(micros));
+    match name {
+        "timeout" => Some(TcpSetting::Timeout(span)),
+        "ack-delay" => Some(TcpSetting::AckDelay(span)),
+        "keep-alive" => Some(TcpSetting::KeepAlive(span)),
+        _ => None,
+    }
+}
+
+/// A setting that is a number.
+fn number_setting(name: &str, number: u16) -> Option<TcpSetting> {
+    match name {
+        "hop-limit" => Some(TcpSetting::HopLimit(Some(octet(number)?))),
+        "timestamps" => {
+            let generator = TcpTimestampGenerator(number as u32);
+            Some(TcpSetting::TsvalGenerator(Some(generator)))
+        }
+        _ => None,
+    }
+}
+
+/// A setting without a value, or one that is a number or a span.
 fn setting(act: &Act) -> Option<TcpSetting> {
-    Some(match act.setting {
-        "timeout" => TcpSetting::Timeout(Some(span(act.micros?))),
-        "ack-delay" => TcpSetting::AckDelay(Some(span(act.micros?))),
-        "no-ack-delay" => TcpSetting::AckDelay(None),
-        "keep-alive" => TcpSetting::KeepAlive(Some(span(act.micros?))),
-        "no-nagle" => TcpSetting::NagleEnabled(false),
-        "hop-limit" => TcpSetting::HopLimit(Some(octet(act.third?)?)),
-        "reno" => TcpSetting::CongestionControl(CongestionControl::Reno),
-        "timestamps" => TcpSetting::TsvalGenerator(Some(TcpTimestampGenerator(act.third? as u32))),
-        "pause-synack" => TcpSetting::PauseSynack(true),
-        _ => return None,
-    })
+    match act.setting {
+        "no-ack-delay" => Some(TcpSetting::AckDelay(None)),
+        "no-nagle" => Some(TcpSetting::NagleEnabled(false)),
+        "reno" => Some(TcpSetting::CongestionControl(CongestionControl::Reno)),
+        "pause-synack" => Some(TcpSetting::PauseSynack(true)),
+        "hop-limit" | "timestamps" => number_setting(act.setting, act.third?),
+        name => span_setting(name, act.micros?),
+    }
 }
 
 /// An event of a TCP socket, but for the bytes that it sends.
@@ -168,13 +188,23 @@ fn event_at(act: &Act, place: usize, bytes: Bytes) -> Option<Event> {
     let side = act.side;
     Some(match act.verb {
         "send" => Event::Send(side, place, bytes),
-        "send-to" => Event::SendTo(side, place, remote(side, act.short?), bytes),
         "send-icmp" => Event::SendIcmp(side, place, other_address(side), bytes),
         "send-raw" => Event::SendRaw(side, place, bytes),
         "deliver" => Event::Deliver(side, place, bytes),
-        "damage" => Event::Damage(side, place, act.count?, act.third?, bytes),
-        _ => return None,
+        _ => return event_with_more(act, place, bytes),
     })
+}
+
+/// The same of an event that has a port or a place and a word.
+fn event_with_more(act: &Act, place: usize, bytes: Bytes) -> Option<Event> {
+    let side = act.side;
+    match (act.verb, act.short, act.count, act.third) {
+        ("send-to", Some(port), _, _) => {
+            Some(Event::SendTo(side, place, remote(side, port), bytes))
+        }
+        ("damage", _, Some(at), Some(word)) => Some(Event::Damage(side, place, at, word, bytes)),
+        _ => None,
+    }
 }
 
 fn address(octets: &[u8]) -> Option<IpAddress> {

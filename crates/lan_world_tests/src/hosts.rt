@@ -157,18 +157,22 @@ fn socket(alloc: Global, text: &str) -> Result<Option<Socket>, AllocError> {
     }
 }
 
+/// The same, if memory is left.
+fn socket_of(alloc: Global, text: &str) -> Option<Socket> {
+    socket(alloc, text).ok()?
+}
+
 /// Adds the socket of a text, if it is one and memory is left.
-fn add_socket(alloc: Global, set: &mut SocketSet<Socket>, text: &str) -> bool {
-    match socket(alloc, text) {
-        Ok(Some(socket)) => set.add(socket).is_ok(),
-        _ => false,
-    }
+fn add_socket(alloc: Global, set: &mut SocketSet<Socket>, text: &str) -> Option<()> {
+    let socket = socket_of(alloc, text)?;
+    set.add(socket).ok()?;
+    Some(())
 }
 
 /// Adds the sockets of a text, with `, ` between them.
 fn add_sockets(alloc: Global, set: &mut SocketSet<Socket>, text: &str) -> bool {
     for part in text.split(", ") {
-        if !add_socket(alloc, set, part) {
+        if add_socket(alloc, set, part).is_none() {
             return false;
         }
     }
@@ -184,9 +188,11 @@ fn socket_set(alloc: Global, text: &str) -> Option<SocketSet<Socket>> {
 /// The host of this number over this device, with the sockets of this text.
 pub fn host(alloc: Global, n: u8, described: DeviceCapabilities, sockets: &str) -> Option<Host> {
     let port = port(alloc, described);
+    let interface = interface(alloc, n, &port, described.medium);
+    let (interface, sockets) = interface.zip(socket_set(alloc, sockets))?;
     Some(Host {
-        interface: interface(alloc, n, &port, described.medium)?,
-        sockets: socket_set(alloc, sockets)?,
+        interface,
+        sockets,
         port,
     })
 }
@@ -196,14 +202,13 @@ pub fn world_of(alloc: Global, a: Host, b: Host) -> Result<World, WorldError> {
     World::new(alloc, a, b)
 }
 
-/// A world of two hosts over such devices, with the sockets of this text.
-fn made_over(alloc: Global, described: DeviceCapabilities, sockets: &str) -> Option<World> {
-    let a = host(alloc, 1, described, sockets)?;
-    let b = host(alloc, 2, described, sockets)?;
-    world_of(alloc, a, b).ok()
+/// A world of two hosts over such devices, with the sockets of this text; on the heap, where lending it is cheap to prove.
+fn made_over(alloc: Global, described: DeviceCapabilities, sockets: &str) -> Option<Box<World>> {
+    let (a, b) = host(alloc, 1, described, sockets).zip(host(alloc, 2, described, sockets))?;
+    Box::new(alloc, world_of(alloc, a, b).ok()?).ok()
 }
 
-fn made(alloc: Global, hosts: &str) -> Option<World> {
+fn made(alloc: Global, hosts: &str) -> Option<Box<World>> {
     let (medium, sockets) = cut(hosts, ", ");
     let medium = match medium {
         "ethernet" => Medium::Ethernet,
@@ -220,7 +225,7 @@ pub fn tell(rt: &HostRuntime, what: &str) -> Result<(), Fail> {
 }
 
 /// A world of two such hosts at an IP MTU of 1500; made again where the allocation that is refused is one of its own.
-pub fn world(rt: &HostRuntime, hosts: &str) -> Result<World, Fail> {
+pub fn world(rt: &HostRuntime, hosts: &str) -> Result<Box<World>, Fail> {
     if let Some(world) = made(rt.alloc(), hosts) {
         return Ok(world);
     }

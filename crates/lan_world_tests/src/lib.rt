@@ -12,6 +12,8 @@ mod cuts;
 #[cfg(test)]
 mod datagrams;
 #[cfg(test)]
+mod errors;
+#[cfg(test)]
 mod events;
 #[cfg(test)]
 mod floods;

@@ -48,19 +48,32 @@ fn host_a(alloc: Global, wrong: &str) -> Option<Host> {
     spoil(alloc, &mut a, wrong).then_some(a)
 }
 
-/// What becomes of the two, in a word; `None` where there was no memory for the hosts.
-fn made(alloc: Global, wrong: &str) -> Option<&'static str> {
-    let a = host_a(alloc, wrong)?;
-    let b = host(alloc, 2, capabilities(Medium::Ip, 1_500), "udp 1 64")?;
-    match world_of(alloc, a, b) {
-        Ok(_) => Some("a world"),
-        Err(WorldError::Media) => Some("media"),
-        Err(WorldError::Checksums) => Some("checksums"),
-        Err(WorldError::Mtu) => Some("mtu"),
-        Err(WorldError::Buffers) => Some("buffers"),
-        Err(WorldError::NotFresh) => Some("not fresh"),
-        Err(WorldError::Memory) => None,
+fn host_b(alloc: Global) -> Option<Host> {
+    host(alloc, 2, capabilities(Medium::Ip, 1_500), "udp 1 64")
+}
+
+/// Why the two make no world, if they don't.
+fn refusal(alloc: Global, a: Host, b: Host) -> Option<WorldError> {
+    world_of(alloc, a, b).err()
+}
+
+/// What becomes of the two, in a word; `None` where there was no memory for the world.
+fn word_for(refusal: Option<WorldError>) -> Option<&'static str> {
+    match refusal {
+        None => Some("a world"),
+        Some(WorldError::Media) => Some("media"),
+        Some(WorldError::Checksums) => Some("checksums"),
+        Some(WorldError::Mtu) => Some("mtu"),
+        Some(WorldError::Buffers) => Some("buffers"),
+        Some(WorldError::NotFresh) => Some("not fresh"),
+        Some(WorldError::Memory) => None,
     }
+}
+
+/// The same of two hosts that are made so; `None` also where there was no memory for these.
+fn made(alloc: Global, wrong: &str) -> Option<&'static str> {
+    let (a, b) = host_a(alloc, wrong).zip(host_b(alloc))?;
+    word_for(refusal(alloc, a, b))
 }
 
 /// The same; made again where an allocation is refused.

@@ -159,10 +159,14 @@ fn second_stops(rt: &HostRuntime, world: &mut World) -> Result<bool, Fail> {
     Ok(matches!(end, Err((1, Refused::NoSocket))) && world.answers().len() == 1)
 }
 
+/// The same of a world of its own.
+fn second_stops_at(rt: &HostRuntime, mut world: Box<World>) -> Result<bool, Fail> {
+    second_stops(rt, &mut world)
+}
+
 /// The same of a world that is made for it.
 fn second_stops_anew(rt: &HostRuntime) -> Result<bool, Fail> {
-    let mut world = world(rt, DATAGRAMS)?;
-    second_stops(rt, &mut world)
+    second_stops_at(rt, world(rt, DATAGRAMS)?)
 }
 
 #[test]

@@ -62,13 +62,26 @@ fn first_wrong(
     hosts: &str,
     texts: &[&'static str],
 ) -> Result<Option<&'static str>, Fail> {
-    let mut run = Run {
-        world: world(rt, hosts)?,
+    first_wrong_at(rt, world(rt, hosts)?, texts)
+}
+
+/// The same at a world that has taken no event. Only here is a run owned, and the function has one end.
+fn first_wrong_at(
+    rt: &HostRuntime,
+    world: Box<World>,
+    texts: &[&'static str],
+) -> Result<Option<&'static str>, Fail> {
+    let mut run = begun(world);
+    first_wrong_of(rt, &mut run, texts)
+}
+
+fn begun(world: Box<World>) -> Run {
+    Run {
+        world,
         next_a: 0,
         next_b: 0,
         now: 0,
-    };
-    first_wrong_of(rt, &mut run, texts)
+    }
 }
 
 /// The same of a run that has begun.
@@ -90,7 +103,7 @@ fn first_wrong_of(
 /// A world, how many of each host's frames were delivered, and the last moment.
 #[derive(Drop)]
 struct Run {
-    world: World,
+    world: Box<World>,
     next_a: usize,
     next_b: usize,
     now: i64,

@@ -65,6 +65,14 @@ fn byte_of(high: u8, low: u8) -> u8 {
     nibble(high).wrapping_mul(16).wrapping_add(nibble(low))
 }
 
+/// Whether these are the two digits of the byte.
+fn is_byte(byte: u8, digits: &[u8]) -> bool {
+    match digits {
+        [high, low] => byte == byte_of(*high, *low),
+        _ => false,
+    }
+}
+
 /// A byte and how often it comes: `5a*7`.
 fn repeated(text: &str) -> Option<(u8, usize)> {
     let (byte, times) = cut(text, "*");
@@ -103,9 +111,7 @@ pub fn shown(bytes: &Bytes) -> &[u8] {
 pub fn begins(bytes: &[u8], hex: &str) -> bool {
     let mut same = hex.len() / 2 <= bytes.len();
     for (byte, pair) in bytes.iter().zip(hex.as_bytes().chunks_exact(2)) {
-        if let [high, low] = pair {
-            same = same && *byte == byte_of(*high, *low);
-        }
+        same = same && is_byte(*byte, pair);
     }
     same
 }
