@@ -115,18 +115,16 @@ fn stream<'a>(verb: StreamVerb, side: Side, place: usize, words: &mut Words<'a>)
     ensures found { IfSome result (IsStream verb side place words.old) }
     ensures only { (line : Line) → IsStream verb side place words.old line → result ≡ Some line }
 {
-    match verb {
-        StreamVerb::Listen => ended(Line::Listen(side, place, words.short()?), words),
-        StreamVerb::Connect => ended(
-            Line::Connect(side, place, words.endpoint()?, words.short()?),
-            words,
-        ),
-        StreamVerb::Send => ended(Line::Send(side, place, words.bytes()?), words),
-        StreamVerb::Recv => ended(Line::Recv(side, place, words.size()?), words),
-        StreamVerb::Close => ended(Line::Close(side, place), words),
-        StreamVerb::Abort => ended(Line::Abort(side, place), words),
-        StreamVerb::State => ended(Line::State(side, place), words),
-    }
+    let line = match verb {
+        StreamVerb::Listen => Line::Listen(side, place, words.short()?),
+        StreamVerb::Connect => Line::Connect(side, place, words.endpoint()?, words.short()?),
+        StreamVerb::Send => Line::Send(side, place, words.bytes()?),
+        StreamVerb::Recv => Line::Recv(side, place, words.size()?),
+        StreamVerb::Close => Line::Close(side, place),
+        StreamVerb::Abort => Line::Abort(side, place),
+        StreamVerb::State => Line::State(side, place),
+    };
+    ended(line, words)
 }
 
 // Behind `H S` of a call on another socket.
@@ -139,20 +137,15 @@ fn datagram<'a>(
     ensures found { IfSome result (IsDatagram verb side place words.old) }
     ensures only { (line : Line) → IsDatagram verb side place words.old line → result ≡ Some line }
 {
-    match verb {
-        DatagramVerb::Bind => ended(Line::Bind(side, place, words.short()?), words),
-        DatagramVerb::Ident => ended(Line::Ident(side, place, words.short()?), words),
-        DatagramVerb::SendTo => ended(
-            Line::SendTo(side, place, words.endpoint()?, words.bytes()?),
-            words,
-        ),
-        DatagramVerb::SendIcmp => ended(
-            Line::SendIcmp(side, place, words.address()?, words.bytes()?),
-            words,
-        ),
-        DatagramVerb::SendRaw => ended(Line::SendRaw(side, place, words.bytes()?), words),
-        DatagramVerb::RecvFrom => ended(Line::RecvFrom(side, place, words.size()?), words),
-    }
+    let line = match verb {
+        DatagramVerb::Bind => Line::Bind(side, place, words.short()?),
+        DatagramVerb::Ident => Line::Ident(side, place, words.short()?),
+        DatagramVerb::SendTo => Line::SendTo(side, place, words.endpoint()?, words.bytes()?),
+        DatagramVerb::SendIcmp => Line::SendIcmp(side, place, words.address()?, words.bytes()?),
+        DatagramVerb::SendRaw => Line::SendRaw(side, place, words.bytes()?),
+        DatagramVerb::RecvFrom => Line::RecvFrom(side, place, words.size()?),
+    };
+    ended(line, words)
 }
 
 // Behind `H` of a setting or a poll.
@@ -160,14 +153,15 @@ fn host<'a>(verb: HostVerb, side: Side, words: &mut Words<'a>) -> Option<Line<'a
     ensures found { IfSome result (IsHost verb side words.old) }
     ensures only { (line : Line) → IsHost verb side words.old line → result ≡ Some line }
 {
-    match verb {
-        HostVerb::Addrs => ended(Line::Addrs(side, words.blocks()?), words),
-        HostVerb::Hw => ended(Line::Hw(side, words.ethernet()?), words),
-        HostVerb::Route => ended(Line::Route(side, words.address()?), words),
-        HostVerb::Poll => ended(Line::Poll(side, words.moment()?, words.short()?), words),
-        HostVerb::PollAt => ended(Line::PollAt(side, words.moment()?), words),
-        HostVerb::Room => ended(Line::Room(side, words.size()?), words),
-    }
+    let line = match verb {
+        HostVerb::Addrs => Line::Addrs(side, words.blocks()?),
+        HostVerb::Hw => Line::Hw(side, words.ethernet()?),
+        HostVerb::Route => Line::Route(side, words.address()?),
+        HostVerb::Poll => Line::Poll(side, words.moment()?, words.short()?),
+        HostVerb::PollAt => Line::PollAt(side, words.moment()?),
+        HostVerb::Room => Line::Room(side, words.size()?),
+    };
+    ended(line, words)
 }
 
 // Behind `H` of an act of the link.
@@ -175,21 +169,19 @@ fn link<'a>(verb: LinkVerb, side: Side, words: &mut Words<'a>) -> Option<Line<'a
     ensures found { IfSome result (IsLink verb side words.old) }
     ensures only { (line : Line) → IsLink verb side words.old line → result ≡ Some line }
 {
-    match verb {
-        LinkVerb::Deliver => ended(Line::Deliver(side, words.size()?, words.bytes()?), words),
-        LinkVerb::Damage => ended(
-            Line::Damage(
-                side,
-                words.size()?,
-                words.size()?,
-                words.four_digits()?,
-                words.bytes()?,
-            ),
-            words,
+    let line = match verb {
+        LinkVerb::Deliver => Line::Deliver(side, words.size()?, words.bytes()?),
+        LinkVerb::Damage => Line::Damage(
+            side,
+            words.size()?,
+            words.size()?,
+            words.four_digits()?,
+            words.bytes()?,
         ),
-        LinkVerb::Noise => ended(Line::Noise(side, words.bytes()?), words),
-        LinkVerb::Cut => ended(Line::Cut(side, words.size()?, words.size()?), words),
-    }
+        LinkVerb::Noise => Line::Noise(side, words.bytes()?),
+        LinkVerb::Cut => Line::Cut(side, words.size()?, words.size()?),
+    };
+    ended(line, words)
 }
 
 // What stands behind a socket's kind.
