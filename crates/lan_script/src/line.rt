@@ -1,7 +1,9 @@
 //! The lines of a script.
-ghost use Rattle.std.specs.Prelude.{◌≡◌, ℕ, List, Some, IfSome};
+ghost use Rattle.std.specs.Prelude.{◌≡◌, ℕ, List, Some, IfSome, OnSome, drop};
 ghost use Rattle.lan_script.specs.Words.{Ends};
 ghost use Rattle.lan_script.specs.Lines.{IsLine, IsSocket, IsStream, IsDatagram, IsHost, IsLink, SaysWords, SaysLine};
+ghost use Rattle.lan_script.specs.Queues.{AreQueueSizes};
+ghost use Rattle.lan_script.specs.declared.kinds.QueueSizes.{QueueSizes};
 ghost use Rattle.lan_script.specs.declared.line.Line.{Line};
 
 use crate::blocks::Blocks;
@@ -189,35 +191,48 @@ fn socket<'a>(side: Side, kind: SocketKind, words: &mut Words<'a>) -> Option<Lin
     ensures found { IfSome result (IsSocket side kind words.old) }
     ensures only { (line : Line) → IsSocket side kind words.old line → result ≡ Some line }
 {
-    let spec = match kind {
-        SocketKind::Udp => SocketSpec::Udp(QueueSizes {
-            receive_packets: words.size()?,
-            receive_bytes: words.size()?,
-            send_packets: words.size()?,
-            send_bytes: words.size()?,
-        }),
-        SocketKind::Icmp => SocketSpec::Icmp(QueueSizes {
-            receive_packets: words.size()?,
-            receive_bytes: words.size()?,
-            send_packets: words.size()?,
-            send_bytes: words.size()?,
-        }),
-        SocketKind::Raw => SocketSpec::Raw(
-            words.version()?,
-            words.protocol()?,
-            QueueSizes {
-                receive_packets: words.size()?,
-                receive_bytes: words.size()?,
-                send_packets: words.size()?,
-                send_bytes: words.size()?,
-            },
-        ),
-        SocketKind::Tcp => SocketSpec::Tcp(StreamSizes {
-            receive_bytes: words.size()?,
-            send_bytes: words.size()?,
-        }),
-    };
-    ended(Line::Socket(side, spec), words)
+    match kind {
+        SocketKind::Udp => {
+            let queues = queue_sizes(words)?;
+            ended(Line::Socket(side, SocketSpec::Udp(queues)), words)
+        }
+        SocketKind::Icmp => {
+            let queues = queue_sizes(words)?;
+            ended(Line::Socket(side, SocketSpec::Icmp(queues)), words)
+        }
+        SocketKind::Raw => {
+            let version = words.version()?;
+            let protocol = words.protocol()?;
+            let queues = queue_sizes(words)?;
+            ended(
+                Line::Socket(side, SocketSpec::Raw(version, protocol, queues)),
+                words,
+            )
+        }
+        SocketKind::Tcp => {
+            let receive_bytes = words.size()?;
+            let send_bytes = words.size()?;
+            let buffers = StreamSizes {
+                receive_bytes,
+                send_bytes,
+            };
+            ended(Line::Socket(side, SocketSpec::Tcp(buffers)), words)
+        }
+    }
+}
+
+// `RP RB TP TB`.
+fn queue_sizes(words: &mut Words<'_>) -> Option<QueueSizes>
+    ensures found { IfSome result (AreQueueSizes words.old) }
+    ensures only { (x : QueueSizes) → AreQueueSizes words.old x → result ≡ Some x }
+    ensures rest { OnSome result (words.new ≡ drop 1 (drop 1 (drop 1 (drop 1 words.old)))) }
+{
+    Some(QueueSizes {
+        receive_packets: words.size()?,
+        receive_bytes: words.size()?,
+        send_packets: words.size()?,
+        send_bytes: words.size()?,
+    })
 }
 
 // What was said, where no word is left.
