@@ -9,3 +9,4 @@ pub mod Graphic
 pub mod JoinedLemmas
 pub mod PrintedLemmas
 pub mod Moments
+pub mod QueueLemmas

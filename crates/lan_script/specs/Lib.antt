@@ -2,3 +2,4 @@ pub mod Words
 pub mod Verbs
 pub mod Lines
 pub mod Text
+pub mod Queues

@@ -1,7 +1,9 @@
 //! The lines of a script.
-ghost use Rattle.std.specs.Prelude.{◌≡◌, ℕ, List, Some, IfSome};
+ghost use Rattle.std.specs.Prelude.{◌≡◌, ℕ, List, Some, IfSome, OnSome, drop};
 ghost use Rattle.lan_script.specs.Words.{Ends};
 ghost use Rattle.lan_script.specs.Lines.{IsLine, IsSocket, IsStream, IsDatagram, IsHost, IsLink, SaysWords, SaysLine};
+ghost use Rattle.lan_script.specs.Queues.{AreQueueSizes};
+ghost use Rattle.lan_script.specs.declared.kinds.QueueSizes.{QueueSizes};
 ghost use Rattle.lan_script.specs.declared.line.Line.{Line};
 
 use crate::blocks::Blocks;
@@ -115,18 +117,16 @@ fn stream<'a>(verb: StreamVerb, side: Side, place: usize, words: &mut Words<'a>)
     ensures found { IfSome result (IsStream verb side place words.old) }
     ensures only { (line : Line) → IsStream verb side place words.old line → result ≡ Some line }
 {
-    match verb {
-        StreamVerb::Listen => ended(Line::Listen(side, place, words.short()?), words),
-        StreamVerb::Connect => ended(
-            Line::Connect(side, place, words.endpoint()?, words.short()?),
-            words,
-        ),
-        StreamVerb::Send => ended(Line::Send(side, place, words.bytes()?), words),
-        StreamVerb::Recv => ended(Line::Recv(side, place, words.size()?), words),
-        StreamVerb::Close => ended(Line::Close(side, place), words),
-        StreamVerb::Abort => ended(Line::Abort(side, place), words),
-        StreamVerb::State => ended(Line::State(side, place), words),
-    }
+    let line = match verb {
+        StreamVerb::Listen => Line::Listen(side, place, words.short()?),
+        StreamVerb::Connect => Line::Connect(side, place, words.endpoint()?, words.short()?),
+        StreamVerb::Send => Line::Send(side, place, words.bytes()?),
+        StreamVerb::Recv => Line::Recv(side, place, words.size()?),
+        StreamVerb::Close => Line::Close(side, place),
+        StreamVerb::Abort => Line::Abort(side, place),
+        StreamVerb::State => Line::State(side, place),
+    };
+    ended(line, words)
 }
 
 // Behind `H S` of a call on another socket.
@@ -139,20 +139,15 @@ fn datagram<'a>(
     ensures found { IfSome result (IsDatagram verb side place words.old) }
     ensures only { (line : Line) → IsDatagram verb side place words.old line → result ≡ Some line }
 {
-    match verb {
-        DatagramVerb::Bind => ended(Line::Bind(side, place, words.short()?), words),
-        DatagramVerb::Ident => ended(Line::Ident(side, place, words.short()?), words),
-        DatagramVerb::SendTo => ended(
-            Line::SendTo(side, place, words.endpoint()?, words.bytes()?),
-            words,
-        ),
-        DatagramVerb::SendIcmp => ended(
-            Line::SendIcmp(side, place, words.address()?, words.bytes()?),
-            words,
-        ),
-        DatagramVerb::SendRaw => ended(Line::SendRaw(side, place, words.bytes()?), words),
-        DatagramVerb::RecvFrom => ended(Line::RecvFrom(side, place, words.size()?), words),
-    }
+    let line = match verb {
+        DatagramVerb::Bind => Line::Bind(side, place, words.short()?),
+        DatagramVerb::Ident => Line::Ident(side, place, words.short()?),
+        DatagramVerb::SendTo => Line::SendTo(side, place, words.endpoint()?, words.bytes()?),
+        DatagramVerb::SendIcmp => Line::SendIcmp(side, place, words.address()?, words.bytes()?),
+        DatagramVerb::SendRaw => Line::SendRaw(side, place, words.bytes()?),
+        DatagramVerb::RecvFrom => Line::RecvFrom(side, place, words.size()?),
+    };
+    ended(line, words)
 }
 
 // Behind `H` of a setting or a poll.
@@ -160,14 +155,15 @@ fn host<'a>(verb: HostVerb, side: Side, words: &mut Words<'a>) -> Option<Line<'a
     ensures found { IfSome result (IsHost verb side words.old) }
     ensures only { (line : Line) → IsHost verb side words.old line → result ≡ Some line }
 {
-    match verb {
-        HostVerb::Addrs => ended(Line::Addrs(side, words.blocks()?), words),
-        HostVerb::Hw => ended(Line::Hw(side, words.ethernet()?), words),
-        HostVerb::Route => ended(Line::Route(side, words.address()?), words),
-        HostVerb::Poll => ended(Line::Poll(side, words.moment()?, words.short()?), words),
-        HostVerb::PollAt => ended(Line::PollAt(side, words.moment()?), words),
-        HostVerb::Room => ended(Line::Room(side, words.size()?), words),
-    }
+    let line = match verb {
+        HostVerb::Addrs => Line::Addrs(side, words.blocks()?),
+        HostVerb::Hw => Line::Hw(side, words.ethernet()?),
+        HostVerb::Route => Line::Route(side, words.address()?),
+        HostVerb::Poll => Line::Poll(side, words.moment()?, words.short()?),
+        HostVerb::PollAt => Line::PollAt(side, words.moment()?),
+        HostVerb::Room => Line::Room(side, words.size()?),
+    };
+    ended(line, words)
 }
 
 // Behind `H` of an act of the link.
@@ -175,21 +171,19 @@ fn link<'a>(verb: LinkVerb, side: Side, words: &mut Words<'a>) -> Option<Line<'a
     ensures found { IfSome result (IsLink verb side words.old) }
     ensures only { (line : Line) → IsLink verb side words.old line → result ≡ Some line }
 {
-    match verb {
-        LinkVerb::Deliver => ended(Line::Deliver(side, words.size()?, words.bytes()?), words),
-        LinkVerb::Damage => ended(
-            Line::Damage(
-                side,
-                words.size()?,
-                words.size()?,
-                words.four_digits()?,
-                words.bytes()?,
-            ),
-            words,
+    let line = match verb {
+        LinkVerb::Deliver => Line::Deliver(side, words.size()?, words.bytes()?),
+        LinkVerb::Damage => Line::Damage(
+            side,
+            words.size()?,
+            words.size()?,
+            words.four_digits()?,
+            words.bytes()?,
         ),
-        LinkVerb::Noise => ended(Line::Noise(side, words.bytes()?), words),
-        LinkVerb::Cut => ended(Line::Cut(side, words.size()?, words.size()?), words),
-    }
+        LinkVerb::Noise => Line::Noise(side, words.bytes()?),
+        LinkVerb::Cut => Line::Cut(side, words.size()?, words.size()?),
+    };
+    ended(line, words)
 }
 
 // What stands behind a socket's kind.
@@ -197,35 +191,48 @@ fn socket<'a>(side: Side, kind: SocketKind, words: &mut Words<'a>) -> Option<Lin
     ensures found { IfSome result (IsSocket side kind words.old) }
     ensures only { (line : Line) → IsSocket side kind words.old line → result ≡ Some line }
 {
-    let spec = match kind {
-        SocketKind::Udp => SocketSpec::Udp(QueueSizes {
-            receive_packets: words.size()?,
-            receive_bytes: words.size()?,
-            send_packets: words.size()?,
-            send_bytes: words.size()?,
-        }),
-        SocketKind::Icmp => SocketSpec::Icmp(QueueSizes {
-            receive_packets: words.size()?,
-            receive_bytes: words.size()?,
-            send_packets: words.size()?,
-            send_bytes: words.size()?,
-        }),
-        SocketKind::Raw => SocketSpec::Raw(
-            words.version()?,
-            words.protocol()?,
-            QueueSizes {
-                receive_packets: words.size()?,
-                receive_bytes: words.size()?,
-                send_packets: words.size()?,
-                send_bytes: words.size()?,
-            },
-        ),
-        SocketKind::Tcp => SocketSpec::Tcp(StreamSizes {
-            receive_bytes: words.size()?,
-            send_bytes: words.size()?,
-        }),
-    };
-    ended(Line::Socket(side, spec), words)
+    match kind {
+        SocketKind::Udp => {
+            let queues = queue_sizes(words)?;
+            ended(Line::Socket(side, SocketSpec::Udp(queues)), words)
+        }
+        SocketKind::Icmp => {
+            let queues = queue_sizes(words)?;
+            ended(Line::Socket(side, SocketSpec::Icmp(queues)), words)
+        }
+        SocketKind::Raw => {
+            let version = words.version()?;
+            let protocol = words.protocol()?;
+            let queues = queue_sizes(words)?;
+            ended(
+                Line::Socket(side, SocketSpec::Raw(version, protocol, queues)),
+                words,
+            )
+        }
+        SocketKind::Tcp => {
+            let receive_bytes = words.size()?;
+            let send_bytes = words.size()?;
+            let buffers = StreamSizes {
+                receive_bytes,
+                send_bytes,
+            };
+            ended(Line::Socket(side, SocketSpec::Tcp(buffers)), words)
+        }
+    }
+}
+
+// `RP RB TP TB`.
+fn queue_sizes(words: &mut Words<'_>) -> Option<QueueSizes>
+    ensures found { IfSome result (AreQueueSizes words.old) }
+    ensures only { (x : QueueSizes) → AreQueueSizes words.old x → result ≡ Some x }
+    ensures rest { OnSome result (words.new ≡ drop 1 (drop 1 (drop 1 (drop 1 words.old)))) }
+{
+    Some(QueueSizes {
+        receive_packets: words.size()?,
+        receive_bytes: words.size()?,
+        send_packets: words.size()?,
+        send_bytes: words.size()?,
+    })
 }
 
 // What was said, where no word is left.

@@ -1,16 +1,17 @@
 //! The texts of lines.
-ghost use Rattle.std.specs.Prelude.{◌≡◌, ℕ, List, ◌∷◌, ◌++◌, map, IfOk, OnOk};
+ghost use Rattle.std.specs.Prelude.{◌≡◌, ℕ, List, [], ◌∷◌, ◌++◌, map, IfOk, OnOk};
 ghost use Rattle.std.specs.List.{join_with_byte};
+ghost use Rattle.std.specs.Fmt.{decimal};
 ghost use Rattle.std.specs.String.{string_bytes};
 ghost use Rattle.ip_wire.specs.Text.{block_text};
 ghost use Rattle.lan_script.specs.Text.{side_text, medium_text, version_text, endpoint_word, hex_word, four_digits, protocol_text, queue_words, line_text};
-ghost use Rattle.lan_script.specs.declared.line.Line.TheVariants.{Socket, Connect, Send, SendTo, SendIcmp, SendRaw, Addrs, Poll, Deliver, Damage};
+ghost use Rattle.lan_script.specs.declared.line.Line.TheVariants.{World, Socket, Connect, Send, SendTo, SendIcmp, SendRaw, Addrs, Hw, Route, Poll, PollAt, Deliver, Damage, Noise};
 
 use crate::blocks::Blocks;
 use crate::hex_bytes::HexBytes;
 use crate::kinds::{QueueSizes, Side, SocketSpec};
 use crate::line::Line;
-use ip_wire::{IpAddress, IpEndpoint, IpVersion};
+use ip_wire::{EthernetAddress, IpAddress, IpEndpoint, IpVersion};
 use net_base::{Instant, Medium};
 use std::alloc::{AllocError, Global};
 
@@ -20,34 +21,54 @@ impl<'a> Line<'a> {
         ensures { IfOk result (λ text. string_bytes text ≡ line_text self.now) }
     {
         match self {
-            Line::World(medium, mtu) => format!(in alloc; "world {} {mtu}", medium_name(*medium)),
+            Line::World(medium, mtu) => world(alloc, *medium, *mtu),
             Line::Socket(h, spec) => socket(alloc, *h, *spec),
             Line::Start => String::from_str(alloc, "start"),
-            Line::Listen(h, s, port) => format!(in alloc; "listen {} {s} {port}", name(*h)),
+            Line::Listen(h, s, port) => two_numbers(alloc, "listen", *h, *s, usize::from(*port)),
             Line::Connect(h, s, remote, port) => connect(alloc, *h, *s, *remote, *port),
             Line::Send(h, s, bytes) => send(alloc, *h, *s, bytes),
-            Line::Recv(h, s, n) => format!(in alloc; "recv {} {s} {n}", name(*h)),
-            Line::Close(h, s) => format!(in alloc; "close {} {s}", name(*h)),
-            Line::Abort(h, s) => format!(in alloc; "abort {} {s}", name(*h)),
-            Line::State(h, s) => format!(in alloc; "state {} {s}", name(*h)),
-            Line::Bind(h, s, port) => format!(in alloc; "bind {} {s} {port}", name(*h)),
-            Line::Ident(h, s, n) => format!(in alloc; "ident {} {s} {n}", name(*h)),
+            Line::Recv(h, s, n) => two_numbers(alloc, "recv", *h, *s, *n),
+            Line::Close(h, s) => one_number(alloc, "close", *h, *s),
+            Line::Abort(h, s) => one_number(alloc, "abort", *h, *s),
+            Line::State(h, s) => one_number(alloc, "state", *h, *s),
+            Line::Bind(h, s, port) => two_numbers(alloc, "bind", *h, *s, usize::from(*port)),
+            Line::Ident(h, s, n) => two_numbers(alloc, "ident", *h, *s, usize::from(*n)),
             Line::SendTo(h, s, remote, bytes) => send_to(alloc, *h, *s, *remote, bytes),
             Line::SendIcmp(h, s, to, bytes) => send_icmp(alloc, *h, *s, *to, bytes),
             Line::SendRaw(h, s, bytes) => send_raw(alloc, *h, *s, bytes),
-            Line::RecvFrom(h, s, n) => format!(in alloc; "recvfrom {} {s} {n}", name(*h)),
+            Line::RecvFrom(h, s, n) => two_numbers(alloc, "recvfrom", *h, *s, *n),
             Line::Addrs(h, blocks) => addrs(alloc, *h, blocks),
-            Line::Hw(h, address) => format!(in alloc; "hw {} {address}", name(*h)),
-            Line::Route(h, router) => format!(in alloc; "route {} {router}", name(*h)),
+            Line::Hw(h, address) => hw(alloc, *h, *address),
+            Line::Route(h, router) => route(alloc, *h, *router),
             Line::Poll(h, t, budget) => poll(alloc, *h, *t, *budget),
-            Line::PollAt(h, t) => format!(in alloc; "pollat {} {}", name(*h), t.total_micros()),
+            Line::PollAt(h, t) => poll_at(alloc, *h, *t),
             Line::Deliver(h, k, bytes) => deliver(alloc, *h, *k, bytes),
             Line::Damage(h, k, place, word, bytes) => damage(alloc, *h, *k, *place, *word, bytes),
-            Line::Noise(h, bytes) => format!(in alloc; "noise {} {}", name(*h), hex(alloc, bytes)?),
-            Line::Room(h, n) => format!(in alloc; "room {} {n}", name(*h)),
-            Line::Cut(h, k, place) => format!(in alloc; "cut {} {k} {place}", name(*h)),
+            Line::Noise(h, bytes) => noise(alloc, *h, bytes),
+            Line::Room(h, n) => one_number(alloc, "room", *h, *n),
+            Line::Cut(h, k, place) => two_numbers(alloc, "cut", *h, *k, *place),
         }
     }
+}
+
+// A verb, a host and a number.
+fn one_number(alloc: Global, verb: &str, h: Side, n: usize) -> Result<String, AllocError>
+    ensures { IfOk result (λ text. string_bytes text ≡ join_with_byte 32 (verb.now ∷ side_text h ∷ decimal n ∷ [])) }
+{
+    format!(in alloc; "{verb} {} {n}", name(h))
+}
+
+// A verb, a host and two numbers.
+fn two_numbers(
+    alloc: Global,
+    verb: &str,
+    h: Side,
+    first: usize,
+    second: usize,
+) -> Result<String, AllocError>
+    ensures { IfOk result (λ text. string_bytes text ≡ join_with_byte 32 (verb.now ∷ side_text h ∷ decimal first ∷ decimal second ∷ [])) }
+{
+    format!(in alloc; "{verb} {} {first} {second}", name(h))
 }
 
 fn name(side: Side) -> &'static str
@@ -164,6 +185,24 @@ fn socket(alloc: Global, side: Side, spec: SocketSpec) -> Result<String, AllocEr
     }
 }
 
+fn world(alloc: Global, medium: Medium, mtu: usize) -> Result<String, AllocError>
+    ensures { IfOk result (λ text. string_bytes text ≡ line_text (World medium mtu)) }
+{
+    format!(in alloc; "world {} {mtu}", medium_name(medium))
+}
+
+fn hw(alloc: Global, h: Side, address: EthernetAddress) -> Result<String, AllocError>
+    ensures { IfOk result (λ text. string_bytes text ≡ line_text (Hw h address)) }
+{
+    format!(in alloc; "hw {} {address}", name(h))
+}
+
+fn route(alloc: Global, h: Side, router: IpAddress) -> Result<String, AllocError>
+    ensures { IfOk result (λ text. string_bytes text ≡ line_text (Route h router)) }
+{
+    format!(in alloc; "route {} {router}", name(h))
+}
+
 fn addrs(alloc: Global, side: Side, blocks: &Blocks) -> Result<String, AllocError>
     ensures { IfOk result (λ text. string_bytes text ≡ line_text (Addrs side blocks.now)) }
 {
@@ -231,6 +270,12 @@ fn poll(alloc: Global, h: Side, t: Instant, budget: u16) -> Result<String, Alloc
     format!(in alloc; "poll {} {} {budget}", name(h), t.total_micros())
 }
 
+fn poll_at(alloc: Global, h: Side, t: Instant) -> Result<String, AllocError>
+    ensures { IfOk result (λ text. string_bytes text ≡ line_text (PollAt h t)) }
+{
+    format!(in alloc; "pollat {} {}", name(h), t.total_micros())
+}
+
 fn deliver(alloc: Global, h: Side, k: usize, bytes: &HexBytes<'_>) -> Result<String, AllocError>
     ensures { IfOk result (λ text. string_bytes text ≡ line_text (Deliver h k bytes.now)) }
 {
@@ -253,4 +298,10 @@ fn damage(
         name(h),
         hex(alloc, bytes)?
     )
+}
+
+fn noise(alloc: Global, h: Side, bytes: &HexBytes<'_>) -> Result<String, AllocError>
+    ensures { IfOk result (λ text. string_bytes text ≡ line_text (Noise h bytes.now)) }
+{
+    format!(in alloc; "noise {} {}", name(h), hex(alloc, bytes)?)
 }
