@@ -165,9 +165,9 @@ pub struct Host {
 }
 
 impl Host {
-    /// The planned host, at moment 0.
-    pub fn new(alloc: Global, plan: &Plan) -> Result<Host, Fail> {
-        let mut host = Host::bare(alloc, plan)?;
+    /// The planned host, at moment 0; on the heap, where lending it is cheap to prove.
+    pub fn new(alloc: Global, plan: &Plan) -> Result<Box<Host>, Fail> {
+        let mut host = Box::new(alloc, Host::bare(alloc, plan)?)?;
         if let Some(socket) = planned_socket(alloc, plan)? {
             host.handle = host.add(socket);
         }

@@ -14,7 +14,7 @@ const MINUTE: u32 = 60_000_000;
 /// One side of the transfer: a host, and how far its application has come.
 #[derive(Drop)]
 struct Side {
-    host: Host,
+    host: Box<Host>,
     text: Vec<u8>,
     written: usize,
     read: usize,
@@ -171,15 +171,16 @@ struct Transfer {
     micros: u32,
 }
 
-fn make_transfer(alloc: Global) -> Result<Transfer, Fail> {
+fn make_transfer(alloc: Global) -> Result<Box<Transfer>, Fail> {
     let client = make_side(alloc, 1)?;
     let server = make_side(alloc, 2)?;
-    Ok(Transfer {
+    let transfer = Transfer {
         client,
         server,
         words: Rand::new(9),
         micros: 0,
-    })
+    };
+    Ok(Box::new(alloc, transfer)?)
 }
 
 impl Transfer {
