@@ -17,7 +17,7 @@ ghost use Rattle.datagram_sockets.specs.declared.error.RecvError.TheVariants as 
 
 pub use crate::error::{BindError, RecvError, SendError};
 use crate::header::{DEFAULT_HOP_LIMIT, header_between};
-use crate::queues::{Queues, drop_first};
+use crate::queues::Queues;
 use ip_wire::{
     IpAddress, IpEndpoint, IpListenEndpoint, IpProtocol, IpRepr, UDP_HEADER_LEN, UdpRepr,
 };
@@ -424,7 +424,7 @@ impl Socket {
         };
         let found = header_to_send(cx, &self.endpoint, self.hop_limit, metadata, bytes);
         let Some(header) = found else {
-            drop_first(&mut self.queues.queued);
+            self.queues.queued.drop_first();
             return Offer::Silent { changed: true };
         };
         self.offered = Some(header);
