@@ -243,7 +243,8 @@ impl<H> PacketBuffer<H> {
         Ok(size)
     }
 
-    /// Queues a packet with this header and these bytes.
+    /// Queues a packet with this header and these bytes. Inlined, it lets the caller make the header where it is to lie.
+    #[inline(always)]
     pub fn enqueue_slice(&mut self, header: H, data: &[u8]) -> Result<(), Full>
     where
         H: Drop,
