@@ -507,10 +507,6 @@ module _ {H : Type 0} where
       ∙ ap (λ ps. packets_in ps (start_of (packets_seen metadata payload)) (capacity metadata) (capacity payload)) packets
       ∙ ap (λ n. packets_in (packets_of 0 metadata.queue payload.queue ++ packet n header ws ∷ []) (start_of (packets_seen metadata payload)) (capacity metadata) (capacity payload)) is
 
-  -- the first entry alone says what padding comes first
-  pub padding_first-is : (ms : List (PacketMetadata H)) (m : PacketMetadata H) → slice_get ms 0 ≡ Some m → padding_first ms ≡ padding_first (m ∷ [])
-  padding_first-is ms m e = ap padding_first (split_first ms m e)
-
   -- the header of the first entry
   pub header_first : (ms : List (PacketMetadata H)) (m : PacketMetadata H) → BeginsWithPacket ms → slice_get ms 0 ≡ Some m → IsSome m.header
   header_first ms m h e = subst (λ xs. BeginsWithPacket xs) (split_first ms m e) h
