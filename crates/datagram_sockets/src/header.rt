@@ -1,4 +1,4 @@
-ghost use Rattle.std.specs.Prelude.{◌≡◌};
+ghost use Rattle.std.specs.Prelude.{◌≡◌, None};
 ghost use Rattle.datagram_sockets.specs.Header.{header_between};
 
 use ip_wire::{IPV4_HEADER_LEN, IpAddress, IpProtocol, IpRepr, Ipv4Repr, Ipv6Repr};
@@ -8,6 +8,15 @@ pub const DEFAULT_HOP_LIMIT: u8 = 64;
 
 /// The greatest number that a length field of two bytes holds.
 pub const LAST_LENGTH: usize = 65_535;
+
+/// Forgets the header that is offered. Mostly there is none, and then nothing is written.
+pub fn forget_offer(offered: &mut Option<IpRepr>)
+    ensures { offered.new ≡ None }
+{
+    if offered.is_some() {
+        *offered = None;
+    }
+}
 
 /// The header of a packet between these addresses. There is none where they are of two families, or where
 /// the header's length field can't hold the packet's length.

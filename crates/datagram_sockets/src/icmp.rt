@@ -22,7 +22,7 @@ ghost use Rattle.datagram_sockets.specs.declared.error.RecvError.TheVariants as 
 
 pub use crate::error::{BindError, RecvError, SendError};
 use crate::header::{DEFAULT_HOP_LIMIT, LAST_LENGTH, header_between};
-use crate::queues::{Queues, drop_first};
+use crate::queues::Queues;
 use control_wire::{
     Icmpv4Header, Icmpv4Packet, Icmpv4PacketMut, Icmpv4Repr, Icmpv6Header, Icmpv6Packet,
     Icmpv6PacketMut, Icmpv6Repr,
@@ -581,7 +581,7 @@ impl Socket {
             return Offer::Silent { changed: false };
         };
         let Some(kept) = kept_for(cx, remote, bytes, hop_limit) else {
-            drop_first(&mut self.queues.queued);
+            self.queues.queued.drop_first();
             return Offer::Silent { changed: true };
         };
         self.offered = Some(kept);

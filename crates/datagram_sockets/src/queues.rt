@@ -99,7 +99,7 @@ impl<H: Drop> Queues<H> {
         ensures queued { self.new.queued ≡ left_by sent self.old.queued }
     {
         if sent {
-            drop_first(&mut self.queued);
+            self.queued.drop_first();
         }
     }
 
@@ -107,28 +107,23 @@ impl<H: Drop> Queues<H> {
     /// slice is as it was.
     #[tactic(auto, using(crate::proofs::PacketQueues::queues))]
     pub fn recv_slice(&mut self, data: &mut [u8]) -> Result<(usize, H), RecvError>
+    where
+        H: Copy,
         ensures answer { result ≡ read_answer self.old.received (length «data».old) }
         ensures received { self.new.received ≡ without_first self.old.received }
         ensures queued { self.new.queued ≡ self.old.queued }
         ensures read { «data».new ≡ read_written self.old.received «data».old }
     {
-        let Ok((_, bytes)) = self.received.peek() else {
+        let Ok((header, bytes)) = self.received.peek() else {
             return Err(RecvError::Exhausted);
         };
         if data.len() < bytes.len() {
-            drop_first(&mut self.received);
+            self.received.drop_first();
             return Err(RecvError::Truncated);
         }
-        match self.received.dequeue_slice(data) {
-            Ok((header, size)) => Ok((size, header)),
-            Err(_) => Err(RecvError::Exhausted),
-        }
+        data[..bytes.len()].copy_from_slice(bytes);
+        let answer = (bytes.len(), *header);
+        self.received.drop_first();
+        Ok(answer)
     }
-}
-
-/// Gives up the first datagram of the queue, if there is one.
-pub fn drop_first<H: Drop>(queue: &mut PacketBuffer<H>)
-    ensures { queue.new ≡ without_first queue.old }
-{
-    let _ = queue.discard_first();
 }

@@ -19,7 +19,7 @@ ghost use Rattle.datagram_sockets.specs.declared.error.RecvError.TheVariants as 
 
 pub use crate::error::RecvError;
 use crate::header::LAST_LENGTH;
-use crate::queues::{Queues, drop_first};
+use crate::queues::Queues;
 use ip_wire::{IPV4_HEADER_LEN, IpProtocol, IpRepr, IpVersion, Ipv4Packet, Ipv6Packet};
 use net_base::{ChecksumCapabilities, Full};
 use socket_base::addresses::is_unspecified;
@@ -386,7 +386,7 @@ impl Socket {
             return Offer::Silent { changed: false };
         };
         let Some(header) = header_to_send(self.ip_version, self.ip_protocol, bytes) else {
-            drop_first(&mut self.queues.queued);
+            self.queues.queued.drop_first();
             return Offer::Silent { changed: true };
         };
         self.offered = Some(header);

@@ -16,8 +16,8 @@ ghost use Rattle.datagram_sockets.specs.declared.error.SendError.TheVariants as 
 ghost use Rattle.datagram_sockets.specs.declared.error.RecvError.TheVariants as Recv;
 
 pub use crate::error::{BindError, RecvError, SendError};
-use crate::header::{DEFAULT_HOP_LIMIT, header_between};
-use crate::queues::{Queues, drop_first};
+use crate::header::{DEFAULT_HOP_LIMIT, forget_offer, header_between};
+use crate::queues::Queues;
 use ip_wire::{
     IpAddress, IpEndpoint, IpListenEndpoint, IpProtocol, IpRepr, UDP_HEADER_LEN, UdpRepr,
 };
@@ -277,7 +277,7 @@ impl Socket {
         ensures answer { result ≡ send_answer self.old meta (length «data».now) }
         ensures state { self.new ≡ send_after self.old meta «data».now }
     {
-        self.offered = None;
+        forget_offer(&mut self.offered);
         self.check_send(&meta)?;
         self.queues.queued.enqueue_slice(meta, data)?;
         Ok(())
@@ -336,7 +336,7 @@ impl Socket {
         ensures state { self.new ≡ recv_after self.old }
         ensures read { «data».new ≡ recv_written self.old «data».old }
     {
-        self.offered = None;
+        forget_offer(&mut self.offered);
         self.queues.recv_slice(data)
     }
 
@@ -393,7 +393,7 @@ impl Socket {
     pub fn process(&mut self, meta: PacketMeta, ip_repr: &IpRepr, repr: &UdpRepr, payload: &[u8])
         ensures { self.new ≡ process_after self.old ip_repr.now repr.now payload.now }
     {
-        self.offered = None;
+        forget_offer(&mut self.offered);
         let metadata = UdpMetadata {
             endpoint: IpEndpoint {
                 addr: ip_repr.src_addr(),
@@ -418,13 +418,13 @@ impl Socket {
     pub fn offer<C: Context>(&mut self, cx: &C) -> Offer
         ensures { Offers (C.context cx.now) self.old result self.new }
     {
-        self.offered = None;
+        forget_offer(&mut self.offered);
         let Ok((metadata, bytes)) = self.queues.queued.peek() else {
             return Offer::Silent { changed: false };
         };
         let found = header_to_send(cx, &self.endpoint, self.hop_limit, metadata, bytes);
         let Some(header) = found else {
-            drop_first(&mut self.queues.queued);
+            self.queues.queued.drop_first();
             return Offer::Silent { changed: true };
         };
         self.offered = Some(header);

@@ -10,14 +10,17 @@ pub fn put4(bytes: &mut [u8], at: usize, from: &[u8; 4])
     bytes[at..at + 4].copy_from_slice(from);
 }
 
-/// Writes a header of 20 bytes at the front.
-pub fn put_header(bytes: &mut [u8], from: &[u8; 20])
+/// Writes a header of 20 bytes at the front. It is assigned, since a copy of bytes tests whether the
+/// places overlap.
+pub fn put_header(bytes: &mut [u8], header: [u8; 20])
     requires { 20 ≤ length bytes.old }
-    ensures front { bytes.new ≡ from.now ++ drop 20 bytes.old }
-    ensures exact { length bytes.old ≡ 20 → bytes.new ≡ from.now }
+    ensures front { bytes.new ≡ header ++ drop 20 bytes.old }
+    ensures exact { length bytes.old ≡ 20 → bytes.new ≡ header }
 {
-    let (front, _rest) = bytes.split_at_mut(20);
-    front.copy_from_slice(from);
+    let Some(front) = bytes.first_chunk_mut() else {
+        unreachable!()
+    };
+    *front = header;
 }
 
 /// Writes 16 bytes at `at`.

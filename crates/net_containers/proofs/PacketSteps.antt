@@ -507,18 +507,19 @@ module _ {H : Type 0} where
       ∙ ap (λ ps. packets_in ps (start_of (packets_seen metadata payload)) (capacity metadata) (capacity payload)) packets
       ∙ ap (λ n. packets_in (packets_of 0 metadata.queue payload.queue ++ packet n header ws ∷ []) (start_of (packets_seen metadata payload)) (capacity metadata) (capacity payload)) is
 
-  padding_first-of_one : (ms : List (PacketMetadata H)) (n : ℕ) → (0 < length ms → n ≡ 1) → padding_first (take n (drop 0 ms)) ≡ padding_first ms
-  padding_first-of_one [] n h = ap padding_first (take_all n [] (omega arith))
-  padding_first-of_one (m ∷ ms) n h = rw (h (omega arith)) refl
-
-  -- the first entry alone says what padding comes first
-  pub padding_first-take : (metadata : Ring (PacketMetadata H)) → padding_first (take (unbroken_queued metadata 0 1) (drop 0 metadata.queue)) ≡ padding_first metadata.queue
-  padding_first-take metadata =
-      padding_first-of_one metadata.queue (unbroken_queued metadata 0 1) (λ some. omega (arith, some))
-
   -- the header of the first entry
   pub header_first : (ms : List (PacketMetadata H)) (m : PacketMetadata H) → BeginsWithPacket ms → slice_get ms 0 ≡ Some m → IsSome m.header
   header_first ms m h e = subst (λ xs. BeginsWithPacket xs) (split_first ms m e) h
+
+  some_header : (header : Option H) → IsSome header → (h : H) × (header ≡ Some h)
+  some_header None e = absurd (false≢true e)
+  some_header (Some h) e = (h, refl)
+
+  -- the first entry, where it is a packet's
+  pub packet_first : (ms : List (PacketMetadata H)) (m : PacketMetadata H) → BeginsWithPacket ms → slice_get ms 0 ≡ Some m → (h : H) × (slice_get ms 0 ≡ Some (entry m.size (Some h)))
+  packet_first ms m begins e =
+      let it = some_header m.header (header_first ms m begins e) in
+      (it.0, e ∙ ap (λ h. Some (entry m.size h)) it.1)
 
   -- the entries and bytes of a new packet whose bytes are as they were
   pub AreEntries-extended : (metadata : Ring (PacketMetadata H)) (payload : Ring ℕ) (padding size : ℕ) (header : H) → AreEntries metadata payload → HasRoom metadata payload padding size → AreEntries (enqueued (padded metadata padding) (entry size (Some header) ∷ [])) (extended (extended (anchored payload) padding) size)

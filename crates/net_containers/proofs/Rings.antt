@@ -4,6 +4,7 @@ use Rattle.std.specs.Prelude.{slice_get, Some}
 use Rattle.std.proofs.Common.{add-one, set, ◌≡◌, ℕ, ◌+◌, ◌-◌, ◌%◌, ◌<◌, ◌≤◌, List, [], ◌∷◌, ◌++◌, length, get_or, take, drop, min, refl, sym, ap, ◌∙◌, inl, inr, arith, length-append, length-drop, length-take, take-append-drop, append_assoc}
 use Rattle.std.proofs.lemmas.List.{take_at, drop_at, length-take-le, take-append-le, drop-append-le, take-take, drop-drop, drop-take, append-nil, nil_from_length, set_split}
 use Rattle.std.proofs.lemmas.Bool.{cases_lt}
+use Rattle.std.proofs.Math.Nat.{mod-eq_of_lt, zero-mod, add-zero}
 use Rattle.std.proofs.Math.Seq.{take-add, take-append-add, drop-append-add}
 use Rattle.net_containers.specs.Ring.{Ring, ring, ring_in, IsRing, rotated, laid_over, laid_from, storage_of, capacity, place_of, until_end, extended, released, overwritten, rewritten, IsPlaced, unbroken_queued}
 use Rattle.net_containers.proofs.Rotations.{length-rotated, rotated_back, rotated_forth, laid_over-fits, wraps_once, rotated-rotated, rotated-laid_at, part-rotated_at, get_or-rotated}
@@ -138,6 +139,15 @@ module _ {X : Type 0} where
   -- where the read place lies
   pub placed : (xs : List X) (start count : ℕ) (r : Ring X) → IsRing xs start count → Sees xs start count r → IsPlaced r
   placed xs start count r ok v = (omega (arith, v.room, v.starts, ok.start_within), λ h. omega (arith, v.room, v.starts, ok.start_below (omega (arith, v.room))))
+
+  -- the read place is that of the first element
+  pub first_place : (xs : List X) (start count : ℕ) → IsRing xs start count → start ≡ (start + 0) % length xs
+  first_place xs start count ok = elim (cases_lt 0 (length xs)) [
+    | inl some ↦ let low : start + 0 < length xs = omega (arith, ok.start_below some) in
+        sym (mod-eq_of_lt low ∙ add-zero start)
+    | inr none ↦ let z : start ≡ 0 = omega (arith, ok.start_within) in
+        rw z (sym (zero-mod (length xs)))
+  ]
 
   -- an unbroken part of the storage, as a part of the ring
   pub part_of : (xs : List X) (start count : ℕ) (r : Ring X) (place offset size : ℕ) → IsRing xs start count → Sees xs start count r → place ≡ (start + offset) % length xs → offset + size ≤ length xs → place + size ≤ length xs → take (place + size - place) (drop place xs) ≡ take size (drop offset (r.queue ++ r.free))

@@ -135,11 +135,14 @@ fn unbroken_window(payload: &RingBuffer<u8>) -> usize
 }
 
 /// Returns how many bytes of padding come first.
-fn leading_padding<H>(entries: &[PacketMetadata<H>]) -> usize
-    ensures { result ≡ padding_first entries.now }
+fn leading_padding<H>(metadata: &RingBuffer<PacketMetadata<H>>) -> usize
+    ensures { result ≡ padding_first metadata.now.queue }
 {
-    match entries {
-        [PacketMetadata { size, header: None }, ..] => *size,
+    if metadata.is_empty() {
+        return 0;
+    }
+    match metadata.first() {
+        PacketMetadata { size, header: None } => *size,
         _ => 0,
     }
 }
@@ -240,7 +243,8 @@ impl<H> PacketBuffer<H> {
         Ok(size)
     }
 
-    /// Queues a packet with this header and these bytes.
+    /// Queues a packet with this header and these bytes. Inlined, it lets the caller make the header where it is to lie.
+    #[inline(always)]
     pub fn enqueue_slice(&mut self, header: H, data: &[u8]) -> Result<(), Full>
     where
         H: Drop,
@@ -249,10 +253,12 @@ impl<H> PacketBuffer<H> {
         ensures queued { OnOk result (self.new ≡ appended self.old (length «data».now) header «data».now) }
     {
         let size = data.len();
-        self.enqueue_with_infallible(size, header, |bytes: &mut [u8]| {
-            bytes.copy_from_slice(data);
-            size
-        })?;
+        let padding = self.padding_for(size)?;
+        pad(&mut self.metadata, &mut self.payload, padding);
+        self.metadata.push(PacketMetadata::packet(size, header));
+        let bytes = self.payload.get_unallocated(0, size);
+        bytes.copy_from_slice(data);
+        self.payload.enqueue_unallocated(data.len());
         Ok(())
     }
 
@@ -260,7 +266,7 @@ impl<H> PacketBuffer<H> {
     fn dequeue_padding(&mut self)
         ensures { self.new ≡ unpadded self.old }
     {
-        let padding = leading_padding(self.metadata.get_allocated(0, 1));
+        let padding = leading_padding(&self.metadata);
         if padding > 0 {
             self.metadata.dequeue_allocated(1);
             self.payload.dequeue_allocated(padding);
@@ -338,6 +344,19 @@ impl<H> PacketBuffer<H> {
         Ok(header)
     }
 
+    /// Gives up the first packet, if there is one. Its header stays in the storage until another is laid over it.
+    pub fn drop_first(&mut self)
+        ensures { self.new ≡ without_first self.old }
+    {
+        self.dequeue_padding();
+        if self.metadata.is_empty() {
+            return;
+        }
+        let size = self.metadata.first().size;
+        self.metadata.dequeue_allocated(1);
+        self.payload.dequeue_allocated(size);
+    }
+
     /// Gives up the first packet, and hands out its bytes for reading where they lie. `peek` shows the header before.
     pub fn take_bytes(&mut self) -> Result<&[u8], Empty>
     where
@@ -370,14 +389,11 @@ impl<H> PacketBuffer<H> {
         ensures empty { IsErr result ↔ (self.now.packets ≡ []) }
         ensures first { IfOk result (λ p. first self.now ≡ Some (p.0.now, p.1.now)) }
     {
-        match self.metadata.get_allocated(0, 1) {
-            [
-                PacketMetadata {
-                    size,
-                    header: Some(header),
-                },
-            ] => Ok((header, self.payload.get_allocated(0, *size))),
-            _ => Err(Empty),
+        if self.metadata.is_empty() {
+            return Err(Empty);
         }
+        let first = self.metadata.first();
+        let header = first.header.as_ref().unwrap();
+        Ok((header, self.payload.first_part(first.size)))
     }
 }

@@ -199,6 +199,23 @@ impl<T> RingBuffer<T> {
         let size = size.min(self.length - offset).min(capacity - at);
         &self.storage.as_slice()[at..at + size]
     }
+
+    /// Returns the first queued element.
+    pub(crate) fn first(&self) -> &T
+        requires { 0 < length self.now.queue }
+        ensures { slice_get self.now.queue 0 ≡ Some result.now }
+    {
+        &self.storage[self.read_at]
+    }
+
+    /// Returns the first `size` queued elements.
+    pub(crate) fn first_part(&self, size: usize) -> &[T]
+        requires queued { size ≤ length self.now.queue }
+        requires unbroken { size ≤ until_end self.now 0 }
+        ensures { result.now ≡ take size self.now.queue }
+    {
+        &self.storage.as_slice()[self.read_at..self.read_at + size]
+    }
 }
 
 impl<T> RingBuffer<T> {

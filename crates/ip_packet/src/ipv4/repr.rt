@@ -1,6 +1,7 @@
 //! The header of a packet as a value.
 ghost use Rattle.std.specs.Prelude.{◌≡◌, ℕ, ◌+◌, ◌/◌, ◌<◌, ◌≤◌, IfOk, ◌++◌, false, length, drop, if◌then◌else◌};
-ghost use Rattle.ip_address.specs.Sum.{word_sum, complement};
+ghost use Rattle.ip_address.specs.Protocol.{protocol_number};
+ghost use Rattle.ip_address.specs.Sum.{word_sum, folded, complement};
 ghost use Rattle.net_devices.specs.Capabilities.{verifies, computes};
 ghost use Rattle.ip_packet.specs.Ipv4.{IsIpv4, IsQuoted, Fits, key_of, flags_and_offset, bytes_of, bytes_in, name_of, sent_fields, spelling, written_piece, written};
 ghost use Rattle.ip_packet.specs.declared.ipv4.piece.Ipv4Piece.{Ipv4Piece};
@@ -143,13 +144,15 @@ impl Ipv4Repr {
             ≡ written_piece (computes checksum_caps.now.ipv4) self.now offset more }
     {
         let piece = Ipv4Piece { offset, more };
-        let check = self.sent_checksum(piece, checksum_caps.ipv4.tx());
-        put_header(packet.buffer, &self.header(piece, check));
+        let protocol = self.next_header.into();
+        let check = self.sent_checksum(protocol, piece, checksum_caps.ipv4.tx());
+        put_header(packet.buffer, self.header(protocol, piece, check));
     }
 
-    /// The header of this piece with this checksum.
-    fn header(&self, piece: Ipv4Piece, check: u16) -> [u8; 20]
-        requires { Fits self.now }
+    /// The header of this piece with this checksum. The protocol is the number of the next header.
+    fn header(&self, protocol: u8, piece: Ipv4Piece, check: u16) -> [u8; 20]
+        requires fits { Fits self.now }
+        requires protocol { protocol ≡ protocol_number self.now.next_header }
         ensures { result ≡ spelling self.now (sent_fields piece check) }
     {
         let [source0, source1, source2, source3] = self.src_addr.0;
@@ -168,7 +171,7 @@ impl Ipv4Repr {
             flags_high,
             flags_low,
             self.hop_limit,
-            self.next_header.into(),
+            protocol,
             check_high,
             check_low,
             source0,
@@ -183,16 +186,39 @@ impl Ipv4Repr {
     }
 
     /// The checksum that goes out: a right one, or 0 where none is computed.
-    fn sent_checksum(&self, piece: Ipv4Piece, sealed: bool) -> u16
-        requires { Fits self.now }
+    fn sent_checksum(&self, protocol: u8, piece: Ipv4Piece, sealed: bool) -> u16
+        requires fits { Fits self.now }
+        requires protocol { protocol ≡ protocol_number self.now.next_header }
         ensures { result
             ≡ (if sealed then complement (word_sum (spelling self.now (sent_fields piece 0))) else 0) }
     {
         if sealed {
-            !checksum::data(&self.header(piece, 0))
+            !self.sum(protocol, piece)
         } else {
             0
         }
+    }
+
+    /// The sum of the words of this piece's header, its checksum left out. It is taken of the
+    /// fields, which spares reading the bytes that were just written.
+    fn sum(&self, protocol: u8, piece: Ipv4Piece) -> u16
+        requires fits { Fits self.now }
+        requires protocol { protocol ≡ protocol_number self.now.next_header }
+        ensures { result ≡ folded (word_sum (spelling self.now (sent_fields piece 0))) }
+    {
+        let [source0, source1, source2, source3] = self.src_addr.0;
+        let [destination0, destination1, destination2, destination3] = self.dst_addr.0;
+        checksum::combine(&[
+            0x4500,
+            (HEADER_LEN + self.payload_len) as u16,
+            self.ident,
+            flags_and_offset(self.dont_frag, piece),
+            u16::from_be_bytes([self.hop_limit, protocol]),
+            u16::from_be_bytes([source0, source1]),
+            u16::from_be_bytes([source2, source3]),
+            u16::from_be_bytes([destination0, destination1]),
+            u16::from_be_bytes([destination2, destination3]),
+        ])
     }
 }
 
