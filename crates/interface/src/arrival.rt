@@ -8,7 +8,7 @@ ghost use Rattle.interface.specs.Ingress.{is_read, Replied, Receives, Reads, Tak
 
 use interface_egress::{ArpFrame, Fragmenter, SocketStorage, dispatch, send};
 use interface_ingress::laws::same_settings;
-use interface_ingress::{Incoming, Reply, bring, keep, read, release, take_in};
+use interface_ingress::{Incoming, Reply, bring, keep, read_into, release, take_in};
 use interface_tables::{InterfaceInner, PacketAssemblerSet};
 use net_base::{Device, Duration, RxToken};
 use packet_widths::laws::fields_have_widths;
@@ -72,7 +72,13 @@ fn read_frame<D: Device, const N: usize>(
     ensures settings { KeepsSettings inner.old inner.new }
     ensures capabilities { D.described device.new ≡ D.described device.old }
 {
-    let content = read(&inner.hardware_addr(), frame, &inner.checksum_caps());
+    let mut content = None;
+    read_into(
+        &inner.hardware_addr(),
+        frame,
+        &inner.checksum_caps(),
+        &mut content,
+    );
     receive(
         inner, fragmenter, slots, timeout, device, token, places, &content,
     );

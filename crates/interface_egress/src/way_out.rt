@@ -191,14 +191,12 @@ fn numbered<'a>(inner: &InterfaceInner, packet: &Packet<'a>) -> Packet<'a>
 fn numbered_header(inner: &InterfaceInner, header: &IpRepr) -> IpRepr
     ensures { result ≡ numbered_header inner.now header.now }
 {
-    match header {
-        IpRepr::Ipv4(header) => IpRepr::Ipv4(Ipv4Repr {
-            ident: inner.ident(),
-            dont_frag: false,
-            ..*header
-        }),
-        IpRepr::Ipv6(header) => IpRepr::Ipv6(*header),
+    let mut numbered = *header;
+    if let IpRepr::Ipv4(header) = &mut numbered {
+        header.ident = inner.ident();
+        header.dont_frag = false;
     }
+    numbered
 }
 
 /// A packet of this header went.

@@ -16,17 +16,16 @@ use Rattle.net_base.specs.ChecksumCapabilities.{ChecksumCapabilities}
 use Rattle.socket_base.specs.Packet.{PayloadValue, ControlV4, ControlV6, Bytes, Datagram, Segment}
 use Rattle.sockets.specs.declared.socket.Socket.{Socket}
 use Rattle.sockets.specs.declared.socket.Socket.TheVariants as Kind
-use Rattle.interface_ingress.specs.Carried.{IsCarriedContent, IsSegment}
+use Rattle.interface_ingress.specs.Carried.{IsCarriedContent}
 use Rattle.interface_ingress.specs.Incoming.{IncomingValue, Arp, Ip4, Ip6}
 use Rattle.interface_egress.specs.declared.socket_meta.Meta.{Meta}
 use Rattle.interface_egress.specs.declared.socket_set.Item.{Item}
-use Rattle.interface_egress.specs.declared.socket_set.SocketStorage.{SocketStorage}
 use Rattle.interface_tables.specs.Inner.{InnerValue}
 use Rattle.interface_ingress.specs.Arrives.{Arrived, ArrivesV4, ArrivesV6, ArrivesAs, Brings, Hands, is_direct, sender_of, renewed, renewed_by, answered}
-use Rattle.interface_ingress.specs.Delivered.{Places, given, changed_item, with_change, all_given, with_packet, packet_delivered, with_icmpv4, icmpv4_delivered, with_icmpv6, icmpv6_delivered, is_taken_raw}
+use Rattle.interface_ingress.specs.Delivered.{Places, given, changed_item, with_change, all_given, with_packet, packet_delivered, with_icmpv4, with_icmpv6, is_taken_raw}
 use Rattle.interface_ingress.specs.Handed.{handed_places, handed_reply, control_v4_places, control_v6_places, is_known, is_known_v4, is_known_v6}
 use Rattle.interface_ingress.specs.Replies.{protocol_unreachable}
-use Rattle.interface_ingress.specs.Kept.{kept_by_kind, ports_item, ports_in, with_ports, NamesNoPorts, HasNoPorts, HaveNoPorts, IsDamaged}
+use Rattle.interface_ingress.specs.Kept.{kept_by_kind, ports_item, ports_in, with_ports, NamesNoPorts, HaveNoPorts, IsDamaged}
 use Rattle.interface_ingress.specs.Reassembled.{Slots, is_taken_in, taken_in, is_piece, uncut, rebuilt, bytes_at, place_in, kept, whole_of}
 
 -- SOCKETS OF OTHER KINDS

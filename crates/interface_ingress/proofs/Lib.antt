@@ -6,6 +6,7 @@ pub mod FramesArrive
 pub mod Measured
 pub mod Hearing
 pub mod AtPlace
+pub mod Given
 pub mod Sizes
 pub mod Kept
 pub mod Settings

@@ -1,6 +1,6 @@
 -- What an arrival changes of the neighbours.
 use Rattle.std.proofs.Common.{◌≡◌, Bool, true, false, if◌then◌else◌, List, refl, sym, ap, ◌∙◌, subst, inl, inr}
-use Rattle.std.specs.Prelude.{ℕ, ◌⊎◌, Option, Some, None}
+use Rattle.std.specs.Prelude.{ℕ, Option, Some, None}
 use Rattle.ip_wire.specs.Ip.{carried_in}
 use Rattle.ip_wire.specs.IpProtocol.TheVariants as Protocol
 use Rattle.ip_wire.specs.IpRepr.{IpRepr}
@@ -13,12 +13,12 @@ use Rattle.ip_wire.specs.declared.arp.repr.ArpRepr.{ArpRepr}
 use Rattle.ip_wire.specs.declared.ethernet.repr.EthernetRepr.{EthernetRepr}
 use Rattle.socket_base.specs.Packet.{PayloadValue, ControlV4, ControlV6, Bytes, Datagram, Segment}
 use Rattle.interface_ingress.specs.Carried.{IsCarriedContent}
-use Rattle.interface_ingress.specs.Incoming.{IncomingValue, Arp, Ip4, Ip6}
+use Rattle.interface_ingress.specs.Incoming.{Arp, Ip4, Ip6}
 use Rattle.interface_ingress.specs.Arp.{counts, learned, arp_arrived}
 use Rattle.interface_tables.specs.Inner.{InnerValue, context_of}
 use Rattle.interface_tables.specs.Neighbor.{CacheValue}
-use Rattle.interface_ingress.specs.Arrives.{Arrived, ArrivesV4, ArrivesV6, Brings, Hands, is_direct, sender_of, renewed, renewed_by}
-use Rattle.interface_ingress.specs.Delivered.{Places, drawn_if, packet_delivered, is_taken_raw, segment_draws}
+use Rattle.interface_ingress.specs.Arrives.{Arrived, ArrivesV4, ArrivesV6, Brings, is_direct, sender_of, renewed, renewed_by}
+use Rattle.interface_ingress.specs.Delivered.{Places, drawn_if, packet_delivered, segment_draws}
 use Rattle.interface_ingress.specs.Handed.{handed_host, names_nobody, segment_host}
 use Rattle.interface_ingress.specs.Kept.{RenewsOnly, LearnsOnly}
 

@@ -1,5 +1,5 @@
 -- What a control message's packet carries, and that its data can be sent back.
-use Rattle.std.proofs.Common.{◌≡◌, ◌≢◌, ℕ, ◌+◌, ◌-◌, ◌<◌, ◌≤◌, ◌^◌, Bool, List, length, drop, ap, sym, arith, length-drop}
+use Rattle.std.proofs.Common.{◌≡◌, ◌≢◌, ℕ, ◌-◌, ◌≤◌, List, length, drop, ap, arith, length-drop}
 use Rattle.std.specs.Prelude.{Option, Some, None}
 use Rattle.net_base.specs.ChecksumCapabilities.{ChecksumCapabilities}
 use Rattle.control_wire.specs.Icmpv4 as Icmpv4

@@ -1,6 +1,6 @@
 -- Which sockets get what arrived, and what they are then (RFC 791, section 3.2; RFC 768; RFC 792; RFC 9293, section 3.10.7).
 -- Sockets of other kinds stay as they were, and so do places without a socket.
-use Rattle.std.specs.Prelude.{ℕ, Bool, true, false, ◌||◌, if◌then◌else◌, List, length, map, position, slice_set, Option, None, Some}
+use Rattle.std.specs.Prelude.{ℕ, Bool, false, ◌||◌, if◌then◌else◌, List, length, map, position, slice_set, Option, None, Some}
 use Rattle.std.specs.List.{list_any}
 use Rattle.control_wire.specs.Icmpv4Header.{Icmpv4Header}
 use Rattle.control_wire.specs.Icmpv6.{MessageValue}

@@ -43,11 +43,10 @@ fn sender_of(header: &IpRepr) -> IpAddress
 fn renew(inner: &mut InterfaceInner, link: &Option<EthernetRepr>, header: &IpRepr)
     ensures { inner.new ≡ renewed inner.old link.now header.now }
 {
-    if !is_direct(inner, header) {
-        return;
-    }
     if let Some(link) = link {
-        inner.renew_neighbor(sender_of(header), HardwareAddress::Ethernet(link.src_addr));
+        if is_direct(inner, header) {
+            inner.renew_neighbor(sender_of(header), HardwareAddress::Ethernet(link.src_addr));
+        }
     }
 }
 

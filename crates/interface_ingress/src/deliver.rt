@@ -50,13 +50,16 @@ impl<'a> Arrival for RawPacket<'a> {
 }
 
 /// Gives a packet to every raw socket that asks for it, and says whether there is one.
+#[tactic(auto, using(crate::proofs::Given::none_given))]
 pub fn deliver_packet(places: &mut [SocketStorage<Socket>], header: &IpRepr, payload: &[u8]) -> bool
     ensures taken { result ≡ is_taken_raw header.now places.old }
     ensures places { places.new ≡ packet_delivered header.now payload.now places.old }
 {
     let packet = RawPacket { header, payload };
     let is_taken = is_for_any(places, &packet);
-    give_all(places, &packet);
+    if is_taken {
+        give_all(places, &packet);
+    }
     is_taken
 }
 

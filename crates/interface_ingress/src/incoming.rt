@@ -42,51 +42,78 @@ pub fn read<'a>(
     ensures content { IsContent hardware.now checksums.now frame.now (content_of result) }
     ensures measured { AreMeasured (content_of result) }
 {
+    let mut content = None;
+    read_into(hardware, frame, checksums, &mut content);
+    content
+}
+
+/// The same, written where the caller wants it: what a frame carries is a large value, which would else be moved once for each
+/// way of reading.
+pub fn read_into<'a>(
+    hardware: &HardwareAddress,
+    frame: &'a [u8],
+    checksums: &ChecksumCapabilities,
+    content: &mut Option<Incoming<'a>>,
+)
+    requires none { content.old ≡ None }
+    ensures content { IsContent hardware.now checksums.now frame.now (content_of content.new) }
+    ensures measured { AreMeasured (content_of content.new) }
+{
     match hardware {
-        HardwareAddress::Ethernet(_) => read_ethernet(frame, checksums),
-        HardwareAddress::Ip => read_bare(frame, checksums),
+        HardwareAddress::Ethernet(_) => read_ethernet(frame, checksums, content),
+        HardwareAddress::Ip => read_bare(frame, checksums, content),
     }
 }
 
 /// What an Ethernet frame carries.
-fn read_ethernet<'a>(frame: &'a [u8], checksums: &ChecksumCapabilities) -> Option<Incoming<'a>>
-    ensures content { IsOnly (OnEthernet checksums.now frame.now) (content_of result) }
-    ensures measured { AreMeasured (content_of result) }
+fn read_ethernet<'a>(
+    frame: &'a [u8],
+    checksums: &ChecksumCapabilities,
+    content: &mut Option<Incoming<'a>>,
+)
+    requires none { content.old ≡ None }
+    ensures content { IsOnly (OnEthernet checksums.now frame.now) (content_of content.new) }
+    ensures measured { AreMeasured (content_of content.new) }
 {
     let frame = EthernetFrame::new_unchecked(frame);
     let Ok(link) = EthernetRepr::parse(&frame) else {
-        return None;
+        return;
     };
     let packet = frame.payload();
     match link.ethertype {
-        EthernetProtocol::Arp => read_arp(link, packet),
-        EthernetProtocol::Ipv4 => read_ipv4(Some(link), packet, checksums),
-        EthernetProtocol::Ipv6 => read_ipv6(Some(link), packet),
-        EthernetProtocol::Unknown(_) => None,
+        EthernetProtocol::Arp => read_arp(link, packet, content),
+        EthernetProtocol::Ipv4 => read_ipv4(Some(link), packet, checksums, content),
+        EthernetProtocol::Ipv6 => read_ipv6(Some(link), packet, content),
+        EthernetProtocol::Unknown(_) => {}
     }
 }
 
 /// What a frame of a medium of bare packets carries.
-fn read_bare<'a>(frame: &'a [u8], checksums: &ChecksumCapabilities) -> Option<Incoming<'a>>
-    ensures content { IsOnly (Bare checksums.now frame.now) (content_of result) }
-    ensures measured { AreMeasured (content_of result) }
+fn read_bare<'a>(
+    frame: &'a [u8],
+    checksums: &ChecksumCapabilities,
+    content: &mut Option<Incoming<'a>>,
+)
+    requires none { content.old ≡ None }
+    ensures content { IsOnly (Bare checksums.now frame.now) (content_of content.new) }
+    ensures measured { AreMeasured (content_of content.new) }
 {
     match IpVersion::of_packet(frame) {
-        Ok(IpVersion::Ipv4) => read_ipv4(None, frame, checksums),
-        Ok(IpVersion::Ipv6) => read_ipv6(None, frame),
-        Err(_) => None,
+        Ok(IpVersion::Ipv4) => read_ipv4(None, frame, checksums, content),
+        Ok(IpVersion::Ipv6) => read_ipv6(None, frame, content),
+        Err(_) => {}
     }
 }
 
 /// The ARP packet behind this link header.
-fn read_arp<'a>(link: EthernetRepr, bytes: &'a [u8]) -> Option<Incoming<'a>>
-    ensures content { IsOnly (IsArpBehind link bytes.now) (content_of result) }
-    ensures measured { AreMeasured (content_of result) }
+fn read_arp<'a>(link: EthernetRepr, bytes: &'a [u8], content: &mut Option<Incoming<'a>>)
+    requires none { content.old ≡ None }
+    ensures content { IsOnly (IsArpBehind link bytes.now) (content_of content.new) }
+    ensures measured { AreMeasured (content_of content.new) }
 {
-    let Ok(packet) = ArpRepr::parse(&ArpPacket::new_unchecked(bytes)) else {
-        return None;
-    };
-    Some(Incoming::Arp { link, packet })
+    if let Ok(packet) = ArpRepr::parse(&ArpPacket::new_unchecked(bytes)) {
+        *content = Some(Incoming::Arp { link, packet });
+    }
 }
 
 /// The IPv4 packet behind this link header, or without one.
@@ -94,34 +121,41 @@ fn read_ipv4<'a>(
     link: Option<EthernetRepr>,
     bytes: &'a [u8],
     checksums: &ChecksumCapabilities,
-) -> Option<Incoming<'a>>
-    ensures content { IsOnly (IsV4Behind checksums.now link bytes.now) (content_of result) }
-    ensures measured { AreMeasured (content_of result) }
+    content: &mut Option<Incoming<'a>>,
+)
+    requires none { content.old ≡ None }
+    ensures content { IsOnly (IsV4Behind checksums.now link bytes.now) (content_of content.new) }
+    ensures measured { AreMeasured (content_of content.new) }
 {
     let packet = Ipv4Packet::new_unchecked(bytes);
     let Ok(header) = Ipv4Repr::parse(&packet, checksums) else {
-        return None;
+        return;
     };
-    Some(Incoming::Ipv4 {
+    *content = Some(Incoming::Ipv4 {
         link,
         header,
         piece: packet.piece(),
         payload: packet.payload(),
-    })
+    });
 }
 
 /// The IPv6 packet behind this link header, or without one.
-fn read_ipv6<'a>(link: Option<EthernetRepr>, bytes: &'a [u8]) -> Option<Incoming<'a>>
-    ensures content { IsOnly (IsV6Behind link bytes.now) (content_of result) }
-    ensures measured { AreMeasured (content_of result) }
+fn read_ipv6<'a>(
+    link: Option<EthernetRepr>,
+    bytes: &'a [u8],
+    content: &mut Option<Incoming<'a>>,
+)
+    requires none { content.old ≡ None }
+    ensures content { IsOnly (IsV6Behind link bytes.now) (content_of content.new) }
+    ensures measured { AreMeasured (content_of content.new) }
 {
     let packet = Ipv6Packet::new_unchecked(bytes);
     let Ok(header) = Ipv6Repr::parse(&packet) else {
-        return None;
+        return;
     };
-    Some(Incoming::Ipv6 {
+    *content = Some(Incoming::Ipv6 {
         link,
         header,
         payload: packet.payload(),
-    })
+    });
 }

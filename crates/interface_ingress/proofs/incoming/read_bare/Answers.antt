@@ -7,9 +7,9 @@ use Rattle.interface_ingress.proofs.incoming.read_bare.Goals as goal
 pub returns-in-Ok-Ipv4-clause-content : goal.returns-in-Ok-Ipv4-clause-content
 returns-in-Ok-Ipv4-clause-content c =
     let first : c.of_packet.result ≡ Ok Version.Ipv4 = cc in
-    bare-v4 c.args.checksums.now c.args.frame.now (content_of c.read_ipv4.result) (c.of_packet.ensures.ipv4.0 first) c.read_ipv4.ensures.content
+    bare-v4 c.args.checksums.now c.args.frame.now (content_of c.read_ipv4.new.content) (c.of_packet.ensures.ipv4.0 first) c.read_ipv4.ensures.content
 
 pub returns-in-Ok-Ipv6-clause-content : goal.returns-in-Ok-Ipv6-clause-content
 returns-in-Ok-Ipv6-clause-content c =
     let first : c.of_packet.result ≡ Ok Version.Ipv6 = cc in
-    bare-v6 c.args.checksums.now c.args.frame.now (content_of c.read_ipv6.result) (c.of_packet.ensures.ipv6.0 first) c.read_ipv6.ensures.content
+    bare-v6 c.args.checksums.now c.args.frame.now (content_of c.read_ipv6.new.content) (c.of_packet.ensures.ipv6.0 first) c.read_ipv6.ensures.content

@@ -5,8 +5,8 @@ use Rattle.interface_ingress.proofs.incoming.read_ipv6.Goals as goal
 
 pub returns-in_default-clause-content : goal.returns-in_default-clause-content
 returns-in_default-clause-content c =
-    refused-v6 c.args.link c.args.bytes.now
-    (λ h is. c.in_default.not-Ok h (c.parse.ensures.only h (subst (λ (b : List ℕ). Ipv6.IsIpv6 b h) (sym c.new_unchecked-packet.ensures) is)))
+    rw c.requires.none (refused-v6 c.args.link c.args.bytes.now
+    (λ h is. c.in_default.not-Ok h (c.parse.ensures.only h (subst (λ (b : List ℕ). Ipv6.IsIpv6 b h) (sym c.new_unchecked-packet.ensures) is))))
 
 pub returns-clause-measured : goal.returns-clause-measured
 returns-clause-measured c =
