@@ -140,11 +140,7 @@ fn read_ipv4<'a>(
 }
 
 /// The IPv6 packet behind this link header, or without one.
-fn read_ipv6<'a>(
-    link: Option<EthernetRepr>,
-    bytes: &'a [u8],
-    content: &mut Option<Incoming<'a>>,
-)
+fn read_ipv6<'a>(link: Option<EthernetRepr>, bytes: &'a [u8], content: &mut Option<Incoming<'a>>)
     requires none { content.old ≡ None }
     ensures content { IsOnly (IsV6Behind link bytes.now) (content_of content.new) }
     ensures measured { AreMeasured (content_of content.new) }

@@ -1,11 +1,12 @@
 //! Two hosts at a link.
-ghost use Rattle.std.specs.Prelude.{◌≡◌, ◌<◌, [], take, length, slice_get, IfOk, IfErr, OnOk, OnErr, IfSome, None, Some, Err};
+ghost use Rattle.std.specs.Prelude.{◌≡◌, ◌<◌, [], take, length, replicate, slice_get, IfOk, IfErr, OnOk, OnErr, IfSome, None, Some, Err};
 ghost use Rattle.net_base.specs.Device.{frames_of};
 ghost use Rattle.interface.specs.Made.{IsIdle};
 ghost use Rattle.lan_stations.specs.Refusals.{MayRefuse};
 ghost use Rattle.lan_stations.specs.Runs.{Step, Steps, answers_of, refusal_in, tables_in};
 ghost use Rattle.lan_stations.specs.Station.{station};
 ghost use Rattle.lan_net.specs.Kinds.{kind_of};
+ghost use Rattle.lan_net.specs.Tables.{no_record};
 ghost use Rattle.lan_world.specs.Come.{both, starts_of, world};
 ghost use Rattle.lan_world.specs.New.{new_error, MayFail};
 ghost use Rattle.lan_world.specs.Promises.{IsSafeWorld};
@@ -47,6 +48,14 @@ impl Model for World {
     ghost invariant = { λ w. HasCome w.start_a.value w.start_b.value w.a w.b w.records_a w.records_b w.history.entries };
 }
 
+// The records of two hosts at which nothing happened yet. (A function that owns hosts and ends in several places is dear to check.)
+fn no_records(alloc: Global, a: &Host, b: &Host) -> Result<(Records, Records), AllocError>
+    ensures a { IfOk result (λ both. both.0 ≡ record { records = replicate (length a.now.places) no_record; numbered = 0 }) }
+    ensures b { IfOk result (λ both. both.1 ≡ record { records = replicate (length b.now.places) no_record; numbered = 0 }) }
+{
+    Ok((Records::new(alloc, a)?, Records::new(alloc, b)?))
+}
+
 impl World {
     /// A world of two hosts, in which nothing has happened. A refusal drops both.
     pub fn new(alloc: Global, a: Host, b: Host) -> Result<World, WorldError>
@@ -75,8 +84,7 @@ impl World {
     {
         host_is_typed(&a);
         host_is_typed(&b);
-        let records_a = Records::new(alloc, &a)?;
-        let records_b = Records::new(alloc, &b)?;
+        let (records_a, records_b) = no_records(alloc, &a, &b)?;
         Ok(World {
             start_a: Kept::of(&a),
             start_b: Kept::of(&b),
