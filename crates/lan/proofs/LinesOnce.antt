@@ -4,7 +4,7 @@ use Rattle.std.specs.Prelude.{drop}
 use Rattle.ip_wire.specs.IpCidr.{IpCidr}
 use Rattle.ip_wire.specs.Text.{IsEndpointText, IsIpText, IsEthernetText}
 use Rattle.ip_address.proofs.OneReading.{IsIpText-unique}
-use Rattle.lan_script.specs.Lines.{IsLine, IsSocket, IsStream, IsDatagram, IsHost, IsLink, Host, Size, Short, Hex, Queues, SaysWords, SaysLine}
+use Rattle.lan_script.specs.Lines.{IsLine, IsSocket, IsStream, IsDatagram, IsHost, IsLink, Host, Size, Short, Hex, AreQueueSizes, Queues, SaysWords, SaysLine}
 use Rattle.lan_script.specs.Verbs.{verb_of}
 use Rattle.lan_script.specs.Words.{words_of, first_as, First, FirstIs, AreBlockTexts, AreBlocks, Reads, ReadsAll, Ends, side_of, medium_of, kind_of, version_of, protocol_of, size_of, short_of, four_digits_of, micros_of, hex_bytes_of}
 use Rattle.lan_script.specs.declared.kinds.Side.{Side}
@@ -42,11 +42,15 @@ first_is : {X : Type 0} (IsTextOf : List ℕ → X → Type 0) → ((text : List
 first_is IsTextOf once [] x y h k = absurd h
 first_is IsTextOf once (word ∷ words) x y h k = once word x y h k
 
-reads : {X Y : Type 0} (Class : List (List ℕ) → X → Type 0) (next : X → List (List ℕ) → Y → Type 0) → Once Class → ((x : X) → Once (next x)) → Once (Reads Class next)
-reads {X} {Y} Class next class_once next_once words y z h k =
+behind : {X Y : Type 0} (Class : List (List ℕ) → X → Type 0) (next : X → List (List ℕ) → Y → Type 0) (rest : List (List ℕ) → List (List ℕ))
+    → Once Class → ((x : X) → Once (next x)) → Once (λ words y. (x : X) × Class words x × next x (rest words) y)
+behind {X} {Y} Class next rest class_once next_once words y z h k =
     let same : h.0 ≡ k.0 = class_once words h.0 k.0 h.1 k.1 in
-    let there : next h.0 (drop 1 words) z = subst (λ (x : X). next x (drop 1 words) z) (sym same) k.2 in
-    next_once h.0 (drop 1 words) y z h.2 there
+    let there : next h.0 (rest words) z = subst (λ (x : X). next x (rest words) z) (sym same) k.2 in
+    next_once h.0 (rest words) y z h.2 there
+
+reads : {X Y : Type 0} (Class : List (List ℕ) → X → Type 0) (next : X → List (List ℕ) → Y → Type 0) → Once Class → ((x : X) → Once (next x)) → Once (Reads Class next)
+reads Class next class_once next_once = behind Class next (λ words. drop 1 words) class_once next_once
 
 reads_all : {X Y : Type 0} (Class : List (List ℕ) → X → Type 0) (make : X → Y) → Once Class → Once (ReadsAll Class make)
 reads_all Class make class_once words y z h k = h.2 ∙ ap make (class_once words h.0 k.0 h.1 k.1) ∙ sym k.2
@@ -74,8 +78,16 @@ short next once = by short_of next once
 hex : (next : Next (List ℕ)) → AllOnce next → Once (Hex next)
 hex next once = by hex_bytes_of next once
 
+sizes_once : Once AreQueueSizes
+sizes_once words x y h k = λ i. record {
+  receive_packets = first size_of words x.receive_packets y.receive_packets h.0 k.0 i;
+  receive_bytes = first size_of (drop 1 words) x.receive_bytes y.receive_bytes h.1 k.1 i;
+  send_packets = first size_of (drop 1 (drop 1 words)) x.send_packets y.send_packets h.2 k.2 i;
+  send_bytes = first size_of (drop 1 (drop 1 (drop 1 words))) x.send_bytes y.send_bytes h.3 k.3 i;
+}
+
 queues : (next : Next QueueSizes) → AllOnce next → Once (Queues next)
-queues next once = size _ (λ p. size _ (λ q. size _ (λ r. size _ (λ s. once (record { receive_packets = p; receive_bytes = q; send_packets = r; send_bytes = s })))))
+queues next once = behind AreQueueSizes next (λ words. drop 1 (drop 1 (drop 1 (drop 1 words)))) sizes_once once
 
 blocks_once : (words : List (List ℕ)) (xs ys : List IpCidr) → AreBlockTexts words xs → AreBlockTexts words ys → xs ≡ ys
 blocks_once [] [] [] h k = refl

@@ -20,10 +20,12 @@ use Rattle.ip_wire.specs.IpVersion.TheVariants.{Ipv4, Ipv6}
 use Rattle.ip_wire.specs.Text.{IsAddressAndPort, IsEndpointText, ip_text, block_text}
 use Rattle.net_base.specs.declared.Medium.{Medium}
 use Rattle.net_base.specs.declared.Medium.TheVariants.{Ethernet, Ip}
+use Rattle.lan_script.specs.declared.kinds.QueueSizes.{QueueSizes}
 use Rattle.lan_script.specs.declared.kinds.Side.{Side}
 use Rattle.lan_script.specs.declared.kinds.Side.TheVariants.{A, B}
+use Rattle.lan_script.specs.Lines.{AreQueueSizes}
 use Rattle.lan_script.specs.Words.{number_of, size_of, short_of, micros_of, side_of, medium_of, version_of, protocol_of, hex_bytes_of, four_digits_of, AreBlockTexts}
-use Rattle.lan_script.specs.Text.{side_text, medium_text, version_text, protocol_text, endpoint_word_of, endpoint_word, hex_word, four_digits, IsNamed, IsEndpoint, IsProtocol, AreIpBlocks}
+use Rattle.lan_script.specs.Text.{side_text, medium_text, version_text, protocol_text, endpoint_word_of, endpoint_word, hex_word, four_digits, queue_words, IsNamed, IsEndpoint, IsProtocol, AreIpBlocks, AreSizes}
 use Rattle.lan_script.proofs.WordLemmas.{digit_words, number_of_yes}
 
 pub side_back : (h : Side) → side_of (side_text h) ≡ Some h
@@ -46,6 +48,9 @@ number_back bound n less small =
 
 pub size_back : (n : ℕ) → n < 2 ^ 64 → size_of (decimal n) ≡ Some n
 size_back n less = number_back (2 ^ 64) n less less
+
+pub queues_back : (q : QueueSizes) → AreSizes q → AreQueueSizes (queue_words q) q
+queues_back q f = (size_back q.receive_packets f.0, size_back q.receive_bytes f.1, size_back q.send_packets f.2, size_back q.send_bytes f.3)
 
 pub short_back : (n : ℕ) → n < 2 ^ 16 → short_of (decimal n) ≡ Some n
 short_back n less = number_back (2 ^ 16) n less (omega arith)

@@ -9,4 +9,3 @@ pub mod Graphic
 pub mod JoinedLemmas
 pub mod PrintedLemmas
 pub mod Moments
-pub mod QueueLemmas

@@ -47,9 +47,9 @@ made : (line y : Line) → y ≡ line → IsTimely line → IsTimely y
 made line y e h = subst IsTimely (sym e) h
 
 socket_timely : (h : Side) (k : SocketKind) (words : List (List ℕ)) (y : Line) → IsSocket h k words y → IsTimely y
-socket_timely h kind.Udp words y says = made _ y says.2.2.2.2.1 tt
-socket_timely h kind.Icmp words y says = made _ y says.2.2.2.2.1 tt
-socket_timely h kind.Raw words y says = made _ y says.2.2.2.2.2.2.1 tt
+socket_timely h kind.Udp words y says = made _ y says.2.1 tt
+socket_timely h kind.Icmp words y says = made _ y says.2.1 tt
+socket_timely h kind.Raw words y says = made _ y says.2.2.2.1 tt
 socket_timely h kind.Tcp words y says = made _ y says.2.2.1 tt
 
 stream_timely : (v : StreamVerb) (h : Side) (s : ℕ) (words : List (List ℕ)) (y : Line) → IsStream v h s words y → IsTimely y

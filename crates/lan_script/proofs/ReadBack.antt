@@ -12,18 +12,18 @@ use Rattle.lan_script.specs.declared.verb.HostVerb.TheVariants as host
 use Rattle.lan_script.specs.declared.verb.LinkVerb.TheVariants as link
 use Rattle.lan_script.specs.Lines.{SaysWords}
 use Rattle.lan_script.specs.Text.{line_words, HasText}
-use Rattle.lan_script.proofs.Backs.{side_back, medium_back, version_back, protocol_back, size_back, short_back, moment_back, hex_back, four_digits_back, endpoint_back, blocks_back}
+use Rattle.lan_script.proofs.Backs.{side_back, medium_back, version_back, protocol_back, size_back, short_back, moment_back, hex_back, four_digits_back, endpoint_back, blocks_back, queues_back}
 use Rattle.lan_script.proofs.VerbLemmas.{verb_of_name}
 
 pub says_words : (line : Line) → HasText line → SaysWords (line_words line) line
 says_words (World m n) f =
     (verb.World, verb_of_name verb.World, (m, medium_back m, (n, size_back n f, (refl, refl))))
 says_words (Socket h (Udp q)) f =
-    (verb.Socket, verb_of_name verb.Socket, (h, side_back h, (kind.Udp, refl, (q.receive_packets, size_back q.receive_packets f.0, (q.receive_bytes, size_back q.receive_bytes f.1, (q.send_packets, size_back q.send_packets f.2, (q.send_bytes, size_back q.send_bytes f.3, (refl, refl))))))))
+    (verb.Socket, verb_of_name verb.Socket, (h, side_back h, (kind.Udp, refl, (q, queues_back q f, (refl, refl)))))
 says_words (Socket h (Icmp q)) f =
-    (verb.Socket, verb_of_name verb.Socket, (h, side_back h, (kind.Icmp, refl, (q.receive_packets, size_back q.receive_packets f.0, (q.receive_bytes, size_back q.receive_bytes f.1, (q.send_packets, size_back q.send_packets f.2, (q.send_bytes, size_back q.send_bytes f.3, (refl, refl))))))))
+    (verb.Socket, verb_of_name verb.Socket, (h, side_back h, (kind.Icmp, refl, (q, queues_back q f, (refl, refl)))))
 says_words (Socket h (Raw v p q)) f =
-    (verb.Socket, verb_of_name verb.Socket, (h, side_back h, (kind.Raw, refl, (v, version_back v, (p, protocol_back p f.0, (q.receive_packets, size_back q.receive_packets f.1.0, (q.receive_bytes, size_back q.receive_bytes f.1.1, (q.send_packets, size_back q.send_packets f.1.2, (q.send_bytes, size_back q.send_bytes f.1.3, (refl, refl))))))))))
+    (verb.Socket, verb_of_name verb.Socket, (h, side_back h, (kind.Raw, refl, (v, version_back v, (p, protocol_back p f.0, (q, queues_back q f.1, (refl, refl)))))))
 says_words (Socket h (Tcp s)) f =
     (verb.Socket, verb_of_name verb.Socket, (h, side_back h, (kind.Tcp, refl, (s.receive_bytes, size_back s.receive_bytes f.0, (s.send_bytes, size_back s.send_bytes f.1, (refl, refl))))))
 says_words Start f = (verb.Start, verb_of_name verb.Start, (refl, refl))

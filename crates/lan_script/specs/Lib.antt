@@ -2,4 +2,3 @@ pub mod Words
 pub mod Verbs
 pub mod Lines
 pub mod Text
-pub mod Queues

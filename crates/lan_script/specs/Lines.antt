@@ -1,5 +1,5 @@
 -- The lines of a script: one row a verb.
-use Rattle.std.specs.Prelude.{ℕ, nat_lt, IsTrue, List}
+use Rattle.std.specs.Prelude.{ℕ, nat_lt, IsTrue, List, drop}
 use Rattle.std.specs.List.{list_all}
 use Rattle.ip_wire.specs.Text.{IsEndpointText, IsIpText, IsEthernetText}
 use Rattle.lan_script.specs.Verbs.{verb_of}
@@ -40,10 +40,17 @@ Short = Reads (First short_of)
 abbrev pub Hex : (List ℕ → List (List ℕ) → Line → Type 0) → List (List ℕ) → Line → Type 0
 Hex = Reads (First hex_bytes_of)
 
--- `RP RB TP TB`: packets and bytes of the receive queue, then of the send queue; then the rest
+-- `RP RB TP TB`: packets and bytes of the receive queue, then of the send queue
+abbrev pub AreQueueSizes : List (List ℕ) → QueueSizes → Type 0
+AreQueueSizes words q =
+    First size_of words q.receive_packets
+    × First size_of (drop 1 words) q.receive_bytes
+    × First size_of (drop 1 (drop 1 words)) q.send_packets
+    × First size_of (drop 1 (drop 1 (drop 1 words))) q.send_bytes
+
+-- the sizes of a socket's queues, then the rest
 abbrev pub Queues : (QueueSizes → List (List ℕ) → Line → Type 0) → List (List ℕ) → Line → Type 0
-Queues next =
-    Size (λ p. Size (λ q. Size (λ r. Size (λ s. next (record { receive_packets = p; receive_bytes = q; send_packets = r; send_bytes = s })))))
+Queues next words line = (q : QueueSizes) × AreQueueSizes words q × next q (drop 1 (drop 1 (drop 1 (drop 1 words)))) line
 
 -- what follows a socket's kind
 abbrev pub IsSocket : Side → SocketKind → List (List ℕ) → Line → Type 0

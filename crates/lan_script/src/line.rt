@@ -1,8 +1,7 @@
 //! The lines of a script.
 ghost use Rattle.std.specs.Prelude.{◌≡◌, ℕ, List, Some, IfSome, OnSome, drop};
 ghost use Rattle.lan_script.specs.Words.{Ends};
-ghost use Rattle.lan_script.specs.Lines.{IsLine, IsSocket, IsStream, IsDatagram, IsHost, IsLink, SaysWords, SaysLine};
-ghost use Rattle.lan_script.specs.Queues.{AreQueueSizes};
+ghost use Rattle.lan_script.specs.Lines.{AreQueueSizes, IsLine, IsSocket, IsStream, IsDatagram, IsHost, IsLink, SaysWords, SaysLine};
 ghost use Rattle.lan_script.specs.declared.kinds.QueueSizes.{QueueSizes};
 ghost use Rattle.lan_script.specs.declared.line.Line.{Line};
 
@@ -193,32 +192,36 @@ fn socket<'a>(side: Side, kind: SocketKind, words: &mut Words<'a>) -> Option<Lin
 {
     match kind {
         SocketKind::Udp => {
-            let queues = queue_sizes(words)?;
-            ended(Line::Socket(side, SocketSpec::Udp(queues)), words)
+            if let Some(queues) = queue_sizes(words) {
+                return ended(Line::Socket(side, SocketSpec::Udp(queues)), words);
+            }
         }
         SocketKind::Icmp => {
-            let queues = queue_sizes(words)?;
-            ended(Line::Socket(side, SocketSpec::Icmp(queues)), words)
+            if let Some(queues) = queue_sizes(words) {
+                return ended(Line::Socket(side, SocketSpec::Icmp(queues)), words);
+            }
         }
         SocketKind::Raw => {
-            let version = words.version()?;
-            let protocol = words.protocol()?;
-            let queues = queue_sizes(words)?;
-            ended(
-                Line::Socket(side, SocketSpec::Raw(version, protocol, queues)),
-                words,
-            )
+            if let (Some(version), Some(protocol), Some(queues)) = (
+                words.version(),
+                words.protocol(),
+                queue_sizes(words),
+            ) {
+                let spec = SocketSpec::Raw(version, protocol, queues);
+                return ended(Line::Socket(side, spec), words);
+            }
         }
         SocketKind::Tcp => {
-            let receive_bytes = words.size()?;
-            let send_bytes = words.size()?;
-            let buffers = StreamSizes {
-                receive_bytes,
-                send_bytes,
-            };
-            ended(Line::Socket(side, SocketSpec::Tcp(buffers)), words)
+            if let (Some(receive_bytes), Some(send_bytes)) = (words.size(), words.size()) {
+                let spec = SocketSpec::Tcp(StreamSizes {
+                    receive_bytes,
+                    send_bytes,
+                });
+                return ended(Line::Socket(side, spec), words);
+            }
         }
     }
+    None
 }
 
 // `RP RB TP TB`.

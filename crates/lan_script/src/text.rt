@@ -1,15 +1,16 @@
 //! The texts of lines.
-ghost use Rattle.std.specs.Prelude.{◌≡◌, ℕ, List, [], ◌∷◌, ◌++◌, map, IfOk, OnOk};
+ghost use Rattle.std.specs.Prelude.{◌≡◌, ℕ, List, [], ◌∷◌, ◌++◌, map, codes, IfOk, OnOk};
 ghost use Rattle.std.specs.List.{join_with_byte};
 ghost use Rattle.std.specs.Fmt.{decimal};
 ghost use Rattle.std.specs.String.{string_bytes};
 ghost use Rattle.ip_wire.specs.Text.{block_text};
 ghost use Rattle.lan_script.specs.Text.{side_text, medium_text, version_text, endpoint_word, hex_word, four_digits, protocol_text, queue_words, line_text};
-ghost use Rattle.lan_script.specs.declared.line.Line.TheVariants.{World, Socket, Connect, Send, SendTo, SendIcmp, SendRaw, Addrs, Hw, Route, Poll, PollAt, Deliver, Damage, Noise};
+ghost use Rattle.lan_script.specs.declared.kinds.SocketSpec.TheVariants.{Raw, Tcp};
+ghost use Rattle.lan_script.specs.declared.line.Line.TheVariants.{World, Socket, Connect, SendTo, SendIcmp, Addrs, Hw, Route, Poll, PollAt, Damage, Noise};
 
 use crate::blocks::Blocks;
 use crate::hex_bytes::HexBytes;
-use crate::kinds::{QueueSizes, Side, SocketSpec};
+use crate::kinds::{QueueSizes, Side, SocketSpec, StreamSizes};
 use crate::line::Line;
 use ip_wire::{EthernetAddress, IpAddress, IpEndpoint, IpVersion};
 use net_base::{Instant, Medium};
@@ -20,33 +21,33 @@ impl<'a> Line<'a> {
     pub fn to_text(&self, alloc: Global) -> Result<String, AllocError>
         ensures { IfOk result (λ text. string_bytes text ≡ line_text self.now) }
     {
-        match self {
-            Line::World(medium, mtu) => world(alloc, *medium, *mtu),
-            Line::Socket(h, spec) => socket(alloc, *h, *spec),
+        match *self {
+            Line::World(medium, mtu) => world(alloc, medium, mtu),
+            Line::Socket(h, spec) => socket(alloc, h, spec),
             Line::Start => String::from_str(alloc, "start"),
-            Line::Listen(h, s, port) => two_numbers(alloc, "listen", *h, *s, usize::from(*port)),
-            Line::Connect(h, s, remote, port) => connect(alloc, *h, *s, *remote, *port),
-            Line::Send(h, s, bytes) => send(alloc, *h, *s, bytes),
-            Line::Recv(h, s, n) => two_numbers(alloc, "recv", *h, *s, *n),
-            Line::Close(h, s) => one_number(alloc, "close", *h, *s),
-            Line::Abort(h, s) => one_number(alloc, "abort", *h, *s),
-            Line::State(h, s) => one_number(alloc, "state", *h, *s),
-            Line::Bind(h, s, port) => two_numbers(alloc, "bind", *h, *s, usize::from(*port)),
-            Line::Ident(h, s, n) => two_numbers(alloc, "ident", *h, *s, usize::from(*n)),
-            Line::SendTo(h, s, remote, bytes) => send_to(alloc, *h, *s, *remote, bytes),
-            Line::SendIcmp(h, s, to, bytes) => send_icmp(alloc, *h, *s, *to, bytes),
-            Line::SendRaw(h, s, bytes) => send_raw(alloc, *h, *s, bytes),
-            Line::RecvFrom(h, s, n) => two_numbers(alloc, "recvfrom", *h, *s, *n),
-            Line::Addrs(h, blocks) => addrs(alloc, *h, blocks),
-            Line::Hw(h, address) => hw(alloc, *h, *address),
-            Line::Route(h, router) => route(alloc, *h, *router),
-            Line::Poll(h, t, budget) => poll(alloc, *h, *t, *budget),
-            Line::PollAt(h, t) => poll_at(alloc, *h, *t),
-            Line::Deliver(h, k, bytes) => deliver(alloc, *h, *k, bytes),
-            Line::Damage(h, k, place, word, bytes) => damage(alloc, *h, *k, *place, *word, bytes),
-            Line::Noise(h, bytes) => noise(alloc, *h, bytes),
-            Line::Room(h, n) => one_number(alloc, "room", *h, *n),
-            Line::Cut(h, k, place) => two_numbers(alloc, "cut", *h, *k, *place),
+            Line::Listen(h, s, port) => two_numbers(alloc, "listen", h, s, usize::from(port)),
+            Line::Connect(h, s, remote, port) => connect(alloc, h, s, remote, port),
+            Line::Send(h, s, ref bytes) => number_and_bytes(alloc, "send", h, s, bytes),
+            Line::Recv(h, s, n) => two_numbers(alloc, "recv", h, s, n),
+            Line::Close(h, s) => one_number(alloc, "close", h, s),
+            Line::Abort(h, s) => one_number(alloc, "abort", h, s),
+            Line::State(h, s) => one_number(alloc, "state", h, s),
+            Line::Bind(h, s, port) => two_numbers(alloc, "bind", h, s, usize::from(port)),
+            Line::Ident(h, s, n) => two_numbers(alloc, "ident", h, s, usize::from(n)),
+            Line::SendTo(h, s, remote, ref bytes) => send_to(alloc, h, s, remote, bytes),
+            Line::SendIcmp(h, s, to, ref bytes) => send_icmp(alloc, h, s, to, bytes),
+            Line::SendRaw(h, s, ref bytes) => number_and_bytes(alloc, "sendraw", h, s, bytes),
+            Line::RecvFrom(h, s, n) => two_numbers(alloc, "recvfrom", h, s, n),
+            Line::Addrs(h, ref blocks) => addrs(alloc, h, blocks),
+            Line::Hw(h, address) => hw(alloc, h, address),
+            Line::Route(h, router) => route(alloc, h, router),
+            Line::Poll(h, t, budget) => poll(alloc, h, t, budget),
+            Line::PollAt(h, t) => poll_at(alloc, h, t),
+            Line::Deliver(h, k, ref bytes) => number_and_bytes(alloc, "deliver", h, k, bytes),
+            Line::Damage(h, k, place, word, ref bytes) => damage(alloc, h, k, place, word, bytes),
+            Line::Noise(h, ref bytes) => noise(alloc, h, bytes),
+            Line::Room(h, n) => one_number(alloc, "room", h, n),
+            Line::Cut(h, k, place) => two_numbers(alloc, "cut", h, k, place),
         }
     }
 }
@@ -69,6 +70,19 @@ fn two_numbers(
     ensures { IfOk result (λ text. string_bytes text ≡ join_with_byte 32 (verb.now ∷ side_text h ∷ decimal first ∷ decimal second ∷ [])) }
 {
     format!(in alloc; "{verb} {} {first} {second}", name(h))
+}
+
+// A verb, a host, a number and bytes.
+fn number_and_bytes(
+    alloc: Global,
+    verb: &str,
+    h: Side,
+    n: usize,
+    bytes: &HexBytes<'_>,
+) -> Result<String, AllocError>
+    ensures { IfOk result (λ text. string_bytes text ≡ join_with_byte 32 (verb.now ∷ side_text h ∷ decimal n ∷ hex_word bytes.now ∷ [])) }
+{
+    format!(in alloc; "{verb} {} {n} {}", name(h), hex(alloc, bytes)?)
 }
 
 fn name(side: Side) -> &'static str
@@ -155,34 +169,54 @@ fn socket(alloc: Global, side: Side, spec: SocketSpec) -> Result<String, AllocEr
     ensures { IfOk result (λ text. string_bytes text ≡ line_text (Socket side spec)) }
 {
     match spec {
-        SocketSpec::Udp(sizes) => format!(in alloc;
-            "socket {} udp {}",
-            name(side),
-            queues(alloc, sizes)?
-        ),
-        SocketSpec::Icmp(sizes) => format!(in alloc;
-            "socket {} icmp {}",
-            name(side),
-            queues(alloc, sizes)?
-        ),
+        SocketSpec::Udp(sizes) => queued_socket(alloc, side, "udp", sizes),
+        SocketSpec::Icmp(sizes) => queued_socket(alloc, side, "icmp", sizes),
         SocketSpec::Raw(version, protocol, sizes) => {
-            let protocol = protocol_word(alloc, protocol)?;
-            format!(in alloc;
-                "socket {} raw {} {protocol} {}",
-                name(side),
-                version_name(version),
-                queues(alloc, sizes)?
-            )
+            raw_socket(alloc, side, version, protocol, sizes)
         }
-        SocketSpec::Tcp(sizes) => {
-            format!(in alloc;
-                "socket {} tcp {} {}",
-                name(side),
-                sizes.receive_bytes,
-                sizes.send_bytes
-            )
-        }
+        SocketSpec::Tcp(sizes) => tcp_socket(alloc, side, sizes),
     }
+}
+
+// A socket of which no more is said than its queues.
+fn queued_socket(
+    alloc: Global,
+    side: Side,
+    kind: &str,
+    sizes: QueueSizes,
+) -> Result<String, AllocError>
+    ensures { IfOk result (λ text. string_bytes text ≡ join_with_byte 32 (codes "socket" ∷ side_text side ∷ kind.now ∷ queue_words sizes)) }
+{
+    format!(in alloc; "socket {} {kind} {}", name(side), queues(alloc, sizes)?)
+}
+
+fn raw_socket(
+    alloc: Global,
+    side: Side,
+    version: Option<IpVersion>,
+    protocol: Option<u8>,
+    sizes: QueueSizes,
+) -> Result<String, AllocError>
+    ensures { IfOk result (λ text. string_bytes text ≡ line_text (Socket side (Raw version protocol sizes))) }
+{
+    let protocol = protocol_word(alloc, protocol)?;
+    format!(in alloc;
+        "socket {} raw {} {protocol} {}",
+        name(side),
+        version_name(version),
+        queues(alloc, sizes)?
+    )
+}
+
+fn tcp_socket(alloc: Global, side: Side, sizes: StreamSizes) -> Result<String, AllocError>
+    ensures { IfOk result (λ text. string_bytes text ≡ line_text (Socket side (Tcp sizes))) }
+{
+    format!(in alloc;
+        "socket {} tcp {} {}",
+        name(side),
+        sizes.receive_bytes,
+        sizes.send_bytes
+    )
 }
 
 fn world(alloc: Global, medium: Medium, mtu: usize) -> Result<String, AllocError>
@@ -227,12 +261,6 @@ fn connect(
     format!(in alloc; "connect {} {s} {remote} {port}", name(h))
 }
 
-fn send(alloc: Global, h: Side, s: usize, bytes: &HexBytes<'_>) -> Result<String, AllocError>
-    ensures { IfOk result (λ text. string_bytes text ≡ line_text (Send h s bytes.now)) }
-{
-    format!(in alloc; "send {} {s} {}", name(h), hex(alloc, bytes)?)
-}
-
 fn send_to(
     alloc: Global,
     h: Side,
@@ -258,12 +286,6 @@ fn send_icmp(
     format!(in alloc; "sendicmp {} {s} {to} {}", name(h), hex(alloc, bytes)?)
 }
 
-fn send_raw(alloc: Global, h: Side, s: usize, bytes: &HexBytes<'_>) -> Result<String, AllocError>
-    ensures { IfOk result (λ text. string_bytes text ≡ line_text (SendRaw h s bytes.now)) }
-{
-    format!(in alloc; "sendraw {} {s} {}", name(h), hex(alloc, bytes)?)
-}
-
 fn poll(alloc: Global, h: Side, t: Instant, budget: u16) -> Result<String, AllocError>
     ensures { IfOk result (λ text. string_bytes text ≡ line_text (Poll h t budget)) }
 {
@@ -274,12 +296,6 @@ fn poll_at(alloc: Global, h: Side, t: Instant) -> Result<String, AllocError>
     ensures { IfOk result (λ text. string_bytes text ≡ line_text (PollAt h t)) }
 {
     format!(in alloc; "pollat {} {}", name(h), t.total_micros())
-}
-
-fn deliver(alloc: Global, h: Side, k: usize, bytes: &HexBytes<'_>) -> Result<String, AllocError>
-    ensures { IfOk result (λ text. string_bytes text ≡ line_text (Deliver h k bytes.now)) }
-{
-    format!(in alloc; "deliver {} {k} {}", name(h), hex(alloc, bytes)?)
 }
 
 fn damage(
