@@ -96,13 +96,17 @@ fn ends_so(alloc: Global, way: Way, script: &str, status: u8, output: &str) -> b
 // Plays each script of a text behind these, in pieces of each size.
 fn play_in_pieces(alloc: Global, before: &[&str], text: &str) -> Result<(), Fail> {
     for part in text.split("==\n") {
-        let case = Case::new(alloc, before, part)?;
-        for size in [1usize, 7, 4096] {
-            let way = Way { size, ..WHOLE };
-            let (script, output) = (case.script.as_str(), case.output.as_str());
-            if !ends_so(alloc, way, script, case.status, output) {
-                return Err(Fail::new(format_args!("in pieces of {size}")));
-            }
+        is_played_in_pieces(alloc, &Case::new(alloc, before, part)?)?;
+    }
+    Ok(())
+}
+
+fn is_played_in_pieces(alloc: Global, case: &Case) -> Result<(), Fail> {
+    for size in [1usize, 7, 4096] {
+        let way = Way { size, ..WHOLE };
+        let (script, output) = (case.script.as_str(), case.output.as_str());
+        if !ends_so(alloc, way, script, case.status, output) {
+            return Err(Fail::new(format_args!("in pieces of {size}")));
         }
     }
     Ok(())
@@ -149,7 +153,10 @@ fn pieces_of_any_size_write_the_same(rt: HostRuntime) -> Result<(), Fail> {
 // Plays both texts by a reader that fails where the second one would come.
 fn play_first(alloc: Global, first: &str, second: &str) -> Result<(), Fail> {
     let begun = Case::new(alloc, &[IP], first)?;
-    let whole = Case::new(alloc, &[IP, first], second)?;
+    is_first_played(alloc, &begun, &Case::new(alloc, &[IP, first], second)?)
+}
+
+fn is_first_played(alloc: Global, begun: &Case, whole: &Case) -> Result<(), Fail> {
     for size in [1usize, 2, 3, 6] {
         let way = Way {
             size,
@@ -185,18 +192,20 @@ bind A 0 9
 // Plays each script of a text by a reader that fails behind its last byte: one more read, and the status would be 2.
 fn play_to_the_last_byte(alloc: Global, text: &str) -> Result<(), Fail> {
     for part in text.split("==\n") {
-        let case = Case::new(alloc, &[], part)?;
-        let way = Way {
-            size: 1,
-            reads: case.script.len(),
-            ..WHOLE
-        };
-        let (script, output) = (case.script.as_str(), case.output.as_str());
-        if !ends_so(alloc, way, script, 1, output) {
+        if !is_played_to_the_last_byte(alloc, &Case::new(alloc, &[], part)?) {
             return Err("of a line that ends the run".into());
         }
     }
     Ok(())
+}
+
+fn is_played_to_the_last_byte(alloc: Global, case: &Case) -> bool {
+    let way = Way {
+        size: 1,
+        reads: case.script.len(),
+        ..WHOLE
+    };
+    ends_so(alloc, way, case.script.as_str(), 1, case.output.as_str())
 }
 
 #[test]

@@ -193,18 +193,29 @@ fn goes(port: &mut Port, alloc: Global, phrase: &str) -> Option<bool> {
 ///     capacities 7         of each sent frame's buffer
 fn play(alloc: Global, text: &str) -> Result<(), Fail> {
     let mut port = ip_port(alloc);
+    play_at(&mut port, alloc, text)
+}
+
+/// The same at a port in which nothing happened yet. (The port is lent: a loop in a function that owns it is dear to check.)
+fn play_at(port: &mut Port, alloc: Global, text: &str) -> Result<(), Fail> {
     for line in text.lines() {
         let (count, phrases) = line.split_once(" times ").unwrap_or(("1", line));
         for _ in 0..count.parse::<u32>()? {
-            for phrase in phrases.split(", ") {
-                let wanted = match phrase.strip_prefix("not ") {
-                    Some(refused) => goes(&mut port, alloc, refused) == Some(false),
-                    None => goes(&mut port, alloc, phrase) == Some(true),
-                };
-                if !wanted {
-                    return Err(phrase.into());
-                }
-            }
+            play_line(port, alloc, phrases)?;
+        }
+    }
+    Ok(())
+}
+
+/// Each phrase of a line, once.
+fn play_line(port: &mut Port, alloc: Global, phrases: &str) -> Result<(), Fail> {
+    for phrase in phrases.split(", ") {
+        let (act, wanted) = match phrase.strip_prefix("not ") {
+            Some(refused) => (refused, false),
+            None => (phrase, true),
+        };
+        if goes(port, alloc, act) != Some(wanted) {
+            return Err(phrase.into());
         }
     }
     Ok(())
