@@ -1,170 +1,278 @@
 //! Connections over Ethernet, with frames that come twice, padded or damaged.
+use crate::hosts::STREAMS;
 use crate::table::{Case, play};
 use std::test::Fail;
 
-/// Hosts on Ethernet with one TCP socket each.
-pub const STREAMS: &str = "ethernet, tcp 64";
-
 /// B listens, A connects.
-pub const OPENED: &str = "
-B listen 0 80
-A connect 0 80 49500
-settle 1
-A frame 0 -> ffffffffffff02000000000108060001080006040001020000000001c0a80101ffffffffffffc0a80102
-A sent -> 3
-A state 0 -> state established
-B state 0 -> state established
-B receive 0 8 -> bytes
+pub const OPENED: &str = "\
+listen B 0 80
+> ok
+connect A 0 192.168.1.2:80 49500
+> ok
+settle
+> idle
+? frame A 0
+> ffffffffffff02000000000108060001080006040001020000000001c0a80101ffffffffffffc0a80102
+? sent A
+> 3
+state A 0
+> state ESTABLISHED
+state B 0
+> state ESTABLISHED
+recv B 0 8
+> data -
 ";
 
-const READ_ONCE: &str = "
-A send 0: 616263 -> count 3
-settle 1
-B receive 0 2 -> bytes 6162
-B receive 0 8 -> bytes 63
-B receive 0 8 -> bytes
+const READ_ONCE: &str = "\
+send A 0 616263
+> ok 3
+settle
+> idle
+recv B 0 2
+> data 6162
+recv B 0 8
+> data 63
+recv B 0 8
+> data -
 ";
 
 /// Each frame comes twice, from the first on.
-const TWICE: &str = "
-B listen 0 80
-A connect 0 80 49500
-settle 2
-A send 0: 616263 -> count 3
-settle 2
-B receive 0 8 -> bytes 616263
-B receive 0 8 -> bytes
+const TWICE: &str = "\
+listen B 0 80
+> ok
+connect A 0 192.168.1.2:80 49500
+> ok
+settle twice
+> idle
+send A 0 616263
+> ok 3
+settle twice
+> idle
+recv B 0 8
+> data 616263
+recv B 0 8
+> data -
 ";
 
 /// Each frame comes with padding, from the first on.
-const PADDED: &str = "
-B listen 0 80
-A connect 0 80 49500
-settle 1: 5a*20
-A send 0: 616263 -> count 3
-settle 1: 5a*20
-B receive 0 8 -> bytes 616263
-B receive 0 8 -> bytes
+const PADDED: &str = "\
+listen B 0 80
+> ok
+connect A 0 192.168.1.2:80 49500
+> ok
+settle padded
+> idle
+send A 0 616263
+> ok 3
+settle padded
+> idle
+recv B 0 8
+> data 616263
+recv B 0 8
+> data -
 ";
 
 /// The end comes behind the bytes.
-const ENDED: &str = "
-A send 0: 616263 -> count 3
-A close 0
-settle 1
-B receive 0 8 -> bytes 616263
-B receive 0 8 -> error finished
-B receive 0 8 -> error finished
+const ENDED: &str = "\
+send A 0 616263
+> ok 3
+close A 0
+> ok
+settle
+> idle
+recv B 0 8
+> data 616263
+recv B 0 8
+> error Finished
+recv B 0 8
+> error Finished
 ";
 
 /// The first segment with data is A's frame 3, and B has sent two frames.
-const WITH_DATA: &str = "
-A send 0: 616263 -> count 3
-A poll -> changed
-A sent -> 4
-B sent -> 2
+const WITH_DATA: &str = "\
+send A 0 616263
+> ok 3
+poll A
+> changed
+? sent A
+> 4
+? sent B
+> 2
 ";
 
 /// The word of the payload is changed; B neither reads nor answers, and reads what comes unchanged.
-const DAMAGED: &str = "
-A send 0: 616263 -> count 3
-A poll -> changed
-A damage 3 18 0xffff -> refused same-sum
-A damage 3 19 0xffff -> refused place
-A damage 3 22 0xffff -> refused place
-A damage 3 20 0x6163
-B poll -> changed
-B sent -> 2
-B receive 0 8 -> bytes
-A deliver 3
-B poll -> changed
-B receive 0 8 -> bytes 616263
+const DAMAGED: &str = "\
+send A 0 616263
+> ok 3
+poll A
+> changed
+damage A 3 18 ffff -
+> refused SameSum
+damage A 3 19 ffff -
+> refused Place
+damage A 3 22 ffff -
+> refused Place
+damage A 3 20 6163 -
+> ok
+poll B
+> changed
+? sent B
+> 2
+recv B 0 8
+> data -
+deliver A 3 -
+> ok
+poll B
+> changed
+recv B 0 8
+> data 616263
 ";
 
 /// Each word of the segment in turn, five in the first table.
-const WORDS: &str = "
-A damage 3 0 0x1234
-A damage 3 2 0x1234
-A damage 3 4 0x1234
-A damage 3 6 0x1234
-A damage 3 8 0x1234
-A damage 3 10 0x1234
-A damage 3 12 0x1234
-A damage 3 14 0x1234
-B poll -> changed
-B sent -> 2
-B receive 0 8 -> bytes
-A damage 3 16 0x1234
+const WORDS: &str = "\
+damage A 3 0 1234 -
+> ok
+damage A 3 2 1234 -
+> ok
+damage A 3 4 1234 -
+> ok
+damage A 3 6 1234 -
+> ok
+damage A 3 8 1234 -
+> ok
+damage A 3 10 1234 -
+> ok
+damage A 3 12 1234 -
+> ok
+damage A 3 14 1234 -
+> ok
+poll B
+> changed
+? sent B
+> 2
+recv B 0 8
+> data -
+damage A 3 16 1234 -
+> ok
 ";
 
-const MORE_WORDS: &str = "
-A damage 3 18 0x1234
-A damage 3 20 0x1234
-B poll -> changed
-B sent -> 2
-B state 0 -> state established
-B receive 0 8 -> bytes
-A deliver 3
-B poll -> changed
-B receive 0 8 -> bytes 616263
+const MORE_WORDS: &str = "\
+damage A 3 18 1234 -
+> ok
+damage A 3 20 1234 -
+> ok
+poll B
+> changed
+? sent B
+> 2
+state B 0
+> state ESTABLISHED
+recv B 0 8
+> data -
+deliver A 3 -
+> ok
+poll B
+> changed
+recv B 0 8
+> data 616263
 ";
 
 /// No socket listens at port 81: B resets.
-const RESET: &str = "
-B listen 0 80
-A connect 0 81 49500
-settle 1
-A state 0 -> state closed
-A receive 0 8 -> error invalid-state
-B state 0 -> state listen
+const RESET: &str = "\
+listen B 0 80
+> ok
+connect A 0 192.168.1.2:81 49500
+> ok
+settle
+> idle
+state A 0
+> state CLOSED
+recv A 0 8
+> error InvalidState
+state B 0
+> state LISTEN
 ";
 
 /// The link knows its neighbours, and B has taken A's SYN, which is A's frame 1.
-const CALLED: &str = "
-B listen 0 80
-A connect 0 80 49500
-A poll -> idle
-A deliver 0
-B poll -> changed
-B deliver 0
-A poll -> changed
-A sent -> 2
-A deliver 1
-B poll -> changed
-B state 0 -> state syn-received
+const CALLED: &str = "\
+listen B 0 80
+> ok
+connect A 0 192.168.1.2:80 49500
+> ok
+poll A
+> none
+deliver A 0 -
+> ok
+poll B
+> changed
+deliver B 0 -
+> ok
+poll A
+> changed
+? sent A
+> 2
+deliver A 1 -
+> ok
+poll B
+> changed
+state B 0
+> state SYN-RECEIVED
 ";
 
 /// A aborts, which takes the listener back; the old SYN opens it again, and nothing comes of it.
-const FELL_BACK: &str = "
-A abort 0
-A poll -> changed
-A sent -> 3
-A deliver 2
-B poll -> changed
-B state 0 -> state listen
-A deliver 1
-B poll -> changed
-B state 0 -> state syn-received
-A state 0 -> state closed
-B receive 0 8 -> error invalid-state
-A receive 0 8 -> error invalid-state
+const FELL_BACK: &str = "\
+abort A 0
+> ok
+poll A
+> changed
+? sent A
+> 3
+deliver A 2 -
+> ok
+poll B
+> changed
+state B 0
+> state LISTEN
+deliver A 1 -
+> ok
+poll B
+> changed
+state B 0
+> state SYN-RECEIVED
+state A 0
+> state CLOSED
+recv B 0 8
+> error InvalidState
+recv A 0 8
+> error InvalidState
 ";
 
-const CARRIED: &str = "
-B listen 0 80
-A connect 0 80 49500
-settle 1
-A send 0: 616263 -> count 3
-A poll -> changed
-A sent -> 4
+const CARRIED: &str = "\
+listen B 0 80
+> ok
+connect A 0 192.168.1.2:80 49500
+> ok
+settle
+> idle
+send A 0 616263
+> ok 3
+poll A
+> changed
+? sent A
+> 4
 ";
 
-const CHANGED_LATE: &str = "
-B listen 0 80
-A connect 0 80 49500
-settle 1
-A send 0: 616263 -> count 3
-A poll -> changed
+const CHANGED_LATE: &str = "\
+listen B 0 80
+> ok
+connect A 0 192.168.1.2:80 49500
+> ok
+settle
+> idle
+send A 0 616263
+> ok 3
+poll A
+> changed
 ";
 
 static CASES: [Case; 10] = [

@@ -1,163 +1,256 @@
 //! Datagrams, whole and cut by the host that sends them.
+use crate::hosts::{ETHERNET, IP, LONG};
 use crate::table::{Case, play};
 use std::test::Fail;
 
-/// Hosts on bare IP with one UDP socket each.
-const IP: &str = "ip, udp 1 64";
-
-/// The same with long queues.
-const LONG: &str = "ip, udp 2 8192";
-
-const ETHERNET: &str = "ethernet, udp 1 64";
-
 /// Both sockets are bound.
-const BOUND: &str = "
-A bind 0 48896
-B bind 0 53
+const BOUND: &str = "\
+bind A 0 48896
+> ok
+bind B 0 53
+> ok
 ";
 
 /// A datagram goes, is read, and goes a second time with the next number.
-const ONE: &str = "
-A send-to 0 53: aa0000ff
-A poll -> changed
-A frame 0 -> 45000020c24d00004011352cc0a80101c0a80102bf000035000c124daa0000ff
-A deliver 0
-B poll -> changed
-B receive-from 0 64 -> from 48896 aa0000ff
-A send-to 0 53: aa0000ff
-A poll -> changed
-A frame 1 -> 45000020c24e00004011352bc0a80101c0a80102bf000035000c124daa0000ff
+const ONE: &str = "\
+sendto A 0 192.168.1.2:53 aa0000ff
+> ok
+poll A
+> changed
+? frame A 0
+> 45000020c24d00004011352cc0a80101c0a80102bf000035000c124daa0000ff
+deliver A 0 -
+> ok
+poll B
+> changed
+recvfrom B 0 64
+> from 192.168.1.1:48896 aa0000ff
+sendto A 0 192.168.1.2:53 aa0000ff
+> ok
+poll A
+> changed
+? frame A 1
+> 45000020c24e00004011352bc0a80101c0a80102bf000035000c124daa0000ff
 ";
 
 /// Delivered with padding and twice, it is read twice.
-const TWICE: &str = "
-A send-to 0 53: aa0000ff
-A poll -> changed
-A deliver 0: 5a*20
-A deliver 0: 5a*1
-B poll -> changed
-B receive-from 0 64 -> from 48896 aa0000ff
-B receive-from 0 64 -> from 48896 aa0000ff
-B receive-from 0 64 -> error exhausted
+const TWICE: &str = "\
+sendto A 0 192.168.1.2:53 aa0000ff
+> ok
+poll A
+> changed
+deliver A 0 {20*5a}
+> ok
+deliver A 0 5a
+> ok
+poll B
+> changed
+recvfrom B 0 64
+> from 192.168.1.1:48896 aa0000ff
+recvfrom B 0 64
+> from 192.168.1.1:48896 aa0000ff
+recvfrom B 0 64
+> error Exhausted
 ";
 
 /// A datagram to a port that isn't bound is answered with an error that quotes it.
-const UNREACHABLE: &str = "
-A bind 0 48896
-A send-to 0 53: aa0000ff
-A poll -> changed
-A deliver 0
-B poll -> changed
-B frame 0 -> 4500003ce145000040011628c0a80102c0a801010303806e0000000045000020c24d00004011352cc0a80101c0a80102bf000035000c124daa0000ff
+const UNREACHABLE: &str = "\
+bind A 0 48896
+> ok
+sendto A 0 192.168.1.2:53 aa0000ff
+> ok
+poll A
+> changed
+deliver A 0 -
+> ok
+poll B
+> changed
+? frame B 0
+> 4500003ce145000040011628c0a80102c0a801010303806e0000000045000020c24d00004011352cc0a80101c0a80102bf000035000c124daa0000ff
 ";
 
 /// A device without room takes nothing, and the datagram stays.
-const NO_ROOM: &str = "
-A send-to 0 53: aa0000ff
-A room 0
-A poll -> idle
-A sent -> 0
-A room 1
-A poll -> changed
-A sent -> 1
-A frame 0 -> 45000020c24d00004011352cc0a80101c0a80102bf000035000c124daa0000ff
+const NO_ROOM: &str = "\
+sendto A 0 192.168.1.2:53 aa0000ff
+> ok
+room A 0
+> ok
+poll A
+> none
+? sent A
+> 0
+room A 1
+> ok
+poll A
+> changed
+? sent A
+> 1
+? frame A 0
+> 45000020c24d00004011352cc0a80101c0a80102bf000035000c124daa0000ff
 ";
 
 /// With no room, frames that wait are not taken either.
-const NOT_TAKEN: &str = "
-A send-to 0 53: aa0000ff
-A poll -> changed
-A deliver 0
-B room 0
-B poll -> idle
-B receive-from 0 64 -> error exhausted
-B room 1
-B poll -> changed
-B receive-from 0 64 -> from 48896 aa0000ff
+const NOT_TAKEN: &str = "\
+sendto A 0 192.168.1.2:53 aa0000ff
+> ok
+poll A
+> changed
+deliver A 0 -
+> ok
+room B 0
+> ok
+poll B
+> none
+recvfrom B 0 64
+> error Exhausted
+room B 1
+> ok
+poll B
+> changed
+recvfrom B 0 64
+> from 192.168.1.1:48896 aa0000ff
 ";
 
 /// A long datagram goes in two pieces; both are needed, in either order.
-const PIECES: &str = "
-A send-to 0 53: 07*2000
-A poll -> changed
-A sent -> 2
-A begins 0 -> 1500 450005dcc24d200040110f70
-A begins 1 -> 548 45000224c24d00b94011326f
-A deliver 1
-B poll -> changed
-B receive-from 0 4000 -> error exhausted
-A deliver 0
-B poll -> changed
-B receive-from 0 4000 -> from 48896 07*2000
+const PIECES: &str = "\
+sendto A 0 192.168.1.2:53 {2000*07}
+> ok
+poll A
+> changed
+? sent A
+> 2
+? begins A 0 450005dcc24d200040110f70
+> 1500
+? begins A 1 45000224c24d00b94011326f
+> 548
+deliver A 1 -
+> ok
+poll B
+> changed
+recvfrom B 0 4000
+> error Exhausted
+deliver A 0 -
+> ok
+poll B
+> changed
+recvfrom B 0 4000
+> from 192.168.1.1:48896 {2000*07}
 ";
 
 /// While pieces wait the next datagram is not cut.
-const BUSY: &str = "
-A send-to 0 53: 01*4000
-A send-to 0 53: 02*4000
-A poll -> changed
-A sent -> 2
-A poll -> changed
-A sent -> 5
-A poll -> idle
-A sent -> 6
-A begins 2 -> 1068 4500042c
-A begins 3 -> 1500 450005dc
-A begins 4 -> 1500 450005dc
-A begins 5 -> 1068 4500042c
+const BUSY: &str = "\
+sendto A 0 192.168.1.2:53 {4000*01}
+> ok
+sendto A 0 192.168.1.2:53 {4000*02}
+> ok
+poll A
+> changed
+? sent A
+> 2
+poll A
+> changed
+? sent A
+> 5
+poll A
+> none
+? sent A
+> 6
+? begins A 2 4500042c
+> 1068
+? begins A 3 450005dc
+> 1500
+? begins A 4 450005dc
+> 1500
+? begins A 5 4500042c
+> 1068
 ";
 
-const BOTH_READ: &str = "
-settle 1
-B receive-from 0 8000 -> from 48896 01*4000
-B receive-from 0 8000 -> from 48896 02*4000
-B receive-from 0 8000 -> error exhausted
+const BOTH_READ: &str = "\
+settle
+> idle
+recvfrom B 0 8000
+> from 192.168.1.1:48896 {4000*01}
+recvfrom B 0 8000
+> from 192.168.1.1:48896 {4000*02}
+recvfrom B 0 8000
+> error Exhausted
 ";
 
 /// A datagram that the fragmentation buffer just can't hold is dropped; one byte less goes.
-const LONGEST: &str = "
-A send-to 0 53: 00*4069
-A poll -> changed
-A sent -> 0
-A send-to 0 53: 00*4068
-settle 1
-A begins 0 -> 1500 450005dcc24d2000
-A begins 1 -> 1500 450005dcc24d20b9
-A begins 2 -> 1136 45000470c24d0172
+const LONGEST: &str = "\
+sendto A 0 192.168.1.2:53 {4069*00}
+> ok
+poll A
+> changed
+? sent A
+> 0
+sendto A 0 192.168.1.2:53 {4068*00}
+> ok
+settle
+> idle
+? begins A 0 450005dcc24d2000
+> 1500
+? begins A 1 450005dcc24d20b9
+> 1500
+? begins A 2 45000470c24d0172
+> 1136
 ";
 
 /// An idle host needn't be polled; one with a piece that waits is to be polled at once.
-const WHEN: &str = "
-A poll-at 0 -> never
-A send-to 0 53: 07*2000
-A room 1
-A poll -> changed
-A poll-at 0 -> at 0
-A room 1
-A poll -> idle
-A sent -> 2
-A poll-at 0 -> never
+const WHEN: &str = "\
+pollat A 0
+> never
+sendto A 0 192.168.1.2:53 {2000*07}
+> ok
+room A 1
+> ok
+poll A
+> changed
+pollat A 0
+> at 0
+room A 1
+> ok
+poll A
+> none
+? sent A
+> 2
+pollat A 0
+> never
 ";
 
 /// Requests for a neighbour are a second apart.
-const SILENCE: &str = "
-A bind 0 48896
-A send-to 0 53: aa
-A poll -> idle
-A frame 0 -> ffffffffffff02000000000108060001080006040001020000000001c0a80101ffffffffffffc0a80102
-A poll-at 0 -> at 1000000
-A poll-with 999999 8 -> idle
-A sent -> 1
-A poll-with 1000000 8 -> idle
-A sent -> 2
-A frame 1 -> ffffffffffff02000000000108060001080006040001020000000001c0a80101ffffffffffffc0a80102
+const SILENCE: &str = "\
+bind A 0 48896
+> ok
+sendto A 0 192.168.1.2:53 aa
+> ok
+poll A
+> none
+? frame A 0
+> ffffffffffff02000000000108060001080006040001020000000001c0a80101ffffffffffffc0a80102
+pollat A 0
+> at 1000000
+poll A 999999 8
+> none
+? sent A
+> 1
+poll A 1000000 8
+> none
+? sent A
+> 2
+? frame A 1
+> ffffffffffff02000000000108060001080006040001020000000001c0a80101ffffffffffffc0a80102
 ";
 
-const TWO_LONG: &str = "
-A bind 0 48896
-B bind 0 53
-A send-to 0 53: 01*4000
-A send-to 0 53: 02*4000
+const TWO_LONG: &str = "\
+bind A 0 48896
+> ok
+bind B 0 53
+> ok
+sendto A 0 192.168.1.2:53 {4000*01}
+> ok
+sendto A 0 192.168.1.2:53 {4000*02}
+> ok
 ";
 
 static CASES: [Case; 11] = [

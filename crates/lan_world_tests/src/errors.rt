@@ -1,6 +1,6 @@
 //! What faults, refusals and errors say.
 use crate::hosts::tell;
-use lan_world::{Fault, Refused, WorldError};
+use lan::{Fault, Refused, WorldError};
 use std::fmt::Display;
 use std::test::Fail;
 

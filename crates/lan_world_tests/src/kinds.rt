@@ -1,94 +1,160 @@
 //! Every kind of event, taken with ample memory.
+use crate::hosts::EACH;
 use crate::table::{Case, play};
 use std::test::Fail;
 
-/// Hosts on bare IP with one socket of each kind: UDP, ICMP, raw, TCP.
-const EACH: &str = "ip, udp 1 64, icmp, raw, tcp 64";
+/// Hosts on Ethernet with one socket of each kind.
+const ETHERNET: &str = "\
+world eth 1514
+socket A udp 1 64 1 64
+socket A icmp 2 64 2 64
+socket A raw 4 89 2 64 2 64
+socket A tcp 64 64
+socket B udp 1 64 1 64
+socket B icmp 2 64 2 64
+socket B raw 4 89 2 64 2 64
+socket B tcp 64 64
+";
 
-const ETHERNET: &str = "ethernet, udp 1 64, icmp, raw, tcp 64";
-
-const OPEN: &str = "
-A bind 0 48896
-B bind 0 53
-A ident 1 0x1234
-B listen 3 80
-A connect 3 80 49500
-settle 1
-A state 3 -> state established
+const OPEN: &str = "\
+bind A 0 48896
+> ok
+bind B 0 53
+> ok
+ident A 1 4660
+> ok
+listen B 3 80
+> ok
+connect A 3 192.168.1.2:80 49500
+> ok
+settle
+> idle
+state A 3
+> state ESTABLISHED
 ";
 
 /// A call of each kind of socket, and what the other host reads of it.
-const SENT: &str = "
-A send-to 0 53: aa0000ff
-A send-icmp 1: 0800e5ca12340001
-A send-raw 2: 45000018000000004059f739c0a80101c0a8010201020304
-A send 3: 616263 -> count 3
-settle 1
-B receive-from 0 64 -> from 48896 aa0000ff
-A receive-from 1 64 -> from-host 0000edca12340001
-B receive-from 2 64 -> bytes 45000018c2510000405934e8c0a80101c0a8010201020304
-B receive 3 64 -> bytes 616263
-A close 3
-A close 0
+const SENT: &str = "\
+sendto A 0 192.168.1.2:53 aa0000ff
+> ok
+sendicmp A 1 192.168.1.2 0800e5ca12340001
+> ok
+sendraw A 2 45000018000000004059f739c0a80101c0a8010201020304
+> ok
+send A 3 616263
+> ok 3
+settle
+> idle
+recvfrom B 0 64
+> from 192.168.1.1:48896 aa0000ff
+recvfrom A 1 64
+> from 192.168.1.2 0000edca12340001
+recvfrom B 2 64
+> data 45000018c2510000405934e8c0a80101c0a8010201020304
+recv B 3 64
+> data 616263
+close A 3
+> ok
+close A 0
+> ok
 ";
 
 /// Each setting of a TCP socket.
-const SET: &str = "
-A set 3 timeout 5000000
-A set 3 ack-delay 20000
-A set 3 keep-alive 1000000
-A set 3 no-nagle
-A set 3 hop-limit 9
-A set 3 reno
-A set 3 timestamps 7
-A set 3 pause-synack
-A set 3 no-ack-delay
-A state 3 -> state closed
+const SET: &str = "\
+set timeout
+> ok
+set ack-delay
+> ok
+set keep-alive
+> ok
+set no-nagle
+> ok
+set hop-limit-9
+> ok
+set reno
+> ok
+set timestamps
+> ok
+set pause-synack
+> ok
+set no-ack-delay
+> ok
+state A 3
+> state CLOSED
 ";
 
 /// A SYN has the hop limit that was set.
-const LIMITED: &str = "
-A set 3 hop-limit 9
-A connect 3 80 49500
-A poll -> changed
-A begins 0 -> 52 45000034c24d000009066c23c0a80101c0a80102c15c0050
+const LIMITED: &str = "\
+set hop-limit-9
+> ok
+connect A 3 192.168.1.2:80 49500
+> ok
+poll A
+> changed
+? begins A 0 45000034c24d000009066c23c0a80101c0a80102c15c0050
+> 52
 ";
 
 /// A limit of 0 is none, and then it is 64.
-const UNLIMITED: &str = "
-A set 3 hop-limit 9
-A set 3 hop-limit 0
-A connect 3 80 49500
-A poll -> changed
-A begins 0 -> 52 45000034c24d000040063523c0a80101c0a80102c15c0050
+const UNLIMITED: &str = "\
+set hop-limit-9
+> ok
+set hop-limit-0
+> ok
+connect A 3 192.168.1.2:80 49500
+> ok
+poll A
+> changed
+? begins A 0 45000034c24d000040063523c0a80101c0a80102c15c0050
+> 52
 ";
 
 /// The settings of a host; the hardware address is Ethernet's alone.
-const HOSTS_SET: &str = "
-A hardware-address: 020000000009
-A hardware-address: 010000000009 -> error not-unicast
-A address: c0a80107
-A address: e0000001 -> error not-unicast
-A no-address
-A route: c0a80109
-A any-ip
-A reassembly-timeout 1000000
-A poll -> idle
-A poll-at 0 -> never
-A room 5
+const HOSTS_SET: &str = "\
+hw A 02-00-00-00-00-09
+> ok
+hw A 01-00-00-00-00-09
+> error NotUnicast
+addrs A 192.168.1.7/24
+> ok
+addrs A 224.0.0.1/24
+> error NotUnicast
+addrs A
+> ok
+route A 192.168.1.9
+> ok
+set any-ip
+> ok
+set reassembly-timeout
+> ok
+poll A
+> none
+pollat A 0
+> never
+room A 5
+> ok
 ";
 
 /// What the link does with a segment, which is A's first frame.
-const LINK: &str = "
-A connect 3 80 49500
-A poll -> changed
-A deliver 0
-A deliver 0: 5a*7
-A damage 0 0 0x1234
-B noise: 00
-A cut 0 8
-A abort 3
-A hardware-address: 020000000009 -> error medium
+const LINK: &str = "\
+connect A 3 192.168.1.2:80 49500
+> ok
+poll A
+> changed
+deliver A 0 -
+> ok
+deliver A 0 {7*5a}
+> ok
+damage A 0 0 1234 -
+> ok
+noise B 00
+> ok
+cut A 0 8
+> ok
+abort A 3
+> ok
+hw A 02-00-00-00-00-09
+> error Medium
 ";
 
 static CASES: [Case; 6] = [

@@ -4,7 +4,7 @@
 #![tactic(auto)]
 
 #[cfg(test)]
-mod answers;
+mod acts;
 #[cfg(test)]
 mod connections;
 #[cfg(test)]
@@ -14,8 +14,6 @@ mod datagrams;
 #[cfg(test)]
 mod errors;
 #[cfg(test)]
-mod events;
-#[cfg(test)]
 mod floods;
 #[cfg(test)]
 mod hosts;
@@ -24,7 +22,11 @@ mod kinds;
 #[cfg(test)]
 mod made;
 #[cfg(test)]
+mod others;
+#[cfg(test)]
 mod refusals;
+#[cfg(test)]
+mod settle;
 #[cfg(test)]
 mod table;
 #[cfg(test)]

@@ -1,9 +1,27 @@
 //! Which two hosts make a world.
-use crate::hosts::{capabilities, host, port, tell, world_of};
-use lan_world::{Host, WorldError};
-use net_base::{ChecksumCapabilities, DeviceCapabilities, Medium};
+use crate::hosts::tell;
+use interface::{Config, Interface, SocketSet};
+use ip_wire::{EthernetAddress, HardwareAddress};
+use lan::{Host, Port, World, WorldError};
+use net_base::{
+    ChecksumCapabilities, DeviceCapabilities, Instant, ManagedSlice, Medium, RingBuffer,
+};
+use sockets::{Socket, tcp};
 use std::alloc::Global;
 use std::test::Fail;
+
+/// A device of this medium, whose longest IP packet has so many bytes.
+fn capabilities(medium: Medium, ip_mtu: u16) -> DeviceCapabilities {
+    let header = match medium {
+        Medium::Ethernet => 14,
+        Medium::Ip => 0,
+    };
+    DeviceCapabilities {
+        medium,
+        max_transmission_unit: usize::from(ip_mtu) + header,
+        checksum: ChecksumCapabilities::default(),
+    }
+}
 
 /// The device of A, which is as B's but for what is wrong with it.
 fn described(wrong: &str) -> DeviceCapabilities {
@@ -18,6 +36,57 @@ fn described(wrong: &str) -> DeviceCapabilities {
     described
 }
 
+/// The settings of host n.
+fn config(n: u8, medium: Medium) -> Config {
+    Config {
+        random_seed: u64::from(n),
+        hardware_addr: match medium {
+            Medium::Ethernet => HardwareAddress::Ethernet(EthernetAddress([2, 0, 0, 0, 0, n])),
+            Medium::Ip => HardwareAddress::Ip,
+        },
+    }
+}
+
+/// The interface of host n at its port, without addresses.
+fn interface(alloc: Global, n: u8, port: &Port, medium: Medium) -> Option<Interface> {
+    match Interface::new(alloc, &config(n, medium), port, Instant::ZERO) {
+        Ok(interface) => Some(interface),
+        Err(_) => None,
+    }
+}
+
+/// Host n over this device, without sockets.
+fn host(alloc: Global, n: u8, described: DeviceCapabilities) -> Option<Host> {
+    let port = Port::new(alloc, described);
+    match interface(alloc, n, &port, described.medium) {
+        Some(interface) => Some(Host {
+            interface,
+            sockets: SocketSet::new(ManagedSlice::Owned(Vec::new(alloc))),
+            port,
+        }),
+        None => None,
+    }
+}
+
+fn no_buffer(alloc: Global) -> RingBuffer<u8> {
+    RingBuffer::new(ManagedSlice::Fixed(Vec::new(alloc)))
+}
+
+/// A TCP socket with no room for bytes, if a socket takes such buffers.
+fn stream(alloc: Global) -> Option<Socket> {
+    let (received, queued) = (no_buffer(alloc), no_buffer(alloc));
+    if !tcp::Socket::fits_buffer(&received) || !tcp::Socket::fits_buffer(&queued) {
+        return None;
+    }
+    Some(Socket::Tcp(tcp::Socket::new(received, queued)))
+}
+
+/// Adds a TCP socket with no room for bytes.
+fn add_stream(alloc: Global, sockets: &mut SocketSet<Socket>) -> Option<()> {
+    sockets.add(stream(alloc)?).ok()?;
+    Some(())
+}
+
 /// The MTU of A's port, which needn't be that of the device that its interface was made over.
 fn other_mtu(wrong: &str) -> Option<u16> {
     match wrong {
@@ -27,34 +96,34 @@ fn other_mtu(wrong: &str) -> Option<u16> {
     }
 }
 
-/// Makes of A what is wrong with it, but for its device and its sockets; not where there is no memory for that.
+/// Makes of A what is wrong with it, but for its device; not where there is no memory for that.
 fn spoil(alloc: Global, a: &mut Host, wrong: &str) -> bool {
     if let Some(mtu) = other_mtu(wrong) {
-        a.port = port(alloc, capabilities(Medium::Ip, mtu));
+        a.port = Port::new(alloc, capabilities(Medium::Ip, mtu));
     }
-    if wrong == "any IP" {
-        a.interface.set_any_ip(true);
+    match wrong {
+        "its buffers" => add_stream(alloc, &mut a.sockets).is_some(),
+        "a frame waits" => a.port.push(Vec::new(alloc)).is_ok(),
+        "any IP" => {
+            a.interface.set_any_ip(true);
+            true
+        }
+        _ => true,
     }
-    wrong != "a frame waits" || a.port.push(Vec::new(alloc)).is_ok()
 }
 
 fn host_a(alloc: Global, wrong: &str) -> Option<Host> {
-    let sockets = if wrong == "its buffers" {
-        "tcp 0"
-    } else {
-        "udp 1 64"
-    };
-    let mut a = host(alloc, 1, described(wrong), sockets)?;
+    let mut a = host(alloc, 1, described(wrong))?;
     spoil(alloc, &mut a, wrong).then_some(a)
 }
 
 fn host_b(alloc: Global) -> Option<Host> {
-    host(alloc, 2, capabilities(Medium::Ip, 1_500), "udp 1 64")
+    host(alloc, 2, capabilities(Medium::Ip, 1_500))
 }
 
 /// Why the two make no world, if they don't.
 fn refusal(alloc: Global, a: Host, b: Host) -> Option<WorldError> {
-    world_of(alloc, a, b).err()
+    World::new(alloc, a, b).err()
 }
 
 /// What becomes of the two, in a word; `None` where there was no memory for the world.
