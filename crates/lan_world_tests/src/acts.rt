@@ -8,7 +8,7 @@ use std::alloc::{AllocError, Global};
 use std::test::Fail;
 
 /// What a line says, or one of the acts that carry frames to and fro.
-#[derive(Clone, Copy)]
+#[derive(Drop)]
 pub enum Act<'a> {
     Line(&'a str),
     /// With a budget of 8.
@@ -27,18 +27,18 @@ fn named(alloc: Global, line: &str) -> Result<Option<Event>, AllocError> {
     }
 }
 
-fn event(alloc: Global, act: Act<'_>) -> Result<Option<Event>, AllocError> {
+fn event(alloc: Global, act: &Act<'_>) -> Result<Option<Event>, AllocError> {
     match act {
         Act::Line(line) => named(alloc, line),
-        Act::Poll(side, moment) => Ok(Some(Event::Poll(side, moment, 8))),
-        Act::PollAt(side, moment) => Ok(Some(Event::PollAt(side, moment))),
+        Act::Poll(side, moment) => Ok(Some(Event::Poll(*side, *moment, 8))),
+        Act::PollAt(side, moment) => Ok(Some(Event::PollAt(*side, *moment))),
         Act::Deliver(side, frame, padding) => {
-            Ok(Some(Event::Deliver(side, frame, filled(alloc, padding)?)))
+            Ok(Some(Event::Deliver(*side, *frame, filled(alloc, *padding)?)))
         }
     }
 }
 
-fn step(alloc: Global, world: &mut World, act: Act<'_>) -> Result<Answer, End> {
+fn step(alloc: Global, world: &mut World, act: &Act<'_>) -> Result<Answer, End> {
     match event(alloc, act)? {
         Some(event) => Ok(world.step(event)?),
         None => Err(End::BadEvent),
@@ -49,7 +49,7 @@ fn step(alloc: Global, world: &mut World, act: Act<'_>) -> Result<Answer, End> {
 pub fn take(
     rt: &HostRuntime,
     world: &mut World,
-    act: Act<'_>,
+    act: &Act<'_>,
 ) -> Result<Result<Answer, End>, Fail> {
     match step(rt.alloc(), world, act) {
         Err(End::Refusal(Refused::Memory)) => {
@@ -61,7 +61,7 @@ pub fn take(
 }
 
 /// Takes an act that isn't refused.
-pub fn taken(rt: &HostRuntime, world: &mut World, act: Act<'_>) -> Result<Answer, Fail> {
+pub fn taken(rt: &HostRuntime, world: &mut World, act: &Act<'_>) -> Result<Answer, Fail> {
     let answer = take(rt, world, act)?;
     Ok(answer?)
 }

@@ -66,7 +66,7 @@ pub fn settles(rt: &HostRuntime, run: &mut Run, manner: Manner) -> Result<bool, 
 /// Polls the host, and carries its new frames: whether there were any.
 fn turn(rt: &HostRuntime, run: &mut Run, side: Side, manner: Manner) -> Result<bool, Fail> {
     let now = moment(run);
-    let _ = taken(rt, &mut run.world, Act::Poll(side, now))?;
+    let _ = taken(rt, &mut run.world, &Act::Poll(side, now))?;
     let first = match side {
         Side::A => run.next_a,
         Side::B => run.next_b,
@@ -77,7 +77,7 @@ fn turn(rt: &HostRuntime, run: &mut Run, side: Side, manner: Manner) -> Result<b
             let _ = taken(
                 rt,
                 &mut run.world,
-                Act::Deliver(side, frame, manner.padding),
+                &Act::Deliver(side, frame, manner.padding),
             )?;
         }
     }
@@ -91,7 +91,7 @@ fn turn(rt: &HostRuntime, run: &mut Run, side: Side, manner: Manner) -> Result<b
 /// When the host wants to be polled; 2^61 for never.
 fn due(rt: &HostRuntime, run: &mut Run, side: Side) -> Result<i64, Fail> {
     let now = moment(run);
-    match taken(rt, &mut run.world, Act::PollAt(side, now))? {
+    match taken(rt, &mut run.world, &Act::PollAt(side, now))? {
         Answer::At(Some(moment)) => Ok(moment.total_micros()),
         _ => Ok(1 << 61),
     }

@@ -128,7 +128,7 @@ fn answer(
         "poll B" => Act::Poll(Side::B, moment(run)),
         _ => Act::Line(line),
     };
-    Ok(Some(take(rt, &mut run.world, act)?))
+    Ok(Some(take(rt, &mut run.world, &act)?))
 }
 
 /// Whether the answer is written so.
