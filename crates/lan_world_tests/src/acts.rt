@@ -62,6 +62,8 @@ pub fn take(
 
 /// Takes an act that isn't refused.
 pub fn taken(rt: &HostRuntime, world: &mut World, act: &Act<'_>) -> Result<Answer, Fail> {
-    let answer = take(rt, world, act)?;
-    Ok(answer?)
+    match take(rt, world, act)? {
+        Ok(answer) => Ok(answer),
+        Err(_) => Err("an act is refused".into()),
+    }
 }

@@ -49,18 +49,30 @@ pub fn manner_of(line: &str) -> Option<Manner> {
 /// Polls both hosts when they ask for it and carries their frames, until neither has anything to do within five seconds.
 pub fn settles(rt: &HostRuntime, run: &mut Run, manner: Manner) -> Result<bool, Fail> {
     for _ in 0..60 {
-        let of_a = turn(rt, run, Side::A, manner)?;
-        let of_b = turn(rt, run, Side::B, manner)?;
-        if of_a || of_b {
-            continue;
-        }
-        let next = due(rt, run, Side::A)?.min(due(rt, run, Side::B)?);
-        if next.saturating_sub(run.now) > 5_000_000 {
+        if !turns(rt, run, manner)? && !goes_on(rt, run)? {
             return Ok(true);
         }
-        run.now = run.now.max(next);
     }
     Ok(false)
+}
+
+/// The turns of both hosts: whether there were new frames.
+fn turns(rt: &HostRuntime, run: &mut Run, manner: Manner) -> Result<bool, Fail> {
+    let of_a = turn(rt, run, Side::A, manner)?;
+    let of_b = turn(rt, run, Side::B, manner)?;
+    Ok(of_a || of_b)
+}
+
+/// Goes on to the moment that a host asks for, if one does so within five seconds.
+fn goes_on(rt: &HostRuntime, run: &mut Run) -> Result<bool, Fail> {
+    let due_a = due(rt, run, Side::A)?;
+    let due_b = due(rt, run, Side::B)?;
+    let next = due_a.min(due_b);
+    if next.saturating_sub(run.now) > 5_000_000 {
+        return Ok(false);
+    }
+    run.now = run.now.max(next);
+    Ok(true)
 }
 
 /// Polls the host, and carries its new frames: whether there were any.
@@ -73,19 +85,26 @@ fn turn(rt: &HostRuntime, run: &mut Run, side: Side, manner: Manner) -> Result<b
     };
     let end = run.world.sent(side).len();
     for frame in first..end {
-        for _ in 0..manner.times {
-            let _ = taken(
-                rt,
-                &mut run.world,
-                &Act::Deliver(side, frame, manner.padding),
-            )?;
-        }
+        carry(
+            rt,
+            &mut run.world,
+            &Act::Deliver(side, frame, manner.padding),
+            manner.times,
+        )?;
     }
     match side {
         Side::A => run.next_a = end,
         Side::B => run.next_b = end,
     }
     Ok(first < end)
+}
+
+/// Takes the act so often.
+fn carry(rt: &HostRuntime, world: &mut World, act: &Act<'_>, times: usize) -> Result<(), Fail> {
+    for _ in 0..times {
+        let _ = taken(rt, world, act)?;
+    }
+    Ok(())
 }
 
 /// When the host wants to be polled; 2^61 for never.

@@ -105,13 +105,7 @@ fn goes(rt: &HostRuntime, run: &mut Run, line: &str, wanted: &str) -> Result<boo
         return Ok(settles(rt, run, manner)? && wanted == "idle");
     }
     let given = answer(rt, run, line)?;
-    match is_so(rt.alloc(), &run.world, line, &given, wanted) {
-        Ok(so) => Ok(so),
-        Err(_) => {
-            tell(rt, "an answer is written again")?;
-            Ok(is_so(rt.alloc(), &run.world, line, &given, wanted)?)
-        }
-    }
+    is_answer(rt, &run.world, line, &given, wanted)
 }
 
 /// What the line's event answers; `None` of a question.
@@ -131,7 +125,22 @@ fn answer(
     Ok(Some(take(rt, &mut run.world, &act)?))
 }
 
-/// Whether the answer is written so.
+/// Whether the answer is written so; written again where an allocation is refused.
+fn is_answer(
+    rt: &HostRuntime,
+    world: &World,
+    line: &str,
+    given: &Option<Result<Answer, End>>,
+    wanted: &str,
+) -> Result<bool, Fail> {
+    if let Ok(so) = is_so(rt.alloc(), world, line, given, wanted) {
+        return Ok(so);
+    }
+    tell(rt, "an answer is written again")?;
+    Ok(is_so(rt.alloc(), world, line, given, wanted)?)
+}
+
+/// The same, if memory is left.
 fn is_so(
     alloc: Global,
     world: &World,
