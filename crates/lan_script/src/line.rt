@@ -101,14 +101,39 @@ fn arguments<'a>(verb: Verb, words: &mut Words<'a>) -> Option<Line<'a>>
     ensures only { (line : Line) → IsLine verb words.old line → result ≡ Some line }
 {
     match verb {
-        Verb::World => ended(Line::World(words.medium()?, words.size()?), words),
-        Verb::Socket => socket(words.side()?, words.kind()?, words),
-        Verb::Start => ended(Line::Start, words),
-        Verb::Stream(verb) => stream(verb, words.side()?, words.size()?, words),
-        Verb::Datagram(verb) => datagram(verb, words.side()?, words.size()?, words),
-        Verb::Host(verb) => host(verb, words.side()?, words),
-        Verb::Link(verb) => link(verb, words.side()?, words),
+        Verb::World => {
+            if let (Some(medium), Some(mtu)) = (words.medium(), words.size()) {
+                return ended(Line::World(medium, mtu), words);
+            }
+        }
+        Verb::Socket => {
+            if let (Some(side), Some(kind)) = (words.side(), words.kind()) {
+                return socket(side, kind, words);
+            }
+        }
+        Verb::Start => return ended(Line::Start, words),
+        Verb::Stream(verb) => {
+            if let (Some(side), Some(place)) = (words.side(), words.size()) {
+                return stream(verb, side, place, words);
+            }
+        }
+        Verb::Datagram(verb) => {
+            if let (Some(side), Some(place)) = (words.side(), words.size()) {
+                return datagram(verb, side, place, words);
+            }
+        }
+        Verb::Host(verb) => {
+            if let Some(side) = words.side() {
+                return host(verb, side, words);
+            }
+        }
+        Verb::Link(verb) => {
+            if let Some(side) = words.side() {
+                return link(verb, side, words);
+            }
+        }
     }
+    None
 }
 
 // Behind `H S` of a call on a TCP socket: a row for each verb.
@@ -129,24 +154,43 @@ fn stream<'a>(verb: StreamVerb, side: Side, place: usize, words: &mut Words<'a>)
 }
 
 // Behind `H S` of a call on another socket.
-fn datagram<'a>(
-    verb: DatagramVerb,
-    side: Side,
-    place: usize,
-    words: &mut Words<'a>,
-) -> Option<Line<'a>>
-    ensures found { IfSome result (IsDatagram verb side place words.old) }
-    ensures only { (line : Line) → IsDatagram verb side place words.old line → result ≡ Some line }
+fn datagram<'a>(verb: DatagramVerb, side: Side, s: usize, words: &mut Words<'a>) -> Option<Line<'a>>
+    ensures found { IfSome result (IsDatagram verb side s words.old) }
+    ensures only { (line : Line) → IsDatagram verb side s words.old line → result ≡ Some line }
 {
-    let line = match verb {
-        DatagramVerb::Bind => Line::Bind(side, place, words.short()?),
-        DatagramVerb::Ident => Line::Ident(side, place, words.short()?),
-        DatagramVerb::SendTo => Line::SendTo(side, place, words.endpoint()?, words.bytes()?),
-        DatagramVerb::SendIcmp => Line::SendIcmp(side, place, words.address()?, words.bytes()?),
-        DatagramVerb::SendRaw => Line::SendRaw(side, place, words.bytes()?),
-        DatagramVerb::RecvFrom => Line::RecvFrom(side, place, words.size()?),
-    };
-    ended(line, words)
+    match verb {
+        DatagramVerb::Bind => {
+            if let Some(port) = words.short() {
+                return ended(Line::Bind(side, s, port), words);
+            }
+        }
+        DatagramVerb::Ident => {
+            if let Some(ident) = words.short() {
+                return ended(Line::Ident(side, s, ident), words);
+            }
+        }
+        DatagramVerb::SendTo => {
+            if let (Some(remote), Some(bytes)) = (words.endpoint(), words.bytes()) {
+                return ended(Line::SendTo(side, s, remote, bytes), words);
+            }
+        }
+        DatagramVerb::SendIcmp => {
+            if let (Some(remote), Some(bytes)) = (words.address(), words.bytes()) {
+                return ended(Line::SendIcmp(side, s, remote, bytes), words);
+            }
+        }
+        DatagramVerb::SendRaw => {
+            if let Some(bytes) = words.bytes() {
+                return ended(Line::SendRaw(side, s, bytes), words);
+            }
+        }
+        DatagramVerb::RecvFrom => {
+            if let Some(limit) = words.size() {
+                return ended(Line::RecvFrom(side, s, limit), words);
+            }
+        }
+    }
+    None
 }
 
 // Behind `H` of a setting or a poll.
@@ -154,15 +198,39 @@ fn host<'a>(verb: HostVerb, side: Side, words: &mut Words<'a>) -> Option<Line<'a
     ensures found { IfSome result (IsHost verb side words.old) }
     ensures only { (line : Line) → IsHost verb side words.old line → result ≡ Some line }
 {
-    let line = match verb {
-        HostVerb::Addrs => Line::Addrs(side, words.blocks()?),
-        HostVerb::Hw => Line::Hw(side, words.ethernet()?),
-        HostVerb::Route => Line::Route(side, words.address()?),
-        HostVerb::Poll => Line::Poll(side, words.moment()?, words.short()?),
-        HostVerb::PollAt => Line::PollAt(side, words.moment()?),
-        HostVerb::Room => Line::Room(side, words.size()?),
-    };
-    ended(line, words)
+    match verb {
+        HostVerb::Addrs => {
+            if let Some(blocks) = words.blocks() {
+                return ended(Line::Addrs(side, blocks), words);
+            }
+        }
+        HostVerb::Hw => {
+            if let Some(address) = words.ethernet() {
+                return ended(Line::Hw(side, address), words);
+            }
+        }
+        HostVerb::Route => {
+            if let Some(router) = words.address() {
+                return ended(Line::Route(side, router), words);
+            }
+        }
+        HostVerb::Poll => {
+            if let (Some(moment), Some(budget)) = (words.moment(), words.short()) {
+                return ended(Line::Poll(side, moment, budget), words);
+            }
+        }
+        HostVerb::PollAt => {
+            if let Some(moment) = words.moment() {
+                return ended(Line::PollAt(side, moment), words);
+            }
+        }
+        HostVerb::Room => {
+            if let Some(room) = words.size() {
+                return ended(Line::Room(side, room), words);
+            }
+        }
+    }
+    None
 }
 
 // Behind `H` of an act of the link.
@@ -170,19 +238,34 @@ fn link<'a>(verb: LinkVerb, side: Side, words: &mut Words<'a>) -> Option<Line<'a
     ensures found { IfSome result (IsLink verb side words.old) }
     ensures only { (line : Line) → IsLink verb side words.old line → result ≡ Some line }
 {
-    let line = match verb {
-        LinkVerb::Deliver => Line::Deliver(side, words.size()?, words.bytes()?),
-        LinkVerb::Damage => Line::Damage(
-            side,
-            words.size()?,
-            words.size()?,
-            words.four_digits()?,
-            words.bytes()?,
-        ),
-        LinkVerb::Noise => Line::Noise(side, words.bytes()?),
-        LinkVerb::Cut => Line::Cut(side, words.size()?, words.size()?),
-    };
-    ended(line, words)
+    match verb {
+        LinkVerb::Deliver => {
+            if let (Some(k), Some(padding)) = (words.size(), words.bytes()) {
+                return ended(Line::Deliver(side, k, padding), words);
+            }
+        }
+        LinkVerb::Damage => {
+            if let (Some(k), Some(place), Some(word), Some(padding)) = (
+                words.size(),
+                words.size(),
+                words.four_digits(),
+                words.bytes(),
+            ) {
+                return ended(Line::Damage(side, k, place, word, padding), words);
+            }
+        }
+        LinkVerb::Noise => {
+            if let Some(bytes) = words.bytes() {
+                return ended(Line::Noise(side, bytes), words);
+            }
+        }
+        LinkVerb::Cut => {
+            if let (Some(k), Some(place)) = (words.size(), words.size()) {
+                return ended(Line::Cut(side, k, place), words);
+            }
+        }
+    }
+    None
 }
 
 // What stands behind a socket's kind.
