@@ -33,7 +33,8 @@ fn fault_name(fault: Fault) -> &'static str
     }
 }
 
-/// The line that answers an event.
+/// The line that answers an event, with its end. `replay` writes it by itself, and the new frames behind it: this is for a loop of one's
+/// own, which steps a `World` by `event_of` each line.
 pub fn answer_line(alloc: Global, answer: &Answer) -> Result<String, AllocError>
     ensures { IfOk result (λ text. string_bytes text ≡ answer_line answer.now) }
 {

@@ -6,6 +6,7 @@ use lan_net::{Bytes, Event, Side};
 use lan_script::{HexBytes, Line, Side as Named};
 use std::alloc::{AllocError, Global};
 
+/// The host of a world that a line names.
 pub fn side_of(side: Named) -> Side
     ensures { result ≡ side_of side }
 {
@@ -21,7 +22,8 @@ fn bytes_of(alloc: Global, bytes: &HexBytes<'_>) -> Result<Bytes, AllocError>
     Ok(Bytes::from_vec(bytes.decode(alloc)?))
 }
 
-/// The event that a line names; none of a line of the header.
+/// The event that a line names; none of a line of the header. `replay` asks for it by itself: this is for a loop of one's own, as a
+/// simulator has, that reads a line, steps a `World` and writes what `answer_line` says.
 pub fn event_of(alloc: Global, line: Line<'_>) -> Result<Option<Event>, AllocError>
     ensures event { IfOk result (λ event. event ≡ event_of line.entry) }
     ensures memory { OnErr result (has_bytes line.entry ≡ true) }

@@ -22,7 +22,7 @@ use sockets::Socket;
 use std::alloc::{AllocError, Global};
 use std::marker::Model;
 
-/// What the header of a script has asked for so far.
+/// What the header of a script has asked for so far; `start` makes the world. `replay` does so by itself: this is for a loop of one's own.
 #[derive(Drop)]
 pub struct Header {
     medium: Medium,

@@ -10,6 +10,9 @@ use lan::replay;
 use std::alloc::{AllocError, Global};
 use std::test::Fail;
 
+/// Scripts: what they show, the lines before each of them, and a text of their own.
+pub type Row = (&'static str, &'static [&'static str], &'static str);
+
 /// Hosts on bare IP with one UDP socket each.
 pub const IP: &str = "\
 world ip 1500
@@ -90,7 +93,7 @@ impl Case {
 }
 
 /// Puts a line behind others, its repetition written out.
-fn push_line(text: &mut String, line: &str) -> Result<(), AllocError> {
+pub fn push_line(text: &mut String, line: &str) -> Result<(), AllocError> {
     let Some((front, rest)) = line.split_once('{') else {
         text.push_str(line)?;
         return text.push_str("\n");
@@ -115,50 +118,78 @@ pub fn played(alloc: Global, script: &str) -> (u8, Vec<u8>) {
 }
 
 /// Fails where another status was found, or something else was written. The failure names the first line that is another one.
-fn compare(case: &Case, status: u8, written: &str) -> Result<(), Fail> {
-    if status == case.status && written == case.output.as_str() {
+fn compare(name: &str, case: &Case, status: u8, written: &str) -> Result<(), Fail> {
+    let wanted = case.output.as_str();
+    if status == case.status && written == wanted {
         return Ok(());
     }
-    for (line, wanted) in written.lines().zip(case.output.lines()) {
+    let other = first_other(written, wanted);
+    Err(Fail::new(format_args!("{name}: {other}")))
+}
+
+fn first_other<'a>(written: &'a str, wanted: &str) -> &'a str {
+    for (line, wanted) in written.lines().zip(wanted.lines()) {
         if line != wanted {
-            return Err(line.into());
+            return line;
         }
     }
-    Err("another status, or lines that are wanting or too many".into())
+    "another status, or lines that are wanting or too many"
 }
 
-fn play_case(alloc: Global, case: &Case) -> Result<(), Fail> {
+fn play_case(alloc: Global, name: &str, case: &Case) -> Result<(), Fail> {
     let (status, written) = played(alloc, case.script.as_str());
-    compare(case, status, String::from_utf8(written)?.as_str())
+    compare(name, case, status, String::from_utf8(written)?.as_str())
 }
 
-/// Plays each script of a text behind these lines.
-pub fn play(alloc: Global, before: &[&str], text: &str) -> Result<(), Fail> {
+fn play_row(alloc: Global, row: &Row) -> Result<(), Fail> {
+    let (name, before, text) = row;
     for script in text.split("==\n") {
-        play_case(alloc, &Case::new(alloc, before, script)?)?;
+        play_case(alloc, name, &Case::new(alloc, before, script)?)?;
     }
     Ok(())
 }
 
-/// Plays a script whose text leaves out the frames that are sent.
-pub fn play_without_frames(alloc: Global, before: &[&str], text: &str) -> Result<(), Fail> {
-    let case = Case::new(alloc, before, text)?;
-    let (status, written) = played(alloc, case.script.as_str());
+/// Plays each script of each row.
+pub fn play(rt: &HostRuntime, rows: &[Row]) -> Result<(), Fail> {
+    for row in rows {
+        play_row(rt.alloc(), row)?;
+    }
+    Ok(())
+}
+
+/// What a script writes, without the frames that are sent.
+fn without_frames(alloc: Global, written: &str) -> Result<String, AllocError> {
     let mut rest = String::new(alloc);
-    for line in String::from_utf8(written)?.lines() {
+    for line in written.lines() {
         if !line.starts_with("sent ") {
             rest.push_str(line)?;
             rest.push_str("\n")?;
         }
     }
-    compare(&case, status, rest.as_str())
+    Ok(rest)
 }
 
-/// Plays a script with padding behind each frame that is handed over.
-pub fn play_padded(alloc: Global, before: &[&str], text: &str) -> Result<(), Fail> {
-    let mut case = Case::new(alloc, before, text)?;
+/// Plays a script, and compares what it writes but for the frames that are sent.
+pub fn play_case_without_frames(alloc: Global, name: &str, case: &mut Case) -> Result<(), Fail> {
+    case.output = without_frames(alloc, case.output.as_str())?;
+    let (status, written) = played(alloc, case.script.as_str());
+    let rest = without_frames(alloc, String::from_utf8(written)?.as_str())?;
+    compare(name, case, status, rest.as_str())
+}
+
+/// Plays the script of each row, and compares what it writes but for the frames that are sent.
+pub fn play_without_frames(rt: &HostRuntime, rows: &[Row]) -> Result<(), Fail> {
+    let alloc = rt.alloc();
+    for (name, before, text) in rows {
+        play_case_without_frames(alloc, name, &mut Case::new(alloc, before, text)?)?;
+    }
+    Ok(())
+}
+
+/// A script with padding behind each frame that is handed over.
+fn padded(alloc: Global, script: &str) -> Result<String, AllocError> {
     let mut padded = String::new(alloc);
-    for line in case.script.lines() {
+    for line in script.lines() {
         let bare = line.trim_end_matches('-');
         padded.push_str(bare)?;
         padded.push_str(if bare.len() < line.len() {
@@ -167,6 +198,24 @@ pub fn play_padded(alloc: Global, before: &[&str], text: &str) -> Result<(), Fai
             "\n"
         })?;
     }
-    case.script = padded;
-    play_case(alloc, &case)
+    Ok(padded)
+}
+
+/// Plays a script with padding behind each frame that is handed over.
+pub fn play_padded(rt: &HostRuntime, row: &Row) -> Result<(), Fail> {
+    let (alloc, (name, before, text)) = (rt.alloc(), row);
+    let mut case = Case::new(alloc, before, text)?;
+    case.script = padded(alloc, case.script.as_str())?;
+    play_case(alloc, name, &case)
+}
+
+/// Says that an allocation was refused: `tools/try-proved-without-memory`, which has each one refused in turn, looks for it.
+pub fn tell(rt: &HostRuntime, what: &str) -> Result<(), Fail> {
+    println!(rt; "no memory: {what}")?;
+    Ok(())
+}
+
+/// What stands before the first of these, and behind it.
+pub fn cut<'a>(text: &'a str, at: &str) -> (&'a str, &'a str) {
+    text.split_once(at).unwrap_or((text, ""))
 }

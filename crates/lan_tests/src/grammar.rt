@@ -1,5 +1,5 @@
 //! What is outside the language, or out of order.
-use crate::common::{ETHERNET, IP, STREAMS, play};
+use crate::common::{ETHERNET, IP, Row, STREAMS, play};
 use std::test::Fail;
 
 const ENDS: &str = "\
@@ -17,11 +17,6 @@ world ip 00001500
 start
 > ok
 ";
-
-#[test]
-fn a_script_may_end_anywhere(rt: HostRuntime) -> Result<(), Fail> {
-    play(rt.alloc(), &[], ENDS)
-}
 
 const OUT_OF_ORDER: &str = "\
 world ip 1500
@@ -65,11 +60,6 @@ socket A udp 1 2 3 4
 ! line 3: bad event
 ";
 
-#[test]
-fn lines_come_in_their_order(rt: HostRuntime) -> Result<(), Fail> {
-    play(rt.alloc(), &[], OUT_OF_ORDER)
-}
-
 const HEADER_LINES: &str = "\n\
 ! line 1: bad event
 ==
@@ -109,11 +99,6 @@ World ip 1500
 ! line 1: bad event
 ";
 
-#[test]
-fn header_lines_are_in_the_grammar(rt: HostRuntime) -> Result<(), Fail> {
-    play(rt.alloc(), &[], HEADER_LINES)
-}
-
 const SOCKET_LINES: &str = "\
 socket C udp 1 2 3 4
 ! line 2: bad event
@@ -139,11 +124,6 @@ socket A icmp 1 2 3 4 5
 start now
 ! line 2: bad event
 ";
-
-#[test]
-fn socket_lines_are_in_the_grammar(rt: HostRuntime) -> Result<(), Fail> {
-    play(rt.alloc(), &["world ip 1500\n"], SOCKET_LINES)
-}
 
 const STREAM_LINES: &str = "\
 listen A 0
@@ -177,11 +157,6 @@ state a 0
 ! line 5: bad event
 ";
 
-#[test]
-fn stream_lines_are_in_the_grammar(rt: HostRuntime) -> Result<(), Fail> {
-    play(rt.alloc(), &[STREAMS], STREAM_LINES)
-}
-
 const DATAGRAM_LINES: &str = "\
 bind A 0 65536
 ! line 5: bad event
@@ -213,11 +188,6 @@ sendraw A 0
 recvfrom A 0 x
 ! line 5: bad event
 ";
-
-#[test]
-fn datagram_lines_are_in_the_grammar(rt: HostRuntime) -> Result<(), Fail> {
-    play(rt.alloc(), &[IP], DATAGRAM_LINES)
-}
 
 const HOST_LINES: &str = "\
 addrs A 10.0.0.1/8 10.0.0.2/8 10.0.0.3/8 10.0.0.4/8 10.0.0.5/8
@@ -254,11 +224,6 @@ room A
 ! line 5: bad event
 ";
 
-#[test]
-fn host_lines_are_in_the_grammar(rt: HostRuntime) -> Result<(), Fail> {
-    play(rt.alloc(), &[ETHERNET], HOST_LINES)
-}
-
 const LINK_LINES: &str = "\
 deliver A 0
 ! line 5: bad event
@@ -285,7 +250,22 @@ cut A 0 8 8
 ! line 5: bad event
 ";
 
+static ROWS: [Row; 8] = [
+    ("a script may end anywhere", &[], ENDS),
+    ("lines come in their order", &[], OUT_OF_ORDER),
+    ("header lines are in the grammar", &[], HEADER_LINES),
+    (
+        "socket lines are in the grammar",
+        &["world ip 1500\n"],
+        SOCKET_LINES,
+    ),
+    ("stream lines are in the grammar", &[STREAMS], STREAM_LINES),
+    ("datagram lines are in the grammar", &[IP], DATAGRAM_LINES),
+    ("host lines are in the grammar", &[ETHERNET], HOST_LINES),
+    ("link lines are in the grammar", &[ETHERNET], LINK_LINES),
+];
+
 #[test]
-fn link_lines_are_in_the_grammar(rt: HostRuntime) -> Result<(), Fail> {
-    play(rt.alloc(), &[ETHERNET], LINK_LINES)
+fn lines_are_in_the_grammar_and_in_their_order(rt: HostRuntime) -> Result<(), Fail> {
+    play(&rt, &ROWS)
 }

@@ -1,9 +1,9 @@
 //! Every kind of line once, and every error by its name.
-use crate::common::{IP, STREAMS, play, play_without_frames};
+use crate::common::{IP, Row, STREAMS, play, play_without_frames};
 use std::test::Fail;
 
 /// Hosts with one socket of each kind: UDP, ICMP, raw, TCP.
-const EACH: &str = "\
+pub const EACH: &str = "\
 world ip 1500
 socket A udp 1 64 1 64
 socket A icmp 1 64 1 64
@@ -38,11 +38,6 @@ recvfrom A 1 64
 > from 192.168.1.2 0000edca12340001
 ";
 
-#[test]
-fn an_echo_is_sent_and_its_answer_read(rt: HostRuntime) -> Result<(), Fail> {
-    play(rt.alloc(), &[EACH], ECHO)
-}
-
 const RAW_PACKET: &str = "\
 sendraw A 2 45000018000000004059f739c0a80101c0a8010201020304
 > ok
@@ -57,11 +52,7 @@ recvfrom B 2 64
 > data 45000018c24d0000405934ecc0a80101c0a8010201020304
 ";
 
-#[test]
-fn a_raw_packet_is_sent_and_read(rt: HostRuntime) -> Result<(), Fail> {
-    play(rt.alloc(), &[EACH], RAW_PACKET)
-}
-
+/// Each kind of line, in one script.
 const EACH_KIND: &str = "\
 world eth 1514
 socket A udp 1 64 1 64
@@ -154,12 +145,7 @@ state B 1
 > state CLOSED
 ";
 
-/// Each kind of line, in one script.
-#[test]
-fn each_kind_of_line_is_taken(rt: HostRuntime) -> Result<(), Fail> {
-    play_without_frames(rt.alloc(), &[], EACH_KIND)
-}
-
+/// A host may have no address, and a socket that waits may be closed.
 const SETTINGS: &str = "\
 addrs A
 > ok
@@ -180,12 +166,6 @@ state B 0
 > state CLOSED
 ";
 
-/// A host may have no address, and a socket that waits may be closed.
-#[test]
-fn settings_and_states_are_answered(rt: HostRuntime) -> Result<(), Fail> {
-    play(rt.alloc(), &[STREAMS], SETTINGS)
-}
-
 const IPV6_DATAGRAM: &str = "\
 bind A 0 7
 > ok
@@ -203,11 +183,6 @@ poll B 0 8
 recvfrom B 0 64
 > from fd00::1:7 0102
 ";
-
-#[test]
-fn a_datagram_goes_over_ipv6(rt: HostRuntime) -> Result<(), Fail> {
-    play(rt.alloc(), &[IP], IPV6_DATAGRAM)
-}
 
 const ERRORS: &str = "\
 bind A 0 0
@@ -261,12 +236,7 @@ hw A 01-00-00-00-00-09
 > error NotUnicast
 ";
 
-#[test]
-fn each_error_has_its_name(rt: HostRuntime) -> Result<(), Fail> {
-    play(rt.alloc(), &[IP], ERRORS)?;
-    play(rt.alloc(), &[STREAMS], ERRORS_OF_STREAMS)
-}
-
+/// Both media, each kind of socket, and each kind of raw socket.
 const HEADERS: &str = "\
 world eth 1514
 socket A udp 0 0 0 0
@@ -283,8 +253,31 @@ start
 > ok
 ";
 
-/// Both media, each kind of socket, and each kind of raw socket.
+/// A socket that is closed may be bound again.
+const CLOSED: &str = "\
+bind A 0 7
+> ok
+close A 0
+> ok
+bind A 0 8
+> ok
+";
+
+static ROWS: [Row; 8] = [
+    ("a datagram socket is closed", &[IP], CLOSED),
+    ("an echo is sent and its answer read", &[EACH], ECHO),
+    ("a raw packet is sent and read", &[EACH], RAW_PACKET),
+    ("settings and states are answered", &[STREAMS], SETTINGS),
+    ("a datagram goes over ipv6", &[IP], IPV6_DATAGRAM),
+    ("each error has its name", &[IP], ERRORS),
+    ("each error has its name", &[STREAMS], ERRORS_OF_STREAMS),
+    ("every header is taken", &[], HEADERS),
+];
+
+static WITHOUT_FRAMES: [Row; 1] = [("each kind of line is taken", &[], EACH_KIND)];
+
 #[test]
-fn every_header_is_taken(rt: HostRuntime) -> Result<(), Fail> {
-    play(rt.alloc(), &[], HEADERS)
+fn each_kind_of_line_and_error_is_written(rt: HostRuntime) -> Result<(), Fail> {
+    play(&rt, &ROWS)?;
+    play_without_frames(&rt, &WITHOUT_FRAMES)
 }

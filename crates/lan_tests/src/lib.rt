@@ -3,9 +3,13 @@
 #![tactic(auto)]
 
 #[cfg(test)]
+mod bounds;
+#[cfg(test)]
 mod common;
 #[cfg(test)]
 mod frames;
+#[cfg(test)]
+mod going_on;
 #[cfg(test)]
 mod grammar;
 #[cfg(test)]
@@ -14,6 +18,8 @@ mod kinds;
 mod lines;
 #[cfg(test)]
 mod long;
+#[cfg(test)]
+mod made;
 #[cfg(test)]
 mod memory;
 #[cfg(test)]
@@ -25,4 +31,12 @@ mod refusals;
 #[cfg(test)]
 mod rows;
 #[cfg(test)]
+mod settings;
+#[cfg(test)]
+mod steps;
+#[cfg(test)]
 mod streams;
+#[cfg(test)]
+mod texts;
+#[cfg(test)]
+mod worlds;

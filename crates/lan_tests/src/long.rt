@@ -1,5 +1,7 @@
 //! Longer worked scripts: what a host says of its waiting pieces, full tables, and slots that noise holds.
-use crate::common::{ETHERNET, IP, LONG, play, play_without_frames};
+use crate::common::{
+    Case, ETHERNET, IP, LONG, Row, play, play_case_without_frames, play_without_frames,
+};
 use std::alloc::{AllocError, Global};
 use std::test::Fail;
 
@@ -24,11 +26,7 @@ pollat A 0
 > never
 ";
 
-#[test]
-fn a_piece_that_waits_goes_at_once(rt: HostRuntime) -> Result<(), Fail> {
-    play(rt.alloc(), &[LONG], WAITING_PIECE)
-}
-
+/// The three frames of the longest datagram, of bytes 0; one byte more doesn't fit the buffer.
 const LONGEST: &str = "\
 sendto A 0 192.168.1.2:53 {4069*00}
 > ok
@@ -47,12 +45,7 @@ poll A 0 1
 > sent A 2 45000470c24d017240112f6ac0a80101c0a80102{1116*00}
 ";
 
-/// The three frames of the longest datagram, of bytes 0; one byte more doesn't fit the buffer.
-#[test]
-fn the_longest_datagram_goes_in_three_pieces(rt: HostRuntime) -> Result<(), Fail> {
-    play(rt.alloc(), &[LONG], LONGEST)
-}
-
+/// Five neighbours ask, of which a table keeps four: the first is asked for again.
 const NEIGHBOURS: &str = "\
 noise A ffffffffffff02000000000208060001080006040001020000000002c0a80102000000000000c0a80101
 > ok
@@ -88,12 +81,7 @@ poll A 4 8
 > sent A 5 ffffffffffff02000000000108060001080006040001020000000001c0a80101ffffffffffffc0a80102
 ";
 
-/// Five neighbours ask, of which a table keeps four: the first is asked for again.
-#[test]
-fn the_oldest_of_five_neighbours_is_dropped(rt: HostRuntime) -> Result<(), Fail> {
-    play(rt.alloc(), &[ETHERNET], NEIGHBOURS)
-}
-
+/// Pieces of datagrams that never end hold both slots for a minute.
 const HELD_SLOTS: &str = "\
 noise B 4500001c000120004001d78cc0a80101c0a801020000000000000000
 > ok
@@ -131,12 +119,6 @@ recvfrom B 0 4000
 > from 192.168.1.1:48896 {2000*00}
 ";
 
-/// Pieces of datagrams that never end hold both slots for a minute.
-#[test]
-fn held_slots_are_freed_by_time(rt: HostRuntime) -> Result<(), Fail> {
-    play_without_frames(rt.alloc(), &[LONG], HELD_SLOTS)
-}
-
 const BOTH_BOUND: &str = "\
 bind A 0 48896
 > ok
@@ -158,6 +140,91 @@ fn datagrams(alloc: Global, count: u32) -> Result<String, AllocError> {
 
 #[test]
 fn a_long_script_is_answered_line_by_line(rt: HostRuntime) -> Result<(), Fail> {
-    let text = datagrams(rt.alloc(), 400)?;
-    play_without_frames(rt.alloc(), &[IP, BOTH_BOUND], text.as_str())
+    let alloc = rt.alloc();
+    let text = datagrams(alloc, 400)?;
+    let mut case = Case::new(alloc, &[IP, BOTH_BOUND], text.as_str())?;
+    play_case_without_frames(alloc, "400 datagrams", &mut case)
+}
+
+/// Requests from five neighbours fill each table.
+const BOTH_FULL: &str = "\
+noise A ffffffffffff02000000000208060001080006040001020000000002c0a80102000000000000c0a80101
+> ok
+noise A ffffffffffff02000000000308060001080006040001020000000003c0a80103000000000000c0a80101
+> ok
+noise A ffffffffffff02000000000408060001080006040001020000000004c0a80104000000000000c0a80101
+> ok
+noise A ffffffffffff02000000000508060001080006040001020000000005c0a80105000000000000c0a80101
+> ok
+noise A ffffffffffff02000000000608060001080006040001020000000006c0a80106000000000000c0a80101
+> ok
+poll A 0 8
+> changed
+noise B ffffffffffff02000000000708060001080006040001020000000007c0a80107000000000000c0a80102
+> ok
+noise B ffffffffffff02000000000808060001080006040001020000000008c0a80108000000000000c0a80102
+> ok
+noise B ffffffffffff02000000000908060001080006040001020000000009c0a80109000000000000c0a80102
+> ok
+noise B ffffffffffff02000000000a0806000108000604000102000000000ac0a8010a000000000000c0a80102
+> ok
+noise B ffffffffffff02000000000b0806000108000604000102000000000bc0a8010b000000000000c0a80102
+> ok
+poll B 0 8
+> changed
+";
+
+/// A asks for B, whose entry was dropped, and a datagram goes all the same.
+const STILL_READ: &str = "\
+bind A 0 48896
+> ok
+bind B 0 53
+> ok
+sendto A 0 192.168.1.2:53 aa0000ff
+> ok
+poll A 0 8
+> none
+deliver A 5 -
+> ok
+poll B 0 8
+> changed
+deliver B 5 -
+> ok
+poll A 0 8
+> changed
+deliver A 6 -
+> ok
+poll B 0 8
+> changed
+recvfrom B 0 64
+> from 192.168.1.1:48896 aa0000ff
+";
+
+static ROWS: [Row; 3] = [
+    ("a piece that waits goes at once", &[LONG], WAITING_PIECE),
+    (
+        "the longest datagram goes in three pieces",
+        &[LONG],
+        LONGEST,
+    ),
+    (
+        "the oldest of five neighbours is dropped",
+        &[ETHERNET],
+        NEIGHBOURS,
+    ),
+];
+
+static WITHOUT_FRAMES: [Row; 2] = [
+    (
+        "full tables let a datagram through",
+        &[ETHERNET, BOTH_FULL],
+        STILL_READ,
+    ),
+    ("held slots are freed by time", &[LONG], HELD_SLOTS),
+];
+
+#[test]
+fn longer_scripts_write_this(rt: HostRuntime) -> Result<(), Fail> {
+    play(&rt, &ROWS)?;
+    play_without_frames(&rt, &WITHOUT_FRAMES)
 }

@@ -1,7 +1,9 @@
 //! Scripts where an allocation is refused. Each test passes whichever one it is, and then says so (`tools/try-proved-without-memory` has
-//! each one refused in turn): the script ends there, and what was written before is as in the whole run.
-use crate::common::{Case, IP, LONG, STREAMS, played};
-use crate::rows::{CARRIED, LONG_DATAGRAM, QUEUED, TWO_LONG_DATAGRAMS};
+//! each one refused in turn): a script ends there, and what was written before is as in the whole run; a world takes the refused event
+//! again, and answers it and all that follow as in the whole run.
+use crate::common::{Case, IP, LONG, Row, STREAMS, played, tell};
+use crate::rows::{CARRIED, CUT_DATAGRAM, LONG_DATAGRAM, QUEUED, TWO_LONG_DATAGRAMS};
+use crate::steps::play_steps;
 use crate::streams::{ABC, ACKNOWLEDGED, OPENED, OPENING};
 use std::test::Fail;
 
@@ -18,11 +20,6 @@ fn is_cut_short(status: u8, written: &[u8], whole: &[u8]) -> bool {
         Some(end) => status == 1 && whole.starts_with(&lines[..end]),
         None => status == 1,
     }
-}
-
-fn tell(rt: &HostRuntime, what: &str) -> Result<(), Fail> {
-    println!(rt; "no memory: {what}")?;
-    Ok(())
 }
 
 /// Plays a script whole, or until it ends for want of memory and then again.
@@ -68,4 +65,19 @@ fn a_long_datagram_survives(rt: HostRuntime) -> Result<(), Fail> {
 #[test]
 fn two_long_datagrams_survive(rt: HostRuntime) -> Result<(), Fail> {
     play_short_of_memory(&rt, &[LONG], TWO_LONG_DATAGRAMS)
+}
+
+static ROWS: [Row; 3] = [
+    ("a datagram", &[IP, QUEUED], CARRIED),
+    (
+        "a connection",
+        &[STREAMS, OPENING, OPENED, ABC],
+        ACKNOWLEDGED,
+    ),
+    ("a cut datagram", &[IP], CUT_DATAGRAM),
+];
+
+#[test]
+fn a_world_goes_on(rt: HostRuntime) -> Result<(), Fail> {
+    play_steps(&rt, &ROWS)
 }

@@ -191,34 +191,43 @@ fn goes(port: &mut Port, alloc: Global, phrase: &str) -> Option<bool> {
 ///     sent 7 BYTES         the frame behind seven others
 ///     sevens 7 20          the one behind seven others is of 20 bytes, each 7
 ///     capacities 7         of each sent frame's buffer
-fn play(alloc: Global, text: &str) -> Result<(), Fail> {
+fn play(alloc: Global, name: &str, text: &str) -> Result<(), Fail> {
     let mut port = ip_port(alloc);
-    play_at(&mut port, alloc, text)
+    match first_wrong(&mut port, alloc, text) {
+        Some(phrase) => Err(Fail::new(format_args!("{name}: {phrase}"))),
+        None => Ok(()),
+    }
 }
 
-/// The same at a port in which nothing happened yet. (The port is lent: a loop in a function that owns it is dear to check.)
-fn play_at(port: &mut Port, alloc: Global, text: &str) -> Result<(), Fail> {
+/// The first phrase that goes otherwise, at a port in which nothing happened yet. (It is lent: a loop in a function that owns it is dear
+/// to check.)
+fn first_wrong<'a>(port: &mut Port, alloc: Global, text: &'a str) -> Option<&'a str> {
     for line in text.lines() {
         let (count, phrases) = line.split_once(" times ").unwrap_or(("1", line));
-        for _ in 0..count.parse::<u32>()? {
-            play_line(port, alloc, phrases)?;
+        let Ok(count) = count.parse::<u32>() else {
+            return Some(line);
+        };
+        for _ in 0..count {
+            if let Some(phrase) = first_wrong_in(port, alloc, phrases) {
+                return Some(phrase);
+            }
         }
     }
-    Ok(())
+    None
 }
 
-/// Each phrase of a line, once.
-fn play_line(port: &mut Port, alloc: Global, phrases: &str) -> Result<(), Fail> {
+/// The same of a line's phrases, once.
+fn first_wrong_in<'a>(port: &mut Port, alloc: Global, phrases: &'a str) -> Option<&'a str> {
     for phrase in phrases.split(", ") {
         let (act, wanted) = match phrase.strip_prefix("not ") {
             Some(refused) => (refused, false),
             None => (phrase, true),
         };
         if goes(port, alloc, act) != Some(wanted) {
-            return Err(phrase.into());
+            return Some(phrase);
         }
     }
-    Ok(())
+    None
 }
 
 const IN_ORDER: &str = "\
@@ -227,20 +236,10 @@ consume one, consume two
 waiting 0, not receive
 ";
 
-#[test]
-fn frames_come_in_order(rt: HostRuntime) -> Result<(), Fail> {
-    play(rt.alloc(), IN_ORDER)
-}
-
 const KEPT: &str = "\
 hold 100 one
 take 100 one
 ";
-
-#[test]
-fn a_frame_keeps_its_buffer(rt: HostRuntime) -> Result<(), Fail> {
-    play(rt.alloc(), KEPT)
-}
 
 const LEFT: &str = "\
 write 3 abc
@@ -249,24 +248,9 @@ not echo
 sent 0 abc, sent 1 ping, frames 2, refusals 0
 ";
 
-#[test]
-fn sends_what_the_closure_leaves(rt: HostRuntime) -> Result<(), Fail> {
-    play(rt.alloc(), LEFT)
-}
-
 const CAPABILITIES: &str = "mtu 1500";
 
-#[test]
-fn a_port_has_its_capabilities(rt: HostRuntime) -> Result<(), Fail> {
-    play(rt.alloc(), CAPABILITIES)
-}
-
 const REFUSED: &str = "refuse, refusals 1, frames 0";
-
-#[test]
-fn refuses_before_the_closure_runs(rt: HostRuntime) -> Result<(), Fail> {
-    play(rt.alloc(), REFUSED)
-}
 
 const PREPARED: &str = "\
 prepare 2 1500, send 1500, send 20
@@ -274,49 +258,24 @@ prepare 1 9000, not prepare 1 18446744073709551615
 frames 2, sevens 0 1500, sevens 1 20
 ";
 
-#[test]
-fn prepared_frames_are_not_refused(rt: HostRuntime) -> Result<(), Fail> {
-    play(rt.alloc(), PREPARED)
-}
-
 const SHORT: &str = "prepare 2 1500, send 20, frames 1, capacities 20";
-
-#[test]
-fn no_sent_frame_keeps_a_whole_buffer(rt: HostRuntime) -> Result<(), Fail> {
-    play(rt.alloc(), SHORT)
-}
 
 const ROOM: &str = "\
 room 18446744073709551615, send 0, room 18446744073709551614
 set-room 2, send 0, room 1, send 0, room 0
 ";
 
-#[test]
-fn each_sent_frame_takes_room(rt: HostRuntime) -> Result<(), Fail> {
-    play(rt.alloc(), ROOM)
-}
-
+/// What waits goes on waiting.
 const NO_ROOM: &str = "\
 set-room 0, push ping
 not leave, not receive, waiting 1
 ";
-
-/// What waits goes on waiting.
-#[test]
-fn a_port_without_room_gives_no_token(rt: HostRuntime) -> Result<(), Fail> {
-    play(rt.alloc(), NO_ROOM)
-}
 
 const REFUSED_SEND: &str = "\
 push ping, set-room 1
 refuse, room 1
 echo, room 0
 ";
-
-#[test]
-fn a_refused_send_takes_no_room(rt: HostRuntime) -> Result<(), Fail> {
-    play(rt.alloc(), REFUSED_SEND)
-}
 
 const ADDED: &str = "\
 prepare 1 100, send 0
@@ -325,28 +284,38 @@ set-room 1, send 0
 frames 3, sent 1 piece, sent 0, sent 2
 ";
 
-#[test]
-fn the_link_adds_frames(rt: HostRuntime) -> Result<(), Fail> {
-    play(rt.alloc(), ADDED)
-}
-
 const MANY: &str = "\
 300 times push ping
 300 times echo
 frames 300, refusals 0
 ";
 
-#[test]
-fn many_frames_are_not_refused(rt: HostRuntime) -> Result<(), Fail> {
-    play(rt.alloc(), MANY)
-}
-
 const LONG: &str = "\
 send 0, send 65535, send 70000
 frames 3, refusals 0
 ";
 
+/// What a text shows, and the text.
+static TEXTS: [(&str, &str); 13] = [
+    ("frames come in order", IN_ORDER),
+    ("a frame keeps its buffer", KEPT),
+    ("sends what the closure leaves", LEFT),
+    ("a port has its capabilities", CAPABILITIES),
+    ("refuses before the closure runs", REFUSED),
+    ("prepared frames are not refused", PREPARED),
+    ("no sent frame keeps a whole buffer", SHORT),
+    ("each sent frame takes room", ROOM),
+    ("a port without room gives no token", NO_ROOM),
+    ("a refused send takes no room", REFUSED_SEND),
+    ("the link adds frames", ADDED),
+    ("many frames are not refused", MANY),
+    ("long frames are not refused", LONG),
+];
+
 #[test]
-fn long_frames_are_not_refused(rt: HostRuntime) -> Result<(), Fail> {
-    play(rt.alloc(), LONG)
+fn a_port_does_what_each_text_says(rt: HostRuntime) -> Result<(), Fail> {
+    for (name, text) in &TEXTS {
+        play(rt.alloc(), name, text)?;
+    }
+    Ok(())
 }

@@ -1,5 +1,5 @@
 //! Each refusal by its name.
-use crate::common::{ETHERNET, IP, STREAMS, play};
+use crate::common::{ETHERNET, IP, Row, STREAMS, play};
 use std::test::Fail;
 
 const THERE: &str = "\
@@ -42,11 +42,6 @@ cut A 0 4
 ! line 8: refused CutPlace
 ";
 
-#[test]
-fn sockets_and_frames_are_there(rt: HostRuntime) -> Result<(), Fail> {
-    play(rt.alloc(), &[IP], THERE)
-}
-
 const NOISE: &str = "\
 noise A 45000000000000000011
 ! line 5: refused NamesTcpOrUdp
@@ -65,12 +60,6 @@ const FRAMED_NOISE: &str = "\
 noise A 02000000000102000000000208004500000000000000ff060000
 ! line 5: refused NamesTcpOrUdp
 ";
-
-#[test]
-fn noise_names_neither_tcp_nor_udp(rt: HostRuntime) -> Result<(), Fail> {
-    play(rt.alloc(), &[IP], NOISE)?;
-    play(rt.alloc(), &[ETHERNET], FRAMED_NOISE)
-}
 
 const RANGES: &str = "\
 poll A 2305843009213693952 0
@@ -107,13 +96,7 @@ poll A 0 21846
 ! line 6: refused TooManyCut
 ";
 
-#[test]
-fn moments_and_budgets_are_in_range(rt: HostRuntime) -> Result<(), Fail> {
-    play(rt.alloc(), &[IP], RANGES)?;
-    play(rt.alloc(), &[], TWO_SOCKETS)
-}
-
-const TWO_STREAMS: &str = "\
+pub const TWO_STREAMS: &str = "\
 world ip 1500
 socket A tcp 64 64
 socket A tcp 64 64
@@ -139,11 +122,6 @@ listen A 1 49500
 ! line 7: refused PortTaken
 ";
 
-#[test]
-fn streams_are_opened_once(rt: HostRuntime) -> Result<(), Fail> {
-    play(rt.alloc(), &[TWO_STREAMS], OPENED_TWICE)
-}
-
 /// The first frame of A asks for its neighbour; the second is a segment, whose urgent pointer stands at place 18.
 const PLACES: &str = "\
 connect A 0 192.168.1.2:80 49500
@@ -163,11 +141,6 @@ damage A 0 0 0001 -
 ! line 7: refused NotTcp
 ";
 
-#[test]
-fn segments_have_places(rt: HostRuntime) -> Result<(), Fail> {
-    play(rt.alloc(), &[STREAMS], PLACES)
-}
-
 const RAW: &str = "\
 world ip 1500
 socket A raw 4 any 1 64 1 64
@@ -182,11 +155,6 @@ sendraw A 0 45000018000000004011f739c0a80101c0a8010201020304
 sendraw A 0 45000018000000004006f739c0a80101c0a8010201020304
 ! line 4: refused RawProtocol
 ";
-
-#[test]
-fn raw_packets_are_no_segments(rt: HostRuntime) -> Result<(), Fail> {
-    play(rt.alloc(), &[RAW], RAW_PACKETS)
-}
 
 const HOSTS: &str = "\
 world eth 589
@@ -233,7 +201,19 @@ start
 ! line 3: refused Buffers
 ";
 
+static ROWS: [Row; 9] = [
+    ("sockets and frames are there", &[IP], THERE),
+    ("noise names neither tcp nor udp", &[IP], NOISE),
+    ("noise names neither tcp nor udp", &[ETHERNET], FRAMED_NOISE),
+    ("moments and budgets are in range", &[IP], RANGES),
+    ("moments and budgets are in range", &[], TWO_SOCKETS),
+    ("streams are opened once", &[TWO_STREAMS], OPENED_TWICE),
+    ("segments have places", &[STREAMS], PLACES),
+    ("raw packets are no segments", &[RAW], RAW_PACKETS),
+    ("hosts that make no world", &[], HOSTS),
+];
+
 #[test]
-fn hosts_that_make_no_world(rt: HostRuntime) -> Result<(), Fail> {
-    play(rt.alloc(), &[], HOSTS)
+fn each_refusal_has_its_name(rt: HostRuntime) -> Result<(), Fail> {
+    play(&rt, &ROWS)
 }

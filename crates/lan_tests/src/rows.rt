@@ -1,5 +1,5 @@
 //! Worked scripts, byte for byte.
-use crate::common::{ETHERNET, IP, LONG, play, play_without_frames};
+use crate::common::{ETHERNET, IP, LONG, Row, play, play_without_frames};
 use std::test::Fail;
 
 /// A datagram waits in the socket of A.
@@ -25,11 +25,6 @@ recvfrom B 0 64
 > from 192.168.1.1:48896 aa0000ff
 ";
 
-#[test]
-fn one_datagram_goes_from_host_to_host(rt: HostRuntime) -> Result<(), Fail> {
-    play(rt.alloc(), &[IP, QUEUED], CARRIED)
-}
-
 const SECOND_DATAGRAM: &str = "\
 bind A 0 48896
 > ok
@@ -44,11 +39,6 @@ poll A 0 8
 > changed
 > sent A 1 45000020c24e00004011352bc0a80101c0a80102bf000035000c124daa0000ff
 ";
-
-#[test]
-fn the_second_datagram_has_the_next_number(rt: HostRuntime) -> Result<(), Fail> {
-    play(rt.alloc(), &[IP], SECOND_DATAGRAM)
-}
 
 const UNBOUND_PORT: &str = "\
 bind A 0 48896
@@ -65,11 +55,6 @@ poll B 0 8
 > sent B 0 4500003ce145000040011628c0a80102c0a801010303806e0000000045000020c24d00004011352cc0a80101c0a80102bf000035000c124daa0000ff
 ";
 
-#[test]
-fn an_unbound_port_is_unreachable(rt: HostRuntime) -> Result<(), Fail> {
-    play(rt.alloc(), &[IP], UNBOUND_PORT)
-}
-
 const ECHO: &str = "\
 noise A 4500001c000040004001b78dc0a80102c0a801010800e5ca12340001
 > ok
@@ -77,11 +62,6 @@ poll A 0 8
 > changed
 > sent A 0 4500001cc24d000040013540c0a80101c0a801020000edca12340001
 ";
-
-#[test]
-fn an_echo_is_answered(rt: HostRuntime) -> Result<(), Fail> {
-    play(rt.alloc(), &[IP], ECHO)
-}
 
 const NO_ROOM: &str = "\
 bind A 0 48896
@@ -99,11 +79,6 @@ poll A 0 8
 > sent A 0 45000020c24d00004011352cc0a80101c0a80102bf000035000c124daa0000ff
 ";
 
-#[test]
-fn a_host_without_room_sends_nothing(rt: HostRuntime) -> Result<(), Fail> {
-    play(rt.alloc(), &[IP], NO_ROOM)
-}
-
 const REQUEST: &str = "\
 noise A ffffffffffff02000000000208060001080006040001020000000002c0a80102000000000000c0a80101
 > ok
@@ -112,11 +87,6 @@ poll A 0 8
 > sent A 0 02000000000202000000000108060001080006040002020000000001c0a80101020000000002c0a80102
 ";
 
-#[test]
-fn a_request_is_answered(rt: HostRuntime) -> Result<(), Fail> {
-    play(rt.alloc(), &[ETHERNET], REQUEST)
-}
-
 const SOLICITATION: &str = "\
 noise A 3333ff00000102000000000286dd6000000000203afffd000000000000000000000000000002ff0200000000000000000001ff00000187007d9700000000fd0000000000000000000000000000010101020000000002
 > ok
@@ -124,11 +94,6 @@ poll A 0 8
 > changed
 > sent A 0 02000000000202000000000186dd6000000000203afffd000000000000000000000000000001fd00000000000000000000000000000288003c9c40000000fd0000000000000000000000000000010201020000000001
 ";
-
-#[test]
-fn a_solicitation_is_answered(rt: HostRuntime) -> Result<(), Fail> {
-    play(rt.alloc(), &[ETHERNET], SOLICITATION)
-}
 
 const REQUESTS: &str = "\
 bind A 0 48896
@@ -147,11 +112,6 @@ poll A 1000000 8
 > sent A 1 ffffffffffff02000000000108060001080006040001020000000001c0a80101ffffffffffffc0a80102
 ";
 
-#[test]
-fn requests_are_a_second_apart(rt: HostRuntime) -> Result<(), Fail> {
-    play(rt.alloc(), &[ETHERNET], REQUESTS)
-}
-
 const NOISE: &str = "\
 noise A -
 > ok
@@ -165,12 +125,7 @@ pollat A 0
 > never
 ";
 
-#[test]
-fn noise_is_dropped(rt: HostRuntime) -> Result<(), Fail> {
-    play(rt.alloc(), &[IP], NOISE)
-}
-
-const CUT_DATAGRAM: &str = "\
+pub const CUT_DATAGRAM: &str = "\
 bind A 0 48896
 > ok
 bind B 0 53
@@ -200,11 +155,6 @@ recvfrom B 0 64
 > error Exhausted
 ";
 
-#[test]
-fn a_cut_datagram_is_rebuilt(rt: HostRuntime) -> Result<(), Fail> {
-    play(rt.alloc(), &[IP], CUT_DATAGRAM)
-}
-
 /// A datagram of 2000 bytes 0 goes in two pieces, which are handed over in reverse, and is read once.
 pub const LONG_DATAGRAM: &str = "\
 sendto A 0 192.168.1.2:53 {2000*00}
@@ -229,11 +179,6 @@ recvfrom B 0 4000
 > error Exhausted
 ";
 
-#[test]
-fn both_pieces_of_a_datagram_are_needed(rt: HostRuntime) -> Result<(), Fail> {
-    play(rt.alloc(), &[LONG], LONG_DATAGRAM)
-}
-
 /// Of two datagrams of 4000 bytes three polls send pieces of 1480 and 1480, of 1048, 1480 and 1480, and of 1048 bytes.
 pub const TWO_LONG_DATAGRAMS: &str = "\
 sendto A 0 192.168.1.2:53 {4000*11}
@@ -253,11 +198,6 @@ poll A 0 8
 > none
 > sent A 5 4500042cc24e017240112fadc0a80101c0a80102{1048*22}
 ";
-
-#[test]
-fn two_long_datagrams_go_one_behind_the_other(rt: HostRuntime) -> Result<(), Fail> {
-    play(rt.alloc(), &[LONG], TWO_LONG_DATAGRAMS)
-}
 
 const BOTH_READ: &str = "\
 sendto A 0 192.168.1.2:53 {4000*11}
@@ -290,7 +230,91 @@ recvfrom B 0 8000
 > from 192.168.1.1:48896 {4000*22}
 ";
 
+/// With padding and twice, it is read twice.
+const READ_TWICE: &str = "\
+sendto A 0 192.168.1.2:53 aa0000ff
+> ok
+poll A 0 8
+> changed
+> sent A 0 45000020c24d00004011352cc0a80101c0a80102bf000035000c124daa0000ff
+deliver A 0 {20*5a}
+> ok
+deliver A 0 5a
+> ok
+poll B 0 8
+> changed
+recvfrom B 0 64
+> from 192.168.1.1:48896 aa0000ff
+recvfrom B 0 64
+> from 192.168.1.1:48896 aa0000ff
+recvfrom B 0 64
+> error Exhausted
+";
+
+/// A host without room doesn't take the frames that wait either.
+const NOT_TAKEN: &str = "\
+sendto A 0 192.168.1.2:53 aa0000ff
+> ok
+poll A 0 8
+> changed
+> sent A 0 45000020c24d00004011352cc0a80101c0a80102bf000035000c124daa0000ff
+deliver A 0 -
+> ok
+room B 0
+> ok
+poll B 0 8
+> none
+recvfrom B 0 64
+> error Exhausted
+room B 1
+> ok
+poll B 0 8
+> changed
+recvfrom B 0 64
+> from 192.168.1.1:48896 aa0000ff
+";
+
+static ROWS: [Row; 14] = [
+    (
+        "a datagram that comes twice is read twice",
+        &[LONG],
+        READ_TWICE,
+    ),
+    ("a host without room takes nothing", &[LONG], NOT_TAKEN),
+    (
+        "one datagram goes from host to host",
+        &[IP, QUEUED],
+        CARRIED,
+    ),
+    (
+        "the second datagram has the next number",
+        &[IP],
+        SECOND_DATAGRAM,
+    ),
+    ("an unbound port is unreachable", &[IP], UNBOUND_PORT),
+    ("an echo is answered", &[IP], ECHO),
+    ("a host without room sends nothing", &[IP], NO_ROOM),
+    ("a request is answered", &[ETHERNET], REQUEST),
+    ("a solicitation is answered", &[ETHERNET], SOLICITATION),
+    ("requests are a second apart", &[ETHERNET], REQUESTS),
+    ("noise is dropped", &[IP], NOISE),
+    ("a cut datagram is rebuilt", &[IP], CUT_DATAGRAM),
+    (
+        "both pieces of a datagram are needed",
+        &[LONG],
+        LONG_DATAGRAM,
+    ),
+    (
+        "two long datagrams go one behind the other",
+        &[LONG],
+        TWO_LONG_DATAGRAMS,
+    ),
+];
+
+static WITHOUT_FRAMES: [Row; 1] = [("two long datagrams are read", &[LONG], BOTH_READ)];
+
 #[test]
-fn two_long_datagrams_are_read(rt: HostRuntime) -> Result<(), Fail> {
-    play_without_frames(rt.alloc(), &[LONG], BOTH_READ)
+fn worked_scripts_write_this(rt: HostRuntime) -> Result<(), Fail> {
+    play(&rt, &ROWS)?;
+    play_without_frames(&rt, &WITHOUT_FRAMES)
 }

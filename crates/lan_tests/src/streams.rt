@@ -1,5 +1,5 @@
 //! Connections in scripts, frame by frame. Another program made the frames, from the standards and each host's random words.
-use crate::common::{STREAMS, play, play_padded, play_without_frames};
+use crate::common::{Row, STREAMS, play, play_padded, play_without_frames};
 use std::test::Fail;
 
 /// B listens at port 80, A connects: A's frames are a request, a SYN and an ACK, B's an answer and a SYN.
@@ -79,27 +79,13 @@ pollat B 10000
 > never
 ";
 
-/// The connection is opened, and carries abc to B.
-#[test]
-fn a_connection_carries_bytes(rt: HostRuntime) -> Result<(), Fail> {
-    play(rt.alloc(), &[STREAMS, OPENING, OPENED, ABC], ACKNOWLEDGED)
-}
-
+/// Padding behind each frame that is handed over: the same answers and the same frames.
 const NOTHING_MORE: &str = "\
 recv B 0 64
 > data -
 ";
 
-/// Padding behind each frame that is handed over: the same answers and the same frames.
-#[test]
-fn padding_is_no_part_of_a_stream(rt: HostRuntime) -> Result<(), Fail> {
-    play_padded(
-        rt.alloc(),
-        &[STREAMS, OPENING, ABC, ACKNOWLEDGED],
-        NOTHING_MORE,
-    )
-}
-
+/// Each frame is handed over twice. B answers both requests, and A the second SYN of B.
 const TWICE: &str = "\
 listen B 0 80
 > ok
@@ -161,12 +147,7 @@ recv B 0 64
 > data -
 ";
 
-/// Each frame is handed over twice. B answers both requests, and A the second SYN of B.
-#[test]
-fn frames_that_come_twice_are_read_once(rt: HostRuntime) -> Result<(), Fail> {
-    play_without_frames(rt.alloc(), &[STREAMS], TWICE)
-}
-
+/// A closes before B has read.
 const END: &str = "\
 deliver A 3 -
 > ok
@@ -190,18 +171,15 @@ recv B 0 64
 > data 616263
 recv B 0 64
 > error Finished
+recv B 0 64
+> error Finished
 state A 0
 > state FIN-WAIT-2
 state B 0
 > state CLOSE-WAIT
 ";
 
-/// A closes before B has read.
-#[test]
-fn a_stream_ends(rt: HostRuntime) -> Result<(), Fail> {
-    play(rt.alloc(), &[STREAMS, OPENING, ABC], END)
-}
-
+/// B neither reads nor answers the segment whose word was exchanged. As it was sent it is read.
 const DAMAGED: &str = "\
 damage A 3 20 6163 -
 > ok
@@ -219,12 +197,7 @@ recv B 0 64
 > data 616263
 ";
 
-/// B neither reads nor answers the segment whose word was exchanged. As it was sent it is read.
-#[test]
-fn a_damaged_segment_is_not_read(rt: HostRuntime) -> Result<(), Fail> {
-    play(rt.alloc(), &[STREAMS, OPENING, ABC], DAMAGED)
-}
-
+/// The word 0000 of the urgent pointer stands at place 18. To the checksum ffff is the same. No word stands at an odd place, or at the end.
 const NO_DAMAGE: &str = "\
 damage A 3 18 ffff -{end}
 ! line 20: refused SameSum
@@ -236,12 +209,7 @@ damage A 3 22 6163 -{end}
 ! line 20: refused Place
 ";
 
-/// The word 0000 of the urgent pointer stands at place 18. To the checksum ffff is the same. No word stands at an odd place, or at the end.
-#[test]
-fn damage_is_of_a_word_that_the_checksum_tells(rt: HostRuntime) -> Result<(), Fail> {
-    play(rt.alloc(), &[STREAMS, OPENING, ABC], NO_DAMAGE)
-}
-
+/// Its pieces, of 16 and 7 bytes, come in reverse and twice.
 const CUT: &str = "\
 cut A 3 16
 > ok
@@ -267,12 +235,7 @@ damage A 4 0 0001 -
 ! line 29: refused NotTcp
 ";
 
-/// Its pieces, of 16 and 7 bytes, come in reverse and twice.
-#[test]
-fn a_cut_segment_is_read_once(rt: HostRuntime) -> Result<(), Fail> {
-    play(rt.alloc(), &[STREAMS, OPENING, ABC], CUT)
-}
-
+/// No socket listens at port 81.
 const NO_LISTENER: &str = "\
 connect A 0 192.168.1.2:81 49500
 > ok
@@ -304,8 +267,275 @@ recv A 0 64
 > error InvalidState
 ";
 
-/// No socket listens at port 81.
+const READ_IN_PARTS: &str = "\
+deliver A 3 -
+> ok
+poll B 0 8
+> changed
+recv B 0 2
+> data 6162
+recv B 0 64
+> data 63
+recv B 0 64
+> data -
+";
+
+/// Each word of the segment in turn.
+const EACH_WORD: &str = "\
+damage A 3 0 1234 -
+> ok
+damage A 3 2 1234 -
+> ok
+damage A 3 4 1234 -
+> ok
+damage A 3 6 1234 -
+> ok
+damage A 3 8 1234 -
+> ok
+damage A 3 10 1234 -
+> ok
+poll B 0 8
+> changed
+recv B 0 64
+> data -
+damage A 3 12 1234 -
+> ok
+damage A 3 14 1234 -
+> ok
+damage A 3 16 1234 -
+> ok
+damage A 3 18 1234 -
+> ok
+damage A 3 20 1234 -
+> ok
+poll B 0 8
+> changed
+recv B 0 64
+> data -
+state B 0
+> state ESTABLISHED
+deliver A 3 -
+> ok
+poll B 0 8
+> changed
+recv B 0 64
+> data 616263
+";
+
+/// A's first SYN opens the listener; A aborts, which takes it back; the old SYN opens it again, and nothing comes of it.
+const FALLS_BACK: &str = "\
+listen B 0 80
+> ok
+connect A 0 192.168.1.2:80 49500
+> ok
+poll A 0 8
+> none
+deliver A 0 -
+> ok
+poll B 0 8
+> changed
+deliver B 0 -
+> ok
+poll A 0 8
+> changed
+deliver A 1 -
+> ok
+poll B 0 8
+> changed
+state B 0
+> state SYN-RECEIVED
+abort A 0
+> ok
+poll A 0 8
+> changed
+deliver A 2 -
+> ok
+poll B 0 8
+> changed
+state B 0
+> state LISTEN
+deliver A 1 -
+> ok
+poll B 0 8
+> changed
+state B 0
+> state SYN-RECEIVED
+state A 0
+> state CLOSED
+recv B 0 64
+> error InvalidState
+recv A 0 64
+> error InvalidState
+";
+
+/// A listener at another port goes on listening.
+const OTHER_PORT: &str = "\
+listen B 0 80
+> ok
+connect A 0 192.168.1.2:81 49500
+> ok
+poll A 0 8
+> none
+deliver A 0 -
+> ok
+poll B 0 8
+> changed
+deliver B 0 -
+> ok
+poll A 0 8
+> changed
+deliver A 1 -
+> ok
+poll B 0 8
+> changed
+deliver B 1 -
+> ok
+poll A 0 8
+> changed
+state A 0
+> state CLOSED
+state B 0
+> state LISTEN
+";
+
+/// A piece is cut once more; the three parts come last one first.
+const CUT_AGAIN: &str = "\
+cut A 3 8
+> ok
+cut A 5 8
+> ok
+deliver A 7 -
+> ok
+deliver A 6 -
+> ok
+poll B 0 8
+> changed
+recv B 0 64
+> data -
+deliver A 4 -
+> ok
+poll B 0 8
+> changed
+recv B 0 64
+> data 616263
+recv B 0 64
+> data -
+";
+
+/// Each segment of the opening comes in pieces, the first, which has options, in reverse and twice; then bytes go.
+const OPENED_IN_PIECES: &str = "\
+listen B 0 80
+> ok
+connect A 0 192.168.1.2:80 49500
+> ok
+poll A 0 8
+> none
+deliver A 0 -
+> ok
+poll B 0 8
+> changed
+deliver B 0 -
+> ok
+poll A 0 8
+> changed
+cut A 1 8
+> ok
+deliver A 3 -
+> ok
+deliver A 2 -
+> ok
+deliver A 3 -
+> ok
+deliver A 2 -
+> ok
+poll B 0 8
+> changed
+cut B 1 16
+> ok
+deliver B 3 -
+> ok
+deliver B 2 -
+> ok
+poll A 0 8
+> changed
+cut A 4 8
+> ok
+deliver A 6 -
+> ok
+deliver A 5 -
+> ok
+poll B 0 8
+> changed
+state B 0
+> state ESTABLISHED
+send B 0 78797a
+> ok 3
+poll B 0 8
+> changed
+deliver B 4 -
+> ok
+poll A 0 8
+> changed
+recv A 0 64
+> data 78797a
+";
+
+static ROWS: [Row; 8] = [
+    (
+        "bytes are read in parts",
+        &[STREAMS, OPENING, ABC],
+        READ_IN_PARTS,
+    ),
+    (
+        "no word of a segment may change",
+        &[STREAMS, OPENING, ABC],
+        EACH_WORD,
+    ),
+    (
+        "a connection carries bytes",
+        &[STREAMS, OPENING, OPENED, ABC],
+        ACKNOWLEDGED,
+    ),
+    ("a stream ends", &[STREAMS, OPENING, ABC], END),
+    (
+        "a damaged segment is not read",
+        &[STREAMS, OPENING, ABC],
+        DAMAGED,
+    ),
+    (
+        "damage is of a word that the checksum tells",
+        &[STREAMS, OPENING, ABC],
+        NO_DAMAGE,
+    ),
+    ("a cut segment is read once", &[STREAMS, OPENING, ABC], CUT),
+    (
+        "a port without a listener is reset",
+        &[STREAMS],
+        NO_LISTENER,
+    ),
+];
+
+static WITHOUT_FRAMES: [Row; 5] = [
+    ("a listener falls back", &[STREAMS], FALLS_BACK),
+    (
+        "a listener at another port goes on listening",
+        &[STREAMS],
+        OTHER_PORT,
+    ),
+    ("a piece is cut again", &[STREAMS, OPENING, ABC], CUT_AGAIN),
+    ("a connection opens in pieces", &[STREAMS], OPENED_IN_PIECES),
+    ("frames that come twice are read once", &[STREAMS], TWICE),
+];
+
+static PADDED: Row = (
+    "padding is no part of a stream",
+    &[STREAMS, OPENING, ABC, ACKNOWLEDGED],
+    NOTHING_MORE,
+);
+
 #[test]
-fn a_port_without_a_listener_is_reset(rt: HostRuntime) -> Result<(), Fail> {
-    play(rt.alloc(), &[STREAMS], NO_LISTENER)
+fn streams_are_carried(rt: HostRuntime) -> Result<(), Fail> {
+    play(&rt, &ROWS)?;
+    play_without_frames(&rt, &WITHOUT_FRAMES)?;
+    play_padded(&rt, &PADDED)
 }

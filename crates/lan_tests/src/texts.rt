@@ -1,6 +1,6 @@
 //! What faults, refusals and errors say.
-use crate::hosts::tell;
-use lan_world::{Fault, Refused, WorldError};
+use crate::common::tell;
+use lan::{Fault, Refused, WorldError};
 use std::fmt::Display;
 use std::test::Fail;
 
@@ -40,11 +40,6 @@ static FAULTS: [(Fault, &str); 9] = [
     (Fault::RouteTableFull, "route table full"),
 ];
 
-#[test]
-fn faults_have_their_texts(rt: HostRuntime) -> Result<(), Fail> {
-    say(&rt, &FAULTS)
-}
-
 static REFUSALS: [(Refused, &str); 16] = [
     (Refused::NoSocket, "no such socket"),
     (Refused::WrongKind, "wrong kind of socket"),
@@ -64,11 +59,6 @@ static REFUSALS: [(Refused, &str); 16] = [
     (Refused::CutPlace, "no place for a cut"),
 ];
 
-#[test]
-fn refusals_have_their_texts(rt: HostRuntime) -> Result<(), Fail> {
-    say(&rt, &REFUSALS)
-}
-
 static ERRORS: [(WorldError, &str); 6] = [
     (WorldError::Media, "two media"),
     (WorldError::Checksums, "a checksum is off"),
@@ -79,6 +69,8 @@ static ERRORS: [(WorldError, &str); 6] = [
 ];
 
 #[test]
-fn errors_have_their_texts(rt: HostRuntime) -> Result<(), Fail> {
+fn each_has_its_text(rt: HostRuntime) -> Result<(), Fail> {
+    say(&rt, &FAULTS)?;
+    say(&rt, &REFUSALS)?;
     say(&rt, &ERRORS)
 }

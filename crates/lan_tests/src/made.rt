@@ -1,0 +1,153 @@
+//! Which two hosts make a world.
+use crate::common::tell;
+use interface::{Config, Interface, SocketSet};
+use ip_wire::{EthernetAddress, HardwareAddress};
+use lan::{Host, Port, World, WorldError};
+use net_base::{ChecksumCapabilities, DeviceCapabilities, Instant, ManagedSlice, Medium};
+use std::alloc::Global;
+use std::test::Fail;
+
+/// A device of this medium, whose longest IP packet has so many bytes.
+fn capabilities(medium: Medium, ip_mtu: u16) -> DeviceCapabilities {
+    let header = match medium {
+        Medium::Ethernet => 14,
+        Medium::Ip => 0,
+    };
+    DeviceCapabilities {
+        medium,
+        max_transmission_unit: usize::from(ip_mtu) + header,
+        checksum: ChecksumCapabilities::default(),
+    }
+}
+
+/// The device of A, which is as B's but for what is wrong with it.
+fn described(wrong: &str) -> DeviceCapabilities {
+    let medium = match wrong {
+        "its medium" | "its medium and its checksums" => Medium::Ethernet,
+        _ => Medium::Ip,
+    };
+    let mut described = capabilities(medium, 1_500);
+    if wrong == "its checksums" || wrong == "its medium and its checksums" {
+        described.checksum = ChecksumCapabilities::ignored();
+    }
+    described
+}
+
+/// The settings of host n.
+fn config(n: u8, medium: Medium) -> Config {
+    Config {
+        random_seed: u64::from(n),
+        hardware_addr: match medium {
+            Medium::Ethernet => HardwareAddress::Ethernet(EthernetAddress([2, 0, 0, 0, 0, n])),
+            Medium::Ip => HardwareAddress::Ip,
+        },
+    }
+}
+
+/// The interface of host n at its port, without addresses.
+fn interface(alloc: Global, n: u8, port: &Port, medium: Medium) -> Option<Interface> {
+    match Interface::new(alloc, &config(n, medium), port, Instant::ZERO) {
+        Ok(interface) => Some(interface),
+        Err(_) => None,
+    }
+}
+
+/// Host n over this device, without sockets.
+fn host(alloc: Global, n: u8, described: DeviceCapabilities) -> Option<Host> {
+    let port = Port::new(alloc, described);
+    match interface(alloc, n, &port, described.medium) {
+        Some(interface) => Some(Host {
+            interface,
+            sockets: SocketSet::new(ManagedSlice::Owned(Vec::new(alloc))),
+            port,
+        }),
+        None => None,
+    }
+}
+
+/// Makes of A what is wrong with it, but for its device; not where there is no memory for that.
+fn spoil(alloc: Global, a: &mut Host, wrong: &str) -> bool {
+    match wrong {
+        // The device of the port needn't be that over which the interface was made.
+        "its MTU" => {
+            a.port = Port::new(alloc, capabilities(Medium::Ip, 1_499));
+            true
+        }
+        "a frame waits" => a.port.push(Vec::new(alloc)).is_ok(),
+        "any IP" => {
+            a.interface.set_any_ip(true);
+            true
+        }
+        _ => true,
+    }
+}
+
+fn host_a(alloc: Global, wrong: &str) -> Option<Host> {
+    let mut a = host(alloc, 1, described(wrong))?;
+    spoil(alloc, &mut a, wrong).then_some(a)
+}
+
+fn host_b(alloc: Global) -> Option<Host> {
+    host(alloc, 2, capabilities(Medium::Ip, 1_500))
+}
+
+/// Why the two make no world, if they don't.
+fn refusal(alloc: Global, a: Host, b: Host) -> Option<WorldError> {
+    World::new(alloc, a, b).err()
+}
+
+/// What becomes of the two, in a word; `None` where there was no memory for the world.
+fn word_for(refusal: Option<WorldError>) -> Option<&'static str> {
+    match refusal {
+        None => Some("a world"),
+        Some(WorldError::Media) => Some("media"),
+        Some(WorldError::Checksums) => Some("checksums"),
+        Some(WorldError::Mtu) => Some("mtu"),
+        Some(WorldError::Buffers) => Some("buffers"),
+        Some(WorldError::NotFresh) => Some("not fresh"),
+        Some(WorldError::Memory) => None,
+    }
+}
+
+/// The same of two hosts that are made so; `None` also where there was no memory for these.
+fn made(alloc: Global, wrong: &str) -> Option<&'static str> {
+    let (a, b) = host_a(alloc, wrong).zip(host_b(alloc))?;
+    word_for(refusal(alloc, a, b))
+}
+
+/// The same; made again where an allocation is refused.
+fn outcome(rt: &HostRuntime, wrong: &str) -> Result<Option<&'static str>, Fail> {
+    if let Some(outcome) = made(rt.alloc(), wrong) {
+        return Ok(Some(outcome));
+    }
+    tell(rt, "hosts are made again")?;
+    Ok(made(rt.alloc(), wrong))
+}
+
+/// Fails where the two don't become what is wanted, and names what is wrong with A.
+fn becomes(rt: &HostRuntime, wrong: &'static str, want: &str) -> Result<(), Fail> {
+    if outcome(rt, wrong)?.unwrap_or("no memory") == want {
+        Ok(())
+    } else {
+        Err(wrong.into())
+    }
+}
+
+/// What is wrong with A, and what becomes of the two. (Scripts have the bounds of an MTU and of buffers.)
+static HOSTS: [(&str, &str); 7] = [
+    ("nothing", "a world"),
+    ("its medium", "media"),
+    ("its checksums", "checksums"),
+    ("its medium and its checksums", "media"),
+    ("its MTU", "mtu"),
+    ("any IP", "not fresh"),
+    ("a frame waits", "not fresh"),
+];
+
+#[test]
+fn fresh_hosts_alone_make_a_world(rt: HostRuntime) -> Result<(), Fail> {
+    for &(wrong, want) in &HOSTS {
+        becomes(&rt, wrong, want)?;
+    }
+    Ok(())
+}
