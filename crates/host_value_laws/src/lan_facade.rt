@@ -1,7 +1,10 @@
 //! What `lan` passes on is its members', each item under its own name: each function takes a member's item and
 //! gives it as the facade's, which is accepted only where both names mean one item.
-ghost use Rattle.std.specs.Prelude.{◌≡◌, List, ℕ};
+ghost use Rattle.std.specs.Prelude.{◌≡◌, List, ℕ, IfOk};
+ghost use Rattle.std.specs.String.{string_bytes};
 ghost use Rattle.net_base.specs.Medium.{Medium};
+ghost use Rattle.lan.specs.Answers.{answer_line};
+ghost use Rattle.lan.specs.Events.{event_of, side_of};
 ghost use Rattle.lan_frames.specs.Carried.{names_tcp_or_udp};
 ghost use Rattle.lan_net.specs.declared.event.Side.{Side};
 ghost use Rattle.lan_net.specs.History.{Entry};
@@ -11,6 +14,7 @@ ghost use Rattle.lan_theorem.specs.Hosts.Asked.{requests, AreApart};
 ghost use Rattle.lan_theorem.specs.Hosts.Machine.{Turn, Machine, HostRun};
 
 use net_base::Medium;
+use std::alloc::{AllocError, Global};
 
 /// A side, a setting, a fault, a reason of a refusal, and why two hosts make no world.
 pub fn passes_on_names(
@@ -78,6 +82,37 @@ pub fn passes_on_tokens(token: &lan_port::PortTxToken) -> &lan::PortTxToken
     ensures { result.now ≡ token.now }
 {
     token
+}
+
+/// A line of a script.
+pub fn passes_on_lines<'a, 'b>(line: &'a lan_script::Line<'b>) -> &'a lan::Line<'b>
+    ensures { result.now ≡ line.now }
+{
+    line
+}
+
+/// The host that a line names.
+pub fn passes_on_side_of(side: lan_script::Side) -> lan::Side
+    ensures { result ≡ side_of side }
+{
+    lan::side_of(side)
+}
+
+/// The event that a line names.
+pub fn passes_on_event_of(
+    alloc: Global,
+    line: lan_script::Line<'_>,
+) -> Result<Option<lan::Event>, AllocError>
+    ensures { IfOk result (λ event. event ≡ event_of line.entry) }
+{
+    lan::event_of(alloc, line)
+}
+
+/// The line that answers an event.
+pub fn passes_on_answer_line(alloc: Global, answer: &lan::Answer) -> Result<String, AllocError>
+    ensures { IfOk result (λ text. string_bytes text ≡ answer_line answer.now) }
+{
+    lan::answer_line(alloc, answer)
 }
 
 /// The test whether bytes say that they carry TCP or UDP.

@@ -22,7 +22,7 @@ const SEGMENT_IPV6: &str =
 /// To 02-00-00-00-00-02 from 02-00-00-00-00-01, but for the EtherType.
 const LINK: &str = "020000000002020000000001";
 
-// The bytes that these texts say, one behind the other.
+/// The bytes that these texts say, one behind the other.
 fn decoded(alloc: Global, texts: &[&str]) -> Result<Vec<u8>, Fail> {
     let mut all = String::new(alloc);
     for text in texts {
@@ -31,32 +31,35 @@ fn decoded(alloc: Global, texts: &[&str]) -> Result<Vec<u8>, Fail> {
     Ok(hex::decode(alloc, all.as_str())?)
 }
 
-// The bytes of two texts, the second behind the first.
-fn behind(alloc: Global, link: &str, packet: &str) -> Result<Vec<u8>, Fail> {
-    let mut all = String::new(alloc);
-    all.push_str(link)?;
-    all.push_str(packet)?;
-    Ok(hex::decode(alloc, all.as_str())?)
-}
-
-// Cuts a frame, in bare packets and behind an Ethernet header, and compares both pieces.
-fn check_cut(alloc: Global, frame: &str, at: usize, first: &str, second: &str) -> Result<(), Fail> {
-    for (medium, link) in [
-        (Medium::Ip, ""),
-        (Medium::Ethernet, "0200000000020200000000010800"),
-    ] {
-        let whole = behind(alloc, link, frame)?;
-        let part = ipv4_part(medium, whole.as_slice()).ok_or("an IPv4 packet")?;
-        if at > part.len {
-            return Err("a place in the packet".into());
-        }
-        let pieces = cut_frame(alloc, medium, whole.as_slice(), at)?;
-        let wanted = (behind(alloc, link, first)?, behind(alloc, link, second)?);
-        if pieces != wanted {
-            return Err(Fail::new(format_args!("of {frame} at {at}")));
-        }
+/// Cuts a packet behind a link header, and compares both pieces.
+fn check_cut_behind(
+    alloc: Global,
+    (medium, link): (Medium, &str),
+    frame: &str,
+    at: usize,
+    pieces: (&str, &str),
+) -> Result<(), Fail> {
+    let whole = decoded(alloc, &[link, frame])?;
+    let part = ipv4_part(medium, whole.as_slice()).ok_or("an IPv4 packet")?;
+    if at > part.len {
+        return Err("a place in the packet".into());
+    }
+    let (first, second) = pieces;
+    let wanted = (
+        decoded(alloc, &[link, first])?,
+        decoded(alloc, &[link, second])?,
+    );
+    if cut_frame(alloc, medium, whole.as_slice(), at)? != wanted {
+        return Err(Fail::new(format_args!("of {frame} at {at}")));
     }
     Ok(())
+}
+
+/// Cuts a frame, as a bare packet and behind an Ethernet header, and compares both pieces.
+fn check_cut(alloc: Global, frame: &str, at: usize, first: &str, second: &str) -> Result<(), Fail> {
+    let framed = (Medium::Ethernet, "0200000000020200000000010800");
+    check_cut_behind(alloc, (Medium::Ip, ""), frame, at, (first, second))?;
+    check_cut_behind(alloc, framed, frame, at, (first, second))
 }
 
 #[test]
@@ -70,34 +73,40 @@ fn a_frame_is_cut_in_two_pieces(rt: HostRuntime) -> Result<(), Fail> {
     )
 }
 
+const WHOLE: &str =
+    "450000300102000040fdf57bc0a80101c0a80102a0a1a2a3a4a5a6a7a8a9aaabacadaeafb0b1b2b3b4b5b6b7b8b9babb";
+
+const FIRST: &str = "450000240102200040fdd587c0a80101c0a80102a0a1a2a3a4a5a6a7a8a9aaabacadaeaf";
+
+const SECOND: &str = "450000200102000240fdf589c0a80101c0a80102b0b1b2b3b4b5b6b7b8b9babb";
+
+/// Frames, where they are cut, and their pieces.
+static CUTS: [(&str, usize, &str, &str); 3] = [
+    (WHOLE, 16, FIRST, SECOND),
+    // More pieces follow both pieces of the first, and only one of the second's.
+    (
+        FIRST,
+        8,
+        "4500001c0102200040fdd58fc0a80101c0a80102a0a1a2a3a4a5a6a7",
+        "4500001c0102200140fdd58ec0a80101c0a80102a8a9aaabacadaeaf",
+    ),
+    (
+        SECOND,
+        8,
+        "4500001c0102200240fdd58dc0a80101c0a80102b0b1b2b3b4b5b6b7",
+        "450000180102000340fdf590c0a80101c0a80102b8b9babb",
+    ),
+];
+
 #[test]
 fn a_piece_is_cut_again(rt: HostRuntime) -> Result<(), Fail> {
-    let whole =
-        "450000300102000040fdf57bc0a80101c0a80102a0a1a2a3a4a5a6a7a8a9aaabacadaeafb0b1b2b3b4b5b6b7b8b9babb";
-    let first = "450000240102200040fdd587c0a80101c0a80102a0a1a2a3a4a5a6a7a8a9aaabacadaeaf";
-    let second = "450000200102000240fdf589c0a80101c0a80102b0b1b2b3b4b5b6b7b8b9babb";
-    for (frame, at, front, back) in [
-        (whole, 16, first, second),
-        // More pieces follow both pieces of the first, and only one of the second's.
-        (
-            first,
-            8,
-            "4500001c0102200040fdd58fc0a80101c0a80102a0a1a2a3a4a5a6a7",
-            "4500001c0102200140fdd58ec0a80101c0a80102a8a9aaabacadaeaf",
-        ),
-        (
-            second,
-            8,
-            "4500001c0102200240fdd58dc0a80101c0a80102b0b1b2b3b4b5b6b7",
-            "450000180102000340fdf590c0a80101c0a80102b8b9babb",
-        ),
-    ] {
-        check_cut(rt.alloc(), frame, at, front, back)?;
+    for &(frame, at, first, second) in &CUTS {
+        check_cut(rt.alloc(), frame, at, first, second)?;
     }
     Ok(())
 }
 
-// Compares what is said of the bytes of these texts.
+/// Compares what is said of the bytes of these texts.
 fn check_names(alloc: Global, medium: Medium, texts: &[&str], names: bool) -> Result<(), Fail> {
     let frame = decoded(alloc, texts)?;
     if names_tcp_or_udp(medium, frame.as_slice()) != names {
@@ -106,40 +115,50 @@ fn check_names(alloc: Global, medium: Medium, texts: &[&str], names: bool) -> Re
     Ok(())
 }
 
+/// Packets, their EtherTypes, and whether they name TCP or UDP.
+static NAMES: [(&str, &str, bool); 9] = [
+    (DATAGRAM, "0800", true),
+    (SEGMENT, "0800", true),
+    (SEGMENT_IPV6, "86dd", true),
+    (
+        "4500001c000040004001b78dc0a80102c0a801010800e5ca12340001",
+        "0800",
+        false,
+    ),
+    // No more than the place of the protocol, and less.
+    ("45000000000000000011", "0800", true),
+    ("450000000000000000", "0800", false),
+    ("60000000000011", "86dd", true),
+    ("600000000000", "86dd", false),
+    ("", "0800", false),
+];
+
 #[test]
 fn bytes_name_their_protocol(rt: HostRuntime) -> Result<(), Fail> {
     let alloc = rt.alloc();
-    for (frame, kind, names) in [
-        (DATAGRAM, "0800", true),
-        (SEGMENT, "0800", true),
-        (SEGMENT_IPV6, "86dd", true),
-        (
-            "4500001c000040004001b78dc0a80102c0a801010800e5ca12340001",
-            "0800",
-            false,
-        ),
-        // No more than the place of the protocol, and less.
-        ("45000000000000000011", "0800", true),
-        ("450000000000000000", "0800", false),
-        ("60000000000011", "86dd", true),
-        ("600000000000", "86dd", false),
-        ("", "0800", false),
-    ] {
-        check_names(alloc, Medium::Ip, &[frame], names)?;
-        check_names(alloc, Medium::Ethernet, &[LINK, kind, frame], names)?;
-    }
-    for (medium, frame) in [
-        // An ARP request whose bytes 0 and 9 are 45 and 11, and a packet of version 5.
-        (Medium::Ethernet, "450000000002020000110001080600010800"),
-        (Medium::Ip, "55000000000000000011"),
-        (Medium::Ip, "65000000000000000011"),
-    ] {
-        check_names(alloc, medium, &[frame], false)?;
+    for &(packet, kind, names) in &NAMES {
+        check_names(alloc, Medium::Ip, &[packet], names)?;
+        check_names(alloc, Medium::Ethernet, &[LINK, kind, packet], names)?;
     }
     Ok(())
 }
 
-// Compares where the bytes of these texts have a TCP segment of 23 bytes.
+/// An ARP request whose bytes 0 and 9 are 45 and 11, and packets of versions 5 and 6 in the form of version 4.
+static NAMELESS: [(Medium, &str); 3] = [
+    (Medium::Ethernet, "450000000002020000110001080600010800"),
+    (Medium::Ip, "55000000000000000011"),
+    (Medium::Ip, "65000000000000000011"),
+];
+
+#[test]
+fn other_bytes_name_none(rt: HostRuntime) -> Result<(), Fail> {
+    for &(medium, bytes) in &NAMELESS {
+        check_names(rt.alloc(), medium, &[bytes], false)?;
+    }
+    Ok(())
+}
+
+/// Compares where the bytes of these texts have a TCP segment of 23 bytes.
 fn check_place(
     alloc: Global,
     medium: Medium,
@@ -153,43 +172,54 @@ fn check_place(
     Ok(())
 }
 
+/// Packets, their EtherTypes, and where a segment begins in them and behind an Ethernet header.
+static PLACES: [(&str, &str, Option<usize>, Option<usize>); 7] = [
+    (SEGMENT, "0800", Some(20), Some(34)),
+    (SEGMENT_IPV6, "86dd", Some(40), Some(54)),
+    (DATAGRAM, "0800", None, None),
+    // More fragments follow, or it stands at an offset.
+    (
+        "4500002b000720004006d772c0a80101c0a80102c000005000000001000000025018100097bf0000616263",
+        "0800",
+        None,
+        None,
+    ),
+    (
+        "4500002b000700014006f771c0a80101c0a80102c000005000000001000000025018100097bf0000616263",
+        "0800",
+        None,
+        None,
+    ),
+    (
+        "4500002b000700004006f772c0a80101c0a80102",
+        "0800",
+        None,
+        None,
+    ),
+    ("", "0800", None, None),
+];
+
 #[test]
 fn a_segment_has_its_place(rt: HostRuntime) -> Result<(), Fail> {
     let alloc = rt.alloc();
-    for (frame, kind, place, framed) in [
-        (SEGMENT, "0800", Some(20), Some(34)),
-        (SEGMENT_IPV6, "86dd", Some(40), Some(54)),
-        (DATAGRAM, "0800", None, None),
-        // More fragments follow, or it stands at an offset.
-        (
-            "4500002b000720004006d772c0a80101c0a80102c000005000000001000000025018100097bf0000616263",
-            "0800",
-            None,
-            None,
-        ),
-        (
-            "4500002b000700014006f771c0a80101c0a80102c000005000000001000000025018100097bf0000616263",
-            "0800",
-            None,
-            None,
-        ),
-        (
-            "4500002b000700004006f772c0a80101c0a80102",
-            "0800",
-            None,
-            None,
-        ),
-        ("", "0800", None, None),
-    ] {
-        check_place(alloc, Medium::Ip, &[frame], place)?;
-        check_place(alloc, Medium::Ip, &[frame, "0000"], place)?;
-        check_place(alloc, Medium::Ethernet, &[LINK, kind, frame], framed)?;
-        check_place(alloc, Medium::Ethernet, &[LINK, "0806", frame], None)?;
+    for &(packet, kind, place, framed) in &PLACES {
+        check_place(alloc, Medium::Ip, &[packet], place)?;
+        check_place(alloc, Medium::Ethernet, &[LINK, kind, packet], framed)?;
     }
     Ok(())
 }
 
-// Whether the segment of a frame is read, from 192.168.1.1 to 192.168.1.2.
+#[test]
+fn padding_and_an_ethertype_are_heeded(rt: HostRuntime) -> Result<(), Fail> {
+    let alloc = rt.alloc();
+    for &(packet, _, place, _) in &PLACES {
+        check_place(alloc, Medium::Ip, &[packet, "0000"], place)?;
+        check_place(alloc, Medium::Ethernet, &[LINK, "0806", packet], None)?;
+    }
+    Ok(())
+}
+
+/// Whether the segment of a frame is read, from 192.168.1.1 to 192.168.1.2.
 fn is_read(frame: &[u8]) -> bool {
     if frame.len() < 43 {
         return false;
@@ -201,7 +231,7 @@ fn is_read(frame: &[u8]) -> bool {
     TcpRepr::parse(&segment, &source, &destination, &all).is_ok()
 }
 
-// Whether a segment is read until a word of it is exchanged, and stands where it stood.
+/// Whether a segment is read until a word of it is exchanged, and stands where it stood.
 fn is_damaged(alloc: Global, place: usize) -> Result<bool, Fail> {
     let mut frame = decoded(alloc, &[SEGMENT])?;
     let part = tcp_part(Medium::Ip, frame.as_slice()).ok_or("a segment")?;
