@@ -1,5 +1,9 @@
-//! Tests of the program's scripts, of their lines, of the device in memory and of what the link makes of frames, over public calls
-//! alone. What they expect comes from outside: worked examples, the language's rules, and frames that another program made.
+//! Tests of the program's scripts, of their lines, of worlds, of the device in memory and of what the link makes of frames, over public
+//! calls alone. What they expect comes from outside: worked examples, the language's rules, and frames that another program made.
+//!
+//! Worked scripts stand in tables (`rows`, `kinds`, `grammar`, `refusals`, `streams`, `long`), which `common` plays. `steps` has a world
+//! take the events of such a text one by one: what goes on behind a refusal (`going_on`), what no script says (`settings`, `bounds`), and
+//! what an event does that finds no memory (`memory`).
 #![tactic(auto)]
 
 #[cfg(test)]
