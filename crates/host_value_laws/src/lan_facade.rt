@@ -101,9 +101,9 @@ pub fn passes_on_side_of(side: lan_script::Side) -> lan::Side
 /// The event that a line names.
 pub fn passes_on_event_of(
     alloc: Global,
-    line: lan_script::Line<'_>,
+    line: &lan_script::Line<'_>,
 ) -> Result<Option<lan::Event>, AllocError>
-    ensures { IfOk result (λ event. event ≡ event_of line.entry) }
+    ensures { IfOk result (λ event. event ≡ event_of line.now) }
 {
     lan::event_of(alloc, line)
 }

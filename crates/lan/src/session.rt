@@ -41,29 +41,29 @@ impl Session {
         ensures ends { IfErr result (LineEnds self.old text.now) }
     {
         match Line::read(text) {
-            Some(line) => self.take(alloc, line),
+            Some(line) => self.take(alloc, &line),
             None => Err(End::BadEvent),
         }
     }
 
     // Takes what a line says.
     #[tactic(auto, using(crate::proofs::BytesLemmas::ends_so))]
-    fn take(&mut self, alloc: Global, line: Line<'_>) -> Result<String, End>
-        ensures allowed { OnOk result (end_of self.old (Some line.entry) ≡ None) }
-        ensures leads { IfOk result (λ text. Leads self.old (Some line.entry) (string_bytes text) self.new) }
-        ensures ends { IfErr result (Ends self.old (Some line.entry)) }
+    fn take(&mut self, alloc: Global, line: &Line<'_>) -> Result<String, End>
+        ensures allowed { OnOk result (end_of self.old (Some line.now) ≡ None) }
+        ensures leads { IfOk result (λ text. Leads self.old (Some line.now) (string_bytes text) self.new) }
+        ensures ends { IfErr result (Ends self.old (Some line.now)) }
     {
         match self {
             Session::Begun => {
                 let Line::World(medium, mtu) = line else {
                     return Err(End::BadEvent);
                 };
-                self.begin(Header::new(alloc, medium, mtu));
+                self.begin(Header::new(alloc, *medium, *mtu));
                 Ok(String::new(alloc))
             }
             Session::Header(header) => match line {
                 Line::Socket(side, spec) => {
-                    header.push(side_of(side), spec)?;
+                    header.push(side_of(*side), *spec)?;
                     Ok(String::new(alloc))
                 }
                 Line::Start => self.start(alloc),
@@ -96,10 +96,10 @@ impl Session {
 }
 
 // Takes a line once the hosts run: what it writes.
-fn go_on(alloc: Global, world: &mut World, line: Line<'_>) -> Result<String, End>
-    ensures allowed { OnOk result (event_end world.old (event_of line.entry) ≡ None) }
-    ensures leads { IfOk result (λ text. EventLeads world.old (event_of line.entry) (string_bytes text) (Running world.new)) }
-    ensures ends { IfErr result (MayEnd world.old line.entry) }
+fn go_on(alloc: Global, world: &mut World, line: &Line<'_>) -> Result<String, End>
+    ensures allowed { OnOk result (event_end world.old (event_of line.now) ≡ None) }
+    ensures leads { IfOk result (λ text. EventLeads world.old (event_of line.now) (string_bytes text) (Running world.new)) }
+    ensures ends { IfErr result (MayEnd world.old line.now) }
 {
     let Some(event) = event_of(alloc, line)? else {
         return Err(End::BadEvent);

@@ -30,12 +30,13 @@ impl Blocks {
         }
     }
 
-    /// The vector that holds them.
-    pub fn into_inner(self) -> ArrayVec<IpCidr, 4>
-        ensures { result.items ≡ self }
+    /// A vector of its own that holds them.
+    pub fn to_inner(&self) -> ArrayVec<IpCidr, 4>
+        ensures { result.items ≡ self.now }
     {
-        let Blocks { blocks } = self;
-        blocks
+        let mut copy = ArrayVec::new();
+        let _ = copy.try_extend_from_slice(self.blocks.as_slice());
+        copy
     }
 
     /// The blocks in order.

@@ -99,7 +99,7 @@ fn event(alloc: Global, line: &str) -> Result<Option<Event>, AllocError> {
     push_line(&mut text, line)?;
     let line = text.as_str().trim_end();
     match Line::read(line.as_bytes()) {
-        Some(line) => event_of(alloc, line),
+        Some(line) => event_of(alloc, &line),
         None => other_event(alloc, line),
     }
 }
