@@ -1,5 +1,5 @@
 //! What calls answer, as answers of a world.
-ghost use Rattle.std.specs.Prelude.{◌≡◌, ◌≢◌, None, Some};
+ghost use Rattle.std.specs.Prelude.{◌≡◌, ◌≢◌, None, Some, IfOk, length};
 ghost use Rattle.lan_packets.specs.Calls.{done_or, count_or, listen_fault, connect_fault, write_fault, recv_fault, bind_fault, send_fault, hops_or_none};
 ghost use Rattle.lan_stations.specs.Does.{raw_fault};
 ghost use Rattle.lan_stations.specs.Answers.{IsTwice, Gives, brief, fault_of};
@@ -7,6 +7,7 @@ ghost use Rattle.lan_stations.specs.Answers.{IsTwice, Gives, brief, fault_of};
 use lan_net::{Answer, Fault};
 use sockets::tcp::{ConnectError, ListenError, RecvError, SendError};
 use sockets::{raw, udp};
+use std::alloc::{AllocError, Global};
 use tcp_model::State;
 
 /// An answer and its twin, which the world keeps.
@@ -23,7 +24,7 @@ pub struct Taken {
 }
 
 /// What a call answers that reads no bytes.
-#[derive(Clone, Copy, Debug, PartialEq, Eq)]
+#[derive(Clone, Copy, PartialEq, Eq)]
 pub enum Brief {
     Done,
     Count(usize),
@@ -41,6 +42,14 @@ pub fn twins(answer: Brief) -> Twins
         Brief::State(state) => (Answer::State(state), Answer::State(state)),
         Brief::Error(fault) => (Answer::Error(fault), Answer::Error(fault)),
     }
+}
+
+/// Two buffers of so many bytes: for what is read, and for its twin.
+pub(crate) fn two_buffers(alloc: Global, count: usize) -> Result<(Vec<u8>, Vec<u8>), AllocError>
+    ensures one { IfOk result (λ both. length both.0.items ≡ count) }
+    ensures other { IfOk result (λ both. length both.1.items ≡ count) }
+{
+    Ok((vec![in alloc; 0; count]?, vec![in alloc; 0; count]?))
 }
 
 /// What was given with an answer without bytes.

@@ -10,7 +10,7 @@ ghost use Rattle.lan_packets.specs.Calls.{done_or, bind_fault, send_fault, at_po
 ghost use Rattle.lan_stations.specs.Does.{raw_fault, message_or, packet_or};
 ghost use Rattle.lan_stations.specs.Answers.{IsTwice, brief};
 
-use crate::answer::{Brief, Twins, bound, read_fault, sent, sent_raw, twins};
+use crate::answer::{Brief, Twins, bound, read_fault, sent, sent_raw, twins, two_buffers};
 use ip_wire::{IpAddress, IpEndpoint, IpListenEndpoint};
 use lan_net::{Answer, Bytes};
 use net_base::PacketMeta;
@@ -75,6 +75,24 @@ fn first_bytes(mut bytes: Vec<u8>, mut twin: Vec<u8>, count: usize) -> (Bytes, B
     (Bytes::from_vec(bytes), Bytes::from_vec(twin))
 }
 
+/// Reads the first datagram, unless it has more bytes than a buffer, and copies it to the buffer's twin.
+fn datagram_twice(socket: &mut udp::Socket, mut bytes: Vec<u8>, twin: Vec<u8>) -> Twins
+    requires { length twin.items ≡ length bytes.items }
+    ensures answer { IsTwice result (datagram_or (first socket.old.received) (length bytes.items)) }
+    ensures after { socket.new ≡ recv_after socket.old }
+{
+    match socket.recv_slice(&mut bytes) {
+        Ok((count, metadata)) => {
+            let (one, other) = first_bytes(bytes, twin, count);
+            (
+                Answer::FromEndpoint(metadata.endpoint, one),
+                Answer::FromEndpoint(metadata.endpoint, other),
+            )
+        }
+        Err(fault) => twins(Brief::Error(read_fault(fault))),
+    }
+}
+
 /// Reads the first datagram, unless it has more bytes than this.
 pub fn recv_datagram(
     alloc: Global,
@@ -86,17 +104,25 @@ pub fn recv_datagram(
     ensures unchanged { OnErr result (socket.new ≡ socket.old) }
 {
     let most = limit.min(socket.recv_queue());
-    let mut bytes = vec![in alloc; 0; most]?;
-    let twin = vec![in alloc; 0; most]?;
+    let (bytes, twin) = two_buffers(alloc, most)?;
+    Ok(datagram_twice(socket, bytes, twin))
+}
+
+/// Reads the first ICMP message, unless it has more bytes than a buffer, and copies it to the buffer's twin.
+fn message_twice(socket: &mut icmp::Socket, mut bytes: Vec<u8>, twin: Vec<u8>) -> Twins
+    requires { length twin.items ≡ length bytes.items }
+    ensures answer { IsTwice result (message_or (first socket.old.received) (length bytes.items)) }
+    ensures after { socket.new ≡ recv_after socket.old }
+{
     match socket.recv_slice(&mut bytes) {
-        Ok((count, metadata)) => {
+        Ok((count, remote)) => {
             let (one, other) = first_bytes(bytes, twin, count);
-            Ok((
-                Answer::FromEndpoint(metadata.endpoint, one),
-                Answer::FromEndpoint(metadata.endpoint, other),
-            ))
+            (
+                Answer::FromAddr(remote, one),
+                Answer::FromAddr(remote, other),
+            )
         }
-        Err(fault) => Ok(twins(Brief::Error(read_fault(fault)))),
+        Err(fault) => twins(Brief::Error(read_fault(fault))),
     }
 }
 
@@ -111,17 +137,22 @@ pub fn recv_message(
     ensures unchanged { OnErr result (socket.new ≡ socket.old) }
 {
     let most = limit.min(socket.recv_queue());
-    let mut bytes = vec![in alloc; 0; most]?;
-    let twin = vec![in alloc; 0; most]?;
+    let (bytes, twin) = two_buffers(alloc, most)?;
+    Ok(message_twice(socket, bytes, twin))
+}
+
+/// Reads the first IP packet, unless it has more bytes than a buffer, and copies it to the buffer's twin.
+fn packet_twice(socket: &mut raw::Socket, mut bytes: Vec<u8>, twin: Vec<u8>) -> Twins
+    requires { length twin.items ≡ length bytes.items }
+    ensures answer { IsTwice result (packet_or (first socket.old.received) (length bytes.items)) }
+    ensures after { socket.new ≡ recv_after socket.old }
+{
     match socket.recv_slice(&mut bytes) {
-        Ok((count, remote)) => {
+        Ok(count) => {
             let (one, other) = first_bytes(bytes, twin, count);
-            Ok((
-                Answer::FromAddr(remote, one),
-                Answer::FromAddr(remote, other),
-            ))
+            (Answer::Bytes(one), Answer::Bytes(other))
         }
-        Err(fault) => Ok(twins(Brief::Error(read_fault(fault)))),
+        Err(fault) => twins(Brief::Error(read_fault(fault))),
     }
 }
 
@@ -136,13 +167,6 @@ pub fn recv_packet(
     ensures unchanged { OnErr result (socket.new ≡ socket.old) }
 {
     let most = limit.min(socket.recv_queue());
-    let mut bytes = vec![in alloc; 0; most]?;
-    let twin = vec![in alloc; 0; most]?;
-    match socket.recv_slice(&mut bytes) {
-        Ok(count) => {
-            let (one, other) = first_bytes(bytes, twin, count);
-            Ok((Answer::Bytes(one), Answer::Bytes(other)))
-        }
-        Err(fault) => Ok(twins(Brief::Error(read_fault(fault)))),
-    }
+    let (bytes, twin) = two_buffers(alloc, most)?;
+    Ok(packet_twice(socket, bytes, twin))
 }

@@ -1,10 +1,12 @@
 //! Calls of a TCP socket. Each says what its kind of socket makes of it; memory is asked for before anything changes.
-ghost use Rattle.std.specs.Prelude.{◌≡◌, if◌then◌else◌, length, IfOk, OnOk, OnErr};
+ghost use Rattle.std.specs.Prelude.{◌≡◌, ◌≤◌, if◌then◌else◌, length, IfOk, OnOk, OnErr};
 ghost use Rattle.tcp_model.specs.Calls.{listen_answer, listen_after, connect_answer, connect_after, connect_draws, send_answer, send_after, recv_answer, close_after, abort_after};
 ghost use Rattle.lan_packets.specs.Calls.{done_or, count_or, listen_fault, connect_fault, write_fault, bytes_or, read_by, at_port, setting_after};
 ghost use Rattle.lan_stations.specs.Answers.{IsTwice, brief};
 
-use crate::answer::{Brief, Twins, connected, hops_or_none, listened, recv_fault, twins, written};
+use crate::answer::{
+    Brief, Twins, connected, hops_or_none, listened, recv_fault, twins, two_buffers, written,
+};
 use ip_wire::{IpEndpoint, IpListenEndpoint};
 use lan_net::{Answer, Bytes, TcpSetting};
 use sockets::Context;
@@ -36,6 +38,25 @@ pub fn send(socket: &mut Socket, bytes: &Bytes) -> Brief
     written(socket.send_slice(bytes.as_slice()))
 }
 
+/// Reads as many bytes as a buffer has, and copies them to its twin.
+fn recv_twice(socket: &mut Socket, mut bytes: Vec<u8>, mut twin: Vec<u8>) -> Twins
+    requires twin { length twin.items ≡ length bytes.items }
+    requires waiting { length bytes.items ≤ length socket.old.received.waiting }
+    ensures answer { IsTwice result (bytes_or socket.old (recv_answer socket.old (length bytes.items))) }
+    ensures after { socket.new ≡ read_by socket.old (recv_answer socket.old (length bytes.items)) }
+{
+    match socket.recv_slice(&mut bytes) {
+        Ok(_) => {
+            twin.copy_from_slice(bytes.as_slice());
+            (
+                Answer::Bytes(Bytes::from_vec(bytes)),
+                Answer::Bytes(Bytes::from_vec(twin)),
+            )
+        }
+        Err(fault) => twins(Brief::Error(recv_fault(fault))),
+    }
+}
+
 /// Reads at most so many bytes.
 pub fn recv(alloc: Global, socket: &mut Socket, limit: usize) -> Result<Twins, AllocError>
     ensures answer { IfOk result (λ r. IsTwice r (bytes_or socket.old (recv_answer socket.old limit))) }
@@ -43,18 +64,8 @@ pub fn recv(alloc: Global, socket: &mut Socket, limit: usize) -> Result<Twins, A
     ensures unchanged { OnErr result (socket.new ≡ socket.old) }
 {
     let count = limit.min(socket.recv_queue());
-    let mut bytes = vec![in alloc; 0; count]?;
-    let mut twin = vec![in alloc; 0; count]?;
-    match socket.recv_slice(&mut bytes) {
-        Ok(_) => {
-            twin.copy_from_slice(bytes.as_slice());
-            Ok((
-                Answer::Bytes(Bytes::from_vec(bytes)),
-                Answer::Bytes(Bytes::from_vec(twin)),
-            ))
-        }
-        Err(fault) => Ok(twins(Brief::Error(recv_fault(fault)))),
-    }
+    let (bytes, twin) = two_buffers(alloc, count)?;
+    Ok(recv_twice(socket, bytes, twin))
 }
 
 /// Changes a setting.

@@ -10,7 +10,7 @@ use std::alloc::{AllocError, Global};
 use std::marker::Model;
 
 /// How many frames the hosts had sent, and how many waited for them.
-#[derive(Clone, Copy, Debug)]
+#[derive(Clone, Copy)]
 pub(crate) struct Counts {
     pub(crate) sent_a: usize,
     pub(crate) sent_b: usize,
@@ -46,7 +46,7 @@ fn waiting_count(host: &Host) -> usize
 
 /// What is kept of an event beside it and its answer: the counts as it came, and of a close of a TCP socket the state that it found. No
 /// code reads it; the definitions of what a world promises do.
-#[derive(Clone, Copy, Debug)]
+#[derive(Clone, Copy)]
 pub(crate) struct Note {
     pub(crate) before: Counts,
     pub(crate) found: Option<State>,
