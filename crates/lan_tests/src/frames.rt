@@ -5,7 +5,7 @@ use ip_wire::{IpAddress, TcpPacket, TcpRepr};
 use lan::names_tcp_or_udp;
 use lan_frames::{Part, cut_frame, damage, ipv4_part, tcp_part};
 use net_base::{ChecksumCapabilities, Medium};
-use std::alloc::Global;
+use std::alloc::{AllocError, Global};
 use std::test::Fail;
 
 /// From 192.168.1.1:48896 to 192.168.1.2:53, the bytes aa 00 00 ff, datagram c24d.
@@ -31,35 +31,50 @@ fn decoded(alloc: Global, texts: &[&str]) -> Result<Vec<u8>, Fail> {
     Ok(hex::decode(alloc, all.as_str())?)
 }
 
-/// Cuts a packet behind a link header, and compares both pieces.
-fn check_cut_behind(
+/// Whether a frame may be cut at a place, and into these pieces.
+fn is_cut(
     alloc: Global,
-    (medium, link): (Medium, &str),
-    frame: &str,
+    medium: Medium,
+    frame: &[u8],
     at: usize,
-    pieces: (&str, &str),
-) -> Result<(), Fail> {
-    let whole = decoded(alloc, &[link, frame])?;
-    let part = ipv4_part(medium, whole.as_slice()).ok_or("an IPv4 packet")?;
+    first: &[u8],
+    second: &[u8],
+) -> Result<bool, AllocError> {
+    let Some(part) = ipv4_part(medium, frame) else {
+        return Ok(false);
+    };
     if at > part.len {
-        return Err("a place in the packet".into());
+        return Ok(false);
     }
-    let (first, second) = pieces;
-    let wanted = (
-        decoded(alloc, &[link, first])?,
-        decoded(alloc, &[link, second])?,
-    );
-    if cut_frame(alloc, medium, whole.as_slice(), at)? != wanted {
-        return Err(Fail::new(format_args!("of {frame} at {at}")));
+    let (one, other) = cut_frame(alloc, medium, frame, at)?;
+    Ok(one.as_slice() == first && other.as_slice() == second)
+}
+
+/// Cuts a packet behind a link header, and compares both pieces.
+fn check_cut_behind<'a>(
+    alloc: Global,
+    (medium, link): (Medium, &'a str),
+    packet: &'a str,
+    at: usize,
+    first: &'a str,
+    second: &'a str,
+) -> Result<(), Fail> {
+    let frame = decoded(alloc, &[link, packet])?;
+    let first = decoded(alloc, &[link, first])?;
+    let second = decoded(alloc, &[link, second])?;
+    let (one, other) = (first.as_slice(), second.as_slice());
+    if is_cut(alloc, medium, frame.as_slice(), at, one, other)? {
+        Ok(())
+    } else {
+        Err(Fail::new(format_args!("of {packet} at {at}")))
     }
-    Ok(())
 }
 
 /// Cuts a frame, as a bare packet and behind an Ethernet header, and compares both pieces.
 fn check_cut(alloc: Global, frame: &str, at: usize, first: &str, second: &str) -> Result<(), Fail> {
     let framed = (Medium::Ethernet, "0200000000020200000000010800");
-    check_cut_behind(alloc, (Medium::Ip, ""), frame, at, (first, second))?;
-    check_cut_behind(alloc, framed, frame, at, (first, second))
+    check_cut_behind(alloc, (Medium::Ip, ""), frame, at, first, second)?;
+    check_cut_behind(alloc, framed, frame, at, first, second)
 }
 
 #[test]
@@ -231,21 +246,25 @@ fn is_read(frame: &[u8]) -> bool {
     TcpRepr::parse(&segment, &source, &destination, &all).is_ok()
 }
 
-/// Whether a segment is read until a word of it is exchanged, and stands where it stood.
+/// Whether a frame's segment is read until its word at a place is exchanged, and stands where it stood.
+fn is_damaged_in(frame: &mut [u8], place: usize) -> bool {
+    let Some(part) = tcp_part(Medium::Ip, frame) else {
+        return false;
+    };
+    if part.len < 2 || part.len - 2 < place {
+        return false;
+    }
+    let was_read = is_read(frame);
+    damage(frame, part, place, 0x1234);
+    part == (Part { at: 20, len: 23 })
+        && was_read
+        && !is_read(frame)
+        && tcp_part(Medium::Ip, frame) == Some(part)
+}
+
 fn is_damaged(alloc: Global, place: usize) -> Result<bool, Fail> {
     let mut frame = decoded(alloc, &[SEGMENT])?;
-    let part = tcp_part(Medium::Ip, frame.as_slice()).ok_or("a segment")?;
-    if part.len < 2 || part.len - 2 < place {
-        return Err("a place in the segment".into());
-    }
-    let was_read = is_read(frame.as_slice());
-    damage(frame.as_mut_slice(), part, place, 0x1234);
-    Ok(
-        part == (Part { at: 20, len: 23 })
-            && was_read
-            && !is_read(frame.as_slice())
-            && tcp_part(Medium::Ip, frame.as_slice()) == Some(part),
-    )
+    Ok(is_damaged_in(frame.as_mut_slice(), place))
 }
 
 #[test]

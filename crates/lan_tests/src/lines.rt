@@ -20,6 +20,16 @@ fn are_printed(alloc: Global, texts: &[(&'static str, &'static str)]) -> Result<
     Ok(())
 }
 
+/// Fails at the first text that isn't printed as it was read.
+fn are_printed_as_read(alloc: Global, texts: &[&'static str]) -> Result<(), Fail> {
+    for &text in texts {
+        if !is_printed(alloc, text, text)? {
+            return Err(text.into());
+        }
+    }
+    Ok(())
+}
+
 /// Each form of a line, printed as it was read.
 static FORMS: [&str; 34] = [
     "world eth 1514",
@@ -60,10 +70,7 @@ static FORMS: [&str; 34] = [
 
 #[test]
 fn each_line_is_printed_as_it_was_read(rt: HostRuntime) -> Result<(), Fail> {
-    for text in FORMS {
-        are_printed(rt.alloc(), &[(text, text)])?;
-    }
-    Ok(())
+    are_printed_as_read(rt.alloc(), &FORMS)
 }
 
 /// Texts of which there are several for one line, and how that is printed.

@@ -5,6 +5,7 @@ use crate::common::{Case, IP, LONG, Row, STREAMS, played, tell};
 use crate::rows::{CARRIED, CUT_DATAGRAM, LONG_DATAGRAM, QUEUED, TWO_LONG_DATAGRAMS};
 use crate::steps::play_steps;
 use crate::streams::{ABC, ACKNOWLEDGED, OPENED, OPENING};
+use std::alloc::Global;
 use std::test::Fail;
 
 /// Whether a run ended so for want of memory, where the whole one writes this.
@@ -22,29 +23,41 @@ fn is_cut_short(status: u8, written: &[u8], whole: &[u8]) -> bool {
     }
 }
 
+/// The script and what it writes; written again where an allocation is refused.
+fn case(rt: &HostRuntime, before: &[&str], text: &str) -> Result<Case, Fail> {
+    if let Ok(case) = Case::new(rt.alloc(), before, text) {
+        return Ok(case);
+    }
+    tell(rt, "a script is written again")?;
+    Ok(Case::new(rt.alloc(), before, text)?)
+}
+
+/// Whether a script is played whole. Fails where it isn't, and not for want of memory.
+fn is_played(alloc: Global, case: &Case) -> Result<bool, Fail> {
+    let whole = case.output.as_bytes();
+    let (status, written) = played(alloc, case.script.as_str());
+    if status == 0 && written.as_slice() == whole {
+        Ok(true)
+    } else if is_cut_short(status, written.as_slice(), whole) {
+        Ok(false)
+    } else {
+        Err("the script ends in another way".into())
+    }
+}
+
 /// Plays a script whole, or until it ends for want of memory and then again.
 fn play_short_of_memory(rt: &HostRuntime, before: &[&str], text: &str) -> Result<(), Fail> {
-    let alloc = rt.alloc();
-    let case = match Case::new(alloc, before, text) {
-        Ok(case) => case,
-        Err(_) => {
-            tell(rt, "a script is written again")?;
-            Case::new(alloc, before, text)?
-        }
-    };
-    let whole = case.output.as_bytes();
-    // The second time there is memory again.
-    for _ in 0..2 {
-        let (status, written) = played(alloc, case.script.as_str());
-        if status == 0 && written.as_slice() == whole {
-            return Ok(());
-        }
-        if !is_cut_short(status, written.as_slice(), whole) {
-            return Err("the script ends in another way".into());
-        }
-        tell(rt, "a script is played again")?;
+    let case = case(rt, before, text)?;
+    if is_played(rt.alloc(), &case)? {
+        return Ok(());
     }
-    Err("the script isn't played whole when there is memory".into())
+    // There is memory again.
+    tell(rt, "a script is played again")?;
+    if is_played(rt.alloc(), &case)? {
+        Ok(())
+    } else {
+        Err("the script isn't played whole when there is memory".into())
+    }
 }
 
 #[test]
