@@ -9,7 +9,7 @@ pub enum Side {
 }
 
 /// The kinds of sockets.
-#[derive(Clone, Copy, Debug, PartialEq, Eq)]
+#[derive(Clone, Copy)]
 pub enum SocketKind {
     Udp,
     Icmp,

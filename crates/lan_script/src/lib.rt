@@ -15,7 +15,6 @@ mod words;
 
 pub use blocks::Blocks;
 pub use hex_bytes::HexBytes;
-pub use kinds::{QueueSizes, Side, SocketKind, SocketSpec, StreamSizes};
+pub use kinds::{QueueSizes, Side, SocketSpec, StreamSizes};
 pub use line::Line;
 pub use text::hex_text;
-pub use verb::{DatagramVerb, HostVerb, LinkVerb, StreamVerb, Verb};

@@ -3,7 +3,7 @@ ghost use Rattle.std.specs.Prelude.{◌≡◌};
 ghost use Rattle.lan_script.specs.Verbs.{name_of, verb_of};
 
 /// What a line begins with.
-#[derive(Clone, Copy, Debug, PartialEq, Eq)]
+#[derive(Clone, Copy)]
 pub enum Verb {
     World,
     Socket,
@@ -15,7 +15,7 @@ pub enum Verb {
 }
 
 /// Calls on a TCP socket; `close` is a UDP socket's too.
-#[derive(Clone, Copy, Debug, PartialEq, Eq)]
+#[derive(Clone, Copy)]
 pub enum StreamVerb {
     Listen,
     Connect,
@@ -27,7 +27,7 @@ pub enum StreamVerb {
 }
 
 /// Calls on a UDP, an ICMP or a raw socket.
-#[derive(Clone, Copy, Debug, PartialEq, Eq)]
+#[derive(Clone, Copy)]
 pub enum DatagramVerb {
     Bind,
     Ident,
@@ -38,7 +38,7 @@ pub enum DatagramVerb {
 }
 
 /// Settings and polls of a host.
-#[derive(Clone, Copy, Debug, PartialEq, Eq)]
+#[derive(Clone, Copy)]
 pub enum HostVerb {
     Addrs,
     Hw,
@@ -49,7 +49,7 @@ pub enum HostVerb {
 }
 
 /// Acts of the link.
-#[derive(Clone, Copy, Debug, PartialEq, Eq)]
+#[derive(Clone, Copy)]
 pub enum LinkVerb {
     Deliver,
     Damage,

@@ -80,9 +80,10 @@ impl Case {
     fn take(&mut self, text: &str) -> Result<(), AllocError> {
         for line in text.split_terminator('\n') {
             match line.split_once(' ') {
-                Some((">", written)) => push_line(&mut self.output, written)?,
-                Some(("!", written)) => {
-                    self.status = 1;
+                Some((verb @ (">" | "!"), written)) => {
+                    if verb == "!" {
+                        self.status = 1;
+                    }
                     push_line(&mut self.output, written)?;
                 }
                 _ => push_line(&mut self.script, line)?,
@@ -117,96 +118,53 @@ pub fn played(alloc: Global, script: &str) -> (u8, Vec<u8>) {
     (status, writer)
 }
 
-/// Fails where another status was found, or something else was written. The failure names the first line that is another one.
-fn compare(name: &str, case: &Case, status: u8, written: &str) -> Result<(), Fail> {
-    let wanted = case.output.as_str();
-    if status == case.status && written == wanted {
+/// Whether a line is compared: without frames, none of those that are sent.
+fn is_heeded(line: &str, frames: bool) -> bool {
+    frames || !line.starts_with("sent ")
+}
+
+/// Fails where another status was found, or something else was written: the failure shows what.
+fn compare(name: &str, case: &Case, status: u8, written: &str, frames: bool) -> Result<(), Fail> {
+    let lines = written.split('\n').filter(|line| is_heeded(line, frames));
+    let wanted = case
+        .output
+        .split('\n')
+        .filter(|line| is_heeded(line, frames));
+    if status == case.status && lines.eq(wanted) {
         return Ok(());
     }
-    let other = first_other(written, wanted);
-    Err(Fail::new(format_args!("{name}: {other}")))
+    Err(Fail::new(format_args!("{name}: status {status}, and it wrote\n{written}")))
 }
 
-fn first_other<'a>(written: &'a str, wanted: &str) -> &'a str {
-    for (line, wanted) in written.lines().zip(wanted.lines()) {
-        if line != wanted {
-            return line;
-        }
-    }
-    "another status, or lines that are wanting or too many"
-}
-
-fn play_case(alloc: Global, name: &str, case: &Case) -> Result<(), Fail> {
+/// Plays a script; without frames, those that are sent may be any.
+pub fn play_case(alloc: Global, name: &str, case: &Case, frames: bool) -> Result<(), Fail> {
     let (status, written) = played(alloc, case.script.as_str());
-    compare(name, case, status, String::from_utf8(written)?.as_str())
+    compare(
+        name,
+        case,
+        status,
+        String::from_utf8(written)?.as_str(),
+        frames,
+    )
 }
 
-fn play_row(alloc: Global, row: &Row) -> Result<(), Fail> {
-    let (name, before, text) = row;
-    for script in text.split("==\n") {
-        play_case(alloc, name, &Case::new(alloc, before, script)?)?;
+fn play_rows(alloc: Global, rows: &[Row], frames: bool) -> Result<(), Fail> {
+    for (name, before, text) in rows {
+        for script in text.split("==\n") {
+            play_case(alloc, name, &Case::new(alloc, before, script)?, frames)?;
+        }
     }
     Ok(())
 }
 
 /// Plays each script of each row.
 pub fn play(rt: &HostRuntime, rows: &[Row]) -> Result<(), Fail> {
-    for row in rows {
-        play_row(rt.alloc(), row)?;
-    }
-    Ok(())
+    play_rows(rt.alloc(), rows, true)
 }
 
-/// What a script writes, without the frames that are sent.
-fn without_frames(alloc: Global, written: &str) -> Result<String, AllocError> {
-    let mut rest = String::new(alloc);
-    for line in written.lines() {
-        if !line.starts_with("sent ") {
-            rest.push_str(line)?;
-            rest.push_str("\n")?;
-        }
-    }
-    Ok(rest)
-}
-
-/// Plays a script, and compares what it writes but for the frames that are sent.
-pub fn play_case_without_frames(alloc: Global, name: &str, case: &mut Case) -> Result<(), Fail> {
-    case.output = without_frames(alloc, case.output.as_str())?;
-    let (status, written) = played(alloc, case.script.as_str());
-    let rest = without_frames(alloc, String::from_utf8(written)?.as_str())?;
-    compare(name, case, status, rest.as_str())
-}
-
-/// Plays the script of each row, and compares what it writes but for the frames that are sent.
+/// Plays each script of each row, and compares what it writes but for the frames that are sent.
 pub fn play_without_frames(rt: &HostRuntime, rows: &[Row]) -> Result<(), Fail> {
-    let alloc = rt.alloc();
-    for (name, before, text) in rows {
-        play_case_without_frames(alloc, name, &mut Case::new(alloc, before, text)?)?;
-    }
-    Ok(())
-}
-
-/// A script with padding behind each frame that is handed over.
-fn padded(alloc: Global, script: &str) -> Result<String, AllocError> {
-    let mut padded = String::new(alloc);
-    for line in script.lines() {
-        let bare = line.trim_end_matches('-');
-        padded.push_str(bare)?;
-        padded.push_str(if bare.len() < line.len() {
-            "5a5a5a5a5a5a5a5a5a5a5a5a5a5a5a5a5a5a5a5a\n"
-        } else {
-            "\n"
-        })?;
-    }
-    Ok(padded)
-}
-
-/// Plays a script with padding behind each frame that is handed over.
-pub fn play_padded(rt: &HostRuntime, row: &Row) -> Result<(), Fail> {
-    let (alloc, (name, before, text)) = (rt.alloc(), row);
-    let mut case = Case::new(alloc, before, text)?;
-    case.script = padded(alloc, case.script.as_str())?;
-    play_case(alloc, name, &case)
+    play_rows(rt.alloc(), rows, false)
 }
 
 /// Says that an allocation was refused: `tools/try-proved-without-memory`, which has each one refused in turn, looks for it.

@@ -1,5 +1,5 @@
 //! Worlds that go on behind refused steps, as they were before, and calls that a socket refuses by itself.
-use crate::common::{IP, Row, STREAMS};
+use crate::common::{ETHERNET, IP, Row, STREAMS};
 use crate::kinds::EACH;
 use crate::refusals::TWO_STREAMS;
 use crate::steps::play_steps;
@@ -202,9 +202,64 @@ recv B 0 8
 > data 616263
 ";
 
-static ROWS: [Row; 10] = [
+/// A datagram, a segment, one of IPv6, and an echo. Then no more than the place of the protocol and less, of both versions; nothing; and
+/// versions 5 and 6 in the form of version 4.
+const OF_NOISE: &str = "\
+noise A 45000020c24d00004011352cc0a80101c0a80102bf000035000c124daa0000ff
+> refused NamesTcpOrUdp
+noise A 4500002b000700004006f772c0a80101c0a80102c000005000000001000000025018100097bf0000616263
+> refused NamesTcpOrUdp
+noise A 6000000000170640fd000000000000000000000000000001fd000000000000000000000000000002c0000050000000010000000250181000210f0000616263
+> refused NamesTcpOrUdp
+noise A 4500001c000040004001b78dc0a80102c0a801010800e5ca12340001
+> ok
+noise A 45000000000000000011
+> refused NamesTcpOrUdp
+noise A 450000000000000000
+> ok
+noise A 45000000000000000006
+> refused NamesTcpOrUdp
+noise A 60000000000011
+> refused NamesTcpOrUdp
+noise A 600000000000
+> ok
+noise A -
+> ok
+noise A 55000000000000000011
+> ok
+noise A 65000000000000000011
+> ok
+";
+
+/// The same behind an Ethernet header, and an ARP request whose bytes 0 and 9 are 45 and 11.
+const OF_FRAMED_NOISE: &str = "\
+noise A 020000000002020000000001080045000020c24d00004011352cc0a80101c0a80102bf000035000c124daa0000ff
+> refused NamesTcpOrUdp
+noise A 02000000000202000000000108004500002b000700004006f772c0a80101c0a80102c000005000000001000000025018100097bf0000616263
+> refused NamesTcpOrUdp
+noise A 02000000000202000000000186dd6000000000170640fd000000000000000000000000000001fd000000000000000000000000000002c0000050000000010000000250181000210f0000616263
+> refused NamesTcpOrUdp
+noise A 02000000000202000000000108004500001c000040004001b78dc0a80102c0a801010800e5ca12340001
+> ok
+noise A 020000000002020000000001080045000000000000000011
+> refused NamesTcpOrUdp
+noise A 0200000000020200000000010800450000000000000000
+> ok
+noise A 02000000000202000000000186dd60000000000011
+> refused NamesTcpOrUdp
+noise A 02000000000202000000000186dd600000000000
+> ok
+noise A 0200000000020200000000010800
+> ok
+noise A 450000000002020000110001080600010800
+> ok
+";
+
+static ROWS: [Row; 12] = [
     ("sockets are there and of their kind", &[EACH], OF_SOCKETS),
     ("frames are there and of their kind", &[IP], OF_FRAMES),
+    ("bytes name their protocol", &[IP], OF_NOISE),
+    ("frames name their protocol", &[ETHERNET], OF_FRAMED_NOISE),
     ("a port is taken once", &[TWO_STREAMS], OF_PORTS),
     ("raw packets are no segments", &[EACH], RAW),
     ("moments go on", &[IP], OF_MOMENTS),

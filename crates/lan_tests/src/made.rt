@@ -91,63 +91,40 @@ fn host_b(alloc: Global) -> Option<Host> {
     host(alloc, 2, capabilities(Medium::Ip, 1_500))
 }
 
-/// Why the two make no world, if they don't.
-fn refusal(alloc: Global, a: Host, b: Host) -> Option<WorldError> {
+/// Why the two make no world, if they don't: also where there was no memory for them.
+fn refusal(alloc: Global, wrong: &str) -> Option<WorldError> {
+    let Some((a, b)) = host_a(alloc, wrong).zip(host_b(alloc)) else {
+        return Some(WorldError::Memory);
+    };
     World::new(alloc, a, b).err()
 }
 
-/// What becomes of the two, in a word; `None` where there was no memory for the world.
-fn word_for(refusal: Option<WorldError>) -> Option<&'static str> {
-    match refusal {
-        None => Some("a world"),
-        Some(WorldError::Media) => Some("media"),
-        Some(WorldError::Checksums) => Some("checksums"),
-        Some(WorldError::Mtu) => Some("mtu"),
-        Some(WorldError::Buffers) => Some("buffers"),
-        Some(WorldError::NotFresh) => Some("not fresh"),
-        Some(WorldError::Memory) => None,
-    }
-}
-
-/// The same of two hosts that are made so; `None` also where there was no memory for these.
-fn made(alloc: Global, wrong: &str) -> Option<&'static str> {
-    let (a, b) = host_a(alloc, wrong).zip(host_b(alloc))?;
-    word_for(refusal(alloc, a, b))
-}
-
 /// The same; made again where an allocation is refused.
-fn outcome(rt: &HostRuntime, wrong: &str) -> Result<Option<&'static str>, Fail> {
-    if let Some(outcome) = made(rt.alloc(), wrong) {
-        return Ok(Some(outcome));
-    }
-    tell(rt, "hosts are made again")?;
-    Ok(made(rt.alloc(), wrong))
-}
-
-/// Fails where the two don't become what is wanted, and names what is wrong with A.
-fn becomes(rt: &HostRuntime, wrong: &'static str, want: &str) -> Result<(), Fail> {
-    if outcome(rt, wrong)?.unwrap_or("no memory") == want {
-        Ok(())
-    } else {
-        Err(wrong.into())
+fn refused(rt: &HostRuntime, wrong: &str) -> Result<Option<WorldError>, Fail> {
+    match refusal(rt.alloc(), wrong) {
+        Some(WorldError::Memory) => {
+            tell(rt, "hosts are made again")?;
+            Ok(refusal(rt.alloc(), wrong))
+        }
+        refusal => Ok(refusal),
     }
 }
 
-/// What is wrong with A, and what becomes of the two. (Scripts have the bounds of an MTU and of buffers.)
-static HOSTS: [(&str, &str); 7] = [
-    ("nothing", "a world"),
-    ("its medium", "media"),
-    ("its checksums", "checksums"),
-    ("its medium and its checksums", "media"),
-    ("its MTU", "mtu"),
-    ("any IP", "not fresh"),
-    ("a frame waits", "not fresh"),
+/// What is wrong with A, and why the two make no world, if they don't. (Scripts have the bounds of an MTU and of buffers.)
+static HOSTS: [(&str, Option<WorldError>); 7] = [
+    ("nothing", None),
+    ("its medium", Some(WorldError::Media)),
+    ("its checksums", Some(WorldError::Checksums)),
+    ("its medium and its checksums", Some(WorldError::Media)),
+    ("its MTU", Some(WorldError::Mtu)),
+    ("any IP", Some(WorldError::NotFresh)),
+    ("a frame waits", Some(WorldError::NotFresh)),
 ];
 
 #[test]
 fn fresh_hosts_alone_make_a_world(rt: HostRuntime) -> Result<(), Fail> {
-    for &(wrong, want) in &HOSTS {
-        becomes(&rt, wrong, want)?;
+    for (wrong, wanted) in &HOSTS {
+        assert!(rt; refused(&rt, wrong)? == *wanted, "{wrong}");
     }
     Ok(())
 }

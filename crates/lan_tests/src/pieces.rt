@@ -93,23 +93,44 @@ fn ends_so(alloc: Global, way: Way, script: &str, status: u8, output: &str) -> b
         && writer.flushed == output.len()
 }
 
-// Plays each script of a text behind these, in pieces of each size.
-fn play_in_pieces(alloc: Global, before: &[&str], text: &str) -> Result<(), Fail> {
-    for part in text.split("==\n") {
-        is_played_in_pieces(alloc, &Case::new(alloc, before, part)?)?;
+// Plays a script in pieces of each size, by a reader that fails behind so many bytes.
+fn play_in_pieces(
+    alloc: Global,
+    script: &str,
+    bytes: usize,
+    status: u8,
+    output: &str,
+) -> Result<(), Fail> {
+    for size in [1usize, 2, 3, 6, 7] {
+        let way = Way {
+            size,
+            reads: bytes.div_ceil(size),
+            ..WHOLE
+        };
+        if !ends_so(alloc, way, script, status, output) {
+            return Err(Fail::new(format_args!("in pieces of {size}: {script}")));
+        }
     }
     Ok(())
 }
 
-fn is_played_in_pieces(alloc: Global, case: &Case) -> Result<(), Fail> {
-    for size in [1usize, 7, 4096] {
-        let way = Way { size, ..WHOLE };
-        let (script, output) = (case.script.as_str(), case.output.as_str());
-        if !ends_so(alloc, way, script, case.status, output) {
-            return Err(Fail::new(format_args!("in pieces of {size}")));
-        }
+// Plays each script of a text behind these. Where a line ends the run, its last byte is the last one that the reader gives: one more
+// read, and the status would be 2.
+fn play_each(alloc: Global, before: &[&str], text: &str) -> Result<(), Fail> {
+    for part in text.split("==\n") {
+        play_case(alloc, &Case::new(alloc, before, part)?)?;
     }
     Ok(())
+}
+
+fn play_case(alloc: Global, case: &Case) -> Result<(), Fail> {
+    let script = case.script.as_str();
+    let bytes = if case.status == 1 && script.ends_with('\n') {
+        script.len()
+    } else {
+        usize::MAX
+    };
+    play_in_pieces(alloc, script, bytes, case.status, case.output.as_str())
 }
 
 const ONE_SOCKET: &str = "\
@@ -144,37 +165,6 @@ poll A 6 0
 bogus
 ";
 
-#[test]
-fn pieces_of_any_size_write_the_same(rt: HostRuntime) -> Result<(), Fail> {
-    play_in_pieces(rt.alloc(), &[IP, QUEUED], CARRIED)?;
-    play_in_pieces(rt.alloc(), &[ONE_SOCKET], ENDS)
-}
-
-// Plays both texts by a reader that fails where the second one would come.
-fn play_first(alloc: Global, first: &str, second: &str) -> Result<(), Fail> {
-    let begun = Case::new(alloc, &[IP], first)?;
-    is_first_played(alloc, &begun, &Case::new(alloc, &[IP, first], second)?)
-}
-
-fn is_first_played(alloc: Global, begun: &Case, whole: &Case) -> Result<(), Fail> {
-    for size in [1usize, 2, 3, 6] {
-        let way = Way {
-            size,
-            reads: begun.script.len().div_ceil(size),
-            ..WHOLE
-        };
-        if !ends_so(alloc, way, whole.script.as_str(), 2, begun.output.as_str()) {
-            return Err(Fail::new(format_args!("in pieces of {size}")));
-        }
-    }
-    Ok(())
-}
-
-#[test]
-fn answers_are_written_as_soon_as_their_lines_were_read(rt: HostRuntime) -> Result<(), Fail> {
-    play_first(rt.alloc(), QUEUED, CARRIED)
-}
-
 const LAST_LINES: &str = "\
 world ip 1500
 start
@@ -189,28 +179,20 @@ bind A 0 9
 ! line 3: refused NoSocket
 ";
 
-// Plays each script of a text by a reader that fails behind its last byte: one more read, and the status would be 2.
-fn play_to_the_last_byte(alloc: Global, text: &str) -> Result<(), Fail> {
-    for part in text.split("==\n") {
-        if !is_played_to_the_last_byte(alloc, &Case::new(alloc, &[], part)?) {
-            return Err("of a line that ends the run".into());
-        }
-    }
-    Ok(())
-}
-
-fn is_played_to_the_last_byte(alloc: Global, case: &Case) -> bool {
-    let way = Way {
-        size: 1,
-        reads: case.script.len(),
-        ..WHOLE
-    };
-    ends_so(alloc, way, case.script.as_str(), 1, case.output.as_str())
+#[test]
+fn pieces_of_any_size_write_the_same(rt: HostRuntime) -> Result<(), Fail> {
+    play_each(rt.alloc(), &[IP, QUEUED], CARRIED)?;
+    play_each(rt.alloc(), &[ONE_SOCKET], ENDS)?;
+    play_each(rt.alloc(), &[], LAST_LINES)
 }
 
 #[test]
-fn nothing_is_read_behind_a_line_that_ends_the_run(rt: HostRuntime) -> Result<(), Fail> {
-    play_to_the_last_byte(rt.alloc(), LAST_LINES)
+fn answers_are_written_as_soon_as_their_lines_were_read(rt: HostRuntime) -> Result<(), Fail> {
+    let alloc = rt.alloc();
+    let begun = Case::new(alloc, &[IP], QUEUED)?;
+    let whole = Case::new(alloc, &[IP, QUEUED], CARRIED)?;
+    let script = whole.script.as_str();
+    play_in_pieces(alloc, script, begun.script.len(), 2, begun.output.as_str())
 }
 
 // Whether a datagram's script ends with this status.

@@ -42,13 +42,16 @@ fn adds(port: &mut Port, alloc: Global, bytes: &[u8]) -> bool {
     }
 }
 
-/// Sends a frame of so many bytes, each 7, if there is leave to.
+/// Sends a frame of so many bytes, each 7, if there is leave to; the closure's answer comes back.
 fn sends(port: &mut Port, length: usize) -> bool {
     let Some(leave) = port.transmit(Instant::ZERO) else {
         return false;
     };
-    port.send(leave, length, |buffer: &mut [u8]| buffer.fill(7))
-        .is_ok()
+    let answer = port.send(leave, length, |buffer: &mut [u8]| {
+        buffer.fill(7);
+        buffer.len()
+    });
+    answer.ok() == Some(length)
 }
 
 /// Whether there is leave to send, and the send of more than any allocator has is refused before the closure
@@ -78,24 +81,6 @@ fn consumes(port: &mut Port, bytes: &[u8]) -> bool {
     token.bytes() == bytes && token.consume(|frame: &[u8]| frame == bytes)
 }
 
-/// Whether the frame that was sent at this place has these bytes.
-fn sent(port: &Port, place: usize, bytes: &[u8]) -> bool {
-    match port.sent().get(place) {
-        Some(frame) => frame.as_slice() == bytes,
-        None => false,
-    }
-}
-
-/// The capacity of each sent frame is this.
-fn have_capacity(port: &Port, capacity: usize) -> bool {
-    for frame in port.sent() {
-        if frame.capacity() != capacity {
-            return false;
-        }
-    }
-    true
-}
-
 /// Whether the next frame has these bytes, in a buffer of this capacity.
 fn takes(port: &mut Port, capacity: usize, bytes: &[u8]) -> bool {
     match received(port) {
@@ -104,55 +89,55 @@ fn takes(port: &mut Port, capacity: usize, bytes: &[u8]) -> bool {
     }
 }
 
-/// Whether the frame that was sent at this place is of so many bytes, each 7.
-fn has_sevens(port: &Port, place: usize, length: usize) -> bool {
+/// Whether the frame that was sent at this place has these bytes, and no room behind them.
+fn sent(port: &Port, place: usize, bytes: &[u8]) -> bool {
     match port.sent().get(place) {
-        Some(frame) => frame.len() == length && frame.iter().all(|byte| *byte == 7),
+        Some(frame) => frame.as_slice() == bytes && frame.capacity() == bytes.len(),
         None => false,
     }
 }
 
-/// Sends what a closure writes, whose answer is its buffer's length.
-fn writes(port: &mut Port, bytes: &[u8]) -> Option<usize> {
-    let leave = port.transmit(Instant::ZERO)?;
-    let answer = port.send(leave, bytes.len(), |buffer: &mut [u8]| {
-        buffer.copy_from_slice(bytes);
-        buffer.len()
-    });
-    answer.ok()
-}
-
-/// What a phrase of two numbers, or of a number and bytes, comes to.
-fn goes_at(port: &mut Port, alloc: Global, verb: &str, rest: &str) -> Option<bool> {
-    let (first, second) = rest.split_once(' ').unwrap_or((rest, ""));
-    let value = first.parse::<usize>().ok()?;
-    match verb {
-        "hold" => Some(holds(port, alloc, value, second.as_bytes())),
-        "take" => Some(takes(port, value, second.as_bytes())),
-        "write" => Some(writes(port, second.as_bytes()) == Some(value)),
-        "sent" => Some(sent(port, value, second.as_bytes())),
-        "sevens" => Some(has_sevens(port, value, second.parse::<usize>().ok()?)),
-        "prepare" => Some(port.prepare(value, second.parse::<usize>().ok()?).is_ok()),
-        _ => goes_by(port, verb, value),
+/// Whether the frame that was sent at this place is of so many bytes, each 7, and has no room behind them.
+fn has_sevens(port: &Port, place: usize, length: usize) -> bool {
+    match port.sent().get(place) {
+        Some(frame) => frame.capacity() == length
+            && frame.len() == length
+            && frame.iter().all(|byte| *byte == 7),
+        None => false,
     }
 }
 
-/// What a phrase of one number comes to.
-fn goes_by(port: &mut Port, verb: &str, value: usize) -> Option<bool> {
+/// What a phrase comes to that has a number, or two, or a number and bytes.
+fn goes_at(port: &mut Port, alloc: Global, verb: &str, rest: &str) -> Option<bool> {
+    let (first, second) = rest.split_once(' ').unwrap_or((rest, ""));
+    let value = first.parse::<usize>().ok()?;
+    let other = second.parse::<usize>().unwrap_or(0);
     match verb {
+        "hold" => Some(holds(port, alloc, value, second.as_bytes())),
+        "take" => Some(takes(port, value, second.as_bytes())),
+        "sent" => Some(sent(port, value, second.as_bytes())),
+        "sevens" => Some(has_sevens(port, value, other)),
+        "prepare" => Some(port.prepare(value, other).is_ok()),
         "send" => Some(sends(port, value)),
         "set-room" => {
             port.set_room(value);
             Some(true)
         }
-        "room" => Some(port.room() == value),
-        "mtu" => Some(port.capabilities().ip_mtu() == value),
-        "waiting" => Some(port.waiting().len() == value),
-        "frames" => Some(port.sent().len() == value),
-        "refusals" => Some(port.refusals() == value as u64),
-        "capacities" => Some(have_capacity(port, value)),
-        _ => None,
+        _ => is_counted(port, verb, value),
     }
+}
+
+/// Whether a port has so many of what a word names.
+fn is_counted(port: &Port, word: &str, value: usize) -> Option<bool> {
+    let count = match word {
+        "room" => port.room(),
+        "mtu" => port.capabilities().ip_mtu(),
+        "waiting" => port.waiting().len(),
+        "frames" => port.sent().len(),
+        "refusals" => port.refusals() as usize,
+        _ => return None,
+    };
+    Some(count == value)
 }
 
 /// Whether a phrase goes well. `None`: it isn't known.
@@ -181,16 +166,14 @@ fn goes(port: &mut Port, alloc: Global, phrase: &str) -> Option<bool> {
 ///     take 7 BYTES         the next frame has these bytes, in a buffer of this capacity
 ///     receive, leave       there is a frame, leave to send
 ///     echo                 the next frame is answered with its own bytes
-///     send 7               a frame of seven bytes, each 7
-///     write 7 BYTES        a frame that a closure writes, which answers 7
+///     send 7               a frame of seven bytes, each 7, which a closure writes that answers 7
 ///     refuse               there is leave, and the send of more than any allocator has is refused before the closure runs
 ///     add BYTES            the link adds a frame to the sent ones
 ///     prepare 7 20         for seven frames of 20 bytes
 ///     set-room 7, room 7   room for seven frames
 ///     mtu 7, waiting 7, frames 7, refusals 7   of the port; what was sent are its frames
-///     sent 7 BYTES         the frame behind seven others
-///     sevens 7 20          the one behind seven others is of 20 bytes, each 7
-///     capacities 7         of each sent frame's buffer
+///     sent 7 BYTES         the frame behind seven others, in a buffer of its length
+///     sevens 7 20          the one behind seven others is of 20 bytes, each 7, in a buffer of its length
 fn play(alloc: Global, name: &str, text: &str) -> Result<(), Fail> {
     let mut port = ip_port(alloc);
     match first_wrong(&mut port, alloc, text) {
@@ -242,10 +225,10 @@ take 100 one
 ";
 
 const LEFT: &str = "\
-write 3 abc
+send 3
 push ping, echo
 not echo
-sent 0 abc, sent 1 ping, frames 2, refusals 0
+sevens 0 3, sent 1 ping, frames 2, refusals 0
 ";
 
 const CAPABILITIES: &str = "mtu 1500";
@@ -258,7 +241,7 @@ prepare 1 9000, not prepare 1 18446744073709551615
 frames 2, sevens 0 1500, sevens 1 20
 ";
 
-const SHORT: &str = "prepare 2 1500, send 20, frames 1, capacities 20";
+const SHORT: &str = "prepare 2 1500, send 20, frames 1, sevens 0 20";
 
 const ROOM: &str = "\
 room 18446744073709551615, send 0, room 18446744073709551614

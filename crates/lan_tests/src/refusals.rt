@@ -1,5 +1,5 @@
 //! Each refusal by its name.
-use crate::common::{ETHERNET, IP, Row, STREAMS, play};
+use crate::common::{IP, Row, STREAMS, play};
 use std::test::Fail;
 
 const THERE: &str = "\
@@ -44,20 +44,6 @@ cut A 0 4
 
 const NOISE: &str = "\
 noise A 45000000000000000011
-! line 5: refused NamesTcpOrUdp
-==
-noise A 45000000000000000006
-! line 5: refused NamesTcpOrUdp
-==
-noise B 60000000000011
-! line 5: refused NamesTcpOrUdp
-==
-noise A 450000000000000000
-> ok
-";
-
-const FRAMED_NOISE: &str = "\
-noise A 02000000000102000000000208004500000000000000ff060000
 ! line 5: refused NamesTcpOrUdp
 ";
 
@@ -201,10 +187,9 @@ start
 ! line 3: refused Buffers
 ";
 
-static ROWS: [Row; 9] = [
+static ROWS: [Row; 8] = [
     ("sockets and frames are there", &[IP], THERE),
     ("noise names neither tcp nor udp", &[IP], NOISE),
-    ("noise names neither tcp nor udp", &[ETHERNET], FRAMED_NOISE),
     ("moments and budgets are in range", &[IP], RANGES),
     ("moments and budgets are in range", &[], TWO_SOCKETS),
     ("streams are opened once", &[TWO_STREAMS], OPENED_TWICE),

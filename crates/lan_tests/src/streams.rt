@@ -1,5 +1,5 @@
 //! Connections in scripts, frame by frame. Another program made the frames, from the standards and each host's random words.
-use crate::common::{Row, STREAMS, play, play_padded, play_without_frames};
+use crate::common::{Row, STREAMS, play, play_without_frames};
 use std::test::Fail;
 
 /// B listens at port 80, A connects: A's frames are a request, a SYN and an ACK, B's an answer and a SYN.
@@ -80,7 +80,62 @@ pollat B 10000
 ";
 
 /// Padding behind each frame that is handed over: the same answers and the same frames.
-const NOTHING_MORE: &str = "\
+const PADDED: &str = "\
+listen B 0 80
+> ok
+connect A 0 192.168.1.2:80 49500
+> ok
+poll A 0 8
+> none
+> sent A 0 ffffffffffff02000000000108060001080006040001020000000001c0a80101ffffffffffffc0a80102
+deliver A 0 {20*5a}
+> ok
+poll B 0 8
+> changed
+> sent B 0 02000000000102000000000208060001080006040002020000000002c0a80102020000000001c0a80101
+deliver B 0 {20*5a}
+> ok
+poll A 0 8
+> changed
+> sent A 1 020000000002020000000001080045000034c24d000040063523c0a80101c0a80102c15c0050dc9072b20000000080020040de930000020405b40303000402000000
+deliver A 1 {20*5a}
+> ok
+poll B 0 8
+> changed
+> sent B 1 020000000001020000000002080045000034e14500004006162bc0a80102c0a801010050c15cc9498c12dc9072b38012004089260000020405b40303000402000000
+deliver B 1 {20*5a}
+> ok
+poll A 0 8
+> changed
+> sent A 2 020000000002020000000001080045000028c24e00004006352ec0a80101c0a80102c15c0050dc9072b3c9498c1350100040c5f20000
+deliver A 2 {20*5a}
+> ok
+poll B 0 8
+> changed
+send A 0 616263
+> ok 3
+poll A 0 8
+> changed
+> sent A 3 02000000000202000000000108004500002bc24f00004006352ac0a80101c0a80102c15c0050dc9072b3c9498c135018004001850000616263
+deliver A 3 {20*5a}
+> ok
+poll B 0 8
+> changed
+recv B 0 64
+> data 616263
+pollat B 0
+> at 10000
+poll B 10000 8
+> changed
+> sent B 2 020000000001020000000002080045000028e146000040061636c0a80102c0a801010050c15cc9498c13dc9072b650100040c5ef0000
+deliver B 2 {20*5a}
+> ok
+poll A 10000 8
+> changed
+pollat A 10000
+> never
+pollat B 10000
+> never
 recv B 0 64
 > data -
 ";
@@ -398,12 +453,16 @@ state B 0
 > state LISTEN
 ";
 
-/// A piece is cut once more; the three parts come last one first.
+/// A piece is cut once more, the last one or the first; the three parts come last one first.
 const CUT_AGAIN: &str = "\
 cut A 3 8
 > ok
+> sent A 4 02000000000202000000000108004500001cc24f200040061539c0a80101c0a80102c15c0050dc9072b3
+> sent A 5 020000000002020000000001080045000023c24f000140063531c0a80101c0a80102c9498c135018004001850000616263
 cut A 5 8
 > ok
+> sent A 6 02000000000202000000000108004500001cc24f200140061538c0a80101c0a80102c9498c1350180040
+> sent A 7 02000000000202000000000108004500001bc24f000240063538c0a80101c0a8010201850000616263
 deliver A 7 -
 > ok
 deliver A 6 -
@@ -420,6 +479,25 @@ recv B 0 64
 > data 616263
 recv B 0 64
 > data -
+==
+cut A 3 16
+> ok
+> sent A 4 020000000002020000000001080045000024c24f200040061531c0a80101c0a80102c15c0050dc9072b3c9498c1350180040
+> sent A 5 02000000000202000000000108004500001bc24f000240063538c0a80101c0a8010201850000616263
+cut A 4 8
+> ok
+> sent A 6 02000000000202000000000108004500001cc24f200040061539c0a80101c0a80102c15c0050dc9072b3
+> sent A 7 02000000000202000000000108004500001cc24f200140061538c0a80101c0a80102c9498c1350180040
+deliver A 5 -
+> ok
+deliver A 7 -
+> ok
+deliver A 6 -
+> ok
+poll B 0 8
+> changed
+recv B 0 64
+> data 616263
 ";
 
 /// Each segment of the opening comes in pieces, the first, which has options, in reverse and twice; then bytes go.
@@ -480,7 +558,9 @@ recv A 0 64
 > data 78797a
 ";
 
-static ROWS: [Row; 8] = [
+static ROWS: [Row; 10] = [
+    ("padding is no part of a stream", &[STREAMS], PADDED),
+    ("a piece is cut again", &[STREAMS, OPENING, ABC], CUT_AGAIN),
     (
         "bytes are read in parts",
         &[STREAMS, OPENING, ABC],
@@ -515,27 +595,19 @@ static ROWS: [Row; 8] = [
     ),
 ];
 
-static WITHOUT_FRAMES: [Row; 5] = [
+static WITHOUT_FRAMES: [Row; 4] = [
     ("a listener falls back", &[STREAMS], FALLS_BACK),
     (
         "a listener at another port goes on listening",
         &[STREAMS],
         OTHER_PORT,
     ),
-    ("a piece is cut again", &[STREAMS, OPENING, ABC], CUT_AGAIN),
     ("a connection opens in pieces", &[STREAMS], OPENED_IN_PIECES),
     ("frames that come twice are read once", &[STREAMS], TWICE),
 ];
 
-static PADDED: Row = (
-    "padding is no part of a stream",
-    &[STREAMS, OPENING, ABC, ACKNOWLEDGED],
-    NOTHING_MORE,
-);
-
 #[test]
 fn streams_are_carried(rt: HostRuntime) -> Result<(), Fail> {
     play(&rt, &ROWS)?;
-    play_without_frames(&rt, &WITHOUT_FRAMES)?;
-    play_padded(&rt, &PADDED)
+    play_without_frames(&rt, &WITHOUT_FRAMES)
 }
