@@ -80,10 +80,10 @@ fn put(sockets: &mut SocketSet<Socket>, socket: Socket) -> Result<(), End>
     ensures grows { is_fixed sockets.new ≡ false }
     ensures ends { IfErr result (λ end. end ≡ Refusal Memory) }
 {
-    let Ok(_) = sockets.add(socket) else {
-        return Err(End::Refusal(Refused::Memory));
-    };
-    Ok(())
+    match sockets.add(socket).ok() {
+        Some(_) => Ok(()),
+        None => Err(End::Refusal(Refused::Memory)),
+    }
 }
 
 fn is_same(owner: Side, side: Side) -> bool
@@ -101,34 +101,34 @@ fn socket_of(alloc: Global, spec: SocketSpec) -> Result<Socket, End>
     ensures ends { IfErr result (λ end. ((is_large spec ≡ true) × (end ≡ World Buffers)) ⊎ (end ≡ Refusal Memory)) }
 {
     Ok(match spec {
-        SocketSpec::Udp(sizes) => Socket::Udp(udp::Socket::new(
-            received(alloc, sizes)?,
-            queued(alloc, sizes)?,
-        )),
-        SocketSpec::Icmp(sizes) => Socket::Icmp(icmp::Socket::new(
-            received(alloc, sizes)?,
-            queued(alloc, sizes)?,
-        )),
-        SocketSpec::Raw(version, protocol, sizes) => Socket::Raw(raw::Socket::new(
-            version,
-            protocol.map(IpProtocol::from),
-            received(alloc, sizes)?,
-            queued(alloc, sizes)?,
-        )),
+        SocketSpec::Udp(sizes) => {
+            let (received, queued) = queues(alloc, sizes)?;
+            Socket::Udp(udp::Socket::new(received, queued))
+        }
+        SocketSpec::Icmp(sizes) => {
+            let (received, queued) = queues(alloc, sizes)?;
+            Socket::Icmp(icmp::Socket::new(received, queued))
+        }
+        SocketSpec::Raw(version, protocol, sizes) => {
+            let (received, queued) = queues(alloc, sizes)?;
+            let protocol = protocol.map(IpProtocol::from);
+            Socket::Raw(raw::Socket::new(version, protocol, received, queued))
+        }
         SocketSpec::Tcp(sizes) => Socket::Tcp(stream(alloc, sizes)?),
     })
 }
 
-fn received<H: Drop>(alloc: Global, sizes: QueueSizes) -> Result<PacketBuffer<H>, AllocError>
-    ensures { IfOk result (λ q. q ≡ received sizes) }
+// The queue of what is received, and that of what is to be sent.
+fn queues<H: Drop>(
+    alloc: Global,
+    sizes: QueueSizes,
+) -> Result<(PacketBuffer<H>, PacketBuffer<H>), AllocError>
+    ensures received { IfOk result (λ made. made.0 ≡ received sizes) }
+    ensures queued { IfOk result (λ made. made.1 ≡ queued sizes) }
 {
-    queue(alloc, sizes.receive_packets, sizes.receive_bytes)
-}
-
-fn queued<H: Drop>(alloc: Global, sizes: QueueSizes) -> Result<PacketBuffer<H>, AllocError>
-    ensures { IfOk result (λ q. q ≡ queued sizes) }
-{
-    queue(alloc, sizes.send_packets, sizes.send_bytes)
+    let received = queue(alloc, sizes.receive_packets, sizes.receive_bytes)?;
+    let queued = queue(alloc, sizes.send_packets, sizes.send_bytes)?;
+    Ok((received, queued))
 }
 
 // A queue of so many entries and bytes.

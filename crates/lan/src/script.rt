@@ -53,8 +53,11 @@ fn try_replay<R: Read, W: Write>(
         × Appends (W.contents writer.old) (W.contents writer.new) output) (λ status. ⊤)) }
     ensures reads { OnOk result (ReadsOn (R.remaining reader.old) (R.remaining reader.new)) }
 {
-    let mut run = Run::new(alloc);
-    replay_from(alloc, &mut run, reader, writer)
+    // On the heap, where lending it makes a short proof.
+    match Box::new(alloc, Run::new(alloc)).ok() {
+        Some(mut run) => replay_from(alloc, &mut run, reader, writer),
+        None => Err(ErrorKind::OutOfMemory.into()),
+    }
 }
 
 // The same from a run before its first line. (It is borrowed: where it is owned each way out lets it go, which makes a long proof.)

@@ -32,7 +32,6 @@ impl Session {
     ghost use Rattle.std.specs.Prelude.{◌≡◌, None, Some, IfOk, OnOk, IfErr};
     ghost use Rattle.std.specs.String.{string_bytes};
     ghost use Rattle.lan_script.specs.declared.line.Line.TheVariants.{Start};
-    ghost use Rattle.lan.specs.declared.session.Session.TheVariants.{Header as Begins};
     ghost use Rattle.lan.specs.Scripts.{end_of, Leads, LineLeads, LineEnds, Ends};
 
     /// Takes one line, without the byte 0a that ends it: what it writes.
@@ -58,7 +57,7 @@ impl Session {
                 let Line::World(medium, mtu) = line else {
                     return Err(End::BadEvent);
                 };
-                self.begin(Header::new(alloc, *medium, *mtu));
+                self.set(Session::Header(Header::new(alloc, *medium, *mtu)));
                 Ok(String::new(alloc))
             }
             Session::Header(header) => match line {
@@ -73,11 +72,11 @@ impl Session {
         }
     }
 
-    // The header is being read from now on.
-    fn begin(&mut self, header: Header)
-        ensures { self.new ≡ Begins header }
+    // What comes next. (An assignment lets go what was there: in one place that makes one long proof.)
+    fn set(&mut self, next: Session)
+        ensures { self.new ≡ next }
     {
-        *self = Session::Header(header);
+        *self = next;
     }
 
     // Takes the line `start`: the hosts of the header run from now on.
@@ -90,7 +89,8 @@ impl Session {
         let Session::Header(header) = self else {
             return Err(End::BadEvent);
         };
-        *self = Session::Running(header.start(alloc)?);
+        let world = header.start(alloc)?;
+        self.set(Session::Running(world));
         Ok(String::from_str(alloc, "ok\n")?)
     }
 }
