@@ -4,6 +4,7 @@
 //!     > ok                   a line that is written
 //!     ! line 5: bad event    the last line that is written, where the run ends there with status 1
 //!     ==                     alone, between two scripts
+//!     # noise is dropped     what the lines behind it show
 //!
 //! At the end of a line `{2000*00}` stands for 2000 times `00`, and `{end}` for a line without its end.
 use lan::replay;
@@ -86,6 +87,7 @@ impl Case {
                     }
                     push_line(&mut self.output, written)?;
                 }
+                Some(("#", _)) => {}
                 _ => push_line(&mut self.script, line)?,
             }
         }

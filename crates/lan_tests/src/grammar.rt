@@ -2,7 +2,8 @@
 use crate::common::{ETHERNET, IP, Row, STREAMS, play};
 use std::test::Fail;
 
-const ENDS: &str = "\
+const WHOLE: &str = "\
+# a script may end anywhere
 ==
 world ip 1500
 ==
@@ -16,9 +17,8 @@ start{end}
 world ip 00001500
 start
 > ok
-";
-
-const OUT_OF_ORDER: &str = "\
+==
+# lines come in their order
 world ip 1500
 socket A udp 1 64 1 64
 bogus
@@ -189,7 +189,8 @@ recvfrom A 0 x
 ! line 5: bad event
 ";
 
-const HOST_LINES: &str = "\
+const ETHERNET_LINES: &str = "\
+# host lines are in the grammar
 addrs A 10.0.0.1/8 10.0.0.2/8 10.0.0.3/8 10.0.0.4/8 10.0.0.5/8
 ! line 5: bad event
 ==
@@ -222,9 +223,8 @@ pollat A
 ==
 room A
 ! line 5: bad event
-";
-
-const LINK_LINES: &str = "\
+==
+# link lines are in the grammar
 deliver A 0
 ! line 5: bad event
 ==
@@ -250,9 +250,8 @@ cut A 0 8 8
 ! line 5: bad event
 ";
 
-static ROWS: [Row; 8] = [
-    ("a script may end anywhere", &[], ENDS),
-    ("lines come in their order", &[], OUT_OF_ORDER),
+static ROWS: [Row; 6] = [
+    ("whole scripts", &[], WHOLE),
     ("header lines are in the grammar", &[], HEADER_LINES),
     (
         "socket lines are in the grammar",
@@ -261,8 +260,11 @@ static ROWS: [Row; 8] = [
     ),
     ("stream lines are in the grammar", &[STREAMS], STREAM_LINES),
     ("datagram lines are in the grammar", &[IP], DATAGRAM_LINES),
-    ("host lines are in the grammar", &[ETHERNET], HOST_LINES),
-    ("link lines are in the grammar", &[ETHERNET], LINK_LINES),
+    (
+        "lines of hosts and of the link",
+        &[ETHERNET],
+        ETHERNET_LINES,
+    ),
 ];
 
 #[test]

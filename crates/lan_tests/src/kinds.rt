@@ -17,7 +17,8 @@ start
 > ok
 ";
 
-const ECHO: &str = "\
+const OVER_EACH: &str = "\
+# an echo is sent and its answer read
 ident A 1 4660
 > ok
 sendicmp A 1 192.168.1.2 0800e5ca12340001
@@ -36,9 +37,8 @@ poll A 0 8
 > changed
 recvfrom A 1 64
 > from 192.168.1.2 0000edca12340001
-";
-
-const RAW_PACKET: &str = "\
+==
+# a raw packet is sent and read
 sendraw A 2 45000018000000004059f739c0a80101c0a8010201020304
 > ok
 poll A 0 8
@@ -145,8 +145,9 @@ state B 1
 > state CLOSED
 ";
 
-/// A host may have no address, and a socket that waits may be closed.
-const SETTINGS: &str = "\
+const OVER_STREAMS: &str = "\
+# settings and states are answered
+# A host may have no address, and a socket that waits may be closed.
 addrs A
 > ok
 connect A 0 192.168.1.2:80 49500
@@ -164,9 +165,40 @@ close B 0
 > ok
 state B 0
 > state CLOSED
+==
+# each error has its name
+hw A 01-00-00-00-00-09
+> error NotUnicast
 ";
 
-const IPV6_DATAGRAM: &str = "\
+/// Both media, each kind of socket, and each kind of raw socket.
+const HEADERS: &str = "\
+world eth 1514
+socket A udp 0 0 0 0
+socket A icmp 1 2 3 4
+socket A raw 4 any 1 2 3 4
+socket A raw 6 58 1 2 3 4
+socket B raw any 255 1 2 3 4
+socket B tcp 1 1
+start{end}
+> ok
+==
+world ip 65535
+start
+> ok
+";
+
+const OVER_IP: &str = "\
+# a datagram socket is closed
+# A socket that is closed may be bound again.
+bind A 0 7
+> ok
+close A 0
+> ok
+bind A 0 8
+> ok
+==
+# a datagram goes over ipv6
 bind A 0 7
 > ok
 bind B 0 9
@@ -182,9 +214,8 @@ poll B 0 8
 > changed
 recvfrom B 0 64
 > from fd00::1:7 0102
-";
-
-const ERRORS: &str = "\
+==
+# each error has its name
 bind A 0 0
 > error Unaddressable
 ==
@@ -231,46 +262,10 @@ addrs A 224.0.0.1/24
 > error NotUnicast
 ";
 
-const ERRORS_OF_STREAMS: &str = "\
-hw A 01-00-00-00-00-09
-> error NotUnicast
-";
-
-/// Both media, each kind of socket, and each kind of raw socket.
-const HEADERS: &str = "\
-world eth 1514
-socket A udp 0 0 0 0
-socket A icmp 1 2 3 4
-socket A raw 4 any 1 2 3 4
-socket A raw 6 58 1 2 3 4
-socket B raw any 255 1 2 3 4
-socket B tcp 1 1
-start{end}
-> ok
-==
-world ip 65535
-start
-> ok
-";
-
-/// A socket that is closed may be bound again.
-const CLOSED: &str = "\
-bind A 0 7
-> ok
-close A 0
-> ok
-bind A 0 8
-> ok
-";
-
-static ROWS: [Row; 8] = [
-    ("a datagram socket is closed", &[IP], CLOSED),
-    ("an echo is sent and its answer read", &[EACH], ECHO),
-    ("a raw packet is sent and read", &[EACH], RAW_PACKET),
-    ("settings and states are answered", &[STREAMS], SETTINGS),
-    ("a datagram goes over ipv6", &[IP], IPV6_DATAGRAM),
-    ("each error has its name", &[IP], ERRORS),
-    ("each error has its name", &[STREAMS], ERRORS_OF_STREAMS),
+static ROWS: [Row; 4] = [
+    ("datagram sockets on bare ip", &[IP], OVER_IP),
+    ("sockets of each kind", &[EACH], OVER_EACH),
+    ("stream sockets on ethernet", &[STREAMS], OVER_STREAMS),
     ("every header is taken", &[], HEADERS),
 ];
 

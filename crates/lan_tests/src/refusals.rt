@@ -2,7 +2,8 @@
 use crate::common::{IP, Row, STREAMS, play};
 use std::test::Fail;
 
-const THERE: &str = "\
+const OVER_IP: &str = "\
+# sockets and frames are there
 state A 9
 ! line 5: refused NoSocket
 ==
@@ -40,14 +41,12 @@ poll A 0 8
 > sent A 0 45000020c24d00004011352cc0a80101c0a80102bf000035000c124daa0000ff
 cut A 0 4
 ! line 8: refused CutPlace
-";
-
-const NOISE: &str = "\
+==
+# noise names neither tcp nor udp
 noise A 45000000000000000011
 ! line 5: refused NamesTcpOrUdp
-";
-
-const RANGES: &str = "\
+==
+# moments and budgets are in range
 poll A 2305843009213693952 0
 > none
 poll A 2305843009213693953 0
@@ -70,7 +69,8 @@ poll A 0 32767
 > none
 ";
 
-const TWO_SOCKETS: &str = "\
+const WHOLE: &str = "\
+# moments and budgets are in range
 world ip 1500
 socket A udp 1 64 1 64
 socket A udp 1 64 1 64
@@ -80,6 +80,50 @@ poll A 0 21845
 > none
 poll A 0 21846
 ! line 6: refused TooManyCut
+==
+# hosts that make no world
+world eth 589
+start
+! line 2: refused Mtu
+==
+world eth 590
+start
+> ok
+==
+world ip 575
+start
+! line 2: refused Mtu
+==
+world ip 576
+start
+> ok
+==
+world ip 65536
+start
+! line 2: refused Mtu
+==
+world eth 65549
+start
+> ok
+==
+world eth 65550
+start
+! line 2: refused Mtu
+==
+world eth 590
+socket A tcp 0 64
+start
+! line 3: refused Buffers
+==
+world eth 590
+socket B tcp 64 0
+start
+! line 3: refused Buffers
+==
+world eth 590
+socket A tcp 1073741825 64
+start
+! line 3: refused Buffers
 ";
 
 pub const TWO_STREAMS: &str = "\
@@ -142,60 +186,12 @@ sendraw A 0 45000018000000004006f739c0a80101c0a8010201020304
 ! line 4: refused RawProtocol
 ";
 
-const HOSTS: &str = "\
-world eth 589
-start
-! line 2: refused Mtu
-==
-world eth 590
-start
-> ok
-==
-world ip 575
-start
-! line 2: refused Mtu
-==
-world ip 576
-start
-> ok
-==
-world ip 65536
-start
-! line 2: refused Mtu
-==
-world eth 65549
-start
-> ok
-==
-world eth 65550
-start
-! line 2: refused Mtu
-==
-world eth 590
-socket A tcp 0 64
-start
-! line 3: refused Buffers
-==
-world eth 590
-socket B tcp 64 0
-start
-! line 3: refused Buffers
-==
-world eth 590
-socket A tcp 1073741825 64
-start
-! line 3: refused Buffers
-";
-
-static ROWS: [Row; 8] = [
-    ("sockets and frames are there", &[IP], THERE),
-    ("noise names neither tcp nor udp", &[IP], NOISE),
-    ("moments and budgets are in range", &[IP], RANGES),
-    ("moments and budgets are in range", &[], TWO_SOCKETS),
+static ROWS: [Row; 5] = [
+    ("hosts on bare ip", &[IP], OVER_IP),
+    ("whole scripts", &[], WHOLE),
     ("streams are opened once", &[TWO_STREAMS], OPENED_TWICE),
     ("segments have places", &[STREAMS], PLACES),
     ("raw packets are no segments", &[RAW], RAW_PACKETS),
-    ("hosts that make no world", &[], HOSTS),
 ];
 
 #[test]

@@ -25,7 +25,8 @@ recvfrom B 0 64
 > from 192.168.1.1:48896 aa0000ff
 ";
 
-const SECOND_DATAGRAM: &str = "\
+const OVER_IP: &str = "\
+# the second datagram has the next number
 bind A 0 48896
 > ok
 sendto A 0 192.168.1.2:53 aa0000ff
@@ -38,9 +39,8 @@ sendto A 0 192.168.1.2:53 aa0000ff
 poll A 0 8
 > changed
 > sent A 1 45000020c24e00004011352bc0a80101c0a80102bf000035000c124daa0000ff
-";
-
-const UNBOUND_PORT: &str = "\
+==
+# an unbound port is unreachable
 bind A 0 48896
 > ok
 sendto A 0 192.168.1.2:53 aa0000ff
@@ -53,17 +53,15 @@ deliver A 0 -
 poll B 0 8
 > changed
 > sent B 0 4500003ce145000040011628c0a80102c0a801010303806e0000000045000020c24d00004011352cc0a80101c0a80102bf000035000c124daa0000ff
-";
-
-const ECHO: &str = "\
+==
+# an echo is answered
 noise A 4500001c000040004001b78dc0a80102c0a801010800e5ca12340001
 > ok
 poll A 0 8
 > changed
 > sent A 0 4500001cc24d000040013540c0a80101c0a801020000edca12340001
-";
-
-const NO_ROOM: &str = "\
+==
+# a host without room sends nothing
 bind A 0 48896
 > ok
 sendto A 0 192.168.1.2:53 aa0000ff
@@ -77,25 +75,36 @@ room A 1
 poll A 0 8
 > changed
 > sent A 0 45000020c24d00004011352cc0a80101c0a80102bf000035000c124daa0000ff
+==
+# noise is dropped
+noise A -
+> ok
+poll A 0 8
+> none
+noise A 00
+> ok
+poll A 0 8
+> changed
+pollat A 0
+> never
 ";
 
-const REQUEST: &str = "\
+const OVER_ETHERNET: &str = "\
+# a request is answered
 noise A ffffffffffff02000000000208060001080006040001020000000002c0a80102000000000000c0a80101
 > ok
 poll A 0 8
 > changed
 > sent A 0 02000000000202000000000108060001080006040002020000000001c0a80101020000000002c0a80102
-";
-
-const SOLICITATION: &str = "\
+==
+# a solicitation is answered
 noise A 3333ff00000102000000000286dd6000000000203afffd000000000000000000000000000002ff0200000000000000000001ff00000187007d9700000000fd0000000000000000000000000000010101020000000002
 > ok
 poll A 0 8
 > changed
 > sent A 0 02000000000202000000000186dd6000000000203afffd000000000000000000000000000001fd00000000000000000000000000000288003c9c40000000fd0000000000000000000000000000010201020000000001
-";
-
-const REQUESTS: &str = "\
+==
+# requests are a second apart
 bind A 0 48896
 > ok
 sendto A 0 192.168.1.2:53 aa
@@ -110,19 +119,6 @@ poll A 999999 8
 poll A 1000000 8
 > none
 > sent A 1 ffffffffffff02000000000108060001080006040001020000000001c0a80101ffffffffffffc0a80102
-";
-
-const NOISE: &str = "\
-noise A -
-> ok
-poll A 0 8
-> none
-noise A 00
-> ok
-poll A 0 8
-> changed
-pollat A 0
-> never
 ";
 
 pub const CUT_DATAGRAM: &str = "\
@@ -230,8 +226,9 @@ recvfrom B 0 8000
 > from 192.168.1.1:48896 {4000*22}
 ";
 
-/// With padding and twice, it is read twice.
-const READ_TWICE: &str = "\
+const OVER_LONG: &str = "\
+# a datagram that comes twice is read twice
+# With padding and twice, it is read twice.
 sendto A 0 192.168.1.2:53 aa0000ff
 > ok
 poll A 0 8
@@ -249,10 +246,9 @@ recvfrom B 0 64
 > from 192.168.1.1:48896 aa0000ff
 recvfrom B 0 64
 > error Exhausted
-";
-
-/// A host without room doesn't take the frames that wait either.
-const NOT_TAKEN: &str = "\
+==
+# a host without room takes nothing
+# A host without room doesn't take the frames that wait either.
 sendto A 0 192.168.1.2:53 aa0000ff
 > ok
 poll A 0 8
@@ -274,30 +270,15 @@ recvfrom B 0 64
 > from 192.168.1.1:48896 aa0000ff
 ";
 
-static ROWS: [Row; 14] = [
-    (
-        "a datagram that comes twice is read twice",
-        &[LONG],
-        READ_TWICE,
-    ),
-    ("a host without room takes nothing", &[LONG], NOT_TAKEN),
+static ROWS: [Row; 7] = [
+    ("datagrams of long queues", &[LONG], OVER_LONG),
     (
         "one datagram goes from host to host",
         &[IP, QUEUED],
         CARRIED,
     ),
-    (
-        "the second datagram has the next number",
-        &[IP],
-        SECOND_DATAGRAM,
-    ),
-    ("an unbound port is unreachable", &[IP], UNBOUND_PORT),
-    ("an echo is answered", &[IP], ECHO),
-    ("a host without room sends nothing", &[IP], NO_ROOM),
-    ("a request is answered", &[ETHERNET], REQUEST),
-    ("a solicitation is answered", &[ETHERNET], SOLICITATION),
-    ("requests are a second apart", &[ETHERNET], REQUESTS),
-    ("noise is dropped", &[IP], NOISE),
+    ("datagrams on bare ip", &[IP], OVER_IP),
+    ("neighbours on ethernet", &[ETHERNET], OVER_ETHERNET),
     ("a cut datagram is rebuilt", &[IP], CUT_DATAGRAM),
     (
         "both pieces of a datagram are needed",

@@ -11,19 +11,23 @@ use lan_script::hex_text;
 use std::alloc::{AllocError, Global};
 use std::test::Fail;
 
-/// Plays each row at a world of its own. The failure names the first line that goes otherwise.
+/// Plays each script of each row at a world of its own. The failure names the first line that goes otherwise.
 pub fn play_steps(rt: &HostRuntime, rows: &[Row]) -> Result<(), Fail> {
-    for row in rows {
-        if let Some(line) = first_wrong(rt, row)? {
-            let (name, _, _) = row;
-            return Err(Fail::new(format_args!("{name}: {line}")));
+    for (name, before, text) in rows {
+        for script in text.split("==\n") {
+            if let Some(line) = first_wrong(rt, before, script)? {
+                return Err(Fail::new(format_args!("{name}: {line}")));
+            }
         }
     }
     Ok(())
 }
 
-fn first_wrong(rt: &HostRuntime, row: &Row) -> Result<Option<&'static str>, Fail> {
-    let (_, before, text) = row;
+fn first_wrong(
+    rt: &HostRuntime,
+    before: &[&'static str],
+    text: &'static str,
+) -> Result<Option<&'static str>, Fail> {
     let mut world = world(rt, before)?;
     first_wrong_at(rt, &mut world, before, text)
 }
@@ -58,6 +62,7 @@ fn first_wrong_in(
                 }
                 asked = "";
             }
+            None if line.starts_with("# ") => {}
             None if asked.is_empty() => asked = line,
             None => return Ok(Some(asked)),
         }
