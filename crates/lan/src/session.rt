@@ -16,6 +16,7 @@ use lan_net::{Event, Side};
 use lan_script::Line;
 use lan_world::World;
 use std::alloc::Global;
+use std::mem::replace;
 
 /// How far a script has come.
 #[derive(Drop)]
@@ -72,11 +73,11 @@ impl Session {
         }
     }
 
-    // What comes next. (An assignment lets go what was there: in one place that makes one long proof.)
+    // What comes next. (An assignment would do, but its proof follows each part of the world that it lets go.)
     fn set(&mut self, next: Session)
         ensures { self.new ≡ next }
     {
-        *self = next;
+        drop(replace(self, next));
     }
 
     // Takes the line `start`: the hosts of the header run from now on.
