@@ -21,8 +21,8 @@ const PIECE: usize = 4096;
 /// run.
 ///
 /// The status is 0 at the end of the script, 1 after a line that ends the run early, which what is
-/// written last says, and 2 after a fault of the reader or the writer, after 2^32 reads, or where a
-/// line finds no memory.
+/// written last says, and 2 after a fault of the reader or the writer, after 2^32 reads, or where the
+/// run or the text of a line finds no memory.
 pub fn replay<R: Read, W: Write>(alloc: Global, reader: &mut R, writer: &mut W) -> u8
     ensures status { result ≤ 2 }
     ensures replays { result ≢ 2 → (script output : List ℕ)
