@@ -4,3 +4,4 @@ pub mod History
 pub mod Partners
 pub mod Reads
 pub mod Tables
+pub mod Texts

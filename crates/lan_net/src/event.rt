@@ -29,7 +29,7 @@ pub enum TcpSetting {
 
 /// What happens: a call of an application on a host's socket, a setting or a poll of a host, or an act of the link. A socket is named by
 /// its place in its host's set, a frame by its place among those that its host sent.
-#[derive(Debug, Drop)]
+#[derive(Drop)]
 pub enum Event {
     /// Opens a TCP socket passively at a local port.
     Listen(Side, usize, u16),

@@ -41,6 +41,4 @@ mod steps;
 #[cfg(test)]
 mod streams;
 #[cfg(test)]
-mod texts;
-#[cfg(test)]
 mod worlds;

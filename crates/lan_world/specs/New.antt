@@ -1,5 +1,5 @@
 -- Why two hosts make no world. The first test that holds says why.
-use Rattle.std.specs.Prelude.{◌≡◌, ◌⊎◌, ◌+◌, ◌==◌, not, ◌&&◌, Bool, true, false, if◌then◌else◌, List, [], ◌∷◌, length, Option, None, Some, is_some}
+use Rattle.std.specs.Prelude.{ℕ, codes, ◌≡◌, ◌⊎◌, ◌+◌, ◌==◌, not, ◌&&◌, Bool, true, false, if◌then◌else◌, List, [], ◌∷◌, length, Option, None, Some, is_some}
 use Rattle.std.specs.List.{list_all}
 use Rattle.datagram_sockets.specs.SocketValue.{has_packets, due}
 use Rattle.interface_egress.specs.declared.socket_set.SocketStorage.{SocketStorage}
@@ -112,3 +112,12 @@ new_error a b =
 -- an error is that which there must be, or want of memory where there must be none
 abbrev pub MayFail : StationValue → StationValue → WorldError → Type 0
 MayFail a b error = (new_error a b ≡ Some error) ⊎ ((new_error a b ≡ None) × (error ≡ Since.Memory))
+
+-- what each says
+abbrev pub world_error_text : WorldError → List ℕ
+world_error_text Since.Media = codes "two media"
+world_error_text Since.Checksums = codes "a checksum is off"
+world_error_text Since.Mtu = codes "an IP MTU is out of 576 to 65535 bytes"
+world_error_text Since.Buffers = codes "a TCP buffer of no bytes"
+world_error_text Since.NotFresh = codes "a host was used before"
+world_error_text Since.Memory = codes "out of memory"
