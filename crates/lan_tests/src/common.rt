@@ -120,53 +120,34 @@ pub fn played(alloc: Global, script: &str) -> (u8, Vec<u8>) {
     (status, writer)
 }
 
-/// Whether a line is compared: without frames, none of those that are sent.
-fn is_heeded(line: &str, frames: bool) -> bool {
-    frames || !line.starts_with("sent ")
-}
-
 /// Fails where another status was found, or something else was written: the failure shows what.
-fn compare(name: &str, case: &Case, status: u8, written: &str, frames: bool) -> Result<(), Fail> {
-    let lines = written.split('\n').filter(|line| is_heeded(line, frames));
-    let wanted = case
-        .output
-        .split('\n')
-        .filter(|line| is_heeded(line, frames));
-    if status == case.status && lines.eq(wanted) {
+fn compare(name: &str, case: &Case, status: u8, written: &str) -> Result<(), Fail> {
+    if status == case.status && written == case.output.as_str() {
         return Ok(());
     }
     Err(Fail::new(format_args!("{name}: status {status}, and it wrote\n{written}")))
 }
 
-/// Plays a script; without frames, those that are sent may be any.
-pub fn play_case(alloc: Global, name: &str, case: &Case, frames: bool) -> Result<(), Fail> {
+/// Plays a script.
+pub fn play_case(alloc: Global, name: &str, case: &Case) -> Result<(), Fail> {
     let (status, written) = played(alloc, case.script.as_str());
-    compare(
-        name,
-        case,
-        status,
-        String::from_utf8(written)?.as_str(),
-        frames,
-    )
+    compare(name, case, status, String::from_utf8(written)?.as_str())
 }
 
-fn play_rows(alloc: Global, rows: &[Row], frames: bool) -> Result<(), Fail> {
-    for (name, before, text) in rows {
-        for script in text.split("==\n") {
-            play_case(alloc, name, &Case::new(alloc, before, script)?, frames)?;
-        }
+fn play_row(alloc: Global, row: &Row) -> Result<(), Fail> {
+    let (name, before, text) = row;
+    for script in text.split("==\n") {
+        play_case(alloc, name, &Case::new(alloc, before, script)?)?;
     }
     Ok(())
 }
 
 /// Plays each script of each row.
 pub fn play(rt: &HostRuntime, rows: &[Row]) -> Result<(), Fail> {
-    play_rows(rt.alloc(), rows, true)
-}
-
-/// Plays each script of each row, and compares what it writes but for the frames that are sent.
-pub fn play_without_frames(rt: &HostRuntime, rows: &[Row]) -> Result<(), Fail> {
-    play_rows(rt.alloc(), rows, false)
+    for row in rows {
+        play_row(rt.alloc(), row)?;
+    }
+    Ok(())
 }
 
 /// Says that an allocation was refused: `tools/try-proved-without-memory`, which has each one refused in turn, looks for it.

@@ -1,5 +1,6 @@
 //! Every kind of line once, and every error by its name.
-use crate::common::{IP, Row, STREAMS, play, play_without_frames};
+use crate::common::{IP, Row, STREAMS, play};
+use crate::steps::play_steps;
 use std::test::Fail;
 
 /// Hosts with one socket of each kind: UDP, ICMP, raw, TCP.
@@ -52,8 +53,8 @@ recvfrom B 2 64
 > data 45000018c24d0000405934ecc0a80101c0a8010201020304
 ";
 
-/// Each kind of line, in one script.
-const EACH_KIND: &str = "\
+/// Hosts on Ethernet with one socket of each kind, and with a UDP and a TCP socket.
+const EACH_ON_ETHERNET: &str = "\
 world eth 1514
 socket A udp 1 64 1 64
 socket A icmp 1 64 1 64
@@ -63,6 +64,10 @@ socket B udp 1 64 1 64
 socket B tcp 64 64
 start
 > ok
+";
+
+/// Each kind of line, in one script.
+const EACH_KIND: &str = "\
 bind A 0 48896
 > ok
 ident A 1 7
@@ -269,10 +274,10 @@ static ROWS: [Row; 4] = [
     ("every header is taken", &[], HEADERS),
 ];
 
-static WITHOUT_FRAMES: [Row; 1] = [("each kind of line is taken", &[], EACH_KIND)];
+static STEPS: [Row; 1] = [("each kind of line is taken", &[EACH_ON_ETHERNET], EACH_KIND)];
 
 #[test]
 fn each_kind_of_line_and_error_is_written(rt: HostRuntime) -> Result<(), Fail> {
     play(&rt, &ROWS)?;
-    play_without_frames(&rt, &WITHOUT_FRAMES)
+    play_steps(&rt, &STEPS)
 }

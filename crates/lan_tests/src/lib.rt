@@ -2,8 +2,8 @@
 //! calls alone. What they expect comes from outside: worked examples, the language's rules, and frames that another program made.
 //!
 //! Worked scripts stand in tables (`rows`, `kinds`, `grammar`, `refusals`, `streams`, `long`), which `common` plays. `steps` has a world
-//! take the events of such a text one by one: what goes on behind a refusal (`going_on`), what no script says (`settings`, `bounds`), and
-//! what an event does that finds no memory (`memory`).
+//! take the events of such a text one by one, and names the frames that matter alone: what goes on behind a refusal (`going_on`), what no
+//! script says (`settings`, `bounds`), and what an event does that finds no memory (`memory`).
 #![tactic(auto)]
 
 #[cfg(test)]

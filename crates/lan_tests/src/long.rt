@@ -1,5 +1,6 @@
 //! Longer worked scripts: what a host says of its waiting pieces, full tables, and slots that noise holds.
-use crate::common::{Case, ETHERNET, IP, LONG, Row, play, play_case, play_without_frames};
+use crate::common::{Case, ETHERNET, IP, LONG, Row, play, play_case};
+use crate::steps::play_steps;
 use std::alloc::{AllocError, Global};
 use std::test::Fail;
 
@@ -117,19 +118,12 @@ recvfrom B 0 4000
 > from 192.168.1.1:48896 {2000*00}
 ";
 
-const BOTH_BOUND: &str = "\
-bind A 0 48896
-> ok
-bind B 0 53
-> ok
-";
-
-/// As many datagrams as these, each sent, handed over and read.
-fn datagrams(alloc: Global, count: u32) -> Result<String, AllocError> {
+/// As many bytes of noise, each taken a microsecond behind the last.
+fn noises(alloc: Global, count: u32) -> Result<String, AllocError> {
     let mut text = String::new(alloc);
     for k in 0..count {
         let lines = format!(in alloc;
-            "sendto A 0 192.168.1.2:53 aa0000ff\n> ok\npoll A 0 8\n> changed\ndeliver A {k} -\n> ok\npoll B 0 8\n> changed\nrecvfrom B 0 64\n> from 192.168.1.1:48896 aa0000ff\n"
+            "noise B 00\n> ok\npoll B {k} 8\n> changed\nrecvfrom B 0 64\n> error Exhausted\npollat B {k}\n> never\n"
         )?;
         text.push_str(lines.as_str())?;
     }
@@ -139,9 +133,9 @@ fn datagrams(alloc: Global, count: u32) -> Result<String, AllocError> {
 #[test]
 fn a_long_script_is_answered_line_by_line(rt: HostRuntime) -> Result<(), Fail> {
     let alloc = rt.alloc();
-    let text = datagrams(alloc, 400)?;
-    let case = Case::new(alloc, &[IP, BOTH_BOUND], text.as_str())?;
-    play_case(alloc, "400 datagrams", &case, false)
+    let text = noises(alloc, 1_000)?;
+    let case = Case::new(alloc, &[IP], text.as_str())?;
+    play_case(alloc, "4000 lines", &case)
 }
 
 /// Requests from five neighbours fill each table.
@@ -212,7 +206,7 @@ static ROWS: [Row; 3] = [
     ),
 ];
 
-static WITHOUT_FRAMES: [Row; 2] = [
+static STEPS: [Row; 2] = [
     (
         "full tables let a datagram through",
         &[ETHERNET, BOTH_FULL],
@@ -224,5 +218,5 @@ static WITHOUT_FRAMES: [Row; 2] = [
 #[test]
 fn longer_scripts_write_this(rt: HostRuntime) -> Result<(), Fail> {
     play(&rt, &ROWS)?;
-    play_without_frames(&rt, &WITHOUT_FRAMES)
+    play_steps(&rt, &STEPS)
 }

@@ -1,5 +1,6 @@
 //! Worked scripts, byte for byte.
-use crate::common::{ETHERNET, IP, LONG, Row, play, play_without_frames};
+use crate::common::{ETHERNET, IP, LONG, Row, play};
+use crate::steps::play_steps;
 use std::test::Fail;
 
 /// A datagram waits in the socket of A.
@@ -292,10 +293,10 @@ static ROWS: [Row; 7] = [
     ),
 ];
 
-static WITHOUT_FRAMES: [Row; 1] = [("two long datagrams are read", &[LONG], BOTH_READ)];
+static STEPS: [Row; 1] = [("two long datagrams are read", &[LONG], BOTH_READ)];
 
 #[test]
 fn worked_scripts_write_this(rt: HostRuntime) -> Result<(), Fail> {
     play(&rt, &ROWS)?;
-    play_without_frames(&rt, &WITHOUT_FRAMES)
+    play_steps(&rt, &STEPS)
 }

@@ -1,5 +1,6 @@
 //! Connections in scripts, frame by frame. Another program made the frames, from the standards and each host's random words.
-use crate::common::{Row, STREAMS, play, play_without_frames};
+use crate::common::{Row, STREAMS, play};
+use crate::steps::play_steps;
 use std::test::Fail;
 
 /// B listens at port 80, A connects: A's frames are a request, a SYN and an ACK, B's an answer and a SYN.
@@ -565,10 +566,10 @@ static ROWS: [Row; 3] = [
     ),
 ];
 
-static WITHOUT_FRAMES: [Row; 1] = [("listeners and connections", &[STREAMS], WHOLE)];
+static STEPS: [Row; 1] = [("listeners and connections", &[STREAMS], WHOLE)];
 
 #[test]
 fn streams_are_carried(rt: HostRuntime) -> Result<(), Fail> {
     play(&rt, &ROWS)?;
-    play_without_frames(&rt, &WITHOUT_FRAMES)
+    play_steps(&rt, &STEPS)
 }
