@@ -1,8 +1,13 @@
-//! What is kept of a socket of two hosts at a link: the first record, and how many bytes are too many.
-ghost use Rattle.std.specs.Prelude.{◌≡◌, ◌↔◌, ◌+◌, ◌≤◌, ℕ, IsTrue, None};
+//! What is kept of a socket of two hosts at a link: the first record, and how many bytes are too many; and what faults, refusals and
+//! errors of a world say.
+ghost use Rattle.std.specs.Prelude.{◌≡◌, ◌↔◌, ◌+◌, ◌≤◌, ℕ, IsTrue, None, Some};
 ghost use Rattle.lan_net.specs.Tables.{is_too_many};
+ghost use Rattle.lan_net.specs.Texts.{fault_text, refused_text};
+ghost use Rattle.lan_world.specs.New.{world_error_text};
 
+use lan::{Fault, Refused, WorldError};
 use lan_net::SocketRecord;
+use std::fmt::Display;
 
 /// Law: a socket accepts fewer than 2^29 bytes.
 pub fn most_bytes()
@@ -16,3 +21,10 @@ pub fn no_record() -> SocketRecord
 {
     SocketRecord::NONE
 }
+
+/// Law: what faults, refusals and errors say.
+pub fn world_texts()
+    ensures faults { (fault : Fault) → ⟦<Fault as Display>⟧.output fault ≡ Some (fault_text fault) }
+    ensures refusals { (refused : Refused) → ⟦<Refused as Display>⟧.output refused ≡ Some (refused_text refused) }
+    ensures errors { (error : WorldError) → ⟦<WorldError as Display>⟧.output error ≡ Some (world_error_text error) }
+{}
