@@ -16,6 +16,7 @@ pub fn play<'a>(host: &mut Host, words: &mut Words<'a>) -> Result<Answer, Stop<'
     let inner = host.interface.context();
     let answer = match name {
         "fresh" => is(host.interface.is_fresh()),
+        "any_ip" => is(host.interface.any_ip()),
         "ident" => Answer::Number(u64::from(inner.ident())),
         "mtu" => Answer::Number(inner.ip_mtu() as u64),
         "hw" => Answer::Station(inner.hardware_addr()),
@@ -50,6 +51,7 @@ fn about(inner: &InterfaceInner, name: &str, address: &IpAddress) -> Option<Answ
         "source" => named(inner.get_source_address(address)),
         "hop" => named(inner.route(address)),
         "link" => link(inner.link_address(address)),
+        "reachable" => is(inner.has_neighbor(address)),
         "neighbor" => neighbor(inner.lookup_neighbor(address)),
         _ => return None,
     })

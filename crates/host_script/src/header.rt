@@ -118,7 +118,7 @@ fn put_blocks(addresses: &mut ArrayVec<IpCidr, TABLE_ROOM>) {
 }
 
 /// A hardware address, or `none` of a medium that has none.
-fn hardware<'a>(words: &mut Words<'a>) -> Result<HardwareAddress, Stop<'a>> {
+pub fn hardware<'a>(words: &mut Words<'a>) -> Result<HardwareAddress, Stop<'a>> {
     let word = words.word("hardware address")?;
     if word == "none" {
         return Ok(HardwareAddress::Ip);

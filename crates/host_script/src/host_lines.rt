@@ -1,5 +1,6 @@
 //! Lines that set what a host has.
 use crate::answer::Answer;
+use crate::header::hardware;
 use crate::host::Host;
 use crate::stop::Stop;
 use crate::words::Words;
@@ -23,9 +24,9 @@ pub fn play<'a>(
             }
         }
         "hw" => {
-            let station = words.ethernet()?;
+            let address = hardware(words)?;
             words.end()?;
-            Ok(set_hardware(interface, HardwareAddress::Ethernet(station)))
+            Ok(set_hardware(interface, address))
         }
         "any_ip" => {
             let any = words.switch()?;
@@ -66,7 +67,12 @@ fn routes<'a>(
         "route" => {
             let router = words.address()?;
             words.end()?;
-            Ok(interface.update_routes(|routes| default_route(routes, router)))
+            Ok(interface.update_routes(|routes| default_route(routes, router).0))
+        }
+        "exchange_route" => {
+            let router = words.address()?;
+            words.end()?;
+            Ok(interface.update_routes(|routes| default_route(routes, router).1))
         }
         "add_route" => {
             let (cidr, via_router) = (words.block()?, words.address()?);
@@ -92,16 +98,15 @@ fn routes<'a>(
     }
 }
 
-/// Makes this the router of all other packets of its family.
-fn default_route(routes: &mut Routes<TABLE_ROOM>, router: IpAddress) -> Answer {
+/// Makes this the router of all other packets of its family: whether there was room, and the router that it takes the place of.
+fn default_route(routes: &mut Routes<TABLE_ROOM>, router: IpAddress) -> (Answer, Answer) {
     let answer = match router {
         IpAddress::Ipv4(router) => routes.add_default_ipv4_route(router),
         IpAddress::Ipv6(router) => routes.add_default_ipv6_route(router),
     };
     match answer {
-        Ok(None) => Answer::Done,
-        Ok(Some(old)) => Answer::Address(old.via_router),
-        Err(_) => Answer::Error("RouteTableFull"),
+        Ok(old) => (Answer::Done, dropped(old)),
+        Err(_) => (Answer::Error("RouteTableFull"), Answer::Error("RouteTableFull")),
     }
 }
 

@@ -1,6 +1,6 @@
 //! A run of scripts whose text comes in pieces.
 use crate::session::Session;
-use std::alloc::Global;
+use std::alloc::{AllocError, Global};
 use std::io::{self, Write};
 use std::mem::replace;
 
@@ -34,13 +34,13 @@ impl Run {
         piece: &[u8],
         writer: &mut W,
     ) -> io::Result<()> {
-        let mut rest = piece;
-        while let Some(end) = rest.iter().position(|byte| *byte == b'\n') {
-            self.begun.extend_from_slice(&rest[..end])?;
-            self.take_line(alloc, writer)?;
-            rest = &rest[end + 1..];
+        for byte in piece {
+            if *byte == b'\n' {
+                self.take_line(alloc, writer)?;
+            } else {
+                self.begun.push(*byte).map_err(AllocError::from)?;
+            }
         }
-        self.begun.extend_from_slice(rest)?;
         Ok(())
     }
 

@@ -101,7 +101,7 @@ fn play<'a>(
         | "recvfrom" | "peek" => datagrams::play(alloc, host, verb, words),
         "set" => settings::set(host, words),
         "get" => settings::get(host, words),
-        "addrs" | "hw" | "route" | "any_ip" | "reassembly" | "add_route" | "drop_route"
+        "addrs" | "hw" | "route" | "exchange_route" | "any_ip" | "reassembly" | "add_route" | "drop_route"
         | "no_routes" | "no_route_v4" | "no_route_v6" => host_lines::play(host, verb, words),
         "ask" => asks::play(host, words),
         "poll" | "egress" | "ingress" | "maintain" | "pollat" | "delay" => {

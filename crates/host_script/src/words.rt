@@ -5,7 +5,7 @@ ghost use Rattle.net_base.specs.Time.{IsMoment};
 use crate::stop::Stop;
 use arrayvec::ArrayVec;
 use interface::TABLE_ROOM;
-use ip_wire::{EthernetAddress, IpAddress, IpCidr, IpEndpoint};
+use ip_wire::{IpAddress, IpCidr, IpEndpoint};
 use lan_script::HexBytes;
 use net_base::{Duration, Instant};
 use std::alloc::{AllocError, Global};
@@ -190,14 +190,6 @@ impl<'a> Words<'a> {
         word.parse().ok().ok_or(Stop::Wrong("address", word))
     }
 
-    /// An Ethernet address.
-    pub fn ethernet(&mut self) -> Result<EthernetAddress, Stop<'a>> {
-        let word = self.word("hardware address")?;
-        word.parse()
-            .ok()
-            .ok_or(Stop::Wrong("hardware address", word))
-    }
-
     /// An address with a prefix.
     pub fn block(&mut self) -> Result<IpCidr, Stop<'a>> {
         let word = self.word("block")?;
@@ -207,25 +199,27 @@ impl<'a> Words<'a> {
     /// All words that are left, as at most four blocks.
     pub fn blocks(&mut self) -> Result<ArrayVec<IpCidr, TABLE_ROOM>, Stop<'a>> {
         let mut found = ArrayVec::new();
-        while let Some(word) = self.next() {
+        for _ in 0..TABLE_ROOM {
+            let Some(word) = self.next() else {
+                return Ok(found);
+            };
             let Ok(block) = word.parse() else {
                 return Err(Stop::Wrong("block", word));
             };
-            if found.try_push(block).is_err() {
-                return Err(Stop::Extra(word));
-            }
+            let _ = found.try_push(block);
         }
+        self.end()?;
         Ok(found)
     }
 
     /// Bytes in hex, which a count behind `*` may repeat.
     pub fn bytes(&mut self) -> Result<Bytes<'a>, Stop<'a>> {
         let word = self.word("bytes")?;
-        bytes(word).ok_or(Stop::Wrong("bytes", word))
+        read_bytes(word).ok_or(Stop::Wrong("bytes", word))
     }
 }
 
-fn bytes<'a>(word: &'a str) -> Option<Bytes<'a>> {
+fn read_bytes<'a>(word: &'a str) -> Option<Bytes<'a>> {
     match word.split_once('*') {
         None => Some(Bytes {
             once: HexBytes::from_text(word)?,
