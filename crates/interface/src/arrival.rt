@@ -9,9 +9,9 @@ ghost use Rattle.interface.specs.Ingress.{is_read, Replied, Receives, Reads, Tak
 use interface_egress::{ArpFrame, Fragmenter, SocketStorage, dispatch, send};
 use interface_ingress::laws::same_settings;
 use interface_ingress::{Incoming, Reply, bring, keep, read_into, release, take_in};
-use interface_tables::{InterfaceInner, PacketAssemblerSet};
+use interface_egress::{InterfaceInner, PacketAssemblerSet};
 use net_base::{Device, Duration, RxToken};
-use socket_base::widths::fields_have_widths;
+use sockets::widths::fields_have_widths;
 use sockets::{Context, Socket};
 
 /// The longest frame that is read: an Ethernet header before the longest IP packet.

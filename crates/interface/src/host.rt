@@ -14,7 +14,7 @@ ghost use Rattle.interface.specs.Made.{IsIdle, Makes, with_inner, with_timeout};
 
 use arrayvec::ArrayVec;
 use interface_egress::Fragmenter;
-use interface_tables::{
+use interface_egress::{
     Config, HardwareAddrError, InterfaceInner, NewError, NotUnicast, PacketAssemblerSet, Routes,
     TABLE_ROOM,
 };

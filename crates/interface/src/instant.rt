@@ -4,7 +4,7 @@ ghost use Rattle.interface.specs.Instant.{instant_of, earlier_than, earlier, ite
 
 use crate::turn::is_known;
 use interface_egress::{Fragmenter, Item, SocketStorage};
-use interface_tables::InterfaceInner;
+use interface_egress::InterfaceInner;
 use net_base::Instant;
 use sockets::{Context, PollAt, Socket};
 

@@ -16,7 +16,7 @@ pub use instant::{earlier, place_instant, poll_instant};
 pub use interface_egress::{
     AddError, Handles, Item, Iter, Meta, SocketHandle, SocketSet, SocketStorage,
 };
-pub use interface_tables::{
+pub use interface_egress::{
     Config, HardwareAddrError, InterfaceInner, NewError, NotUnicast, Route, RouteTableFull, Routes,
     TABLE_ROOM,
 };

@@ -22,7 +22,7 @@ use crate::host::Interface;
 use crate::instant::poll_instant;
 use crate::step::egress;
 use interface_egress::{Fragmenter, SocketSet, SocketStorage};
-use interface_tables::{InterfaceInner, PacketAssemblerSet};
+use interface_egress::{InterfaceInner, PacketAssemblerSet};
 use net_base::{Device, Duration, Instant, ManagedSlice};
 use sockets::Socket;
 use sockets::laws::due_as_before;

@@ -11,10 +11,10 @@ ghost use Rattle.interface.specs.Turn.{is_known, is_heard, is_waiting, is_done, 
 ghost use Rattle.interface_egress.specs.Meta.{freed};
 
 use interface_egress::{Fragmenter, Item, Meta, Sent, SocketStorage, dispatch};
-use interface_tables::InterfaceInner;
+use interface_egress::InterfaceInner;
 use ip_wire::IpAddress;
 use net_base::{Device, Instant};
-use socket_base::widths::fields_have_widths;
+use sockets::widths::fields_have_widths;
 use sockets::laws::unsent_is_offered_again;
 use sockets::{Context, Offer, Packet, Socket};
 

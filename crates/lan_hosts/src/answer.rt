@@ -8,7 +8,7 @@ use lan_history::{Answer, Fault};
 use sockets::tcp::{ConnectError, ListenError, RecvError, SendError};
 use sockets::{raw, udp};
 use std::alloc::{AllocError, Global};
-use tcp_model::State;
+use sockets::tcp::State;
 
 /// An answer and its twin, which the world keeps.
 pub type Twins = (Answer, Answer);

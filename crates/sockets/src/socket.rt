@@ -4,7 +4,7 @@ ghost use Rattle.sockets.specs.Socket.{Offers, offered_by, settled, poll_of, IfS
 
 use crate::tcp;
 use datagram_sockets::{icmp, raw, udp};
-use socket_base::{Context, Offer, Packet, PollAt};
+use datagram_sockets::{Context, Offer, Packet, PollAt};
 
 /// A socket of any kind.
 #[derive(Debug, Drop)]
