@@ -14,11 +14,11 @@ mod way_out;
 
 pub use fill::{Fill, send};
 pub use fragmenter::{Cut, Fragmenter, Left, MAX_CUT_PAYLOAD};
-pub use interface_tables::{
-    Config, HardwareAddrError, InterfaceInner, LinkAddress, NewError, NotUnicast, PacketAssemblerSet,
-    Route, RouteTableFull, Routes, TABLE_ROOM,
-};
 pub use frame::{ArpFrame, Piece, Question, Whole, ask};
+pub use interface_tables::{
+    Config, HardwareAddrError, InterfaceInner, LinkAddress, NewError, NotUnicast,
+    PacketAssemblerSet, Route, RouteTableFull, Routes, TABLE_ROOM,
+};
 pub use plan::{Plan, plan_for};
 pub use socket_meta::{Meta, Waiting};
 pub use socket_set::{AddError, Handles, Item, Iter, SocketHandle, SocketSet, SocketStorage};

@@ -13,8 +13,7 @@ ghost use Rattle.interface_ingress.specs.Delivered.{is_taken_raw, packet_deliver
 use crate::places::{Arrival, first_place, give_all, give_at, is_for_any};
 use crate::reply::Reply;
 use control_wire::{Icmpv4Repr, Icmpv6Repr};
-use interface_egress::{Item, SocketStorage};
-use interface_egress::InterfaceInner;
+use interface_egress::{InterfaceInner, Item, SocketStorage};
 use ip_wire::{IpRepr, Ipv4Repr, Ipv6Repr, TcpControl, TcpRepr, UdpRepr};
 use net_base::PacketMeta;
 use sockets::{IpPayload, Packet, Socket, tcp};

@@ -1,7 +1,7 @@
 //! Two hosts on a link that promises nothing.
 ghost use Rattle.std.specs.Prelude.{IfOk, OnOk};
 ghost use Rattle.lan.specs.Promises.{IsSafeWorld};
-ghost use Rattle.tcp_socket.specs.Receive.{FitsBuffer};
+ghost use Rattle.sockets.specs.TcpReceive.{FitsBuffer};
 
 use anyhow::{Result, anyhow};
 use interface::{Config, Interface, SocketSet};
