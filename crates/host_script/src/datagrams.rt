@@ -88,7 +88,10 @@ fn send<'a>(
             let (remote, bytes) = (words.endpoint()?, words.bytes()?);
             words.end()?;
             let bytes = bytes.decode(alloc)?;
-            Ok(sent(host.udp(place)?.send_slice(bytes.as_slice(), UdpMetadata::from(remote))))
+            Ok(sent(
+                host.udp(place)?
+                    .send_slice(bytes.as_slice(), UdpMetadata::from(remote)),
+            ))
         }
         "sendicmp" => {
             let (remote, bytes) = (words.address()?, words.bytes()?);

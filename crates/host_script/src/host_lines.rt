@@ -8,11 +8,7 @@ use interface::{HardwareAddrError, Interface, Route, Routes, TABLE_ROOM};
 use ip_wire::{HardwareAddress, IpAddress};
 
 /// Plays a line that sets something of the host.
-pub fn play<'a>(
-    host: &mut Host,
-    verb: &'a str,
-    words: &mut Words<'a>,
-) -> Result<Answer, Stop<'a>> {
+pub fn play<'a>(host: &mut Host, verb: &'a str, words: &mut Words<'a>) -> Result<Answer, Stop<'a>> {
     words.host()?;
     let interface = &mut host.interface;
     match verb {
@@ -42,7 +38,7 @@ pub fn play<'a>(
                     interface.set_reassembly_timeout(span);
                     Ok(Answer::Done)
                 }
-                None => Err(Stop::Wrong("time", "none")),
+                None => Err(Stop::Wrong("number", "none")),
             }
         }
         _ => routes(interface, verb, words),
@@ -106,7 +102,10 @@ fn default_route(routes: &mut Routes<TABLE_ROOM>, router: IpAddress) -> (Answer,
     };
     match answer {
         Ok(old) => (Answer::Done, dropped(old)),
-        Err(_) => (Answer::Error("RouteTableFull"), Answer::Error("RouteTableFull")),
+        Err(_) => (
+            Answer::Error("RouteTableFull"),
+            Answer::Error("RouteTableFull"),
+        ),
     }
 }
 

@@ -61,10 +61,7 @@ fn protocol<'a>(words: &mut Words<'a>) -> Result<Option<u8>, Stop<'a>> {
 }
 
 /// These sockets, in order.
-pub fn sockets_of(
-    alloc: Global,
-    specs: &[SocketSpec],
-) -> Result<SocketSet<Socket>, Stop<'static>> {
+pub fn sockets_of(alloc: Global, specs: &[SocketSpec]) -> Result<SocketSet<Socket>, Stop<'static>> {
     let mut sockets = SocketSet::new(ManagedSlice::Owned(Vec::new(alloc)));
     add_all(alloc, &mut sockets, specs)?;
     Ok(sockets)

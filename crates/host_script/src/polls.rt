@@ -9,35 +9,27 @@ use interface::{PollIngressSingleResult, PollResult};
 use net_base::Instant;
 
 /// Plays a line that polls.
-pub fn play<'a>(
-    host: &mut Host,
-    verb: &'a str,
-    words: &mut Words<'a>,
-) -> Result<Answer, Stop<'a>> {
+pub fn play<'a>(host: &mut Host, verb: &'a str, words: &mut Words<'a>) -> Result<Answer, Stop<'a>> {
     words.host()?;
     let now = words.moment()?;
     if verb == "poll" {
         let budget = words.short("budget")?;
         words.end()?;
-        return Ok(polled(host.interface.poll(
-            now,
-            &mut host.wire,
-            &mut host.sockets,
-            budget,
-        )));
+        return Ok(polled(
+            host.interface
+                .poll(now, &mut host.wire, &mut host.sockets, budget),
+        ));
     }
     words.end()?;
     Ok(match verb {
-        "egress" => polled(host.interface.poll_egress(
-            now,
-            &mut host.wire,
-            &mut host.sockets,
-        )),
-        "ingress" => took(host.interface.poll_ingress_single(
-            now,
-            &mut host.wire,
-            &mut host.sockets,
-        )),
+        "egress" => polled(
+            host.interface
+                .poll_egress(now, &mut host.wire, &mut host.sockets),
+        ),
+        "ingress" => took(
+            host.interface
+                .poll_ingress_single(now, &mut host.wire, &mut host.sockets),
+        ),
         _ => asked(host, verb, now),
     })
 }

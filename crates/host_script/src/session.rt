@@ -24,6 +24,9 @@ pub enum Session {
 impl Session {
     /// Takes one line, without the byte 0a that ends it: what it writes. A line without bytes, or that begins with `#`, says nothing.
     pub fn take_line<'a>(&mut self, alloc: Global, line: &'a [u8]) -> Result<String, Stop<'a>> {
+        if let Session::Ended = self {
+            return Ok(String::new(alloc));
+        }
         let text = text_of(line)?;
         if text.is_empty() || text.starts_with('#') {
             return Ok(String::new(alloc));
@@ -97,18 +100,37 @@ fn play<'a>(
         "listen" | "connect" | "send" | "recv" | "close" | "abort" | "state" => {
             streams::play(alloc, host, verb, words)
         }
-        "bind" | "ident" | "errors" | "sendto" | "sendicmp" | "sendraw" | "sendany"
-        | "recvfrom" | "peek" => datagrams::play(alloc, host, verb, words),
+        "bind"
+        | "ident"
+        | "errors"
+        | "sendto"
+        | "sendicmp"
+        | "sendraw"
+        | "sendany"
+        | "recvfrom"
+        | "peek" => datagrams::play(alloc, host, verb, words),
         "set" => settings::set(host, words),
         "get" => settings::get(host, words),
-        "addrs" | "hw" | "route" | "exchange_route" | "any_ip" | "reassembly" | "add_route" | "drop_route"
-        | "no_routes" | "no_route_v4" | "no_route_v6" => host_lines::play(host, verb, words),
+        "addrs"
+        | "hw"
+        | "route"
+        | "exchange_route"
+        | "any_ip"
+        | "reassembly"
+        | "add_route"
+        | "drop_route"
+        | "no_routes"
+        | "no_route_v4"
+        | "no_route_v6" => host_lines::play(host, verb, words),
         "ask" => asks::play(host, words),
         "poll" | "egress" | "ingress" | "maintain" | "pollat" | "delay" => {
             polls::play(host, verb, words)
         }
         "frame" | "noise" | "room" | "refuse" | "refused" => {
             device_lines::play(alloc, host, verb, words)
+        }
+        "world" | "socket" | "seed" | "mac" | "begins" | "checksums" | "start" => {
+            Err(Stop::Order("it stands before the host runs", verb))
         }
         _ => Err(Stop::Wrong("such line", verb)),
     }

@@ -110,9 +110,9 @@ impl<'a> Words<'a> {
     pub fn moment(&mut self) -> Result<Instant, Stop<'a>>
         ensures { IfOk result (λ now. IsMoment now) }
     {
-        let word = self.word("moment")?;
+        let word = self.word("number")?;
         let Some(now) = instant(word) else {
-            return Err(Stop::Wrong("moment", word));
+            return Err(Stop::Wrong("number", word));
         };
         if now.is_moment() {
             Ok(now)
@@ -123,35 +123,35 @@ impl<'a> Words<'a> {
 
     /// A moment, which may be one that the host's calls don't take.
     pub fn instant(&mut self) -> Result<Instant, Stop<'a>> {
-        let word = self.word("moment")?;
+        let word = self.word("number")?;
         let digits = word.strip_prefix('-').unwrap_or(word);
         match (is_digits(digits), word.parse::<i64>()) {
             (true, Ok(micros)) => Ok(Instant::from_micros(micros)),
-            _ => Err(Stop::Wrong("moment", word)),
+            _ => Err(Stop::Wrong("number", word)),
         }
     }
 
     /// A moment, or none.
     pub fn end_moment(&mut self) -> Result<Option<Instant>, Stop<'a>> {
-        let word = self.word("moment")?;
+        let word = self.word("number")?;
         if word == "none" {
             return Ok(None);
         }
         match instant(word) {
             Some(moment) => Ok(Some(moment)),
-            None => Err(Stop::Wrong("moment", word)),
+            None => Err(Stop::Wrong("number", word)),
         }
     }
 
     /// How long something takes, or none.
     pub fn span(&mut self) -> Result<Option<Duration>, Stop<'a>> {
-        let word = self.word("time")?;
+        let word = self.word("number")?;
         if word == "none" {
             return Ok(None);
         }
         match number(word) {
             Some(micros) => Ok(Some(Duration::from_micros(micros))),
-            None => Err(Stop::Wrong("time", word)),
+            None => Err(Stop::Wrong("number", word)),
         }
     }
 
