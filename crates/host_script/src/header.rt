@@ -57,7 +57,7 @@ impl Header {
             }
             "begins" => {
                 words.host()?;
-                self.begins = words.instant()?;
+                self.begins = Instant::from_micros(words.signed_micros()?);
             }
             "mac" => {
                 words.host()?;

@@ -6,6 +6,7 @@ use crate::stop::Stop;
 use crate::words::Words;
 use interface::{HardwareAddrError, Interface, Route, Routes, TABLE_ROOM};
 use ip_wire::{HardwareAddress, IpAddress};
+use net_base::{Duration, Instant};
 
 /// Plays a line that sets something of the host.
 pub fn play<'a>(host: &mut Host, verb: &'a str, words: &mut Words<'a>) -> Result<Answer, Stop<'a>> {
@@ -31,11 +32,11 @@ pub fn play<'a>(host: &mut Host, verb: &'a str, words: &mut Words<'a>) -> Result
             Ok(Answer::Done)
         }
         "reassembly" => {
-            let word = words.span()?;
+            let span = words.span()?;
             words.end()?;
-            match word {
-                Some(span) => {
-                    interface.set_reassembly_timeout(span);
+            match span {
+                Some(micros) => {
+                    interface.set_reassembly_timeout(Duration::from_micros(micros));
                     Ok(Answer::Done)
                 }
                 None => Err(Stop::Wrong("number", "none")),
@@ -72,7 +73,7 @@ fn routes<'a>(
         }
         "add_route" => {
             let (cidr, via_router) = (words.block()?, words.address()?);
-            let expires_at = words.end_moment()?;
+            let expires_at = moment_of(words.until()?);
             words.end()?;
             let route = Route {
                 cidr,
@@ -91,6 +92,13 @@ fn routes<'a>(
             words.end()?;
             Ok(interface.update_routes(|routes| no_route(routes, verb)))
         }
+    }
+}
+
+fn moment_of(micros: Option<i64>) -> Option<Instant> {
+    match micros {
+        Some(micros) => Some(Instant::from_micros(micros)),
+        None => None,
     }
 }
 

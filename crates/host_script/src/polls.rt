@@ -11,7 +11,10 @@ use net_base::Instant;
 /// Plays a line that polls.
 pub fn play<'a>(host: &mut Host, verb: &'a str, words: &mut Words<'a>) -> Result<Answer, Stop<'a>> {
     words.host()?;
-    let now = words.moment()?;
+    let now = Instant::from_micros(words.micros()?);
+    if !now.is_moment() {
+        return Err(Stop::Refused("Moment"));
+    }
     if verb == "poll" {
         let budget = words.short("budget")?;
         words.end()?;

@@ -19,17 +19,17 @@ pub fn set<'a>(host: &mut Host, words: &mut Words<'a>) -> Result<Answer, Stop<'a
     let socket = host.tcp(place)?;
     match name {
         "timeout" => {
-            let span = words.span()?;
+            let span = duration_of(words.span()?);
             words.end()?;
             socket.set_timeout(span);
         }
         "ack_delay" => {
-            let span = words.span()?;
+            let span = duration_of(words.span()?);
             words.end()?;
             socket.set_ack_delay(span);
         }
         "keep_alive" => {
-            let span = words.span()?;
+            let span = duration_of(words.span()?);
             words.end()?;
             socket.set_keep_alive(span);
         }
@@ -41,6 +41,13 @@ pub fn set<'a>(host: &mut Host, words: &mut Words<'a>) -> Result<Answer, Stop<'a
         _ => return set_control(socket, name, words),
     }
     Ok(Answer::Done)
+}
+
+fn duration_of(micros: Option<u64>) -> Option<Duration> {
+    match micros {
+        Some(micros) => Some(Duration::from_micros(micros)),
+        None => None,
+    }
 }
 
 fn switch(socket: &mut tcp::Socket, name: &str, is_on: bool) {

@@ -1,13 +1,11 @@
 //! The words of a line, and the classes that they come in.
 ghost use Rattle.std.specs.Prelude.{◌≢◌, Some, IfOk};
-ghost use Rattle.net_base.specs.Time.{IsMoment};
 
 use crate::stop::Stop;
 use arrayvec::ArrayVec;
 use interface::TABLE_ROOM;
 use ip_wire::{IpAddress, IpCidr, IpEndpoint};
 use lan_script::HexBytes;
-use net_base::{Duration, Instant};
 use std::alloc::{AllocError, Global};
 
 /// How many bytes a word may say by a count behind it.
@@ -106,51 +104,42 @@ impl<'a> Words<'a> {
         short(word).ok_or(Stop::Wrong(class, word))
     }
 
-    /// A moment that the host's calls take.
-    pub fn moment(&mut self) -> Result<Instant, Stop<'a>>
-        ensures { IfOk result (λ now. IsMoment now) }
-    {
+    /// A moment, in microseconds.
+    pub fn micros(&mut self) -> Result<i64, Stop<'a>> {
         let word = self.word("number")?;
-        let Some(now) = instant(word) else {
-            return Err(Stop::Wrong("number", word));
-        };
-        if now.is_moment() {
-            Ok(now)
-        } else {
-            Err(Stop::Refused("Moment"))
-        }
+        micros(word).ok_or(Stop::Wrong("number", word))
     }
 
-    /// A moment, which may be one that the host's calls don't take.
-    pub fn instant(&mut self) -> Result<Instant, Stop<'a>> {
+    /// A moment, which may lie before 0.
+    pub fn signed_micros(&mut self) -> Result<i64, Stop<'a>> {
         let word = self.word("number")?;
         let digits = word.strip_prefix('-').unwrap_or(word);
         match (is_digits(digits), word.parse::<i64>()) {
-            (true, Ok(micros)) => Ok(Instant::from_micros(micros)),
+            (true, Ok(micros)) => Ok(micros),
             _ => Err(Stop::Wrong("number", word)),
         }
     }
 
     /// A moment, or none.
-    pub fn end_moment(&mut self) -> Result<Option<Instant>, Stop<'a>> {
+    pub fn until(&mut self) -> Result<Option<i64>, Stop<'a>> {
         let word = self.word("number")?;
         if word == "none" {
             return Ok(None);
         }
-        match instant(word) {
-            Some(moment) => Ok(Some(moment)),
+        match micros(word) {
+            Some(micros) => Ok(Some(micros)),
             None => Err(Stop::Wrong("number", word)),
         }
     }
 
-    /// How long something takes, or none.
-    pub fn span(&mut self) -> Result<Option<Duration>, Stop<'a>> {
+    /// How many microseconds something takes, or none.
+    pub fn span(&mut self) -> Result<Option<u64>, Stop<'a>> {
         let word = self.word("number")?;
         if word == "none" {
             return Ok(None);
         }
         match number(word) {
-            Some(micros) => Ok(Some(Duration::from_micros(micros))),
+            Some(micros) => Ok(Some(micros)),
             None => Err(Stop::Wrong("number", word)),
         }
     }
@@ -279,10 +268,9 @@ pub fn byte(word: &str) -> Option<u8> {
     }
 }
 
-fn instant(word: &str) -> Option<Instant> {
+fn micros(word: &str) -> Option<i64> {
     if is_digits(word) {
-        let micros = word.parse().ok()?;
-        Some(Instant::from_micros(micros))
+        word.parse().ok()
     } else {
         None
     }
