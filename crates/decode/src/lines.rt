@@ -8,7 +8,7 @@ use std::alloc::{AllocError, Global};
 use std::io::{self, BufRead, BufReader, Read, Write};
 use std::str;
 
-/// Answers each line, and says whether each was taken. Where the first doesn't name a medium, nothing more is read.
+/// Answers each line, and says whether each was taken. Where a frame stands before the first medium, nothing more is read.
 pub(crate) fn run<R: Read + Drop, W: Write>(
     alloc: Global,
     reader: R,
@@ -60,8 +60,12 @@ fn take_line(
             writeln!(out, "{text}")?;
             return Ok(true);
         }
+        Ok(text) if medium_of(text).is_some() => {
+            *medium = medium_of(text);
+            return Ok(true);
+        }
         Ok(text) => match *medium {
-            None => ("medium", take_medium(medium, text)),
+            None => ("medium", Err(Fault::No("ip or ethernet", text))),
             Some(named) => match text.strip_prefix("emit ") {
                 Some(words) => ("emit", take_emit(alloc, words, out)),
                 None => ("frame", take_frame(alloc, named, text, out)),
@@ -88,13 +92,12 @@ fn text_of(line: &[u8]) -> Result<&str, Fault<'_>> {
     str::from_utf8(line).map_err(|_| Fault::NotAscii(0))
 }
 
-fn take_medium<'a>(medium: &mut Option<Medium>, text: &'a str) -> Result<(), Fault<'a>> {
-    *medium = match text {
+fn medium_of(text: &str) -> Option<Medium> {
+    match text {
         "ip" => Some(Medium::Ip),
         "ethernet" => Some(Medium::Ethernet),
-        _ => return Err(Fault::No("ip or ethernet", text)),
-    };
-    Ok(())
+        _ => None,
+    }
 }
 
 fn take_frame<'a>(

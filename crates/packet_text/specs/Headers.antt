@@ -5,12 +5,12 @@ use Rattle.std.specs.Net.Text.{ipv4_text, ipv6_text}
 use Rattle.ip_wire.specs.Text.{ethernet_text, raw_hardware_text}
 use Rattle.ip_wire.specs.Hardware.{raw_bytes}
 use Rattle.ip_wire.specs.RawHardwareAddress.{RawHardwareAddress}
-use Rattle.ip_wire.specs.EthernetRepr.{EthernetRepr}
-use Rattle.ip_wire.specs.ArpRepr.{ArpRepr}
-use Rattle.ip_wire.specs.ArpRepr.TheVariants as Arp
+use Rattle.ip_wire.specs.declared.ethernet.repr.EthernetRepr.{EthernetRepr}
+use Rattle.ip_wire.specs.declared.arp.repr.ArpRepr.{ArpRepr}
+use Rattle.ip_wire.specs.declared.arp.repr.ArpRepr.TheVariants as Arp
 use Rattle.ip_wire.specs.Ipv4Repr.{Ipv4Repr}
 use Rattle.ip_wire.specs.Ipv6Repr.{Ipv6Repr}
-use Rattle.ip_wire.specs.Ipv6FragmentRepr.{Ipv6FragmentRepr}
+use Rattle.ip_wire.specs.declared.ipv6_fragment.repr.Ipv6FragmentRepr.{Ipv6FragmentRepr}
 use Rattle.ip_wire.specs.UdpRepr.{UdpRepr}
 use Rattle.ip_wire.specs.SeqNumber.{SeqNumber}
 use Rattle.ip_wire.specs.TcpControl.{TcpControl}

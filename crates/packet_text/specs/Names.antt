@@ -2,13 +2,12 @@
 use Rattle.std.specs.Prelude.{ℕ, List, ◌++◌, codes, decimal}
 use Rattle.ip_wire.specs.Protocol.{protocol_number}
 use Rattle.ip_wire.specs.Arp.{operation_number}
-
 use Rattle.control_wire.specs.Icmpv4Codes as codes4
 use Rattle.control_wire.specs.Reason as codes6
 use Rattle.ip_wire.specs.IpProtocol.{IpProtocol}
 use Rattle.ip_wire.specs.IpProtocol.TheVariants as IpProtocol_of
-use Rattle.ip_wire.specs.ArpOperation.{ArpOperation}
-use Rattle.ip_wire.specs.ArpOperation.TheVariants as ArpOperation_of
+use Rattle.ip_wire.specs.declared.arp.kinds.ArpOperation.{ArpOperation}
+use Rattle.ip_wire.specs.declared.arp.kinds.ArpOperation.TheVariants as ArpOperation_of
 use Rattle.control_wire.specs.Icmpv4DstUnreachable.{Icmpv4DstUnreachable}
 use Rattle.control_wire.specs.Icmpv4DstUnreachable.TheVariants as Icmpv4DstUnreachable_of
 use Rattle.control_wire.specs.Icmpv4TimeExceeded.{Icmpv4TimeExceeded}

@@ -93,6 +93,9 @@ fn put_options(out: &mut Out<'_>, options: &[u8]) -> Result<(), AllocError> {
                 write!(out.text, " [{}", TcpOptionText(option))?;
                 put_unknown(out, option)?;
                 write!(out.text, "]")?;
+                if option == TcpOption::EndOfList {
+                    return put_behind(out, behind);
+                }
                 rest = behind;
             }
             Err(_) => {
@@ -101,6 +104,15 @@ fn put_options(out: &mut Out<'_>, options: &[u8]) -> Result<(), AllocError> {
                 break;
             }
         }
+    }
+    writeln!(out.text, "")
+}
+
+// The end of the line, with what stands behind the end of the options.
+fn put_behind(out: &mut Out<'_>, behind: &[u8]) -> Result<(), AllocError> {
+    if !behind.is_empty() {
+        write!(out.text, " behind ")?;
+        out.put_hex(behind)?;
     }
     writeln!(out.text, "")
 }
