@@ -1,6 +1,7 @@
 //! The lines of the input, each answered before the next is read.
 use crate::emit::emit;
 use crate::fault::Fault;
+use crate::texts::take_text;
 use crate::words::bytes_of;
 use net_base::Medium;
 use packet_text::describe;
@@ -64,13 +65,7 @@ fn take_line(
             *medium = medium_of(text);
             return Ok(true);
         }
-        Ok(text) => match *medium {
-            None => ("medium", Err(Fault::No("ip or ethernet", text))),
-            Some(named) => match text.strip_prefix("emit ") {
-                Some(words) => ("emit", take_emit(alloc, words, out)),
-                None => ("frame", take_frame(alloc, named, text, out)),
-            },
-        },
+        Ok(text) => take_words(alloc, *medium, text, out),
     };
     match taken {
         Ok(()) => Ok(true),
@@ -78,6 +73,25 @@ fn take_line(
             writeln!(out, "line {number}: bad {kind}: {fault}")?;
             Ok(false)
         }
+    }
+}
+
+// Answers a line that is neither empty, a comment nor a medium: its kind, and whether it was taken.
+fn take_words<'a>(
+    alloc: Global,
+    medium: Option<Medium>,
+    text: &'a str,
+    out: &mut String,
+) -> (&'static str, Result<(), Fault<'a>>) {
+    if let Some(words) = text.strip_prefix("emit ") {
+        return ("emit", take_emit(alloc, words, out));
+    }
+    if let Some(words) = text.strip_prefix("text ") {
+        return ("text", take_text(words, out));
+    }
+    match medium {
+        Some(named) => ("frame", take_frame(alloc, named, text, out)),
+        None => ("medium", Err(Fault::No("ip or ethernet", text))),
     }
 }
 

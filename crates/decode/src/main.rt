@@ -7,6 +7,7 @@ mod emit_tcp;
 mod fault;
 mod lines;
 mod room;
+mod texts;
 mod words;
 
 use std::io;
