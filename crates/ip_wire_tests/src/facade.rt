@@ -28,9 +28,6 @@ fn fields_stand_where_the_standards_say(rt: HostRuntime) {
     assert!(rt; ethernet_field::PAYLOAD == (14..));
     fields_are_passed_on();
     header_lengths();
-    ethernet_laws::ethernet_fields();
-    arp_laws::arp_fields();
-    ipv6_fragment_laws::ipv6_fragment_fields();
 }
 
 #[test]
@@ -96,9 +93,6 @@ fn names_places(rt: HostRuntime) {
     ] {
         assert!(rt; found == wanted);
     }
-    tcp_laws::tcp_fields();
-    tcp_laws::tcp_flags();
-    tcp_laws::tcp_option_kinds();
 }
 
 #[test]

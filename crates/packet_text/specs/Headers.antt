@@ -1,6 +1,7 @@
 -- The texts of headers, field by field.
 use Rattle.std.specs.Prelude.{ℕ, Bool, if◌then◌else◌, Option, Some, None, List, [], ◌++◌, codes, decimal}
 use Rattle.std.specs.List.{flat_map}
+use Rattle.std.specs.Net.Addr.{segments_of}
 use Rattle.std.specs.Net.Text.{ipv4_text, ipv6_text}
 use Rattle.ip_wire.specs.Text.{ethernet_text, raw_hardware_text}
 use Rattle.ip_wire.specs.Hardware.{raw_bytes}
@@ -52,7 +53,7 @@ ipv4_header_text v =
 
 abbrev pub ipv6_header_text : Ipv6Repr → List ℕ
 ipv6_header_text v =
-    ipv6_text v.src_addr.0 ++ (codes " > " ++ (ipv6_text v.dst_addr.0 ++ (codes ", " ++ (protocol_text v.next_header
+    ipv6_text (segments_of v.src_addr.0) ++ (codes " > " ++ (ipv6_text (segments_of v.dst_addr.0) ++ (codes ", " ++ (protocol_text v.next_header
     ++ (codes ", hops " ++ (decimal v.hop_limit ++ (codes ", payload " ++ decimal v.payload_len)))))))
 
 abbrev pub fragment_text : Ipv6FragmentRepr → List ℕ
@@ -111,12 +112,13 @@ tcp_text v =
 
 -- CONTROL MESSAGES
 
+-- the numbers of an echo
 abbrev pub echo_text : ℕ → ℕ → List ℕ
-echo_text ident seq_no = codes ", id " ++ (decimal ident ++ (codes ", seq " ++ decimal seq_no))
+echo_text ident seq_no = decimal ident ++ (codes ", seq " ++ decimal seq_no)
 
 abbrev pub icmpv4_text : Icmpv4Header → List ℕ
-icmpv4_text (Icmpv4.EchoRequest ident seq_no) = codes "echo request" ++ echo_text ident seq_no
-icmpv4_text (Icmpv4.EchoReply ident seq_no) = codes "echo reply" ++ echo_text ident seq_no
+icmpv4_text (Icmpv4.EchoRequest ident seq_no) = codes "echo request, id " ++ echo_text ident seq_no
+icmpv4_text (Icmpv4.EchoReply ident seq_no) = codes "echo reply, id " ++ echo_text ident seq_no
 icmpv4_text (Icmpv4.DstUnreachable reason header) =
     codes "unreachable, " ++ (unreachable4_text reason ++ (codes ", of [" ++ (ipv4_header_text header ++ codes "]")))
 icmpv4_text (Icmpv4.TimeExceeded reason header) =
@@ -131,9 +133,9 @@ abbrev pub flags_text : NdiscNeighborFlags → List ℕ
 flags_text f = where_set f.router (codes "R") ++ (where_set f.solicited (codes "S") ++ where_set f.overrides (codes "O"))
 
 abbrev pub ndisc_text : NdiscRepr → List ℕ
-ndisc_text (Ndisc.NeighborSolicit target link) = codes "neighbor solicitation, target " ++ (ipv6_text target.0 ++ link_text link)
+ndisc_text (Ndisc.NeighborSolicit target link) = codes "neighbor solicitation, target " ++ (ipv6_text (segments_of target.0) ++ link_text link)
 ndisc_text (Ndisc.NeighborAdvert flags target link) =
-    codes "neighbor advertisement, flags [" ++ (flags_text flags ++ (codes "], target " ++ (ipv6_text target.0 ++ link_text link)))
+    codes "neighbor advertisement, flags [" ++ (flags_text flags ++ (codes "], target " ++ (ipv6_text (segments_of target.0) ++ link_text link)))
 
 abbrev pub icmpv6_text : Icmpv6Header → List ℕ
 icmpv6_text (Icmpv6.DstUnreachable reason header) =
@@ -144,6 +146,6 @@ icmpv6_text (Icmpv6.TimeExceeded reason header) =
     codes "time exceeded, " ++ (exceeded6_text reason ++ (codes ", of [" ++ (ipv6_header_text header ++ codes "]")))
 icmpv6_text (Icmpv6.ParamProblem reason pointer header) =
     codes "parameter problem, " ++ (problem_text reason ++ (codes " at " ++ (decimal pointer ++ (codes ", of [" ++ (ipv6_header_text header ++ codes "]")))))
-icmpv6_text (Icmpv6.EchoRequest ident seq_no) = codes "echo request" ++ echo_text ident seq_no
-icmpv6_text (Icmpv6.EchoReply ident seq_no) = codes "echo reply" ++ echo_text ident seq_no
+icmpv6_text (Icmpv6.EchoRequest ident seq_no) = codes "echo request, id " ++ echo_text ident seq_no
+icmpv6_text (Icmpv6.EchoReply ident seq_no) = codes "echo reply, id " ++ echo_text ident seq_no
 icmpv6_text (Icmpv6.Ndisc message) = ndisc_text message
