@@ -1,0 +1,61 @@
+-- The identifications that a poll takes.
+use Rattle.std.proofs.Common.{◌≡◌, ℕ, suc, ◌+◌, ◌*◌, ◌%◌, ◌^◌, ◌≤◌, arith, Bool, refl, ap, ◌∙◌}
+use Rattle.std.specs.Prelude.{ℤ}
+use Rattle.std.proofs.Math.Nat.{mul-le-mul_left}
+use Rattle.net_base.specs.Device.{Move}
+use Rattle.ip_wire.specs.IpRepr.{IpRepr}
+use Rattle.ip_wire.specs.IpRepr.TheVariants as Ip
+use Rattle.interface_tables.specs.Inner.{InnerValue, at_moment}
+use Rattle.interface_egress.specs.Departing.{ident_after}
+use Rattle.interface_egress.specs.declared.way_out.Sent.{Sent}
+use Rattle.interface_egress.specs.declared.way_out.Sent.TheVariants as Outcome
+use Rattle.interface.specs.Polls.{Polls}
+use Rattle.interface.specs.State.{State}
+use Rattle.interface.specs.Idents.{TakesIdents}
+use Rattle.interface.specs.Priced.{sockets_in}
+use Rattle.interface.proofs.HostCounts.{IsHostCount, hosts_priced}
+use Rattle.interface.proofs.Priced.{polls_cost}
+
+module _ (i : InnerValue) where
+  abbrev Taken : ℕ → InnerValue → Type 0
+  Taken n j = TakesIdents n i j
+
+  more : (n m : ℕ) (j : InnerValue) → n ≤ m → Taken n j → Taken m j
+  more n m j up taken = let few = taken.few in record { count = taken.count; few = omega (arith, up, few); next = taken.next }
+
+  same : (n : ℕ) (j j' : InnerValue) → j'.ident ≡ j.ident → Taken n j → Taken n j'
+  same n j j' is taken = record { count = taken.count; few = taken.few; next = is ∙ taken.next }
+
+  one : (n : ℕ) (j j' : InnerValue) → j'.ident ≡ (j.ident + 1) % 2 ^ 16 → Taken n j → Taken (n + 1) j'
+  one n j j' is taken =
+      let few = taken.few in
+      record { count = suc taken.count; few = omega (arith, few); next = is ∙ ap (λ (k : ℕ). (k + 1) % 2 ^ 16) taken.next }
+
+  none : (n : ℕ) (j j' : InnerValue) → j'.ident ≡ j.ident → Taken n j → Taken (n + 1) j'
+  none n j j' is taken = more n (n + 1) j' (omega arith) (same n j j' is taken)
+
+  by_outcome : (n : ℕ) (j j' : InnerValue) (sent : Sent) (h : IpRepr) → j'.ident ≡ ident_after sent h j.ident → Taken n j → Taken (n + 1) j'
+  by_outcome n j j' Outcome.Gone (Ip.Ipv4 v) is taken = one n j j' is taken
+  by_outcome n j j' Outcome.Gone (Ip.Ipv6 v) is taken = none n j j' is taken
+  by_outcome n j j' Outcome.Dropped h is taken = none n j j' is taken
+  by_outcome n j j' Outcome.Waits h is taken = none n j j' is taken
+  by_outcome n j j' Outcome.Busy h is taken = none n j j' is taken
+  by_outcome n j j' Outcome.Refused h is taken = none n j j' is taken
+
+  counted : (t : ℤ) → IsHostCount t Taken
+  counted t = record {
+    more = more;
+    begins = λ n j taken. same n j (at_moment t j) refl taken;
+    arrives = λ n j j' settings taken. same n j j' settings.ident taken;
+    goes = λ n j j' plan sent h is taken. by_outcome n j j' sent h (ap (λ (x : InnerValue). x.ident) is) taken;
+  }
+
+pub polls_take : {D : Type 0} (moves : D → Move → D → Type 0) (t : ℤ) (budget : ℕ) (s s' : State D) (changed : Bool) → Polls moves t budget s changed s'
+    → TakesIdents (budget * (1 + sockets_in s.places)) s.host.inner s'.host.inner
+polls_take {D} moves t budget s s' changed polls =
+    let i : InnerValue = s.host.inner in
+    let start : TakesIdents 0 i i = record { count = 0; few = omega arith; next = refl } in
+    let cost : ℕ = budget * (1 + (0 + sockets_in s.places)) in
+    let most : cost ≤ budget * (1 + sockets_in s.places) = mul-le-mul_left budget (omega arith) in
+    more i (0 + cost) (budget * (1 + sockets_in s.places)) s'.host.inner (omega (arith, most))
+    (polls_cost moves t 0 (λ (n : ℕ) (x : State D). TakesIdents n i x.host.inner) (hosts_priced moves t (λ (n : ℕ) (j : InnerValue). TakesIdents n i j) (counted i t)) budget 0 s s' changed start polls).0

@@ -1,0 +1,375 @@
+-- At a device whose moves are determined a poll has one end.
+use Rattle.std.proofs.Common.{◌≡◌, ◌≤◌, ℕ, zero, suc, ℤ, Bool, true, false, ◌||◌, inl, inr, List, [], ◌∷◌, ◌++◌, Option, Some, None, is_some, refl, sym, ap, ◌∙◌, subst}
+use Rattle.net_base.specs.Device.{Move, Took, Empty, Allowed, Emitted, Denied}
+use Rattle.ip_wire.specs.Ip.{destination_of}
+use Rattle.socket_base.specs.Context.{ContextValue}
+use Rattle.socket_base.specs.Packet.{PacketValue}
+use Rattle.socket_base.specs.declared.offer.Offer as Answer
+use Rattle.socket_base.specs.declared.offer.Offer.TheVariants as Offer
+use Rattle.sockets.specs.Socket.{Offers, offered_by}
+use Rattle.sockets.specs.declared.socket.Socket.{Socket}
+use Rattle.interface_tables.specs.Inner.{InnerValue, context_of}
+use Rattle.interface_egress.specs.declared.socket_set.Item.{Item}
+use Rattle.interface_egress.specs.declared.socket_set.SocketStorage.{SocketStorage}
+use Rattle.interface_egress.specs.Departing.{SendsOnce, departure_by, was_taken}
+use Rattle.interface_egress.specs.Departure as Departures
+use Rattle.interface_egress.specs.Departure.{Departure}
+use Rattle.interface_egress.specs.Determined.{IsDetermined}
+use Rattle.interface_egress.specs.Fragments.{LeftValue, next_departure}
+use Rattle.interface_egress.specs.GoesOut.{GoesOut, PieceGoesOut, Departs, frame_of, frame_len_of}
+use Rattle.interface_egress.specs.Plan.{plan_of}
+use Rattle.interface_egress.specs.declared.way_out.Sent.{Sent}
+use Rattle.interface_egress.proofs.Changes.{changes, piece_sends}
+use Rattle.interface_egress.proofs.OneWay.{one_way, one_piece}
+use Rattle.interface_ingress.specs.Incoming.{IncomingValue}
+use Rattle.interface_ingress.proofs.OneContent.{one-content}
+use Rattle.interface_ingress.specs.Arrives as Replies
+use Rattle.interface_ingress.specs.Arrives.{ReplyValue, Arrived, ArrivesAs}
+use Rattle.interface_ingress.proofs.OneArrival.{one_arrives_as}
+use Rattle.interface.specs.Host.{Sender}
+use Rattle.interface.specs.Pass.{Pass, Passed, passed}
+use Rattle.interface.specs.WayOut.{Clears, Egress, PieceLeaves}
+use Rattle.interface.specs.Turn.{Leaves, SendsBy, Answers, TurnsIf, ItemTurns, PlaceTurns, is_waiting, let_through, turned_by, settled_by}
+use Rattle.interface.specs.declared.turn.Turned.{Turned}
+use Rattle.interface.specs.declared.turn.Turned.TheVariants as Turn
+use Rattle.interface.specs.State.{State, at_device}
+use Rattle.interface.specs.Egress.{EgressStep, sending, behind, if_changed}
+use Rattle.interface.specs.Ingress.{IngressStep, Takes, Receives, Reads, Replied, is_read, sender_of, sender_with}
+use Rattle.interface.specs.Polls.{Repeats, Polls, begun}
+use Rattle.interface.specs.Steady.{IsSteady}
+
+-- what an offer answers and leaves is determined
+abbrev pub OneOffer : Type 0
+OneOffer = (cx : ContextValue) (s left right : Socket) (answer other : Answer.Offer) → Offers cx s answer left → Offers cx s other right → (answer ≡ other) × (left ≡ right)
+
+same_sender : {D : Type 0} (x y : Sender D) → x.device ≡ y.device → x.inner ≡ y.inner → x.left ≡ y.left → x ≡ y
+same_sender x y devices inners lefts = λ k. record { device = devices k; inner = inners k; left = lefts k }
+
+both_read : (b : Bool) → b ≡ true → b ≡ false → ⊥
+both_read true is not = cc
+both_read false is not = cc
+
+next_or_stop : (a b : Bool) → Turn.Next a ≡ Turn.Stop b → ⊥
+next_or_stop a b is = cc
+
+same_next : (a b : Bool) → Turn.Next a ≡ Turn.Next b → a ≡ b
+same_next a b is = cc
+
+same_stop : (a b : Bool) → Turn.Stop a ≡ Turn.Stop b → a ≡ b
+same_stop a b is = cc
+
+module _ (one_offer : OneOffer) {D : Type 0} (moves : D → Move → D → Type 0) (longest : ℕ) (steady : IsSteady moves longest) where
+  abbrev Det : D → Type 0
+  Det d = IsDetermined moves longest d
+
+  -- ONE FRAME
+
+  short_of : (old new : D) (i : InnerValue) (d : Departure) (taken : Bool) → Departs moves old i d taken new → frame_len_of i d ≤ longest
+  short_of old new i d true goes = subst (λ (n : ℕ). n ≤ longest) goes.1 (steady.short old new (Emitted (frame_of i d)) goes.0)
+  short_of old new i d false goes = steady.short old new (Denied (frame_len_of i d)) goes
+
+  det_of : (old new : D) (i : InnerValue) (d : Departure) (taken : Bool) → Departs moves old i d taken new → Det old → Det new
+  det_of old new i d true goes det = steady.stays old new (Emitted (frame_of i d)) det goes.0
+  det_of old new i d false goes det = steady.stays old new (Denied (frame_len_of i d)) det goes
+
+  det_once : (old new : D) (i : InnerValue) (o : Option Departure) (taken : Bool) → SendsOnce moves old i o taken new → Det old → Det new
+  det_once old new i None taken once det = subst Det (sym once) det
+  det_once old new i (Some d) taken once det = det_of old new i d taken once det
+
+  det_out : (old new : D) (i i' : InnerValue) (l l' : Option LeftValue) (p : PacketValue) (busy : Bool) (sent : Sent) → GoesOut moves old i l p (plan_of i busy p.header) sent new i' l' → Det old → Det new
+  det_out old new i i' l l' p busy sent goes =
+      det_once old new i (departure_by i p (plan_of i busy p.header)) (was_taken sent) (changes moves old new i i' l l' p busy sent goes).0
+
+  differ : (old new other : D) (i : InnerValue) (d : Departure) → frame_len_of i d ≤ longest → Det old → Departs moves old i d true new → Departs moves old i d false other → ⊥
+  differ old new other i d low det went denied =
+      det.takes new other (frame_of i d) (subst (λ (n : ℕ). n ≤ longest) (sym went.1) low) went.0 (subst (λ (n : ℕ). moves old (Denied n) other) (sym went.1) denied)
+
+  one_sent : (d : Departure) (old new other : D) (i : InnerValue) (a b : Bool) → frame_len_of i d ≤ longest → Det old → Departs moves old i d a new → Departs moves old i d b other → new ≡ other
+  one_sent d old new other i true true low det one two = det.one_end new other (Emitted (frame_of i d)) one.0 two.0
+  one_sent d old new other i false false low det one two = det.one_end new other (Denied (frame_len_of i d)) one two
+  one_sent d old new other i true false low det one two = absurd (differ old new other i d low det one two)
+  one_sent d old new other i false true low det one two = absurd (differ old other new i d low det two one)
+
+  abbrev SameOut : Sent → D → InnerValue → Option LeftValue → Sent → D → InnerValue → Option LeftValue → Type 0
+  SameOut s new j k t other j' k' = (s ≡ t) × (new ≡ other) × (j ≡ j') × (k ≡ k')
+
+  one_out : (old new other : D) (i j j' : InnerValue) (l k k' : Option LeftValue) (p : PacketValue) (busy : Bool) (s t : Sent) → Det old
+      → GoesOut moves old i l p (plan_of i busy p.header) s new j k → GoesOut moves old i l p (plan_of i busy p.header) t other j' k' → SameOut s new j k t other j' k'
+  one_out old new other i j j' l k k' p busy s t det one two =
+      let once = (changes moves old new i j l k p busy s one).0 in
+      one_way moves longest old det i l p (plan_of i busy p.header)
+      (λ d is. short_of old new i d (was_taken s) (subst (λ (o : Option Departure). SendsOnce moves old i o (was_taken s) new) is once)) s t new other j j' k k' one two
+
+  -- TURNS
+
+  one_leaves : (x y z : Sender D) (p : PacketValue) (s t : Sent) → Det x.device → Leaves moves x p s y → Leaves moves x p t z → (s ≡ t) × (y ≡ z)
+  one_leaves x y z p s t det (inl a) (inl b) =
+      (a.3 ∙ sym b.3, same_sender y z (det.one_end y.device z.device (Allowed false) a.0 b.0) (a.1 ∙ sym b.1) (a.2 ∙ sym b.2))
+  one_leaves x y z p s t det (inl a) (inr b) = absurd (det.gives b.0 y.device b.1 a.0)
+  one_leaves x y z p s t det (inr a) (inl b) = absurd (det.gives a.0 z.device a.1 b.0)
+  one_leaves x y z p s t det (inr a) (inr b) =
+      let mids : b.0 ≡ a.0 = det.one_end b.0 a.0 (Allowed true) b.1 a.1 in
+      let two : GoesOut moves a.0 x.inner x.left p (plan_of x.inner (is_some x.left) p.header) t z.device z.inner z.left =
+      subst (λ (d : D). GoesOut moves d x.inner x.left p (plan_of x.inner (is_some x.left) p.header) t z.device z.inner z.left) mids b.2 in
+      let same = one_out a.0 y.device z.device x.inner y.inner z.inner x.left y.left z.left p (is_some x.left) s t (steady.stays x.device a.0 (Allowed true) det a.1) a.2 two in
+      (same.0, same_sender y z same.1 same.2 same.3)
+
+  det_leaves : (x y : Sender D) (p : PacketValue) (s : Sent) → Leaves moves x p s y → Det x.device → Det y.device
+  det_leaves x y p s (inl a) det = steady.stays x.device y.device (Allowed false) det a.0
+  det_leaves x y p s (inr a) det = det_out a.0 y.device x.inner y.inner x.left y.left p (is_some x.left) s a.2 (steady.stays x.device a.0 (Allowed true) det a.1)
+
+  abbrev SameTurn : {A : Type 0} → Turned → Sender D → A → Turned → Sender D → A → Type 0
+  SameTurn a y p b z q = (a ≡ b) × (y ≡ z) × (p ≡ q)
+
+  one_sends : (o : Option PacketValue) (x y z : Sender D) (item m n : Item Socket) (changed : Bool) (a b : Turned) → Det x.device
+      → SendsBy moves o x item changed a y m → SendsBy moves o x item changed b z n → SameTurn a y m b z n
+  one_sends None x y z item m n changed a b det one two = absurd one
+  one_sends (Some p) x y z item m n changed a b det one two =
+      let same = one_leaves x y z p one.0 two.0 det one.1 two.1 in (
+        one.2 ∙ ap (λ (s : Sent). turned_by s changed) same.0 ∙ sym two.2,
+        same.1,
+        one.3 ∙ ap (λ (s : Sent). settled_by s x.inner.moment (destination_of p.header) item) same.0 ∙ sym two.3,
+      )
+
+  det_sends : (o : Option PacketValue) (x y : Sender D) (item m : Item Socket) (changed : Bool) (a : Turned) → SendsBy moves o x item changed a y m → Det x.device → Det y.device
+  det_sends None x y item m changed a one det = absurd one
+  det_sends (Some p) x y item m changed a one det = det_leaves x y p one.0 one.1 det
+
+  one_answers : (answer : Answer.Offer) (x y z : Sender D) (item m n : Item Socket) (a b : Turned) → Det x.device
+      → Answers moves answer x item a y m → Answers moves answer x item b z n → SameTurn a y m b z n
+  one_answers (Offer.Silent changed) x y z item m n a b det one two = (one.0 ∙ sym two.0, one.1 ∙ sym two.1, one.2 ∙ sym two.2)
+  one_answers (Offer.Packet changed) x y z item m n a b det one two = one_sends (offered_by item.socket) x y z item m n changed a b det one two
+
+  det_same : (x y : Sender D) → y ≡ x → Det x.device → Det y.device
+  det_same x y is det = subst (λ (v : Sender D). Det v.device) (sym is) det
+
+  det_answers : (answer : Answer.Offer) (x y : Sender D) (item m : Item Socket) (a : Turned) → Answers moves answer x item a y m → Det x.device → Det y.device
+  det_answers (Offer.Silent changed) x y item m a one det = det_same x y one.1 det
+  det_answers (Offer.Packet changed) x y item m a one det = det_sends (offered_by item.socket) x y item m changed a one det
+
+  one_turn : (waits : Bool) (x y z : Sender D) (item m n : Item Socket) (a b : Turned) → Det x.device
+      → TurnsIf moves waits x item a y m → TurnsIf moves waits x item b z n → SameTurn a y m b z n
+  one_turn true x y z item m n a b det one two = (one.0 ∙ sym two.0, one.1 ∙ sym two.1, one.2 ∙ sym two.2)
+  one_turn false x y z item m n a b det one two =
+      let same = one_offer (context_of x.inner) item.socket two.1 one.1 two.0 one.0 two.2 one.2 in
+      let again : Answers moves one.0 x (record item { socket = one.1 }) b z n =
+      subst (λ (s : Socket). Answers moves one.0 x (record item { socket = s }) b z n) same.1
+      (subst (λ (answer : Answer.Offer). Answers moves answer x (record item { socket = two.1 }) b z n) same.0 two.3) in
+      one_answers one.0 x y z (record item { socket = one.1 }) m n a b det one.3 again
+
+  det_turn : (waits : Bool) (x y : Sender D) (item m : Item Socket) (a : Turned) → TurnsIf moves waits x item a y m → Det x.device → Det y.device
+  det_turn true x y item m a one det = det_same x y one.1 det
+  det_turn false x y item m a one det = det_answers one.0 x y (record item { socket = one.1 }) m a one.3 det
+
+  one_item : (o p q : Option (Item Socket)) (x y z : Sender D) (a b : Turned) → Det x.device → ItemTurns moves o x a y p → ItemTurns moves o x b z q → SameTurn a y p b z q
+  one_item None None None x y z a b det one two = (one.0 ∙ sym two.0, one.1 ∙ sym two.1, refl)
+  one_item (Some item) (Some m) (Some n) x y z a b det one two =
+      let same = one_turn (is_waiting x.inner item.meta) x y z (let_through x.inner item) m n a b det one two in
+      (same.0, same.1, ap (λ (v : Item Socket). Some v) same.2)
+  one_item None (Some m) q x y z a b det one two = absurd one
+  one_item None None (Some n) x y z a b det one two = absurd two
+  one_item (Some item) None q x y z a b det one two = absurd one
+  one_item (Some item) (Some m) None x y z a b det one two = absurd two
+
+  det_item : (o p : Option (Item Socket)) (x y : Sender D) (a : Turned) → ItemTurns moves o x a y p → Det x.device → Det y.device
+  det_item None None x y a one det = det_same x y one.1 det
+  det_item (Some item) (Some m) x y a one det = det_turn (is_waiting x.inner item.meta) x y (let_through x.inner item) m a one det
+  det_item None (Some m) x y a one det = absurd one
+  det_item (Some item) None x y a one det = absurd one
+
+  one_place : (o p q : SocketStorage Socket) (x y z : Sender D) (a b : Turned) → Det x.device → PlaceTurns moves x o a y p → PlaceTurns moves x o b z q → SameTurn a y p b z q
+  one_place o p q x y z a b det one two =
+      let same = one_item o.inner p.inner q.inner x y z a b det one two in
+      (same.0, same.1, λ k. record { inner = same.2 k })
+
+  det_place : (o p : SocketStorage Socket) (x y : Sender D) (a : Turned) → PlaceTurns moves x o a y p → Det x.device → Det y.device
+  det_place o p x y a one det = det_item o.inner p.inner x y a one det
+
+  -- THE WAY OUT
+
+  abbrev Places : Type 0
+  Places = List (SocketStorage Socket)
+
+  one_pass : (ps before : Places) (x : Sender D) (changed : Bool) (e f : Passed D) → Det x.device → Pass moves x before changed ps e → Pass moves x before changed ps f → e ≡ f
+  one_pass [] before x changed e f det one two = one ∙ sym two
+  one_pass (p ∷ ps) before x changed e f det (inl a) (inl b) =
+      let same = one_place p b.2 a.2 x b.1 a.1 (Turn.Next b.0) (Turn.Next a.0) det b.3 a.3 in
+      let two : Pass moves a.1 (before ++ a.2 ∷ []) (changed || a.0) ps f =
+      subst (λ (v : Bool). Pass moves a.1 (before ++ a.2 ∷ []) (changed || v) ps f) (same_next b.0 a.0 same.0)
+      (subst (λ (v : SocketStorage Socket). Pass moves a.1 (before ++ v ∷ []) (changed || b.0) ps f) same.2
+      (subst (λ (v : Sender D). Pass moves v (before ++ b.2 ∷ []) (changed || b.0) ps f) same.1 b.4)) in
+      one_pass ps (before ++ a.2 ∷ []) a.1 (changed || a.0) e f (det_place p a.2 x a.1 (Turn.Next a.0) a.3 det) a.4 two
+  one_pass (p ∷ ps) before x changed e f det (inl a) (inr b) =
+      absurd (next_or_stop a.0 b.0 (one_place p a.2 b.2 x a.1 b.1 (Turn.Next a.0) (Turn.Stop b.0) det a.3 b.3).0)
+  one_pass (p ∷ ps) before x changed e f det (inr a) (inl b) =
+      absurd (next_or_stop b.0 a.0 (one_place p b.2 a.2 x b.1 a.1 (Turn.Next b.0) (Turn.Stop a.0) det b.3 a.3).0)
+  one_pass (p ∷ ps) before x changed e f det (inr a) (inr b) =
+      let same = one_place p a.2 b.2 x a.1 b.1 (Turn.Stop a.0) (Turn.Stop b.0) det a.3 b.3 in
+      a.4 ∙ ap (λ (v : Bool). passed a.1 (before ++ a.2 ∷ ps) (changed || v)) (same_stop a.0 b.0 same.0)
+      ∙ ap (λ (v : SocketStorage Socket). passed a.1 (before ++ v ∷ ps) (changed || b.0)) same.2
+      ∙ ap (λ (v : Sender D). passed v (before ++ b.2 ∷ ps) (changed || b.0)) same.1 ∙ sym b.4
+
+  det_pass : (ps before : Places) (x : Sender D) (changed : Bool) (e : Passed D) → Pass moves x before changed ps e → Det x.device → Det e.sender.device
+  det_pass [] before x changed e one det = subst (λ (v : Passed D). Det v.sender.device) (sym one) det
+  det_pass (p ∷ ps) before x changed e (inl a) det =
+      det_pass ps (before ++ a.2 ∷ []) a.1 (changed || a.0) e a.4 (det_place p a.2 x a.1 (Turn.Next a.0) a.3 det)
+  det_pass (p ∷ ps) before x changed e (inr a) det =
+      subst (λ (v : Passed D). Det v.sender.device) (sym a.4) (det_place p a.2 x a.1 (Turn.Stop a.0) a.3 det)
+
+  one_piece_leaves : (l : LeftValue) (x y z : Sender D) (a b : Bool) → Det x.device → y.inner ≡ x.inner → z.inner ≡ x.inner → PieceLeaves moves l x a y → PieceLeaves moves l x b z → (a ≡ b) × (y ≡ z)
+  one_piece_leaves l x y z a b det i j (inl one) (inl two) =
+      (one.1 ∙ sym two.1, same_sender y z (det.one_end y.device z.device (Allowed false) one.0 two.0) (i ∙ sym j) (one.2 ∙ sym two.2))
+  one_piece_leaves l x y z a b det i j (inl one) (inr two) = absurd (det.gives two.0 y.device two.1 one.0)
+  one_piece_leaves l x y z a b det i j (inr one) (inl two) = absurd (det.gives one.0 z.device one.1 two.0)
+  one_piece_leaves l x y z a b det i j (inr one) (inr two) =
+      let mids : two.0 ≡ one.0 = det.one_end two.0 one.0 (Allowed true) two.1 one.1 in
+      let again : PieceGoesOut moves one.0 x.inner l b z.device z.left = subst (λ (d : D). PieceGoesOut moves d x.inner l b z.device z.left) mids two.2 in
+      let here : Det one.0 = steady.stays x.device one.0 (Allowed true) det one.1 in
+      let low = short_of one.0 y.device x.inner (next_departure x.inner.mtu l) a (piece_sends moves one.0 y.device x.inner l y.left a one.2) in
+      let same = one_piece moves longest one.0 here x.inner l low a b y.device z.device y.left z.left one.2 again in
+      (same.0, same_sender y z same.1 (i ∙ sym j) same.2)
+
+  det_piece_leaves : (l : LeftValue) (x y : Sender D) (a : Bool) → PieceLeaves moves l x a y → Det x.device → Det y.device
+  det_piece_leaves l x y a (inl one) det = steady.stays x.device y.device (Allowed false) det one.0
+  det_piece_leaves l x y a (inr one) det =
+      det_of one.0 y.device x.inner (next_departure x.inner.mtu l) a (piece_sends moves one.0 y.device x.inner l y.left a one.2) (steady.stays x.device one.0 (Allowed true) det one.1)
+
+  one_clears : (l : Option LeftValue) (x y z : Sender D) (a b : Bool) → Det x.device → Clears moves l x a y → Clears moves l x b z → (a ≡ b) × (y ≡ z)
+  one_clears None x y z a b det one two = (one.0 ∙ sym two.0, one.1 ∙ sym two.1)
+  one_clears (Some l) x y z a b det one two = one_piece_leaves l x y z a b det one.1 two.1 one.0 two.0
+
+  det_clears : (l : Option LeftValue) (x y : Sender D) (a : Bool) → Clears moves l x a y → Det x.device → Det y.device
+  det_clears None x y a one det = det_same x y one.1 det
+  det_clears (Some l) x y a one det = det_piece_leaves l x y a one.0 det
+
+  one_egress : (x : Sender D) (ps : Places) (e f : Passed D) → Det x.device → Egress moves x ps e → Egress moves x ps f → e ≡ f
+  one_egress x ps e f det (inl a) (inl b) =
+      a.2 ∙ ap (λ (v : Sender D). passed v ps false) (one_clears x.left x a.0 b.0 false false det a.1 b.1).1 ∙ sym b.2
+  one_egress x ps e f det (inl a) (inr b) = absurd (let same = (one_clears x.left x a.0 b.0 false true det a.1 b.1).0 in cc)
+  one_egress x ps e f det (inr a) (inl b) = absurd (let same = (one_clears x.left x a.0 b.0 true false det a.1 b.1).0 in cc)
+  one_egress x ps e f det (inr a) (inr b) =
+      let same = one_clears x.left x b.0 a.0 true true det b.1 a.1 in
+      one_pass ps [] a.0 false e f (det_clears x.left x a.0 true a.1 det) a.2 (subst (λ (v : Sender D). Pass moves v [] false ps f) same.1 b.2)
+
+  det_egress : (x : Sender D) (ps : Places) (e : Passed D) → Egress moves x ps e → Det x.device → Det e.sender.device
+  det_egress x ps e (inl a) det = subst (λ (v : Passed D). Det v.sender.device) (sym a.2) (det_clears x.left x a.0 false a.1 det)
+  det_egress x ps e (inr a) det = det_pass ps [] a.0 false e a.2 (det_clears x.left x a.0 true a.1 det)
+
+  abbrev SameStep : Option Bool → State D → Option Bool → State D → Type 0
+  SameStep a s b r = (a ≡ b) × (s ≡ r)
+
+  module _ (t : ℤ) where
+    out_one : (o s r : State D) (a b : Option Bool) → Det o.device → EgressStep moves t o a s → EgressStep moves t o b r → SameStep a s b r
+    out_one o s r a b det one two =
+        let same : one.0 ≡ two.0 = one_egress (sending t o) o.places one.0 two.0 det one.1 two.1 in
+        (one.3 ∙ ap (λ (v : Passed D). if_changed v.changed) same ∙ sym two.3, one.2 ∙ ap (behind o.host) same ∙ sym two.2)
+
+    out_det : (o s : State D) (a : Option Bool) → EgressStep moves t o a s → Det o.device → Det s.device
+    out_det o s a one det = subst (λ (v : State D). Det v.device) (sym one.2) (det_egress (sending t o) o.places one.0 one.1 det)
+
+  -- THE WAY IN
+
+  one_replied : (reply : Option ReplyValue) (x y z : Sender D) → Det x.device → Replied moves reply x y → Replied moves reply x z → y ≡ z
+  one_replied None x y z det one two = one ∙ sym two
+  one_replied (Some (Replies.Tells packet)) x y z det one two =
+      let low = short_of x.device y.device x.inner (Departures.Tells packet) one.0 one.1 in
+      same_sender y z (one_sent (Departures.Tells packet) x.device y.device z.device x.inner one.0 two.0 low det one.1 two.1) (one.2 ∙ sym two.2) (one.3 ∙ sym two.3)
+  one_replied (Some (Replies.Answers p)) x y z det one two =
+      let same = one_out x.device y.device z.device x.inner y.inner z.inner x.left y.left z.left p (is_some x.left) one.0 two.0 det one.1 two.1 in
+      same_sender y z same.1 same.2 same.3
+
+  det_replied : (reply : Option ReplyValue) (x y : Sender D) → Replied moves reply x y → Det x.device → Det y.device
+  det_replied None x y one det = det_same x y one det
+  det_replied (Some (Replies.Tells packet)) x y one det = det_of x.device y.device x.inner (Departures.Tells packet) one.0 one.1 det
+  det_replied (Some (Replies.Answers p)) x y one det = det_out x.device y.device x.inner y.inner x.left y.left p (is_some x.left) one.0 one.1 det
+
+  same_state : (s r : State D) → s.device ≡ r.device → s.host.inner ≡ r.host.inner → s.host.left ≡ r.host.left → s.host.slots ≡ r.host.slots → s.host.timeout ≡ r.host.timeout → s.places ≡ r.places → s ≡ r
+  same_state s r devices inners lefts slots timeouts places =
+      λ k. record { device = devices k; host = record { inner = inners k; left = lefts k; slots = slots k; timeout = timeouts k }; places = places k }
+
+  one_receives : (content : Option IncomingValue) (o s r : State D) → Det o.device → Receives moves content o s → Receives moves content o r → s ≡ r
+  one_receives content o s r det one two =
+      let same = one_arrives_as o.host.inner o.host.timeout o.host.slots o.places content r.host.slots s.host.slots two.0 one.0 two.1 one.1 in
+      let again : Replied moves one.0.reply (sender_with moves o one.0) (sender_of moves r) =
+      subst (λ (a : Arrived). Replied moves a.reply (sender_with moves o a) (sender_of moves r)) same.1 two.3 in
+      let senders : sender_of moves s ≡ sender_of moves r = one_replied one.0.reply (sender_with moves o one.0) (sender_of moves s) (sender_of moves r) det one.3 again in
+      same_state s r (ap (λ (x : Sender D). x.device) senders) (ap (λ (x : Sender D). x.inner) senders) (ap (λ (x : Sender D). x.left) senders)
+      (sym same.0) (one.4 ∙ sym two.4) (one.2 ∙ ap (λ (a : Arrived). a.places) (sym same.1) ∙ sym two.2)
+
+  one_reads : (frame : List ℕ) (o s r : State D) → Det o.device → Reads moves frame o s → Reads moves frame o r → s ≡ r
+  one_reads frame o s r det one two =
+      let same = one-content o.host.inner.hardware o.host.inner.checksums frame two.0 one.0 two.1 one.1 in
+      one_receives one.0 o s r det one.2 (subst (λ (c : Option IncomingValue). Receives moves c o r) same two.2)
+
+  one_takes : (o s r : State D) (a b : Option Bool) → Det o.device → Takes moves o a s → Takes moves o b r → SameStep a s b r
+  one_takes o s r None None det one two =
+      (refl, one.1 ∙ ap (at_device o) (det.one_end s.device r.device Empty one.0 two.0) ∙ sym two.1)
+  one_takes o s r None (Some false) det one two = absurd (det.looks r.device s.device two.0 two.1 one.0)
+  one_takes o s r None (Some true) det one two = absurd (det.looks two.1 s.device two.0 two.2 one.0)
+  one_takes o s r (Some false) None det one two = absurd (det.looks s.device r.device one.0 one.1 two.0)
+  one_takes o s r (Some true) None det one two = absurd (det.looks one.1 r.device one.0 one.2 two.0)
+  one_takes o s r (Some false) (Some false) det one two =
+      let frames = det.one_frame r.device s.device two.0 one.0 two.1 one.1 in
+      let again : moves o.device (Took one.0) r.device = subst (λ (f : List ℕ). moves o.device (Took f) r.device) frames two.1 in
+      (refl, one.3 ∙ ap (at_device o) (det.one_end s.device r.device (Took one.0) one.1 again) ∙ sym two.3)
+  one_takes o s r (Some false) (Some true) det one two =
+      let frames = det.one_frame s.device two.1 one.0 two.0 one.1 two.2 in
+      absurd (both_read (is_read two.0) two.3 (ap is_read (sym frames) ∙ one.2))
+  one_takes o s r (Some true) (Some false) det one two =
+      let frames = det.one_frame one.1 r.device one.0 two.0 one.2 two.1 in
+      absurd (both_read (is_read one.0) one.3 (ap is_read frames ∙ two.2))
+  one_takes o s r (Some true) (Some true) det one two =
+      let frames : two.0 ≡ one.0 = det.one_frame two.1 one.1 two.0 one.0 two.2 one.2 in
+      let took : moves o.device (Took one.0) two.1 = subst (λ (f : List ℕ). moves o.device (Took f) two.1) frames two.2 in
+      let mids : two.1 ≡ one.1 = det.one_end two.1 one.1 (Took one.0) took one.2 in
+      let again : Reads moves one.0 (at_device o one.1) r =
+      subst (λ (f : List ℕ). Reads moves f (at_device o one.1) r) frames (subst (λ (d : D). Reads moves two.0 (at_device o d) r) mids two.4) in
+      (refl, one_reads one.0 (at_device o one.1) s r (steady.stays o.device one.1 (Took one.0) det one.2) one.4 again)
+
+  det_takes : (o s : State D) (a : Option Bool) → Takes moves o a s → Det o.device → Det s.device
+  det_takes o s None one det = steady.stays o.device s.device Empty det one.0
+  det_takes o s (Some false) one det = steady.stays o.device s.device (Took one.0) det one.1
+  det_takes o s (Some true) one det =
+      let receives = one.4.2 in
+      det_replied receives.0.reply (sender_with moves (at_device o one.1) receives.0) (sender_of moves s) receives.3 (steady.stays o.device one.1 (Took one.0) det one.2)
+
+  -- STEPS
+
+  none_or_some : (b : Bool) → None ≡ Some b → ⊥
+  none_or_some b is = cc
+
+  same_some : (a b : Bool) → Some a ≡ Some b → a ≡ b
+  same_some a b is = cc
+
+  module _ (step : State D → Option Bool → State D → Type 0)
+      (one_step : (o s r : State D) (a b : Option Bool) → Det o.device → step o a s → step o b r → SameStep a s b r)
+      (det_step : (o s : State D) (a : Option Bool) → step o a s → Det o.device → Det s.device) where
+    one_end : (n : ℕ) (o s r : State D) (c x y : Bool) → Det o.device → Repeats step n o c s x → Repeats step n o c r y → (s ≡ r) × (x ≡ y)
+    one_end zero o s r c x y det one two = (one.0 ∙ sym two.0, one.1 ∙ sym two.1)
+    one_end (suc n) o s r c x y det (inl a) (inl b) = ((one_step o s r None None det a.0 b.0).1, a.1 ∙ sym b.1)
+    one_end (suc n) o s r c x y det (inl a) (inr b) = absurd (none_or_some b.0 (one_step o s b.1 None (Some b.0) det a.0 b.2).0)
+    one_end (suc n) o s r c x y det (inr a) (inl b) = absurd (none_or_some a.0 (one_step o r a.1 None (Some a.0) det b.0 a.2).0)
+    one_end (suc n) o s r c x y det (inr a) (inr b) =
+        let same = one_step o b.1 a.1 (Some b.0) (Some a.0) det b.2 a.2 in
+        let again : Repeats step n a.1 (c || a.0) r y =
+        subst (λ (v : Bool). Repeats step n a.1 (c || v) r y) (same_some b.0 a.0 same.0)
+        (subst (λ (v : State D). Repeats step n v (c || b.0) r y) same.1 b.3) in
+        one_end n a.1 s r (c || a.0) x y (det_step o a.1 (Some a.0) a.2 det) a.3 again
+
+    det_end : (n : ℕ) (o s : State D) (c x : Bool) → Repeats step n o c s x → Det o.device → Det s.device
+    det_end zero o s c x one det = subst (λ (v : State D). Det v.device) (sym one.0) det
+    det_end (suc n) o s c x (inl a) det = det_step o s None a.0 det
+    det_end (suc n) o s c x (inr a) det = det_end n a.1 s (c || a.0) x a.3 (det_step o a.1 (Some a.0) a.2 det)
+
+  pub one_poll : (t : ℤ) (budget : ℕ) (o s r : State D) (x y : Bool) → Det o.device → Polls moves t budget o x s → Polls moves t budget o y r → (s ≡ r) × (x ≡ y)
+  one_poll t budget o s r x y det one two =
+      let enters : (p q v : State D) (a b : Option Bool) → Det p.device → IngressStep moves t p a q → IngressStep moves t p b v → SameStep a q b v =
+      λ p q v a b here here_one here_two. one_takes (begun t p) q v a b here here_one here_two in
+      let stays : (p q : State D) (a : Option Bool) → IngressStep moves t p a q → Det p.device → Det q.device =
+      λ p q a here_one here. det_takes (begun t p) q a here_one here in
+      let same = one_end (IngressStep moves t) enters stays budget (begun t o) two.0 one.0 false two.1 one.1 det two.2 one.2 in
+      let again : Repeats (EgressStep moves t) budget one.0 one.1 r y =
+      subst (λ (c : Bool). Repeats (EgressStep moves t) budget one.0 c r y) same.1
+      (subst (λ (v : State D). Repeats (EgressStep moves t) budget v two.1 r y) same.0 two.3) in
+      one_end (EgressStep moves t) (out_one t) (out_det t) budget one.0 s r one.1 x y
+      (det_end (IngressStep moves t) enters stays budget (begun t o) one.0 false one.1 one.2 det) one.3 again

@@ -1,0 +1,251 @@
+-- All that a poll asks of its device.
+use Rattle.std.proofs.Common.{◌≡◌, ℕ, ◌+◌, ◌*◌, ◌≤◌, length, arith, ℤ, Bool, true, false, int_lt, inl, inr, List, [], ◌∷◌, Option, Some, None, is_some, refl, sym, ap, ◌∙◌, subst}
+use Rattle.net_base.specs.ChecksumCapabilities.{ChecksumCapabilities}
+use Rattle.net_base.specs.Device.{Move}
+use Rattle.ip_wire.specs.HardwareAddress.{HardwareAddress}
+use Rattle.ip_wire.specs.IpRepr.{IpRepr}
+use Rattle.ip_wire.specs.IpRepr.TheVariants as Ip
+use Rattle.ip_wire.specs.declared.arp.repr.ArpRepr.{ArpRepr}
+use Rattle.socket_base.specs.Packet.{PacketValue}
+use Rattle.socket_base.specs.declared.offer.Offer as Answer
+use Rattle.socket_base.specs.declared.offer.Offer.TheVariants as Offer
+use Rattle.sockets.specs.Socket.{offered_by}
+use Rattle.sockets.specs.declared.socket.Socket.{Socket}
+use Rattle.interface_tables.specs.Inner.{InnerValue, at_moment, with_silence, with_next_ident}
+use Rattle.interface_egress.specs.declared.socket_set.Item.{Item}
+use Rattle.interface_egress.specs.declared.socket_set.SocketStorage.{SocketStorage}
+use Rattle.interface_egress.specs.Departure as Departures
+use Rattle.interface_egress.specs.Departure.{Departure, frame_from, len_from}
+use Rattle.interface_egress.specs.Emits.{Emits}
+use Rattle.interface_egress.specs.Fragments.{LeftValue, next_departure}
+use Rattle.interface_egress.specs.GoesOut.{GoesOut, PieceGoesOut, Departs, Asked, Went, WasCut, numbered, cut_of, after_header}
+use Rattle.interface_egress.specs.Plan.{plan_of}
+use Rattle.interface_egress.specs.declared.frame.Question.{Question}
+use Rattle.interface_egress.specs.declared.way_out.Sent.{Sent}
+use Rattle.interface_egress.specs.declared.way_out.Sent.TheVariants as Outcome
+use Rattle.interface_egress.proofs.Planned.{plan_cases, MayAsk}
+use Rattle.interface_ingress.specs.Arrives as Replies
+use Rattle.interface_ingress.specs.Arrives.{ReplyValue}
+use Rattle.interface_ingress.specs.Kept.{HasSameSettings}
+use Rattle.interface.specs.Host.{Sender}
+use Rattle.interface.specs.WayOut.{PieceLeaves}
+use Rattle.interface.specs.Turn.{Leaves, SendsBy, Answers, TurnsIf, ItemTurns, PlaceTurns, is_waiting, let_through}
+use Rattle.interface.specs.declared.turn.Turned.{Turned}
+use Rattle.interface.specs.State.{State}
+use Rattle.interface.specs.Ingress.{Takes, Replied}
+use Rattle.interface.specs.Polls.{Polls}
+use Rattle.interface.specs.Kept.{RunsAt, IsCounted}
+use Rattle.interface.specs.Touches.{Touch, Looks, Leave, Sends, Traced, Does, departed, Silences, second_after}
+use Rattle.interface.proofs.Runs.{receives_same}
+use Rattle.interface.proofs.Count.{polls_count}
+
+module _ {D : Type 0} (moves : D → Move → D → Type 0) (t : ℤ) (d0 : D) (i0 : InnerValue) (n : ℕ) where
+  -- so far, with `n` sends at most; and after one more at most
+  abbrev By : ℕ → D → InnerValue → Type 0
+  By m d i = Traced moves t m d0 i0 d i
+
+  abbrev So : D → InnerValue → Type 0
+  So d i = By n d i
+
+  abbrev To : D → InnerValue → Type 0
+  To d i = By (n + 1) d i
+
+  pub so_more : (k m : ℕ) (d : D) (i : InnerValue) → k ≤ m → By k d i → By m d i
+  so_more k m d i up so =
+      let few = so.sends in
+      record { touches = so.touches; path = so.path; sends = omega (arith, up, few); silence = so.silence; hardware = so.hardware; checksums = so.checksums }
+
+  to_where : (d d' : D) (i i' : InnerValue) → d' ≡ d → i' ≡ i → To d i → To d' i'
+  to_where d d' i i' device inner so = subst (λ (x : D). To x i') (sym device) (subst (To d) (sym inner) so)
+
+  so_where : (d d' : D) (i i' : InnerValue) → d' ≡ d → i' ≡ i → So d i → To d' i'
+  so_where d d' i i' device inner so = to_where d d' i i' device inner (so_more n (n + 1) d i (omega arith) so)
+
+  -- a host with the same hardware address, checksums and silence
+  pub so_host : (m : ℕ) (d : D) (i i' : InnerValue) → i'.hardware ≡ i.hardware → i'.checksums ≡ i.checksums → i'.neighbors.silent ≡ i.neighbors.silent → By m d i → By m d i'
+  so_host m d i i' hardware checksums silent so =
+      record {
+        touches = so.touches;
+        path = so.path;
+        sends = so.sends;
+        silence = subst (Silences t (departed so.touches) i0.neighbors.silent) (sym silent) so.silence;
+        hardware = hardware ∙ so.hardware;
+        checksums = checksums ∙ so.checksums;
+      }
+
+  so_looks : (found : Option (List ℕ)) (d d' : D) (i : InnerValue) → Does moves i0.hardware i0.checksums (Looks found) d d' → So d i → So d' i
+  so_looks found d d' i does so =
+      record { touches = Looks found ∷ so.touches; path = (d, so.path, does); sends = so.sends; silence = so.silence; hardware = so.hardware; checksums = so.checksums }
+
+  so_leave : (given : Bool) (d d' : D) (i : InnerValue) → Does moves i0.hardware i0.checksums (Leave given) d d' → So d i → So d' i
+  so_leave given d d' i does so =
+      record { touches = Leave given ∷ so.touches; path = (d, so.path, does); sends = so.sends; silence = so.silence; hardware = so.hardware; checksums = so.checksums }
+
+  -- what a host sends is what the one that began sends
+  as_begun : (x : Departure) (taken : Bool) (d d' : D) (i : InnerValue) → i.hardware ≡ i0.hardware → i.checksums ≡ i0.checksums → Departs moves d i x taken d' → Does moves i0.hardware i0.checksums (Sends x taken) d d'
+  as_begun x taken d d' i hardware checksums goes =
+      subst (λ (own : HardwareAddress). Emits moves d (frame_from own i0.checksums x) (len_from own x) taken d') hardware
+      (subst (λ (caps : ChecksumCapabilities). Emits moves d (frame_from i.hardware caps x) (len_from i.hardware x) taken d') checksums goes)
+
+  abbrev SilencesBy : List Departure → ℤ → Type 0
+  SilencesBy ds after = Silences t ds i0.neighbors.silent after
+
+  so_sends : (x : Departure) (taken : Bool) (d d' : D) (i i' : InnerValue) → Departs moves d i x taken d' → i'.hardware ≡ i.hardware → i'.checksums ≡ i.checksums
+      → ((ts : List Touch) → SilencesBy (departed ts) i.neighbors.silent → SilencesBy (departed (Sends x taken ∷ ts)) i'.neighbors.silent) → So d i → To d' i'
+  so_sends x taken d d' i i' goes hardware checksums silence so =
+      record {
+        touches = Sends x taken ∷ so.touches;
+        path = (d, so.path, as_begun x taken d d' i so.hardware so.checksums goes);
+        sends = let few = so.sends in omega (arith, few);
+        silence = silence so.touches so.silence;
+        hardware = hardware ∙ so.hardware;
+        checksums = checksums ∙ so.checksums;
+      }
+
+  -- A PACKET'S WAY OUT
+
+  so_refused : (x : Departure) (d d' : D) (i i' : InnerValue) → Departs moves d i x false d' → i' ≡ i → So d i → To d' i'
+  so_refused x d d' i i' goes is so =
+      to_where d' d' i i' refl is (so_sends x false d d' i i goes refl refl (λ ts silence. silence) so)
+
+  so_told : (packet : ArpRepr) (taken : Bool) (d d' : D) (i : InnerValue) → Departs moves d i (Departures.Tells packet) taken d' → So d i → To d' i
+  so_told packet true d d' i goes so = so_sends (Departures.Tells packet) true d d' i i goes refl refl (λ ts silence. silence) so
+  so_told packet false d d' i goes so = so_refused (Departures.Tells packet) d d' i i goes refl so
+
+  so_piece : (l : LeftValue) (gone : Bool) (d d' : D) (i : InnerValue) (l' : Option LeftValue) → PieceGoesOut moves d i l gone d' l' → So d i → To d' i
+  so_piece l true d d' i l' goes so = so_sends (next_departure i.mtu l) true d d' i i goes.0 refl refl (λ ts silence. silence) so
+  so_piece l false d d' i l' goes so = so_refused (next_departure i.mtu l) d d' i i goes.0 refl so
+
+  so_asked : (q : Question) (sent : Sent) (d d' : D) (i i' : InnerValue) → i.moment ≡ t → MayAsk i → Asked moves d i (Departures.Asks q) sent d' i' → So d i → To d' i'
+  so_asked q Outcome.Waits d d' i i' now may goes so =
+      to_where d' d' (with_silence i) i' refl goes.1
+      (so_sends (Departures.Asks q) true d d' i (with_silence i) goes.0 refl refl
+      (λ ts silence. (i.neighbors.silent, silence, subst (λ (m : ℤ). int_lt m i.neighbors.silent ≡ false) now may, ap second_after now)) so)
+  so_asked q Outcome.Refused d d' i i' now may goes so = so_refused (Departures.Asks q) d d' i i' goes.0 goes.1 so
+  so_asked q Outcome.Gone d d' i i' now may goes so = absurd goes
+  so_asked q Outcome.Dropped d d' i i' now may goes so = absurd goes
+  so_asked q Outcome.Busy d d' i i' now may goes so = absurd goes
+
+  so_numbered : (h : IpRepr) (d : D) (i : InnerValue) → To d i → To d (after_header h i)
+  so_numbered (Ip.Ipv4 v) d i so = so_host (n + 1) d i (with_next_ident i) refl refl refl so
+  so_numbered (Ip.Ipv6 v) d i so = so
+
+  so_went : (to : HardwareAddress) (p : PacketValue) (sent : Sent) (d d' : D) (i i' : InnerValue) → Went moves d i p.header (Departures.Whole to (numbered i p)) sent d' i' → So d i → To d' i'
+  so_went to p Outcome.Gone d d' i i' goes so =
+      to_where d' d' (after_header p.header i) i' refl goes.1
+      (so_numbered p.header d' i (so_sends (Departures.Whole to (numbered i p)) true d d' i i goes.0 refl refl (λ ts silence. silence) so))
+  so_went to p Outcome.Refused d d' i i' goes so = so_refused (Departures.Whole to (numbered i p)) d d' i i' goes.0 goes.1 so
+  so_went to p Outcome.Waits d d' i i' goes so = absurd goes
+  so_went to p Outcome.Dropped d d' i i' goes so = absurd goes
+  so_went to p Outcome.Busy d d' i i' goes so = absurd goes
+
+  so_cut : (c : LeftValue) (sent : Sent) (d d' : D) (i i' : InnerValue) (l l' : Option LeftValue) → WasCut moves d i l c sent d' i' l' → So d i → To d' i'
+  so_cut c Outcome.Gone d d' i i' l l' goes so =
+      to_where d' d' (with_next_ident i) i' refl goes.1
+      (so_host (n + 1) d' i (with_next_ident i) refl refl refl (so_sends (next_departure i.mtu c) true d d' i i goes.0 refl refl (λ ts silence. silence) so))
+  so_cut c Outcome.Refused d d' i i' l l' goes so = so_refused (next_departure i.mtu c) d d' i i' goes.0 goes.1 so
+  so_cut c Outcome.Waits d d' i i' l l' goes so = absurd goes
+  so_cut c Outcome.Dropped d d' i i' l l' goes so = absurd goes
+  so_cut c Outcome.Busy d d' i i' l l' goes so = absurd goes
+
+  so_out : (d d' : D) (i i' : InnerValue) (l l' : Option LeftValue) (p : PacketValue) (busy : Bool) (sent : Sent) → i.moment ≡ t → GoesOut moves d i l p (plan_of i busy p.header) sent d' i' l' → So d i → To d' i'
+  so_out d d' i i' l l' p busy sent now =
+      plan_cases i busy p.header (λ plan. GoesOut moves d i l p plan sent d' i' l' → So d i → To d' i')
+      (λ goes so. so_where d d' i i' goes.1.0 goes.1.1 so)
+      (λ goes so. so_where d d' i i' goes.1.0 goes.1.1 so)
+      (λ goes so. so_where d d' i i' goes.1.0 goes.1.1 so)
+      (λ goes so. so_where d d' i i' goes.1.0 goes.1.1 so)
+      (λ q may from goes so. so_asked q sent d d' i i' now may goes.0 so)
+      (λ to short goes so. so_went to p sent d d' i i' goes.0 so)
+      (λ to v header long short idle goes so. so_cut (cut_of i to v p) sent d d' i i' l l' goes so)
+
+  -- ARRIVALS
+
+  so_replied : (reply : Option ReplyValue) (x x' : Sender D) → x.inner.moment ≡ t → Replied moves reply x x' → So x.device x.inner → To x'.device x'.inner
+  so_replied None x x' now is so = so_where x.device x'.device x.inner x'.inner (ap (λ (y : Sender D). y.device) is) (ap (λ (y : Sender D). y.inner) is) so
+  so_replied (Some (Replies.Tells packet)) x x' now tells so =
+      to_where x'.device x'.device x.inner x'.inner refl tells.2 (so_told packet tells.0 x.device x'.device x.inner tells.1 so)
+  so_replied (Some (Replies.Answers p)) x x' now answers so =
+      so_out x.device x'.device x.inner x'.inner x.left x'.left p (is_some x.left) answers.0 now answers.1 so
+
+  abbrev SoAt : State D → Type 0
+  SoAt s = So s.device s.host.inner
+
+  abbrev ToAt : State D → Type 0
+  ToAt s = To s.device s.host.inner
+
+  so_takes : (s s' : State D) (answer : Option Bool) → RunsAt t s.host.inner → SoAt s → Takes moves s answer s' → ToAt s'
+  so_takes s s' None runs so takes =
+      so_where s'.device s'.device s.host.inner s'.host.inner refl (ap (λ (x : State D). x.host.inner) takes.1) (so_looks None s.device s'.device s.host.inner takes.0 so)
+  so_takes s s' (Some false) runs so takes =
+      so_where s'.device s'.device s.host.inner s'.host.inner refl (ap (λ (x : State D). x.host.inner) takes.3) (so_looks (Some takes.0) s.device s'.device s.host.inner takes.1 so)
+  so_takes s s' (Some true) runs so takes =
+      let reads = takes.4 in
+      let i : InnerValue = s.host.inner in
+      let j : InnerValue = reads.2.0.inner in
+      let same : HasSameSettings i j = (receives_same moves reads.0 (record s { device = takes.1 }) s' reads.2).0 in
+      let took : So takes.1 i = so_looks (Some takes.0) s.device takes.1 i takes.2 so in
+      so_replied reads.2.0.reply (record { device = takes.1; inner = j; left = s.host.left }) (record { device = s'.device; inner = s'.host.inner; left = s'.host.left })
+      (same.moment ∙ runs.0) reads.2.3 (so_host n takes.1 i j same.hardware same.checksums same.silent took)
+
+  -- THE WAY OUT
+
+  so_piece_leaves : (l : LeftValue) (x x' : Sender D) (gone : Bool) → PieceLeaves moves l x gone x' → x'.inner ≡ x.inner → So x.device x.inner → To x'.device x'.inner
+  so_piece_leaves l x x' gone (inl stays) is so = so_where x'.device x'.device x.inner x'.inner refl is (so_leave false x.device x'.device x.inner stays.0 so)
+  so_piece_leaves l x x' gone (inr goes) is so =
+      to_where x'.device x'.device x.inner x'.inner refl is (so_piece l gone goes.0 x'.device x.inner x'.left goes.2 (so_leave true x.device goes.0 x.inner goes.1 so))
+
+  module _ (x x' : Sender D) (now : x.inner.moment ≡ t) (so : So x.device x.inner) where
+    abbrev Next : Type 0
+    Next = To x'.device x'.inner
+
+    so_same : x' ≡ x → Next
+    so_same is = so_where x.device x'.device x.inner x'.inner (ap (λ (y : Sender D). y.device) is) (ap (λ (y : Sender D). y.inner) is) so
+
+    so_leaves : (p : PacketValue) (sent : Sent) → Leaves moves x p sent x' → Next
+    so_leaves p sent (inl denied) = so_where x'.device x'.device x.inner x'.inner refl denied.1 (so_leave false x.device x'.device x.inner denied.0 so)
+    so_leaves p sent (inr goes) =
+        so_out goes.0 x'.device x.inner x'.inner x.left x'.left p (is_some x.left) sent now goes.2 (so_leave true x.device goes.0 x.inner goes.1 so)
+
+    so_sent : (o : Option PacketValue) (item item' : Item Socket) (changed : Bool) (turned : Turned) → SendsBy moves o x item changed turned x' item' → Next
+    so_sent None item item' changed turned sends = absurd sends
+    so_sent (Some p) item item' changed turned sends = so_leaves p sends.0 sends.1
+
+    so_answers : (answer : Answer.Offer) (item item' : Item Socket) (turned : Turned) → Answers moves answer x item turned x' item' → Next
+    so_answers (Offer.Silent changed) item item' turned answers = so_same answers.1
+    so_answers (Offer.Packet changed) item item' turned answers = so_sent (offered_by item.socket) item item' changed turned answers
+
+    so_turns : (waits : Bool) (item item' : Item Socket) (turned : Turned) → TurnsIf moves waits x item turned x' item' → Next
+    so_turns true item item' turned turns = so_same turns.1
+    so_turns false item item' turned turns = so_answers turns.0 (record item { socket = turns.1 }) item' turned turns.3
+
+    so_item : (o o' : Option (Item Socket)) (turned : Turned) → ItemTurns moves o x turned x' o' → Next
+    so_item None None turned turns = so_same turns.1
+    so_item (Some item) (Some item') turned turns = so_turns (is_waiting x.inner item.meta) (let_through x.inner item) item' turned turns
+    so_item None (Some item') turned turns = absurd turns
+    so_item (Some item) None turned turns = absurd turns
+
+    so_place : (p p' : SocketStorage Socket) (turned : Turned) → PlaceTurns moves x p turned x' p' → Next
+    so_place p p' turned turns = so_item p.inner p'.inner turned turns
+
+module _ {D : Type 0} (moves : D → Move → D → Type 0) (t : ℤ) (d0 : D) (i0 : InnerValue) where
+  abbrev Trace : ℕ → State D → Type 0
+  Trace n s = Traced moves t n d0 i0 s.device s.host.inner
+
+  traced : IsCounted moves t Trace
+  traced = record {
+    more = λ n m s up so. so_more moves t d0 i0 n n m s.device s.host.inner up so;
+    maintenance = λ n s so. so_host moves t d0 i0 n n s.device s.host.inner (at_moment t s.host.inner) refl refl refl so;
+    arrivals = λ n s s' answer runs so takes. so_takes moves t d0 i0 n s s' answer runs so takes;
+    pieces = λ n h ps x x' l gone runs is so leaves same. so_piece_leaves moves t d0 i0 n l x x' gone leaves same so;
+    turns = λ n h before after p p' x x' turned runs so turns. so_place moves t d0 i0 n x x' runs.0 so p p' turned turns;
+  }
+
+pub polls_traced : {D : Type 0} (moves : D → Move → D → Type 0) (t : ℤ) (budget : ℕ) (s s' : State D) (changed : Bool) → Polls moves t budget s changed s'
+    → Traced moves t (budget * (length s.places + 2)) s.device s.host.inner s'.device s'.host.inner
+polls_traced {D} moves t budget s s' changed polls =
+    let start : Traced moves t 0 s.device s.host.inner s.device s.host.inner =
+    record { touches = []; path = refl; sends = omega arith; silence = refl; hardware = refl; checksums = refl } in
+    let most : ℕ = budget * (length s.places + 2) in
+    so_more moves t s.device s.host.inner 0 (0 + most) most s'.device s'.host.inner (omega arith)
+    (polls_count moves t (Trace moves t s.device s.host.inner) (traced moves t s.device s.host.inner) budget 0 s s' changed start polls).0

@@ -1,0 +1,49 @@
+//! What follows from the definitions, for whoever reasons about runs of hosts.
+ghost use Rattle.std.specs.Prelude.{◌≡◌, ℕ, ◌+◌, ◌*◌, ℤ, Bool, length};
+ghost use Rattle.interface_egress.specs.Departing.{HasSettingsOf};
+ghost use Rattle.interface.specs.State.{State};
+ghost use Rattle.interface.specs.Polls.{Polls};
+ghost use Rattle.interface_egress.specs.Determined.{IsDetermined};
+ghost use Rattle.interface.specs.Idents.{TakesIdents};
+ghost use Rattle.interface.specs.Priced.{sockets_in};
+ghost use Rattle.interface.specs.Steady.{IsSteady};
+ghost use Rattle.interface.specs.Touches.{Traced};
+
+use net_base::Device;
+use sockets::laws::one_offer;
+
+/// Law: a poll changes no setting of its host: hardware address, MTU, checksums, addresses and routes.
+pub fn polls_keep_settings<D: Device>()
+    ensures { (t : ℤ) (budget : ℕ) (s s' : State D) (changed : Bool)
+        → Polls D.moves t budget s changed s'
+        → HasSettingsOf s.host.inner s'.host.inner }
+{}
+
+/// Law: all that a poll asks of its device is a list of looks, leaves to send, and frames that are departures of the host: of these
+/// at most so many as there are places, and two more, for each step of its budget. A request among those that the device took is
+/// no earlier than the end of the silence, and begins one of a second; nothing else in a poll begins or ends one.
+pub fn asks_a_second_apart<D: Device>()
+    ensures { (t : ℤ) (budget : ℕ) (s s' : State D) (changed : Bool)
+        → Polls D.moves t budget s changed s'
+        → Traced D.moves t (budget * (length s.places + 2)) s.device s.host.inner s'.device s'.host.inner }
+{}
+
+/// Law: a poll takes at most one identification for each frame that it may take and each turn of a socket: one for each step of its
+/// budget, and one for each socket. A later piece takes none.
+pub fn identifications_of_a_poll<D: Device>()
+    ensures { (t : ℤ) (budget : ℕ) (s s' : State D) (changed : Bool)
+        → Polls D.moves t budget s changed s'
+        → TakesIdents (budget * (1 + sockets_in s.places)) s.host.inner s'.host.inner }
+{}
+
+/// Law: at a device that stays determined a poll has one end: device, host, sockets, and whether anything changed.
+pub fn one_outcome<D: Device>()
+    ensures { (longest : ℕ) (t : ℤ) (budget : ℕ) (s left right : State D) (changed other : Bool)
+        → IsSteady D.moves longest
+        → IsDetermined D.moves longest s.device
+        → Polls D.moves t budget s changed left
+        → Polls D.moves t budget s other right
+        → (left ≡ right) × (changed ≡ other) }
+{
+    one_offer();
+}
