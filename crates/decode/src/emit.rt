@@ -1,5 +1,5 @@
 //! Packets written from their fields: links, IP and UDP.
-ghost use Rattle.std.specs.Prelude.{◌≡◌};
+ghost use Rattle.std.specs.Prelude.{◌≤◌, length, IfOk};
 
 use crate::emit_control::{emit_icmpv4, emit_icmpv6};
 use crate::emit_tcp::emit_tcp;
@@ -205,7 +205,9 @@ fn emit_udp<'a>(
 }
 
 /// The bytes that a packet carries, which are a line's last word.
-pub(crate) fn last_bytes<'a>(alloc: Global, words: &mut Words<'a>) -> Result<Vec<u8>, Fault<'a>> {
+pub(crate) fn last_bytes<'a>(alloc: Global, words: &mut Words<'a>) -> Result<Vec<u8>, Fault<'a>>
+    ensures { IfOk result (λ bytes. length bytes.items ≤ 0xffff) }
+{
     let bytes = words.bytes(alloc, "pairs of hex digits")?;
     words.end()?;
     if bytes.len() > MOST {

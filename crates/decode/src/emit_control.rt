@@ -1,5 +1,5 @@
 //! Control messages written from their fields.
-ghost use Rattle.std.specs.Prelude.{◌≡◌, ◌<◌, ◌≤◌, ◌^◌, [], length, IfOk};
+ghost use Rattle.std.specs.Prelude.{◌≤◌, length, IfOk};
 ghost use Rattle.ip_wire.specs.Ipv4 as Ipv4;
 ghost use Rattle.ip_wire.specs.Ipv6 as Ipv6;
 ghost use Rattle.control_wire.specs.Icmpv4 as Icmpv4;
@@ -24,27 +24,33 @@ pub(crate) fn emit_icmpv4<'a>(
     is_summed: bool,
 ) -> Result<Vec<u8>, Fault<'a>> {
     let kind = words.word("message")?;
-    let header = match kind {
-        "request" => Icmpv4Header::EchoRequest {
-            ident: words.short("id")?,
-            seq_no: words.short("seq")?,
-        },
-        "reply" => Icmpv4Header::EchoReply {
-            ident: words.short("id")?,
-            seq_no: words.short("seq")?,
-        },
-        "unreachable" => Icmpv4Header::DstUnreachable {
-            reason: unreachable4(words)?,
-            header: quoted4(words)?,
-        },
-        "exceeded" => Icmpv4Header::TimeExceeded {
-            reason: exceeded4(words)?,
-            header: quoted4(words)?,
-        },
-        _ => return Err(Fault::No("message", kind)),
-    };
+    let header = header4(kind, words)?;
     let payload = last_bytes(alloc, words)?;
     write4(alloc, &header, payload.as_slice(), is_summed)
+}
+
+fn header4<'a>(kind: &'a str, words: &mut Words<'a>) -> Result<Icmpv4Header, Fault<'a>>
+    ensures { IfOk result (λ header. Icmpv4.Fits header) }
+{
+    match kind {
+        "request" => Ok(Icmpv4Header::EchoRequest {
+            ident: words.short("id")?,
+            seq_no: words.short("seq")?,
+        }),
+        "reply" => Ok(Icmpv4Header::EchoReply {
+            ident: words.short("id")?,
+            seq_no: words.short("seq")?,
+        }),
+        "unreachable" => Ok(Icmpv4Header::DstUnreachable {
+            reason: unreachable4(words)?,
+            header: quoted4(words)?,
+        }),
+        "exceeded" => Ok(Icmpv4Header::TimeExceeded {
+            reason: exceeded4(words)?,
+            header: quoted4(words)?,
+        }),
+        _ => Err(Fault::No("message", kind)),
+    }
 }
 
 fn write4<'a>(
@@ -54,7 +60,7 @@ fn write4<'a>(
     is_summed: bool,
 ) -> Result<Vec<u8>, Fault<'a>>
     requires fits { Icmpv4.Fits header.now }
-    requires small { length payload.now ≤ MOST }
+    requires small { length payload.now ≤ 0xffff }
 {
     let mut bytes = room(alloc, header.header_len() + payload.len())?;
     let mut packet = Icmpv4PacketMut::new_unchecked(bytes.as_mut_slice());
@@ -167,7 +173,7 @@ fn write6<'a>(
 ) -> Result<Vec<u8>, Fault<'a>>
     requires fits { Fits (value_of header.now) }
     requires carried { CanCarry (value_of header.now) payload.now }
-    requires small { length payload.now ≤ MOST }
+    requires small { length payload.now ≤ 0xffff }
 {
     let header_len = header.header_len();
     if header_len > MOST {

@@ -2,7 +2,7 @@
 use crate::ipv6;
 use crate::samples::{HEADER, LEFT, RIGHT, SAID, behind, checksums, first, is_same};
 use ip_wire::{
-    IPV6_LINK_LOCAL_ALL_NODES, IpAddress, IpProtocol, IpRepr, IpVersion, udp_field,
+    IPV6_LINK_LOCAL_ALL_NODES, IpAddress, IpProtocol, IpRepr, IpVersion,
 };
 
 /// Version, addresses, protocol, hops and the header's length.
@@ -46,10 +46,4 @@ fn ipv6_header_has_parts(rt: HostRuntime) {
     let udp = IpProtocol::Udp;
     let wanted = (IpVersion::Ipv6, source, destination, udp, 64, 40);
     assert!(rt; parts(&IpRepr::new(source, destination, udp, 4, 64)) == wanted);
-}
-
-// The laws hold the places of fields; the range of a payload is a call.
-#[test]
-fn payload_has_its_place(rt: HostRuntime) {
-    assert!(rt; udp_field::PAYLOAD(12) == (8..12));
 }
