@@ -22,6 +22,10 @@ pub(crate) fn run<R: Read + Drop, W: Write>(
     for number in 1..u64::MAX {
         line.clear();
         if reader.read_until(b'\n', &mut line)? == 0 {
+            if number == 1 {
+                writer.write_all(b"line 1: bad medium: no word for ip or ethernet\n")?;
+                all_taken = false;
+            }
             break;
         }
         let mut text = String::new(alloc);
