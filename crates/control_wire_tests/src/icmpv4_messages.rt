@@ -42,7 +42,10 @@ fn a_checksum_is_left_to_the_device(rt: HostRuntime) {
     wanted[2..4].copy_from_slice(&[0x37, 0xe8]);
     let mut bytes = [0xa5; 40];
     let message = Icmpv4Repr::new(&header, &PORT_UNREACHABLE[28..]);
-    message.emit(&mut Icmpv4PacketMut::new_unchecked(&mut bytes), &checksum_caps);
+    message.emit(
+        &mut Icmpv4PacketMut::new_unchecked(&mut bytes),
+        &checksum_caps,
+    );
     assert!(rt; bytes == wanted && message.buffer_len() == 40);
 }
 

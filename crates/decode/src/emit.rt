@@ -104,7 +104,10 @@ fn emit_ipv4<'a>(
     };
     let mut bytes = room(alloc, 20 + payload_len)?;
     let (front, rest) = bytes.as_mut_slice().split_at_mut(20);
-    header.emit(&mut Ipv4PacketMut::new_unchecked(front), &checksums(is_summed));
+    header.emit(
+        &mut Ipv4PacketMut::new_unchecked(front),
+        &checksums(is_summed),
+    );
     rest.copy_from_slice(payload.as_slice());
     Ok(bytes)
 }

@@ -182,7 +182,13 @@ fn write6<'a>(
     let mut bytes = room(alloc, header_len + payload.len())?;
     let mut packet = Icmpv6PacketMut::new_unchecked(bytes.as_mut_slice());
     let (source, destination) = ends;
-    header.emit(source, destination, &mut packet, payload, &checksums(is_summed));
+    header.emit(
+        source,
+        destination,
+        &mut packet,
+        payload,
+        &checksums(is_summed),
+    );
     Ok(bytes)
 }
 
@@ -225,11 +231,7 @@ fn quoted6<'a>(words: &mut Words<'a>) -> Result<Ipv6Repr, Fault<'a>>
     })
 }
 
-fn neighbor<'a>(
-    alloc: Global,
-    kind: &str,
-    words: &mut Words<'a>,
-) -> Result<NdiscRepr, Fault<'a>> {
+fn neighbor<'a>(alloc: Global, kind: &str, words: &mut Words<'a>) -> Result<NdiscRepr, Fault<'a>> {
     if kind == "solicit" {
         let target_addr = words.ipv6("target")?;
         let lladdr = link(alloc, words)?;

@@ -122,7 +122,11 @@ fn with_option(options: TcpOptions, ranges: &mut usize, part: &str) -> Option<Tc
 
 // One range more, or a place for one that is left empty.
 fn with_range(options: TcpOptions, ranges: &mut usize, value: &str) -> Option<TcpOptions> {
-    let range = if value == "-" { None } else { Some(pair(value)?) };
+    let range = if value == "-" {
+        None
+    } else {
+        Some(pair(value)?)
+    };
     let mut sack_ranges = options.sack_ranges;
     *sack_ranges.get_mut(*ranges)? = range;
     *ranges = ranges.saturating_add(1);

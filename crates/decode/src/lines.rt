@@ -29,7 +29,13 @@ pub(crate) fn run<R: Read + Drop, W: Write>(
             break;
         }
         let mut text = String::new(alloc);
-        let taken = take_line(alloc, number, &mut medium, without_end(line.as_slice()), &mut text)?;
+        let taken = take_line(
+            alloc,
+            number,
+            &mut medium,
+            without_end(line.as_slice()),
+            &mut text,
+        )?;
         writer.write_all(text.as_bytes())?;
         if !taken {
             all_taken = false;

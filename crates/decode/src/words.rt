@@ -145,7 +145,11 @@ impl<'a> Words<'a> {
     }
 
     /// Bytes in hex, `-` for none.
-    pub(crate) fn bytes(&mut self, alloc: Global, what: &'static str) -> Result<Vec<u8>, Fault<'a>> {
+    pub(crate) fn bytes(
+        &mut self,
+        alloc: Global,
+        what: &'static str,
+    ) -> Result<Vec<u8>, Fault<'a>> {
         let word = self.word(what)?;
         bytes_of(alloc, what, word)
     }

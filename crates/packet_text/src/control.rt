@@ -3,9 +3,7 @@ ghost use Rattle.std.specs.Prelude.{◌≡◌, Some};
 ghost use Rattle.packet_text.specs.Headers.{icmpv4_text, icmpv6_text, ndisc_text, link_text, flags_text};
 
 use crate::headers::{Ipv4Text, Ipv6Text, set};
-use crate::names::{
-    Exceeded4Text, Exceeded6Text, ProblemText, Unreachable4Text, Unreachable6Text,
-};
+use crate::names::{Exceeded4Text, Exceeded6Text, ProblemText, Unreachable4Text, Unreachable6Text};
 use control_wire::{Icmpv4Header, Icmpv6Header, NdiscNeighborFlags, NdiscRepr};
 use ip_wire::RawHardwareAddress;
 use std::fmt;

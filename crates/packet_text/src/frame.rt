@@ -55,7 +55,11 @@ fn put_arp(out: &mut Out<'_>, bytes: &[u8]) -> Result<(), AllocError> {
             header.buffer_len()
         }
         Err(_) => {
-            write!(out.text, "ARP unknown, {}", OperationText(packet.operation()))?;
+            write!(
+                out.text,
+                "ARP unknown, {}",
+                OperationText(packet.operation())
+            )?;
             bytes.len()
         }
     };

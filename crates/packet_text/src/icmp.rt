@@ -56,7 +56,12 @@ pub(crate) fn put_icmpv6(
     let payload = match &found {
         Some((is_good, message)) => {
             let header = message.header();
-            write!(out.text, "ICMPv6 {}{}", if_bad(*is_good), Icmpv6Text(header))?;
+            write!(
+                out.text,
+                "ICMPv6 {}{}",
+                if_bad(*is_good),
+                Icmpv6Text(header)
+            )?;
             message.bytes()
         }
         None => {

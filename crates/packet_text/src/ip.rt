@@ -52,7 +52,11 @@ pub(crate) fn put_ipv6_alone(out: &mut Out<'_>, bytes: &[u8]) -> Result<(), Allo
         Ok(header) => put_ipv6(out, bytes, &header),
         Err(_) if packet.check_len().is_err() => put_cut_line(out, "IPv6", bytes),
         Err(_) => {
-            writeln!(out.text, "IPv6 unknown, version {}", bytes.first().copied().unwrap_or(0) / 16)?;
+            writeln!(
+                out.text,
+                "IPv6 unknown, version {}",
+                bytes.first().copied().unwrap_or(0) / 16
+            )?;
             out.put_bytes("payload", bytes)
         }
     }

@@ -2,7 +2,10 @@
 ghost use Rattle.std.specs.Prelude.{◌≡◌, Some};
 ghost use Rattle.packet_text.specs.Names.{protocol_name, protocol_text, operation_name, operation_text, unreachable4_name, unreachable4_text, exceeded4_name, exceeded4_text, unreachable6_name, unreachable6_text, exceeded6_name, exceeded6_text, problem_name, problem_text, ether_text};
 
-use control_wire::{Icmpv4DstUnreachable, Icmpv4TimeExceeded, Icmpv6DstUnreachable, Icmpv6ParamProblem, Icmpv6TimeExceeded};
+use control_wire::{
+    Icmpv4DstUnreachable, Icmpv4TimeExceeded, Icmpv6DstUnreachable, Icmpv6ParamProblem,
+    Icmpv6TimeExceeded,
+};
 use ip_wire::{ArpOperation, EthernetProtocol, IpProtocol};
 use std::fmt;
 

@@ -136,7 +136,13 @@ impl fmt::Display for RangesText {
 
     fn fmt<W: fmt::Write>(&self, f: &mut fmt::Formatter<W>) -> fmt::Result {
         let [first, second, third] = self.0;
-        write!(f, "{}{}{}", RangeText(first), RangeText(second), RangeText(third))
+        write!(
+            f,
+            "{}{}{}",
+            RangeText(first),
+            RangeText(second),
+            RangeText(third)
+        )
     }
 }
 
@@ -168,7 +174,11 @@ impl<'a> fmt::Display for TcpOptionText<'a> {
             TcpOption::SackPermitted => write!(f, "sackOK"),
             TcpOption::SackRange(ranges) => write!(f, "sacks{}", RangesText(ranges)),
             TcpOption::TimeStamp { tsval, tsecr } => write!(f, "TS val {tsval} ecr {tsecr}"),
-            TcpOption::Unknown { kind, bytes } => write!(f, "kind {kind} with {} bytes", bytes.len()),
+            TcpOption::Unknown { kind, bytes } => write!(
+                f,
+                "kind {kind} with {} bytes",
+                bytes.len()
+            ),
         }
     }
 }
