@@ -3,7 +3,7 @@ use ip_wire::{TcpPacketMut, TcpRepr};
 use net_base::ChecksumCapabilities;
 use socket_base::{Offer, PollAt};
 use std::alloc::{AllocError, Global};
-use tcp_pairs::{PairAnswer, PairRefused, SentSegment, Side, TcpFault};
+use tcp_pair::{PairAnswer, PairRefused, SentSegment, Side, TcpFault};
 use tcp_socket::Socket;
 
 /// The line of an answer: of an offer what was offered.

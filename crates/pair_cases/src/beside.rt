@@ -1,14 +1,14 @@
 //! A socket beside one of a pair, which is told the same: it says of an offer what the pair's answer doesn't, whether there was a packet
 //! and whether it changed anything.
 ghost use Rattle.std.specs.Prelude.{IfSome};
-ghost use Rattle.tcp.specs.Promises.{IsFresh};
+ghost use Rattle.tcp_tie.specs.Promises.{IsFresh};
 
 use crate::lines::{Todo, at_port};
 use net_base::{Instant, ManagedSlice, RingBuffer};
 use socket_base::{Context, Offer, PollAt};
 use std::alloc::Global;
 use ip_wire::TcpRepr;
-use tcp_pairs::{PairContext, SentSegment, Side, TcpSetting};
+use tcp_pair::{PairContext, SentSegment, Side, TcpSetting};
 use tcp_socket::{Socket, SocketBuffer};
 
 /// A closed socket with such buffers, if there is memory for them and they aren't too long.

@@ -3,7 +3,7 @@ use crate::words::{Bad, Words};
 use ip_wire::{IpEndpoint, IpListenEndpoint, TcpTimestampGenerator};
 use net_base::Instant;
 use std::alloc::{AllocError, Global};
-use tcp_pairs::{Bytes, PairEvent, Side, TcpSetting};
+use tcp_pair::{Bytes, PairEvent, Side, TcpSetting};
 use tcp_socket::CongestionControl;
 
 /// How many bytes the receive and the send buffers of A and B hold.

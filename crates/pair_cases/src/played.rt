@@ -4,7 +4,7 @@ use crate::beside::{Beside, socket};
 use crate::lines::{Sizes, Todo};
 use socket_base::Offer;
 use std::alloc::{AllocError, Global};
-use tcp_pairs::{Pair, PairEvent, PairRefused, Side};
+use tcp_pair::{Pair, PairEvent, PairRefused, Side};
 
 /// The pair, and a socket beside each of its own.
 #[derive(Drop)]

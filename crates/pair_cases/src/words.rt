@@ -4,7 +4,7 @@ ghost use Rattle.std.specs.Prelude.{◌≡◌};
 use ip_wire::IpEndpoint;
 use net_base::{Duration, Instant};
 use std::fmt;
-use tcp_pairs::Side;
+use tcp_pair::Side;
 
 /// Why a line isn't taken: what it lacks, and the word that stands there.
 #[derive(Clone, Copy, Debug)]

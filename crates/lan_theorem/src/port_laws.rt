@@ -1,0 +1,16 @@
+//! A simulated link's port as the device of an interface: its moves are determined.
+ghost use Rattle.std.specs.Prelude.{◌≡◌, ◌-◌, ℕ, ◌<◌, ◌≤◌, List, length};
+ghost use Rattle.net_base.specs.Device.{Emitted, Denied};
+ghost use Rattle.lan_port.specs.Port.{PortValue, PortMove};
+ghost use Rattle.interface_egress.specs.Determined.{IsDetermined};
+
+/// Law: each move of a port is determined while a buffer lies ready that fits the longest frame. Such a port refuses no frame, and
+/// a frame that it takes costs one of its ready buffers at most.
+pub fn ports_are_determined()
+    ensures determined { (port : PortValue) (longest : ℕ) → 0 < port.ready → longest ≤ port.size
+        → IsDetermined PortMove longest port }
+    ensures takes { (port new : PortValue) (len : ℕ) → 0 < port.ready → len ≤ port.size
+        → PortMove port (Denied len) new → ⊥ }
+    ensures ready { (port new : PortValue) (frame : List ℕ) → PortMove port (Emitted frame) new
+        → (port.ready - 1 ≤ new.ready) × (new.size ≡ port.size) }
+{}
