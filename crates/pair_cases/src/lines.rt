@@ -57,7 +57,7 @@ impl Todo {
 }
 
 /// The sizes of a line `sockets A RX TX B RX TX`.
-pub fn sizes(line: &str) -> Result<Sizes, Bad<'_>> {
+pub fn read_sizes(line: &str) -> Result<Sizes, Bad<'_>> {
     let mut words = Words::new(line);
     words.exactly("sockets")?;
     words.exactly("A")?;
@@ -69,7 +69,7 @@ pub fn sizes(line: &str) -> Result<Sizes, Bad<'_>> {
 }
 
 /// What a line behind the first says: nothing where an earlier run wrote it.
-pub fn todo(alloc: Global, line: &str) -> Result<Option<Todo>, Bad<'_>> {
+pub fn read_line(alloc: Global, line: &str) -> Result<Option<Todo>, Bad<'_>> {
     let mut words = Words::new(line);
     match words.word() {
         ">" => {

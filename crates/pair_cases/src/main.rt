@@ -7,7 +7,7 @@ mod lines;
 mod played;
 mod words;
 
-use crate::lines::{sizes, todo};
+use crate::lines::{read_line, read_sizes};
 use crate::played::Played;
 use crate::words::Bad;
 use case_files::{Case, ends_line, read_cases};
@@ -67,7 +67,7 @@ fn play_case<W: Write>(alloc: Global, case: &Case, writer: &mut W) -> io::Result
 /// The sockets that a case's first line says.
 fn made(alloc: Global, line: &[u8]) -> Result<Box<Played>, Bad<'_>> {
     let text = text(line)?;
-    let sizes = sizes(text)?;
+    let sizes = read_sizes(text)?;
     Played::new(alloc, &sizes).ok_or(Bad::new("memory", text))
 }
 
@@ -98,7 +98,7 @@ fn play_line<'a, W: Write>(
     line: &'a [u8],
     writer: &mut W,
 ) -> io::Result<Option<Bad<'a>>> {
-    let todo = match text(line).and_then(|text| todo(alloc, text)) {
+    let todo = match text(line).and_then(|text| read_line(alloc, text)) {
         Ok(Some(todo)) => todo,
         Ok(None) => return Ok(None),
         Err(bad) => return Ok(Some(bad)),
