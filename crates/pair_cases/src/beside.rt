@@ -11,6 +11,9 @@ use ip_wire::TcpRepr;
 use tcp_pair::{PairContext, SentSegment, Side, TcpSetting};
 use tcp_socket::{Socket, SocketBuffer};
 
+/// The longest buffer that a socket takes.
+const LONGEST: usize = 1 << 30;
+
 /// A closed socket with such buffers, if there is memory for them and they aren't too long.
 pub fn socket(alloc: Global, sizes: (usize, usize)) -> Option<Socket>
     ensures { IfSome result IsFresh }
@@ -25,6 +28,9 @@ pub fn socket(alloc: Global, sizes: (usize, usize)) -> Option<Socket>
 }
 
 fn buffer(alloc: Global, size: usize) -> Option<SocketBuffer> {
+    if size > LONGEST {
+        return None;
+    }
     let room = vec![in alloc; 0u8; size].ok()?;
     Some(RingBuffer::new(ManagedSlice::Owned(room)))
 }

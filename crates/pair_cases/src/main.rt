@@ -68,7 +68,7 @@ fn play_case<W: Write>(alloc: Global, case: &Case, writer: &mut W) -> io::Result
 fn made(alloc: Global, line: &[u8]) -> Result<Box<Played>, Bad<'_>> {
     let text = text(line)?;
     let sizes = read_sizes(text)?;
-    Played::new(alloc, &sizes).ok_or(Bad::new("memory", text))
+    Played::new(alloc, &sizes).ok_or(Bad::new("buffers", text))
 }
 
 /// Plays the events behind a case's first line.
