@@ -13,10 +13,7 @@ pub struct Case {
 }
 
 /// The cases that a reader gives, to its end.
-pub fn read_cases<R: Read>(
-    alloc: Global,
-    reader: &mut R,
-) -> io::Result<Result<Vec<Case>, Fault>> {
+pub fn read_cases<R: Read>(alloc: Global, reader: &mut R) -> io::Result<Result<Vec<Case>, Fault>> {
     let mut text = Vec::new(alloc);
     reader.read_to_end(&mut text)?;
     match first_fault(text.as_slice()) {

@@ -12,6 +12,8 @@
 mod cases;
 mod fault;
 mod lines;
+#[cfg(test)]
+mod tests;
 
 pub use cases::{Case, read_cases};
 pub use fault::Fault;

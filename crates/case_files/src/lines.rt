@@ -1,7 +1,6 @@
 //! The lines of a file of cases.
 ghost use Rattle.std.specs.Prelude.{◌≡◌, ◌==◌};
 
-
 /// What a line of a file of cases is.
 pub(crate) enum CaseLine<'a> {
     /// A comment, or empty.

@@ -3,7 +3,9 @@
 //! (`tools/try-proved-without-memory` tries the scripts of `lan_cases` so, too.)
 use crate::common::Row;
 use crate::steps::play_steps;
-use crate::texts::{ABC, ACKNOWLEDGED, CARRIED, CUT_DATAGRAM, IP, OPENED, OPENING, QUEUED, STREAMS};
+use crate::texts::{
+    ABC, ACKNOWLEDGED, CARRIED, CUT_DATAGRAM, IP, OPENED, OPENING, QUEUED, STREAMS,
+};
 use std::test::Fail;
 
 static ROWS: [Row; 3] = [

@@ -94,7 +94,9 @@ fn written(alloc: Global, x: &SentSegment) -> Result<Vec<u8>, AllocError> {
     let segment = TcpRepr::new(&x.segment, x.bytes.as_slice());
     let mut bytes = vec![in alloc; 0; segment.buffer_len()]?;
     let (source, destination) = (x.header.src_addr(), x.header.dst_addr());
-    if segment.header_len() > 60 || bytes.len() > 65_535 || source.version() != destination.version()
+    if segment.header_len() > 60
+        || bytes.len() > 65_535
+        || source.version() != destination.version()
     {
         return Ok(Vec::new(alloc));
     }
@@ -115,7 +117,10 @@ pub fn push_side(
     at: PollAt,
 ) -> Result<(), AllocError> {
     let (state, received, queued) = (socket.state(), socket.recv_queue(), socket.send_queue());
-    write!(text, "{name} {state} recv_queue {received} send_queue {queued} at ")?;
+    write!(
+        text,
+        "{name} {state} recv_queue {received} send_queue {queued} at "
+    )?;
     match at {
         PollAt::Now => text.push_str("now\n"),
         PollAt::Ingress => text.push_str("ingress\n"),

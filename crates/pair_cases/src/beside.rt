@@ -4,10 +4,10 @@ ghost use Rattle.std.specs.Prelude.{IfSome};
 ghost use Rattle.tcp_tie.specs.Promises.{IsFresh};
 
 use crate::lines::{Todo, at_port};
+use ip_wire::TcpRepr;
 use net_base::{Instant, ManagedSlice, RingBuffer};
 use socket_base::{Context, Offer, PollAt};
 use std::alloc::Global;
-use ip_wire::TcpRepr;
 use tcp_pair::{PairContext, SentSegment, Side, TcpSetting};
 use tcp_socket::{Socket, SocketBuffer};
 
@@ -63,7 +63,9 @@ impl Beside {
                 let _ = self.socket.listen(at_port(*port));
             }
             Todo::Connect(_, remote, port) => {
-                let _ = self.socket.connect(&mut self.context, *remote, at_port(*port));
+                let _ = self
+                    .socket
+                    .connect(&mut self.context, *remote, at_port(*port));
             }
             Todo::Send(_, bytes) => {
                 let _ = self.socket.send_slice(bytes.as_slice());

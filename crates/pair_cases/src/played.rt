@@ -31,7 +31,11 @@ impl Played {
     pub fn take(&mut self, alloc: Global, todo: &Todo) -> Result<String, AllocError> {
         let sent = (self.pair.sent(Side::A).len(), self.pair.sent(Side::B).len());
         let answer = self.pair.step(todo.event(alloc)?);
-        let offer = if answer.is_ok() { self.tell(todo) } else { None };
+        let offer = if answer.is_ok() {
+            self.tell(todo)
+        } else {
+            None
+        };
         let mut text = String::new(alloc);
         push_answer(alloc, &mut text, &answer, offer)?;
         push_sent(alloc, &mut text, Side::A, self.pair.sent(Side::A), sent.0)?;

@@ -19,10 +19,17 @@ impl<'a> Bad<'a> {
     }
 }
 
+/// How much of a word is shown, in characters.
+const MOST_SHOWN: usize = 40;
+
 impl fmt::Display for Bad<'_> {
     fn fmt<W: fmt::Write>(&self, f: &mut fmt::Formatter<W>) -> fmt::Result {
-        let Bad { lacks, word } = *self;
-        write!(f, "bad event: no {lacks}: {word}")
+        let lacks = self.lacks;
+        write!(f, "bad event: no {lacks}: ")?;
+        for c in self.word.chars().take(MOST_SHOWN) {
+            f.write_char(c)?;
+        }
+        Ok(())
     }
 }
 
@@ -65,7 +72,11 @@ impl<'a> Words<'a> {
     /// This word.
     pub fn exactly(&mut self, wanted: &'static str) -> Result<(), Bad<'a>> {
         let word = self.word();
-        if word == wanted { Ok(()) } else { Err(Bad::new(wanted, word)) }
+        if word == wanted {
+            Ok(())
+        } else {
+            Err(Bad::new(wanted, word))
+        }
     }
 
     pub fn side(&mut self) -> Result<Side, Bad<'a>> {
