@@ -1,6 +1,6 @@
 //! A socket beside one of a pair, which is told the same: it says of an offer what the pair's answer doesn't, whether there was a packet
 //! and whether it changed anything.
-ghost use Rattle.std.specs.Prelude.{IfSome};
+ghost use Rattle.std.specs.Prelude.{◌≢◌, IfSome, Some};
 ghost use Rattle.tcp_tie.specs.Promises.{IsFresh};
 
 use crate::lines::{Todo, at_port};
@@ -112,13 +112,22 @@ impl Beside {
             TcpSetting::AckDelay(duration) => self.socket.set_ack_delay(*duration),
             TcpSetting::KeepAlive(interval) => self.socket.set_keep_alive(*interval),
             TcpSetting::NagleEnabled(enabled) => self.socket.set_nagle_enabled(*enabled),
-            TcpSetting::HopLimit(Some(0)) => self.socket.set_hop_limit(None),
-            TcpSetting::HopLimit(limit) => self.socket.set_hop_limit(*limit),
+            TcpSetting::HopLimit(limit) => self.socket.set_hop_limit(limit_of(*limit)),
             TcpSetting::TsvalGenerator(generator) => self.socket.set_tsval_generator(*generator),
             TcpSetting::CongestionControl(control) => {
                 self.socket.set_congestion_control(*control)
             }
             TcpSetting::PauseSynack(pause) => self.socket.pause_synack(*pause),
         }
+    }
+}
+
+/// A hop limit of 0 counts as none.
+fn limit_of(limit: Option<u8>) -> Option<u8>
+    ensures { result ≢ Some 0 }
+{
+    match limit {
+        None => None,
+        Some(n) => { if n == 0 { None } else { Some(n) } }
     }
 }
