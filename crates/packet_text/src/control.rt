@@ -1,6 +1,6 @@
 //! Control messages as text.
 ghost use Rattle.std.specs.Prelude.{◌≡◌, Some};
-ghost use Rattle.packet_text.specs.Headers.{icmpv4_text, icmpv6_text, ndisc_text, link_text, flags_text};
+ghost use Rattle.packet_text.specs.Headers.{echo_text, icmpv4_text, icmpv6_text, ndisc_text, link_text, flags_text};
 
 use crate::headers::{Ipv4Text, Ipv6Text, set};
 use crate::names::{Exceeded4Text, Exceeded6Text, ProblemText, Unreachable4Text, Unreachable6Text};
@@ -18,10 +18,10 @@ impl fmt::Display for Icmpv4Text {
     fn fmt<W: fmt::Write>(&self, f: &mut fmt::Formatter<W>) -> fmt::Result {
         match self.0 {
             Icmpv4Header::EchoRequest { ident, seq_no } => {
-                write!(f, "echo request, id {ident}, seq {seq_no}")
+                write!(f, "echo request, id {}", EchoText(ident, seq_no))
             }
             Icmpv4Header::EchoReply { ident, seq_no } => {
-                write!(f, "echo reply, id {ident}, seq {seq_no}")
+                write!(f, "echo reply, id {}", EchoText(ident, seq_no))
             }
             Icmpv4Header::DstUnreachable { reason, header } => write!(
                 f,
@@ -36,6 +36,18 @@ impl fmt::Display for Icmpv4Text {
                 Ipv4Text(header)
             ),
         }
+    }
+}
+
+// The numbers of an echo: `7, seq 1`.
+#[derive(Clone, Copy)]
+struct EchoText(u16, u16);
+
+impl fmt::Display for EchoText {
+    ghost output = { λ x. Some (echo_text x.0 x.1) };
+
+    fn fmt<W: fmt::Write>(&self, f: &mut fmt::Formatter<W>) -> fmt::Result {
+        write!(f, "{}, seq {}", self.0, self.1)
     }
 }
 
