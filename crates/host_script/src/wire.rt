@@ -1,15 +1,19 @@
-//! A device that gives leave to send, and then refuses.
+//! The device of a host whose link is a script.
 ghost use Rattle.std.specs.Prelude.{◌≡◌, ◌<◌, ◌+◌, ◌^◌, vec_len, IfSome};
 
 use net_base::{Device, DeviceCapabilities, Instant, OwnedRxToken, SendRefused, TxToken};
-use std::alloc::Global;
+use std::alloc::{AllocError, Global};
+use std::collections::VecDeque;
 
-/// A device that refuses as many of the next sends as it was told.
+/// A device in memory. It has room for so many frames more, and refuses as many of the next sends as it was told.
 #[derive(Drop)]
-pub struct Refusing {
+pub struct Wire {
     alloc: Global,
-    incoming: Option<Vec<u8>>,
+    incoming: VecDeque<Vec<u8>>,
+    // The frames that were sent since they were last let go, and how many were before.
     sent: Vec<Vec<u8>>,
+    before: u64,
+    room: usize,
     to_refuse: u64,
     refused: u64,
     described: DeviceCapabilities,
@@ -21,35 +25,35 @@ pub struct Leave {}
 
 impl TxToken for Leave {}
 
-impl Refusing {
-    pub fn new(alloc: Global, described: DeviceCapabilities) -> Refusing {
-        Refusing {
+impl Wire {
+    /// A device over which nothing has gone yet.
+    pub fn new(alloc: Global, described: DeviceCapabilities) -> Wire {
+        Wire {
             alloc,
-            incoming: None,
+            incoming: VecDeque::new(alloc),
             sent: Vec::new(alloc),
+            before: 0,
+            room: usize::MAX,
             to_refuse: 0,
             refused: 0,
             described,
         }
     }
 
-    /// A frame comes, unless one waits already.
-    pub fn comes(&mut self, frame: Vec<u8>) -> bool {
-        if self.incoming.is_some() {
-            return false;
-        }
-        self.incoming = Some(frame);
-        true
+    /// A frame comes, and waits behind those that wait already.
+    pub fn comes(&mut self, frame: Vec<u8>) -> Result<(), AllocError> {
+        self.incoming.push_back(frame)?;
+        Ok(())
     }
 
-    /// It has refused so many sends before.
-    pub fn wear(&mut self, refused: u64) {
-        self.refused = refused;
+    /// How many frames wait.
+    pub fn waiting(&self) -> usize {
+        self.incoming.len()
     }
 
-    /// Whether a frame waits.
-    pub fn has_frame(&self) -> bool {
-        self.incoming.is_some()
+    /// From now on it takes so many frames more.
+    pub fn set_room(&mut self, room: usize) {
+        self.room = room;
     }
 
     /// The next sends, so many, are refused.
@@ -57,9 +61,25 @@ impl Refusing {
         self.to_refuse = count;
     }
 
-    /// The frames that were sent, the oldest first.
+    /// It counts as many sends as refused before.
+    pub fn set_refused(&mut self, refused: u64) {
+        self.refused = refused;
+    }
+
+    /// The frames that were sent since they were last let go, the oldest first.
     pub fn sent(&self) -> &[Vec<u8>] {
         self.sent.as_slice()
+    }
+
+    /// How many were sent before these.
+    pub fn before(&self) -> u64 {
+        self.before
+    }
+
+    /// Lets the frames go that were sent.
+    pub fn let_go(&mut self) {
+        self.before = self.before.saturating_add(self.sent.len() as u64);
+        self.sent.clear();
     }
 
     /// A buffer for a frame, unless it is to be refused.
@@ -72,14 +92,14 @@ impl Refusing {
             self.to_refuse -= 1;
             return None;
         }
-        match Vec::from_elem(self.alloc, 0, len) {
-            Ok(frame) => Some(frame),
-            Err(_) => None,
+        if self.sent.reserve(1).is_err() {
+            return None;
         }
+        Vec::from_elem(self.alloc, 0, len).ok()
     }
 }
 
-impl Device for Refusing {
+impl Device for Wire {
     type RxToken = OwnedRxToken;
 
     type TxToken = Leave;
@@ -92,12 +112,12 @@ impl Device for Refusing {
 
     fn receive(&mut self, timestamp: Instant) -> Option<(OwnedRxToken, Leave)> {
         let leave = self.transmit(timestamp)?;
-        let frame = self.incoming.take()?;
+        let frame = self.incoming.pop_front()?;
         Some((OwnedRxToken::new(frame), leave))
     }
 
     fn transmit(&mut self, _timestamp: Instant) -> Option<Leave> {
-        if self.refused < u64::MAX {
+        if 0 < self.room && self.refused < u64::MAX {
             Some(Leave {})
         } else {
             None
@@ -115,8 +135,9 @@ impl Device for Refusing {
             return Err(SendRefused);
         };
         let answer = f(frame.as_mut_slice());
-        // A frame for which there is no place any more is lost.
+        // There is a place for it: `buffer` made it.
         let _ = self.sent.push(frame);
+        self.room = self.room.saturating_sub(1);
         Ok(answer)
     }
 
