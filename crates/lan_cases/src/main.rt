@@ -1,6 +1,11 @@
 //! Plays the scripts of a file that has many, each in a world of its own, and writes what each answers.
 #![tactic(auto)]
 
+ghost use Rattle.std.specs.Prelude.{◌≢◌, List, ℕ, IfOk};
+ghost use Rattle.std.specs.Io.KnownBytes.{Appends};
+ghost use Rattle.lan.specs.Scripts.{IsReplay};
+ghost use Rattle.lan_cases.specs.Cases.{case_text};
+
 use case_files::{Case, read_cases};
 use std::alloc::Global;
 use std::io::{self, Read, Write};
@@ -38,7 +43,11 @@ fn play_all<W: Write>(alloc: Global, cases: &[Case], writer: &mut W) -> io::Resu
 }
 
 /// Plays a case: its name, what its script writes, and with which status it ended.
-fn play_case<W: Write>(alloc: Global, case: &Case, writer: &mut W) -> io::Result<u8> {
+fn play_case<W: Write>(alloc: Global, case: &Case, writer: &mut W) -> io::Result<u8>
+    ensures played { IfOk result (λ status. status ≢ 2 → (output : List ℕ)
+        × IsReplay case.now.text.items output status
+        × Appends (W.contents writer.old) (W.contents writer.new) (case_text case.now.name.items output status)) }
+{
     writer.write_all(b"== ")?;
     writer.write_all(case.name.as_slice())?;
     writer.write_all(b"\n")?;

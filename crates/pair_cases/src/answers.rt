@@ -1,5 +1,9 @@
 //! What is written of an event.
-use ip_wire::{TcpPacketMut, TcpRepr};
+ghost use Rattle.std.specs.Prelude.{◌≡◌, ◌+◌, ◌<◌, ◌≤◌, ◌^◌, IsTrue, length};
+ghost use Rattle.ip_wire.specs.Address.{version_of};
+ghost use Rattle.ip_wire.specs.Tcp.{header_len, header_of};
+
+use ip_wire::{IpAddress, TcpPacketMut, TcpRepr};
 use net_base::ChecksumCapabilities;
 use socket_base::{Offer, PollAt};
 use std::alloc::{AllocError, Global};
@@ -92,21 +96,45 @@ pub fn push_sent(
 /// The bytes of a segment, with its checksum: none where no packet holds them.
 fn written(alloc: Global, x: &SentSegment) -> Result<Vec<u8>, AllocError> {
     let segment = TcpRepr::new(&x.segment, x.bytes.as_slice());
-    let mut bytes = vec![in alloc; 0; segment.buffer_len()]?;
     let (source, destination) = (x.header.src_addr(), x.header.dst_addr());
-    if segment.header_len() > 60
-        || bytes.len() > 65_535
-        || source.version() != destination.version()
-    {
+    if !fits(&segment, &source, &destination) {
         return Ok(Vec::new(alloc));
     }
+    let mut bytes = vec![in alloc; 0; segment.buffer_len()]?;
+    write_segment(&segment, &source, &destination, bytes.as_mut_slice());
+    Ok(bytes)
+}
+
+/// Whether a packet between these addresses holds the segment.
+fn fits(segment: &TcpRepr<'_>, source: &IpAddress, destination: &IpAddress) -> bool
+    ensures header { IsTrue result → header_len (header_of segment.now) ≤ 60 }
+    ensures all { IsTrue result → header_len (header_of segment.now) + length segment.now.payload.now < 2 ^ 16 }
+    ensures family { IsTrue result → version_of source.now ≡ version_of destination.now }
+{
+    segment.header_len() <= 60
+        && segment.buffer_len() <= 65_535
+        && source.version() == destination.version()
+}
+
+/// Writes the segment over the whole buffer.
+fn write_segment(
+    segment: &TcpRepr<'_>,
+    source: &IpAddress,
+    destination: &IpAddress,
+    buffer: &mut [u8],
+)
+    requires room { length buffer.old ≡ header_len (header_of segment.now) + length segment.now.payload.now }
+    requires header { header_len (header_of segment.now) ≤ 60 }
+    requires all { header_len (header_of segment.now) + length segment.now.payload.now < 2 ^ 16 }
+    requires family { version_of source.now ≡ version_of destination.now }
+{
+    let mut packet = TcpPacketMut::new_unchecked(buffer);
     segment.emit(
-        &mut TcpPacketMut::new_unchecked(bytes.as_mut_slice()),
-        &source,
-        &destination,
+        &mut packet,
+        source,
+        destination,
         &ChecksumCapabilities::default(),
     );
-    Ok(bytes)
 }
 
 /// The line of a side: its state, what waits in its queues, and when it wants to be polled.
