@@ -4,7 +4,7 @@ ghost use Rattle.lan_theorem.specs.Made.{IsIdle};
 ghost use Rattle.lan_theorem.specs.Settings.{is_of_medium};
 ghost use Rattle.std.specs.List.{list_all};
 ghost use Rattle.lan_theorem.specs.Set.{places};
-ghost use Rattle.sockets.specs.States.{is_closed};
+ghost use Rattle.sockets.specs.TcpStates.{is_closed};
 ghost use Rattle.sockets.specs.TcpCalls.{recv_refusal};
 ghost use Rattle.lan_world.specs.New.{new_error, has_one_medium, is_both, are_on, has_checksums, has_mtu, has_buffers, is_ingress, is_no_socket, is_unopened, is_unused, of_place, of_each, is_fresh};
 
