@@ -1,4 +1,4 @@
-"""What tools know of scripts and of what the programs `lan`, `lan_cases`, `one_host` and `pair_cases` write."""
+"""What tools know of scripts and of what the programs `lan`, `lan_cases` and `one_host` write."""
 
 
 def parts(text):

@@ -5,6 +5,8 @@
 #[cfg(test)]
 mod common;
 #[cfg(test)]
+mod openings;
+#[cfg(test)]
 mod transfers;
 #[cfg(test)]
 mod wrap;
