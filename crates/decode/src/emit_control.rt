@@ -1,5 +1,5 @@
 //! Control messages written from their fields.
-ghost use Rattle.std.specs.Prelude.{◌≤◌, length, IfOk};
+ghost use Rattle.std.specs.Prelude.{◌≤◌, length, IfOk, List, ℕ};
 ghost use Rattle.ip_wire.specs.Ipv4 as Ipv4;
 ghost use Rattle.ip_wire.specs.Ipv6 as Ipv6;
 ghost use Rattle.control_wire.specs.Icmpv4 as Icmpv4;
@@ -133,6 +133,7 @@ pub(crate) fn emit_icmpv6<'a>(
 
 fn header6<'a>(kind: &'a str, words: &mut Words<'a>) -> Result<Icmpv6Header, Fault<'a>>
     ensures fits { IfOk result (λ header. Fits (value_of header)) }
+    ensures carries { IfOk result (λ header. (bytes : List ℕ) → CanCarry (value_of header) bytes) }
 {
     match kind {
         "request" => Ok(Icmpv6Header::EchoRequest {
