@@ -15,8 +15,8 @@ ghost use Rattle.tcp_model.specs.Controls.{is_rst};
 ghost use Rattle.tcp_model.specs.Endpoints.{ip_header_len};
 ghost use Rattle.tcp_model.specs.Rules.{text_choice, resend_choice, stamp_len};
 ghost use Rattle.tcp_model.specs.Segments.{segment_len};
-ghost use Rattle.tcp_model.specs.Value.{TcpValue, dropped, unoffered};
-ghost use Rattle.tcp.specs.Acceptance.{Meets, reset_counts};
+ghost use Rattle.tcp_model.specs.Value.{TcpValue};
+ghost use Rattle.tcp.specs.Acceptance.{Meets, reset_counts, IsIgnored};
 
 /// The window test is that of RFC 9293, 3.4, whatever positions have these numbers.
 #[tactic(auto, using(crate::proofs::AcceptLaws::window_meets))]
@@ -26,12 +26,13 @@ pub fn segments_meet_the_window()
         → (is_in_window b space header size ≡ true) ↔ Meets next at (segment_len header size) space }
 {}
 
-/// A reset that doesn't count changes nothing, and isn't answered.
+/// A reset that doesn't count changes nothing but when an answer may be drawn again: it is dropped, or draws an acknowledgement. So past
+/// SYN-RECEIVED none does whose number isn't RCV.NXT, wherever in the window it lies.
 #[tactic(auto, using(crate::proofs::AcceptLaws::reset_ignored))]
 pub fn other_resets_are_ignored()
     ensures ignored { (cx : ContextValue) (v : TcpValue) (ip : IpRepr) (header : TcpHeader) (bytes : List ℕ)
-        → is_rst header.control ≡ true → reset_counts v header bytes ≡ false
-        → arrives cx v ip header bytes ≡ dropped (unoffered v) }
+        → is_rst header.control ≡ true → reset_counts v header ≡ false
+        → IsIgnored cx v ip header (arrives cx v ip header bytes) }
 {}
 
 /// Text keeps to the remote's window and to the congestion window; it and what goes again keep to the remote's largest payload, and to
