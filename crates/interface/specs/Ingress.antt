@@ -3,7 +3,7 @@ use Rattle.std.specs.Prelude.{◌≡◌, ℕ, nat_lt, not, ◌&&◌, ℤ, Bool, 
 use Rattle.net_base.specs.Device.{Move, Took, Empty}
 use Rattle.interface_egress.specs.Departure as Departures
 use Rattle.interface_egress.specs.GoesOut.{Departs, GoesOut}
-use Rattle.packet_widths.specs.WellFormed.{IsWellFormed}
+use Rattle.socket_base.specs.WellFormed.{IsWellFormed}
 use Rattle.interface_egress.specs.Plan.{plan_of}
 use Rattle.interface_egress.specs.declared.way_out.Sent.{Sent}
 use Rattle.interface_ingress.specs.Incoming.{IncomingValue, IsContent}

@@ -14,7 +14,7 @@ use Rattle.interface_egress.specs.declared.socket_set.SocketStorage.{SocketStora
 use Rattle.sockets.specs.Socket.{Offers, offered_by, settled}
 use Rattle.sockets.specs.declared.socket.Socket.{Socket}
 use Rattle.interface_egress.specs.GoesOut.{GoesOut}
-use Rattle.packet_widths.specs.WellFormed.{IsWellFormed}
+use Rattle.socket_base.specs.WellFormed.{IsWellFormed}
 use Rattle.interface_egress.specs.Plan.{plan_of}
 use Rattle.interface_egress.specs.declared.way_out.Sent.{Sent}
 use Rattle.interface_egress.specs.declared.way_out.Sent.TheVariants as Outcome

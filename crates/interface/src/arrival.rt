@@ -11,7 +11,7 @@ use interface_ingress::laws::same_settings;
 use interface_ingress::{Incoming, Reply, bring, keep, read_into, release, take_in};
 use interface_tables::{InterfaceInner, PacketAssemblerSet};
 use net_base::{Device, Duration, RxToken};
-use packet_widths::laws::fields_have_widths;
+use socket_base::widths::fields_have_widths;
 use sockets::{Context, Socket};
 
 /// The longest frame that is read: an Ethernet header before the longest IP packet.

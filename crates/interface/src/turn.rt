@@ -14,7 +14,7 @@ use interface_egress::{Fragmenter, Item, Meta, Sent, SocketStorage, dispatch};
 use interface_tables::InterfaceInner;
 use ip_wire::IpAddress;
 use net_base::{Device, Instant};
-use packet_widths::laws::fields_have_widths;
+use socket_base::widths::fields_have_widths;
 use sockets::laws::unsent_is_offered_again;
 use sockets::{Context, Offer, Packet, Socket};
 

@@ -1,11 +1,11 @@
 -- Lemmas on lines that name bytes.
 use Rattle.std.proofs.Common.{◌≡◌, ℕ, Bool, true, Option, Some, None, Result, Ok, Err, IfErr, inl, inr, refl, ◌∙◌, sym, ap}
 use Rattle.std.specs.Prelude.{◌≢◌, option_map}
-use Rattle.lan_net.specs.declared.answer.Refused.{Refused}
-use Rattle.lan_net.specs.declared.event.Event.{Event}
+use Rattle.lan_history.specs.declared.answer.Refused.{Refused}
+use Rattle.lan_history.specs.declared.event.Event.{Event}
 use Rattle.lan_script.specs.declared.line.Line.{Line}
 use Rattle.lan_script.specs.declared.line.Line.TheVariants.{World, Socket, Start, Listen, Connect, Send, Recv, Close, Abort, State, Bind, Ident, SendTo, SendIcmp, SendRaw, RecvFrom, Addrs, Hw, Route, Poll, PollAt, Deliver, Damage, Noise, Room, Cut}
-use Rattle.lan_stations.specs.Runs.{WorldValue, refusal_in}
+use Rattle.lan_hosts.specs.Runs.{WorldValue, refusal_in}
 use Rattle.lan.specs.declared.end.End.{End}
 use Rattle.lan.specs.declared.end.End.TheVariants.{BadEvent, Refusal}
 use Rattle.lan.specs.declared.session.Session.TheVariants.{Running}

@@ -2,12 +2,12 @@
 use Rattle.std.specs.Prelude.{ℕ, ◌+◌, ℤ, true, false, List, [], ◌∷◌, ◌++◌, codes, Some, None}
 use Rattle.std.specs.Fmt.{decimal, signed_decimal}
 use Rattle.ip_wire.specs.Text.{endpoint_text, ip_text}
-use Rattle.lan_net.specs.declared.event.Side.{Side}
-use Rattle.lan_net.specs.declared.event.Side.TheVariants.{A, B}
-use Rattle.lan_net.specs.declared.answer.Answer.{Answer}
-use Rattle.lan_net.specs.declared.answer.Answer.TheVariants.{Done, Count, Bytes, State, FromEndpoint, FromAddr, Poll, At, Error}
-use Rattle.lan_net.specs.declared.answer.Fault.{Fault}
-use Rattle.lan_net.specs.declared.answer.Fault.TheVariants.{InvalidState, Unaddressable, BufferFull, Exhausted, Truncated, Finished, Medium, NotUnicast, RouteTableFull}
+use Rattle.lan_history.specs.declared.event.Side.{Side}
+use Rattle.lan_history.specs.declared.event.Side.TheVariants.{A, B}
+use Rattle.lan_history.specs.declared.answer.Answer.{Answer}
+use Rattle.lan_history.specs.declared.answer.Answer.TheVariants.{Done, Count, Bytes, State, FromEndpoint, FromAddr, Poll, At, Error}
+use Rattle.lan_history.specs.declared.answer.Fault.{Fault}
+use Rattle.lan_history.specs.declared.answer.Fault.TheVariants.{InvalidState, Unaddressable, BufferFull, Exhausted, Truncated, Finished, Medium, NotUnicast, RouteTableFull}
 use Rattle.lan_script.specs.Text.{hex_word}
 use Rattle.tcp_control.specs.States.{text_of}
 

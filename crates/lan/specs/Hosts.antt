@@ -18,15 +18,15 @@ use Rattle.ip_wire.specs.HardwareAddress.TheVariants as Hardware
 use Rattle.ip_wire.specs.IpCidr.{IpCidr}
 use Rattle.ip_wire.specs.IpCidr.TheVariants as Block
 use Rattle.ip_address.specs.Protocol.{protocol_of}
-use Rattle.lan_net.specs.Kinds.{same_side}
-use Rattle.lan_net.specs.declared.event.Side.{Side}
-use Rattle.lan_net.specs.declared.event.Side.TheVariants.{A, B}
+use Rattle.lan_history.specs.Kinds.{same_side}
+use Rattle.lan_history.specs.declared.event.Side.{Side}
+use Rattle.lan_history.specs.declared.event.Side.TheVariants.{A, B}
 use Rattle.lan_port.specs.Port.{unused_end}
 use Rattle.lan_script.specs.declared.kinds.QueueSizes.{QueueSizes}
 use Rattle.lan_script.specs.declared.kinds.SocketSpec.{SocketSpec}
 use Rattle.lan_script.specs.declared.kinds.SocketSpec.TheVariants as Asks
-use Rattle.lan_stations.specs.Runs.{WorldValue}
-use Rattle.lan_stations.specs.Station.{StationValue}
+use Rattle.lan_hosts.specs.Runs.{WorldValue}
+use Rattle.lan_hosts.specs.Station.{StationValue}
 use Rattle.lan_world.specs.Come.{both, starts_of}
 use Rattle.lan_world.specs.New.{new_error}
 use Rattle.lan_world.specs.declared.error.WorldError.TheVariants as Since

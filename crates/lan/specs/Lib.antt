@@ -7,22 +7,22 @@ pub mod Pieces
 -- What contracts of the members cite, for the crates above: `Rattle.lan.specs.Promises.{IsSafeWorld}`,
 -- `Rattle.lan.specs.Answer.TheVariants.{Done}`.
 pub use Rattle.lan_frames.specs.Carried
-pub use Rattle.lan_net.specs.History
-pub use Rattle.lan_net.specs.Kinds
-pub use Rattle.lan_net.specs.Partners
-pub use Rattle.lan_net.specs.Reads
-pub use Rattle.lan_net.specs.Tables
-pub use Rattle.lan_net.specs.declared.answer.Answer
-pub use Rattle.lan_net.specs.declared.answer.Fault
-pub use Rattle.lan_net.specs.declared.answer.Refused
-pub use Rattle.lan_net.specs.declared.event.Event
-pub use Rattle.lan_net.specs.declared.event.Side
-pub use Rattle.lan_net.specs.declared.event.TcpSetting
+pub use Rattle.lan_history.specs.History
+pub use Rattle.lan_history.specs.Kinds
+pub use Rattle.lan_history.specs.Partners
+pub use Rattle.lan_history.specs.Reads
+pub use Rattle.lan_history.specs.Tables
+pub use Rattle.lan_history.specs.declared.answer.Answer
+pub use Rattle.lan_history.specs.declared.answer.Fault
+pub use Rattle.lan_history.specs.declared.answer.Refused
+pub use Rattle.lan_history.specs.declared.event.Event
+pub use Rattle.lan_history.specs.declared.event.Side
+pub use Rattle.lan_history.specs.declared.event.TcpSetting
 pub use Rattle.lan_port.specs.Port
-pub use Rattle.lan_stations.specs.Refusals
-pub use Rattle.lan_stations.specs.Runs
-pub use Rattle.lan_stations.specs.Station
-pub use Rattle.lan_stations.specs.Steps
+pub use Rattle.lan_hosts.specs.Refusals
+pub use Rattle.lan_hosts.specs.Runs
+pub use Rattle.lan_hosts.specs.Station
+pub use Rattle.lan_hosts.specs.Steps
 pub use Rattle.lan_world.specs.Damage
 pub use Rattle.lan_world.specs.HostRuns
 pub use Rattle.lan_world.specs.Quiet

@@ -1,14 +1,14 @@
 -- A run of a script: what each line does and writes, and what the whole writes.
 use Rattle.std.specs.Prelude.{◌≡◌, ◌≢◌, ℕ, ◌+◌, Bool, true, false, List, [], ◌∷◌, ◌++◌, length, drop, codes, ◌⊎◌, Option, Some, None, option_map}
-use Rattle.lan_net.specs.declared.answer.Answer.{Answer}
-use Rattle.lan_net.specs.declared.answer.Refused.TheVariants.{Memory}
-use Rattle.lan_net.specs.declared.event.Event.{Event}
-use Rattle.lan_net.specs.declared.event.Side.{Side}
-use Rattle.lan_net.specs.declared.event.Side.TheVariants.{A, B}
+use Rattle.lan_history.specs.declared.answer.Answer.{Answer}
+use Rattle.lan_history.specs.declared.answer.Refused.TheVariants.{Memory}
+use Rattle.lan_history.specs.declared.event.Event.{Event}
+use Rattle.lan_history.specs.declared.event.Side.{Side}
+use Rattle.lan_history.specs.declared.event.Side.TheVariants.{A, B}
 use Rattle.lan_script.specs.declared.line.Line.{Line}
 use Rattle.lan_script.specs.declared.line.Line.TheVariants.{World, Socket, Start}
-use Rattle.lan_stations.specs.Runs.{WorldValue, Step, refusal_in}
-use Rattle.lan_stations.specs.Station.{Stations, station}
+use Rattle.lan_hosts.specs.Runs.{WorldValue, Step, refusal_in}
+use Rattle.lan_hosts.specs.Station.{Stations, station}
 use Rattle.lan.specs.declared.end.End.{End}
 use Rattle.lan.specs.declared.end.End.TheVariants.{BadEvent, Refusal}
 use Rattle.lan.specs.declared.session.Session.{Session}

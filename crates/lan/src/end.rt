@@ -3,7 +3,7 @@ ghost use Rattle.std.specs.Prelude.{◌≡◌};
 ghost use Rattle.lan.specs.Ends.{refused_name, new_error_name, world_error_name};
 
 use interface::NewError;
-use lan_net::Refused;
+use lan_history::Refused;
 use lan_world::WorldError;
 use std::alloc::AllocError;
 use std::fmt;
@@ -24,7 +24,7 @@ pub enum End {
 impl From<AllocError> for End {
     ghost use Rattle.std.specs.Prelude.{◌≡◌};
     ghost use Rattle.lan.specs.declared.end.End.TheVariants.{Refusal};
-    ghost use Rattle.lan_net.specs.declared.answer.Refused.TheVariants.{Memory};
+    ghost use Rattle.lan_history.specs.declared.answer.Refused.TheVariants.{Memory};
 
     ghost from_gives = { λ _ end. end ≡ Refusal Memory };
 

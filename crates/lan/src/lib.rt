@@ -29,7 +29,7 @@ pub use end::End;
 pub use event::{event_of, side_of};
 pub use header::Header;
 pub use lan_frames::names_tcp_or_udp;
-pub use lan_net::laws as history_laws;
+pub use lan_history::laws as history_laws;
 pub use lan_port::{Port, PortTxToken};
 pub use lan_script::Line;
 pub use lan_world::{

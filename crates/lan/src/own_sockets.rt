@@ -1,8 +1,8 @@
 //! The sockets that a header asks for.
 ghost use Rattle.std.specs.Prelude.{◌≡◌, ◌⊎◌, ◌+◌, [], ◌∷◌, ◌++◌, true, false, None, IfOk, OnOk, IfErr, length, replicate};
 ghost use Rattle.interface_egress.specs.Set.{places, free_place, is_fixed, unmarked};
-ghost use Rattle.lan_net.specs.Kinds.{same_side};
-ghost use Rattle.lan_net.specs.declared.answer.Refused.TheVariants.{Memory};
+ghost use Rattle.lan_history.specs.Kinds.{same_side};
+ghost use Rattle.lan_history.specs.declared.answer.Refused.TheVariants.{Memory};
 ghost use Rattle.lan_world.specs.declared.error.WorldError.TheVariants.{Buffers};
 ghost use Rattle.net_base.specs.Ring.{ring};
 ghost use Rattle.lan.specs.declared.end.End.TheVariants.{Refusal, World};
@@ -13,7 +13,7 @@ ghost use Rattle.lan.specs.Hosts.{queue, received, queued, socket_of, with_socke
 use crate::end::End;
 use interface::SocketSet;
 use ip_wire::IpProtocol;
-use lan_net::{Refused, Side};
+use lan_history::{Refused, Side};
 use lan_script::{QueueSizes, SocketSpec, StreamSizes};
 use lan_world::WorldError;
 use net_base::{ManagedSlice, PacketBuffer, PacketMetadata, RingBuffer};

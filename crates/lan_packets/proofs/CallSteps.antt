@@ -7,26 +7,26 @@ use Rattle.tcp_law.specs.Segment.{Segment}
 use Rattle.tcp_law.specs.Segment.Control.{Rst}
 use Rattle.tcp_law.specs.Side as Law
 use Rattle.tcp_law.specs.Side.Opening.{NotYet}
-use Rattle.tcp.specs.Endpoints.{HasPorts}
-use Rattle.tcp.specs.Host.{Made, sent_from, past_at}
-use Rattle.tcp.specs.Promises.{IsFresh, KeepsAlone}
-use Rattle.tcp.specs.Tie.{Past, Keeps, no_past}
-use Rattle.tcp.proofs.AloneLaws.{stays_alone}
-use Rattle.tcp.proofs.HostLaws.{resets_from}
-use Rattle.tcp.proofs.PromiseLemmas.{alone_fresh, partner_comes, keeps_turned}
+use Rattle.tcp_tie.specs.Endpoints.{HasPorts}
+use Rattle.tcp_tie.specs.Host.{Made, sent_from, past_at}
+use Rattle.tcp_tie.specs.Promises.{IsFresh, KeepsAlone}
+use Rattle.tcp_tie.specs.Tie.{Past, Keeps, no_past}
+use Rattle.tcp_tie.proofs.AloneLaws.{stays_alone}
+use Rattle.tcp_tie.proofs.HostLaws.{resets_from}
+use Rattle.tcp_tie.proofs.PromiseLemmas.{alone_fresh, partner_comes, keeps_turned}
 use Rattle.tcp_model.specs.EndpointPair.{EndpointPair}
 use Rattle.tcp_model.specs.State.{State}
 use Rattle.tcp_model.specs.Value.{TcpValue}
-use Rattle.lan_net.specs.declared.answer.Answer.{Answer}
-use Rattle.lan_net.specs.declared.event.Side.{Side}
-use Rattle.lan_net.specs.declared.record.Opening.{Opening}
-use Rattle.lan_net.specs.Call.{SocketCall}
-use Rattle.lan_net.specs.Kinds.{other, kind_of, calls}
-use Rattle.lan_net.specs.History.{Entry, call_of, first_of, opening_by, bytes_written, bytes_read, closes, opening, written, read, is_closed_by}
-use Rattle.lan_net.specs.Partners.{ArePartners}
-use Rattle.lan_net.specs.Tables.{Places, AreAllowed}
-use Rattle.lan_net.proofs.CallLemmas.{other_twice, call_here, call_at_other_side, call_at_other_place}
-use Rattle.lan_net.proofs.PartnerLemmas.{MayOpen, AreApart, apart_from_opened, opened_apart, opening_stays, one_partner, partners_turned}
+use Rattle.lan_history.specs.declared.answer.Answer.{Answer}
+use Rattle.lan_history.specs.declared.event.Side.{Side}
+use Rattle.lan_history.specs.declared.record.Opening.{Opening}
+use Rattle.lan_history.specs.Call.{SocketCall}
+use Rattle.lan_history.specs.Kinds.{other, kind_of, calls}
+use Rattle.lan_history.specs.History.{Entry, call_of, first_of, opening_by, bytes_written, bytes_read, closes, opening, written, read, is_closed_by}
+use Rattle.lan_history.specs.Partners.{ArePartners}
+use Rattle.lan_history.specs.Tables.{Places, AreAllowed}
+use Rattle.lan_history.proofs.CallLemmas.{other_twice, call_here, call_at_other_side, call_at_other_place}
+use Rattle.lan_history.proofs.PartnerLemmas.{MayOpen, AreApart, apart_from_opened, opened_apart, opening_stays, one_partner, partners_turned}
 use Rattle.lan_packets.specs.Parties.{Socket, Party, socket_at}
 use Rattle.lan_packets.specs.Parties.Socket.{Tcp}
 use Rattle.lan_packets.specs.Moves.{with_socket}

@@ -15,16 +15,16 @@ use Rattle.datagram_sockets.specs.declared.error.BindError.TheVariants as Bind
 use Rattle.datagram_sockets.specs.declared.error.SendError.{SendError}
 use Rattle.datagram_sockets.specs.declared.error.SendError.TheVariants as SendTo
 use Rattle.tcp_model.specs.State.{State}
-use Rattle.lan_net.specs.declared.answer.Answer.{Answer}
-use Rattle.lan_net.specs.declared.answer.Answer.TheVariants as To
-use Rattle.lan_net.specs.declared.answer.Fault.TheVariants as Fault
-use Rattle.lan_net.specs.declared.event.Side.{Side}
-use Rattle.lan_net.specs.Kinds.{other, Kind, kind_of, calls}
-use Rattle.lan_net.specs.Call.{SocketCall}
-use Rattle.lan_net.specs.Call as Call
-use Rattle.lan_net.specs.History.{Entry, call_of, port_by, bound_port}
-use Rattle.lan_net.specs.Reads.{Accepted, Accepts, ReadWasAccepted}
-use Rattle.lan_net.proofs.CallLemmas.{call_here}
+use Rattle.lan_history.specs.declared.answer.Answer.{Answer}
+use Rattle.lan_history.specs.declared.answer.Answer.TheVariants as To
+use Rattle.lan_history.specs.declared.answer.Fault.TheVariants as Fault
+use Rattle.lan_history.specs.declared.event.Side.{Side}
+use Rattle.lan_history.specs.Kinds.{other, Kind, kind_of, calls}
+use Rattle.lan_history.specs.Call.{SocketCall}
+use Rattle.lan_history.specs.Call as Call
+use Rattle.lan_history.specs.History.{Entry, call_of, port_by, bound_port}
+use Rattle.lan_history.specs.Reads.{Accepted, Accepts, ReadWasAccepted}
+use Rattle.lan_history.proofs.CallLemmas.{call_here}
 use Rattle.lan_packets.specs.Calls.{at_port, done_or, bind_fault, send_fault, datagram_or, udp_does}
 use Rattle.lan_packets.specs.Moves.{DoneBy}
 use Rattle.lan_packets.proofs.Lists.{Each}

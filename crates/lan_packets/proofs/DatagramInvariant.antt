@@ -3,11 +3,11 @@ use Rattle.std.proofs.Common.{◌≡◌, ◌⊎◌, inl, inr, ℕ, List, [], ◌
 use Rattle.net_base.specs.Packets.{contents}
 use Rattle.datagram_sockets.specs.Udp.{UdpValue}
 use Rattle.datagram_sockets.specs.declared.udp.UdpMetadata.{UdpMetadata}
-use Rattle.lan_net.specs.declared.event.Side.{Side}
-use Rattle.lan_net.specs.Kinds.{other}
-use Rattle.lan_net.specs.Call.{SocketCall}
-use Rattle.lan_net.specs.History.{Entry, call_of, port_by, bound_port}
-use Rattle.lan_net.specs.Reads.{Accepted}
+use Rattle.lan_history.specs.declared.event.Side.{Side}
+use Rattle.lan_history.specs.Kinds.{other}
+use Rattle.lan_history.specs.Call.{SocketCall}
+use Rattle.lan_history.specs.History.{Entry, call_of, port_by, bound_port}
+use Rattle.lan_history.specs.Reads.{Accepted}
 use Rattle.lan_packets.specs.Parties.{Socket, Datagram, Party, socket_at}
 use Rattle.lan_packets.specs.Parties.Socket.{Udp}
 use Rattle.lan_packets.proofs.Lists.{Each, each_of}

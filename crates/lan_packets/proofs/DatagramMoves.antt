@@ -16,12 +16,12 @@ use Rattle.datagram_sockets.specs.Udp as Udps
 use Rattle.datagram_sockets.specs.Udp.{UdpValue, UdpSettings, TakesDatagram, takes_address, metadata_of, is_open}
 use Rattle.datagram_sockets.specs.declared.udp.UdpMetadata.{UdpMetadata}
 use Rattle.tcp_model.specs.Value.{TcpValue}
-use Rattle.lan_net.specs.declared.answer.Answer.{Answer}
-use Rattle.lan_net.specs.declared.event.Side.{Side}
-use Rattle.lan_net.specs.Kinds.{other, Kind, kind_of, calls}
-use Rattle.lan_net.specs.Call.{SocketCall}
-use Rattle.lan_net.specs.History.{Entry, call_of, call_in, bound_port}
-use Rattle.lan_net.specs.Reads.{Accepted, ReadWasAccepted}
+use Rattle.lan_history.specs.declared.answer.Answer.{Answer}
+use Rattle.lan_history.specs.declared.event.Side.{Side}
+use Rattle.lan_history.specs.Kinds.{other, Kind, kind_of, calls}
+use Rattle.lan_history.specs.Call.{SocketCall}
+use Rattle.lan_history.specs.History.{Entry, call_of, call_in, bound_port}
+use Rattle.lan_history.specs.Reads.{Accepted, ReadWasAccepted}
 use Rattle.lan_packets.specs.Parties.{Socket, Datagram, Party, socket_at, datagrams_in, datagrams_of, WasMade}
 use Rattle.lan_packets.specs.Parties.Socket.{Tcp, Udp, Icmp, Raw}
 use Rattle.lan_packets.specs.Moves.{with_socket, LooksSame}

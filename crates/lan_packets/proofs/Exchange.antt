@@ -1,18 +1,18 @@
 -- A step of one host that exchanges one socket, or none of TCP.
 use Rattle.std.proofs.Common.{◌≡◌, ◌≢◌, ◌⊎◌, inl, inr, ℕ, List, [], ◌∷◌, ◌++◌, Option, Some, None, refl, sym, ap, ◌∙◌, subst}
 use Rattle.tcp_law.specs.Segment.Control.{Rst}
-use Rattle.tcp.specs.Endpoints.{HasPorts}
-use Rattle.tcp.specs.Host.{Made, past_at}
-use Rattle.tcp.specs.Promises.{KeepsAlone}
-use Rattle.tcp.specs.Tie.{Past, Keeps}
-use Rattle.tcp.proofs.HostLaws.{keeps_made_elsewhere, keeps_made_reset}
+use Rattle.tcp_tie.specs.Endpoints.{HasPorts}
+use Rattle.tcp_tie.specs.Host.{Made, past_at}
+use Rattle.tcp_tie.specs.Promises.{KeepsAlone}
+use Rattle.tcp_tie.specs.Tie.{Past, Keeps}
+use Rattle.tcp_tie.proofs.HostLaws.{keeps_made_elsewhere, keeps_made_reset}
 use Rattle.tcp_model.specs.EndpointPair.{EndpointPair}
 use Rattle.tcp_model.specs.Value.{TcpValue}
-use Rattle.lan_net.specs.declared.event.Side.{Side}
-use Rattle.lan_net.specs.declared.record.Opening.{Opening}
-use Rattle.lan_net.specs.Kinds.{other}
-use Rattle.lan_net.specs.History.{Entry, opening}
-use Rattle.lan_net.specs.Partners.{ArePartners}
+use Rattle.lan_history.specs.declared.event.Side.{Side}
+use Rattle.lan_history.specs.declared.record.Opening.{Opening}
+use Rattle.lan_history.specs.Kinds.{other}
+use Rattle.lan_history.specs.History.{Entry, opening}
+use Rattle.lan_history.specs.Partners.{ArePartners}
 use Rattle.lan_packets.specs.Parties.{Socket, Datagram, Party, socket_at}
 use Rattle.lan_packets.specs.Parties.Socket.{Tcp}
 use Rattle.lan_packets.specs.Moves.{with_socket}

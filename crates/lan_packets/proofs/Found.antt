@@ -1,22 +1,22 @@
 -- Whether an opened socket has a partner can be told.
 use Rattle.std.proofs.Common.{◌≡◌, ◌≢◌, ◌⊎◌, inl, inr, ℕ, zero, suc, ◌<◌, ◌==◌, Bool, true, false, List, [], ◌∷◌, length, Option, Some, None, refl, sym, ap, ◌∙◌, subst, arith}
 use Rattle.std.proofs.lemmas.Bool.Decides.{eqb_tells}
-use Rattle.lan_net.specs.declared.event.Side.{Side}
-use Rattle.lan_net.specs.declared.record.Opening.{Opening}
-use Rattle.lan_net.specs.Kinds.{other}
-use Rattle.lan_net.specs.History.{Entry, opening}
-use Rattle.lan_net.specs.Partners.{are_paired, ArePartners}
-use Rattle.lan_net.specs.Tables.{Places, kinds, AreAllowed}
-use Rattle.lan_net.specs.declared.answer.Answer.{Answer}
-use Rattle.lan_net.specs.declared.answer.Answer.TheVariants as To
-use Rattle.lan_net.specs.declared.record.SocketKind.{SocketKind}
-use Rattle.lan_net.specs.declared.record.SocketKind.TheVariants as Of
-use Rattle.lan_net.specs.Call as Call
-use Rattle.lan_net.specs.Call.{SocketCall}
-use Rattle.lan_net.specs.History.{opening_by}
-use Rattle.lan_net.specs.Kinds.{Kind, kind_of}
-use Rattle.lan_net.specs.Tables.{kind_at, is_wrong_kind, IsAllowed}
-use Rattle.lan_net.proofs.PartnerLemmas.{opened_place, OpensNow, opening_cases, was_taken}
+use Rattle.lan_history.specs.declared.event.Side.{Side}
+use Rattle.lan_history.specs.declared.record.Opening.{Opening}
+use Rattle.lan_history.specs.Kinds.{other}
+use Rattle.lan_history.specs.History.{Entry, opening}
+use Rattle.lan_history.specs.Partners.{are_paired, ArePartners}
+use Rattle.lan_history.specs.Tables.{Places, kinds, AreAllowed}
+use Rattle.lan_history.specs.declared.answer.Answer.{Answer}
+use Rattle.lan_history.specs.declared.answer.Answer.TheVariants as To
+use Rattle.lan_history.specs.declared.record.SocketKind.{SocketKind}
+use Rattle.lan_history.specs.declared.record.SocketKind.TheVariants as Of
+use Rattle.lan_history.specs.Call as Call
+use Rattle.lan_history.specs.Call.{SocketCall}
+use Rattle.lan_history.specs.History.{opening_by}
+use Rattle.lan_history.specs.Kinds.{Kind, kind_of}
+use Rattle.lan_history.specs.Tables.{kind_at, is_wrong_kind, IsAllowed}
+use Rattle.lan_history.proofs.PartnerLemmas.{opened_place, OpensNow, opening_cases, was_taken}
 use Rattle.lan_packets.proofs.Speaking.{same_opening}
 
 -- a socket of this host that is paired with an opening

@@ -3,15 +3,15 @@ use Rattle.std.proofs.Common.{◌≡◌, ◌⊎◌, inl, inr, ℕ, ◌||◌, Boo
 use Rattle.ip_wire.specs.IpEndpoint.{IpEndpoint}
 use Rattle.tcp_model.specs.State.{State}
 use Rattle.tcp_model.specs.State.TheVariants as In
-use Rattle.lan_net.specs.declared.event.Side.{Side}
-use Rattle.lan_net.specs.declared.event.Side.TheVariants.{A, B}
-use Rattle.lan_net.specs.Call as Call
-use Rattle.lan_net.specs.Call.{SocketCall}
-use Rattle.lan_net.specs.Kinds.{Kind, kind_of, calls}
-use Rattle.lan_net.specs.Kinds.Act.{Calls}
-use Rattle.lan_net.specs.Kinds.Kind.{OfHost}
-use Rattle.lan_net.specs.History.{Entry, call_of, closes, is_closed_by}
-use Rattle.lan_net.specs.Reads.{Accepted, ReadsWereAccepted, EndsWereTrue}
+use Rattle.lan_history.specs.declared.event.Side.{Side}
+use Rattle.lan_history.specs.declared.event.Side.TheVariants.{A, B}
+use Rattle.lan_history.specs.Call as Call
+use Rattle.lan_history.specs.Call.{SocketCall}
+use Rattle.lan_history.specs.Kinds.{Kind, kind_of, calls}
+use Rattle.lan_history.specs.Kinds.Act.{Calls}
+use Rattle.lan_history.specs.Kinds.Kind.{OfHost}
+use Rattle.lan_history.specs.History.{Entry, call_of, closes, is_closed_by}
+use Rattle.lan_history.specs.Reads.{Accepted, ReadsWereAccepted, EndsWereTrue}
 use Rattle.lan_packets.specs.Histories.{datagram_read_at, unbound, end_without_close, end_after_close, endpoint, text}
 use Rattle.lan_packets.proofs.Lists.{Each}
 

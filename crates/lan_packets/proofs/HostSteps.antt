@@ -2,20 +2,20 @@
 use Rattle.std.proofs.Common.{◌≡◌, ◌≢◌, ◌⊎◌, inl, inr, ℕ, ◌||◌, Bool, true, false, List, [], ◌∷◌, ◌++◌, Option, Some, None, refl, sym, ap, ◌∙◌, subst, append-nil}
 use Rattle.tcp_law.specs.Segment.Control.{Rst}
 use Rattle.tcp_law.specs.Side as Law
-use Rattle.tcp.specs.Endpoints.{HasPorts}
-use Rattle.tcp.specs.Host.{Made, past_at}
-use Rattle.tcp.specs.Promises.{KeepsAlone}
-use Rattle.tcp.specs.Tie.{Past, Keeps, no_past}
-use Rattle.tcp.proofs.AloneLaws.{stays_alone}
+use Rattle.tcp_tie.specs.Endpoints.{HasPorts}
+use Rattle.tcp_tie.specs.Host.{Made, past_at}
+use Rattle.tcp_tie.specs.Promises.{KeepsAlone}
+use Rattle.tcp_tie.specs.Tie.{Past, Keeps, no_past}
+use Rattle.tcp_tie.proofs.AloneLaws.{stays_alone}
 use Rattle.tcp_model.specs.EndpointPair.{EndpointPair}
 use Rattle.tcp_model.specs.Value.{TcpValue}
-use Rattle.lan_net.specs.declared.event.Side.{Side}
-use Rattle.lan_net.specs.declared.record.Opening.{Opening}
-use Rattle.lan_net.specs.Kinds.{other}
-use Rattle.lan_net.specs.Call.{SocketCall}
-use Rattle.lan_net.specs.History.{Entry, call_of, first_of, opening_by, bytes_written, bytes_read, closes, opening, written, read, is_closed_by}
-use Rattle.lan_net.specs.Partners.{ArePartners}
-use Rattle.lan_net.proofs.TableLemmas.{first_of-none}
+use Rattle.lan_history.specs.declared.event.Side.{Side}
+use Rattle.lan_history.specs.declared.record.Opening.{Opening}
+use Rattle.lan_history.specs.Kinds.{other}
+use Rattle.lan_history.specs.Call.{SocketCall}
+use Rattle.lan_history.specs.History.{Entry, call_of, first_of, opening_by, bytes_written, bytes_read, closes, opening, written, read, is_closed_by}
+use Rattle.lan_history.specs.Partners.{ArePartners}
+use Rattle.lan_history.proofs.TableLemmas.{first_of-none}
 use Rattle.lan_packets.specs.Parties.{Party, socket_at}
 use Rattle.lan_packets.specs.Parties.Socket.{Tcp}
 use Rattle.lan_packets.proofs.Lists.{Each, each_of}

@@ -6,35 +6,35 @@ use Rattle.std.proofs.Math.Seq.{map-set_same}
 use Rattle.std.proofs.Math.ListN.{get_or-map}
 use Rattle.socket_base.specs.Context.{ContextValue}
 use Rattle.datagram_sockets.specs.Udp.{UdpValue}
-use Rattle.tcp.specs.Host.{past_at}
-use Rattle.tcp.specs.Promises.{KeepsAlone}
-use Rattle.tcp.specs.Tie.{Keeps}
-use Rattle.tcp.proofs.AnsweredLaws.{read_to_the_end}
-use Rattle.tcp.proofs.PromiseLemmas.{keeps_turned, alone_nothing}
+use Rattle.tcp_tie.specs.Host.{past_at}
+use Rattle.tcp_tie.specs.Promises.{KeepsAlone}
+use Rattle.tcp_tie.specs.Tie.{Keeps}
+use Rattle.tcp_tie.proofs.AnsweredLaws.{read_to_the_end}
+use Rattle.tcp_tie.proofs.PromiseLemmas.{keeps_turned, alone_nothing}
 use Rattle.tcp_model.specs.RecvError.{RecvError}
 use Rattle.tcp_model.specs.RecvError.TheVariants as Recv
 use Rattle.tcp_model.specs.Calls.{recv_answer}
 use Rattle.tcp_model.specs.Value.{TcpValue}
-use Rattle.lan_net.specs.declared.answer.Answer.{Answer}
-use Rattle.lan_net.specs.declared.answer.Answer.TheVariants as To
-use Rattle.lan_net.specs.declared.answer.Fault.TheVariants as Fault
-use Rattle.lan_net.specs.declared.event.Side.{Side}
-use Rattle.lan_net.specs.declared.event.Side.TheVariants.{A, B}
-use Rattle.lan_net.specs.declared.record.Opening.{Opening}
-use Rattle.lan_net.specs.declared.record.SocketKind.{SocketKind}
-use Rattle.lan_net.specs.declared.record.SocketKind.TheVariants as Of
-use Rattle.lan_net.specs.Call as Call
-use Rattle.lan_net.specs.Call.{SocketCall}
-use Rattle.lan_net.specs.Kinds.{other, Kind, kind_of, calls}
-use Rattle.lan_net.specs.Kinds.Act.{Calls}
-use Rattle.lan_net.specs.Kinds.Kind.{OfHost}
-use Rattle.lan_net.specs.History.{Entry, call_of, call_in, opening}
-use Rattle.lan_net.specs.Partners.{ArePartners}
-use Rattle.lan_net.specs.Reads.{ReadWasAccepted, ReadsWereAccepted, HasEnded, EndWasTrue, EndsWereTrue}
-use Rattle.lan_net.specs.Tables.{Places, kinds, kind_at, IsAllowed, AreAllowed}
-use Rattle.lan_net.proofs.PartnerLemmas.{paired_turned}
-use Rattle.lan_net.proofs.PartnerLemmas.{opening_stays}
-use Rattle.lan_net.proofs.CallLemmas.{call_at_other_side, call_at_other_place}
+use Rattle.lan_history.specs.declared.answer.Answer.{Answer}
+use Rattle.lan_history.specs.declared.answer.Answer.TheVariants as To
+use Rattle.lan_history.specs.declared.answer.Fault.TheVariants as Fault
+use Rattle.lan_history.specs.declared.event.Side.{Side}
+use Rattle.lan_history.specs.declared.event.Side.TheVariants.{A, B}
+use Rattle.lan_history.specs.declared.record.Opening.{Opening}
+use Rattle.lan_history.specs.declared.record.SocketKind.{SocketKind}
+use Rattle.lan_history.specs.declared.record.SocketKind.TheVariants as Of
+use Rattle.lan_history.specs.Call as Call
+use Rattle.lan_history.specs.Call.{SocketCall}
+use Rattle.lan_history.specs.Kinds.{other, Kind, kind_of, calls}
+use Rattle.lan_history.specs.Kinds.Act.{Calls}
+use Rattle.lan_history.specs.Kinds.Kind.{OfHost}
+use Rattle.lan_history.specs.History.{Entry, call_of, call_in, opening}
+use Rattle.lan_history.specs.Partners.{ArePartners}
+use Rattle.lan_history.specs.Reads.{ReadWasAccepted, ReadsWereAccepted, HasEnded, EndWasTrue, EndsWereTrue}
+use Rattle.lan_history.specs.Tables.{Places, kinds, kind_at, IsAllowed, AreAllowed}
+use Rattle.lan_history.proofs.PartnerLemmas.{paired_turned}
+use Rattle.lan_history.proofs.PartnerLemmas.{opening_stays}
+use Rattle.lan_history.proofs.CallLemmas.{call_at_other_side, call_at_other_place}
 use Rattle.lan_packets.specs.Calls.{bytes_or, tcp_does, udp_does}
 use Rattle.lan_packets.specs.Moves.{DoneBy, Does, IsOfOthers, IsNoCall, with_socket}
 use Rattle.lan_packets.proofs.Found.{opened_tcp, find_partner}

@@ -11,25 +11,25 @@ use Rattle.datagram_sockets.specs.Udp as Udps
 use Rattle.datagram_sockets.specs.Udp.{UdpValue}
 use Rattle.tcp_law.specs.Safe.{IsPrefixOf}
 use Rattle.tcp_law.specs.Segment.Control.{Rst}
-use Rattle.tcp.specs.Host.{Made, made_of, past_at, IsAmong, and_answer}
-use Rattle.tcp.specs.Promises.{AreSafeSockets}
-use Rattle.tcp.proofs.PromiseLemmas.{safe_sockets, alone_nothing}
-use Rattle.tcp.specs.Tie.{Past}
+use Rattle.tcp_tie.specs.Host.{Made, made_of, past_at, IsAmong, and_answer}
+use Rattle.tcp_tie.specs.Promises.{AreSafeSockets}
+use Rattle.tcp_tie.proofs.PromiseLemmas.{safe_sockets, alone_nothing}
+use Rattle.tcp_tie.specs.Tie.{Past}
 use Rattle.tcp_model.specs.Arrival.{arrives}
 use Rattle.tcp_model.specs.Names.{accepts}
 use Rattle.tcp_model.specs.Offers.{offer_of}
 use Rattle.tcp_model.specs.Settled.{settled}
 use Rattle.tcp_model.specs.Value.{TcpValue}
-use Rattle.lan_net.specs.declared.event.Side.{Side}
-use Rattle.lan_net.specs.declared.event.Side.TheVariants.{A, B}
-use Rattle.lan_net.specs.declared.record.Opening.{Opening}
-use Rattle.lan_net.specs.declared.record.SocketKind.{SocketKind}
-use Rattle.lan_net.specs.Call.{SocketCall}
-use Rattle.lan_net.specs.Kinds.{other, kind_of, calls}
-use Rattle.lan_net.specs.History.{Entry, bound_port, opening, written, read}
-use Rattle.lan_net.specs.Partners.{ArePartners}
-use Rattle.lan_net.specs.Tables.{Places, kinds, IsAllowed, AreAllowed}
-use Rattle.lan_net.proofs.PartnerLemmas.{partners_turned}
+use Rattle.lan_history.specs.declared.event.Side.{Side}
+use Rattle.lan_history.specs.declared.event.Side.TheVariants.{A, B}
+use Rattle.lan_history.specs.declared.record.Opening.{Opening}
+use Rattle.lan_history.specs.declared.record.SocketKind.{SocketKind}
+use Rattle.lan_history.specs.Call.{SocketCall}
+use Rattle.lan_history.specs.Kinds.{other, kind_of, calls}
+use Rattle.lan_history.specs.History.{Entry, bound_port, opening, written, read}
+use Rattle.lan_history.specs.Partners.{ArePartners}
+use Rattle.lan_history.specs.Tables.{Places, kinds, IsAllowed, AreAllowed}
+use Rattle.lan_history.proofs.PartnerLemmas.{partners_turned}
 use Rattle.lan_packets.specs.Parties.{Socket, Datagram, Party, socket_at, kind_in, WasMade, Net, party, with_party, places_of, datagrams_of}
 use Rattle.lan_packets.specs.Parties.Socket.{Tcp, Udp, Icmp, Raw}
 use Rattle.lan_packets.specs.Moves.{Move, with_socket, offered_segments, Does, IsNoCall, LooksSame, party_after, history_after, May, Step, after, IsRun, run}

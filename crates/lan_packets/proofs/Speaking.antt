@@ -4,23 +4,23 @@ use Rattle.std.proofs.lemmas.Bool.{eqb-true, and_parts}
 use Rattle.ip_wire.specs.IpRepr.{IpRepr}
 use Rattle.ip_wire.specs.TcpHeader.{TcpHeader}
 use Rattle.tcp_law.specs.Segment.Control.{Rst}
-use Rattle.tcp.specs.Endpoints.{IsFor, HasPorts, IsToward, CameBetween}
-use Rattle.tcp.specs.Host.{Made, made_of}
-use Rattle.tcp.specs.Tie.{control_of, segment_of}
+use Rattle.tcp_tie.specs.Endpoints.{IsFor, HasPorts, IsToward, CameBetween}
+use Rattle.tcp_tie.specs.Host.{Made, made_of}
+use Rattle.tcp_tie.specs.Tie.{control_of, segment_of}
 use Rattle.tcp_model.specs.EndpointPair.{EndpointPair}
 use Rattle.tcp_model.specs.Controls.{is_rst}
 use Rattle.tcp_model.specs.States.{is_listening}
 use Rattle.tcp_model.specs.Value.{TcpValue}
 use Rattle.ip_wire.specs.TcpControl.{TcpControl}
 use Rattle.ip_wire.specs.TcpControl.TheVariants as Bits
-use Rattle.lan_net.specs.declared.event.Side.{Side}
-use Rattle.lan_net.specs.declared.record.Opening.{Opening}
-use Rattle.lan_net.specs.Kinds.{other}
-use Rattle.lan_net.specs.History.{Entry, opening}
-use Rattle.lan_net.specs.Partners.{names_port, are_paired, ArePartners}
-use Rattle.lan_net.specs.Tables.{Places, AreAllowed}
-use Rattle.lan_net.proofs.CallLemmas.{other_twice}
-use Rattle.lan_net.proofs.PartnerLemmas.{opened_apart, AreApart, one_partner}
+use Rattle.lan_history.specs.declared.event.Side.{Side}
+use Rattle.lan_history.specs.declared.record.Opening.{Opening}
+use Rattle.lan_history.specs.Kinds.{other}
+use Rattle.lan_history.specs.History.{Entry, opening}
+use Rattle.lan_history.specs.Partners.{names_port, are_paired, ArePartners}
+use Rattle.lan_history.specs.Tables.{Places, AreAllowed}
+use Rattle.lan_history.proofs.CallLemmas.{other_twice}
+use Rattle.lan_history.proofs.PartnerLemmas.{opened_apart, AreApart, one_partner}
 use Rattle.lan_packets.proofs.StreamInvariant.{ports_of, ConnectsTo, SpeaksWith, TcpOk, WasSent, SegmentOk}
 
 pub same_opening : (o p : Opening) → Some o ≡ Some p → o ≡ p

@@ -9,13 +9,13 @@ use Rattle.ip_wire.specs.AddressTests.{is_unspecified}
 use Rattle.socket_base.specs.Context.{ContextValue, next_random}
 use Rattle.tcp_law.specs.Segment.{Segment}
 use Rattle.tcp_law.specs.Side.Opening.{NotYet}
-use Rattle.tcp.specs.Endpoints.{HasPorts}
-use Rattle.tcp.specs.Host.{past_at}
-use Rattle.tcp.specs.History.{closes_in, closed_by, bytes_taken, with_written, with_read}
-use Rattle.tcp.specs.Tie.{Core, core_of, Past, Keeps, no_past}
-use Rattle.tcp.proofs.AnsweredLaws.{keeps_send}
-use Rattle.tcp.proofs.CallLaws.{keeps_listening, keeps_connecting, keeps_read, keeps_close, keeps_abort, keeps_same}
-use Rattle.tcp.proofs.NameLaws.{ports_listening, ports_connecting, ports_same, ports_close, ports_abort, close_names, abort_names}
+use Rattle.tcp_tie.specs.Endpoints.{HasPorts}
+use Rattle.tcp_tie.specs.Host.{past_at}
+use Rattle.tcp_tie.specs.History.{closes_in, closed_by, bytes_taken, with_written, with_read}
+use Rattle.tcp_tie.specs.Tie.{Core, core_of, Past, Keeps, no_past}
+use Rattle.tcp_tie.proofs.AnsweredLaws.{keeps_send}
+use Rattle.tcp_tie.proofs.CallLaws.{keeps_listening, keeps_connecting, keeps_read, keeps_close, keeps_abort, keeps_same}
+use Rattle.tcp_tie.proofs.NameLaws.{ports_listening, ports_connecting, ports_same, ports_close, ports_abort, close_names, abort_names}
 use Rattle.tcp_model.specs.declared.block.Block.{Block}
 use Rattle.tcp_model.specs.AddressPair.{AddressPair}
 use Rattle.tcp_model.specs.EndpointPair.{EndpointPair}
@@ -32,21 +32,21 @@ use Rattle.tcp_model.specs.State.TheVariants as In
 use Rattle.tcp_model.specs.Calls.{listening, listens_on, listen_answer, listen_after, connecting, connected_by, connect_answer, connect_after, found_answer, pair_for, pair_by, addresses_by, source_by, send_answer, sent_more, send_after, recv_answer, recv_refusal, or_count, nothing_left, recv_after, close_after, abort_after}
 use Rattle.tcp_model.specs.States.{is_closed, is_opening, takes_writes, takes_text, after_close}
 use Rattle.tcp_model.specs.Value.{TcpValue, unoffered, ended, with_block}
-use Rattle.lan_net.specs.declared.answer.Answer.{Answer}
-use Rattle.lan_net.specs.declared.answer.Answer.TheVariants as To
-use Rattle.lan_net.specs.declared.answer.Refused.TheVariants as For
-use Rattle.lan_net.specs.declared.event.Side.{Side}
-use Rattle.lan_net.specs.declared.event.TcpSetting.{TcpSetting}
-use Rattle.lan_net.specs.declared.event.TcpSetting.TheVariants as Changed
-use Rattle.lan_net.specs.declared.record.Opening.{Opening}
-use Rattle.lan_net.specs.declared.record.SocketRecord.{SocketRecord}
-use Rattle.lan_net.specs.Call as Call
-use Rattle.lan_net.specs.Call.{SocketCall}
-use Rattle.lan_net.specs.Kinds.{other, Kind, kind_of, calls}
-use Rattle.lan_net.specs.History.{Entry, first_of, opening_by, bytes_written, bytes_read, closes, opening, written, read, is_closed_by}
-use Rattle.lan_net.specs.Tables.{Places, kinds, table_of, record_at, IsAllowed, AreAllowed}
-use Rattle.lan_net.proofs.PartnerLemmas.{WasTaken, was_taken, MayOpen, may_open, test_passed}
-use Rattle.lan_net.proofs.TableLemmas.{first_of-none, table_says}
+use Rattle.lan_history.specs.declared.answer.Answer.{Answer}
+use Rattle.lan_history.specs.declared.answer.Answer.TheVariants as To
+use Rattle.lan_history.specs.declared.answer.Refused.TheVariants as For
+use Rattle.lan_history.specs.declared.event.Side.{Side}
+use Rattle.lan_history.specs.declared.event.TcpSetting.{TcpSetting}
+use Rattle.lan_history.specs.declared.event.TcpSetting.TheVariants as Changed
+use Rattle.lan_history.specs.declared.record.Opening.{Opening}
+use Rattle.lan_history.specs.declared.record.SocketRecord.{SocketRecord}
+use Rattle.lan_history.specs.Call as Call
+use Rattle.lan_history.specs.Call.{SocketCall}
+use Rattle.lan_history.specs.Kinds.{other, Kind, kind_of, calls}
+use Rattle.lan_history.specs.History.{Entry, first_of, opening_by, bytes_written, bytes_read, closes, opening, written, read, is_closed_by}
+use Rattle.lan_history.specs.Tables.{Places, kinds, table_of, record_at, IsAllowed, AreAllowed}
+use Rattle.lan_history.proofs.PartnerLemmas.{WasTaken, was_taken, MayOpen, may_open, test_passed}
+use Rattle.lan_history.proofs.TableLemmas.{first_of-none, table_says}
 use Rattle.lan_packets.specs.Calls.{at_port, done_or, count_or, listen_fault, connect_fault, write_fault, recv_fault, bytes_or, read_by, hops_or_none, setting_after, tcp_does}
 use Rattle.lan_packets.specs.Moves.{DoneBy, with_socket}
 use Rattle.lan_packets.specs.Parties.{Socket, Party, socket_at}

@@ -3,17 +3,17 @@ use Rattle.std.proofs.Common.{◌≡◌, ◌⊎◌, inl, inr, ℕ, ◌==◌, Boo
 use Rattle.tcp_law.specs.Segment.Control.{Rst}
 use Rattle.tcp_law.specs.Side as Law
 use Rattle.tcp_law.specs.Side.Opening.{NotYet, Passive, Active}
-use Rattle.tcp.specs.Endpoints.{Ports, HasPorts, IsNameless}
-use Rattle.tcp.specs.Host.{Made, past_at}
-use Rattle.tcp.specs.Promises.{IsFresh, KeepsAlone}
-use Rattle.tcp.specs.Tie.{Past, Keeps, no_past}
+use Rattle.tcp_tie.specs.Endpoints.{Ports, HasPorts, IsNameless}
+use Rattle.tcp_tie.specs.Host.{Made, past_at}
+use Rattle.tcp_tie.specs.Promises.{IsFresh, KeepsAlone}
+use Rattle.tcp_tie.specs.Tie.{Past, Keeps, no_past}
 use Rattle.tcp_model.specs.EndpointPair.{EndpointPair}
 use Rattle.tcp_model.specs.Value.{TcpValue}
-use Rattle.lan_net.specs.declared.event.Side.{Side}
-use Rattle.lan_net.specs.declared.record.Opening.{Opening}
-use Rattle.lan_net.specs.Kinds.{other}
-use Rattle.lan_net.specs.History.{Entry, opening, written, read, is_closed_by}
-use Rattle.lan_net.specs.Partners.{ArePartners}
+use Rattle.lan_history.specs.declared.event.Side.{Side}
+use Rattle.lan_history.specs.declared.record.Opening.{Opening}
+use Rattle.lan_history.specs.Kinds.{other}
+use Rattle.lan_history.specs.History.{Entry, opening, written, read, is_closed_by}
+use Rattle.lan_history.specs.Partners.{ArePartners}
 use Rattle.lan_packets.specs.Parties.{Socket, Party, socket_at}
 use Rattle.lan_packets.specs.Parties.Socket.{Tcp}
 use Rattle.lan_packets.proofs.Lists.{Each}

@@ -6,16 +6,16 @@ use Rattle.ip_wire.specs.TcpHeader.{TcpHeader}
 use Rattle.socket_base.specs.Context.{ContextValue}
 use Rattle.socket_base.specs.Offers.{Offered}
 use Rattle.tcp_law.specs.Segment.Control.{Rst}
-use Rattle.tcp.specs.Endpoints.{HasPorts, IsFor, IsNameless, KeepsNames, Forgets, KeepsOrForgets, IsRenamed, IsOpenedBy, FallsBack}
-use Rattle.tcp.specs.Host.{Made, made_of, past_at, IsAmong, and_answer, and_offer}
-use Rattle.tcp.specs.Promises.{IsFresh, KeepsAlone}
-use Rattle.tcp.specs.Tie.{Core, core_of, Past, Keeps, segment_of}
-use Rattle.tcp.proofs.AloneLaws.{stays_alone, reset_comes}
-use Rattle.tcp.proofs.ArrivalLaws.{keeps_arrival}
-use Rattle.tcp.proofs.CallLaws.{keeps_same}
-use Rattle.tcp.proofs.HostLaws.{keeps_hosted_arrival, keeps_hosted_offer, past_of_answer}
-use Rattle.tcp.proofs.NameLaws.{arrival_names, answer_back, offer_between_ends, sent_names, withheld_names, ports_same, ports_sent, ports_withheld, ports_arrival, nameless_refuses, nameless_silent, accepted as accepted_for}
-use Rattle.tcp.proofs.OfferLaws.{keeps_unsent_offer}
+use Rattle.tcp_tie.specs.Endpoints.{HasPorts, IsFor, IsNameless, KeepsNames, Forgets, KeepsOrForgets, IsRenamed, IsOpenedBy, FallsBack}
+use Rattle.tcp_tie.specs.Host.{Made, made_of, past_at, IsAmong, and_answer, and_offer}
+use Rattle.tcp_tie.specs.Promises.{IsFresh, KeepsAlone}
+use Rattle.tcp_tie.specs.Tie.{Core, core_of, Past, Keeps, segment_of}
+use Rattle.tcp_tie.proofs.AloneLaws.{stays_alone, reset_comes}
+use Rattle.tcp_tie.proofs.ArrivalLaws.{keeps_arrival}
+use Rattle.tcp_tie.proofs.CallLaws.{keeps_same}
+use Rattle.tcp_tie.proofs.HostLaws.{keeps_hosted_arrival, keeps_hosted_offer, past_of_answer}
+use Rattle.tcp_tie.proofs.NameLaws.{arrival_names, answer_back, offer_between_ends, sent_names, withheld_names, ports_same, ports_sent, ports_withheld, ports_arrival, nameless_refuses, nameless_silent, accepted as accepted_for}
+use Rattle.tcp_tie.proofs.OfferLaws.{keeps_unsent_offer}
 use Rattle.tcp_model.specs.declared.block.Block.{Block}
 use Rattle.tcp_model.specs.EndpointPair.{EndpointPair}
 use Rattle.tcp_model.specs.declared.block.Names.{Names}
@@ -28,13 +28,13 @@ use Rattle.tcp_model.specs.Offers.{offer_of, payload_of}
 use Rattle.tcp_model.specs.Settled.{settled}
 use Rattle.tcp_model.specs.States.{is_closed}
 use Rattle.tcp_model.specs.Value.{TcpValue, unoffered}
-use Rattle.lan_net.specs.declared.event.Side.{Side}
-use Rattle.lan_net.specs.declared.record.Opening.{Opening}
-use Rattle.lan_net.specs.Kinds.{other}
-use Rattle.lan_net.specs.History.{Entry, opening}
-use Rattle.lan_net.specs.Partners.{ArePartners}
-use Rattle.lan_net.specs.Tables.{Places, AreAllowed}
-use Rattle.lan_net.proofs.PartnerLemmas.{opened_apart, AreApart}
+use Rattle.lan_history.specs.declared.event.Side.{Side}
+use Rattle.lan_history.specs.declared.record.Opening.{Opening}
+use Rattle.lan_history.specs.Kinds.{other}
+use Rattle.lan_history.specs.History.{Entry, opening}
+use Rattle.lan_history.specs.Partners.{ArePartners}
+use Rattle.lan_history.specs.Tables.{Places, AreAllowed}
+use Rattle.lan_history.proofs.PartnerLemmas.{opened_apart, AreApart}
 use Rattle.lan_packets.specs.Parties.{Socket, Party, socket_at}
 use Rattle.lan_packets.specs.Parties.Socket.{Tcp}
 use Rattle.lan_packets.specs.Moves.{with_socket, offered_segments}

@@ -23,14 +23,14 @@ use Rattle.tcp_model.specs.State.{State}
 use Rattle.tcp_model.specs.Calls.{listen_answer, listen_after, connect_answer, connect_after, send_answer, send_after, recv_answer, recv_after, close_after, abort_after}
 use Rattle.tcp_model.specs.Settings.{set_timeout, set_ack_delay, set_keep_alive, set_nagle_enabled, set_hop_limit, set_congestion_control, set_tsval_generator, pause_synack}
 use Rattle.tcp_model.specs.Value.{TcpValue, unoffered}
-use Rattle.lan_net.specs.declared.answer.Answer.{Answer}
-use Rattle.lan_net.specs.declared.answer.Answer.TheVariants as To
-use Rattle.lan_net.specs.declared.answer.Fault.{Fault}
-use Rattle.lan_net.specs.declared.answer.Fault.TheVariants as For
-use Rattle.lan_net.specs.declared.event.TcpSetting.{TcpSetting}
-use Rattle.lan_net.specs.declared.event.TcpSetting.TheVariants as Changed
-use Rattle.lan_net.specs.Call.{SocketCall}
-use Rattle.lan_net.specs.Call as Call
+use Rattle.lan_history.specs.declared.answer.Answer.{Answer}
+use Rattle.lan_history.specs.declared.answer.Answer.TheVariants as To
+use Rattle.lan_history.specs.declared.answer.Fault.{Fault}
+use Rattle.lan_history.specs.declared.answer.Fault.TheVariants as For
+use Rattle.lan_history.specs.declared.event.TcpSetting.{TcpSetting}
+use Rattle.lan_history.specs.declared.event.TcpSetting.TheVariants as Changed
+use Rattle.lan_history.specs.Call.{SocketCall}
+use Rattle.lan_history.specs.Call as Call
 
 -- ANSWERS
 

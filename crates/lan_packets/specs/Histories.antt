@@ -3,14 +3,14 @@ use Rattle.std.specs.Prelude.{ℕ, List, [], ◌∷◌, Option, Some, None}
 use Rattle.ip_wire.specs.IpAddress.TheVariants as Address
 use Rattle.ip_wire.specs.IpEndpoint.{IpEndpoint}
 use Rattle.tcp_model.specs.State.{State}
-use Rattle.lan_net.specs.declared.answer.Answer.{Answer}
-use Rattle.lan_net.specs.declared.answer.Answer.TheVariants as To
-use Rattle.lan_net.specs.declared.answer.Fault.TheVariants as Fault
-use Rattle.lan_net.specs.declared.event.Event.{Event}
-use Rattle.lan_net.specs.declared.event.Event.TheVariants as E
-use Rattle.lan_net.specs.declared.event.Side.{Side}
-use Rattle.lan_net.specs.declared.event.Side.TheVariants.{A, B}
-use Rattle.lan_net.specs.History.{Entry}
+use Rattle.lan_history.specs.declared.answer.Answer.{Answer}
+use Rattle.lan_history.specs.declared.answer.Answer.TheVariants as To
+use Rattle.lan_history.specs.declared.answer.Fault.TheVariants as Fault
+use Rattle.lan_history.specs.declared.event.Event.{Event}
+use Rattle.lan_history.specs.declared.event.Event.TheVariants as E
+use Rattle.lan_history.specs.declared.event.Side.{Side}
+use Rattle.lan_history.specs.declared.event.Side.TheVariants.{A, B}
+use Rattle.lan_history.specs.History.{Entry}
 
 abbrev pub answered : Event → Answer → Option State → Entry
 answered event answer found = record {

@@ -10,24 +10,24 @@ use Rattle.datagram_sockets.specs.SocketValue as Datagrams
 use Rattle.datagram_sockets.specs.Udp as Udps
 use Rattle.datagram_sockets.specs.Udp.{UdpValue}
 use Rattle.tcp_law.specs.Segment.Control.{Rst}
-use Rattle.tcp.specs.Host.{Made, made_of, IsAmong, and_answer, and_offer}
-use Rattle.tcp.specs.Tie.{core_of}
+use Rattle.tcp_tie.specs.Host.{Made, made_of, IsAmong, and_answer, and_offer}
+use Rattle.tcp_tie.specs.Tie.{core_of}
 use Rattle.tcp_model.specs.Arrival.{arrives}
 use Rattle.tcp_model.specs.Names.{accepts}
 use Rattle.tcp_model.specs.Offers.{offer_of}
 use Rattle.tcp_model.specs.Settled.{settled}
 use Rattle.tcp_model.specs.Value.{TcpValue}
 use Rattle.tcp_model.specs.State.{State}
-use Rattle.lan_net.specs.declared.answer.Answer.{Answer}
-use Rattle.lan_net.specs.declared.answer.Answer.TheVariants as To
-use Rattle.lan_net.specs.declared.event.Side.{Side}
-use Rattle.lan_net.specs.Kinds.{other, Kind, kind_of, calls}
-use Rattle.lan_net.specs.Call.{SocketCall}
-use Rattle.lan_net.specs.Kinds.Act.{Calls}
-use Rattle.lan_net.specs.Kinds.Kind.{OfHost}
-use Rattle.lan_net.specs.Call as Call
-use Rattle.lan_net.specs.History.{Entry}
-use Rattle.lan_net.specs.Tables.{IsAllowed}
+use Rattle.lan_history.specs.declared.answer.Answer.{Answer}
+use Rattle.lan_history.specs.declared.answer.Answer.TheVariants as To
+use Rattle.lan_history.specs.declared.event.Side.{Side}
+use Rattle.lan_history.specs.Kinds.{other, Kind, kind_of, calls}
+use Rattle.lan_history.specs.Call.{SocketCall}
+use Rattle.lan_history.specs.Kinds.Act.{Calls}
+use Rattle.lan_history.specs.Kinds.Kind.{OfHost}
+use Rattle.lan_history.specs.Call as Call
+use Rattle.lan_history.specs.History.{Entry}
+use Rattle.lan_history.specs.Tables.{IsAllowed}
 use Rattle.lan_packets.specs.Calls.{Did, tcp_does, udp_does}
 use Rattle.lan_packets.specs.Parties.{Socket, Datagram, Party, socket_at, WasMade, datagrams_of, Net, party, with_party, places_of}
 use Rattle.lan_packets.specs.Parties.Socket.{Tcp, Udp, Icmp, Raw}

@@ -4,14 +4,14 @@ use Rattle.std.specs.Prelude.{◌≡◌, ℕ, Bool, List, [], ◌∷◌, ◌++�
 use Rattle.socket_base.specs.Packet.{PacketValue, PayloadValue}
 use Rattle.socket_base.specs.Packet as Carried
 use Rattle.datagram_sockets.specs.Udp.{UdpValue}
-use Rattle.tcp.specs.Host.{Made}
+use Rattle.tcp_tie.specs.Host.{Made}
 use Rattle.tcp_model.specs.Value.{TcpValue}
-use Rattle.lan_net.specs.declared.event.Side.{Side}
-use Rattle.lan_net.specs.declared.event.Side.TheVariants.{A, B}
-use Rattle.lan_net.specs.declared.record.SocketKind.{SocketKind}
-use Rattle.lan_net.specs.declared.record.SocketKind.TheVariants as Of
-use Rattle.lan_net.specs.History.{Entry}
-use Rattle.lan_net.specs.Tables.{Places}
+use Rattle.lan_history.specs.declared.event.Side.{Side}
+use Rattle.lan_history.specs.declared.event.Side.TheVariants.{A, B}
+use Rattle.lan_history.specs.declared.record.SocketKind.{SocketKind}
+use Rattle.lan_history.specs.declared.record.SocketKind.TheVariants as Of
+use Rattle.lan_history.specs.History.{Entry}
+use Rattle.lan_history.specs.Tables.{Places}
 
 -- a socket; one of ICMP or a raw one makes and takes neither segment nor datagram, so nothing of it is looked at
 pub data Socket : Type 0 where

@@ -2,15 +2,15 @@
 use Rattle.std.specs.Prelude.{◌≡◌, ℕ, ◌-◌, ◌≤◌, List, [], ◌++◌, length, Some}
 use Rattle.net_base.specs.Packets.{contents}
 use Rattle.tcp_law.specs.Safe.{IsPrefixOf}
-use Rattle.tcp.specs.Endpoints.{IsNameless}
-use Rattle.tcp.specs.Promises.{IsFresh}
+use Rattle.tcp_tie.specs.Endpoints.{IsNameless}
+use Rattle.tcp_tie.specs.Promises.{IsFresh}
 use Rattle.tcp_model.specs.Value.{TcpValue}
-use Rattle.lan_net.specs.declared.event.Side.{Side}
-use Rattle.lan_net.specs.declared.event.Side.TheVariants.{A, B}
-use Rattle.lan_net.specs.Kinds.{other}
-use Rattle.lan_net.specs.History.{written, read}
-use Rattle.lan_net.specs.Partners.{ArePartners}
-use Rattle.lan_net.specs.Reads.{ReadsWereAccepted, EndsWereTrue}
+use Rattle.lan_history.specs.declared.event.Side.{Side}
+use Rattle.lan_history.specs.declared.event.Side.TheVariants.{A, B}
+use Rattle.lan_history.specs.Kinds.{other}
+use Rattle.lan_history.specs.History.{written, read}
+use Rattle.lan_history.specs.Partners.{ArePartners}
+use Rattle.lan_history.specs.Reads.{ReadsWereAccepted, EndsWereTrue}
 use Rattle.lan_packets.specs.Parties.{Socket, Party, socket_at, Net, party}
 use Rattle.lan_packets.specs.Parties.Socket.{Tcp, Udp, Icmp, Raw}
 

@@ -1,6 +1,6 @@
 //! The theorem.
 ghost use Rattle.std.specs.Prelude.{◌≡◌, ◌++◌, ℕ, Bool, List};
-ghost use Rattle.lan_net.specs.declared.event.Side.{Side};
+ghost use Rattle.lan_history.specs.declared.event.Side.{Side};
 ghost use Rattle.lan_packets.specs.Moves.{Step, IsRun, run};
 ghost use Rattle.lan_packets.specs.Parties.{Net};
 ghost use Rattle.lan_packets.specs.Safe.{IsFreshNet, IsSafe};

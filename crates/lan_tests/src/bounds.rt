@@ -4,8 +4,8 @@ use crate::refusals::TWO_STREAMS;
 use crate::steps::play_steps;
 use crate::worlds::world;
 use lan::{Event, Refused, Side, World};
-use lan_net::{SocketKind, SocketRecord};
-use lan_stations::refusal::send_refusal;
+use lan_history::{SocketKind, SocketRecord};
+use lan_hosts::refusal::send_refusal;
 use std::alloc::{AllocError, Global};
 use std::test::Fail;
 

@@ -10,17 +10,17 @@ use Rattle.interface_ingress.specs.Reassembled.{Slots}
 use Rattle.interface_egress.specs.declared.socket_set.Item.{Item}
 use Rattle.interface_egress.specs.declared.socket_set.SocketStorage.{SocketStorage}
 use Rattle.interface.specs.State.{State}
-use Rattle.lan_net.specs.Call.{SocketCall}
-use Rattle.lan_net.specs.Kinds.{other}
-use Rattle.lan_net.specs.declared.answer.Answer.{Answer}
-use Rattle.lan_net.specs.declared.event.Side.{Side}
-use Rattle.lan_net.specs.declared.event.Side.TheVariants.{A, B}
+use Rattle.lan_history.specs.Call.{SocketCall}
+use Rattle.lan_history.specs.Kinds.{other}
+use Rattle.lan_history.specs.declared.answer.Answer.{Answer}
+use Rattle.lan_history.specs.declared.event.Side.{Side}
+use Rattle.lan_history.specs.declared.event.Side.TheVariants.{A, B}
 use Rattle.lan_packets.specs.Calls.{Did}
 use Rattle.lan_packets.specs.Parties.{Party, Net, party}
 use Rattle.lan_port.specs.Port.{LinkEnd, PortValue}
-use Rattle.lan_stations.specs.Does.{Does, PlaceDoes, ItemDoes, DidAt, draws, does}
-use Rattle.lan_stations.specs.Sets.{with_room, asked}
-use Rattle.lan_stations.specs.Station.{StationValue, Stations, station, at_port}
+use Rattle.lan_hosts.specs.Does.{Does, PlaceDoes, ItemDoes, DidAt, draws, does}
+use Rattle.lan_hosts.specs.Sets.{with_room, asked}
+use Rattle.lan_hosts.specs.Station.{StationValue, Stations, station, at_port}
 use Rattle.tcp_model.specs.State as States
 use Rattle.lan_theorem.specs.Moves.Made.{Grows, MadeBy}
 use Rattle.lan_theorem.specs.Link.Frames.{medium_on}

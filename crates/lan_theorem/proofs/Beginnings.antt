@@ -14,13 +14,13 @@ use Rattle.interface_tables.specs.Settings.{is_of_medium, is_mtu}
 use Rattle.interface_tables.specs.declared.neighbor.Neighbor.{Neighbor}
 use Rattle.interface_egress.specs.Fragments.{LeftValue}
 use Rattle.interface_ingress.specs.Reassembled.{Slots}
-use Rattle.lan_net.specs.Kinds.{other}
-use Rattle.lan_net.specs.declared.event.Side.{Side}
-use Rattle.lan_net.specs.declared.event.Side.TheVariants.{A, B}
+use Rattle.lan_history.specs.Kinds.{other}
+use Rattle.lan_history.specs.declared.event.Side.{Side}
+use Rattle.lan_history.specs.declared.event.Side.TheVariants.{A, B}
 use Rattle.lan_packets.specs.Parties.{Party, party}
-use Rattle.lan_stations.specs.Fresh.{IsHardware, IsFreshStart, IsFreshWorld}
-use Rattle.lan_stations.specs.Runs.{Start, Starts, start, unused, unused_both}
-use Rattle.lan_stations.specs.Station.{station}
+use Rattle.lan_hosts.specs.Fresh.{IsHardware, IsFreshStart, IsFreshWorld}
+use Rattle.lan_hosts.specs.Runs.{Start, Starts, start, unused, unused_both}
+use Rattle.lan_hosts.specs.Station.{station}
 use Rattle.lan_theorem.specs.Moves.Joined.{first_net}
 use Rattle.lan_theorem.specs.Moves.Made.{MadeBy}
 use Rattle.lan_theorem.specs.Link.Frames.{medium_on}

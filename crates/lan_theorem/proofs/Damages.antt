@@ -8,18 +8,18 @@ use Rattle.interface_ingress.specs.Incoming.{IncomingValue}
 use Rattle.interface_tables.specs.Settings.{is_of_medium}
 use Rattle.lan_frames.specs.Parts.{tcp_part}
 use Rattle.lan_frames.specs.declared.part.Part.{Part}
-use Rattle.lan_net.specs.History.{Entry}
-use Rattle.lan_net.specs.Kinds.{Kind, Origin, Delivered, Damaged, Noisy, kind_of}
-use Rattle.lan_net.specs.Kinds.Kind.{OfHost, OfLink}
-use Rattle.lan_net.specs.Kinds.LinkAct.{Hands, Cuts}
-use Rattle.lan_net.specs.Tables.{first_refusal}
-use Rattle.lan_net.specs.declared.answer.Refused.TheVariants as For
-use Rattle.lan_net.specs.declared.event.Side.{Side}
+use Rattle.lan_history.specs.History.{Entry}
+use Rattle.lan_history.specs.Kinds.{Kind, Origin, Delivered, Damaged, Noisy, kind_of}
+use Rattle.lan_history.specs.Kinds.Kind.{OfHost, OfLink}
+use Rattle.lan_history.specs.Kinds.LinkAct.{Hands, Cuts}
+use Rattle.lan_history.specs.Tables.{first_refusal}
+use Rattle.lan_history.specs.declared.answer.Refused.TheVariants as For
+use Rattle.lan_history.specs.declared.event.Side.{Side}
 use Rattle.lan_packets.specs.Parties.{Net, party}
-use Rattle.lan_stations.specs.Origins.{medium_of, frame_sent, damaged_in, frame_of_origin}
-use Rattle.lan_stations.specs.Refusals.{is_no_frame, segment_tests, link_tests, refusal}
-use Rattle.lan_stations.specs.Runs.{WorldRun, tables_in}
-use Rattle.lan_stations.specs.Station.{Stations, station}
+use Rattle.lan_hosts.specs.Origins.{medium_of, frame_sent, damaged_in, frame_of_origin}
+use Rattle.lan_hosts.specs.Refusals.{is_no_frame, segment_tests, link_tests, refusal}
+use Rattle.lan_hosts.specs.Runs.{WorldRun, tables_in}
+use Rattle.lan_hosts.specs.Station.{Stations, station}
 use Rattle.lan_theorem.specs.Hosts.Damage.{IsHarmlessFrom, IsHarmlessBy, DamageIsHarmless, IsNoSegment, BringsNoSegment}
 use Rattle.lan_theorem.proofs.Hosts.Harmless.{harmless, damage_kept}
 use Rattle.lan_theorem.specs.Moves.Made.{MadeBy}

@@ -32,7 +32,7 @@ use Rattle.interface_ingress.proofs.Settings.{brings_same}
 use Rattle.interface.specs.State.{State, state, at_device}
 use Rattle.lan_port.specs.Port.{PortValue, PortMove}
 use Rattle.lan_packets.specs.Parties.{Party}
-use Rattle.tcp.specs.Host.{made_of}
+use Rattle.tcp_tie.specs.Host.{made_of}
 use Rattle.lan_theorem.specs.Moves.Made as Moves
 use Rattle.lan_theorem.specs.Moves.Made.{Grows, MadeBy, IsMade, IsWide, FitsBehind, datagram_of}
 use Rattle.lan_theorem.specs.Link.Made as Links

@@ -9,18 +9,18 @@ use Rattle.lan_frames.specs.Carried.{names_tcp_or_udp}
 use Rattle.lan_frames.specs.Cuts.{ipv4_part, first_piece, second_piece}
 use Rattle.lan_frames.specs.Parts.{tcp_part, bytes_at}
 use Rattle.lan_frames.specs.declared.part.Part.{Part}
-use Rattle.lan_net.specs.Kinds.{other, Origin, Delivered, Damaged, Noisy}
-use Rattle.lan_net.specs.Tables.{first_refusal}
-use Rattle.lan_net.specs.declared.answer.Refused.{Refused}
-use Rattle.lan_net.specs.declared.answer.Refused.TheVariants as For
-use Rattle.lan_net.specs.declared.event.Side.{Side}
-use Rattle.lan_net.specs.declared.event.Side.TheVariants.{A, B}
-use Rattle.lan_net.specs.Kinds.LinkAct.{Hands, Cuts}
+use Rattle.lan_history.specs.Kinds.{other, Origin, Delivered, Damaged, Noisy}
+use Rattle.lan_history.specs.Tables.{first_refusal}
+use Rattle.lan_history.specs.declared.answer.Refused.{Refused}
+use Rattle.lan_history.specs.declared.answer.Refused.TheVariants as For
+use Rattle.lan_history.specs.declared.event.Side.{Side}
+use Rattle.lan_history.specs.declared.event.Side.TheVariants.{A, B}
+use Rattle.lan_history.specs.Kinds.LinkAct.{Hands, Cuts}
 use Rattle.lan_packets.specs.Parties.{Net, party}
 use Rattle.lan_port.specs.Port.{added, arrived}
-use Rattle.lan_stations.specs.Origins.{medium_of, frame_sent, damaged_in, frame_of_origin, handed, cut}
-use Rattle.lan_stations.specs.Refusals.{is_no_frame, is_no_place, is_same_sum, segment_tests, is_no_cut, cut_tests, link_tests}
-use Rattle.lan_stations.specs.Station.{Stations, station, with_link}
+use Rattle.lan_hosts.specs.Origins.{medium_of, frame_sent, damaged_in, frame_of_origin, handed, cut}
+use Rattle.lan_hosts.specs.Refusals.{is_no_frame, is_no_place, is_same_sum, segment_tests, is_no_cut, cut_tests, link_tests}
+use Rattle.lan_hosts.specs.Station.{Stations, station, with_link}
 use Rattle.lan_theorem.specs.Moves.Made.{MadeBy}
 use Rattle.lan_theorem.specs.Link.Frames.{medium_on, BringsFrom}
 use Rattle.lan_theorem.specs.Link.Sides.{IsHostFrame, IsDamage}

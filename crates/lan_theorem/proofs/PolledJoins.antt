@@ -4,17 +4,17 @@ use Rattle.std.specs.Prelude.{ℤ}
 use Rattle.net_base.specs.DeviceCapabilities.{DeviceCapabilities}
 use Rattle.interface.specs.State.{State}
 use Rattle.interface_laws.proofs.Hosts.{settings_so}
-use Rattle.lan_net.specs.History.{Entry}
-use Rattle.lan_net.specs.Kinds.{other, kind_of}
-use Rattle.lan_net.specs.Kinds.Act.{Polls}
-use Rattle.lan_net.specs.Kinds.Kind.{OfHost}
-use Rattle.lan_net.specs.declared.event.Side.{Side}
+use Rattle.lan_history.specs.History.{Entry}
+use Rattle.lan_history.specs.Kinds.{other, kind_of}
+use Rattle.lan_history.specs.Kinds.Act.{Polls}
+use Rattle.lan_history.specs.Kinds.Kind.{OfHost}
+use Rattle.lan_history.specs.declared.event.Side.{Side}
 use Rattle.lan_packets.specs.Parties.{Party, Net, party}
 use Rattle.lan_port.specs.Port.{LinkEnd, PortValue, PortMove}
-use Rattle.lan_stations.specs.Refusals.{socket_count}
-use Rattle.lan_stations.specs.Station.{StationValue, Stations, station, at_port}
-use Rattle.lan_stations.specs.Steps.{PollsAt, ActsAt}
-use Rattle.lan_stations.proofs.Growing.{happens_stays}
+use Rattle.lan_hosts.specs.Refusals.{socket_count}
+use Rattle.lan_hosts.specs.Station.{StationValue, Stations, station, at_port}
+use Rattle.lan_hosts.specs.Steps.{PollsAt, ActsAt}
+use Rattle.lan_hosts.proofs.Growing.{happens_stays}
 use Rattle.lan_theorem.specs.Moves.Follows.{IsNetOf, Comes}
 use Rattle.lan_theorem.specs.Moves.Fit.{IsFit}
 use Rattle.lan_theorem.specs.Moves.Link.{IsLink}
@@ -25,7 +25,7 @@ use Rattle.lan_theorem.proofs.Moves.PollEvents.{AtPorts, Polled, poll_comes}
 use Rattle.lan_theorem.specs.Link.Frames.{medium_on}
 use Rattle.lan_theorem.specs.Link.Numbers.{count_v4, AreFew, IsTied}
 use Rattle.net_base.specs.Medium.{Medium}
-use Rattle.lan_stations.specs.Origins.{medium_of}
+use Rattle.lan_hosts.specs.Origins.{medium_of}
 use Rattle.lan_theorem.specs.Link.Sides.{IsSender, IsReceiver}
 use Rattle.lan_theorem.proofs.Link.Begun.{tied_same}
 use Rattle.lan_theorem.specs.Joins.{AreJoined}

@@ -11,12 +11,12 @@ use Rattle.socket_base.specs.Packet.{PacketValue}
 use Rattle.interface_ingress.specs.Reassembled.{uncut}
 use Rattle.interface_ingress.specs.Sent.{normal_payload}
 use Rattle.interface_delivery.specs.Delivered.{NamesNoPorts}
-use Rattle.lan_net.specs.History.{Entry}
-use Rattle.lan_net.specs.Kinds.{other}
+use Rattle.lan_history.specs.History.{Entry}
+use Rattle.lan_history.specs.Kinds.{other}
 use Rattle.lan_packets.specs.Parties.{Party, party}
-use Rattle.lan_stations.specs.Fresh.{IsFreshWorld}
-use Rattle.lan_stations.specs.Runs.{Starts, unused_both, WorldRun}
-use Rattle.lan_stations.specs.Station.{StationValue, Stations, station}
+use Rattle.lan_hosts.specs.Fresh.{IsFreshWorld}
+use Rattle.lan_hosts.specs.Runs.{Starts, unused_both, WorldRun}
+use Rattle.lan_hosts.specs.Station.{StationValue, Stations, station}
 use Rattle.lan_theorem.specs.Moves.Made.{MadeBy}
 use Rattle.lan_theorem.specs.Link.Frames.{BringsFrom}
 use Rattle.lan_theorem.specs.Link.Held.{IsPayloadOf, IsRebuiltOf}

@@ -2,22 +2,22 @@
 use Rattle.std.proofs.Common.{◌≡◌, ℕ, ◌+◌, ◌^◌, ◌<◌, ◌≤◌, List, [], ◌∷◌, ◌++◌, refl, sym, ◌∙◌, ap, subst, arith}
 use Rattle.std.specs.Prelude.{ℤ}
 use Rattle.socket_base.specs.Packet.{PacketValue}
-use Rattle.lan_net.specs.History.{Entry}
-use Rattle.lan_net.specs.Kinds.{other, kind_of, Kind}
-use Rattle.lan_net.specs.Kinds.Act.{Calls, Sets, Opens, Asks, Polls}
-use Rattle.lan_net.specs.Kinds.Kind.{OfHost, OfLink}
-use Rattle.lan_net.specs.declared.event.Side.{Side}
-use Rattle.lan_net.specs.declared.event.Side.TheVariants.{A, B}
+use Rattle.lan_history.specs.History.{Entry}
+use Rattle.lan_history.specs.Kinds.{other, kind_of, Kind}
+use Rattle.lan_history.specs.Kinds.Act.{Calls, Sets, Opens, Asks, Polls}
+use Rattle.lan_history.specs.Kinds.Kind.{OfHost, OfLink}
+use Rattle.lan_history.specs.declared.event.Side.{Side}
+use Rattle.lan_history.specs.declared.event.Side.TheVariants.{A, B}
 use Rattle.lan_packets.specs.Moves.{IsRun, run}
 use Rattle.lan_packets.specs.Parties.{Net}
 use Rattle.lan_packets.specs.Safe.{IsSafe}
 use Rattle.lan_packets.proofs.Extended.{run-append, IsRun-append}
-use Rattle.lan_stations.specs.Fresh.{IsFreshWorld}
-use Rattle.lan_stations.specs.Origins.{medium_of, numbered}
-use Rattle.lan_stations.specs.Runs.{Starts, unused_both, WorldRun, Leads}
-use Rattle.lan_stations.specs.Safe.{first_port, net_of}
-use Rattle.lan_stations.specs.Station.{Stations, station}
-use Rattle.lan_stations.specs.Steps.{Happens, ActsAt}
+use Rattle.lan_hosts.specs.Fresh.{IsFreshWorld}
+use Rattle.lan_hosts.specs.Origins.{medium_of, numbered}
+use Rattle.lan_hosts.specs.Runs.{Starts, unused_both, WorldRun, Leads}
+use Rattle.lan_hosts.specs.Safe.{first_port, net_of}
+use Rattle.lan_hosts.specs.Station.{Stations, station}
+use Rattle.lan_hosts.specs.Steps.{Happens, ActsAt}
 use Rattle.lan_theorem.specs.Moves.Follows.{IsNetOf, Comes, IsNoPoll}
 use Rattle.lan_theorem.specs.Moves.Joined.{first_net, HasCome}
 use Rattle.lan_theorem.specs.Moves.Fit.{IsFit, AreFit}

@@ -19,13 +19,13 @@ use Rattle.interface_tables.specs.declared.config.HardwareAddrError.TheVariants 
 use Rattle.interface_egress.specs.Fragments.{LeftValue}
 use Rattle.interface.specs.Host.{HostValue}
 use Rattle.interface.specs.Made.{with_inner, with_timeout}
-use Rattle.lan_net.specs.Kinds.{Setting, other}
-use Rattle.lan_net.specs.Kinds as Settings
-use Rattle.lan_net.specs.declared.answer.Answer.{Answer}
-use Rattle.lan_net.specs.declared.event.Side.{Side}
+use Rattle.lan_history.specs.Kinds.{Setting, other}
+use Rattle.lan_history.specs.Kinds as Settings
+use Rattle.lan_history.specs.declared.answer.Answer.{Answer}
+use Rattle.lan_history.specs.declared.event.Side.{Side}
 use Rattle.lan_packets.specs.Parties.{Party, Net, party}
-use Rattle.lan_stations.specs.Sets.{SetsTo, Configures, RoutedIf, has_route_room}
-use Rattle.lan_stations.specs.Station.{StationValue, Stations, station}
+use Rattle.lan_hosts.specs.Sets.{SetsTo, Configures, RoutedIf, has_route_room}
+use Rattle.lan_hosts.specs.Station.{StationValue, Stations, station}
 use Rattle.lan_theorem.specs.Moves.Made.{MadeBy}
 use Rattle.lan_theorem.specs.Link.Frames.{medium_on, BringsFrom}
 use Rattle.lan_theorem.specs.Link.Numbers.{count_v4}

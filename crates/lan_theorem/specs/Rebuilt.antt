@@ -13,12 +13,12 @@ use Rattle.interface_ingress.specs.Incoming.{IncomingValue, Ip4, IsContent}
 use Rattle.interface_ingress.specs.Reassembled.{is_piece, uncut}
 use Rattle.interface_ingress.specs.Sent.{normal_payload}
 use Rattle.lan_frames.specs.Carried.{names_tcp_or_udp}
-use Rattle.lan_net.specs.Kinds.{other}
-use Rattle.lan_net.specs.declared.event.Side.{Side}
+use Rattle.lan_history.specs.Kinds.{other}
+use Rattle.lan_history.specs.declared.event.Side.{Side}
 use Rattle.lan_packets.specs.Moves.{Step, IsRun, run}
 use Rattle.lan_packets.specs.Parties.{Party, Net, party}
-use Rattle.lan_stations.specs.Runs.{WorldValue}
-use Rattle.lan_stations.specs.Station.{StationValue, station}
+use Rattle.lan_hosts.specs.Runs.{WorldValue}
+use Rattle.lan_hosts.specs.Station.{StationValue, station}
 use Rattle.lan_theorem.specs.Moves.Follows.{IsNetOf}
 use Rattle.lan_theorem.specs.Moves.Joined.{first_net}
 use Rattle.lan_theorem.specs.Moves.Made.{MadeBy}

@@ -1,24 +1,24 @@
 -- One event more.
 use Rattle.std.proofs.Common.{◌≡◌, ◌≤◌, ℕ, List, ◌∷◌, length, None, refl, sym, subst, ◌∙◌, ap}
-use Rattle.lan_net.specs.History.{Entry}
-use Rattle.lan_net.specs.Kinds.{kind_of}
-use Rattle.lan_net.specs.declared.event.Side.{Side}
-use Rattle.lan_net.specs.declared.event.Side.TheVariants.{A, B}
-use Rattle.lan_net.specs.declared.event.Event.{Event}
-use Rattle.lan_net.specs.declared.answer.Answer.{Answer}
+use Rattle.lan_history.specs.History.{Entry}
+use Rattle.lan_history.specs.Kinds.{kind_of}
+use Rattle.lan_history.specs.declared.event.Side.{Side}
+use Rattle.lan_history.specs.declared.event.Side.TheVariants.{A, B}
+use Rattle.lan_history.specs.declared.event.Event.{Event}
+use Rattle.lan_history.specs.declared.answer.Answer.{Answer}
 use Rattle.net_base.specs.Medium.{Medium}
-use Rattle.lan_stations.specs.Origins.{medium_of, numbered}
-use Rattle.lan_stations.specs.Records.{table_next}
-use Rattle.lan_stations.specs.Refusals.{Table, Tables, refusal}
-use Rattle.lan_stations.specs.Runs.{WorldValue, Step, Leads, table_in, counts_of, refusal_in}
-use Rattle.lan_stations.specs.Station.{StationValue, Stations, station}
-use Rattle.lan_stations.specs.Steps.{Happens}
+use Rattle.lan_hosts.specs.Origins.{medium_of, numbered}
+use Rattle.lan_hosts.specs.Records.{table_next}
+use Rattle.lan_hosts.specs.Refusals.{Table, Tables, refusal}
+use Rattle.lan_hosts.specs.Runs.{WorldValue, Step, Leads, table_in, counts_of, refusal_in}
+use Rattle.lan_hosts.specs.Station.{StationValue, Stations, station}
+use Rattle.lan_hosts.specs.Steps.{Happens}
 use Rattle.lan_theorem.specs.Events.{IsTyped}
 use Rattle.lan_world.specs.Come.{both, tables, world, HasCome}
 use Rattle.lan_world.specs.Past.{counts_in, entry}
 use Rattle.lan_world.specs.declared.history.Note.{Note}
 
--- the law of tables, which `lan_stations` proves
+-- the law of tables, which `lan_hosts` proves
 abbrev pub TablesGoOn : Type 0
 TablesGoOn =
     (past : List Entry) (e : Entry) (old new : Stations) (side : Side)

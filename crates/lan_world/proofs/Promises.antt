@@ -1,14 +1,14 @@
 -- The laws of worlds, of a world that came from fresh hosts.
 use Rattle.std.proofs.Common.{ℕ, List}
-use Rattle.lan_net.specs.History.{Entry}
-use Rattle.lan_net.specs.declared.event.Side.{Side}
-use Rattle.lan_net.specs.declared.event.Side.TheVariants.{A, B}
+use Rattle.lan_history.specs.History.{Entry}
+use Rattle.lan_history.specs.declared.event.Side.{Side}
+use Rattle.lan_history.specs.declared.event.Side.TheVariants.{A, B}
 use Rattle.lan_packets.specs.Safe.{IsSafe}
-use Rattle.lan_stations.specs.Fresh.{IsFreshWorld}
-use Rattle.lan_stations.specs.Refusals.{Table}
-use Rattle.lan_stations.specs.Runs.{Starts, WorldValue, WorldRun, unused_both, counts_of}
-use Rattle.lan_stations.specs.Safe.{first_port, net_of}
-use Rattle.lan_stations.specs.Station.{StationValue, Stations}
+use Rattle.lan_hosts.specs.Fresh.{IsFreshWorld}
+use Rattle.lan_hosts.specs.Refusals.{Table}
+use Rattle.lan_hosts.specs.Runs.{Starts, WorldValue, WorldRun, unused_both, counts_of}
+use Rattle.lan_hosts.specs.Safe.{first_port, net_of}
+use Rattle.lan_hosts.specs.Station.{StationValue, Stations}
 use Rattle.lan_theorem.specs.Events.{AreTyped}
 use Rattle.lan_theorem.specs.Rebuilt.{RebuiltWasMade}
 use Rattle.lan_theorem.specs.Hosts.Asked.{requests, AreApart}

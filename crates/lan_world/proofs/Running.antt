@@ -1,9 +1,9 @@
 -- Several steps, one after the other.
 use Rattle.std.proofs.Common.{◌≡◌, ℕ, zero, suc, ◌+◌, ◌<◌, List, [], ◌∷◌, ◌++◌, length, take, drop, Some, refl, ◌∙◌, ap, subst, add-one, arith}
 use Rattle.std.specs.Prelude.{slice_get}
-use Rattle.lan_net.specs.declared.event.Event.{Event}
-use Rattle.lan_net.specs.declared.answer.Answer.{Answer}
-use Rattle.lan_stations.specs.Runs.{WorldValue, Step, Steps}
+use Rattle.lan_history.specs.declared.event.Event.{Event}
+use Rattle.lan_history.specs.declared.answer.Answer.{Answer}
+use Rattle.lan_hosts.specs.Runs.{WorldValue, Step, Steps}
 use Rattle.lan_world.specs.Come.{HasRun}
 
 -- where something is left of a list, its first comes next

@@ -14,8 +14,8 @@ use Rattle.interface_egress.specs.declared.socket_set.SocketStorage.{SocketStora
 use Rattle.interface_egress.specs.declared.socket_set.Item.{Item}
 use Rattle.sockets.specs.declared.socket.Socket.{Socket}
 use Rattle.sockets.specs.declared.socket.Socket.TheVariants as Is
-use Rattle.tcp.specs.Endpoints.{IsNameless}
-use Rattle.tcp.specs.Promises.{IsFresh}
+use Rattle.tcp_tie.specs.Endpoints.{IsNameless}
+use Rattle.tcp_tie.specs.Promises.{IsFresh}
 use Rattle.tcp_control.specs.States.{is_closed, takes_text}
 use Rattle.tcp_control.specs.declared.state.State.{State}
 use Rattle.tcp_control.specs.declared.state.State.TheVariants as In
@@ -24,7 +24,7 @@ use Rattle.tcp_model.specs.Calls.{nothing_left}
 use Rattle.tcp_model.specs.Value.{TcpValue}
 use Rattle.tcp_socket.specs.Socket.{local_in}
 use Rattle.std.specs.Prelude.{is_some}
-use Rattle.lan_stations.specs.Fresh.{IsUnused}
+use Rattle.lan_hosts.specs.Fresh.{IsUnused}
 use Rattle.lan_world.specs.New.{is_both, are_on, is_no_socket, is_unopened, is_ingress, is_unused, of_item, of_place}
 
 -- LISTS

@@ -1,11 +1,11 @@
 -- What a world keeps: where it came from, how, and what its tables say.
 use Rattle.std.specs.Prelude.{◌≡◌, ℕ, ◌≤◌, List, length, take, drop}
-use Rattle.lan_net.specs.History.{Entry}
-use Rattle.lan_net.specs.declared.event.Event.{Event}
-use Rattle.lan_stations.specs.Fresh.{IsFreshWorld}
-use Rattle.lan_stations.specs.Refusals.{Table, Tables}
-use Rattle.lan_stations.specs.Runs.{Start, Starts, WorldValue, WorldRun, Steps, unused_both, tables_in}
-use Rattle.lan_stations.specs.Station.{StationValue, Stations}
+use Rattle.lan_history.specs.History.{Entry}
+use Rattle.lan_history.specs.declared.event.Event.{Event}
+use Rattle.lan_hosts.specs.Fresh.{IsFreshWorld}
+use Rattle.lan_hosts.specs.Refusals.{Table, Tables}
+use Rattle.lan_hosts.specs.Runs.{Start, Starts, WorldValue, WorldRun, Steps, unused_both, tables_in}
+use Rattle.lan_hosts.specs.Station.{StationValue, Stations}
 use Rattle.lan_theorem.specs.Events.{AreTyped}
 
 -- a host as its world began with it

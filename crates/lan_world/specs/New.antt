@@ -19,7 +19,7 @@ use Rattle.tcp_model.specs.Calls.{recv_refusal}
 use Rattle.tcp_model.specs.Value.{TcpValue, room_of}
 use Rattle.tcp_control.specs.States.{is_closed}
 use Rattle.tcp_socket.specs.Socket.{local_in}
-use Rattle.lan_stations.specs.Station.{StationValue}
+use Rattle.lan_hosts.specs.Station.{StationValue}
 use Rattle.lan_world.specs.declared.error.WorldError.{WorldError}
 use Rattle.lan_world.specs.declared.error.WorldError.TheVariants as Since
 

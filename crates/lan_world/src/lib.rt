@@ -1,6 +1,6 @@
 //! Two hosts and the link between them, which loses, repeats, reorders, pads, damages and cuts frames, and adds some.
 //!
-//! What an event does stands in `lan_stations`; a world takes events one by one, refuses those that it must, and keeps them with their
+//! What an event does stands in `lan_hosts`; a world takes events one by one, refuses those that it must, and keeps them with their
 //! answers.
 #![tactic(auto)]
 
@@ -12,7 +12,7 @@ mod typed;
 mod world;
 
 pub use error::WorldError;
-pub use lan_net::{Answer, Bytes, Event, Fault, Refused, Side, TcpSetting};
-pub use lan_stations::Host;
+pub use lan_history::{Answer, Bytes, Event, Fault, Refused, Side, TcpSetting};
+pub use lan_hosts::Host;
 pub use lan_theorem::host_laws;
 pub use world::World;

@@ -2,14 +2,14 @@
 ghost use Rattle.std.specs.Prelude.{◌≡◌};
 ghost use Rattle.std.specs.List.{AllByRecursion};
 ghost use Rattle.ip_wire.specs.Address.{IsEthernetAddress, IsIpv4Address, IsIpv6Address, IsIpAddress};
-ghost use Rattle.lan_net.specs.Kinds.{kind_of};
-ghost use Rattle.lan_stations.specs.Fresh.{IsHardware, IsTypedHost};
+ghost use Rattle.lan_history.specs.Kinds.{kind_of};
+ghost use Rattle.lan_hosts.specs.Fresh.{IsHardware, IsTypedHost};
 ghost use Rattle.lan_theorem.specs.Events.{IsTyped};
 
 use interface::Route;
 use ip_wire::{EthernetAddress, HardwareAddress, IpAddress, Ipv4Address, Ipv6Address};
-use lan_net::Event;
-use lan_stations::Host;
+use lan_history::Event;
+use lan_hosts::Host;
 
 /// A word of a damage has 16 bits, a hardware address six bytes, and a router those of its family.
 pub(crate) fn event_is_typed(event: &Event)

@@ -2,11 +2,11 @@
 ghost use Rattle.std.specs.Prelude.{◌≡◌, ◌<◌, [], take, length, replicate, slice_get, IfOk, IfErr, OnOk, OnErr, IfSome, None, Some, Err};
 ghost use Rattle.net_base.specs.Device.{frames_of};
 ghost use Rattle.interface.specs.Made.{IsIdle};
-ghost use Rattle.lan_stations.specs.Refusals.{MayRefuse};
-ghost use Rattle.lan_stations.specs.Runs.{Step, Steps, answers_of, refusal_in, tables_in};
-ghost use Rattle.lan_stations.specs.Station.{station};
-ghost use Rattle.lan_net.specs.Kinds.{kind_of};
-ghost use Rattle.lan_net.specs.Tables.{no_record};
+ghost use Rattle.lan_hosts.specs.Refusals.{MayRefuse};
+ghost use Rattle.lan_hosts.specs.Runs.{Step, Steps, answers_of, refusal_in, tables_in};
+ghost use Rattle.lan_hosts.specs.Station.{station};
+ghost use Rattle.lan_history.specs.Kinds.{kind_of};
+ghost use Rattle.lan_history.specs.Tables.{no_record};
 ghost use Rattle.lan_world.specs.Come.{both, starts_of, world};
 ghost use Rattle.lan_world.specs.New.{new_error, MayFail};
 ghost use Rattle.lan_world.specs.Promises.{IsSafeWorld};
@@ -16,9 +16,9 @@ use crate::fresh::new_error;
 use crate::history::{Counts, History, Note};
 use crate::kept::Kept;
 use crate::typed::{event_is_typed, host_is_typed};
-use lan_net::{Answer, Event, Refused, Side};
-use lan_stations::laws::{numbers_are_few, tables_go_on};
-use lan_stations::{Host, Records, refusal_of, take};
+use lan_history::{Answer, Event, Refused, Side};
+use lan_hosts::laws::{numbers_are_few, tables_go_on};
+use lan_hosts::{Host, Records, refusal_of, take};
 use lan_theorem::host_laws::{hosts_run, polls_are_quiet, requests_are_apart};
 use lan_theorem::laws::{damage_was_harmless, rebuilt_was_made, worlds_are_safe};
 use std::alloc::{AllocError, Global};
@@ -38,7 +38,7 @@ pub struct World {
 }
 
 impl Model for World {
-    ghost use Rattle.lan_stations.specs.Runs.{WorldValue};
+    ghost use Rattle.lan_hosts.specs.Runs.{WorldValue};
     ghost use Rattle.lan_world.specs.Come.{HasCome, world};
 
     ghost Value = { WorldValue };

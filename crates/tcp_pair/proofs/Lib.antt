@@ -1,3 +1,6 @@
-pub mod SideLaws
-pub mod PairLaws
-pub mod OutcomeLaws
+pub mod Rooms
+pub mod Arrived
+pub mod Histories
+pub mod Tallied
+pub mod Kept
+pub mod Running

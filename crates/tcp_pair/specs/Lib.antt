@@ -1,6 +1,3 @@
-pub mod Sides
-pub mod History
-pub mod Values
-pub mod Steps
-pub mod Safe
-pub mod Examples
+pub mod Context
+pub mod Ends
+pub mod Invariant

@@ -1,10 +1,13 @@
-//! Two TCP sockets over whatever lies between: the events that can happen to them, what each does, and what holds of every list of them.
+//! Two TCP sockets over whatever lies between them, as a value that a program can run.
 #![tactic(auto)]
 
-mod bytes;
-mod event;
-pub mod examples;
-pub mod laws;
+mod answer;
+mod context;
+mod end;
+mod pair;
 
-pub use bytes::Bytes;
-pub use event::{PairAnswer, PairEvent, PairRefused, SentSegment, Side, TcpFault, TcpSetting};
+pub use context::{IP_MTU, PairContext};
+pub use pair::Pair;
+pub use tcp_pair_model::{
+    Bytes, PairAnswer, PairEvent, PairRefused, SentSegment, Side, TcpFault, TcpSetting,
+};

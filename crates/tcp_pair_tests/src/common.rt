@@ -1,13 +1,13 @@
 //! Two sockets, and events with their answers as lines of a table.
 ghost use Rattle.std.specs.Prelude.{IfOk};
-ghost use Rattle.tcp.specs.Promises.{IsFresh};
+ghost use Rattle.tcp_tie.specs.Promises.{IsFresh};
 ghost use Rattle.tcp_socket.specs.Receive.{FitsBuffer};
 
 use ip_wire::{IpAddress, IpEndpoint, IpListenEndpoint, SeqNumber};
 use net_base::{Instant, ManagedSlice, RingBuffer};
 use std::alloc::{AllocError, Global};
 use std::test::Fail;
-use tcp_pairs::{Bytes, Pair, PairAnswer, PairEvent, PairRefused, Side, TcpFault, TcpSetting};
+use tcp_pair::{Bytes, Pair, PairAnswer, PairEvent, PairRefused, Side, TcpFault, TcpSetting};
 use tcp_socket::{Socket, SocketBuffer, State};
 
 /// An event whose bytes are text.

@@ -3,7 +3,7 @@ use crate::common::Line::{In, Numbered, Sent, Step};
 use crate::common::{Do, Line, Says, first_wrong};
 use ip_wire::SeqNumber;
 use std::test::Fail;
-use tcp_pairs::{Side, TcpFault};
+use tcp_pair::{Side, TcpFault};
 use tcp_socket::State;
 
 /// A reset takes the listener back, and an old SYN opens it again. The one that called is closed, so nothing comes of it.

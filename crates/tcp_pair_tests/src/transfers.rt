@@ -2,7 +2,7 @@
 use crate::common::Line::{In, Limit, Step};
 use crate::common::{Do, Line, Says, first_wrong, runs_so};
 use std::test::Fail;
-use tcp_pairs::{PairRefused, Side, TcpFault, TcpSetting};
+use tcp_pair::{PairRefused, Side, TcpFault, TcpSetting};
 use tcp_socket::State;
 
 /// Three segments open the connection; three bytes, delivered twice, are read once.

@@ -15,14 +15,14 @@ use Rattle.interface_egress.specs.declared.socket_set.SocketStorage.{SocketStora
 use Rattle.interface_tables.specs.Inner.{InnerValue, context_of, drawn}
 use Rattle.interface_tables.specs.Settings.{hardware_refusal, if_none, with_hardware, with_addresses, is_stranger}
 use Rattle.interface_tables.specs.declared.config.HardwareAddrError.{HardwareAddrError}
-use Rattle.lan_net.specs.Call.{SocketCall}
-use Rattle.lan_net.specs.Kinds.{Setting}
-use Rattle.lan_net.specs.Kinds as Sets
-use Rattle.lan_net.specs.declared.answer.Answer.{Answer}
+use Rattle.lan_history.specs.Call.{SocketCall}
+use Rattle.lan_history.specs.Kinds.{Setting}
+use Rattle.lan_history.specs.Kinds as Sets
+use Rattle.lan_history.specs.declared.answer.Answer.{Answer}
 use Rattle.lan_packets.specs.Calls.{Did}
-use Rattle.lan_stations.specs.Station.{StationValue}
-use Rattle.lan_stations.specs.Does.{does, draws, host_after, DidAt, ItemDoes, PlaceDoes, Does}
-use Rattle.lan_stations.specs.Sets.{SetsTo, Configures}
+use Rattle.lan_hosts.specs.Station.{StationValue}
+use Rattle.lan_hosts.specs.Does.{does, draws, host_after, DidAt, ItemDoes, PlaceDoes, Does}
+use Rattle.lan_hosts.specs.Sets.{SetsTo, Configures}
 use Rattle.sockets.specs.declared.socket.Socket.{Socket}
 use Rattle.tcp_model.specs.State.{State}
 use Rattle.lan_theorem.specs.Hosts.GoesOn.{has_addresses}

@@ -10,15 +10,15 @@ use Rattle.interface_ingress.specs.Incoming.{IncomingValue, Arp, Ip4, Ip6, IsInc
 use Rattle.interface_ingress.specs.Kept.{with_ports}
 use Rattle.interface_ingress.specs.Reassembled.{Slots, uncut, is_taken_in, taken_in, kept, place_in, whole_of}
 use Rattle.interface_tables.specs.Inner.{InnerValue}
-use Rattle.lan_net.specs.History.{Entry}
-use Rattle.lan_net.specs.Kinds.{Kind, Origin, Delivered, Damaged, Noisy, kind_of}
-use Rattle.lan_net.specs.Kinds.Kind.{OfHost, OfLink}
-use Rattle.lan_net.specs.Kinds.LinkAct.{Hands, Cuts}
-use Rattle.lan_net.specs.declared.event.Side.{Side}
-use Rattle.lan_stations.specs.Origins.{medium_of, frame_of_origin}
-use Rattle.lan_stations.specs.Refusals.{Tables, refusal}
-use Rattle.lan_stations.specs.Runs.{WorldRun, Leads, tables_in}
-use Rattle.lan_stations.specs.Station.{Stations, station}
+use Rattle.lan_history.specs.History.{Entry}
+use Rattle.lan_history.specs.Kinds.{Kind, Origin, Delivered, Damaged, Noisy, kind_of}
+use Rattle.lan_history.specs.Kinds.Kind.{OfHost, OfLink}
+use Rattle.lan_history.specs.Kinds.LinkAct.{Hands, Cuts}
+use Rattle.lan_history.specs.declared.event.Side.{Side}
+use Rattle.lan_hosts.specs.Origins.{medium_of, frame_of_origin}
+use Rattle.lan_hosts.specs.Refusals.{Tables, refusal}
+use Rattle.lan_hosts.specs.Runs.{WorldRun, Leads, tables_in}
+use Rattle.lan_hosts.specs.Station.{Stations, station}
 use Rattle.net_base.specs.ChecksumCapabilities.{ChecksumCapabilities}
 use Rattle.net_base.specs.Medium.{Medium}
 use Rattle.lan_theorem.specs.Hosts.Damage.{IsHarmless, IsHarmlessFrom, IsHarmlessBy, DamageIsHarmless, WasHarmless, HaveWords, IsNoSegment, BringsNoSegment}

@@ -1,16 +1,16 @@
 -- What an event is to one of the hosts: its own act, or something that leaves it alone.
 use Rattle.std.proofs.Common.{◌≡◌, ℕ, ◌⊎◌, inl, inr, Bool, true, false, if◌then◌else◌, List, [], ◌∷◌, ◌++◌, length, map, None, refl, sym, ap, ◌∙◌, subst, append_assoc, append-nil, ◌≤ℤ◌, ℤ, arith}
-use Rattle.lan_net.specs.History.{Entry}
-use Rattle.lan_net.specs.Kinds.{Act, Kind, Origin, same_side, kind_of}
-use Rattle.lan_net.specs.Kinds.Kind.{OfHost, OfLink}
-use Rattle.lan_net.specs.Kinds.LinkAct.{Hands, Cuts}
-use Rattle.lan_net.specs.declared.event.Side.{Side}
-use Rattle.lan_net.specs.declared.event.Side.TheVariants.{A, B}
+use Rattle.lan_history.specs.History.{Entry}
+use Rattle.lan_history.specs.Kinds.{Act, Kind, Origin, same_side, kind_of}
+use Rattle.lan_history.specs.Kinds.Kind.{OfHost, OfLink}
+use Rattle.lan_history.specs.Kinds.LinkAct.{Hands, Cuts}
+use Rattle.lan_history.specs.declared.event.Side.{Side}
+use Rattle.lan_history.specs.declared.event.Side.TheVariants.{A, B}
 use Rattle.lan_port.specs.Port.{added, arrived}
-use Rattle.lan_stations.specs.Station.{StationValue, Stations, station, with_station, with_link}
-use Rattle.lan_stations.specs.Origins.{frame_of_origin, frame_sent, medium_of, goes_to, origins_of, is_cut_of}
-use Rattle.lan_stations.specs.Steps.{Acts, Happens}
-use Rattle.lan_stations.specs.Runs.{Leads, tables_in}
+use Rattle.lan_hosts.specs.Station.{StationValue, Stations, station, with_station, with_link}
+use Rattle.lan_hosts.specs.Origins.{frame_of_origin, frame_sent, medium_of, goes_to, origins_of, is_cut_of}
+use Rattle.lan_hosts.specs.Steps.{Acts, Happens}
+use Rattle.lan_hosts.specs.Runs.{Leads, tables_in}
 use Rattle.lan_frames.specs.Cuts.{first_piece, second_piece}
 use Rattle.lan_theorem.specs.Hosts.GoesOn.{GoesOn, has_addresses}
 use Rattle.lan_theorem.specs.Hosts.HostRuns.{deed_in}
@@ -151,5 +151,5 @@ goes_on past old new e leads side = by (moved old e new (kind_of e.event) leads.
   by (inl acted) =
       acts_go_on (station old side) (station new side) acted.act e.answer e.found acted.acts
       (in_time old (tables_in past old) side acted.act
-      (subst (λ (k : Kind). Rattle.lan_stations.specs.Refusals.refusal old (tables_in past old) k ≡ None) acted.is leads.allowed))
+      (subst (λ (k : Kind). Rattle.lan_hosts.specs.Refusals.refusal old (tables_in past old) k ≡ None) acted.is leads.allowed))
   by (inr rested) = rested_goes_on old new side (kind_of e.event) e rested

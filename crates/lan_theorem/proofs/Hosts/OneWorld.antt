@@ -9,23 +9,23 @@ use Rattle.interface_tables.specs.Inner.{context_of}
 use Rattle.interface_tables.specs.Settings.{with_routes}
 use Rattle.interface_tables.specs.declared.route.Route.{Route}
 use Rattle.interface_laws.proofs.OneEnd.{OneOffer}
-use Rattle.lan_net.specs.Call.{SocketCall}
-use Rattle.lan_net.specs.History.{Entry}
-use Rattle.lan_net.specs.Kinds.{Act, Kind, Setting, kind_of}
-use Rattle.lan_net.specs.Kinds as Set
-use Rattle.lan_net.specs.Kinds.Act.{Calls, Sets, Opens, Asks, Polls}
-use Rattle.lan_net.specs.Kinds.Kind.{OfHost, OfLink}
-use Rattle.lan_net.specs.declared.answer.Answer.{Answer}
-use Rattle.lan_net.specs.declared.answer.Answer.TheVariants as To
-use Rattle.lan_net.specs.declared.event.Event.{Event}
-use Rattle.lan_net.specs.declared.event.Side.{Side}
-use Rattle.lan_net.specs.declared.event.Side.TheVariants.{A, B}
+use Rattle.lan_history.specs.Call.{SocketCall}
+use Rattle.lan_history.specs.History.{Entry}
+use Rattle.lan_history.specs.Kinds.{Act, Kind, Setting, kind_of}
+use Rattle.lan_history.specs.Kinds as Set
+use Rattle.lan_history.specs.Kinds.Act.{Calls, Sets, Opens, Asks, Polls}
+use Rattle.lan_history.specs.Kinds.Kind.{OfHost, OfLink}
+use Rattle.lan_history.specs.declared.answer.Answer.{Answer}
+use Rattle.lan_history.specs.declared.answer.Answer.TheVariants as To
+use Rattle.lan_history.specs.declared.event.Event.{Event}
+use Rattle.lan_history.specs.declared.event.Side.{Side}
+use Rattle.lan_history.specs.declared.event.Side.TheVariants.{A, B}
 use Rattle.lan_packets.specs.Calls.{Did}
-use Rattle.lan_stations.specs.Does.{does, DidAt, ItemDoes, PlaceDoes, Does}
-use Rattle.lan_stations.specs.Runs.{WorldValue, Step, Steps}
-use Rattle.lan_stations.specs.Sets.{SetsTo, Configures, has_route_room}
-use Rattle.lan_stations.specs.Station.{StationValue, Stations}
-use Rattle.lan_stations.specs.Steps.{Acts, ActsAt, Happens}
+use Rattle.lan_hosts.specs.Does.{does, DidAt, ItemDoes, PlaceDoes, Does}
+use Rattle.lan_hosts.specs.Runs.{WorldValue, Step, Steps}
+use Rattle.lan_hosts.specs.Sets.{SetsTo, Configures, has_route_room}
+use Rattle.lan_hosts.specs.Station.{StationValue, Stations}
+use Rattle.lan_hosts.specs.Steps.{Acts, ActsAt, Happens}
 use Rattle.sockets.specs.declared.socket.Socket.{Socket}
 use Rattle.tcp_model.specs.State.{State}
 use Rattle.lan_theorem.proofs.Hosts.OneRoute.{routed_once}

@@ -8,8 +8,8 @@ use Rattle.interface_egress.specs.Determined.{IsDetermined}
 use Rattle.interface_laws.specs.Steady.{IsShort, IsSteady}
 use Rattle.interface_laws.proofs.OneEnd.{OneOffer, one_poll}
 use Rattle.lan_port.specs.Port.{LinkEnd, PortValue, PortMove, has_leave}
-use Rattle.lan_stations.specs.Station.{StationValue, at_port}
-use Rattle.lan_stations.specs.Steps.{PollsAt}
+use Rattle.lan_hosts.specs.Station.{StationValue, at_port}
+use Rattle.lan_hosts.specs.Steps.{PollsAt}
 use Rattle.lan_theorem.proofs.Hosts.Mapping.{IsMapped, polls_there}
 
 -- AN END OF THE LINK AS A DEVICE

@@ -8,8 +8,8 @@ use Rattle.interface_laws.proofs.Count.{polls_count}
 use Rattle.interface_laws.proofs.Hosts.{settings_so}
 use Rattle.interface_laws.proofs.Trace.{polls_traced}
 use Rattle.lan_port.specs.Port.{LinkEnd, PortValue, PortMove}
-use Rattle.lan_stations.specs.Station.{StationValue, at_port}
-use Rattle.lan_stations.specs.Steps.{PollsAt}
+use Rattle.lan_hosts.specs.Station.{StationValue, at_port}
+use Rattle.lan_hosts.specs.Steps.{PollsAt}
 use Rattle.lan_theorem.specs.Hosts.Machine.{frames_of}
 use Rattle.lan_theorem.proofs.Hosts.Paths.{looked, path_of}
 

@@ -19,27 +19,27 @@ use Rattle.interface_tables.specs.Route.{is_gateway_v4, is_gateway_v6, IsGateway
 use Rattle.interface_tables.specs.Settings.{hardware_refusal, if_none, is_stranger}
 use Rattle.interface_tables.specs.declared.config.HardwareAddrError.{HardwareAddrError}
 use Rattle.interface_tables.specs.declared.route.Route.{Route}
-use Rattle.lan_net.specs.Call.{SocketCall}
-use Rattle.lan_net.specs.History.{Entry, Counts}
-use Rattle.lan_net.specs.Kinds.{Act, Kind, Origin, Setting, same_side, kind_of}
-use Rattle.lan_net.specs.Kinds as Set
-use Rattle.lan_net.specs.Kinds.Act.{Calls, Sets, Opens, Asks, Polls}
-use Rattle.lan_net.specs.Kinds.Kind.{OfHost, OfLink}
-use Rattle.lan_net.specs.Kinds.LinkAct.{Hands, Cuts}
-use Rattle.lan_net.specs.declared.answer.Answer.{Answer}
-use Rattle.lan_net.specs.declared.answer.Answer.TheVariants as To
-use Rattle.lan_net.specs.declared.answer.Fault.TheVariants as For
-use Rattle.lan_net.specs.declared.event.Side.{Side}
-use Rattle.lan_net.specs.declared.event.Side.TheVariants.{A, B}
+use Rattle.lan_history.specs.Call.{SocketCall}
+use Rattle.lan_history.specs.History.{Entry, Counts}
+use Rattle.lan_history.specs.Kinds.{Act, Kind, Origin, Setting, same_side, kind_of}
+use Rattle.lan_history.specs.Kinds as Set
+use Rattle.lan_history.specs.Kinds.Act.{Calls, Sets, Opens, Asks, Polls}
+use Rattle.lan_history.specs.Kinds.Kind.{OfHost, OfLink}
+use Rattle.lan_history.specs.Kinds.LinkAct.{Hands, Cuts}
+use Rattle.lan_history.specs.declared.answer.Answer.{Answer}
+use Rattle.lan_history.specs.declared.answer.Answer.TheVariants as To
+use Rattle.lan_history.specs.declared.answer.Fault.TheVariants as For
+use Rattle.lan_history.specs.declared.event.Side.{Side}
+use Rattle.lan_history.specs.declared.event.Side.TheVariants.{A, B}
 use Rattle.lan_packets.specs.Calls.{Did}
 use Rattle.lan_port.specs.Port.{LinkEnd}
-use Rattle.lan_stations.specs.Does.{does, draws, DidAt, ItemDoes, PlaceDoes, Does}
-use Rattle.lan_stations.specs.Origins.{frame_of_origin, goes_to, origins_of, sent_before, waiting_before}
-use Rattle.lan_stations.specs.Runs.{Starts, unused_both, Leads, WorldRun, counts_of, tables_in}
-use Rattle.lan_stations.specs.Sets.{SetsTo, setting_answer, RoutedIf, has_route_room, instant_at}
-use Rattle.lan_stations.specs.Refusals.{refusal}
-use Rattle.lan_stations.specs.Station.{StationValue, Stations, station}
-use Rattle.lan_stations.specs.Steps.{Acts, Happens}
+use Rattle.lan_hosts.specs.Does.{does, draws, DidAt, ItemDoes, PlaceDoes, Does}
+use Rattle.lan_hosts.specs.Origins.{frame_of_origin, goes_to, origins_of, sent_before, waiting_before}
+use Rattle.lan_hosts.specs.Runs.{Starts, unused_both, Leads, WorldRun, counts_of, tables_in}
+use Rattle.lan_hosts.specs.Sets.{SetsTo, setting_answer, RoutedIf, has_route_room, instant_at}
+use Rattle.lan_hosts.specs.Refusals.{refusal}
+use Rattle.lan_hosts.specs.Station.{StationValue, Stations, station}
+use Rattle.lan_hosts.specs.Steps.{Acts, Happens}
 use Rattle.sockets.specs.declared.socket.Socket.{Socket}
 use Rattle.tcp_model.specs.State.{State}
 use Rattle.lan_theorem.specs.Hosts.HostRuns.{Deed, deed_in}

@@ -1,14 +1,14 @@
 -- Each host of a world is a run of its machine: by recursion on the history.
 use Rattle.std.proofs.Common.{◌≡◌, ℕ, ◌⊎◌, inl, inr, if◌then◌else◌, List, [], ◌∷◌, ◌++◌, length, map, take, drop, refl, sym, ap, ◌∙◌, subst, append_assoc, append-nil}
 use Rattle.std.proofs.lemmas.List.{map-append, take_at, drop_at}
-use Rattle.lan_net.specs.History.{Entry, Counts}
-use Rattle.lan_net.specs.Kinds.{Act, Kind, kind_of}
-use Rattle.lan_net.specs.Kinds.Kind.{OfHost}
-use Rattle.lan_net.specs.declared.event.Side.{Side}
-use Rattle.lan_net.specs.declared.event.Side.TheVariants.{A, B}
-use Rattle.lan_stations.specs.Origins.{frame_of_origin, origins_of, origins, sent_before, is_cut_of, own_frames}
-use Rattle.lan_stations.specs.Runs.{Starts, start, unused, unused_both, WorldValue, Leads, WorldRun, counts_of, tables_in}
-use Rattle.lan_stations.specs.Station.{StationValue, Stations, station}
+use Rattle.lan_history.specs.History.{Entry, Counts}
+use Rattle.lan_history.specs.Kinds.{Act, Kind, kind_of}
+use Rattle.lan_history.specs.Kinds.Kind.{OfHost}
+use Rattle.lan_history.specs.declared.event.Side.{Side}
+use Rattle.lan_history.specs.declared.event.Side.TheVariants.{A, B}
+use Rattle.lan_hosts.specs.Origins.{frame_of_origin, origins_of, origins, sent_before, is_cut_of, own_frames}
+use Rattle.lan_hosts.specs.Runs.{Starts, start, unused, unused_both, WorldValue, Leads, WorldRun, counts_of, tables_in}
+use Rattle.lan_hosts.specs.Station.{StationValue, Stations, station}
 use Rattle.lan_theorem.specs.Hosts.GoesOn.{GoesOn, AreThere}
 use Rattle.lan_theorem.specs.Hosts.HostRuns.{Deed, deed_of, deed_in, deeds, frames_sent, frames_taken, IsHostRun}
 use Rattle.lan_theorem.specs.Hosts.Machine.{Turn, Machine, machine_of, HostRun, room_after, room_behind}

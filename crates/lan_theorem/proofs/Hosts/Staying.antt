@@ -7,15 +7,15 @@ use Rattle.std.proofs.lemmas.List.{map-append, get_or_append_left, length-append
 use Rattle.net_base.specs.DeviceCapabilities.{DeviceCapabilities}
 use Rattle.net_base.specs.Medium.{Medium}
 use Rattle.lan_frames.specs.Parts.{tcp_part}
-use Rattle.lan_net.specs.History.{Entry}
-use Rattle.lan_net.specs.Kinds.{Kind, Origin, Delivered, Damaged, Noisy, same_side, kind_of}
-use Rattle.lan_net.specs.Kinds.Kind.{OfHost, OfLink}
-use Rattle.lan_net.specs.Kinds.LinkAct.{Hands, Cuts}
-use Rattle.lan_net.specs.declared.answer.Refused.TheVariants as For
-use Rattle.lan_net.specs.declared.event.Side.{Side}
-use Rattle.lan_stations.specs.Origins.{medium_of, frame_sent, damaged_in, frame_of_origin, goes_to, origins_of, origins}
-use Rattle.lan_stations.specs.Refusals.{Tables, is_no_frame, segment_tests, refusal}
-use Rattle.lan_stations.specs.Station.{Stations, station}
+use Rattle.lan_history.specs.History.{Entry}
+use Rattle.lan_history.specs.Kinds.{Kind, Origin, Delivered, Damaged, Noisy, same_side, kind_of}
+use Rattle.lan_history.specs.Kinds.Kind.{OfHost, OfLink}
+use Rattle.lan_history.specs.Kinds.LinkAct.{Hands, Cuts}
+use Rattle.lan_history.specs.declared.answer.Refused.TheVariants as For
+use Rattle.lan_history.specs.declared.event.Side.{Side}
+use Rattle.lan_hosts.specs.Origins.{medium_of, frame_sent, damaged_in, frame_of_origin, goes_to, origins_of, origins}
+use Rattle.lan_hosts.specs.Refusals.{Tables, is_no_frame, segment_tests, refusal}
+use Rattle.lan_hosts.specs.Station.{Stations, station}
 use Rattle.lan_theorem.specs.Hosts.GoesOn.{GoesOn, IsThere, AreThere}
 use Rattle.lan_theorem.proofs.Hosts.Acting.{not_refused}
 

@@ -19,7 +19,7 @@ use Rattle.interface_delivery.specs.Delivered.{IsWritable}
 use Rattle.lan_frames.specs.Carried.{packet_in}
 use Rattle.lan_frames.specs.declared.part.Part.{Part}
 use Rattle.lan_frames.specs.Slices.{bytes_of_slice}
-use Rattle.lan_stations.specs.Origins.{begins_datagram}
+use Rattle.lan_hosts.specs.Origins.{begins_datagram}
 use Rattle.lan_theorem.specs.Link.Made.{sealed}
 use Rattle.lan_theorem.specs.Link.Frames.{medium_on, IsSlice}
 use Rattle.lan_theorem.specs.Link.Numbers.{and_v4, count_v4, IsTied}

@@ -28,7 +28,7 @@ use Rattle.interface_ingress.specs.Sent.{CanBeRead, normal_payload}
 use Rattle.interface_delivery.specs.Delivered.{NamesNoPorts, IsWritable}
 use Rattle.interface_delivery.specs.Taken.{HasWidths, IsHalfSent}
 use Rattle.interface_delivery.proofs.Offered.{writes, readable, begun_half, left_half}
-use Rattle.lan_stations.specs.Origins.{begins_datagram}
+use Rattle.lan_hosts.specs.Origins.{begins_datagram}
 use Rattle.lan_port.specs.Port.{PortValue, PortMove}
 use Rattle.lan_theorem.specs.Link.Made.{sealed, IsGoing}
 use Rattle.lan_theorem.specs.Link.Frames.{medium_on, IsOut}

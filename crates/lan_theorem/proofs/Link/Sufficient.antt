@@ -8,19 +8,19 @@ use Rattle.std.proofs.lemmas.List.Sums.{sum_by-append}
 use Rattle.net_base.specs.DeviceCapabilities.{DeviceCapabilities}
 use Rattle.net_base.specs.Medium.{Medium}
 use Rattle.socket_base.specs.Packet.{PacketValue}
-use Rattle.lan_net.specs.History.{Entry}
-use Rattle.lan_net.specs.Kinds.{Kind, kind_of}
-use Rattle.lan_net.specs.Kinds.Act.{Polls}
-use Rattle.lan_net.specs.Kinds.Kind.{OfHost}
-use Rattle.lan_net.specs.declared.answer.Refused.{Refused}
-use Rattle.lan_net.specs.declared.event.Side.{Side}
-use Rattle.lan_net.specs.declared.event.Side.TheVariants.{A, B}
-use Rattle.lan_stations.specs.Origins.{medium_of, begins_datagram}
-use Rattle.lan_stations.specs.Records.{datagrams_added}
-use Rattle.lan_stations.specs.Refusals.{Table, socket_count, may_run_out, refusal, table}
-use Rattle.lan_stations.specs.Runs.{table_in, tables_in, Leads}
-use Rattle.lan_stations.specs.Station.{Stations, station}
-use Rattle.lan_stations.proofs.Growing.{tables_go_on, happens_stays}
+use Rattle.lan_history.specs.History.{Entry}
+use Rattle.lan_history.specs.Kinds.{Kind, kind_of}
+use Rattle.lan_history.specs.Kinds.Act.{Polls}
+use Rattle.lan_history.specs.Kinds.Kind.{OfHost}
+use Rattle.lan_history.specs.declared.answer.Refused.{Refused}
+use Rattle.lan_history.specs.declared.event.Side.{Side}
+use Rattle.lan_history.specs.declared.event.Side.TheVariants.{A, B}
+use Rattle.lan_hosts.specs.Origins.{medium_of, begins_datagram}
+use Rattle.lan_hosts.specs.Records.{datagrams_added}
+use Rattle.lan_hosts.specs.Refusals.{Table, socket_count, may_run_out, refusal, table}
+use Rattle.lan_hosts.specs.Runs.{table_in, tables_in, Leads}
+use Rattle.lan_hosts.specs.Station.{Stations, station}
+use Rattle.lan_hosts.proofs.Growing.{tables_go_on, happens_stays}
 use Rattle.lan_theorem.specs.Link.Numbers.{count_v4, AreFew, IsTied}
 use Rattle.lan_theorem.proofs.Link.Begun.{worth}
 

@@ -12,7 +12,7 @@ use Rattle.ip_wire.specs.TcpHeader.{TcpHeader}
 use Rattle.ip_wire.specs.UdpRepr.{UdpRepr}
 use Rattle.socket_base.specs.Context.{ContextValue}
 use Rattle.socket_base.specs.Packet.{PacketValue}
-use Rattle.tcp.specs.Host.{Made, made_of, and_answer, IsAmong}
+use Rattle.tcp_tie.specs.Host.{Made, made_of, and_answer, IsAmong}
 use Rattle.tcp_model.specs.Controls.{is_rst}
 use Rattle.tcp_model.specs.Arrival.{arrives}
 use Rattle.tcp_model.specs.Segments.{rst_reply}
@@ -24,12 +24,12 @@ use Rattle.interface_egress.specs.declared.socket_set.Item.{Item}
 use Rattle.interface_egress.specs.declared.socket_set.SocketStorage.{SocketStorage}
 use Rattle.interface_ingress.specs.Delivered.{with_change, passes, given, all_given, changed_at, with_packet, packet_delivered, with_icmpv4, icmpv4_delivered, with_icmpv6, icmpv6_delivered, with_datagram, datagram_place, datagram_delivered, with_segment, packet_by, answer_of, segment_place, segment_delivered, answer_in, segment_answer_at, segment_answer}
 use Rattle.interface_ingress.proofs.AtPlace.{changed_here, answer_here}
-use Rattle.lan_net.specs.declared.event.Side.{Side}
-use Rattle.lan_net.specs.Kinds.{other}
+use Rattle.lan_history.specs.declared.event.Side.{Side}
+use Rattle.lan_history.specs.Kinds.{other}
 use Rattle.lan_packets.specs.Moves as Moves
 use Rattle.lan_packets.specs.Parties as Parties
 use Rattle.lan_packets.specs.Parties.{Party, Net, party, WasMade}
-use Rattle.lan_stations.specs.Safe.{seen}
+use Rattle.lan_hosts.specs.Safe.{seen}
 use Rattle.lan_theorem.specs.Moves.Follows.{Reaches, seen_place, sockets_of}
 use Rattle.lan_theorem.specs.Moves.Made.{Grows, IsMade, datagram_of}
 use Rattle.lan_theorem.proofs.Moves.Nets.{Moved, stays, moves_by, there, grows_to, grows_by}

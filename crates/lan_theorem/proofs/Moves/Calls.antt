@@ -17,28 +17,28 @@ use Rattle.interface_egress.specs.Set.{socket_in, with_socket}
 use Rattle.interface_egress.specs.declared.socket_set.Item.{Item}
 use Rattle.interface_egress.specs.declared.socket_set.SocketStorage.{SocketStorage}
 use Rattle.lan_frames.specs.Carried.{names_tcp_or_udp}
-use Rattle.lan_net.specs.Call as Call
-use Rattle.lan_net.specs.Call.{SocketCall}
-use Rattle.lan_net.specs.History.{Entry}
-use Rattle.lan_net.specs.Kinds.{calls, Kind}
-use Rattle.lan_net.specs.Tables.{IsAllowed, call_refusal, table_of}
-use Rattle.lan_net.specs.declared.answer.Answer.{Answer}
-use Rattle.lan_net.specs.declared.answer.Answer.TheVariants as To
-use Rattle.lan_net.specs.declared.answer.Fault.TheVariants as For
-use Rattle.lan_net.specs.declared.event.Side.{Side}
-use Rattle.lan_net.specs.declared.event.Side.TheVariants.{A, B}
-use Rattle.lan_net.specs.declared.record.SocketKind.{SocketKind}
+use Rattle.lan_history.specs.Call as Call
+use Rattle.lan_history.specs.Call.{SocketCall}
+use Rattle.lan_history.specs.History.{Entry}
+use Rattle.lan_history.specs.Kinds.{calls, Kind}
+use Rattle.lan_history.specs.Tables.{IsAllowed, call_refusal, table_of}
+use Rattle.lan_history.specs.declared.answer.Answer.{Answer}
+use Rattle.lan_history.specs.declared.answer.Answer.TheVariants as To
+use Rattle.lan_history.specs.declared.answer.Fault.TheVariants as For
+use Rattle.lan_history.specs.declared.event.Side.{Side}
+use Rattle.lan_history.specs.declared.event.Side.TheVariants.{A, B}
+use Rattle.lan_history.specs.declared.record.SocketKind.{SocketKind}
 use Rattle.lan_packets.specs.Calls.{Did, tcp_does, udp_does}
 use Rattle.lan_packets.specs.Moves as Moves
 use Rattle.lan_packets.specs.Moves.{IsOfOthers, DoneBy}
 use Rattle.lan_packets.specs.Parties as Parties
 use Rattle.lan_packets.specs.Parties.{Party, Net, party, places_of}
-use Rattle.lan_stations.specs.Does.{Does, PlaceDoes, ItemDoes, DidAt, does, did_as, icmp_does, raw_does, message_or, packet_or}
-use Rattle.lan_stations.specs.Refusals.{refusal}
-use Rattle.lan_stations.specs.Runs.{tables_in}
-use Rattle.lan_stations.specs.Safe.{seen}
-use Rattle.lan_stations.specs.Station as Stations
-use Rattle.lan_stations.specs.Station.{StationValue, station, kind_at}
+use Rattle.lan_hosts.specs.Does.{Does, PlaceDoes, ItemDoes, DidAt, does, did_as, icmp_does, raw_does, message_or, packet_or}
+use Rattle.lan_hosts.specs.Refusals.{refusal}
+use Rattle.lan_hosts.specs.Runs.{tables_in}
+use Rattle.lan_hosts.specs.Safe.{seen}
+use Rattle.lan_hosts.specs.Station as Stations
+use Rattle.lan_hosts.specs.Station.{StationValue, station, kind_at}
 use Rattle.lan_theorem.specs.Moves.Follows.{seen_place, sockets_of, IsNetOf}
 use Rattle.lan_theorem.proofs.Moves.Places.{Places, seen_set}
 

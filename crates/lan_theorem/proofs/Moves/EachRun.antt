@@ -10,28 +10,28 @@ use Rattle.interface_egress.specs.Set.{socket_at, socket_in, with_socket}
 use Rattle.interface_egress.specs.declared.socket_set.Item.{Item}
 use Rattle.interface_egress.specs.declared.socket_set.SocketStorage.{SocketStorage}
 use Rattle.lan_frames.specs.Carried.{names_tcp_or_udp}
-use Rattle.lan_net.specs.Call as Call
-use Rattle.lan_net.specs.Call.{SocketCall}
-use Rattle.lan_net.specs.History.{Entry}
-use Rattle.lan_net.specs.Kinds.{other, kind_of, calls, Kind, LinkAct}
-use Rattle.lan_net.specs.Kinds.Act.{Calls, Sets, Opens, Asks, Polls}
-use Rattle.lan_net.specs.Kinds.Kind.{OfHost, OfLink}
-use Rattle.lan_net.specs.Kinds.LinkAct.{Hands, Cuts}
-use Rattle.lan_net.specs.Tables.{is_wrong_kind}
-use Rattle.lan_net.specs.declared.answer.Answer.{Answer}
-use Rattle.lan_net.specs.declared.answer.Refused.{Refused}
-use Rattle.lan_net.specs.declared.answer.Refused.TheVariants as For
-use Rattle.lan_net.specs.declared.event.Side.{Side}
-use Rattle.lan_net.specs.declared.event.Side.TheVariants.{A, B}
+use Rattle.lan_history.specs.Call as Call
+use Rattle.lan_history.specs.Call.{SocketCall}
+use Rattle.lan_history.specs.History.{Entry}
+use Rattle.lan_history.specs.Kinds.{other, kind_of, calls, Kind, LinkAct}
+use Rattle.lan_history.specs.Kinds.Act.{Calls, Sets, Opens, Asks, Polls}
+use Rattle.lan_history.specs.Kinds.Kind.{OfHost, OfLink}
+use Rattle.lan_history.specs.Kinds.LinkAct.{Hands, Cuts}
+use Rattle.lan_history.specs.Tables.{is_wrong_kind}
+use Rattle.lan_history.specs.declared.answer.Answer.{Answer}
+use Rattle.lan_history.specs.declared.answer.Refused.{Refused}
+use Rattle.lan_history.specs.declared.answer.Refused.TheVariants as For
+use Rattle.lan_history.specs.declared.event.Side.{Side}
+use Rattle.lan_history.specs.declared.event.Side.TheVariants.{A, B}
 use Rattle.lan_packets.specs.Calls.{Did}
 use Rattle.lan_port.specs.Port.{LinkEnd, PortMove}
-use Rattle.lan_stations.specs.Does.{PlaceDoes, ItemDoes, DidAt, does, did_as}
-use Rattle.lan_stations.specs.Fresh.{IsUnused, IsFreshWorld}
-use Rattle.lan_stations.specs.Origins.{goes_to}
-use Rattle.lan_stations.specs.Refusals.{Tables, refusal}
-use Rattle.lan_stations.specs.Runs.{Starts, tables_in, unused_both, WorldRun}
-use Rattle.lan_stations.specs.Station.{StationValue, Stations, station, kind_at, with_station, with_link, at_port}
-use Rattle.lan_stations.specs.Steps.{Happens, linked}
+use Rattle.lan_hosts.specs.Does.{PlaceDoes, ItemDoes, DidAt, does, did_as}
+use Rattle.lan_hosts.specs.Fresh.{IsUnused, IsFreshWorld}
+use Rattle.lan_hosts.specs.Origins.{goes_to}
+use Rattle.lan_hosts.specs.Refusals.{Tables, refusal}
+use Rattle.lan_hosts.specs.Runs.{Starts, tables_in, unused_both, WorldRun}
+use Rattle.lan_hosts.specs.Station.{StationValue, Stations, station, kind_at, with_station, with_link, at_port}
+use Rattle.lan_hosts.specs.Steps.{Happens, linked}
 use Rattle.lan_theorem.specs.Moves.Raws.{OfItem, OfEach}
 use Rattle.lan_theorem.proofs.Moves.EachSocket.{IsOfSockets, found, with_set, polls_of_each}
 use Rattle.lan_theorem.proofs.Moves.Nets.{either_side}

@@ -1,18 +1,18 @@
 -- What an event of a host, or of the link, does to both hosts, as moves.
 use Rattle.std.proofs.Common.{◌≡◌, ℕ, List, [], ◌∷◌, ◌++◌, None, refl, sym, ap, ◌∙◌, subst}
-use Rattle.lan_net.specs.Call.{SocketCall}
-use Rattle.lan_net.specs.History.{Entry}
-use Rattle.lan_net.specs.Kinds.{other, kind_of, calls}
-use Rattle.lan_net.specs.Kinds.Act.{Calls}
-use Rattle.lan_net.specs.declared.event.Side.{Side}
-use Rattle.lan_net.specs.declared.event.Side.TheVariants.{A, B}
+use Rattle.lan_history.specs.Call.{SocketCall}
+use Rattle.lan_history.specs.History.{Entry}
+use Rattle.lan_history.specs.Kinds.{other, kind_of, calls}
+use Rattle.lan_history.specs.Kinds.Act.{Calls}
+use Rattle.lan_history.specs.declared.event.Side.{Side}
+use Rattle.lan_history.specs.declared.event.Side.TheVariants.{A, B}
 use Rattle.lan_packets.specs.Moves as Moves
 use Rattle.lan_packets.specs.Moves.{IsNoCall, IsRun, after}
 use Rattle.lan_packets.specs.Parties.{Party, Net, party}
 use Rattle.lan_packets.proofs.Extended.{run-append, IsRun-append}
-use Rattle.lan_stations.specs.Runs.{refusal_in}
-use Rattle.lan_stations.specs.Station.{StationValue, Stations, station}
-use Rattle.lan_stations.specs.Steps.{ActsAt}
+use Rattle.lan_hosts.specs.Runs.{refusal_in}
+use Rattle.lan_hosts.specs.Station.{StationValue, Stations, station}
+use Rattle.lan_hosts.specs.Steps.{ActsAt}
 use Rattle.lan_theorem.specs.Moves.Follows.{Reaches, sockets_of, IsNetOf, Comes}
 use Rattle.lan_theorem.specs.Moves.Made.{Grows}
 use Rattle.lan_theorem.proofs.Moves.Calls.{IsCalled, call_is_called, call_allowed, names}

@@ -1,12 +1,12 @@
 -- Wherever two hosts came from a fresh start, their sockets are fit.
 use Rattle.std.proofs.Common.{List, Option, Some, None}
 use Rattle.sockets.specs.declared.socket.Socket.{Socket}
-use Rattle.lan_net.specs.History.{Entry}
+use Rattle.lan_history.specs.History.{Entry}
 use Rattle.lan_packets.specs.Calls.{Did}
-use Rattle.lan_stations.specs.Does.{does}
-use Rattle.lan_stations.specs.Fresh.{IsFreshWorld}
-use Rattle.lan_stations.specs.Runs.{Starts, unused_both, WorldRun}
-use Rattle.lan_stations.specs.Station.{Stations}
+use Rattle.lan_hosts.specs.Does.{does}
+use Rattle.lan_hosts.specs.Fresh.{IsFreshWorld}
+use Rattle.lan_hosts.specs.Runs.{Starts, unused_both, WorldRun}
+use Rattle.lan_hosts.specs.Station.{Stations}
 use Rattle.lan_theorem.specs.Moves.Fit.{IsFit, NamesPorts, AreFit}
 use Rattle.lan_theorem.specs.Moves.Raws.{QueuesForeign}
 use Rattle.lan_theorem.proofs.Moves.EachRun.{IsOfRuns, Keeps, runs_of_each}

@@ -12,7 +12,7 @@ use Rattle.datagram_sockets.specs.Offers.{IsFound, IsOnly, OffersFirst}
 use Rattle.datagram_sockets.specs.SocketValue.{SocketValue}
 use Rattle.datagram_sockets.specs.Udp as Udps
 use Rattle.datagram_sockets.specs.declared.udp.UdpMetadata.{UdpMetadata}
-use Rattle.tcp.specs.Host.{Made, made_of, and_offer}
+use Rattle.tcp_tie.specs.Host.{Made, made_of, and_offer}
 use Rattle.tcp_model.specs.OpenOffer.{OpenOffer}
 use Rattle.tcp_model.specs.Offers.{offer_of, payload_of, packet_with, offered_packet}
 use Rattle.tcp_model.specs.Value.{TcpValue}

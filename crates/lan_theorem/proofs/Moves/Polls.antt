@@ -18,8 +18,8 @@ use Rattle.interface.specs.WayOut.{PieceLeaves}
 use Rattle.interface_laws.specs.Kept.{sending_as, IsKept}
 use Rattle.interface_laws.specs.Priced.{IsPriced, sockets_in}
 use Rattle.interface_laws.proofs.Priced.{polls_cost}
-use Rattle.lan_net.specs.declared.event.Side.{Side}
-use Rattle.lan_net.specs.Kinds.{other}
+use Rattle.lan_history.specs.declared.event.Side.{Side}
+use Rattle.lan_history.specs.Kinds.{other}
 use Rattle.lan_packets.specs.Parties.{Party, Net, party}
 use Rattle.lan_theorem.specs.Moves.Follows.{Follows, sockets_of}
 use Rattle.lan_theorem.specs.Moves.Fit.{IsFit}

@@ -26,8 +26,8 @@ use Rattle.datagram_sockets.specs.declared.error.SendError.TheVariants as SendTo
 use Rattle.datagram_sockets.specs.declared.udp.UdpMetadata.{UdpMetadata}
 use Rattle.net_base.specs.RandomWords.{word}
 use Rattle.net_base.specs.Ring.{anchored, enqueued}
-use Rattle.tcp.specs.Endpoints.{KeepsOrForgets, IsRenamed}
-use Rattle.tcp.proofs.NameLaws.{arrival_names, withheld_names, close_names}
+use Rattle.tcp_tie.specs.Endpoints.{KeepsOrForgets, IsRenamed}
+use Rattle.tcp_tie.proofs.NameLaws.{arrival_names, withheld_names, close_names}
 use Rattle.tcp_model.specs.AddressPair.{AddressPair}
 use Rattle.tcp_model.specs.Arrival.{arrives}
 use Rattle.tcp_model.specs.Calls.{listening, connected_by, pair_by, pair_for, addresses_by, source_by, sent_more, send_after, recv_answer, close_after}
@@ -47,15 +47,15 @@ use Rattle.sockets.specs.Socket.{Offers, settled}
 use Rattle.sockets.specs.declared.socket.Socket.{Socket}
 use Rattle.sockets.specs.declared.socket.Socket.TheVariants as Is
 use Rattle.interface_ingress.specs.Delivered.{with_packet, with_icmpv4, with_icmpv6, with_datagram, with_segment}
-use Rattle.lan_net.specs.Call as Call
-use Rattle.lan_net.specs.Call.{SocketCall}
-use Rattle.lan_net.specs.declared.event.TcpSetting.{TcpSetting}
-use Rattle.lan_net.specs.declared.event.TcpSetting.TheVariants as Changed
+use Rattle.lan_history.specs.Call as Call
+use Rattle.lan_history.specs.Call.{SocketCall}
+use Rattle.lan_history.specs.declared.event.TcpSetting.{TcpSetting}
+use Rattle.lan_history.specs.declared.event.TcpSetting.TheVariants as Changed
 use Rattle.lan_packets.specs.Calls.{at_port, read_by, setting_after, tcp_does, udp_does}
 use Rattle.lan_packets.proofs.Queues.{each_left, each_appended}
 use Rattle.lan_packets.proofs.WireMoves.{pair_kept}
-use Rattle.lan_stations.specs.Does.{does, icmp_does, raw_does}
-use Rattle.lan_stations.specs.Fresh.{IsUnused}
+use Rattle.lan_hosts.specs.Does.{does, icmp_does, raw_does}
+use Rattle.lan_hosts.specs.Fresh.{IsUnused}
 use Rattle.lan_theorem.specs.Moves.Fit.{AreNamed, NamesPorts}
 use Rattle.lan_theorem.proofs.Moves.EachRun.{IsOfRuns, SendsForeign, Keeps, kept_as, all_as}
 use Rattle.lan_theorem.proofs.Moves.EachSocket.{IsOfSockets}

@@ -31,12 +31,12 @@ use Rattle.sockets.specs.declared.socket.Socket.TheVariants as Is
 use Rattle.interface_ingress.specs.Delivered.{with_packet, with_icmpv4, with_icmpv6, with_datagram, with_segment}
 use Rattle.lan_frames.specs.Carried.{names_tcp_or_udp, is_tcp_or_udp}
 use Rattle.lan_frames.proofs.Named.{neither_first, neither_second}
-use Rattle.lan_net.specs.Call as Call
-use Rattle.lan_net.specs.Call.{SocketCall}
+use Rattle.lan_history.specs.Call as Call
+use Rattle.lan_history.specs.Call.{SocketCall}
 use Rattle.lan_packets.specs.Calls.{tcp_does, udp_does}
 use Rattle.lan_packets.proofs.Queues.{each_left, each_appended, each_first}
-use Rattle.lan_stations.specs.Does.{does, icmp_does, raw_does}
-use Rattle.lan_stations.specs.Fresh.{IsUnused}
+use Rattle.lan_hosts.specs.Does.{does, icmp_does, raw_does}
+use Rattle.lan_hosts.specs.Fresh.{IsUnused}
 use Rattle.lan_theorem.specs.Moves.Fit.{AreNamed}
 use Rattle.lan_theorem.specs.Moves.Raws.{QueuesForeign}
 use Rattle.lan_theorem.proofs.Moves.EachRun.{IsOfRuns, SendsForeign, Keeps, kept_as, all_as}

@@ -11,7 +11,7 @@ use Rattle.ip_wire.specs.declared.ethernet.repr.EthernetRepr.{EthernetRepr}
 use Rattle.socket_base.specs.Packet.{PacketValue, PayloadValue, ControlV4, ControlV6, Bytes, Datagram, Segment}
 use Rattle.control_wire.specs.Icmpv4Header.{Icmpv4Header}
 use Rattle.control_wire.specs.Icmpv6.{MessageValue}
-use Rattle.tcp.specs.Host.{made_of, IsAmong}
+use Rattle.tcp_tie.specs.Host.{made_of, IsAmong}
 use Rattle.interface_tables.specs.Inner.{InnerValue, context_of, is_for_us}
 use Rattle.interface_ingress.specs.Arp.{arp_answer}
 use Rattle.interface_ingress.specs.Arrives as Replies
@@ -20,8 +20,8 @@ use Rattle.interface_ingress.specs.Carried.{IsCarriedContent}
 use Rattle.interface_ingress.specs.Delivered.{packet_delivered, is_taken_raw, datagram_place, segment_delivered, segment_answer}
 use Rattle.interface_ingress.specs.Handed.{control_v4_places, control_v6_places, names_nobody, handed_places, handed_reply, is_known}
 use Rattle.interface_ingress.specs.Incoming.{IncomingValue, Arp, Ip4, Ip6}
-use Rattle.lan_net.specs.declared.event.Side.{Side}
-use Rattle.lan_net.specs.Kinds.{other}
+use Rattle.lan_history.specs.declared.event.Side.{Side}
+use Rattle.lan_history.specs.Kinds.{other}
 use Rattle.lan_packets.specs.Parties.{Party, Net, party, WasMade}
 use Rattle.lan_theorem.specs.Moves.Follows.{Reaches, sockets_of}
 use Rattle.lan_theorem.specs.Moves.Made.{IsMade, IsMadeReply, HandsMade, BringsMade, datagram_of}

@@ -5,7 +5,7 @@ use Rattle.ip_wire.specs.Ip.{destination_of}
 use Rattle.net_base.specs.Device.{Move}
 use Rattle.socket_base.specs.Context.{ContextValue}
 use Rattle.socket_base.specs.Packet.{PacketValue}
-use Rattle.packet_widths.specs.WellFormed.{IsWellFormed}
+use Rattle.socket_base.specs.WellFormed.{IsWellFormed}
 use Rattle.socket_base.specs.declared.offer.Offer as Answer
 use Rattle.socket_base.specs.declared.offer.Offer.TheVariants as Offer
 use Rattle.datagram_sockets.specs.Offers.{HasPacket}
@@ -17,7 +17,7 @@ use Rattle.datagram_sockets.specs.Raw as Raws
 use Rattle.datagram_sockets.specs.Raw.{RawValue}
 use Rattle.datagram_sockets.specs.Udp as Udps
 use Rattle.datagram_sockets.specs.Udp.{UdpValue}
-use Rattle.tcp.specs.Host.{made_of, and_offer}
+use Rattle.tcp_tie.specs.Host.{made_of, and_offer}
 use Rattle.tcp_model.specs.OpenOffer.{OpenOffer}
 use Rattle.tcp_model.specs.Offers.{offer_of, payload_of, packet_with, offered_packet}
 use Rattle.tcp_model.specs.Value.{TcpValue}
@@ -35,11 +35,11 @@ use Rattle.interface.specs.State.{State, state}
 use Rattle.interface.specs.Turn.{PlaceTurns, ItemTurns, TurnsIf, Answers, SendsBy, Leaves, is_waiting, let_through, is_done, marked}
 use Rattle.interface.specs.declared.turn.Turned.{Turned}
 use Rattle.interface_laws.specs.Kept.{sending_as}
-use Rattle.lan_net.specs.declared.event.Side.{Side}
+use Rattle.lan_history.specs.declared.event.Side.{Side}
 use Rattle.lan_packets.specs.Moves as Moves
 use Rattle.lan_packets.specs.Parties as Parties
 use Rattle.lan_packets.specs.Parties.{Party, Net, party, datagrams_of}
-use Rattle.lan_stations.specs.Safe.{seen}
+use Rattle.lan_hosts.specs.Safe.{seen}
 use Rattle.lan_theorem.specs.Moves.Follows.{Reaches, Follows, seen_place, sockets_of}
 use Rattle.lan_theorem.specs.Moves.Fit.{IsFit}
 use Rattle.lan_theorem.specs.Moves.Link.{IsLink}

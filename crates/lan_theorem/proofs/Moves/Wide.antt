@@ -19,7 +19,7 @@ use Rattle.socket_base.specs.Context.{ContextValue}
 use Rattle.socket_base.specs.Packet.{PacketValue, PayloadValue, ControlV4, ControlV6, Bytes, Datagram, Segment, packet_of}
 use Rattle.socket_base.specs.Widths.{IsPayload}
 use Rattle.socket_base.specs.declared.offer.Offer as Answer
-use Rattle.packet_widths.specs.WellFormed.{AreFields, HasWidths, IsWellFormed}
+use Rattle.socket_base.specs.WellFormed.{AreFields, HasWidths, IsWellFormed}
 use Rattle.datagram_sockets.specs.Icmp as Icmps
 use Rattle.datagram_sockets.specs.Offers.{IsFound, IsOnly, OffersFirst}
 use Rattle.datagram_sockets.specs.Raw as Raws
@@ -27,8 +27,8 @@ use Rattle.datagram_sockets.specs.Udp as Udps
 use Rattle.datagram_sockets.specs.Udp.{UdpValue}
 use Rattle.datagram_sockets.specs.Header.{hops}
 use Rattle.datagram_sockets.specs.declared.udp.UdpMetadata.{UdpMetadata}
-use Rattle.tcp.proofs.NameLaws.{answer_back, offer_between_ends, reset_back}
-use Rattle.tcp.specs.Endpoints.{GoesBack}
+use Rattle.tcp_tie.proofs.NameLaws.{answer_back, offer_between_ends, reset_back}
+use Rattle.tcp_tie.specs.Endpoints.{GoesBack}
 use Rattle.tcp_model.specs.Arrival.{arrives}
 use Rattle.tcp_model.specs.Offers.{offer_of, payload_of, packet_with, offered_packet}
 use Rattle.tcp_model.specs.OpenOffer.{OpenOffer}

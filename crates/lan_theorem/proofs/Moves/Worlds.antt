@@ -3,14 +3,14 @@ use Rattle.std.proofs.Common.{◌≡◌, ℕ, zero, suc, List, [], ◌∷◌, Op
 use Rattle.std.specs.Prelude.{◌-◌, ◌≤◌, length, slice_index_or}
 use Rattle.tcp_law.specs.Safe.{IsPrefixOf}
 use Rattle.tcp_model.specs.Value.{TcpValue}
-use Rattle.lan_net.specs.History.{Entry, written}
-use Rattle.lan_net.specs.Kinds.{other, kind_of, Kind, LinkAct}
-use Rattle.lan_net.specs.Kinds.Act.{Calls, Sets, Opens, Asks, Polls}
-use Rattle.lan_net.specs.Kinds.Kind.{OfHost, OfLink}
-use Rattle.lan_net.specs.Kinds.LinkAct.{Hands, Cuts}
-use Rattle.lan_net.specs.declared.event.Side.{Side}
-use Rattle.lan_net.specs.declared.event.Side.TheVariants.{A, B}
-use Rattle.lan_net.specs.Partners.{ArePartners}
+use Rattle.lan_history.specs.History.{Entry, written}
+use Rattle.lan_history.specs.Kinds.{other, kind_of, Kind, LinkAct}
+use Rattle.lan_history.specs.Kinds.Act.{Calls, Sets, Opens, Asks, Polls}
+use Rattle.lan_history.specs.Kinds.Kind.{OfHost, OfLink}
+use Rattle.lan_history.specs.Kinds.LinkAct.{Hands, Cuts}
+use Rattle.lan_history.specs.declared.event.Side.{Side}
+use Rattle.lan_history.specs.declared.event.Side.TheVariants.{A, B}
+use Rattle.lan_history.specs.Partners.{ArePartners}
 use Rattle.lan_packets.specs.Moves.{IsNoCall}
 use Rattle.lan_packets.specs.Parties as Parties
 use Rattle.lan_packets.specs.Parties.{Party, Net, party}
@@ -19,13 +19,13 @@ use Rattle.lan_packets.proofs.Runs.{runs_safe}
 use Rattle.interface_egress.specs.Set.{socket_at}
 use Rattle.sockets.specs.declared.socket.Socket.{Socket}
 use Rattle.sockets.specs.declared.socket.Socket.TheVariants as Is
-use Rattle.lan_stations.specs.Fresh.{IsUnused, IsFreshStart, IsFreshWorld}
-use Rattle.lan_stations.specs.Runs.{Start, Starts, unused, unused_both, Leads, refusal_in}
-use Rattle.lan_stations.specs.Safe.{seen, seen_in, party_of, net_of, port_of, first_port}
-use Rattle.lan_stations.specs.Station.{StationValue, Stations, station, with_station, with_link}
-use Rattle.lan_stations.specs.Steps.{Happens, linked}
+use Rattle.lan_hosts.specs.Fresh.{IsUnused, IsFreshStart, IsFreshWorld}
+use Rattle.lan_hosts.specs.Runs.{Start, Starts, unused, unused_both, Leads, refusal_in}
+use Rattle.lan_hosts.specs.Safe.{seen, seen_in, party_of, net_of, port_of, first_port}
+use Rattle.lan_hosts.specs.Station.{StationValue, Stations, station, with_station, with_link}
+use Rattle.lan_hosts.specs.Steps.{Happens, linked}
 use Rattle.lan_port.specs.Port.{LinkEnd}
-use Rattle.lan_stations.specs.Origins.{goes_to}
+use Rattle.lan_hosts.specs.Origins.{goes_to}
 use Rattle.lan_theorem.specs.Moves.Follows.{sockets_of, IsNetOf, Comes, IsNoPoll}
 use Rattle.lan_theorem.specs.Moves.Joined.{first_net, HasCome}
 use Rattle.lan_theorem.proofs.Moves.Calls.{names}

@@ -3,11 +3,11 @@ use Rattle.std.specs.Prelude.{◌≡◌, ◌≤ℤ◌, ◌<◌, ℕ, Bool, true,
 use Rattle.std.specs.List.{AllByRecursion}
 use Rattle.ip_wire.specs.HardwareAddress.{HardwareAddress}
 use Rattle.ip_wire.specs.HardwareAddress.TheVariants as Hardware
-use Rattle.lan_net.specs.History.{Entry}
-use Rattle.lan_net.specs.Kinds.{Origin, Delivered, Damaged, Noisy, kind_of}
-use Rattle.lan_net.specs.declared.event.Side.{Side}
-use Rattle.lan_stations.specs.Origins.{origins_of}
-use Rattle.lan_stations.specs.Station.{StationValue, Stations, station}
+use Rattle.lan_history.specs.History.{Entry}
+use Rattle.lan_history.specs.Kinds.{Origin, Delivered, Damaged, Noisy, kind_of}
+use Rattle.lan_history.specs.declared.event.Side.{Side}
+use Rattle.lan_hosts.specs.Origins.{origins_of}
+use Rattle.lan_hosts.specs.Station.{StationValue, Stations, station}
 
 -- whether the medium has hardware addresses
 abbrev pub has_addresses : HardwareAddress → Bool

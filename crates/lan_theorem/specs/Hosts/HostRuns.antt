@@ -1,13 +1,13 @@
 -- Each host of a world is a run of its machine.
 use Rattle.std.specs.Prelude.{◌≡◌, ℕ, if◌then◌else◌, List, [], ◌∷◌, ◌++◌, map, Option}
-use Rattle.lan_net.specs.History.{Entry}
-use Rattle.lan_net.specs.Kinds.{same_side, Kind, Act, kind_of}
-use Rattle.lan_net.specs.Kinds.Kind.{OfHost}
-use Rattle.lan_net.specs.declared.answer.Answer.{Answer}
-use Rattle.lan_net.specs.declared.event.Side.{Side}
-use Rattle.lan_stations.specs.Station.{station}
-use Rattle.lan_stations.specs.Origins.{frame_of_origin, origins, own_frames}
-use Rattle.lan_stations.specs.Runs.{start, unused, WorldValue}
+use Rattle.lan_history.specs.History.{Entry}
+use Rattle.lan_history.specs.Kinds.{same_side, Kind, Act, kind_of}
+use Rattle.lan_history.specs.Kinds.Kind.{OfHost}
+use Rattle.lan_history.specs.declared.answer.Answer.{Answer}
+use Rattle.lan_history.specs.declared.event.Side.{Side}
+use Rattle.lan_hosts.specs.Station.{station}
+use Rattle.lan_hosts.specs.Origins.{frame_of_origin, origins, own_frames}
+use Rattle.lan_hosts.specs.Runs.{start, unused, WorldValue}
 use Rattle.tcp_model.specs.State.{State}
 use Rattle.lan_theorem.specs.Hosts.Machine.{Turn, machine_of, HostRun}
 

@@ -6,12 +6,12 @@ use Rattle.interface_egress.specs.GoesOut.{frame_of}
 use Rattle.interface_egress.specs.declared.socket_set.SocketStorage.{SocketStorage}
 use Rattle.interface_laws.specs.Touches.{Silences}
 use Rattle.interface_tables.specs.Inner.{InnerValue}
-use Rattle.lan_net.specs.Kinds.{Act}
-use Rattle.lan_net.specs.Kinds.Act.{Opens, Polls}
-use Rattle.lan_net.specs.declared.answer.Answer.{Answer}
+use Rattle.lan_history.specs.Kinds.{Act}
+use Rattle.lan_history.specs.Kinds.Act.{Opens, Polls}
+use Rattle.lan_history.specs.declared.answer.Answer.{Answer}
 use Rattle.lan_port.specs.Port.{LinkEnd}
-use Rattle.lan_stations.specs.Station.{StationValue}
-use Rattle.lan_stations.specs.Steps.{Acts}
+use Rattle.lan_hosts.specs.Station.{StationValue}
+use Rattle.lan_hosts.specs.Steps.{Acts}
 use Rattle.sockets.specs.declared.socket.Socket.{Socket}
 use Rattle.tcp_model.specs.State.{State}
 

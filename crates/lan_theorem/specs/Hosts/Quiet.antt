@@ -5,18 +5,18 @@ use Rattle.ip_wire.specs.IpAddress.TheVariants as Address
 use Rattle.interface.specs.QuietStep.{IsEarlier}
 use Rattle.interface_tables.specs.Route.{is_gateway_v4, is_gateway_v6, without}
 use Rattle.interface_tables.specs.declared.route.Route.{Route}
-use Rattle.lan_net.specs.Call as Call
-use Rattle.lan_net.specs.History.{Entry, Counts}
-use Rattle.lan_net.specs.Kinds.{Act, Kind, Setting, same_side, kind_of}
-use Rattle.lan_net.specs.Kinds as Set
-use Rattle.lan_net.specs.Kinds.Act.{Calls, Sets, Opens, Asks, Polls}
-use Rattle.lan_net.specs.Kinds.Kind.{OfHost, OfLink}
-use Rattle.lan_net.specs.Kinds.LinkAct.{Hands, Cuts}
-use Rattle.lan_net.specs.declared.answer.Answer.{Answer}
-use Rattle.lan_net.specs.declared.answer.Answer.TheVariants as To
-use Rattle.lan_net.specs.declared.event.Side.{Side}
-use Rattle.lan_stations.specs.Origins.{goes_to, sent_before, waiting_before}
-use Rattle.lan_stations.specs.Runs.{Starts, start}
+use Rattle.lan_history.specs.Call as Call
+use Rattle.lan_history.specs.History.{Entry, Counts}
+use Rattle.lan_history.specs.Kinds.{Act, Kind, Setting, same_side, kind_of}
+use Rattle.lan_history.specs.Kinds as Set
+use Rattle.lan_history.specs.Kinds.Act.{Calls, Sets, Opens, Asks, Polls}
+use Rattle.lan_history.specs.Kinds.Kind.{OfHost, OfLink}
+use Rattle.lan_history.specs.Kinds.LinkAct.{Hands, Cuts}
+use Rattle.lan_history.specs.declared.answer.Answer.{Answer}
+use Rattle.lan_history.specs.declared.answer.Answer.TheVariants as To
+use Rattle.lan_history.specs.declared.event.Side.{Side}
+use Rattle.lan_hosts.specs.Origins.{goes_to, sent_before, waiting_before}
+use Rattle.lan_hosts.specs.Runs.{Starts, start}
 
 -- LEFT ALONE
 

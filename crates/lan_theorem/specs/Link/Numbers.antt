@@ -5,7 +5,7 @@ use Rattle.net_base.specs.Medium.{Medium}
 use Rattle.ip_wire.specs.IpRepr.{IpRepr}
 use Rattle.ip_wire.specs.IpRepr.TheVariants as Ip
 use Rattle.socket_base.specs.Packet.{PacketValue}
-use Rattle.lan_stations.specs.Origins.{begins_datagram}
+use Rattle.lan_hosts.specs.Origins.{begins_datagram}
 
 abbrev pub and_v4 : IpRepr → ℕ → ℕ
 and_v4 (Ip.Ipv4 v) n = n + 1

@@ -5,8 +5,8 @@ use Rattle.net_base.specs.Packets.{contents}
 use Rattle.sockets.specs.declared.socket.Socket.{Socket}
 use Rattle.sockets.specs.declared.socket.Socket.TheVariants as Is
 use Rattle.tcp_model.specs.EndpointPair.{EndpointPair}
-use Rattle.lan_net.specs.declared.event.Side.{Side}
-use Rattle.lan_stations.specs.Station.{Stations, station}
+use Rattle.lan_history.specs.declared.event.Side.{Side}
+use Rattle.lan_hosts.specs.Station.{Stations, station}
 use Rattle.lan_theorem.specs.Moves.Raws.{OfEach, QueuesForeign}
 
 -- neither port is 0

@@ -4,16 +4,16 @@ use Rattle.interface.specs.State.{State}
 use Rattle.interface_egress.specs.Set.{socket_in}
 use Rattle.interface_egress.specs.declared.socket_set.SocketStorage.{SocketStorage}
 use Rattle.sockets.specs.declared.socket.Socket as Sockets
-use Rattle.lan_net.specs.declared.event.Side.{Side}
-use Rattle.lan_net.specs.History.{Entry}
-use Rattle.lan_net.specs.Kinds.{other, Kind}
-use Rattle.lan_net.specs.Kinds.Act.{Polls}
-use Rattle.lan_net.specs.Kinds.Kind.{OfHost}
+use Rattle.lan_history.specs.declared.event.Side.{Side}
+use Rattle.lan_history.specs.History.{Entry}
+use Rattle.lan_history.specs.Kinds.{other, Kind}
+use Rattle.lan_history.specs.Kinds.Act.{Polls}
+use Rattle.lan_history.specs.Kinds.Kind.{OfHost}
 use Rattle.lan_packets.specs.Moves.{Step, IsRun, run}
 use Rattle.lan_packets.specs.Parties as Parties
 use Rattle.lan_packets.specs.Parties.{Party, Net, party}
-use Rattle.lan_stations.specs.Safe.{seen_in}
-use Rattle.lan_stations.specs.Station.{Stations, station}
+use Rattle.lan_hosts.specs.Safe.{seen_in}
+use Rattle.lan_hosts.specs.Station.{Stations, station}
 use Rattle.lan_theorem.specs.Moves.Made.{Grows}
 
 -- the socket of a place, of which nothing is looked at where it is of ICMP or a raw one

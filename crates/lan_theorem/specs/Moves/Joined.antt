@@ -2,12 +2,12 @@
 use Rattle.std.specs.Prelude.{◌≡◌, [], List}
 use Rattle.net_base.specs.Medium.TheVariants as Medium
 use Rattle.lan_frames.specs.Carried.{names_tcp_or_udp}
-use Rattle.lan_net.specs.History.{Entry}
+use Rattle.lan_history.specs.History.{Entry}
 use Rattle.lan_packets.specs.Moves.{Step, IsRun, run}
 use Rattle.lan_packets.specs.Parties.{Net}
-use Rattle.lan_stations.specs.Runs.{Starts, unused}
-use Rattle.lan_stations.specs.Safe.{party_of}
-use Rattle.lan_stations.specs.Station.{Stations}
+use Rattle.lan_hosts.specs.Runs.{Starts, unused}
+use Rattle.lan_hosts.specs.Safe.{party_of}
+use Rattle.lan_hosts.specs.Station.{Stations}
 use Rattle.lan_theorem.specs.Moves.Follows.{IsNetOf}
 
 -- both hosts as they start, of which nothing was made

@@ -8,7 +8,7 @@ use Rattle.ip_wire.specs.IpRepr.TheVariants as Ip
 use Rattle.ip_wire.specs.TcpHeader.{TcpHeader}
 use Rattle.ip_wire.specs.UdpRepr.{UdpRepr}
 use Rattle.socket_base.specs.Packet.{PacketValue, PayloadValue, ControlV4, ControlV6, Bytes, Datagram, Segment}
-use Rattle.tcp.specs.Host.{Made, made_of, IsAmong}
+use Rattle.tcp_tie.specs.Host.{Made, made_of, IsAmong}
 use Rattle.interface_delivery.specs.Delivered.{NamesNoPorts}
 use Rattle.interface_delivery.specs.Taken.{IsOffered}
 use Rattle.interface_ingress.specs.Arrives.{ReplyValue, Tells, Answers}

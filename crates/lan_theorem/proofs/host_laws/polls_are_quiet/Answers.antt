@@ -1,5 +1,5 @@
 use Rattle.std.proofs.Common.{refl}
-use Rattle.lan_stations.specs.Runs.{counts_of}
+use Rattle.lan_hosts.specs.Runs.{counts_of}
 use Rattle.lan_theorem.proofs.Hosts.QuietRuns.{polls_quiet}
 use Rattle.lan_theorem.proofs.host_laws.polls_are_quiet.Goals as goal
 

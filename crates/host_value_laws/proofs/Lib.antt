@@ -1,4 +1,0 @@
-pub mod Told
-pub mod InterfaceEqual
-pub mod TunEqual
-pub mod Begins

@@ -1,4 +1,0 @@
-//! A simulated link's port as the device of an interface.
-#![tactic(auto)]
-
-pub mod laws;

@@ -1,0 +1,48 @@
+-- A segment that came, as it shows in what a pair keeps of a socket.
+use Rattle.std.proofs.Common.{◌≡◌, ℕ, Bool, true, false, List, if◌then◌else◌, refl, sym, ap, ◌∙◌}
+use Rattle.net_base.specs.RandomWords.{next_state}
+use Rattle.ip_wire.specs.TcpHeader.{TcpHeader}
+use Rattle.tcp_model.specs.Arrival.{arrives}
+use Rattle.tcp_model.specs.Names.{accepts}
+use Rattle.tcp_model.specs.Value.{TcpValue, Arrived}
+use Rattle.tcp_pair_model.specs.declared.event.SentSegment.{SentSegment}
+use Rattle.tcp_pair_model.specs.Steps.{comes_to, taken_at}
+use Rattle.tcp_pair_model.specs.Values.{PairSide, and_reply}
+use Rattle.tcp_pair.specs.Context.{PairContextValue, context_of, drawn}
+use Rattle.tcp_pair.specs.Ends.{EndValue, with_own}
+
+abbrev own_of : PairContextValue → TcpValue → List SentSegment → PairSide
+own_of k v sent = record { socket = v; sent = sent; moment = k.moment; random = k.random }
+
+abbrev end_of : PairContextValue → TcpValue → List SentSegment → Bool → ℕ → EndValue
+end_of k v sent opened accepted = record { side = k.side; own = own_of k v sent; opened = opened; accepted = accepted }
+
+when : {X : Type 0} (t : Bool) (a b : X) → t ≡ true → (if t then a else b) ≡ a
+when true a b e = refl
+when false a b e = absurd (cc)
+
+drawn_if : (t : Bool) (k : PairContextValue) → (if t then drawn k else k) ≡ record k { random = if t then next_state k.random else k.random }
+drawn_if true k = refl
+drawn_if false k = refl
+
+module _ (k : PairContextValue) (v : TcpValue) (sent : List SentSegment) (opened : Bool) (accepted : ℕ) (x : SentSegment) (header : TcpHeader) (bytes : List ℕ) (same_header : header ≡ x.segment) (same_bytes : bytes ≡ x.bytes) where
+  abbrev found : Arrived
+  found = arrives (context_of k) v x.header header bytes
+
+  abbrev wanted : Arrived
+  wanted = arrives (context_of k) v x.header x.segment x.bytes
+
+  same : found ≡ wanted
+  same = cc
+
+  pub came :
+      (test : Bool) (v' : TcpValue) (k' : PairContextValue) (sent' : List SentSegment) → test ≡ accepts v.block x.header header → test ≡ true → v' ≡ found.socket
+      → k' ≡ (if found.draws then drawn k else k) → sent' ≡ and_reply sent found.answer
+      → end_of k' v' sent' opened accepted ≡ with_own (end_of k v sent opened accepted) (comes_to k.side (own_of k v sent) x)
+  came test v' k' sent' tested passes socket context joined =
+      let accepted_it : accepts v.block x.header x.segment ≡ true = cc in
+      let random = ap (λ (a : Arrived). if a.draws then drawn k else k) same ∙ drawn_if wanted.draws k in
+      ap (λ (k : PairContextValue). end_of k v' sent' opened accepted) (context ∙ random)
+      ∙ ap (λ (v : TcpValue). end_of (record k { random = if wanted.draws then next_state k.random else k.random }) v sent' opened accepted) (socket ∙ ap (λ (a : Arrived). a.socket) same)
+      ∙ ap (λ (sent : List SentSegment). end_of (record k { random = if wanted.draws then next_state k.random else k.random }) wanted.socket sent opened accepted) (joined ∙ ap (λ (a : Arrived). and_reply sent a.answer) same)
+      ∙ sym (ap (λ (own : PairSide). with_own (end_of k v sent opened accepted) own) (when (accepts v.block x.header x.segment) (taken_at (own_of k v sent) wanted) (own_of k v sent) accepted_it))

@@ -1,0 +1,8 @@
+use Rattle.tcp_pair_model.proofs.PairLaws.{kept_is_safe}
+use Rattle.tcp_pair.proofs.pair.Pair.step.Goals as goal
+
+pub returns-in-Some-clause-safe : goal.returns-in-Some-clause-safe
+returns-in-Some-clause-safe c = kept_is_safe c.args.self.now c.refusal.ensures.kept
+
+pub returns-in-None-clause-safe : goal.returns-in-None-clause-safe
+returns-in-None-clause-safe c = kept_is_safe c.take.new.self c.take.ensures.kept

@@ -1,0 +1,51 @@
+-- What the fields of a pair show and keep.
+use Rattle.std.specs.Prelude.{◌≡◌, ◌⊎◌, ℕ, ◌≤◌, List, [], ◌∷◌, length, take, drop, None, Some}
+use Rattle.tcp_tie.specs.Tie.{Past}
+use Rattle.tcp_pair_model.specs.declared.event.Side.{Side}
+use Rattle.tcp_pair_model.specs.declared.event.PairEvent.{PairEvent}
+use Rattle.tcp_pair_model.specs.declared.event.PairAnswer.{PairAnswer}
+use Rattle.tcp_pair_model.specs.declared.event.PairRefused.{PairRefused}
+use Rattle.tcp_pair_model.specs.declared.event.PairRefused.TheVariants.{Memory}
+use Rattle.tcp_pair_model.specs.History.{Entry, pasts}
+use Rattle.tcp_pair_model.specs.Safe.{IsKept}
+use Rattle.tcp_pair_model.specs.Sides.{Both, at}
+use Rattle.tcp_pair_model.specs.Steps.{Steps, was_opened, refusal}
+use Rattle.tcp_pair_model.specs.Values.{PairSide, PairValue}
+use Rattle.tcp_pair.specs.Ends.{EndValue}
+use Rattle.tcp_pair.specs.declared.pair.Taken.{Taken}
+
+-- the history of these events and answers, which stand in the order in which they came, before it
+abbrev pub history_from : List Entry → List Taken → List PairAnswer → List Entry
+history_from past [] answers = past
+history_from past (t ∷ taken) [] = past
+history_from past (t ∷ taken) (answer ∷ answers) =
+    history_from (record { event = t.event; answer = answer; found = t.found } ∷ past) taken answers
+
+abbrev pub owns : Both EndValue → Both PairSide
+owns ends = record { a = ends.a.own; b = ends.b.own }
+
+-- a pair as its fields have it
+abbrev pub pair_of : Both EndValue → List Taken → List PairAnswer → PairValue
+pair_of ends taken answers = record { sides = owns ends; history = history_from [] taken answers }
+
+-- what a side counted is what the history says of it
+pub record Tallies (e : EndValue) (p : Past) : Type 0 where
+  pub opened : e.opened ≡ was_opened p.opening
+  pub accepted : e.accepted ≡ length p.written
+
+pub record IsPairOf (ends : Both EndValue) (taken : List Taken) (answers : List PairAnswer) : Type 0 where
+  pub as_many : length taken ≡ length answers
+  pub sides : (side : Side) → (at ends side).side ≡ side
+  pub tallies : (side : Side) → Tallies (at ends side) (at (pasts (history_from [] taken answers)) side)
+  pub kept : IsKept (pair_of ends taken answers)
+
+-- a refusal of an event: that which it must have, or want of memory where it must have none
+abbrev pub MayRefuse : PairValue → PairEvent → PairRefused → Type 0
+MayRefuse p event refused = (refusal p event ≡ Some refused) ⊎ ((refusal p event ≡ None) × (refused ≡ Memory))
+
+-- so many of the events have been taken, and these are left
+pub record HasRun (old : PairValue) (events : List PairEvent) (place : ℕ) (left : List PairEvent) (now : PairValue) : Type 0 where
+  pub steps : Steps old (take place events) now
+  pub left_over : drop place events ≡ left
+  pub bound : place ≤ length events
+  pub kept : IsKept now

@@ -1,0 +1,39 @@
+//! What holds of two sockets after every list of events.
+
+ghost use Rattle.std.specs.Prelude.{◌≡◌, ◌++◌, List, None};
+ghost use Rattle.tcp_model.specs.Value.{TcpValue};
+ghost use Rattle.tcp_tie.specs.Promises.{IsFresh};
+ghost use Rattle.tcp_pair_model.specs.declared.event.PairEvent.{PairEvent};
+ghost use Rattle.tcp_pair_model.specs.Safe.{IsKept, IsSafe};
+ghost use Rattle.tcp_pair_model.specs.Steps.{Steps, refusal, happens};
+ghost use Rattle.tcp_pair_model.specs.Values.{PairValue, new_pair};
+
+/// The invariant of a pair: two sockets that weren't opened have it, and each event that isn't refused keeps it.
+#[tactic(auto, using(crate::proofs::PairLaws::new_is_kept, crate::proofs::PairLaws::kept_after))]
+pub fn pairs_keep_the_invariant()
+    ensures new { (a b : TcpValue) → IsFresh a → IsFresh b → IsKept (new_pair a b) }
+    ensures step { (p : PairValue) (event : PairEvent) → IsKept p → refusal p event ≡ None → IsKept (happens p event).pair }
+{}
+
+/// What a side read and has waiting begins what the other wrote, only bytes that were taken in are freed, and each read that was
+/// answered by the end of the stream had read all that the other wrote, after it was closed.
+#[tactic(auto, using(crate::proofs::PairLaws::kept_is_safe))]
+pub fn kept_pairs_are_safe()
+    ensures safe { (p : PairValue) → IsKept p → IsSafe p }
+{}
+
+/// So after every list of events, whichever sent segments are delivered, how often and in which order.
+#[tactic(auto, using(crate::proofs::PairLaws::steps_are_safe))]
+pub fn pairs_are_safe()
+    ensures safe { (a b : TcpValue) (events : List PairEvent) (p : PairValue) → IsFresh a → IsFresh b
+        → Steps (new_pair a b) events p → IsSafe p }
+{}
+
+/// A list of events has one outcome. And it may be taken in pieces: so a run that was refused for want of memory, and taken up
+/// again at the event that was refused, ends as the whole run does.
+#[tactic(auto, using(crate::proofs::OutcomeLaws::one_outcome, crate::proofs::OutcomeLaws::goes_on))]
+pub fn events_have_one_outcome()
+    ensures one { (old p q : PairValue) (events : List PairEvent) → Steps old events p → Steps old events q → p ≡ q }
+    ensures pieces { (old middle new : PairValue) (events more : List PairEvent) → Steps old events middle → Steps middle more new
+        → Steps old (events ++ more) new }
+{}

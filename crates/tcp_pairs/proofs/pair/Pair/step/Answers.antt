@@ -1,8 +1,0 @@
-use Rattle.tcp_pair.proofs.PairLaws.{kept_is_safe}
-use Rattle.tcp_pairs.proofs.pair.Pair.step.Goals as goal
-
-pub returns-in-Some-clause-safe : goal.returns-in-Some-clause-safe
-returns-in-Some-clause-safe c = kept_is_safe c.args.self.now c.refusal.ensures.kept
-
-pub returns-in-None-clause-safe : goal.returns-in-None-clause-safe
-returns-in-None-clause-safe c = kept_is_safe c.take.new.self c.take.ensures.kept

@@ -1,3 +1,0 @@
-pub mod Context
-pub mod Ends
-pub mod Invariant

@@ -1,0 +1,239 @@
+-- Each segment that the partner sent, when it comes, keeps the invariant.
+use Rattle.std.proofs.Common.{◌≡◌, ◌⊎◌, inl, inr, ℕ, zero, suc, ◌-◌, ◌^◌, ◌<◌, ◌≤◌, nat_lt, nat_le, not, ◌==◌, ◌&&◌, Bool, true, false, if◌then◌else◌, List, Option, Some, None, slice_get, length, refl, sym, ap, ◌∙◌, arith}
+use Rattle.std.proofs.lemmas.Bool.{and_cases, cond_both, eqb-true, not-false}
+use Rattle.std.proofs.lemmas.Bool.Decides.{nat_tests}
+use Rattle.ip_wire.specs.IpRepr.{IpRepr}
+use Rattle.ip_wire.specs.Seq.{distance_of}
+use Rattle.ip_wire.specs.SeqNumber.{SeqNumber}
+use Rattle.ip_wire.specs.TcpHeader.{TcpHeader}
+use Rattle.socket_base.specs.Context.{ContextValue}
+use Rattle.tcp_law.specs.Move.{Comes}
+use Rattle.tcp_law.specs.Side.{Side, one_if}
+use Rattle.tcp_law.specs.Side.Phase.{SynReceived}
+use Rattle.tcp_model.specs.State.{State}
+use Rattle.tcp_model.specs.State.TheVariants as In
+use Rattle.tcp_model.specs.Acknowledged.{acknowledged, duplicates_after}
+use Rattle.tcp_model.specs.Answers.{drawn}
+use Rattle.tcp_model.specs.Arrival.{waiting_anew, outside, passed_outside, tells_news, with_content, told, taken, inside, checked, takes_reset, challenges_reset, reset_comes, challenges_syn, received, arrives_in, arrives, is_void_syn}
+use Rattle.tcp_model.specs.Checks.{Check, opening_check, synchronized_check, acknowledgement_check, is_in_window, taken_down}
+use Rattle.tcp_model.specs.Checks.Check.{Passes, Old, Drops, Draws, Resets}
+use Rattle.tcp_model.specs.Controls.{is_syn, is_rst}
+use Rattle.tcp_model.specs.Offsets.{past_by, before_by}
+use Rattle.tcp_model.specs.Retries.{heard}
+use Rattle.tcp_model.specs.States.{is_closed, is_answering}
+use Rattle.tcp_model.specs.Value.{TcpValue, Arrived, with_block, dropped, unoffered, free_in}
+use Rattle.tcp_tie.specs.Tie.{Past, unsent, phase_of, IsConnectedAs, Keeps, core_of, segment_of}
+use Rattle.tcp_tie.specs.History.{with_answer}
+use Rattle.tcp_tie.proofs.Tied.{Tied, fits_connected, is_connected, keeps_by}
+use Rattle.tcp_tie.proofs.ArrivalMoves.{IsAcceptable}
+use Rattle.tcp_tie.proofs.AckLaws.{IsAcked, acks}
+use Rattle.tcp_tie.proofs.TextLaws.{Led, data_control, no_reset_control, led_drawn, led_content}
+use Rattle.tcp_tie.proofs.OpeningLaws.{state_phase, led_opens, led_takes_answer, led_reset, tied_down}
+
+not_answering : (state : State) → is_answering state ≡ false → phase_of state ≡ SynReceived → ⊥
+not_answering In.SynReceived e f = absurd (cc)
+not_answering other e f = absurd (cc)
+
+not_above : (last by : ℕ) → nat_lt last by ≡ false → by ≤ last
+not_above last by e = grind (arith, nat_tests)
+
+-- HOW FAR AN ACKNOWLEDGEMENT LIES FROM SND.UNA
+
+-- a number that doesn't lie before the reference lies past it by its distance
+distance_past :
+    (far : ℕ) → far < 2 ^ 32 → ((if nat_lt far (2 ^ 31) then 0 else 2 ^ 32 - far) == 0) ≡ true → (if nat_lt far (2 ^ 31) then far else 0) ≡ far
+distance_past far small = by (nat_lt far (2 ^ 31)) where
+  by : (test : Bool) → ((if test then 0 else 2 ^ 32 - far) == 0) ≡ true → (if test then far else 0) ≡ far
+  by true none = refl
+  by false none = absurd (let gone = eqb-true (2 ^ 32 - far) 0 none in omega arith)
+
+-- and one that does lies past it by nothing
+nothing_past : (far : ℕ) → ((if nat_lt far (2 ^ 31) then 0 else 2 ^ 32 - far) == 0) ≡ false → ((if nat_lt far (2 ^ 31) then far else 0) == 0) ≡ true
+nothing_past far = by (nat_lt far (2 ^ 31)) where
+  by : (test : Bool) → ((if test then 0 else 2 ^ 32 - far) == 0) ≡ false → ((if test then far else 0) == 0) ≡ true
+  by true some = absurd (cc)
+  by false some = refl
+
+small_distance : (una n : SeqNumber) → distance_of una n < 2 ^ 32
+small_distance una n = omega arith
+
+at_least : (past_iss before : ℕ) → past_iss ≡ 0 → nat_le past_iss before ≡ true
+at_least past_iss before e = grind (arith, nat_tests)
+
+-- An acknowledgement that reaches past ISS acknowledges the SYN, or the SYN is acknowledged.
+past_syn :
+    (syn : Bool) (past_iss past before : ℕ) → (syn ≡ true → past_iss ≡ 0) → ((past == 0) && nat_le past_iss before) ≡ false → one_if syn ≤ past
+past_syn false past_iss past before first e = omega arith
+past_syn true past_iss zero before first e = absurd (let reaches = at_least past_iss before (first refl) in let clash : true ≡ false = sym reaches ∙ e in cc)
+past_syn true past_iss (suc past) before first e = omega arith
+
+-- one that lies before SND.UNA, and past ISS, comes only after the SYN's
+syn_gone :
+    (syn : Bool) (past_iss past before : ℕ) → (syn ≡ true → past_iss ≡ 0) → ((past == 0) && nat_le past_iss before) ≡ false → (past == 0) ≡ true → syn ≡ false
+syn_gone false past_iss past before first e none = refl
+syn_gone true past_iss past before first e none =
+    absurd (let reaches = at_least past_iss before (first refl) in let all = ap (λ (t : Bool). t && nat_le past_iss before) none ∙ reaches in let clash : true ≡ false = sym all ∙ e in cc)
+
+module _ (cx : ContextValue) (v : TcpValue) (ip : IpRepr) (header : TcpHeader) (bytes : List ℕ) (p : Past) (t : Side)
+    (comes : Comes t (segment_of header bytes)) (r : Tied (core_of v) p t) where
+  module _ (connected : is_connected v.block.state ≡ true) where
+    tied_as : IsConnectedAs (core_of v) (unsent r.side)
+    tied_as = fits_connected v.block.state (core_of v) (unsent r.side) connected r.fits
+
+    -- outside the window
+    led_outside : (w : TcpValue) → Tied (core_of w) p t → (is_closed w.block.state ≡ false → is_connected w.block.state ≡ true) → Led p t (outside cx w ip header)
+    led_outside w tied on =
+        cond_both (is_closed w.block.state) (dropped w) (drawn cx (waiting_anew w header cx.moment) ip header) (λ (a : Arrived). Led p t a)
+        (λ _. tied)
+        (λ open_yet. led_drawn cx (waiting_anew w header cx.moment) ip header p t (on open_yet) tied)
+
+    module _ (by : ℕ) (n : SeqNumber) (e : header.ack_number ≡ Some n) (distance : by ≡ distance_of v.block.sender.una n) (ok : IsAcceptable (core_of v) by)
+        (no_rst : is_rst header.control ≡ false) where
+      acked_now : IsAcked p t (acknowledged v by cx.moment)
+      acked_now = acks v p t header bytes n by cx.moment comes (no_reset_control header.control no_rst) e distance ok connected r
+
+      led_taken : is_syn header.control ≡ false → Led p t (taken cx v ip header bytes by)
+      led_taken no_syn =
+          cond_both (is_closed (acknowledged v by cx.moment).block.state) (dropped (acknowledged v by cx.moment))
+          (with_content cx (told (acknowledged v by cx.moment) header (duplicates_after v.block header (length bytes) by) cx.moment) ip header bytes)
+          (λ (a : Arrived). Led p t a)
+          (λ _. acked_now.tied)
+          (λ open_yet.
+          let on = acked_now.running open_yet in
+          led_content cx (told (acknowledged v by cx.moment) header (duplicates_after v.block header (length bytes) by) cx.moment) ip header bytes p t comes
+          (data_control header.control no_rst no_syn) on.0 on.1 acked_now.tied)
+
+      led_passes : Led p t (checked (Passes by) cx v ip header bytes)
+      led_passes =
+          cond_both (is_in_window v.block (free_in v) header (length bytes)) (inside cx v ip header bytes by) (passed_outside cx v ip header (length bytes) by)
+          (λ (a : Arrived). Led p t a)
+          (λ _.
+          cond_both (is_syn header.control) (drawn cx v ip header) (taken cx v ip header bytes by) (λ (a : Arrived). Led p t a)
+          (λ _. led_drawn cx v ip header p t connected r)
+          led_taken)
+          (λ _.
+          cond_both (tells_news v header (length bytes)) (acknowledged v by cx.moment) v (λ (w : TcpValue). Led p t (outside cx w ip header))
+          (λ _. led_outside (acknowledged v by cx.moment) acked_now.tied (λ open_yet. (acked_now.running open_yet).0))
+          (λ _. led_outside v r (λ _. connected)))
+
+    -- its acknowledgement is old
+    led_old : is_rst header.control ≡ false → is_syn header.control ≡ false → v.block.sender.syn_unacked ≡ false → Led p t (checked Old cx v ip header bytes)
+    led_old no_rst no_syn acked =
+        cond_both (is_in_window v.block (free_in v) header (length bytes)) (with_content cx (with_block v (heard v.block)) ip header bytes) (outside cx v ip header)
+        (λ (a : Arrived). Led p t a)
+        (λ _. led_content cx (with_block v (heard v.block)) ip header bytes p t comes (data_control header.control no_rst no_syn) connected acked r)
+        (λ _. led_outside v r (λ _. connected))
+
+    -- in SYN-RECEIVED
+    led_opening :
+        (n : SeqNumber) → header.ack_number ≡ Some n → is_answering v.block.state ≡ true → is_rst header.control ≡ false
+        → Led p t (checked (opening_check (distance_of v.block.sender.una n)) cx v ip header bytes)
+    led_opening n e answering no_rst =
+        let unacked_syn = ap one_if (tied_as.unopened (state_phase v.block.state answering)) in
+        cond_both (distance_of v.block.sender.una n == 1) (Passes 1) Resets (λ (c : Check). Led p t (checked c cx v ip header bytes))
+        (λ one.
+        let ok : IsAcceptable (core_of v) 1 = record { within = omega arith; past_syn = omega arith; opens = λ _. refl } in
+        led_passes 1 n e (sym (eqb-true (distance_of v.block.sender.una n) 1 one)) ok no_rst)
+        (λ _. led_reset v ip header (length bytes) p t r)
+
+    -- later
+    module _ (n : SeqNumber) (e : header.ack_number ≡ Some n) (other : is_answering v.block.state ≡ false)
+        (no_rst : is_rst header.control ≡ false) (no_syn : is_syn header.control ≡ false) where
+      abbrev past : ℕ
+      past = past_by v.block.sender.una n
+
+      abbrev before : ℕ
+      before = before_by v.block.sender.una n
+
+      led_past : (before == 0) ≡ true → nat_lt v.block.sender.top past ≡ false → ((past == 0) && nat_le v.block.sender.past_iss before) ≡ false → Led p t (checked (Passes past) cx v ip header bytes)
+      led_past none low reaches =
+          let top = tied_as.top in
+          let below = not_above v.block.sender.top past low in
+          let ok : IsAcceptable (core_of v) past = record {
+            within = omega (arith, top, below);
+            past_syn = past_syn v.block.sender.syn_unacked v.block.sender.past_iss past before tied_as.past_iss reaches;
+            opens = λ at. absurd (not_answering v.block.state other at);
+          } in
+          led_passes past n e (distance_past (distance_of v.block.sender.una n) (small_distance v.block.sender.una n) none) ok no_rst
+
+      led_synchronized : Led p t (checked (synchronized_check v.block past before) cx v ip header bytes)
+      led_synchronized =
+          cond_both (nat_lt v.block.sender.top past) Draws
+          (if (past == 0) && nat_le v.block.sender.past_iss before then Drops
+          else if before == 0 then Passes past
+          else if nat_lt v.block.peer.largest_window before then Draws
+          else Old)
+          (λ (c : Check). Led p t (checked c cx v ip header bytes))
+          (λ _. led_drawn cx v ip header p t connected r)
+          (λ low.
+          cond_both ((past == 0) && nat_le v.block.sender.past_iss before) Drops
+          (if before == 0 then Passes past else if nat_lt v.block.peer.largest_window before then Draws else Old)
+          (λ (c : Check). Led p t (checked c cx v ip header bytes))
+          (λ _. r)
+          (λ reaches.
+          cond_both (before == 0) (Passes past) (if nat_lt v.block.peer.largest_window before then Draws else Old) (λ (c : Check). Led p t (checked c cx v ip header bytes))
+          (λ none. led_past none low reaches)
+          (λ some.
+          cond_both (nat_lt v.block.peer.largest_window before) Draws Old (λ (c : Check). Led p t (checked c cx v ip header bytes))
+          (λ _. led_drawn cx v ip header p t connected r)
+          (λ _.
+          led_old no_rst no_syn
+          (syn_gone v.block.sender.syn_unacked v.block.sender.past_iss past before tied_as.past_iss reaches (nothing_past (distance_of v.block.sender.una n) some))))))
+
+    led_ack :
+        (ack : Option SeqNumber) → header.ack_number ≡ ack → is_rst header.control ≡ false → challenges_syn v.block header ≡ false
+        → Led p t (checked (acknowledgement_check v.block ack) cx v ip header bytes)
+    led_ack None e no_rst calm = r
+    led_ack (Some n) e no_rst calm =
+        cond_both (is_answering v.block.state) (opening_check (distance_of v.block.sender.una n))
+        (synchronized_check v.block (past_by v.block.sender.una n) (before_by v.block.sender.una n))
+        (λ (c : Check). Led p t (checked c cx v ip header bytes))
+        (λ answering. led_opening n e answering no_rst)
+        (λ other. led_synchronized n e other no_rst (no_syn other calm))
+      where
+        no_syn : is_answering v.block.state ≡ false → (is_syn header.control && not (is_answering v.block.state)) ≡ false → is_syn header.control ≡ false
+        no_syn other calm = by (and_cases (is_syn header.control) (not (is_answering v.block.state)) calm) where
+          by : (is_syn header.control ≡ false) ⊎ (not (is_answering v.block.state) ≡ false) → is_syn header.control ≡ false
+          by (inl none) = none
+          by (inr its) = absurd (let answers = not-false (is_answering v.block.state) its in let clash : true ≡ false = sym answers ∙ other in cc)
+
+    -- a reset
+    led_reset_comes : Led p t (reset_comes cx v ip header (length bytes))
+    led_reset_comes =
+        cond_both (takes_reset v.block header) (dropped (taken_down v)) (if challenges_reset v header (length bytes) then drawn cx v ip header else dropped v)
+        (λ (a : Arrived). Led p t a)
+        (λ _. tied_down v p t r)
+        (λ _.
+        cond_both (challenges_reset v header (length bytes)) (drawn cx v ip header) (dropped v) (λ (a : Arrived). Led p t a)
+        (λ _. led_drawn cx v ip header p t connected r)
+        (λ _. r))
+
+    led_received : Led p t (received cx v ip header bytes)
+    led_received =
+        cond_both (is_rst header.control) (reset_comes cx v ip header (length bytes))
+        (if challenges_syn v.block header then drawn cx v ip header else checked (acknowledgement_check v.block header.ack_number) cx v ip header bytes)
+        (λ (a : Arrived). Led p t a)
+        (λ _. led_reset_comes)
+        (λ no_rst.
+        cond_both (challenges_syn v.block header) (drawn cx v ip header) (checked (acknowledgement_check v.block header.ack_number) cx v ip header bytes)
+        (λ (a : Arrived). Led p t a)
+        (λ _. led_drawn cx v ip header p t connected r)
+        (λ calm. led_ack header.ack_number refl no_rst calm))
+
+  led_in : (state : State) → v.block.state ≡ state → Led p t (arrives_in state cx v ip header bytes)
+  led_in In.Closed e = r
+  led_in In.Listen e = led_opens cx v ip header bytes p t comes e r
+  led_in In.SynSent e = led_takes_answer cx v ip header bytes p t comes e r
+  led_in other e = led_received (ap is_connected e)
+
+pub keeps_arrival :
+    (cx : ContextValue) (v w : TcpValue) (p q : Past) (ip : IpRepr) (header : TcpHeader) (bytes : List ℕ) (k : ℕ) → Keeps v p w q
+    → slice_get q.sent k ≡ Some (segment_of header bytes)
+    → Keeps (arrives cx v ip header bytes).socket (with_answer p (arrives cx v ip header bytes).answer) w q
+keeps_arrival cx v w p q ip header bytes k keeps sent =
+    keeps_by v (arrives cx v ip header bytes).socket w p (with_answer p (arrives cx v ip header bytes).answer) q keeps (λ s t past partner_past fits holds.
+    let comes : Comes t (segment_of header bytes) = (k, ap (λ (q : Past). slice_get q.sent k) partner_past ∙ sent) in
+    let r : Tied (core_of v) p t = record { side = s; past = past; fits = fits; holds = holds } in
+    cond_both (is_void_syn header) (dropped (unoffered v)) (arrives_in v.block.state cx (unoffered v) ip header bytes) (λ (a : Arrived). Led p t a)
+    (λ _. r)
+    (λ _. led_in cx (unoffered v) ip header bytes p t comes r v.block.state refl))

@@ -1,0 +1,735 @@
+-- Which segments a socket takes, where its own segments go, and what becomes of its endpoints.
+use Rattle.std.proofs.Common.{◌≡◌, ◌≢◌, ◌⊎◌, inl, inr, ℕ, ◌+◌, ◌==◌, ◌&&◌, nat_lt, nat_le, not, ℤ, Bool, true, false, if◌then◌else◌, List, [], ◌∷◌, Option, Some, None, is_some, length, drop, refl, sym, ap, ◌∙◌, subst}
+use Rattle.std.proofs.lemmas.Bool.{and_parts, cond_both, eqb-true}
+use Rattle.std.proofs.lemmas.Slice.Eq.{bytes_eq-Decides}
+use Rattle.ip_wire.specs.AddressTests.{is_same_address}
+use Rattle.ip_wire.specs.Ip.{source_of, destination_of}
+use Rattle.ip_wire.specs.IpAddress.{IpAddress}
+use Rattle.ip_wire.specs.IpAddress.TheVariants as Address
+use Rattle.ip_wire.specs.IpListenEndpoint.{IpListenEndpoint}
+use Rattle.ip_wire.specs.IpRepr.{IpRepr}
+use Rattle.ip_wire.specs.IpRepr.TheVariants as Ip
+use Rattle.held_bytes.specs.Held.{runs_of}
+use Rattle.ip_wire.specs.SeqNumber.{SeqNumber}
+use Rattle.ip_wire.specs.Tcp.{header_len}
+use Rattle.ip_wire.specs.TcpControl.{TcpControl}
+use Rattle.ip_wire.specs.TcpControl.TheVariants as Control
+use Rattle.ip_wire.specs.TcpHeader.{TcpHeader}
+use Rattle.net_base.specs.RandomWords.{word}
+use Rattle.socket_base.specs.Context.{ContextValue, next_random}
+use Rattle.socket_base.specs.Offers.{Offered, offered_as}
+use Rattle.socket_base.specs.declared.offer.Offer.TheVariants as Answer
+use Rattle.tcp_model.specs.AddressPair.{AddressPair}
+use Rattle.tcp_model.specs.AddressPair.TheVariants as Pair
+use Rattle.tcp_model.specs.declared.block.Block.{Block}
+use Rattle.tcp_model.specs.EndpointPair.{EndpointPair}
+use Rattle.tcp_model.specs.declared.block.Names.{Names}
+use Rattle.tcp_model.specs.OfferKind.{OfferKind}
+use Rattle.tcp_model.specs.OfferKind.TheVariants as Kind
+use Rattle.tcp_model.specs.OpenOffer.{OpenOffer}
+use Rattle.tcp_model.specs.Reply.{Reply}
+use Rattle.tcp_model.specs.State.{State}
+use Rattle.tcp_model.specs.State.TheVariants as In
+use Rattle.tcp_model.specs.Acknowledged.{acknowledged, block_acknowledged, state_after_ack, acks_fin, una_moved, in_state, ended_if, duplicates_after}
+use Rattle.tcp_model.specs.Answers.{drawn, may_draw, with_draw, acked, answer_for, range_held}
+use Rattle.tcp_model.specs.Arrival.{waiting_anew, outside, passed_outside, tells_news, finished, with_content, told, taken, inside, checked, takes_reset, challenges_reset, reset_comes, challenges_syn, received, arrives_in, arrives, is_void_syn}
+use Rattle.tcp_model.specs.Blocks.{unacked, no_names}
+use Rattle.tcp_model.specs.Calls.{listening, connecting, close_after, abort_after}
+use Rattle.tcp_model.specs.Checks.{Check, acknowledgement_check, is_in_window, taken_down, falls_back}
+use Rattle.tcp_model.specs.Checks.Check.{Passes, Old, Drops, Draws, Resets}
+use Rattle.tcp_model.specs.Controls.{is_syn, is_fin, is_rst}
+use Rattle.tcp_model.specs.Moments.{is_due, is_over, timeout_from}
+use Rattle.tcp_model.specs.Endpoints.{local_of, remote_of, pair_in, addresses_in, header_for, is_between, is_connected_by, is_bare, takes_address}
+use Rattle.tcp_model.specs.Names.{accepts_in, accepts}
+use Rattle.tcp_model.specs.Offers.{offer_segment, offer_choice, offer_ack, offer_syn, offer_reset, offer_keep_alive, silent, last_rules, first_rules, backed_off, offer_between, offer_with, offer_of, number_at}
+use Rattle.tcp_model.specs.Opening.{is_first_syn, opens, takes_answer, acks_syn, syn_answered, connected, crossed, answering}
+use Rattle.tcp_model.specs.Probing.{probe_started, probe_moment, probe_kept}
+use Rattle.tcp_model.specs.Offsets.{past_by, before_by}
+use Rattle.tcp_model.specs.Rules.{control_for, time_wait_end, owes_syn, resends, ack_moment, has_text, text_choice, resend_choice, probe_choice, updates_window, keep_alive_moment, backed_off_now}
+use Rattle.tcp_model.specs.Segments.{rst_reply, reset_for, reply_to, hops_of, segment, sack_segment, ack_segment, syn_segment, reset_segment, keep_alive_segment}
+use Rattle.tcp_model.specs.Retries.{heard, asked, one_more, gives_up, given_up}
+use Rattle.tcp_model.specs.Settled.{settled, recorded, probed, end_of}
+use Rattle.tcp_model.specs.States.{is_closed, is_time_wait, is_listening, is_answering, is_opening, after_ack, after_ack_of_fin, after_fin, after_close, takes_text}
+use Rattle.tcp_model.specs.Text.{Texted, texted, with_text, with_text_at, with_bytes_at, taken_in_order, held_early, laid, has_new_text, with_fin, takes_fin, fin_taken}
+use Rattle.tcp_model.specs.Timeout.{timeout_end, timeout_started, timeout_restarted, timed_out}
+use Rattle.tcp_model.specs.Value.{TcpValue, Arrived, with_block, dropped, answered_with, unoffered, ended, queued_in, free_in, room_of, received_of, window_of}
+use Rattle.tcp_tie.specs.Tie.{Core, core_of}
+use Rattle.tcp_tie.specs.Endpoints.{GoesBetween, GoesBack, CameBetween, IsFor, KeepsNames, Forgets, IsOpenedBy, FallsBack, KeepsOrForgets, IsLeftBy, IsRenamed, Ports, IsToward, HasPorts, IsNameless}
+use Rattle.tcp_tie.proofs.CallLaws.{closed_state}
+
+-- WHICH SEGMENTS IT TAKES
+
+same_address : (a b : IpAddress) → is_same_address a b ≡ true → a ≡ b
+same_address (Address.Ipv4 a) (Address.Ipv4 b) e = ap (λ (bytes : List ℕ). Address.Ipv4 (record { 0 = bytes })) ((bytes_eq-Decides a.0 b.0).0 e)
+same_address (Address.Ipv6 a) (Address.Ipv6 b) e = ap (λ (bytes : List ℕ). Address.Ipv6 (record { 0 = bytes })) ((bytes_eq-Decides a.0 b.0).0 e)
+same_address (Address.Ipv4 a) (Address.Ipv6 b) e = absurd (cc)
+same_address (Address.Ipv6 a) (Address.Ipv4 b) e = absurd (cc)
+
+bare_of : (ack : Option SeqNumber) (control : TcpControl) → is_bare ack control ≡ true → (ack ≡ None) × (is_rst control ≡ false)
+bare_of (Some n) control e = absurd (cc)
+bare_of None Control.Rst e = absurd (cc)
+bare_of None Control.None e = (refl, refl)
+bare_of None Control.Psh e = (refl, refl)
+bare_of None Control.Syn e = (refl, refl)
+bare_of None Control.Fin e = (refl, refl)
+
+module _ (b : Block) (ip : IpRepr) (header : TcpHeader) where
+  came_between : (pair : EndpointPair) → is_between pair ip header ≡ true → CameBetween pair ip header
+  came_between pair e =
+      let one =
+      and_parts (is_same_address (local_of pair.addresses) (destination_of ip))
+      (is_same_address (remote_of pair.addresses) (source_of ip) && ((pair.local_port == header.dst_port) && (pair.remote_port == header.src_port))) e in
+      let two = and_parts (is_same_address (remote_of pair.addresses) (source_of ip)) ((pair.local_port == header.dst_port) && (pair.remote_port == header.src_port)) one.1 in
+      let ports = and_parts (pair.local_port == header.dst_port) (pair.remote_port == header.src_port) two.1 in
+      record {
+        source = sym (same_address (remote_of pair.addresses) (source_of ip) two.0);
+        destination = sym (same_address (local_of pair.addresses) (destination_of ip) one.0);
+        source_port = sym (eqb-true pair.remote_port header.src_port ports.1);
+        destination_port = sym (eqb-true pair.local_port header.dst_port ports.0);
+      }
+
+  connected_for : (names : Option EndpointPair) → b.names.pair ≡ names → is_connected_by names ip header ≡ true → (pair : EndpointPair) × (b.names.pair ≡ Some pair) × CameBetween pair ip header
+  connected_for None named e = absurd (cc)
+  connected_for (Some pair) named e = (pair, named, came_between pair e)
+
+  later_for : is_closed b.state ≡ false → is_listening b.state ≡ false → is_connected_by b.names.pair ip header ≡ true → IsFor b ip header
+  later_for opened later e = record {
+    opened = opened;
+    listening = λ listens. absurd (let clash : true ≡ false = sym listens ∙ later in cc);
+    connected = λ _. connected_for b.names.pair refl e;
+  }
+
+  listening_for :
+      b.state ≡ In.Listen
+      → ((b.names.listen.port == header.dst_port) && (takes_address b.names.listen.addr (destination_of ip) && is_bare header.ack_number header.control)) ≡ true
+      → IsFor b ip header
+  listening_for at e =
+      let parts = and_parts (b.names.listen.port == header.dst_port) (takes_address b.names.listen.addr (destination_of ip) && is_bare header.ack_number header.control) e in
+      let rest = and_parts (takes_address b.names.listen.addr (destination_of ip)) (is_bare header.ack_number header.control) parts.1 in
+      let bare = bare_of header.ack_number header.control rest.1 in
+      record {
+        opened = ap is_closed at;
+        listening = λ _. (sym (eqb-true b.names.listen.port header.dst_port parts.0), bare.0, bare.1);
+        connected = λ later. absurd (let clash : true ≡ false = sym (ap is_listening at) ∙ later in cc);
+      }
+
+  accepted_in : (state : State) → b.state ≡ state → accepts_in state b ip header ≡ true → IsFor b ip header
+  accepted_in In.Closed at e = absurd (cc)
+  accepted_in In.Listen at e = listening_for at e
+  accepted_in other at e = later_for (ap is_closed at) (ap is_listening at) e
+
+  pub accepted : accepts b ip header ≡ true → IsFor b ip header
+  accepted e = accepted_in b.state refl e
+
+-- WHAT BECOMES OF ITS NAMES
+
+not_true : (test : Bool) → not test ≡ true → test ≡ false
+not_true true e = absurd (cc)
+not_true false e = refl
+
+keeps : (old new : Block) → new.names ≡ old.names → is_listening new.state ≡ is_listening old.state → KeepsNames old new
+keeps old new names listens = record { names = names; listening = λ e. sym listens ∙ e }
+
+-- it doesn't listen any more
+keeps_off : (old new : Block) → new.names ≡ old.names → is_listening new.state ≡ false → KeepsNames old new
+keeps_off old new names off = record { names = names; listening = λ e. absurd (let clash : true ≡ false = sym e ∙ off in cc) }
+
+then_keeps : (old mid new : Block) → KeepsNames old mid → KeepsNames mid new → KeepsNames old new
+then_keeps old mid new first second = record { names = second.names ∙ first.names; listening = λ e. first.listening (second.listening e) }
+
+listening_after_ack : (state : State) → is_listening (after_ack state) ≡ is_listening state
+listening_after_ack In.Listen = refl
+listening_after_ack other = refl
+
+listening_after_ack_of_fin : (state : State) → is_listening (after_ack_of_fin state) ≡ is_listening state
+listening_after_ack_of_fin In.Listen = refl
+listening_after_ack_of_fin other = refl
+
+listening_after_fin : (state : State) → is_listening (after_fin state) ≡ is_listening state
+listening_after_fin In.Listen = refl
+listening_after_fin other = refl
+
+off_after_close : (state : State) → is_listening (after_close state) ≡ false
+off_after_close In.Listen = refl
+off_after_close other = refl
+
+pub close_names : (v : TcpValue) → KeepsOrForgets v.block (close_after v).block
+close_names v =
+    cond_both (is_opening v.block.state) (ended (unoffered v)) (with_block (unoffered v) (record v.block { state = after_close v.block.state }))
+    (λ (w : TcpValue). KeepsOrForgets v.block w.block)
+    (λ _. inr (record { state = refl; names = refl }))
+    (λ _. inl (keeps_off v.block (record v.block { state = after_close v.block.state }) refl (off_after_close v.block.state)))
+
+pub abort_names : (v : TcpValue) → KeepsOrForgets v.block (abort_after v).block
+abort_names v =
+    cond_both (is_time_wait v.block.state) (ended (unoffered v))
+    (with_block (unoffered v) (record v.block { state = In.Closed; sender = record v.block.sender { reset_due = is_some v.block.names.pair } }))
+    (λ (w : TcpValue). KeepsOrForgets v.block w.block)
+    (λ _. inr (record { state = refl; names = refl }))
+    (λ _. inl (keeps_off v.block (record v.block { state = In.Closed; sender = record v.block.sender { reset_due = is_some v.block.names.pair } }) refl refl))
+
+-- WHEN A SEGMENT COMES
+
+header_back : (ip : IpRepr) (hops len : ℕ) → (source_of (header_for (addresses_in ip) hops len) ≡ destination_of ip) × (destination_of (header_for (addresses_in ip) hops len) ≡ source_of ip)
+header_back (Ip.Ipv4 v) hops len = (refl, refl)
+header_back (Ip.Ipv6 v) hops len = (refl, refl)
+
+reply_back :
+    (ip : IpRepr) (header : TcpHeader) (hops : ℕ) (segment : TcpHeader) → segment.src_port ≡ header.dst_port → segment.dst_port ≡ header.src_port
+    → GoesBack ip header (reply_to ip hops segment)
+reply_back ip header hops segment source destination =
+    let ends = header_back ip hops (header_len segment) in
+    record { source = ends.0; destination = ends.1; source_port = source; destination_port = destination }
+
+pub reset_back : (ip : IpRepr) (header : TcpHeader) (size : ℕ) → GoesBack ip header (rst_reply ip header size)
+reset_back ip header size = reply_back ip header 64 (reset_for header size) refl refl
+
+answered_back : (ip : IpRepr) (header : TcpHeader) (mine reply : Reply) → GoesBack ip header mine → Some mine ≡ Some reply → GoesBack ip header reply
+answered_back ip header mine reply back e = let same : mine ≡ reply = cc in subst (λ (reply : Reply). GoesBack ip header reply) same back
+
+module _ (cx : ContextValue) (ip : IpRepr) (header : TcpHeader) where
+  -- the endpoints afterwards, and where the answer goes
+  abbrev Named : Block → Arrived → Type 0
+  Named old a = KeepsOrForgets old a.socket.block × ((reply : Reply) → a.answer ≡ Some reply → GoesBack ip header reply)
+
+  named_dropped : (old : Block) (v : TcpValue) → KeepsOrForgets old v.block → Named old (dropped v)
+  named_dropped old v names = (names, λ reply e. absurd (cc))
+
+  named_acked : (old : Block) (v : TcpValue) (range : Option (ℕ × ℕ)) → KeepsNames old v.block → Named old (acked cx v ip header range)
+  named_acked old v range names = (
+    inl (record { names = names.names; listening = names.listening }),
+    λ reply e.
+        answered_back ip header
+        (reply_to ip (hops_of v.block.settings.hop_limit) (sack_segment v.block (pair_in ip header) cx.moment (window_of v) range)) reply
+        (reply_back ip header (hops_of v.block.settings.hop_limit) (sack_segment v.block (pair_in ip header) cx.moment (window_of v) range) refl refl) e,
+  )
+
+  named_drawn : (old : Block) (v : TcpValue) → KeepsNames old v.block → Named old (drawn cx v ip header)
+  named_drawn old v names =
+      cond_both (may_draw cx.moment v.block.timers.draws_from) (acked cx (with_draw v cx.moment) ip header None) (dropped v) (λ (a : Arrived). Named old a)
+      (λ _. named_acked old (with_draw v cx.moment) None (record { names = names.names; listening = names.listening }))
+      (λ _. named_dropped old v (inl names))
+
+  named_reset : (v : TcpValue) (size : ℕ) → Named v.block (answered_with v (rst_reply ip header size))
+  named_reset v size = (inl (keeps v.block v.block refl refl), λ reply e. answered_back ip header (rst_reply ip header size) reply (reset_back ip header size) e)
+
+  -- the text and the FIN leave the endpoints
+  abbrev Stays : Block → Block → Type 0
+  Stays old new = (new.names ≡ old.names) × (is_listening new.state ≡ is_listening old.state)
+
+  text_stays : (v : TcpValue) (place : ℕ) (bytes : List ℕ) → Stays v.block (with_text_at v place bytes).socket.block
+  text_stays v place bytes =
+      cond_both (takes_text v.block.state && has_new_text v place bytes) (with_bytes_at v place bytes) (texted v 0 None) (λ (t : Texted). Stays v.block t.socket.block)
+      (λ _.
+      cond_both (place == 0) (taken_in_order v (laid v place bytes)) (held_early v place (laid v place bytes)) (λ (t : Texted). Stays v.block t.socket.block)
+      (λ _. (refl, refl))
+      (λ _.
+      cond_both (nat_le (length (runs_of (laid v place bytes))) 4)
+      (texted (record v { received = received_of v.received.waiting (laid v place bytes) v.received.start }) 0 (Some place)) (texted v 0 None)
+      (λ (t : Texted). Stays v.block t.socket.block)
+      (λ _. (refl, refl))
+      (λ _. (refl, refl))))
+      (λ _. (refl, refl))
+
+  fin_stays : (b old : Block) (size advance : ℕ) → Stays b (with_fin b old header size advance cx.moment)
+  fin_stays b old size advance =
+      cond_both (takes_fin old header size advance) (fin_taken b cx.moment) b (λ (new : Block). Stays b new)
+      (λ _. (refl, listening_after_fin b.state))
+      (λ _. (refl, refl))
+
+  named_answer : (old : Block) (v : TcpValue) (size : ℕ) (early : Option ℕ) → KeepsNames old v.block → Named old (answer_for cx v ip header size early)
+  named_answer old v size (Some place) names = named_acked old v (range_held v place) names
+  named_answer old v size None names = named_dropped old (answer_for cx v ip header size None).socket (inl (record { names = names.names; listening = names.listening }))
+
+  named_finished : (old before : Block) (t : Texted) (size : ℕ) → KeepsNames old t.socket.block → Named old (finished cx before t ip header size)
+  named_finished old before t size names =
+      let stays = fin_stays t.socket.block before size t.advance in
+      let new = with_fin t.socket.block before header size t.advance cx.moment in
+      let after = then_keeps old t.socket.block new names (keeps t.socket.block new stays.0 stays.1) in
+      named_answer old (with_block t.socket (probe_kept new (queued_in t.socket))) size t.early
+      (record { names = after.names; listening = after.listening })
+
+  -- the acknowledgement: it keeps the names, or ends LAST-ACK
+  acked_names : (b : Block) (by queued : ℕ) → KeepsOrForgets b (block_acknowledged b by queued cx.moment)
+  acked_names b by queued = at (is_closed (state_after_ack b by queued)) where
+    state_stays : is_listening (state_after_ack b by queued) ≡ is_listening b.state
+    state_stays =
+        cond_both (acks_fin b by queued) (after_ack_of_fin b.state) (after_ack b.state) (λ (state : State). is_listening state ≡ is_listening b.state)
+        (λ _. listening_after_ack_of_fin b.state)
+        (λ _. listening_after_ack b.state)
+
+    at : (test : Bool) → KeepsOrForgets b (ended_if test (in_state (una_moved b by queued cx.moment) (state_after_ack b by queued) cx.moment))
+    at true = inr (record { state = refl; names = refl })
+    at false = inl (keeps b (in_state (una_moved b by queued cx.moment) (state_after_ack b by queued) cx.moment) refl state_stays)
+
+  open_keeps : (old new : Block) → is_closed new.state ≡ false → KeepsOrForgets old new → KeepsNames old new
+  open_keeps old new open_yet (inl names) = names
+  open_keeps old new open_yet (inr forgets) = absurd (let clash : true ≡ false = sym forgets.state ∙ open_yet in cc)
+
+  named_content : (old : Block) (v : TcpValue) (bytes : List ℕ) → KeepsNames old v.block → Named old (with_content cx v ip header bytes)
+  named_content old v bytes names =
+      let text = text_stays v (past_by v.block.receiver.next header.seq_number) (drop (before_by v.block.receiver.next header.seq_number) bytes) in
+      named_finished old v.block (with_text v header bytes) (length bytes)
+      (then_keeps old v.block (with_text v header bytes).socket.block names (keeps v.block (with_text v header bytes).socket.block text.0 text.1))
+
+  named_taken : (v : TcpValue) (bytes : List ℕ) (by : ℕ) → Named v.block (taken cx v ip header bytes by)
+  named_taken v bytes by =
+      let w = acknowledged v by cx.moment in
+      let heeded = told w header (duplicates_after v.block header (length bytes) by) cx.moment in
+      cond_both (is_closed w.block.state) (dropped w) (with_content cx heeded ip header bytes) (λ (a : Arrived). Named v.block a)
+      (λ _. named_dropped v.block w (acked_names v.block by (queued_in v)))
+      (λ open_yet.
+      let kept = open_keeps v.block w.block open_yet (acked_names v.block by (queued_in v)) in
+      named_content v.block heeded bytes (record { names = kept.names; listening = kept.listening }))
+
+  named_outside : (old : Block) (w : TcpValue) → KeepsOrForgets old w.block → Named old (outside cx w ip header)
+  named_outside old w names =
+      cond_both (is_closed w.block.state) (dropped w) (drawn cx (waiting_anew w header cx.moment) ip header) (λ (a : Arrived). Named old a)
+      (λ _. named_dropped old w names)
+      (λ open_yet.
+      let kept = open_keeps old w.block open_yet names in
+      named_drawn old (waiting_anew w header cx.moment) (record { names = kept.names; listening = kept.listening }))
+
+  abbrev Renamed : Block → Arrived → Type 0
+  Renamed old a = IsRenamed ip header old a.socket.block × ((reply : Reply) → a.answer ≡ Some reply → GoesBack ip header reply)
+
+  renamed_by : (old : Block) (a : Arrived) → Named old a → Renamed old a
+  renamed_by old a named = (inr (inr named.0), named.1)
+
+  renamed_down : (v : TcpValue) → Renamed v.block (dropped (taken_down v))
+  renamed_down v =
+      cond_both (falls_back v.block) (listening v v.block.names.listen) (ended v) (λ (w : TcpValue). Renamed v.block (dropped w))
+      (λ e.
+      let parts = and_parts (is_answering v.block.state) (not (v.block.names.listen.port == 0)) e in
+      (inr (inl (record { answering = parts.0; listened = not_true (v.block.names.listen.port == 0) parts.1; state = refl; names = refl })), λ reply none. absurd (cc)))
+      (λ _. renamed_by v.block (dropped (ended v)) (named_dropped v.block (ended v) (inr (record { state = refl; names = refl }))))
+
+  stays_named : (v : TcpValue) → Named v.block (dropped v)
+  stays_named v = named_dropped v.block v (inl (keeps v.block v.block refl refl))
+
+  draws_named : (v : TcpValue) → Named v.block (drawn cx v ip header)
+  draws_named v = named_drawn v.block v (keeps v.block v.block refl refl)
+
+  named_checked : (check : Check) (v : TcpValue) (bytes : List ℕ) → Named v.block (checked check cx v ip header bytes)
+  named_checked (Passes by) v bytes =
+      cond_both (is_in_window v.block (free_in v) header (length bytes)) (inside cx v ip header bytes by) (passed_outside cx v ip header (length bytes) by)
+      (λ (a : Arrived). Named v.block a)
+      (λ _.
+      cond_both (is_syn header.control) (drawn cx v ip header) (taken cx v ip header bytes by) (λ (a : Arrived). Named v.block a)
+      (λ _. draws_named v)
+      (λ _. named_taken v bytes by))
+      (λ _.
+      cond_both (tells_news v header (length bytes)) (acknowledged v by cx.moment) v (λ (w : TcpValue). Named v.block (outside cx w ip header))
+      (λ _. named_outside v.block (acknowledged v by cx.moment) (acked_names v.block by (queued_in v)))
+      (λ _. named_outside v.block v (inl (keeps v.block v.block refl refl))))
+  named_checked Old v bytes =
+      cond_both (is_in_window v.block (free_in v) header (length bytes)) (with_content cx (with_block v (heard v.block)) ip header bytes) (outside cx v ip header)
+      (λ (a : Arrived). Named v.block a)
+      (λ _. named_content v.block (with_block v (heard v.block)) bytes (keeps v.block (heard v.block) refl refl))
+      (λ _. named_outside v.block v (inl (keeps v.block v.block refl refl)))
+  named_checked Drops v bytes = stays_named v
+  named_checked Draws v bytes = draws_named v
+  named_checked Resets v bytes = named_reset v (length bytes)
+
+  renamed_received : (v : TcpValue) (bytes : List ℕ) → Renamed v.block (received cx v ip header bytes)
+  renamed_received v bytes =
+      cond_both (is_rst header.control) (reset_comes cx v ip header (length bytes))
+      (if challenges_syn v.block header then drawn cx v ip header else checked (acknowledgement_check v.block header.ack_number) cx v ip header bytes)
+      (λ (a : Arrived). Renamed v.block a)
+      (λ _.
+      cond_both (takes_reset v.block header) (dropped (taken_down v)) (if challenges_reset v header (length bytes) then drawn cx v ip header else dropped v)
+      (λ (a : Arrived). Renamed v.block a)
+      (λ _. renamed_down v)
+      (λ _.
+      cond_both (challenges_reset v header (length bytes)) (drawn cx v ip header) (dropped v) (λ (a : Arrived). Renamed v.block a)
+      (λ _. renamed_by v.block (drawn cx v ip header) (draws_named v))
+      (λ _. renamed_by v.block (dropped v) (stays_named v))))
+      (λ _.
+      cond_both (challenges_syn v.block header) (drawn cx v ip header) (checked (acknowledgement_check v.block header.ack_number) cx v ip header bytes)
+      (λ (a : Arrived). Renamed v.block a)
+      (λ _. renamed_by v.block (drawn cx v ip header) (draws_named v))
+      (λ _.
+      renamed_by v.block (checked (acknowledgement_check v.block header.ack_number) cx v ip header bytes)
+      (named_checked (acknowledgement_check v.block header.ack_number) v bytes)))
+
+  renamed_opens : (v : TcpValue) → v.block.state ≡ In.Listen → Renamed v.block (opens cx v ip header)
+  renamed_opens v at =
+      let answers : TcpValue = with_block v (timeout_restarted (answering v.block ip header (word (next_random cx).random)) cx.moment 0) in
+      cond_both (is_first_syn header) (record { socket = answers; answer = None; draws = true }) (dropped v) (λ (a : Arrived). Renamed v.block a)
+      (λ first. (inl (record { listening = ap is_listening at; opening = first; state = refl; names = refl }), λ reply none. absurd (cc)))
+      (λ _. renamed_by v.block (dropped v) (named_dropped v.block v (inl (keeps v.block v.block refl refl))))
+
+  syn_answer_off : (b : Block) → (((syn_answered b header cx.moment).names ≡ b.names) × (is_listening (syn_answered b header cx.moment).state ≡ false))
+  syn_answer_off b =
+      cond_both (is_some header.ack_number) (connected b header cx.moment) (crossed b header) (λ (new : Block). (new.names ≡ b.names) × (is_listening new.state ≡ false))
+      (λ _. (refl, refl))
+      (λ _. (refl, refl))
+
+  renamed_answer : (v : TcpValue) (bytes : List ℕ) → Renamed v.block (takes_answer cx v ip header bytes)
+  renamed_answer v bytes =
+      let stays = renamed_by v.block (dropped v) (named_dropped v.block v (inl (keeps v.block v.block refl refl))) in
+      let answered = with_block v (timeout_restarted (syn_answered v.block header cx.moment) cx.moment (queued_in v)) in
+      cond_both (is_rst header.control) (if acks_syn v.block.sender.una header.ack_number then dropped (ended v) else dropped v)
+      (if is_some header.ack_number && not (acks_syn v.block.sender.una header.ack_number)
+      then answered_with v (rst_reply ip header (length bytes))
+      else if is_syn header.control
+      then dropped answered
+      else dropped v)
+      (λ (a : Arrived). Renamed v.block a)
+      (λ _.
+      cond_both (acks_syn v.block.sender.una header.ack_number) (dropped (ended v)) (dropped v) (λ (a : Arrived). Renamed v.block a)
+      (λ _. renamed_by v.block (dropped (ended v)) (named_dropped v.block (ended v) (inr (record { state = refl; names = refl }))))
+      (λ _. stays))
+      (λ _.
+      cond_both (is_some header.ack_number && not (acks_syn v.block.sender.una header.ack_number)) (answered_with v (rst_reply ip header (length bytes)))
+      (if is_syn header.control then dropped answered else dropped v) (λ (a : Arrived). Renamed v.block a)
+      (λ _. renamed_by v.block (answered_with v (rst_reply ip header (length bytes))) (named_reset v (length bytes)))
+      (λ _.
+      cond_both (is_syn header.control) (dropped answered) (dropped v) (λ (a : Arrived). Renamed v.block a)
+      (λ _.
+      let off = syn_answer_off v.block in
+      renamed_by v.block (dropped answered) (named_dropped v.block answered (inl (keeps_off v.block answered.block off.0 off.1))))
+      (λ _. stays)))
+
+  renamed_in : (state : State) (v : TcpValue) (bytes : List ℕ) → v.block.state ≡ state → Renamed v.block (arrives_in state cx v ip header bytes)
+  renamed_in In.Closed v bytes at = renamed_by v.block (dropped v) (named_dropped v.block v (inl (keeps v.block v.block refl refl)))
+  renamed_in In.Listen v bytes at = renamed_opens v at
+  renamed_in In.SynSent v bytes at = renamed_answer v bytes
+  renamed_in other v bytes at = renamed_received v bytes
+
+  pub arrival_renamed : (v : TcpValue) (bytes : List ℕ) → Renamed v.block (arrives cx v ip header bytes)
+  arrival_renamed v bytes =
+      cond_both (is_void_syn header) (dropped (unoffered v)) (arrives_in v.block.state cx (unoffered v) ip header bytes) (λ (a : Arrived). Renamed v.block a)
+      (λ _. renamed_by v.block (dropped (unoffered v)) (named_dropped v.block (unoffered v) (inl (keeps v.block v.block refl refl))))
+      (λ _. renamed_in v.block.state (unoffered v) bytes refl)
+
+pub arrival_names : (cx : ContextValue) (v : TcpValue) (ip : IpRepr) (header : TcpHeader) (bytes : List ℕ) → IsRenamed ip header v.block (arrives cx v ip header bytes).socket.block
+arrival_names cx v ip header bytes = (arrival_renamed cx ip header v bytes).0
+
+pub answer_back :
+    (cx : ContextValue) (v : TcpValue) (ip : IpRepr) (header : TcpHeader) (bytes : List ℕ) (reply : Reply) → (arrives cx v ip header bytes).answer ≡ Some reply
+    → GoesBack ip header reply
+answer_back cx v ip header bytes = (arrival_renamed cx ip header v bytes).1
+
+-- WHEN IT IS ASKED FOR A SEGMENT
+
+header_between : (pair : AddressPair) (hops len : ℕ) → (source_of (header_for pair hops len) ≡ local_of pair) × (destination_of (header_for pair hops len) ≡ remote_of pair)
+header_between (Pair.Ipv4 local remote) hops len = (refl, refl)
+header_between (Pair.Ipv6 local remote) hops len = (refl, refl)
+
+-- a question that goes counts, and leaves the names
+asked_names : (old b : Block) (now : ℤ) → KeepsNames old b → KeepsNames old (asked b now)
+asked_names old b now names =
+    cond_both (is_over now b.timers.counts_from)
+    (record b {
+      sender = record b.sender { unanswered = one_more b.sender.unanswered };
+      timers = record b.timers { counts_from = Some (timeout_from now b.round_trip) };
+    })
+    b (KeepsNames old) (λ _. record { names = names.names; listening = names.listening }) (λ _. names)
+
+module _ (cx : ContextValue) (pair : EndpointPair) where
+  -- of a socket with these names: where its offer goes, and its names once it is settled
+  abbrev Directed : Block → Offered TcpValue → Type 0
+  Directed old o =
+      ((x : OpenOffer) → o.socket.offered ≡ Some x → GoesBetween pair x) × (IsLeftBy old (settled true o.socket).block × IsLeftBy old o.socket.block)
+
+  between : (x : OpenOffer) (hops len : ℕ) → x.header ≡ header_for pair.addresses hops len → x.segment.src_port ≡ pair.local_port → x.segment.dst_port ≡ pair.remote_port → GoesBetween pair x
+  between x hops len header source destination =
+      let ends = header_between pair.addresses hops len in
+      record {
+        source = ap source_of header ∙ ends.0;
+        destination = ap destination_of header ∙ ends.1;
+        source_port = source;
+        destination_port = destination;
+      }
+
+  one_offer : (mine : OpenOffer) → GoesBetween pair mine → (x : OpenOffer) → Some mine ≡ Some x → GoesBetween pair x
+  one_offer mine goes x e = let same : mine ≡ x = cc in subst (λ (x : OpenOffer). GoesBetween pair x) same goes
+
+  abbrev plain : TcpValue → Block → TcpValue
+  plain v b = record v { block = b; offered = None }
+
+  module _ (v : TcpValue) (old b : Block) (names : KeepsNames old b) where
+    stays : IsLeftBy old b
+    stays = inr (inl names)
+
+    directed_silent : (changed : Bool) → Directed old (silent changed (plain v b))
+    directed_silent changed = (λ x e. absurd (cc), (stays, stays))
+
+    directed_segment :
+        (kind : OfferKind) (header : TcpHeader) (place len : ℕ) → header.src_port ≡ pair.local_port → header.dst_port ≡ pair.remote_port
+        → IsLeftBy old (settled true (offer_segment kind cx (plain v b) pair header place len).socket).block
+        → Directed old (offer_segment kind cx (plain v b) pair header place len)
+    directed_segment kind header place len source destination after =
+        let mine : OpenOffer = record {
+          kind = kind;
+          moment = cx.moment;
+          header = header_for pair.addresses (hops_of b.settings.hop_limit) (header_len header + len);
+          segment = header;
+          place = place;
+          len = len;
+        } in
+        (one_offer mine (between mine (hops_of b.settings.hop_limit) (header_len header + len) refl source destination), (after, stays))
+
+    offer_with_header : OfferKind → TcpHeader → OpenOffer
+    offer_with_header kind header = record {
+      kind = kind;
+      moment = cx.moment;
+      header = header_for pair.addresses (hops_of b.settings.hop_limit) (header_len header + 1);
+      segment = header;
+      place = 0;
+      len = 1;
+    }
+
+    directed_last : Directed old (last_rules cx (plain v b) pair)
+    directed_last =
+        let ack = ack_segment b pair cx.moment (window_of (plain v b)) in
+        let alive = keep_alive_segment b pair cx.moment (window_of (plain v b)) in
+        let probe = segment b pair cx.moment (window_of (plain v b)) (control_for probe_choice (queued_in v)) (number_at b 0) in
+        cond_both (is_due cx.moment (probe_moment b (queued_in v))) (offer_choice Kind.Probe cx (plain v b) pair probe_choice)
+        (if is_due cx.moment (ack_moment b) then offer_ack Kind.Ack cx (plain v b) pair
+        else if updates_window b (window_of (plain v b)) then offer_ack Kind.WindowUpdate cx (plain v b) pair
+        else if is_due cx.moment (keep_alive_moment b) then offer_keep_alive cx (plain v b) pair
+        else silent false (plain v b))
+        (λ (o : Offered TcpValue). Directed old o)
+        (λ _.
+        directed_segment Kind.Probe probe 0 1 refl refl
+        (inr (inl (asked_names old (probed (recorded b (offer_with_header Kind.Probe probe)) (end_of b (offer_with_header Kind.Probe probe)) cx.moment) cx.moment (record { names = names.names; listening = names.listening })))))
+        (λ _.
+        cond_both (is_due cx.moment (ack_moment b)) (offer_ack Kind.Ack cx (plain v b) pair)
+        (if updates_window b (window_of (plain v b)) then offer_ack Kind.WindowUpdate cx (plain v b) pair
+        else if is_due cx.moment (keep_alive_moment b) then offer_keep_alive cx (plain v b) pair
+        else silent false (plain v b))
+        (λ (o : Offered TcpValue). Directed old o)
+        (λ _. directed_segment Kind.Ack ack 0 0 refl refl (inr (inl (record { names = names.names; listening = names.listening }))))
+        (λ _.
+        cond_both (updates_window b (window_of (plain v b))) (offer_ack Kind.WindowUpdate cx (plain v b) pair)
+        (if is_due cx.moment (keep_alive_moment b) then offer_keep_alive cx (plain v b) pair else silent false (plain v b))
+        (λ (o : Offered TcpValue). Directed old o)
+        (λ _. directed_segment Kind.WindowUpdate ack 0 0 refl refl (inr (inl (record { names = names.names; listening = names.listening }))))
+        (λ _.
+        cond_both (is_due cx.moment (keep_alive_moment b)) (offer_keep_alive cx (plain v b) pair) (silent false (plain v b)) (λ (o : Offered TcpValue). Directed old o)
+        (λ _.
+        directed_segment Kind.KeepAlive alive 0 1 refl refl
+        (inr (inl (asked_names old (recorded b (offer_with_header Kind.KeepAlive alive)) cx.moment (record { names = names.names; listening = names.listening })))))
+        (λ _. directed_silent false))))
+
+  directed_first : (v : TcpValue) (old b : Block) → KeepsNames old b → Directed old (first_rules cx (plain v b) pair)
+  directed_first v old b names =
+      let syn = syn_segment b pair cx.moment cx.ip_mtu (room_of v.received) (free_in v) in
+      let again = resend_choice b pair.addresses cx.ip_mtu v.queued in
+      let text = text_choice b pair.addresses cx.ip_mtu v.queued in
+      let window = window_of (plain v b) in
+      let probing = probe_started cx.moment (queued_in v) b in
+      cond_both (owes_syn b) (offer_syn cx (plain v b) pair)
+      (if resends b then offer_choice Kind.FastRetransmission cx (plain v b) pair again
+      else if has_text b pair.addresses cx.ip_mtu v.queued then offer_choice Kind.Text cx (plain v b) pair text
+      else last_rules cx (with_block (plain v b) probing) pair)
+      (λ (o : Offered TcpValue). Directed old o)
+      (λ _. directed_segment v old b names Kind.Syn syn 0 0 refl refl (inr (inl (record { names = names.names; listening = names.listening }))))
+      (λ _.
+      cond_both (resends b) (offer_choice Kind.FastRetransmission cx (plain v b) pair again)
+      (if has_text b pair.addresses cx.ip_mtu v.queued then offer_choice Kind.Text cx (plain v b) pair text
+      else last_rules cx (with_block (plain v b) probing) pair)
+      (λ (o : Offered TcpValue). Directed old o)
+      (λ _.
+      directed_segment v old b names Kind.FastRetransmission (segment b pair cx.moment window (control_for again (queued_in v)) (number_at b again.place)) again.place again.len refl refl
+      (inr (inl (record { names = names.names; listening = names.listening }))))
+      (λ _.
+      cond_both (has_text b pair.addresses cx.ip_mtu v.queued) (offer_choice Kind.Text cx (plain v b) pair text)
+      (last_rules cx (with_block (plain v b) probing) pair)
+      (λ (o : Offered TcpValue). Directed old o)
+      (λ _.
+      directed_segment v old b names Kind.Text (segment b pair cx.moment window (control_for text (queued_in v)) (number_at b text.place)) text.place text.len refl refl
+      (inr (inl (record { names = names.names; listening = names.listening }))))
+      (λ _. directed_last v old probing (record { names = names.names; listening = names.listening }))))
+
+  -- it gives up
+  directed_end : (v : TcpValue) → Directed v.block (silent true (given_up (unoffered v)))
+  directed_end v =
+      cond_both (falls_back v.block) (listening (unoffered v) v.block.names.listen) (with_block (unoffered v) (timed_out v.block))
+      (λ (w : TcpValue). Directed v.block (silent true w))
+      (λ e.
+      let parts = and_parts (is_answering v.block.state) (not (v.block.names.listen.port == 0)) e in
+      let back : FallsBack v.block (listening (unoffered v) v.block.names.listen).block =
+      record { answering = parts.0; listened = not_true (v.block.names.listen.port == 0) parts.1; state = refl; names = refl } in
+      (λ x none. absurd (cc), (inl back, inl back)))
+      (λ _. directed_silent v v.block (timed_out v.block) (keeps_off v.block (timed_out v.block) refl refl) true)
+
+  directed_between : (v : TcpValue) → Directed v.block (offer_between cx (unoffered v) pair)
+  directed_between v =
+      let same = keeps v.block v.block refl refl in
+      let started = timeout_started cx.moment (queued_in v) v.block in
+      cond_both (is_due cx.moment (time_wait_end v.block)) (silent true (ended (unoffered v)))
+      (if is_due cx.moment (timeout_end v.block (queued_in v)) then silent true (with_block (unoffered v) (timed_out v.block))
+      else if is_closed v.block.state then (if v.block.sender.reset_due then offer_reset cx (unoffered v) pair else silent false (unoffered v))
+      else if gives_up cx.moment v.block (queued_in v) then silent true (given_up (unoffered v))
+      else first_rules cx (with_block (unoffered v) (backed_off cx.moment started)) pair)
+      (λ (o : Offered TcpValue). Directed v.block o)
+      (λ _.
+      let forgets : Forgets (ended v).block = record { state = refl; names = refl } in
+      (λ x e. absurd (cc), (inr (inr forgets), inr (inr forgets))))
+      (λ _.
+      cond_both (is_due cx.moment (timeout_end v.block (queued_in v))) (silent true (with_block (unoffered v) (timed_out v.block)))
+      (if is_closed v.block.state then (if v.block.sender.reset_due then offer_reset cx (unoffered v) pair else silent false (unoffered v))
+      else if gives_up cx.moment v.block (queued_in v) then silent true (given_up (unoffered v))
+      else first_rules cx (with_block (unoffered v) (backed_off cx.moment started)) pair)
+      (λ (o : Offered TcpValue). Directed v.block o)
+      (λ _. directed_silent v v.block (timed_out v.block) (keeps_off v.block (timed_out v.block) refl refl) true)
+      (λ _.
+      cond_both (is_closed v.block.state) (if v.block.sender.reset_due then offer_reset cx (unoffered v) pair else silent false (unoffered v))
+      (if gives_up cx.moment v.block (queued_in v) then silent true (given_up (unoffered v))
+      else first_rules cx (with_block (unoffered v) (backed_off cx.moment started)) pair)
+      (λ (o : Offered TcpValue). Directed v.block o)
+      (λ _.
+      cond_both v.block.sender.reset_due (offer_reset cx (unoffered v) pair) (silent false (unoffered v)) (λ (o : Offered TcpValue). Directed v.block o)
+      (λ _. directed_segment v v.block v.block same Kind.Reset (reset_segment v.block pair cx.moment (window_of v)) 0 0 refl refl (inr (inr (record { state = refl; names = refl }))))
+      (λ _. directed_silent v v.block v.block same false))
+      (λ _.
+      cond_both (gives_up cx.moment v.block (queued_in v)) (silent true (given_up (unoffered v)))
+      (first_rules cx (with_block (unoffered v) (backed_off cx.moment started)) pair)
+      (λ (o : Offered TcpValue). Directed v.block o)
+      (λ _. directed_end v)
+      (λ _.
+      cond_both (is_due cx.moment v.block.timers.retransmit_at) (backed_off_now started) started (λ (b : Block). Directed v.block (first_rules cx (with_block (unoffered v) b) pair))
+      (λ _. directed_first v v.block (backed_off_now started) (keeps v.block (backed_off_now started) refl refl))
+      (λ _. directed_first v v.block started (keeps v.block started refl refl))))))
+
+-- a socket without a remote endpoint offers nothing
+abbrev Goes : TcpValue → Offered TcpValue → Type 0
+Goes v o =
+    ((x : OpenOffer) → o.socket.offered ≡ Some x → (pair : EndpointPair) × (v.block.names.pair ≡ Some pair) × GoesBetween pair x)
+    × (IsLeftBy v.block (settled true o.socket).block × IsLeftBy v.block o.socket.block)
+
+goes_with : (cx : ContextValue) (v : TcpValue) (names : Option EndpointPair) → v.block.names.pair ≡ names → Goes v (offer_with names cx (unoffered v))
+goes_with cx v None named =
+    let same : IsLeftBy v.block v.block = inr (inl (keeps v.block v.block refl refl)) in
+    (λ x e. absurd (cc), (same, same))
+goes_with cx v (Some pair) named = let d = directed_between cx pair v in (λ x e. (pair, named, d.0 x e), d.1)
+
+pub offer_directed : (cx : ContextValue) (v : TcpValue) → Goes v (offer_of cx v)
+offer_directed cx v = goes_with cx v v.block.names.pair refl
+
+pub offer_between_ends :
+    (cx : ContextValue) (v : TcpValue) (o : OpenOffer) → (offer_of cx v).socket.offered ≡ Some o
+    → (pair : EndpointPair) × (v.block.names.pair ≡ Some pair) × GoesBetween pair o
+offer_between_ends cx v = (offer_directed cx v).0
+
+pub sent_names : (cx : ContextValue) (v : TcpValue) → IsLeftBy v.block (settled true (offer_of cx v).socket).block
+sent_names cx v = (offer_directed cx v).1.0
+
+pub withheld_names : (cx : ContextValue) (v : TcpValue) → IsLeftBy v.block (settled false (offer_of cx v).socket).block
+withheld_names cx v = (offer_directed cx v).1.1
+
+-- PORTS
+
+closed_off : (state : State) → is_closed state ≡ true → is_listening state ≡ true → ⊥
+closed_off In.Closed e f = absurd (cc)
+closed_off other e f = absurd (cc)
+
+ports_kept : (o : Ports) (old new : Block) → KeepsNames old new → HasPorts o old → HasPorts o new
+ports_kept o old new k has = record {
+  listening = λ e. let port = has.listening (k.listening e) in (ap (λ (n : Names). n.listen.port) k.names ∙ port.0, port.1);
+  listened = λ e. let port = has.listened (sym (ap (λ (n : Names). n.listen.port == 0) k.names) ∙ e) in (ap (λ (n : Names). n.listen.port) k.names ∙ port.0, port.1);
+  pair = λ pair e. has.pair pair (sym (ap (λ (n : Names). n.pair) k.names) ∙ e);
+}
+
+ports_forgotten : (o : Ports) (new : Block) → Forgets new → HasPorts o new
+ports_forgotten o new f = record {
+  listening = λ e. absurd (closed_off new.state f.state e);
+  listened = λ e. absurd (let clash : true ≡ false = sym (ap (λ (n : Names). n.listen.port == 0) f.names) ∙ e in cc);
+  pair = λ pair e. absurd (let clash : None ≡ Some pair = sym (ap (λ (n : Names). n.pair) f.names) ∙ e in cc);
+}
+
+ports_after : (o : Ports) (old new : Block) → KeepsOrForgets old new → HasPorts o old → HasPorts o new
+ports_after o old new (inl k) has = ports_kept o old new k has
+ports_after o old new (inr f) has = ports_forgotten o new f
+
+ports_fallen : (o : Ports) (old new : Block) → FallsBack old new → HasPorts o old → HasPorts o new
+ports_fallen o old new fallen has =
+    let mine = has.listened fallen.listened in
+    let same = ap (λ (n : Names). n.listen.port) fallen.names in
+    record {
+      listening = λ _. (same ∙ mine.0, mine.1);
+      listened = λ _. (same ∙ mine.0, mine.1);
+      pair = λ pair e. absurd (let clash : None ≡ Some pair = sym (ap (λ (n : Names). n.pair) fallen.names) ∙ e in cc);
+    }
+
+ports_left : (o : Ports) (old new : Block) → IsLeftBy old new → HasPorts o old → HasPorts o new
+ports_left o old new (inl fallen) has = ports_fallen o old new fallen has
+ports_left o old new (inr kept) has = ports_after o old new kept has
+
+pub ports_listening : (v : TcpValue) (endpoint : IpListenEndpoint) → HasPorts (record { local = endpoint.port; remote = None }) (listening v endpoint).block
+ports_listening v endpoint = record { listening = λ _. (refl, refl); listened = λ _. (refl, refl); pair = λ pair e. absurd (cc) }
+
+pub ports_connecting : (v : TcpValue) (pair : EndpointPair) (number : ℕ) → HasPorts (record { local = pair.local_port; remote = Some pair.remote_port }) (connecting v pair number).block
+ports_connecting v pair number = record {
+  listening = λ e. absurd (cc);
+  listened = λ e. absurd (cc);
+  pair = λ other e. let same : pair ≡ other = cc in (ap (λ (p : EndpointPair). p.local_port) (sym same), ap (λ (p : EndpointPair). p.remote_port) (sym same));
+}
+
+pub ports_same : (v new : TcpValue) (o : Ports) → core_of new ≡ core_of v → HasPorts o v.block → HasPorts o new.block
+ports_same v new o e has = record {
+  listening = λ listens. let port = has.listening (sym (ap (λ (c : Core). is_listening c.state) e) ∙ listens) in (ap (λ (c : Core). c.listen_port) e ∙ port.0, port.1);
+  listened = λ named. let port = has.listened (sym (ap (λ (c : Core). c.listen_port == 0) e) ∙ named) in (ap (λ (c : Core). c.listen_port) e ∙ port.0, port.1);
+  pair = λ pair named. has.pair pair (sym (ap (λ (c : Core). c.pair) e) ∙ named);
+}
+
+pub ports_close : (v : TcpValue) (o : Ports) → HasPorts o v.block → HasPorts o (close_after v).block
+ports_close v o has = ports_after o v.block (close_after v).block (close_names v) has
+
+pub ports_abort : (v : TcpValue) (o : Ports) → HasPorts o v.block → HasPorts o (abort_after v).block
+ports_abort v o has = ports_after o v.block (abort_after v).block (abort_names v) has
+
+pub ports_sent : (cx : ContextValue) (v : TcpValue) (o : Ports) → HasPorts o v.block → HasPorts o (settled true (offer_of cx v).socket).block
+ports_sent cx v o has = ports_left o v.block (settled true (offer_of cx v).socket).block (sent_names cx v) has
+
+pub ports_withheld : (cx : ContextValue) (v : TcpValue) (o : Ports) → HasPorts o v.block → HasPorts o (settled false (offer_of cx v).socket).block
+ports_withheld cx v o has = ports_left o v.block (settled false (offer_of cx v).socket).block (withheld_names cx v) has
+
+open_toward : (remote : Option ℕ) (port : ℕ) → remote ≡ None → IsToward remote port
+open_toward remote port e = subst (λ (remote : Option ℕ). IsToward remote port) (sym e) tt
+
+ports_opened : (o : Ports) (old new : Block) (ip : IpRepr) (header : TcpHeader) → header.dst_port ≡ old.names.listen.port → IsOpenedBy ip header old new → HasPorts o old → HasPorts o new
+ports_opened o old new ip header port opened has =
+    let mine = has.listening opened.listening in
+    record {
+      listening = λ e. absurd (off new.state opened.state e);
+      listened = λ e. (ap (λ (n : Names). n.listen.port) opened.names ∙ mine.0, mine.1);
+      pair = λ pair e.
+          let named : Some (pair_in ip header) ≡ Some pair = sym (ap (λ (n : Names). n.pair) opened.names) ∙ e in
+          let same : pair_in ip header ≡ pair = cc in
+          (sym (ap (λ (p : EndpointPair). p.local_port) same) ∙ (port ∙ mine.0), open_toward o.remote pair.remote_port mine.1);
+    }
+  where
+    off : (state : State) → is_answering state ≡ true → is_listening state ≡ true → ⊥
+    off In.SynReceived e f = absurd (cc)
+    off other e f = absurd (cc)
+
+ports_renamed : (o : Ports) (old new : Block) (ip : IpRepr) (header : TcpHeader) → IsFor old ip header → IsRenamed ip header old new → HasPorts o old → HasPorts o new
+ports_renamed o old new ip header mine (inl opened) has = ports_opened o old new ip header (mine.listening opened.listening).0 opened has
+ports_renamed o old new ip header mine (inr (inl fallen)) has = ports_fallen o old new fallen has
+ports_renamed o old new ip header mine (inr (inr kept)) has = ports_after o old new kept has
+
+pub ports_arrival :
+    (cx : ContextValue) (v : TcpValue) (ip : IpRepr) (header : TcpHeader) (bytes : List ℕ) (o : Ports) → accepts v.block ip header ≡ true → HasPorts o v.block
+    → HasPorts o (arrives cx v ip header bytes).socket.block
+ports_arrival cx v ip header bytes o e has =
+    ports_renamed o v.block (arrives cx v ip header bytes).socket.block ip header (accepted v.block ip header e) (arrival_names cx v ip header bytes) has
+
+-- WITHOUT NAMES
+
+pub nameless_refuses : (b : Block) (ip : IpRepr) (header : TcpHeader) → IsNameless b → accepts b ip header ≡ false
+nameless_refuses b ip header n = ap (λ (state : State). accepts_in state b ip header) (closed_state b.state n.state)
+
+pub nameless_drops :
+    (cx : ContextValue) (v : TcpValue) (ip : IpRepr) (header : TcpHeader) (bytes : List ℕ) → IsNameless v.block
+    → arrives cx v ip header bytes ≡ dropped (unoffered v)
+nameless_drops cx v ip header bytes n =
+    cond_both (is_void_syn header) (dropped (unoffered v)) (arrives_in v.block.state cx (unoffered v) ip header bytes) (λ (a : Arrived). a ≡ dropped (unoffered v))
+    (λ _. refl)
+    (λ _. ap (λ (state : State). arrives_in state cx (unoffered v) ip header bytes) (closed_state v.block.state n.state))
+
+pub nameless_silent : (cx : ContextValue) (v : TcpValue) → IsNameless v.block → offer_of cx v ≡ offered_as (Answer.Silent false) (unoffered v)
+nameless_silent cx v n = ap (λ (names : Option EndpointPair). offer_with names cx (unoffered v)) n.pair

@@ -1,0 +1,65 @@
+//! The invariant between two sockets, where what each of them sent is told by the segments of its host.
+
+ghost use Rattle.std.specs.Prelude.{◌≡◌, ◌≢◌, ◌⊎◌, ◌==◌, ◌++◌, ℕ, true, if◌then◌else◌, List, [], ◌∷◌, Some, slice_get};
+ghost use Rattle.std.specs.List.{AllByRecursion};
+ghost use Rattle.ip_wire.specs.IpRepr.{IpRepr};
+ghost use Rattle.ip_wire.specs.Tcp.{normal};
+ghost use Rattle.ip_wire.specs.TcpHeader.{TcpHeader};
+ghost use Rattle.socket_base.specs.Context.{ContextValue};
+ghost use Rattle.tcp_law.specs.Alone.{AreResets};
+ghost use Rattle.tcp_law.specs.Segment.Control.{Rst};
+ghost use Rattle.tcp_model.specs.Arrival.{arrives};
+ghost use Rattle.tcp_model.specs.Offers.{offer_of};
+ghost use Rattle.tcp_model.specs.Opening.{is_first_syn};
+ghost use Rattle.tcp_model.specs.Settled.{settled};
+ghost use Rattle.tcp_model.specs.Value.{TcpValue};
+ghost use Rattle.tcp_tie.specs.Endpoints.{Ports, HasPorts};
+ghost use Rattle.tcp_tie.specs.Host.{Made, made_of, sent_from, past_at, IsAmong, and_answer, and_offer};
+ghost use Rattle.tcp_tie.specs.Promises.{KeepsAlone};
+ghost use Rattle.tcp_tie.specs.Tie.{Past, Keeps, segment_of};
+
+/// The segments of a host from one port: one more of them, and each of them.
+#[tactic(auto, using(crate::proofs::HostLaws::one_more, crate::proofs::HostLaws::among_sent, crate::proofs::HostLaws::resets_from))]
+pub fn segments_of_a_host()
+    ensures more { (port : ℕ) (made : List Made) (x : Made)
+        → sent_from port (made ++ x ∷ []) ≡ (if x.source == port then sent_from port made ++ x.segment ∷ [] else sent_from port made) }
+    ensures among { (port : ℕ) (made : List Made) (x : Made) → IsAmong made x → x.source ≡ port
+        → (k : ℕ) × (slice_get (sent_from port made) k ≡ Some x.segment) }
+    ensures resets { (port : ℕ) (made : List Made) → AllByRecursion (λ x. x.source ≡ port → x.segment.control ≡ Rst) made
+        → AreResets (sent_from port made) }
+{}
+
+/// A segment that the partner's host made, from the partner's port to the socket's, comes; the socket is asked for a segment, which goes
+/// from its port; the host makes any reset, or a segment from another port.
+#[tactic(auto, using(crate::proofs::HostLaws::keeps_hosted_arrival, crate::proofs::HostLaws::keeps_hosted_offer, crate::proofs::HostLaws::keeps_made_reset, crate::proofs::HostLaws::keeps_made_elsewhere))]
+pub fn hosts_keep_the_invariant()
+    ensures arrival { (cx : ContextValue) (v w : TcpValue) (p q : Past) (ip : IpRepr) (header : TcpHeader) (bytes : List ℕ)
+        (made theirs : List Made) → Keeps v (past_at header.dst_port made p) w (past_at header.src_port theirs q)
+        → IsAmong theirs (made_of header bytes)
+        → Keeps (arrives cx v ip header bytes).socket
+        (past_at header.dst_port (and_answer made (arrives cx v ip header bytes).answer) p) w (past_at header.src_port theirs q) }
+    ensures offer { (cx : ContextValue) (v w : TcpValue) (p q : Past) (o : Ports) (made : List Made)
+        → Keeps v (past_at o.local made p) w q → HasPorts o v.block
+        → Keeps (settled true (offer_of cx v).socket)
+        (past_at o.local (and_offer made (offer_of cx v).socket.offered (offer_of cx v).socket.queued.queue) p) w q }
+    ensures reset { (v w : TcpValue) (p q : Past) (port : ℕ) (made : List Made) (x : Made) → Keeps v (past_at port made p) w q
+        → x.segment.control ≡ Rst → Keeps v (past_at port (made ++ x ∷ []) p) w q }
+    ensures elsewhere { (v w : TcpValue) (p q : Past) (port : ℕ) (made : List Made) (x : Made) → Keeps v (past_at port made p) w q
+        → x.source ≢ port → Keeps v (past_at port (made ++ x ∷ []) p) w q }
+{}
+
+/// A reset of another host comes to a socket without a partner.
+#[tactic(auto, using(crate::proofs::HostLaws::hosted_reset_comes))]
+pub fn hosts_keep_a_socket_alone()
+    ensures arrival { (cx : ContextValue) (v : TcpValue) (p : Past) (ip : IpRepr) (header : TcpHeader) (bytes : List ℕ)
+        (made : List Made) → KeepsAlone v (past_at header.dst_port made p) → (segment_of header bytes).control ≡ Rst
+        → KeepsAlone (arrives cx v ip header bytes).socket
+        (past_at header.dst_port (and_answer made (arrives cx v ip header bytes).answer) p) }
+{}
+
+/// A segment that was emitted and read again, which gives its normal form, is seen as it was sent.
+pub fn normal_segments_are_seen_alike()
+    ensures segment { (header : TcpHeader) (bytes : List ℕ) → segment_of (normal header) bytes ≡ segment_of header bytes }
+    ensures made { (header : TcpHeader) (bytes : List ℕ) → made_of (normal header) bytes ≡ made_of header bytes }
+    ensures opening { (header : TcpHeader) → is_first_syn (normal header) ≡ is_first_syn header }
+{}

@@ -1,0 +1,104 @@
+//! The law of names: which segments a socket takes, where its own segments go, and what becomes of its endpoints.
+
+ghost use Rattle.std.specs.Prelude.{◌≡◌, ℕ, true, false, List, [], Option, Some, None};
+ghost use Rattle.ip_wire.specs.IpListenEndpoint.{IpListenEndpoint};
+ghost use Rattle.ip_wire.specs.IpRepr.{IpRepr};
+ghost use Rattle.ip_wire.specs.TcpHeader.{TcpHeader};
+ghost use Rattle.net_base.specs.Ring.{Ring};
+ghost use Rattle.socket_base.specs.Context.{ContextValue};
+ghost use Rattle.socket_base.specs.Offers.{offered_as};
+ghost use Rattle.socket_base.specs.declared.offer.Offer.TheVariants as Answer;
+ghost use Rattle.tcp_law.specs.Segment.Control.{Rst};
+ghost use Rattle.tcp_model.specs.declared.block.Block.{Block};
+ghost use Rattle.tcp_model.specs.EndpointPair.{EndpointPair};
+ghost use Rattle.tcp_model.specs.OpenOffer.{OpenOffer};
+ghost use Rattle.tcp_model.specs.Reply.{Reply};
+ghost use Rattle.tcp_model.specs.Arrival.{arrives};
+ghost use Rattle.tcp_model.specs.Blocks.{nowhere};
+ghost use Rattle.tcp_model.specs.Calls.{listening, connecting, sent_more, recv_after, close_after, abort_after};
+ghost use Rattle.tcp_model.specs.Names.{accepts};
+ghost use Rattle.tcp_model.specs.Offers.{offer_of};
+ghost use Rattle.tcp_model.specs.Segments.{rst_reply};
+ghost use Rattle.tcp_model.specs.Settled.{settled};
+ghost use Rattle.tcp_model.specs.Value.{TcpValue, dropped, unoffered};
+ghost use Rattle.tcp_tie.specs.Tie.{core_of, segment_of};
+ghost use Rattle.tcp_tie.specs.Endpoints.{IsFor, GoesBetween, GoesBack, KeepsOrForgets, IsLeftBy, IsRenamed, Ports, HasPorts, IsNameless};
+
+/// A socket takes a segment only where both its ports are the socket's: in LISTEN the port that it listens on, later both endpoints.
+#[tactic(auto, using(crate::proofs::NameLaws::accepted))]
+pub fn accepted_segments_are_for_the_socket()
+    ensures accepted { (b : Block) (ip : IpRepr) (header : TcpHeader) → accepts b ip header ≡ true → IsFor b ip header }
+{}
+
+/// Of the calls only an OPEN names a socket, and only a close or an abort may forget the names.
+#[tactic(auto, using(crate::proofs::NameLaws::close_names, crate::proofs::NameLaws::abort_names))]
+pub fn calls_name_a_socket()
+    ensures listens { (v : TcpValue) (endpoint : IpListenEndpoint)
+        → (listening v endpoint).block.names ≡ record { listen = endpoint; pair = None } }
+    ensures connects { (v : TcpValue) (pair : EndpointPair) (number : ℕ)
+        → (connecting v pair number).block.names ≡ record { listen = nowhere; pair = Some pair } }
+    ensures sends { (v : TcpValue) (queued : Ring ℕ) → (sent_more v queued).block ≡ v.block }
+    ensures reads { (v : TcpValue) (count : ℕ) → (recv_after v count).block ≡ v.block }
+    ensures closes { (v : TcpValue) → KeepsOrForgets v.block (close_after v).block }
+    ensures aborts { (v : TcpValue) → KeepsOrForgets v.block (abort_after v).block }
+{}
+
+/// When a segment comes, the endpoints stay, or are forgotten; or a listener takes the segment's, or loses them again. What answers
+/// it has its endpoints, exchanged.
+#[tactic(auto, using(crate::proofs::NameLaws::arrival_names, crate::proofs::NameLaws::answer_back))]
+pub fn arrivals_rename_a_socket()
+    ensures names { (cx : ContextValue) (v : TcpValue) (ip : IpRepr) (header : TcpHeader) (bytes : List ℕ)
+        → IsRenamed ip header v.block (arrives cx v ip header bytes).socket.block }
+    ensures answer { (cx : ContextValue) (v : TcpValue) (ip : IpRepr) (header : TcpHeader) (bytes : List ℕ) (reply : Reply)
+        → (arrives cx v ip header bytes).answer ≡ Some reply → GoesBack ip header reply }
+{}
+
+/// What a socket offers goes between the endpoints of its pair; and with its settling they stay, or are forgotten, or a listener that
+/// gives up listens again.
+#[tactic(auto, using(crate::proofs::NameLaws::offer_between_ends, crate::proofs::NameLaws::sent_names, crate::proofs::NameLaws::withheld_names))]
+pub fn offers_go_between_the_endpoints()
+    ensures offered { (cx : ContextValue) (v : TcpValue) (o : OpenOffer) → (offer_of cx v).socket.offered ≡ Some o
+        → (pair : EndpointPair) × (v.block.names.pair ≡ Some pair) × GoesBetween pair o }
+    ensures sent { (cx : ContextValue) (v : TcpValue)
+        → IsLeftBy v.block (settled true (offer_of cx v).socket).block }
+    ensures withheld { (cx : ContextValue) (v : TcpValue)
+        → IsLeftBy v.block (settled false (offer_of cx v).socket).block }
+{}
+
+/// A host answers a segment that no socket takes by a reset, back to where it came from.
+#[tactic(auto, using(crate::proofs::NameLaws::reset_back))]
+pub fn hosts_answer_by_resets()
+    ensures reset { (ip : IpRepr) (header : TcpHeader) (size : ℕ)
+        → (segment_of (rst_reply ip header size).segment []).control ≡ Rst }
+    ensures back { (ip : IpRepr) (header : TcpHeader) (size : ℕ) → GoesBack ip header (rst_reply ip header size) }
+{}
+
+/// So the ports that a socket was opened with are those of all that names it, whatever comes.
+#[tactic(auto, using(crate::proofs::NameLaws::ports_listening, crate::proofs::NameLaws::ports_connecting, crate::proofs::NameLaws::ports_same, crate::proofs::NameLaws::ports_close, crate::proofs::NameLaws::ports_abort, crate::proofs::NameLaws::ports_arrival, crate::proofs::NameLaws::ports_sent, crate::proofs::NameLaws::ports_withheld))]
+pub fn ports_stay()
+    ensures listens { (v : TcpValue) (endpoint : IpListenEndpoint)
+        → HasPorts (record { local = endpoint.port; remote = None }) (listening v endpoint).block }
+    ensures connects { (v : TcpValue) (pair : EndpointPair) (number : ℕ)
+        → HasPorts (record { local = pair.local_port; remote = Some pair.remote_port }) (connecting v pair number).block }
+    ensures same { (v new : TcpValue) (o : Ports) → core_of new ≡ core_of v → HasPorts o v.block → HasPorts o new.block }
+    ensures sends { (v : TcpValue) (queued : Ring ℕ) (o : Ports) → HasPorts o v.block → HasPorts o (sent_more v queued).block }
+    ensures reads { (v : TcpValue) (count : ℕ) (o : Ports) → HasPorts o v.block → HasPorts o (recv_after v count).block }
+    ensures closes { (v : TcpValue) (o : Ports) → HasPorts o v.block → HasPorts o (close_after v).block }
+    ensures aborts { (v : TcpValue) (o : Ports) → HasPorts o v.block → HasPorts o (abort_after v).block }
+    ensures arrives { (cx : ContextValue) (v : TcpValue) (ip : IpRepr) (header : TcpHeader) (bytes : List ℕ) (o : Ports)
+        → accepts v.block ip header ≡ true → HasPorts o v.block → HasPorts o (arrives cx v ip header bytes).socket.block }
+    ensures sent { (cx : ContextValue) (v : TcpValue) (o : Ports)
+        → HasPorts o v.block → HasPorts o (settled true (offer_of cx v).socket).block }
+    ensures withheld { (cx : ContextValue) (v : TcpValue) (o : Ports)
+        → HasPorts o v.block → HasPorts o (settled false (offer_of cx v).socket).block }
+{}
+
+/// A closed socket takes no segment; and one without a remote endpoint offers none.
+#[tactic(auto, using(crate::proofs::NameLaws::nameless_refuses, crate::proofs::NameLaws::nameless_drops, crate::proofs::NameLaws::nameless_silent))]
+pub fn a_nameless_socket_is_silent()
+    ensures refuses { (b : Block) (ip : IpRepr) (header : TcpHeader) → IsNameless b → accepts b ip header ≡ false }
+    ensures drops { (cx : ContextValue) (v : TcpValue) (ip : IpRepr) (header : TcpHeader) (bytes : List ℕ) → IsNameless v.block
+        → arrives cx v ip header bytes ≡ dropped (unoffered v) }
+    ensures offers { (cx : ContextValue) (v : TcpValue) → IsNameless v.block
+        → offer_of cx v ≡ offered_as (Answer.Silent false) (unoffered v) }
+{}

@@ -1,0 +1,139 @@
+//! What `lan` passes on is its members', each item under its own name: each function takes a member's item and
+//! gives it as the facade's, which is accepted only where both names mean one item.
+ghost use Rattle.std.specs.Prelude.{◌≡◌, List, ℕ, IfOk};
+ghost use Rattle.std.specs.String.{string_bytes};
+ghost use Rattle.net_base.specs.Medium.{Medium};
+ghost use Rattle.lan.specs.Answers.{answer_line};
+ghost use Rattle.lan.specs.Events.{event_of, side_of};
+ghost use Rattle.lan_frames.specs.Carried.{names_tcp_or_udp};
+ghost use Rattle.lan_history.specs.declared.event.Side.{Side};
+ghost use Rattle.lan_history.specs.History.{Entry};
+ghost use Rattle.lan_history.specs.Partners.{ArePartners};
+ghost use Rattle.lan_history.specs.Tables.{Places, AreAllowed};
+ghost use Rattle.lan_theorem.specs.Hosts.Asked.{requests, AreApart};
+ghost use Rattle.lan_theorem.specs.Hosts.Machine.{Turn, Machine, HostRun};
+
+use net_base::Medium;
+use std::alloc::{AllocError, Global};
+
+/// A side, a setting, a fault, a reason of a refusal, and why two hosts make no world.
+pub fn passes_on_names(
+    side: lan_history::Side,
+    setting: lan_history::TcpSetting,
+    fault: lan_history::Fault,
+    refused: lan_history::Refused,
+    error: lan_world::WorldError,
+) -> (
+    lan::Side,
+    lan::TcpSetting,
+    lan::Fault,
+    lan::Refused,
+    lan::WorldError,
+)
+    ensures { result ≡ (side, setting, fault, refused, error) }
+{
+    (side, setting, fault, refused, error)
+}
+
+/// An event.
+pub fn passes_on_events(event: &lan_history::Event) -> &lan::Event
+    ensures { result.now ≡ event.now }
+{
+    event
+}
+
+/// An answer.
+pub fn passes_on_answers(answer: &lan_history::Answer) -> &lan::Answer
+    ensures { result.now ≡ answer.now }
+{
+    answer
+}
+
+/// Bytes.
+pub fn passes_on_bytes(bytes: &lan_history::Bytes) -> &lan::Bytes
+    ensures { result.now ≡ bytes.now }
+{
+    bytes
+}
+
+/// A host.
+pub fn passes_on_hosts(host: &lan_hosts::Host) -> &lan::Host
+    ensures { result.now ≡ host.now }
+{
+    host
+}
+
+/// A world.
+pub fn passes_on_worlds(world: &lan_world::World) -> &lan::World
+    ensures { result.now ≡ world.now }
+{
+    world
+}
+
+/// A port.
+pub fn passes_on_ports(port: &lan_port::Port) -> &lan::Port
+    ensures { result.now ≡ port.now }
+{
+    port
+}
+
+/// Leave to send at a port.
+pub fn passes_on_tokens(token: &lan_port::PortTxToken) -> &lan::PortTxToken
+    ensures { result.now ≡ token.now }
+{
+    token
+}
+
+/// A line of a script.
+pub fn passes_on_lines<'a, 'b>(line: &'a lan_script::Line<'b>) -> &'a lan::Line<'b>
+    ensures { result.now ≡ line.now }
+{
+    line
+}
+
+/// The host that a line names.
+pub fn passes_on_side_of(side: lan_script::Side) -> lan::Side
+    ensures { result ≡ side_of side }
+{
+    lan::side_of(side)
+}
+
+/// The event that a line names.
+pub fn passes_on_event_of(
+    alloc: Global,
+    line: &lan_script::Line<'_>,
+) -> Result<Option<lan::Event>, AllocError>
+    ensures { IfOk result (λ event. event ≡ event_of line.now) }
+{
+    lan::event_of(alloc, line)
+}
+
+/// The line that answers an event.
+pub fn passes_on_answer_line(alloc: Global, answer: &lan::Answer) -> Result<String, AllocError>
+    ensures { IfOk result (λ text. string_bytes text ≡ answer_line answer.now) }
+{
+    lan::answer_line(alloc, answer)
+}
+
+/// The test whether bytes say that they carry TCP or UDP.
+pub fn passes_on_the_test(medium: Medium, bytes: &[u8]) -> bool
+    ensures { result ≡ names_tcp_or_udp medium bytes.now }
+{
+    lan::names_tcp_or_udp(medium, bytes)
+}
+
+/// Law: a socket has at most one partner, by the laws of histories that `lan` passes on.
+pub fn passes_on_histories()
+    ensures { (places : Places) (history : List Entry) (side : Side) (i j k : ℕ) → AreAllowed places history
+        → ArePartners history side i j → ArePartners history side i k → j ≡ k }
+{
+    lan::history_laws::a_socket_has_at_most_one_partner();
+}
+
+/// Law: a machine's own requests for neighbours are a second apart, by the laws of hosts that `lan` passes on.
+pub fn passes_on_machines()
+    ensures { (start : Machine) (room : ℕ) (turns : List Turn) (now : Machine)
+        → HostRun start room turns now → AreApart (requests turns) }
+{
+    lan::host_laws::requests_are_apart();
+}
