@@ -12,3 +12,4 @@ pub mod PolledJoins
 pub mod Runs
 pub mod Rebuilding
 pub mod Damages
+pub mod PortMoves

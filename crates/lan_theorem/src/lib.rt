@@ -5,10 +5,11 @@
 //! each frame that it takes, and each call of its applications; `specs/Moves/Link` says what is asked of the link, so that what is taken
 //! was made by the other host, and `specs/Moves/Follows` where the moves lead. `link_laws` has that the link hands over what was made:
 //! whatever a frame brings to a host's TCP and UDP sockets, whole or in pieces, the other host's sockets or the host itself made.
-//! `laws` joins them.
+//! `laws` joins them. `port_laws` has that a port determines its moves.
 #![tactic(auto)]
 
 pub mod host_laws;
 pub mod laws;
 pub mod link_laws;
 pub mod move_laws;
+pub mod port_laws;

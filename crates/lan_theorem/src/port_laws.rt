@@ -1,4 +1,4 @@
-//! What follows from the definitions.
+//! A simulated link's port as the device of an interface: its moves are determined.
 ghost use Rattle.std.specs.Prelude.{◌≡◌, ◌-◌, ℕ, ◌<◌, ◌≤◌, List, length};
 ghost use Rattle.net_base.specs.Device.{Emitted, Denied};
 ghost use Rattle.lan_port.specs.Port.{PortValue, PortMove};

@@ -2,4 +2,5 @@ pub mod Addresses
 pub mod Context
 pub mod Offers
 pub mod Packet
+pub mod WellFormed
 pub mod Widths

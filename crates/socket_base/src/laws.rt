@@ -3,8 +3,6 @@ ghost use Rattle.std.specs.Prelude.{◌≡◌, ◌↔◌, Bool, IsTrue, length};
 ghost use Rattle.net_base.specs.ChecksumCapabilities.{ChecksumCapabilities};
 ghost use Rattle.ip_wire.specs.Ip as Ips;
 ghost use Rattle.ip_wire.specs.IpRepr.{IpRepr};
-ghost use Rattle.ip_wire.specs.Ipv4 as Ipv4;
-ghost use Rattle.ip_wire.specs.Ipv6 as Ipv6;
 ghost use Rattle.socket_base.specs.Packet.{PayloadValue, PayloadFits, packet_value, payload_value, payload_len, payload_written};
 ghost use Rattle.socket_base.specs.Widths.{IsPayload};
 ghost use Rattle.socket_base.specs.declared.offer.Offer.{Offer};
@@ -16,7 +14,7 @@ use crate::offer::Offer;
 use crate::packet::{IpPayload, Packet};
 use crate::poll_at::PollAt;
 use control_wire::{icmpv4_laws, icmpv6_laws};
-use ip_wire::{IpRepr, Ipv4Repr, Ipv6Repr, ip_laws, tcp_laws, udp_laws};
+use ip_wire::{ip_laws, tcp_laws, udp_laws};
 
 /// Law: a header, and what can be sent behind it, are written in as many bytes as their lengths say.
 pub fn written_lengths()
@@ -48,27 +46,4 @@ pub fn equal<'a>()
     tcp_laws::tcp_borrowed_equal();
     icmpv4_laws::icmpv4_messages_equated();
     icmpv6_laws::icmpv6_messages_equated();
-}
-
-/// The fields of a header are numbers of their widths, and its addresses have the bytes of their
-/// families: laws ask for it.
-pub fn header_in_range(header: IpRepr)
-    ensures { Ips.IsValue header }
-{
-    match header {
-        IpRepr::Ipv4(header) => ipv4_in_range(header),
-        IpRepr::Ipv6(header) => ipv6_in_range(header),
-    }
-}
-
-fn ipv4_in_range(header: Ipv4Repr)
-    ensures { Ipv4.IsValue header }
-{
-    let _protocol = u8::from(header.next_header);
-}
-
-fn ipv6_in_range(header: Ipv6Repr)
-    ensures { Ipv6.IsValue header }
-{
-    let _protocol = u8::from(header.next_header);
 }

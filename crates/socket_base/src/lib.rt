@@ -8,6 +8,7 @@ pub mod laws;
 mod offer;
 mod packet;
 mod poll_at;
+pub mod widths;
 
 pub use context::Context;
 pub use offer::Offer;

@@ -1,11 +1,15 @@
-//! Law: the fields of a packet have their widths.
+//! What the types of a packet say of its numbers: each has the width of its field. A caller that holds a packet calls the law, and then
+//! it is known of the packet's value.
 ghost use Rattle.ip_wire.specs.Ip as Ips;
 ghost use Rattle.socket_base.specs.WellFormed.{HasWidths};
 ghost use Rattle.socket_base.specs.Packet.{packet_value, payload_value};
 
-use crate::headers::{ip_widths, tcp_widths, udp_widths};
-use crate::messages::{icmpv4_widths, icmpv6_widths};
-use socket_base::{IpPayload, Packet};
+mod headers;
+mod messages;
+
+use self::headers::{ip_widths, tcp_widths, udp_widths};
+use self::messages::{icmpv4_widths, icmpv6_widths};
+use crate::packet::{IpPayload, Packet};
 
 /// Law: each field of a packet is a number of its width, since it is of that type, and a neighbour message carries no bytes. A caller
 /// that holds the packet calls this, which does nothing.

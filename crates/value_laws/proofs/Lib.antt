@@ -1,1 +1,5 @@
 mod Equal
+pub mod Told
+pub mod InterfaceEqual
+pub mod TunEqual
+pub mod Begins

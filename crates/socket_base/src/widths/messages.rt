@@ -7,7 +7,7 @@ ghost use Rattle.control_wire.specs.NdiscOption.{link_bytes};
 ghost use Rattle.ip_wire.specs.Fields.{IsBytes};
 ghost use Rattle.ip_wire.specs.Hardware.{raw_bytes};
 
-use crate::headers::{ipv4_widths, ipv6_address_width, ipv6_widths};
+use super::headers::{ipv4_widths, ipv6_address_width, ipv6_widths};
 use control_wire::{Icmpv4Repr, Icmpv6Repr, NdiscRepr};
 use ip_wire::RawHardwareAddress;
 

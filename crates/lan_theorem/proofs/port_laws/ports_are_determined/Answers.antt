@@ -1,5 +1,5 @@
 use Rattle.lan_theorem.proofs.PortMoves.{determined, takes, ready}
-use Rattle.interface_port.proofs.laws.ports_are_determined.Goals as goal
+use Rattle.lan_theorem.proofs.port_laws.ports_are_determined.Goals as goal
 
 pub returns-clause-determined : goal.returns-clause-determined
 returns-clause-determined c = determined
