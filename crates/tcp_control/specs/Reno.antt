@@ -49,9 +49,9 @@ acknowledged r count =
 abbrev pub lost : RenoValue → ℕ → RenoValue
 lost r flight = record r { ssthresh = halved r flight; cwnd = min most (halved r flight + 3 * r.mss); recovers = true }
 
--- a duplicate beyond the third came (3.2, step 4)
+-- a duplicate beyond the third came: in recovery alone, which a timeout ends (3.2, step 4)
 abbrev pub inflated : RenoValue → RenoValue
-inflated r = record r { cwnd = min most (r.cwnd + r.mss) }
+inflated r = if r.recovers then record r { cwnd = min most (r.cwnd + r.mss) } else r
 
 -- the retransmission timer ran out (3.1, equation 4 and the text below it)
 abbrev pub timed_out : RenoValue → ℕ → RenoValue

@@ -1,7 +1,7 @@
 //! Moments, and when something is due.
 ghost use Rattle.std.specs.Prelude.{◌≡◌};
 ghost use Rattle.net_base.specs.Time.{IsMoment};
-ghost use Rattle.tcp_control.specs.Moments.{later, later_by, timeout_from, time_wait_from, next_draw_from, is_due, earlier};
+ghost use Rattle.tcp_control.specs.Moments.{later, later_by, timeout_from, time_wait_from, next_draw_from, is_due, is_over, earlier};
 
 use crate::RoundTrip;
 use net_base::{Duration, Instant};
@@ -62,6 +62,16 @@ pub fn is_due(now: Instant, moment: Option<Instant>) -> bool
 {
     match moment {
         None => false,
+        Some(moment) => moment <= now,
+    }
+}
+
+/// Whether a pause that ends at a moment is over, or there is none.
+pub fn is_over(now: Instant, moment: Option<Instant>) -> bool
+    ensures { result ≡ is_over now moment }
+{
+    match moment {
+        None => true,
         Some(moment) => moment <= now,
     }
 }

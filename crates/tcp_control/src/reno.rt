@@ -88,11 +88,13 @@ impl Reno {
         self.recovers = true;
     }
 
-    /// A duplicate beyond the third came.
+    /// A duplicate beyond the third came: in recovery a segment has left.
     pub fn inflate(&mut self)
         ensures { self.new ≡ inflated self.old }
     {
-        self.cwnd = (self.cwnd + self.mss as u32).min(MOST);
+        if self.recovers {
+            self.cwnd = (self.cwnd + self.mss as u32).min(MOST);
+        }
     }
 
     /// The retransmission timer ran out while so much was in flight.
@@ -137,9 +139,10 @@ pub fn congestion_windows()
     ensures timeouts { timed_out (timed_out (record fresh { cwnd = 32768 }) 16384) 1024 ≡ record fresh { cwnd = 1024; ssthresh = 8192; timed_out = true } }
 {}
 
-/// An acknowledgement of no bytes changes nothing, and a second timeout without new data acknowledged
-/// leaves the threshold.
+/// An acknowledgement of no bytes changes nothing, a second timeout without new data acknowledged
+/// leaves the threshold, and after a timeout the window stays one segment until something is acknowledged, however many duplicates come.
 pub fn congestion_laws()
+    ensures duplicates { (r : RenoValue) (flight : ℕ) → inflated (timed_out r flight) ≡ timed_out r flight }
     ensures nothing { (r : RenoValue) → acknowledged r 0 ≡ r }
     ensures second { (r : RenoValue) (flight other : ℕ) → (timed_out (timed_out r flight) other).ssthresh ≡ (timed_out r flight).ssthresh }
 {}

@@ -1,6 +1,7 @@
 -- The acknowledgement and the window of an accepted segment (RFC 9293, 3.10.7.4, fifth): SND.UNA rises by so much, and so many
 -- bytes are queued before that.
-use Rattle.std.specs.Prelude.{ℕ, ◌+◌, ◌-◌, ◌*◌, ◌^◌, ◌==◌, not, ◌&&◌, ◌||◌, min, ℤ, Bool, true, false, if◌then◌else◌, Option, Some, None}
+use Rattle.std.specs.Prelude.{ℕ, ◌+◌, ◌-◌, ◌*◌, ◌^◌, ◌==◌, nat_lt, not, ◌&&◌, ◌||◌, min, max, ℤ, Bool, true, false, if◌then◌else◌, List, [], ◌∷◌, Option, Some, None}
+use Rattle.ip_wire.specs.SeqNumber.{SeqNumber}
 use Rattle.ip_wire.specs.Options.{capped}
 use Rattle.ip_wire.specs.TcpHeader.{TcpHeader}
 use Rattle.net_base.specs.Ring.{released}
@@ -11,7 +12,7 @@ use Rattle.tcp_control.specs.declared.state.State.{State}
 use Rattle.tcp_model.specs.Blocks.{one_if, unacked, forgotten}
 use Rattle.tcp_control.specs.Controls.{or_recent, is_fin}
 use Rattle.tcp_control.specs.Moments.{timeout_from, time_wait_from}
-use Rattle.tcp_control.specs.Offsets.{behind_by}
+use Rattle.tcp_control.specs.Offsets.{behind_by, past_by}
 use Rattle.tcp_control.specs.Reno as reno
 use Rattle.tcp_control.specs.Reno.{RenoValue}
 use Rattle.tcp_control.specs.RoundTrip as round_trip
@@ -26,9 +27,14 @@ freed_by b by queued = min (by - one_if b.sender.syn_unacked) queued
 abbrev pub sender_moved : Sender → ℕ → Sender
 sender_moved s by = record s {
   una = behind_by s.una by;
+  past_iss = min (s.past_iss + by) 4_294_967_295;
   syn_unacked = s.syn_unacked && (by == 0);
   in_flight = s.in_flight - by;
+  top = s.top - by;
+  sacked = s.sacked - by;
   resend = s.resend && (by == 0);
+  timeouts = 0;
+  unanswered = 0;
 }
 
 -- a new acknowledgement restarts the retransmission timer, or ends it where nothing is in flight (RFC 6298, 5.2 and 5.3)
@@ -88,16 +94,36 @@ abbrev pub window_set : Block → TcpHeader → Block
 window_set b header = record b {
   peer = record b.peer {
     window = scaled b.peer.scale header.window_len;
+    largest_window = max b.peer.largest_window (scaled b.peer.scale header.window_len);
     recent = or_recent header.options.timestamp b.peer.recent;
   };
 }
 
 -- DUPLICATES (RFC 5681, 2 and 3.2)
 
--- a segment that only acknowledges SND.UNA again, with the same window, while something is in flight
+-- how far past SND.UNA a range ends
+abbrev pub end_past : SeqNumber → Option (ℕ × ℕ) → ℕ
+end_past una None = 0
+end_past una (Some range) = past_by una (record { 0 = range.1 })
+
+-- how far past SND.UNA the highest of these ranges ends
+abbrev pub highest_end : SeqNumber → List (Option (ℕ × ℕ)) → ℕ
+highest_end una [] = 0
+highest_end una (range ∷ more) = max (end_past una range) (highest_end una more)
+
+-- how far past SND.UNA the highest position lies that the SACK ranges of a segment name, if both SYNs permitted them (RFC 2018)
+abbrev pub sacked_by : Block → TcpHeader → ℕ
+sacked_by b header = if b.peer.sack then highest_end b.sender.una header.options.sack_ranges else 0
+
+-- the segment is no news of the window: it is the same, or the ranges tell of text that came since (RFC 6675, 2)
+abbrev pub tells_of_loss : Block → TcpHeader → Bool
+tells_of_loss b header =
+    (scaled b.peer.scale header.window_len == b.peer.window) || nat_lt b.sender.sacked (sacked_by b header)
+
+-- a segment that only acknowledges SND.UNA again, while something is in flight
 abbrev pub is_duplicate : Block → TcpHeader → ℕ → ℕ → Bool
 is_duplicate b header size by =
-    ((by == 0) && (size == 0)) && (not (is_fin header.control) && ((scaled b.peer.scale header.window_len == b.peer.window) && not (b.sender.in_flight == 0)))
+    ((by == 0) && (size == 0)) && (not (is_fin header.control) && (tells_of_loss b header && not (b.sender.in_flight == 0)))
 
 -- the duplicates in a row, counted up to 4. `old` is the block as the segment found it.
 abbrev pub duplicates_after : Block → TcpHeader → ℕ → ℕ → ℕ
@@ -106,6 +132,10 @@ duplicates_after old header size by = if is_duplicate old header size by then mi
 -- the third says that a segment was lost, each further one that a segment has left
 abbrev pub reno_counted : RenoValue → ℕ → ℕ → RenoValue
 reno_counted r count flight = if count == 3 then reno.lost r flight else if count == 4 then reno.inflated r else r
+
+-- its ranges name positions
+abbrev pub ranges_taken : Block → TcpHeader → Block
+ranges_taken b header = record b { sender = record b.sender { sacked = max b.sender.sacked (sacked_by b header) } }
 
 -- at the third the segment at SND.UNA is to go again
 abbrev pub counted : Block → ℕ → Block

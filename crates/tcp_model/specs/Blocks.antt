@@ -33,15 +33,27 @@ no_names = record { listen = nowhere; pair = None }
 
 -- a sender whose SYN will have this number, or without one
 abbrev pub fresh_sender : SeqNumber → Bool → Sender
-fresh_sender una syn_unacked =
-    record { una = una; syn_unacked = syn_unacked; in_flight = 0; duplicates = 0; resend = false; stamped = false; reset_due = false }
+fresh_sender una syn_unacked = record {
+  una = una;
+  past_iss = 0;
+  syn_unacked = syn_unacked;
+  in_flight = 0;
+  top = 0;
+  duplicates = 0;
+  sacked = 0;
+  resend = false;
+  timeouts = 0;
+  unanswered = 0;
+  stamped = false;
+  reset_due = false;
+}
 
 abbrev pub fresh_receiver : Receiver
 fresh_receiver = record { next = no_number; took_syn = false; took_fin = false; advertised = 0 }
 
 -- the largest payload is 536 bytes where the remote names none (3.7.1)
 abbrev pub fresh_peer : Peer
-fresh_peer = record { window = 0; mss = 536; scale = None; sack = false; timestamps = false; recent = 0 }
+fresh_peer = record { window = 0; largest_window = 0; mss = 536; scale = None; sack = false; timestamps = false; recent = 0 }
 
 abbrev pub fresh_timers : Timers
 fresh_timers = record {
@@ -50,11 +62,13 @@ fresh_timers = record {
   ack_at = None;
   text_unacked = false;
   draws_from = None;
+  counts_from = None;
   time_wait_ends = None;
   timeout_since = None;
 }
 
--- nothing is set: the delay of an acknowledgement is 10 milliseconds
+-- nothing is set: the delay of an acknowledgement is 10 milliseconds, and a connection gives up after more than three minutes while it is
+-- opened, later after 16 timeouts (3.8.3)
 abbrev pub default_settings : Settings
 default_settings = record {
   timeout = None;
@@ -66,6 +80,8 @@ default_settings = record {
   timestamps = None;
   congestion_control = Congestion.Reno;
   synack_paused = false;
+  opening_retries = Some 9;
+  retries = Some 16;
 }
 
 -- no connection, and nothing left of an earlier one
@@ -93,6 +109,11 @@ unacked b queued = one_if b.sender.syn_unacked + queued + one_if (owes_fin b.sta
 -- SND.NXT
 abbrev pub nxt : Block → SeqNumber
 nxt b = behind_by b.sender.una b.sender.in_flight
+
+-- The number one past the highest position that was ever sent. The retransmission timer sets SND.NXT back, and never this: what
+-- lies below it may be old to the remote.
+abbrev pub top : Block → SeqNumber
+top b = behind_by b.sender.una b.sender.top
 
 -- THE WINDOW FIELD (RFC 7323, 2.3)
 

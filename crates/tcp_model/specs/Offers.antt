@@ -18,6 +18,7 @@ use Rattle.tcp_control.specs.Moments.{is_due}
 use Rattle.tcp_control.specs.Endpoints.{header_for}
 use Rattle.tcp_control.specs.Offsets.{behind_by}
 use Rattle.tcp_model.specs.Probing.{probe_started, probe_moment}
+use Rattle.tcp_model.specs.Retries.{gives_up, given_up}
 use Rattle.tcp_model.specs.Rules.{Choice, time_wait_end, owes_syn, resends, ack_moment, has_text, text_choice, resend_choice, probe_choice, control_for, updates_window, keep_alive_moment, backed_off_now}
 use Rattle.tcp_model.specs.Segments.{segment, ack_segment, syn_segment, reset_segment, keep_alive_segment, hops_of}
 use Rattle.tcp_control.specs.States.{is_closed}
@@ -94,6 +95,7 @@ offer_between cx v pair =
     if is_due cx.moment (time_wait_end v.block) then silent true (ended v)
     else if is_due cx.moment (timeout_end v.block (queued_in v)) then silent true (with_block v (timed_out v.block))
     else if is_closed v.block.state then (if v.block.sender.reset_due then offer_reset cx v pair else silent false v)
+    else if gives_up cx.moment v.block (queued_in v) then silent true (given_up v)
     else first_rules cx (with_block v (backed_off cx.moment (timeout_started cx.moment (queued_in v) v.block))) pair
 
 abbrev pub offer_with : Option EndpointPair → ContextValue → TcpValue → Offered TcpValue

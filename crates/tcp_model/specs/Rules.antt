@@ -128,7 +128,7 @@ keep_alive_moment b = if keeps_alive b.state && (b.sender.in_flight == 0) then b
 -- SND.NXT goes back to SND.UNA, and the timer is off until a segment goes
 abbrev pub backed_off_now : Block → Block
 backed_off_now b = record b {
-  sender = record b.sender { in_flight = 0 };
+  sender = record b.sender { in_flight = 0; timeouts = min (b.sender.timeouts + 1) 255 };
   timers = record b.timers { retransmit_at = None };
   round_trip = round_trip.untimed (round_trip.backed_off b.round_trip);
   reno = reno.timed_out b.reno b.sender.in_flight;

@@ -9,6 +9,7 @@ use Rattle.tcp_control.specs.declared.offer.OpenOffer.{OpenOffer}
 use Rattle.tcp_model.specs.Blocks.{forgotten}
 use Rattle.tcp_control.specs.Moments.{later_by, timeout_from}
 use Rattle.tcp_model.specs.Probing.{probe_kept}
+use Rattle.tcp_model.specs.Retries.{asked}
 use Rattle.tcp_control.specs.RoundTrip as round_trip
 use Rattle.tcp_model.specs.Value.{TcpValue, with_block, unoffered, queued_in}
 
@@ -28,11 +29,12 @@ recorded b o = record b {
 abbrev pub end_of : Block → OpenOffer → ℕ
 end_of b o = distance_of b.sender.una o.segment.seq_number + (o.len + control_len o.segment.control)
 
--- SND.NXT moves past the segment, if that is higher; then its round trip is timed, if none is
+-- SND.NXT moves past the segment, if that is higher. What reaches further than anything before was sent for the first time: its round
+-- trip is timed, if none is (RFC 6298, 3).
 abbrev pub nxt_moved : Block → ℕ → ℤ → Block
 nxt_moved b end now = record b {
-  sender = record b.sender { in_flight = max b.sender.in_flight end };
-  round_trip = if nat_lt b.sender.in_flight end then round_trip.timing b.round_trip end now else b.round_trip;
+  sender = record b.sender { in_flight = max b.sender.in_flight end; top = max b.sender.top end };
+  round_trip = if nat_lt b.sender.top end then round_trip.timing b.round_trip end now else b.round_trip;
 }
 
 -- the retransmission timer runs from now, if it doesn't yet (RFC 6298, 5.1)
@@ -52,10 +54,11 @@ syn_went b o = record b { sender = record b.sender { stamped = is_some o.segment
 abbrev pub resent : Block → Block
 resent b = record b { sender = record b.sender { resend = false }; round_trip = round_trip.untimed b.round_trip }
 
--- the next probe waits twice as long (3.8.6.1)
-abbrev pub probed : Block → ℤ → Block
-probed b now =
+-- a probe went that ends so far past SND.UNA, where SND.NXT stays; the next one waits twice as long (3.8.6.1)
+abbrev pub probed : Block → ℕ → ℤ → Block
+probed b end now =
     record b {
+      sender = record b.sender { top = max b.sender.top end };
       timers = record b.timers { probe_at = Some (timeout_from now (round_trip.backed_off b.round_trip)) };
       round_trip = round_trip.backed_off b.round_trip;
     }
@@ -65,7 +68,8 @@ sent_as Kind.Reset b o queued = forgotten b
 sent_as Kind.Syn b o queued = went (syn_went b o) o queued
 sent_as Kind.FastRetransmission b o queued = went (resent b) o queued
 sent_as Kind.Text b o queued = went b o queued
-sent_as Kind.Probe b o queued = probed b o.moment
+sent_as Kind.Probe b o queued = asked (probed b (end_of b o) o.moment) o.moment
+sent_as Kind.KeepAlive b o queued = asked b o.moment
 sent_as kind b o queued = b
 
 abbrev pub sent_off : Option OpenOffer → TcpValue → TcpValue

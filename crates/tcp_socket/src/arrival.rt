@@ -4,11 +4,11 @@ ghost use Rattle.net_base.specs.Time.{IsMoment};
 ghost use Rattle.socket_base.specs.Context.{ContextValue};
 ghost use Rattle.socket_base.specs.Packet.{IsSendable};
 ghost use Rattle.ip_wire.specs.Tcp.{header_of};
-ghost use Rattle.tcp_model.specs.Acknowledged.{acknowledged, window_set, counted};
+ghost use Rattle.tcp_model.specs.Acknowledged.{acknowledged};
 ghost use Rattle.tcp_model.specs.Answers.{ack_recorded, drawn, range_held, answer_for};
-ghost use Rattle.tcp_model.specs.Arrival.{waiting_anew, outside, finished, taken, inside, checked, is_void_syn, arrives_in, arrives};
+ghost use Rattle.tcp_model.specs.Arrival.{waiting_anew, outside, tells_news, passed_outside, finished, told, taken, inside, checked, challenges_reset, reset_comes, received, is_void_syn, arrives_in, arrives};
 ghost use Rattle.tcp_model.specs.Checks.{acknowledgement_check, taken_down};
-ghost use Rattle.tcp_model.specs.Checks.Check.{Passes};
+ghost use Rattle.tcp_model.specs.Checks.Check.{Passes, Old};
 ghost use Rattle.tcp_model.specs.Names.{accepts};
 ghost use Rattle.tcp_model.specs.Opening.{is_first_syn, opens, takes_answer};
 ghost use Rattle.tcp_model.specs.Segments.{rst_reply};
@@ -132,7 +132,7 @@ impl Socket {
             State::Closed => None,
             State::Listen => self.take_first(cx, incoming),
             State::SynSent => self.take_answer(&*cx, incoming),
-            _ => self.check(&*cx, incoming),
+            _ => self.receive(&*cx, incoming),
         }
     }
 
@@ -180,16 +180,56 @@ impl Socket {
     }
 
     /// From SYN-RECEIVED on.
+    fn receive<C: Context>(&mut self, cx: &C, incoming: &Incoming<'_>) -> Option<Due>
+        requires unoffered { self.old.offered ≡ None }
+        ensures answer { answer_of result (C.context cx.now).moment self.new incoming.now.ip_repr.now incoming.now.header (length incoming.now.bytes.now) ≡ (received (C.context cx.now) self.old incoming.now.ip_repr.now incoming.now.header incoming.now.bytes.now).answer }
+        ensures socket { self.new ≡ (received (C.context cx.now) self.old incoming.now.ip_repr.now incoming.now.header incoming.now.bytes.now).socket }
+    {
+        if is_rst(incoming.header.control) {
+            self.take_reset(cx, incoming)
+        } else if self.block.challenges_syn(&incoming.header) {
+            self.draw(cx, incoming)
+        } else {
+            self.check(cx, incoming)
+        }
+    }
+
+    /// A reset counts at RCV.NXT alone. Elsewhere in the window it is challenged.
+    fn take_reset<C: Context>(&mut self, cx: &C, incoming: &Incoming<'_>) -> Option<Due>
+        requires unoffered { self.old.offered ≡ None }
+        ensures answer { answer_of result (C.context cx.now).moment self.new incoming.now.ip_repr.now incoming.now.header (length incoming.now.bytes.now) ≡ (reset_comes (C.context cx.now) self.old incoming.now.ip_repr.now incoming.now.header (length incoming.now.bytes.now)).answer }
+        ensures socket { self.new ≡ (reset_comes (C.context cx.now) self.old incoming.now.ip_repr.now incoming.now.header (length incoming.now.bytes.now)).socket }
+    {
+        if self.block.takes_reset(&incoming.header) {
+            self.take_down();
+            None
+        } else if self.challenges_reset(&incoming.header, incoming.bytes.len()) {
+            self.draw(cx, incoming)
+        } else {
+            None
+        }
+    }
+
+    /// Whether a reset that doesn't count draws an acknowledgement.
+    fn challenges_reset(&self, header: &TcpHeader, size: usize) -> bool
+        requires { size < 2 ^ 63 }
+        ensures { result ≡ challenges_reset self.now header.now size }
+    {
+        !(self.block.state.is_time_wait() || self.block.state.is_answering())
+            && self
+                .block
+                .is_in_window(self.received.window(), header, size)
+    }
+
+    /// What is no reset, by its acknowledgement.
     fn check<C: Context>(&mut self, cx: &C, incoming: &Incoming<'_>) -> Option<Due>
         requires unoffered { self.old.offered ≡ None }
-        ensures answer { answer_of result (C.context cx.now).moment self.new incoming.now.ip_repr.now incoming.now.header (length incoming.now.bytes.now) ≡ (checked (acknowledgement_check self.old.block (queued_in self.old) incoming.now.header) (C.context cx.now) self.old incoming.now.ip_repr.now incoming.now.header incoming.now.bytes.now).answer }
-        ensures socket { self.new ≡ (checked (acknowledgement_check self.old.block (queued_in self.old) incoming.now.header) (C.context cx.now) self.old incoming.now.ip_repr.now incoming.now.header incoming.now.bytes.now).socket }
+        ensures answer { answer_of result (C.context cx.now).moment self.new incoming.now.ip_repr.now incoming.now.header (length incoming.now.bytes.now) ≡ (checked (acknowledgement_check self.old.block incoming.now.header.ack_number) (C.context cx.now) self.old incoming.now.ip_repr.now incoming.now.header incoming.now.bytes.now).answer }
+        ensures socket { self.new ≡ (checked (acknowledgement_check self.old.block incoming.now.header.ack_number) (C.context cx.now) self.old incoming.now.ip_repr.now incoming.now.header incoming.now.bytes.now).socket }
     {
-        match self
-            .block
-            .check_acknowledgement(self.queued.len(), &incoming.header)
-        {
+        match self.block.check_acknowledgement(incoming.header.ack_number) {
             Verdict::Passes(by) => self.take_passed(cx, incoming, by),
+            Verdict::Old => self.take_old(cx, incoming),
             Verdict::Drops => None,
             Verdict::Draws => self.draw(cx, incoming),
             Verdict::Resets => Some(Due::Reset),
@@ -209,17 +249,58 @@ impl Socket {
         {
             self.take_inside(cx, incoming, by)
         } else {
+            self.take_outside(cx, incoming, by)
+        }
+    }
+
+    /// A segment whose acknowledgement is old: its text and its FIN are taken.
+    fn take_old<C: Context>(&mut self, cx: &C, incoming: &Incoming<'_>) -> Option<Due>
+        requires unoffered { self.old.offered ≡ None }
+        ensures answer { answer_of result (C.context cx.now).moment self.new incoming.now.ip_repr.now incoming.now.header (length incoming.now.bytes.now) ≡ (checked Old (C.context cx.now) self.old incoming.now.ip_repr.now incoming.now.header incoming.now.bytes.now).answer }
+        ensures socket { self.new ≡ (checked Old (C.context cx.now) self.old incoming.now.ip_repr.now incoming.now.header incoming.now.bytes.now).socket }
+    {
+        let free = self.received.window();
+        if self
+            .block
+            .is_in_window(free, &incoming.header, incoming.bytes.len())
+        {
+            self.block.hear();
+            self.take_content(cx, incoming)
+        } else {
             self.answer_outside(cx, incoming)
         }
     }
 
-    /// Outside the window: an answer may be drawn, but for a reset.
+    /// Outside the window. The acknowledgement of a segment that lies just before the window is taken.
+    fn take_outside<C: Context>(&mut self, cx: &C, incoming: &Incoming<'_>, by: u32) -> Option<Due>
+        requires unoffered { self.old.offered ≡ None }
+        ensures answer { answer_of result (C.context cx.now).moment self.new incoming.now.ip_repr.now incoming.now.header (length incoming.now.bytes.now) ≡ (passed_outside (C.context cx.now) self.old incoming.now.ip_repr.now incoming.now.header (length incoming.now.bytes.now) by).answer }
+        ensures socket { self.new ≡ (passed_outside (C.context cx.now) self.old incoming.now.ip_repr.now incoming.now.header (length incoming.now.bytes.now) by).socket }
+    {
+        if self.tells_news(&incoming.header, incoming.bytes.len()) {
+            self.acknowledge(by, cx.now());
+        }
+        self.answer_outside(cx, incoming)
+    }
+
+    /// Whether a segment outside the window lies just before it, past SYN-RECEIVED.
+    fn tells_news(&self, header: &TcpHeader, size: usize) -> bool
+        requires { size < 2 ^ 63 }
+        ensures { result ≡ tells_news self.now header.now size }
+    {
+        !self.block.state.is_answering()
+            && self
+                .block
+                .lies_before(self.received.capacity(), header, size)
+    }
+
+    /// Outside the window an answer may be drawn.
     fn answer_outside<C: Context>(&mut self, cx: &C, incoming: &Incoming<'_>) -> Option<Due>
         requires unoffered { self.old.offered ≡ None }
         ensures answer { answer_of result (C.context cx.now).moment self.new incoming.now.ip_repr.now incoming.now.header (length incoming.now.bytes.now) ≡ (outside (C.context cx.now) self.old incoming.now.ip_repr.now incoming.now.header).answer }
         ensures socket { self.new ≡ (outside (C.context cx.now) self.old incoming.now.ip_repr.now incoming.now.header).socket }
     {
-        if is_rst(incoming.header.control) {
+        if self.block.state.is_closed() {
             return None;
         }
         self.wait_anew(&incoming.header, cx.now());
@@ -237,23 +318,20 @@ impl Socket {
         }
     }
 
-    /// Inside the window: a reset, a SYN, or a segment to take.
+    /// Inside the window: a SYN, or a segment to take.
     fn take_inside<C: Context>(&mut self, cx: &C, incoming: &Incoming<'_>, by: u32) -> Option<Due>
         requires unoffered { self.old.offered ≡ None }
         ensures answer { answer_of result (C.context cx.now).moment self.new incoming.now.ip_repr.now incoming.now.header (length incoming.now.bytes.now) ≡ (inside (C.context cx.now) self.old incoming.now.ip_repr.now incoming.now.header incoming.now.bytes.now by).answer }
         ensures socket { self.new ≡ (inside (C.context cx.now) self.old incoming.now.ip_repr.now incoming.now.header incoming.now.bytes.now by).socket }
     {
-        if is_rst(incoming.header.control) {
-            self.take_down();
-            None
-        } else if is_syn(incoming.header.control) {
+        if is_syn(incoming.header.control) {
             self.draw(cx, incoming)
         } else {
             self.take(cx, incoming, by)
         }
     }
 
-    /// A reset takes the socket down: a listener back to LISTEN, any other to CLOSED.
+    /// Takes the socket down: a listener back to LISTEN, any other to CLOSED.
     fn take_down(&mut self)
         requires unoffered { self.old.offered ≡ None }
         ensures { self.new ≡ taken_down self.old }
@@ -293,17 +371,20 @@ impl Socket {
         if self.block.state.is_closed() {
             return None;
         }
-        self.take_window(&incoming.header, duplicates);
+        self.take_window(&incoming.header, duplicates, cx.now());
         self.take_content(cx, incoming)
     }
 
-    /// The window of a segment, which is so many duplicates in a row.
-    fn take_window(&mut self, header: &TcpHeader, duplicates: u8)
+    /// The window of a segment and what its ranges name. It is so many duplicates in a row.
+    fn take_window(&mut self, header: &TcpHeader, duplicates: u8, now: Instant)
         requires unoffered { self.old.offered ≡ None }
-        ensures { self.new ≡ with_block self.old (counted (window_set self.old.block header.now) duplicates) }
+        requires moment { IsMoment now }
+        ensures { self.new ≡ told self.old header.now duplicates now }
     {
         self.block.set_window(header);
+        self.block.take_ranges(header);
         self.block.count(duplicates);
+        self.block.restart_timeout(now, self.queued.len());
     }
 
     /// SND.UNA rises by so much, and what is acknowledged is freed.
@@ -344,7 +425,7 @@ impl Socket {
     {
         let (now, size) = (cx.now(), incoming.bytes.len());
         self.take_fin(next, &incoming.header, size, text.advance, now);
-        self.block.move_timers(now, self.queued.len());
+        self.block.keep_probe(self.queued.len());
         self.answer(cx, incoming, text.early)
     }
 

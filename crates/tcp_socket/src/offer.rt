@@ -4,6 +4,7 @@ ghost use Rattle.socket_base.specs.Context.{ContextValue};
 ghost use Rattle.tcp_model.specs.Choices.{choice_of};
 ghost use Rattle.tcp_model.specs.Due.{poll_open, poll_between, poll_of};
 ghost use Rattle.tcp_model.specs.Offers.{offer_segment, silent, offer_choice, offer_ack, offer_syn, offer_reset, offer_keep_alive, last_rules, first_rules, offer_between, offer_of, payload_of, offered_packet};
+ghost use Rattle.tcp_model.specs.Retries.{given_up};
 ghost use Rattle.tcp_model.specs.Rules.{unbroken, text_choice, has_text, resend_choice};
 ghost use Rattle.tcp_model.specs.Settled.{settled};
 ghost use Rattle.tcp_model.specs.Value.{unoffered};
@@ -55,9 +56,26 @@ impl Socket {
         if self.block.state.is_closed() {
             return self.offer_reset(cx, pair);
         }
+        if self.block.gives_up(now, queued) {
+            self.give_up();
+            return Offer::Silent { changed: true };
+        }
         self.block.start_timeout(now, queued);
         self.block.back_off(now);
         self.offer_first(cx, pair)
+    }
+
+    /// The connection gives up: a listener whose connection isn't there yet listens again, any other ends
+    /// as by the user timeout.
+    fn give_up(&mut self)
+        requires unoffered { self.old.offered ≡ None }
+        ensures { self.new ≡ given_up self.old }
+    {
+        if self.block.falls_back() {
+            self.listen_on(self.block.names.listen);
+        } else {
+            self.block.time_out();
+        }
     }
 
     fn offer_reset<C: Context>(&mut self, cx: &C, pair: &EndpointPair) -> Offer

@@ -1,15 +1,15 @@
 //! The acknowledgement and the window of an accepted segment.
 ghost use Rattle.std.specs.Prelude.{◌≡◌, ◌≤◌, ◌<◌, ◌^◌, IfSome};
 ghost use Rattle.net_base.specs.Time.{IsMoment};
-ghost use Rattle.tcp_model.specs.Acknowledged.{freed_by, sender_moved, retransmit_after, una_moved, acks_fin, state_after_ack, in_state, block_acknowledged, scaled, window_set, is_duplicate, duplicates_after, reno_counted, counted};
+ghost use Rattle.tcp_model.specs.Acknowledged.{freed_by, sender_moved, retransmit_after, una_moved, acks_fin, state_after_ack, in_state, block_acknowledged, scaled, window_set, end_past, highest_end, sacked_by, ranges_taken, tells_of_loss, is_duplicate, duplicates_after, reno_counted, counted};
 
 use super::opening::or_recent;
 use crate::{Block, State};
-use ip_wire::{MAX_WINDOW_SCALE, TcpHeader};
+use ip_wire::{MAX_WINDOW_SCALE, SeqNumber, TcpHeader};
 use net_base::Instant;
 use tcp_control::controls::is_fin;
 use tcp_control::moments::{time_wait_from, timeout_from};
-use tcp_control::offsets::behind_by;
+use tcp_control::offsets::{behind_by, past_by};
 
 /// What a window field means.
 fn scaled(scale: Option<u8>, field: u16) -> u32
@@ -18,6 +18,24 @@ fn scaled(scale: Option<u8>, field: u16) -> u32
     match scale {
         None => field as u32,
         Some(scale) => (field as u32) << scale.min(MAX_WINDOW_SCALE),
+    }
+}
+
+/// How far past a number the highest of these ranges ends.
+fn highest_end(una: SeqNumber, ranges: &[Option<(u32, u32)>; 3]) -> u32
+    ensures { result ≡ highest_end una ranges.now }
+{
+    let [first, second, third] = *ranges;
+    end_past(una, first).max(end_past(una, second).max(end_past(una, third)))
+}
+
+/// How far past a number a range ends.
+fn end_past(una: SeqNumber, range: Option<(u32, u32)>) -> u32
+    ensures { result ≡ end_past una range }
+{
+    match range {
+        None => 0,
+        Some((_, end)) => past_by(una, SeqNumber(end)),
     }
 }
 
@@ -56,9 +74,14 @@ impl Block {
     {
         let stays = by == 0;
         self.sender.una = behind_by(self.sender.una, by as usize);
+        self.sender.past_iss = self.sender.past_iss.saturating_add(by);
         self.sender.syn_unacked = self.sender.syn_unacked && stays;
         self.sender.in_flight = self.sender.in_flight.saturating_sub(by);
+        self.sender.top = self.sender.top.saturating_sub(by);
+        self.sender.sacked = self.sender.sacked.saturating_sub(by);
         self.sender.resend = self.sender.resend && stays;
+        self.sender.timeouts = 0;
+        self.sender.unanswered = 0;
     }
 
     /// The state after an acknowledgement, which may be of the FIN.
@@ -102,19 +125,47 @@ impl Block {
     pub fn set_window(&mut self, header: &TcpHeader)
         ensures { self.new ≡ window_set self.old header.now }
     {
-        self.peer.window = scaled(self.peer.scale, header.window_len);
+        let window = scaled(self.peer.scale, header.window_len);
+        self.peer.window = window;
+        self.peer.largest_window = self.peer.largest_window.max(window);
         self.peer.recent = or_recent(header.options.timestamp, self.peer.recent);
     }
 
-    /// Whether a segment only acknowledges SND.UNA again, with the same window, while something is in
-    /// flight.
+    /// How far past SND.UNA the highest position lies that the SACK ranges of a segment name, if both
+    /// SYNs permitted them.
+    fn sacked_by(&self, header: &TcpHeader) -> u32
+        ensures { result ≡ sacked_by self.now header.now }
+    {
+        if self.peer.sack {
+            highest_end(self.sender.una, &header.options.sack_ranges)
+        } else {
+            0
+        }
+    }
+
+    /// Takes what the ranges of a segment name.
+    pub fn take_ranges(&mut self, header: &TcpHeader)
+        ensures { self.new ≡ ranges_taken self.old header.now }
+    {
+        self.sender.sacked = self.sender.sacked.max(self.sacked_by(header));
+    }
+
+    /// Whether the window is the same, or the ranges tell of text that came since.
+    fn tells_of_loss(&self, header: &TcpHeader) -> bool
+        ensures { result ≡ tells_of_loss self.now header.now }
+    {
+        scaled(self.peer.scale, header.window_len) == self.peer.window
+            || self.sender.sacked < self.sacked_by(header)
+    }
+
+    /// Whether a segment only acknowledges SND.UNA again, while something is in flight.
     pub fn is_duplicate(&self, header: &TcpHeader, size: usize, by: u32) -> bool
         ensures { result ≡ is_duplicate self.now header.now size by }
     {
         by == 0
             && size == 0
             && !is_fin(header.control)
-            && scaled(self.peer.scale, header.window_len) == self.peer.window
+            && self.tells_of_loss(header)
             && self.sender.in_flight != 0
     }
 

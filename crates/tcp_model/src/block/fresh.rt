@@ -1,6 +1,6 @@
 //! A fresh control block, and what follows from its fields.
 ghost use Rattle.std.specs.Prelude.{◌≡◌, ◌+◌, ◌≤◌, ◌^◌};
-ghost use Rattle.tcp_model.specs.Blocks.{default_settings, fresh_sender, fresh_block, forgotten, unacked, nxt, own_scale, scale_for, field_of, window_field};
+ghost use Rattle.tcp_model.specs.Blocks.{default_settings, fresh_sender, fresh_block, forgotten, unacked, nxt, top, own_scale, scale_for, field_of, window_field};
 
 use crate::{
     Block, CongestionControl, Names, Peer, Receiver, Reno, RoundTrip, Sender, Settings, State,
@@ -12,6 +12,13 @@ use tcp_control::offsets::behind_by;
 
 /// The delay of an acknowledgement, if no other is set, in microseconds.
 const ACK_DELAY: u64 = 10_000;
+
+/// How many timeouts end a connection that is being opened, if nothing else is set: more than three
+/// minutes.
+const OPENING_RETRIES: u8 = 9;
+
+/// How many end one that is open.
+const RETRIES: u8 = 16;
 
 /// The largest payload that a remote takes that names none.
 pub const DEFAULT_MSS: u16 = 536;
@@ -34,10 +41,15 @@ impl Sender {
     {
         Sender {
             una,
+            past_iss: 0,
             syn_unacked,
             in_flight: 0,
+            top: 0,
             duplicates: 0,
+            sacked: 0,
             resend: false,
+            timeouts: 0,
+            unanswered: 0,
             stamped: false,
             reset_due: false,
         }
@@ -59,6 +71,8 @@ impl Settings {
             timestamps: None,
             congestion_control: CongestionControl::Reno,
             synack_paused: false,
+            opening_retries: Some(OPENING_RETRIES),
+            retries: Some(RETRIES),
         }
     }
 }
@@ -80,6 +94,7 @@ impl Block {
             },
             peer: Peer {
                 window: 0,
+                largest_window: 0,
                 mss: DEFAULT_MSS,
                 scale: None,
                 sack: false,
@@ -92,6 +107,7 @@ impl Block {
                 ack_at: None,
                 text_unacked: false,
                 draws_from: None,
+                counts_from: None,
                 time_wait_ends: None,
                 timeout_since: None,
             },
@@ -124,6 +140,13 @@ impl Block {
         ensures { result ≡ nxt self.now }
     {
         behind_by(self.sender.una, self.sender.in_flight as usize)
+    }
+
+    /// The number one past the highest position that was ever sent.
+    pub fn top(&self) -> SeqNumber
+        ensures { result ≡ top self.now }
+    {
+        behind_by(self.sender.una, self.sender.top as usize)
     }
 
     /// The window field for a receive buffer of this capacity and so much free space, but on a SYN.

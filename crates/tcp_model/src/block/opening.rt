@@ -62,6 +62,7 @@ impl Peer {
     {
         Peer {
             window: header.window_len as u32,
+            largest_window: header.window_len as u32,
             mss: or_mss(header.options.max_seg_size),
             scale: header.options.window_scale,
             sack: header.options.sack_permitted,
@@ -116,6 +117,7 @@ impl Block {
             self.state = State::Established;
             self.timers.ack_at = Some(now);
         } else {
+            self.hear();
             self.state = State::SynReceived;
         }
     }

@@ -4,6 +4,7 @@ ghost use Rattle.tcp_model.specs.Rules.{time_wait_end, owes_syn, resends, ack_mo
 ghost use Rattle.tcp_model.specs.Offers.{number_at, backed_off};
 ghost use Rattle.tcp_model.specs.Choices.{choice_of};
 
+use super::retries::one_more;
 use crate::{AddressPair, Block, CongestionControl};
 use ip_wire::{SeqNumber, TcpControl};
 use net_base::Instant;
@@ -231,6 +232,7 @@ impl Block {
         }
         self.reno.timed_out(self.sender.in_flight);
         self.sender.in_flight = 0;
+        self.sender.timeouts = one_more(self.sender.timeouts);
         self.timers.retransmit_at = None;
         self.round_trip.back_off();
         self.round_trip.forget_sample();

@@ -22,15 +22,17 @@ impl Block {
         self.settings.keep_alive_at = later_by(offer.moment, self.settings.keep_alive);
     }
 
-    /// SND.NXT moves so far past SND.UNA, if that is higher, and the segment's round trip is timed.
+    /// SND.NXT moves so far past SND.UNA, if that is higher. The round trip is timed of a segment that
+    /// reaches further than anything before.
     fn move_nxt(&mut self, end: u32, now: Instant)
         requires { IsMoment now }
         ensures { self.new ≡ nxt_moved self.old end now }
     {
-        if self.sender.in_flight < end {
-            self.sender.in_flight = end;
+        if self.sender.top < end {
             self.round_trip.time(end, now);
         }
+        self.sender.in_flight = self.sender.in_flight.max(end);
+        self.sender.top = self.sender.top.max(end);
     }
 
     fn start_timer(&mut self, now: Instant)
@@ -42,15 +44,23 @@ impl Block {
         }
     }
 
+    /// How far past SND.UNA the segment of an offer ends.
+    fn end_of(&self, offer: &OpenOffer) -> u32
+        requires { end_of self.now offer.now < 2 ^ 32 }
+        ensures { result ≡ end_of self.now offer.now }
+    {
+        let start = self.sender.una.distance(offer.segment.seq_number) as usize;
+        (start + offer.len + offer.segment.control.len()) as u32
+    }
+
     /// A segment from the send queue, or a SYN, went.
     fn went(&mut self, offer: &OpenOffer, queued: usize)
         requires moment { IsMoment offer.now.moment }
         requires end { end_of self.old offer.now < 2 ^ 32 }
         ensures { self.new ≡ went self.old offer.now queued }
     {
-        let start = self.sender.una.distance(offer.segment.seq_number) as usize;
-        let end = start + offer.len + offer.segment.control.len();
-        self.move_nxt(end as u32, offer.moment);
+        let end = self.end_of(offer);
+        self.move_nxt(end, offer.moment);
         self.start_timer(offer.moment);
         self.keep_probe(queued);
     }
@@ -63,11 +73,12 @@ impl Block {
         self.round_trip.forget_sample();
     }
 
-    /// A probe went: the next waits twice as long.
-    fn probed(&mut self, now: Instant)
+    /// A probe went that ends so far past SND.UNA: the next waits twice as long.
+    fn probed(&mut self, end: u32, now: Instant)
         requires { IsMoment now }
-        ensures { self.new ≡ probed self.old now }
+        ensures { self.new ≡ probed self.old end now }
     {
+        self.sender.top = self.sender.top.max(end);
         self.round_trip.back_off();
         self.timers.probe_at = Some(timeout_from(now, &self.round_trip));
     }
@@ -90,8 +101,13 @@ impl Block {
                 self.went(offer, queued);
             }
             OfferKind::Text => self.went(offer, queued),
-            OfferKind::Probe => self.probed(offer.moment),
-            OfferKind::Ack | OfferKind::WindowUpdate | OfferKind::KeepAlive => {}
+            OfferKind::Probe => {
+                let end = self.end_of(offer);
+                self.probed(end, offer.moment);
+                self.ask(offer.moment);
+            }
+            OfferKind::KeepAlive => self.ask(offer.moment),
+            OfferKind::Ack | OfferKind::WindowUpdate => {}
         }
     }
 }

@@ -3,7 +3,6 @@ ghost use Rattle.std.specs.Prelude.{◌≡◌, ◌+◌, ◌≤◌, ◌<◌, ◌^
 ghost use Rattle.net_base.specs.Time.{IsMoment};
 ghost use Rattle.tcp_model.specs.Text.{with_next, is_at_fin, takes_fin, fin_taken, with_fin};
 ghost use Rattle.tcp_model.specs.Answers.{ack_recorded, may_draw, delayed, sooner, ack_moment_after, ack_due, numbers_of};
-ghost use Rattle.tcp_model.specs.Arrival.{timers_moved};
 
 use crate::Block;
 use ip_wire::{SeqNumber, TcpHeader};
@@ -51,15 +50,6 @@ impl Block {
             self.receiver.next = behind_by(self.receiver.next, 1);
             self.receiver.took_fin = true;
         }
-    }
-
-    /// The timers that an accepted segment moves beside the acknowledgement that is due.
-    pub fn move_timers(&mut self, now: Instant, queued: usize)
-        requires { queued ≤ 2 ^ 30 }
-        ensures { self.new ≡ timers_moved self.old now queued }
-    {
-        self.restart_timeout(now, queued);
-        self.keep_probe(queued);
     }
 
     /// An acknowledgement of all that came went out, with this window field.

@@ -20,12 +20,14 @@ impl Block {
             || self.settings.keep_alive.is_some()
     }
 
-    /// Whether the user timeout runs.
+    /// Whether the user timeout runs. TIME-WAIT ends by its own moment alone.
     pub fn timeout_runs(&self, queued: usize) -> bool
         requires { queued ≤ 2 ^ 30 }
         ensures { result ≡ timeout_runs self.now queued }
     {
-        self.settings.timeout.is_some() && !self.state.is_closed() && self.waits_for_remote(queued)
+        self.settings.timeout.is_some()
+            && !(self.state.is_closed() || self.state.is_time_wait())
+            && self.waits_for_remote(queued)
     }
 
     /// An accepted segment starts the user timeout again, if it still runs.
