@@ -203,7 +203,7 @@ module _ (cx : ContextValue) (v : TcpValue) (ip : IpRepr) (header : TcpHeader) (
       (λ _. silently))
       (λ none. absurd (let clash : true ≡ false = sym rst ∙ none in cc))
   reset_in In.TimeWait at other_reset =
-      later_reset (ap (λ (state : State). not (is_time_wait state) && (past_by v.block.receiver.next header.seq_number + before_by v.block.receiver.next header.seq_number == 0)) at)
+      later_reset (ap (λ (state : State). not (is_time_wait state) && (v.block.receiver.next.0 == header.seq_number.0)) at)
   reset_in other at other_reset =
       later_reset
       (ap (λ (test : Bool). not (is_time_wait v.block.state) && test) other_reset ∙ and_false (not (is_time_wait v.block.state)))

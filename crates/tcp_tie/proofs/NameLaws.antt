@@ -471,7 +471,7 @@ module _ (cx : ContextValue) (pair : EndpointPair) where
         } in
         (one_offer mine (between mine (hops_of b.settings.hop_limit) (header_len header + len) refl source destination), (after, stays))
 
-    offer_with_header : OfferKind → TcpHeader → OpenOffer
+    abbrev offer_with_header : OfferKind → TcpHeader → OpenOffer
     offer_with_header kind header = record {
       kind = kind;
       moment = cx.moment;

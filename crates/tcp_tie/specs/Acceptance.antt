@@ -7,7 +7,6 @@ use Rattle.tcp_model.specs.declared.block.Block.{Block}
 use Rattle.tcp_model.specs.State.{State}
 use Rattle.tcp_model.specs.State.TheVariants as In
 use Rattle.tcp_model.specs.Answers.{drawn}
-use Rattle.tcp_model.specs.Offsets.{past_by, before_by}
 use Rattle.tcp_model.specs.Opening.{acks_syn}
 use Rattle.tcp_model.specs.Value.{TcpValue, Arrived, dropped, unoffered}
 use Rattle.tcp_tie.specs.Tie.{core_of}
@@ -25,7 +24,7 @@ reset_counts_in In.Closed b header = false
 reset_counts_in In.Listen b header = false
 reset_counts_in In.SynSent b header = acks_syn b.sender.una header.ack_number
 reset_counts_in In.TimeWait b header = false
-reset_counts_in state b header = past_by b.receiver.next header.seq_number + before_by b.receiver.next header.seq_number == 0
+reset_counts_in state b header = b.receiver.next.0 == header.seq_number.0
 
 abbrev pub reset_counts : TcpValue → TcpHeader → Bool
 reset_counts v header = reset_counts_in v.block.state v.block header
