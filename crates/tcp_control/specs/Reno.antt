@@ -27,6 +27,14 @@ fresh = record { mss = 1024; cwnd = 2048; ssthresh = most; recovers = false; tim
 abbrev pub with_mss : RenoValue → ℕ → RenoValue
 with_mss r mss = record r { mss = mss }
 
+-- the first window of a connection (RFC 6928, 2)
+abbrev pub first_window : ℕ → ℕ
+first_window mss = min (10 * mss) (max (2 * mss) 14_600)
+
+-- a connection is there: its window is the first one, or one segment where its SYN was lost (RFC 5681, 3.1)
+abbrev pub started : RenoValue → Bool → RenoValue
+started r lost = record r { cwnd = if lost then r.mss else first_window r.mss }
+
 -- how much cwnd grows by, where so many bytes are acknowledged: in slow start, else in congestion avoidance (3.1, equations 2 and 3)
 abbrev pub growth : RenoValue → ℕ → ℕ
 growth r count = if nat_lt r.cwnd r.ssthresh then min count r.mss else max 1 (r.mss * r.mss / r.cwnd)

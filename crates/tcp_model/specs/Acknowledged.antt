@@ -12,7 +12,7 @@ use Rattle.tcp_control.specs.declared.state.State.{State}
 use Rattle.tcp_model.specs.Blocks.{one_if, unacked, forgotten}
 use Rattle.tcp_control.specs.Controls.{or_recent, is_fin}
 use Rattle.tcp_control.specs.Moments.{timeout_from, time_wait_from}
-use Rattle.tcp_control.specs.Offsets.{behind_by, past_by}
+use Rattle.tcp_control.specs.Offsets.{behind_by, past_by, before_by}
 use Rattle.tcp_control.specs.Reno as reno
 use Rattle.tcp_control.specs.Reno.{RenoValue}
 use Rattle.tcp_control.specs.RoundTrip as round_trip
@@ -42,15 +42,30 @@ abbrev pub retransmit_after : Timers → ℕ → ℕ → ℤ → RoundTripValue 
 retransmit_after t by flight now r =
     if by == 0 then t.retransmit_at else if flight == 0 then None else Some (timeout_from now r)
 
+-- the own SYN is acknowledged
+abbrev pub acks_own_syn : Block → ℕ → Bool
+acks_own_syn b by = b.sender.syn_unacked && not (by == 0)
+
+-- the round trip, where a connection may begin after its SYN was lost
+abbrev pub round_trip_after : Block → ℕ → ℤ → RoundTripValue
+round_trip_after b by now =
+    if acks_own_syn b by && b.sender.syn_lost then round_trip.begun_late (round_trip.advanced b.round_trip by now)
+    else round_trip.advanced b.round_trip by now
+
+-- a connection begins with its first window; later the window grows by what is acknowledged
+abbrev pub reno_after : Block → ℕ → ℕ → RenoValue
+reno_after b by queued =
+    if acks_own_syn b by then reno.started b.reno b.sender.syn_lost else reno.acknowledged b.reno (freed_by b by queued)
+
 -- SND.UNA rises: sender, retransmission timer, round trip and congestion
 abbrev pub una_moved : Block → ℕ → ℕ → ℤ → Block
 una_moved b by queued now = record b {
   sender = sender_moved b.sender by;
   timers = record b.timers {
-    retransmit_at = retransmit_after b.timers by (b.sender.in_flight - by) now (round_trip.advanced b.round_trip by now);
+    retransmit_at = retransmit_after b.timers by (b.sender.in_flight - by) now (round_trip_after b by now);
   };
-  round_trip = round_trip.advanced b.round_trip by now;
-  reno = reno.acknowledged b.reno (freed_by b by queued);
+  round_trip = round_trip_after b by now;
+  reno = reno_after b by queued;
 }
 
 -- the FIN is acknowledged
@@ -90,14 +105,37 @@ abbrev pub scaled : Option ℕ → ℕ → ℕ
 scaled None field = field
 scaled (Some scale) field = field * 2 ^ capped scale
 
-abbrev pub window_set : Block → TcpHeader → Block
-window_set b header = record b {
+-- the acknowledgement isn't less than the one before
+abbrev pub acks_no_less : SeqNumber → Option SeqNumber → Bool
+acks_no_less last None = true
+acks_no_less last (Some n) = before_by last n == 0
+
+-- a segment that is no older than the one that set the window last, by its sequence number, and with the same one by its acknowledgement
+abbrev pub names_window : Block → TcpHeader → Bool
+names_window b header =
+    (before_by b.peer.window_seq header.seq_number == 0)
+    && (not (past_by b.peer.window_seq header.seq_number == 0) || acks_no_less b.peer.window_ack header.ack_number)
+
+abbrev pub or_number : SeqNumber → Option SeqNumber → SeqNumber
+or_number last None = last
+or_number last (Some n) = n
+
+-- the window that the segment names
+abbrev pub windowed : Block → TcpHeader → Block
+windowed b header = record b {
   peer = record b.peer {
     window = scaled b.peer.scale header.window_len;
     largest_window = max b.peer.largest_window (scaled b.peer.scale header.window_len);
-    recent = or_recent header.options.timestamp b.peer.recent;
+    window_seq = header.seq_number;
+    window_ack = or_number b.peer.window_ack header.ack_number;
   };
 }
+
+abbrev pub stamp_taken : Block → TcpHeader → Block
+stamp_taken b header = record b { peer = record b.peer { recent = or_recent header.options.timestamp b.peer.recent } }
+
+abbrev pub window_set : Block → TcpHeader → Block
+window_set b header = stamp_taken (if names_window b header then windowed b header else b) header
 
 -- DUPLICATES (RFC 5681, 2 and 3.2)
 

@@ -43,14 +43,14 @@ tells_news v header size = not (is_answering v.block.state) && lies_before v.blo
 -- since the remote may have nothing else to say it in: all that it sends may be old here.
 abbrev pub passed_outside : ContextValue → TcpValue → IpRepr → TcpHeader → ℕ → ℕ → Arrived
 passed_outside cx v ip header size by =
-    outside cx (if tells_news v header size then acknowledged v by cx.moment else v) ip header
+    if tells_news v header size then outside cx (acknowledged v by cx.moment) ip header else outside cx v ip header
 
 -- its text was taken: then its FIN is, and it may be answered. `old` is the block before the text.
 abbrev pub finished : ContextValue → Block → Texted → IpRepr → TcpHeader → ℕ → Arrived
 finished cx old t ip header size =
     answer_for cx
     (with_block t.socket (probe_kept (with_fin t.socket.block old header size t.advance cx.moment) (queued_in t.socket)))
-    ip header size t.early
+    ip header size t.fills t.early
 
 -- the text and the FIN of a segment
 abbrev pub with_content : ContextValue → TcpValue → IpRepr → TcpHeader → List ℕ → Arrived

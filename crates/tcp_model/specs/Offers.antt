@@ -1,5 +1,5 @@
 -- What a socket offers when it is asked for a segment: the first rule that applies (RFC 9293, 3.8 and 3.10.8).
-use Rattle.std.specs.Prelude.{ℕ, ◌+◌, ℤ, Bool, true, false, if◌then◌else◌, List, [], ◌∷◌, take, drop, Option, Some, None}
+use Rattle.std.specs.Prelude.{ℕ, ◌+◌, ◌==◌, ℤ, Bool, true, false, if◌then◌else◌, List, [], ◌∷◌, take, drop, Option, Some, None}
 use Rattle.ip_wire.specs.SeqNumber.{SeqNumber}
 use Rattle.ip_wire.specs.Tcp.{header_len}
 use Rattle.ip_wire.specs.TcpHeader.{TcpHeader}
@@ -69,12 +69,18 @@ offer_reset cx v pair = offer_empty Kind.Reset cx v pair (reset_segment v.block 
 abbrev pub offer_keep_alive : ContextValue → TcpValue → EndpointPair → Offered TcpValue
 offer_keep_alive cx v pair = offer_segment Kind.KeepAlive cx v pair (keep_alive_segment v.block pair cx.moment (window_of v)) 0 1
 
+-- what the remote's window held back is due: the byte at SND.UNA where it is closed, else as much as it takes
+abbrev pub offer_held_back : ContextValue → TcpValue → EndpointPair → Offered TcpValue
+offer_held_back cx v pair =
+    if v.block.peer.window == 0 then offer_choice Kind.Probe cx v pair probe_choice
+    else offer_choice Kind.Text cx v pair (text_choice v.block pair.addresses cx.ip_mtu v.queued)
+
 -- nothing of the SYN or the send queue is to go: a probe, a due acknowledgement, a window update, a keep-alive
 abbrev pub last_rules : ContextValue → TcpValue → EndpointPair → Offered TcpValue
 last_rules cx v pair =
-    if is_due cx.moment (probe_moment v.block (queued_in v)) then offer_choice Kind.Probe cx v pair probe_choice
+    if is_due cx.moment (probe_moment v.block (queued_in v)) then offer_held_back cx v pair
     else if is_due cx.moment (ack_moment v.block) then offer_ack Kind.Ack cx v pair
-    else if updates_window v.block (window_of v) then offer_ack Kind.WindowUpdate cx v pair
+    else if updates_window v.block (room_of v.received) (free_in v) then offer_ack Kind.WindowUpdate cx v pair
     else if is_due cx.moment (keep_alive_moment v.block) then offer_keep_alive cx v pair
     else silent false v
 

@@ -9,8 +9,8 @@ use Rattle.socket_base.specs.Context.{ContextValue, next_random}
 use Rattle.tcp_model.specs.declared.block.Block.{Block}
 use Rattle.tcp_model.specs.declared.block.Peer.{Peer}
 use Rattle.tcp_control.specs.declared.state.State.TheVariants as In
-use Rattle.tcp_model.specs.Acknowledged.{una_moved}
-use Rattle.tcp_model.specs.Blocks.{fresh_sender}
+use Rattle.tcp_model.specs.Acknowledged.{una_moved, or_number}
+use Rattle.tcp_model.specs.Blocks.{fresh_sender, no_number}
 use Rattle.tcp_control.specs.Controls.{is_syn, is_rst, or_mss, or_recent}
 use Rattle.tcp_control.specs.Endpoints.{pair_in}
 use Rattle.tcp_control.specs.Offsets.{behind_by}
@@ -25,6 +25,8 @@ abbrev pub peer_of : TcpHeader → Peer
 peer_of header = record {
   window = header.window_len;
   largest_window = header.window_len;
+  window_seq = header.seq_number;
+  window_ack = or_number no_number header.ack_number;
   mss = or_mss header.options.max_seg_size;
   scale = header.options.window_scale;
   sack = header.options.sack_permitted;

@@ -7,7 +7,7 @@ use Rattle.tcp_control.specs.Controls.{is_syn, is_rst}
 use Rattle.tcp_control.specs.States.{is_closed, is_listening}
 use Rattle.tcp_control.specs.declared.state.State.{State}
 use Rattle.tcp_control.specs.declared.state.State.TheVariants as In
-use Rattle.tcp_model.specs.Acknowledged.{acknowledged}
+use Rattle.tcp_model.specs.Acknowledged.{block_acknowledged}
 use Rattle.tcp_model.specs.Arrival.{arrives, is_void_syn, tells_news, takes_reset, challenges_reset, challenges_syn}
 use Rattle.tcp_model.specs.Checks.{Check, acknowledgement_check, is_in_window}
 use Rattle.tcp_model.specs.Checks.Check.{Passes, Old, Draws}
@@ -20,7 +20,8 @@ use Rattle.tcp_model.specs.Value.{TcpValue, queued_in, free_in}
 abbrev pub draws_by : Check → ContextValue → TcpValue → TcpHeader → ℕ → Bool
 draws_by (Passes by) cx v header size =
     if is_in_window v.block (free_in v) header size then is_syn header.control
-    else not (is_closed (if tells_news v header size then acknowledged v by cx.moment else v).block.state)
+    else if tells_news v header size then not (is_closed (block_acknowledged v.block by (queued_in v) cx.moment).state)
+    else not (is_closed v.block.state)
 draws_by Old cx v header size = not (is_in_window v.block (free_in v) header size) && not (is_closed v.block.state)
 draws_by Draws cx v header size = true
 draws_by check cx v header size = false

@@ -30,6 +30,8 @@ pub struct Sender {
     pub sacked: u32,
     /// Whether the segment at SND.UNA is to go again at once, since the third duplicate came.
     pub resend: bool,
+    /// Whether a SYN of its own went again.
+    pub syn_lost: bool,
     /// Timeouts of the retransmission timer in a row.
     pub timeouts: u8,
     /// Probes of a closed window and keep-alives in a row without an answer.
@@ -47,8 +49,10 @@ pub struct Receiver {
     pub next: SeqNumber,
     pub took_syn: bool,
     pub took_fin: bool,
-    /// The window field sent last.
-    pub advertised: u16,
+    /// How far past RCV.NXT the window lies that was announced.
+    pub edge: u32,
+    /// The largest payload of a segment, as the own SYN named it.
+    pub mss: u16,
 }
 
 /// What the remote said of itself.
@@ -58,6 +62,10 @@ pub struct Peer {
     pub window: u32,
     /// The largest window that it named.
     pub largest_window: u32,
+    /// SND.WL1, the sequence number of the segment that set the window last.
+    pub window_seq: SeqNumber,
+    /// SND.WL2, its acknowledgement.
+    pub window_ack: SeqNumber,
     /// The largest payload that it takes.
     pub mss: u16,
     /// The shift of its window fields, if its SYN had the option.

@@ -13,7 +13,7 @@ ghost use Rattle.tcp_model.specs.Names.{accepts};
 ghost use Rattle.tcp_model.specs.Opening.{is_first_syn, opens, takes_answer};
 ghost use Rattle.tcp_model.specs.Segments.{rst_reply};
 ghost use Rattle.tcp_model.specs.Text.{texted, with_text, with_text_at, with_bytes_at, with_fin};
-ghost use Rattle.tcp_model.specs.Value.{queued_in, window_of, with_block};
+ghost use Rattle.tcp_model.specs.Value.{queued_in, room_of, window_of, with_block};
 ghost use Rattle.tcp_socket.specs.Replies.{replies_in, packet_with};
 ghost use Rattle.tcp_socket.specs.Answering.{acknowledgement, reply_of, answer_of, next_at, continued_by};
 
@@ -279,6 +279,7 @@ impl Socket {
     {
         if self.tells_news(&incoming.header, incoming.bytes.len()) {
             self.acknowledge(by, cx.now());
+            return self.answer_outside(cx, incoming);
         }
         self.answer_outside(cx, incoming)
     }
@@ -420,13 +421,13 @@ impl Socket {
     ) -> Option<Due>
         requires unoffered { self.old.offered ≡ None }
         requires small { text.now.advance ≤ 2 ^ 30 }
-        ensures answer { answer_of result (C.context cx.now).moment self.new incoming.now.ip_repr.now incoming.now.header (length incoming.now.bytes.now) ≡ (finished (C.context cx.now) (next_at self.old.block next) (texted self.old text.now.advance text.now.early) incoming.now.ip_repr.now incoming.now.header (length incoming.now.bytes.now)).answer }
-        ensures socket { self.new ≡ (finished (C.context cx.now) (next_at self.old.block next) (texted self.old text.now.advance text.now.early) incoming.now.ip_repr.now incoming.now.header (length incoming.now.bytes.now)).socket }
+        ensures answer { answer_of result (C.context cx.now).moment self.new incoming.now.ip_repr.now incoming.now.header (length incoming.now.bytes.now) ≡ (finished (C.context cx.now) (next_at self.old.block next) (texted self.old text.now.advance text.now.fills text.now.early) incoming.now.ip_repr.now incoming.now.header (length incoming.now.bytes.now)).answer }
+        ensures socket { self.new ≡ (finished (C.context cx.now) (next_at self.old.block next) (texted self.old text.now.advance text.now.fills text.now.early) incoming.now.ip_repr.now incoming.now.header (length incoming.now.bytes.now)).socket }
     {
         let (now, size) = (cx.now(), incoming.bytes.len());
         self.take_fin(next, &incoming.header, size, text.advance, now);
         self.block.keep_probe(self.queued.len());
-        self.answer(cx, incoming, text.early)
+        self.answer(cx, incoming, text.fills, text.early)
     }
 
     /// Takes the FIN of a segment whose text made RCV.NXT rise by so much from `next`.
@@ -455,11 +456,12 @@ impl Socket {
         &mut self,
         cx: &C,
         incoming: &Incoming<'_>,
+        fills: bool,
         early: Option<usize>,
     ) -> Option<Due>
         requires unoffered { self.old.offered ≡ None }
-        ensures answer { answer_of result (C.context cx.now).moment self.new incoming.now.ip_repr.now incoming.now.header (length incoming.now.bytes.now) ≡ (answer_for (C.context cx.now) self.old incoming.now.ip_repr.now incoming.now.header (length incoming.now.bytes.now) early).answer }
-        ensures socket { self.new ≡ (answer_for (C.context cx.now) self.old incoming.now.ip_repr.now incoming.now.header (length incoming.now.bytes.now) early).socket }
+        ensures answer { answer_of result (C.context cx.now).moment self.new incoming.now.ip_repr.now incoming.now.header (length incoming.now.bytes.now) ≡ (answer_for (C.context cx.now) self.old incoming.now.ip_repr.now incoming.now.header (length incoming.now.bytes.now) fills early).answer }
+        ensures socket { self.new ≡ (answer_for (C.context cx.now) self.old incoming.now.ip_repr.now incoming.now.header (length incoming.now.bytes.now) fills early).socket }
     {
         match early {
             Some(place) => {
@@ -467,8 +469,8 @@ impl Socket {
                 Some(Due::AckHeld(place))
             }
             None => {
-                self.block
-                    .ack_due(&incoming.header, incoming.bytes.len(), cx.now());
+                let size = incoming.bytes.len();
+                self.block.ack_due(&incoming.header, size, fills, cx.now());
                 None
             }
         }
@@ -477,7 +479,7 @@ impl Socket {
     /// The text of an accepted segment.
     fn take_text(&mut self, header: &TcpHeader, bytes: &[u8]) -> Text
         requires unoffered { self.old.offered ≡ None }
-        ensures text { texted self.new result.advance result.early ≡ with_text self.old header.now bytes.now }
+        ensures text { texted self.new result.advance result.fills result.early ≡ with_text self.old header.now bytes.now }
         ensures small { result.advance ≤ 2 ^ 30 }
         ensures unoffered { self.new.offered ≡ None }
     {
@@ -489,7 +491,7 @@ impl Socket {
     /// Text of which what lies before RCV.NXT is cut off, so far past RCV.NXT.
     fn take_text_at(&mut self, place: usize, bytes: &[u8]) -> Text
         requires unoffered { self.old.offered ≡ None }
-        ensures text { texted self.new result.advance result.early ≡ with_text_at self.old place bytes.now }
+        ensures text { texted self.new result.advance result.fills result.early ≡ with_text_at self.old place bytes.now }
         ensures small { result.advance ≤ 2 ^ 30 }
         ensures unoffered { self.new.offered ≡ None }
     {
@@ -505,21 +507,24 @@ impl Socket {
         requires unoffered { self.old.offered ≡ None }
         requires fits { place + length bytes.now ≤ length self.old.received.map }
         requires small { length self.old.received.map ≤ 2 ^ 30 }
-        ensures text { texted self.new result.advance result.early ≡ with_bytes_at self.old place bytes.now }
+        ensures text { texted self.new result.advance result.fills result.early ≡ with_bytes_at self.old place bytes.now }
         ensures small { result.advance ≤ 2 ^ 30 }
         ensures unoffered { self.new.offered ≡ None }
     {
         if place == 0 {
+            let fills = self.received.is_holding();
             let advance = self.received.store(bytes);
             self.block.advance(advance);
             return Text {
                 advance,
+                fills,
                 early: None,
             };
         }
         match self.received.hold(place, bytes) {
             Ok(()) => Text {
                 advance: 0,
+                fills: false,
                 early: Some(place),
             },
             Err(_) => Text::NONE,
@@ -555,18 +560,19 @@ impl Socket {
     /// An acknowledgement of all that came answers a segment.
     fn acknowledge_all(&mut self)
         requires unoffered { self.old.offered ≡ None }
-        ensures { self.new ≡ with_block self.old (ack_recorded self.old.block (window_of self.old)) }
+        ensures { self.new ≡ with_block self.old (ack_recorded self.old.block (room_of self.old.received) (window_of self.old)) }
     {
         let window = self.window();
-        self.block.record_ack(window);
+        self.block.record_ack(self.received.capacity(), window);
     }
 
     /// The window field, but on a SYN.
     pub(crate) fn window(&self) -> u16
         ensures { result ≡ window_of self.now }
     {
-        self.block
-            .window_field(self.received.capacity(), self.received.window())
+        let (capacity, free) = (self.received.capacity(), self.received.window());
+        let space = self.block.announced(capacity, free, self.received.len());
+        self.block.window_field(capacity, space)
     }
 }
 
@@ -579,17 +585,19 @@ enum Due {
     AckHeld(usize),
 }
 
-/// The text of a segment: how far RCV.NXT rose, and of text that is held early the place of its first
-/// byte.
+/// The text of a segment: how far RCV.NXT rose, whether it came in order while other text was held, and
+/// of text that is held early the place of its first byte.
 #[derive(Clone, Copy)]
 struct Text {
     advance: usize,
+    fills: bool,
     early: Option<usize>,
 }
 
 impl Text {
     const NONE: Text = Text {
         advance: 0,
+        fills: false,
         early: None,
     };
 }

@@ -1,7 +1,7 @@
 //! The acknowledgement and the window of an accepted segment.
 ghost use Rattle.std.specs.Prelude.{◌≡◌, ◌≤◌, ◌<◌, ◌^◌, IfSome};
 ghost use Rattle.net_base.specs.Time.{IsMoment};
-ghost use Rattle.tcp_model.specs.Acknowledged.{freed_by, sender_moved, retransmit_after, una_moved, acks_fin, state_after_ack, in_state, block_acknowledged, scaled, window_set, end_past, highest_end, sacked_by, ranges_taken, tells_of_loss, is_duplicate, duplicates_after, reno_counted, counted};
+ghost use Rattle.tcp_model.specs.Acknowledged.{freed_by, sender_moved, retransmit_after, acks_own_syn, round_trip_after, reno_after, una_moved, acks_fin, state_after_ack, in_state, block_acknowledged, scaled, acks_no_less, or_number, names_window, windowed, window_set, end_past, highest_end, sacked_by, ranges_taken, tells_of_loss, is_duplicate, duplicates_after, reno_counted, counted};
 
 use super::opening::or_recent;
 use crate::{Block, State};
@@ -9,7 +9,7 @@ use ip_wire::{MAX_WINDOW_SCALE, SeqNumber, TcpHeader};
 use net_base::Instant;
 use tcp_control::controls::is_fin;
 use tcp_control::moments::{time_wait_from, timeout_from};
-use tcp_control::offsets::{behind_by, past_by};
+use tcp_control::offsets::{before_by, behind_by, past_by};
 
 /// What a window field means.
 fn scaled(scale: Option<u8>, field: u16) -> u32
@@ -18,6 +18,26 @@ fn scaled(scale: Option<u8>, field: u16) -> u32
     match scale {
         None => field as u32,
         Some(scale) => (field as u32) << scale.min(MAX_WINDOW_SCALE),
+    }
+}
+
+/// Whether an acknowledgement isn't less than the one before.
+fn acks_no_less(last: SeqNumber, ack_number: Option<SeqNumber>) -> bool
+    ensures { result ≡ acks_no_less last ack_number }
+{
+    match ack_number {
+        None => true,
+        Some(number) => before_by(last, number) == 0,
+    }
+}
+
+/// The number that is named, or the last one.
+pub fn or_number(last: SeqNumber, number: Option<SeqNumber>) -> SeqNumber
+    ensures { result ≡ or_number last number }
+{
+    match number {
+        None => last,
+        Some(number) => number,
     }
 }
 
@@ -55,9 +75,7 @@ impl Block {
         requires { IsMoment now }
         ensures { self.new ≡ una_moved self.old by queued now }
     {
-        let freed = self.freed_by(by, queued);
-        self.reno.acknowledged(freed);
-        self.round_trip.advance(by, now);
+        self.time_una(by, queued, now);
         self.move_sender(by);
         if by != 0 {
             self.timers.retransmit_at = if self.sender.in_flight == 0 {
@@ -66,6 +84,30 @@ impl Block {
                 Some(timeout_from(now, &self.round_trip))
             };
         }
+    }
+
+    /// What round trip and congestion control learn of this. A connection begins with its first window.
+    fn time_una(&mut self, by: u32, queued: usize, now: Instant)
+        requires { IsMoment now }
+        ensures { self.new ≡ record self.old { round_trip = round_trip_after self.old by now; reno = reno_after self.old by queued } }
+    {
+        let freed = self.freed_by(by, queued);
+        self.round_trip.advance(by, now);
+        if !self.acks_own_syn(by) {
+            self.reno.acknowledged(freed);
+            return;
+        }
+        self.reno.start(self.sender.syn_lost);
+        if self.sender.syn_lost {
+            self.round_trip.begin_late();
+        }
+    }
+
+    /// Whether the own SYN is acknowledged.
+    fn acks_own_syn(&self, by: u32) -> bool
+        ensures { result ≡ acks_own_syn self.now by }
+    {
+        self.sender.syn_unacked && by != 0
     }
 
     /// SND.UNA and what is counted from it.
@@ -121,13 +163,33 @@ impl Block {
         }
     }
 
-    /// Takes the window of an accepted segment, and its timestamp.
-    pub fn set_window(&mut self, header: &TcpHeader)
-        ensures { self.new ≡ window_set self.old header.now }
+    /// Whether a segment is no older than the one that set the window last.
+    fn names_window(&self, header: &TcpHeader) -> bool
+        ensures { result ≡ names_window self.now header.now }
+    {
+        before_by(self.peer.window_seq, header.seq_number) == 0
+            && (past_by(self.peer.window_seq, header.seq_number) != 0
+                || acks_no_less(self.peer.window_ack, header.ack_number))
+    }
+
+    /// Takes the window that a segment names.
+    fn take_window(&mut self, header: &TcpHeader)
+        ensures { self.new ≡ windowed self.old header.now }
     {
         let window = scaled(self.peer.scale, header.window_len);
         self.peer.window = window;
         self.peer.largest_window = self.peer.largest_window.max(window);
+        self.peer.window_seq = header.seq_number;
+        self.peer.window_ack = or_number(self.peer.window_ack, header.ack_number);
+    }
+
+    /// Takes the window of an accepted segment, if no newer one was named, and its timestamp.
+    pub fn set_window(&mut self, header: &TcpHeader)
+        ensures { self.new ≡ window_set self.old header.now }
+    {
+        if self.names_window(header) {
+            self.take_window(header);
+        }
         self.peer.recent = or_recent(header.options.timestamp, self.peer.recent);
     }
 

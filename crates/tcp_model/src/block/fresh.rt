@@ -1,6 +1,6 @@
 //! A fresh control block, and what follows from its fields.
 ghost use Rattle.std.specs.Prelude.{◌≡◌, ◌+◌, ◌≤◌, ◌^◌};
-ghost use Rattle.tcp_model.specs.Blocks.{default_settings, fresh_sender, fresh_block, forgotten, unacked, nxt, top, own_scale, scale_for, field_of, window_field};
+ghost use Rattle.tcp_model.specs.Blocks.{default_settings, fresh_sender, fresh_block, forgotten, unacked, nxt, top, own_scale, scale_for, field_of, own_shift, window_field, told_of, least_step, is_worth_telling, announced};
 
 use crate::{
     Block, CongestionControl, Names, Peer, Receiver, Reno, RoundTrip, Sender, Settings, State,
@@ -48,6 +48,7 @@ impl Sender {
             duplicates: 0,
             sacked: 0,
             resend: false,
+            syn_lost: false,
             timeouts: 0,
             unanswered: 0,
             stamped: false,
@@ -90,11 +91,14 @@ impl Block {
                 next: SeqNumber(0),
                 took_syn: false,
                 took_fin: false,
-                advertised: 0,
+                edge: 0,
+                mss: 0,
             },
             peer: Peer {
                 window: 0,
                 largest_window: 0,
+                window_seq: SeqNumber(0),
+                window_ack: SeqNumber(0),
                 mss: DEFAULT_MSS,
                 scale: None,
                 sack: false,
@@ -149,15 +153,60 @@ impl Block {
         behind_by(self.sender.una, self.sender.top as usize)
     }
 
-    /// The window field for a receive buffer of this capacity and so much free space, but on a SYN.
-    pub fn window_field(&self, capacity: usize, free: usize) -> u16
-        ensures { result ≡ window_field self.now capacity free }
+    /// The shift of the own window fields, but on a SYN, with a receive buffer of this capacity.
+    pub fn own_shift(&self, capacity: usize) -> u8
+        ensures value { result ≡ own_shift self.now capacity }
+        ensures small { result ≤ 14 }
     {
-        let shift = match self.peer.scale {
+        match self.peer.scale {
             None => 0,
             Some(_) => own_scale(capacity),
-        };
-        field_of(free >> shift)
+        }
+    }
+
+    /// The window field for so much space, but on a SYN.
+    pub fn window_field(&self, capacity: usize, space: usize) -> u16
+        ensures { result ≡ window_field self.now capacity space }
+    {
+        field_of(space >> self.own_shift(capacity))
+    }
+
+    /// How much of so much space a window field can tell.
+    fn told_of(&self, capacity: usize, space: usize) -> u32
+        ensures { result ≡ told_of self.now capacity space }
+    {
+        (self.window_field(capacity, space) as u32) << self.own_shift(capacity)
+    }
+
+    /// By how much the right edge of the window moves at least.
+    fn least_step(&self, capacity: usize) -> usize
+        requires { capacity ≤ 2 ^ 30 }
+        ensures value { result ≡ least_step self.now capacity }
+        ensures small { result ≤ 65_535 }
+    {
+        capacity.div_ceil(2).min(self.receiver.mss as usize).max(1)
+    }
+
+    /// Whether so much free space is worth telling.
+    pub fn is_worth_telling(&self, capacity: usize, free: usize) -> bool
+        requires { capacity ≤ 2 ^ 30 }
+        ensures { result ≡ is_worth_telling self.now capacity free }
+    {
+        let edge = self.receiver.edge as usize + self.least_step(capacity);
+        edge <= self.told_of(capacity, free) as usize
+    }
+
+    /// The space that a segment announces, where so many bytes wait to be read: the right edge stays,
+    /// unless it moves far enough or nothing waits.
+    pub fn announced(&self, capacity: usize, free: usize, waiting: usize) -> usize
+        requires { capacity ≤ 2 ^ 30 }
+        ensures { result ≡ announced self.now capacity free waiting }
+    {
+        if waiting == 0 || self.is_worth_telling(capacity, free) {
+            free
+        } else {
+            free.min(self.receiver.edge as usize)
+        }
     }
 }
 

@@ -2,24 +2,38 @@
 ghost use Rattle.std.specs.Prelude.{◌≡◌, ◌+◌, ◌≤◌, ◌<◌, ◌^◌};
 ghost use Rattle.net_base.specs.Time.{IsMoment};
 ghost use Rattle.tcp_model.specs.Unsettled.{EndsNear};
-ghost use Rattle.tcp_model.specs.Settled.{recorded, end_of, nxt_moved, timer_started, went, syn_went, resent, probed, sent_as};
+ghost use Rattle.tcp_model.specs.Settled.{edge_by, recorded, end_of, nxt_moved, timer_started, went, syn_went, resent, probed, sent_as};
 
+use super::opening::or_mss;
 use crate::{Block, OfferKind, OpenOffer};
 use net_base::Instant;
+use tcp_control::controls::is_syn;
 use tcp_control::moments::{later_by, timeout_from};
 
 impl Block {
     /// Records what each segment that went counts for.
-    fn record(&mut self, offer: &OpenOffer)
+    fn record(&mut self, offer: &OpenOffer, capacity: usize)
         requires { IsMoment offer.now.moment }
-        ensures { self.new ≡ recorded self.old offer.now }
+        ensures { self.new ≡ recorded self.old offer.now capacity }
     {
-        self.receiver.advertised = offer.segment.window_len;
+        self.receiver.edge = self.edge_by(offer, capacity);
         if offer.segment.ack_number.is_some() {
             self.timers.ack_at = None;
             self.timers.text_unacked = false;
         }
         self.settings.keep_alive_at = later_by(offer.moment, self.settings.keep_alive);
+    }
+
+    /// The right edge of the window that a segment announced, of a receive buffer with this capacity.
+    fn edge_by(&self, offer: &OpenOffer, capacity: usize) -> u32
+        ensures { result ≡ edge_by self.now offer.now capacity }
+    {
+        let field = offer.segment.window_len as u32;
+        if is_syn(offer.segment.control) {
+            field
+        } else {
+            field << self.own_shift(capacity)
+        }
     }
 
     /// SND.NXT moves so far past SND.UNA, if that is higher. The round trip is timed of a segment that
@@ -83,17 +97,18 @@ impl Block {
         self.timers.probe_at = Some(timeout_from(now, &self.round_trip));
     }
 
-    /// What was offered went.
-    pub fn sent(&mut self, offer: &OpenOffer, queued: usize)
+    /// What was offered went, where the receive buffer has this capacity.
+    pub fn sent(&mut self, offer: &OpenOffer, queued: usize, capacity: usize)
         requires moment { IsMoment offer.now.moment }
         requires end { EndsNear offer.now.kind self.old offer.now }
-        ensures { self.new ≡ sent_as offer.now.kind (recorded self.old offer.now) offer.now queued }
+        ensures { self.new ≡ sent_as offer.now.kind (recorded self.old offer.now capacity) offer.now queued }
     {
-        self.record(offer);
+        self.record(offer, capacity);
         match offer.kind {
             OfferKind::Reset => self.forget(),
             OfferKind::Syn => {
                 self.sender.stamped = offer.segment.options.timestamp.is_some();
+                self.receiver.mss = or_mss(offer.segment.options.max_seg_size);
                 self.went(offer, queued);
             }
             OfferKind::FastRetransmission => {
