@@ -1,5 +1,5 @@
 -- Which segments are acceptable, and how much a socket sends at once.
-use Rattle.std.proofs.Common.{◌≡◌, ◌↔◌, ◌⊎◌, inl, inr, ℕ, zero, suc, ◌+◌, ◌-◌, ◌^◌, ◌<◌, ◌≤◌, ◌==◌, ◌&&◌, not, nat_lt, min, Bool, true, false, if◌then◌else◌, List, length, Option, Some, None, is_some, refl, sym, ap, ◌∙◌, subst, arith}
+use Rattle.std.proofs.Common.{◌≡◌, ◌↔◌, ◌⊎◌, inl, inr, ℕ, zero, suc, ◌+◌, ◌-◌, ◌^◌, ◌<◌, ◌≤◌, ◌==◌, ◌&&◌, not, nat_lt, min, max, Bool, true, false, if◌then◌else◌, List, length, Option, Some, None, is_some, refl, sym, ap, ◌∙◌, subst, arith}
 use Rattle.std.proofs.lemmas.Bool.{and_parts, cond_both}
 use Rattle.std.proofs.lemmas.Bool.Decides.{nat_tests}
 use Rattle.ip_wire.specs.IpRepr.{IpRepr}
@@ -253,20 +253,20 @@ module _ (b : Block) (addresses : AddressPair) (mtu : ℕ) (queued : Ring ℕ) w
   again_in_size : (resend_choice b addresses mtu queued).len ≤ size_limit b addresses mtu
   again_in_size = (min_both (size_limit b addresses mtu) (unbroken queued 0)).0
 
-  size_in_mss : size_limit b addresses mtu ≤ b.peer.mss
-  size_in_mss = (min_both b.peer.mss _).0
+  size_in_mss : size_limit b addresses mtu ≤ max 1 (b.peer.mss - stamp_len b)
+  size_in_mss = omega arith
 
-  size_in_packet : size_limit b addresses mtu ≤ mtu - (ip_header_len addresses + 20 + stamp_len b)
+  size_in_packet : size_limit b addresses mtu ≤ max 1 (mtu - (ip_header_len addresses + 20 + stamp_len b))
   size_in_packet = omega arith
 
-  pub text_in_mss : (text_choice b addresses mtu queued).len ≤ b.peer.mss
+  pub text_in_mss : (text_choice b addresses mtu queued).len ≤ max 1 (b.peer.mss - stamp_len b)
   text_in_mss = below_parts _ _ _ text_in_size size_in_mss
 
-  pub text_in_packet : (text_choice b addresses mtu queued).len ≤ mtu - (ip_header_len addresses + 20 + stamp_len b)
+  pub text_in_packet : (text_choice b addresses mtu queued).len ≤ max 1 (mtu - (ip_header_len addresses + 20 + stamp_len b))
   text_in_packet = below_parts _ _ _ text_in_size size_in_packet
 
-  pub again_in_mss : (resend_choice b addresses mtu queued).len ≤ b.peer.mss
+  pub again_in_mss : (resend_choice b addresses mtu queued).len ≤ max 1 (b.peer.mss - stamp_len b)
   again_in_mss = below_parts _ _ _ again_in_size size_in_mss
 
-  pub again_in_packet : (resend_choice b addresses mtu queued).len ≤ mtu - (ip_header_len addresses + 20 + stamp_len b)
+  pub again_in_packet : (resend_choice b addresses mtu queued).len ≤ max 1 (mtu - (ip_header_len addresses + 20 + stamp_len b))
   again_in_packet = below_parts _ _ _ again_in_size size_in_packet

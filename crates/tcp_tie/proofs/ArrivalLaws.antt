@@ -1,5 +1,5 @@
 -- Each segment that the partner sent, when it comes, keeps the invariant.
-use Rattle.std.proofs.Common.{◌≡◌, ◌⊎◌, inl, inr, ℕ, zero, suc, ◌-◌, ◌^◌, ◌<◌, ◌≤◌, nat_lt, nat_le, not, ◌==◌, ◌&&◌, Bool, true, false, if◌then◌else◌, List, Option, Some, None, slice_get, length, refl, sym, ap, ◌∙◌, arith}
+use Rattle.std.proofs.Common.{◌≡◌, ◌⊎◌, inl, inr, ℕ, zero, suc, ◌-◌, ◌^◌, ◌<◌, ◌≤◌, nat_lt, nat_le, not, ◌==◌, ◌&&◌, ℤ, Bool, true, false, if◌then◌else◌, List, Option, Some, None, slice_get, length, refl, sym, ap, ◌∙◌, subst, arith}
 use Rattle.std.proofs.lemmas.Bool.{and_cases, cond_both, eqb-true, not-false}
 use Rattle.std.proofs.lemmas.Bool.Decides.{nat_tests}
 use Rattle.ip_wire.specs.IpRepr.{IpRepr}
@@ -12,7 +12,8 @@ use Rattle.tcp_law.specs.Side.{Side, one_if}
 use Rattle.tcp_law.specs.Side.Phase.{SynReceived}
 use Rattle.tcp_model.specs.State.{State}
 use Rattle.tcp_model.specs.State.TheVariants as In
-use Rattle.tcp_model.specs.Acknowledged.{acknowledged, duplicates_after}
+use Rattle.tcp_model.specs.declared.block.Block.{Block}
+use Rattle.tcp_model.specs.Acknowledged.{acknowledged, duplicates_after, names_window, windowed, stamp_taken, ranges_taken, counted}
 use Rattle.tcp_model.specs.Answers.{drawn}
 use Rattle.tcp_model.specs.Arrival.{waiting_anew, outside, passed_outside, tells_news, with_content, told, taken, inside, checked, takes_reset, challenges_reset, reset_comes, challenges_syn, received, arrives_in, arrives, is_void_syn}
 use Rattle.tcp_model.specs.Checks.{Check, opening_check, synchronized_check, acknowledgement_check, is_in_window, taken_down}
@@ -21,8 +22,9 @@ use Rattle.tcp_model.specs.Controls.{is_syn, is_rst}
 use Rattle.tcp_model.specs.Offsets.{past_by, before_by}
 use Rattle.tcp_model.specs.Retries.{heard}
 use Rattle.tcp_model.specs.States.{is_closed, is_answering}
-use Rattle.tcp_model.specs.Value.{TcpValue, Arrived, with_block, dropped, unoffered, free_in}
-use Rattle.tcp_tie.specs.Tie.{Past, unsent, phase_of, IsConnectedAs, Keeps, core_of, segment_of}
+use Rattle.tcp_model.specs.Timeout.{timeout_restarted}
+use Rattle.tcp_model.specs.Value.{TcpValue, Arrived, with_block, dropped, unoffered, queued_in, free_in}
+use Rattle.tcp_tie.specs.Tie.{Core, Past, unsent, phase_of, IsConnectedAs, Keeps, core_of, segment_of}
 use Rattle.tcp_tie.specs.History.{with_answer}
 use Rattle.tcp_tie.proofs.Tied.{Tied, fits_connected, is_connected, keeps_by}
 use Rattle.tcp_tie.proofs.ArrivalMoves.{IsAcceptable}
@@ -74,6 +76,14 @@ syn_gone false past_iss past before first e none = refl
 syn_gone true past_iss past before first e none =
     absurd (let reaches = at_least past_iss before (first refl) in let all = ap (λ (t : Bool). t && nat_le past_iss before) none ∙ reaches in let clash : true ≡ false = sym all ∙ e in cc)
 
+-- the window and the duplicates change nothing that the tie reads
+told_core : (v : TcpValue) (header : TcpHeader) (duplicates : ℕ) (now : ℤ) → core_of (told v header duplicates now) ≡ core_of v
+told_core v header duplicates now =
+    cond_both (names_window v.block header) (windowed v.block header) v.block
+    (λ (b : Block). core_of (with_block v (timeout_restarted (counted (ranges_taken (stamp_taken b header) header) duplicates) now (queued_in v))) ≡ core_of v)
+    (λ _. refl)
+    (λ _. refl)
+
 module _ (cx : ContextValue) (v : TcpValue) (ip : IpRepr) (header : TcpHeader) (bytes : List ℕ) (p : Past) (t : Side)
     (comes : Comes t (segment_of header bytes)) (r : Tied (core_of v) p t) where
   module _ (connected : is_connected v.block.state ≡ true) where
@@ -100,8 +110,10 @@ module _ (cx : ContextValue) (v : TcpValue) (ip : IpRepr) (header : TcpHeader) (
           (λ _. acked_now.tied)
           (λ open_yet.
           let on = acked_now.running open_yet in
+          let same = told_core (acknowledged v by cx.moment) header (duplicates_after v.block header (length bytes) by) cx.moment in
           led_content cx (told (acknowledged v by cx.moment) header (duplicates_after v.block header (length bytes) by) cx.moment) ip header bytes p t comes
-          (data_control header.control no_rst no_syn) on.0 on.1 acked_now.tied)
+          (data_control header.control no_rst no_syn) (ap (λ (c : Core). is_connected c.state) same ∙ on.0) (ap (λ (c : Core). c.syn_unacked) same ∙ on.1)
+          (subst (λ (c : Core). Tied c p t) (sym same) acked_now.tied))
 
       led_passes : Led p t (checked (Passes by) cx v ip header bytes)
       led_passes =
@@ -112,7 +124,7 @@ module _ (cx : ContextValue) (v : TcpValue) (ip : IpRepr) (header : TcpHeader) (
           (λ _. led_drawn cx v ip header p t connected r)
           led_taken)
           (λ _.
-          cond_both (tells_news v header (length bytes)) (acknowledged v by cx.moment) v (λ (w : TcpValue). Led p t (outside cx w ip header))
+          cond_both (tells_news v header (length bytes)) (outside cx (acknowledged v by cx.moment) ip header) (outside cx v ip header) (λ (a : Arrived). Led p t a)
           (λ _. led_outside (acknowledged v by cx.moment) acked_now.tied (λ open_yet. (acked_now.running open_yet).0))
           (λ _. led_outside v r (λ _. connected)))
 

@@ -30,7 +30,7 @@ use Rattle.tcp_model.specs.OpenOffer.{OpenOffer}
 use Rattle.tcp_model.specs.Reply.{Reply}
 use Rattle.tcp_model.specs.State.{State}
 use Rattle.tcp_model.specs.State.TheVariants as In
-use Rattle.tcp_model.specs.Acknowledged.{acknowledged, block_acknowledged, state_after_ack, acks_fin, una_moved, in_state, ended_if, duplicates_after}
+use Rattle.tcp_model.specs.Acknowledged.{acknowledged, block_acknowledged, state_after_ack, acks_fin, una_moved, in_state, ended_if, duplicates_after, names_window, windowed, stamp_taken, ranges_taken, counted}
 use Rattle.tcp_model.specs.Answers.{drawn, may_draw, with_draw, acked, answer_for, range_held}
 use Rattle.tcp_model.specs.Arrival.{waiting_anew, outside, passed_outside, tells_news, finished, with_content, told, taken, inside, checked, takes_reset, challenges_reset, reset_comes, challenges_syn, received, arrives_in, arrives, is_void_syn}
 use Rattle.tcp_model.specs.Blocks.{unacked, no_names}
@@ -41,7 +41,7 @@ use Rattle.tcp_model.specs.Controls.{is_syn, is_fin, is_rst}
 use Rattle.tcp_model.specs.Moments.{is_due, is_over, timeout_from}
 use Rattle.tcp_model.specs.Endpoints.{local_of, remote_of, pair_in, addresses_in, header_for, is_between, is_connected_by, is_bare, takes_address}
 use Rattle.tcp_model.specs.Names.{accepts_in, accepts}
-use Rattle.tcp_model.specs.Offers.{offer_segment, offer_choice, offer_ack, offer_syn, offer_reset, offer_keep_alive, silent, last_rules, first_rules, backed_off, offer_between, offer_with, offer_of, number_at}
+use Rattle.tcp_model.specs.Offers.{offer_segment, offer_choice, offer_ack, offer_syn, offer_reset, offer_keep_alive, offer_held_back, silent, last_rules, first_rules, backed_off, offer_between, offer_with, offer_of, number_at}
 use Rattle.tcp_model.specs.Opening.{is_first_syn, opens, takes_answer, acks_syn, syn_answered, connected, crossed, answering}
 use Rattle.tcp_model.specs.Probing.{probe_started, probe_moment, probe_kept}
 use Rattle.tcp_model.specs.Offsets.{past_by, before_by}
@@ -219,13 +219,13 @@ module _ (cx : ContextValue) (ip : IpRepr) (header : TcpHeader) where
 
   text_stays : (v : TcpValue) (place : ℕ) (bytes : List ℕ) → Stays v.block (with_text_at v place bytes).socket.block
   text_stays v place bytes =
-      cond_both (takes_text v.block.state && has_new_text v place bytes) (with_bytes_at v place bytes) (texted v 0 None) (λ (t : Texted). Stays v.block t.socket.block)
+      cond_both (takes_text v.block.state && has_new_text v place bytes) (with_bytes_at v place bytes) (texted v 0 false None) (λ (t : Texted). Stays v.block t.socket.block)
       (λ _.
       cond_both (place == 0) (taken_in_order v (laid v place bytes)) (held_early v place (laid v place bytes)) (λ (t : Texted). Stays v.block t.socket.block)
       (λ _. (refl, refl))
       (λ _.
       cond_both (nat_le (length (runs_of (laid v place bytes))) 4)
-      (texted (record v { received = received_of v.received.waiting (laid v place bytes) v.received.start }) 0 (Some place)) (texted v 0 None)
+      (texted (record v { received = received_of v.received.waiting (laid v place bytes) v.received.start }) 0 false (Some place)) (texted v 0 false None)
       (λ (t : Texted). Stays v.block t.socket.block)
       (λ _. (refl, refl))
       (λ _. (refl, refl))))
@@ -237,16 +237,16 @@ module _ (cx : ContextValue) (ip : IpRepr) (header : TcpHeader) where
       (λ _. (refl, listening_after_fin b.state))
       (λ _. (refl, refl))
 
-  named_answer : (old : Block) (v : TcpValue) (size : ℕ) (early : Option ℕ) → KeepsNames old v.block → Named old (answer_for cx v ip header size early)
-  named_answer old v size (Some place) names = named_acked old v (range_held v place) names
-  named_answer old v size None names = named_dropped old (answer_for cx v ip header size None).socket (inl (record { names = names.names; listening = names.listening }))
+  named_answer : (old : Block) (v : TcpValue) (size : ℕ) (fills : Bool) (early : Option ℕ) → KeepsNames old v.block → Named old (answer_for cx v ip header size fills early)
+  named_answer old v size fills (Some place) names = named_acked old v (range_held v place) names
+  named_answer old v size fills None names = named_dropped old (answer_for cx v ip header size fills None).socket (inl (record { names = names.names; listening = names.listening }))
 
   named_finished : (old before : Block) (t : Texted) (size : ℕ) → KeepsNames old t.socket.block → Named old (finished cx before t ip header size)
   named_finished old before t size names =
       let stays = fin_stays t.socket.block before size t.advance in
       let new = with_fin t.socket.block before header size t.advance cx.moment in
       let after = then_keeps old t.socket.block new names (keeps t.socket.block new stays.0 stays.1) in
-      named_answer old (with_block t.socket (probe_kept new (queued_in t.socket))) size t.early
+      named_answer old (with_block t.socket (probe_kept new (queued_in t.socket))) size t.fills t.early
       (record { names = after.names; listening = after.listening })
 
   -- the acknowledgement: it keeps the names, or ends LAST-ACK
@@ -272,6 +272,13 @@ module _ (cx : ContextValue) (ip : IpRepr) (header : TcpHeader) where
       named_finished old v.block (with_text v header bytes) (length bytes)
       (then_keeps old v.block (with_text v header bytes).socket.block names (keeps v.block (with_text v header bytes).socket.block text.0 text.1))
 
+  told_stays : (w : TcpValue) (duplicates : ℕ) → Stays w.block (told w header duplicates cx.moment).block
+  told_stays w duplicates =
+      cond_both (names_window w.block header) (windowed w.block header) w.block
+      (λ (b : Block). Stays w.block (timeout_restarted (counted (ranges_taken (stamp_taken b header) header) duplicates) cx.moment (queued_in w)))
+      (λ _. (refl, refl))
+      (λ _. (refl, refl))
+
   named_taken : (v : TcpValue) (bytes : List ℕ) (by : ℕ) → Named v.block (taken cx v ip header bytes by)
   named_taken v bytes by =
       let w = acknowledged v by cx.moment in
@@ -280,7 +287,8 @@ module _ (cx : ContextValue) (ip : IpRepr) (header : TcpHeader) where
       (λ _. named_dropped v.block w (acked_names v.block by (queued_in v)))
       (λ open_yet.
       let kept = open_keeps v.block w.block open_yet (acked_names v.block by (queued_in v)) in
-      named_content v.block heeded bytes (record { names = kept.names; listening = kept.listening }))
+      let heeds = told_stays w (duplicates_after v.block header (length bytes) by) in
+      named_content v.block heeded bytes (then_keeps v.block w.block heeded.block kept (keeps w.block heeded.block heeds.0 heeds.1)))
 
   named_outside : (old : Block) (w : TcpValue) → KeepsOrForgets old w.block → Named old (outside cx w ip header)
   named_outside old w names =
@@ -319,7 +327,7 @@ module _ (cx : ContextValue) (ip : IpRepr) (header : TcpHeader) where
       (λ _. draws_named v)
       (λ _. named_taken v bytes by))
       (λ _.
-      cond_both (tells_news v header (length bytes)) (acknowledged v by cx.moment) v (λ (w : TcpValue). Named v.block (outside cx w ip header))
+      cond_both (tells_news v header (length bytes)) (outside cx (acknowledged v by cx.moment) ip header) (outside cx v ip header) (λ (a : Arrived). Named v.block a)
       (λ _. named_outside v.block (acknowledged v by cx.moment) (acked_names v.block by (queued_in v)))
       (λ _. named_outside v.block v (inl (keeps v.block v.block refl refl))))
   named_checked Old v bytes =
@@ -481,29 +489,39 @@ module _ (cx : ContextValue) (pair : EndpointPair) where
       len = 1;
     }
 
+    directed_held_back : Directed old (offer_held_back cx (plain v b) pair)
+    directed_held_back =
+        let probe = segment b pair cx.moment (window_of (plain v b)) (control_for probe_choice (queued_in v)) (number_at b 0) in
+        let text = text_choice b pair.addresses cx.ip_mtu v.queued in
+        cond_both (b.peer.window == 0) (offer_choice Kind.Probe cx (plain v b) pair probe_choice) (offer_choice Kind.Text cx (plain v b) pair text)
+        (λ (o : Offered TcpValue). Directed old o)
+        (λ _.
+        directed_segment Kind.Probe probe 0 1 refl refl
+        (inr (inl (asked_names old (probed (recorded b (offer_with_header Kind.Probe probe) (room_of v.received)) (end_of b (offer_with_header Kind.Probe probe)) cx.moment) cx.moment (record { names = names.names; listening = names.listening })))))
+        (λ _.
+        directed_segment Kind.Text (segment b pair cx.moment (window_of (plain v b)) (control_for text (queued_in v)) (number_at b text.place)) text.place text.len refl refl
+        (inr (inl (record { names = names.names; listening = names.listening }))))
+
     directed_last : Directed old (last_rules cx (plain v b) pair)
     directed_last =
         let ack = ack_segment b pair cx.moment (window_of (plain v b)) in
         let alive = keep_alive_segment b pair cx.moment (window_of (plain v b)) in
-        let probe = segment b pair cx.moment (window_of (plain v b)) (control_for probe_choice (queued_in v)) (number_at b 0) in
-        cond_both (is_due cx.moment (probe_moment b (queued_in v))) (offer_choice Kind.Probe cx (plain v b) pair probe_choice)
+        cond_both (is_due cx.moment (probe_moment b (queued_in v))) (offer_held_back cx (plain v b) pair)
         (if is_due cx.moment (ack_moment b) then offer_ack Kind.Ack cx (plain v b) pair
-        else if updates_window b (window_of (plain v b)) then offer_ack Kind.WindowUpdate cx (plain v b) pair
+        else if updates_window b (room_of v.received) (free_in v) then offer_ack Kind.WindowUpdate cx (plain v b) pair
         else if is_due cx.moment (keep_alive_moment b) then offer_keep_alive cx (plain v b) pair
         else silent false (plain v b))
         (λ (o : Offered TcpValue). Directed old o)
-        (λ _.
-        directed_segment Kind.Probe probe 0 1 refl refl
-        (inr (inl (asked_names old (probed (recorded b (offer_with_header Kind.Probe probe)) (end_of b (offer_with_header Kind.Probe probe)) cx.moment) cx.moment (record { names = names.names; listening = names.listening })))))
+        (λ _. directed_held_back)
         (λ _.
         cond_both (is_due cx.moment (ack_moment b)) (offer_ack Kind.Ack cx (plain v b) pair)
-        (if updates_window b (window_of (plain v b)) then offer_ack Kind.WindowUpdate cx (plain v b) pair
+        (if updates_window b (room_of v.received) (free_in v) then offer_ack Kind.WindowUpdate cx (plain v b) pair
         else if is_due cx.moment (keep_alive_moment b) then offer_keep_alive cx (plain v b) pair
         else silent false (plain v b))
         (λ (o : Offered TcpValue). Directed old o)
         (λ _. directed_segment Kind.Ack ack 0 0 refl refl (inr (inl (record { names = names.names; listening = names.listening }))))
         (λ _.
-        cond_both (updates_window b (window_of (plain v b))) (offer_ack Kind.WindowUpdate cx (plain v b) pair)
+        cond_both (updates_window b (room_of v.received) (free_in v)) (offer_ack Kind.WindowUpdate cx (plain v b) pair)
         (if is_due cx.moment (keep_alive_moment b) then offer_keep_alive cx (plain v b) pair else silent false (plain v b))
         (λ (o : Offered TcpValue). Directed old o)
         (λ _. directed_segment Kind.WindowUpdate ack 0 0 refl refl (inr (inl (record { names = names.names; listening = names.listening }))))
@@ -511,7 +529,7 @@ module _ (cx : ContextValue) (pair : EndpointPair) where
         cond_both (is_due cx.moment (keep_alive_moment b)) (offer_keep_alive cx (plain v b) pair) (silent false (plain v b)) (λ (o : Offered TcpValue). Directed old o)
         (λ _.
         directed_segment Kind.KeepAlive alive 0 1 refl refl
-        (inr (inl (asked_names old (recorded b (offer_with_header Kind.KeepAlive alive)) cx.moment (record { names = names.names; listening = names.listening })))))
+        (inr (inl (asked_names old (recorded b (offer_with_header Kind.KeepAlive alive) (room_of v.received)) cx.moment (record { names = names.names; listening = names.listening })))))
         (λ _. directed_silent false))))
 
   directed_first : (v : TcpValue) (old b : Block) → KeepsNames old b → Directed old (first_rules cx (plain v b) pair)

@@ -1,5 +1,5 @@
 -- Each offer, with its settling, keeps the invariant.
-use Rattle.std.proofs.Common.{◌≡◌, ◌⊎◌, inl, inr, ℕ, zero, suc, ◌+◌, ◌-◌, ◌/◌, ◌%◌, ◌^◌, ◌<◌, ◌≤◌, nat_lt, nat_le, min, not, ◌==◌, ◌&&◌, ℤ, Bool, true, false, if◌then◌else◌, [], Option, Some, None, length, take, drop, refl, sym, ap, ◌∙◌, subst, arith}
+use Rattle.std.proofs.Common.{◌≡◌, ◌⊎◌, inl, inr, ℕ, zero, suc, ◌+◌, ◌-◌, ◌/◌, ◌%◌, ◌^◌, ◌<◌, ◌≤◌, nat_lt, nat_le, min, max, not, ◌==◌, ◌&&◌, ℤ, Bool, true, false, if◌then◌else◌, [], Option, Some, None, length, take, drop, refl, sym, ap, ◌∙◌, subst, arith}
 use Rattle.std.proofs.lemmas.Bool.{and_parts, cond_both, eqb-true}
 use Rattle.std.proofs.lemmas.Bool.Decides.{nat_tests}
 use Rattle.ip_wire.specs.Control.{control_len}
@@ -22,20 +22,20 @@ use Rattle.tcp_model.specs.OfferKind.TheVariants as Kind
 use Rattle.tcp_model.specs.OpenOffer.{OpenOffer}
 use Rattle.tcp_model.specs.State.{State}
 use Rattle.tcp_model.specs.State.TheVariants as In
-use Rattle.tcp_model.specs.Blocks.{unacked}
+use Rattle.tcp_model.specs.Blocks.{unacked, is_worth_telling}
 use Rattle.tcp_model.specs.Calls.{listening}
 use Rattle.tcp_model.specs.Checks.{falls_back}
 use Rattle.tcp_model.specs.Endpoints.{header_for}
 use Rattle.tcp_model.specs.Moments.{is_due, is_over, timeout_from}
-use Rattle.tcp_model.specs.Offers.{offer_choice, offer_ack, offer_syn, offer_reset, offer_keep_alive, silent, last_rules, first_rules, backed_off, offer_between, offer_with, offer_of, number_at}
-use Rattle.tcp_model.specs.Probing.{probe_started, probe_moment, is_probing}
+use Rattle.tcp_model.specs.Offers.{offer_choice, offer_ack, offer_syn, offer_reset, offer_keep_alive, offer_held_back, silent, last_rules, first_rules, backed_off, offer_between, offer_with, offer_of, number_at}
+use Rattle.tcp_model.specs.Probing.{probe_started, probe_moment, is_probing, is_window_small}
 use Rattle.tcp_model.specs.Retries.{asked, one_more, gives_up, given_up}
 use Rattle.tcp_model.specs.Rules.{Choice, time_wait_end, owes_syn, resends, ack_moment, has_text, text_choice, resend_choice, probe_choice, control_for, updates_window, keep_alive_moment, backed_off_now, fin_goes, next_place, size_limit, window_limit, congestion_limit, unbroken, is_sendable}
 use Rattle.tcp_model.specs.Segments.{segment, reset_segment, keep_alive_segment, hops_of}
 use Rattle.tcp_model.specs.Settled.{settled, recorded, probed, end_of}
 use Rattle.tcp_model.specs.States.{is_closed, is_answering, owes_fin, sends_syn, sends_text, takes_text, keeps_alive}
 use Rattle.tcp_model.specs.Timeout.{timeout_end, timeout_started, timed_out}
-use Rattle.tcp_model.specs.Value.{TcpValue, with_block, unoffered, ended, queued_in, window_of}
+use Rattle.tcp_model.specs.Value.{TcpValue, with_block, unoffered, ended, queued_in, free_in, room_of, window_of}
 use Rattle.tcp_tie.specs.Tie.{Core, Past, unsent, FitsIn, IsAsking, Keeps, core_of, segment_of, control_of, ack_of}
 use Rattle.tcp_tie.specs.History.{with_sent, with_offer}
 use Rattle.tcp_tie.proofs.Tied.{Tied, is_connected, keeps_by, takes_in}
@@ -135,32 +135,30 @@ limited b size = limited_by b.settings.congestion_control (b.reno.cwnd - b.sende
 left_over : (place len queue limit storage : ℕ) → place ≤ queue → len ≤ min limit (min (queue - place) storage) → place + len ≤ queue
 left_over place len queue limit storage inside low = omega arith
 
-one_queued : (queued : ℕ) → not (queued == 0) ≡ true → 0 + 1 ≤ queued
-one_queued zero e = absurd (cc)
-one_queued (suc more) e = omega arith
+-- what goes from SND.NXT, which lies in the send queue
+next_part :
+    (b : Block) (pair : EndpointPair) (mtu : ℕ) (queued : Ring ℕ) → sends_text b.state ≡ true → next_place b ≤ length queued.queue
+    → IsPart b (length queued.queue) (text_choice b pair.addresses mtu queued)
+next_part b pair mtu queued sends inside = record {
+  sends = sends;
+  within = inside;
+  fits = left_over (next_place b) (text_choice b pair.addresses mtu queued).len (length queued.queue) (size_limit b pair.addresses mtu) (until_end queued (next_place b)) inside
+      (limited b (min (size_limit b pair.addresses mtu) (unbroken queued (next_place b))));
+  last = fin_place b (length queued.queue) (next_place b + (text_choice b pair.addresses mtu queued).len);
+}
 
 text_part : (b : Block) (pair : EndpointPair) (mtu : ℕ) (queued : Ring ℕ) → has_text b pair.addresses mtu queued ≡ true → IsPart b (length queued.queue) (text_choice b pair.addresses mtu queued)
 text_part b pair mtu queued e =
+    let sendable = is_sendable b (length queued.queue) (size_limit b pair.addresses mtu) (text_choice b pair.addresses mtu queued) in
     let tests =
     and_parts (sends_text b.state)
-    (nat_le (one_if b.sender.syn_unacked) b.sender.in_flight
-    && (nat_lt b.sender.in_flight (unacked b (length queued.queue)) && is_sendable b (size_limit b pair.addresses mtu) (text_choice b pair.addresses mtu queued)))
+    (nat_le (one_if b.sender.syn_unacked) b.sender.in_flight && (nat_lt b.sender.in_flight (unacked b (length queued.queue)) && sendable))
     e in
-    let more =
-    and_parts (nat_le (one_if b.sender.syn_unacked) b.sender.in_flight)
-    (nat_lt b.sender.in_flight (unacked b (length queued.queue)) && is_sendable b (size_limit b pair.addresses mtu) (text_choice b pair.addresses mtu queued)) tests.1 in
-    let below =
-    and_parts (nat_lt b.sender.in_flight (unacked b (length queued.queue))) (is_sendable b (size_limit b pair.addresses mtu) (text_choice b pair.addresses mtu queued)) more.1 in
+    let more = and_parts (nat_le (one_if b.sender.syn_unacked) b.sender.in_flight) (nat_lt b.sender.in_flight (unacked b (length queued.queue)) && sendable) tests.1 in
+    let below = and_parts (nat_lt b.sender.in_flight (unacked b (length queued.queue))) sendable more.1 in
     let flight = test_below b.sender.in_flight (unacked b (length queued.queue)) below.0 in
     let one = small (owes_fin b.state) in
-    let inside = within b.sender.in_flight (one_if b.sender.syn_unacked) (length queued.queue) (one_if (owes_fin b.state)) flight one in
-    record {
-      sends = tests.0;
-      within = inside;
-      fits = left_over (next_place b) (text_choice b pair.addresses mtu queued).len (length queued.queue) (size_limit b pair.addresses mtu) (until_end queued (next_place b)) inside
-          (limited b (min (size_limit b pair.addresses mtu) (unbroken queued (next_place b))));
-      last = fin_place b (length queued.queue) (next_place b + (text_choice b pair.addresses mtu queued).len);
-    }
+    next_part b pair mtu queued tests.0 (within b.sender.in_flight (one_if b.sender.syn_unacked) (length queued.queue) (one_if (owes_fin b.state)) flight one)
   where
     small : (owes : Bool) → one_if owes ≤ 1
     small true = omega arith
@@ -168,7 +166,6 @@ text_part b pair mtu queued e =
 
     within : (flight syn queue owes : ℕ) → flight < syn + queue + owes → owes ≤ 1 → flight - syn ≤ queue
     within flight syn queue owes e one = omega arith
-
 
 resend_part : (b : Block) (pair : EndpointPair) (mtu : ℕ) (queued : Ring ℕ) → resends b ≡ true → IsPart b (length queued.queue) (resend_choice b pair.addresses mtu queued)
 resend_part b pair mtu queued e = record {
@@ -187,13 +184,32 @@ probes b queued now e = by (is_probing b queued) refl e where
   by true is_so e = is_so
   by false is_so e = absurd (cc)
 
-probe_part : (b : Block) (queued : ℕ) (now : ℤ) → is_due now (probe_moment b queued) ≡ true → IsPart b queued probe_choice
-probe_part b queued now e = let tests = and_parts (sends_text b.state) ((b.peer.window == 0) && (not (queued == 0) && (b.sender.in_flight == 0))) (probes b queued now e) in record {
-  sends = tests.0;
-  within = omega arith;
-  fits = one_queued queued (and_parts (not (queued == 0)) (b.sender.in_flight == 0) (and_parts (b.peer.window == 0) (not (queued == 0) && (b.sender.in_flight == 0)) tests.1).1).0;
-  last = λ (fin : false ≡ true). absurd (cc);
-}
+-- what the window holds back: there is some, and nothing is in flight
+record IsHeldBack (b : Block) (queued : ℕ) : Type 0 where
+  sends : sends_text b.state ≡ true
+  some : 0 + 1 ≤ queued
+  idle : b.sender.in_flight ≡ 0
+
+held_back : (b : Block) (queued : ℕ) (now : ℤ) → is_due now (probe_moment b queued) ≡ true → IsHeldBack b queued
+held_back b queued now e =
+    let tests = and_parts (sends_text b.state) (is_window_small b queued && (b.sender.in_flight == 0)) (probes b queued now e) in
+    let more = and_parts (is_window_small b queued) (b.sender.in_flight == 0) tests.1 in
+    record {
+      sends = tests.0;
+      some = some (window_limit b queued) queued (max 1 (b.peer.largest_window / 2)) (test_below (window_limit b queued) (min queued (max 1 (b.peer.largest_window / 2))) more.0);
+      idle = eqb-true b.sender.in_flight 0 more.1;
+    }
+  where
+    some : (limit queued half : ℕ) → limit < min queued half → 0 + 1 ≤ queued
+    some limit queued half e = omega arith
+
+probe_part : (b : Block) (queued : ℕ) → IsHeldBack b queued → IsPart b queued probe_choice
+probe_part b queued k = record { sends = k.sends; within = omega arith; fits = k.some; last = λ (fin : false ≡ true). absurd (cc) }
+
+held_part : (b : Block) (pair : EndpointPair) (mtu : ℕ) (queued : Ring ℕ) → IsHeldBack b (length queued.queue) → IsPart b (length queued.queue) (text_choice b pair.addresses mtu queued)
+held_part b pair mtu queued k = next_part b pair mtu queued k.sends (from_start b.sender.in_flight (one_if b.sender.syn_unacked) (length queued.queue) k.idle) where
+  from_start : (flight syn queue : ℕ) → flight ≡ 0 → flight - syn ≤ queue
+  from_start flight syn queue e = omega arith
 
 -- WITHOUT A PAYLOAD
 
@@ -276,39 +292,47 @@ module _ (cx : ContextValue) (v : TcpValue) (pair : EndpointPair) (p : Past) (t 
 
   led_keep_alive : (b : Block) → is_due cx.moment (keep_alive_moment b) ≡ true → Tied (core_of (plain v b)) p t → LedOffer p t (offer_keep_alive cx (plain v b) pair)
   led_keep_alive b due r =
-      (asked_tied (plain v b) (recorded b (open_of Kind.KeepAlive cx (plain v b) pair (keep_alive_segment b pair cx.moment (window_of (plain v b))) 0 1)) cx.moment _ t
+      (asked_tied (plain v b) (recorded b (open_of Kind.KeepAlive cx (plain v b) pair (keep_alive_segment b pair cx.moment (window_of (plain v b))) 0 1) (room_of v.received)) cx.moment _ t
       (sends_keep_alive (core_of (plain v b)) p t (and_parts (keeps_alive b.state) (b.sender.in_flight == 0) (by (keeps_alive b.state && (b.sender.in_flight == 0)) refl due)).0 r), r)
     where
       by : (test : Bool) → (keeps_alive b.state && (b.sender.in_flight == 0)) ≡ test → is_due cx.moment (if test then b.settings.keep_alive_at else None) ≡ true → (keeps_alive b.state && (b.sender.in_flight == 0)) ≡ true
       by true is_so e = is_so
       by false is_so e = absurd (cc)
 
+  led_held_back : (b : Block) → IsHeldBack b (queued_in v) → Tied (core_of (plain v b)) p t → LedOffer p t (offer_held_back cx (plain v b) pair)
+  led_held_back b k r =
+      cond_both (b.peer.window == 0) (offer_choice Kind.Probe cx (plain v b) pair probe_choice)
+      (offer_choice Kind.Text cx (plain v b) pair (text_choice b pair.addresses cx.ip_mtu v.queued))
+      (λ (o : Offered TcpValue). LedOffer p t o)
+      (λ _.
+      let o = open_of Kind.Probe cx (plain v b) pair (segment b pair cx.moment (window_of (plain v b)) (control_for probe_choice (queued_in v)) (number_at b 0)) 0 1 in
+      (asked_tied (plain v b) (probed (recorded b o (room_of v.received)) (end_of (recorded b o (room_of v.received)) o) cx.moment) cx.moment _ t
+      (part_goes cx v b pair probe_choice p t (probe_part b (queued_in v) k) r), r))
+      (λ _. (part_goes cx v b pair (text_choice b pair.addresses cx.ip_mtu v.queued) p t (held_part b pair cx.ip_mtu v.queued k) r, r))
+
   -- THE RULES IN THEIR ORDER
 
   led_last : (b : Block) → b.names.pair ≡ Some pair → is_closed b.state ≡ false → Tied (core_of (plain v b)) p t → LedOffer p t (last_rules cx (plain v b) pair)
   led_last b named open_yet r =
-      cond_both (is_due cx.moment (probe_moment b (queued_in v))) (offer_choice Kind.Probe cx (plain v b) pair probe_choice)
+      cond_both (is_due cx.moment (probe_moment b (queued_in v))) (offer_held_back cx (plain v b) pair)
       (if is_due cx.moment (ack_moment b) then offer_ack Kind.Ack cx (plain v b) pair
-      else if updates_window b (window_of (plain v b)) then offer_ack Kind.WindowUpdate cx (plain v b) pair
+      else if updates_window b (room_of v.received) (free_in v) then offer_ack Kind.WindowUpdate cx (plain v b) pair
       else if is_due cx.moment (keep_alive_moment b) then offer_keep_alive cx (plain v b) pair
       else silent false (plain v b))
       (λ (o : Offered TcpValue). LedOffer p t o)
-      (λ e.
-      let o = open_of Kind.Probe cx (plain v b) pair (segment b pair cx.moment (window_of (plain v b)) (control_for probe_choice (queued_in v)) (number_at b 0)) 0 1 in
-      (asked_tied (plain v b) (probed (recorded b o) (end_of (recorded b o) o) cx.moment) cx.moment _ t
-      (part_goes cx v b pair probe_choice p t (probe_part b (queued_in v) cx.moment e) r), r))
+      (λ e. led_held_back b (held_back b (queued_in v) cx.moment e) r)
       (λ _.
       cond_both (is_due cx.moment (ack_moment b)) (offer_ack Kind.Ack cx (plain v b) pair)
-      (if updates_window b (window_of (plain v b)) then offer_ack Kind.WindowUpdate cx (plain v b) pair
+      (if updates_window b (room_of v.received) (free_in v) then offer_ack Kind.WindowUpdate cx (plain v b) pair
       else if is_due cx.moment (keep_alive_moment b) then offer_keep_alive cx (plain v b) pair
       else silent false (plain v b))
       (λ (o : Offered TcpValue). LedOffer p t o)
       (λ due. led_due_ack b named open_yet due r)
       (λ _.
-      cond_both (updates_window b (window_of (plain v b))) (offer_ack Kind.WindowUpdate cx (plain v b) pair)
+      cond_both (updates_window b (room_of v.received) (free_in v)) (offer_ack Kind.WindowUpdate cx (plain v b) pair)
       (if is_due cx.moment (keep_alive_moment b) then offer_keep_alive cx (plain v b) pair else silent false (plain v b))
       (λ (o : Offered TcpValue). LedOffer p t o)
-      (λ e. (led_ack b (takes_connected b.state (and_parts (takes_text b.state) (not (window_of (plain v b) == 0) && nat_le b.receiver.advertised (window_of (plain v b) / 2)) e).0) r).1)
+      (λ e. (led_ack b (takes_connected b.state (and_parts (takes_text b.state) (is_worth_telling b (room_of v.received) (free_in v)) e).0) r).1)
       (λ _.
       cond_both (is_due cx.moment (keep_alive_moment b)) (offer_keep_alive cx (plain v b) pair) (silent false (plain v b)) (λ (o : Offered TcpValue). LedOffer p t o)
       (λ due. led_keep_alive b due r)
