@@ -1,6 +1,6 @@
 //! Control messages of the Internet protocols.
 //!
-//! It holds nothing of its own: it passes on the items of its members, `icmpv4` and `icmpv6`. A crate
+//! It holds nothing of its own but laws: it passes on the items of its members, `icmpv4` and `icmpv6`. A crate
 //! above names `control_wire` alone, in `crates.txt` and in its code, as `control_wire::Icmpv4Repr`.
 //! In clauses, `specs/` and `proofs/` the members' definitions are `Rattle.control_wire.specs.Icmpv4`,
 //! `.Icmpv6`, `.Ndisc` and so on, and each type that a definition names is a module of its own name,

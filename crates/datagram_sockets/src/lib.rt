@@ -1,4 +1,6 @@
 //! Sockets whose queues hold datagrams.
+//!
+//! It passes on what sockets of all kinds share: `socket_base`.
 #![tactic(auto)]
 
 mod error;
@@ -8,3 +10,5 @@ pub mod laws;
 mod queues;
 pub mod raw;
 pub mod udp;
+
+pub use socket_base::{Context, IpPayload, Offer, Packet, PollAt, addresses, widths};

@@ -10,3 +10,13 @@ pub mod Settings
 pub mod Rounds
 pub mod Quieted
 pub mod Unchanged
+pub mod Runs
+pub mod Keep
+pub mod Hosts
+pub mod Shapes
+pub mod Priced
+pub mod Count
+pub mod HostCounts
+pub mod Idents
+pub mod Trace
+pub mod OneEnd

@@ -6,12 +6,13 @@ ghost use Rattle.interface.specs.Host.{sender};
 ghost use Rattle.interface.specs.State.{state, host, KeepsSettings};
 ghost use Rattle.interface.specs.Ingress.{is_read, Replied, Receives, Reads, Takes};
 
-use interface_egress::{ArpFrame, Fragmenter, SocketStorage, dispatch, send};
+use interface_egress::{
+    ArpFrame, Fragmenter, InterfaceInner, PacketAssemblerSet, SocketStorage, dispatch, send,
+};
 use interface_ingress::laws::same_settings;
 use interface_ingress::{Incoming, Reply, bring, keep, read_into, release, take_in};
-use interface_tables::{InterfaceInner, PacketAssemblerSet};
 use net_base::{Device, Duration, RxToken};
-use socket_base::widths::fields_have_widths;
+use sockets::widths::fields_have_widths;
 use sockets::{Context, Socket};
 
 /// The longest frame that is read: an Ethernet header before the longest IP packet.

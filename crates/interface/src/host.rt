@@ -13,10 +13,9 @@ ghost use Rattle.interface.specs.Host.{host_at, maintained};
 ghost use Rattle.interface.specs.Made.{IsIdle, Makes, with_inner, with_timeout};
 
 use arrayvec::ArrayVec;
-use interface_egress::Fragmenter;
-use interface_tables::{
-    Config, HardwareAddrError, InterfaceInner, NewError, NotUnicast, PacketAssemblerSet, Routes,
-    TABLE_ROOM,
+use interface_egress::{
+    Config, Fragmenter, HardwareAddrError, InterfaceInner, NewError, NotUnicast,
+    PacketAssemblerSet, Routes, TABLE_ROOM,
 };
 use ip_wire::{HardwareAddress, IpAddress, IpCidr, Ipv4Address, Ipv6Address};
 use net_base::{ChecksumCapabilities, Device, Duration, Instant};

@@ -3,8 +3,7 @@ ghost use Rattle.std.specs.Prelude.{◌≡◌};
 ghost use Rattle.interface.specs.Instant.{instant_of, earlier_than, earlier, item_instant, place_instant, poll_instant};
 
 use crate::turn::is_known;
-use interface_egress::{Fragmenter, Item, SocketStorage};
-use interface_tables::InterfaceInner;
+use interface_egress::{Fragmenter, InterfaceInner, Item, SocketStorage};
 use net_base::Instant;
 use sockets::{Context, PollAt, Socket};
 

@@ -8,17 +8,15 @@ mod host;
 mod instant;
 mod passes;
 mod poll;
+pub mod poll_laws;
 mod step;
 mod turn;
 
 pub use host::Interface;
 pub use instant::{earlier, place_instant, poll_instant};
 pub use interface_egress::{
-    AddError, Handles, Item, Iter, Meta, SocketHandle, SocketSet, SocketStorage,
-};
-pub use interface_tables::{
-    Config, HardwareAddrError, InterfaceInner, NewError, NotUnicast, Route, RouteTableFull, Routes,
-    TABLE_ROOM,
+    AddError, Config, Handles, HardwareAddrError, InterfaceInner, Item, Iter, Meta, NewError,
+    NotUnicast, Route, RouteTableFull, Routes, SocketHandle, SocketSet, SocketStorage, TABLE_ROOM,
 };
 pub use passes::pass;
 pub use poll::{PollIngressSingleResult, PollResult};

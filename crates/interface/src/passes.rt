@@ -4,8 +4,7 @@ ghost use Rattle.interface.specs.Host.{sender};
 ghost use Rattle.interface.specs.Pass.{Pass, passed};
 
 use crate::turn::{Turned, take_place};
-use interface_egress::{Fragmenter, SocketStorage};
-use interface_tables::InterfaceInner;
+use interface_egress::{Fragmenter, InterfaceInner, SocketStorage};
 use net_base::Device;
 use sockets::Socket;
 

@@ -8,8 +8,7 @@ ghost use Rattle.interface.specs.QuietStep.{AreUnchanged, IsEarly, IsQuiet};
 ghost use Rattle.interface.specs.SameHost.{IsSameHost};
 
 use crate::passes::pass;
-use interface_egress::{Fragmenter, SocketStorage, send_next};
-use interface_tables::InterfaceInner;
+use interface_egress::{Fragmenter, InterfaceInner, SocketStorage, send_next};
 use net_base::Device;
 use sockets::laws::due_as_before;
 use sockets::{Context, Socket};

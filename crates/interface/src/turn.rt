@@ -10,12 +10,11 @@ ghost use Rattle.interface.specs.Host.{sender};
 ghost use Rattle.interface.specs.Turn.{is_known, is_heard, is_waiting, is_done, marked, settled_by, turned_by, Leaves, Sends, Turns, PlaceTurns};
 ghost use Rattle.interface_egress.specs.Meta.{freed};
 
-use interface_egress::{Fragmenter, Item, Meta, Sent, SocketStorage, dispatch};
-use interface_tables::InterfaceInner;
+use interface_egress::{Fragmenter, InterfaceInner, Item, Meta, Sent, SocketStorage, dispatch};
 use ip_wire::IpAddress;
 use net_base::{Device, Instant};
-use socket_base::widths::fields_have_widths;
 use sockets::laws::unsent_is_offered_again;
+use sockets::widths::fields_have_widths;
 use sockets::{Context, Offer, Packet, Socket};
 
 /// What a socket's turn came to. Each says whether the socket or a queue changed.

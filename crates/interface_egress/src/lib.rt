@@ -1,5 +1,5 @@
 //! The way out of an interface: which sockets may send, where a packet goes, the frames that carry it, and the pieces of a
-//! datagram that is too long for one frame.
+//! datagram that is too long for one frame. It passes on the tables: `interface_tables`.
 #![tactic(auto)]
 
 mod fill;
@@ -15,6 +15,10 @@ mod way_out;
 pub use fill::{Fill, send};
 pub use fragmenter::{Cut, Fragmenter, Left, MAX_CUT_PAYLOAD};
 pub use frame::{ArpFrame, Piece, Question, Whole, ask};
+pub use interface_tables::{
+    Config, HardwareAddrError, InterfaceInner, LinkAddress, NewError, NotUnicast,
+    PacketAssemblerSet, Route, RouteTableFull, Routes, TABLE_ROOM,
+};
 pub use plan::{Plan, plan_for};
 pub use socket_meta::{Meta, Waiting};
 pub use socket_set::{AddError, Handles, Item, Iter, SocketHandle, SocketSet, SocketStorage};

@@ -2,9 +2,9 @@
 ghost use Rattle.std.specs.Prelude.{◌≡◌};
 ghost use Rattle.interface_ingress.specs.Arp.{is_known, counts, learned, answer_at, arp_arrived, arp_answer};
 
-use interface_tables::InterfaceInner;
+use interface_egress::InterfaceInner;
 use ip_wire::{AddressExt, ArpOperation, ArpRepr, HardwareAddress, IpAddress};
-use socket_base::Context;
+use sockets::Context;
 
 /// Takes in an ARP packet: the sender's addresses are kept where it is one station of an own network that asks for or answers
 /// an own address. Returns what a request is answered.

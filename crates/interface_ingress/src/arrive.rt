@@ -18,8 +18,7 @@ use crate::icmp_reply::is_one_host;
 use crate::incoming::Incoming;
 use crate::reassemble::{bytes_at, is_piece, rebuilt};
 use crate::reply::{Reply, arp_reply};
-use interface_egress::SocketStorage;
-use interface_tables::{InterfaceInner, PacketAssemblerSet};
+use interface_egress::{InterfaceInner, PacketAssemblerSet, SocketStorage};
 use ip_wire::{AddressExt, EthernetRepr, HardwareAddress, IpAddress, IpRepr, Ipv4Repr, Ipv6Repr};
 use sockets::Socket;
 

@@ -8,7 +8,7 @@ ghost use Rattle.interface_ingress.specs.Read.{datagram_of, segment_of};
 use control_wire::{Icmpv4Packet, Icmpv4Repr, Icmpv6Packet, Icmpv6Repr};
 use ip_wire::{IpProtocol, IpRepr, TcpPacket, TcpRepr, UdpPacket, UdpRepr};
 use net_base::ChecksumCapabilities;
-use socket_base::IpPayload;
+use sockets::IpPayload;
 
 /// A user datagram that was read: its header and its bytes.
 #[derive(Clone, Copy, Debug)]

@@ -13,12 +13,10 @@ ghost use Rattle.interface_ingress.specs.Delivered.{is_taken_raw, packet_deliver
 use crate::places::{Arrival, first_place, give_all, give_at, is_for_any};
 use crate::reply::Reply;
 use control_wire::{Icmpv4Repr, Icmpv6Repr};
-use interface_egress::{Item, SocketStorage};
-use interface_tables::InterfaceInner;
-use ip_wire::{IpRepr, Ipv4Repr, Ipv6Repr, TcpRepr, UdpRepr};
+use interface_egress::{InterfaceInner, Item, SocketStorage};
+use ip_wire::{IpRepr, Ipv4Repr, Ipv6Repr, TcpControl, TcpRepr, UdpRepr};
 use net_base::PacketMeta;
 use sockets::{IpPayload, Packet, Socket, tcp};
-use tcp_model::is_rst;
 
 /// A packet, as raw sockets get it.
 #[derive(Drop)]
@@ -306,7 +304,7 @@ fn reset<'a>(header: &IpRepr, segment: &TcpRepr<'_>, is_taken: bool, reply: &mut
     ensures answer { reply_of reply.new ≡ answered (reset_for header.now (Tcp.header_of segment.now) segment.now.payload.now is_taken) }
     ensures sendable { IfCanGo (reply_of reply.new) }
 {
-    if is_taken || is_rst(segment.control) {
+    if is_taken || segment.control == TcpControl::Rst {
         return;
     }
     let (header, segment) = tcp::Socket::rst_reply(header, segment);

@@ -19,12 +19,10 @@ use crate::heard::hear;
 use crate::icmp_reply::{echo_ipv4, echo_ipv6, port_unreachable, protocol_unreachable};
 use crate::reply::{Reply, packet_reply};
 use control_wire::{Icmpv4Repr, Icmpv6Repr};
-use interface_egress::SocketStorage;
-use interface_tables::InterfaceInner;
+use interface_egress::{InterfaceInner, SocketStorage};
 use ip_wire::{IpProtocol, IpRepr, Ipv6Repr, TcpRepr};
-use socket_base::addresses::is_unspecified;
-use socket_base::{Context, IpPayload, Packet};
-use sockets::Socket;
+use sockets::addresses::is_unspecified;
+use sockets::{Context, IpPayload, Packet, Socket};
 
 /// Gives an ICMPv4 message to the sockets that accept it, and answers it.
 fn hand_icmpv4<'a>(

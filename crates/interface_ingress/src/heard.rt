@@ -6,12 +6,12 @@ ghost use Rattle.socket_base.specs.Packet.{packet_value, option_value, IsSendabl
 ghost use Rattle.interface_ingress.specs.Heard.{neighbor_heard, is_one_station, is_target, counts, learned, replaces, advertised, is_asked, advertisement};
 
 use control_wire::{Icmpv6Repr, NdiscNeighborFlags, NdiscRepr};
-use interface_tables::InterfaceInner;
+use interface_egress::InterfaceInner;
 use ip_wire::{
     AddressExt, EthernetAddress, HardwareAddress, IpAddress, IpProtocol, IpRepr, Ipv6Address,
     Ipv6Repr, RawHardwareAddress,
 };
-use socket_base::{Context, IpPayload, Packet};
+use sockets::{Context, IpPayload, Packet};
 
 /// The hop limit of a packet that no router passed on.
 const HOP_LIMIT: u8 = 255;

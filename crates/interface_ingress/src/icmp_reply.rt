@@ -11,12 +11,12 @@ ghost use Rattle.interface_ingress.specs.Replies.{is_one_host, is_echo_reply, so
 use control_wire::{
     Icmpv4DstUnreachable, Icmpv4Repr, Icmpv6DstUnreachable, Icmpv6ParamProblem, Icmpv6Repr,
 };
-use interface_tables::InterfaceInner;
+use interface_egress::InterfaceInner;
 use ip_wire::{
     AddressExt, IPV4_HEADER_LEN, IPV4_MIN_MTU, IPV6_HEADER_LEN, IPV6_MIN_MTU, IpAddress,
     IpProtocol, IpRepr, Ipv4Address, Ipv4Repr, Ipv6Address, Ipv6Repr,
 };
-use socket_base::{Context, IpPayload, Packet};
+use sockets::{Context, IpPayload, Packet};
 
 /// The hop limit of a message.
 const HOP_LIMIT: u8 = 64;

@@ -9,13 +9,13 @@ ghost use Rattle.interface_ingress.specs.Reassembled.{is_heard, is_sender, is_ta
 
 use crate::icmp_reply::is_one_host;
 use crate::incoming::Incoming;
-use interface_tables::{InterfaceInner, PacketAssemblerSet};
+use interface_egress::{InterfaceInner, PacketAssemblerSet};
 use ip_wire::{
     AddressExt, EthernetAddress, EthernetRepr, HardwareAddress, IPV4_HEADER_LEN, Ipv4Address,
     Ipv4Piece, Ipv4Repr,
 };
 use net_base::{Duration, Instant};
-use socket_base::Context;
+use sockets::Context;
 
 /// The longest that a duration counts as where it is added to a moment, in microseconds.
 const LONGEST: u64 = 1 << 61;

@@ -4,7 +4,7 @@ ghost use Rattle.socket_base.specs.Packet.{option_value, IsSendable};
 ghost use Rattle.interface_ingress.specs.Arrives.{IfCanGo, told, answered, reply_of};
 
 use ip_wire::ArpRepr;
-use socket_base::Packet;
+use sockets::Packet;
 
 /// What is sent at once in answer to a frame.
 #[derive(Clone, Copy, Debug)]

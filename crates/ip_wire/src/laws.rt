@@ -1,5 +1,6 @@
-//! What this crate passes on stands under the name of its own format.
-ghost use Rattle.std.specs.Prelude.{◌≡◌};
+//! What this crate passes on stands under the name of its own format; a protocol has a number of eight bits.
+ghost use Rattle.std.specs.Prelude.{◌≡◌, ◌<◌};
+ghost use Rattle.ip_address.specs.Protocol.{protocol_number};
 
 use crate::arp_field::OPER;
 use crate::ethernet_field::ETHERTYPE;
@@ -9,7 +10,7 @@ use crate::ipv6_fragment_field::FR_OF_M;
 use crate::tcp_field::SEQ_NUM;
 use crate::udp_field::CHECKSUM;
 use crate::{
-    ETHERNET_HEADER_LEN, IPV4_HEADER_LEN, IPV6_FRAGMENT_HEADER_LEN, IPV6_HEADER_LEN,
+    ETHERNET_HEADER_LEN, IPV4_HEADER_LEN, IPV6_FRAGMENT_HEADER_LEN, IPV6_HEADER_LEN, IpProtocol,
     TCP_HEADER_LEN, UDP_HEADER_LEN,
 };
 
@@ -33,3 +34,10 @@ pub fn header_lengths()
     ensures udp { UDP_HEADER_LEN ≡ 8 }
     ensures tcp { TCP_HEADER_LEN ≡ 20 }
 {}
+
+/// Law: a protocol has a number of eight bits.
+pub fn protocol_width(protocol: IpProtocol)
+    ensures { protocol_number protocol < 256 }
+{
+    let _number = u8::from(protocol);
+}

@@ -16,10 +16,10 @@ use Rattle.interface_egress.specs.declared.socket_set.Item.{Item}
 use Rattle.interface_egress.specs.declared.socket_set.SocketStorage.{SocketStorage}
 use Rattle.interface_egress.specs.Set.{with_socket}
 use Rattle.interface.specs.State.{State}
-use Rattle.interface_laws.specs.Kept.{IsCounted}
-use Rattle.interface_laws.specs.Touches.{Touch, Looks, Leave, Sends, Does, DoesAll}
-use Rattle.interface_laws.proofs.Count.{polls_count}
-use Rattle.interface_laws.proofs.Trace.{polls_traced}
+use Rattle.interface.specs.Kept.{IsCounted}
+use Rattle.interface.specs.Touches.{Touch, Looks, Leave, Sends, Does, DoesAll}
+use Rattle.interface.proofs.Count.{polls_count}
+use Rattle.interface.proofs.Trace.{polls_traced}
 use Rattle.lan_port.specs.Port.{LinkEnd, PortValue, PortMove}
 use Rattle.lan_history.specs.Call.{SocketCall}
 use Rattle.lan_history.specs.History.{Entry}

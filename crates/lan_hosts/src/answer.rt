@@ -5,10 +5,9 @@ ghost use Rattle.lan_hosts.specs.Does.{raw_fault};
 ghost use Rattle.lan_hosts.specs.Answers.{IsTwice, Gives, brief, fault_of};
 
 use lan_history::{Answer, Fault};
-use sockets::tcp::{ConnectError, ListenError, RecvError, SendError};
+use sockets::tcp::{ConnectError, ListenError, RecvError, SendError, State};
 use sockets::{raw, udp};
 use std::alloc::{AllocError, Global};
-use tcp_model::State;
 
 /// An answer and its twin, which the world keeps.
 pub type Twins = (Answer, Answer);

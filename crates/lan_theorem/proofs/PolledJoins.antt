@@ -3,7 +3,7 @@ use Rattle.std.proofs.Common.{◌≡◌, ℕ, ◌+◌, ◌*◌, ◌≤◌, List,
 use Rattle.std.specs.Prelude.{ℤ}
 use Rattle.net_base.specs.DeviceCapabilities.{DeviceCapabilities}
 use Rattle.interface.specs.State.{State}
-use Rattle.interface_laws.proofs.Hosts.{settings_so}
+use Rattle.interface.proofs.Hosts.{settings_so}
 use Rattle.lan_history.specs.History.{Entry}
 use Rattle.lan_history.specs.Kinds.{other, kind_of}
 use Rattle.lan_history.specs.Kinds.Act.{Polls}

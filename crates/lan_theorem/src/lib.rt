@@ -6,6 +6,8 @@
 //! was made by the other host, and `specs/Moves/Follows` where the moves lead. `link_laws` has that the link hands over what was made:
 //! whatever a frame brings to a host's TCP and UDP sockets, whole or in pieces, the other host's sockets or the host itself made.
 //! `laws` joins them. `port_laws` has that a port determines its moves.
+//!
+//! It passes on the hosts that it speaks of: `lan_hosts`.
 #![tactic(auto)]
 
 pub mod host_laws;
@@ -13,3 +15,5 @@ pub mod laws;
 pub mod link_laws;
 pub mod move_laws;
 pub mod port_laws;
+
+pub use lan_hosts::{Host, Records, laws as table_laws, refusal_of, take};

@@ -11,7 +11,7 @@ ghost use Rattle.lan_world.specs.New.{new_error, has_one_medium, is_both, are_on
 use crate::error::WorldError;
 use interface::{Interface, SocketSet, SocketStorage};
 use ip_wire::HardwareAddress;
-use lan_hosts::Host;
+use lan_theorem::Host;
 use net_base::{Checksum, ChecksumCapabilities, Device, Medium};
 use sockets::{Context, PollAt, Socket, tcp};
 

@@ -4,7 +4,7 @@ ghost use Rattle.lan_hosts.specs.Runs.{answers_of, counts_of};
 ghost use Rattle.lan_world.specs.Past.{counts_in, entry};
 
 use lan_history::{Answer, Event};
-use lan_hosts::Host;
+use lan_theorem::Host;
 use sockets::tcp::State;
 use std::alloc::{AllocError, Global};
 use std::marker::Model;

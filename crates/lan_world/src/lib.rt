@@ -13,6 +13,5 @@ mod world;
 
 pub use error::WorldError;
 pub use lan_history::{Answer, Bytes, Event, Fault, Refused, Side, TcpSetting};
-pub use lan_hosts::Host;
-pub use lan_theorem::host_laws;
+pub use lan_theorem::{Host, host_laws};
 pub use world::World;

@@ -9,7 +9,7 @@ ghost use Rattle.lan_theorem.specs.Events.{IsTyped};
 use interface::Route;
 use ip_wire::{EthernetAddress, HardwareAddress, IpAddress, Ipv4Address, Ipv6Address};
 use lan_history::Event;
-use lan_hosts::Host;
+use lan_theorem::Host;
 
 /// A word of a damage has 16 bits, a hardware address six bytes, and a router those of its family.
 pub(crate) fn event_is_typed(event: &Event)

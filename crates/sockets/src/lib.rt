@@ -11,6 +11,7 @@ mod socket;
 pub mod tcp;
 
 pub use any_socket::AnySocket;
-pub use datagram_sockets::{icmp, raw, udp};
+pub use datagram_sockets::{
+    Context, IpPayload, Offer, Packet, PollAt, addresses, icmp, raw, udp, widths,
+};
 pub use socket::Socket;
-pub use socket_base::{Context, IpPayload, Offer, Packet, PollAt, addresses};

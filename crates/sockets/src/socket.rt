@@ -3,8 +3,7 @@ ghost use Rattle.socket_base.specs.Packet.{option_value};
 ghost use Rattle.sockets.specs.Socket.{Offers, offered_by, settled, poll_of, IfSendable};
 
 use crate::tcp;
-use datagram_sockets::{icmp, raw, udp};
-use socket_base::{Context, Offer, Packet, PollAt};
+use datagram_sockets::{Context, Offer, Packet, PollAt, icmp, raw, udp};
 
 /// A socket of any kind.
 #[derive(Debug, Drop)]

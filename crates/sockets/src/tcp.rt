@@ -1,5 +1,5 @@
 //! TCP's sockets.
-pub use tcp_model::{
-    CongestionControl, ConnectError, ListenError, RecvError, Reno, SendError, State,
+pub use tcp_socket::{
+    CongestionControl, ConnectError, ListenError, RecvError, Reno, SendError, Socket, SocketBuffer,
+    State,
 };
-pub use tcp_socket::{Socket, SocketBuffer};

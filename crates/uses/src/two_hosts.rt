@@ -1,13 +1,12 @@
 //! Two hosts on a link that promises nothing.
 ghost use Rattle.std.specs.Prelude.{IfOk, OnOk};
-ghost use Rattle.lan_world.specs.Promises.{IsSafeWorld};
-ghost use Rattle.tcp_socket.specs.Receive.{FitsBuffer};
+ghost use Rattle.lan.specs.Promises.{IsSafeWorld};
+ghost use Rattle.sockets.specs.TcpReceive.{FitsBuffer};
 
 use anyhow::{Result, anyhow};
 use interface::{Config, Interface, SocketSet};
 use ip_wire::{HardwareAddress, IpAddress, IpCidr, IpEndpoint};
-use lan_port::Port;
-use lan_world::{Answer, Bytes, Event, Host, Refused, Side, World};
+use lan::{Answer, Bytes, Event, Host, Port, Refused, Side, World};
 use net_base::{
     ChecksumCapabilities, DeviceCapabilities, Instant, ManagedSlice, Medium, RingBuffer,
 };

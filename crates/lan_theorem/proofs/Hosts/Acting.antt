@@ -1,7 +1,7 @@
 -- What a host does is a turn of its machine, and goes on from what it was.
 use Rattle.std.proofs.Common.{◌≡◌, ◌≤ℤ◌, ℕ, ◌-◌, ℤ, pos, Bool, true, false, not, ◌||◌, ◌&&◌, int_lt, List, [], ◌∷◌, ◌++◌, length, Option, Some, None, refl, sym, ap, ◌∙◌, subst, append-nil, arith}
 use Rattle.interface_egress.specs.Departure.{Departure}
-use Rattle.interface_laws.specs.Touches.{departed, Silences}
+use Rattle.interface.specs.Touches.{departed, Silences}
 use Rattle.interface_tables.specs.Settings.{is_moment}
 use Rattle.lan_history.specs.Kinds.{Act}
 use Rattle.lan_history.specs.Kinds.Act.{Calls, Sets, Opens, Asks, Polls}

@@ -2,7 +2,7 @@
 use Rattle.std.proofs.Common.{◌≡◌, ◌≤ℤ◌, ℕ, ℤ, false, int_lt, List, [], ◌∷◌, ◌++◌, sym, subst, arith}
 use Rattle.std.specs.List.{AllByRecursion}
 use Rattle.interface_egress.specs.Departure.{Departure, Asks, Tells, Whole, Part}
-use Rattle.interface_laws.specs.Touches.{second_after, Silences}
+use Rattle.interface.specs.Touches.{second_after, Silences}
 use Rattle.lan_theorem.specs.Hosts.Asked.{requests_in, requests, AreApart}
 use Rattle.lan_theorem.specs.Hosts.Machine.{Turn, Machine, HostRun, moment_of}
 

@@ -8,7 +8,7 @@ use Rattle.interface.specs.Made.{with_inner}
 use Rattle.interface_tables.specs.Inner.{context_of}
 use Rattle.interface_tables.specs.Settings.{with_routes}
 use Rattle.interface_tables.specs.declared.route.Route.{Route}
-use Rattle.interface_laws.proofs.OneEnd.{OneOffer}
+use Rattle.interface.proofs.OneEnd.{OneOffer}
 use Rattle.lan_history.specs.Call.{SocketCall}
 use Rattle.lan_history.specs.History.{Entry}
 use Rattle.lan_history.specs.Kinds.{Act, Kind, Setting, kind_of}

@@ -5,8 +5,8 @@ use Rattle.net_base.specs.Device.{Move, Took, Empty, Allowed, Emitted, Denied}
 use Rattle.interface.specs.Polls.{Polls}
 use Rattle.interface.specs.State.{State, state}
 use Rattle.interface_egress.specs.Determined.{IsDetermined}
-use Rattle.interface_laws.specs.Steady.{IsShort, IsSteady}
-use Rattle.interface_laws.proofs.OneEnd.{OneOffer, one_poll}
+use Rattle.interface.specs.Steady.{IsShort, IsSteady}
+use Rattle.interface.proofs.OneEnd.{OneOffer, one_poll}
 use Rattle.lan_port.specs.Port.{LinkEnd, PortValue, PortMove, has_leave}
 use Rattle.lan_hosts.specs.Station.{StationValue, at_port}
 use Rattle.lan_hosts.specs.Steps.{PollsAt}

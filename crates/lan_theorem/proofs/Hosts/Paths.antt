@@ -2,7 +2,7 @@
 use Rattle.std.proofs.Common.{◌≡◌, ℕ, ◌+◌, ◌-◌, true, false, List, [], ◌∷◌, ◌++◌, length, Some, None, refl, sym, ap, ◌∙◌, append_assoc, append-nil, arith}
 use Rattle.interface_egress.specs.Departure.{Departure}
 use Rattle.interface_egress.specs.GoesOut.{frame_of}
-use Rattle.interface_laws.specs.Touches.{Touch, Looks, Leave, Sends, departed, Does, DoesAll}
+use Rattle.interface.specs.Touches.{Touch, Looks, Leave, Sends, departed, Does, DoesAll}
 use Rattle.interface_tables.specs.Inner.{InnerValue}
 use Rattle.lan_port.specs.Port.{PortValue, PortMove}
 use Rattle.lan_theorem.specs.Hosts.Machine.{frames_of}

@@ -2,11 +2,11 @@
 use Rattle.std.proofs.Common.{◌≡◌, ℕ, ◌-◌, ℤ, Bool, List, ◌++◌, length, sym, ap, ◌∙◌}
 use Rattle.interface.specs.State.{State}
 use Rattle.interface_egress.specs.Departing.{HasSettingsOf}
-use Rattle.interface_laws.specs.Kept.{IsCounted}
-use Rattle.interface_laws.specs.Touches.{Touch, departed, Silences}
-use Rattle.interface_laws.proofs.Count.{polls_count}
-use Rattle.interface_laws.proofs.Hosts.{settings_so}
-use Rattle.interface_laws.proofs.Trace.{polls_traced}
+use Rattle.interface.specs.Kept.{IsCounted}
+use Rattle.interface.specs.Touches.{Touch, departed, Silences}
+use Rattle.interface.proofs.Count.{polls_count}
+use Rattle.interface.proofs.Hosts.{settings_so}
+use Rattle.interface.proofs.Trace.{polls_traced}
 use Rattle.lan_port.specs.Port.{LinkEnd, PortValue, PortMove}
 use Rattle.lan_hosts.specs.Station.{StationValue, at_port}
 use Rattle.lan_hosts.specs.Steps.{PollsAt}

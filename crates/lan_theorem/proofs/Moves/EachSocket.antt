@@ -33,8 +33,8 @@ use Rattle.interface.specs.Polls.{Polls}
 use Rattle.interface.specs.State.{State}
 use Rattle.interface.specs.Turn.{ItemTurns, TurnsIf, Answers, SendsBy, is_waiting, let_through, is_done}
 use Rattle.interface.specs.declared.turn.Turned.{Turned}
-use Rattle.interface_laws.specs.Kept.{IsKept}
-use Rattle.interface_laws.proofs.Keep.{polls_keep}
+use Rattle.interface.specs.Kept.{IsKept}
+use Rattle.interface.proofs.Keep.{polls_keep}
 use Rattle.lan_theorem.specs.Moves.Fit.{AreNamed}
 use Rattle.lan_theorem.specs.Moves.Raws.{OfItem, OfEach}
 use Rattle.lan_theorem.proofs.Moves.Places.{Places}

@@ -15,9 +15,9 @@ use Rattle.interface.specs.Ingress.{is_read, Takes, Reads, Replied, sender_of}
 use Rattle.interface.specs.Polls.{Polls, begun}
 use Rattle.interface.specs.State.{State, state, at_device}
 use Rattle.interface.specs.WayOut.{PieceLeaves}
-use Rattle.interface_laws.specs.Kept.{sending_as, IsKept}
-use Rattle.interface_laws.specs.Priced.{IsPriced, sockets_in}
-use Rattle.interface_laws.proofs.Priced.{polls_cost}
+use Rattle.interface.specs.Kept.{sending_as, IsKept}
+use Rattle.interface.specs.Priced.{IsPriced, sockets_in}
+use Rattle.interface.proofs.Priced.{polls_cost}
 use Rattle.lan_history.specs.declared.event.Side.{Side}
 use Rattle.lan_history.specs.Kinds.{other}
 use Rattle.lan_packets.specs.Parties.{Party, Net, party}

@@ -34,7 +34,7 @@ use Rattle.interface.specs.Host.{HostValue, Sender}
 use Rattle.interface.specs.State.{State, state}
 use Rattle.interface.specs.Turn.{PlaceTurns, ItemTurns, TurnsIf, Answers, SendsBy, Leaves, is_waiting, let_through, is_done, marked}
 use Rattle.interface.specs.declared.turn.Turned.{Turned}
-use Rattle.interface_laws.specs.Kept.{sending_as}
+use Rattle.interface.specs.Kept.{sending_as}
 use Rattle.lan_history.specs.declared.event.Side.{Side}
 use Rattle.lan_packets.specs.Moves as Moves
 use Rattle.lan_packets.specs.Parties as Parties

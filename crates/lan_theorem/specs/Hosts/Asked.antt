@@ -2,7 +2,7 @@
 use Rattle.std.specs.Prelude.{◌≤ℤ◌, ℤ, List, [], ◌∷◌, ◌++◌}
 use Rattle.std.specs.List.{AllByRecursion}
 use Rattle.interface_egress.specs.Departure.{Departure, Asks, Tells, Whole, Part}
-use Rattle.interface_laws.specs.Touches.{second_after}
+use Rattle.interface.specs.Touches.{second_after}
 use Rattle.lan_theorem.specs.Hosts.Machine.{Turn, moment_of}
 
 -- the moments of the requests among what left at a moment

@@ -4,7 +4,7 @@ use Rattle.interface.specs.Host.{HostValue}
 use Rattle.interface_egress.specs.Departure.{Departure}
 use Rattle.interface_egress.specs.GoesOut.{frame_of}
 use Rattle.interface_egress.specs.declared.socket_set.SocketStorage.{SocketStorage}
-use Rattle.interface_laws.specs.Touches.{Silences}
+use Rattle.interface.specs.Touches.{Silences}
 use Rattle.interface_tables.specs.Inner.{InnerValue}
 use Rattle.lan_history.specs.Kinds.{Act}
 use Rattle.lan_history.specs.Kinds.Act.{Opens, Polls}

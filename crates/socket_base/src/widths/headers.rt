@@ -11,14 +11,14 @@ ghost use Rattle.socket_base.specs.WellFormed.{AreFields, ArePorts};
 
 use ip_wire::{
     IpProtocol, IpRepr, Ipv4Address, Ipv4Repr, Ipv6Address, Ipv6Repr, SeqNumber, TcpHeader,
-    TcpOptions, TcpTimestampRepr, UdpRepr,
+    TcpOptions, TcpTimestampRepr, UdpRepr, laws as wire_laws,
 };
 
 /// A protocol has a number of eight bits.
 fn protocol_width(protocol: IpProtocol)
     ensures { protocol_number protocol < 256 }
 {
-    let _number = u8::from(protocol);
+    wire_laws::protocol_width(protocol);
 }
 
 /// An IPv4 address has four bytes.

@@ -8,6 +8,10 @@ ghost use Rattle.ip_wire.specs.Fields.{IsBytes};
 ghost use Rattle.ip_wire.specs.Hardware.{raw_bytes};
 
 use super::headers::{ipv4_widths, ipv6_address_width, ipv6_widths};
+use control_wire::laws::{
+    icmpv4_exceeded_width, icmpv4_unreachable_width, icmpv6_exceeded_width, icmpv6_problem_width,
+    icmpv6_unreachable_width,
+};
 use control_wire::{Icmpv4Repr, Icmpv6Repr, NdiscRepr};
 use ip_wire::RawHardwareAddress;
 
@@ -21,11 +25,11 @@ pub(crate) fn icmpv4_widths(message: &Icmpv4Repr<'_>)
             let (_ident, _seq_no) = (*ident, *seq_no);
         }
         Icmpv4Repr::DstUnreachable { reason, header, .. } => {
-            let _number = u8::from(*reason);
+            icmpv4_unreachable_width(*reason);
             ipv4_widths(*header);
         }
         Icmpv4Repr::TimeExceeded { reason, header, .. } => {
-            let _number = u8::from(*reason);
+            icmpv4_exceeded_width(*reason);
             ipv4_widths(*header);
         }
     }
@@ -83,7 +87,7 @@ pub(crate) fn icmpv6_widths(message: &Icmpv6Repr<'_>)
 {
     match message {
         Icmpv6Repr::DstUnreachable { reason, header, .. } => {
-            let _code = u8::from(*reason);
+            icmpv6_unreachable_width(*reason);
             ipv6_widths(*header);
         }
         Icmpv6Repr::PktTooBig { mtu, header, .. } => {
@@ -91,7 +95,7 @@ pub(crate) fn icmpv6_widths(message: &Icmpv6Repr<'_>)
             ipv6_widths(*header);
         }
         Icmpv6Repr::TimeExceeded { reason, header, .. } => {
-            let _code = u8::from(*reason);
+            icmpv6_exceeded_width(*reason);
             ipv6_widths(*header);
         }
         Icmpv6Repr::ParamProblem {
@@ -100,7 +104,8 @@ pub(crate) fn icmpv6_widths(message: &Icmpv6Repr<'_>)
             header,
             ..
         } => {
-            let (_code, _pointer) = (u8::from(*reason), *pointer);
+            icmpv6_problem_width(*reason);
+            let _pointer = *pointer;
             ipv6_widths(*header);
         }
         Icmpv6Repr::EchoRequest { ident, seq_no, .. } => {

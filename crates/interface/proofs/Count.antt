@@ -5,10 +5,10 @@ use Rattle.std.proofs.lemmas.List.Sums.{count_by-le-length}
 use Rattle.net_base.specs.Device.{Move}
 use Rattle.interface.specs.State.{State}
 use Rattle.interface.specs.Polls.{Polls}
-use Rattle.interface_laws.specs.Kept.{RunsAt, IsCounted}
-use Rattle.interface_laws.specs.Priced.{IsPriced, is_used, sockets_in}
-use Rattle.interface_laws.proofs.Priced.{polls_cost}
-use Rattle.interface_laws.proofs.Shapes.{same_length}
+use Rattle.interface.specs.Kept.{RunsAt, IsCounted}
+use Rattle.interface.specs.Priced.{IsPriced, is_used, sockets_in}
+use Rattle.interface.proofs.Priced.{polls_cost}
+use Rattle.interface.proofs.Shapes.{same_length}
 
 module _ {D : Type 0} (moves : D → Move → D → Type 0) (t : ℤ) (Q : ℕ → State D → Type 0) (kept : IsCounted moves t Q) where
   -- a piece costs as much as a turn

@@ -16,10 +16,10 @@ use Rattle.interface.specs.State.{State}
 use Rattle.interface.specs.Egress.{EgressStep, behind}
 use Rattle.interface.specs.Ingress.{IngressStep}
 use Rattle.interface.specs.Polls.{Repeats, Polls, begun}
-use Rattle.interface_laws.specs.Kept.{RunsAt, sending_as}
-use Rattle.interface_laws.specs.Priced.{IsPriced, is_used, sockets_in}
-use Rattle.interface_laws.proofs.Runs.{runs_so, runs_where, takes_runs, turn_runs}
-use Rattle.interface_laws.proofs.Shapes.{shape, trues, sockets_so, one_place, takes_shape}
+use Rattle.interface.specs.Kept.{RunsAt, sending_as}
+use Rattle.interface.specs.Priced.{IsPriced, is_used, sockets_in}
+use Rattle.interface.proofs.Runs.{runs_so, runs_where, takes_runs, turn_runs}
+use Rattle.interface.proofs.Shapes.{shape, trues, sockets_so, one_place, takes_shape}
 
 module _ {D : Type 0} (moves : D → Move → D → Type 0) (t : ℤ) (piece : ℕ) (Q : ℕ → State D → Type 0) (kept : IsPriced moves t piece Q) (first : List Bool) where
   -- so many were counted, while the call runs; and the same places have sockets as at first

@@ -9,9 +9,9 @@ use Rattle.interface.proofs.SameHost.{place_same}
 use Rattle.interface.specs.State.{State}
 use Rattle.interface.specs.Ingress.{Takes}
 use Rattle.interface.specs.Polls.{Polls}
-use Rattle.interface_laws.specs.Kept.{IsKept}
-use Rattle.interface_laws.proofs.Runs.{receives_same}
-use Rattle.interface_laws.proofs.Keep.{polls_keep}
+use Rattle.interface.specs.Kept.{IsKept}
+use Rattle.interface.proofs.Runs.{receives_same}
+use Rattle.interface.proofs.Keep.{polls_keep}
 
 module _ {D : Type 0} (moves : D → Move → D → Type 0) (t : ℤ) (Q : InnerValue → Type 0) where
   module _ (arrives : (i i' : InnerValue) → HasSameSettings i i' → Q i → Q i') (sends : (i i' : InnerValue) → IsSameHost i i' → Q i → Q i') where

@@ -34,10 +34,10 @@ use Rattle.interface.specs.declared.turn.Turned.{Turned}
 use Rattle.interface.specs.State.{State}
 use Rattle.interface.specs.Ingress.{Takes, Replied}
 use Rattle.interface.specs.Polls.{Polls}
-use Rattle.interface_laws.specs.Kept.{RunsAt, IsCounted}
-use Rattle.interface_laws.specs.Touches.{Touch, Looks, Leave, Sends, Traced, Does, departed, Silences, second_after}
-use Rattle.interface_laws.proofs.Runs.{receives_same}
-use Rattle.interface_laws.proofs.Count.{polls_count}
+use Rattle.interface.specs.Kept.{RunsAt, IsCounted}
+use Rattle.interface.specs.Touches.{Touch, Looks, Leave, Sends, Traced, Does, departed, Silences, second_after}
+use Rattle.interface.proofs.Runs.{receives_same}
+use Rattle.interface.proofs.Count.{polls_count}
 
 module _ {D : Type 0} (moves : D → Move → D → Type 0) (t : ℤ) (d0 : D) (i0 : InnerValue) (n : ℕ) where
   -- so far, with `n` sends at most; and after one more at most

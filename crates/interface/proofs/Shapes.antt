@@ -22,7 +22,7 @@ use Rattle.interface_ingress.specs.Handed.{handed_places, control_v4_places, con
 use Rattle.interface_ingress.specs.Reassembled.{taken_in}
 use Rattle.interface.specs.State.{State}
 use Rattle.interface.specs.Ingress.{Takes}
-use Rattle.interface_laws.specs.Priced.{is_used, sockets_in}
+use Rattle.interface.specs.Priced.{is_used, sockets_in}
 
 -- which places have sockets
 abbrev pub shape : Places → List Bool

@@ -4,10 +4,10 @@ ghost use Rattle.interface_egress.specs.Departing.{HasSettingsOf};
 ghost use Rattle.interface.specs.State.{State};
 ghost use Rattle.interface.specs.Polls.{Polls};
 ghost use Rattle.interface_egress.specs.Determined.{IsDetermined};
-ghost use Rattle.interface_laws.specs.Idents.{TakesIdents};
-ghost use Rattle.interface_laws.specs.Priced.{sockets_in};
-ghost use Rattle.interface_laws.specs.Steady.{IsSteady};
-ghost use Rattle.interface_laws.specs.Touches.{Traced};
+ghost use Rattle.interface.specs.Idents.{TakesIdents};
+ghost use Rattle.interface.specs.Priced.{sockets_in};
+ghost use Rattle.interface.specs.Steady.{IsSteady};
+ghost use Rattle.interface.specs.Touches.{Traced};
 
 use net_base::Device;
 use sockets::laws::one_offer;

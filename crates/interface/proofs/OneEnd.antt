@@ -36,7 +36,7 @@ use Rattle.interface.specs.State.{State, at_device}
 use Rattle.interface.specs.Egress.{EgressStep, sending, behind, if_changed}
 use Rattle.interface.specs.Ingress.{IngressStep, Takes, Receives, Reads, Replied, is_read, sender_of, sender_with}
 use Rattle.interface.specs.Polls.{Repeats, Polls, begun}
-use Rattle.interface_laws.specs.Steady.{IsSteady}
+use Rattle.interface.specs.Steady.{IsSteady}
 
 -- what an offer answers and leaves is determined
 abbrev pub OneOffer : Type 0

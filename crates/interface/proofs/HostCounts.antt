@@ -25,8 +25,8 @@ use Rattle.interface.specs.Ingress.{Takes, Replied, sender_of, sender_with}
 use Rattle.interface.specs.State.{State}
 use Rattle.interface.specs.Turn.{Leaves, SendsBy, Answers, TurnsIf, ItemTurns, is_waiting, let_through}
 use Rattle.interface.specs.declared.turn.Turned.{Turned}
-use Rattle.interface_laws.specs.Priced.{IsPriced}
-use Rattle.interface_laws.proofs.Runs.{receives_same}
+use Rattle.interface.specs.Priced.{IsPriced}
+use Rattle.interface.proofs.Runs.{receives_same}
 
 -- what is asked of the count
 pub record IsHostCount (t : ℤ) (Q : ℕ → InnerValue → Type 0) : Type 0 where

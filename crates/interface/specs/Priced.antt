@@ -13,7 +13,7 @@ use Rattle.interface.specs.declared.turn.Turned.{Turned}
 use Rattle.interface.specs.State.{State}
 use Rattle.interface.specs.Ingress.{Takes}
 use Rattle.interface.specs.Polls.{begun}
-use Rattle.interface_laws.specs.Kept.{RunsAt, sending_as}
+use Rattle.interface.specs.Kept.{RunsAt, sending_as}
 
 abbrev pub is_used : SocketStorage Socket → Bool
 is_used place = not (is_free place)

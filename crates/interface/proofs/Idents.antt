@@ -11,10 +11,10 @@ use Rattle.interface_egress.specs.declared.way_out.Sent.{Sent}
 use Rattle.interface_egress.specs.declared.way_out.Sent.TheVariants as Outcome
 use Rattle.interface.specs.Polls.{Polls}
 use Rattle.interface.specs.State.{State}
-use Rattle.interface_laws.specs.Idents.{TakesIdents}
-use Rattle.interface_laws.specs.Priced.{sockets_in}
-use Rattle.interface_laws.proofs.HostCounts.{IsHostCount, hosts_priced}
-use Rattle.interface_laws.proofs.Priced.{polls_cost}
+use Rattle.interface.specs.Idents.{TakesIdents}
+use Rattle.interface.specs.Priced.{sockets_in}
+use Rattle.interface.proofs.HostCounts.{IsHostCount, hosts_priced}
+use Rattle.interface.proofs.Priced.{polls_cost}
 
 module _ (i : InnerValue) where
   abbrev Taken : ℕ → InnerValue → Type 0

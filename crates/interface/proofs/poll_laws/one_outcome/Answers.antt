@@ -1,5 +1,5 @@
-use Rattle.interface_laws.proofs.OneEnd.{one_poll}
-use Rattle.interface_laws.proofs.laws.one_outcome.Goals as goal
+use Rattle.interface.proofs.OneEnd.{one_poll}
+use Rattle.interface.proofs.poll_laws.one_outcome.Goals as goal
 
 pub returns : goal.returns
 returns g c = λ longest t budget s left right changed other steady det one two.

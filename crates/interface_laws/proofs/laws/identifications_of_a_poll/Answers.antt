@@ -1,5 +1,0 @@
-use Rattle.interface_laws.proofs.Idents.{polls_take}
-use Rattle.interface_laws.proofs.laws.identifications_of_a_poll.Goals as goal
-
-pub returns : goal.returns
-returns g c = polls_take g.D.Device.moves

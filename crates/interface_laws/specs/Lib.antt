@@ -1,5 +1,0 @@
-pub mod Kept
-pub mod Priced
-pub mod Idents
-pub mod Touches
-pub mod Steady
