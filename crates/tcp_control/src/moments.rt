@@ -70,10 +70,7 @@ pub fn is_due(now: Instant, moment: Option<Instant>) -> bool
 pub fn is_over(now: Instant, moment: Option<Instant>) -> bool
     ensures { result ≡ is_over now moment }
 {
-    match moment {
-        None => true,
-        Some(moment) => moment <= now,
-    }
+    moment.is_none() || is_due(now, moment)
 }
 
 /// The earlier of two moments.

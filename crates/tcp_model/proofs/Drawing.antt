@@ -348,8 +348,8 @@ is_open other takes = refl
 
 acknowledged_open : (b : Block) (by queued : ℕ) (now : ℤ) → takes_text b.state ≡ true → is_closed (block_acknowledged b by queued now).state ≡ false
 acknowledged_open b by queued now takes =
-    let open = stays_open b.state (acks_fin b by queued) takes in
-    ap (λ (ends : Bool). is_closed (ended_if ends (in_state (una_moved b by queued now) (state_after_ack b by queued) now)).state) open ∙ open
+    let opened = stays_open b.state (acks_fin b by queued) takes in
+    ap (λ (ends : Bool). is_closed (ended_if ends (in_state (una_moved b by queued now) (state_after_ack b by queued) now)).state) opened ∙ opened
 
 pub closed_draws : (cx : ContextValue) (v : TcpValue) (header : TcpHeader) (bytes : List ℕ) (by : ℕ) → takes_text v.block.state ≡ true → free_in v ≡ 0
     → 1 ≤ segment_len header (length bytes) → is_rst header.control ≡ false → is_void_syn header ≡ false

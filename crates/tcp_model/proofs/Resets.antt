@@ -39,8 +39,8 @@ down : TcpValue → TcpValue
 down v = with_block (unoffered v) (record v.block { state = In.Closed; sender = record v.block.sender { reset_due = is_some v.block.names.pair } })
 
 pub aborted : (v : TcpValue) (pair : EndpointPair) → v.block.names.pair ≡ Some pair → is_time_wait v.block.state ≡ false → OwesReset (abort_after v) pair
-aborted v pair e open =
-    subst (λ (after : TcpValue). OwesReset after pair) (sym (if_not (is_time_wait v.block.state) (ended (unoffered v)) (down v) open))
+aborted v pair e stays =
+    subst (λ (after : TcpValue). OwesReset after pair) (sym (if_not (is_time_wait v.block.state) (ended (unoffered v)) (down v) stays))
     (record { state = refl; endpoints = e; due = ap is_some e })
 
 pub owes_nothing : (ip_mtu : ℕ) (v : TcpValue) → v.block.names.pair ≡ None → poll_of ip_mtu (abort_after v) ≡ At.Ingress
@@ -65,12 +65,12 @@ pub gave_up :
     (cx : ContextValue) (v : TcpValue) (pair : EndpointPair) → v.block.names.pair ≡ Some pair → is_due cx.moment (time_wait_end v.block) ≡ false
     → is_due cx.moment (timeout_end v.block (queued_in v)) ≡ false → is_closed v.block.state ≡ false → gives_up cx.moment v.block (queued_in v) ≡ true
     → falls_back v.block ≡ false → OwesReset (offer_of cx v).socket pair
-gave_up cx v pair e no_wait no_timeout open ends stays =
+gave_up cx v pair e no_wait no_timeout opened ends stays =
     subst (λ (o : Offered TcpValue). OwesReset o.socket pair)
     (sym
     (ap (λ (p : Option EndpointPair). offer_with p cx (unoffered v)) e
     ∙ (if_not (is_due cx.moment (time_wait_end v.block)) _ _ no_wait ∙ (if_not (is_due cx.moment (timeout_end v.block (queued_in v))) _ _ no_timeout
-    ∙ (if_not (is_closed v.block.state) _ _ open ∙ (if_so (gives_up cx.moment v.block (queued_in v)) _ _ ends
+    ∙ (if_not (is_closed v.block.state) _ _ opened ∙ (if_so (gives_up cx.moment v.block (queued_in v)) _ _ ends
     ∙ ap (silent true) (if_not (falls_back v.block) (listening (unoffered v) v.block.names.listen) (with_block (unoffered v) (timed_out v.block)) stays)))))))
     (record { state = refl; endpoints = e; due = refl })
 
