@@ -35,7 +35,7 @@ if_not : {A : Type 0} (t : Bool) (x y : A) → t ≡ false → (if t then x else
 if_not t x y e = ap (λ (test : Bool). if test then x else y) e
 
 -- an abort outside TIME-WAIT
-down : TcpValue → TcpValue
+abbrev down : TcpValue → TcpValue
 down v = with_block (unoffered v) (record v.block { state = In.Closed; sender = record v.block.sender { reset_due = is_some v.block.names.pair } })
 
 pub aborted : (v : TcpValue) (pair : EndpointPair) → v.block.names.pair ≡ Some pair → is_time_wait v.block.state ≡ false → OwesReset (abort_after v) pair

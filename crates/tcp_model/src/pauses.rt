@@ -41,7 +41,7 @@ pub fn drawn_answers_are_a_second_apart()
 
 /// No segment that has length is in a closed window. So one with text that comes where the user reads
 /// nothing, as a probe does, draws an answer.
-#[tactic(auto, using(crate::proofs::Drawing::nothing_meets, crate::proofs::Drawing::closed_draws))]
+#[tactic(auto, using(crate::proofs::Drawing::nothing_meets))]
 pub fn a_closed_window_takes_nothing()
     ensures outside { (b : Block) (header : TcpHeader) (size : ℕ) → 1 ≤ segment_len header size → is_in_window b 0 header size ≡ false }
     ensures drawn { (cx : ContextValue) (v : TcpValue) (header : TcpHeader) (bytes : List ℕ) (by : ℕ) → takes_text v.block.state ≡ true → free_in v ≡ 0
