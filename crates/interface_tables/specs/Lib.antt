@@ -5,5 +5,6 @@ pub mod Pieces
 pub mod Reassembly
 pub mod Route
 pub mod Settings
+pub mod Refusals
 pub mod Slots
 pub mod Source

@@ -1,9 +1,11 @@
 //! How a host is made, and what its settings refuse.
 ghost use Rattle.std.specs.Prelude.{◌≡◌};
+ghost use Rattle.interface_tables.specs.Refusals.{new_error_text, hardware_addr_error_text};
 ghost use Rattle.interface_tables.specs.Settings.{is_of_medium, is_station, is_mtu, refusal};
 
 use ip_wire::{HardwareAddress, IPV4_MIN_MTU};
 use net_base::{DeviceCapabilities, Instant, Medium};
+use std::fmt;
 
 /// The longest IPv4 packet.
 const MAX_MTU: usize = 65_535;
@@ -44,6 +46,31 @@ pub enum NewError {
     Memory,
 }
 
+impl fmt::Display for NewError {
+    ghost use Rattle.std.specs.Prelude.{Some};
+    ghost use Rattle.interface_tables.specs.Refusals.{new_error_text};
+
+    ghost output = { λ error. Some (new_error_text error) };
+
+    fn fmt<W: fmt::Write>(&self, f: &mut fmt::Formatter<W>) -> fmt::Result {
+        f.write_str(new_error_text(*self))
+    }
+}
+
+impl std::error::Error for NewError {}
+
+fn new_error_text(error: NewError) -> &'static str
+    ensures { result.now ≡ new_error_text error }
+{
+    match error {
+        NewError::Medium => "the device's medium has other hardware addresses",
+        NewError::NotUnicast => "the hardware address isn't that of one station",
+        NewError::Mtu => "the IP MTU is out of 576 to 65535 bytes",
+        NewError::Moment => "the moment is out of range",
+        NewError::Memory => "out of memory",
+    }
+}
+
 /// Why a hardware address isn't set.
 #[derive(Clone, Copy, Debug, PartialEq, Eq)]
 pub enum HardwareAddrError {
@@ -53,9 +80,43 @@ pub enum HardwareAddrError {
     NotUnicast,
 }
 
+impl fmt::Display for HardwareAddrError {
+    ghost use Rattle.std.specs.Prelude.{Some};
+    ghost use Rattle.interface_tables.specs.Refusals.{hardware_addr_error_text};
+
+    ghost output = { λ error. Some (hardware_addr_error_text error) };
+
+    fn fmt<W: fmt::Write>(&self, f: &mut fmt::Formatter<W>) -> fmt::Result {
+        f.write_str(hardware_addr_error_text(*self))
+    }
+}
+
+impl std::error::Error for HardwareAddrError {}
+
+fn hardware_addr_error_text(error: HardwareAddrError) -> &'static str
+    ensures { result.now ≡ hardware_addr_error_text error }
+{
+    match error {
+        HardwareAddrError::Medium => "the medium has no such hardware addresses",
+        HardwareAddrError::NotUnicast => "the hardware address isn't that of one station",
+    }
+}
+
 /// One of the addresses is neither that of one host nor unspecified.
 #[derive(Clone, Copy, Debug, PartialEq, Eq)]
 pub struct NotUnicast;
+
+impl fmt::Display for NotUnicast {
+    ghost use Rattle.std.specs.Prelude.{Some, codes};
+
+    ghost output = { λ _. Some (codes "an address isn't that of one host") };
+
+    fn fmt<W: fmt::Write>(&self, f: &mut fmt::Formatter<W>) -> fmt::Result {
+        write!(f, "an address isn't that of one host")
+    }
+}
+
+impl std::error::Error for NotUnicast {}
 
 /// The first reason why no interface is made of these, if there is one.
 pub fn refusal(config: &Config, device: &DeviceCapabilities, now: Instant) -> Option<NewError>

@@ -1,3 +1,4 @@
+//! Tests of datagrams that are put together from pieces.
 use interface_tables::{AssemblerError, PacketAssembler, PacketAssemblerSet};
 use ip_wire::{IpProtocol, Ipv4Address, Ipv4FragKey};
 use net_base::Instant;

@@ -1,3 +1,4 @@
+//! Tests of a host beside its sockets: how it is made, its addresses, groups and next hops.
 use interface_tables::{
     Config, HardwareAddrError, InterfaceInner, LinkAddress, NewError, NotUnicast, Route,
 };

@@ -1,3 +1,4 @@
+//! Tests of the neighbour cache.
 use interface_tables::{Answer, Cache};
 use ip_wire::{EthernetAddress, HardwareAddress, IpAddress};
 use net_base::{Duration, Instant};

@@ -1,3 +1,4 @@
+//! Tests of routes.
 use interface_tables::{Route, RouteTableFull, Routes};
 use ip_wire::{IpAddress, IpCidr, Ipv4Address, Ipv4Cidr, Ipv6Address, Ipv6Cidr};
 use net_base::Instant;

@@ -1,3 +1,4 @@
+//! Tests of the mark of a socket that waits for its neighbour.
 use interface_egress::Meta;
 use ip_wire::{IpAddress, Ipv4Address};
 use net_base::{Duration, Instant};

@@ -1,3 +1,4 @@
+//! Tests of a host's set of sockets.
 use interface_egress::{AddError, SocketHandle, SocketSet, SocketStorage};
 use net_base::ManagedSlice;
 use std::alloc::AllocError;

@@ -1,3 +1,4 @@
+//! Tests of the address that a packet is sent from.
 use interface_tables::source::{source_for, source_ipv4, source_ipv6};
 use ip_wire::{IpAddress, IpCidr, Ipv4Address, Ipv6Address};
 

@@ -2,9 +2,8 @@
 ghost use Rattle.std.specs.Prelude.{◌≡◌};
 ghost use Rattle.lan.specs.Ends.{refused_name, new_error_name, world_error_name};
 
-use interface::NewError;
 use lan_history::Refused;
-use lan_world::WorldError;
+use lan_world::{NewError, WorldError};
 use std::alloc::AllocError;
 use std::fmt;
 

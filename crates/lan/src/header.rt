@@ -11,12 +11,11 @@ ghost use Rattle.lan.specs.Hosts.{number, hardware_of, block_v4, block_v6, confi
 use crate::end::End;
 use crate::own_sockets::own_sockets_of;
 use arrayvec::ArrayVec;
-use interface::{Config, Interface, NewError, SocketSet};
 use ip_wire::{EthernetAddress, HardwareAddress, IpAddress, IpCidr};
 use lan_history::Side;
 use lan_port::Port;
 use lan_script::SocketSpec;
-use lan_world::{Host, World};
+use lan_world::{Config, Host, Interface, NewError, SocketSet, World};
 use net_base::{ChecksumCapabilities, DeviceCapabilities, Instant, Medium};
 use sockets::Socket;
 use std::alloc::{AllocError, Global};

@@ -11,11 +11,10 @@ ghost use Rattle.tcp_model.specs.Value.{new_socket};
 ghost use Rattle.lan.specs.Hosts.{queue, received, queued, socket_of, with_sockets, is_large, has_large};
 
 use crate::end::End;
-use interface::SocketSet;
 use ip_wire::IpProtocol;
 use lan_history::{Refused, Side};
 use lan_script::{QueueSizes, SocketSpec, StreamSizes};
-use lan_world::WorldError;
+use lan_world::{SocketSet, WorldError};
 use net_base::{ManagedSlice, PacketBuffer, PacketMetadata, RingBuffer};
 use sockets::{Socket, icmp, raw, tcp, udp};
 use std::alloc::{AllocError, Global};

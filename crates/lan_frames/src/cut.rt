@@ -1,3 +1,4 @@
+//! An IPv4 frame, cut in two.
 ghost use Rattle.std.specs.Prelude.{◌≡◌, ◌+◌, ◌<◌, ◌≤◌, ◌^◌, ◌++◌, true, IsSome, IfSome, IfOk, length};
 ghost use Rattle.std.specs.Option.{ForSome};
 ghost use Rattle.ip_packet.specs.Ipv4 as ipv4;

@@ -1,3 +1,4 @@
+//! Bytes that say that they carry TCP or UDP.
 ghost use Rattle.std.specs.Prelude.{◌≡◌, ◌==◌, slice_index};
 ghost use Rattle.ip_address.specs.Fields.{be16};
 ghost use Rattle.lan_frames.specs.Carried.{names_tcp_or_udp, is_tcp_or_udp};

@@ -1,3 +1,4 @@
+//! Where a frame has its packet, and where its TCP segment.
 ghost use Rattle.std.specs.Prelude.{◌≡◌, ◌+◌, ◌≤◌, ◌&&◌, ◌==◌, IfSome, length, slice_index};
 ghost use Rattle.std.specs.Bool.{OnTrue};
 ghost use Rattle.net_devices.specs.Capabilities.{frame_header};

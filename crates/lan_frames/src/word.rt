@@ -1,3 +1,4 @@
+//! A word of a frame, exchanged.
 ghost use Rattle.std.specs.Prelude.{◌≡◌, ◌+◌, ◌≤◌, ◌^◌, ◌<◌, length};
 ghost use Rattle.lan_frames.specs.Parts.{damaged};
 

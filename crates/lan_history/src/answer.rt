@@ -1,3 +1,4 @@
+//! What events answer, and why one isn't taken.
 ghost use Rattle.std.specs.Prelude.{◌≡◌};
 ghost use Rattle.lan_history.specs.Texts.{fault_text, refused_text};
 

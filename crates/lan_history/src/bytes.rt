@@ -1,3 +1,4 @@
+//! Owned bytes.
 ghost use Rattle.std.specs.Prelude.{◌≡◌, List, ℕ, length, IfOk, ◌==◌};
 
 use std::alloc::{AllocError, Global};

@@ -1,3 +1,4 @@
+//! The events of two hosts and their link.
 use crate::bytes::Bytes;
 use arrayvec::ArrayVec;
 use ip_wire::{EthernetAddress, IpAddress, IpCidr, IpEndpoint, TcpTimestampGenerator};

@@ -1,3 +1,4 @@
+//! A host at the link.
 ghost use Rattle.std.specs.Prelude.{◌≡◌, ◌≤◌, length, drop};
 ghost use Rattle.net_base.specs.Device.{frames_of};
 

@@ -1,3 +1,4 @@
+//! The buffers that a port holds ready.
 ghost use Rattle.std.specs.Prelude.{◌≡◌, ◌+◌, ◌-◌, ◌<◌, ◌≤◌, vec_len, vec_capacity, [], ◌∷◌, ◌++◌, max, All, IfSome, IfNone, OnSome, IfOk, OnOk, OnErr};
 ghost use Rattle.net_base.specs.Device.{frames_of};
 ghost use Rattle.lan_port.specs.Pool.{Pool, ready_left};

@@ -1,3 +1,4 @@
+//! A port: the device of a simulated host.
 ghost use Rattle.std.specs.Prelude.{◌≡◌, ◌<◌, ◌≤◌, max, [], ◌∷◌, ◌++◌, OnOk, OnErr};
 ghost use Rattle.net_base.specs.Device.{frames_of};
 ghost use Rattle.lan_port.specs.Port.{unused_end, arrived, added, ready_for};

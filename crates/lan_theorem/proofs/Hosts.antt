@@ -1,3 +1,4 @@
+-- Runs of a host by itself.
 pub mod Paths
 pub mod Calling
 pub mod Polling

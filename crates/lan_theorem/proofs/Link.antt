@@ -1,3 +1,4 @@
+-- What the link hands over was made.
 pub mod Behind
 pub mod Hands
 pub mod Contents

@@ -1,3 +1,4 @@
+-- What a host does is a run over packets.
 pub mod Places
 pub mod Nets
 pub mod Offering

@@ -1,3 +1,4 @@
+-- Runs of a host by itself: its machine, requests, quiet, damage.
 pub mod Machine
 pub mod HostRuns
 pub mod Asked

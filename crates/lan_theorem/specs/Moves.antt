@@ -1,3 +1,4 @@
+-- A host's moves over packets.
 pub mod Made
 pub mod Link
 pub mod Follows

@@ -1,3 +1,4 @@
+//! Why two hosts make no world.
 ghost use Rattle.std.specs.Prelude.{◌≡◌};
 ghost use Rattle.lan_world.specs.New.{world_error_text};
 

@@ -1,7 +1,7 @@
 //! Two hosts and the link between them, which loses, repeats, reorders, pads, damages and cuts frames, and adds some.
 //!
 //! What an event does stands in `lan_hosts`; a world takes events one by one, refuses those that it must, and keeps them with their
-//! answers.
+//! answers. It passes on the hosts, the events and their answers, and what a host is made of.
 #![tactic(auto)]
 
 mod error;
@@ -12,6 +12,7 @@ mod typed;
 mod world;
 
 pub use error::WorldError;
+pub use interface::{Config, Interface, NewError, SocketSet};
 pub use lan_history::{Answer, Bytes, Event, Fault, Refused, Side, TcpSetting};
 pub use lan_theorem::{Host, host_laws};
 pub use world::World;

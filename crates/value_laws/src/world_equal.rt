@@ -2,8 +2,8 @@
 //! value.
 ghost use Rattle.std.specs.Prelude.{◌≡◌, ◌↔◌, IsTrue};
 
+use lan::WorldError;
 use lan_hosts::Brief;
-use lan_world::WorldError;
 
 /// Law: `==` says of two answers without bytes, and of why hosts make no world, whether it is the same.
 pub fn worlds_are_equated()

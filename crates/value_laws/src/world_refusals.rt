@@ -7,7 +7,7 @@ ghost use Rattle.lan_hosts.specs.Runs.{Step, Steps, answers_of, refusal_in, tabl
 ghost use Rattle.lan_world.specs.Come.{both, starts_of};
 ghost use Rattle.lan_world.specs.New.{new_error, MayFail};
 
-use lan_world::{Answer, Event, Host, Refused, World, WorldError};
+use lan::{Answer, Event, Host, Refused, World, WorldError};
 use std::alloc::Global;
 
 /// Two hosts make a world, or the first reason says why not, or there is no memory.
