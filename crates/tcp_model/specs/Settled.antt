@@ -14,9 +14,10 @@ use Rattle.tcp_model.specs.Retries.{asked}
 use Rattle.tcp_control.specs.RoundTrip as round_trip
 use Rattle.tcp_model.specs.Value.{TcpValue, with_block, unoffered, queued_in, room_of}
 
--- the right edge of the window that a segment announced, of a receive buffer with this capacity; the field of a SYN isn't shifted
+-- The right edge of the window that a segment announced, of a receive buffer with this capacity. A SYN's field isn't shifted and may not
+-- tell all of an empty buffer; what it leaves out is no space that came free.
 abbrev pub edge_by : Block → OpenOffer → ℕ → ℕ
-edge_by b o capacity = if is_syn o.segment.control then o.segment.window_len else o.segment.window_len * 2 ^ own_shift b capacity
+edge_by b o capacity = if is_syn o.segment.control then capacity else o.segment.window_len * 2 ^ own_shift b capacity
 
 -- The edge of its window is recorded, and its acknowledgement, if it has one: none is due any more. The next keep-alive is counted from
 -- each segment (3.8.4).

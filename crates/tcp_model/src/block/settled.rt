@@ -13,7 +13,8 @@ use tcp_control::moments::{later_by, timeout_from};
 impl Block {
     /// Records what each segment that went counts for.
     fn record(&mut self, offer: &OpenOffer, capacity: usize)
-        requires { IsMoment offer.now.moment }
+        requires moment { IsMoment offer.now.moment }
+        requires capacity { capacity ≤ 2 ^ 30 }
         ensures { self.new ≡ recorded self.old offer.now capacity }
     {
         self.receiver.edge = self.edge_by(offer, capacity);
@@ -26,13 +27,13 @@ impl Block {
 
     /// The right edge of the window that a segment announced, of a receive buffer with this capacity.
     fn edge_by(&self, offer: &OpenOffer, capacity: usize) -> u32
+        requires { capacity ≤ 2 ^ 30 }
         ensures { result ≡ edge_by self.now offer.now capacity }
     {
-        let field = offer.segment.window_len as u32;
         if is_syn(offer.segment.control) {
-            field
+            capacity as u32
         } else {
-            field << self.own_shift(capacity)
+            (offer.segment.window_len as u32) << self.own_shift(capacity)
         }
     }
 
@@ -101,6 +102,7 @@ impl Block {
     pub fn sent(&mut self, offer: &OpenOffer, queued: usize, capacity: usize)
         requires moment { IsMoment offer.now.moment }
         requires end { EndsNear offer.now.kind self.old offer.now }
+        requires capacity { capacity ≤ 2 ^ 30 }
         ensures { self.new ≡ sent_as offer.now.kind (recorded self.old offer.now capacity) offer.now queued }
     {
         self.record(offer, capacity);
