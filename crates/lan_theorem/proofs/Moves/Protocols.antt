@@ -1,6 +1,6 @@
 -- The header of a packet that a socket offers, and of one that answers, names what it carries.
 use Rattle.std.proofs.Common.{◌≡◌, ℕ, ◌+◌, Bool, true, false, if◌then◌else◌, not, List, length, Option, Some, None, IfSome, is_some, refl, sym, ap, ◌∙◌, subst}
-use Rattle.std.specs.Prelude.{◌^◌, ◌&&◌, nat_lt}
+use Rattle.std.specs.Prelude.{◌^◌, ◌==◌, ◌&&◌, nat_lt}
 use Rattle.control_wire.specs.Icmpv4Header.{Icmpv4Header}
 use Rattle.control_wire.specs.Icmpv6.{MessageValue}
 use Rattle.ip_wire.specs.Ip.{carried_in}
