@@ -374,7 +374,7 @@ module _
           (record { fresh = u'.fresh; nameless = u'.nameless; nothing = plain ∙ u.nothing })
       by (Some o) opened =
           called_opened places h e side p q at v Call.Abort kind allowed is k far pairs o (abort_after v) opened
-          (ports_abort v (ports_of o) (ok.ports o opened)) (λ pair named. pair_kept v.block (abort_after v).block pair (inl (abort_names v)) named)
+          (ports_abort v (ports_of o) (ok.ports o opened)) (λ pair named. pair_kept v.block (abort_after v).block pair (abort_names v) named)
           (λ w b keeps.
           subst (λ (t : Past). Keeps (abort_after v) (past_at o.local p.segments t) w b) (sym plain)
           (keeps_abort v w (past_at o.local p.segments (told h side at)) b keeps))
