@@ -272,7 +272,7 @@ impl Socket {
         Ok(self.queues.queued.enqueue(size, meta)?)
     }
 
-    /// Queues a datagram of these bytes.
+    /// Queues a datagram of these bytes. One for which an offer finds no source address is dropped then, in silence.
     pub fn send_slice(&mut self, data: &[u8], meta: UdpMetadata) -> Result<(), SendError>
         ensures answer { result ≡ send_answer self.old meta (length «data».now) }
         ensures state { self.new ≡ send_after self.old meta «data».now }

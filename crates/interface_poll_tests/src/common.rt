@@ -2,9 +2,10 @@
 ghost use Rattle.net_base.specs.Time.{IsMoment};
 
 use crate::streams::closed_socket;
-use crate::wire::{Kind, Wire};
+use crate::wire::prepared;
 use interface::{Config, Interface, PollIngressSingleResult, PollResult, SocketHandle, SocketSet};
-use ip_wire::{EthernetAddress, HardwareAddress, IpAddress, IpCidr, IpEndpoint, IpListenEndpoint};
+use ip_wire::{EthernetAddress, HardwareAddress, IpAddress, IpCidr, IpListenEndpoint};
+use lan_port::Port;
 use net_base::{Device, Instant, ManagedSlice, Medium, PacketBuffer, PacketMetadata};
 use sockets::{Socket, udp};
 use std::alloc::Global;
@@ -20,7 +21,6 @@ pub fn at(micros: u32) -> Instant
 /// The socket of a host: of UDP and bound to this port, or of TCP and closed.
 #[derive(Clone, Copy, Drop)]
 pub enum Has {
-    Nothing,
     Udp(u16),
     Tcp,
 }
@@ -28,7 +28,6 @@ pub enum Has {
 /// What a host is made of.
 #[derive(Clone, Copy, Drop)]
 pub struct Plan {
-    pub device: Kind,
     pub medium: Medium,
     /// The host's seed, and the last byte of its addresses: 192.168.1.n, over Ethernet 02-00-00-00-00-n.
     pub number: u8,
@@ -41,7 +40,6 @@ pub struct Plan {
 
 /// A host at a port of medium IP with a UDP socket at port 48896.
 pub const UDP: Plan = Plan {
-    device: Kind::Port,
     medium: Medium::Ip,
     number: 1,
     has_ipv6: false,
@@ -52,12 +50,6 @@ pub const UDP: Plan = Plan {
 /// The same with a TCP socket.
 pub const TCP: Plan = Plan {
     socket: Has::Tcp,
-    ..UDP
-};
-
-/// The same over Ethernet, with a UDP socket.
-pub const ETHERNET: Plan = Plan {
-    medium: Medium::Ethernet,
     ..UDP
 };
 
@@ -140,11 +132,10 @@ fn bound_socket(alloc: Global, room: usize, port: u16) -> Result<udp::Socket, Fa
     }
 }
 
-fn planned_socket(alloc: Global, plan: &Plan) -> Result<Option<Socket>, Fail> {
+fn planned_socket(alloc: Global, plan: &Plan) -> Result<Socket, Fail> {
     match plan.socket {
-        Has::Nothing => Ok(None),
-        Has::Udp(port) => Ok(Some(Socket::Udp(bound_socket(alloc, plan.room, port)?))),
-        Has::Tcp => Ok(Some(Socket::Tcp(closed_socket(alloc, plan.room)?))),
+        Has::Udp(port) => Ok(Socket::Udp(bound_socket(alloc, plan.room, port)?)),
+        Has::Tcp => Ok(Socket::Tcp(closed_socket(alloc, plan.room)?)),
     }
 }
 
@@ -153,11 +144,11 @@ pub fn no_sockets(alloc: Global) -> SocketSet<Socket> {
     SocketSet::new(ManagedSlice::Owned(Vec::new(alloc)))
 }
 
-/// A host at its device, with the socket of this handle, if any.
+/// A host at its device, with the socket of this handle.
 #[derive(Drop)]
 pub struct Host {
     pub interface: Interface,
-    pub wire: Wire,
+    pub wire: Port,
     pub sockets: SocketSet<Socket>,
     pub handle: Option<SocketHandle>,
     /// The moment of its calls, in microseconds.
@@ -168,16 +159,14 @@ impl Host {
     /// The planned host, at moment 0; on the heap, where lending it is cheap to prove.
     pub fn new(alloc: Global, plan: &Plan) -> Result<Box<Host>, Fail> {
         let mut host = Box::new(alloc, Host::bare(alloc, plan)?)?;
-        if let Some(socket) = planned_socket(alloc, plan)? {
-            host.handle = host.add(socket);
-        }
+        host.handle = host.add(planned_socket(alloc, plan)?);
         Ok(host)
     }
 
     /// The same without its socket.
     fn bare(alloc: Global, plan: &Plan) -> Result<Host, Fail> {
-        let wire = Wire::new(alloc, plan.device, plan.medium)?;
-        let interface = wire.interface(alloc, plan)?;
+        let wire = prepared(alloc, plan.medium)?;
+        let interface = begin(alloc, plan, &wire)?;
         Ok(Host {
             interface,
             wire,
@@ -193,40 +182,26 @@ impl Host {
     }
 
     pub fn poll(&mut self, budget: u16) -> PollResult {
-        let (now, sockets) = (at(self.now), &mut self.sockets);
-        match &mut self.wire {
-            Wire::Port(port) => self.interface.poll(now, port, sockets, budget),
-            Wire::Refusing(device) => self.interface.poll(now, device, sockets, budget),
-        }
-    }
-
-    pub fn egress(&mut self) -> PollResult {
-        let (now, sockets) = (at(self.now), &mut self.sockets);
-        match &mut self.wire {
-            Wire::Port(port) => self.interface.poll_egress(now, port, sockets),
-            Wire::Refusing(device) => self.interface.poll_egress(now, device, sockets),
-        }
+        let now = at(self.now);
+        self.interface
+            .poll(now, &mut self.wire, &mut self.sockets, budget)
     }
 
     /// Takes in one frame.
     pub fn ingress(&mut self) -> PollIngressSingleResult {
-        let (now, sockets) = (at(self.now), &mut self.sockets);
-        match &mut self.wire {
-            Wire::Port(port) => self.interface.poll_ingress_single(now, port, sockets),
-            Wire::Refusing(device) => self.interface.poll_ingress_single(now, device, sockets),
-        }
+        let now = at(self.now);
+        self.interface
+            .poll_ingress_single(now, &mut self.wire, &mut self.sockets)
     }
 
-    pub fn maintain(&mut self) {
-        self.interface.poll_maintenance(at(self.now));
+    /// A frame comes. There may be no memory for it.
+    pub fn comes(&mut self, frame: Vec<u8>) -> bool {
+        self.wire.push(frame).is_ok()
     }
 
-    /// The moment at which it wants to be polled, in microseconds.
-    pub fn due(&mut self) -> Option<u64> {
-        match self.interface.poll_at(at(self.now), &self.sockets) {
-            Some(moment) => Some(u64::try_from(moment.total_micros()).unwrap_or(u64::MAX)),
-            None => None,
-        }
+    /// How many of the frames that came wait yet.
+    pub fn left(&self) -> usize {
+        self.wire.waiting().len()
     }
 
     /// In how many microseconds it wants to be polled.
@@ -241,17 +216,6 @@ impl Host {
         match self.sockets.get_mut(self.handle?) {
             Some(Socket::Udp(socket)) => Some(socket),
             _ => None,
-        }
-    }
-
-    /// Queues a datagram of these bytes for 192.168.1.2:53.
-    pub fn queue(&mut self, bytes: &[u8]) -> bool {
-        let remote = IpEndpoint::new(IpAddress::v4(192, 168, 1, 2), 53);
-        match self.udp() {
-            Some(socket) => socket
-                .send_slice(bytes, udp::UdpMetadata::from(remote))
-                .is_ok(),
-            None => false,
         }
     }
 

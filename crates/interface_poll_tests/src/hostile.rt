@@ -1,7 +1,7 @@
 //! Hostile bytes: whatever frames come, each is taken, and a poll answers one of its results.
 use crate::common::{Host, Plan, UDP};
 use crate::streams::listening_socket;
-use crate::wire::{Wire, capabilities};
+use crate::wire::capabilities;
 use interface::{PollIngressSingleResult, PollResult};
 use lan_port::Port;
 use net_base::{ChecksumCapabilities, Medium, Rand};
@@ -123,12 +123,12 @@ fn frame(alloc: Global, medium: Medium, words: &mut Rand) -> Result<Vec<u8>, Fai
 }
 
 /// A port of this medium; every second one leaves no checksum to the host, so that damaged frames are read, too.
-fn port(alloc: Global, medium: Medium, number: u32) -> Wire {
+fn port(alloc: Global, medium: Medium, number: u32) -> Port {
     let mut described = capabilities(medium);
     if number % 2 == 1 {
         described.checksum = ChecksumCapabilities::ignored();
     }
-    Wire::Port(Port::new(alloc, described))
+    Port::new(alloc, described)
 }
 
 /// What came of the frames: polls that changed something, datagrams that were read, frames that were sent, and frames that
@@ -151,7 +151,7 @@ impl Seen {
         if host.received().is_some() {
             self.read = self.read.saturating_add(1);
         }
-        self.left = self.left.saturating_add(host.wire.left());
+        self.left = self.left.saturating_add(host.left());
     }
 
     /// Whether every frame was taken, and more than a thousand times each came of it.
@@ -170,7 +170,7 @@ fn come(
     seen: &mut Seen,
 ) -> Result<(), Fail> {
     for number in 0..AT_A_PORT {
-        if !host.wire.comes(frame(alloc, medium, words)?) {
+        if !host.comes(frame(alloc, medium, words)?) {
             return Err("a place".into());
         }
         host.now = first.saturating_add(number).saturating_mul(1_000);
@@ -252,13 +252,13 @@ fn damaged(alloc: Global, words: &mut Rand) -> Result<Vec<u8>, Fail> {
 fn are_taken(alloc: Global, host: &mut Host, count: u32) -> Result<bool, Fail> {
     let mut words = Rand::new(7);
     for _ in 0..count {
-        if !host.wire.comes(damaged(alloc, &mut words)?)
+        if !host.comes(damaged(alloc, &mut words)?)
             || host.ingress() != PollIngressSingleResult::SocketStateChanged
         {
             return Ok(false);
         }
     }
-    Ok(host.wire.left() == 0)
+    Ok(host.left() == 0)
 }
 
 #[test]

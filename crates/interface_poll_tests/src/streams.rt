@@ -1,7 +1,7 @@
 //! Hosts' TCP sockets.
 use crate::common::Host;
 use ip_wire::{IpAddress, IpEndpoint};
-use net_base::{Duration, ManagedSlice, RingBuffer};
+use net_base::{ManagedSlice, RingBuffer};
 use sockets::tcp::State;
 use sockets::{Socket, tcp};
 use std::alloc::Global;
@@ -66,48 +66,10 @@ impl Host {
         }
     }
 
-    pub fn close(&mut self) -> bool {
-        match self.tcp() {
-            Some(socket) => {
-                socket.close();
-                true
-            }
-            None => false,
-        }
-    }
-
     pub fn state(&mut self) -> Option<State> {
         match self.tcp() {
             Some(socket) => Some(socket.state()),
             None => None,
-        }
-    }
-
-    /// Writes of these bytes those for which there is room, and says how many.
-    pub fn write(&mut self, bytes: &[u8]) -> Option<usize> {
-        match self.tcp()?.send_slice(bytes) {
-            Ok(count) => Some(count),
-            Err(_) => None,
-        }
-    }
-
-    pub fn set_keep_alive(&mut self, micros: u64) -> bool {
-        match self.tcp() {
-            Some(socket) => {
-                socket.set_keep_alive(Some(Duration::from_micros(micros)));
-                true
-            }
-            None => false,
-        }
-    }
-
-    pub fn set_timeout(&mut self, micros: u64) -> bool {
-        match self.tcp() {
-            Some(socket) => {
-                socket.set_timeout(Some(Duration::from_micros(micros)));
-                true
-            }
-            None => false,
         }
     }
 }

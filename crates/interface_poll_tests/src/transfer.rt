@@ -137,7 +137,7 @@ impl Side {
 /// A copy of the frame comes.
 fn pass(to: &mut Host, frame: &Vec<u8>) -> bool {
     match frame.clone() {
-        Ok(frame) => to.wire.comes(frame),
+        Ok(frame) => to.comes(frame),
         Err(_) => false,
     }
 }
@@ -153,7 +153,7 @@ fn carry(from: &mut Side, to: &mut Host, words: &mut Rand) -> Result<bool, Fail>
             _ => {
                 came = came && pass(to, frame);
                 if let Some(earlier) = from.held.take() {
-                    came = to.wire.comes(earlier) && came;
+                    came = to.comes(earlier) && came;
                 }
             }
         }
@@ -193,7 +193,7 @@ impl Transfer {
     /// polled.
     fn pause(&mut self) -> u32 {
         let (client, server) = (&mut self.client, &mut self.server);
-        if client.host.wire.left() == 0 && server.host.wire.left() == 0 {
+        if client.host.left() == 0 && server.host.left() == 0 {
             client
                 .delay(self.micros)
                 .min(server.delay(self.micros))

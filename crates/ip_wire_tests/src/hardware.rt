@@ -14,30 +14,6 @@ fn raw_addresses() -> (RawHardwareAddress, RawHardwareAddress, RawHardwareAddres
     )
 }
 
-fn ethernet(text: &str) -> Option<EthernetAddress> {
-    text.parse().ok()
-}
-
-#[test]
-fn reads_ethernet_addresses(rt: HostRuntime) {
-    for text in ["02-00-00-00-00-0a", "02:00:00:00:00:0A", "2-0-0-0-0-a"] {
-        let wanted = EthernetAddress([2, 0, 0, 0, 0, 10]);
-        assert!(rt; ethernet(text) == Some(wanted), "at {text}");
-    }
-    for text in [
-        "",
-        "02-00-00-00-00",
-        "02-00-00-00-00-00-00",
-        "02-00:00-00-00-00",
-        "002-0-0-0-0-0",
-        "g-0-0-0-0-0",
-        "+2-0-0-0-0-0",
-        "02--00-00-00-00",
-    ] {
-        assert!(rt; ethernet(text).is_none(), "at {text}");
-    }
-}
-
 #[test]
 fn prints_hardware_addresses(rt: HostRuntime) -> Result<(), Fail> {
     let shown = format!(in rt.alloc();

@@ -20,6 +20,8 @@ mod ipv6;
 #[cfg(test)]
 mod ipv6_fragment;
 #[cfg(test)]
+mod laws;
+#[cfg(test)]
 mod link;
 #[cfg(test)]
 mod numbers;

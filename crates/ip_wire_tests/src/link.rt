@@ -1,9 +1,8 @@
-//! Ethernet frames and ARP packets from outside, read and written.
-use crate::samples::{behind, ends_with, first, is_same, put, starts_with};
+//! Ethernet frames and ARP packets, where they are written. `decode` reads and writes them as data.
+use crate::samples::{behind, ends_with, first, is_same, starts_with};
 use ip_wire::{
-    ArpHardware, ArpOperation, ArpPacket, ArpPacketMut, ArpRepr, Error, EthernetAddress,
-    EthernetFrame, EthernetFrameMut, EthernetProtocol, EthernetRepr, Ipv4Address, arp_laws,
-    ethernet_laws,
+    ArpHardware, ArpOperation, ArpPacketMut, ArpRepr, EthernetAddress, EthernetFrame,
+    EthernetFrameMut, EthernetProtocol, EthernetRepr, Ipv4Address, arp_laws,
 };
 
 /// A request from 192.168.1.1 at 02-00-00-00-00-01 for the hardware address of 192.168.1.2, in a
@@ -34,50 +33,6 @@ fn request(operation: ArpOperation) -> ArpRepr {
     }
 }
 
-/// Whether the frame is whole, both addresses, what it carries, how long its payload and the view are.
-fn frame_parts(
-    bytes: &[u8],
-) -> Option<
-    (
-        bool,
-        EthernetAddress,
-        EthernetAddress,
-        EthernetProtocol,
-        usize,
-        usize,
-    ),
-> {
-    let frame = EthernetFrame::new_checked(bytes).ok()?;
-    Some((
-        frame.check_len().is_ok(),
-        frame.dst_addr(),
-        frame.src_addr(),
-        frame.ethertype(),
-        frame.payload().len(),
-        frame.into_inner().len(),
-    ))
-}
-
-/// Whether a frame's header is read as this one, or refused.
-fn is_header(bytes: &[u8], wanted: Result<EthernetRepr, Error>) -> bool {
-    EthernetRepr::parse(&EthernetFrame::new_unchecked(bytes)) == wanted
-}
-
-#[test]
-fn frame_is_read(rt: HostRuntime) {
-    let parts = (
-        true,
-        EthernetAddress::BROADCAST,
-        SENDER,
-        EthernetProtocol::Arp,
-        46,
-        60,
-    );
-    assert!(rt; frame_parts(&FRAME) == Some(parts));
-    assert!(rt; is_header(&FRAME, Ok(HEADER)));
-    assert!(rt; is_header(first(&FRAME, 13), Err(Error)));
-}
-
 #[test]
 fn frames_have_lengths(rt: HostRuntime) {
     let headers = [
@@ -91,33 +46,6 @@ fn frames_have_lengths(rt: HostRuntime) {
         EthernetFrameMut::buffer_len(46),
     ];
     assert!(rt; frames == [60; 2]);
-    ethernet_laws::ethernet_spelled();
-    ethernet_laws::ethernet_no_longer();
-    ethernet_laws::ethernet_fits();
-    ethernet_laws::ethernet_normal();
-    ethernet_laws::ethernet_normal_again();
-    ethernet_laws::ethernet_reads_back();
-    ethernet_laws::ethernet_equal();
-    ethernet_laws::ethernet_written_fields_are_read();
-}
-
-/// Writes a header, and says whether the payload behind it is this one.
-fn is_emitted(header: &EthernetRepr, bytes: &mut [u8], payload: &[u8]) -> bool {
-    if bytes.len() < 14 {
-        return false;
-    }
-    header.emit(&mut EthernetFrameMut::new_unchecked(bytes));
-    match EthernetFrameMut::new_checked(bytes) {
-        Ok(frame) => frame.payload() == payload,
-        Err(_) => false,
-    }
-}
-
-#[test]
-fn frame_is_written(rt: HostRuntime) {
-    let mut bytes = [0xa5; 20];
-    assert!(rt; is_emitted(&HEADER, &mut bytes, &[0xa5; 6]));
-    assert!(rt; is_same(first(&bytes, 14), first(&FRAME, 14)));
 }
 
 /// Whether the frame is whole, both addresses, and what it carries, where it is written.
@@ -177,30 +105,6 @@ fn emit_arp(packet: &ArpRepr, bytes: &mut [u8]) {
     }
 }
 
-/// Whether a packet is read as this one.
-fn is_packet(bytes: &[u8], wanted: ArpRepr) -> bool {
-    read_arp(bytes) == Ok(wanted)
-}
-
-fn read_arp(bytes: &[u8]) -> Result<ArpRepr, Error> {
-    ArpRepr::parse(&ArpPacket::new_unchecked(bytes))
-}
-
-#[test]
-fn known_numbers_are_read_by_name(rt: HostRuntime) {
-    let mut bytes = [0; 42];
-    let (front, packet) = bytes.split_at_mut(14);
-    let unnamed = EthernetRepr {
-        ethertype: EthernetProtocol::Unknown(0x0806),
-        ..HEADER
-    };
-    assert!(rt; is_emitted(&unnamed, front, &[]));
-    emit_arp(&request(ArpOperation::Unknown(1)), packet);
-    assert!(rt; starts_with(&FRAME, &bytes));
-    assert!(rt; is_header(&bytes, Ok(HEADER)));
-    assert!(rt; is_packet(behind(&bytes, 14), request(ArpOperation::Request)));
-}
-
 /// Kinds, lengths and operation of a packet, and whether it is whole.
 type ArpNumbers = (bool, ArpHardware, EthernetProtocol, u8, u8, ArpOperation);
 
@@ -213,81 +117,8 @@ const NUMBERS: ArpNumbers = (
     ArpOperation::Request,
 );
 
-fn arp_numbers(bytes: &[u8]) -> Option<ArpNumbers> {
-    let packet = ArpPacket::new_checked(bytes).ok()?;
-    Some((
-        packet.check_len().is_ok(),
-        packet.hardware_type(),
-        packet.protocol_type(),
-        packet.hardware_len(),
-        packet.protocol_len(),
-        packet.operation(),
-    ))
-}
-
 /// The four addresses of a packet, in their order.
 type ArpAddresses<'a> = (&'a [u8], &'a [u8], &'a [u8], &'a [u8]);
-
-fn arp_addresses(bytes: &[u8]) -> Option<ArpAddresses<'_>> {
-    let packet = ArpPacket::new_checked(bytes).ok()?;
-    Some((
-        packet.source_hardware_addr(),
-        packet.source_protocol_addr(),
-        packet.target_hardware_addr(),
-        packet.target_protocol_addr(),
-    ))
-}
-
-#[test]
-fn request_is_read(rt: HostRuntime) {
-    let bytes = behind(&FRAME, 14);
-    assert!(rt; arp_numbers(bytes) == Some(NUMBERS));
-    let (here, there) = ([192, 168, 1, 1], [192, 168, 1, 2]);
-    let addresses = (
-        SENDER.0.as_slice(),
-        here.as_slice(),
-        [0; 6].as_slice(),
-        there.as_slice(),
-    );
-    assert!(rt; arp_addresses(bytes) == Some(addresses));
-    assert!(rt; is_packet(bytes, request(ArpOperation::Request)));
-    assert!(rt; ArpPacket::new_unchecked(bytes).into_inner().len() == 46);
-}
-
-#[test]
-fn request_has_its_length(rt: HostRuntime) {
-    assert!(rt; request(ArpOperation::Request).buffer_len() == 28);
-    arp_laws::arp_spelled();
-    arp_laws::arp_no_longer();
-    arp_laws::arp_fits();
-    arp_laws::arp_normal();
-    arp_laws::arp_normal_again();
-    arp_laws::arp_reads_back();
-    arp_laws::arp_equal();
-    arp_laws::arp_written_fields_are_read();
-}
-
-/// Whether the request is read with this byte in this place, cut to so many bytes.
-fn is_read(at: usize, byte: u8, len: usize) -> bool {
-    let mut frame = FRAME;
-    put(&mut frame, at.saturating_add(14), byte);
-    read_arp(first(behind(&frame, 14), len)).is_ok()
-}
-
-#[test]
-fn packets_are_refused(rt: HostRuntime) {
-    for (at, byte, len, read, what) in [
-        (45, 0, 28, true, "28 bytes"),
-        (45, 0, 27, false, "under 28 bytes"),
-        (1, 6, 46, false, "another kind of hardware addresses"),
-        (2, 0x86, 46, false, "another protocol"),
-        (4, 8, 46, false, "longer hardware addresses"),
-        (5, 16, 46, false, "longer protocol addresses"),
-        (7, 9, 46, true, "an unknown operation"),
-    ] {
-        assert!(rt; is_read(at, byte, len) == read, "{what}");
-    }
-}
 
 #[test]
 fn request_is_written(rt: HostRuntime) {
@@ -295,6 +126,7 @@ fn request_is_written(rt: HostRuntime) {
     emit_arp(&request(ArpOperation::Request), &mut bytes);
     assert!(rt; starts_with(&bytes, first(behind(&FRAME, 14), 28)));
     assert!(rt; bytes.last().copied() == Some(0xa5));
+    assert!(rt; request(ArpOperation::Request).buffer_len() == 28);
 }
 
 /// A number to be set.

@@ -1,62 +1,10 @@
-//! Numbers of protocols, constants, numbers in network order and sequence numbers.
+//! Constants, numbers in network order and sequence numbers.
 use ip_wire::{
-    Error, EthernetProtocol, IPV4_MIN_MTU, IPV4_MULTICAST_ALL_ROUTERS, IPV4_MULTICAST_ALL_SYSTEMS,
+    IPV4_MIN_MTU, IPV4_MULTICAST_ALL_ROUTERS, IPV4_MULTICAST_ALL_SYSTEMS,
     IPV6_LINK_LOCAL_ALL_MLDV2_ROUTERS, IPV6_LINK_LOCAL_ALL_NODES, IPV6_LINK_LOCAL_ALL_ROUTERS,
-    IPV6_MIN_MTU, IpAddress, IpCidr, IpProtocol, IpVersion, Ipv4Address, Ipv6Address,
-    MAX_HARDWARE_ADDRESS_LEN, SeqNumber, address_laws, network_order, seq_number,
+    IPV6_MIN_MTU, IpAddress, IpCidr, Ipv4Address, Ipv6Address, MAX_HARDWARE_ADDRESS_LEN, SeqNumber,
+    address_laws, network_order, seq_number,
 };
-
-#[test]
-fn tells_versions_by_the_first_bits(rt: HostRuntime) {
-    let rows: [(&[u8], Result<IpVersion, Error>); 6] = [
-        (&[0x45, 0], Ok(IpVersion::Ipv4)),
-        (&[0x60], Ok(IpVersion::Ipv6)),
-        (&[], Err(Error)),
-        (&[0x54], Err(Error)),
-        (&[0x04], Err(Error)),
-        (&[0x76], Err(Error)),
-    ];
-    for (bytes, version) in rows {
-        assert!(rt; IpVersion::of_packet(bytes) == version, "{bytes:?}");
-    }
-}
-
-// IANA, "Protocol Numbers".
-#[test]
-fn numbers_name_protocols(rt: HostRuntime) {
-    for (number, protocol) in [
-        (0, IpProtocol::HopByHop),
-        (1, IpProtocol::Icmp),
-        (2, IpProtocol::Igmp),
-        (6, IpProtocol::Tcp),
-        (17, IpProtocol::Udp),
-        (43, IpProtocol::Ipv6Route),
-        (44, IpProtocol::Ipv6Frag),
-        (50, IpProtocol::IpSecEsp),
-        (51, IpProtocol::IpSecAh),
-        (58, IpProtocol::Icmpv6),
-        (59, IpProtocol::Ipv6NoNxt),
-        (60, IpProtocol::Ipv6Opts),
-        (200, IpProtocol::Unknown(200)),
-    ] {
-        assert!(rt; IpProtocol::from(number) == protocol);
-        assert!(rt; u8::from(protocol) == number);
-    }
-}
-
-// IANA, "IEEE 802 Numbers".
-#[test]
-fn numbers_name_ethernet_protocols(rt: HostRuntime) {
-    for (number, protocol) in [
-        (0x0800, EthernetProtocol::Ipv4),
-        (0x0806, EthernetProtocol::Arp),
-        (0x86dd, EthernetProtocol::Ipv6),
-        (0x1234, EthernetProtocol::Unknown(0x1234)),
-    ] {
-        assert!(rt; EthernetProtocol::from(number) == protocol);
-        assert!(rt; u16::from(protocol) == number);
-    }
-}
 
 // IANA's registries of multicast addresses; RFC 791, 8200, 4291 and 3810.
 #[test]

@@ -1,4 +1,6 @@
 //! A host at the link of two: what each call, setting and question of an application makes of it, and when one is refused.
+//!
+//! It passes on what a host is made of.
 #![tactic(auto)]
 
 mod answer;
@@ -19,4 +21,5 @@ pub mod streams;
 pub use answer::{Brief, Taken, Twins};
 pub use event::{refusal_of, take};
 pub use host::Host;
+pub use interface::{Config, Interface, NewError, Route, SocketSet, SocketStorage};
 pub use records::Records;

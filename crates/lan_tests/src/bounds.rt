@@ -1,7 +1,7 @@
 //! Runs that stop, and how many bytes a socket accepts.
-use crate::common::{IP, Row, tell};
-use crate::refusals::TWO_STREAMS;
+use crate::common::{Row, tell};
 use crate::steps::play_steps;
+use crate::texts::{IP, TWO_STREAMS};
 use crate::worlds::world;
 use lan::{Event, Refused, Side, World};
 use lan_history::{SocketKind, SocketRecord};

@@ -7,52 +7,11 @@
 //!     # noise is dropped     what the lines behind it show
 //!
 //! At the end of a line `{2000*00}` stands for 2000 times `00`, and `{end}` for a line without its end.
-use lan::replay;
 use std::alloc::{AllocError, Global};
 use std::test::Fail;
 
 /// Scripts: what they show, the lines before each of them, and a text of their own.
 pub type Row = (&'static str, &'static [&'static str], &'static str);
-
-/// Hosts on bare IP with one UDP socket each.
-pub const IP: &str = "\
-world ip 1500
-socket A udp 1 64 1 64
-socket B udp 1 64 1 64
-start
-> ok
-";
-
-/// The same on Ethernet.
-pub const ETHERNET: &str = "\
-world eth 1514
-socket A udp 1 64 1 64
-socket B udp 1 64 1 64
-start
-> ok
-";
-
-/// Hosts on bare IP with one UDP socket of long queues each, both bound.
-pub const LONG: &str = "\
-world ip 1500
-socket A udp 2 8192 2 8192
-socket B udp 2 8192 2 8192
-start
-> ok
-bind A 0 48896
-> ok
-bind B 0 53
-> ok
-";
-
-/// Hosts on Ethernet with one TCP socket each.
-pub const STREAMS: &str = "\
-world eth 1514
-socket A tcp 64 64
-socket B tcp 64 64
-start
-> ok
-";
 
 /// A script, and what it is to write with which status.
 #[derive(Drop)]
@@ -108,44 +67,6 @@ pub fn push_line(text: &mut String, line: &str) -> Result<(), AllocError> {
             text.push_str(byte.trim_end_matches('}'))?;
         }
         text.push_str("\n")?;
-    }
-    Ok(())
-}
-
-/// The status of a script, and what it writes.
-pub fn played(alloc: Global, script: &str) -> (u8, Vec<u8>) {
-    let mut reader = script.as_bytes();
-    let mut writer = Vec::new(alloc);
-    let status = replay(alloc, &mut reader, &mut writer);
-    (status, writer)
-}
-
-/// Fails where another status was found, or something else was written: the failure shows what.
-fn compare(name: &str, case: &Case, status: u8, written: &str) -> Result<(), Fail> {
-    if status == case.status && written == case.output.as_str() {
-        return Ok(());
-    }
-    Err(Fail::new(format_args!("{name}: status {status}, and it wrote\n{written}")))
-}
-
-/// Plays a script.
-pub fn play_case(alloc: Global, name: &str, case: &Case) -> Result<(), Fail> {
-    let (status, written) = played(alloc, case.script.as_str());
-    compare(name, case, status, String::from_utf8(written)?.as_str())
-}
-
-fn play_row(alloc: Global, row: &Row) -> Result<(), Fail> {
-    let (name, before, text) = row;
-    for script in text.split("==\n") {
-        play_case(alloc, name, &Case::new(alloc, before, script)?)?;
-    }
-    Ok(())
-}
-
-/// Plays each script of each row.
-pub fn play(rt: &HostRuntime, rows: &[Row]) -> Result<(), Fail> {
-    for row in rows {
-        play_row(rt.alloc(), row)?;
     }
     Ok(())
 }

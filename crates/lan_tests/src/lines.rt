@@ -1,4 +1,4 @@
-//! Each form of a line, as it is read and printed, and texts that are no lines.
+//! Each form of a line, as it is read and printed. (What is no line ends a script of `lan_cases`.)
 
 use lan_script::{Line, Side};
 use std::alloc::Global;
@@ -8,26 +8,6 @@ use std::test::Fail;
 fn is_printed(alloc: Global, text: &str, printed: &str) -> Result<bool, Fail> {
     let line = Line::read(text.as_bytes()).ok_or("a line")?;
     Ok(line.to_text(alloc)?.as_str() == printed)
-}
-
-/// Fails at the first text that isn't printed like the one beside it.
-fn are_printed(alloc: Global, texts: &[(&'static str, &'static str)]) -> Result<(), Fail> {
-    for &(text, printed) in texts {
-        if !is_printed(alloc, text, printed)? {
-            return Err(text.into());
-        }
-    }
-    Ok(())
-}
-
-/// Fails at the first text that isn't printed as it was read.
-fn are_printed_as_read(alloc: Global, texts: &[&'static str]) -> Result<(), Fail> {
-    for &text in texts {
-        if !is_printed(alloc, text, text)? {
-            return Err(text.into());
-        }
-    }
-    Ok(())
 }
 
 /// Each form of a line, printed as it was read.
@@ -68,11 +48,6 @@ static FORMS: [&str; 34] = [
     "cut A 0 8",
 ];
 
-#[test]
-fn each_line_is_printed_as_it_was_read(rt: HostRuntime) -> Result<(), Fail> {
-    are_printed_as_read(rt.alloc(), &FORMS)
-}
-
 /// Texts of which there are several for one line, and how that is printed.
 static OTHERWISE: [(&str, &str); 5] = [
     ("poll A 007 0000008", "poll A 7 8"),
@@ -83,64 +58,13 @@ static OTHERWISE: [(&str, &str); 5] = [
 ];
 
 #[test]
-fn a_line_has_one_text_that_is_printed(rt: HostRuntime) -> Result<(), Fail> {
-    are_printed(rt.alloc(), &OTHERWISE)
-}
-
-/// Texts with a word outside its class, or a word too many or wanting.
-static OUTSIDE: [&str; 30] = [
-    "",
-    " start",
-    "start ",
-    "start now",
-    "Start",
-    "bogus",
-    "world ip",
-    "world wifi 1500",
-    "world ip  1500",
-    "socket A udp 1 64 1",
-    "socket A raw 5 17 1 64 1 64",
-    "socket A raw 4 256 1 64 1 64",
-    "socket A sctp 64 64",
-    "listen C 0 80",
-    "listen A 0 65536",
-    "listen A 0 +1",
-    "listen A 0 -1",
-    "listen A 0 80 80",
-    "recv A 0 18446744073709551616",
-    "pollat A 9223372036854775808",
-    "send A 0 abc",
-    "send A 0 ",
-    "send A 0",
-    "send A 0 é",
-    "damage A 0 20 616 -",
-    "damage A 0 20 06163 -",
-    "connect A 0 fd00::2:80 49500",
-    "addrs A 10.0.0.1/8 10.0.0.2/8 10.0.0.3/8 10.0.0.4/8 10.0.0.5/8",
-    "addrs A 10.0.0.1",
-    "hw A 02-00-00-00-00",
-];
-
-/// The first of these texts that is a line.
-fn first_line(texts: &[&'static str]) -> Option<&'static str> {
-    for text in texts {
-        if Line::read(text.as_bytes()).is_some() {
-            return Some(text);
-        }
+fn lines_are_printed_as_they_are_read(rt: HostRuntime) -> Result<(), Fail> {
+    for text in &FORMS {
+        assert!(rt; is_printed(rt.alloc(), text, text)?, "{text}");
     }
-    None
-}
-
-#[test]
-fn words_outside_their_classes_are_refused() -> Result<(), Fail> {
-    match first_line(&OUTSIDE) {
-        Some(text) => Err(text.into()),
-        None => Ok(()),
+    for (text, printed) in &OTHERWISE {
+        assert!(rt; is_printed(rt.alloc(), text, printed)?, "{text}");
     }
-}
-
-#[test]
-fn words_say_their_values(rt: HostRuntime) -> Result<(), Fail> {
     let line = Line::read(b"damage A 3 20 6163 5A00");
     assert!(rt; matches!(line, Some(Line::Damage(Side::A, 3, 20, 0x6163, _))));
     Ok(())

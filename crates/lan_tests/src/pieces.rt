@@ -1,6 +1,6 @@
 //! Scripts that come in pieces, and readers and writers that fail.
-use crate::common::{Case, IP};
-use crate::rows::{CARRIED, QUEUED};
+use crate::common::Case;
+use crate::texts::{CARRIED, IP, QUEUED};
 use lan::replay;
 use std::alloc::Global;
 use std::io::{self, ErrorKind, Read, Write};
@@ -165,6 +165,7 @@ poll A 6 0
 bogus
 ";
 
+/// The last three are those that no file of cases can have: with empty lines, and with a carriage return.
 const LAST_LINES: &str = "\
 world ip 1500
 start
@@ -177,6 +178,17 @@ start
 > ok
 bind A 0 9
 ! line 3: refused NoSocket
+==
+
+! line 1: bad event
+==
+world ip 1500
+
+! line 2: bad event
+start
+==
+world ip 1500\r
+! line 1: bad event
 ";
 
 #[test]

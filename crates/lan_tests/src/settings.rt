@@ -1,7 +1,7 @@
 //! Events that no line of a script names, all of host A: settings of a stream are those of its socket 3, and bytes go to its socket 0.
-use crate::common::{ETHERNET, Row, cut};
-use crate::kinds::EACH;
+use crate::common::{Row, cut};
 use crate::steps::play_steps;
+use crate::texts::{EACH, ETHERNET};
 use ip_wire::TcpTimestampGenerator;
 use lan::{Bytes, Event, Side, TcpSetting};
 use net_base::{Duration, Instant};

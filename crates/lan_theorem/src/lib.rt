@@ -16,4 +16,7 @@ pub mod link_laws;
 pub mod move_laws;
 pub mod port_laws;
 
-pub use lan_hosts::{Host, Records, laws as table_laws, refusal_of, take};
+pub use lan_hosts::{
+    Config, Host, Interface, NewError, Records, Route, SocketSet, SocketStorage,
+    laws as table_laws, refusal_of, take,
+};

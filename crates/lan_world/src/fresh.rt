@@ -9,9 +9,8 @@ ghost use Rattle.tcp_model.specs.Calls.{recv_refusal};
 ghost use Rattle.lan_world.specs.New.{new_error, has_one_medium, is_both, are_on, has_checksums, has_mtu, has_buffers, is_ingress, is_no_socket, is_unopened, is_unused, of_place, of_each, is_fresh};
 
 use crate::error::WorldError;
-use interface::{Interface, SocketSet, SocketStorage};
 use ip_wire::HardwareAddress;
-use lan_theorem::Host;
+use lan_theorem::{Host, Interface, SocketSet, SocketStorage};
 use net_base::{Checksum, ChecksumCapabilities, Device, Medium};
 use sockets::{Context, PollAt, Socket, tcp};
 

@@ -12,7 +12,6 @@ mod typed;
 mod world;
 
 pub use error::WorldError;
-pub use interface::{Config, Interface, NewError, SocketSet};
 pub use lan_history::{Answer, Bytes, Event, Fault, Refused, Side, TcpSetting};
-pub use lan_theorem::{Host, host_laws};
+pub use lan_theorem::{Config, Host, Interface, NewError, SocketSet, host_laws};
 pub use world::World;

@@ -6,10 +6,9 @@ ghost use Rattle.lan_history.specs.Kinds.{kind_of};
 ghost use Rattle.lan_hosts.specs.Fresh.{IsHardware, IsTypedHost};
 ghost use Rattle.lan_theorem.specs.Events.{IsTyped};
 
-use interface::Route;
 use ip_wire::{EthernetAddress, HardwareAddress, IpAddress, Ipv4Address, Ipv6Address};
 use lan_history::Event;
-use lan_theorem::Host;
+use lan_theorem::{Host, Route};
 
 /// A word of a damage has 16 bits, a hardware address six bytes, and a router those of its family.
 pub(crate) fn event_is_typed(event: &Event)

@@ -1,10 +1,9 @@
-//! The host that sockets work for, their queues, and the texts of their errors.
+//! The host that sockets work for, and their queues.
 ghost use Rattle.net_base.specs.Time.{IsMoment};
 
 use ip_wire::IpAddress;
 use net_base::{ChecksumCapabilities, Instant, ManagedSlice, PacketBuffer, PacketMetadata, Rand};
-use sockets::udp::{BindError, RecvError, SendError};
-use sockets::{Context, raw};
+use sockets::Context;
 use std::alloc::Global;
 use std::test::Fail;
 
@@ -85,32 +84,4 @@ where
 /// So many bytes 0.
 pub fn zeros(alloc: Global, count: usize) -> Result<Vec<u8>, Fail> {
     Ok(vec![in alloc; 0; count]?)
-}
-
-/// Why a datagram socket refused.
-pub enum Refusal {
-    Bind(BindError),
-    Send(SendError),
-    SendRaw(raw::SendError),
-    Receive(RecvError),
-}
-
-fn text(alloc: Global, refusal: &Refusal) -> Result<String, Fail> {
-    let text = match refusal {
-        Refusal::Bind(error) => error.to_string(alloc)?,
-        Refusal::Send(error) => error.to_string(alloc)?,
-        Refusal::SendRaw(error) => error.to_string(alloc)?,
-        Refusal::Receive(error) => error.to_string(alloc)?,
-    };
-    Ok(text)
-}
-
-/// Compares the errors' texts with these. The failure is the first text that isn't an error's.
-pub fn are_named(alloc: Global, named: &[(Refusal, &'static str)]) -> Result<(), Fail> {
-    for (refusal, name) in named {
-        if text(alloc, refusal)?.as_str() != *name {
-            return Err((*name).into());
-        }
-    }
-    Ok(())
 }

@@ -1,4 +1,5 @@
-//! Tests of sockets, by their public calls.
+//! Tests of sockets by their public calls: what they lend, the slices that they fill, datagrams that no length holds, one type for all
+//! kinds, and the texts of their errors. What scripts can say of a host's sockets is data of the program `one_host`.
 #![tactic(auto)]
 
 #[cfg(test)]
@@ -8,12 +9,10 @@ mod common;
 #[cfg(test)]
 mod icmp;
 #[cfg(test)]
-mod packets;
-#[cfg(test)]
 mod raw;
 #[cfg(test)]
 mod script;
 #[cfg(test)]
-mod tcp;
+mod texts;
 #[cfg(test)]
 mod udp;

@@ -22,8 +22,6 @@ pub enum Step {
     Shows(Shown),
     /// It offers nothing, and then is due when a packet comes. Says whether anything changed.
     Silent(bool),
-    /// No offer is open.
-    Unoffered,
     /// The offered packet was sent, or wasn't.
     Settle(bool),
 }
@@ -100,12 +98,11 @@ fn offers(socket: &mut Socket, step: &Step) -> bool {
         Step::Shows(shown) => {
             due(socket) == PollAt::Now
                 && asked(socket) == (Offer::Packet { changed: false })
-                && is_offered(socket, Some(shown))
+                && is_offered(socket, shown)
         }
         Step::Silent(changed) => {
             asked(socket) == (Offer::Silent { changed: *changed }) && due(socket) == PollAt::Ingress
         }
-        Step::Unoffered => is_offered(socket, None),
         Step::Settle(sent) => {
             socket.settle(*sent);
             true
@@ -122,17 +119,16 @@ fn asked(socket: &mut Socket) -> Offer {
     socket.offer(&make_host(1, None))
 }
 
-/// Whether the packet of the open offer is this one, or none is open.
-fn is_offered(socket: &Socket, shown: Option<&Shown>) -> bool {
-    match (socket.offered(), shown) {
-        (Some(packet), Some(shown)) => shows(&packet, shown),
-        (None, None) => true,
-        _ => false,
+/// Whether the packet of the open offer is this one.
+fn is_offered(socket: &Socket, shown: &Shown) -> bool {
+    match socket.offered() {
+        Some(packet) => shows(&packet, shown),
+        None => false,
     }
 }
 
 /// Whether the packet is this one.
-pub fn shows(packet: &Packet<'_>, shown: &Shown) -> bool {
+fn shows(packet: &Packet<'_>, shown: &Shown) -> bool {
     let header = packet.ip_repr();
     header.hop_limit() == shown.hops
         && header.dst_addr() == shown.destination

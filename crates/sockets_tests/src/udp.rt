@@ -1,12 +1,13 @@
-use crate::common::{Refusal, are_named, make_host, queue, zeros};
-use crate::script::Step::{Anew, Offers, Settle, Shows, Silent, Udp, Unoffered, Waits};
-use crate::script::{Kind, Shown, Step, play, shows};
+//! UDP sockets.
+use crate::common::{queue, zeros};
+use crate::script::Step::{Anew, Offers, Shows, Silent, Udp};
+use crate::script::{Kind, Shown, Step, play};
 use ip_wire::{
     IpAddress, IpEndpoint, IpListenEndpoint, IpProtocol, IpRepr, Ipv4Address, Ipv6Address, UdpRepr,
 };
 use net_base::PacketMeta;
+use sockets::IpPayload;
 use sockets::udp::{BindError, RecvError, SendError, Socket, UdpMetadata};
-use sockets::{IpPayload, Packet};
 use std::alloc::Global;
 use std::test::Fail;
 
@@ -23,8 +24,7 @@ pub enum Call {
     /// A datagram of the bytes abcdef comes, from 192.168.1.2:53 to 192.168.1.1:48896.
     Comes,
     CanReceive(bool),
-    /// `recv_queue`, `send_queue`: how many bytes wait.
-    Received(usize),
+    /// `send_queue`: how many bytes wait.
     Queued(usize),
     /// `peek_slice`, `recv_slice`: into a slice of as many bytes 0, which then holds these.
     PeekSlice(Result<(usize, UdpMetadata), RecvError>, &'static [u8]),
@@ -32,14 +32,9 @@ pub enum Call {
     /// `peek`, `recv`
     Peek(Result<(&'static [u8], UdpMetadata), RecvError>),
     Read(Result<(&'static [u8], UdpMetadata), RecvError>),
-    /// `dispatch` hands this packet out.
-    Dispatch(Shown),
 }
 
-use Call::{
-    Bind, CanReceive, Comes, Dispatch, Peek, PeekSlice, Queued, Read, ReadSlice, Received, Send,
-    SendMany, Write,
-};
+use Call::{Bind, CanReceive, Comes, Peek, PeekSlice, Queued, Read, ReadSlice, SendMany, Write};
 
 pub fn made(alloc: Global, room: usize) -> Result<Socket, Fail> {
     Ok(Socket::new(queue(alloc, room)?, queue(alloc, room)?))
@@ -49,7 +44,7 @@ pub fn made(alloc: Global, room: usize) -> Result<Socket, Fail> {
 pub fn goes(alloc: Global, socket: &mut Socket, call: &Call) -> Result<bool, Fail> {
     match call {
         Bind(port, answer) => Ok(bind(socket, *port) == *answer),
-        Send(bytes, remote, answer) => Ok(send(socket, bytes, *remote) == *answer),
+        Call::Send(bytes, remote, answer) => Ok(send(socket, bytes, *remote) == *answer),
         SendMany(count, remote, answer) => {
             let bytes = vec![in alloc; 7; *count]?;
             Ok(send(socket, bytes.as_slice(), *remote) == *answer)
@@ -75,11 +70,9 @@ fn goes_alone(socket: &mut Socket, call: &Call) -> bool {
             true
         }
         CanReceive(answer) => socket.can_recv() == *answer,
-        Received(count) => socket.recv_queue() == *count,
         Queued(count) => socket.send_queue() == *count,
         Peek(answer) => peeks(socket, answer),
         Read(answer) => reads(socket, answer),
-        Dispatch(shown) => dispatches(socket, shown),
         _ => false,
     }
 }
@@ -132,17 +125,6 @@ fn peeks(socket: &mut Socket, answer: &Result<(&'static [u8], UdpMetadata), Recv
     }
 }
 
-fn dispatches(socket: &mut Socket, shown: &Shown) -> bool {
-    let answer = socket.dispatch(&make_host(1, None), |packet: Packet<'_>| {
-        if shows(&packet, shown) {
-            Ok(())
-        } else {
-            Err(())
-        }
-    });
-    answer.is_ok()
-}
-
 const OWN: IpAddress = IpAddress::Ipv4(Ipv4Address([192, 168, 1, 1]));
 
 pub const V4: IpAddress = IpAddress::Ipv4(Ipv4Address([192, 168, 1, 2]));
@@ -171,75 +153,35 @@ pub const ABC: Shown = Shown {
     payload: IpPayload::Udp(PORTS, b"abc"),
 };
 
-const DEFG: Shown = Shown {
-    hops: 64,
-    destination: V4,
-    protocol: IpProtocol::Udp,
-    length: 12,
-    payload: IpPayload::Udp(PORTS, b"defg"),
-};
-
-const ARRIVING: [Step; 4] = [
-    Udp(CanReceive(false)),
-    Udp(Comes),
-    Udp(CanReceive(true)),
-    Udp(Received(6)),
-];
-
-#[test]
-fn what_arrives_can_be_read(rt: HostRuntime) -> Result<(), Fail> {
-    play(rt.alloc(), &Kind::Udp(64), &ARRIVING)
-}
-
-const TRUNCATED: [Step; 5] = [
+const READING: [Step; 15] = [
     Udp(Comes),
     Udp(PeekSlice(Err(RecvError::Truncated), &[0; 4])),
     Udp(ReadSlice(Err(RecvError::Truncated), &[0; 4])),
     Udp(PeekSlice(Err(RecvError::Exhausted), &[0; 4])),
     Udp(CanReceive(false)),
-];
-
-#[test]
-fn a_short_slice_truncates(rt: HostRuntime) -> Result<(), Fail> {
-    play(rt.alloc(), &Kind::Udp(64), &TRUNCATED)
-}
-
-const READ: [Step; 4] = [
+    Anew(Kind::Udp(64)),
     Udp(Comes),
     Udp(Peek(Ok((b"abcdef", FROM_V4)))),
     Udp(ReadSlice(Ok((6, FROM_V4)), b"abcdef\0\0")),
     Udp(CanReceive(false)),
-];
-
-#[test]
-fn a_datagram_is_read(rt: HostRuntime) -> Result<(), Fail> {
-    play(rt.alloc(), &Kind::Udp(64), &READ)
-}
-
-const LENT: [Step; 4] = [
+    Anew(Kind::Udp(64)),
     Udp(Read(Err(RecvError::Exhausted))),
     Udp(Comes),
     Udp(Read(Ok((b"abcdef", FROM_V4)))),
     Udp(CanReceive(false)),
 ];
 
+/// A short slice truncates, a longer one keeps its end, and a datagram is lent once.
 #[test]
-fn a_datagram_is_lent(rt: HostRuntime) -> Result<(), Fail> {
-    play(rt.alloc(), &Kind::Udp(64), &LENT)
+fn datagrams_are_read_and_lent(rt: HostRuntime) -> Result<(), Fail> {
+    play(rt.alloc(), &Kind::Udp(64), &READING)
 }
 
-const ROOM_REFUSED: [Step; 3] = [
+const ROOM: [Step; 8] = [
     Udp(Write(b"abc", Err(SendError::Unaddressable))),
     Udp(Bind(48896, Ok(()))),
     Udp(Write(&[0; 7], Err(SendError::BufferFull))),
-];
-
-#[test]
-fn a_lent_room_is_refused(rt: HostRuntime) -> Result<(), Fail> {
-    play(rt.alloc(), &Kind::Udp(6), &ROOM_REFUSED)
-}
-
-const ROOM_QUEUED: [Step; 4] = [
+    Anew(Kind::Udp(6)),
     Udp(Bind(48896, Ok(()))),
     Udp(Write(b"abc", Ok(()))),
     Udp(Queued(3)),
@@ -247,59 +189,8 @@ const ROOM_QUEUED: [Step; 4] = [
 ];
 
 #[test]
-fn a_lent_room_is_queued(rt: HostRuntime) -> Result<(), Fail> {
-    play(rt.alloc(), &Kind::Udp(6), &ROOM_QUEUED)
-}
-
-const BOUND_ONCE: [Step; 4] = [
-    Udp(Send(b"abc", V4, Err(SendError::Unaddressable))),
-    Udp(Bind(0, Err(BindError::Unaddressable))),
-    Udp(Bind(48896, Ok(()))),
-    Udp(Bind(1, Err(BindError::InvalidState))),
-];
-
-#[test]
-fn a_socket_is_bound_once(rt: HostRuntime) -> Result<(), Fail> {
-    play(rt.alloc(), &Kind::Udp(64), &BOUND_ONCE)
-}
-
-const FULL: [Step; 4] = [
-    Udp(Bind(48896, Ok(()))),
-    Udp(Send(b"abc", V4, Ok(()))),
-    Udp(Send(b"defg", V4, Ok(()))),
-    Udp(Send(b"h", V4, Err(SendError::BufferFull))),
-];
-
-#[test]
-fn a_full_queue_takes_no_more(rt: HostRuntime) -> Result<(), Fail> {
-    play(rt.alloc(), &Kind::Udp(64), &FULL)
-}
-
-const UNSENT: [Step; 12] = [
-    Udp(Bind(48896, Ok(()))),
-    Udp(Send(b"abc", V4, Ok(()))),
-    Udp(Send(b"defg", V4, Ok(()))),
-    Shows(ABC),
-    Settle(false),
-    Shows(ABC),
-    Settle(false),
-    Shows(ABC),
-    Settle(true),
-    Unoffered,
-    Udp(Dispatch(DEFG)),
-    Waits,
-];
-
-#[test]
-fn an_unsent_datagram_stays_first(rt: HostRuntime) -> Result<(), Fail> {
-    play(rt.alloc(), &Kind::Udp(64), &UNSENT)
-}
-
-const EMPTY: [Step; 3] = [Udp(Bind(48896, Ok(()))), Waits, Silent(false)];
-
-#[test]
-fn an_empty_queue_is_silent(rt: HostRuntime) -> Result<(), Fail> {
-    play(rt.alloc(), &Kind::Udp(64), &EMPTY)
+fn a_lent_room_is_refused_or_queued(rt: HostRuntime) -> Result<(), Fail> {
+    play(rt.alloc(), &Kind::Udp(6), &ROOM)
 }
 
 const TOO_LONG: [Step; 11] = [
@@ -319,15 +210,4 @@ const TOO_LONG: [Step; 11] = [
 #[test]
 fn what_no_length_holds_is_dropped(rt: HostRuntime) -> Result<(), Fail> {
     play(rt.alloc(), &Kind::Udp(65_536), &TOO_LONG)
-}
-
-const NAMES: [(Refusal, &str); 3] = [
-    (Refusal::Bind(BindError::InvalidState), "invalid state"),
-    (Refusal::Send(SendError::BufferFull), "buffer full"),
-    (Refusal::Receive(RecvError::Truncated), "truncated"),
-];
-
-#[test]
-fn texts_name_the_errors(rt: HostRuntime) -> Result<(), Fail> {
-    are_named(rt.alloc(), &NAMES)
 }

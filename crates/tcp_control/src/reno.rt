@@ -1,5 +1,5 @@
 //! Congestion control by slow start, congestion avoidance, fast retransmit and fast recovery (RFC 5681).
-ghost use Rattle.std.specs.Prelude.{◌≡◌, ◌≤◌, ℕ, true};
+ghost use Rattle.std.specs.Prelude.{◌≡◌, ◌≤◌, ℕ, true, false};
 ghost use Rattle.tcp_control.specs.Reno.{RenoValue, IsBounded, fresh, with_mss, first_window, started, growth, halved, acknowledged, lost, inflated, timed_out};
 
 use std::marker::Model;

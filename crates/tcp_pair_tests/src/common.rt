@@ -3,7 +3,7 @@ ghost use Rattle.std.specs.Prelude.{IfOk};
 ghost use Rattle.tcp_tie.specs.Promises.{IsFresh};
 ghost use Rattle.tcp_socket.specs.Receive.{FitsBuffer};
 
-use ip_wire::{IpAddress, IpEndpoint, IpListenEndpoint, SeqNumber};
+use ip_wire::{IpAddress, IpEndpoint, IpListenEndpoint};
 use net_base::{Instant, ManagedSlice, RingBuffer};
 use std::alloc::{AllocError, Global};
 use std::test::Fail;
@@ -19,11 +19,9 @@ pub enum Do {
     Send(Side, &'static str),
     Recv(Side, usize),
     Close(Side),
-    Abort(Side),
     Set(Side, TcpSetting),
     /// Sent at this moment.
     Offer(Side, i64),
-    Unsent(Side, i64),
     Deliver(Side, usize),
 }
 
@@ -44,10 +42,6 @@ pub enum Line {
     Step(Do, Says),
     /// The sockets, A and B, are in these states.
     In(State, State),
-    /// The side has sent so many segments.
-    Sent(Side, usize),
-    /// The side's segment of this place has this number.
-    Numbered(Side, usize, SeqNumber),
     /// The side has this hop limit.
     Limit(Side, Option<u8>),
 }
@@ -130,10 +124,8 @@ fn made(alloc: Global, todo: &Do) -> Result<PairEvent, AllocError> {
         }
         Do::Recv(side, count) => PairEvent::Recv(*side, *count),
         Do::Close(side) => PairEvent::Close(*side),
-        Do::Abort(side) => PairEvent::Abort(*side),
         Do::Set(side, setting) => PairEvent::TcpSetting(*side, *setting),
         Do::Offer(side, moment) => PairEvent::Offer(*side, Instant::from_micros(*moment), true),
-        Do::Unsent(side, moment) => PairEvent::Offer(*side, Instant::from_micros(*moment), false),
         Do::Deliver(from, k) => PairEvent::Deliver(*from, *k),
     })
 }
@@ -207,18 +199,12 @@ fn steps_so(rt: &HostRuntime, pair: &mut Pair, todo: &Do, want: &Says) -> Result
     }
 }
 
-fn number_of(pair: &Pair, side: Side, k: usize) -> Option<SeqNumber> {
-    Some(pair.sent(side).get(k)?.segment.seq_number)
-}
-
 fn holds(rt: &HostRuntime, pair: &mut Pair, line: &Line) -> Result<bool, Fail> {
     match line {
         Line::Step(todo, want) => steps_so(rt, pair, todo, want),
         Line::In(a, b) => {
             Ok(pair.socket(Side::A).state() == *a && pair.socket(Side::B).state() == *b)
         }
-        Line::Sent(side, count) => Ok(pair.sent(*side).len() == *count),
-        Line::Numbered(side, k, number) => Ok(number_of(pair, *side, *k) == Some(*number)),
         Line::Limit(side, limit) => Ok(pair.socket(*side).hop_limit() == *limit),
     }
 }

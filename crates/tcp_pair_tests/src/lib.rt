@@ -5,8 +5,6 @@
 #[cfg(test)]
 mod common;
 #[cfg(test)]
-mod openings;
-#[cfg(test)]
 mod transfers;
 #[cfg(test)]
 mod wrap;

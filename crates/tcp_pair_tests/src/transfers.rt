@@ -1,4 +1,4 @@
-//! Transfers, event by event and as one run.
+//! A transfer, event by event and as one run. (`pair_cases` has more of them, and each refusal.)
 use crate::common::Line::{In, Limit, Step};
 use crate::common::{Do, Line, Says, first_wrong, runs_so};
 use std::test::Fail;
@@ -22,33 +22,13 @@ const OPENED: [Line; 13] = [
     Step(Do::Recv(Side::B, 8), Says::Bytes("abc")),
 ];
 
-/// Three bytes the other way, and both sides close; what waits is read after TIME-WAIT.
-const CLOSED: [Line; 19] = [
+/// A hop limit of 0 counts as none.
+const LIMITS: [Line; 5] = [
     In(State::Established, State::Established),
-    Step(
-        Do::Deliver(Side::A, 9),
-        Says::Refused(PairRefused::NoSegment),
-    ),
-    Step(
-        Do::Connect(Side::A, 80, 49500),
-        Says::Refused(PairRefused::OpenedTwice),
-    ),
-    Step(Do::Send(Side::B, "xyz"), Says::Count(3)),
-    Step(Do::Close(Side::A), Says::Done),
-    Step(Do::Close(Side::B), Says::Done),
-    Step(Do::Offer(Side::A, 0), Says::Done),
-    Step(Do::Offer(Side::B, 0), Says::Done),
-    Step(Do::Deliver(Side::A, 3), Says::Done),
-    Step(Do::Deliver(Side::B, 2), Says::Done),
-    Step(Do::Offer(Side::A, 0), Says::Done),
-    Step(Do::Deliver(Side::A, 4), Says::Done),
-    Step(Do::Offer(Side::B, 0), Says::Done),
-    Step(Do::Deliver(Side::B, 3), Says::Done),
-    In(State::TimeWait, State::TimeWait),
-    Step(Do::Offer(Side::A, 10_000_000), Says::Done),
-    In(State::Closed, State::TimeWait),
-    Step(Do::Recv(Side::A, 8), Says::Bytes("xyz")),
-    Step(Do::Recv(Side::A, 8), Says::Error(TcpFault::Finished)),
+    Step(Do::Set(Side::A, TcpSetting::HopLimit(Some(9))), Says::Done),
+    Limit(Side::A, Some(9)),
+    Step(Do::Set(Side::A, TcpSetting::HopLimit(Some(0))), Says::Done),
+    Limit(Side::A, None),
 ];
 
 const CUT_SHORT: [Line; 3] = [
@@ -63,44 +43,9 @@ const CUT_SHORT: [Line; 3] = [
     Step(Do::Close(Side::A), Says::Done),
 ];
 
-const REFUSALS: [Line; 17] = [
-    Step(
-        Do::Deliver(Side::B, 0),
-        Says::Refused(PairRefused::NoSegment),
-    ),
-    Step(Do::Listen(Side::B, 0), Says::Error(TcpFault::Unaddressable)),
-    Step(Do::Listen(Side::B, 80), Says::Done),
-    Step(
-        Do::Listen(Side::B, 80),
-        Says::Refused(PairRefused::OpenedTwice),
-    ),
-    Step(
-        Do::Connect(Side::A, 0, 49500),
-        Says::Error(TcpFault::Unaddressable),
-    ),
-    Step(
-        Do::Send(Side::A, "abc"),
-        Says::Error(TcpFault::InvalidState),
-    ),
-    Step(Do::Recv(Side::A, 3), Says::Error(TcpFault::InvalidState)),
-    Step(Do::Unsent(Side::A, -1), Says::Refused(PairRefused::Moment)),
-    Step(Do::Unsent(Side::A, 5), Says::Done),
-    Step(Do::Unsent(Side::A, 4), Says::Refused(PairRefused::Moment)),
-    Step(Do::Unsent(Side::B, 4), Says::Done),
-    Step(
-        Do::Unsent(Side::A, (1 << 61) + 1),
-        Says::Refused(PairRefused::Moment),
-    ),
-    Step(Do::Unsent(Side::A, 1 << 61), Says::Done),
-    Step(Do::Set(Side::A, TcpSetting::HopLimit(Some(9))), Says::Done),
-    Limit(Side::A, Some(9)),
-    Step(Do::Set(Side::A, TcpSetting::HopLimit(Some(0))), Says::Done),
-    Limit(Side::A, None),
-];
-
 #[test]
-fn bytes_are_read_once_and_to_the_end(rt: HostRuntime) -> Result<(), Fail> {
-    let wrong = first_wrong(&rt, &OPENED, &CLOSED)?;
+fn bytes_are_read_once_and_limits_are_set(rt: HostRuntime) -> Result<(), Fail> {
+    let wrong = first_wrong(&rt, &OPENED, &LIMITS)?;
     assert!(rt; wrong == None);
     Ok(())
 }
@@ -116,12 +61,5 @@ fn one_run_does_the_same(rt: HostRuntime) -> Result<(), Fail> {
 fn a_run_stops_at_the_first_refusal(rt: HostRuntime) -> Result<(), Fail> {
     let runs = runs_so(&rt, &CUT_SHORT, Err((1, PairRefused::NoSegment)))?;
     assert!(rt; runs);
-    Ok(())
-}
-
-#[test]
-fn refusals_come_where_they_are_due(rt: HostRuntime) -> Result<(), Fail> {
-    let wrong = first_wrong(&rt, &REFUSALS, &[])?;
-    assert!(rt; wrong == None);
     Ok(())
 }

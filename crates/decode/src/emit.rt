@@ -1,0 +1,220 @@
+//! Packets written from their fields: links, IP and UDP.
+ghost use Rattle.std.specs.Prelude.{◌≤◌, length, IfOk};
+
+use crate::emit_control::{emit_icmpv4, emit_icmpv6};
+use crate::emit_tcp::emit_tcp;
+use crate::fault::Fault;
+use crate::room::{MOST, checksums, room};
+use crate::words::Words;
+use ip_wire::{
+    ArpOperation, ArpPacketMut, ArpRepr, EthernetFrameMut, EthernetRepr, Ipv4PacketMut, Ipv4Repr,
+    Ipv6FragmentHeaderMut, Ipv6FragmentRepr, Ipv6PacketMut, Ipv6Repr, UdpPacketMut, UdpRepr,
+};
+use std::alloc::Global;
+
+/// The bytes of the packet that the words say. `nosum` before them leaves the checksums out.
+pub(crate) fn emit<'a>(alloc: Global, text: &'a str) -> Result<Vec<u8>, Fault<'a>> {
+    let (is_summed, text) = match text.strip_prefix("nosum ") {
+        Some(rest) => (false, rest),
+        None => (true, text),
+    };
+    let mut words = Words::new(text);
+    let format = words.word("format")?;
+    match format {
+        "ethernet" => emit_ethernet(alloc, &mut words),
+        "arp" => emit_arp(alloc, &mut words),
+        "ipv4" => emit_ipv4(alloc, &mut words, is_summed),
+        "piece" => emit_piece(alloc, &mut words, is_summed),
+        "ipv6" => emit_ipv6(alloc, &mut words),
+        "fragment" => emit_fragment(alloc, &mut words),
+        "udp" => emit_udp(alloc, &mut words, is_summed),
+        "tcp" => emit_tcp(alloc, &mut words, is_summed),
+        "icmpv4" => emit_icmpv4(alloc, &mut words, is_summed),
+        "icmpv6" => emit_icmpv6(alloc, &mut words, is_summed),
+        _ => Err(Fault::No("format", format)),
+    }
+}
+
+fn emit_ethernet<'a>(alloc: Global, words: &mut Words<'a>) -> Result<Vec<u8>, Fault<'a>> {
+    let header = EthernetRepr {
+        src_addr: words.station("source")?,
+        dst_addr: words.station("destination")?,
+        ethertype: words.ethertype()?,
+    };
+    let payload = last_bytes(alloc, words)?;
+    let mut bytes = room(alloc, 14 + payload.len())?;
+    let (front, rest) = bytes.as_mut_slice().split_at_mut(14);
+    header.emit(&mut EthernetFrameMut::new_unchecked(front));
+    rest.copy_from_slice(payload.as_slice());
+    Ok(bytes)
+}
+
+fn emit_arp<'a>(alloc: Global, words: &mut Words<'a>) -> Result<Vec<u8>, Fault<'a>> {
+    let packet = ArpRepr::EthernetIpv4 {
+        operation: operation(words)?,
+        source_protocol_addr: words.ipv4("sender")?,
+        source_hardware_addr: words.station("sender's station")?,
+        target_protocol_addr: words.ipv4("target")?,
+        target_hardware_addr: words.station("target's station")?,
+    };
+    words.end()?;
+    let mut bytes = room(alloc, 28)?;
+    packet.emit(&mut ArpPacketMut::new_unchecked(bytes.as_mut_slice()));
+    Ok(bytes)
+}
+
+// The number of an operation; with `?` before it the value that has no name.
+fn operation<'a>(words: &mut Words<'a>) -> Result<ArpOperation, Fault<'a>> {
+    let word = words.word("operation")?;
+    let digits = word.strip_prefix('?').unwrap_or(word);
+    match digits.parse().ok() {
+        Some(number) if digits.len() < word.len() => Ok(ArpOperation::Unknown(number)),
+        Some(number) => Ok(ArpOperation::from(number)),
+        None => Err(Fault::No("operation", word)),
+    }
+}
+
+// The fields of an IPv4 header but for its payload's length.
+pub(crate) fn ipv4_fields<'a>(words: &mut Words<'a>) -> Result<Ipv4Repr, Fault<'a>> {
+    Ok(Ipv4Repr {
+        src_addr: words.ipv4("source")?,
+        dst_addr: words.ipv4("destination")?,
+        next_header: words.protocol()?,
+        hop_limit: words.byte("ttl")?,
+        ident: words.short("id")?,
+        dont_frag: words.either("DF", "-", "DF or -")?,
+        payload_len: 0,
+    })
+}
+
+fn emit_ipv4<'a>(
+    alloc: Global,
+    words: &mut Words<'a>,
+    is_summed: bool,
+) -> Result<Vec<u8>, Fault<'a>> {
+    let fields = ipv4_fields(words)?;
+    let payload = last_bytes(alloc, words)?;
+    let payload_len = payload.len();
+    if payload_len > MOST - 20 {
+        return Err(Fault::TooLong);
+    }
+    let header = Ipv4Repr {
+        payload_len,
+        ..fields
+    };
+    let mut bytes = room(alloc, 20 + payload_len)?;
+    let (front, rest) = bytes.as_mut_slice().split_at_mut(20);
+    header.emit(
+        &mut Ipv4PacketMut::new_unchecked(front),
+        &checksums(is_summed),
+    );
+    rest.copy_from_slice(payload.as_slice());
+    Ok(bytes)
+}
+
+fn emit_piece<'a>(
+    alloc: Global,
+    words: &mut Words<'a>,
+    is_summed: bool,
+) -> Result<Vec<u8>, Fault<'a>> {
+    let fields = ipv4_fields(words)?;
+    let offset = words.short("offset")?;
+    let more = words.either("more", "last", "more or last")?;
+    let payload = last_bytes(alloc, words)?;
+    let payload_len = payload.len();
+    if payload_len > MOST - 20 {
+        return Err(Fault::TooLong);
+    }
+    let header = Ipv4Repr {
+        payload_len,
+        ..fields
+    };
+    let mut bytes = room(alloc, 20 + payload_len)?;
+    let (front, rest) = bytes.as_mut_slice().split_at_mut(20);
+    let mut packet = Ipv4PacketMut::new_unchecked(front);
+    header.emit_piece(&mut packet, offset, more, &checksums(is_summed));
+    rest.copy_from_slice(payload.as_slice());
+    Ok(bytes)
+}
+
+// The fields of an IPv6 header but for its payload's length.
+pub(crate) fn ipv6_fields<'a>(words: &mut Words<'a>) -> Result<Ipv6Repr, Fault<'a>> {
+    Ok(Ipv6Repr {
+        src_addr: words.ipv6("source")?,
+        dst_addr: words.ipv6("destination")?,
+        next_header: words.protocol()?,
+        hop_limit: words.byte("hops")?,
+        payload_len: 0,
+    })
+}
+
+fn emit_ipv6<'a>(alloc: Global, words: &mut Words<'a>) -> Result<Vec<u8>, Fault<'a>> {
+    let fields = ipv6_fields(words)?;
+    let payload = last_bytes(alloc, words)?;
+    let payload_len = payload.len();
+    if payload_len > MOST {
+        return Err(Fault::TooLong);
+    }
+    let header = Ipv6Repr {
+        payload_len,
+        ..fields
+    };
+    let mut bytes = room(alloc, 40 + payload_len)?;
+    let (front, rest) = bytes.as_mut_slice().split_at_mut(40);
+    header.emit(&mut Ipv6PacketMut::new_unchecked(front));
+    rest.copy_from_slice(payload.as_slice());
+    Ok(bytes)
+}
+
+fn emit_fragment<'a>(alloc: Global, words: &mut Words<'a>) -> Result<Vec<u8>, Fault<'a>> {
+    let header = Ipv6FragmentRepr {
+        ident: words.long("id")?,
+        frag_offset: words.short("offset")?,
+        more_frags: words.either("more", "last", "more or last")?,
+    };
+    words.end()?;
+    let mut bytes = room(alloc, 6)?;
+    header.emit(&mut Ipv6FragmentHeaderMut::new_unchecked(bytes.as_mut_slice()));
+    Ok(bytes)
+}
+
+fn emit_udp<'a>(
+    alloc: Global,
+    words: &mut Words<'a>,
+    is_summed: bool,
+) -> Result<Vec<u8>, Fault<'a>> {
+    let source = words.address("source")?;
+    let destination = words.address("destination")?;
+    let header = UdpRepr {
+        src_port: words.short("source port")?,
+        dst_port: words.short("destination port")?,
+    };
+    let payload = last_bytes(alloc, words)?;
+    if payload.len() > MOST - 8 {
+        return Err(Fault::TooLong);
+    }
+    if source.version() != destination.version() {
+        return Err(Fault::Families);
+    }
+    let mut bytes = room(alloc, 8 + payload.len())?;
+    header.emit(
+        &mut UdpPacketMut::new_unchecked(bytes.as_mut_slice()),
+        &source,
+        &destination,
+        payload.as_slice(),
+        &checksums(is_summed),
+    );
+    Ok(bytes)
+}
+
+/// The bytes that a packet carries, which are a line's last word.
+pub(crate) fn last_bytes<'a>(alloc: Global, words: &mut Words<'a>) -> Result<Vec<u8>, Fault<'a>>
+    ensures { IfOk result (λ bytes. length bytes.items ≤ 0xffff) }
+{
+    let bytes = words.bytes(alloc, "pairs of hex digits")?;
+    words.end()?;
+    if bytes.len() > MOST {
+        return Err(Fault::TooLong);
+    }
+    Ok(bytes)
+}

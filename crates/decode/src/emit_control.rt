@@ -1,0 +1,275 @@
+//! Control messages written from their fields.
+ghost use Rattle.std.specs.Prelude.{◌≤◌, length, IfOk};
+ghost use Rattle.ip_wire.specs.Ipv4 as Ipv4;
+ghost use Rattle.ip_wire.specs.Ipv6 as Ipv6;
+ghost use Rattle.control_wire.specs.Icmpv4 as Icmpv4;
+ghost use Rattle.control_wire.specs.Icmpv6.{Fits, CanCarry, value_of};
+
+use crate::emit::{ipv4_fields, ipv6_fields, last_bytes};
+use crate::fault::Fault;
+use crate::room::{MOST, checksums, room};
+use crate::words::Words;
+use control_wire::{
+    Icmpv4DstUnreachable, Icmpv4Header, Icmpv4PacketMut, Icmpv4TimeExceeded, Icmpv6DstUnreachable,
+    Icmpv6Header, Icmpv6PacketMut, Icmpv6ParamProblem, Icmpv6TimeExceeded, NdiscNeighborFlags,
+    NdiscRepr,
+};
+use ip_wire::{Ipv4Repr, Ipv6Address, Ipv6Repr, RawHardwareAddress};
+use std::alloc::Global;
+
+/// A message of IPv4: an echo, or an error with the header that it quotes.
+pub(crate) fn emit_icmpv4<'a>(
+    alloc: Global,
+    words: &mut Words<'a>,
+    is_summed: bool,
+) -> Result<Vec<u8>, Fault<'a>> {
+    let kind = words.word("message")?;
+    let header = header4(kind, words)?;
+    let payload = last_bytes(alloc, words)?;
+    write4(alloc, &header, payload.as_slice(), is_summed)
+}
+
+fn header4<'a>(kind: &'a str, words: &mut Words<'a>) -> Result<Icmpv4Header, Fault<'a>>
+    ensures { IfOk result (λ header. Icmpv4.Fits header) }
+{
+    match kind {
+        "request" => Ok(Icmpv4Header::EchoRequest {
+            ident: words.short("id")?,
+            seq_no: words.short("seq")?,
+        }),
+        "reply" => Ok(Icmpv4Header::EchoReply {
+            ident: words.short("id")?,
+            seq_no: words.short("seq")?,
+        }),
+        "unreachable" => Ok(Icmpv4Header::DstUnreachable {
+            reason: unreachable4(words)?,
+            header: quoted4(words)?,
+        }),
+        "exceeded" => Ok(Icmpv4Header::TimeExceeded {
+            reason: exceeded4(words)?,
+            header: quoted4(words)?,
+        }),
+        _ => Err(Fault::No("message", kind)),
+    }
+}
+
+fn write4<'a>(
+    alloc: Global,
+    header: &Icmpv4Header,
+    payload: &[u8],
+    is_summed: bool,
+) -> Result<Vec<u8>, Fault<'a>>
+    requires fits { Icmpv4.Fits header.now }
+    requires small { length payload.now ≤ 0xffff }
+{
+    let mut bytes = room(alloc, header.header_len() + payload.len())?;
+    let mut packet = Icmpv4PacketMut::new_unchecked(bytes.as_mut_slice());
+    header.emit(&mut packet, payload, &checksums(is_summed));
+    Ok(bytes)
+}
+
+fn unreachable4<'a>(words: &mut Words<'a>) -> Result<Icmpv4DstUnreachable, Fault<'a>> {
+    let (code, is_named) = words.code()?;
+    Ok(if is_named {
+        Icmpv4DstUnreachable::from(code)
+    } else {
+        Icmpv4DstUnreachable::Unknown(code)
+    })
+}
+
+fn exceeded4<'a>(words: &mut Words<'a>) -> Result<Icmpv4TimeExceeded, Fault<'a>> {
+    let (code, is_named) = words.code()?;
+    Ok(if is_named {
+        Icmpv4TimeExceeded::from(code)
+    } else {
+        Icmpv4TimeExceeded::Unknown(code)
+    })
+}
+
+// A quoted header, and how many bytes it says that it carries.
+fn quoted4<'a>(words: &mut Words<'a>) -> Result<Ipv4Repr, Fault<'a>>
+    ensures { IfOk result (λ header. Ipv4.Fits header) }
+{
+    let fields = ipv4_fields(words)?;
+    let payload_len = usize::from(words.short("length")?);
+    if payload_len > MOST - 20 {
+        return Err(Fault::TooLong);
+    }
+    Ok(Ipv4Repr {
+        payload_len,
+        ..fields
+    })
+}
+
+/// A message of IPv6 between two addresses: an echo, an error with the header that it quotes, or a neighbour message.
+pub(crate) fn emit_icmpv6<'a>(
+    alloc: Global,
+    words: &mut Words<'a>,
+    is_summed: bool,
+) -> Result<Vec<u8>, Fault<'a>> {
+    let source = words.ipv6("source")?;
+    let destination = words.ipv6("destination")?;
+    let kind = words.word("message")?;
+    if kind == "solicit" || kind == "advert" {
+        let message = neighbor(alloc, kind, words)?;
+        return write6(
+            alloc,
+            (&source, &destination),
+            &Icmpv6Header::Ndisc(message),
+            &[],
+            is_summed,
+        );
+    }
+    let header = header6(kind, words)?;
+    let payload = last_bytes(alloc, words)?;
+    write6(
+        alloc,
+        (&source, &destination),
+        &header,
+        payload.as_slice(),
+        is_summed,
+    )
+}
+
+fn header6<'a>(kind: &'a str, words: &mut Words<'a>) -> Result<Icmpv6Header, Fault<'a>>
+    ensures fits { IfOk result (λ header. Fits (value_of header)) }
+{
+    match kind {
+        "request" => Ok(Icmpv6Header::EchoRequest {
+            ident: words.short("id")?,
+            seq_no: words.short("seq")?,
+        }),
+        "reply" => Ok(Icmpv6Header::EchoReply {
+            ident: words.short("id")?,
+            seq_no: words.short("seq")?,
+        }),
+        "unreachable" => Ok(Icmpv6Header::DstUnreachable {
+            reason: unreachable6(words)?,
+            header: quoted6(words)?,
+        }),
+        "toobig" => Ok(Icmpv6Header::PktTooBig {
+            mtu: words.long("mtu")?,
+            header: quoted6(words)?,
+        }),
+        "exceeded" => Ok(Icmpv6Header::TimeExceeded {
+            reason: exceeded6(words)?,
+            header: quoted6(words)?,
+        }),
+        "problem" => Ok(Icmpv6Header::ParamProblem {
+            reason: problem(words)?,
+            pointer: words.long("pointer")?,
+            header: quoted6(words)?,
+        }),
+        _ => Err(Fault::No("message", kind)),
+    }
+}
+
+fn write6<'a>(
+    alloc: Global,
+    ends: (&Ipv6Address, &Ipv6Address),
+    header: &Icmpv6Header,
+    payload: &[u8],
+    is_summed: bool,
+) -> Result<Vec<u8>, Fault<'a>>
+    requires fits { Fits (value_of header.now) }
+    requires carried { CanCarry (value_of header.now) payload.now }
+    requires small { length payload.now ≤ 0xffff }
+{
+    let header_len = header.header_len();
+    if header_len > MOST {
+        return Err(Fault::TooLong);
+    }
+    let mut bytes = room(alloc, header_len + payload.len())?;
+    let mut packet = Icmpv6PacketMut::new_unchecked(bytes.as_mut_slice());
+    let (source, destination) = ends;
+    header.emit(
+        source,
+        destination,
+        &mut packet,
+        payload,
+        &checksums(is_summed),
+    );
+    Ok(bytes)
+}
+
+fn unreachable6<'a>(words: &mut Words<'a>) -> Result<Icmpv6DstUnreachable, Fault<'a>> {
+    let (code, is_named) = words.code()?;
+    Ok(if is_named {
+        Icmpv6DstUnreachable::from(code)
+    } else {
+        Icmpv6DstUnreachable::Unknown(code)
+    })
+}
+
+fn exceeded6<'a>(words: &mut Words<'a>) -> Result<Icmpv6TimeExceeded, Fault<'a>> {
+    let (code, is_named) = words.code()?;
+    Ok(if is_named {
+        Icmpv6TimeExceeded::from(code)
+    } else {
+        Icmpv6TimeExceeded::Unknown(code)
+    })
+}
+
+fn problem<'a>(words: &mut Words<'a>) -> Result<Icmpv6ParamProblem, Fault<'a>> {
+    let (code, is_named) = words.code()?;
+    Ok(if is_named {
+        Icmpv6ParamProblem::from(code)
+    } else {
+        Icmpv6ParamProblem::Unknown(code)
+    })
+}
+
+// A quoted header, and how many bytes it says that it carries.
+fn quoted6<'a>(words: &mut Words<'a>) -> Result<Ipv6Repr, Fault<'a>>
+    ensures { IfOk result (λ header. Ipv6.Fits header) }
+{
+    let fields = ipv6_fields(words)?;
+    let payload_len = usize::from(words.short("length")?);
+    Ok(Ipv6Repr {
+        payload_len,
+        ..fields
+    })
+}
+
+fn neighbor<'a>(alloc: Global, kind: &str, words: &mut Words<'a>) -> Result<NdiscRepr, Fault<'a>> {
+    if kind == "solicit" {
+        let target_addr = words.ipv6("target")?;
+        let lladdr = link(alloc, words)?;
+        return Ok(NdiscRepr::NeighborSolicit {
+            target_addr,
+            lladdr,
+        });
+    }
+    let flags = flags(words.word("flags")?)?;
+    let target_addr = words.ipv6("target")?;
+    let lladdr = link(alloc, words)?;
+    Ok(NdiscRepr::NeighborAdvert {
+        flags,
+        target_addr,
+        lladdr,
+    })
+}
+
+// `-` for none, or letters of R, S and O.
+fn flags<'a>(word: &'a str) -> Result<NdiscNeighborFlags, Fault<'a>> {
+    if word != "-" && !word.bytes().all(|b| matches!(b, b'R' | b'S' | b'O')) {
+        return Err(Fault::No("flags of R S O", word));
+    }
+    Ok(NdiscNeighborFlags {
+        router: word.contains('R'),
+        solicited: word.contains('S'),
+        overrides: word.contains('O'),
+    })
+}
+
+// A link address in hex, `-` for none.
+fn link<'a>(alloc: Global, words: &mut Words<'a>) -> Result<Option<RawHardwareAddress>, Fault<'a>> {
+    let bytes = last_bytes(alloc, words)?;
+    if bytes.is_empty() {
+        return Ok(None);
+    }
+    if bytes.len() > 6 {
+        return Err(Fault::TooLong);
+    }
+    Ok(Some(RawHardwareAddress::from_bytes(bytes.as_slice())))
+}

@@ -1,0 +1,142 @@
+//! TCP segments written from their fields.
+use crate::emit::last_bytes;
+use crate::fault::Fault;
+use crate::room::{MOST, checksums, room};
+use crate::words::{Words, is_number};
+use ip_wire::{SeqNumber, TcpControl, TcpHeader, TcpOptions, TcpPacketMut, TcpTimestampRepr};
+use std::alloc::Global;
+
+/// A segment: addresses, ports, flag, both numbers, window, options and payload.
+pub(crate) fn emit_tcp<'a>(
+    alloc: Global,
+    words: &mut Words<'a>,
+    is_summed: bool,
+) -> Result<Vec<u8>, Fault<'a>> {
+    let source = words.address("source")?;
+    let destination = words.address("destination")?;
+    let header = header(words)?;
+    let payload = last_bytes(alloc, words)?;
+    let header_len = header.header_len();
+    if header_len > 60 || payload.len() > MOST - 60 {
+        return Err(Fault::TooLong);
+    }
+    if source.version() != destination.version() {
+        return Err(Fault::Families);
+    }
+    let mut bytes = room(alloc, header_len + payload.len())?;
+    header.emit(
+        &mut TcpPacketMut::new_unchecked(bytes.as_mut_slice()),
+        &source,
+        &destination,
+        payload.as_slice(),
+        &checksums(is_summed),
+    );
+    Ok(bytes)
+}
+
+fn header<'a>(words: &mut Words<'a>) -> Result<TcpHeader, Fault<'a>> {
+    Ok(TcpHeader {
+        src_port: words.short("source port")?,
+        dst_port: words.short("destination port")?,
+        control: control(words.word("flag")?)?,
+        seq_number: SeqNumber(words.long("seq")?),
+        ack_number: ack_number(words.word("ack")?)?,
+        window_len: words.short("window")?,
+        options: options(words.word("options")?)?,
+    })
+}
+
+fn control<'a>(word: &'a str) -> Result<TcpControl, Fault<'a>> {
+    match word {
+        "-" => Ok(TcpControl::None),
+        "P" => Ok(TcpControl::Psh),
+        "S" => Ok(TcpControl::Syn),
+        "F" => Ok(TcpControl::Fin),
+        "R" => Ok(TcpControl::Rst),
+        _ => Err(Fault::No("flag of - P S F R", word)),
+    }
+}
+
+fn ack_number<'a>(word: &'a str) -> Result<Option<SeqNumber>, Fault<'a>> {
+    if word == "-" {
+        return Ok(None);
+    }
+    match long(word) {
+        Some(number) => Ok(Some(SeqNumber(number))),
+        None => Err(Fault::No("ack", word)),
+    }
+}
+
+fn long(word: &str) -> Option<u32> {
+    if is_number(word) {
+        word.parse().ok()
+    } else {
+        None
+    }
+}
+
+// `-` for none, or options with commas between them.
+fn options<'a>(word: &'a str) -> Result<TcpOptions, Fault<'a>> {
+    let mut options = TcpOptions::none();
+    if word == "-" {
+        return Ok(options);
+    }
+    let mut ranges = 0;
+    for part in word.split(',') {
+        match with_option(options, &mut ranges, part) {
+            Some(more) => options = more,
+            None => return Err(Fault::No("option", part)),
+        }
+    }
+    Ok(options)
+}
+
+fn with_option(options: TcpOptions, ranges: &mut usize, part: &str) -> Option<TcpOptions> {
+    if part == "sackok" {
+        return Some(TcpOptions {
+            sack_permitted: true,
+            ..options
+        });
+    }
+    let (name, value) = part.split_once('=')?;
+    match name {
+        "mss" => Some(TcpOptions {
+            max_seg_size: Some(u16::try_from(long(value)?).ok()?),
+            ..options
+        }),
+        "wscale" => Some(TcpOptions {
+            window_scale: Some(u8::try_from(long(value)?).ok()?),
+            ..options
+        }),
+        "ts" => {
+            let (tsval, tsecr) = pair(value)?;
+            Some(TcpOptions {
+                timestamp: Some(TcpTimestampRepr { tsval, tsecr }),
+                ..options
+            })
+        }
+        "sack" => with_range(options, ranges, value),
+        _ => None,
+    }
+}
+
+// One range more, or a place for one that is left empty.
+fn with_range(options: TcpOptions, ranges: &mut usize, value: &str) -> Option<TcpOptions> {
+    let range = if value == "-" {
+        None
+    } else {
+        Some(pair(value)?)
+    };
+    let mut sack_ranges = options.sack_ranges;
+    *sack_ranges.get_mut(*ranges)? = range;
+    *ranges = ranges.saturating_add(1);
+    Some(TcpOptions {
+        sack_ranges,
+        ..options
+    })
+}
+
+fn pair(value: &str) -> Option<(u32, u32)> {
+    let (front, back) = value.split_once(':')?;
+    Some((long(front)?, long(back)?))
+}

@@ -1,0 +1,46 @@
+//! Lines of the device.
+use crate::answer::Answer;
+use crate::host::Host;
+use crate::stop::Stop;
+use crate::words::Words;
+use lan_frames::names_tcp_or_udp;
+use net_base::Device;
+use std::alloc::Global;
+
+/// Plays a line of the device.
+pub fn play<'a>(
+    alloc: Global,
+    host: &mut Host,
+    verb: &'a str,
+    words: &mut Words<'a>,
+) -> Result<Answer, Stop<'a>> {
+    words.host()?;
+    match verb {
+        "frame" | "noise" => {
+            let bytes = words.bytes()?;
+            words.end()?;
+            let frame = bytes.decode(alloc)?;
+            let medium = host.wire.capabilities().medium;
+            if verb == "noise" && names_tcp_or_udp(medium, frame.as_slice()) {
+                return Err(Stop::Refused("NamesTcpOrUdp"));
+            }
+            host.wire.comes(frame)?;
+        }
+        "room" => {
+            let room = words.size()?;
+            words.end()?;
+            host.wire.set_room(room);
+        }
+        "refuse" => {
+            let count = words.number()?;
+            words.end()?;
+            host.wire.refuse(count);
+        }
+        _ => {
+            let count = words.number()?;
+            words.end()?;
+            host.wire.set_refused(count);
+        }
+    }
+    Ok(Answer::Done)
+}
