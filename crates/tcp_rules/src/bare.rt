@@ -14,7 +14,7 @@ ghost use Rattle.tcp_rules.specs.Flight.{IsPastAll, is_bare};
 
 /// An acknowledgement without text, a window update, and the reset after an abort lie past all that was ever sent, so none of them is old
 /// to the remote, whatever the timer set back.
-#[tactic(auto, using(crate::proofs::ArrivalRules::answers_past_all, crate::proofs::OfferRules::offers_past_all))]
+#[tactic(auto, using(crate::proofs::OfferRules::offers_past_all))]
 pub fn bare_segments_lie_past_all_that_was_sent()
     ensures answers { (cx : ContextValue) (v : TcpValue) (ip : IpRepr) (header : TcpHeader) (bytes : List ℕ) (reply : Reply)
         → (arrives cx v ip header bytes).answer ≡ Some reply → IsPastAll (arrives cx v ip header bytes).socket.block reply }
