@@ -16,3 +16,7 @@ pub mod Priced
 pub mod Idents
 pub mod Touches
 pub mod Steady
+pub use Rattle.interface_egress.specs.Set
+pub use Rattle.interface_tables.specs.Settings
+pub use Rattle.interface_egress.specs.Departing
+pub use Rattle.interface_tables.specs.declared.route.Route

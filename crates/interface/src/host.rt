@@ -5,10 +5,10 @@ ghost use Rattle.std.specs.List.{list_any};
 ghost use Rattle.net_base.specs.Time.{IsMoment};
 ghost use Rattle.arrayvec.specs.ArrayVec.{ArrayVec as Items};
 ghost use Rattle.ip_wire.specs.IpCidr.{IpCidr};
-ghost use Rattle.interface_tables.specs.declared.route.Route.{Route};
-ghost use Rattle.interface_tables.specs.Inner.{is_own, is_member_of};
-ghost use Rattle.interface_tables.specs.Settings.{unless, hardware_refusal, with_hardware, is_stranger, with_addresses, with_any_ip, with_routes};
-ghost use Rattle.interface_tables.specs.Source.{first_v4, first_v6, source_for, source_v4, source_v6};
+ghost use Rattle.interface_egress.specs.Route.{Route};
+ghost use Rattle.interface_egress.specs.Inner.{is_own, is_member_of};
+ghost use Rattle.interface_egress.specs.Settings.{unless, hardware_refusal, with_hardware, is_stranger, with_addresses, with_any_ip, with_routes};
+ghost use Rattle.interface_egress.specs.Source.{first_v4, first_v6, source_for, source_v4, source_v6};
 ghost use Rattle.interface.specs.Host.{host_at, maintained};
 ghost use Rattle.interface.specs.Made.{IsIdle, Makes, with_inner, with_timeout};
 
@@ -216,7 +216,7 @@ impl Interface {
 /// What sockets see, as `connect` asks for it.
 impl Context for Interface {
     ghost use Rattle.std.specs.Prelude.{refl};
-    ghost use Rattle.interface_tables.specs.Inner.{context_of, drawn};
+    ghost use Rattle.interface_egress.specs.Inner.{context_of, drawn};
     ghost use Rattle.interface.specs.Made.{with_inner};
 
     ghost context = { λ h. context_of h.inner };

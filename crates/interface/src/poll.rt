@@ -1,7 +1,7 @@
 //! Polling.
 ghost use Rattle.std.specs.Prelude.{◌≡◌, ◌||◌, false};
 ghost use Rattle.net_base.specs.Time.{IsMoment};
-ghost use Rattle.interface_tables.specs.Inner.{InnerValue, at_moment};
+ghost use Rattle.interface_egress.specs.Inner.{InnerValue, at_moment};
 ghost use Rattle.interface_egress.specs.Set.{places, is_fixed};
 ghost use Rattle.interface.specs.Host.{sender, host_at, maintained};
 ghost use Rattle.interface_egress.specs.Departing.{HasSettingsOf};

@@ -1,6 +1,6 @@
 //! One step of the way out.
 ghost use Rattle.std.specs.Prelude.{◌≡◌, false};
-ghost use Rattle.interface_tables.specs.Inner.{InnerValue, at_moment};
+ghost use Rattle.interface_egress.specs.Inner.{InnerValue, at_moment};
 ghost use Rattle.interface.specs.Host.{sender};
 ghost use Rattle.interface.specs.Pass.{passed};
 ghost use Rattle.interface.specs.WayOut.{Clears, Egress};

@@ -1,9 +1,9 @@
 //! A socket's turn.
 ghost use Rattle.std.specs.Prelude.{◌≡◌, is_some};
 ghost use Rattle.net_base.specs.Time.{IsMoment};
-ghost use Rattle.socket_base.specs.Packet.{packet_value};
-ghost use Rattle.socket_base.specs.declared.offer.Offer.TheVariants as Answer;
-ghost use Rattle.datagram_sockets.specs.Offers.{HasPacket};
+ghost use Rattle.sockets.specs.Packet.{packet_value};
+ghost use Rattle.sockets.specs.Offer.TheVariants as Answer;
+ghost use Rattle.sockets.specs.Offers.{HasPacket};
 ghost use Rattle.sockets.specs.Socket.{offered_by, IfSendable};
 ghost use Rattle.interface_egress.specs.Plan.{IsPacket};
 ghost use Rattle.interface.specs.Host.{sender};

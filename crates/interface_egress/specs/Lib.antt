@@ -8,3 +8,7 @@ pub mod Plan
 pub mod GoesOut
 pub mod Departing
 pub mod Determined
+pub use Rattle.interface_tables.specs.Inner
+pub use Rattle.interface_tables.specs.declared.route.Route
+pub use Rattle.interface_tables.specs.Settings
+pub use Rattle.interface_tables.specs.Source

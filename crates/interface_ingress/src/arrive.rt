@@ -8,7 +8,7 @@ ghost use Rattle.ip_wire.specs.IpAddress.TheVariants as Address;
 ghost use Rattle.ip_wire.specs.IpRepr.TheVariants as Ip;
 ghost use Rattle.interface_ingress.specs.Incoming.{IsMeasured, AreMeasured, incoming_value, content_of};
 ghost use Rattle.interface_ingress.specs.Reassembled.{whole_of};
-ghost use Rattle.interface_tables.specs.Inner.{is_for_us};
+ghost use Rattle.interface_egress.specs.Inner.{is_for_us};
 ghost use Rattle.interface_ingress.specs.Arrives.{Hands, ArrivesV4, ArrivesV6, Brings, IfCanGo, arrived, is_direct, renewed_by, renewed, reply_of, sender_of};
 
 use crate::arp;

@@ -5,8 +5,8 @@ ghost use Rattle.ip_wire.specs.HardwareAddress.TheVariants as Hardware;
 ghost use Rattle.ip_wire.specs.Ip.{source_of, destination_of, hops_in};
 ghost use Rattle.ip_wire.specs.IpAddress.TheVariants as Address;
 ghost use Rattle.ip_wire.specs.Ipv6Repr.{Ipv6Repr};
-ghost use Rattle.socket_base.specs.Packet.{PacketValue};
-ghost use Rattle.interface_tables.specs.Inner.{InnerValue, is_own};
+ghost use Rattle.sockets.specs.Packet.{PacketValue};
+ghost use Rattle.interface_egress.specs.Inner.{InnerValue, is_own};
 ghost use Rattle.interface_ingress.specs.Heard.{neighbor_heard, heard, with_entries_of};
 
 /// Law: a neighbour message changes the entries of neighbours alone: settings, identification and

@@ -6,7 +6,7 @@ ghost use Rattle.control_wire.specs.Icmpv6 as Icmpv6;
 ghost use Rattle.ip_wire.specs.IpAddress.TheVariants as Address;
 ghost use Rattle.ip_wire.specs.Tcp as Tcp;
 ghost use Rattle.sockets.specs.Socket.{accepts_segment};
-ghost use Rattle.interface_tables.specs.Inner.{context_of};
+ghost use Rattle.interface_egress.specs.Inner.{context_of};
 ghost use Rattle.interface_ingress.specs.Arrives.{IfCanGo, answered, reply_of};
 ghost use Rattle.interface_ingress.specs.Delivered.{is_taken_raw, packet_delivered, icmpv4_delivered, icmpv6_delivered, datagram_place, datagram_delivered, with_change, with_segment, answer_of, answer_in, answer_at, draws_of, drawn_if, passes, passes_at, changed_at, segment_place, segment_delivered, segment_answer, segment_draws, reset_for};
 
@@ -156,7 +156,7 @@ struct UdpArrival<'a> {
 
 impl<'a> Arrival for UdpArrival<'a> {
     ghost use Rattle.sockets.specs.Socket.{accepts_datagram};
-    ghost use Rattle.interface_tables.specs.Inner.{context_of};
+    ghost use Rattle.interface_egress.specs.Inner.{context_of};
     ghost use Rattle.interface_ingress.specs.Delivered.{with_datagram};
 
     ghost accepted = { λ a s. accepts_datagram (context_of a.inner.now) s a.header.now a.udp.now };

@@ -12,7 +12,7 @@ ghost use Rattle.ip_wire.specs.IpRepr.{IpRepr};
 ghost use Rattle.ip_wire.specs.Ipv4 as Ipv4;
 ghost use Rattle.ip_wire.specs.Ipv4Piece.{Ipv4Piece};
 ghost use Rattle.ip_wire.specs.Ipv4Repr.{Ipv4Repr};
-ghost use Rattle.socket_base.specs.Packet.{PacketValue, PayloadValue, PayloadFits, IsSendable, payload_written};
+ghost use Rattle.sockets.specs.Packet.{PacketValue, PayloadValue, PayloadFits, IsSendable, payload_written};
 ghost use Rattle.interface_ingress.specs.Incoming.{IncomingValue, Arp, Ip4, IsContent, IsIncoming, IsMeasured};
 ghost use Rattle.interface_ingress.specs.Carried.{IsCarried, IsCarriedContent};
 ghost use Rattle.interface_ingress.specs.Sent.{framed, CanFrame, ether_for, AreSealed, uncut, CanBeRead, normal_payload};

@@ -2,7 +2,7 @@
 ghost use Rattle.std.specs.Prelude.{◌≡◌, IsTrue, IfSome};
 ghost use Rattle.control_wire.specs.Ndisc.{neighbor_message};
 ghost use Rattle.control_wire.specs.NdiscOption.{link_bytes};
-ghost use Rattle.socket_base.specs.Packet.{packet_value, option_value, IsSendable};
+ghost use Rattle.sockets.specs.Packet.{packet_value, option_value, IsSendable};
 ghost use Rattle.interface_ingress.specs.Heard.{neighbor_heard, is_one_station, is_target, counts, learned, replaces, advertised, is_asked, advertisement};
 
 use control_wire::{Icmpv6Repr, NdiscNeighborFlags, NdiscRepr};

@@ -9,7 +9,7 @@ ghost use Rattle.ip_wire.specs.Ipv6Repr.{Ipv6Repr};
 ghost use Rattle.ip_wire.specs.declared.arp.repr.ArpRepr.{ArpRepr};
 ghost use Rattle.ip_wire.specs.declared.ethernet.repr.EthernetRepr.{EthernetRepr};
 ghost use Rattle.interface_ingress.specs.Incoming.{IncomingValue, Arp, Ip4, Ip6};
-ghost use Rattle.interface_tables.specs.Inner.{InnerValue};
+ghost use Rattle.interface_egress.specs.Inner.{InnerValue};
 ghost use Rattle.interface_ingress.specs.Arrives.{Arrived, Arrives, ArrivesAs, Brings};
 ghost use Rattle.interface_ingress.specs.Delivered.{Places};
 ghost use Rattle.interface_ingress.specs.Kept.{with_ports, HaveNoPorts, IsDamaged, HasSameSettings, RenewsOnly, LearnsOnly};

@@ -1,6 +1,6 @@
 //! What is sent at once in answer to a frame.
 ghost use Rattle.std.specs.Prelude.{◌≡◌, IfSome};
-ghost use Rattle.socket_base.specs.Packet.{option_value, IsSendable};
+ghost use Rattle.sockets.specs.Packet.{option_value, IsSendable};
 ghost use Rattle.interface_ingress.specs.Arrives.{IfCanGo, told, answered, reply_of};
 
 use ip_wire::ArpRepr;

@@ -30,3 +30,5 @@ pub use Rattle.lan_world.specs.Come
 pub use Rattle.lan_world.specs.New
 pub use Rattle.lan_world.specs.Promises
 pub use Rattle.lan_world.specs.declared.error.WorldError
+pub use Rattle.lan_theorem.specs.Hosts.Asked
+pub use Rattle.lan_theorem.specs.Hosts.Machine

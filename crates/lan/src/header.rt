@@ -1,7 +1,7 @@
 //! The header of a script, and the world that it asks for.
 ghost use Rattle.std.specs.Prelude.{◌≡◌, ◌⊎◌, ◌++◌, ◌∷◌, [], Some, None, pos, IfOk, OnOk, IfErr};
-ghost use Rattle.interface.specs.Made.{Makes};
-ghost use Rattle.interface_egress.specs.Set.{places};
+ghost use Rattle.lan_world.specs.Made.{Makes};
+ghost use Rattle.lan_world.specs.Set.{places};
 ghost use Rattle.lan_history.specs.declared.answer.Refused.TheVariants.{Memory};
 ghost use Rattle.lan_history.specs.declared.event.Side.TheVariants.{A, B};
 ghost use Rattle.lan_port.specs.Port.{unused_end};

@@ -2,7 +2,7 @@
 ghost use Rattle.std.specs.Prelude.{◌≡◌, ◌⊎◌, Some, None, IfOk, OnOk, IfErr, option_map};
 ghost use Rattle.std.specs.String.{string_bytes};
 ghost use Rattle.lan_history.specs.declared.answer.Refused.TheVariants.{Memory};
-ghost use Rattle.lan_hosts.specs.Runs.{refusal_in};
+ghost use Rattle.lan_world.specs.Runs.{refusal_in};
 ghost use Rattle.lan.specs.declared.end.End.TheVariants.{Refusal};
 ghost use Rattle.lan.specs.Scripts.{Takes, MayEnd, event_end, EventLeads};
 ghost use Rattle.lan.specs.Events.{event_of};

@@ -5,3 +5,5 @@ pub mod Partners
 pub mod Reads
 pub mod Tables
 pub mod Texts
+pub use Rattle.tcp_model.specs.State
+pub use Rattle.tcp_model.specs.Value

@@ -12,3 +12,24 @@ pub mod Records
 pub mod Runs
 pub mod Fresh
 pub mod Safe
+pub use Rattle.interface_tables.specs.Inner
+pub use Rattle.interface_tables.specs.Slots
+pub use Rattle.interface_egress.specs.Departure
+pub use Rattle.interface_egress.specs.Fragments
+pub use Rattle.interface_egress.specs.GoesOut
+pub use Rattle.interface_egress.specs.Plan
+pub use Rattle.interface_egress.specs.declared.way_out.Sent
+pub use Rattle.interface_ingress.specs.Arrives
+pub use Rattle.interface_ingress.specs.Delivered
+pub use Rattle.interface_ingress.specs.Incoming
+pub use Rattle.interface_ingress.specs.Reassembled
+pub use Rattle.lan_history.specs.History
+pub use Rattle.lan_history.specs.Kinds
+pub use Rattle.lan_history.specs.declared.event.Side
+pub use Rattle.lan_history.specs.declared.event.Event
+pub use Rattle.interface_ingress.specs.Handed
+pub use Rattle.lan_packets.specs.Parties
+pub use Rattle.lan_history.specs.Tables
+pub use Rattle.lan_history.specs.declared.answer.Answer
+pub use Rattle.lan_packets.specs.Safe as PacketsSafe
+pub use Rattle.interface_egress.specs.Determined

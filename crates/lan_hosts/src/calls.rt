@@ -1,6 +1,6 @@
 //! Calls of a socket of any kind. A call that its kind hasn't does nothing, and answers nothing.
 ghost use Rattle.std.specs.Prelude.{◌≡◌, if◌then◌else◌, Option, None, Some, IfOk, OnOk, OnErr};
-ghost use Rattle.socket_base.specs.Context.{ContextValue};
+ghost use Rattle.sockets.specs.Context.{ContextValue};
 ghost use Rattle.lan_history.specs.Call as calls;
 ghost use Rattle.lan_history.specs.Kinds.{kind_of};
 ghost use Rattle.lan_packets.specs.Calls.{Did};

@@ -16,7 +16,7 @@ pub struct Host {
 }
 
 impl Model for Host {
-    ghost use Rattle.interface_egress.specs.Set.{places};
+    ghost use Rattle.interface.specs.Set.{places};
     ghost use Rattle.lan_hosts.specs.Station.{StationValue};
 
     ghost Value = { StationValue };

@@ -1,7 +1,7 @@
 //! The call of an event, at the place of its socket.
 ghost use Rattle.std.specs.Prelude.{◌≡◌, slice_get, Some, IfOk, OnErr};
 ghost use Rattle.lan_history.specs.Kinds.{kind_of};
-ghost use Rattle.interface_egress.specs.Set.{places};
+ghost use Rattle.interface.specs.Set.{places};
 ghost use Rattle.lan_hosts.specs.Calling.{PlaceCalls, IsCall};
 ghost use Rattle.lan_hosts.specs.Acting.{ActsBy};
 

@@ -1,8 +1,8 @@
 //! A poll of a host, for which room is made first.
 ghost use Rattle.std.specs.Prelude.{◌≡◌, ◌+◌, ◌*◌, ◌≤◌, IfOk, IfSome, OnErr, length};
 ghost use Rattle.net_base.specs.Time.{IsMoment};
-ghost use Rattle.interface_egress.specs.Departing.{link_room};
-ghost use Rattle.interface_egress.specs.Set.{places};
+ghost use Rattle.interface.specs.Departing.{link_room};
+ghost use Rattle.interface.specs.Set.{places};
 ghost use Rattle.interface.specs.Polls.{Polls};
 ghost use Rattle.interface.specs.State.{state};
 ghost use Rattle.lan_port.specs.Port.{PortMove};

@@ -1,6 +1,6 @@
 //! Why an event isn't taken, but for want of memory. No test reads the history: what it has to say is in the tables.
 ghost use Rattle.std.specs.Prelude.{◌≡◌, ◌+◌, ◌≤◌, ◌||◌, ℕ, Bool, int_lt, not, List, length};
-ghost use Rattle.interface_tables.specs.Settings.{is_moment};
+ghost use Rattle.interface.specs.Settings.{is_moment};
 ghost use Rattle.ip_address.specs.Fields.{be16};
 ghost use Rattle.ip_wire.specs.IpEndpoint.{IpEndpoint};
 ghost use Rattle.lan_frames.specs.Parts.{bytes_at};
@@ -13,7 +13,7 @@ ghost use Rattle.lan_history.specs.Call as calls;
 ghost use Rattle.lan_history.specs.declared.event.TcpSetting.{TcpSetting};
 ghost use Rattle.lan_history.specs.declared.record.SocketRecord.{SocketRecord};
 ghost use Rattle.lan_history.specs.Tables.{first_refusal, call_refusal, opening_tests, record_at};
-ghost use Rattle.interface_egress.specs.Set.{places};
+ghost use Rattle.interface.specs.Set.{places};
 ghost use Rattle.lan_hosts.specs.Station.{kind_at, kind_of_socket};
 ghost use Rattle.lan_hosts.specs.Refusals.{is_no_place, segment_tests, cut_tests};
 

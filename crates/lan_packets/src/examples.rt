@@ -2,8 +2,8 @@
 ghost use Rattle.std.specs.Prelude.{◌≡◌, ℕ, [], ◌∷◌, Some};
 ghost use Rattle.lan_history.specs.declared.event.Side.{Side};
 ghost use Rattle.lan_history.specs.Reads.{ReadsWereAccepted, EndsWereTrue};
-ghost use Rattle.tcp_model.specs.State.TheVariants as In;
-ghost use Rattle.tcp_model.specs.Value.{TcpValue};
+ghost use Rattle.lan_history.specs.State.TheVariants as In;
+ghost use Rattle.lan_history.specs.Value.{TcpValue};
 ghost use Rattle.lan_packets.specs.Histories.{datagram_read_at, unbound, end_without_close, end_after_close, taken_at, text};
 ghost use Rattle.lan_packets.specs.Parties.{Party, socket_at};
 ghost use Rattle.lan_packets.specs.Parties.Socket.{Tcp};

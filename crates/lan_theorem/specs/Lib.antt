@@ -5,3 +5,10 @@ pub mod Events
 pub mod Linked
 pub mod Joins
 pub mod Rebuilt
+pub use Rattle.lan_hosts.specs.Runs
+pub use Rattle.interface.specs.Made
+pub use Rattle.interface_tables.specs.Settings
+pub use Rattle.interface_egress.specs.Set
+pub use Rattle.lan_hosts.specs.Fresh
+pub use Rattle.lan_hosts.specs.Refusals
+pub use Rattle.lan_hosts.specs.Station

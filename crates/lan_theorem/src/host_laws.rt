@@ -1,8 +1,8 @@
 //! The hosts of a world as machines: each is a run, sends nothing when it is polled too early, and waits a second between its own requests.
 ghost use Rattle.std.specs.Prelude.{◌≡◌, ℕ, ℤ, Bool, List};
-ghost use Rattle.lan_history.specs.History.{Entry};
-ghost use Rattle.lan_history.specs.declared.event.Event.{Event};
-ghost use Rattle.lan_history.specs.declared.event.Side.{Side};
+ghost use Rattle.lan_hosts.specs.History.{Entry};
+ghost use Rattle.lan_hosts.specs.Event.{Event};
+ghost use Rattle.lan_hosts.specs.Side.{Side};
 ghost use Rattle.lan_hosts.specs.Runs.{Starts, Steps, unused_both, WorldValue, WorldRun, counts_of};
 ghost use Rattle.lan_hosts.specs.Station.{StationValue, Stations, station};
 ghost use Rattle.lan_hosts.specs.Steps.{PollsAt};

@@ -2,7 +2,7 @@
 ghost use Rattle.std.specs.Prelude.{◌≡◌, ◌-◌, ℕ, ◌<◌, ◌≤◌, List, length};
 ghost use Rattle.net_base.specs.Device.{Emitted, Denied};
 ghost use Rattle.lan_port.specs.Port.{PortValue, PortMove};
-ghost use Rattle.interface_egress.specs.Determined.{IsDetermined};
+ghost use Rattle.lan_hosts.specs.Determined.{IsDetermined};
 
 /// Law: each move of a port is determined while a buffer lies ready that fits the longest frame. Such a port refuses no frame, and
 /// a frame that it takes costs one of its ready buffers at most.

@@ -5,3 +5,6 @@ pub mod Promises
 pub use Rattle.lan_theorem.specs.Hosts.Damage
 pub use Rattle.lan_theorem.specs.Hosts.HostRuns
 pub use Rattle.lan_theorem.specs.Hosts.Quiet
+pub use Rattle.lan_hosts.specs.Runs
+pub use Rattle.interface.specs.Made
+pub use Rattle.interface_egress.specs.Set

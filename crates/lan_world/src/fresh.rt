@@ -1,11 +1,11 @@
 //! Whether two hosts make a world.
 ghost use Rattle.std.specs.Prelude.{◌≡◌, [], IsNone, IsTrue};
-ghost use Rattle.interface.specs.Made.{IsIdle};
-ghost use Rattle.interface_tables.specs.Settings.{is_of_medium};
+ghost use Rattle.lan_theorem.specs.Made.{IsIdle};
+ghost use Rattle.lan_theorem.specs.Settings.{is_of_medium};
 ghost use Rattle.std.specs.List.{list_all};
-ghost use Rattle.interface_egress.specs.Set.{places};
-ghost use Rattle.tcp_control.specs.States.{is_closed};
-ghost use Rattle.tcp_model.specs.Calls.{recv_refusal};
+ghost use Rattle.lan_theorem.specs.Set.{places};
+ghost use Rattle.sockets.specs.States.{is_closed};
+ghost use Rattle.sockets.specs.TcpCalls.{recv_refusal};
 ghost use Rattle.lan_world.specs.New.{new_error, has_one_medium, is_both, are_on, has_checksums, has_mtu, has_buffers, is_ingress, is_no_socket, is_unopened, is_unused, of_place, of_each, is_fresh};
 
 use crate::error::WorldError;

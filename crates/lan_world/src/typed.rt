@@ -3,7 +3,7 @@ ghost use Rattle.std.specs.Prelude.{◌≡◌};
 ghost use Rattle.std.specs.List.{AllByRecursion};
 ghost use Rattle.ip_wire.specs.Address.{IsEthernetAddress, IsIpv4Address, IsIpv6Address, IsIpAddress};
 ghost use Rattle.lan_history.specs.Kinds.{kind_of};
-ghost use Rattle.lan_hosts.specs.Fresh.{IsHardware, IsTypedHost};
+ghost use Rattle.lan_theorem.specs.Fresh.{IsHardware, IsTypedHost};
 ghost use Rattle.lan_theorem.specs.Events.{IsTyped};
 
 use ip_wire::{EthernetAddress, HardwareAddress, IpAddress, Ipv4Address, Ipv6Address};

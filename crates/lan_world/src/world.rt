@@ -1,10 +1,10 @@
 //! Two hosts at a link.
 ghost use Rattle.std.specs.Prelude.{◌≡◌, ◌<◌, [], take, length, replicate, slice_get, IfOk, IfErr, OnOk, OnErr, IfSome, None, Some, Err};
 ghost use Rattle.net_base.specs.Device.{frames_of};
-ghost use Rattle.interface.specs.Made.{IsIdle};
-ghost use Rattle.lan_hosts.specs.Refusals.{MayRefuse};
-ghost use Rattle.lan_hosts.specs.Runs.{Step, Steps, answers_of, refusal_in, tables_in};
-ghost use Rattle.lan_hosts.specs.Station.{station};
+ghost use Rattle.lan_theorem.specs.Made.{IsIdle};
+ghost use Rattle.lan_theorem.specs.Refusals.{MayRefuse};
+ghost use Rattle.lan_theorem.specs.Runs.{Step, Steps, answers_of, refusal_in, tables_in};
+ghost use Rattle.lan_theorem.specs.Station.{station};
 ghost use Rattle.lan_history.specs.Kinds.{kind_of};
 ghost use Rattle.lan_history.specs.Tables.{no_record};
 ghost use Rattle.lan_world.specs.Come.{both, starts_of, world};
@@ -38,7 +38,7 @@ pub struct World {
 }
 
 impl Model for World {
-    ghost use Rattle.lan_hosts.specs.Runs.{WorldValue};
+    ghost use Rattle.lan_theorem.specs.Runs.{WorldValue};
     ghost use Rattle.lan_world.specs.Come.{HasCome, world};
 
     ghost Value = { WorldValue };

@@ -1,6 +1,6 @@
 //! A server of one page.
 ghost use Rattle.std.specs.Prelude.{◌≡◌, length, take, min};
-ghost use Rattle.tcp_model.specs.Calls.{send_after, close_after};
+ghost use Rattle.sockets.specs.TcpCalls.{send_after, close_after};
 ghost use Rattle.services.specs.Page.{IsServed, IsAnswered, Judges, answered};
 
 use httparse::Status;

@@ -1,6 +1,6 @@
 //! The echo of streams.
 ghost use Rattle.std.specs.Prelude.{◌≡◌, length};
-ghost use Rattle.tcp_model.specs.Calls.{recv_refusal};
+ghost use Rattle.sockets.specs.TcpCalls.{recv_refusal};
 ghost use Rattle.services.specs.Echo.{stream_echoed, echoed_unless, room_left};
 
 use ip_wire::IpListenEndpoint;

@@ -36,3 +36,5 @@ pub use Rattle.tcp_model.specs.Segments as TcpSegments
 pub use Rattle.tcp_model.specs.States as TcpStates
 pub use Rattle.tcp_model.specs.Value as TcpValue
 pub use Rattle.tcp_model.specs.State
+pub use Rattle.socket_base.specs.WellFormed
+pub use Rattle.tcp_control.specs.States

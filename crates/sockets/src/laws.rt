@@ -1,9 +1,9 @@
 //! Laws of sockets of any kind, and those of each kind.
 ghost use Rattle.std.specs.Prelude.{◌≡◌, ◌↔◌, ℤ, false, IsSome};
-ghost use Rattle.socket_base.specs.Context.{ContextValue};
-ghost use Rattle.socket_base.specs.Offers.{IsBefore};
-ghost use Rattle.socket_base.specs.declared.offer.Offer as Answer;
-ghost use Rattle.socket_base.specs.declared.offer.Offer.TheVariants as Offer;
+ghost use Rattle.datagram_sockets.specs.Context.{ContextValue};
+ghost use Rattle.datagram_sockets.specs.BaseOffers.{IsBefore};
+ghost use Rattle.datagram_sockets.specs.Offer as Answer;
+ghost use Rattle.datagram_sockets.specs.Offer.TheVariants as Offer;
 ghost use Rattle.datagram_sockets.specs.Offers.{HasPacket, changed_by};
 ghost use Rattle.sockets.specs.Socket.{Offers, offered_by, settled, poll_of, IsSameButForPlaces, IsOfDatagrams};
 ghost use Rattle.sockets.specs.declared.socket.Socket.{Socket};

@@ -1,5 +1,5 @@
 ghost use Rattle.std.specs.Prelude.{◌≡◌};
-ghost use Rattle.socket_base.specs.Packet.{option_value};
+ghost use Rattle.datagram_sockets.specs.Packet.{option_value};
 ghost use Rattle.sockets.specs.Socket.{Offers, offered_by, settled, poll_of, IfSendable};
 
 use crate::tcp;

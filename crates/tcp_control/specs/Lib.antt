@@ -5,3 +5,7 @@ pub mod Moments
 pub mod Offsets
 pub mod Controls
 pub mod Endpoints
+pub use Rattle.socket_base.specs.declared.poll_at.PollAt
+pub use Rattle.socket_base.specs.Context
+pub use Rattle.socket_base.specs.declared.offer.Offer
+pub use Rattle.socket_base.specs.Offers

@@ -3,9 +3,9 @@
 ghost use Rattle.std.specs.Prelude.{◌≡◌, ℕ, ℤ, Bool, true, false, List, Option, Some, None, IfSome, is_some};
 ghost use Rattle.ip_wire.specs.IpRepr.{IpRepr};
 ghost use Rattle.ip_wire.specs.TcpHeader.{TcpHeader};
-ghost use Rattle.socket_base.specs.Context.{ContextValue};
-ghost use Rattle.socket_base.specs.declared.offer.Offer.TheVariants as Answer;
-ghost use Rattle.socket_base.specs.declared.poll_at.PollAt.TheVariants as At;
+ghost use Rattle.tcp_control.specs.Context.{ContextValue};
+ghost use Rattle.tcp_control.specs.Offer.TheVariants as Answer;
+ghost use Rattle.tcp_control.specs.PollAt.TheVariants as At;
 ghost use Rattle.tcp_control.specs.Moments.{is_due};
 ghost use Rattle.tcp_control.specs.declared.endpoints.EndpointPair.{EndpointPair};
 ghost use Rattle.tcp_model.specs.Aborts.{OwesReset, IsResetOf};

@@ -1,7 +1,7 @@
 //! Runs on numerals, which the check computes.
 
 ghost use Rattle.std.specs.Prelude.{◌≡◌, pos, true, [], ◌∷◌, Some, None, is_some};
-ghost use Rattle.socket_base.specs.declared.poll_at.PollAt.TheVariants as At;
+ghost use Rattle.tcp_control.specs.PollAt.TheVariants as At;
 ghost use Rattle.tcp_control.specs.declared.offer.OfferKind.TheVariants as Kind;
 ghost use Rattle.tcp_control.specs.declared.state.State.TheVariants as In;
 ghost use Rattle.tcp_model.specs.Due.{poll_of};

@@ -2,9 +2,9 @@
 
 ghost use Rattle.std.specs.Prelude.{◌≡◌, ◌+◌, ◌^◌, ◌≤◌, ℕ, true, false};
 ghost use Rattle.ip_wire.specs.SeqNumber.{SeqNumber};
-ghost use Rattle.socket_base.specs.Context.{ContextValue};
-ghost use Rattle.socket_base.specs.Offers.{IsBefore, offered_as};
-ghost use Rattle.socket_base.specs.declared.offer.Offer.TheVariants as Answer;
+ghost use Rattle.tcp_control.specs.Context.{ContextValue};
+ghost use Rattle.tcp_control.specs.Offers.{IsBefore, offered_as};
+ghost use Rattle.tcp_control.specs.Offer.TheVariants as Answer;
 ghost use Rattle.tcp_law.specs.Numbers.{wire, nearest};
 ghost use Rattle.tcp_control.specs.declared.endpoints.EndpointPair.{EndpointPair};
 ghost use Rattle.tcp_model.specs.Due.{poll_open, poll_of};

@@ -4,7 +4,7 @@ ghost use Rattle.std.specs.Prelude.{◌≡◌, ◌≤◌, ℕ, ℤ, pos, ◌+ℤ
 ghost use Rattle.ip_wire.specs.IpRepr.{IpRepr};
 ghost use Rattle.ip_wire.specs.TcpHeader.{TcpHeader};
 ghost use Rattle.ip_wire.specs.TcpTimestampGenerator.{TcpTimestampGenerator};
-ghost use Rattle.socket_base.specs.Context.{ContextValue};
+ghost use Rattle.tcp_control.specs.Context.{ContextValue};
 ghost use Rattle.tcp_model.specs.Answers.{may_draw};
 ghost use Rattle.tcp_control.specs.Controls.{is_rst};
 ghost use Rattle.tcp_control.specs.States.{takes_text};

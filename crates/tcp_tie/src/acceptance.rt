@@ -4,7 +4,7 @@ ghost use Rattle.std.specs.Prelude.{◌≡◌, ◌↔◌, ◌+◌, ◌-◌, ◌^
 ghost use Rattle.ip_wire.specs.IpRepr.{IpRepr};
 ghost use Rattle.ip_wire.specs.TcpHeader.{TcpHeader};
 ghost use Rattle.net_base.specs.Ring.{Ring};
-ghost use Rattle.socket_base.specs.Context.{ContextValue};
+ghost use Rattle.tcp_model.specs.Context.{ContextValue};
 ghost use Rattle.tcp_law.specs.Numbers.{wire, IsNear};
 ghost use Rattle.tcp_model.specs.AddressPair.{AddressPair};
 ghost use Rattle.tcp_model.specs.declared.block.Block.{Block};

@@ -4,7 +4,7 @@ ghost use Rattle.std.specs.Prelude.{◌≡◌, ◌≢◌, ◌++◌, ◌^◌, ◌
 ghost use Rattle.ip_wire.specs.IpEndpoint.{IpEndpoint};
 ghost use Rattle.ip_wire.specs.IpListenEndpoint.{IpListenEndpoint};
 ghost use Rattle.ip_wire.specs.TcpTimestampGenerator.{TcpTimestampGenerator};
-ghost use Rattle.socket_base.specs.Context.{ContextValue};
+ghost use Rattle.tcp_model.specs.Context.{ContextValue};
 ghost use Rattle.tcp_law.specs.Side.Opening.{NotYet, Passive, Active};
 ghost use Rattle.tcp_model.specs.declared.block.CongestionControl.{CongestionControl};
 ghost use Rattle.tcp_model.specs.RecvError.TheVariants as Recv;

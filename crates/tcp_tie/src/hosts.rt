@@ -5,7 +5,7 @@ ghost use Rattle.std.specs.List.{AllByRecursion};
 ghost use Rattle.ip_wire.specs.IpRepr.{IpRepr};
 ghost use Rattle.ip_wire.specs.Tcp.{normal};
 ghost use Rattle.ip_wire.specs.TcpHeader.{TcpHeader};
-ghost use Rattle.socket_base.specs.Context.{ContextValue};
+ghost use Rattle.tcp_model.specs.Context.{ContextValue};
 ghost use Rattle.tcp_law.specs.Alone.{AreResets};
 ghost use Rattle.tcp_law.specs.Segment.Control.{Rst};
 ghost use Rattle.tcp_model.specs.Arrival.{arrives};

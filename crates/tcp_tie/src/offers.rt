@@ -1,7 +1,7 @@
 //! A socket is asked for a segment, and the offer is settled: the invariant between two sockets stays.
 
 ghost use Rattle.std.specs.Prelude.{true, false};
-ghost use Rattle.socket_base.specs.Context.{ContextValue};
+ghost use Rattle.tcp_model.specs.Context.{ContextValue};
 ghost use Rattle.tcp_model.specs.Offers.{offer_of};
 ghost use Rattle.tcp_model.specs.Settled.{settled};
 ghost use Rattle.tcp_model.specs.Value.{TcpValue};

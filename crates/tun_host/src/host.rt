@@ -1,7 +1,7 @@
 //! A host with its services.
 ghost use Rattle.std.specs.Prelude.{◌≡◌, ℕ, ◌≤◌, List, length, IfOk, IfErr, OnOk};
 ghost use Rattle.std.specs.Io.KnownBytes.{Appends};
-ghost use Rattle.interface_egress.specs.Set.{places};
+ghost use Rattle.interface.specs.Set.{places};
 ghost use Rattle.net_base.specs.Time.{IsMoment};
 ghost use Rattle.tun_host.specs.Begins.{Begins, RefusesAddress};
 ghost use Rattle.tun_host.specs.Services.{echo_room, most_request, AreServed, AreArranged};

@@ -2,8 +2,8 @@
 ghost use Rattle.std.specs.Prelude.{◌≡◌, ◌≤◌, List, [], ◌∷◌, not, IfOk, IfErr};
 ghost use Rattle.net_base.specs.Time.{IsMoment};
 ghost use Rattle.interface.specs.Made.{new_host, with_inner};
-ghost use Rattle.interface_tables.specs.Settings.{is_stranger, with_addresses, with_routes};
-ghost use Rattle.interface_tables.specs.declared.route.Route.{Route};
+ghost use Rattle.interface.specs.Settings.{is_stranger, with_addresses, with_routes};
+ghost use Rattle.interface.specs.Route.{Route};
 ghost use Rattle.tun_host.specs.Begins.{capabilities, config_of, AddsRouter, IsDefault, IsInterface, RefusesAddress};
 
 use crate::error::ServeError;

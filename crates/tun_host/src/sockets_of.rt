@@ -1,7 +1,7 @@
 //! The sockets of a host that begins.
 ghost use Rattle.std.specs.Prelude.{◌≡◌, ◌≤◌, [], IfOk};
 ghost use Rattle.net_base.specs.Packets.{packets_in};
-ghost use Rattle.interface_egress.specs.Set.{places};
+ghost use Rattle.interface.specs.Set.{places};
 ghost use Rattle.tun_host.specs.Begins.{echo_socket, IsUnopened, IsFreshAs, IsFreshPlace, AreFresh};
 
 use crate::place::{DATAGRAMS, ECHO_PORT, ECHOES, PAGES, Service, service_at};

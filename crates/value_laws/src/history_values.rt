@@ -3,7 +3,7 @@
 ghost use Rattle.std.specs.Prelude.{◌≡◌, ◌↔◌, ◌+◌, ◌≤◌, ℕ, IsTrue, None, Some};
 ghost use Rattle.lan_history.specs.Tables.{is_too_many};
 ghost use Rattle.lan_history.specs.Texts.{fault_text, refused_text};
-ghost use Rattle.lan_world.specs.New.{world_error_text};
+ghost use Rattle.lan.specs.New.{world_error_text};
 
 use lan::{Fault, Refused, WorldError};
 use lan_history::SocketRecord;

@@ -10,8 +10,8 @@ ghost use Rattle.lan_history.specs.declared.event.Side.{Side};
 ghost use Rattle.lan_history.specs.History.{Entry};
 ghost use Rattle.lan_history.specs.Partners.{ArePartners};
 ghost use Rattle.lan_history.specs.Tables.{Places, AreAllowed};
-ghost use Rattle.lan_theorem.specs.Hosts.Asked.{requests, AreApart};
-ghost use Rattle.lan_theorem.specs.Hosts.Machine.{Turn, Machine, HostRun};
+ghost use Rattle.lan.specs.Asked.{requests, AreApart};
+ghost use Rattle.lan.specs.Machine.{Turn, Machine, HostRun};
 
 use net_base::Medium;
 use std::alloc::{AllocError, Global};

@@ -4,8 +4,8 @@ ghost use Rattle.std.specs.Prelude.{◌≡◌, ◌<◌, [], take, length, slice_
 ghost use Rattle.lan_history.specs.Kinds.{kind_of};
 ghost use Rattle.lan_hosts.specs.Refusals.{MayRefuse};
 ghost use Rattle.lan_hosts.specs.Runs.{Step, Steps, answers_of, refusal_in, tables_in};
-ghost use Rattle.lan_world.specs.Come.{both, starts_of};
-ghost use Rattle.lan_world.specs.New.{new_error, MayFail};
+ghost use Rattle.lan.specs.Come.{both, starts_of};
+ghost use Rattle.lan.specs.New.{new_error, MayFail};
 
 use lan::{Answer, Event, Host, Refused, World, WorldError};
 use std::alloc::Global;
