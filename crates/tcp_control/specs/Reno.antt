@@ -53,9 +53,12 @@ acknowledged r count =
       timed_out = false;
     }
 
--- the third duplicate came (3.2, steps 2 and 3)
+-- the third duplicate came (3.2, steps 2 and 3). After a timeout it may answer a segment that went again without need, and says nothing
+-- until new data is acknowledged (RFC 6582, 3.2 and 4.3).
 abbrev pub lost : RenoValue → ℕ → RenoValue
-lost r flight = record r { ssthresh = halved r flight; cwnd = min most (halved r flight + 3 * r.mss); recovers = true }
+lost r flight =
+    if r.timed_out then r
+    else record r { ssthresh = halved r flight; cwnd = min most (halved r flight + 3 * r.mss); recovers = true }
 
 -- a duplicate beyond the third came: in recovery alone, which a timeout ends (3.2, step 4)
 abbrev pub inflated : RenoValue → RenoValue

@@ -93,10 +93,14 @@ impl Reno {
         self.timed_out = false;
     }
 
-    /// The third duplicate came while so much was in flight.
+    /// The third duplicate came while so much was in flight. After a timeout it may answer a segment that
+    /// went again without need.
     pub fn lost(&mut self, flight: u32)
         ensures { self.new ≡ lost self.old flight }
     {
+        if self.timed_out {
+            return;
+        }
         self.ssthresh = self.halved(flight);
         self.cwnd = (self.ssthresh + 3 * self.mss as u32).min(MOST);
         self.recovers = true;
@@ -164,9 +168,12 @@ pub fn congestion_windows()
 {}
 
 /// An acknowledgement of no bytes changes nothing, a second timeout without new data acknowledged
-/// leaves the threshold, and after a timeout the window stays one segment until something is acknowledged, however many duplicates come.
+/// leaves the threshold, and after a timeout the window stays one segment until something is
+/// acknowledged, however many duplicates come.
 pub fn congestion_laws()
-    ensures duplicates { (r : RenoValue) (flight : ℕ) → inflated (timed_out r flight) ≡ timed_out r flight }
+    ensures third { (r : RenoValue) (flight other : ℕ) → lost (timed_out r flight) other ≡ timed_out r flight }
+    ensures further { (r : RenoValue) (flight : ℕ) → inflated (timed_out r flight) ≡ timed_out r flight }
+    ensures one_segment { (r : RenoValue) (flight : ℕ) → (timed_out r flight).cwnd ≡ r.mss }
     ensures nothing { (r : RenoValue) → acknowledged r 0 ≡ r }
     ensures second { (r : RenoValue) (flight other : ℕ) → (timed_out (timed_out r flight) other).ssthresh ≡ (timed_out r flight).ssthresh }
 {}
