@@ -131,7 +131,7 @@ pub rest_leads : (cx : ContextValue) (duplicates : ℕ) (v w : TcpValue) (ip : I
 rest_leads cx duplicates v w ip header bytes answer socket opened w_is a s =
     let counts = told v header duplicates cx.moment in
     let first = leads_to (λ (x : TcpValue). finished cx x.block (with_text x header bytes) ip header (length bytes)) w counts answer socket w_is a s in
-    if_open (is_closed v.block.state) (dropped v) (finished cx v.block (with_text counts header bytes) ip header (length bytes)) answer socket opened (record { answer = first.answer; socket = first.socket })
+    if_open (is_closed v.block.state) (dropped v) (finished cx counts.block (with_text counts header bytes) ip header (length bytes)) answer socket opened first
 
 -- the acknowledgement is taken, then the rest
 pub taken_leads : (cx : ContextValue) (duplicates : ℕ) (v w : TcpValue) (now : ℤ) (ip : IpRepr) (header : TcpHeader) (bytes : List ℕ) (by : ℕ) (answer : Option Reply) (socket : TcpValue)

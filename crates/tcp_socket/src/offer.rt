@@ -242,8 +242,7 @@ impl Socket {
 
     /// What may go from SND.NXT on.
     fn ready_part(&self, addresses: &AddressPair, ip_mtu: usize) -> Part
-        ensures value { choice_of result ≡ text_choice self.now.block addresses.now ip_mtu self.now.queued }
-        ensures part { IsPartOf self.now (choice_of result) }
+        ensures { choice_of result ≡ text_choice self.now.block addresses.now ip_mtu self.now.queued }
     {
         let place = self.block.next_place();
         let (queued, unbroken) = (self.queued.len(), self.unbroken(place));
