@@ -1,0 +1,5 @@
+pub mod Areas
+pub mod Fixed
+pub mod Held
+pub mod ReadBack
+pub mod Slots
