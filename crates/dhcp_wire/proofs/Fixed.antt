@@ -4,7 +4,7 @@ use Rattle.std.specs.Prelude.{slice_range, slice_index}
 use Rattle.std.specs.Int.{w16, w32, to_be_bytes}
 use Rattle.std.proofs.lemmas.List.{take_at, drop_at, drop-drop, get_or-drop, length-replicate}
 use Rattle.ip_address.specs.Fields.{be16, be32}
-use Rattle.dhcp_wire.specs.Written.{slots, slots_bytes, front, fixed, padding, unused, buffer_len, written}
+use Rattle.dhcp_wire.specs.Written.{options_bytes, front, fixed, padding, unused, buffer_len, written}
 use Rattle.dhcp_wire.specs.Normal.{IsValue}
 use Rattle.dhcp_wire.specs.declared.repr.DhcpRepr.{DhcpRepr}
 
@@ -46,7 +46,7 @@ behind_front v rest = v.client_hardware_address.0 ++ (unused ++ (99 ∷ 130 ∷ 
 abbrev regrouped : DhcpRepr → List ℕ → List ℕ
 regrouped v rest = front v ++ behind_front v rest
 
-written-regrouped : (v : DhcpRepr) (more : List ℕ) → written v ++ more ≡ regrouped v (slots_bytes (slots v) ++ (255 ∷ (replicate (padding v) 0 ++ more)))
+written-regrouped : (v : DhcpRepr) (more : List ℕ) → written v ++ more ≡ regrouped v (options_bytes v ++ (255 ∷ (replicate (padding v) 0 ++ more)))
 written-regrouped v more = simp append_assoc refl
 
 number-at : (bytes : List ℕ) (a b c d : ℕ) (rest : List ℕ) → drop 236 bytes ≡ a ∷ b ∷ c ∷ d ∷ rest → be32 bytes 236 ≡ 65536 * (256 * a + b) + (256 * c + d)
@@ -90,7 +90,7 @@ AreFixed-regrouped v rest is =
 
 -- the message, and what follows it
 abbrev pub rest_of : DhcpRepr → List ℕ → List ℕ
-rest_of v more = slots_bytes (slots v) ++ (255 ∷ (replicate (padding v) 0 ++ more))
+rest_of v more = options_bytes v ++ (255 ∷ (replicate (padding v) 0 ++ more))
 
 pub AreFixed-written : (v : DhcpRepr) (more : List ℕ) → IsValue v → AreFixed v (written v ++ more) (rest_of v more)
 AreFixed-written v more is =
@@ -99,4 +99,4 @@ AreFixed-written v more is =
 
 pub length-written : (v : DhcpRepr) → IsValue v → length (written v) ≡ buffer_len v
 length-written v is =
-    omega (arith, length-fixed v is, length-append (fixed v) (slots_bytes (slots v) ++ (255 ∷ replicate (padding v) 0)), length-append (slots_bytes (slots v)) (255 ∷ replicate (padding v) 0), length-replicate {A = ℕ} (padding v) 0)
+    omega (arith, length-fixed v is, length-append (fixed v) (options_bytes v ++ (255 ∷ replicate (padding v) 0)), length-append (options_bytes v) (255 ∷ replicate (padding v) 0), length-replicate {A = ℕ} (padding v) 0)

@@ -15,6 +15,10 @@ use Rattle.dhcp_wire.specs.Written.{address_inside, number16_inside, number32_in
 use Rattle.dhcp_wire.specs.Normal.{IsAddress, IsStation, IsNumber, AreServers, closed_up}
 use Rattle.dhcp_wire.specs.Dhcp.{type_in}
 
+-- the address of four bytes
+abbrev address_of : List ℕ → Ipv4Address
+address_of bytes = record { 0 = bytes }
+
 -- an address between other bytes
 address_at-part : (front rest : List ℕ) (a : Ipv4Address) (at : ℕ) → length front ≡ at → IsIpv4Address a → address_at (front ++ (a.0 ++ rest)) at ≡ Some a
 address_at-part front rest a at len is =
@@ -23,7 +27,7 @@ address_at-part front rest a at len is =
     let part : slice_range (front ++ (a.0 ++ rest)) at (at + 4) ≡ a.0 =
         ap (λ n. take n (drop at (front ++ (a.0 ++ rest)))) size ∙ ap (take 4) (drop_at front (a.0 ++ rest) at len) ∙ take_at a.0 rest 4 is.0
     in
-    rw (le-leb (at + 4) (length (front ++ (a.0 ++ rest))) room) (ap (λ xs. Some (record { 0 = xs })) part)
+    rw (le-leb (at + 4) (length (front ++ (a.0 ++ rest))) room) (ap (λ xs. Some (address_of xs)) part)
 
 -- no address behind the end
 address_at-none : (bytes : List ℕ) (at : ℕ) → length bytes < at + 4 → address_at bytes at ≡ None

@@ -1,5 +1,5 @@
 -- A message that was written, read.
-use Rattle.std.proofs.Common.{◌≡◌, ℕ, ◌+◌, ◌≤◌, Bool, true, false, List, [], ◌∷◌, ◌++◌, length, drop, refl, sym, ◌∙◌, ap, subst, arith}
+use Rattle.std.proofs.Common.{◌≡◌, ℕ, ◌+◌, ◌≤◌, Bool, true, false, List, [], ◌∷◌, ◌++◌, length, drop, replicate, refl, sym, ◌∙◌, ap, subst, arith}
 use Rattle.std.specs.Prelude.{◌==◌, ◌/◌, ◌%◌, if◌then◌else◌, Option, Some, None, IsTrue}
 use Rattle.ip_address.specs.Fields.{be16, be32}
 use Rattle.dhcp_wire.specs.Dhcp.{IsDhcp, IsMessage, IsEthernet, AreLengths, HasOpcode, type_in}
@@ -7,21 +7,27 @@ use Rattle.dhcp_wire.specs.MessageType.{type_number, opcode_of, op_number}
 use Rattle.dhcp_wire.specs.Options.{OptionValue, options_in, is_area, last_of, seen}
 use Rattle.dhcp_wire.specs.Packet.{IsWhole, overload_number, overload_of, file_area, sname_area, option_of}
 use Rattle.dhcp_wire.specs.Values.{has_length, has_addresses, address_in, number16_in, number32_in, station_in, servers_in}
-use Rattle.dhcp_wire.specs.Written.{slots, written, address_inside, number16_inside, number32_inside, station_inside, addresses_bytes, addresses_inside}
+use Rattle.dhcp_wire.specs.Written.{slots, padding, written, address_inside, number16_inside, number32_inside, station_inside, addresses_bytes, addresses_inside}
 use Rattle.dhcp_wire.specs.Normal.{IsValue, normal}
 use Rattle.dhcp_wire.specs.declared.repr.DhcpRepr.{DhcpRepr}
 use Rattle.dhcp_wire.proofs.Fixed.{AreFixed, AreFixed-written}
-use Rattle.dhcp_wire.proofs.Slots.{AreKinds, present, options_in-slots, is_area-slots, look, last_of-present, or_else-none}
+use Rattle.dhcp_wire.proofs.Slots.{AreKinds, present, options_bytes-slots, options_in-slots, is_area-slots, look, last_of-present, or_else-none}
 use Rattle.dhcp_wire.proofs.Held.{AreRead, AreRead-servers, address_in-inside, has_length-address, has_addresses-address, number16_in-inside, has_length-number16, number32_in-inside, has_length-number32, station_in-inside, type_in-number}
 
 kinds : (v : DhcpRepr) → AreKinds (slots v)
 kinds v = (refl, refl, (refl, refl, (refl, refl, (refl, refl, (refl, refl, (refl, refl, (refl, refl, (refl, refl, (refl, refl, (refl, refl, (refl, refl, (refl, refl, (refl, refl, tt)))))))))))))
 
 options_in-written : (v : DhcpRepr) (more : List ℕ) → IsValue v → options_in 0 (drop 240 (written v ++ more)) ≡ present (slots v)
-options_in-written v more is = ap (options_in 0) (AreFixed-written v more is).options ∙ options_in-slots (slots v) _ (kinds v)
+options_in-written v more is = 
+    ap (options_in 0) (AreFixed-written v more is).options
+    ∙ ap (λ xs. options_in 0 (xs ++ (255 ∷ (replicate (padding v) 0 ++ more)))) (options_bytes-slots v)
+    ∙ options_in-slots (slots v) (replicate (padding v) 0 ++ more) (kinds v)
 
 is_area-written : (v : DhcpRepr) (more : List ℕ) → IsValue v → is_area 0 (drop 240 (written v ++ more)) ≡ true
-is_area-written v more is = ap (is_area 0) (AreFixed-written v more is).options ∙ is_area-slots (slots v) _ (kinds v)
+is_area-written v more is = 
+    ap (is_area 0) (AreFixed-written v more is).options
+    ∙ ap (λ xs. is_area 0 (xs ++ (255 ∷ (replicate (padding v) 0 ++ more)))) (options_bytes-slots v)
+    ∙ is_area-slots (slots v) (replicate (padding v) 0 ++ more) (kinds v)
 
 -- nothing stands in the fields of the file and of the server's name
 overload-none : (v : DhcpRepr) (more : List ℕ) → IsValue v → overload_of (written v ++ more) ≡ 0

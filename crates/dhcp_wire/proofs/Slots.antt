@@ -4,13 +4,18 @@ use Rattle.std.specs.Prelude.{◌==◌, Option, Some, None, if◌then◌else◌}
 use Rattle.std.proofs.lemmas.Bool.{eqb-false}
 use Rattle.std.proofs.Math.Seq.{take-append_seam, drop-append_seam}
 use Rattle.dhcp_wire.specs.Options.{OptionValue, options_in, is_area, last_of}
-use Rattle.dhcp_wire.specs.Written.{Slot, inside_bytes, slots_bytes}
+use Rattle.dhcp_wire.specs.Written.{Slot, inside_bytes, slots_bytes, client_slots, name_slots, time_slots, network_slots, slots, client_bytes, name_bytes, time_bytes, network_bytes, options_bytes}
+use Rattle.dhcp_wire.specs.declared.repr.DhcpRepr.{DhcpRepr}
 use Rattle.dhcp_wire.proofs.Areas.{options_in-one, is_area-one}
+
+-- an option of a code, with what is inside
+abbrev value : ℕ → List ℕ → OptionValue
+value kind inside = record { kind = kind; inside = inside }
 
 -- the options that slots make
 abbrev pub one : ℕ → Option (List ℕ) → List OptionValue → List OptionValue
 one kind None os = os
-one kind (Some inside) os = record { kind = kind; inside = inside } ∷ os
+one kind (Some inside) os = value kind inside ∷ os
 
 abbrev pub present : List Slot → List OptionValue
 present [] = []
@@ -25,8 +30,8 @@ options_in-inside : (kind : ℕ) (inside : Option (List ℕ)) (bytes : List ℕ)
 options_in-inside kind None bytes some goes = refl
 options_in-inside kind (Some inside) bytes some goes =
     options_in-one kind (length inside) (inside ++ bytes) some goes (omega (arith, length-append inside bytes))
-    ∙ ap (λ t. record { kind = kind; inside = t } ∷ options_in 0 (drop (length inside) (inside ++ bytes))) (take-append_seam inside bytes)
-    ∙ ap (λ d. record { kind = kind; inside = inside } ∷ options_in 0 d) (drop-append_seam inside bytes)
+    ∙ ap (λ t. value kind t ∷ options_in 0 (drop (length inside) (inside ++ bytes))) (take-append_seam inside bytes)
+    ∙ ap (λ d. value kind inside ∷ options_in 0 d) (drop-append_seam inside bytes)
 
 pub options_in-slots : (slots : List Slot) (rest : List ℕ) → AreKinds slots → options_in 0 (slots_bytes slots ++ (255 ∷ rest)) ≡ present slots
 options_in-slots [] rest kinds = refl
@@ -81,3 +86,14 @@ pub slots_bytes-append : (a b : List Slot) → slots_bytes (a ++ b) ≡ slots_by
 slots_bytes-append [] b = refl
 slots_bytes-append (s ∷ slots) b =
     ap (λ xs. inside_bytes s.kind s.inside ++ xs) (slots_bytes-append slots b) ∙ sym (append_assoc (inside_bytes s.kind s.inside) (slots_bytes slots) (slots_bytes b))
+
+-- the options of a message, group by group, are those of all slots
+pub options_bytes-slots : (v : DhcpRepr) → options_bytes v ≡ slots_bytes (slots v)
+unfolding client_bytes name_bytes time_bytes network_bytes
+options_bytes-slots v = sym (
+    slots_bytes-append (client_slots v) (name_slots v ++ (time_slots v ++ network_slots v))
+    ∙ ap (λ xs. slots_bytes (client_slots v) ++ xs) (
+      slots_bytes-append (name_slots v) (time_slots v ++ network_slots v)
+      ∙ ap (λ xs. slots_bytes (name_slots v) ++ xs) (slots_bytes-append (time_slots v) (network_slots v))
+    )
+    )

@@ -90,9 +90,25 @@ network_slots v =
     ∷ slot 6 (addresses_inside (addresses_bytes v.dns_servers))
     ∷ []
 
--- all options
+-- all of them
 abbrev pub slots : DhcpRepr → List Slot
 slots v = client_slots v ++ (name_slots v ++ (time_slots v ++ network_slots v))
+
+-- their bytes, group by group
+unfoldable pub client_bytes : DhcpRepr → List ℕ
+client_bytes v = slots_bytes (client_slots v)
+
+unfoldable pub name_bytes : DhcpRepr → List ℕ
+name_bytes v = slots_bytes (name_slots v)
+
+unfoldable pub time_bytes : DhcpRepr → List ℕ
+time_bytes v = slots_bytes (time_slots v)
+
+unfoldable pub network_bytes : DhcpRepr → List ℕ
+network_bytes v = slots_bytes (network_slots v)
+
+abbrev pub options_bytes : DhcpRepr → List ℕ
+options_bytes v = client_bytes v ++ (name_bytes v ++ (time_bytes v ++ network_bytes v))
 
 -- the byte of the broadcast flag
 abbrev pub flag_byte : Bool → ℕ
@@ -115,15 +131,15 @@ fixed v = front v ++ (v.client_hardware_address.0 ++ (unused ++ (99 ∷ 130 ∷ 
 
 -- how many zeros follow the end of the options
 abbrev pub padding : DhcpRepr → ℕ
-padding v = 59 - length (slots_bytes (slots v))
+padding v = 59 - length (options_bytes v)
 
 -- the length of the message
 abbrev pub buffer_len : DhcpRepr → ℕ
-buffer_len v = 241 + length (slots_bytes (slots v)) + padding v
+buffer_len v = 241 + length (options_bytes v) + padding v
 
 -- the message
 abbrev pub written : DhcpRepr → List ℕ
-written v = fixed v ++ (slots_bytes (slots v) ++ (255 ∷ replicate (padding v) 0))
+written v = fixed v ++ (options_bytes v ++ (255 ∷ replicate (padding v) 0))
 
 -- what is inside an option fits its length field
 abbrev pub FitsInside : Option (List ℕ) → Type 0

@@ -4,7 +4,7 @@ ghost use Rattle.std.specs.Int.{w16, w32, to_be_bytes};
 ghost use Rattle.dhcp_wire.specs.Extends.{Extends};
 ghost use Rattle.dhcp_wire.specs.Options.{seen};
 ghost use Rattle.dhcp_wire.specs.MessageType.{type_number};
-ghost use Rattle.dhcp_wire.specs.Written.{Fits, FitsInside, inside_bytes, slots_bytes, address_inside, number16_inside, number32_inside, station_inside, addresses_bytes, addresses_inside, client_slots, name_slots, time_slots, network_slots, flag_byte, unused, front, fixed, padding, buffer_len, written};
+ghost use Rattle.dhcp_wire.specs.Written.{Fits, FitsInside, inside_bytes, address_inside, number16_inside, number32_inside, station_inside, addresses_bytes, addresses_inside, client_bytes, name_bytes, time_bytes, network_bytes, flag_byte, unused, front, fixed, padding, buffer_len, written};
 
 use crate::field;
 use crate::repr::{DhcpRepr, MAX_DNS_SERVER_COUNT};
@@ -30,8 +30,9 @@ impl<'a> DhcpRepr<'a> {
         (field::HEADER_LEN + options + 1).max(MIN_LEN)
     }
 
+    #[tactic(auto, unfolding(crate::specs::Written::client_bytes))]
     fn client_len(&self) -> usize
-        ensures exact { result ≡ length (slots_bytes (client_slots self.now)) }
+        ensures exact { result ≡ length (client_bytes self.now) }
         ensures small { result < 100 }
     {
         let station = if self.client_identifier.is_some() { 9 } else { 0 };
@@ -39,9 +40,10 @@ impl<'a> DhcpRepr<'a> {
         3 + station + address_len(&self.requested_ip) + max_size
     }
 
+    #[tactic(auto, unfolding(crate::specs::Written::name_bytes))]
     fn names_len(&self) -> usize
         requires { Fits self.now }
-        ensures exact { result ≡ length (slots_bytes (name_slots self.now)) }
+        ensures exact { result ≡ length (name_bytes self.now) }
         ensures small { result < 1000 }
     {
         address_len(&self.server_identifier)
@@ -49,8 +51,9 @@ impl<'a> DhcpRepr<'a> {
             + inside_len(self.parameter_request_list)
     }
 
+    #[tactic(auto, unfolding(crate::specs::Written::time_bytes))]
     fn times_len(&self) -> usize
-        ensures exact { result ≡ length (slots_bytes (time_slots self.now)) }
+        ensures exact { result ≡ length (time_bytes self.now) }
         ensures small { result < 100 }
     {
         number_len(&self.lease_duration)
@@ -58,8 +61,9 @@ impl<'a> DhcpRepr<'a> {
             + number_len(&self.rebind_duration)
     }
 
+    #[tactic(auto, unfolding(crate::specs::Written::network_bytes))]
     fn network_len(&self) -> usize
-        ensures exact { result ≡ length (slots_bytes (network_slots self.now)) }
+        ensures exact { result ≡ length (network_bytes self.now) }
         ensures small { result < 100 }
     {
         address_len(&self.subnet_mask) + address_len(&self.router) + servers_len(&self.dns_servers)
@@ -118,9 +122,10 @@ impl<'a> DhcpRepr<'a> {
         relay.copy_from_slice(&self.relay_agent_ip.0);
     }
 
+    #[tactic(auto, unfolding(crate::specs::Written::client_bytes))]
     fn put_client(&self, area: &mut [u8], at: usize) -> usize
-        requires { at + length (slots_bytes (client_slots self.now)) ≤ length area.old }
-        ensures { Extends area.old at area.new result (slots_bytes (client_slots self.now)) }
+        requires { at + length (client_bytes self.now) ≤ length area.old }
+        ensures { Extends area.old at area.new result (client_bytes self.now) }
     {
         let number = self.message_type.number();
         let at = put_option(area, at, field::OPT_DHCP_MESSAGE_TYPE, &[number]);
@@ -129,28 +134,31 @@ impl<'a> DhcpRepr<'a> {
         put_size(area, at, &self.max_size)
     }
 
+    #[tactic(auto, unfolding(crate::specs::Written::name_bytes))]
     fn put_names(&self, area: &mut [u8], at: usize) -> usize
         requires fits { Fits self.now }
-        requires room { at + length (slots_bytes (name_slots self.now)) ≤ length area.old }
-        ensures { Extends area.old at area.new result (slots_bytes (name_slots self.now)) }
+        requires room { at + length (name_bytes self.now) ≤ length area.old }
+        ensures { Extends area.old at area.new result (name_bytes self.now) }
     {
         let at = put_address(area, at, field::OPT_SERVER_IDENTIFIER, &self.server_identifier);
         let at = put_inside(area, at, field::OPT_HOST_NAME, self.host_name);
         put_inside(area, at, field::OPT_PARAMETER_REQUEST_LIST, self.parameter_request_list)
     }
 
+    #[tactic(auto, unfolding(crate::specs::Written::time_bytes))]
     fn put_times(&self, area: &mut [u8], at: usize) -> usize
-        requires { at + length (slots_bytes (time_slots self.now)) ≤ length area.old }
-        ensures { Extends area.old at area.new result (slots_bytes (time_slots self.now)) }
+        requires { at + length (time_bytes self.now) ≤ length area.old }
+        ensures { Extends area.old at area.new result (time_bytes self.now) }
     {
         let at = put_number(area, at, field::OPT_IP_LEASE_TIME, &self.lease_duration);
         let at = put_number(area, at, field::OPT_RENEWAL_TIME_VALUE, &self.renew_duration);
         put_number(area, at, field::OPT_REBINDING_TIME_VALUE, &self.rebind_duration)
     }
 
+    #[tactic(auto, unfolding(crate::specs::Written::network_bytes))]
     fn put_network(&self, area: &mut [u8], at: usize) -> usize
-        requires { at + length (slots_bytes (network_slots self.now)) ≤ length area.old }
-        ensures { Extends area.old at area.new result (slots_bytes (network_slots self.now)) }
+        requires { at + length (network_bytes self.now) ≤ length area.old }
+        ensures { Extends area.old at area.new result (network_bytes self.now) }
     {
         let at = put_address(area, at, field::OPT_SUBNET_MASK, &self.subnet_mask);
         let at = put_address(area, at, field::OPT_ROUTER, &self.router);
