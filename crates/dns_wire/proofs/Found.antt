@@ -46,20 +46,20 @@ abbrev answered : List ℕ → DnsName → ℕ → DnsRecordData → ℕ → Dns
 answered message name ttl held stop = (record { name = name; ttl = ttl; «data» = held }, stop + 10 + be16 message (stop + 8))
 
 pub record-is : (message : List ℕ) (at : ℕ) (r : DnsRecord) (end : ℕ) (name : DnsName) (ttl : ℕ) (held : DnsRecordData) (stop : ℕ) (is : IsRecord message at r end) → bytes_of_name name ≡ bytes_of_name r.name → stop ≡ is.name_end
-    → ttl ≡ be32 message (stop + 4) → held ≡ r.«data» → answered message name ttl held stop ≡ (r, end)
+    → ttl ≡ be32 message (stop + 4) → held ≡ r.data → answered message name ttl held stop ≡ (r, end)
 record-is message at r end name ttl held stop is same ends ttl_is held_is =
     let counts : ttl ≡ r.ttl = ttl_is ∙ ap (λ k. be32 message (k + 4)) ends ∙ sym is.ttl in
     ap (λ n. answered message n ttl held stop) (name-is name r.name same)
     ∙ ap (λ t. answered message r.name t held stop) counts
     ∙ ap (λ d. answered message r.name r.ttl d stop) held_is
-    ∙ ap (λ k. answered message r.name r.ttl r.«data» k) ends
+    ∙ ap (λ k. answered message r.name r.ttl r.data k) ends
     ∙ ap (λ k. (r, k)) (sym is.end_is)
 
 -- what stands in a record, told of the place where its name was found to end
 pub holds-at : (message : List ℕ) (at : ℕ) (r : DnsRecord) (end stop : ℕ) (is : IsRecord message at r end) → stop ≡ is.name_end
-    → IsData message (be16 message (stop + 2)) (be16 message stop) (stop + 10) (be16 message (stop + 8)) r.«data»
+    → IsData message (be16 message (stop + 2)) (be16 message stop) (stop + 10) (be16 message (stop + 8)) r.data
 holds-at message at r end stop is ends =
-    let P : ℕ → Type 0 = λ k. IsData message (be16 message (k + 2)) (be16 message k) (k + 10) (be16 message (k + 8)) r.«data» in
+    let P : ℕ → Type 0 = λ k. IsData message (be16 message (k + 2)) (be16 message k) (k + 10) (be16 message (k + 8)) r.data in
     subst P (sym ends) is.holds
 
 -- an A record holds one address

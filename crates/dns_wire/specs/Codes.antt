@@ -1,7 +1,7 @@
 -- Types of records, kinds of queries and response codes (RFC 1035, sections 3.2.2 and 4.1.1; RFC 3596), and the flags.
 use Rattle.std.specs.Prelude.{◌==◌, ℕ, ◌+◌, ◌*◌, ◌/◌, ◌%◌, if◌then◌else◌}
 use Rattle.dns_wire.specs.declared.codes.DnsQueryType.{DnsQueryType}
-use Rattle.dns_wire.specs.declared.codes.DnsQueryType.TheVariants as Type'
+use Rattle.dns_wire.specs.declared.codes.DnsQueryType.TheVariants as Kind
 use Rattle.dns_wire.specs.declared.codes.DnsOpcode.{DnsOpcode}
 use Rattle.dns_wire.specs.declared.codes.DnsOpcode.TheVariants as Opcode
 use Rattle.dns_wire.specs.declared.codes.DnsRcode.{DnsRcode}
@@ -11,20 +11,20 @@ use Rattle.dns_wire.specs.declared.codes.DnsFlags.{DnsFlags}
 -- the type of record with this number
 abbrev pub type_of : ℕ → DnsQueryType
 type_of n =
-    if n == 1 then Type'.A
-    else if n == 2 then Type'.Ns
-    else if n == 5 then Type'.Cname
-    else if n == 6 then Type'.Soa
-    else if n == 28 then Type'.Aaaa
-    else Type'.Unknown n
+    if n == 1 then Kind.A
+    else if n == 2 then Kind.Ns
+    else if n == 5 then Kind.Cname
+    else if n == 6 then Kind.Soa
+    else if n == 28 then Kind.Aaaa
+    else Kind.Unknown n
 
 abbrev pub type_number : DnsQueryType → ℕ
-type_number Type'.A = 1
-type_number Type'.Ns = 2
-type_number Type'.Cname = 5
-type_number Type'.Soa = 6
-type_number Type'.Aaaa = 28
-type_number (Type'.Unknown n) = n
+type_number Kind.A = 1
+type_number Kind.Ns = 2
+type_number Kind.Cname = 5
+type_number Kind.Soa = 6
+type_number Kind.Aaaa = 28
+type_number (Kind.Unknown n) = n
 
 -- the kind of query with this number of four bits
 abbrev pub opcode_of : ℕ → DnsOpcode

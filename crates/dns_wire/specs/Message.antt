@@ -39,8 +39,8 @@ IsData message class kind start len (Aaaa address) =
     (class ≡ 1) × (kind ≡ 28) × (len ≡ 16) × (address.0 ≡ slice_range message start (start + 16))
 IsData message class kind start len (Cname name) =
     (class ≡ 1) × (kind ≡ 5) × IsName message start (bytes_of_name name) (start + len)
-IsData message class kind start len (Other type' first count) =
-    IsOtherKind class kind × (type' ≡ type_of kind) × (first ≡ start) × (count ≡ len)
+IsData message class kind start len (Other held_type first count) =
+    IsOtherKind class kind × (held_type ≡ type_of kind) × (first ≡ start) × (count ≡ len)
 
 -- a record stands from a place to an end: a name, a type, a class, for how long it counts, and the length of what it
 -- holds, which comes last
@@ -48,7 +48,7 @@ pub record IsRecord (message : List ℕ) (at : ℕ) (answer : DnsRecord) (end : 
   pub name_end : ℕ
   pub name : IsName message at (bytes_of_name answer.name) name_end
   pub within : name_end + 10 + be16 message (name_end + 8) ≤ length message
-  pub holds : IsData message (be16 message (name_end + 2)) (be16 message name_end) (name_end + 10) (be16 message (name_end + 8)) answer.«data»
+  pub holds : IsData message (be16 message (name_end + 2)) (be16 message name_end) (name_end + 10) (be16 message (name_end + 8)) answer.data
   pub ttl : answer.ttl ≡ be32 message (name_end + 4)
   pub end_is : end ≡ name_end + 10 + be16 message (name_end + 8)
 
