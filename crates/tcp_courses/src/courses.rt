@@ -7,7 +7,7 @@ use tcp_pair::Side::{A, B};
 /// Three segments open the connection at 0.
 const OPEN: &[Act] = &[Listen, Connect, Ask(A, 0), Come(A, 0), Ask(B, 0), Come(B, 0), Ask(A, 0), Come(A, 1)];
 
-pub const COURSES: [Course; 7] = [
+pub const COURSES: [Course; 9] = [
     // Each side took what the other doesn't know of; then both send again what the other counts as old.
     Course {
         name: "two_sides",
@@ -78,6 +78,29 @@ pub const COURSES: [Course; 7] = [
         acts: &[
             Send(A, 8000), Send(B, 8000), Ask(A, 0), Ask(B, 0), Come(A, 2), Come(B, 1), Ask(A, 1_100_000), Ask(B, 1_100_000),
             Ask(A, 3_100_000), Ask(B, 3_100_000), Come(A, 6), Come(B, 5), Heal(70_000),
+        ],
+        end: End::Read,
+    },
+    // A round trip of 1.3 seconds: the SYN goes twice, and nothing else does.
+    Course {
+        name: "karn",
+        sizes: (9000, 9000),
+        open: &[Listen, Connect, Ask(A, 0), Ask(B, 650_000), Come(A, 0), Ask(B, 650_000), Ask(A, 1_000_000), Sent(A, 2)],
+        acts: &[
+            Ask(A, 1_300_000), Come(B, 0), Send(A, 100), Ask(A, 1_300_000), Sent(A, 3), Ask(B, 1_950_000), Come(A, 2), Ask(B, 1_960_000), Ask(A, 2_610_000), Sent(A, 3),
+            Come(B, 1), Send(A, 100), Ask(A, 2_610_000), Sent(A, 4), Ask(A, 3_900_000), Sent(A, 4), Heal(70_000),
+        ],
+        end: End::Read,
+    },
+    // Old duplicates after a timeout don't open the congestion window.
+    Course {
+        name: "dups",
+        sizes: (9000, 9000),
+        open: OPEN,
+        acts: &[
+            Send(A, 8760), Ask(A, 0), Sent(A, 8), Come(A, 3), Come(A, 4), Come(A, 5), Come(A, 6), Come(A, 7), Sent(B, 6),
+            Come(B, 1), Come(B, 2), Come(B, 3), Ask(A, 0), Sent(A, 9), Come(B, 4), Come(B, 5), Ask(A, 1_200_000), Sent(A, 10),
+            Come(B, 5), Come(B, 5), Come(B, 5), Come(B, 5), Ask(A, 1_200_000), Sent(A, 10), Heal(70_000),
         ],
         end: End::Read,
     },

@@ -291,9 +291,11 @@ module _ (cx : ContextValue) (v : TcpValue) (pair : EndpointPair) (p : Past) (t 
         (sends_syn_ack (core_of (plain v b)) p t (ack_of (if b.receiver.took_syn then Some b.receiver.next else None)) connected unacked_syn (heard_of b.receiver.took_syn b.receiver.next) r)
 
   led_keep_alive : (b : Block) → is_due cx.moment (keep_alive_moment b) ≡ true → Tied (core_of (plain v b)) p t → LedOffer p t (offer_keep_alive cx (plain v b) pair)
-  led_keep_alive b due r =
-      (asked_tied (plain v b) (recorded b (open_of Kind.KeepAlive cx (plain v b) pair (keep_alive_segment b pair cx.moment (window_of (plain v b))) 0 1) (room_of v.received)) cx.moment _ t
-      (sends_keep_alive (core_of (plain v b)) p t (and_parts (keeps_alive b.state) (b.sender.in_flight == 0) (by (keeps_alive b.state && (b.sender.in_flight == 0)) refl due)).0 r), r)
+  led_keep_alive b due r = (
+    asked_tied (plain v b) (recorded b (open_of Kind.KeepAlive cx (plain v b) pair (keep_alive_segment b pair cx.moment (window_of (plain v b))) 0 1) (room_of v.received)) cx.moment _ t
+        (sends_keep_alive (core_of (plain v b)) p t (and_parts (keeps_alive b.state) (b.sender.in_flight == 0) (by (keeps_alive b.state && (b.sender.in_flight == 0)) refl due)).0 r),
+    r,
+  )
     where
       by : (test : Bool) → (keeps_alive b.state && (b.sender.in_flight == 0)) ≡ test → is_due cx.moment (if test then b.settings.keep_alive_at else None) ≡ true → (keeps_alive b.state && (b.sender.in_flight == 0)) ≡ true
       by true is_so e = is_so
@@ -305,9 +307,11 @@ module _ (cx : ContextValue) (v : TcpValue) (pair : EndpointPair) (p : Past) (t 
       (offer_choice Kind.Text cx (plain v b) pair (text_choice b pair.addresses cx.ip_mtu v.queued))
       (λ (o : Offered TcpValue). LedOffer p t o)
       (λ _.
-      let o = open_of Kind.Probe cx (plain v b) pair (segment b pair cx.moment (window_of (plain v b)) (control_for probe_choice (queued_in v)) (number_at b 0)) 0 1 in
-      (asked_tied (plain v b) (probed (recorded b o (room_of v.received)) (end_of (recorded b o (room_of v.received)) o) cx.moment) cx.moment _ t
-      (part_goes cx v b pair probe_choice p t (probe_part b (queued_in v) k) r), r))
+      let o = open_of Kind.Probe cx (plain v b) pair (segment b pair cx.moment (window_of (plain v b)) (control_for probe_choice (queued_in v)) (number_at b 0)) 0 1 in (
+        asked_tied (plain v b) (probed (recorded b o (room_of v.received)) (end_of (recorded b o (room_of v.received)) o) cx.moment) cx.moment _ t
+            (part_goes cx v b pair probe_choice p t (probe_part b (queued_in v) k) r),
+        r,
+      ))
       (λ _. (part_goes cx v b pair (text_choice b pair.addresses cx.ip_mtu v.queued) p t (held_part b pair cx.ip_mtu v.queued k) r, r))
 
   -- THE RULES IN THEIR ORDER
