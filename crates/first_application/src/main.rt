@@ -1,0 +1,51 @@
+//! A first application: two hosts on a wire. One echoes, the other sends it a datagram, a text and a ping.
+#![tactic(auto)]
+
+mod buffers;
+mod client;
+mod host;
+mod net;
+mod server;
+mod wire;
+
+use anyhow::Result;
+use net::Net;
+use net_base::Duration;
+use std::alloc::Global;
+
+fn main(rt: HostRuntime) -> Result<()> {
+    let alloc = rt.alloc();
+    let mut net = Box::new(alloc, Net::new(alloc)?)?;
+    println!(rt; "{}", ask(alloc, &mut net)?)?;
+    println!(rt; "{}", talk(alloc, &mut net)?)?;
+    println!(rt; "{}", ping(alloc, &mut net)?)?;
+    Ok(())
+}
+
+/// The client sends a datagram, and reads what comes back within a second.
+fn ask(alloc: Global, net: &mut Net) -> Result<String> {
+    client::send_datagram(&mut net.client, b"hello")?;
+    net.pass(Duration::from_secs(1))?;
+    let (text, sender) = client::read_datagram(alloc, &mut net.client)?;
+    Ok(format!(in alloc; "datagram: {text} from {}", sender.endpoint)?)
+}
+
+/// The client connects, writes a text, and reads what comes back.
+fn talk(alloc: Global, net: &mut Net) -> Result<String> {
+    client::connect(&mut net.client)?;
+    net.pass(Duration::from_secs(1))?;
+    client::write(&mut net.client, b"to and fro")?;
+    net.pass(Duration::from_secs(1))?;
+    let text = client::read(alloc, &mut net.client)?;
+    Ok(format!(in alloc; "stream: {text}")?)
+}
+
+/// The client sends an echo request, and reads the reply.
+fn ping(alloc: Global, net: &mut Net) -> Result<String> {
+    client::ping(&mut net.client, 1)?;
+    net.pass(Duration::from_secs(1))?;
+    match client::pong(&mut net.client)? {
+        Some(number) => Ok(format!(in alloc; "ping: {number} is answered")?),
+        None => Ok(format!(in alloc; "ping: another message")?),
+    }
+}
