@@ -16,16 +16,23 @@ ghost use Rattle.lan.specs.Machine.{Turn, Machine, HostRun};
 use net_base::Medium;
 use std::alloc::{AllocError, Global};
 
-/// A side, a setting, a fault, and a reason of a refusal.
+/// A side, a setting, a fault, a reason of a refusal, and why two hosts make no world.
 pub fn passes_on_names(
     side: lan_history::Side,
     setting: lan_history::TcpSetting,
     fault: lan_history::Fault,
     refused: lan_history::Refused,
-) -> (lan::Side, lan::TcpSetting, lan::Fault, lan::Refused)
-    ensures { result ≡ (side, setting, fault, refused) }
+    error: lan_world::WorldError,
+) -> (
+    lan::Side,
+    lan::TcpSetting,
+    lan::Fault,
+    lan::Refused,
+    lan::WorldError,
+)
+    ensures { result ≡ (side, setting, fault, refused, error) }
 {
-    (side, setting, fault, refused)
+    (side, setting, fault, refused, error)
 }
 
 /// An event.
@@ -54,6 +61,13 @@ pub fn passes_on_hosts(host: &lan_hosts::Host) -> &lan::Host
     ensures { result.now ≡ host.now }
 {
     host
+}
+
+/// A world.
+pub fn passes_on_worlds(world: &lan_world::World) -> &lan::World
+    ensures { result.now ≡ world.now }
+{
+    world
 }
 
 /// A port.
