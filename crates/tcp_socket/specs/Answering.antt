@@ -6,15 +6,13 @@ use Rattle.ip_wire.specs.SeqNumber.{SeqNumber}
 use Rattle.ip_wire.specs.TcpHeader.{TcpHeader}
 use Rattle.socket_base.specs.Context.{ContextValue}
 use Rattle.tcp_model.specs.declared.block.Block.{Block}
-use Rattle.tcp_model.specs.Acknowledged.{window_set, counted}
 use Rattle.tcp_model.specs.Answers.{range_held}
-use Rattle.tcp_model.specs.Arrival.{finished}
+use Rattle.tcp_model.specs.Arrival.{with_content, told}
 use Rattle.tcp_model.specs.Endpoints.{pair_in}
 use Rattle.tcp_model.specs.Reply.{Reply}
 use Rattle.tcp_model.specs.Segments.{sack_segment, reply_to, rst_reply, hops_of}
 use Rattle.tcp_model.specs.States.{is_closed}
-use Rattle.tcp_model.specs.Text.{with_text}
-use Rattle.tcp_model.specs.Value.{TcpValue, Arrived, with_block, dropped, window_of}
+use Rattle.tcp_model.specs.Value.{TcpValue, Arrived, dropped, window_of}
 use Rattle.tcp_socket.specs.declared.arrival.Due.{Due}
 use Rattle.tcp_socket.specs.declared.arrival.Due.TheVariants as Is
 
@@ -40,4 +38,4 @@ next_at b next = record b { receiver = record b.receiver { next = next } }
 abbrev pub continued_by : ContextValue → ℕ → TcpValue → IpRepr → TcpHeader → List ℕ → Arrived
 continued_by cx duplicates v ip header bytes =
     if is_closed v.block.state then dropped v
-    else finished cx v.block (with_text (with_block v (counted (window_set v.block header) duplicates)) header bytes) ip header (length bytes)
+    else with_content cx (told v header duplicates cx.moment) ip header bytes
