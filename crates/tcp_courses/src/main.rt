@@ -145,7 +145,8 @@ impl Play {
             Act::Connect => {
                 let addr = IpAddress::v4(192, 168, 1, 2);
                 let server = IpEndpoint { addr, port: 80 };
-                self.pair.step(PairEvent::Connect(Side::A, server, at(49500)))?;
+                self.pair
+                    .step(PairEvent::Connect(Side::A, server, at(49500)))?;
             }
             Act::Send(side, count) => self.send(side, count)?,
             Act::Read(side, count) => self.read(side, count)?,
@@ -243,12 +244,12 @@ fn first_wrong(alloc: Global, course: &Course) -> Result<Option<usize>> {
         b: user,
         now: 0,
     };
-    let mut place = 0;
+    let mut place: usize = 0;
     for act in course.open.iter().chain(course.acts.iter()) {
         if !play.act(act)? {
             return Ok(Some(place));
         }
-        place += 1;
+        place = place.saturating_add(1);
     }
     Ok(if play.ends(course.end) {
         None
