@@ -2,3 +2,4 @@ mod Steps
 pub mod ArrivalRules
 pub mod OfferRules
 pub mod RunRules
+pub mod ForgedRules

@@ -1,2 +1,4 @@
 pub mod Flight
 pub mod Runs
+pub mod Events
+pub mod Forged
