@@ -2,3 +2,14 @@ mod Steps
 pub mod ArrivalRules
 pub mod OfferRules
 pub mod RunRules
+pub mod OfferCases
+pub mod ArrivalCases
+pub mod ForgedRules
+pub mod AckRules
+pub mod GivingUpRules
+pub mod OrderSteps
+pub mod OrderRules
+pub mod TimeWaitRules
+pub mod WaitingRules
+pub mod CongestionRules
+pub mod TimingRules

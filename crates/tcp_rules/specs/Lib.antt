@@ -1,2 +1,12 @@
 pub mod Flight
 pub mod Runs
+pub mod Events
+pub mod Forged
+pub mod Ends
+pub mod Acks
+pub mod GivingUp
+pub mod InOrder
+pub mod TimeWait
+pub mod Waiting
+pub mod Congestion
+pub mod Timing

@@ -1,5 +1,13 @@
 //! Laws of TCP's rules, of every state that a run of a socket reaches.
 #![tactic(auto)]
 
+pub mod acks;
 pub mod bare;
+pub mod congestion;
 pub mod flight;
+pub mod forged;
+pub mod giving_up;
+pub mod order;
+pub mod time_wait;
+pub mod timing;
+pub mod waiting;

@@ -1,0 +1,554 @@
+-- The congestion window after a timeout.
+use Rattle.std.proofs.Common.{◌≡◌, ◌⊎◌, inl, inr, ⊎_elim, ℕ, zero, suc, ◌+◌, ◌-◌, ◌*◌, ◌<◌, ◌≤◌, ◌==◌, ◌&&◌, ◌||◌, not, min, ℤ, Bool, true, false, if◌then◌else◌, List, [], ◌∷◌, ◌++◌, length, take, drop, Option, Some, None, is_some, refl, sym, ap, ◌∙◌, subst, arith, length-append}
+use Rattle.std.proofs.lemmas.Bool.{cond_both, eqb-true, eq-eqb}
+use Rattle.std.proofs.lemmas.List.{length-drop}
+use Rattle.ip_wire.specs.IpListenEndpoint.{IpListenEndpoint}
+use Rattle.ip_wire.specs.IpRepr.{IpRepr}
+use Rattle.ip_wire.specs.TcpHeader.{TcpHeader}
+use Rattle.net_base.specs.RandomWords.{word}
+use Rattle.net_base.specs.Ring.{Ring, anchored, enqueued}
+use Rattle.socket_base.specs.Context.{ContextValue, next_random}
+use Rattle.socket_base.specs.Offers.{Offered}
+use Rattle.tcp_control.specs.Controls.{or_mss}
+use Rattle.tcp_control.specs.Moments.{is_due, is_over, timeout_from}
+use Rattle.tcp_control.specs.Reno as reno
+use Rattle.tcp_control.specs.Reno.{RenoValue}
+use Rattle.tcp_control.specs.States.{is_closed, is_listening, is_opening, is_answering, is_time_wait, takes_text, takes_writes, after_ack, after_ack_of_fin, after_fin, after_close}
+use Rattle.tcp_control.specs.declared.endpoints.EndpointPair.{EndpointPair}
+use Rattle.tcp_control.specs.declared.offer.OfferKind.{OfferKind}
+use Rattle.tcp_control.specs.declared.offer.OfferKind.TheVariants as Kind
+use Rattle.tcp_control.specs.declared.offer.OpenOffer.{OpenOffer}
+use Rattle.tcp_control.specs.declared.state.State.{State}
+use Rattle.tcp_control.specs.declared.state.State.TheVariants as In
+use Rattle.tcp_model.specs.Acknowledged.{acks_fin, acks_own_syn, state_after_ack, freed_by, reno_after, reno_counted, duplicates_after}
+use Rattle.tcp_model.specs.Arrival.{arrives}
+use Rattle.tcp_model.specs.Blocks.{one_if}
+use Rattle.tcp_model.specs.Calls.{listening, connected_by, pair_for, sent_more}
+use Rattle.tcp_model.specs.Checks.{falls_back}
+use Rattle.tcp_model.specs.Offers.{offer_of}
+use Rattle.tcp_model.specs.Opening.{took_syn}
+use Rattle.tcp_model.specs.Retries.{asked, one_more}
+use Rattle.tcp_model.specs.Rules.{backed_off_now}
+use Rattle.tcp_model.specs.Settled.{settled, sent_off, sent_as, recorded, probed, end_of}
+use Rattle.tcp_model.specs.Value.{TcpValue, Arrived, with_block, unoffered, ended, new_socket, queued_in, room_of}
+use Rattle.tcp_model.specs.declared.block.Block.{Block}
+use Rattle.tcp_rules.specs.Congestion.{Control, control_of, IsHeld, renews, StaysOut}
+use Rattle.tcp_rules.specs.Ends.{GoesOn}
+use Rattle.tcp_rules.specs.Events.{Event, Setting, after, led, set, is_past}
+use Rattle.tcp_rules.specs.Events.Event.{Comes, Asked, Listens, Connects, Sends, Reads, Closes, Aborts, Sets}
+use Rattle.tcp_rules.specs.Events.Setting.{Timeout, KeepAlive, AckDelay, Nagle, HopLimit, Timestamps, Paused, Retries, Congestion}
+use Rattle.tcp_rules.specs.InOrder.{sending_of, IsInOrder}
+use Rattle.tcp_rules.proofs.ArrivalCases.{by_arrival, Received, Opening, Content, Drawing, acked_open}
+use Rattle.tcp_rules.proofs.OfferCases.{Rules, FirstRules, LastRules, by_rules, begun, probing}
+use Rattle.tcp_rules.proofs.OrderRules.{event_order, new_order}
+use Rattle.tcp_rules.proofs.OrderSteps.{clash}
+
+-- THE STEPS
+
+abbrev Out : RenoValue → Bool → Type 0
+Out r syn = r.timed_out ≡ true → (r.cwnd ≡ r.mss) × (r.recovers ≡ false) × (syn ≡ false)
+
+not_and : (syn : Bool) (t : Bool) → syn ≡ false → (syn && t) ≡ false
+not_and syn t e = ap (λ (s : Bool). s && t) e
+
+no_both : (syn : Bool) (t : Bool) → syn ≡ false → (syn && t) ≡ true → true ≡ false
+no_both syn t e f = sym f ∙ not_and syn t e
+
+out_counted : (r : RenoValue) (syn : Bool) (count flight : ℕ) → Out r syn → Out (reno_counted r count flight) syn
+out_counted r syn count flight out =
+    cond_both (count == 3) (reno.lost r flight) (if count == 4 then reno.inflated r else r) (λ (x : RenoValue). Out x syn)
+    (λ _.
+    cond_both r.timed_out r
+    (record r { ssthresh = reno.halved r flight; cwnd = min reno.most (reno.halved r flight + 3 * r.mss); recovers = true }) (λ (x : RenoValue). Out x syn)
+    (λ _. out)
+    (λ not e. clash (sym e ∙ not)))
+    (λ _.
+    cond_both (count == 4) (reno.inflated r) r (λ (x : RenoValue). Out x syn)
+    (λ _.
+    cond_both r.recovers (record r { cwnd = min reno.most (r.cwnd + r.mss) }) r (λ (x : RenoValue). Out x syn)
+    (λ recovers e. clash (sym recovers ∙ (out e).1))
+    (λ _. out))
+    (λ _. out))
+
+out_acked : (r : RenoValue) (syn lost : Bool) (by queued : ℕ) → Out r syn
+    → Out (if syn && not (by == 0) then reno.started r lost else reno.acknowledged r (min (by - one_if syn) queued)) (syn && (by == 0))
+out_acked r syn lost by queued out =
+    cond_both (syn && not (by == 0)) (reno.started r lost) (reno.acknowledged r (min (by - one_if syn) queued)) (λ (x : RenoValue). Out x (syn && (by == 0)))
+    (λ acks e. clash (no_both syn (not (by == 0)) (out e).2 acks))
+    (λ _.
+    cond_both (min (by - one_if syn) queued == 0) r
+    (record r {
+      cwnd = (if r.recovers then r.ssthresh else min reno.most (r.cwnd + reno.growth r (min (by - one_if syn) queued)));
+      recovers = false;
+      timed_out = false;
+    })
+    (λ (x : RenoValue). Out x (syn && (by == 0)))
+    (λ _ e. let old = out e in (old.0, old.1, not_and syn (by == 0) old.2))
+    (λ _ e. clash (sym e)))
+
+-- no timeout counts, so none does behind it
+quiet_acked : (r : RenoValue) (syn lost : Bool) (by queued : ℕ) → r.timed_out ≡ false
+    → (if syn && not (by == 0) then reno.started r lost else reno.acknowledged r (min (by - one_if syn) queued)).timed_out ≡ false
+quiet_acked r syn lost by queued quiet =
+    cond_both (syn && not (by == 0)) (reno.started r lost) (reno.acknowledged r (min (by - one_if syn) queued)) (λ (x : RenoValue). x.timed_out ≡ false)
+    (λ _. quiet)
+    (λ _.
+    cond_both (min (by - one_if syn) queued == 0) r
+    (record r {
+      cwnd = (if r.recovers then r.ssthresh else min reno.most (r.cwnd + reno.growth r (min (by - one_if syn) queued)));
+      recovers = false;
+      timed_out = false;
+    })
+    (λ (x : RenoValue). x.timed_out ≡ false) (λ _. quiet) (λ _. refl))
+
+state_on : (state : State) → is_past state ≡ true → (is_listening (after_ack state) ≡ false) × (is_listening (after_ack_of_fin state) ≡ false)
+state_on In.Closed e = clash (sym e)
+state_on In.Listen e = clash (sym e)
+state_on In.SynSent e = clash (sym e)
+state_on In.SynReceived e = (refl, refl)
+state_on In.FinWait1 e = (refl, refl)
+state_on In.Closing e = (refl, refl)
+state_on In.LastAck e = (refl, refl)
+state_on other e = (refl, refl)
+
+pub fin_on : (state : State) → takes_text state ≡ true → is_listening (after_fin state) ≡ false
+fin_on In.Established e = refl
+fin_on In.FinWait1 e = refl
+fin_on In.FinWait2 e = refl
+fin_on other e = clash (sym e)
+
+pub state_past : (u : TcpValue) (by : ℕ) → is_past u.block.state ≡ true → is_listening (state_after_ack u.block by (queued_in u)) ≡ false
+state_past u by past =
+    cond_both (acks_fin u.block by (queued_in u)) (after_ack_of_fin u.block.state) (after_ack u.block.state) (λ (s : State). is_listening s ≡ false)
+    (λ _. (state_on u.block.state past).1) (λ _. (state_on u.block.state past).0)
+
+-- what isn't the listener's
+held : (r : RenoValue) (syn : Bool) (state : State) → Out r syn → is_listening state ≡ false → IsHeld (record { reno = r; syn_unacked = syn; state = state })
+held r syn state out not = record { window = out; listens = λ e. clash (sym e ∙ not) }
+
+-- before its SYN is acknowledged
+is_syn_unacked : (u : TcpValue) → IsInOrder (sending_of u) → (is_opening u.block.state || is_answering u.block.state) ≡ true → u.block.sender.syn_unacked ≡ true
+is_syn_unacked u p opening = at u.block.sender.syn_unacked refl where
+  at : (syn : Bool) → u.block.sender.syn_unacked ≡ syn → syn ≡ true
+  at true e = refl
+  at false e = clash (sym opening ∙ p.opened e)
+
+-- A SEGMENT COMES
+
+module _ (cx : ContextValue) (ip : IpRepr) (header : TcpHeader) (bytes : List ℕ) where
+  abbrev Held : Arrived → Type 0
+  Held a = IsHeld (control_of a.socket.block)
+
+  held_content : (x : TcpValue) → IsHeld (control_of x.block) → Content cx ip header bytes Held x
+  held_content x h = record {
+    plain = h;
+    fin = λ _ takes. held x.block.reno x.block.sender.syn_unacked (after_fin x.block.state) h.window (fin_on x.block.state takes);
+    ordered = λ _ _ _ _. h;
+    ordered_fin = λ _ _ _ takes. held x.block.reno x.block.sender.syn_unacked (after_fin x.block.state) h.window (fin_on x.block.state takes);
+    early = λ _ _ _ _. h;
+  }
+
+  held_drawing : (x : TcpValue) → IsHeld (control_of x.block) → Drawing cx ip header bytes Held x
+  held_drawing x h = record { answers = λ _. h; pauses = h }
+
+  fresh_held : (u : TcpValue) (endpoint : IpListenEndpoint) → IsHeld (control_of (listening u endpoint).block)
+  fresh_held u endpoint = record { window = λ e. clash (sym e); listens = λ _. refl }
+
+  closed_held : (u : TcpValue) → IsHeld (control_of u.block) → IsHeld (control_of (ended u).block)
+  closed_held u h = held u.block.reno u.block.sender.syn_unacked In.Closed h.window refl
+
+  acked_held : (u : TcpValue) (by : ℕ) → IsHeld (control_of u.block) → is_past u.block.state ≡ true → IsHeld (control_of (acked_open u by cx.moment).block)
+  acked_held u by h past =
+      held (reno_after u.block by (queued_in u)) (u.block.sender.syn_unacked && (by == 0)) (state_after_ack u.block by (queued_in u))
+      (out_acked u.block.reno u.block.sender.syn_unacked u.block.sender.syn_lost by (queued_in u) h.window) (state_past u by past)
+
+  heeded_held : (u : TcpValue) (by : ℕ) → IsHeld (control_of u.block) → is_past u.block.state ≡ true
+      → IsHeld (record {
+        reno = reno_counted (reno_after u.block by (queued_in u)) (duplicates_after u.block header (length bytes) by) (u.block.sender.in_flight - by);
+        syn_unacked = u.block.sender.syn_unacked && (by == 0);
+        state = state_after_ack u.block by (queued_in u);
+      })
+  heeded_held u by h past =
+      held (reno_counted (reno_after u.block by (queued_in u)) (duplicates_after u.block header (length bytes) by) (u.block.sender.in_flight - by))
+      (u.block.sender.syn_unacked && (by == 0)) (state_after_ack u.block by (queued_in u))
+      (out_counted (reno_after u.block by (queued_in u)) (u.block.sender.syn_unacked && (by == 0)) (duplicates_after u.block header (length bytes) by) (u.block.sender.in_flight - by)
+      (out_acked u.block.reno u.block.sender.syn_unacked u.block.sender.syn_lost by (queued_in u) h.window))
+      (state_past u by past)
+
+  held_received : (u : TcpValue) → IsHeld (control_of u.block) → is_past u.block.state ≡ true → Received cx ip header bytes Held u
+  held_received u h past = record {
+    stays = h;
+    refuses = h;
+    draws = held_drawing u h;
+    falls = λ _ _ _. fresh_held u u.block.names.listen;
+    ends = λ _ _ _. closed_held u h;
+    closes = λ by _ _.
+        held (reno_after u.block by (queued_in u)) (u.block.sender.syn_unacked && (by == 0)) In.Closed
+        (out_acked u.block.reno u.block.sender.syn_unacked u.block.sender.syn_lost by (queued_in u) h.window) refl;
+    taken = λ by _ _. held_content _ (heeded_held u by h past);
+    taken_window = λ by _ _. held_content _ (heeded_held u by h past);
+    news = λ by _ _. held_drawing _ (acked_held u by h past);
+    outside = held_drawing _ h;
+    old = λ _. held_content _ h;
+  }
+
+  -- before its SYN is acknowledged no timeout counts
+  no_timeout : (u : TcpValue) → IsHeld (control_of u.block) → u.block.sender.syn_unacked ≡ true → u.block.reno.timed_out ≡ false
+  no_timeout u h syn = at u.block.reno.timed_out refl where
+    at : (out : Bool) → u.block.reno.timed_out ≡ out → out ≡ false
+    at true e = clash (sym syn ∙ (h.window e).2)
+    at false e = refl
+
+  held_opening : (u : TcpValue) → IsInOrder (sending_of u) → IsHeld (control_of u.block) → Opening cx ip header bytes Held u
+  held_opening u p h = record {
+    opens = λ at _. record { window = λ e. clash (sym e ∙ h.listens (ap is_listening at)); listens = λ e. clash (sym e) };
+    refuses = h;
+    ends = λ _. closed_held u h;
+    connects = λ at _.
+        let quiet = no_timeout u h (is_syn_unacked u p (ap (λ (s : State). is_opening s || is_answering s) at)) in
+        record {
+          window = λ e.
+              clash (sym e ∙ quiet_acked (reno.with_mss u.block.reno (or_mss header.options.max_seg_size)) u.block.sender.syn_unacked u.block.sender.syn_lost 1 0 quiet);
+          listens = λ e. clash (sym e);
+        };
+    crosses = λ at _.
+        let quiet = no_timeout u h (is_syn_unacked u p (ap (λ (s : State). is_opening s || is_answering s) at)) in
+        record { window = λ e. clash (sym e ∙ quiet); listens = λ e. clash (sym e) };
+  }
+
+  held_arrival : (v : TcpValue) → IsInOrder (sending_of v) → IsHeld (control_of v.block) → Held (arrives cx v ip header bytes)
+  held_arrival v p h = by_arrival cx ip header bytes Held v h (λ _. held_opening (unoffered v) p h) (λ past. held_received (unoffered v) h past)
+
+-- IT IS ASKED
+
+pub unnamed : (v : TcpValue) (pair : EndpointPair) → IsInOrder (sending_of v) → v.block.names.pair ≡ Some pair → is_listening v.block.state ≡ false
+unnamed v pair p named = at (is_listening v.block.state) refl where
+  at : (listens : Bool) → is_listening v.block.state ≡ listens → listens ≡ false
+  at true e = clash (sym (ap is_some named) ∙ (p.listens e).0)
+  at false e = refl
+
+asked_held : (b : Block) (now : ℤ) → IsHeld (control_of b) → IsHeld (control_of (asked b now))
+asked_held b now h =
+    cond_both (is_over now b.timers.counts_from)
+    (record b {
+      sender = record b.sender { unanswered = one_more b.sender.unanswered };
+      timers = record b.timers { counts_from = Some (timeout_from now b.round_trip) };
+    })
+    b (λ (c : Block). IsHeld (control_of c)) (λ _. h) (λ _. h)
+
+sent_held : (kind : OfferKind) (b : Block) (o : OpenOffer) (queued : ℕ) → IsHeld (control_of b) → IsHeld (control_of (sent_as kind b o queued))
+sent_held Kind.Reset b o queued h = held b.reno b.sender.syn_unacked In.Closed h.window refl
+sent_held Kind.Probe b o queued h = asked_held (probed b (end_of b o) o.moment) o.moment h
+sent_held Kind.KeepAlive b o queued h = asked_held b o.moment h
+sent_held other b o queued h = h
+
+settled_held : (offered : Option OpenOffer) (x : TcpValue) → IsHeld (control_of x.block) → IsHeld (control_of (sent_off offered x).block)
+settled_held None x h = h
+settled_held (Some o) x h = sent_held o.kind (recorded x.block o (room_of x.received)) o (queued_in x) h
+
+module _ (cx : ContextValue) where
+  abbrev HeldBlock : Offered TcpValue → Type 0
+  HeldBlock o = IsHeld (control_of o.socket.block)
+
+  held_last : (pair : EndpointPair) (x : TcpValue) → IsHeld (control_of x.block) → LastRules cx pair HeldBlock x
+  held_last pair x h = record { probe = λ _ _. h; held_back = λ _ _. h; ack = λ _. h; update = λ _ _. h; keep_alive = λ _ _. h; quiet = λ _. h }
+
+  held_first : (pair : EndpointPair) (w : TcpValue) → IsHeld (control_of w.block) → FirstRules cx pair HeldBlock w
+  held_first pair w h = record { syn = λ _. h; again = λ _ _. h; text = λ _ _. h; last = λ _. held_last pair (probing cx w) h }
+
+  -- the timer runs out
+  backed_held : (v : TcpValue) → IsHeld (control_of v.block) → is_listening v.block.state ≡ false → IsHeld (control_of (backed_off_now (begun cx v)))
+  backed_held v h not =
+      at v.block.sender.syn_unacked refl
+    where
+      at : (syn : Bool) → v.block.sender.syn_unacked ≡ syn
+          → IsHeld (record { reno = if syn then v.block.reno else reno.timed_out v.block.reno v.block.sender.in_flight; syn_unacked = v.block.sender.syn_unacked; state = v.block.state })
+      at true e = h
+      at false e = record { window = λ _. (refl, refl, e); listens = λ f. clash (sym f ∙ not) }
+
+  held_rules : (v : TcpValue) → IsInOrder (sending_of v) → IsHeld (control_of v.block) → Rules cx v HeldBlock
+  held_rules v p h = record {
+    nobody = λ _. h;
+    time_wait = λ _. held v.block.reno v.block.sender.syn_unacked In.Closed h.window refl;
+    timeout = λ _. held v.block.reno v.block.sender.syn_unacked In.Closed h.window refl;
+    closed = λ _. h;
+    reset = λ _ _ _. h;
+    falls = λ _ _ _. record { window = λ e. clash (sym e); listens = λ _. refl };
+    over = λ _ _ _. held v.block.reno v.block.sender.syn_unacked In.Closed h.window refl;
+    backs = λ pair named _ _. held_first pair (with_block (unoffered v) (backed_off_now (begun cx v))) (backed_held v h (unnamed v pair p named));
+    goes = λ pair _ _ _. held_first pair (with_block (unoffered v) (begun cx v)) h;
+  }
+
+  held_offer : (v : TcpValue) → IsInOrder (sending_of v) → IsHeld (control_of v.block) → IsHeld (control_of (offer_of cx v).socket.block)
+  held_offer v p h = by_rules cx v HeldBlock (held_rules v p h)
+
+-- a timeout counts from the poll on at which it is seen
+module _ (cx : ContextValue) (v : TcpValue) where
+  abbrev Counts : Offered TcpValue → Type 0
+  Counts o = o.socket.block.reno.timed_out ≡ true
+
+  counts_first : (pair : EndpointPair) (w : TcpValue) → w.block.reno.timed_out ≡ true → FirstRules cx pair Counts w
+  counts_first pair w e = record {
+    syn = λ _. e;
+    again = λ _ _. e;
+    text = λ _ _. e;
+    last = λ _. record { probe = λ _ _. e; held_back = λ _ _. e; ack = λ _. e; update = λ _ _. e; keep_alive = λ _ _. e; quiet = λ _. e };
+  }
+
+  counts_rules :
+      (pair : EndpointPair) → v.block.names.pair ≡ Some pair → GoesOn cx v → is_due cx.moment v.block.timers.retransmit_at ≡ true → v.block.sender.syn_unacked ≡ false
+      → Rules cx v Counts
+  counts_rules pair named on due no_syn = record {
+    nobody = λ none. absurd (let clash = sym none ∙ named in cc);
+    time_wait = λ over. clash (sym over ∙ on.lasts);
+    timeout = λ over. clash (sym over ∙ on.in_time);
+    closed = λ closed. clash (sym closed ∙ on.alive);
+    reset = λ _ closed _. clash (sym closed ∙ on.alive);
+    falls = λ _ over _. clash (sym over ∙ on.tries);
+    over = λ _ over _. clash (sym over ∙ on.tries);
+    backs = λ pair _ _ _.
+        counts_first pair (with_block (unoffered v) (backed_off_now (begun cx v)))
+        (ap (λ (syn : Bool). (if syn then v.block.reno else reno.timed_out v.block.reno v.block.sender.in_flight).timed_out) no_syn);
+    goes = λ _ _ _ not. clash (sym due ∙ not);
+  }
+
+pub timeout_counts :
+    (cx : ContextValue) (v : TcpValue) (pair : EndpointPair) → v.block.names.pair ≡ Some pair → GoesOn cx v → is_due cx.moment v.block.timers.retransmit_at ≡ true
+    → v.block.sender.syn_unacked ≡ false → (offer_of cx v).socket.block.reno.timed_out ≡ true
+timeout_counts cx v pair named on due no_syn = by_rules cx v (Counts cx v) (counts_rules cx v pair named on due no_syn)
+
+-- ITS USER CALLS
+
+set_held : (v : TcpValue) (setting : Setting) → IsHeld (control_of v.block) → IsHeld (control_of (set v setting).block)
+set_held v (Timeout duration) h = h
+set_held v (KeepAlive interval) h = h
+set_held v (AckDelay duration) h = h
+set_held v (Nagle enabled) h = h
+set_held v (HopLimit limit) h = h
+set_held v (Timestamps generator) h = h
+set_held v (Paused paused) h = h
+set_held v (Retries limit) h = h
+set_held v (Congestion control) h = record { window = λ e. clash (sym e ∙ fresh); listens = λ _. fresh } where
+  fresh : (if v.block.receiver.took_syn then reno.with_mss reno.fresh v.block.peer.mss else reno.fresh).timed_out ≡ false
+  fresh = cond_both v.block.receiver.took_syn (reno.with_mss reno.fresh v.block.peer.mss) reno.fresh (λ (r : RenoValue). r.timed_out ≡ false) (λ _. refl) (λ _. refl)
+
+connected_held : (v : TcpValue) (names : Option EndpointPair) (number : ℕ) → IsHeld (control_of v.block) → IsHeld (control_of (connected_by v names number).block)
+connected_held v None number h = h
+connected_held v (Some pair) number h = record { window = λ e. clash (sym e); listens = λ e. clash (sym e) }
+
+pub close_on : (state : State) → is_listening (after_close state) ≡ false
+close_on In.Listen = refl
+close_on In.SynSent = refl
+close_on In.SynReceived = refl
+close_on In.Established = refl
+close_on In.CloseWait = refl
+close_on other = refl
+
+event_held : (v : TcpValue) (it : Event) → IsInOrder (sending_of v) → IsHeld (control_of v.block) → IsHeld (control_of (after v it).block)
+event_held v (Comes cx ip header bytes) p h = held_arrival cx ip header bytes v p h
+event_held v (Asked cx true) p h = settled_held (offer_of cx v).socket.offered (unoffered (offer_of cx v).socket) (held_offer cx v p h)
+event_held v (Asked cx false) p h = held_offer cx v p h
+event_held v (Listens endpoint) p h =
+    cond_both (is_closed v.block.state && not (endpoint.port == 0)) (listening v endpoint) (unoffered v) (λ (w : TcpValue). IsHeld (control_of w.block))
+    (λ _. record { window = λ e. clash (sym e); listens = λ _. refl }) (λ _. h)
+event_held v (Connects cx remote local) p h =
+    cond_both (is_closed v.block.state) (connected_by v (pair_for cx remote local) (word (next_random cx).random)) (unoffered v) (λ (w : TcpValue). IsHeld (control_of w.block))
+    (λ _. connected_held v (pair_for cx remote local) (word (next_random cx).random) h) (λ _. h)
+event_held v (Sends bytes) p h =
+    cond_both (takes_writes v.block.state) (sent_more v (enqueued (anchored v.queued) (take (min (length bytes) (length v.queued.free)) bytes))) (unoffered v)
+    (λ (w : TcpValue). IsHeld (control_of w.block)) (λ _. h) (λ _. h)
+event_held v (Reads count) p h = h
+event_held v Closes p h =
+    cond_both (is_opening v.block.state) (ended (unoffered v)) (with_block (unoffered v) (record v.block { state = after_close v.block.state })) (λ (w : TcpValue). IsHeld (control_of w.block))
+    (λ _. held v.block.reno v.block.sender.syn_unacked In.Closed h.window refl)
+    (λ _. held v.block.reno v.block.sender.syn_unacked (after_close v.block.state) h.window (close_on v.block.state))
+event_held v Aborts p h =
+    cond_both (is_time_wait v.block.state) (ended (unoffered v))
+    (with_block (unoffered v) (record v.block { state = In.Closed; sender = record v.block.sender { reset_due = is_some v.block.names.pair } }))
+    (λ (w : TcpValue). IsHeld (control_of w.block))
+    (λ _. held v.block.reno v.block.sender.syn_unacked In.Closed h.window refl) (λ _. held v.block.reno v.block.sender.syn_unacked In.Closed h.window refl)
+event_held v (Sets setting) p h = set_held v setting h
+
+led_held : (v : TcpValue) (events : List Event) → IsInOrder (sending_of v) → IsHeld (control_of v.block) → IsHeld (control_of (led v events).block)
+led_held v [] p h = h
+led_held v (it ∷ more) p h = led_held (after v it) more (event_order v it p) (event_held v it p h)
+
+pub led_window :
+    (capacity : ℕ) (queued : Ring ℕ) (events : List Event) → (led (new_socket capacity queued) events).block.reno.timed_out ≡ true
+    → (led (new_socket capacity queued) events).block.reno.cwnd ≡ (led (new_socket capacity queued) events).block.reno.mss
+led_window capacity queued events out =
+    ((led_held (new_socket capacity queued) events (new_order capacity queued) (record { window = λ e. clash (sym e); listens = λ e. clash (sym e) })).window out).0
+
+-- UNTIL SOMETHING NEW IS ACKNOWLEDGED
+
+-- so many bytes leave the queue
+shorter : (queue : List ℕ) (by syn : ℕ) → (min (by - syn) (length queue) == 0) ≡ false → length (drop (min (by - syn) (length queue)) queue) < length queue
+shorter queue by syn some = rw length-drop (less (min (by - syn) (length queue)) (length queue) (one_of (min (by - syn) (length queue)) some) (least by syn (length queue))) where
+  one_of : (n : ℕ) → (n == 0) ≡ false → 1 ≤ n
+  one_of zero e = clash e
+  one_of (suc n) e = omega arith
+
+  least : (by syn n : ℕ) → min (by - syn) n ≤ n
+  least by syn n = omega arith
+
+  less : (a n : ℕ) → 1 ≤ a → a ≤ n → n - a < n
+  less a n e f = omega arith
+
+-- what listened isn't there yet: no timeout counts
+never_falls : {A : Type 0} (v : TcpValue) → IsHeld (control_of v.block) → v.block.reno.timed_out ≡ true → IsInOrder (sending_of v) → falls_back v.block ≡ true → A
+never_falls v h out p falls = at v.block.sender.syn_unacked refl where
+  answers : (a b : Bool) → (a && b) ≡ true → a ≡ true
+  answers true b e = refl
+  answers false b e = clash (sym e)
+
+  or_right : (a b : Bool) → b ≡ true → (a || b) ≡ true
+  or_right true b e = refl
+  or_right false b e = e
+
+  at : {A : Type 0} (syn : Bool) → v.block.sender.syn_unacked ≡ syn → A
+  at true e = clash (sym e ∙ (h.window out).2)
+  at false e =
+      clash
+      (sym (or_right (is_opening v.block.state) (is_answering v.block.state) (answers (is_answering v.block.state) (not (v.block.names.listen.port == 0)) falls)) ∙ p.opened e)
+
+module _ (cx : ContextValue) (ip : IpRepr) (header : TcpHeader) (bytes : List ℕ) (v : TcpValue) (h : IsHeld (control_of v.block)) (out : v.block.reno.timed_out ≡ true) where
+  abbrev StaysBy : Arrived → Type 0
+  StaysBy a = (a.socket.block.reno.timed_out ≡ true) ⊎ (queued_in a.socket < queued_in v)
+
+  stays_content : (x : TcpValue) → StaysBy (record { socket = x; answer = None; draws = false }) → Content cx ip header bytes StaysBy x
+  stays_content x s = record { plain = s; fin = λ _ _. s; ordered = λ _ _ _ _. s; ordered_fin = λ _ _ _ _. s; early = λ _ _ _ _. s }
+
+  stays_drawing : (x : TcpValue) → StaysBy (record { socket = x; answer = None; draws = false }) → Drawing cx ip header bytes StaysBy x
+  stays_drawing x s = record { answers = λ _. s; pauses = s }
+
+  -- the acknowledgement frees nothing, or bytes
+  acked_stays : (by : ℕ) → ((reno_after v.block by (queued_in v)).timed_out ≡ true) ⊎ (length (drop (freed_by v.block by (queued_in v)) v.queued.queue) < queued_in v)
+  acked_stays by =
+      cond_both (acks_own_syn v.block by) (reno.started v.block.reno v.block.sender.syn_lost) (reno.acknowledged v.block.reno (freed_by v.block by (queued_in v)))
+      (λ (r : RenoValue). (r.timed_out ≡ true) ⊎ (length (drop (freed_by v.block by (queued_in v)) v.queued.queue) < queued_in v))
+      (λ _. inl out)
+      (λ _.
+      cond_both (freed_by v.block by (queued_in v) == 0) v.block.reno
+      (record v.block.reno {
+        cwnd = (if v.block.reno.recovers then v.block.reno.ssthresh else min reno.most (v.block.reno.cwnd + reno.growth v.block.reno (freed_by v.block by (queued_in v))));
+        recovers = false;
+        timed_out = false;
+      })
+      (λ (r : RenoValue). (r.timed_out ≡ true) ⊎ (length (drop (freed_by v.block by (queued_in v)) v.queued.queue) < queued_in v))
+      (λ _. inl out)
+      (λ some. inr (shorter v.queued.queue by (one_if v.block.sender.syn_unacked) some)))
+
+  counted_stays : (r : RenoValue) (count flight : ℕ) → r.timed_out ≡ true → (reno_counted r count flight).timed_out ≡ true
+  counted_stays r count flight e =
+      cond_both (count == 3) (reno.lost r flight) (if count == 4 then reno.inflated r else r) (λ (x : RenoValue). x.timed_out ≡ true)
+      (λ _.
+      cond_both r.timed_out r (record r { ssthresh = reno.halved r flight; cwnd = min reno.most (reno.halved r flight + 3 * r.mss); recovers = true })
+      (λ (x : RenoValue). x.timed_out ≡ true) (λ _. e) (λ _. e))
+      (λ _.
+      cond_both (count == 4) (reno.inflated r) r (λ (x : RenoValue). x.timed_out ≡ true)
+      (λ _. cond_both r.recovers (record r { cwnd = min reno.most (r.cwnd + r.mss) }) r (λ (x : RenoValue). x.timed_out ≡ true) (λ _. e) (λ _. e))
+      (λ _. e))
+
+  heeded_stays : (by : ℕ)
+      → ((reno_counted (reno_after v.block by (queued_in v)) (duplicates_after v.block header (length bytes) by) (v.block.sender.in_flight - by)).timed_out ≡ true)
+      ⊎ (length (drop (freed_by v.block by (queued_in v)) v.queued.queue) < queued_in v)
+  heeded_stays by =
+      ⊎_elim (λ e. inl (counted_stays (reno_after v.block by (queued_in v)) (duplicates_after v.block header (length bytes) by) (v.block.sender.in_flight - by) e)) (λ less. inr less) (acked_stays by)
+
+  stays_received : IsInOrder (sending_of v) → Received cx ip header bytes StaysBy (unoffered v)
+  stays_received p = record {
+    stays = inl out;
+    refuses = inl out;
+    draws = stays_drawing _ (inl out);
+    falls = λ _ _ falls. never_falls v h out p falls;
+    ends = λ _ _ _. inl out;
+    closes = λ by _ _. acked_stays by;
+    taken = λ by _ _. stays_content _ (heeded_stays by);
+    taken_window = λ by _ _. stays_content _ (heeded_stays by);
+    news = λ by _ _. stays_drawing _ (acked_stays by);
+    outside = stays_drawing _ (inl out);
+    old = λ _. stays_content _ (inl out);
+  }
+
+  -- nor in SYN-SENT
+  stays_opening : IsInOrder (sending_of v) → Opening cx ip header bytes StaysBy (unoffered v)
+  stays_opening p = record {
+    opens = λ at _. clash (sym out ∙ h.listens (ap is_listening at));
+    refuses = inl out;
+    ends = λ _. inl out;
+    connects = λ at _. clash (sym (is_syn_unacked v p (ap (λ (s : State). is_opening s || is_answering s) at)) ∙ (h.window out).2);
+    crosses = λ at _. clash (sym (is_syn_unacked v p (ap (λ (s : State). is_opening s || is_answering s) at)) ∙ (h.window out).2);
+  }
+
+  stays_arrival : IsInOrder (sending_of v) → StaysBy (arrives cx v ip header bytes)
+  stays_arrival p = by_arrival cx ip header bytes StaysBy v (inl out) (λ _. stays_opening p) (λ _. stays_received p)
+
+-- an offer keeps it
+offers_on :
+    (cx : ContextValue) (v : TcpValue) (h : IsHeld (control_of v.block)) (out : v.block.reno.timed_out ≡ true) → IsInOrder (sending_of v)
+    → Rules cx v (λ (o : Offered TcpValue). o.socket.block.reno.timed_out ≡ true)
+offers_on cx v h out p = record {
+  nobody = λ _. out;
+  time_wait = λ _. out;
+  timeout = λ _. out;
+  closed = λ _. out;
+  reset = λ _ _ _. out;
+  falls = λ _ _ falls. never_falls v h out p falls;
+  over = λ _ _ _. out;
+  backs = λ pair _ _ _. counts_first cx v pair (with_block (unoffered v) (backed_off_now (begun cx v))) backed;
+  goes = λ pair _ _ _. counts_first cx v pair (with_block (unoffered v) (begun cx v)) out;
+}
+  where
+    backed : (backed_off_now (begun cx v)).reno.timed_out ≡ true
+    backed =
+        cond_both v.block.sender.syn_unacked v.block.reno (reno.timed_out v.block.reno v.block.sender.in_flight) (λ (r : RenoValue). r.timed_out ≡ true) (λ _. out) (λ _. refl)
+
+asked_reno : (b : Block) (now : ℤ) → b.reno.timed_out ≡ true → (asked b now).reno.timed_out ≡ true
+asked_reno b now e =
+    cond_both (is_over now b.timers.counts_from)
+    (record b {
+      sender = record b.sender { unanswered = one_more b.sender.unanswered };
+      timers = record b.timers { counts_from = Some (timeout_from now b.round_trip) };
+    })
+    b (λ (c : Block). c.reno.timed_out ≡ true) (λ _. e) (λ _. e)
+
+sent_reno : (kind : OfferKind) (b : Block) (o : OpenOffer) (queued : ℕ) → b.reno.timed_out ≡ true → (sent_as kind b o queued).reno.timed_out ≡ true
+sent_reno Kind.Probe b o queued e = asked_reno (probed b (end_of b o) o.moment) o.moment e
+sent_reno Kind.KeepAlive b o queued e = asked_reno b o.moment e
+sent_reno other b o queued e = e
+
+settled_reno : (offered : Option OpenOffer) (x : TcpValue) → x.block.reno.timed_out ≡ true → (sent_off offered x).block.reno.timed_out ≡ true
+settled_reno None x e = e
+settled_reno (Some o) x e = sent_reno o.kind (recorded x.block o (room_of x.received)) o (queued_in x) e
+
+pub stays_out :
+    (v : TcpValue) (it : Event) → IsInOrder (sending_of v) → IsHeld (control_of v.block) → renews it ≡ false → v.block.reno.timed_out ≡ true → StaysOut v it
+stays_out v (Comes cx ip header bytes) p h not out = stays_arrival cx ip header bytes v h out p
+stays_out v (Asked cx true) p h not out =
+    inl (settled_reno (offer_of cx v).socket.offered (unoffered (offer_of cx v).socket)
+    (by_rules cx v (λ (o : Offered TcpValue). o.socket.block.reno.timed_out ≡ true) (offers_on cx v h out p)))
+stays_out v (Asked cx false) p h not out = inl (by_rules cx v (λ (o : Offered TcpValue). o.socket.block.reno.timed_out ≡ true) (offers_on cx v h out p))
+stays_out v (Listens endpoint) p h not out = clash not
+stays_out v (Connects cx remote local) p h not out = clash not
+stays_out v (Sends bytes) p h not out =
+    cond_both (takes_writes v.block.state) (sent_more v (enqueued (anchored v.queued) (take (min (length bytes) (length v.queued.free)) bytes))) (unoffered v)
+    (λ (w : TcpValue). (w.block.reno.timed_out ≡ true) ⊎ (queued_in w < queued_in v)) (λ _. inl out) (λ _. inl out)
+stays_out v (Reads count) p h not out = inl out
+stays_out v Closes p h not out =
+    cond_both (is_opening v.block.state) (ended (unoffered v)) (with_block (unoffered v) (record v.block { state = after_close v.block.state }))
+    (λ (w : TcpValue). (w.block.reno.timed_out ≡ true) ⊎ (queued_in w < queued_in v)) (λ _. inl out) (λ _. inl out)
+stays_out v Aborts p h not out =
+    cond_both (is_time_wait v.block.state) (ended (unoffered v))
+    (with_block (unoffered v) (record v.block { state = In.Closed; sender = record v.block.sender { reset_due = is_some v.block.names.pair } }))
+    (λ (w : TcpValue). (w.block.reno.timed_out ≡ true) ⊎ (queued_in w < queued_in v)) (λ _. inl out) (λ _. inl out)
+stays_out v (Sets setting) p h not out = at setting not where
+  at : (setting : Setting) → renews (Sets setting) ≡ false → StaysOut v (Sets setting)
+  at (Timeout duration) e = inl out
+  at (KeepAlive interval) e = inl out
+  at (AckDelay duration) e = inl out
+  at (Nagle enabled) e = inl out
+  at (HopLimit limit) e = inl out
+  at (Timestamps generator) e = inl out
+  at (Paused paused) e = inl out
+  at (Retries limit) e = inl out
+  at (Congestion control) e = clash e

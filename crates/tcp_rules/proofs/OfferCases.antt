@@ -1,0 +1,163 @@
+-- The rules of an offer, case by case: what holds of what each rule gives holds of the offer.
+use Rattle.std.proofs.Common.{◌≡◌, ◌==◌, Bool, true, false, if◌then◌else◌, Option, Some, None, refl}
+use Rattle.std.proofs.lemmas.Bool.{cond_both}
+use Rattle.socket_base.specs.Context.{ContextValue}
+use Rattle.socket_base.specs.Offers.{Offered}
+use Rattle.tcp_control.specs.Moments.{is_due}
+use Rattle.tcp_control.specs.States.{is_closed}
+use Rattle.tcp_control.specs.declared.endpoints.EndpointPair.{EndpointPair}
+use Rattle.tcp_control.specs.declared.offer.OfferKind.TheVariants as Kind
+use Rattle.tcp_model.specs.Calls.{listening}
+use Rattle.tcp_model.specs.Checks.{falls_back}
+use Rattle.tcp_model.specs.Offers.{offer_choice, offer_ack, offer_syn, offer_reset, offer_keep_alive, offer_held_back, silent, last_rules, first_rules, backed_off, offer_between, offer_with, offer_of}
+use Rattle.tcp_model.specs.Probing.{probe_started, probe_moment}
+use Rattle.tcp_model.specs.Retries.{gives_up, given_up}
+use Rattle.tcp_model.specs.Rules.{time_wait_end, owes_syn, resends, ack_moment, has_text, text_choice, resend_choice, probe_choice, updates_window, keep_alive_moment, backed_off_now}
+use Rattle.tcp_model.specs.Timeout.{timeout_end, timeout_started, timed_out}
+use Rattle.tcp_model.specs.Value.{TcpValue, with_block, unoffered, ended, queued_in, free_in, room_of}
+use Rattle.tcp_model.specs.declared.block.Block.{Block}
+use Rattle.tcp_rules.specs.Ends.{GoesOn}
+
+-- the moment of a probe is set where one is to be
+abbrev pub probing : ContextValue → TcpValue → TcpValue
+probing cx w = with_block w (probe_started cx.moment (queued_in w) w.block)
+
+-- the user timeout is started where it is to run
+abbrev pub begun : ContextValue → TcpValue → Block
+begun cx v = timeout_started cx.moment (queued_in v) v.block
+
+module _ (cx : ContextValue) (pair : EndpointPair) (Q : Offered TcpValue → Type 0) where
+  pub record LastRules (x : TcpValue) : Type 0 where
+    pub probe :
+        is_due cx.moment (probe_moment x.block (queued_in x)) ≡ true → (x.block.peer.window == 0) ≡ true
+        → Q (offer_choice Kind.Probe cx x pair probe_choice)
+    pub held_back :
+        is_due cx.moment (probe_moment x.block (queued_in x)) ≡ true → (x.block.peer.window == 0) ≡ false
+        → Q (offer_choice Kind.Text cx x pair (text_choice x.block pair.addresses cx.ip_mtu x.queued))
+    pub ack : is_due cx.moment (ack_moment x.block) ≡ true → Q (offer_ack Kind.Ack cx x pair)
+    pub update :
+        is_due cx.moment (ack_moment x.block) ≡ false → updates_window x.block (room_of x.received) (free_in x) ≡ true
+        → Q (offer_ack Kind.WindowUpdate cx x pair)
+    pub keep_alive : is_due cx.moment (ack_moment x.block) ≡ false → is_due cx.moment (keep_alive_moment x.block) ≡ true → Q (offer_keep_alive cx x pair)
+    pub quiet : is_due cx.moment (ack_moment x.block) ≡ false → Q (silent false x)
+
+  pub record FirstRules (w : TcpValue) : Type 0 where
+    pub syn : owes_syn w.block ≡ true → Q (offer_syn cx w pair)
+    pub again : owes_syn w.block ≡ false → resends w.block ≡ true → Q (offer_choice Kind.FastRetransmission cx w pair (resend_choice w.block pair.addresses cx.ip_mtu w.queued))
+    pub text :
+        owes_syn w.block ≡ false → has_text w.block pair.addresses cx.ip_mtu w.queued ≡ true
+        → Q (offer_choice Kind.Text cx w pair (text_choice w.block pair.addresses cx.ip_mtu w.queued))
+    pub last : owes_syn w.block ≡ false → LastRules (probing cx w)
+
+  by_last : (x : TcpValue) → LastRules x → Q (last_rules cx x pair)
+  by_last x r =
+      cond_both (is_due cx.moment (probe_moment x.block (queued_in x))) (offer_held_back cx x pair)
+      (if is_due cx.moment (ack_moment x.block) then offer_ack Kind.Ack cx x pair
+      else if updates_window x.block (room_of x.received) (free_in x) then offer_ack Kind.WindowUpdate cx x pair
+      else if is_due cx.moment (keep_alive_moment x.block) then offer_keep_alive cx x pair
+      else silent false x)
+      Q
+      (λ due.
+      cond_both (x.block.peer.window == 0) (offer_choice Kind.Probe cx x pair probe_choice)
+      (offer_choice Kind.Text cx x pair (text_choice x.block pair.addresses cx.ip_mtu x.queued)) Q
+      (λ shut. r.probe due shut)
+      (λ not. r.held_back due not))
+      (λ _.
+      cond_both (is_due cx.moment (ack_moment x.block)) (offer_ack Kind.Ack cx x pair)
+      (if updates_window x.block (room_of x.received) (free_in x) then offer_ack Kind.WindowUpdate cx x pair
+      else if is_due cx.moment (keep_alive_moment x.block) then offer_keep_alive cx x pair
+      else silent false x)
+      Q
+      (λ due. r.ack due)
+      (λ none.
+      cond_both (updates_window x.block (room_of x.received) (free_in x)) (offer_ack Kind.WindowUpdate cx x pair)
+      (if is_due cx.moment (keep_alive_moment x.block) then offer_keep_alive cx x pair else silent false x) Q
+      (λ worth. r.update none worth)
+      (λ _.
+      cond_both (is_due cx.moment (keep_alive_moment x.block)) (offer_keep_alive cx x pair) (silent false x) Q
+      (λ due. r.keep_alive none due)
+      (λ _. r.quiet none))))
+
+  pub by_first : (w : TcpValue) → FirstRules w → Q (first_rules cx w pair)
+  by_first w r =
+      cond_both (owes_syn w.block) (offer_syn cx w pair)
+      (if resends w.block then offer_choice Kind.FastRetransmission cx w pair (resend_choice w.block pair.addresses cx.ip_mtu w.queued)
+      else if has_text w.block pair.addresses cx.ip_mtu w.queued then offer_choice Kind.Text cx w pair (text_choice w.block pair.addresses cx.ip_mtu w.queued)
+      else last_rules cx (probing cx w) pair)
+      Q
+      (λ syn. r.syn syn)
+      (λ no_syn.
+      cond_both (resends w.block) (offer_choice Kind.FastRetransmission cx w pair (resend_choice w.block pair.addresses cx.ip_mtu w.queued))
+      (if has_text w.block pair.addresses cx.ip_mtu w.queued then offer_choice Kind.Text cx w pair (text_choice w.block pair.addresses cx.ip_mtu w.queued)
+      else last_rules cx (probing cx w) pair)
+      Q
+      (λ third. r.again no_syn third)
+      (λ _.
+      cond_both (has_text w.block pair.addresses cx.ip_mtu w.queued) (offer_choice Kind.Text cx w pair (text_choice w.block pair.addresses cx.ip_mtu w.queued))
+      (last_rules cx (probing cx w) pair) Q
+      (λ text. r.text no_syn text)
+      (λ _. by_last (probing cx w) (r.last no_syn))))
+
+pub record Rules (cx : ContextValue) (v : TcpValue) (Q : Offered TcpValue → Type 0) : Type 0 where
+  pub nobody : v.block.names.pair ≡ None → Q (silent false (unoffered v))
+  pub time_wait : is_due cx.moment (time_wait_end v.block) ≡ true → Q (silent true (ended (unoffered v)))
+  pub timeout : is_due cx.moment (timeout_end v.block (queued_in v)) ≡ true → Q (silent true (with_block (unoffered v) (timed_out v.block)))
+  pub closed : is_closed v.block.state ≡ true → Q (silent false (unoffered v))
+  pub reset : (pair : EndpointPair) → is_closed v.block.state ≡ true → v.block.sender.reset_due ≡ true → Q (offer_reset cx (unoffered v) pair)
+  pub falls :
+      is_closed v.block.state ≡ false → gives_up cx.moment v.block (queued_in v) ≡ true → falls_back v.block ≡ true
+      → Q (silent true (listening (unoffered v) v.block.names.listen))
+  pub over :
+      is_closed v.block.state ≡ false → gives_up cx.moment v.block (queued_in v) ≡ true → falls_back v.block ≡ false
+      → Q (silent true (with_block (unoffered v) (timed_out v.block)))
+  pub backs :
+      (pair : EndpointPair) → v.block.names.pair ≡ Some pair → GoesOn cx v → is_due cx.moment v.block.timers.retransmit_at ≡ true
+      → FirstRules cx pair Q (with_block (unoffered v) (backed_off_now (begun cx v)))
+  pub goes :
+      (pair : EndpointPair) → v.block.names.pair ≡ Some pair → GoesOn cx v → is_due cx.moment v.block.timers.retransmit_at ≡ false
+      → FirstRules cx pair Q (with_block (unoffered v) (begun cx v))
+
+module _ (cx : ContextValue) (v : TcpValue) (Q : Offered TcpValue → Type 0) (r : Rules cx v Q) where
+  by_over : is_closed v.block.state ≡ false → gives_up cx.moment v.block (queued_in v) ≡ true → Q (silent true (given_up (unoffered v)))
+  by_over alive over =
+      cond_both (falls_back v.block) (listening (unoffered v) v.block.names.listen) (with_block (unoffered v) (timed_out v.block)) (λ (w : TcpValue). Q (silent true w))
+      (λ falls. r.falls alive over falls)
+      (λ not. r.over alive over not)
+
+  by_between : (pair : EndpointPair) → v.block.names.pair ≡ Some pair → Q (offer_between cx (unoffered v) pair)
+  by_between pair named =
+      let reset : Offered TcpValue = if v.block.sender.reset_due then offer_reset cx (unoffered v) pair else silent false (unoffered v) in
+      let going : Offered TcpValue = first_rules cx (with_block (unoffered v) (backed_off cx.moment (begun cx v))) pair in
+      let gone : Offered TcpValue = silent true (given_up (unoffered v)) in
+      cond_both (is_due cx.moment (time_wait_end v.block)) (silent true (ended (unoffered v)))
+      (if is_due cx.moment (timeout_end v.block (queued_in v)) then silent true (with_block (unoffered v) (timed_out v.block))
+      else if is_closed v.block.state then reset else if gives_up cx.moment v.block (queued_in v) then gone else going)
+      Q
+      (λ due. r.time_wait due)
+      (λ lasts.
+      cond_both (is_due cx.moment (timeout_end v.block (queued_in v))) (silent true (with_block (unoffered v) (timed_out v.block)))
+      (if is_closed v.block.state then reset else if gives_up cx.moment v.block (queued_in v) then gone else going)
+      Q
+      (λ due. r.timeout due)
+      (λ in_time.
+      cond_both (is_closed v.block.state) reset (if gives_up cx.moment v.block (queued_in v) then gone else going) Q
+      (λ closed.
+      cond_both v.block.sender.reset_due (offer_reset cx (unoffered v) pair) (silent false (unoffered v)) Q
+      (λ due. r.reset pair closed due)
+      (λ _. r.closed closed))
+      (λ alive.
+      cond_both (gives_up cx.moment v.block (queued_in v)) gone going Q
+      (λ over. by_over alive over)
+      (λ tries.
+      let on : GoesOn cx v = record { lasts = lasts; in_time = in_time; alive = alive; tries = tries } in
+      cond_both (is_due cx.moment v.block.timers.retransmit_at) (backed_off_now (begun cx v)) (begun cx v)
+      (λ (b : Block). Q (first_rules cx (with_block (unoffered v) b) pair))
+      (λ due. by_first cx pair Q (with_block (unoffered v) (backed_off_now (begun cx v))) (r.backs pair named on due))
+      (λ not. by_first cx pair Q (with_block (unoffered v) (begun cx v)) (r.goes pair named on not))))))
+
+  by_names : (names : Option EndpointPair) → v.block.names.pair ≡ names → Q (offer_with names cx (unoffered v))
+  by_names None none = r.nobody none
+  by_names (Some pair) named = by_between pair named
+
+  pub by_rules : Q (offer_of cx v)
+  by_rules = by_names v.block.names.pair refl

@@ -1,0 +1,245 @@
+-- How TIME-WAIT ends.
+use Rattle.std.proofs.Common.{◌≡◌, ℕ, ◌+◌, ◌==◌, ◌&&◌, ◌||◌, not, min, ℤ, Bool, true, false, if◌then◌else◌, List, length, take, Option, Some, None, is_some, is_none, refl, sym, ap, ◌∙◌, subst}
+use Rattle.std.proofs.lemmas.Bool.{cond_both}
+use Rattle.ip_wire.specs.IpRepr.{IpRepr}
+use Rattle.ip_wire.specs.TcpHeader.{TcpHeader}
+use Rattle.net_base.specs.RandomWords.{word}
+use Rattle.net_base.specs.Ring.{anchored, enqueued}
+use Rattle.socket_base.specs.Context.{ContextValue, next_random}
+use Rattle.socket_base.specs.Offers.{Offered, offered_as}
+use Rattle.socket_base.specs.declared.offer.Offer.TheVariants as Answer
+use Rattle.tcp_control.specs.Moments.{is_due, is_over, timeout_from}
+use Rattle.tcp_control.specs.States.{is_closed, is_listening, is_opening, is_answering, is_time_wait, sends_syn, sends_text, takes_text, takes_writes, keeps_alive, after_ack, after_ack_of_fin, after_close}
+use Rattle.tcp_control.specs.declared.endpoints.EndpointPair.{EndpointPair}
+use Rattle.tcp_control.specs.declared.offer.OfferKind.{OfferKind}
+use Rattle.tcp_control.specs.declared.offer.OfferKind.TheVariants as Kind
+use Rattle.tcp_control.specs.declared.offer.OpenOffer.{OpenOffer}
+use Rattle.tcp_control.specs.declared.state.State.{State}
+use Rattle.tcp_control.specs.declared.state.State.TheVariants as In
+use Rattle.tcp_model.specs.Acknowledged.{acks_fin, state_after_ack}
+use Rattle.tcp_model.specs.Arrival.{arrives}
+use Rattle.tcp_model.specs.Calls.{listening, connected_by, pair_for, sent_more}
+use Rattle.tcp_model.specs.Offers.{offer_of, offer_with, offer_reset, first_rules, backed_off, silent}
+use Rattle.tcp_model.specs.Probing.{probe_moment, is_probing, is_window_small}
+use Rattle.tcp_model.specs.Retries.{asked, one_more, reaches, retries_of, is_last_timeout, is_last_question, gives_up, given_up}
+use Rattle.tcp_model.specs.Rules.{time_wait_end, keep_alive_moment, has_text, owes_syn, resends, updates_window}
+use Rattle.tcp_model.specs.Settled.{settled, sent_off, sent_as, recorded, probed, end_of}
+use Rattle.tcp_model.specs.Timeout.{timeout_end, timeout_runs, waits_for_remote, end_by, timed_out}
+use Rattle.tcp_model.specs.Value.{TcpValue, Arrived, with_block, unoffered, ended, queued_in, room_of}
+use Rattle.tcp_model.specs.declared.block.Block.{Block}
+use Rattle.tcp_rules.specs.Events.{Event, Setting, after, set, is_past}
+use Rattle.tcp_rules.specs.Events.Event.{Comes, Asked, Listens, Connects, Sends, Reads, Closes, Aborts, Sets}
+use Rattle.tcp_rules.specs.Events.Setting.{Timeout, KeepAlive, AckDelay, Nagle, HopLimit, Timestamps, Paused, Retries, Congestion}
+use Rattle.tcp_rules.specs.InOrder.{has_all, sending_of, IsInOrder}
+use Rattle.tcp_rules.specs.TimeWait.{ends_wait}
+use Rattle.tcp_rules.proofs.ArrivalCases.{by_arrival, Received, Opening, Content, Drawing}
+use Rattle.tcp_rules.proofs.OfferCases.{Rules, FirstRules, LastRules, by_rules, begun, probing}
+use Rattle.tcp_rules.proofs.OrderSteps.{clash}
+
+first_of_both : (a b : Bool) → (a && b) ≡ true → a ≡ true
+first_of_both true b e = refl
+first_of_both false b e = clash (sym e)
+
+-- a test that asks for another state fails
+elsewhere : {A : Type 0} (state : State) (test : State → Bool) (rest : Bool) → state ≡ In.TimeWait → test In.TimeWait ≡ false → (test state && rest) ≡ true → A
+elsewhere state test rest at not e = clash (sym (first_of_both (test state) rest e) ∙ (ap test at ∙ not))
+
+-- A SEGMENT COMES
+
+module _ (cx : ContextValue) (ip : IpRepr) (header : TcpHeader) (bytes : List ℕ) where
+  abbrev Waits : Arrived → Type 0
+  Waits a = a.socket.block.state ≡ In.TimeWait
+
+  waits_content : (x : TcpValue) → x.block.state ≡ In.TimeWait → Content cx ip header bytes Waits x
+  waits_content x at = record {
+    plain = at;
+    fin = λ _ takes. clash (sym takes ∙ ap takes_text at);
+    ordered = λ _ _ takes _. clash (sym takes ∙ ap takes_text at);
+    ordered_fin = λ _ _ _ takes. clash (sym takes ∙ ap takes_text at);
+    early = λ _ _ _ takes. clash (sym takes ∙ ap takes_text at);
+  }
+
+  waits_drawing : (x : TcpValue) → x.block.state ≡ In.TimeWait → Drawing cx ip header bytes Waits x
+  waits_drawing x at = record { answers = λ _. at; pauses = at }
+
+  state_waits : (u : TcpValue) (by : ℕ) → u.block.state ≡ In.TimeWait → state_after_ack u.block by (queued_in u) ≡ In.TimeWait
+  state_waits u by at =
+      cond_both (acks_fin u.block by (queued_in u)) (after_ack_of_fin u.block.state) (after_ack u.block.state) (λ (s : State). s ≡ In.TimeWait) (λ _. ap after_ack_of_fin at) (λ _. ap after_ack at)
+
+  not_reset : (state : State) (same : Bool) → state ≡ In.TimeWait → (not (is_time_wait state) && same) ≡ true → ⊥
+  not_reset state same at e = elsewhere state (λ (s : State). not (is_time_wait s)) same at refl e
+
+  waits_received : (u : TcpValue) → u.block.state ≡ In.TimeWait → Received cx ip header bytes Waits u
+  waits_received u at = record {
+    stays = at;
+    refuses = at;
+    draws = waits_drawing u at;
+    falls = λ _ takes _. absurd (not_reset u.block.state (u.block.receiver.next.0 == header.seq_number.0) at takes);
+    ends = λ _ takes _. absurd (not_reset u.block.state (u.block.receiver.next.0 == header.seq_number.0) at takes);
+    closes = λ by _ closed. clash (sym closed ∙ ap is_closed (state_waits u by at));
+    taken = λ by _ _. waits_content _ (state_waits u by at);
+    taken_window = λ by _ _. waits_content _ (state_waits u by at);
+    news = λ by _ _. waits_drawing _ (state_waits u by at);
+    outside = waits_drawing _ at;
+    old = λ _. waits_content _ at;
+  }
+
+  waits_opening : (u : TcpValue) → u.block.state ≡ In.TimeWait → Opening cx ip header bytes Waits u
+  waits_opening u at = record {
+    opens = λ listens _. clash (sym (ap is_listening listens) ∙ ap is_listening at);
+    refuses = at;
+    ends = λ opening. clash (sym (ap is_opening opening) ∙ ap is_opening at);
+    connects = λ opening _. clash (sym (ap is_opening opening) ∙ ap is_opening at);
+    crosses = λ opening _. clash (sym (ap is_opening opening) ∙ ap is_opening at);
+  }
+
+  waits_arrival : (v : TcpValue) → v.block.state ≡ In.TimeWait → Waits (arrives cx v ip header bytes)
+  waits_arrival v at = by_arrival cx ip header bytes Waits v at (λ _. waits_opening (unoffered v) at) (λ _. waits_received (unoffered v) at)
+
+-- IT IS ASKED
+
+asked_waits : (b : Block) (now : ℤ) → b.state ≡ In.TimeWait → (asked b now).state ≡ In.TimeWait
+asked_waits b now at =
+    cond_both (is_over now b.timers.counts_from)
+    (record b {
+      sender = record b.sender { unanswered = one_more b.sender.unanswered };
+      timers = record b.timers { counts_from = Some (timeout_from now b.round_trip) };
+    })
+    b (λ (c : Block). c.state ≡ In.TimeWait) (λ _. at) (λ _. at)
+
+module _ (cx : ContextValue) where
+  abbrev WaitsOn : Offered TcpValue → Type 0
+  WaitsOn o = (o.socket.block.state ≡ In.TimeWait) × ((settled true o.socket).block.state ≡ In.TimeWait)
+
+  unset : (test : Bool) (at : Option ℤ) → is_due cx.moment (if test then at else None) ≡ true → test ≡ true
+  unset true at e = refl
+  unset false at e = clash (sym e)
+
+  waits_last : (pair : EndpointPair) (x : TcpValue) → x.offered ≡ None → x.block.state ≡ In.TimeWait → LastRules cx pair WaitsOn x
+  waits_last pair x none at = record {
+    probe = λ due _. elsewhere x.block.state sends_text _ at refl (unset (is_probing x.block (queued_in x)) x.block.timers.probe_at due);
+    held_back = λ due _. elsewhere x.block.state sends_text _ at refl (unset (is_probing x.block (queued_in x)) x.block.timers.probe_at due);
+    ack = λ _. (at, at);
+    update = λ _ worth. elsewhere x.block.state takes_text _ at refl worth;
+    keep_alive = λ _ due. elsewhere x.block.state keeps_alive _ at refl (unset (keeps_alive x.block.state && (x.block.sender.in_flight == 0)) x.block.settings.keep_alive_at due);
+    quiet = λ _. (at, subst (λ (o : Option OpenOffer). (sent_off o (unoffered x)).block.state ≡ In.TimeWait) (sym none) at);
+  }
+
+  waits_first : (pair : EndpointPair) (w : TcpValue) → w.offered ≡ None → w.block.state ≡ In.TimeWait → FirstRules cx pair WaitsOn w
+  waits_first pair w none at = record {
+    syn = λ owes.
+        elsewhere w.block.state sends_syn (not (is_answering w.block.state && w.block.settings.synack_paused)) at refl
+        (first_of_both (sends_syn w.block.state && not (is_answering w.block.state && w.block.settings.synack_paused)) (w.block.sender.syn_unacked && (w.block.sender.in_flight == 0)) owes);
+    again = λ _ again. elsewhere w.block.state sends_text w.block.sender.resend at refl again;
+    text = λ _ text. elsewhere w.block.state sends_text _ at refl text;
+    last = λ _. waits_last pair (probing cx w) none at;
+  }
+
+  -- neither the user timeout nor giving up
+  no_timeout : {A : Type 0} (v : TcpValue) → v.block.state ≡ In.TimeWait → is_due cx.moment (timeout_end v.block (queued_in v)) ≡ true → A
+  no_timeout v at due =
+      let runs = unset (timeout_runs v.block (queued_in v)) (end_by v.block.timers.timeout_since v.block.settings.timeout) due in
+      let rest = second (is_some v.block.settings.timeout) (not (is_closed v.block.state || is_time_wait v.block.state) && waits_for_remote v.block (queued_in v)) runs in
+      elsewhere v.block.state (λ (s : State). not (is_closed s || is_time_wait s)) (waits_for_remote v.block (queued_in v)) at refl rest
+    where
+      second : (a b : Bool) → (a && b) ≡ true → b ≡ true
+      second true b e = e
+      second false b e = clash (sym e)
+
+  no_giving : {A : Type 0} (v : TcpValue) → v.block.state ≡ In.TimeWait → v.block.timers.retransmit_at ≡ None → gives_up cx.moment v.block (queued_in v) ≡ true → A
+  no_giving v at none gives = by_last (is_last_timeout cx.moment v.block) refl gives where
+    no_timer : is_last_timeout cx.moment v.block ≡ true → true ≡ false
+    no_timer last =
+        sym (first_of_both (is_due cx.moment v.block.timers.retransmit_at) (reaches (retries_of v.block) (v.block.sender.timeouts + 1)) last) ∙ ap (is_due cx.moment) none
+
+    no_probe : is_due cx.moment (probe_moment v.block (queued_in v)) ≡ false
+    no_probe = ap (λ (s : State). is_due cx.moment (if sends_text s && (is_window_small v.block (queued_in v) && (v.block.sender.in_flight == 0)) then v.block.timers.probe_at else None)) at
+
+    no_keep_alive : is_due cx.moment (keep_alive_moment v.block) ≡ false
+    no_keep_alive = ap (λ (s : State). is_due cx.moment (if keeps_alive s && (v.block.sender.in_flight == 0) then v.block.settings.keep_alive_at else None)) at
+
+    neither : (a b : Bool) → a ≡ false → b ≡ false → (a || b) ≡ false
+    neither a b e f = ap (λ (x : Bool). x || b) e ∙ f
+
+    by_last : {A : Type 0} (last : Bool) → is_last_timeout cx.moment v.block ≡ last → (last || is_last_question cx.moment v.block (queued_in v)) ≡ true → A
+    by_last true e _ = clash (no_timer e)
+    by_last false e question =
+        clash
+        (sym
+        (first_of_both (is_due cx.moment (probe_moment v.block (queued_in v)) || is_due cx.moment (keep_alive_moment v.block))
+        (is_due cx.moment v.block.timers.counts_from && reaches v.block.settings.retries v.block.sender.unanswered) question)
+        ∙ neither (is_due cx.moment (probe_moment v.block (queued_in v))) (is_due cx.moment (keep_alive_moment v.block)) no_probe no_keep_alive)
+
+  waits_rules : (v : TcpValue) → IsInOrder (sending_of v) → v.block.state ≡ In.TimeWait → is_due cx.moment v.block.timers.time_wait_ends ≡ false → Rules cx v WaitsOn
+  waits_rules v p at not = record {
+    nobody = λ _. (at, at);
+    time_wait = λ due. clash (sym due ∙ later);
+    timeout = λ due. no_timeout v at due;
+    closed = λ closed. clash (sym closed ∙ ap is_closed at);
+    reset = λ _ closed _. clash (sym closed ∙ ap is_closed at);
+    falls = λ _ gives _. no_giving v at none gives;
+    over = λ _ gives _. no_giving v at none gives;
+    backs = λ _ _ _ due. clash (sym due ∙ ap (is_due cx.moment) none);
+    goes = λ pair _ _ _. waits_first pair (with_block (unoffered v) (begun cx v)) refl at;
+  }
+    where
+      none : v.block.timers.retransmit_at ≡ None
+      none = (p.acked (ap has_all at)).1
+
+      later : is_due cx.moment (time_wait_end v.block) ≡ false
+      later = ap (λ (s : State). is_due cx.moment (if is_time_wait s then v.block.timers.time_wait_ends else None)) at ∙ not
+
+  waits_offer : (v : TcpValue) → IsInOrder (sending_of v) → v.block.state ≡ In.TimeWait → is_due cx.moment v.block.timers.time_wait_ends ≡ false → WaitsOn (offer_of cx v)
+  waits_offer v p at not = by_rules cx v WaitsOn (waits_rules v p at not)
+
+pub ends_by_moment :
+    (cx : ContextValue) (v : TcpValue) (pair : EndpointPair) → v.block.names.pair ≡ Some pair → v.block.state ≡ In.TimeWait
+    → is_due cx.moment v.block.timers.time_wait_ends ≡ true → offer_of cx v ≡ offered_as (Answer.Silent true) (ended (unoffered v))
+ends_by_moment cx v pair named at due =
+    ap (λ (names : Option EndpointPair). offer_with names cx (unoffered v)) named
+    ∙ ap (λ (over : Bool). if over then silent true (ended (unoffered v)) else rest) now
+  where
+    now : is_due cx.moment (time_wait_end v.block) ≡ true
+    now = ap (λ (s : State). is_due cx.moment (if is_time_wait s then v.block.timers.time_wait_ends else None)) at ∙ due
+
+    -- what goes on where it isn't over
+    rest : Offered TcpValue
+    rest =
+        if is_due cx.moment (timeout_end v.block (queued_in v)) then silent true (with_block (unoffered v) (timed_out v.block))
+        else if is_closed v.block.state then (if v.block.sender.reset_due then offer_reset cx (unoffered v) pair else silent false (unoffered v))
+        else if gives_up cx.moment v.block (queued_in v) then silent true (given_up (unoffered v))
+        else first_rules cx (with_block (unoffered v) (backed_off cx.moment (begun cx v))) pair
+
+-- ITS USER CALLS
+
+set_waits : (v : TcpValue) (setting : Setting) → v.block.state ≡ In.TimeWait → (set v setting).block.state ≡ In.TimeWait
+set_waits v (Timeout duration) at = at
+set_waits v (KeepAlive interval) at = at
+set_waits v (AckDelay duration) at = at
+set_waits v (Nagle enabled) at = at
+set_waits v (HopLimit limit) at = at
+set_waits v (Timestamps generator) at = at
+set_waits v (Paused paused) at = at
+set_waits v (Retries limit) at = at
+set_waits v (Congestion control) at = at
+
+pub stays_in_wait :
+    (v : TcpValue) (it : Event) → IsInOrder (sending_of v) → v.block.state ≡ In.TimeWait → ends_wait v it ≡ false → (after v it).block.state ≡ In.TimeWait
+stays_in_wait v (Comes cx ip header bytes) p at stays = waits_arrival cx ip header bytes v at
+stays_in_wait v (Asked cx true) p at stays = (waits_offer cx v p at stays).1
+stays_in_wait v (Asked cx false) p at stays = (waits_offer cx v p at stays).0
+stays_in_wait v (Listens endpoint) p at stays =
+    cond_both (is_closed v.block.state && not (endpoint.port == 0)) (listening v endpoint) (unoffered v) (λ (w : TcpValue). w.block.state ≡ In.TimeWait)
+    (λ closed. elsewhere v.block.state is_closed _ at refl closed) (λ _. at)
+stays_in_wait v (Connects cx remote local) p at stays =
+    cond_both (is_closed v.block.state) (connected_by v (pair_for cx remote local) (word (next_random cx).random)) (unoffered v) (λ (w : TcpValue). w.block.state ≡ In.TimeWait)
+    (λ closed. clash (sym closed ∙ ap is_closed at)) (λ _. at)
+stays_in_wait v (Sends bytes) p at stays =
+    cond_both (takes_writes v.block.state) (sent_more v (enqueued (anchored v.queued) (take (min (length bytes) (length v.queued.free)) bytes))) (unoffered v)
+    (λ (w : TcpValue). w.block.state ≡ In.TimeWait) (λ _. at) (λ _. at)
+stays_in_wait v (Reads count) p at stays = at
+stays_in_wait v Closes p at stays =
+    cond_both (is_opening v.block.state) (ended (unoffered v)) (with_block (unoffered v) (record v.block { state = after_close v.block.state })) (λ (w : TcpValue). w.block.state ≡ In.TimeWait)
+    (λ opening. clash (sym opening ∙ ap is_opening at)) (λ _. ap after_close at)
+stays_in_wait v Aborts p at stays = clash stays
+stays_in_wait v (Sets setting) p at stays = set_waits v setting at

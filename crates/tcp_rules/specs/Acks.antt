@@ -1,0 +1,52 @@
+-- When an acknowledgement is due, and that it goes (RFC 9293, 3.8.6.3).
+use Rattle.std.specs.Prelude.{◌≡◌, ◌⊎◌, ◌≤ℤ◌, ℤ, int_le, Bool, true, false, Option, Some, None, is_some}
+use Rattle.tcp_control.specs.Moments.{is_due}
+use Rattle.tcp_control.specs.declared.offer.OpenOffer.{OpenOffer}
+use Rattle.tcp_control.specs.declared.offer.Reply.{Reply}
+use Rattle.socket_base.specs.Context.{ContextValue}
+use Rattle.tcp_model.specs.Arrival.{arrives}
+use Rattle.tcp_model.specs.Offers.{offer_of}
+use Rattle.tcp_model.specs.Value.{TcpValue}
+use Rattle.tcp_model.specs.declared.block.Block.{Block}
+use Rattle.tcp_rules.specs.Events.{Event, after, is_past}
+use Rattle.tcp_rules.specs.Events.Event.{Comes, Asked}
+
+-- there is a moment, no later than this one
+pub record IsDueWithin (at : Option ℤ) (limit : ℤ) : Type 0 where
+  pub moment : ℤ
+  pub due : at ≡ Some moment
+  pub soon : moment ≤ℤ limit
+
+-- the segment that is offered acknowledges all that came
+pub record OffersAck (v : TcpValue) (b : Block) : Type 0 where
+  pub offer : OpenOffer
+  pub offered : v.offered ≡ Some offer
+  pub acknowledges : offer.segment.ack_number ≡ Some b.receiver.next
+
+abbrev pub answer_acks : Option Reply → Bool
+answer_acks None = false
+answer_acks (Some reply) = is_some reply.segment.ack_number
+
+abbrev pub offer_acks : Option OpenOffer → Bool
+offer_acks None = false
+offer_acks (Some o) = is_some o.segment.ack_number
+
+-- with this event a segment goes that has an acknowledgement
+abbrev pub acks : TcpValue → Event → Bool
+acks v (Comes cx ip header bytes) = answer_acks (arrives cx v ip header bytes).answer
+acks v (Asked cx true) = offer_acks (offer_of cx v).socket.offered
+acks v other = false
+
+-- it happens no later than this; a call of the user happens at any time
+abbrev pub IsBy : ℤ → Event → Type 0
+IsBy t (Comes cx ip header bytes) = int_le cx.moment t ≡ true
+IsBy t (Asked cx sent) = int_le cx.moment t ≡ true
+IsBy t call = Unit {0}
+
+-- by this moment an acknowledgement is due
+abbrev pub IsDueBy : ℤ → Block → Type 0
+IsDueBy t b = is_due t b.timers.ack_at ≡ true
+
+-- it stays due, or one went with the event, or the event ended the connection
+abbrev pub StaysDue : ℤ → TcpValue → Event → Type 0
+StaysDue t v it = (is_past (after v it).block.state ≡ false) ⊎ ((acks v it ≡ true) ⊎ IsDueBy t (after v it).block)

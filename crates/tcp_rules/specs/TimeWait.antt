@@ -1,0 +1,12 @@
+-- What ends TIME-WAIT (RFC 9293, 3.10.8; RFC 1337).
+use Rattle.std.specs.Prelude.{Bool, true, false}
+use Rattle.tcp_control.specs.Moments.{is_due}
+use Rattle.tcp_model.specs.Value.{TcpValue}
+use Rattle.tcp_rules.specs.Events.{Event}
+use Rattle.tcp_rules.specs.Events.Event.{Comes, Asked, Aborts}
+
+-- its own moment has come when it is asked, or its user aborts
+abbrev pub ends_wait : TcpValue → Event → Bool
+ends_wait v (Asked cx sent) = is_due cx.moment v.block.timers.time_wait_ends
+ends_wait v Aborts = true
+ends_wait v other = false

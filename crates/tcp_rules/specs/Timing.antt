@@ -1,0 +1,37 @@
+-- Which round trips are taken: of a segment that was sent once (RFC 6298, 3).
+use Rattle.std.specs.Prelude.{◌≡◌, ◌⊎◌, ℕ, ◌+◌, ◌<◌, ◌≤◌, ℤ, Bool, true, false, Option, Some, None, IfSome}
+use Rattle.tcp_control.specs.declared.offer.OfferKind.{OfferKind}
+use Rattle.tcp_control.specs.declared.offer.OfferKind.TheVariants as Kind
+use Rattle.tcp_control.specs.declared.offer.OpenOffer.{OpenOffer}
+use Rattle.tcp_control.specs.declared.round_trip.Sample.{Sample}
+use Rattle.tcp_control.specs.States.{is_listening}
+use Rattle.tcp_control.specs.declared.state.State.{State}
+use Rattle.tcp_model.specs.Blocks.{one_if}
+use Rattle.tcp_model.specs.declared.block.Block.{Block}
+
+pub record Timing : Type 0 where
+  pub state : State
+  pub sample : Option Sample
+  pub in_flight : ℕ
+  pub top : ℕ
+
+abbrev pub timing_of : Block → Timing
+timing_of b = record { state = b.state; sample = b.round_trip.sample; in_flight = b.sender.in_flight; top = b.sender.top }
+
+-- what is timed is in flight, and was sent
+pub record IsTimedRight (t : Timing) : Type 0 where
+  pub timed : IfSome t.sample (λ s. (1 ≤ s.ends) × (s.ends ≤ t.in_flight))
+  pub sent : t.in_flight ≤ t.top
+  pub listens : is_listening t.state ≡ true → t.sample ≡ None
+
+-- a part of the send queue goes, or the SYN
+abbrev pub carries : OfferKind → Bool
+carries Kind.Syn = true
+carries Kind.FastRetransmission = true
+carries Kind.Text = true
+carries Kind.Probe = true
+carries other = false
+
+-- how far past SND.UNA the segment begins
+abbrev pub start_of : Block → OpenOffer → ℕ
+start_of b o = one_if b.sender.syn_unacked + o.place
