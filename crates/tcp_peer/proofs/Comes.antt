@@ -1,12 +1,11 @@
 -- An honest segment comes.
-use Rattle.std.proofs.Common.{◌≡◌, ◌⊎◌, inl, inr, ℕ, suc, ◌+◌, ◌^◌, ◌<◌, ◌≤◌, nat_lt, Bool, true, false, List, [], ◌∷◌, ◌++◌, length, Option, Some, None, refl, sym, ap, ◌∙◌, subst, arith, le_refl}
-use Rattle.tcp_law.specs.Invariant.{HoldsBetween}
+use Rattle.std.proofs.Common.{◌≡◌, ◌⊎◌, inl, inr, ℕ, suc, ◌+◌, ◌<◌, ◌≤◌, nat_lt, Bool, true, false, List, [], ◌∷◌, ◌++◌, length, Some, refl, sym, ap, ◌∙◌, subst, arith}
 use Rattle.tcp_law.specs.Invariant as law
 use Rattle.tcp_law.specs.Numbers.{wire}
 use Rattle.tcp_law.specs.Segment.{Control, Segment, IsData, IsNoReset}
 use Rattle.tcp_law.specs.Segment.Control.{Plain, Syn, Fin, Rst}
 use Rattle.tcp_law.specs.Side.{Side, rcv_next, one_if}
-use Rattle.tcp_peer.specs.Peer.{End, IsEnd, IsAcknowledged, HasReached, IsSyn, IsPiece, IsBare, IsOld, IsHonest, SaysOfItself, SaysOfTheOther, as_end}
+use Rattle.tcp_peer.specs.Peer.{End, IsEnd, HasReached, IsSyn, IsPiece, IsOld, IsHonest, SaysOfItself, SaysOfTheOther, as_end}
 use Rattle.tcp_peer.proofs.Among.{acknowledged-more, acknowledged-last}
 use Rattle.tcp_peer.proofs.Shadow.{shadow, HasTaken, IsBeside, Meets, says}
 use Rattle.tcp_peer.proofs.Learns.{opens, Reaches, reaches, test_lt, test_ge}

@@ -1,17 +1,16 @@
 -- What an honest peer says of itself is what a partner of the machine may say.
-use Rattle.std.proofs.Common.{◌≡◌, ◌⊎◌, inl, inr, ℕ, suc, ◌+◌, ◌-◌, ◌%◌, ◌^◌, ◌<◌, ◌≤◌, Bool, true, false, List, [], ◌∷◌, length, drop, Option, Some, None, refl, sym, ap, ◌∙◌, subst, arith, length-drop}
+use Rattle.std.proofs.Common.{◌≡◌, ◌⊎◌, inl, inr, ℕ, suc, ◌+◌, ◌-◌, ◌^◌, ◌<◌, ◌≤◌, Bool, List, length, drop, refl, ap, ◌∙◌, subst, arith, length-drop}
 use Rattle.tcp_law.specs.ReceiveMap.{Begins}
 use Rattle.tcp_law.specs.Invariant.{HoldsBetween}
 use Rattle.tcp_law.specs.Invariant as law
-use Rattle.tcp_law.specs.Numbers.{wire, ahead}
-use Rattle.tcp_law.specs.Segment.{Control, Segment, IsData, IsNoReset}
+use Rattle.tcp_law.specs.Numbers.{wire}
+use Rattle.tcp_law.specs.Segment.{Control, Segment, IsData}
 use Rattle.tcp_law.specs.Segment.Control.{Plain, Syn, Fin, Rst}
 use Rattle.tcp_law.specs.Side.{Side, rcv_next, taken_in}
-use Rattle.tcp_law.specs.Side.Opening.{Active}
 use Rattle.tcp_law.proofs.Lists.{Begins-length}
 use Rattle.tcp_law.proofs.Calls.{one_if-small}
 use Rattle.tcp_law.proofs.Opening.{honest, acked}
-use Rattle.tcp_peer.specs.Peer.{End, IsEnd, IsAcknowledged, HasAckedTo, counted, IsSyn, IsPiece, IsBare, IsOld}
+use Rattle.tcp_peer.specs.Peer.{End, IsEnd, HasAckedTo, counted, IsSyn, IsPiece, IsBare, IsOld}
 use Rattle.tcp_peer.proofs.Shadow.{shadow}
 
 -- a position within 2 ^ 32 of the reference is the first of its number

@@ -1,11 +1,11 @@
 -- What an honest segment with bytes, or with an acknowledgement, says on numerals.
-use Rattle.std.proofs.Common.{◌≡◌, ◌≢◌, ◌⊎◌, inl, inr, ℕ, zero, suc, ◌+◌, ◌-◌, ◌^◌, ◌<◌, ◌≤◌, true, false, List, [], ◌∷◌, ◌++◌, length, drop, Option, Some, None, slice_get, refl, sym, ap, ◌∙◌, subst, arith, length-drop}
+use Rattle.std.proofs.Common.{◌≡◌, ◌⊎◌, inl, inr, ℕ, zero, suc, ◌+◌, ◌-◌, ◌^◌, ◌<◌, List, [], ◌∷◌, length, drop, Some, None, slice_get, refl, sym, ap, ◌∙◌, subst, arith, length-drop}
 use Rattle.tcp_law.specs.ReceiveMap.{Begins}
 use Rattle.tcp_law.specs.Numbers.{wire}
-use Rattle.tcp_law.specs.Segment.{Control, Segment, IsData}
+use Rattle.tcp_law.specs.Segment.{Segment, IsData}
 use Rattle.tcp_law.specs.Segment.Control.{Plain, Syn, Fin, Rst}
 use Rattle.tcp_law.proofs.Lists.{Begins-length}
-use Rattle.tcp_peer.specs.Peer.{End, IsEnd, end_of, IsAcknowledged, HasAckedTo, HasReached, counted, IsSyn, IsPiece, IsBare, IsOld, IsHonest, SaysOfItself, SaysOfTheOther}
+use Rattle.tcp_peer.specs.Peer.{End, IsEnd, IsAcknowledged, HasReached, IsPiece, IsOld, IsHonest, SaysOfItself, SaysOfTheOther}
 
 -- its bytes are the stream's at this place
 pub bytes_there : (me other : End) (x : Segment) (k : ℕ) → IsEnd me → k < 2 ^ 29 → x.seq ≡ wire (suc me.first + k) → (length x.bytes ≡ 0 → ⊥) → IsPiece me other x → Begins x.bytes (drop k me.stream)
@@ -15,14 +15,13 @@ bytes_there me other x k e small number some p =
     let bound = e.short in
     let past = p.after_syn in
     let its = p.number in
-    let nonempty : length x.bytes ≡ 0 → ⊥ = some in
     let longer : 0 < length x.bytes = positive (length x.bytes) some in
     let same : p.at - suc me.first ≡ k = omega arith in
     subst (λ (n : ℕ). Begins x.bytes (drop n me.stream)) same p.bytes
   where
     positive : (n : ℕ) → (n ≡ 0 → ⊥) → 0 < n
-    positive zero no = absurd (no refl)
-    positive (suc n) no = omega arith
+    positive zero nonzero = absurd (nonzero refl)
+    positive (suc n) nonzero = omega arith
 
 -- an acknowledgement is of a position that it has reached
 pub reached_by : (me other : End) (theirs : List Segment) (x : Segment) (number : ℕ) → (x.control ≡ Rst → ⊥) → x.ack ≡ Some number → IsHonest me other theirs x → HasReached me other number

@@ -1,15 +1,14 @@
 -- Each byte that a side takes in stood in a segment, at its position in the window.
-use Rattle.std.proofs.Common.{◌≡◌, ◌⊎◌, inl, inr, ℕ, suc, ◌+◌, ◌-◌, ◌^◌, ◌<◌, ◌≤◌, Bool, true, false, List, [], ◌∷◌, ◌++◌, length, take, drop, Option, Some, None, slice_get, refl, sym, ap, ◌∙◌, subst, arith, append_assoc, append-nil, take-append-drop, length-append}
+use Rattle.std.proofs.Common.{◌≡◌, ◌⊎◌, inl, inr, ℕ, suc, ◌+◌, ◌-◌, ◌<◌, ◌≤◌, true, false, List, [], ◌∷◌, ◌++◌, length, take, drop, Option, Some, slice_get, refl, sym, ap, ◌∙◌, subst, arith, append_assoc, append-nil, take-append-drop, length-append}
 use Rattle.tcp_law.specs.Alone.{unopened}
 use Rattle.tcp_law.specs.Invariant.{IsEarly}
-use Rattle.tcp_law.specs.Move.{Move, Comes, May, after, MayAll, after_all, laid, MayTakeBytes}
+use Rattle.tcp_law.specs.Move.{Move, May, after, MayAll, after_all, laid, MayTakeBytes}
 use Rattle.tcp_law.specs.Move.Move.{Listens, Connects, Writes, Reads, Closes, Ends, FallsBack, SendsSyn, SendsSynAck, SendsAck, SendsData, SendsKeepAlive, SendsReset, TakesSyn, TakesCrossedSyn, TakesSynAck, TakesAck, TakesBytes, TakesFin}
-use Rattle.tcp_law.specs.Numbers.{wire}
-use Rattle.tcp_law.specs.ReceiveMap.{space, store, front, behind}
+use Rattle.tcp_law.specs.ReceiveMap.{front}
 use Rattle.tcp_law.specs.Safe.{IsPrefixOf}
 use Rattle.tcp_law.specs.Segment.{Segment}
-use Rattle.tcp_law.specs.Side.{Phase, Side, taken_in, rcv_next, one_if}
-use Rattle.tcp_law.specs.Side.Phase.{Unopened, Listen, SynSent, SynReceived, Synchronized}
+use Rattle.tcp_law.specs.Side.{Side, taken_in, rcv_next, one_if}
+use Rattle.tcp_law.specs.Side.Phase.{Unopened, Listen, SynSent, SynReceived}
 use Rattle.tcp_law.proofs.Calls.{early_at}
 use Rattle.tcp_peer.specs.Window.{CameInTheWindow, IsKept}
 use Rattle.tcp_peer.proofs.Maps.{slice_get-drop, slice_get-append, IsInSecond, space-empty, held-room, IsLaid, held-store, held-front, held-behind}
@@ -103,7 +102,7 @@ module _ (P : ℕ → ℕ → Type 0) (s t : Side) (h : Holds P s) where
           let stood = slice_get-drop (rcv_next s - at) x.bytes l.index byte l.stands in
           let position : at + (rcv_next s - at + l.index) ≡ rcv_next s + m = omega arith in
           at_place P (at + (rcv_next s - at + l.index)) (rcv_next s + m) byte position
-              (places (rcv_next s - at + l.index) byte stood (omega arith) (omega arith))
+          (places (rcv_next s - at + l.index) byte stood (omega arith) (omega arith))
 
     holds_takes_bytes : Holds P (after s (TakesBytes x at))
     holds_takes_bytes =

@@ -1,13 +1,13 @@
 -- A connection on numerals: what an honest peer says, what liars say, and what no side has come to beside an honest peer.
-use Rattle.std.specs.Prelude.{◌≡◌, ℕ, true, false, List, [], ◌∷◌, ◌++◌}
+use Rattle.std.specs.Prelude.{ℕ, true, false, List, [], ◌∷◌}
 use Rattle.tcp_law.specs.Segment.{Segment}
 use Rattle.tcp_law.specs.Side.{Side, fresh}
 use Rattle.tcp_law.specs.Side.Phase.{Synchronized}
 use Rattle.tcp_law.specs.Side.Opening.{Active}
 use Rattle.tcp_law.specs.Move.Move.{Connects, Writes, Reads, SendsSyn, SendsAck, SendsData, TakesSynAck, TakesAck, TakesBytes, TakesFin}
-use Rattle.tcp_law.specs.Examples.{at, syn, syn_ack, piece, last_piece, bare_ack}
+use Rattle.tcp_law.specs.Examples.{at, syn_ack, piece, last_piece, bare_ack}
 use Rattle.tcp_peer.specs.Peer.{End, IsHonest}
-use Rattle.tcp_peer.specs.Run.{Scene, Event, IsRun, run, start}
+use Rattle.tcp_peer.specs.Run.{Event}
 use Rattle.tcp_peer.specs.Run.Event.{Comes, Does}
 use Rattle.tcp_peer.specs.Safe.{IsSafeBeside}
 

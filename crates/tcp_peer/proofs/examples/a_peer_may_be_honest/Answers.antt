@@ -1,5 +1,5 @@
-use Rattle.std.proofs.Common.{◌≡◌, ◌⊎◌, inl, inr, ℕ, true, false, [], ◌∷◌, Some, None, refl, arith}
-use Rattle.tcp_law.specs.Segment.Control.{Plain, Syn, Fin}
+use Rattle.std.proofs.Common.{◌≡◌, inl, inr, true, false, Some, None, refl, arith}
+use Rattle.tcp_law.specs.Segment.Control.{Plain, Fin}
 use Rattle.tcp_law.specs.Side.Phase.{SynReceived, Synchronized}
 use Rattle.tcp_law.specs.Examples.{at, bare_ack}
 use Rattle.tcp_peer.proofs.examples.a_peer_may_be_honest.Goals as goal
@@ -66,16 +66,23 @@ returns-clause-reset c = inl refl
 -- event by event
 pub returns-clause-exchange : goal.returns-clause-exchange
 returns-clause-exchange c = (
-  (refl, (omega arith, omega arith)), (
-    refl, (
+  (refl, (omega arith, omega arith)),
+  (
+    refl,
+    (
       inr (
         inr (inr (inr (record { syn = refl; number = omega arith; bare = λ (e : Some 101 ≡ None). absurd (cc) }))),
         inr (101, refl, record { at = at 101; same = refl; so_far = inl refl }),
-      ), (
-        record { asking = refl; comes = (0, refl); syn = refl; acks_syn = refl }, (
-          tt, (
-            record { running = refl; unclosed = refl; short = omega arith }, (
-              record { running = refl; after_syn = omega arith; within = omega arith; last = λ (e : false ≡ true). absurd (cc) }, (
+      ),
+      (
+        record { asking = refl; comes = (0, refl); syn = refl; acks_syn = refl },
+        (
+          tt,
+          (
+            record { running = refl; unclosed = refl; short = omega arith },
+            (
+              record { running = refl; after_syn = omega arith; within = omega arith; last = λ (e : false ≡ true). absurd (cc) },
+              (
                 inr (
                   inl (record {
                     kind = tt;
@@ -87,7 +94,8 @@ returns-clause-exchange c = (
                     heard = inl refl;
                   }),
                   inr (103, refl, record { at = at 103; same = refl; so_far = inr (refl, omega arith, omega arith) }),
-                ), (
+                ),
+                (
                   record {
                     connected = tt;
                     comes = (1, refl);
@@ -96,7 +104,8 @@ returns-clause-exchange c = (
                     opens = λ (e : Synchronized ≡ SynReceived). absurd (cc);
                     low = omega arith;
                     high = omega arith;
-                  }, (
+                  },
+                  (
                     record {
                       running = refl;
                       unfinished = refl;
@@ -104,7 +113,8 @@ returns-clause-exchange c = (
                       kind = tt;
                       number = refl;
                       near = (omega arith, omega arith);
-                    }, (
+                    },
+                    (
                       inr (
                         inl (record {
                           kind = tt;
@@ -116,7 +126,8 @@ returns-clause-exchange c = (
                           heard = inl refl;
                         }),
                         inr (101, refl, record { at = at 101; same = refl; so_far = inl refl }),
-                      ), (
+                      ),
+                      (
                         record {
                           running = refl;
                           unfinished = refl;

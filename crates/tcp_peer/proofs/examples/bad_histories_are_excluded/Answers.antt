@@ -1,11 +1,9 @@
-use Rattle.std.proofs.Common.{◌≡◌, ◌⊎◌, inl, inr, ℕ, ◌+◌, ◌^◌, ◌<◌, ◌≤◌, suc, true, false, List, [], ◌∷◌, length, drop, get_or, Some, None, refl, sym, ap, subst, arith}
-use Rattle.tcp_law.specs.ReceiveMap.{Begins}
+use Rattle.std.proofs.Common.{◌≡◌, ◌⊎◌, inl, inr, ℕ, ◌+◌, ◌<◌, ◌≤◌, suc, List, [], ◌∷◌, length, get_or, refl, sym, ap, subst, arith}
 use Rattle.tcp_law.specs.Segment.{Segment}
 use Rattle.tcp_law.specs.Segment.Control.{Plain, Rst}
-use Rattle.tcp_law.specs.Side.{Side, freed}
+use Rattle.tcp_law.specs.Side.{freed}
 use Rattle.tcp_law.specs.Examples.{at, piece, bare_ack}
-use Rattle.tcp_peer.specs.Peer.{End, IsEnd, HasAckedTo, HasReached, IsPiece, IsOld, IsHonest, counted}
-use Rattle.tcp_peer.specs.Safe.{IsSafeBeside}
+use Rattle.tcp_peer.specs.Peer.{IsEnd, HasAckedTo, HasReached, IsPiece, IsOld, counted}
 use Rattle.tcp_peer.specs.Examples.{peer, this, took, Cannot}
 use Rattle.tcp_peer.proofs.Liars.{bytes_there, reached_by, piece_or_old, acked_of_one, acked_of_none}
 use Rattle.tcp_peer.proofs.examples.bad_histories_are_excluded.Goals as goal
@@ -31,7 +29,7 @@ returns-clause-early_end c = λ safe. let size = ap length (safe.finished refl).
 -- two bytes are freed of one whose SYN and one byte at most were acknowledged
 freed_two : (came : List Segment) → ((position : ℕ) → HasAckedTo peer came position → position ≤ at 102) → Cannot (record (took []) { una = at 103 }) came
 freed_two came most safe = by safe.freed where
-  by : (2 ≡ 0) ⊎ ((peer.heard ≡ at 100) × HasAckedTo peer came (at 103)) → ⊥
+  by : (freed (record (took []) { una = at 103 }) ≡ 0) ⊎ ((peer.heard ≡ at 100) × HasAckedTo peer came (at 103)) → ⊥
   by (inl none) = absurd (omega arith)
   by (inr to) = let far = most (at 103) to.1 in absurd (omega arith)
 
@@ -65,9 +63,9 @@ returns-clause-sent_other c = λ safe. by (piece_or_old this peer [] (piece 101 
 pub returns-clause-acknowledged_more : goal.returns-clause-acknowledged_more
 returns-clause-acknowledged_more c =
     λ safe. by (reached_by this peer [] (bare_ack 101 306) 306 (λ (e : Plain ≡ Rst). absurd (cc)) refl safe.honest.0) where
-  most : (h : HasReached this peer 306) → (h.at ≡ suc (at 300)) ⊎ ((at 300 ≡ at 300) × (at 300 < h.at) × (h.at ≤ at 305)) → ⊥
-  most h (inl syn) = let same = h.same in absurd (omega arith)
-  most h (inr far) = let same = h.same in let past = far.1 in let high = far.2 in absurd (omega arith)
+      most : (h : HasReached this peer 306) → (h.at ≡ suc (at 300)) ⊎ ((at 300 ≡ at 300) × (at 300 < h.at) × (h.at ≤ at 305)) → ⊥
+      most h (inl syn) = let same = h.same in absurd (omega arith)
+      most h (inr far) = let same = h.same in let past = far.1 in let high = far.2 in absurd (omega arith)
 
-  by : HasReached this peer 306 → ⊥
-  by h = most h h.so_far
+      by : HasReached this peer 306 → ⊥
+      by h = most h h.so_far

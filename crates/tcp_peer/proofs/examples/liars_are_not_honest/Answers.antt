@@ -1,10 +1,9 @@
-use Rattle.std.proofs.Common.{◌≡◌, ◌⊎◌, inl, inr, ℕ, ◌+◌, ◌^◌, ◌<◌, ◌≤◌, suc, true, false, List, [], ◌∷◌, length, drop, Some, None, refl, sym, ap, subst, arith}
+use Rattle.std.proofs.Common.{◌≡◌, ◌⊎◌, inl, inr, ℕ, ◌+◌, ◌<◌, ◌≤◌, suc, true, false, [], ◌∷◌, length, drop, refl, sym, ap, subst, arith}
 use Rattle.tcp_law.specs.ReceiveMap.{Begins}
-use Rattle.tcp_law.specs.Numbers.{wire}
 use Rattle.tcp_law.specs.Segment.{Segment, IsData}
-use Rattle.tcp_law.specs.Segment.Control.{Plain, Syn, Fin, Rst}
+use Rattle.tcp_law.specs.Segment.Control.{Plain, Rst}
 use Rattle.tcp_law.specs.Examples.{at, syn, piece, last_piece, bare_ack}
-use Rattle.tcp_peer.specs.Peer.{End, IsEnd, HasAckedTo, HasReached, IsPiece, IsOld, counted}
+use Rattle.tcp_peer.specs.Peer.{IsEnd, HasAckedTo, HasReached, IsPiece, IsOld, counted}
 use Rattle.tcp_peer.specs.Examples.{peer, this, told, Says}
 use Rattle.tcp_peer.proofs.Liars.{bytes_there, reached_by, piece_or_old, fin_piece, bare_syn, acked_of_one}
 use Rattle.tcp_peer.proofs.examples.liars_are_not_honest.Goals as goal
