@@ -1,7 +1,7 @@
 -- What is promised of a side beside the peer, and of each run.
 use Rattle.std.proofs.Common.{◌≡◌, ◌⊎◌, inl, inr, ℕ, suc, ◌+◌, ◌-◌, ◌<◌, ◌≤◌, nat_lt, Bool, true, false, List, [], ◌∷◌, length, drop, Some, None, refl, sym, ap, ◌∙◌, arith, length-drop}
 use Rattle.tcp_law.specs.Alone.{AreResets}
-use Rattle.tcp_law.specs.Invariant.{IsInStep, IsSilent, OneWay}
+use Rattle.tcp_law.specs.Invariant.{HoldsBetween, IsInStep, IsSilent, OneWay}
 use Rattle.tcp_law.specs.Invariant as law
 use Rattle.tcp_law.specs.Numbers.{wire}
 use Rattle.tcp_law.specs.Safe.{IsPrefixOf, IsSafe}
@@ -10,7 +10,7 @@ use Rattle.tcp_law.specs.Side.{Side, rcv_next, taken_in, one_if, freed}
 use Rattle.tcp_law.proofs.Lists.{AllByRecursion-map, Begins-length}
 use Rattle.tcp_law.proofs.Calls.{one_if-small}
 use Rattle.tcp_law.proofs.Theorem.{IsSafe-one_way}
-use Rattle.tcp_peer.specs.Peer.{End, IsEnd, end_of, IsAcknowledged, HasAckedTo, counted, HasReached, IsSyn, IsPiece, IsHonest, SaysOfItself, SaysOfTheOther, as_end}
+use Rattle.tcp_peer.specs.Peer.{End, IsEnd, end_of, IsAcknowledged, HasAckedTo, counted, HasReached, IsHonest, SaysOfItself, SaysOfTheOther, as_end}
 use Rattle.tcp_peer.specs.Run.{Scene, Event, MayHappen, happens, IsRun, run, start}
 use Rattle.tcp_peer.specs.Run.Event.{Comes, Does}
 use Rattle.tcp_peer.specs.Safe.{IsSafeBeside}

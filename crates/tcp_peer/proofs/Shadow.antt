@@ -1,7 +1,7 @@
 -- The peer as a partner of the machine: a side that has said what came, and has taken in what it acknowledged.
 use Rattle.std.proofs.Common.{◌≡◌, ◌⊎◌, inl, inr, ℕ, suc, ◌+◌, ◌^◌, ◌≤◌, Bool, true, false, List, [], length, refl, arith, le_refl}
 use Rattle.tcp_law.specs.Alone.{AreResets, unopened}
-use Rattle.tcp_law.specs.Invariant.{HoldsBetween, OneWay}
+use Rattle.tcp_law.specs.Invariant.{HoldsBetween, IsInStep, IsSilent, IsWellFormed, OneWay}
 use Rattle.tcp_law.specs.Invariant as law
 use Rattle.tcp_law.specs.Move.{Move, May, after, sends, MayTakeSyn, MayTakeCrossedSyn, MayTakeSynAck, MayTakeAck, MayTakeBytes, MayTakeFin}
 use Rattle.tcp_law.specs.Move.Move.{Listens, Connects, Writes, Reads, Closes, Ends, FallsBack, SendsSyn, SendsSynAck, SendsAck, SendsData, SendsKeepAlive, SendsReset, TakesSyn, TakesCrossedSyn, TakesSynAck, TakesAck, TakesBytes, TakesFin}

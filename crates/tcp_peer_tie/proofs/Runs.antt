@@ -17,8 +17,9 @@ use Rattle.tcp_peer.specs.Safe as one
 use Rattle.tcp_peer.proofs.Shadow.{shadow, Meets}
 use Rattle.tcp_peer.proofs.Safety.{meets_safe}
 use Rattle.tcp_peer_tie.specs.Beside.{Meeting, Event, MayHappen, happens, IsRun, run, start, IsSafeBeside}
-use Rattle.tcp_peer_tie.specs.Beside.Event.{Comes, Does}
-use Rattle.tcp_peer_tie.proofs.Pinned.{MeetsSocket}
+use Rattle.tcp_peer_tie.specs.Beside.Event.{Comes, Listens, Connects, Sends, Does}
+use Rattle.tcp_tie.proofs.AnsweredLaws.{keeps_listen, keeps_connect, keeps_send}
+use Rattle.tcp_peer_tie.proofs.Pinned.{MeetsSocket, socket_step}
 use Rattle.tcp_peer_tie.proofs.Steps.{socket_start, socket_does, socket_comes}
 
 safe_side :
@@ -54,6 +55,12 @@ socket_safe peer v p came e m =
 
 meets_event : (peer : End) (w : Meeting) (event : Event) → IsEnd peer → MayHappen peer w event → MeetsSocket peer w.here.socket w.here.past w.came → MeetsSocket peer (happens w event).here.socket (happens w event).here.past (happens w event).came
 meets_event peer w (Comes cx ip header bytes) e may m = socket_comes peer w.here w.came cx ip header bytes e may m
+meets_event peer w (Listens endpoint) e may m =
+    socket_step peer w.here.socket _ w.here.past _ w.came e (λ v q still k. keeps_listen w.here.socket v w.here.past q endpoint k may) m
+meets_event peer w (Connects cx remote local) e may m =
+    socket_step peer w.here.socket _ w.here.past _ w.came e (λ v q still k. keeps_connect cx w.here.socket v w.here.past q remote local k may) m
+meets_event peer w (Sends bytes) e may m =
+    socket_step peer w.here.socket _ w.here.past _ w.came e (λ v q still k. keeps_send w.here.socket v w.here.past q bytes k may) m
 meets_event peer w (Does event) e may m = socket_does peer w.here w.came event e may m
 
 meets_run : (peer : End) (w : Meeting) (events : List Event) → IsEnd peer → IsRun peer w events → MeetsSocket peer w.here.socket w.here.past w.came → MeetsSocket peer (run w events).here.socket (run w events).here.past (run w events).came

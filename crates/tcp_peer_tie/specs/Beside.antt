@@ -1,6 +1,8 @@
 -- A socket beside an honest peer: which end of the connection it is, its runs with whatever comes, and what is promised of them.
-use Rattle.std.specs.Prelude.{◌≡◌, ◌⊎◌, ℕ, suc, ◌+◌, ◌-◌, ◌%◌, ◌^◌, Bool, true, false, if◌then◌else◌, List, [], ◌∷◌, ◌++◌, length}
+use Rattle.std.specs.Prelude.{◌≡◌, ◌⊎◌, ℕ, suc, ◌+◌, ◌-◌, ◌%◌, ◌^◌, ◌<◌, Bool, true, false, if◌then◌else◌, List, [], ◌∷◌, ◌++◌, length}
 use Rattle.std.specs.List.{AllByRecursion}
+use Rattle.ip_wire.specs.IpEndpoint.{IpEndpoint}
+use Rattle.ip_wire.specs.IpListenEndpoint.{IpListenEndpoint}
 use Rattle.ip_wire.specs.IpRepr.{IpRepr}
 use Rattle.ip_wire.specs.TcpHeader.{TcpHeader}
 use Rattle.net_base.specs.Ring.{ring}
@@ -8,13 +10,15 @@ use Rattle.socket_base.specs.Context.{ContextValue}
 use Rattle.tcp_law.specs.Safe.{IsPrefixOf}
 use Rattle.tcp_law.specs.Segment.{Segment}
 use Rattle.tcp_law.specs.Side.{one_if}
+use Rattle.tcp_law.specs.Side.Opening.{NotYet, Passive, Active}
 use Rattle.tcp_model.specs.State.{State}
 use Rattle.tcp_model.specs.State.TheVariants as In
 use Rattle.tcp_model.specs.Arrival.{arrives}
+use Rattle.tcp_model.specs.Calls.{listen_after, connect_after, send_answer, send_after}
 use Rattle.tcp_model.specs.Opening.{is_first_syn}
 use Rattle.tcp_model.specs.States.{owes_fin}
 use Rattle.tcp_model.specs.Value.{TcpValue, new_socket}
-use Rattle.tcp_tie.specs.History.{with_answer}
+use Rattle.tcp_tie.specs.History.{with_answer, with_written, listen_opens, connect_opens, opened_by, bytes_taken}
 use Rattle.tcp_tie.specs.Promises.{read_or_waiting}
 use Rattle.tcp_tie.specs.Run.{Seen, seen}
 use Rattle.tcp_tie.specs.Run as two
@@ -60,7 +64,11 @@ counts_in other header = true
 pub data Event : Type 0 where
   -- a segment comes, whoever sent it
   Comes : (cx : ContextValue) (ip : IpRepr) (header : TcpHeader) (bytes : List ℕ) → Event
-  -- a call of its user, an offer with its settling, a reset of its host; or a segment that came comes again
+  -- listen, connect and send, as they are answered
+  Listens : (endpoint : IpListenEndpoint) → Event
+  Connects : (cx : ContextValue) (remote : IpEndpoint) (local : IpListenEndpoint) → Event
+  Sends : (bytes : List ℕ) → Event
+  -- any other call, an offer with its settling, a reset of its host; or a segment that came comes again
   Does : (event : two.Event) → Event
 
 -- of a partner the events of a socket see only what it sent
@@ -72,6 +80,9 @@ abbrev pub MayHappen : End → Meeting → Event → Type 0
 MayHappen peer w (Comes cx ip header bytes) =
     counts_in w.here.socket.block.state header ≡ true
     → IsHonest peer (end_in w.here.socket.block.state w.here.socket w.here.past) w.here.past.sent (segment_of header bytes)
+MayHappen peer w (Listens endpoint) = listen_opens w.here.socket endpoint ≡ true → w.here.past.opening ≡ NotYet
+MayHappen peer w (Connects cx remote local) = connect_opens cx w.here.socket remote local ≡ true → w.here.past.opening ≡ NotYet
+MayHappen peer w (Sends bytes) = length (w.here.past.written ++ bytes_taken (send_answer w.here.socket (length bytes)) bytes) < 2 ^ 29
 MayHappen peer w (Does event) = two.MayHappen w.here (sender_of w.came) event
 
 abbrev pub happens : Meeting → Event → Meeting
@@ -79,6 +90,16 @@ happens w (Comes cx ip header bytes) = record {
   here = seen (arrives cx w.here.socket ip header bytes).socket (with_answer w.here.past (arrives cx w.here.socket ip header bytes).answer);
   came = if counts_in w.here.socket.block.state header then w.came ++ segment_of header bytes ∷ [] else w.came;
 }
+happens w (Listens endpoint) =
+    record w { here = seen (listen_after w.here.socket endpoint) (opened_by Passive (listen_opens w.here.socket endpoint) w.here.past) }
+happens w (Connects cx remote local) =
+    record w {
+      here = seen (connect_after cx w.here.socket remote local) (opened_by Active (connect_opens cx w.here.socket remote local) w.here.past);
+    }
+happens w (Sends bytes) =
+    record w {
+      here = seen (send_after w.here.socket bytes) (with_written w.here.past (bytes_taken (send_answer w.here.socket (length bytes)) bytes));
+    }
 happens w (Does event) = record w { here = two.happens w.here event }
 
 abbrev pub IsRun : End → Meeting → List Event → Type 0
