@@ -1,0 +1,9 @@
+pub mod Among
+pub mod Shadow
+pub mod Learns
+pub mod Converts
+pub mod Comes
+pub mod Safety
+pub mod Maps
+pub mod WindowLaws
+pub mod Liars

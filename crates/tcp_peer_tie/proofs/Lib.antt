@@ -1,0 +1,4 @@
+pub mod Pinned
+pub mod Ends
+pub mod Steps
+pub mod Runs
