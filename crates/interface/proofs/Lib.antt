@@ -1,3 +1,4 @@
+pub mod Sourced
 pub mod Known
 pub mod Due
 pub mod QuietTurn

@@ -29,7 +29,7 @@ use Rattle.interface_ingress.proofs.OneArrival.{one_arrives_as}
 use Rattle.interface.specs.Host.{Sender}
 use Rattle.interface.specs.Pass.{Pass, Passed, passed}
 use Rattle.interface.specs.WayOut.{Clears, Egress, PieceLeaves}
-use Rattle.interface.specs.Turn.{Leaves, SendsBy, Answers, TurnsIf, ItemTurns, PlaceTurns, is_waiting, let_through, turned_by, settled_by}
+use Rattle.interface.specs.Turn.{sourced, Leaves, SendsBy, Answers, TurnsIf, ItemTurns, PlaceTurns, is_waiting, let_through, turned_by, settled_by}
 use Rattle.interface.specs.declared.turn.Turned.{Turned}
 use Rattle.interface.specs.declared.turn.Turned.TheVariants as Turn
 use Rattle.interface.specs.State.{State, at_device}
@@ -125,7 +125,7 @@ module _ (one_offer : OneOffer) {D : Type 0} (moves : D → Move → D → Type 
       → SendsBy moves o x item changed a y m → SendsBy moves o x item changed b z n → SameTurn a y m b z n
   one_sends None x y z item m n changed a b det one two = absurd one
   one_sends (Some p) x y z item m n changed a b det one two =
-      let same = one_leaves x y z p one.0 two.0 det one.1 two.1 in (
+      let same = one_leaves x y z (sourced x.inner p) one.0 two.0 det one.1 two.1 in (
         one.2 ∙ ap (λ (s : Sent). turned_by s changed) same.0 ∙ sym two.2,
         same.1,
         one.3 ∙ ap (λ (s : Sent). settled_by s x.inner.moment (destination_of p.header) item) same.0 ∙ sym two.3,
@@ -133,7 +133,7 @@ module _ (one_offer : OneOffer) {D : Type 0} (moves : D → Move → D → Type 
 
   det_sends : (o : Option PacketValue) (x y : Sender D) (item m : Item Socket) (changed : Bool) (a : Turned) → SendsBy moves o x item changed a y m → Det x.device → Det y.device
   det_sends None x y item m changed a one det = absurd one
-  det_sends (Some p) x y item m changed a one det = det_leaves x y p one.0 one.1 det
+  det_sends (Some p) x y item m changed a one det = det_leaves x y (sourced x.inner p) one.0 one.1 det
 
   one_answers : (answer : Answer.Offer) (x y z : Sender D) (item m n : Item Socket) (a b : Turned) → Det x.device
       → Answers moves answer x item a y m → Answers moves answer x item b z n → SameTurn a y m b z n

@@ -82,7 +82,7 @@ v6_shape (Ip.Ipv6 header) message bytes places = all_shape _ places
 
 segment_shape : (i : InnerValue) (places : Places) (ip : IpRepr) (header : TcpHeader) (bytes : List ℕ) → shape (segment_places i places ip header bytes) ≡ shape places
 segment_shape i places ip header bytes =
-    elim (names_nobody ip) as (λ b. shape (if b then places else segment_delivered (context_of i) ip header bytes places) ≡ shape places) [
+    elim (names_nobody i ip) as (λ b. shape (if b then places else segment_delivered (context_of i) ip header bytes places) ≡ shape places) [
       | true ↦ refl
       | false ↦ changed_shape (with_segment (context_of i) ip header bytes) (segment_place ip header places) places
     ]

@@ -3,7 +3,7 @@ use Rattle.std.proofs.Common.{◌≡◌, ℕ, zero, suc, ◌+◌, ◌<◌, Bool,
 use Rattle.std.specs.Prelude.{ℤ, int_lt, nat_le, slice_index}
 use Rattle.std.specs.List.{AllByRecursion}
 use Rattle.ip_wire.specs.Address.{IsEthernetAddress, IsIpAddress}
-use Rattle.ip_wire.specs.AddressTests.{is_unspecified, is_multicast}
+use Rattle.ip_wire.specs.AddressTests.{is_multicast}
 use Rattle.ip_wire.specs.EthernetAddress.{EthernetAddress}
 use Rattle.ip_wire.specs.HardwareAddress.{HardwareAddress}
 use Rattle.ip_wire.specs.HardwareAddress.TheVariants as Hardware
@@ -23,7 +23,7 @@ use Rattle.interface_tables.specs.declared.link.LinkAddress.TheVariants as Link
 use Rattle.interface_tables.specs.declared.neighbor.Answer.{Answer}
 use Rattle.interface_tables.specs.declared.neighbor.Answer.TheVariants as Known
 use Rattle.interface_tables.specs.declared.neighbor.Neighbor.{Neighbor}
-use Rattle.interface_egress.specs.Plan.{longest_cut, total_len, cut_if_idle, long_plan, ask_v4, ask_on, plan_by, plan_of}
+use Rattle.interface_egress.specs.Plan.{longest_cut, total_len, cut_if_idle, long_plan, ask_v4, ask_on, may_ask, ask_if, plan_by, never_leaves, plan_of}
 use Rattle.interface_egress.specs.declared.plan.Plan.{Plan}
 use Rattle.interface_egress.specs.declared.plan.Plan.TheVariants as Way
 use Rattle.interface_delivery.specs.Delivered.{IsOfMedium, AreOfOneMedium}
@@ -139,14 +139,18 @@ ask_by own Hardware.Ip i hop = tt
 ask_by own (Hardware.Ethernet from) i (Address.Ipv4 hop) = ask_v4_by own from (source_v4 i.addresses hop) hop
 ask_by own (Hardware.Ethernet from) i (Address.Ipv6 hop) = tt
 
+ask_if_by : (own : HardwareAddress) (i : InnerValue) (hop : IpAddress) (may : Bool) → PlanStays own (ask_if may i hop)
+ask_if_by own i hop true = ask_by own i.hardware i hop
+ask_if_by own i hop false = tt
+
 by_link : (own : HardwareAddress) (i : InnerValue) (busy : Bool) (h : IpRepr) (l : LinkAddress) → LinkStays own l → PlanStays own (plan_by l i busy h)
 by_link own i busy h (Link.Known to) is = to_by own to busy h (nat_le (total_len h) i.mtu) is
 by_link own i busy h Link.NoRoute is = tt
 by_link own i busy h Link.Silent is = tt
-by_link own i busy h (Link.Unknown hop) is = ask_by own i.hardware i hop
+by_link own i busy h (Link.Unknown hop) is = ask_if_by own i hop (may_ask i hop)
 
 plan_stays : (i : InnerValue) (busy : Bool) (h : IpRepr) → KnowsItsMedium i → IsIpAddress (destination_of h) → PlanStays i.hardware (plan_of i busy h)
-plan_stays i busy h knows is = elim (is_unspecified (destination_of h)) as (λ b. PlanStays i.hardware (cond b Way.Drop (plan_by (link_address i (destination_of h)) i busy h))) [
+plan_stays i busy h knows is = elim (never_leaves i h) as (λ b. PlanStays i.hardware (cond b Way.Drop (plan_by (link_address i (destination_of h)) i busy h))) [
   | true ↦ tt
   | false ↦ by_link i.hardware i busy h (link_address i (destination_of h)) (link_stays i.hardware i (destination_of h) is (λ o. hops i o knows))
 ]

@@ -10,3 +10,4 @@ pub mod LastThree
 pub mod EmitsAt
 pub mod PieceOut
 pub mod OneWay
+pub mod Leaving

@@ -2,7 +2,7 @@
 use Rattle.std.proofs.Common.{◌≡◌, ℕ, ◌+◌, ◌<◌, ◌≤◌, Bool, true, false, cond, Option, Some, None, is_some, refl, arith}
 use Rattle.std.specs.Prelude.{ℤ, int_lt, nat_le}
 use Rattle.std.proofs.lemmas.Bool.Decides.{nat_tests}
-use Rattle.ip_wire.specs.AddressTests.{is_unspecified, is_multicast}
+use Rattle.ip_wire.specs.AddressTests.{is_multicast}
 use Rattle.ip_wire.specs.EthernetAddress.{EthernetAddress}
 use Rattle.ip_wire.specs.HardwareAddress.{HardwareAddress}
 use Rattle.ip_wire.specs.HardwareAddress.TheVariants as Hardware
@@ -25,7 +25,7 @@ use Rattle.interface_tables.specs.declared.neighbor.Answer.{Answer}
 use Rattle.interface_tables.specs.declared.neighbor.Answer.TheVariants as Known
 use Rattle.interface_tables.specs.declared.neighbor.Neighbor.{Neighbor}
 use Rattle.interface_egress.specs.Fragments.{LeftValue}
-use Rattle.interface_egress.specs.Plan.{longest_cut, total_len, cut_if_idle, long_plan, ask_v4, ask_from, ask_on, plan_by, plan_of, IsPacket, CanBeCarried}
+use Rattle.interface_egress.specs.Plan.{longest_cut, total_len, cut_if_idle, long_plan, ask_v4, ask_from, ask_on, may_ask, ask_if, plan_by, never_leaves, plan_of, IsPacket, CanBeCarried}
 use Rattle.interface_egress.specs.declared.frame.Question.{Question}
 use Rattle.interface_egress.specs.declared.frame.Question.TheVariants as Query
 use Rattle.interface_egress.specs.declared.plan.Plan.{Plan}
@@ -112,14 +112,18 @@ module _ (i : InnerValue) (busy : Bool) (h : IpRepr) (P : Plan → Type 0) (out 
   ask_on_by Hardware.Ip hop is may = none
   ask_on_by (Hardware.Ethernet own) hop is may = ask_from_by own hop may is
 
+  ask_by : (may : Bool) (hop : IpAddress) → MayAsk i → P (ask_if may i hop)
+  ask_by true hop may = ask_on_by i.hardware hop refl may
+  ask_by false hop may = none
+
   link_cases : (l : LinkAddress) → link_address i (destination_of h) ≡ l → P (plan_by l i busy h)
   link_cases (Link.Known to) is = to_by to (nat_le (total_len h) i.mtu) refl
   link_cases Link.NoRoute is = none
   link_cases Link.Silent is = wait
-  link_cases (Link.Unknown hop) is = ask_on_by i.hardware hop refl (on_is i.hardware i (destination_of h) hop is)
+  link_cases (Link.Unknown hop) is = ask_by (may_ask i hop) hop (on_is i.hardware i (destination_of h) hop is)
 
   pub plan_cases : P (plan_of i busy h)
-  plan_cases = elim (is_unspecified (destination_of h)) as (λ b. P (cond b Way.Drop (plan_by (link_address i (destination_of h)) i busy h))) [
+  plan_cases = elim (never_leaves i h) as (λ b. P (cond b Way.Drop (plan_by (link_address i (destination_of h)) i busy h))) [
     | true ↦ out
     | false ↦ link_cases (link_address i (destination_of h)) refl
   ]

@@ -1,10 +1,10 @@
 -- What is to be done with a packet that wants to go out.
-use Rattle.std.specs.Prelude.{◌≡◌, ℕ, ◌+◌, ◌<◌, ◌≤◌, nat_le, Bool, if◌then◌else◌, Option, None, Some}
+use Rattle.std.specs.Prelude.{◌≡◌, ℕ, ◌+◌, ◌<◌, ◌≤◌, nat_le, ◌||◌, not, Bool, false, if◌then◌else◌, Option, None, Some}
 use Rattle.ip_wire.specs.AddressTests.{is_unspecified}
 use Rattle.ip_wire.specs.HardwareAddress.{HardwareAddress}
 use Rattle.ip_wire.specs.HardwareAddress.TheVariants as Hardware
 use Rattle.ip_wire.specs.Ip as Ips
-use Rattle.ip_wire.specs.Ip.{destination_of, header_len_in, payload_len_of}
+use Rattle.ip_wire.specs.Ip.{source_of, destination_of, header_len_in, payload_len_of}
 use Rattle.ip_wire.specs.IpAddress.{IpAddress}
 use Rattle.ip_wire.specs.IpAddress.TheVariants as Address
 use Rattle.ip_wire.specs.IpRepr.{IpRepr}
@@ -13,8 +13,8 @@ use Rattle.ip_wire.specs.Ipv4Address.{Ipv4Address}
 use Rattle.ip_wire.specs.Ipv4Repr.{Ipv4Repr}
 use Rattle.ip_wire.specs.EthernetAddress.{EthernetAddress}
 use Rattle.socket_base.specs.Packet.{PacketValue, PayloadFits, IsSendable, payload_len}
-use Rattle.interface_tables.specs.Inner.{InnerValue, link_address}
-use Rattle.interface_tables.specs.Source.{source_v4, source_v6}
+use Rattle.interface_tables.specs.Inner.{InnerValue, is_foreign_loopback, may_come_from, link_address}
+use Rattle.interface_tables.specs.Source.{source_v4, source_v6, source_for}
 use Rattle.interface_tables.specs.declared.link.LinkAddress.{LinkAddress}
 use Rattle.interface_tables.specs.declared.link.LinkAddress.TheVariants as Link
 use Rattle.interface_egress.specs.Fragments.{LeftValue}
@@ -54,17 +54,35 @@ abbrev pub ask_on : HardwareAddress → InnerValue → IpAddress → Plan
 ask_on Hardware.Ip i hop = Way.NoRoute
 ask_on (Hardware.Ethernet own) i hop = ask_from own i hop
 
+-- the address that a packet for the next hop would be sent from may be a source
+abbrev pub may_come_by : Option IpAddress → InnerValue → IpAddress → Bool
+may_come_by None i hop = false
+may_come_by (Some source) i hop = may_come_from i source hop
+
+abbrev pub may_ask : InnerValue → IpAddress → Bool
+may_ask i hop = may_come_by (source_for i.addresses hop) i hop
+
+abbrev pub ask_if : Bool → InnerValue → IpAddress → Plan
+ask_if may i hop = if may then ask_on i.hardware i hop else Way.NoRoute
+
 abbrev pub plan_by : LinkAddress → InnerValue → Bool → IpRepr → Plan
 plan_by (Link.Known to) i busy header = plan_to to i.mtu busy header
 plan_by Link.NoRoute i busy header = Way.NoRoute
 plan_by Link.Silent i busy header = Way.Wait
-plan_by (Link.Unknown hop) i busy header = ask_on i.hardware i hop
+plan_by (Link.Unknown hop) i busy header = ask_if (may_ask i hop) i hop
 
--- In this order: a packet for the unspecified address is dropped; one whose next hop isn't known waits, or asks; then its
--- length counts. The host is busy while pieces of a datagram wait.
+-- A packet never leaves that is for the unspecified address or for a loopback address that isn't here, or whose source can't be
+-- one.
+abbrev pub never_leaves : InnerValue → IpRepr → Bool
+never_leaves i header =
+    is_unspecified (destination_of header)
+    || (is_foreign_loopback i (destination_of header) || not (may_come_from i (source_of header) (destination_of header)))
+
+-- In this order: a packet that never leaves is dropped; one whose next hop isn't known waits, or asks; then its length counts. The
+-- host is busy while pieces of a datagram wait.
 abbrev pub plan_of : InnerValue → Bool → IpRepr → Plan
 plan_of i busy header =
-    if is_unspecified (destination_of header) then Way.Drop
+    if never_leaves i header then Way.Drop
     else plan_by (link_address i (destination_of header)) i busy header
 
 -- a packet whose header says its length, and which can be sent where that fits its field

@@ -20,7 +20,7 @@ ghost use Rattle.interface_tables.specs.Inner.{InnerValue};
 ghost use Rattle.interface_tables.specs.Pieces.{Piece, IsSliceOf};
 ghost use Rattle.interface_egress.specs.Departure.{Departure, Tells, ether_for, packet_frame, piece_frame, arp_link, arp_frame};
 ghost use Rattle.interface_egress.specs.Fragments.{LeftValue, piece_room, next_departure, pieces_from};
-ghost use Rattle.interface_egress.specs.Plan.{plan_of};
+ghost use Rattle.interface_egress.specs.Plan.{never_leaves, plan_of};
 ghost use Rattle.interface_egress.specs.GoesOut.{GoesOut, PieceGoesOut, frame_len_of};
 ghost use Rattle.interface_egress.specs.Departing.{departure_by, link_room, ident_after, silent_after, SendsOnce, was_taken, host_after, left_behind, HasSettingsOf, number_in};
 ghost use Rattle.interface_egress.specs.Determined.{IsDetermined};
@@ -87,6 +87,14 @@ pub fn one_outcome<D: Device>()
         → (x y : Bool) (new other : D) (k k' : Option LeftValue)
         → PieceGoesOut D.moves old i l x new k → PieceGoesOut D.moves old i l y other k'
         → (x ≡ y) × (new ≡ other) × (k ≡ k') }
+{}
+
+/// Law: nothing is sent for a packet that never leaves: none goes from a broadcast, from a group, from a loopback address to
+/// another, or to a loopback address of a family of which the host has none.
+pub fn sources_are_hosts()
+    ensures { (i : InnerValue) (busy : Bool) (p : PacketValue) (d : Departure)
+        → departure_by i p (plan_of i busy p.header) ≡ Some d
+        → never_leaves i p.header ≡ false }
 {}
 
 /// Law: a packet that leaves with an identification has the host's next one.

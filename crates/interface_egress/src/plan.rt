@@ -1,11 +1,13 @@
 //! What is to be done with a packet that wants to go out.
 ghost use Rattle.std.specs.Prelude.{◌≡◌, ◌≤◌, nat_le};
-ghost use Rattle.interface_egress.specs.Plan.{total_len, long_plan, plan_to, ask_v4, ask_on, plan_by, plan_of};
+ghost use Rattle.interface_egress.specs.Plan.{total_len, long_plan, plan_to, ask_v4, ask_on, may_ask, ask_if, plan_by, never_leaves, plan_of};
 
 use crate::fragmenter::MAX_CUT_PAYLOAD;
 use crate::frame::Question;
 use interface_tables::{InterfaceInner, LinkAddress};
 use ip_wire::{EthernetAddress, HardwareAddress, IpAddress, IpRepr, Ipv4Address, Ipv4Repr};
+use socket_base::Context;
+use socket_base::addresses::is_unspecified;
 
 /// What is to be done with a packet.
 #[derive(Clone, Copy, Debug, PartialEq, Eq)]
@@ -33,16 +35,26 @@ pub fn plan_for(inner: &InterfaceInner, busy: bool, header: &IpRepr) -> Plan
     ensures mtu { inner.now.mtu ≤ 65535 }
 {
     let mtu = inner.mtu();
-    let destination = header.dst_addr();
-    if destination.is_unspecified() {
+    if never_leaves(inner, header) {
         return Plan::Drop;
     }
+    let destination = header.dst_addr();
     match inner.link_address(&destination) {
         LinkAddress::Known(to) => plan_to(to, mtu, busy, header),
         LinkAddress::NoRoute => Plan::NoRoute,
         LinkAddress::Silent => Plan::Wait,
-        LinkAddress::Unknown(hop) => ask_on(inner, &hop),
+        LinkAddress::Unknown(hop) => ask_if_possible(inner, &hop),
     }
+}
+
+/// Whether a packet is for the unspecified address or a loopback address that isn't here, or from what can't be a source.
+fn never_leaves(inner: &InterfaceInner, header: &IpRepr) -> bool
+    ensures { result ≡ never_leaves inner.now header.now }
+{
+    let destination = header.dst_addr();
+    is_unspecified(&destination)
+        || inner.is_foreign_loopback(&destination)
+        || !inner.may_come_from(&header.src_addr(), &destination)
 }
 
 /// The packet's next hop is known, and so its length counts.
@@ -75,6 +87,27 @@ fn long_plan(to: HardwareAddress, busy: bool, header: &IpRepr) -> Plan
             if busy { Plan::Busy } else { Plan::Cut(to, *v) }
         }
         _ => Plan::Drop,
+    }
+}
+
+/// A next hop's hardware address isn't known. It is asked for, if the host has an address to ask from.
+fn ask_if_possible(inner: &InterfaceInner, hop: &IpAddress) -> Plan
+    ensures { result ≡ ask_if (may_ask inner.now hop.now) inner.now hop.now }
+{
+    if may_ask(inner, hop) {
+        ask_on(inner, hop)
+    } else {
+        Plan::NoRoute
+    }
+}
+
+/// Whether the address that a packet for a next hop would be sent from may be a source.
+fn may_ask(inner: &InterfaceInner, hop: &IpAddress) -> bool
+    ensures { result ≡ may_ask inner.now hop.now }
+{
+    match inner.get_source_address(hop) {
+        Some(source) => inner.may_come_from(&source, hop),
+        None => false,
     }
 }
 

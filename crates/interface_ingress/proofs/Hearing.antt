@@ -1,9 +1,11 @@
 -- What follows from how neighbour messages are heard.
 use Rattle.std.proofs.Common.{◌≡◌, ◌≢◌, ℕ, Bool, true, false, IsTrue, if◌then◌else◌, List, refl, ap, subst, inl, inr}
-use Rattle.std.specs.Prelude.{Option, Some, None, ◌&&◌, ◌||◌}
+use Rattle.std.specs.Prelude.{Option, Some, None, ◌&&◌, ◌||◌, not}
+use Rattle.std.specs.List.{list_any}
 use Rattle.std.proofs.lemmas.Bool.Decides.{eqb_tells}
 use Rattle.control_wire.specs.Ndisc.{NeighborMessage, Solicitation, Advertisement}
 use Rattle.control_wire.specs.NdiscNeighborFlags.{NdiscNeighborFlags}
+use Rattle.ip_wire.specs.AddressTests.{is_unicast_v6, is_unspecified_v6, is_loopback_v6}
 use Rattle.ip_wire.specs.EthernetAddress.{EthernetAddress}
 use Rattle.ip_wire.specs.HardwareAddress.{HardwareAddress}
 use Rattle.ip_wire.specs.HardwareAddress.TheVariants as Hardware
@@ -12,8 +14,8 @@ use Rattle.ip_wire.specs.IpAddress.TheVariants as Address
 use Rattle.ip_wire.specs.Ipv6Address.{Ipv6Address}
 use Rattle.ip_wire.specs.Ipv6Repr.{Ipv6Repr}
 use Rattle.socket_base.specs.Packet.{PacketValue}
-use Rattle.interface_tables.specs.Inner.{InnerValue, is_own, is_own_solicited_node}
-use Rattle.interface_ingress.specs.Heard.{Heard, heard, counts, learned, advertised, replaces, is_asked, advertisement, answer, heard_at, heard_on, neighbor_heard, with_entries_of}
+use Rattle.interface_tables.specs.Inner.{InnerValue, is_own, is_address_of, is_own_solicited_node, is_probed, solicits}
+use Rattle.interface_ingress.specs.Heard.{Heard, heard, counts, learned, advertised, replaces, is_asked, told_at, advertisement, answer, heard_at, heard_on, neighbor_heard, with_entries_of}
 
 -- ENTRIES ALONE
 
@@ -74,22 +76,39 @@ medium i header message bare = ap (λ (h : HardwareAddress). heard_on h i header
 -- ANSWERS
 
 abbrev IsAnswer : InnerValue → Ipv6Repr → PacketValue → Type 0
-IsAnswer i header p = (destination_of p.header ≡ Address.Ipv6 header.src_addr) × IsTrue (is_own i (source_of p.header)) × (hops_in p.header ≡ 255)
+IsAnswer i header p = (destination_of p.header ≡ Address.Ipv6 (told_at header.src_addr)) × IsTrue (is_own i (source_of p.header)) × (hops_in p.header ≡ 255)
 
 second : (a b : Bool) → IsTrue (a && b) → IsTrue b
 second true b both = both
 second false b both = absurd (cc both)
 
-answer-by : (own : EthernetAddress) (i : InnerValue) (header : Ipv6Repr) (target : Ipv6Address) (p : PacketValue) (b : Bool) → is_asked i header.dst_addr target ≡ b
+either : (a b : Bool) → IsTrue b → IsTrue (a || b)
+either true b is = refl
+either false b is = is
+
+-- what is asked for is own
+asked-own : (i : InnerValue) (header : Ipv6Repr) (target : Ipv6Address) (b : Bool)
+    → IsTrue (if b then is_probed i header.dst_addr target
+    else (is_own_solicited_node i header.dst_addr || is_own i (Address.Ipv6 header.dst_addr)) && is_own i (Address.Ipv6 target))
+    → IsTrue (is_own i (Address.Ipv6 target))
+asked-own i header target true asked =
+    either i.any_ip (list_any (is_address_of (Address.Ipv6 target)) i.addresses)
+    (second (solicits header.dst_addr target) (list_any (is_address_of (Address.Ipv6 target)) i.addresses)
+    (second (not (is_loopback_v6 target)) (solicits header.dst_addr target && list_any (is_address_of (Address.Ipv6 target)) i.addresses)
+    (second (is_unicast_v6 target) (not (is_loopback_v6 target) && (solicits header.dst_addr target && list_any (is_address_of (Address.Ipv6 target)) i.addresses)) asked)))
+asked-own i header target false asked =
+    second (is_own_solicited_node i header.dst_addr || is_own i (Address.Ipv6 header.dst_addr)) (is_own i (Address.Ipv6 target)) asked
+
+answer-by : (own : EthernetAddress) (i : InnerValue) (header : Ipv6Repr) (target : Ipv6Address) (p : PacketValue) (b : Bool) → is_asked i header target ≡ b
     → (if b then Some (advertisement own target header.src_addr) else None) ≡ Some p → IsAnswer i header p
 answer-by own i header target p true asked is =
     let packet : advertisement own target header.src_addr ≡ p = cc is in
-    subst (IsAnswer i header) packet (refl, second (is_own_solicited_node i header.dst_addr || is_own i (Address.Ipv6 header.dst_addr)) (is_own i (Address.Ipv6 target)) asked, refl)
+    subst (IsAnswer i header) packet (refl, asked-own i header target (is_unspecified_v6 header.src_addr) asked, refl)
 answer-by own i header target p false asked is = absurd (cc is)
 
 solicited-by : (own : EthernetAddress) (i : InnerValue) (header : Ipv6Repr) (target : Ipv6Address) (link : Option (List ℕ)) (p : PacketValue) (b : Bool)
     → (if b then heard (learned i header.src_addr link) (answer own i header target) else heard i None).reply ≡ Some p → IsAnswer i header p
-solicited-by own i header target link p true is = answer-by own i header target p (is_asked i header.dst_addr target) refl is
+solicited-by own i header target link p true is = answer-by own i header target p (is_asked i header target) refl is
 solicited-by own i header target link p false is = absurd (cc is)
 
 advertised-by : (i : InnerValue) (flags : NdiscNeighborFlags) (header : Ipv6Repr) (link : Option (List ℕ)) (p : PacketValue) (b : Bool)

@@ -6,6 +6,8 @@ pub mod FramesArrive
 pub mod Measured
 pub mod Hearing
 pub mod AtPlace
+pub mod Segments
+pub mod Answering
 pub mod Given
 pub mod Sizes
 pub mod Kept

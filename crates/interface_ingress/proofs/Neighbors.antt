@@ -28,7 +28,7 @@ drawn_neighbors false i = refl
 
 segment_neighbors : (i : InnerValue) (places : Places) (ip : IpRepr) (header : TcpHeader) (bytes : List ℕ) → (segment_host i places ip header bytes).neighbors ≡ i.neighbors
 segment_neighbors i places ip header bytes =
-    elim (names_nobody ip) as (λ b. (if b then i else drawn_if (segment_draws (context_of i) ip header bytes places) i).neighbors ≡ i.neighbors) [
+    elim (names_nobody i ip) as (λ b. (if b then i else drawn_if (segment_draws (context_of i) ip header bytes places) i).neighbors ≡ i.neighbors) [
       | true ↦ refl
       | false ↦ drawn_neighbors (segment_draws (context_of i) ip header bytes places) i
     ]

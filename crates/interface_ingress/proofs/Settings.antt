@@ -59,7 +59,7 @@ same_drawn false i = same_itself i
 
 same_segment : (i : InnerValue) (places : Places) (ip : IpRepr) (header : TcpHeader) (bytes : List ℕ) → HasSameSettings i (segment_host i places ip header bytes)
 same_segment i places ip header bytes =
-    elim (names_nobody ip) as (λ b. HasSameSettings i (if b then i else drawn_if (segment_draws (context_of i) ip header bytes places) i)) [
+    elim (names_nobody i ip) as (λ b. HasSameSettings i (if b then i else drawn_if (segment_draws (context_of i) ip header bytes places) i)) [
       | true ↦ same_itself i
       | false ↦ same_drawn (segment_draws (context_of i) ip header bytes places) i
     ]

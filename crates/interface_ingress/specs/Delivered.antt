@@ -1,6 +1,6 @@
 -- Which sockets get what arrived, and what they are then (RFC 791, section 3.2; RFC 768; RFC 792; RFC 9293, section 3.10.7).
 -- Sockets of other kinds stay as they were, and so do places without a socket.
-use Rattle.std.specs.Prelude.{ℕ, Bool, false, ◌||◌, if◌then◌else◌, List, length, map, position, slice_set, Option, None, Some}
+use Rattle.std.specs.Prelude.{ℕ, Bool, false, not, ◌&&◌, ◌||◌, if◌then◌else◌, List, length, map, position, slice_set, Option, None, Some}
 use Rattle.std.specs.List.{list_any}
 use Rattle.control_wire.specs.Icmpv4Header.{Icmpv4Header}
 use Rattle.control_wire.specs.Icmpv6.{MessageValue}
@@ -21,12 +21,14 @@ use Rattle.sockets.specs.declared.socket.Socket.{Socket}
 use Rattle.sockets.specs.declared.socket.Socket.TheVariants as Kind
 use Rattle.tcp_model.specs.Controls.{is_rst}
 use Rattle.tcp_model.specs.Segments.{rst_reply}
+use Rattle.tcp_model.specs.States.{is_listening}
 use Rattle.tcp_model.specs.Reply.{Reply}
 use Rattle.tcp_socket.specs.Replies as Replies
 use Rattle.interface_egress.specs.declared.socket_set.Item.{Item}
 use Rattle.interface_egress.specs.declared.socket_set.SocketStorage.{SocketStorage}
 use Rattle.interface_tables.specs.Best.{at_place}
 use Rattle.interface_tables.specs.Inner.{InnerValue, drawn}
+use Rattle.interface_tables.specs.Reassembly.{or_else}
 
 abbrev pub Places : Type 0
 Places = List (SocketStorage Socket)
@@ -110,7 +112,8 @@ datagram_place cx ip udp places = first_place (λ s. accepts_datagram cx s ip ud
 abbrev pub datagram_delivered : ContextValue → IpRepr → UdpRepr → List ℕ → Places → Places
 datagram_delivered cx ip udp bytes places = changed_at (with_datagram ip udp bytes) (datagram_place cx ip udp places) places
 
--- TCP: the first socket that accepts the segment gets it, may answer it, and may draw a random word
+-- TCP: the socket of the segment's connection gets it, else the first listener that accepts it; it may answer it, and may draw a
+-- random word
 
 abbrev pub with_segment : ContextValue → IpRepr → TcpHeader → List ℕ → Socket → Socket
 with_segment cx ip header bytes (Kind.Tcp v) = Kind.Tcp (arrives cx v ip header bytes).socket
@@ -128,8 +131,17 @@ abbrev pub draws_of : ContextValue → IpRepr → TcpHeader → List ℕ → Soc
 draws_of cx ip header bytes (Kind.Tcp v) = (arrives cx v ip header bytes).draws
 draws_of cx ip header bytes s = false
 
+abbrev pub is_listener : Socket → Bool
+is_listener (Kind.Tcp v) = is_listening v.block.state
+is_listener s = false
+
+-- the segment is for a socket that has a connection: both have one pair of endpoints
+abbrev pub is_connected : Socket → IpRepr → TcpHeader → Bool
+is_connected s ip header = not (is_listener s) && accepts_segment s ip header
+
 abbrev pub segment_place : IpRepr → TcpHeader → Places → Option ℕ
-segment_place ip header places = first_place (λ s. accepts_segment s ip header) places
+segment_place ip header places =
+    or_else (first_place (λ s. is_connected s ip header) places) (first_place (λ s. accepts_segment s ip header) places)
 
 abbrev pub segment_delivered : ContextValue → IpRepr → TcpHeader → List ℕ → Places → Places
 segment_delivered cx ip header bytes places = changed_at (with_segment cx ip header bytes) (segment_place ip header places) places

@@ -4,8 +4,9 @@ use Rattle.std.specs.Prelude.{ℕ, ◌+◌, ◌<◌, ◌^◌, ◌||◌, Bool, tr
 use Rattle.control_wire.specs.Icmpv4Header.{Icmpv4Header}
 use Rattle.control_wire.specs.Icmpv6 as Icmpv6
 use Rattle.control_wire.specs.Icmpv6.{MessageValue}
-use Rattle.ip_wire.specs.AddressTests.{is_unspecified}
+use Rattle.ip_wire.specs.AddressTests.{is_unspecified, is_multicast}
 use Rattle.ip_wire.specs.Ip.{source_of, destination_of}
+use Rattle.ip_wire.specs.IpAddress.{IpAddress}
 use Rattle.ip_wire.specs.IpProtocol.{IpProtocol}
 use Rattle.ip_wire.specs.IpProtocol.TheVariants as Protocol
 use Rattle.ip_wire.specs.IpRepr.{IpRepr}
@@ -16,7 +17,7 @@ use Rattle.ip_wire.specs.UdpRepr.{UdpRepr}
 use Rattle.socket_base.specs.Packet.{PacketValue, PayloadValue, ControlV4, ControlV6, Bytes, Datagram, Segment}
 use Rattle.interface_ingress.specs.Heard.{neighbor_heard}
 use Rattle.interface_ingress.specs.Replies.{echo_v4, echo_v6, port_unreachable, protocol_unreachable}
-use Rattle.interface_tables.specs.Inner.{InnerValue, context_of}
+use Rattle.interface_tables.specs.Inner.{InnerValue, context_of, is_local_broadcast}
 use Rattle.interface_ingress.specs.Delivered.{Places, icmpv4_delivered, icmpv6_delivered, datagram_place, datagram_delivered, segment_answer, segment_delivered, segment_draws, drawn_if}
 
 -- CONTROL MESSAGES
@@ -52,9 +53,15 @@ control_v6_reply i (Ip.Ipv6 header) message bytes = message_reply i header messa
 
 -- DATAGRAMS AND SEGMENTS
 
--- an unspecified address names no end of a connection
-abbrev pub names_nobody : IpRepr → Bool
-names_nobody ip = is_unspecified (source_of ip) || is_unspecified (destination_of ip)
+-- a packet for all hosts of a network, or for a group
+abbrev pub is_for_many : InnerValue → IpAddress → Bool
+is_for_many i address = is_local_broadcast i address || is_multicast address
+
+-- A connection is between two hosts (RFC 9293, section 3.9.2.3): an unspecified address names no end of one, and a broadcast or
+-- a group is none.
+abbrev pub names_nobody : InnerValue → IpRepr → Bool
+names_nobody i ip =
+    is_unspecified (source_of ip) || (is_unspecified (destination_of ip) || is_for_many i (destination_of ip))
 
 -- a datagram that neither a socket nor a raw socket took is answered by an error
 abbrev pub datagram_reply : InnerValue → Places → IpRepr → List ℕ → Bool → UdpRepr → Option PacketValue
@@ -63,15 +70,15 @@ datagram_reply i places ip payload taken udp =
 
 abbrev pub segment_host : InnerValue → Places → IpRepr → TcpHeader → List ℕ → InnerValue
 segment_host i places ip header bytes =
-    if names_nobody ip then i else drawn_if (segment_draws (context_of i) ip header bytes places) i
+    if names_nobody i ip then i else drawn_if (segment_draws (context_of i) ip header bytes places) i
 
 abbrev pub segment_places : InnerValue → Places → IpRepr → TcpHeader → List ℕ → Places
 segment_places i places ip header bytes =
-    if names_nobody ip then places else segment_delivered (context_of i) ip header bytes places
+    if names_nobody i ip then places else segment_delivered (context_of i) ip header bytes places
 
 abbrev pub segment_reply : InnerValue → Places → IpRepr → Bool → TcpHeader → List ℕ → Option PacketValue
 segment_reply i places ip taken header bytes =
-    if names_nobody ip then None else segment_answer (context_of i) ip header bytes taken places
+    if names_nobody i ip then None else segment_answer (context_of i) ip header bytes taken places
 
 -- UNKNOWN PROTOCOLS
 

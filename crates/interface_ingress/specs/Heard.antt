@@ -1,9 +1,9 @@
 -- Neighbour messages that arrive (RFC 4861, sections 7.1 and 7.2): what the host learns from them, and what it answers.
-use Rattle.std.specs.Prelude.{ℕ, ◌==◌, ◌&&◌, ◌||◌, not, Bool, true, false, if◌then◌else◌, List, [], length, Option, None, Some}
+use Rattle.std.specs.Prelude.{ℕ, ◌==◌, ◌&&◌, ◌||◌, not, Bool, true, false, if◌then◌else◌, List, [], ◌∷◌, ◌++◌, replicate, length, Option, None, Some}
 use Rattle.control_wire.specs.Icmpv6 as Icmpv6
 use Rattle.control_wire.specs.Ndisc.{NeighborMessage, Solicitation, Advertisement}
 use Rattle.control_wire.specs.NdiscNeighborFlags.{NdiscNeighborFlags}
-use Rattle.ip_wire.specs.AddressTests.{is_ethernet_unicast, is_unicast_v6}
+use Rattle.ip_wire.specs.AddressTests.{is_ethernet_unicast, is_unicast_v6, is_unspecified_v6}
 use Rattle.ip_wire.specs.EthernetAddress.{EthernetAddress}
 use Rattle.ip_wire.specs.HardwareAddress.{HardwareAddress}
 use Rattle.ip_wire.specs.HardwareAddress.TheVariants as Hardware
@@ -13,7 +13,7 @@ use Rattle.ip_wire.specs.IpRepr.TheVariants as Ip
 use Rattle.ip_wire.specs.Ipv6Address.{Ipv6Address}
 use Rattle.ip_wire.specs.Ipv6Repr.{Ipv6Repr}
 use Rattle.socket_base.specs.Packet.{PacketValue, ControlV6, packet_of}
-use Rattle.interface_tables.specs.Inner.{InnerValue, is_own, is_own_solicited_node, with_neighbor}
+use Rattle.interface_tables.specs.Inner.{InnerValue, is_own, is_own_solicited_node, is_probed, with_neighbor}
 use Rattle.interface_tables.specs.Neighbor.{lookup, is_found}
 
 -- the host after a message, and what it answers
@@ -40,9 +40,16 @@ abbrev pub is_target : Ipv6Address → Option (List ℕ) → Bool
 is_target target None = true
 is_target target (Some link) = is_unicast_v6 target
 
--- no router passed the packet on, so that its sender is a neighbour (RFC 4861, section 3.1), and link address and target are sound
+-- who has no address yet gives no link address for it
+abbrev pub is_sender_of : Ipv6Address → Option (List ℕ) → Bool
+is_sender_of source None = true
+is_sender_of source (Some link) = not (is_unspecified_v6 source)
+
+-- no router passed the packet on, so that its sender is a neighbour (RFC 4861, section 3.1), and link address, target and sender
+-- are sound
 abbrev pub counts : Ipv6Repr → Ipv6Address → Option (List ℕ) → Bool
-counts header target link = header.hop_limit == 255 && is_one_station link && is_target target link
+counts header target link =
+    header.hop_limit == 255 && is_one_station link && is_target target link && is_sender_of header.src_addr link
 
 -- WHAT IS LEARNED: the link address of the packet's sender, if the message gives it
 
@@ -60,28 +67,39 @@ replaces i flags source = flags.overrides || not (is_known i source)
 abbrev pub advertised : InnerValue → NdiscNeighborFlags → Ipv6Address → Option (List ℕ) → InnerValue
 advertised i flags source link = if replaces i flags source then learned i source link else i
 
--- WHAT IS ANSWERED: a solicitation for an own address, sent to that or to an own address's solicited-node group
+-- WHAT IS ANSWERED: a solicitation for an own address, sent to that or to an own address's solicited-node group; and one from
+-- who looks whether an own address is in use, sent to the address's solicited-node group
 
-abbrev pub is_asked : InnerValue → Ipv6Address → Ipv6Address → Bool
-is_asked i destination target =
-    (is_own_solicited_node i destination || is_own i (Address.Ipv6 destination)) && is_own i (Address.Ipv6 target)
+abbrev pub is_asked : InnerValue → Ipv6Repr → Ipv6Address → Bool
+is_asked i header target =
+    if is_unspecified_v6 header.src_addr then is_probed i header.dst_addr target
+    else (is_own_solicited_node i header.dst_addr || is_own i (Address.Ipv6 header.dst_addr)) && is_own i (Address.Ipv6 target)
 
--- the advertisement answers a solicitation
-abbrev pub solicited_flag : NdiscNeighborFlags
-solicited_flag = record { router = false; solicited = true; overrides = false }
+-- the group of all nodes, ff02::1
+abbrev pub all_nodes : Ipv6Address
+all_nodes = record { 0 = 0xff ∷ 2 ∷ replicate 13 0 ++ 1 ∷ [] }
 
--- the own link address, from the target to who asked (RFC 4861, section 7.2.4)
+-- The advertisement goes to who asked. Who has no address yet hears it as all nodes do, and then it isn't said to be solicited
+-- (RFC 4861, section 7.2.4).
+abbrev pub told_at : Ipv6Address → Ipv6Address
+told_at asker = if is_unspecified_v6 asker then all_nodes else asker
+
+abbrev pub flags_for : Ipv6Address → NdiscNeighborFlags
+flags_for asker = record { router = false; solicited = not (is_unspecified_v6 asker); overrides = false }
+
+-- the own link address, from the target
 abbrev pub advertisement_header : Ipv6Address → Ipv6Address → Ipv6Repr
 advertisement_header target to =
     record { src_addr = target; dst_addr = to; next_header = Protocol.Icmpv6; payload_len = 32; hop_limit = 255 }
 
 abbrev pub advertisement : EthernetAddress → Ipv6Address → Ipv6Address → PacketValue
-advertisement own target to =
-    packet_of (Ip.Ipv6 (advertisement_header target to)) (ControlV6 (Icmpv6.Ndisc (Advertisement solicited_flag target (Some own.0))) [])
+advertisement own target asker =
+    packet_of (Ip.Ipv6 (advertisement_header target (told_at asker)))
+    (ControlV6 (Icmpv6.Ndisc (Advertisement (flags_for asker) target (Some own.0))) [])
 
 abbrev pub answer : EthernetAddress → InnerValue → Ipv6Repr → Ipv6Address → Option PacketValue
 answer own i header target =
-    if is_asked i header.dst_addr target then Some (advertisement own target header.src_addr) else None
+    if is_asked i header target then Some (advertisement own target header.src_addr) else None
 
 -- ARRIVAL of a message in a packet with this header, at this Ethernet address; a medium without hardware addresses has no
 -- neighbour messages

@@ -5,6 +5,7 @@ pub mod Sent
 pub mod Heard
 pub mod Arp
 pub mod Replies
+pub mod Answering
 pub mod Delivered
 pub mod Reassembled
 pub mod Handed

@@ -87,17 +87,24 @@ quoted_v4 payload = take (quoted_room 576 20) payload
 abbrev pub quoted_v6 : List ℕ → List ℕ
 quoted_v6 payload = take (quoted_room 1280 40) payload
 
+-- no error answers a packet that is for a group or from no one host
+abbrev pub is_between_hosts : Ipv6Repr → Bool
+is_between_hosts header = is_unicast_v6 header.src_addr && is_unicast_v6 header.dst_addr
+
+abbrev pub error_v6 : InnerValue → Ipv6Repr → Icmpv6.MessageValue → List ℕ → Option PacketValue
+error_v6 i header message quoted =
+    if is_between_hosts header then Some (reply_v6 i header message quoted) else None
+
 abbrev pub error_v4 : InnerValue → Ipv4Repr → Icmpv4DstUnreachable → List ℕ → Option PacketValue
 error_v4 i header reason payload = reply_v4 i header (V4.DstUnreachable reason header) (quoted_v4 payload)
 
 -- no socket takes the datagram
 abbrev pub port_unreachable : InnerValue → IpRepr → List ℕ → Option PacketValue
 port_unreachable i (Ip.Ipv4 header) payload = error_v4 i header V4Reason.PortUnreachable payload
-port_unreachable i (Ip.Ipv6 header) payload =
-    Some (reply_v6 i header (Icmpv6.DstUnreachable V6Reason.PortUnreachable header) (quoted_v6 payload))
+port_unreachable i (Ip.Ipv6 header) payload = error_v6 i header (Icmpv6.DstUnreachable V6Reason.PortUnreachable header) (quoted_v6 payload)
 
 -- the host knows no such protocol: over IPv6 the problem lies behind the header
 abbrev pub protocol_unreachable : InnerValue → IpRepr → List ℕ → Option PacketValue
 protocol_unreachable i (Ip.Ipv4 header) payload = error_v4 i header V4Reason.ProtoUnreachable payload
 protocol_unreachable i (Ip.Ipv6 header) payload =
-    Some (reply_v6 i header (Icmpv6.ParamProblem V6Problem.UnrecognizedNxtHdr 40 header) (quoted_v6 payload))
+    error_v6 i header (Icmpv6.ParamProblem V6Problem.UnrecognizedNxtHdr 40 header) (quoted_v6 payload)

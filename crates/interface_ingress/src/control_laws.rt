@@ -7,7 +7,7 @@ ghost use Rattle.ip_wire.specs.IpAddress.TheVariants as Address;
 ghost use Rattle.ip_wire.specs.Ipv6Repr.{Ipv6Repr};
 ghost use Rattle.sockets.specs.Packet.{PacketValue};
 ghost use Rattle.interface_egress.specs.Inner.{InnerValue, is_own};
-ghost use Rattle.interface_ingress.specs.Heard.{neighbor_heard, heard, with_entries_of};
+ghost use Rattle.interface_ingress.specs.Heard.{neighbor_heard, heard, told_at, with_entries_of};
 
 /// Law: a neighbour message changes the entries of neighbours alone: settings, identification and
 /// the time in which no neighbour is asked for stay as they were.
@@ -27,11 +27,12 @@ pub fn only_neighbors_count()
         → neighbor_heard i header message ≡ heard i None }
 {}
 
-/// Law: an answer goes to the sender of the message, from an own address, and no router passes it on.
+/// Law: an answer goes to the sender of the message, and to all nodes where the sender has no address yet; it goes from an own
+/// address, and no router passes it on.
 pub fn answers_the_sender()
     ensures { (i : InnerValue) (header : Ipv6Repr) (message : NeighborMessage) (p : PacketValue)
         → (neighbor_heard i header message).reply ≡ Some p
-        → (destination_of p.header ≡ Address.Ipv6 header.src_addr)
+        → (destination_of p.header ≡ Address.Ipv6 (told_at header.src_addr))
         × IsTrue (is_own i (source_of p.header))
         × (hops_in p.header ≡ 255) }
 {}

@@ -8,7 +8,7 @@ ghost use Rattle.ip_wire.specs.Tcp as Tcp;
 ghost use Rattle.sockets.specs.Socket.{accepts_segment};
 ghost use Rattle.interface_egress.specs.Inner.{context_of};
 ghost use Rattle.interface_ingress.specs.Arrives.{IfCanGo, answered, reply_of};
-ghost use Rattle.interface_ingress.specs.Delivered.{is_taken_raw, packet_delivered, icmpv4_delivered, icmpv6_delivered, datagram_place, datagram_delivered, with_change, with_segment, answer_of, answer_in, answer_at, draws_of, drawn_if, passes, passes_at, changed_at, segment_place, segment_delivered, segment_answer, segment_draws, reset_for};
+ghost use Rattle.interface_ingress.specs.Delivered.{is_taken_raw, packet_delivered, icmpv4_delivered, icmpv6_delivered, datagram_place, datagram_delivered, with_change, with_segment, answer_of, answer_in, answer_at, draws_of, drawn_if, passes, passes_at, changed_at, first_place, is_connected, segment_place, segment_delivered, segment_answer, segment_draws, reset_for};
 
 use crate::places::{Arrival, first_place, give_all, give_at, is_for_any};
 use crate::reply::Reply;
@@ -223,7 +223,57 @@ fn accepts_segment(
     }
 }
 
+/// Whether the place has a socket that has a segment's connection.
+fn is_connected(
+    inner: &InterfaceInner,
+    place: &SocketStorage<Socket>,
+    header: &IpRepr,
+    segment: &TcpRepr<'_>,
+) -> bool
+    ensures { result ≡ passes (λ s. is_connected s header.now (Tcp.header_of segment.now)) place.now }
+{
+    match &place.inner {
+        Some(
+            Item {
+                socket: Socket::Tcp(socket),
+                ..
+            },
+        ) => !socket.is_listening() && socket.accepts(inner, header, segment),
+        _ => false,
+    }
+}
+
+/// The first place whose socket has a segment's connection.
+fn connection_place(
+    inner: &InterfaceInner,
+    places: &[SocketStorage<Socket>],
+    header: &IpRepr,
+    segment: &TcpRepr<'_>,
+) -> Option<usize>
+    ensures place { result ≡ first_place (λ s. is_connected s header.now (Tcp.header_of segment.now)) places.now }
+    ensures in_range { ForSome result (λ at. at < length places.now) }
+{
+    places
+        .iter()
+        .position(|place| is_connected(inner, place, header, segment))
+}
+
 /// The first place whose socket accepts a segment.
+fn accepting_place(
+    inner: &InterfaceInner,
+    places: &[SocketStorage<Socket>],
+    header: &IpRepr,
+    segment: &TcpRepr<'_>,
+) -> Option<usize>
+    ensures place { result ≡ first_place (λ s. accepts_segment s header.now (Tcp.header_of segment.now)) places.now }
+    ensures in_range { ForSome result (λ at. at < length places.now) }
+{
+    places
+        .iter()
+        .position(|place| accepts_segment(inner, place, header, segment))
+}
+
+/// The place whose socket gets a segment: that of its connection, else the first that accepts it.
 fn segment_place(
     inner: &InterfaceInner,
     places: &[SocketStorage<Socket>],
@@ -233,9 +283,10 @@ fn segment_place(
     ensures place { result ≡ segment_place header.now (Tcp.header_of segment.now) places.now }
     ensures in_range { ForSome result (λ at. at < length places.now) }
 {
-    places
-        .iter()
-        .position(|place| accepts_segment(inner, place, header, segment))
+    match connection_place(inner, places, header, segment) {
+        Some(at) => Some(at),
+        None => accepting_place(inner, places, header, segment),
+    }
 }
 
 /// Gives a segment to a socket, and writes the packet that answers it.
@@ -311,8 +362,8 @@ fn reset<'a>(header: &IpRepr, segment: &TcpRepr<'_>, is_taken: bool, reply: &mut
     *reply = Some(Reply::Packet(Packet::new(header, IpPayload::Tcp(segment))));
 }
 
-/// Gives a segment to the first socket that accepts it, and writes the packet that answers it: the socket's, or a reset where
-/// no socket accepts it. `is_taken` says that a raw socket took it.
+/// Gives a segment to the socket of its connection, else to the first that accepts it, and writes the packet that answers it: the
+/// socket's, or a reset where no socket accepts it. `is_taken` says that a raw socket took it.
 pub fn deliver_segment<'a>(
     inner: &mut InterfaceInner,
     places: &mut [SocketStorage<Socket>],

@@ -10,7 +10,7 @@ ghost use Rattle.interface_ingress.specs.Carried.{carried_of};
 ghost use Rattle.interface_ingress.specs.Read.{IsControl, datagram_of, segment_of};
 ghost use Rattle.interface_egress.specs.Inner.{context_of};
 ghost use Rattle.interface_ingress.specs.Delivered.{datagram_delivered};
-ghost use Rattle.interface_ingress.specs.Handed.{control_v4_places, control_v4_reply, message_host, message_reply, control_v6_host, control_v6_places, control_v6_reply, names_nobody, datagram_reply, segment_host, segment_places, segment_reply, is_known, unread_reply, handed_host, handed_places, handed_reply, FitsBack};
+ghost use Rattle.interface_ingress.specs.Handed.{control_v4_places, control_v4_reply, message_host, message_reply, control_v6_host, control_v6_places, control_v6_reply, is_for_many, names_nobody, datagram_reply, segment_host, segment_places, segment_reply, is_known, unread_reply, handed_host, handed_places, handed_reply, FitsBack};
 ghost use Rattle.interface_ingress.specs.Arrives.{Hands, IfCanGo, answered, arrived, reply_of};
 
 use crate::carried::{ReadDatagram, read_payload, read_tcp, read_udp};
@@ -20,8 +20,8 @@ use crate::icmp_reply::{echo_ipv4, echo_ipv6, port_unreachable, protocol_unreach
 use crate::reply::{Reply, packet_reply};
 use control_wire::{Icmpv4Repr, Icmpv6Repr};
 use interface_egress::{InterfaceInner, SocketStorage};
-use ip_wire::{IpProtocol, IpRepr, Ipv6Repr, TcpRepr};
-use sockets::addresses::is_unspecified;
+use ip_wire::{IpAddress, IpProtocol, IpRepr, Ipv6Repr, TcpRepr};
+use sockets::addresses::{is_multicast, is_unspecified};
 use sockets::{Context, IpPayload, Packet, Socket};
 
 /// Gives an ICMPv4 message to the sockets that accept it, and answers it.
@@ -80,11 +80,21 @@ fn hand_icmpv6<'a>(
     answer_icmpv6(inner, header, message)
 }
 
-/// Whether an address of the packet is unspecified, so that it names no end of a connection.
-fn names_nobody(header: &IpRepr) -> bool
-    ensures { result ≡ names_nobody header.now }
+/// Whether a packet for this destination is for all hosts of a network, or for a group.
+fn is_for_many(inner: &InterfaceInner, address: &IpAddress) -> bool
+    ensures { result ≡ is_for_many inner.now address.now }
 {
-    is_unspecified(&header.src_addr()) || is_unspecified(&header.dst_addr())
+    inner.is_broadcast(address) || is_multicast(address)
+}
+
+/// Whether an address of the packet names no end of a connection.
+fn names_nobody(inner: &InterfaceInner, header: &IpRepr) -> bool
+    ensures { result ≡ names_nobody inner.now header.now }
+{
+    let destination = header.dst_addr();
+    is_unspecified(&header.src_addr())
+        || is_unspecified(&destination)
+        || is_for_many(inner, &destination)
 }
 
 /// Whether the host knows what is behind the header.
@@ -184,7 +194,7 @@ fn hand_udp<'a>(
     hand_datagram(inner, places, header, payload, is_taken, &datagram, reply);
 }
 
-/// Gives a segment to the first socket that accepts it, and answers it.
+/// Gives a segment to its connection, else to the first socket that accepts it, and answers it.
 fn give_segment<'a>(
     inner: &mut InterfaceInner,
     places: &mut [SocketStorage<Socket>],
@@ -199,7 +209,7 @@ fn give_segment<'a>(
     ensures reply { reply_of reply.new ≡ answered (segment_reply inner.old places.old header.now is_taken (Tcp.header_of segment.now) segment.now.payload.now) }
     ensures sendable { IfCanGo (reply_of reply.new) }
 {
-    if names_nobody(header) {
+    if names_nobody(inner, header) {
         return;
     }
     deliver_segment(inner, places, header, segment, is_taken, reply);

@@ -3,13 +3,13 @@ ghost use Rattle.std.specs.Prelude.{◌≡◌, IsTrue, IfSome};
 ghost use Rattle.control_wire.specs.Ndisc.{neighbor_message};
 ghost use Rattle.control_wire.specs.NdiscOption.{link_bytes};
 ghost use Rattle.sockets.specs.Packet.{packet_value, option_value, IsSendable};
-ghost use Rattle.interface_ingress.specs.Heard.{neighbor_heard, is_one_station, is_target, counts, learned, replaces, advertised, is_asked, advertisement};
+ghost use Rattle.interface_ingress.specs.Heard.{neighbor_heard, is_one_station, is_target, is_sender_of, counts, learned, replaces, advertised, is_asked, told_at, flags_for, advertisement};
 
 use control_wire::{Icmpv6Repr, NdiscNeighborFlags, NdiscRepr};
 use interface_egress::InterfaceInner;
 use ip_wire::{
-    AddressExt, EthernetAddress, HardwareAddress, IpAddress, IpProtocol, IpRepr, Ipv6Address,
-    Ipv6Repr, RawHardwareAddress,
+    AddressExt, EthernetAddress, HardwareAddress, IPV6_LINK_LOCAL_ALL_NODES, IpAddress, IpProtocol,
+    IpRepr, Ipv6Address, Ipv6Repr, RawHardwareAddress,
 };
 use sockets::{Context, IpPayload, Packet};
 
@@ -17,7 +17,8 @@ use sockets::{Context, IpPayload, Packet};
 const HOP_LIMIT: u8 = 255;
 
 /// Takes in the neighbour message of a packet with this header. The sender's link address is kept
-/// where the message gives it; a solicitation for an own address is answered. A message counts on
+/// where the message gives it; a solicitation for an own address is answered, also where its sender
+/// only looks whether the address is in use. A message counts on
 /// Ethernet alone, where no router passed it on (RFC 4861, section 7.1), its link address is one
 /// station's and its target one host's; the target isn't tested without a link address.
 pub fn hear(
@@ -40,7 +41,7 @@ pub fn hear(
             if !counts(header, target_addr, lladdr) {
                 return None;
             }
-            let asked = is_asked(inner, &header.dst_addr, target_addr);
+            let asked = is_asked(inner, header, target_addr);
             learn(inner, header.src_addr, lladdr);
             if asked {
                 Some(advertisement(&own, *target_addr, header.src_addr))
@@ -65,7 +66,10 @@ pub fn hear(
 fn counts(header: &Ipv6Repr, target_addr: &Ipv6Address, lladdr: &Option<RawHardwareAddress>) -> bool
     ensures { result ≡ counts header.now target_addr.now (link_bytes lladdr.now) }
 {
-    header.hop_limit == HOP_LIMIT && is_one_station(lladdr) && is_target(target_addr, lladdr)
+    header.hop_limit == HOP_LIMIT
+        && is_one_station(lladdr)
+        && is_target(target_addr, lladdr)
+        && is_sender_of(&header.src_addr, lladdr)
 }
 
 /// Whether a link address, if there is one, is that of one Ethernet station.
@@ -87,6 +91,16 @@ fn is_target(target_addr: &Ipv6Address, lladdr: &Option<RawHardwareAddress>) -> 
     match lladdr {
         None => true,
         Some(_) => target_addr.x_is_unicast(),
+    }
+}
+
+/// Whether a link address, if there is one, is that of a sender that has an address.
+fn is_sender_of(source: &Ipv6Address, lladdr: &Option<RawHardwareAddress>) -> bool
+    ensures { result ≡ is_sender_of source.now (link_bytes lladdr.now) }
+{
+    match lladdr {
+        None => true,
+        Some(_) => !source.is_unspecified(),
     }
 }
 
@@ -124,31 +138,57 @@ fn replaces(inner: &InterfaceInner, flags: NdiscNeighborFlags, source: Ipv6Addre
     flags.overrides || !inner.lookup_neighbor(&IpAddress::Ipv6(source)).found()
 }
 
-/// Whether a solicitation to this destination for this target is to be answered.
-fn is_asked(inner: &InterfaceInner, destination: &Ipv6Address, target_addr: &Ipv6Address) -> bool
-    ensures { result ≡ is_asked inner.now destination.now target_addr.now }
+/// Whether a solicitation in a packet with this header for this target is to be answered.
+fn is_asked(inner: &InterfaceInner, header: &Ipv6Repr, target_addr: &Ipv6Address) -> bool
+    ensures { result ≡ is_asked inner.now header.now target_addr.now }
 {
+    let destination = &header.dst_addr;
+    if header.src_addr.is_unspecified() {
+        return inner.is_probed(destination, target_addr);
+    }
     (inner.has_solicited_node(destination) || inner.has_ip_addr(&IpAddress::Ipv6(*destination)))
         && inner.has_ip_addr(&IpAddress::Ipv6(*target_addr))
+}
+
+/// Where who asked hears the answer: who has no address yet hears what goes to all nodes.
+fn told_at(asker: Ipv6Address) -> Ipv6Address
+    ensures { result ≡ told_at asker }
+{
+    if asker.is_unspecified() {
+        IPV6_LINK_LOCAL_ALL_NODES
+    } else {
+        asker
+    }
+}
+
+/// What is said of an answer to who asked.
+fn flags_for(asker: &Ipv6Address) -> NdiscNeighborFlags
+    ensures { result ≡ flags_for asker.now }
+{
+    NdiscNeighborFlags {
+        router: false,
+        solicited: !asker.is_unspecified(),
+        overrides: false,
+    }
 }
 
 /// The packet that tells who asked the link address of a target, which is the own one.
 fn advertisement(
     own: &EthernetAddress,
     target_addr: Ipv6Address,
-    dst_addr: Ipv6Address,
+    asker: Ipv6Address,
 ) -> Packet<'static>
-    ensures packet { packet_value result ≡ advertisement own.now target_addr dst_addr }
+    ensures packet { packet_value result ≡ advertisement own.now target_addr asker }
     ensures sendable { IsSendable (packet_value result) }
 {
     let message = Icmpv6Repr::Ndisc(NdiscRepr::NeighborAdvert {
-        flags: NdiscNeighborFlags::SOLICITED,
+        flags: flags_for(&asker),
         target_addr,
         lladdr: Some(RawHardwareAddress::from(*own)),
     });
     let header = Ipv6Repr {
         src_addr: target_addr,
-        dst_addr,
+        dst_addr: told_at(asker),
         next_header: IpProtocol::Icmpv6,
         payload_len: message.buffer_len(),
         hop_limit: HOP_LIMIT,

@@ -1,12 +1,12 @@
 //! Control messages that answer a packet (RFC 1122, section 3.2.2; RFC 4443, section 2.4).
-ghost use Rattle.std.specs.Prelude.{◌≡◌, ◌+◌, ◌<◌, ◌≤◌, ◌^◌, take, length, Some, IfSome};
+ghost use Rattle.std.specs.Prelude.{◌≡◌, ◌+◌, ◌<◌, ◌≤◌, ◌^◌, take, length, None, Some, IfSome};
 ghost use Rattle.control_wire.specs.Icmpv4 as Icmpv4;
 ghost use Rattle.control_wire.specs.Icmpv6 as Icmpv6;
 ghost use Rattle.ip_wire.specs.Ip.{Fits};
 ghost use Rattle.ip_wire.specs.Ipv4 as Ipv4;
 ghost use Rattle.ip_wire.specs.Ipv6 as Ipv6;
 ghost use Rattle.sockets.specs.Packet.{packet_value, option_value, IsSendable};
-ghost use Rattle.interface_ingress.specs.Replies.{is_one_host, is_echo_reply, source_of_reply, reply_v4, source_of_v6_reply, reply_v6, echo_v4, echo_v6, error_v4, port_unreachable, protocol_unreachable};
+ghost use Rattle.interface_ingress.specs.Replies.{is_one_host, is_echo_reply, source_of_reply, reply_v4, source_of_v6_reply, reply_v6, echo_v4, echo_v6, is_between_hosts, error_v4, error_v6, port_unreachable, protocol_unreachable};
 
 use control_wire::{
     Icmpv4DstUnreachable, Icmpv4Repr, Icmpv6DstUnreachable, Icmpv6ParamProblem, Icmpv6Repr,
@@ -205,6 +205,31 @@ fn error_ipv4<'a>(
     reply_ipv4(inner, header, &message)
 }
 
+/// Whether an error may answer a packet with this header: it is for one host, and from one.
+fn is_between_hosts(header: &Ipv6Repr) -> bool
+    ensures { result ≡ is_between_hosts header.now }
+{
+    header.src_addr.x_is_unicast() && header.dst_addr.x_is_unicast()
+}
+
+/// The error that a packet with this header can't be delivered, if one may be sent.
+fn error_ipv6<'a>(
+    inner: &InterfaceInner,
+    header: &Ipv6Repr,
+    message: &Icmpv6Repr<'a>,
+) -> Option<Packet<'a>>
+    requires fits { Icmpv6.Fits (Icmpv6.value_of (Icmpv6.header_of message.now)) }
+    requires room { Icmpv6.header_len (Icmpv6.value_of (Icmpv6.header_of message.now)) + length (Icmpv6.carried_by message.now) < 2 ^ 16 }
+    ensures packet { option_value result ≡ error_v6 inner.now header.now (Icmpv6.value_of (Icmpv6.header_of message.now)) (Icmpv6.carried_by message.now) }
+    ensures sendable { IfSome (option_value result) IsSendable }
+{
+    if is_between_hosts(header) {
+        Some(reply_ipv6(inner, header, message))
+    } else {
+        None
+    }
+}
+
 /// The error that no socket takes a datagram.
 pub fn port_unreachable<'a>(
     inner: &InterfaceInner,
@@ -228,7 +253,7 @@ pub fn port_unreachable<'a>(
                 header: *header,
                 bytes: first_bytes(payload, QUOTED_IPV6),
             };
-            Some(reply_ipv6(inner, header, &message))
+            error_ipv6(inner, header, &message)
         }
     }
 }
@@ -257,7 +282,7 @@ pub fn protocol_unreachable<'a>(
                 header: *header,
                 bytes: first_bytes(payload, QUOTED_IPV6),
             };
-            Some(reply_ipv6(inner, header, &message))
+            error_ipv6(inner, header, &message)
         }
     }
 }

@@ -16,6 +16,7 @@ pub mod laws;
 mod places;
 mod reassemble;
 mod reply;
+pub mod reply_laws;
 
 pub use arrive::bring;
 pub use carried::read_payload;

@@ -5,14 +5,15 @@ ghost use Rattle.net_base.specs.Time.{IsMoment};
 ghost use Rattle.ip_wire.specs.AddressTests.{is_same_hardware};
 ghost use Rattle.ip_wire.specs.HardwareAddress.TheVariants as Hardware;
 ghost use Rattle.interface_ingress.specs.Incoming.{AreMeasured, content_of, incoming_value};
-ghost use Rattle.interface_ingress.specs.Reassembled.{is_heard, is_sender, is_taken_in, taken_in, is_piece, given_up_at, place_of, place_in, with_piece, kept, bytes_at, rebuilt, released};
+ghost use Rattle.interface_ingress.specs.Reassembled.{is_heard, is_sender, is_control_v6, is_probe, is_sender_v6, is_astray, is_taken_in, taken_in, is_piece, is_within, given_up_at, place_of, place_in, with_piece, kept, bytes_at, rebuilt, released};
 
 use crate::icmp_reply::is_one_host;
 use crate::incoming::Incoming;
 use interface_egress::{InterfaceInner, PacketAssemblerSet};
+use interface_tables::REASSEMBLY_SIZE;
 use ip_wire::{
-    AddressExt, EthernetAddress, EthernetRepr, HardwareAddress, IPV4_HEADER_LEN, Ipv4Address,
-    Ipv4Piece, Ipv4Repr,
+    AddressExt, EthernetAddress, EthernetRepr, HardwareAddress, IPV4_HEADER_LEN, IpAddress,
+    IpProtocol, Ipv4Address, Ipv4Piece, Ipv4Repr, Ipv6Repr,
 };
 use net_base::{Duration, Instant};
 use sockets::Context;
@@ -22,6 +23,9 @@ const LONGEST: u64 = 1 << 61;
 
 /// How many lengths a header's field can say.
 const LENGTHS: usize = 1 << 16;
+
+/// The hop limit of a packet that no router passed on.
+const UNROUTED: u8 = 255;
 
 /// A whole datagram.
 const UNCUT: Ipv4Piece = Ipv4Piece {
@@ -57,10 +61,22 @@ fn is_taken_in(inner: &InterfaceInner, incoming: &Incoming<'_>) -> bool
     match incoming {
         Incoming::Arp { link, .. } => is_heard(inner, &Some(*link)),
         Incoming::Ipv4 { link, header, .. } => {
-            is_heard(inner, link) && is_sender(inner, &header.src_addr)
+            is_heard(inner, link)
+                && is_sender(inner, &header.src_addr)
+                && !is_astray(
+                    inner,
+                    &IpAddress::Ipv4(header.src_addr),
+                    &IpAddress::Ipv4(header.dst_addr),
+                )
         }
         Incoming::Ipv6 { link, header, .. } => {
-            is_heard(inner, link) && header.src_addr.x_is_unicast()
+            is_heard(inner, link)
+                && is_ipv6_sender(inner, header)
+                && !is_astray(
+                    inner,
+                    &IpAddress::Ipv6(header.src_addr),
+                    &IpAddress::Ipv6(header.dst_addr),
+                )
         }
     }
 }
@@ -96,11 +112,54 @@ fn is_sender(inner: &InterfaceInner, address: &Ipv4Address) -> bool
     is_one_host(inner, address) || address.is_unspecified()
 }
 
+/// Whether an IPv6 packet comes from one host, or from one that looks whether an own address is in use.
+fn is_ipv6_sender(inner: &InterfaceInner, header: &Ipv6Repr) -> bool
+    ensures { result ≡ is_sender_v6 inner.now header.now }
+{
+    header.src_addr.x_is_unicast() || is_probe(inner, header)
+}
+
+/// Whether a packet comes from one that looks whether an own address is in use.
+fn is_probe(inner: &InterfaceInner, header: &Ipv6Repr) -> bool
+    ensures { result ≡ is_probe inner.now header.now }
+{
+    header.src_addr.is_unspecified()
+        && inner.has_solicited_node(&header.dst_addr)
+        && is_control(header.next_header)
+        && header.hop_limit == UNROUTED
+}
+
+fn is_control(protocol: IpProtocol) -> bool
+    ensures { result ≡ is_control_v6 protocol }
+{
+    match protocol {
+        IpProtocol::Icmpv6 => true,
+        _ => false,
+    }
+}
+
+/// Whether one of a packet's addresses is a loopback address of a family of which the host has none.
+fn is_astray(inner: &InterfaceInner, source: &IpAddress, destination: &IpAddress) -> bool
+    ensures { result ≡ is_astray inner.now source.now destination.now }
+{
+    inner.is_foreign_loopback(source) || inner.is_foreign_loopback(destination)
+}
+
 /// Whether a packet is one piece of its datagram.
 pub(crate) fn is_piece(piece: Ipv4Piece) -> bool
     ensures { result ≡ is_piece piece }
 {
     piece.more || piece.offset != 0
+}
+
+/// Whether a piece lies within the bytes of a slot.
+fn is_within(piece: Ipv4Piece, payload: &[u8]) -> bool
+    ensures { result ≡ is_within piece payload.now }
+{
+    match (piece.offset as usize).checked_add(payload.len()) {
+        Some(end) => end <= REASSEMBLY_SIZE,
+        None => false,
+    }
 }
 
 /// When a slot is given up that is taken now.
@@ -111,7 +170,7 @@ fn given_up_at(inner: &InterfaceInner, timeout: Duration) -> Instant
 }
 
 /// Takes a piece into its datagram's slot, and returns the place of the slot. Other content changes nothing. A slot that is
-/// taken for it is given up after this time.
+/// taken for it is given up after this time. The datagram of a piece that ends past a slot's bytes is given up.
 pub fn keep<const N: usize>(
     inner: &InterfaceInner,
     slots: &mut PacketAssemblerSet<N>,
@@ -135,7 +194,7 @@ pub fn keep<const N: usize>(
     }
 }
 
-/// Takes a packet's piece into its datagram's slot, if it is one.
+/// Takes a packet's piece into its datagram's slot, if it is one and the slot's bytes hold it.
 fn keep_piece<const N: usize>(
     inner: &InterfaceInner,
     slots: &mut PacketAssemblerSet<N>,
@@ -144,11 +203,15 @@ fn keep_piece<const N: usize>(
     piece: Ipv4Piece,
     payload: &[u8],
 ) -> Option<usize>
-    ensures place { result ≡ place_of slots.old header.now piece }
+    ensures place { result ≡ place_of slots.old header.now piece payload.now }
     ensures in_range { ForSome result (λ at. at < N) }
     ensures after { slots.new ≡ with_piece inner.now timeout slots.old header.now piece payload.now }
 {
     if !is_piece(piece) {
+        return None;
+    }
+    if !is_within(piece, payload) {
+        slots.remove(&header.key());
         return None;
     }
     slots.insert(

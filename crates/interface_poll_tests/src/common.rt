@@ -219,6 +219,14 @@ impl Host {
         }
     }
 
+    /// Queues a datagram.
+    pub fn queues(&mut self, bytes: &[u8], metadata: udp::UdpMetadata) -> bool {
+        match self.udp() {
+            Some(socket) => socket.send_slice(bytes, metadata).is_ok(),
+            None => false,
+        }
+    }
+
     /// Reads the next datagram, if one waits, and says how many bytes it has.
     pub fn received(&mut self) -> Option<u64> {
         match self.udp()?.recv() {

@@ -1,5 +1,5 @@
-//! Tests of an interface that polls its sockets, by public calls: hostile frames, a long transfer between two hosts, another device, and
-//! want of memory. What scripts can say of one host is data of the program `one_host`.
+//! Tests of an interface that polls its sockets, by public calls: hostile frames, a long transfer between two hosts, another device, sources of
+//! datagrams, and want of memory. What scripts can say of one host is data of the program `one_host`.
 #![tactic(auto)]
 
 #[cfg(test)]
@@ -10,6 +10,8 @@ mod hostile;
 mod made;
 #[cfg(test)]
 mod replies;
+#[cfg(test)]
+mod sources;
 #[cfg(test)]
 mod streams;
 #[cfg(test)]

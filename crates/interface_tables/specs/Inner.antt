@@ -5,7 +5,7 @@ use Rattle.std.specs.List.{list_any}
 use Rattle.std.specs.Str.{bytes_eq}
 use Rattle.net_base.specs.ChecksumCapabilities.{ChecksumCapabilities}
 use Rattle.net_base.specs.RandomWords.{next_state}
-use Rattle.ip_wire.specs.AddressTests.{is_same_address, is_in_block, is_broadcast_v4, is_multicast, is_unicast, is_unspecified, is_loopback_v6, is_solicited_node, broadcast_in}
+use Rattle.ip_wire.specs.AddressTests.{is_same_address, is_in_block, is_broadcast_v4, is_multicast, is_unicast, is_unspecified, is_loopback, are_of_one_family, is_unicast_v6, is_loopback_v6, is_solicited_node, broadcast_in}
 use Rattle.ip_wire.specs.Block.{block_address}
 use Rattle.ip_wire.specs.EthernetAddress.{EthernetAddress}
 use Rattle.ip_wire.specs.HardwareAddress.{HardwareAddress}
@@ -93,6 +93,13 @@ abbrev pub is_member_of : InnerValue → IpAddress → Bool
 is_member_of i (Ip.Ipv4 group) = is_all_systems group
 is_member_of i (Ip.Ipv6 group) = is_all_nodes group || is_own_solicited_node i group
 
+-- Who looks for an address in use asks by this group for this address, which is an own one (RFC 4862, section 5.4.3). What is
+-- own by `any_ip` alone is nobody's.
+abbrev pub is_probed : InnerValue → Ipv6Address → Ipv6Address → Bool
+is_probed i group address =
+    is_unicast_v6 address && not (is_loopback_v6 address) && solicits group address
+    && list_any (is_address_of (Ip.Ipv6 address)) i.addresses
+
 -- ARRIVAL: a packet for this destination is for the host
 
 abbrev pub is_loopback_in : IpAddress → Bool
@@ -102,6 +109,21 @@ is_loopback_in (Ip.Ipv6 a) = is_loopback_v6 a
 abbrev pub is_for_us : InnerValue → IpAddress → Bool
 is_for_us i address =
     is_own i address || is_member_of i address || is_local_broadcast i address || is_loopback_in address
+
+-- ADDRESSES THAT STAY IN A HOST, AND SOURCES (RFC 1122, section 3.2.1.3; RFC 4291, sections 2.5.3 and 2.7)
+
+abbrev pub is_loopback_of : IpAddress → IpCidr → Bool
+is_loopback_of address block = is_loopback (block_address block) && are_of_one_family address (block_address block)
+
+-- a loopback address of a family of which the host has none
+abbrev pub is_foreign_loopback : InnerValue → IpAddress → Bool
+is_foreign_loopback i address = is_loopback address && not (list_any (is_loopback_of address) i.addresses)
+
+-- A packet for this destination may come from this address: it is that of all hosts or of a group never, and a loopback address
+-- only where the destination is one, too.
+abbrev pub may_come_from : InnerValue → IpAddress → IpAddress → Bool
+may_come_from i source destination =
+    not (is_local_broadcast i source || is_multicast source) && (not (is_loopback source) || is_loopback destination)
 
 -- WAY OUT
 

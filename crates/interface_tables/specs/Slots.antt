@@ -1,5 +1,5 @@
 -- Slots, each of another datagram: a finite map from keys to what came, of as many keys as there are slots (RFC 815).
-use Rattle.std.specs.Prelude.{◌≡◌, ℕ, Bool, true, ◌&&◌, not, if◌then◌else◌, ℤ, int_lt, List, [], ◌∷◌, map, slice_set, replicate, find, Option, None, Some}
+use Rattle.std.specs.Prelude.{◌≡◌, ℕ, Bool, true, ◌&&◌, not, if◌then◌else◌, ℤ, int_lt, List, [], ◌∷◌, map, slice_set, replicate, find, position, Option, None, Some}
 use Rattle.std.specs.List.{AllPairs}
 use Rattle.interface_tables.specs.Best.{at_place}
 use Rattle.interface_tables.specs.Reassembly.{SlotValue, fresh, freed, taken, placed, completed, is_free, is_of, place_for}
@@ -51,6 +51,10 @@ module _ {K : Type 0} where
   abbrev pub with_piece_of : ℕ → (K → K → Bool) → List (SlotValue K) → K → ℤ → List ℕ → ℕ → Bool → List (SlotValue K)
   with_piece_of holes same slots key expires piece offset more =
       changed_at (λ s. placed holes (opened same key expires s) piece offset more) (place_for same slots key) slots
+
+  -- a datagram is given up: its slot, if it has one, is free
+  abbrev pub without_datagram : (K → K → Bool) → List (SlotValue K) → K → List (SlotValue K)
+  without_datagram same slots key = changed_at freed (position (is_of same key) slots) slots
 
   -- THE MAP
 

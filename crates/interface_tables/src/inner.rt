@@ -5,10 +5,11 @@ ghost use Rattle.std.specs.Fn.{FnOnceReturnsAtMut};
 ghost use Rattle.net_base.specs.Time.{IsMoment};
 ghost use Rattle.arrayvec.specs.ArrayVec.{ArrayVec as Items};
 ghost use Rattle.ip_wire.specs.IpCidr.{IpCidr};
+ghost use Rattle.ip_wire.specs.AddressTests.{is_loopback};
 ghost use Rattle.interface_tables.specs.declared.route.Route.{Route};
 ghost use Rattle.interface_tables.specs.Source.{first_v4, first_v6, source_v4, source_v6};
 ghost use Rattle.interface_tables.specs.Neighbor as Neighbors;
-ghost use Rattle.interface_tables.specs.Inner.{is_own, is_address_of, is_in_own_network, is_this, is_broadcast_of, is_local_broadcast, is_all_systems, is_all_nodes, solicits, solicits_block, is_own_solicited_node, is_member_of, is_loopback_in, is_for_us, next_hop, group_station, link_by, link_address, is_known_hop, has_neighbor, at_moment, with_next_ident, with_neighbor, with_renewal, with_silence};
+ghost use Rattle.interface_tables.specs.Inner.{is_own, is_address_of, is_in_own_network, is_this, is_broadcast_of, is_local_broadcast, is_all_systems, is_all_nodes, solicits, solicits_block, is_own_solicited_node, is_probed, is_member_of, is_loopback_in, is_for_us, is_loopback_of, is_foreign_loopback, may_come_from, next_hop, group_station, link_by, link_address, is_known_hop, has_neighbor, at_moment, with_next_ident, with_neighbor, with_renewal, with_silence};
 ghost use Rattle.interface_tables.specs.Settings.{refusal, made, unless, first_ident, hardware_refusal, with_hardware, is_stranger, with_addresses, with_any_ip, with_routes, used};
 
 use crate::config::{Config, HardwareAddrError, NewError, NotUnicast, refusal};
@@ -18,12 +19,12 @@ use crate::route::Routes;
 use crate::source;
 use arrayvec::ArrayVec;
 use ip_wire::{
-    EthernetAddress, HardwareAddress, IPV4_MULTICAST_ALL_SYSTEMS, IPV6_LINK_LOCAL_ALL_NODES,
-    IpAddress, IpCidr, Ipv4Address, Ipv6Address, Ipv6Cidr,
+    AddressExt, EthernetAddress, HardwareAddress, IPV4_MULTICAST_ALL_SYSTEMS,
+    IPV6_LINK_LOCAL_ALL_NODES, IpAddress, IpCidr, Ipv4Address, Ipv6Address, Ipv6Cidr,
 };
 use net_base::{ChecksumCapabilities, DeviceCapabilities, Instant, Rand};
 use socket_base::Context;
-use socket_base::addresses::{is_multicast, is_same_address};
+use socket_base::addresses::{are_of_one_family, is_multicast, is_same_address};
 use std::marker::Model;
 
 /// How many own addresses, routes and neighbours a host keeps.
@@ -175,6 +176,16 @@ impl InterfaceInner {
             .any(|block| solicits_block(addr, block))
     }
 
+    /// Whether who looks for an address in use asks by this group for this address, which is an own one.
+    pub fn is_probed(&self, group: &Ipv6Address, address: &Ipv6Address) -> bool
+        ensures { result ≡ is_probed self.now group.now address.now }
+    {
+        address.x_is_unicast()
+            && !address.is_loopback()
+            && solicits(group, address)
+            && is_in_list(self.ip_addrs.as_slice(), &IpAddress::Ipv6(*address))
+    }
+
     /// Whether the host listens to this group: all systems, all nodes, or an own solicited-node address.
     pub fn has_multicast_group(&self, addr: &IpAddress) -> bool
         ensures { result ≡ is_member_of self.now addr.now }
@@ -236,6 +247,24 @@ impl InterfaceInner {
             HardwareAddress::Ip => true,
             HardwareAddress::Ethernet(_) => self.neighbor_cache.lookup(hop, self.moment).found(),
         }
+    }
+}
+
+/// Addresses that stay in a host, and sources.
+impl InterfaceInner {
+    /// Whether this is a loopback address of a family of which the host has none.
+    pub fn is_foreign_loopback(&self, addr: &IpAddress) -> bool
+        ensures { result ≡ is_foreign_loopback self.now addr.now }
+    {
+        is_loopback(addr) && !has_loopback_of(self.ip_addrs.as_slice(), addr)
+    }
+
+    /// Whether a packet for this destination may come from this address.
+    pub fn may_come_from(&self, source: &IpAddress, destination: &IpAddress) -> bool
+        ensures { result ≡ may_come_from self.now source.now destination.now }
+    {
+        !(self.is_broadcast(source) || is_multicast(source))
+            && (!is_loopback(source) || is_loopback(destination))
     }
 }
 
@@ -503,6 +532,30 @@ fn is_loopback_in(address: &IpAddress) -> bool
         IpAddress::Ipv4(_) => false,
         IpAddress::Ipv6(address) => address.is_loopback(),
     }
+}
+
+fn is_loopback(address: &IpAddress) -> bool
+    ensures { result ≡ is_loopback address.now }
+{
+    match address {
+        IpAddress::Ipv4(address) => address.is_loopback(),
+        IpAddress::Ipv6(address) => address.is_loopback(),
+    }
+}
+
+/// Whether one of the addresses is a loopback address of this one's family.
+fn has_loopback_of(addresses: &[IpCidr], address: &IpAddress) -> bool
+    ensures { result ≡ list_any (is_loopback_of address.now) addresses.now }
+{
+    addresses.iter().any(|block| is_loopback_of(address, block))
+}
+
+/// Whether the block's address is a loopback address of this one's family.
+fn is_loopback_of(address: &IpAddress, block: &IpCidr) -> bool
+    ensures { result ≡ is_loopback_of address.now block.now }
+{
+    let own = block.address();
+    is_loopback(&own) && are_of_one_family(address, &own)
 }
 
 /// The Ethernet address of a group.

@@ -18,4 +18,4 @@ pub use inner::{InterfaceInner, TABLE_ROOM};
 pub use link::LinkAddress;
 pub use neighbor::{Answer, Cache, Neighbor};
 pub use route::{Route, RouteTableFull, Routes};
-pub use slots::PacketAssemblerSet;
+pub use slots::{PacketAssemblerSet, REASSEMBLY_SIZE};

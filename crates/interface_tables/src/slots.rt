@@ -3,7 +3,7 @@ ghost use Rattle.std.specs.Prelude.{◌≡◌, ◌↔◌, ◌≤◌, ◌<◌, le
 ghost use Rattle.interface_tables.specs.Best.{at_place};
 ghost use Rattle.std.specs.Option.{ForSome, option_copied};
 ghost use Rattle.interface_tables.specs.Reassembly.{placed, freed, is_free, is_key, is_of, place_for};
-ghost use Rattle.interface_tables.specs.Slots.{free_slots, opened, with_slot_for, changed_at, completed_at, is_expired, unless_expired, without_expired, with_piece_of};
+ghost use Rattle.interface_tables.specs.Slots.{free_slots, opened, with_slot_for, changed_at, completed_at, is_expired, unless_expired, without_expired, with_piece_of, without_datagram};
 
 use crate::fragmentation::{AssemblerFullError, PacketAssembler};
 use ip_wire::Ipv4FragKey;
@@ -12,7 +12,7 @@ use std::alloc::{AllocError, Global};
 use std::marker::Model;
 
 /// The most bytes of a datagram that comes in pieces, and the most runs that are kept of it.
-const REASSEMBLY_SIZE: usize = 4096;
+pub const REASSEMBLY_SIZE: usize = 4096;
 
 const REASSEMBLY_RUNS: usize = 4;
 
@@ -110,6 +110,15 @@ impl<const N: usize> PacketAssemblerSet<N> {
         ensures { self.new ≡ changed_at freed (Some at) self.old }
     {
         free_at(self.assemblers.as_mut_slice(), at);
+    }
+
+    /// Gives up this datagram, if it has a slot.
+    pub fn remove(&mut self, key: &Ipv4FragKey)
+        ensures { self.new ≡ without_datagram ⟦<Ipv4FragKey as PartialEq>⟧.eq self.old key.now }
+    {
+        if let Some(at) = place_of(self.assemblers.as_slice(), key) {
+            free_at(self.assemblers.as_mut_slice(), at);
+        }
     }
 
     /// Frees the slots whose moment has passed.

@@ -37,12 +37,13 @@ use Rattle.interface.specs.Host.{Sender}
 use Rattle.interface.specs.Ingress.{Takes, Replied}
 use Rattle.interface.specs.Polls.{Polls}
 use Rattle.interface.specs.State.{State}
-use Rattle.interface.specs.Turn.{Leaves, SendsBy, Answers, TurnsIf, ItemTurns, PlaceTurns, is_waiting, let_through}
+use Rattle.interface.specs.Turn.{sourced, Leaves, SendsBy, Answers, TurnsIf, ItemTurns, PlaceTurns, is_waiting, let_through}
 use Rattle.interface.specs.WayOut.{PieceLeaves}
 use Rattle.interface.specs.declared.turn.Turned.{Turned}
 use Rattle.interface.specs.Kept.{IsCounted}
 use Rattle.interface.proofs.Count.{polls_count}
 use Rattle.interface.proofs.Runs.{receives_same}
+use Rattle.interface.proofs.Sourced.{sourced_len}
 use Rattle.lan_port.specs.Port.{PortValue, PortMove}
 use Rattle.lan_hosts.proofs.Replies.{IsMeasured, IfReplyMeasured, brings_so}
 
@@ -228,7 +229,7 @@ module _ (most refusals : ℕ) where
 
     so_sent : (o : Option PacketValue) (item item' : Item Socket) (changed : Bool) (turned : Turned) → ((p : PacketValue) → o ≡ Some p → IsMeasured p) → SendsBy PortMove o x item changed turned x' item' → Next
     so_sent None item item' changed turned len sends = absurd sends
-    so_sent (Some p) item item' changed turned len sends = so_leaves p sends.0 (len p refl) sends.1
+    so_sent (Some p) item item' changed turned len sends = so_leaves (sourced x.inner p) sends.0 (sourced_len x.inner p ∙ len p refl) sends.1
 
     so_answers : (s s' : Socket) (answer : Answer.Offer) (item item' : Item Socket) (turned : Turned) → Offers (context_of x.inner) s answer s' → item.socket ≡ s' → Answers PortMove answer x item turned x' item' → Next
     so_answers s s' (Offer.Silent changed) item item' turned offers is answers = so_stays answers.1

@@ -5,6 +5,8 @@ use Rattle.control_wire.specs.Icmpv4Header.{Icmpv4Header}
 use Rattle.control_wire.specs.Icmpv4Header.TheVariants as V4
 use Rattle.control_wire.specs.Icmpv4DstUnreachable.TheVariants as V4Reason
 use Rattle.control_wire.specs.Icmpv6 as Icmpv6
+use Rattle.control_wire.specs.Icmpv6DstUnreachable.TheVariants as V6Reason
+use Rattle.control_wire.specs.Icmpv6ParamProblem.TheVariants as V6Problem
 use Rattle.control_wire.specs.Icmpv6.{MessageValue}
 use Rattle.control_wire.specs.Ndisc.{NeighborMessage, Solicitation, Advertisement}
 use Rattle.ip_wire.specs.Ip.{payload_len_of}
@@ -32,7 +34,7 @@ use Rattle.interface_ingress.specs.Delivered.{Places, packet_delivered, is_taken
 use Rattle.interface_ingress.specs.Handed.{handed_reply, control_v4_reply, control_v6_reply, message_reply, names_nobody, is_known}
 use Rattle.interface_ingress.specs.Heard.{Heard, heard, heard_on, counts, is_asked, learned, advertised, advertisement, answer}
 use Rattle.interface_ingress.specs.Incoming.{IncomingValue, Arp, Ip4, Ip6}
-use Rattle.interface_ingress.specs.Replies.{echo_v4, sent_v4, source_of_reply, port_unreachable, protocol_unreachable, reply_v4, quoted_v4}
+use Rattle.interface_ingress.specs.Replies.{echo_v4, sent_v4, source_of_reply, port_unreachable, protocol_unreachable, reply_v4, reply_v6, error_v6, is_between_hosts, quoted_v4, quoted_v6}
 use Rattle.interface_tables.specs.Inner.{InnerValue, context_of}
 use Rattle.interface_tables.specs.Best.{at_place}
 use Rattle.sockets.specs.declared.socket.Socket.{Socket}
@@ -84,7 +86,7 @@ heard_so : (hardware : HardwareAddress) (i : InnerValue) (header : Ipv6Repr) (me
 heard_so Hardware.Ip i header message = tt
 heard_so (Hardware.Ethernet own) i header (Solicitation target link) =
     heard_if (counts header target link) (heard (learned i header.src_addr link) (answer own i header target)) (heard i None)
-    (asked_so (is_asked i header.dst_addr target) own target header) tt
+    (asked_so (is_asked i header target) own target header) tt
 heard_so (Hardware.Ethernet own) i header (Advertisement flags target link) =
     heard_if (counts header target link) (heard (advertised i flags header.src_addr link) None) (heard i None) tt tt
 
@@ -101,13 +103,16 @@ v6_so : (i : InnerValue) (ip : IpRepr) (message : MessageValue) (bytes : List �
 v6_so i (Ip.Ipv4 header) message bytes = tt
 v6_so i (Ip.Ipv6 header) message bytes = message_so i header message bytes
 
+error_v6_so : (i : InnerValue) (header : Ipv6Repr) (message : MessageValue) (quoted : List ℕ) → IfMeasured (error_v6 i header message quoted)
+error_v6_so i header message quoted = if_either (is_between_hosts header) (Some (reply_v6 i header message quoted)) None refl tt
+
 port_so : (i : InnerValue) (ip : IpRepr) (payload : List ℕ) → IfMeasured (port_unreachable i ip payload)
 port_so i (Ip.Ipv4 header) payload = reply_v4_so i header (V4.DstUnreachable V4Reason.PortUnreachable header) (quoted_v4 payload)
-port_so i (Ip.Ipv6 header) payload = refl
+port_so i (Ip.Ipv6 header) payload = error_v6_so i header (Icmpv6.DstUnreachable V6Reason.PortUnreachable header) (quoted_v6 payload)
 
 protocol_so : (i : InnerValue) (ip : IpRepr) (payload : List ℕ) → IfMeasured (protocol_unreachable i ip payload)
 protocol_so i (Ip.Ipv4 header) payload = reply_v4_so i header (V4.DstUnreachable V4Reason.ProtoUnreachable header) (quoted_v4 payload)
-protocol_so i (Ip.Ipv6 header) payload = refl
+protocol_so i (Ip.Ipv6 header) payload = error_v6_so i header (Icmpv6.ParamProblem V6Problem.UnrecognizedNxtHdr 40 header) (quoted_v6 payload)
 
 -- SEGMENTS
 
@@ -143,7 +148,7 @@ handed_so i places ip payload taken (Some (Bytes bytes)) = tt
 handed_so i places ip payload taken (Some (Datagram udp bytes)) =
     if_either (is_some (datagram_place (context_of i) ip udp places) || taken) None (port_unreachable i ip payload) tt (port_so i ip payload)
 handed_so i places ip payload taken (Some (Segment header bytes)) =
-    if_either (names_nobody ip) None (segment_answer_at (segment_place ip header places) (context_of i) ip header bytes taken places) tt
+    if_either (names_nobody i ip) None (segment_answer_at (segment_place ip header places) (context_of i) ip header bytes taken places) tt
     (segment_so (segment_place ip header places) (context_of i) ip header bytes taken places)
 handed_so i places ip payload taken None =
     if_either (is_known ip || taken) None (protocol_unreachable i ip payload) tt (protocol_so i ip payload)

@@ -25,7 +25,7 @@ use Rattle.interface_ingress.specs.Incoming.{IncomingValue}
 use Rattle.interface.specs.Host.{Sender, sender}
 use Rattle.interface.specs.Pass.{Pass, Passed, passed}
 use Rattle.interface.specs.WayOut.{Clears, Egress, PieceLeaves}
-use Rattle.interface.specs.Turn.{Leaves, SendsBy, Answers, TurnsIf, ItemTurns, PlaceTurns, is_waiting, let_through}
+use Rattle.interface.specs.Turn.{sourced, Leaves, SendsBy, Answers, TurnsIf, ItemTurns, PlaceTurns, is_waiting, let_through}
 use Rattle.interface.specs.declared.turn.Turned.{Turned}
 use Rattle.interface.specs.declared.turn.Turned.TheVariants as Turn
 use Rattle.interface.specs.State.{State, state, at_device}
@@ -148,7 +148,7 @@ module _ {D E : Type 0} (f : D → E) (moves : D → Move → D → Type 0) (oth
       → Leads x.device y.device (SendsBy others o (on_sender x) item changed a (on_sender y) m)
   sends None x y item m changed a one = absurd one
   sends (Some p) x y item m changed a one =
-      so x.device y.device (Leaves others (on_sender x) p one.0 (on_sender y)) (SendsBy others (Some p) (on_sender x) item changed a (on_sender y) m) (λ n. (one.0, n, one.2, one.3, one.4)) (leaves x y p one.0 one.1)
+      so x.device y.device (Leaves others (on_sender x) (sourced x.inner p) one.0 (on_sender y)) (SendsBy others (Some p) (on_sender x) item changed a (on_sender y) m) (λ n. (one.0, n, one.2, one.3, one.4, one.5)) (leaves x y (sourced x.inner p) one.0 one.1)
 
   same_device : (x y : Sender D) → y ≡ x → y.device ≡ x.device
   same_device x y is = ap (λ (v : Sender D). v.device) is

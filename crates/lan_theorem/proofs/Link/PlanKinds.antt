@@ -3,7 +3,7 @@ use Rattle.std.proofs.Common.{ℕ, zero, suc, ◌+◌, Bool, true, false, cond, 
 use Rattle.std.specs.Prelude.{ℤ, int_lt, nat_le}
 use Rattle.std.specs.List.{AllByRecursion}
 use Rattle.ip_wire.specs.Address.{IsIpAddress}
-use Rattle.ip_wire.specs.AddressTests.{is_unspecified, is_multicast}
+use Rattle.ip_wire.specs.AddressTests.{is_multicast}
 use Rattle.ip_wire.specs.EthernetAddress.{EthernetAddress}
 use Rattle.ip_wire.specs.HardwareAddress.{HardwareAddress}
 use Rattle.ip_wire.specs.HardwareAddress.TheVariants as Hardware
@@ -24,7 +24,7 @@ use Rattle.interface_tables.specs.declared.link.LinkAddress.TheVariants as Link
 use Rattle.interface_tables.specs.declared.neighbor.Answer.{Answer}
 use Rattle.interface_tables.specs.declared.neighbor.Answer.TheVariants as Known
 use Rattle.interface_tables.specs.declared.neighbor.Neighbor.{Neighbor}
-use Rattle.interface_egress.specs.Plan.{longest_cut, total_len, cut_if_idle, long_plan, ask_v4, ask_on, plan_by, plan_of}
+use Rattle.interface_egress.specs.Plan.{longest_cut, total_len, cut_if_idle, long_plan, ask_v4, ask_on, may_ask, ask_if, plan_by, never_leaves, plan_of}
 use Rattle.interface_egress.specs.declared.plan.Plan.{Plan}
 use Rattle.interface_egress.specs.declared.plan.Plan.TheVariants as Way
 use Rattle.lan_theorem.specs.Link.Sides.{IsSameKind, IsStation, IsSound, IsAsked}
@@ -134,14 +134,18 @@ ask_by own Hardware.Ip i hop is = tt
 ask_by own (Hardware.Ethernet from) i (Address.Ipv4 hop) is = ask_v4_by own from (source_v4 i.addresses hop) hop
 ask_by own (Hardware.Ethernet from) i (Address.Ipv6 hop) is = is.0
 
+ask_if_by : (own : HardwareAddress) (i : InnerValue) (hop : IpAddress) (may : Bool) → IsIpAddress hop → PlanKind own (ask_if may i hop)
+ask_if_by own i hop true is = ask_by own i.hardware i hop is
+ask_if_by own i hop false is = tt
+
 by_link : (own : HardwareAddress) (i : InnerValue) (busy : Bool) (h : IpRepr) (l : LinkAddress) → LinkKind own l → PlanKind own (plan_by l i busy h)
 by_link own i busy h (Link.Known to) is = to_by own to busy h (nat_le (total_len h) i.mtu) is
 by_link own i busy h Link.NoRoute is = tt
 by_link own i busy h Link.Silent is = tt
-by_link own i busy h (Link.Unknown hop) is = ask_by own i.hardware i hop is
+by_link own i busy h (Link.Unknown hop) is = ask_if_by own i hop (may_ask i hop) is
 
 pub plan_kind : (i : InnerValue) (busy : Bool) (h : IpRepr) → IsSound i → IsIpAddress (destination_of h) → PlanKind i.hardware (plan_of i busy h)
-plan_kind i busy h sound is = elim (is_unspecified (destination_of h)) as (λ b. PlanKind i.hardware (cond b Way.Drop (plan_by (link_address i (destination_of h)) i busy h))) [
+plan_kind i busy h sound is = elim (never_leaves i h) as (λ b. PlanKind i.hardware (cond b Way.Drop (plan_by (link_address i (destination_of h)) i busy h))) [
   | true ↦ tt
   | false ↦ by_link i.hardware i busy h (link_address i (destination_of h)) (link_kind i.hardware i (destination_of h) sound is)
 ]

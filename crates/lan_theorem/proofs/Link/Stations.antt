@@ -130,7 +130,7 @@ near_handed i places ip (Some (ControlV6 message bytes)) near = near_control i i
 near_handed i places ip (Some (Bytes bytes)) near = near
 near_handed i places ip (Some (Datagram udp bytes)) near = near
 near_handed i places ip (Some (Segment header bytes)) near =
-    elim (names_nobody ip) as (λ b. AreNear (cond b i (drawn_if (segment_draws (context_of i) ip header bytes places) i))) [
+    elim (names_nobody i ip) as (λ b. AreNear (cond b i (drawn_if (segment_draws (context_of i) ip header bytes places) i))) [
       | true ↦ near
       | false ↦ near_drawn (segment_draws (context_of i) ip header bytes places) i near
     ]

@@ -1,6 +1,6 @@
 -- A host takes a frame: what it brings, whole or rebuilt, was made.
 use Rattle.std.proofs.Common.{◌≡◌, ℕ, ◌-◌, ◌^◌, Bool, true, false, cond, List, [], ◌∷◌, ◌++◌, length, Option, Some, None, refl, sym, ◌∙◌, ap, subst}
-use Rattle.std.specs.Prelude.{ℤ, is_some, nat_lt}
+use Rattle.std.specs.Prelude.{ℤ, ◌&&◌, is_some, nat_lt, position}
 use Rattle.std.specs.List.{AllByRecursion}
 use Rattle.ip_wire.specs.HardwareAddress.{HardwareAddress}
 use Rattle.ip_wire.specs.Ipv4 as Ipv4
@@ -10,12 +10,12 @@ use Rattle.ip_wire.specs.declared.ethernet.repr.EthernetRepr.{EthernetRepr}
 use Rattle.net_base.specs.ChecksumCapabilities.{ChecksumCapabilities}
 use Rattle.socket_base.specs.Packet.{PacketValue, PayloadValue}
 use Rattle.interface_tables.specs.Inner.{InnerValue}
-use Rattle.interface_tables.specs.Reassembly.{freed, place_for}
-use Rattle.interface_tables.specs.Slots.{changed_at, with_piece_of, without_expired}
+use Rattle.interface_tables.specs.Reassembly.{freed, is_of, place_for}
+use Rattle.interface_tables.specs.Slots.{changed_at, with_piece_of, without_datagram, without_expired}
 use Rattle.interface_ingress.specs.Arrives.{Arrived, ArrivesAs, slots_after, whole_after}
 use Rattle.interface_ingress.specs.Delivered.{Places}
 use Rattle.interface_ingress.specs.Incoming.{IncomingValue, Arp, Ip4, Ip6, IsIncoming, IsContent}
-use Rattle.interface_ingress.specs.Reassembled.{Slots, is_piece, is_same_datagram, runs_kept, is_taken_in, taken_in, given_up_at, place_in, kept, bytes_at, rebuilt, released, uncut}
+use Rattle.interface_ingress.specs.Reassembled.{Slots, is_piece, is_within, is_same_datagram, runs_kept, is_taken_in, taken_in, given_up_at, place_in, kept, bytes_at, rebuilt, released, uncut}
 use Rattle.interface_ingress.proofs.Settings.{brings_same}
 use Rattle.lan_theorem.specs.Link.Made.{sealed, BringsMade}
 use Rattle.lan_theorem.specs.Link.Frames.{IsFrom, BringsFrom}
@@ -41,15 +41,16 @@ taken_from made out i (Some v) from = elim (is_taken_in i v) as (λ b. AreFrom m
 module _ (made : PayloadValue → Type 0) (first : ℕ) (out : List PacketValue) (next : ℕ) (sent : AreSent made first next out) (few : AreFew out) where
   -- SLOTS
 
-  kept_piece : (i : InnerValue) (timeout : ℕ) (slots : Slots) (link : Option EthernetRepr) (h : Ipv4Repr) (p : Ipv4Piece) (x : List ℕ) (cut : Bool) → is_piece p ≡ cut → IsFrom made out (Ip4 link h p x) → AreSlotsOf out slots
-      → AreSlotsOf out (cond cut (with_piece_of runs_kept is_same_datagram slots (Ipv4.key_of h) (given_up_at i timeout) x p.offset p.more) slots)
-  kept_piece i timeout slots link h p x true is from are = piece_keeps made first out next sent.numbered few sent.packets link h p x (given_up_at i timeout) is from slots are
-  kept_piece i timeout slots link h p x false is from are = are
+  kept_piece : (i : InnerValue) (timeout : ℕ) (slots : Slots) (link : Option EthernetRepr) (h : Ipv4Repr) (p : Ipv4Piece) (x : List ℕ) (cut within : Bool) → is_piece p ≡ cut → IsFrom made out (Ip4 link h p x) → AreSlotsOf out slots
+      → AreSlotsOf out (cond cut (cond within (with_piece_of runs_kept is_same_datagram slots (Ipv4.key_of h) (given_up_at i timeout) x p.offset p.more) (without_datagram is_same_datagram slots (Ipv4.key_of h))) slots)
+  kept_piece i timeout slots link h p x true true is from are = piece_keeps made first out next sent.numbered few sent.packets link h p x (given_up_at i timeout) is from slots are
+  kept_piece i timeout slots link h p x true false is from are = changed_keeps (IsSlotOf out) freed (position (is_of is_same_datagram (Ipv4.key_of h)) slots) slots (λ s is. freed_is out s) are
+  kept_piece i timeout slots link h p x false within is from are = are
 
   kept_keeps : (i : InnerValue) (timeout : ℕ) (slots : Slots) (content : Option IncomingValue) → AreFrom made out content → AreSlotsOf out slots → AreSlotsOf out (kept i timeout slots content)
   kept_keeps i timeout slots None from are = are
   kept_keeps i timeout slots (Some (Arp link packet)) from are = are
-  kept_keeps i timeout slots (Some (Ip4 link h p x)) from are = kept_piece i timeout slots link h p x (is_piece p) refl from are
+  kept_keeps i timeout slots (Some (Ip4 link h p x)) from are = kept_piece i timeout slots link h p x (is_piece p) (is_within p x) refl from are
   kept_keeps i timeout slots (Some (Ip6 link h x)) from are = are
 
   released_keeps : (place : Option ℕ) (slots : Slots) → AreSlotsOf out slots → AreSlotsOf out (released place slots)
@@ -65,19 +66,20 @@ module _ (made : PayloadValue → Type 0) (first : ℕ) (out : List PacketValue)
 
   -- WHAT IS WHOLE
 
-  whole_piece : (i : InnerValue) (timeout : ℕ) (slots : Slots) (link : Option EthernetRepr) (h : Ipv4Repr) (p : Ipv4Piece) (x : List ℕ) (cut : Bool) → is_piece p ≡ cut → IsFrom made out (Ip4 link h p x) → AreSlotsOf out slots
+  whole_piece : (i : InnerValue) (timeout : ℕ) (slots : Slots) (link : Option EthernetRepr) (h : Ipv4Repr) (p : Ipv4Piece) (x : List ℕ) (cut within : Bool) → is_piece p ≡ cut → IsFrom made out (Ip4 link h p x) → AreSlotsOf out slots
       → BringsMade made (cond cut
-      (rebuilt link h (bytes_at (cond cut (place_for is_same_datagram slots (Ipv4.key_of h)) None) (cond cut (with_piece_of runs_kept is_same_datagram slots (Ipv4.key_of h) (given_up_at i timeout) x p.offset p.more) slots)))
+      (rebuilt link h (bytes_at (cond (cut && within) (place_for is_same_datagram slots (Ipv4.key_of h)) None) (cond cut (cond within (with_piece_of runs_kept is_same_datagram slots (Ipv4.key_of h) (given_up_at i timeout) x p.offset p.more) (without_datagram is_same_datagram slots (Ipv4.key_of h))) slots)))
       (Some (Ip4 link h p x)))
-  whole_piece i timeout slots link h p x true is from are = piece_brings made first out next sent.numbered few sent.packets link h p x (given_up_at i timeout) is from slots are
-  whole_piece i timeout slots link h p x false is from are =
+  whole_piece i timeout slots link h p x true false is from are = tt
+  whole_piece i timeout slots link h p x true true is from are = piece_brings made first out next sent.numbered few sent.packets link h p x (given_up_at i timeout) is from slots are
+  whole_piece i timeout slots link h p x false within is from are =
       brings_whole made out (Ip4 link h p x) sent.packets from (λ l g q y same. let e : p ≡ q = cc in subst (λ (r : Ipv4Piece). is_piece r ≡ false) e is)
 
   -- what is whole after a frame brings what was made
   pub whole_made : (i : InnerValue) (timeout : ℕ) (slots : Slots) (content : Option IncomingValue) → AreFrom made out content → AreSlotsOf out slots → BringsMade made (whole_after i timeout slots content)
   whole_made i timeout slots None from are = tt
   whole_made i timeout slots (Some (Arp link packet)) from are = tt
-  whole_made i timeout slots (Some (Ip4 link h p x)) from are = whole_piece i timeout slots link h p x (is_piece p) refl from are
+  whole_made i timeout slots (Some (Ip4 link h p x)) from are = whole_piece i timeout slots link h p x (is_piece p) (is_within p x) refl from are
   whole_made i timeout slots (Some (Ip6 link h x)) from are = brings_whole made out (Ip6 link h x) sent.packets from (λ l g q y same. absurd cc)
 
   -- A FRAME IS TAKEN
@@ -106,10 +108,11 @@ module _ (made : PayloadValue → Type 0) (first : ℕ) (out : List PacketValue)
 
   -- WHAT IS REBUILT
 
-  rebuilds_by : (i : InnerValue) (timeout : ℕ) (slots : Slots) (link : Option EthernetRepr) (h : Ipv4Repr) (p : Ipv4Piece) (x bytes : List ℕ) (cut : Bool) → is_piece p ≡ cut → cut ≡ true → IsFrom made out (Ip4 link h p x) → AreSlotsOf out slots
-      → bytes_at (cond cut (place_for is_same_datagram slots (Ipv4.key_of h)) None) (cond cut (with_piece_of runs_kept is_same_datagram slots (Ipv4.key_of h) (given_up_at i timeout) x p.offset p.more) slots) ≡ Some bytes → IsRebuiltOf out h bytes
-  rebuilds_by i timeout slots link h p x bytes true is cut from are done = piece_rebuilds made first out next sent.numbered few sent.packets link h p x (given_up_at i timeout) is from slots bytes are done
-  rebuilds_by i timeout slots link h p x bytes false is cut from are done = absurd cc
+  rebuilds_by : (i : InnerValue) (timeout : ℕ) (slots : Slots) (link : Option EthernetRepr) (h : Ipv4Repr) (p : Ipv4Piece) (x bytes : List ℕ) (cut within : Bool) → is_piece p ≡ cut → cut ≡ true → IsFrom made out (Ip4 link h p x) → AreSlotsOf out slots
+      → bytes_at (cond (cut && within) (place_for is_same_datagram slots (Ipv4.key_of h)) None) (cond cut (cond within (with_piece_of runs_kept is_same_datagram slots (Ipv4.key_of h) (given_up_at i timeout) x p.offset p.more) (without_datagram is_same_datagram slots (Ipv4.key_of h))) slots) ≡ Some bytes → IsRebuiltOf out h bytes
+  rebuilds_by i timeout slots link h p x bytes true false is cut from are done = absurd cc
+  rebuilds_by i timeout slots link h p x bytes true true is cut from are done = piece_rebuilds made first out next sent.numbered few sent.packets link h p x (given_up_at i timeout) is from slots bytes are done
+  rebuilds_by i timeout slots link h p x bytes false within is cut from are done = absurd cc
 
   short_bytes : (link l : Option EthernetRepr) (h g : Ipv4Repr) (p : Ipv4Piece) (found bytes : List ℕ) (b : Bool) → cond b (Some (Ip4 link (record h { payload_len = length found }) uncut found)) None ≡ Some (Ip4 l g p bytes) → Some found ≡ Some bytes
   short_bytes link l h g p found bytes true is = let e : found ≡ bytes = cc in ap Some e
@@ -128,7 +131,7 @@ module _ (made : PayloadValue → Type 0) (first : ℕ) (out : List PacketValue)
       → IsContent i.hardware i.checksums frame (Some (Ip4 link h p x)) → is_piece p ≡ true → whole_after i timeout slots (Some (Ip4 link h p x)) ≡ Some (Ip4 l g r bytes) → IsRebuiltOf out h bytes
   taken_rebuilds i timeout slots frame rest link l h g p r x bytes receiver is cut whole =
       let from = content_from made out i.hardware i.checksums frame (Some (Ip4 link h p x)) receiver.checksums receiver.waits.0 is in
-      rebuilds_by i timeout slots link h p x bytes (is_piece p) refl cut from receiver.slots_are
+      rebuilds_by i timeout slots link h p x bytes (is_piece p) (is_within p x) refl cut from receiver.slots_are
       (whole_bytes (kept i timeout slots (Some (Ip4 link h p x))) (place_in slots (Some (Ip4 link h p x))) link l h g p r x bytes (is_piece p) cut whole)
 
 -- OTHER STEPS OF THE RECEIVER

@@ -72,5 +72,5 @@ module _ (Q : PacketValue → Type 0) where
     replied_all i places ip payload taken (Some (Datagram udp bytes)) all =
         port_error_free Q four six (is_some (datagram_place (context_of i) ip udp places) || taken) i ip payload
     replied_all i places ip payload taken (Some (Segment header bytes)) all =
-        unless_nobody (context_of i) ip header bytes (all header bytes refl) (names_nobody ip) (segment_answer (context_of i) ip header bytes taken places)
+        unless_nobody (context_of i) ip header bytes (all header bytes refl) (names_nobody i ip) (segment_answer (context_of i) ip header bytes taken places)
         (by_answer (context_of i) ip header bytes (all header bytes refl) (segment_place ip header places) taken places)

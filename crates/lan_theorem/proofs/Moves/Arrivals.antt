@@ -24,6 +24,7 @@ use Rattle.interface_egress.specs.declared.socket_set.Item.{Item}
 use Rattle.interface_egress.specs.declared.socket_set.SocketStorage.{SocketStorage}
 use Rattle.interface_ingress.specs.Delivered.{with_change, passes, given, all_given, changed_at, with_packet, packet_delivered, with_icmpv4, icmpv4_delivered, with_icmpv6, icmpv6_delivered, with_datagram, datagram_place, datagram_delivered, with_segment, packet_by, answer_of, segment_place, segment_delivered, answer_in, segment_answer_at, segment_answer}
 use Rattle.interface_ingress.proofs.AtPlace.{changed_here, answer_here}
+use Rattle.interface_ingress.proofs.Segments.{accepted_there}
 use Rattle.lan_history.specs.declared.event.Side.{Side}
 use Rattle.lan_history.specs.Kinds.{other}
 use Rattle.lan_packets.specs.Moves as Moves
@@ -196,7 +197,7 @@ module _ (names : List ℕ → Bool) (side : Side) (net now : Net) (r : Reaches 
         → Ends (sockets_of (changed_at (with_segment cx ip header bytes) o places)) (segment_answer_at o cx ip header bytes taken places)
     first_takes taken None is = reset (taken || is_rst header.control)
     first_takes taken (Some at) is =
-        let first = position-Some (passes (λ s. accepts_segment s ip header)) places at free is in
+        let first = accepted_there ip header places at free is in
         let place = get_or places at free in
         subst (λ (o : Option PacketValue). Ends (sockets_of (changed_at (with_segment cx ip header bytes) (Some at) places)) o) (sym (answer_here (answer_of cx ip header bytes) places at free first.0))
         (subst (λ (qs : Places). Ends (sockets_of qs) (answer_in (answer_of cx ip header bytes) place.inner)) (sym (changed_here (with_segment cx ip header bytes) places at free first.0))

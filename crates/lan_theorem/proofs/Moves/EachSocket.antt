@@ -126,7 +126,7 @@ module _ (W : Socket → Type 0) where
     handed caps i places ip payload (Some (Bytes bytes)) is all = all
     handed caps i places ip payload (Some (Datagram udp bytes)) is all = changed (with_datagram ip udp bytes) (law.datagram ip udp bytes) (datagram_place (context_of i) ip udp places) places all
     handed caps i places ip payload (Some (Segment header bytes)) is all =
-        segments (names_nobody ip) (context_of i) ip header bytes places (segment_named caps ip payload header bytes is) all
+        segments (names_nobody i ip) (context_of i) ip header bytes places (segment_named caps ip payload header bytes is) all
 
     hands : (i : InnerValue) (places : Places) (ip : IpRepr) (payload : List ℕ) (taken : Bool) (a : Arrived) → Hands i places ip payload taken a → OfEach W places → OfEach W a.places
     hands i places ip payload taken a (carried, is, so) all = subst (OfEach W) (sym so.places_are) (handed i.checksums i places ip payload carried is all)

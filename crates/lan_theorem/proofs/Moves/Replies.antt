@@ -4,6 +4,8 @@ use Rattle.control_wire.specs.Icmpv4Header.{Icmpv4Header}
 use Rattle.control_wire.specs.Icmpv4Header.TheVariants as V4
 use Rattle.control_wire.specs.Icmpv6 as Icmpv6
 use Rattle.control_wire.specs.Icmpv6.{MessageValue}
+use Rattle.control_wire.specs.Icmpv6DstUnreachable.TheVariants as V6Reason
+use Rattle.control_wire.specs.Icmpv6ParamProblem.TheVariants as V6Problem
 use Rattle.control_wire.specs.Ndisc.{NeighborMessage, Solicitation, Advertisement}
 use Rattle.ip_wire.specs.HardwareAddress.{HardwareAddress}
 use Rattle.ip_wire.specs.HardwareAddress.TheVariants as Hardware
@@ -21,7 +23,7 @@ use Rattle.interface_tables.specs.Inner.{InnerValue}
 use Rattle.interface_ingress.specs.Arrives.{told, answered}
 use Rattle.interface_ingress.specs.Handed.{control_v4_reply, control_v6_reply, message_reply}
 use Rattle.interface_ingress.specs.Heard.{Heard, heard, heard_on, counts, learned, advertised, answer, advertisement, is_asked}
-use Rattle.interface_ingress.specs.Replies.{sent_v4, echo_v4, port_unreachable, protocol_unreachable, source_of_reply, quoted_v4, quoted_v6}
+use Rattle.interface_ingress.specs.Replies.{sent_v4, echo_v4, port_unreachable, protocol_unreachable, source_of_reply, reply_v6, is_between_hosts, quoted_v4, quoted_v6}
 use Rattle.lan_packets.specs.Parties.{Party}
 use Rattle.lan_theorem.specs.Moves.Made.{IsMade, IsMadeReply}
 
@@ -64,7 +66,7 @@ module _ (Q : PacketValue → Type 0)
   heard_free Hardware.Ip i header message = tt
   heard_free (Hardware.Ethernet own) i header (Solicitation target link) =
       heard_if (counts header target link) (heard (learned i header.src_addr link) (answer own i header target)) i
-      (answer_free (is_asked i header.dst_addr target) own target header.src_addr)
+      (answer_free (is_asked i header target) own target header.src_addr)
   heard_free (Hardware.Ethernet own) i header (Advertisement flags target link) =
       heard_if (counts header target link) (heard (advertised i flags header.src_addr link) None) i tt
 
@@ -77,13 +79,17 @@ module _ (Q : PacketValue → Type 0)
   control_v6_free i (Ip.Ipv4 header) message bytes = tt
   control_v6_free i (Ip.Ipv6 header) message bytes = message_free i header message bytes
 
+  error_free : (between : Bool) (i : InnerValue) (header : Ipv6Repr) (message : MessageValue) (quoted : List ℕ) → Free (if between then Some (reply_v6 i header message quoted) else None)
+  error_free true i header message quoted = six _ _ quoted refl
+  error_free false i header message quoted = tt
+
   port_free : (i : InnerValue) (ip : IpRepr) (payload : List ℕ) → Free (port_unreachable i ip payload)
   port_free i (Ip.Ipv4 header) payload = sent_free _ header.src_addr _ (quoted_v4 payload)
-  port_free i (Ip.Ipv6 header) payload = six _ _ (quoted_v6 payload) refl
+  port_free i (Ip.Ipv6 header) payload = error_free (is_between_hosts header) i header (Icmpv6.DstUnreachable V6Reason.PortUnreachable header) (quoted_v6 payload)
 
   protocol_free : (i : InnerValue) (ip : IpRepr) (payload : List ℕ) → Free (protocol_unreachable i ip payload)
   protocol_free i (Ip.Ipv4 header) payload = sent_free _ header.src_addr _ (quoted_v4 payload)
-  protocol_free i (Ip.Ipv6 header) payload = six _ _ (quoted_v6 payload) refl
+  protocol_free i (Ip.Ipv6 header) payload = error_free (is_between_hosts header) i header (Icmpv6.ParamProblem V6Problem.UnrecognizedNxtHdr 40 header) (quoted_v6 payload)
 
   pub port_error_free : (quiet : Bool) (i : InnerValue) (ip : IpRepr) (payload : List ℕ) → Free (if quiet then None else port_unreachable i ip payload)
   port_error_free quiet i ip payload = free_if quiet (port_unreachable i ip payload) (port_free i ip payload)

@@ -73,7 +73,7 @@ module _ (names : List ℕ → Bool) (side : Side) (net now : Net) (r : Reaches 
     handed caps (Some (Segment header bytes)) is made =
         let was : IsAmong (party now (other side)).segments (made_of header bytes) =
         subst (λ (p : Party). IsAmong p.segments (made_of header bytes)) (sym r.rests) (made.segments header bytes is) in
-        segment (names_nobody ip) header bytes was
+        segment (names_nobody i ip) header bytes was
 
     hands : (caps : ChecksumCapabilities) (a : Arrived) → i.checksums ≡ caps → Hands i places ip payload taken a → HandsMade (party net (other side)) caps ip payload → Ended names side net now a.places a.reply
     hands caps a same (carried, is, so) made =

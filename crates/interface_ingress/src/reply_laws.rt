@@ -1,0 +1,47 @@
+//! What follows from the definitions of what a host answers at once.
+ghost use Rattle.std.specs.Prelude.{◌≡◌, ◌<◌, ℕ, Bool, false, true, List, length, get_or, Some};
+ghost use Rattle.control_wire.specs.Icmpv4DstUnreachable.{Icmpv4DstUnreachable};
+ghost use Rattle.control_wire.specs.Icmpv4Header.{Icmpv4Header};
+ghost use Rattle.control_wire.specs.Icmpv6 as Icmpv6;
+ghost use Rattle.ip_wire.specs.IpRepr.{IpRepr};
+ghost use Rattle.ip_wire.specs.Ipv4Repr.{Ipv4Repr};
+ghost use Rattle.ip_wire.specs.Ipv6Repr.{Ipv6Repr};
+ghost use Rattle.ip_wire.specs.TcpHeader.{TcpHeader};
+ghost use Rattle.sockets.specs.Packet.{PacketValue};
+ghost use Rattle.sockets.specs.Socket.{accepts_segment};
+ghost use Rattle.interface_egress.specs.Inner.{InnerValue};
+ghost use Rattle.interface_egress.specs.declared.socket_set.SocketStorage.{SocketStorage};
+ghost use Rattle.sockets.specs.declared.socket.Socket.{Socket};
+ghost use Rattle.interface_ingress.specs.Answering.{IsEchoV4, IsEchoV6, IsBetweenV4, IsBetweenV6};
+ghost use Rattle.interface_ingress.specs.Delivered.{Places, passes, first_place, is_connected, segment_place};
+ghost use Rattle.interface_ingress.specs.Handed.{names_nobody, segment_reply};
+ghost use Rattle.interface_ingress.specs.Replies.{echo_v4, echo_v6, error_v4, error_v6};
+
+/// Law: a control message that isn't one of neighbours is answered by an echo reply or not at all: no error answers an error. An
+/// echo reply has its request's data, identifier and number, and goes to who asked.
+pub fn echoes_go_back()
+    ensures ipv4 { (i : InnerValue) (header : Ipv4Repr) (message : Icmpv4Header) (bytes : List ℕ) (p : PacketValue)
+        → echo_v4 i header message bytes ≡ Some p → IsEchoV4 header message bytes p }
+    ensures ipv6 { (i : InnerValue) (header : Ipv6Repr) (message : Icmpv6.MessageValue) (bytes : List ℕ) (p : PacketValue)
+        → echo_v6 i header message bytes ≡ Some p → IsEchoV6 header message bytes p }
+{}
+
+/// Law: no error and no reset answers a packet that wasn't sent to one host by one host. (A segment may come from 0.0.0.0 or to
+/// it; that names nobody, too.)
+pub fn errors_are_between_hosts()
+    ensures ipv4 { (i : InnerValue) (header : Ipv4Repr) (reason : Icmpv4DstUnreachable) (payload : List ℕ) (p : PacketValue)
+        → error_v4 i header reason payload ≡ Some p → IsBetweenV4 i header }
+    ensures ipv6 { (i : InnerValue) (header : Ipv6Repr) (message : Icmpv6.MessageValue) (quoted : List ℕ) (p : PacketValue)
+        → error_v6 i header message quoted ≡ Some p → IsBetweenV6 header }
+    ensures segment { (i : InnerValue) (places : Places) (ip : IpRepr) (taken : Bool) (header : TcpHeader) (bytes : List ℕ) (p : PacketValue)
+        → segment_reply i places ip taken header bytes ≡ Some p → names_nobody i ip ≡ false }
+{}
+
+/// Law: a segment goes to a socket that accepts it, and where there is one that has its connection, to the first such.
+pub fn connections_come_first()
+    ensures accepted { (ip : IpRepr) (header : TcpHeader) (places : Places) (at : ℕ) (d : SocketStorage Socket)
+        → segment_place ip header places ≡ Some at
+        → (at < length places) × (passes (λ s. accepts_segment s ip header) (get_or places at d) ≡ true) }
+    ensures connected { (ip : IpRepr) (header : TcpHeader) (places : Places) (at : ℕ)
+        → first_place (λ s. is_connected s ip header) places ≡ Some at → segment_place ip header places ≡ Some at }
+{}
