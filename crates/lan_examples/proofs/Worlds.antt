@@ -49,6 +49,11 @@ names B = record {
   pair = Some (record { addresses = Pair.Ipv4 (address B) (address A); local_port = 80; remote_port = 49_500 });
 }
 
+-- the number of the segment that set the window last: B's SYN, and A's acknowledgement of it
+abbrev window_seq : Side → SeqNumber
+window_seq A = number 3
+window_seq B = number 4
+
 -- nothing is under way
 abbrev at_rest : Side → Block
 at_rest side = record {
@@ -56,18 +61,34 @@ at_rest side = record {
   names = names side;
   sender = record {
     una = number 4;
+    past_iss = 1;
     syn_unacked = false;
     in_flight = 0;
+    top = 0;
     duplicates = 0;
+    sacked = 0;
     resend = false;
+    syn_lost = false;
+    timeouts = 0;
+    unanswered = 0;
     stamped = false;
     reset_due = false;
   };
-  receiver = record { next = number 4; took_syn = true; took_fin = false; advertised = 8 };
-  peer = record { window = 8; mss = 1460; scale = Some 0; sack = true; timestamps = false; recent = 0 };
+  receiver = record { next = number 4; took_syn = true; took_fin = false; edge = 8; mss = 1460 };
+  peer = record {
+    window = 8;
+    largest_window = 8;
+    window_seq = window_seq side;
+    window_ack = number 4;
+    mss = 1460;
+    scale = Some 0;
+    sack = true;
+    timestamps = false;
+    recent = 0;
+  };
   timers = fresh_timers;
   round_trip = record { estimate = Some (record { smoothed = 0; variation = 0 }); timeout = 1000; sample = None };
-  reno = record { mss = 1460; cwnd = 2048; ssthresh = 1_073_741_824; recovers = false; timed_out = false };
+  reno = record { mss = 1460; cwnd = 14_600; ssthresh = 1_073_741_824; recovers = false; timed_out = false };
   settings = default_settings;
 }
 
@@ -78,7 +99,7 @@ idle side = record { block = at_rest side; received = received_of [] (space 8) 0
 abbrev telling : TcpValue
 telling = record {
   block = record (at_rest A) {
-    sender = record (at_rest A).sender { in_flight = 3 };
+    sender = record (at_rest A).sender { in_flight = 3; top = 3 };
     timers = record fresh_timers { retransmit_at = Some (pos 1_000_000) };
     round_trip = record (at_rest A).round_trip { sample = Some (record { ends = 3; since = pos 0 }) };
   };
@@ -91,7 +112,7 @@ telling = record {
 abbrev reading : TcpValue
 reading = record {
   block = record (at_rest B) {
-    receiver = record (at_rest B).receiver { next = number 7; advertised = 5 };
+    receiver = record (at_rest B).receiver { next = number 7; edge = 5 };
     timers = record fresh_timers { draws_from = Some (pos 1_000_000) };
   };
   received = received_of [] (space 8) 3;
@@ -101,14 +122,15 @@ reading = record {
 
 -- A sent its FIN
 abbrev finishing : TcpValue
-finishing = record telling { block = record telling.block { state = In.FinWait1; sender = record telling.block.sender { in_flight = 4 } } }
+finishing = record telling { block = record telling.block { state = In.FinWait1; sender = record telling.block.sender { in_flight = 4; top = 4 } } }
 
 -- B took it, whose acknowledgement is due at once, and read the end
 abbrev told_the_end : TcpValue
 told_the_end = record reading {
   block = record reading.block {
     state = In.CloseWait;
-    receiver = record reading.block.receiver { next = number 8; took_fin = true };
+    receiver = record reading.block.receiver { next = number 8; took_fin = true; edge = 4 };
+    peer = record reading.block.peer { window_seq = number 7 };
     timers = record reading.block.timers { ack_at = Some (pos 0) };
   };
 }

@@ -28,7 +28,7 @@ syn = sent_by A caller
 abbrev pub half_open : TcpValue
 half_open = reached B listener syn
 
--- it is the first in the window (RFC 9293, 3.10.7.4)
+-- it is at RCV.NXT (RFC 9293, 3.10.7.4)
 abbrev pub upset : TcpSegment
 upset = reset 49_500 80 (number_after syn).0 None
 

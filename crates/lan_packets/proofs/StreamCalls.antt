@@ -30,7 +30,7 @@ use Rattle.tcp_model.specs.SendError.TheVariants as Send
 use Rattle.tcp_model.specs.State.{State}
 use Rattle.tcp_model.specs.State.TheVariants as In
 use Rattle.tcp_model.specs.Calls.{listening, listens_on, listen_answer, listen_after, connecting, connected_by, connect_answer, connect_after, found_answer, pair_for, pair_by, addresses_by, source_by, send_answer, sent_more, send_after, recv_answer, recv_refusal, or_count, nothing_left, recv_after, close_after, abort_after}
-use Rattle.tcp_model.specs.States.{is_closed, is_opening, takes_writes, takes_text, after_close}
+use Rattle.tcp_model.specs.States.{is_closed, is_time_wait, is_opening, takes_writes, takes_text, after_close}
 use Rattle.tcp_model.specs.Value.{TcpValue, unoffered, ended, with_block}
 use Rattle.lan_history.specs.declared.answer.Answer.{Answer}
 use Rattle.lan_history.specs.declared.answer.Answer.TheVariants as To
@@ -365,16 +365,24 @@ module _
           told_after places h e side p q at v Call.Abort kind allowed is k far pairs To.Done None answered found
           ∙ told_plain h side at Call.Abort To.Done None (first_of-none (opening h side at)) refl refl refl
 
+      abort_same : v.block.state ≡ In.Closed → core_of (abort_after v) ≡ core_of v
+      abort_same closed =
+          ap (λ (t : Bool). core_of (if t then ended (unoffered v) else with_block (unoffered v) (aborted v.block))) (ap is_time_wait closed)
+          ∙ ap (λ (state : State). record (core_of v) { state = state }) (sym closed)
+        where
+          aborted : Block → Block
+          aborted b = record b { state = In.Closed; sender = record b.sender { reset_due = is_some b.names.pair } }
+
       by : (o : Option Opening) → opening h side at ≡ o → HostSteps h (e ∷ h) side p (with_socket p at (Tcp (abort_after v))) q
       by None none =
           let u = ok.untouched none in
           let closed = closed_is v.block.state u.nameless.state in
-          let u' = untouched_same h side at v (abort_after v) (ap (λ (state : State). record (core_of v) { state = state }) (sym closed)) u in
+          let u' = untouched_same h side at v (abort_after v) (abort_same closed) u in
           called_untouched places h e side p q at v Call.Abort kind allowed is k far pairs (abort_after v) none refl
           (record { fresh = u'.fresh; nameless = u'.nameless; nothing = plain ∙ u.nothing })
       by (Some o) opened =
           called_opened places h e side p q at v Call.Abort kind allowed is k far pairs o (abort_after v) opened
-          (ports_abort v (ports_of o) (ok.ports o opened)) (λ pair named. pair_kept v.block (abort_after v).block pair (inl (abort_names v)) named)
+          (ports_abort v (ports_of o) (ok.ports o opened)) (λ pair named. pair_kept v.block (abort_after v).block pair (abort_names v) named)
           (λ w b keeps.
           subst (λ (t : Past). Keeps (abort_after v) (past_at o.local p.segments t) w b) (sym plain)
           (keeps_abort v w (past_at o.local p.segments (told h side at)) b keeps))

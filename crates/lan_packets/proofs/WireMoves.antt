@@ -6,7 +6,7 @@ use Rattle.ip_wire.specs.TcpHeader.{TcpHeader}
 use Rattle.socket_base.specs.Context.{ContextValue}
 use Rattle.socket_base.specs.Offers.{Offered}
 use Rattle.tcp_law.specs.Segment.Control.{Rst}
-use Rattle.tcp_tie.specs.Endpoints.{HasPorts, IsFor, IsNameless, KeepsNames, Forgets, KeepsOrForgets, IsRenamed, IsOpenedBy, FallsBack}
+use Rattle.tcp_tie.specs.Endpoints.{HasPorts, IsFor, IsNameless, KeepsNames, Forgets, KeepsOrForgets, IsLeftBy, IsRenamed, IsOpenedBy, FallsBack}
 use Rattle.tcp_tie.specs.Host.{Made, made_of, past_at, IsAmong, and_answer, and_offer}
 use Rattle.tcp_tie.specs.Promises.{IsFresh, KeepsAlone}
 use Rattle.tcp_tie.specs.Tie.{Core, core_of, Past, Keeps, segment_of}
@@ -61,6 +61,11 @@ untouched_same h side i v new same u = record {
 pub pair_kept : (old new : Block) (pair : EndpointPair) → KeepsOrForgets old new → new.names.pair ≡ Some pair → old.names.pair ≡ Some pair
 pair_kept old new pair (inl kept) e = sym (ap (λ (n : Names). n.pair) kept.names) ∙ e
 pair_kept old new pair (inr forgot) e = absurd (let none : None ≡ Some pair = sym (ap (λ (n : Names). n.pair) forgot.names) ∙ e in cc)
+
+-- where it is asked for a segment it may also give up, which takes a listener back
+pub pair_left : (old new : Block) (pair : EndpointPair) → IsLeftBy old new → new.names.pair ≡ Some pair → old.names.pair ≡ Some pair
+pair_left old new pair (inl falls) e = absurd (let none : None ≡ Some pair = sym (ap (λ (n : Names). n.pair) falls.names) ∙ e in cc)
+pair_left old new pair (inr kept) e = pair_kept old new pair kept e
 
 module _
     (places : Places) (h : List Entry) (side : Side) (p q : Party) (at : ℕ) (v : TcpValue) (allowed : AreAllowed places h)
@@ -121,11 +126,11 @@ module _
       → HostSteps h h side p (record (with_socket p at (Tcp (settled sent (offer_of cx v).socket))) { segments = offered_segments sent p (offer_of cx v).socket }) q
   offers_opened cx true o opened =
       opened_step o (offered_segments true p (offer_of cx v).socket) (settled true (offer_of cx v).socket) opened (offer_more cx o opened)
-      (ports_sent cx v (ports_of o) (ok.ports o opened)) (λ pair e. pair_kept v.block (settled true (offer_of cx v).socket).block pair (sent_names cx v) e)
+      (ports_sent cx v (ports_of o) (ok.ports o opened)) (λ pair e. pair_left v.block (settled true (offer_of cx v).socket).block pair (sent_names cx v) e)
       (λ w b keeps. keeps_hosted_offer cx v w (told h side at) b (ports_of o) p.segments keeps (ok.ports o opened))
   offers_opened cx false o opened =
       opened_step o p.segments (settled false (offer_of cx v).socket) opened (inl refl)
-      (ports_withheld cx v (ports_of o) (ok.ports o opened)) (λ pair e. pair_kept v.block (settled false (offer_of cx v).socket).block pair (withheld_names cx v) e)
+      (ports_withheld cx v (ports_of o) (ok.ports o opened)) (λ pair e. pair_left v.block (settled false (offer_of cx v).socket).block pair (withheld_names cx v) e)
       (λ w b keeps. keeps_unsent_offer cx v w (past_at o.local p.segments (told h side at)) b keeps)
 
   offers_untouched : (cx : ContextValue) (sent : Bool) → opening h side at ≡ None

@@ -1,5 +1,5 @@
 -- What an offer of a connection answers and leaves.
-use Rattle.std.proofs.Common.{◌≡◌, ℕ, Bool, true, false, if◌then◌else◌, Option, Some, None, refl, sym, ap, ◌∙◌}
+use Rattle.std.proofs.Common.{◌≡◌, ℕ, ◌==◌, Bool, true, false, if◌then◌else◌, Option, Some, None, refl, sym, ap, ◌∙◌}
 use Rattle.ip_wire.specs.TcpHeader.{TcpHeader}
 use Rattle.socket_base.specs.Context.{ContextValue}
 use Rattle.socket_base.specs.Offers.{Offered, IsBefore}
@@ -11,10 +11,13 @@ use Rattle.tcp_model.specs.EndpointPair.{EndpointPair}
 use Rattle.tcp_model.specs.OfferKind.{OfferKind}
 use Rattle.tcp_model.specs.OfferKind.TheVariants as Kind
 use Rattle.tcp_model.specs.Blocks.{forgotten}
+use Rattle.tcp_model.specs.Calls.{listening}
+use Rattle.tcp_model.specs.Checks.{falls_back}
 use Rattle.tcp_model.specs.Due.{poll_of}
 use Rattle.tcp_model.specs.Moments.{is_due}
-use Rattle.tcp_model.specs.Offers.{offered_packet, offer_segment, number_at, offer_choice, offer_ack, offer_syn, offer_reset, offer_keep_alive, silent, last_rules, first_rules, backed_off, offer_between, offer_with, offer_of}
+use Rattle.tcp_model.specs.Offers.{offered_packet, offer_segment, number_at, offer_choice, offer_ack, offer_syn, offer_reset, offer_keep_alive, offer_held_back, silent, last_rules, first_rules, backed_off, offer_between, offer_with, offer_of}
 use Rattle.tcp_model.specs.Probing.{probe_started, probe_moment}
+use Rattle.tcp_model.specs.Retries.{gives_up, given_up}
 use Rattle.tcp_model.specs.Rules.{Choice, time_wait_end, owes_syn, resends, ack_moment, has_text, text_choice, resend_choice, probe_choice, control_for, updates_window, keep_alive_moment, backed_off_now}
 use Rattle.tcp_model.specs.Segments.{segment, ack_segment, syn_segment, reset_segment, keep_alive_segment}
 use Rattle.tcp_model.specs.Settled.{settled}
@@ -63,18 +66,30 @@ module _ (cx : ContextValue) (v : TcpValue) (pair : EndpointPair) where
   unsaid b is =
       record { packet = tt; same = λ _. record { state = is.state; names = is.names; settings = is.settings; received = refl; queued = refl } }
 
+  -- it gives up
+  gives : (back : Bool) → IsSaid v (silent true (if back then listening (unoffered v) v.block.names.listen else with_block (unoffered v) (timed_out v.block)))
+  gives true = record { packet = tt; same = λ e. absurd (cc) }
+  gives false = record { packet = tt; same = λ e. absurd (cc) }
+
   ends : (b : Block) → IsSaid v (silent true (plain v b))
   ends b = record { packet = tt; same = λ e. absurd (cc) }
+
+  said_held_back : (b : Block) → IsSame v.block b → IsSaid v (offer_held_back cx (plain v b) pair)
+  said_held_back b is =
+      let w = plain v b in
+      let text = text_choice b pair.addresses cx.ip_mtu v.queued in
+      either v (b.peer.window == 0) (offer_choice Kind.Probe cx w pair probe_choice) (offer_choice Kind.Text cx w pair text)
+      (said_choice b is Kind.Probe probe_choice) (said_choice b is Kind.Text text)
 
   said_last : (b : Block) → IsSame v.block b → IsSaid v (last_rules cx (plain v b) pair)
   said_last b is =
       let w = plain v b in
       let fourth : Offered TcpValue = if is_due cx.moment (keep_alive_moment b) then offer_keep_alive cx w pair else silent false w in
-      let third : Offered TcpValue = if updates_window b (window_of w) then offer_ack Kind.WindowUpdate cx w pair else fourth in
+      let third : Offered TcpValue = if updates_window b (room_of v.received) (free_in v) then offer_ack Kind.WindowUpdate cx w pair else fourth in
       let second : Offered TcpValue = if is_due cx.moment (ack_moment b) then offer_ack Kind.Ack cx w pair else third in
-      either v (is_due cx.moment (probe_moment b (queued_in v))) (offer_choice Kind.Probe cx w pair probe_choice) second (said_choice b is Kind.Probe probe_choice)
+      either v (is_due cx.moment (probe_moment b (queued_in v))) (offer_held_back cx w pair) second (said_held_back b is)
       (either v (is_due cx.moment (ack_moment b)) (offer_ack Kind.Ack cx w pair) third (said_ack b is Kind.Ack)
-      (either v (updates_window b (window_of w)) (offer_ack Kind.WindowUpdate cx w pair) fourth (said_ack b is Kind.WindowUpdate)
+      (either v (updates_window b (room_of v.received) (free_in v)) (offer_ack Kind.WindowUpdate cx w pair) fourth (said_ack b is Kind.WindowUpdate)
       (either v (is_due cx.moment (keep_alive_moment b)) (offer_keep_alive cx w pair) (silent false w)
       (said b is Kind.KeepAlive (keep_alive_segment b pair cx.moment (window_of w)) 0 1) (unsaid b is))))
 
@@ -102,15 +117,17 @@ module _ (cx : ContextValue) (v : TcpValue) (pair : EndpointPair) where
       let going = backed_off cx.moment started in
       let first = first_rules cx (plain v going) pair in
       let reset : Offered TcpValue = if b.sender.reset_due then offer_reset cx w pair else silent false w in
-      let third : Offered TcpValue = if is_closed b.state then reset else first in
+      let over : Offered TcpValue = silent true (given_up w) in
+      let open_yet : Offered TcpValue = if gives_up cx.moment b (queued_in v) then over else first in
+      let third : Offered TcpValue = if is_closed b.state then reset else open_yet in
       let late = silent true (with_block w (timed_out b)) in
       let second : Offered TcpValue = if is_due cx.moment (timeout_end b (queued_in v)) then late else third in
       either v (is_due cx.moment (time_wait_end b)) (silent true (ended w)) second (ends (forgotten b))
       (either v (is_due cx.moment (timeout_end b (queued_in v))) late third (ends (timed_out b))
-      (either v (is_closed b.state) reset first
+      (either v (is_closed b.state) reset open_yet
       (either v b.sender.reset_due (offer_reset cx w pair) (silent false w)
       (said b same Kind.Reset (reset_segment b pair cx.moment (window_of w)) 0 0) (unsaid b same))
-      (said_first going (backed b (is_due cx.moment started.timers.retransmit_at) started (record { state = refl; names = refl; settings = refl })))))
+      (either v (gives_up cx.moment b (queued_in v)) over first (gives (falls_back b)) (said_first going (backed b (is_due cx.moment started.timers.retransmit_at) started (record { state = refl; names = refl; settings = refl }))))))
 
 said_with : (pair : Option EndpointPair) (cx : ContextValue) (v : TcpValue) → IsSaid v (offer_with pair cx (unoffered v))
 said_with None cx v =

@@ -1,5 +1,5 @@
 -- Moments, and when something is due.
-use Rattle.std.specs.Prelude.{ℕ, ◌*◌, min, ℤ, pos, ◌+ℤ◌, int_le, int_lt, Bool, false, if◌then◌else◌, Option, Some, None}
+use Rattle.std.specs.Prelude.{ℕ, ◌*◌, min, ℤ, pos, ◌+ℤ◌, int_le, int_lt, Bool, true, false, if◌then◌else◌, Option, Some, None}
 use Rattle.net_base.specs.Time.{last_moment}
 use Rattle.tcp_control.specs.RoundTrip.{RoundTripValue}
 
@@ -28,6 +28,11 @@ next_draw_from now = now +ℤ pos 1_000_000
 abbrev pub is_due : ℤ → Option ℤ → Bool
 is_due now None = false
 is_due now (Some moment) = int_le moment now
+
+-- a pause that ends at a moment is over, or there is none
+abbrev pub is_over : ℤ → Option ℤ → Bool
+is_over now None = true
+is_over now (Some moment) = is_due now (Some moment)
 
 -- the earlier of two moments
 abbrev pub earlier : ℤ → ℤ → ℤ

@@ -27,6 +27,14 @@ fresh = record { mss = 1024; cwnd = 2048; ssthresh = most; recovers = false; tim
 abbrev pub with_mss : RenoValue → ℕ → RenoValue
 with_mss r mss = record r { mss = mss }
 
+-- the first window of a connection (RFC 6928, 2)
+abbrev pub first_window : ℕ → ℕ
+first_window mss = min (10 * mss) (max (2 * mss) 14_600)
+
+-- a connection is there: its window is the first one, or one segment where its SYN was lost (RFC 5681, 3.1)
+abbrev pub started : RenoValue → Bool → RenoValue
+started r lost = record r { cwnd = if lost then r.mss else first_window r.mss }
+
 -- how much cwnd grows by, where so many bytes are acknowledged: in slow start, else in congestion avoidance (3.1, equations 2 and 3)
 abbrev pub growth : RenoValue → ℕ → ℕ
 growth r count = if nat_lt r.cwnd r.ssthresh then min count r.mss else max 1 (r.mss * r.mss / r.cwnd)
@@ -45,13 +53,16 @@ acknowledged r count =
       timed_out = false;
     }
 
--- the third duplicate came (3.2, steps 2 and 3)
+-- the third duplicate came (3.2, steps 2 and 3). After a timeout it may answer a segment that went again without need, and says nothing
+-- until new data is acknowledged (RFC 6582, 3.2 and 4.3).
 abbrev pub lost : RenoValue → ℕ → RenoValue
-lost r flight = record r { ssthresh = halved r flight; cwnd = min most (halved r flight + 3 * r.mss); recovers = true }
+lost r flight =
+    if r.timed_out then r
+    else record r { ssthresh = halved r flight; cwnd = min most (halved r flight + 3 * r.mss); recovers = true }
 
--- a duplicate beyond the third came (3.2, step 4)
+-- a duplicate beyond the third came: in recovery alone, which a timeout ends (3.2, step 4)
 abbrev pub inflated : RenoValue → RenoValue
-inflated r = record r { cwnd = min most (r.cwnd + r.mss) }
+inflated r = if r.recovers then record r { cwnd = min most (r.cwnd + r.mss) } else r
 
 -- the retransmission timer ran out (3.1, equation 4 and the text below it)
 abbrev pub timed_out : RenoValue → ℕ → RenoValue

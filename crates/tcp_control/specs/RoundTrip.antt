@@ -1,5 +1,5 @@
 -- The retransmission timeout (RFC 6298), in whole milliseconds: each division drops its rest.
-use Rattle.std.specs.Prelude.{ℕ, ◌+◌, ◌-◌, ◌*◌, ◌/◌, ◌^◌, ◌<◌, ◌≤◌, nat_le, min, max, ℤ, ◌-ℤ◌, unsigned_abs, int_lt, Option, Some, None, IfSome, if◌then◌else◌}
+use Rattle.std.specs.Prelude.{ℕ, ◌+◌, ◌-◌, ◌*◌, ◌/◌, ◌^◌, ◌<◌, ◌≤◌, nat_le, min, max, ℤ, ◌-ℤ◌, unsigned_abs, int_lt, Option, Some, None, is_none, IfSome, if◌then◌else◌}
 use Rattle.net_base.specs.Time.{IsMoment}
 use Rattle.tcp_control.specs.declared.round_trip.Estimate.{Estimate}
 use Rattle.tcp_control.specs.declared.round_trip.Sample.{Sample}
@@ -71,6 +71,10 @@ timing r ends now = timing_with r ends now r.sample
 -- what is timed is sent again: no sample may be taken of it (3)
 abbrev pub untimed : RoundTripValue → RoundTripValue
 untimed r = record r { sample = None }
+
+-- data begins to go after the SYN was lost: the timeout is three seconds, if no round trip is known (5.7)
+abbrev pub begun_late : RoundTripValue → RoundTripValue
+begun_late r = record r { timeout = if is_none r.estimate then 3000 else r.timeout }
 
 -- the timer ran out: the timeout is doubled (5.5)
 abbrev pub backed_off : RoundTripValue → RoundTripValue

@@ -1,7 +1,7 @@
 //! Moments, and when something is due.
 ghost use Rattle.std.specs.Prelude.{◌≡◌};
 ghost use Rattle.net_base.specs.Time.{IsMoment};
-ghost use Rattle.tcp_control.specs.Moments.{later, later_by, timeout_from, time_wait_from, next_draw_from, is_due, earlier};
+ghost use Rattle.tcp_control.specs.Moments.{later, later_by, timeout_from, time_wait_from, next_draw_from, is_due, is_over, earlier};
 
 use crate::RoundTrip;
 use net_base::{Duration, Instant};
@@ -64,6 +64,13 @@ pub fn is_due(now: Instant, moment: Option<Instant>) -> bool
         None => false,
         Some(moment) => moment <= now,
     }
+}
+
+/// Whether a pause that ends at a moment is over, or there is none.
+pub fn is_over(now: Instant, moment: Option<Instant>) -> bool
+    ensures { result ≡ is_over now moment }
+{
+    moment.is_none() || is_due(now, moment)
 }
 
 /// The earlier of two moments.

@@ -1,6 +1,6 @@
 //! Congestion control by slow start, congestion avoidance, fast retransmit and fast recovery (RFC 5681).
-ghost use Rattle.std.specs.Prelude.{◌≡◌, ◌≤◌, ℕ, true};
-ghost use Rattle.tcp_control.specs.Reno.{RenoValue, IsBounded, fresh, with_mss, growth, halved, acknowledged, lost, inflated, timed_out};
+ghost use Rattle.std.specs.Prelude.{◌≡◌, ◌≤◌, ℕ, true, false};
+ghost use Rattle.tcp_control.specs.Reno.{RenoValue, IsBounded, fresh, with_mss, first_window, started, growth, halved, acknowledged, lost, inflated, timed_out};
 
 use std::marker::Model;
 
@@ -10,6 +10,9 @@ const MOST: u32 = 1 << 30;
 const FIRST_MSS: u16 = 1024;
 
 const FIRST_WINDOW: u32 = 2048;
+
+/// How many bytes the first window of a connection holds, if that is between two segments and ten.
+const FIRST_BYTES: u32 = 14_600;
 
 /// The congestion window of a connection, and what it depends on. All counts are bytes.
 #[derive(Clone, Copy, Debug, PartialEq, Eq)]
@@ -63,6 +66,17 @@ impl Reno {
         self.mss = mss;
     }
 
+    /// The connection is there: its window is the first one, or one segment where its SYN was lost.
+    pub fn start(&mut self, lost: bool)
+        ensures { self.new ≡ started self.old lost }
+    {
+        self.cwnd = if lost {
+            self.mss as u32
+        } else {
+            first_window(self.mss)
+        };
+    }
+
     /// So many bytes were acknowledged.
     pub fn acknowledged(&mut self, count: usize)
         ensures { self.new ≡ acknowledged self.old count }
@@ -79,20 +93,26 @@ impl Reno {
         self.timed_out = false;
     }
 
-    /// The third duplicate came while so much was in flight.
+    /// The third duplicate came while so much was in flight. After a timeout it may answer a segment that
+    /// went again without need.
     pub fn lost(&mut self, flight: u32)
         ensures { self.new ≡ lost self.old flight }
     {
+        if self.timed_out {
+            return;
+        }
         self.ssthresh = self.halved(flight);
         self.cwnd = (self.ssthresh + 3 * self.mss as u32).min(MOST);
         self.recovers = true;
     }
 
-    /// A duplicate beyond the third came.
+    /// A duplicate beyond the third came: in recovery a segment has left.
     pub fn inflate(&mut self)
         ensures { self.new ≡ inflated self.old }
     {
-        self.cwnd = (self.cwnd + self.mss as u32).min(MOST);
+        if self.recovers {
+            self.cwnd = (self.cwnd + self.mss as u32).min(MOST);
+        }
     }
 
     /// The retransmission timer ran out while so much was in flight.
@@ -127,6 +147,13 @@ impl Reno {
     }
 }
 
+/// The first window of a connection.
+fn first_window(mss: u16) -> u32
+    ensures { result ≡ first_window mss }
+{
+    (10 * mss as u32).min((2 * mss as u32).max(FIRST_BYTES))
+}
+
 /// Runs on numerals: slow start, a loss with half of the window in flight, the end of recovery, and a
 /// timeout twice.
 pub fn congestion_windows()
@@ -134,12 +161,19 @@ pub fn congestion_windows()
     ensures avoidance { acknowledged (record fresh { cwnd = 4096; ssthresh = 4096 }) 1024 ≡ record fresh { cwnd = 4352; ssthresh = 4096 } }
     ensures loss { lost (record fresh { cwnd = 32768 }) 16384 ≡ record fresh { cwnd = 11264; ssthresh = 8192; recovers = true } }
     ensures recovery { acknowledged (inflated (lost (record fresh { cwnd = 32768 }) 16384)) 1 ≡ record fresh { cwnd = 8192; ssthresh = 8192 } }
+    ensures first { started fresh false ≡ record fresh { cwnd = 10_240 } }
+    ensures first_1460 { first_window 1460 ≡ 14_600 }
+    ensures first_9000 { first_window 9000 ≡ 18_000 }
     ensures timeouts { timed_out (timed_out (record fresh { cwnd = 32768 }) 16384) 1024 ≡ record fresh { cwnd = 1024; ssthresh = 8192; timed_out = true } }
 {}
 
-/// An acknowledgement of no bytes changes nothing, and a second timeout without new data acknowledged
-/// leaves the threshold.
+/// An acknowledgement of no bytes changes nothing, a second timeout without new data acknowledged
+/// leaves the threshold, and after a timeout the window stays one segment until something is
+/// acknowledged, however many duplicates come.
 pub fn congestion_laws()
+    ensures third { (r : RenoValue) (flight other : ℕ) → lost (timed_out r flight) other ≡ timed_out r flight }
+    ensures further { (r : RenoValue) (flight : ℕ) → inflated (timed_out r flight) ≡ timed_out r flight }
+    ensures one_segment { (r : RenoValue) (flight : ℕ) → (timed_out r flight).cwnd ≡ r.mss }
     ensures nothing { (r : RenoValue) → acknowledged r 0 ≡ r }
     ensures second { (r : RenoValue) (flight other : ℕ) → (timed_out (timed_out r flight) other).ssthresh ≡ (timed_out r flight).ssthresh }
 {}

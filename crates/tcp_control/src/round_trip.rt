@@ -1,7 +1,7 @@
 //! The retransmission timeout (RFC 6298), in whole milliseconds.
 ghost use Rattle.std.specs.Prelude.{◌≡◌, ◌<◌, ◌^◌, pos, Some};
 ghost use Rattle.net_base.specs.Time.{IsMoment};
-ghost use Rattle.tcp_control.specs.RoundTrip.{IsTimed, fresh, smoothed, timeout_of, measured, millis_between, advanced, timing, untimed, backed_off};
+ghost use Rattle.tcp_control.specs.RoundTrip.{IsTimed, fresh, smoothed, timeout_of, measured, millis_between, advanced, timing, untimed, begun_late, backed_off};
 
 use net_base::Instant;
 use std::marker::Model;
@@ -44,6 +44,8 @@ impl Model for RoundTrip {
 const LEAST_TIMEOUT: u16 = 1000;
 
 const MOST_TIMEOUT: u16 = 60_000;
+
+const LATE_TIMEOUT: u16 = 3000;
 
 impl RoundTrip {
     /// Nothing is known at the start of a connection: the timeout is a second.
@@ -98,6 +100,16 @@ impl RoundTrip {
         ensures { self.new ≡ untimed self.old }
     {
         self.sample = None;
+    }
+
+    /// Data begins to go after the SYN was lost: the timeout is three seconds, if no round trip is
+    /// known.
+    pub fn begin_late(&mut self)
+        ensures { self.new ≡ begun_late self.old }
+    {
+        if self.estimate.is_none() {
+            self.timeout = LATE_TIMEOUT;
+        }
     }
 
     /// Doubles the timeout.

@@ -1,37 +1,40 @@
 -- Drawn answers lie a second apart.
-use Rattle.std.proofs.Common.{◌≡◌, ℕ, ◌&&◌, ◌||◌, not, Bool, true, false, if◌then◌else◌, List, [], ◌∷◌, ◌++◌, length, nat_le, ◌==◌, Option, Some, None, is_some, ℤ, pos, ◌+ℤ◌, ◌≤ℤ◌, int_le, refl, sym, ap, ◌∙◌, subst, arith}
+use Rattle.std.proofs.Common.{◌≡◌, ℕ, ◌≤◌, ◌&&◌, ◌||◌, not, Bool, true, false, if◌then◌else◌, List, [], ◌∷◌, ◌++◌, length, nat_le, ◌==◌, Option, Some, None, is_some, ℤ, pos, ◌+ℤ◌, ◌≤ℤ◌, int_le, refl, sym, ap, ◌∙◌, subst, arith}
 use Rattle.std.proofs.lemmas.Bool.{cond_both}
+use Rattle.std.proofs.lemmas.Bool.Decides.{nat_tests}
 use Rattle.held_bytes.specs.Held.{runs_of}
 use Rattle.ip_wire.specs.IpRepr.{IpRepr}
 use Rattle.ip_wire.specs.TcpHeader.{TcpHeader}
 use Rattle.socket_base.specs.Context.{ContextValue}
 use Rattle.socket_base.specs.Offers.{Offered}
 use Rattle.tcp_control.specs.Controls.{is_syn, is_rst}
-use Rattle.tcp_control.specs.Moments.{is_due, next_draw_from}
-use Rattle.tcp_control.specs.States.{is_closed, is_listening, is_opening, is_answering, takes_writes, takes_text, after_close}
+use Rattle.tcp_control.specs.Moments.{is_due, is_over, next_draw_from}
+use Rattle.tcp_control.specs.Offsets.{before_by, past_by, meets_window}
+use Rattle.tcp_control.specs.States.{is_closed, is_listening, is_opening, is_answering, takes_writes, takes_text, after_close, after_ack, after_ack_of_fin}
 use Rattle.tcp_control.specs.declared.endpoints.EndpointPair.{EndpointPair}
 use Rattle.tcp_control.specs.declared.offer.OfferKind.{OfferKind}
 use Rattle.tcp_control.specs.declared.offer.OfferKind.TheVariants as Kind
 use Rattle.tcp_control.specs.declared.offer.OpenOffer.{OpenOffer}
 use Rattle.tcp_control.specs.declared.state.State.{State}
 use Rattle.tcp_control.specs.declared.state.State.TheVariants as In
-use Rattle.tcp_model.specs.Acknowledged.{acknowledged, in_state, una_moved, state_after_ack, ended_if, window_set, counted, duplicates_after}
+use Rattle.tcp_model.specs.Acknowledged.{acknowledged, block_acknowledged, acks_fin, in_state, una_moved, state_after_ack, ended_if, names_window, windowed, duplicates_after}
 use Rattle.tcp_model.specs.Answers.{may_draw, with_draw, drawn, acked, answer_for}
-use Rattle.tcp_model.specs.Arrival.{arrives, arrives_in, is_void_syn, outside, waiting_anew, inside, taken, continued, finished, checked}
+use Rattle.tcp_model.specs.Arrival.{arrives, arrives_in, is_void_syn, outside, tells_news, passed_outside, waiting_anew, inside, taken, told, with_content, continued, finished, checked, reset_comes, takes_reset, challenges_reset, challenges_syn}
 use Rattle.tcp_model.specs.Calls.{listening, send_after, close_after}
 use Rattle.tcp_model.specs.Checks.{Check, acknowledgement_check, is_in_window, falls_back, taken_down}
-use Rattle.tcp_model.specs.Checks.Check.{Passes, Drops, Draws, Resets}
-use Rattle.tcp_model.specs.Offers.{silent, offer_of, offer_with, offer_between, offer_reset, first_rules, last_rules, backed_off, offer_syn, offer_choice, offer_ack, offer_keep_alive}
+use Rattle.tcp_model.specs.Checks.Check.{Passes, Old, Drops, Draws, Resets}
+use Rattle.tcp_model.specs.Offers.{silent, offer_of, offer_with, offer_between, offer_reset, first_rules, last_rules, backed_off, offer_syn, offer_choice, offer_ack, offer_keep_alive, offer_held_back}
 use Rattle.tcp_model.specs.Opening.{opens, takes_answer, is_first_syn, acks_syn, connected, crossed}
-use Rattle.tcp_model.specs.Pauses.{Happening, Lasts, IsOneConnection, AreApart, after, drawn_moments, is_drawing, draws_in, draws_by, pause_of}
+use Rattle.tcp_model.specs.Pauses.{Happening, Lasts, IsOneConnection, AreApart, after, drawn_moments, is_drawing, draws_in, draws_any, draws_by, pause_of}
 use Rattle.tcp_model.specs.Pauses.Happening.{Comes, Asked, Called}
 use Rattle.tcp_model.specs.Probing.{probe_moment, probe_started}
+use Rattle.tcp_model.specs.Retries.{heard, asked, gives_up, given_up}
 use Rattle.tcp_model.specs.Rules.{owes_syn, resends, resend_choice, has_text, text_choice, ack_moment, updates_window, keep_alive_moment, probe_choice, backed_off_now, time_wait_end}
-use Rattle.tcp_model.specs.Segments.{rst_reply}
-use Rattle.tcp_model.specs.Settled.{settled, sent_as, recorded}
+use Rattle.tcp_model.specs.Segments.{segment_len, rst_reply}
+use Rattle.tcp_model.specs.Settled.{settled, sent_as, recorded, probed, end_of}
 use Rattle.tcp_model.specs.Text.{Texted, texted, with_text, with_text_at, with_bytes_at, taken_in_order, held_early, has_new_text, laid, takes_fin, with_fin, fin_taken}
 use Rattle.tcp_model.specs.Timeout.{timeout_end, timeout_started, timed_out}
-use Rattle.tcp_model.specs.Value.{TcpValue, Arrived, with_block, dropped, answered_with, unoffered, ended, queued_in, free_in, window_of}
+use Rattle.tcp_model.specs.Value.{TcpValue, Arrived, with_block, dropped, answered_with, unoffered, ended, queued_in, free_in, room_of}
 use Rattle.tcp_model.specs.declared.block.Block.{Block}
 
 -- CALLS AND OFFERS
@@ -44,22 +47,25 @@ close_pause v =
     cond_both (is_opening v.block.state) (ended (unoffered v)) (with_block (unoffered v) (record v.block { state = after_close v.block.state }))
     (λ (w : TcpValue). pause_of w ≡ pause_of v) (λ _. refl) (λ _. refl)
 
+asked_leaves : (b : Block) (now : ℤ) → (asked b now).timers.draws_from ≡ b.timers.draws_from
+asked_leaves b now = cond_both (is_over now b.timers.counts_from) _ b (λ (c : Block). c.timers.draws_from ≡ b.timers.draws_from) (λ _. refl) (λ _. refl)
+
 sent_pause : (kind : OfferKind) (b : Block) (o : OpenOffer) (queued : ℕ) → (sent_as kind b o queued).timers.draws_from ≡ b.timers.draws_from
 sent_pause Kind.Reset b o queued = refl
 sent_pause Kind.Syn b o queued = refl
 sent_pause Kind.FastRetransmission b o queued = refl
 sent_pause Kind.Text b o queued = refl
-sent_pause Kind.Probe b o queued = refl
+sent_pause Kind.Probe b o queued = asked_leaves (probed b (end_of b o) o.moment) o.moment
 sent_pause Kind.Ack b o queued = refl
 sent_pause Kind.WindowUpdate b o queued = refl
-sent_pause Kind.KeepAlive b o queued = refl
+sent_pause Kind.KeepAlive b o queued = asked_leaves b o.moment
 
 pub settled_pause : (v : TcpValue) (sent : Bool) → pause_of (settled sent v) ≡ pause_of v
 settled_pause v false = refl
 settled_pause v true = by v.offered refl where
   by : (offered : Option OpenOffer) → v.offered ≡ offered → pause_of (settled true v) ≡ pause_of v
   by None e = rw e refl
-  by (Some o) e = rw e (sent_pause o.kind (recorded v.block o) o (queued_in v))
+  by (Some o) e = rw e (sent_pause o.kind (recorded v.block o (room_of v.received)) o (queued_in v))
 
 -- an offer leaves the pause that the block had
 abbrev Leaves : Block → Offered TcpValue → Type 0
@@ -67,9 +73,11 @@ Leaves b o = pause_of o.socket ≡ b.timers.draws_from
 
 last_pause : (cx : ContextValue) (v : TcpValue) (pair : EndpointPair) → Leaves v.block (last_rules cx v pair)
 last_pause cx v pair =
-    cond_both (is_due cx.moment (probe_moment v.block (queued_in v))) (offer_choice Kind.Probe cx v pair probe_choice) _ (Leaves v.block) (λ _. refl)
+    cond_both (is_due cx.moment (probe_moment v.block (queued_in v))) (offer_held_back cx v pair) _ (Leaves v.block)
+    (λ _. cond_both (v.block.peer.window == 0) (offer_choice Kind.Probe cx v pair probe_choice)
+    (offer_choice Kind.Text cx v pair (text_choice v.block pair.addresses cx.ip_mtu v.queued)) (Leaves v.block) (λ _. refl) (λ _. refl))
     (λ _. cond_both (is_due cx.moment (ack_moment v.block)) (offer_ack Kind.Ack cx v pair) _ (Leaves v.block) (λ _. refl)
-    (λ _. cond_both (updates_window v.block (window_of v)) (offer_ack Kind.WindowUpdate cx v pair) _ (Leaves v.block) (λ _. refl)
+    (λ _. cond_both (updates_window v.block (room_of v.received) (free_in v)) (offer_ack Kind.WindowUpdate cx v pair) _ (Leaves v.block) (λ _. refl)
     (λ _. cond_both (is_due cx.moment (keep_alive_moment v.block)) (offer_keep_alive cx v pair) (silent false v) (Leaves v.block) (λ _. refl) (λ _. refl))))
 
 first_pause : (cx : ContextValue) (v : TcpValue) (pair : EndpointPair) → Leaves v.block (first_rules cx v pair)
@@ -83,23 +91,44 @@ backed_off_pause : (now : ℤ) (b : Block) → (backed_off now b).timers.draws_f
 backed_off_pause now b =
     cond_both (is_due now b.timers.retransmit_at) (backed_off_now b) b (λ (c : Block). c.timers.draws_from ≡ b.timers.draws_from) (λ _. refl) (λ _. refl)
 
-between_pause : (cx : ContextValue) (v : TcpValue) (pair : EndpointPair) → Leaves v.block (offer_between cx v pair)
-between_pause cx v pair =
-    cond_both (is_due cx.moment (time_wait_end v.block)) (silent true (ended v)) _ (Leaves v.block) (λ _. refl)
-    (λ _. cond_both (is_due cx.moment (timeout_end v.block (queued_in v))) (silent true (with_block v (timed_out v.block))) _ (Leaves v.block) (λ _. refl)
-    (λ _. cond_both (is_closed v.block.state) (if v.block.sender.reset_due then offer_reset cx v pair else silent false v) _ (Leaves v.block)
-    (λ _. cond_both v.block.sender.reset_due (offer_reset cx v pair) (silent false v) (Leaves v.block) (λ _. refl) (λ _. refl))
-    (λ _. first_pause cx (with_block v (backed_off cx.moment (timeout_started cx.moment (queued_in v) v.block))) pair
-    ∙ backed_off_pause cx.moment (timeout_started cx.moment (queued_in v) v.block))))
+-- a socket that is taken back to LISTEN wasn't there
+not_there : (b : Block) → falls_back b ≡ true → is_listening b.state ≡ false
+not_there b = by b.state where
+  by : (state : State) → (is_answering state && not (b.names.listen.port == 0)) ≡ true → is_listening state ≡ false
+  by In.SynReceived e = refl
+  by other e = absurd (cc)
 
-offer_pause : (cx : ContextValue) (v : TcpValue) → Leaves v.block (offer_of cx v)
+-- a socket that was taken back to LISTEN begins anew; any other has the pause that the block had
+abbrev LeavesWhere : Block → TcpValue → Type 0
+LeavesWhere b w = (is_listening w.block.state ≡ true → is_listening b.state ≡ true) → pause_of w ≡ b.timers.draws_from
+
+end_pause : (v : TcpValue) → LeavesWhere v.block (given_up v)
+end_pause v =
+    cond_both (falls_back v.block) (listening v v.block.names.listen) (with_block v (timed_out v.block)) (LeavesWhere v.block)
+    (λ back lasts. absurd (let clash : true ≡ false = sym (lasts refl) ∙ not_there v.block back in cc))
+    (λ _ _. refl)
+
+between_pause : (cx : ContextValue) (v : TcpValue) (pair : EndpointPair) → LeavesWhere v.block (offer_between cx v pair).socket
+between_pause cx v pair =
+    cond_both (is_due cx.moment (time_wait_end v.block)) (silent true (ended v)) _ LeavesSo (λ _ _. refl)
+    (λ _. cond_both (is_due cx.moment (timeout_end v.block (queued_in v))) (silent true (with_block v (timed_out v.block))) _ LeavesSo (λ _ _. refl)
+    (λ _. cond_both (is_closed v.block.state) (if v.block.sender.reset_due then offer_reset cx v pair else silent false v) _ LeavesSo
+    (λ _. cond_both v.block.sender.reset_due (offer_reset cx v pair) (silent false v) LeavesSo (λ _ _. refl) (λ _ _. refl))
+    (λ _. cond_both (gives_up cx.moment v.block (queued_in v)) (silent true (given_up v)) _ LeavesSo (λ _. end_pause v)
+    (λ _ _. first_pause cx (with_block v (backed_off cx.moment (timeout_started cx.moment (queued_in v) v.block))) pair
+    ∙ backed_off_pause cx.moment (timeout_started cx.moment (queued_in v) v.block)))))
+  where
+    LeavesSo : Offered TcpValue → Type 0
+    LeavesSo o = LeavesWhere v.block o.socket
+
+offer_pause : (cx : ContextValue) (v : TcpValue) → LeavesWhere v.block (offer_of cx v).socket
 offer_pause cx v = by v.block.names.pair where
-  by : (pair : Option EndpointPair) → Leaves v.block (offer_with pair cx (unoffered v))
-  by None = refl
+  by : (pair : Option EndpointPair) → LeavesWhere v.block (offer_with pair cx (unoffered v)).socket
+  by None = λ _. refl
   by (Some pair) = between_pause cx (unoffered v) pair
 
-asked_pause : (cx : ContextValue) (v : TcpValue) (sent : Bool) → pause_of (settled sent (offer_of cx v).socket) ≡ pause_of v
-asked_pause cx v sent = settled_pause (offer_of cx v).socket sent ∙ offer_pause cx v
+asked_pause : (cx : ContextValue) (v : TcpValue) (sent : Bool) → Lasts v (Asked cx sent) → pause_of (settled sent (offer_of cx v).socket) ≡ pause_of v
+asked_pause cx v sent lasts = settled_pause (offer_of cx v).socket sent ∙ offer_pause cx v lasts
 
 if_so : {A : Type 0} (t : Bool) (x y : A) → t ≡ true → (if t then x else y) ≡ x
 if_so t x y e = ap (λ (test : Bool). if test then x else y) e
@@ -114,7 +143,7 @@ Keeps pause a = pause_of a.socket ≡ pause
 
 text_pause : (v : TcpValue) (place : ℕ) (bytes : List ℕ) → pause_of (with_text_at v place bytes).socket ≡ pause_of v
 text_pause v place bytes =
-    cond_both (takes_text v.block.state && has_new_text v place bytes) (with_bytes_at v place bytes) (texted v 0 None) Kept
+    cond_both (takes_text v.block.state && has_new_text v place bytes) (with_bytes_at v place bytes) (texted v 0 false None) Kept
     (λ _. cond_both (place == 0) (taken_in_order v (laid v place bytes)) (held_early v place (laid v place bytes)) Kept (λ _. refl) (λ _. held))
     (λ _. refl)
   where
@@ -122,11 +151,11 @@ text_pause v place bytes =
     Kept t = pause_of t.socket ≡ pause_of v
 
     held : Kept (held_early v place (laid v place bytes))
-    held = cond_both (nat_le (length (runs_of (laid v place bytes))) 4) _ (texted v 0 None) Kept (λ _. refl) (λ _. refl)
+    held = cond_both (nat_le (length (runs_of (laid v place bytes))) 4) _ (texted v 0 false None) Kept (λ _. refl) (λ _. refl)
 
-answer_pause : (cx : ContextValue) (v : TcpValue) (ip : IpRepr) (header : TcpHeader) (size : ℕ) (early : Option ℕ) → Keeps (pause_of v) (answer_for cx v ip header size early)
-answer_pause cx v ip header size None = refl
-answer_pause cx v ip header size (Some place) = refl
+answer_pause : (cx : ContextValue) (v : TcpValue) (ip : IpRepr) (header : TcpHeader) (size : ℕ) (fills : Bool) (early : Option ℕ) → Keeps (pause_of v) (answer_for cx v ip header size fills early)
+answer_pause cx v ip header size fills None = refl
+answer_pause cx v ip header size fills (Some place) = refl
 
 fin_pause : (b old : Block) (header : TcpHeader) (size advance : ℕ) (now : ℤ) → (with_fin b old header size advance now).timers.draws_from ≡ b.timers.draws_from
 fin_pause b old header size advance now =
@@ -134,7 +163,7 @@ fin_pause b old header size advance now =
 
 finished_pause : (cx : ContextValue) (old : Block) (t : Texted) (ip : IpRepr) (header : TcpHeader) (size : ℕ) → Keeps (pause_of t.socket) (finished cx old t ip header size)
 finished_pause cx old t ip header size =
-    answer_pause cx _ ip header size t.early ∙ fin_pause t.socket.block old header size t.advance cx.moment
+    answer_pause cx _ ip header size t.fills t.early ∙ fin_pause t.socket.block old header size t.advance cx.moment
 
 acknowledged_pause : (v : TcpValue) (by : ℕ) (now : ℤ) → pause_of (acknowledged v by now) ≡ pause_of v
 acknowledged_pause v by now = either (is_closed (state_after_ack v.block by (queued_in v))) where
@@ -142,13 +171,20 @@ acknowledged_pause v by now = either (is_closed (state_after_ack v.block by (que
   either true = refl
   either false = refl
 
+content_pause : (cx : ContextValue) (v : TcpValue) (ip : IpRepr) (header : TcpHeader) (bytes : List ℕ) → Keeps (pause_of v) (with_content cx v ip header bytes)
+content_pause cx v ip header bytes = finished_pause cx v.block (with_text v header bytes) ip header (length bytes) ∙ text_pause v _ _
+
+told_pause : (v : TcpValue) (header : TcpHeader) (duplicates : ℕ) (now : ℤ) → pause_of (told v header duplicates now) ≡ pause_of v
+told_pause v header duplicates now =
+    cond_both (names_window v.block header) (windowed v.block header) v.block (λ (b : Block). b.timers.draws_from ≡ pause_of v) (λ _. refl) (λ _. refl)
+
 continued_pause :
     (cx : ContextValue) (old : Block) (v : TcpValue) (ip : IpRepr) (header : TcpHeader) (bytes : List ℕ) (by : ℕ)
     → Keeps (pause_of v) (continued cx old v ip header bytes by)
 continued_pause cx old v ip header bytes by =
-    let windowed : TcpValue = with_block v (counted (window_set v.block header) (duplicates_after old header (length bytes) by)) in
-    cond_both (is_closed v.block.state) (dropped v) (finished cx v.block (with_text windowed header bytes) ip header (length bytes)) (Keeps (pause_of v)) (λ _. refl)
-    (λ _. finished_pause cx v.block (with_text windowed header bytes) ip header (length bytes) ∙ text_pause windowed _ _)
+    let heard_of : TcpValue = told v header (duplicates_after old header (length bytes) by) cx.moment in
+    cond_both (is_closed v.block.state) (dropped v) (with_content cx heard_of ip header bytes) (Keeps (pause_of v)) (λ _. refl)
+    (λ _. content_pause cx heard_of ip header bytes ∙ told_pause v header (duplicates_after old header (length bytes) by) cx.moment)
 
 taken_pause :
     (cx : ContextValue) (v : TcpValue) (ip : IpRepr) (header : TcpHeader) (bytes : List ℕ) (by : ℕ) → Keeps (pause_of v) (taken cx v ip header bytes by)
@@ -171,13 +207,6 @@ drawn_moves cx v w ip header same =
     (λ over. record { answered = λ _. sym (ap (may_draw cx.moment) (sym same) ∙ over); paused = λ _ _. refl; left = λ e _. absurd (cc) })
     (λ early. record { answered = λ _. sym (ap (may_draw cx.moment) (sym same) ∙ early); paused = λ _ e. absurd (cc); left = λ _ _. same })
 
--- a socket that a reset takes back to LISTEN wasn't there
-not_there : (b : Block) → falls_back b ≡ true → is_listening b.state ≡ false
-not_there b = by b.state where
-  by : (state : State) → (is_answering state && not (b.names.listen.port == 0)) ≡ true → is_listening state ≡ false
-  by In.SynReceived e = refl
-  by other e = absurd (cc)
-
 down_moves : (cx : ContextValue) (v : TcpValue) → Moves cx v false (dropped (taken_down v))
 down_moves cx v =
     cond_both (falls_back v.block) (listening v v.block.names.listen) (ended v) (λ (w : TcpValue). Moves cx v false (dropped w))
@@ -189,36 +218,57 @@ down_moves cx v =
     (λ _. undrawn cx v (dropped (ended v)) refl)
 
 module _ (cx : ContextValue) (v : TcpValue) (ip : IpRepr) (header : TcpHeader) (bytes : List ℕ) where
-  abbrev In_window : Bool
-  In_window = is_in_window v.block (free_in v) header (length bytes)
+  inside_moves : (by : ℕ) → Moves cx v (is_syn header.control) (inside cx v ip header bytes by)
+  inside_moves by = other (is_syn header.control) where
+    other : (syn : Bool) → Moves cx v syn (if syn then drawn cx v ip header else taken cx v ip header bytes by)
+    other true = drawn_moves cx v v ip header refl
+    other false = undrawn cx v (taken cx v ip header bytes by) (taken_pause cx v ip header bytes by)
 
-  inside_moves : (by : ℕ) (rst : Bool) → is_rst header.control ≡ rst → Moves cx v (not rst && is_syn header.control) (inside cx v ip header bytes by)
-  inside_moves by true e =
-      subst (Moves cx v false) (sym (if_so (is_rst header.control) (dropped (taken_down v)) _ e)) (down_moves cx v)
-  inside_moves by false e =
-      subst (Moves cx v (is_syn header.control)) (sym (if_not (is_rst header.control) (dropped (taken_down v)) _ e)) (other (is_syn header.control))
-    where
-      other : (syn : Bool) → Moves cx v syn (if syn then drawn cx v ip header else taken cx v ip header bytes by)
-      other true = drawn_moves cx v v ip header refl
-      other false = undrawn cx v (taken cx v ip header bytes by) (taken_pause cx v ip header bytes by)
+  outside_moves : (w : TcpValue) → pause_of w ≡ pause_of v → Moves cx v (not (is_closed w.block.state)) (outside cx w ip header)
+  outside_moves w same = by (is_closed w.block.state) where
+    by : (closed : Bool) → Moves cx v (not closed) (if closed then dropped w else drawn cx (waiting_anew w header cx.moment) ip header)
+    by true = undrawn cx v (dropped w) same
+    by false = drawn_moves cx v (waiting_anew w header cx.moment) ip header same
 
-  outside_moves : (rst : Bool) → is_rst header.control ≡ rst → Moves cx v (not rst) (outside cx v ip header)
-  outside_moves true e = subst (Moves cx v false) (sym (if_so (is_rst header.control) (dropped v) _ e)) (undrawn cx v (dropped v) refl)
-  outside_moves false e =
-      subst (Moves cx v true) (sym (if_not (is_rst header.control) (dropped v) _ e)) (drawn_moves cx v (waiting_anew v header cx.moment) ip header refl)
+  -- whether a segment outside the window draws an answer
+  abbrev Draws_outside : ℕ → Bool → Bool
+  Draws_outside by tells =
+      if tells then not (is_closed (block_acknowledged v.block by (queued_in v) cx.moment).state) else not (is_closed v.block.state)
 
-  passed_moves : (by : ℕ) (meets rst : Bool) → is_rst header.control ≡ rst → Moves cx v (not rst && (not meets || is_syn header.control)) (if meets then inside cx v ip header bytes by else outside cx v ip header)
-  passed_moves by true rst e = inside_moves by rst e
-  passed_moves by false true e = outside_moves true e
-  passed_moves by false false e = outside_moves false e
+  passed_outside_moves : (by : ℕ) (tells : Bool)
+      → Moves cx v (Draws_outside by tells) (if tells then outside cx (acknowledged v by cx.moment) ip header else outside cx v ip header)
+  passed_outside_moves by true = outside_moves (acknowledged v by cx.moment) (acknowledged_pause v by cx.moment)
+  passed_outside_moves by false = outside_moves v refl
 
-  checked_moves : (check : Check) → Moves cx v (draws_by check v header (length bytes)) (checked check cx v ip header bytes)
-  checked_moves (Passes by) =
-      subst (λ (rst : Bool). Moves cx v (not rst && (not In_window || is_syn header.control)) (checked (Passes by) cx v ip header bytes)) refl
-      (passed_moves by In_window (is_rst header.control) refl)
+  passed_moves : (by : ℕ) (meets : Bool)
+      → Moves cx v (if meets then is_syn header.control else Draws_outside by (tells_news v header (length bytes))) (if meets then inside cx v ip header bytes by else passed_outside cx v ip header (length bytes) by)
+  passed_moves by true = inside_moves by
+  passed_moves by false = passed_outside_moves by (tells_news v header (length bytes))
+
+  old_moves : (meets : Bool)
+      → Moves cx v (not meets && not (is_closed v.block.state)) (if meets then with_content cx (with_block v (heard v.block)) ip header bytes else outside cx v ip header)
+  old_moves true = undrawn cx v _ (content_pause cx (with_block v (heard v.block)) ip header bytes)
+  old_moves false = outside_moves v refl
+
+  checked_moves : (check : Check) → Moves cx v (draws_by check cx v header (length bytes)) (checked check cx v ip header bytes)
+  checked_moves (Passes by) = passed_moves by (is_in_window v.block (free_in v) header (length bytes))
+  checked_moves Old = old_moves (is_in_window v.block (free_in v) header (length bytes))
   checked_moves Drops = undrawn cx v (dropped v) refl
   checked_moves Draws = drawn_moves cx v v ip header refl
   checked_moves Resets = undrawn cx v (answered_with v (rst_reply ip header (length bytes))) refl
+
+  reset_moves : (takes challenges : Bool)
+      → Moves cx v (not takes && challenges) (if takes then dropped (taken_down v) else if challenges then drawn cx v ip header else dropped v)
+  reset_moves true challenges = down_moves cx v
+  reset_moves false true = drawn_moves cx v v ip header refl
+  reset_moves false false = undrawn cx v (dropped v) refl
+
+  received_moves : (rst syn : Bool)
+      → Moves cx v (if rst then not (takes_reset v.block header) && challenges_reset v header (length bytes) else if syn then true else draws_by (acknowledgement_check v.block header.ack_number) cx v header (length bytes))
+      (if rst then reset_comes cx v ip header (length bytes) else if syn then drawn cx v ip header else checked (acknowledgement_check v.block header.ack_number) cx v ip header bytes)
+  received_moves true syn = reset_moves (takes_reset v.block header) (challenges_reset v header (length bytes))
+  received_moves false true = drawn_moves cx v v ip header refl
+  received_moves false false = checked_moves (acknowledgement_check v.block header.ack_number)
 
   opens_pause : Keeps (pause_of v) (opens cx v ip header)
   opens_pause = cond_both (is_first_syn header) _ (dropped v) (Keeps (pause_of v)) (λ _. refl) (λ _. refl)
@@ -234,41 +284,105 @@ module _ (cx : ContextValue) (v : TcpValue) (ip : IpRepr) (header : TcpHeader) (
       (λ _. cond_both (is_some header.ack_number && not (acks_syn v.block.sender.una header.ack_number)) (answered_with v (rst_reply ip header (length bytes))) _ (Keeps (pause_of v)) (λ _. refl)
       (λ _. cond_both (is_syn header.control) _ (dropped v) (Keeps (pause_of v)) (λ _. syn_pause (is_some header.ack_number)) (λ _. refl)))
 
-  moves_in : (state : State) → Moves cx v (draws_in state v header (length bytes)) (arrives_in state cx v ip header bytes)
+  moves_in : (state : State) → Moves cx v (draws_in state cx v header (length bytes)) (arrives_in state cx v ip header bytes)
   moves_in In.Closed = undrawn cx v (dropped v) refl
   moves_in In.Listen = undrawn cx v (opens cx v ip header) opens_pause
   moves_in In.SynSent = undrawn cx v (takes_answer cx v ip header bytes) answer_taken_pause
-  moves_in other = checked_moves (acknowledgement_check v.block (queued_in v) header)
+  moves_in other = received_moves (is_rst header.control) (challenges_syn v.block header)
 
-same_draws : (v : TcpValue) (header : TcpHeader) (size : ℕ) (state : State) → draws_in state (unoffered v) header size ≡ draws_in state v header size
-same_draws v header size In.Closed = refl
-same_draws v header size In.Listen = refl
-same_draws v header size In.SynSent = refl
-same_draws v header size other = by (acknowledgement_check v.block (queued_in v) header) where
-  by : (check : Check) → draws_by check (unoffered v) header size ≡ draws_by check v header size
-  by (Passes count) = refl
-  by Draws = refl
-  by Drops = refl
-  by Resets = refl
+same_draws : (cx : ContextValue) (v : TcpValue) (header : TcpHeader) (size : ℕ) (state : State) → draws_in state cx (unoffered v) header size ≡ draws_in state cx v header size
+same_draws cx v header size In.Closed = refl
+same_draws cx v header size In.Listen = refl
+same_draws cx v header size In.SynSent = refl
+same_draws cx v header size other =
+    ap (λ (t : Bool). if is_rst header.control then not (takes_reset v.block header) && challenges_reset v header size else if challenges_syn v.block header then true else t)
+    (by (acknowledgement_check v.block header.ack_number))
+  where
+    by : (check : Check) → draws_by check cx (unoffered v) header size ≡ draws_by check cx v header size
+    by (Passes count) = refl
+    by Old = refl
+    by Draws = refl
+    by Drops = refl
+    by Resets = refl
 
 moves_by : (cx : ContextValue) (v : TcpValue) (ip : IpRepr) (header : TcpHeader) (bytes : List ℕ) (void : Bool)
-    → Moves cx (unoffered v) (not void && draws_in v.block.state v header (length bytes)) (if void then dropped (unoffered v) else arrives_in v.block.state cx (unoffered v) ip header bytes)
+    → Moves cx (unoffered v) (not void && draws_in v.block.state cx v header (length bytes)) (if void then dropped (unoffered v) else arrives_in v.block.state cx (unoffered v) ip header bytes)
 moves_by cx v ip header bytes true = undrawn cx (unoffered v) (dropped (unoffered v)) refl
 moves_by cx v ip header bytes false =
-    subst (λ (draws : Bool). Moves cx (unoffered v) draws (arrives_in v.block.state cx (unoffered v) ip header bytes)) (same_draws v header (length bytes) v.block.state)
+    subst (λ (draws : Bool). Moves cx (unoffered v) draws (arrives_in v.block.state cx (unoffered v) ip header bytes)) (same_draws cx v header (length bytes) v.block.state)
     (moves_in cx (unoffered v) ip header bytes v.block.state)
 
 moves : (cx : ContextValue) (v : TcpValue) (ip : IpRepr) (header : TcpHeader) (bytes : List ℕ)
-    → Moves cx (unoffered v) (is_drawing v header bytes) (arrives cx v ip header bytes)
+    → Moves cx (unoffered v) (is_drawing cx v header bytes) (arrives cx v ip header bytes)
 moves cx v ip header bytes = moves_by cx v ip header bytes (is_void_syn header)
 
-pub drawn_after_pause : (cx : ContextValue) (v : TcpValue) (ip : IpRepr) (header : TcpHeader) (bytes : List ℕ) → is_drawing v header bytes ≡ true
+pub drawn_after_pause : (cx : ContextValue) (v : TcpValue) (ip : IpRepr) (header : TcpHeader) (bytes : List ℕ) → is_drawing cx v header bytes ≡ true
     → is_some (arrives cx v ip header bytes).answer ≡ may_draw cx.moment (pause_of v)
 drawn_after_pause cx v ip header bytes e = (moves cx v ip header bytes).answered e
 
-pub pause_begins : (cx : ContextValue) (v : TcpValue) (ip : IpRepr) (header : TcpHeader) (bytes : List ℕ) → is_drawing v header bytes ≡ true
+pub pause_begins : (cx : ContextValue) (v : TcpValue) (ip : IpRepr) (header : TcpHeader) (bytes : List ℕ) → is_drawing cx v header bytes ≡ true
     → is_some (arrives cx v ip header bytes).answer ≡ true → pause_of (arrives cx v ip header bytes).socket ≡ Some (cx.moment +ℤ pos 1_000_000)
 pause_begins cx v ip header bytes e answered = (moves cx v ip header bytes).paused e answered
+
+-- A CLOSED WINDOW
+
+-- nothing that has length meets it
+pub nothing_meets : (b : Block) (header : TcpHeader) (size : ℕ) → 1 ≤ segment_len header size → is_in_window b 0 header size ≡ false
+nothing_meets b header size long = closed_window (segment_len header size) (before_by b.receiver.next header.seq_number) (past_by b.receiver.next header.seq_number) long where
+  closed_window : (n before past : ℕ) → 1 ≤ n → meets_window before past n 0 ≡ false
+  closed_window n before past h = grind (arith, nat_tests, h)
+
+-- text is taken before LAST-ACK
+stays_open : (state : State) (ends : Bool) → takes_text state ≡ true → is_closed (if ends then after_ack_of_fin state else after_ack state) ≡ false
+stays_open In.Established true takes = refl
+stays_open In.Established false takes = refl
+stays_open In.FinWait1 true takes = refl
+stays_open In.FinWait1 false takes = refl
+stays_open In.FinWait2 true takes = refl
+stays_open In.FinWait2 false takes = refl
+stays_open other ends takes = absurd (cc)
+
+is_open : (state : State) → takes_text state ≡ true → is_closed state ≡ false
+is_open In.Closed takes = absurd (cc)
+is_open other takes = refl
+
+acknowledged_open : (b : Block) (by queued : ℕ) (now : ℤ) → takes_text b.state ≡ true → is_closed (block_acknowledged b by queued now).state ≡ false
+acknowledged_open b by queued now takes =
+    let opened = stays_open b.state (acks_fin b by queued) takes in
+    ap (λ (ends : Bool). is_closed (ended_if ends (in_state (una_moved b by queued now) (state_after_ack b by queued) now)).state) opened ∙ opened
+
+pub closed_draws : (cx : ContextValue) (v : TcpValue) (header : TcpHeader) (bytes : List ℕ) (by : ℕ) → takes_text v.block.state ≡ true → free_in v ≡ 0
+    → 1 ≤ segment_len header (length bytes) → is_rst header.control ≡ false → is_void_syn header ≡ false
+    → acknowledgement_check v.block header.ack_number ≡ Passes by → is_drawing cx v header bytes ≡ true
+closed_draws cx v header bytes by takes closed long no_reset sized passes =
+    ap (λ (void : Bool). not void && draws_in v.block.state cx v header (length bytes)) sized ∙ (in_text v.block.state takes ∙ any)
+  where
+    in_text : (state : State) → takes_text state ≡ true → draws_in state cx v header (length bytes) ≡ draws_any cx v header (length bytes)
+    in_text In.Closed e = absurd (cc)
+    in_text In.Listen e = absurd (cc)
+    in_text In.SynSent e = absurd (cc)
+    in_text other e = refl
+
+    out : is_in_window v.block (free_in v) header (length bytes) ≡ false
+    out = ap (λ (space : ℕ). is_in_window v.block space header (length bytes)) closed ∙ nothing_meets v.block header (length bytes) long
+
+    either : (tells : Bool) → (if tells then not (is_closed (block_acknowledged v.block by (queued_in v) cx.moment).state) else not (is_closed v.block.state)) ≡ true
+    either true = ap not (acknowledged_open v.block by (queued_in v) cx.moment takes)
+    either false = ap not (is_open v.block.state takes)
+
+    passed : draws_by (acknowledgement_check v.block header.ack_number) cx v header (length bytes) ≡ true
+    passed =
+        ap (λ (check : Check). draws_by check cx v header (length bytes)) passes
+        ∙ (if_not (is_in_window v.block (free_in v) header (length bytes)) (is_syn header.control) _ out ∙ either (tells_news v header (length bytes)))
+
+    so : (syn t : Bool) → t ≡ true → (if syn then true else t) ≡ true
+    so true t e = refl
+    so false t e = e
+
+    any : draws_any cx v header (length bytes) ≡ true
+    any =
+        if_not (is_rst header.control) (not (takes_reset v.block header) && challenges_reset v header (length bytes)) _ no_reset
+        ∙ so (challenges_syn v.block header) _ passed
 
 -- RUNS
 
@@ -298,7 +412,7 @@ no_moment (Some from) = tt
 
 comes_spaced :
     (cx : ContextValue) (v : TcpValue) (ip : IpRepr) (header : TcpHeader) (bytes : List ℕ) (ms : List ℤ) (draws : Bool)
-    → is_drawing v header bytes ≡ draws → Lasts v (Comes cx ip header bytes) → Spaced (arrives cx v ip header bytes).socket ms
+    → is_drawing cx v header bytes ≡ draws → Lasts v (Comes cx ip header bytes) → Spaced (arrives cx v ip header bytes).socket ms
     → (answers : Bool) → is_some (arrives cx v ip header bytes).answer ≡ answers
     → Spaced v ((if draws && answers then cx.moment ∷ [] else []) ++ ms)
 comes_spaced cx v ip header bytes ms true e lasts s true f =
@@ -326,10 +440,10 @@ kept_spaced v w ms same s = record { from = subst (λ (pause : Option ℤ). From
 spaced : (v : TcpValue) (run : List Happening) → IsOneConnection v run → Spaced v (drawn_moments v run)
 spaced v [] one = record { from = no_moment (pause_of v); apart = tt }
 spaced v (Comes cx ip header bytes ∷ more) one =
-    comes_spaced cx v ip header bytes (drawn_moments (after v (Comes cx ip header bytes)) more) (is_drawing v header bytes) refl one.0
+    comes_spaced cx v ip header bytes (drawn_moments (after v (Comes cx ip header bytes)) more) (is_drawing cx v header bytes) refl one.0
     (spaced (after v (Comes cx ip header bytes)) more one.1) (is_some (arrives cx v ip header bytes).answer) refl
 spaced v (Asked cx sent ∷ more) one =
-    kept_spaced v (after v (Asked cx sent)) _ (asked_pause cx v sent) (spaced (after v (Asked cx sent)) more one.1)
+    kept_spaced v (after v (Asked cx sent)) _ (asked_pause cx v sent one.0) (spaced (after v (Asked cx sent)) more one.1)
 spaced v (Called new ∷ more) one = kept_spaced v new _ one.0 (spaced new more one.1)
 
 pub drawn_apart : (v : TcpValue) (run : List Happening) → IsOneConnection v run → AreApart (drawn_moments v run)

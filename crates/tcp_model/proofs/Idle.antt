@@ -1,5 +1,5 @@
 -- An offer that does nothing comes before the due moment.
-use Rattle.std.proofs.Common.{◌≡◌, Bool, true, false, ◌||◌, ◌&&◌, is_none, if◌then◌else◌, ℤ, ◌<ℤ◌, int_lt, int_le, Option, Some, None, List, [], ◌∷◌, refl, sym, ap, ◌∙◌, subst, arith}
+use Rattle.std.proofs.Common.{◌≡◌, Bool, true, false, ◌||◌, ◌&&◌, ◌==◌, is_none, if◌then◌else◌, ℤ, ◌<ℤ◌, int_lt, int_le, Option, Some, None, List, [], ◌∷◌, refl, sym, ap, ◌∙◌, subst, arith}
 use Rattle.std.proofs.lemmas.Bool.{cond_both}
 use Rattle.socket_base.specs.Offers.{IsBefore, Offered, offered_as}
 use Rattle.socket_base.specs.Context.{ContextValue}
@@ -11,14 +11,15 @@ use Rattle.tcp_control.specs.declared.endpoints.EndpointPair.{EndpointPair}
 use Rattle.tcp_control.specs.declared.offer.OfferKind.TheVariants as Kind
 use Rattle.tcp_model.specs.Due.{wishes, moments, any, earlier_of, earliest, at_moment, poll_open, poll_between, poll_with, poll_of}
 use Rattle.tcp_control.specs.Moments.{is_due, timeout_from}
-use Rattle.tcp_model.specs.Offers.{silent, offer_syn, offer_choice, offer_ack, offer_keep_alive, offer_reset, first_rules, last_rules, backed_off, offer_between, offer_with, offer_of}
+use Rattle.tcp_model.specs.Offers.{silent, offer_syn, offer_choice, offer_ack, offer_keep_alive, offer_held_back, offer_reset, first_rules, last_rules, backed_off, offer_between, offer_with, offer_of}
 use Rattle.tcp_model.specs.Probing.{probe_started, probe_moment, is_probe_unset, is_probing}
 use Rattle.tcp_model.specs.Quiet.{IsQuiet, AreLater}
+use Rattle.tcp_model.specs.Retries.{gives_up, given_up}
 use Rattle.tcp_model.specs.Rules.{time_wait_end, owes_syn, resends, ack_moment, has_text, text_choice, resend_choice, probe_choice, updates_window, keep_alive_moment, backed_off_now}
 use Rattle.tcp_model.specs.Settled.{settled}
 use Rattle.tcp_control.specs.States.{is_closed}
 use Rattle.tcp_model.specs.Timeout.{timeout_end, timeout_started, timeout_runs, is_timeout_unset, with_timeout_since, timed_out}
-use Rattle.tcp_model.specs.Value.{TcpValue, with_block, unoffered, ended, queued_in, window_of}
+use Rattle.tcp_model.specs.Value.{TcpValue, with_block, unoffered, ended, queued_in, free_in, room_of}
 use Rattle.tcp_model.proofs.Waits.{same_poll}
 
 -- an answer that isn't silence, or a change that is told
@@ -38,28 +39,36 @@ packet v w e = let same = ap (λ (o : Offered TcpValue). o.answer) e in absurd (
 record IsQuietLast (cx : ContextValue) (v : TcpValue) : Type 0 where
   probe : is_due cx.moment (probe_moment v.block (queued_in v)) ≡ false
   ack : is_due cx.moment (ack_moment v.block) ≡ false
-  window_update : updates_window v.block (window_of v) ≡ false
+  window_update : updates_window v.block (room_of v.received) (free_in v) ≡ false
   keep_alive : is_due cx.moment (keep_alive_moment v.block) ≡ false
 
 module _ (cx : ContextValue) (pair : EndpointPair) (v : TcpValue) where
+  held_back : (w : TcpValue) → IsSilent (offer_held_back cx w pair) v → ⊥
+  held_back w =
+      cond_both (w.block.peer.window == 0) (offer_choice Kind.Probe cx w pair probe_choice)
+      (offer_choice Kind.Text cx w pair (text_choice w.block pair.addresses cx.ip_mtu w.queued))
+      (λ (o : Offered TcpValue). IsSilent o v → ⊥)
+      (λ _ e. packet v (offer_choice Kind.Probe cx w pair probe_choice).socket e)
+      (λ _ e. packet v (offer_choice Kind.Text cx w pair (text_choice w.block pair.addresses cx.ip_mtu w.queued)).socket e)
+
   idle_last : (w : TcpValue) → IsSilent (last_rules cx w pair) v → (w ≡ v) × IsQuietLast cx w
   idle_last w =
-      cond_both (is_due cx.moment (probe_moment w.block (queued_in w))) (offer_choice Kind.Probe cx w pair probe_choice)
+      cond_both (is_due cx.moment (probe_moment w.block (queued_in w))) (offer_held_back cx w pair)
       (if is_due cx.moment (ack_moment w.block) then offer_ack Kind.Ack cx w pair
-      else if updates_window w.block (window_of w) then offer_ack Kind.WindowUpdate cx w pair
+      else if updates_window w.block (room_of w.received) (free_in w) then offer_ack Kind.WindowUpdate cx w pair
       else if is_due cx.moment (keep_alive_moment w.block) then offer_keep_alive cx w pair
       else silent false w)
       (λ (o : Offered TcpValue). IsSilent o v → (w ≡ v) × IsQuietLast cx w)
-      (λ _ e. absurd (packet v (offer_choice Kind.Probe cx w pair probe_choice).socket e))
+      (λ _ e. absurd (held_back w e))
       (λ no_probe.
       cond_both (is_due cx.moment (ack_moment w.block)) (offer_ack Kind.Ack cx w pair)
-      (if updates_window w.block (window_of w) then offer_ack Kind.WindowUpdate cx w pair
+      (if updates_window w.block (room_of w.received) (free_in w) then offer_ack Kind.WindowUpdate cx w pair
       else if is_due cx.moment (keep_alive_moment w.block) then offer_keep_alive cx w pair
       else silent false w)
       (λ (o : Offered TcpValue). IsSilent o v → (w ≡ v) × IsQuietLast cx w)
       (λ _ e. absurd (packet v (offer_ack Kind.Ack cx w pair).socket e))
       (λ no_ack.
-      cond_both (updates_window w.block (window_of w)) (offer_ack Kind.WindowUpdate cx w pair)
+      cond_both (updates_window w.block (room_of w.received) (free_in w)) (offer_ack Kind.WindowUpdate cx w pair)
       (if is_due cx.moment (keep_alive_moment w.block) then offer_keep_alive cx w pair else silent false w)
       (λ (o : Offered TcpValue). IsSilent o v → (w ≡ v) × IsQuietLast cx w)
       (λ _ e. absurd (packet v (offer_ack Kind.WindowUpdate cx w pair).socket e))
@@ -202,11 +211,11 @@ all_before now (m ∷ ms) later = both_before now m (earliest ms) later.0 (all_b
 
 quiet_before : (cx : ContextValue) (v : TcpValue) (pair : EndpointPair) → IsQuiet cx v pair → IsBefore cx.moment (poll_open cx.ip_mtu v pair)
 quiet_before cx v pair q =
-    let none : any (wishes v.block pair.addresses cx.ip_mtu v.queued (queued_in v) (window_of v)) ≡ false =
+    let none : any (wishes v.block pair.addresses cx.ip_mtu v.queued (queued_in v) (room_of v.received) (free_in v)) ≡ false =
     neither _ _ q.syn (neither _ _ q.third_duplicate (neither _ _ q.text (neither _ _ q.window_update (neither _ _ q.timeout_set (neither _ _ q.probe_set refl))))) in
     let later : AreLater cx.moment (moments v.block (queued_in v)) = (q.time_wait, (q.timeout, (q.retransmission, (q.probe, (q.ack, (q.keep_alive, tt)))))) in
     subst (λ (at : PollAt). IsBefore cx.moment at)
-    (sym (if_not (any (wishes v.block pair.addresses cx.ip_mtu v.queued (queued_in v) (window_of v))) At.Now (at_moment (earliest (moments v.block (queued_in v)))) none))
+    (sym (if_not (any (wishes v.block pair.addresses cx.ip_mtu v.queued (queued_in v) (room_of v.received) (free_in v))) At.Now (at_moment (earliest (moments v.block (queued_in v)))) none))
     (all_before cx.moment (moments v.block (queued_in v)) later)
 
 idle_closed : (cx : ContextValue) (v : TcpValue) (pair : EndpointPair) → IsSilent (if v.block.sender.reset_due then offer_reset cx v pair else silent false v) v → IsBefore cx.moment (if v.block.sender.reset_due then At.Now else At.Ingress)
@@ -220,12 +229,14 @@ idle_between cx v pair =
     cond_both (is_due cx.moment (time_wait_end v.block)) (silent true (ended v))
     (if is_due cx.moment (timeout_end v.block (queued_in v)) then silent true (with_block v (timed_out v.block))
     else if is_closed v.block.state then (if v.block.sender.reset_due then offer_reset cx v pair else silent false v)
+    else if gives_up cx.moment v.block (queued_in v) then silent true (given_up v)
     else first_rules cx (with_block v (retried cx pair v)) pair)
     (λ (o : Offered TcpValue). IsSilent o v → IsBefore cx.moment (poll_between cx.ip_mtu v pair))
     (λ _ e. absurd (told v (ended v) e))
     (λ no_end.
     cond_both (is_due cx.moment (timeout_end v.block (queued_in v))) (silent true (with_block v (timed_out v.block)))
     (if is_closed v.block.state then (if v.block.sender.reset_due then offer_reset cx v pair else silent false v)
+    else if gives_up cx.moment v.block (queued_in v) then silent true (given_up v)
     else first_rules cx (with_block v (retried cx pair v)) pair)
     (λ (o : Offered TcpValue). IsSilent o v → IsBefore cx.moment (poll_between cx.ip_mtu v pair))
     (λ _ e. absurd (told v (with_block v (timed_out v.block)) e))
@@ -233,11 +244,14 @@ idle_between cx v pair =
   where
     by :
         is_due cx.moment (time_wait_end v.block) ≡ false → is_due cx.moment (timeout_end v.block (queued_in v)) ≡ false → (closed : Bool)
-        → IsSilent (if closed then (if v.block.sender.reset_due then offer_reset cx v pair else silent false v) else first_rules cx (with_block v (retried cx pair v)) pair) v
+        → IsSilent (if closed then (if v.block.sender.reset_due then offer_reset cx v pair else silent false v) else if gives_up cx.moment v.block (queued_in v) then silent true (given_up v) else first_rules cx (with_block v (retried cx pair v)) pair) v
         → IsBefore cx.moment (if closed then (if v.block.sender.reset_due then At.Now else At.Ingress) else poll_open cx.ip_mtu v pair)
     by no_end no_timeout true e = idle_closed cx v pair e
-    by no_end no_timeout false e =
-        quiet_before cx v pair (quiet cx pair v no_end no_timeout (idle_first cx pair v (with_block v (retried cx pair v)) e))
+    by no_end no_timeout false e = still (gives_up cx.moment v.block (queued_in v)) e where
+      still : (ends : Bool) → IsSilent (if ends then silent true (given_up v) else first_rules cx (with_block v (retried cx pair v)) pair) v → IsBefore cx.moment (poll_open cx.ip_mtu v pair)
+      still true told_so = absurd (told v (given_up v) told_so)
+      still false silence =
+          quiet_before cx v pair (quiet cx pair v no_end no_timeout (idle_first cx pair v (with_block v (retried cx pair v)) silence))
 
 idle_with : (names : Option EndpointPair) (cx : ContextValue) (v : TcpValue) → IsSilent (offer_with names cx v) v → IsBefore cx.moment (poll_with names cx.ip_mtu v)
 idle_with None cx v e = tt

@@ -1,5 +1,6 @@
 -- The reset that a socket owes.
-use Rattle.std.proofs.Common.{◌≡◌, ℕ, ◌&&◌, not, Bool, true, false, if◌then◌else◌, List, Option, Some, None, IfSome, is_some, ℤ, refl, sym, ap, ◌∙◌, subst}
+use Rattle.std.proofs.Common.{◌≡◌, ℕ, ◌&&◌, ◌||◌, not, Bool, true, false, if◌then◌else◌, List, Option, Some, None, IfSome, is_some, ℤ, refl, sym, ap, ◌∙◌, subst}
+use Rattle.std.proofs.lemmas.Bool.{cond_both}
 use Rattle.ip_wire.specs.IpRepr.{IpRepr}
 use Rattle.ip_wire.specs.TcpHeader.{TcpHeader}
 use Rattle.socket_base.specs.Context.{ContextValue}
@@ -13,14 +14,16 @@ use Rattle.tcp_control.specs.declared.state.State.{State}
 use Rattle.tcp_control.specs.declared.state.State.TheVariants as In
 use Rattle.tcp_model.specs.Aborts.{OwesReset, IsResetOf}
 use Rattle.tcp_model.specs.Arrival.{arrives, arrives_in, is_void_syn}
-use Rattle.tcp_model.specs.Calls.{send_after, recv_after, close_after, abort_after}
+use Rattle.tcp_model.specs.Calls.{listening, send_after, recv_after, close_after, abort_after}
+use Rattle.tcp_model.specs.Checks.{falls_back}
 use Rattle.tcp_model.specs.Due.{poll_of, poll_with}
 use Rattle.tcp_model.specs.Names.{accepts, accepts_in}
-use Rattle.tcp_model.specs.Offers.{offer_of, offer_with, offer_reset}
+use Rattle.tcp_model.specs.Offers.{silent, offer_of, offer_with, offer_reset}
+use Rattle.tcp_model.specs.Retries.{gives_up}
 use Rattle.tcp_model.specs.Rules.{time_wait_end}
 use Rattle.tcp_model.specs.Settings.{with_settings}
 use Rattle.tcp_model.specs.Settled.{settled}
-use Rattle.tcp_model.specs.Timeout.{timeout_end, end_by, waits_for_remote}
+use Rattle.tcp_model.specs.Timeout.{timeout_end, end_by, waits_for_remote, timed_out}
 use Rattle.tcp_model.specs.Value.{TcpValue, Arrived, with_block, dropped, unoffered, ended, queued_in}
 use Rattle.tcp_model.specs.declared.block.Block.{Block}
 use Rattle.tcp_model.specs.declared.block.Settings.{Settings}
@@ -31,11 +34,22 @@ if_so t x y e = ap (λ (test : Bool). if test then x else y) e
 if_not : {A : Type 0} (t : Bool) (x y : A) → t ≡ false → (if t then x else y) ≡ y
 if_not t x y e = ap (λ (test : Bool). if test then x else y) e
 
-pub aborted : (v : TcpValue) (pair : EndpointPair) → v.block.names.pair ≡ Some pair → OwesReset (abort_after v) pair
-aborted v pair e = record { state = refl; endpoints = e; due = ap is_some e }
+-- an abort outside TIME-WAIT
+abbrev down : TcpValue → TcpValue
+down v = with_block (unoffered v) (record v.block { state = In.Closed; sender = record v.block.sender { reset_due = is_some v.block.names.pair } })
+
+pub aborted : (v : TcpValue) (pair : EndpointPair) → v.block.names.pair ≡ Some pair → is_time_wait v.block.state ≡ false → OwesReset (abort_after v) pair
+aborted v pair e stays =
+    subst (λ (after : TcpValue). OwesReset after pair) (sym (if_not (is_time_wait v.block.state) (ended (unoffered v)) (down v) stays))
+    (record { state = refl; endpoints = e; due = ap is_some e })
 
 pub owes_nothing : (ip_mtu : ℕ) (v : TcpValue) → v.block.names.pair ≡ None → poll_of ip_mtu (abort_after v) ≡ At.Ingress
-owes_nothing ip_mtu v e = ap (λ (p : Option EndpointPair). poll_with p ip_mtu (abort_after v)) e
+owes_nothing ip_mtu v e =
+    cond_both (is_time_wait v.block.state) (ended (unoffered v)) (down v) (λ (after : TcpValue). poll_of ip_mtu after ≡ At.Ingress) (λ _. refl)
+    (λ _. ap (λ (p : Option EndpointPair). poll_with p ip_mtu (down v)) e)
+
+pub waited : (ip_mtu : ℕ) (v : TcpValue) → is_time_wait v.block.state ≡ true → poll_of ip_mtu (abort_after v) ≡ At.Ingress
+waited ip_mtu v e = ap (poll_of ip_mtu) (if_so (is_time_wait v.block.state) (ended (unoffered v)) (down v) e)
 
 pub ran_out :
     (cx : ContextValue) (v : TcpValue) (pair : EndpointPair) → v.block.names.pair ≡ Some pair → is_due cx.moment (time_wait_end v.block) ≡ false
@@ -45,6 +59,19 @@ ran_out cx v pair e no_wait out =
     (sym
     (ap (λ (p : Option EndpointPair). offer_with p cx (unoffered v)) e
     ∙ (if_not (is_due cx.moment (time_wait_end v.block)) _ _ no_wait ∙ if_so (is_due cx.moment (timeout_end v.block (queued_in v))) _ _ out)))
+    (record { state = refl; endpoints = e; due = refl })
+
+pub gave_up :
+    (cx : ContextValue) (v : TcpValue) (pair : EndpointPair) → v.block.names.pair ≡ Some pair → is_due cx.moment (time_wait_end v.block) ≡ false
+    → is_due cx.moment (timeout_end v.block (queued_in v)) ≡ false → is_closed v.block.state ≡ false → gives_up cx.moment v.block (queued_in v) ≡ true
+    → falls_back v.block ≡ false → OwesReset (offer_of cx v).socket pair
+gave_up cx v pair e no_wait no_timeout opened ends stays =
+    subst (λ (o : Offered TcpValue). OwesReset o.socket pair)
+    (sym
+    (ap (λ (p : Option EndpointPair). offer_with p cx (unoffered v)) e
+    ∙ (if_not (is_due cx.moment (time_wait_end v.block)) _ _ no_wait ∙ (if_not (is_due cx.moment (timeout_end v.block (queued_in v))) _ _ no_timeout
+    ∙ (if_not (is_closed v.block.state) _ _ opened ∙ (if_so (gives_up cx.moment v.block (queued_in v)) _ _ ends
+    ∙ ap (silent true) (if_not (falls_back v.block) (listening (unoffered v) v.block.names.listen) (with_block (unoffered v) (timed_out v.block)) stays)))))))
     (record { state = refl; endpoints = e; due = refl })
 
 -- in CLOSED no moment counts
@@ -58,7 +85,7 @@ closed_runs_not false waits = refl
 no_timeout : (now : ℤ) (b : Block) (queued : ℕ) → b.state ≡ In.Closed → is_due now (timeout_end b queued) ≡ false
 no_timeout now b queued e =
     ap (λ (runs : Bool). is_due now (if runs then end_by b.timers.timeout_since b.settings.timeout else None))
-    (ap (λ (state : State). is_some b.settings.timeout && (not (is_closed state) && waits_for_remote b queued)) e
+    (ap (λ (state : State). is_some b.settings.timeout && (not (is_closed state || is_time_wait state) && waits_for_remote b queued)) e
     ∙ closed_runs_not (is_some b.settings.timeout) (waits_for_remote b queued))
 
 offers_reset : (cx : ContextValue) (v : TcpValue) (pair : EndpointPair) → OwesReset v pair → offer_of cx v ≡ offer_reset cx (unoffered v) pair
@@ -111,7 +138,7 @@ close_waits v pair owes =
     (record { state = refl; endpoints = owes.endpoints; due = owes.due })
 
 pub abort_waits : (v : TcpValue) (pair : EndpointPair) → OwesReset v pair → OwesReset (abort_after v) pair
-abort_waits v pair owes = aborted v pair owes.endpoints
+abort_waits v pair owes = aborted v pair owes.endpoints (ap is_time_wait owes.state)
 
 pub send_waits : (v : TcpValue) (pair : EndpointPair) (bytes : List ℕ) → OwesReset v pair → OwesReset (send_after v bytes) pair
 send_waits v pair bytes owes =

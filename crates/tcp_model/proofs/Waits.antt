@@ -1,5 +1,5 @@
 -- Before the due moment no rule applies.
-use Rattle.std.proofs.Common.{◌≡◌, ℕ, Bool, true, false, ◌||◌, ◌&&◌, not, is_some, if◌then◌else◌, ℤ, ◌<ℤ◌, int_lt, int_le, Option, Some, None, List, [], ◌∷◌, refl, sym, ap, ◌∙◌, subst, arith}
+use Rattle.std.proofs.Common.{◌≡◌, ℕ, ◌+◌, Bool, true, false, ◌||◌, ◌&&◌, not, is_some, if◌then◌else◌, ℤ, ◌<ℤ◌, int_lt, int_le, Option, Some, None, List, [], ◌∷◌, refl, sym, ap, ◌∙◌, subst, arith}
 use Rattle.socket_base.specs.Offers.{IsBefore, Offered, offered_as}
 use Rattle.socket_base.specs.Context.{ContextValue}
 use Rattle.socket_base.specs.declared.offer.Offer.TheVariants as Answer
@@ -13,12 +13,13 @@ use Rattle.tcp_model.specs.Offers.{silent, first_rules, last_rules, backed_off, 
 use Rattle.tcp_model.specs.Quiet.{IsQuiet, AreLater}
 use Rattle.tcp_control.specs.declared.state.State.{State}
 use Rattle.tcp_control.specs.declared.state.State.TheVariants as In
-use Rattle.tcp_model.specs.Probing.{probe_started, with_probe_at}
-use Rattle.tcp_model.specs.Rules.{time_wait_end}
+use Rattle.tcp_model.specs.Probing.{probe_started, probe_moment, with_probe_at}
+use Rattle.tcp_model.specs.Retries.{gives_up, is_last_timeout, is_last_question, reaches, retries_of}
+use Rattle.tcp_model.specs.Rules.{time_wait_end, keep_alive_moment}
 use Rattle.tcp_control.specs.States.{is_closed, is_time_wait}
 use Rattle.tcp_model.specs.Settled.{settled}
 use Rattle.tcp_model.specs.Timeout.{timeout_started, with_timeout_since, timeout_end, end_by, waits_for_remote}
-use Rattle.tcp_model.specs.Value.{TcpValue, with_block, unoffered, queued_in, window_of}
+use Rattle.tcp_model.specs.Value.{TcpValue, with_block, unoffered, queued_in, free_in, room_of}
 
 not_due : (now moment : ℤ) → now <ℤ moment → int_le moment now ≡ false
 not_due now moment h = grind (arith)
@@ -49,7 +50,7 @@ not_now now false moment h = (refl, h)
 -- what the answer of an open socket says of each rule
 pub is_quiet : (cx : ContextValue) (v : TcpValue) (pair : EndpointPair) → IsBefore cx.moment (poll_open cx.ip_mtu v pair) → IsQuiet cx v pair
 is_quiet cx v pair h =
-    let waits = not_now cx.moment (any (wishes v.block pair.addresses cx.ip_mtu v.queued (queued_in v) (window_of v))) (earliest (moments v.block (queued_in v))) h in
+    let waits = not_now cx.moment (any (wishes v.block pair.addresses cx.ip_mtu v.queued (queued_in v) (room_of v.received) (free_in v))) (earliest (moments v.block (queued_in v))) h in
     let w1 = no_first _ _ waits.0 in
     let w2 = no_first _ _ w1.1 in
     let w3 = no_first _ _ w2.1 in
@@ -92,10 +93,24 @@ no_moment_set : (cx : ContextValue) (v : TcpValue) (pair : EndpointPair) → IsQ
 no_moment_set cx v pair q = ap (λ (unset : Bool). backed_off cx.moment (with_timeout_since v.block (if unset then Some cx.moment else v.block.timers.timeout_since))) q.timeout_set
     ∙ if_not _ _ _ q.retransmission
 
+neither : (a b : Bool) → a ≡ false → b ≡ false → (a || b) ≡ false
+neither true b e f = absurd (cc)
+neither false b e f = f
+
+not_both : (a b : Bool) → a ≡ false → (a && b) ≡ false
+not_both true b e = absurd (cc)
+not_both false b e = refl
+
+no_end : (cx : ContextValue) (v : TcpValue) (pair : EndpointPair) → IsQuiet cx v pair → gives_up cx.moment v.block (queued_in v) ≡ false
+no_end cx v pair q =
+    neither (is_last_timeout cx.moment v.block) (is_last_question cx.moment v.block (queued_in v))
+    (not_both (is_due cx.moment v.block.timers.retransmit_at) (reaches (retries_of v.block) (v.block.sender.timeouts + 1)) q.retransmission)
+    (not_both _ _ (neither (is_due cx.moment (probe_moment v.block (queued_in v))) (is_due cx.moment (keep_alive_moment v.block)) q.probe q.keep_alive))
+
 quiet_open : (cx : ContextValue) (v : TcpValue) (pair : EndpointPair) → is_closed v.block.state ≡ false → IsQuiet cx v pair → offer_between cx v pair ≡ silent false v
 quiet_open cx v pair e q =
-    if_not _ _ _ q.time_wait ∙ (if_not _ _ _ q.timeout ∙ (if_not _ _ _ e
-    ∙ (ap (λ (b : Block). first_rules cx (with_block v b) pair) (no_moment_set cx v pair q) ∙ quiet_first cx v pair q)))
+    if_not _ _ _ q.time_wait ∙ (if_not _ _ _ q.timeout ∙ (if_not _ _ _ e ∙ (if_not _ _ _ (no_end cx v pair q)
+    ∙ (ap (λ (b : Block). first_rules cx (with_block v b) pair) (no_moment_set cx v pair q) ∙ quiet_first cx v pair q))))
 
 -- in CLOSED no moment counts
 no_time_wait : (now : ℤ) (b : Block) → is_closed b.state ≡ true → is_due now (time_wait_end b) ≡ false
@@ -104,15 +119,15 @@ no_time_wait now b e = by b.state refl where
   by In.TimeWait at = absurd (let clash : false ≡ true = sym (ap is_closed at) ∙ e in cc)
   by other at = refl
 
-closed_runs_not : (set closed waits : Bool) → closed ≡ true → (set && (not closed && waits)) ≡ false
-closed_runs_not true true waits e = refl
-closed_runs_not true false waits e = absurd (cc)
-closed_runs_not false closed waits e = refl
+closed_runs_not : (set closed ends waits : Bool) → closed ≡ true → (set && (not (closed || ends) && waits)) ≡ false
+closed_runs_not true true ends waits e = refl
+closed_runs_not true false ends waits e = absurd (cc)
+closed_runs_not false closed ends waits e = refl
 
 no_timeout : (now : ℤ) (b : Block) (queued : ℕ) → is_closed b.state ≡ true → is_due now (timeout_end b queued) ≡ false
 no_timeout now b queued e =
     ap (λ (runs : Bool). is_due now (if runs then end_by b.timers.timeout_since b.settings.timeout else None))
-    (closed_runs_not (is_some b.settings.timeout) (is_closed b.state) (waits_for_remote b queued) e)
+    (closed_runs_not (is_some b.settings.timeout) (is_closed b.state) (is_time_wait b.state) (waits_for_remote b queued) e)
 
 no_reset : (now : ℤ) (due : Bool) → IsBefore now (if due then At.Now else At.Ingress) → due ≡ false
 no_reset now true h = absurd h

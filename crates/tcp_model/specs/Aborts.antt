@@ -6,7 +6,7 @@ use Rattle.tcp_control.specs.declared.offer.OfferKind.TheVariants as Kind
 use Rattle.tcp_control.specs.declared.offer.OpenOffer.{OpenOffer}
 use Rattle.tcp_control.specs.declared.state.State.TheVariants as In
 use Rattle.tcp_model.specs.declared.block.Block.{Block}
-use Rattle.tcp_model.specs.Blocks.{nxt}
+use Rattle.tcp_model.specs.Blocks.{top}
 use Rattle.tcp_model.specs.Segments.{next_if_heard}
 use Rattle.tcp_model.specs.Value.{TcpValue}
 
@@ -16,11 +16,11 @@ pub record OwesReset (v : TcpValue) (pair : EndpointPair) : Type 0 where
   pub endpoints : v.block.names.pair ≡ Some pair
   pub due : v.block.sender.reset_due ≡ true
 
--- an offer is a reset of this connection: at SND.NXT, with the acknowledgement of what came, if a SYN did
+-- an offer is a reset of this connection: past all that was sent, with the acknowledgement of what came, if a SYN did
 pub record IsResetOf (b : Block) (pair : EndpointPair) (o : OpenOffer) : Type 0 where
   pub kind : o.kind ≡ Kind.Reset
   pub control : o.segment.control ≡ Control.Rst
-  pub number : o.segment.seq_number ≡ nxt b
+  pub number : o.segment.seq_number ≡ top b
   pub acknowledgement : o.segment.ack_number ≡ next_if_heard b
   pub from : o.segment.src_port ≡ pair.local_port
   pub to : o.segment.dst_port ≡ pair.remote_port

@@ -1,6 +1,7 @@
 -- The acknowledgement and the window of an accepted segment (RFC 9293, 3.10.7.4, fifth): SND.UNA rises by so much, and so many
 -- bytes are queued before that.
-use Rattle.std.specs.Prelude.{ℕ, ◌+◌, ◌-◌, ◌*◌, ◌^◌, ◌==◌, not, ◌&&◌, ◌||◌, min, ℤ, Bool, true, false, if◌then◌else◌, Option, Some, None}
+use Rattle.std.specs.Prelude.{ℕ, ◌+◌, ◌-◌, ◌*◌, ◌^◌, ◌==◌, nat_lt, not, ◌&&◌, ◌||◌, min, max, ℤ, Bool, true, false, if◌then◌else◌, List, [], ◌∷◌, Option, Some, None}
+use Rattle.ip_wire.specs.SeqNumber.{SeqNumber}
 use Rattle.ip_wire.specs.Options.{capped}
 use Rattle.ip_wire.specs.TcpHeader.{TcpHeader}
 use Rattle.net_base.specs.Ring.{released}
@@ -11,7 +12,7 @@ use Rattle.tcp_control.specs.declared.state.State.{State}
 use Rattle.tcp_model.specs.Blocks.{one_if, unacked, forgotten}
 use Rattle.tcp_control.specs.Controls.{or_recent, is_fin}
 use Rattle.tcp_control.specs.Moments.{timeout_from, time_wait_from}
-use Rattle.tcp_control.specs.Offsets.{behind_by}
+use Rattle.tcp_control.specs.Offsets.{behind_by, past_by, before_by}
 use Rattle.tcp_control.specs.Reno as reno
 use Rattle.tcp_control.specs.Reno.{RenoValue}
 use Rattle.tcp_control.specs.RoundTrip as round_trip
@@ -26,9 +27,14 @@ freed_by b by queued = min (by - one_if b.sender.syn_unacked) queued
 abbrev pub sender_moved : Sender → ℕ → Sender
 sender_moved s by = record s {
   una = behind_by s.una by;
+  past_iss = min (s.past_iss + by) 4_294_967_295;
   syn_unacked = s.syn_unacked && (by == 0);
   in_flight = s.in_flight - by;
+  top = s.top - by;
+  sacked = s.sacked - by;
   resend = s.resend && (by == 0);
+  timeouts = 0;
+  unanswered = 0;
 }
 
 -- a new acknowledgement restarts the retransmission timer, or ends it where nothing is in flight (RFC 6298, 5.2 and 5.3)
@@ -36,15 +42,30 @@ abbrev pub retransmit_after : Timers → ℕ → ℕ → ℤ → RoundTripValue 
 retransmit_after t by flight now r =
     if by == 0 then t.retransmit_at else if flight == 0 then None else Some (timeout_from now r)
 
+-- the own SYN is acknowledged
+abbrev pub acks_own_syn : Block → ℕ → Bool
+acks_own_syn b by = b.sender.syn_unacked && not (by == 0)
+
+-- the round trip, where a connection may begin after its SYN was lost
+abbrev pub round_trip_after : Block → ℕ → ℤ → RoundTripValue
+round_trip_after b by now =
+    if acks_own_syn b by && b.sender.syn_lost then round_trip.begun_late (round_trip.advanced b.round_trip by now)
+    else round_trip.advanced b.round_trip by now
+
+-- a connection begins with its first window; later the window grows by what is acknowledged
+abbrev pub reno_after : Block → ℕ → ℕ → RenoValue
+reno_after b by queued =
+    if acks_own_syn b by then reno.started b.reno b.sender.syn_lost else reno.acknowledged b.reno (freed_by b by queued)
+
 -- SND.UNA rises: sender, retransmission timer, round trip and congestion
 abbrev pub una_moved : Block → ℕ → ℕ → ℤ → Block
 una_moved b by queued now = record b {
   sender = sender_moved b.sender by;
   timers = record b.timers {
-    retransmit_at = retransmit_after b.timers by (b.sender.in_flight - by) now (round_trip.advanced b.round_trip by now);
+    retransmit_at = retransmit_after b.timers by (b.sender.in_flight - by) now (round_trip_after b by now);
   };
-  round_trip = round_trip.advanced b.round_trip by now;
-  reno = reno.acknowledged b.reno (freed_by b by queued);
+  round_trip = round_trip_after b by now;
+  reno = reno_after b by queued;
 }
 
 -- the FIN is acknowledged
@@ -84,20 +105,63 @@ abbrev pub scaled : Option ℕ → ℕ → ℕ
 scaled None field = field
 scaled (Some scale) field = field * 2 ^ capped scale
 
-abbrev pub window_set : Block → TcpHeader → Block
-window_set b header = record b {
+-- the acknowledgement isn't less than the one before
+abbrev pub acks_no_less : SeqNumber → Option SeqNumber → Bool
+acks_no_less last None = true
+acks_no_less last (Some n) = before_by last n == 0
+
+-- a segment that is no older than the one that set the window last, by its sequence number, and with the same one by its acknowledgement
+abbrev pub names_window : Block → TcpHeader → Bool
+names_window b header =
+    (before_by b.peer.window_seq header.seq_number == 0)
+    && (not (past_by b.peer.window_seq header.seq_number == 0) || acks_no_less b.peer.window_ack header.ack_number)
+
+abbrev pub or_number : SeqNumber → Option SeqNumber → SeqNumber
+or_number last None = last
+or_number last (Some n) = n
+
+-- the window that the segment names
+abbrev pub windowed : Block → TcpHeader → Block
+windowed b header = record b {
   peer = record b.peer {
     window = scaled b.peer.scale header.window_len;
-    recent = or_recent header.options.timestamp b.peer.recent;
+    largest_window = max b.peer.largest_window (scaled b.peer.scale header.window_len);
+    window_seq = header.seq_number;
+    window_ack = or_number b.peer.window_ack header.ack_number;
   };
 }
 
+abbrev pub stamp_taken : Block → TcpHeader → Block
+stamp_taken b header = record b { peer = record b.peer { recent = or_recent header.options.timestamp b.peer.recent } }
+
+abbrev pub window_set : Block → TcpHeader → Block
+window_set b header = stamp_taken (if names_window b header then windowed b header else b) header
+
 -- DUPLICATES (RFC 5681, 2 and 3.2)
 
--- a segment that only acknowledges SND.UNA again, with the same window, while something is in flight
+-- how far past SND.UNA a range ends
+abbrev pub end_past : SeqNumber → Option (ℕ × ℕ) → ℕ
+end_past una None = 0
+end_past una (Some range) = past_by una (record { 0 = range.1 })
+
+-- how far past SND.UNA the highest of these ranges ends
+abbrev pub highest_end : SeqNumber → List (Option (ℕ × ℕ)) → ℕ
+highest_end una [] = 0
+highest_end una (range ∷ more) = max (end_past una range) (highest_end una more)
+
+-- how far past SND.UNA the highest position lies that the SACK ranges of a segment name, if both SYNs permitted them (RFC 2018)
+abbrev pub sacked_by : Block → TcpHeader → ℕ
+sacked_by b header = if b.peer.sack then highest_end b.sender.una header.options.sack_ranges else 0
+
+-- the segment is no news of the window: it is the same, or the ranges tell of text that came since (RFC 6675, 2)
+abbrev pub tells_of_loss : Block → TcpHeader → Bool
+tells_of_loss b header =
+    (scaled b.peer.scale header.window_len == b.peer.window) || nat_lt b.sender.sacked (sacked_by b header)
+
+-- a segment that only acknowledges SND.UNA again, while something is in flight
 abbrev pub is_duplicate : Block → TcpHeader → ℕ → ℕ → Bool
 is_duplicate b header size by =
-    ((by == 0) && (size == 0)) && (not (is_fin header.control) && ((scaled b.peer.scale header.window_len == b.peer.window) && not (b.sender.in_flight == 0)))
+    ((by == 0) && (size == 0)) && (not (is_fin header.control) && (tells_of_loss b header && not (b.sender.in_flight == 0)))
 
 -- the duplicates in a row, counted up to 4. `old` is the block as the segment found it.
 abbrev pub duplicates_after : Block → TcpHeader → ℕ → ℕ → ℕ
@@ -106,6 +170,10 @@ duplicates_after old header size by = if is_duplicate old header size by then mi
 -- the third says that a segment was lost, each further one that a segment has left
 abbrev pub reno_counted : RenoValue → ℕ → ℕ → RenoValue
 reno_counted r count flight = if count == 3 then reno.lost r flight else if count == 4 then reno.inflated r else r
+
+-- its ranges name positions
+abbrev pub ranges_taken : Block → TcpHeader → Block
+ranges_taken b header = record b { sender = record b.sender { sacked = max b.sender.sacked (sacked_by b header) } }
 
 -- at the third the segment at SND.UNA is to go again
 abbrev pub counted : Block → ℕ → Block

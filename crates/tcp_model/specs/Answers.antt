@@ -1,22 +1,23 @@
 -- What answers a segment, and which acknowledgement becomes due (RFC 9293, 3.8.6.3 and 3.10.7.4; RFC 5961, 5; RFC 2018).
-use Rattle.std.specs.Prelude.{ℕ, ◌==◌, nat_le, nat_lt, not, ◌&&◌, ◌||◌, ℤ, Bool, true, false, if◌then◌else◌, List, [], ◌∷◌, Option, Some, None}
+use Rattle.std.specs.Prelude.{ℕ, ◌*◌, ◌^◌, ◌==◌, nat_le, nat_lt, not, ◌&&◌, ◌||◌, ℤ, Bool, true, false, if◌then◌else◌, List, [], ◌∷◌, Option, Some, None}
 use Rattle.held_bytes.specs.Held.{runs_of}
 use Rattle.ip_wire.specs.IpRepr.{IpRepr}
 use Rattle.ip_wire.specs.SeqNumber.{SeqNumber}
 use Rattle.ip_wire.specs.TcpHeader.{TcpHeader}
 use Rattle.socket_base.specs.Context.{ContextValue}
 use Rattle.tcp_model.specs.declared.block.Block.{Block}
+use Rattle.tcp_model.specs.Blocks.{own_shift}
 use Rattle.tcp_control.specs.Controls.{is_fin}
 use Rattle.tcp_control.specs.Moments.{is_due, later, earlier, next_draw_from}
 use Rattle.tcp_control.specs.Endpoints.{pair_in}
 use Rattle.tcp_control.specs.Offsets.{behind_by}
 use Rattle.tcp_model.specs.Segments.{sack_segment, reply_to, hops_of}
-use Rattle.tcp_model.specs.Value.{TcpValue, Arrived, with_block, dropped, answered_with, window_of}
+use Rattle.tcp_model.specs.Value.{TcpValue, Arrived, with_block, dropped, answered_with, room_of, window_of}
 
--- an acknowledgement of all that came went out, with this window field: none is due any more
-abbrev pub ack_recorded : Block → ℕ → Block
-ack_recorded b window = record b {
-  receiver = record b.receiver { advertised = window };
+-- an acknowledgement of all that came went out, with this window field, for a receive buffer of this capacity: none is due any more
+abbrev pub ack_recorded : Block → ℕ → ℕ → Block
+ack_recorded b capacity window = record b {
+  receiver = record b.receiver { edge = window * 2 ^ own_shift b capacity };
   timers = record b.timers { ack_at = None; text_unacked = false };
 }
 
@@ -24,7 +25,7 @@ ack_recorded b window = record b {
 abbrev pub acked : ContextValue → TcpValue → IpRepr → TcpHeader → Option (ℕ × ℕ) → Arrived
 acked cx v ip header range =
     answered_with
-    (with_block v (ack_recorded v.block (window_of v)))
+    (with_block v (ack_recorded v.block (room_of v.received) (window_of v)))
     (reply_to ip (hops_of v.block.settings.hop_limit) (sack_segment v.block (pair_in ip header) cx.moment (window_of v) range))
 
 -- DRAWN: at most once a second
@@ -51,17 +52,18 @@ abbrev pub sooner : Option ℤ → ℤ → ℤ
 sooner None moment = moment
 sooner (Some other) moment = earlier other moment
 
--- when an acknowledgement is due after a segment: at once for a FIN, or a second one with text, and after the delay for a first
-abbrev pub ack_moment_after : Block → TcpHeader → ℕ → ℤ → Option ℤ
-ack_moment_after b header size now =
-    if is_fin header.control then Some now
+-- when an acknowledgement is due after a segment: at once for a FIN, for text in order while other text is held (RFC 5681, 4.2), or for a
+-- second one with text, and after the delay for a first
+abbrev pub ack_moment_after : Block → TcpHeader → ℕ → Bool → ℤ → Option ℤ
+ack_moment_after b header size fills now =
+    if is_fin header.control || fills then Some now
     else if size == 0 then b.timers.ack_at
     else if b.timers.text_unacked then Some now
     else Some (sooner b.timers.ack_at (delayed now b.settings.ack_delay))
 
-abbrev pub ack_due : Block → TcpHeader → ℕ → ℤ → Block
-ack_due b header size now = record b {
-  timers = record b.timers { ack_at = ack_moment_after b header size now; text_unacked = b.timers.text_unacked || not (size == 0) };
+abbrev pub ack_due : Block → TcpHeader → ℕ → Bool → ℤ → Block
+ack_due b header size fills now = record b {
+  timers = record b.timers { ack_at = ack_moment_after b header size fills now; text_unacked = b.timers.text_unacked || not (size == 0) };
 }
 
 -- HELD
@@ -80,6 +82,6 @@ numbers_of next (Some run) = Some ((behind_by next run.0).0, (behind_by next run
 abbrev pub range_held : TcpValue → ℕ → Option (ℕ × ℕ)
 range_held v place = if v.block.peer.sack then numbers_of v.block.receiver.next (run_at (runs_of v.received.map) place) else None
 
-abbrev pub answer_for : ContextValue → TcpValue → IpRepr → TcpHeader → ℕ → Option ℕ → Arrived
-answer_for cx v ip header size (Some place) = acked cx v ip header (range_held v place)
-answer_for cx v ip header size None = dropped (with_block v (ack_due v.block header size cx.moment))
+abbrev pub answer_for : ContextValue → TcpValue → IpRepr → TcpHeader → ℕ → Bool → Option ℕ → Arrived
+answer_for cx v ip header size fills (Some place) = acked cx v ip header (range_held v place)
+answer_for cx v ip header size fills None = dropped (with_block v (ack_due v.block header size fills cx.moment))

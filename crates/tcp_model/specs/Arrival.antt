@@ -1,24 +1,25 @@
 -- A segment comes (RFC 9293, 3.10.7).
-use Rattle.std.specs.Prelude.{ℕ, ◌&&◌, ℤ, Bool, if◌then◌else◌, List, length, Option, Some}
+use Rattle.std.specs.Prelude.{ℕ, ◌==◌, not, ◌&&◌, ◌||◌, ℤ, Bool, if◌then◌else◌, List, length, Option, Some}
 use Rattle.ip_wire.specs.IpRepr.{IpRepr}
 use Rattle.ip_wire.specs.TcpHeader.{TcpHeader}
 use Rattle.socket_base.specs.Context.{ContextValue}
 use Rattle.tcp_model.specs.declared.block.Block.{Block}
 use Rattle.tcp_control.specs.declared.state.State.{State}
 use Rattle.tcp_control.specs.declared.state.State.TheVariants as In
-use Rattle.tcp_model.specs.Acknowledged.{acknowledged, window_set, counted, duplicates_after}
+use Rattle.tcp_model.specs.Acknowledged.{acknowledged, window_set, ranges_taken, counted, duplicates_after}
 use Rattle.tcp_model.specs.Answers.{drawn, answer_for}
-use Rattle.tcp_model.specs.Checks.{Check, acknowledgement_check, is_in_window, taken_down}
-use Rattle.tcp_model.specs.Checks.Check.{Passes, Drops, Draws, Resets}
+use Rattle.tcp_model.specs.Checks.{Check, acknowledgement_check, is_in_window, lies_before, taken_down}
+use Rattle.tcp_model.specs.Checks.Check.{Passes, Old, Drops, Draws, Resets}
 use Rattle.tcp_control.specs.Controls.{is_syn, is_fin, is_rst, is_zero}
 use Rattle.tcp_control.specs.Moments.{time_wait_from}
 use Rattle.tcp_model.specs.Opening.{opens, takes_answer}
 use Rattle.tcp_model.specs.Probing.{probe_kept}
+use Rattle.tcp_model.specs.Retries.{heard}
 use Rattle.tcp_model.specs.Segments.{rst_reply}
-use Rattle.tcp_control.specs.States.{is_closed, is_time_wait}
+use Rattle.tcp_control.specs.States.{is_closed, is_answering, is_time_wait}
 use Rattle.tcp_model.specs.Text.{Texted, with_text, with_fin}
 use Rattle.tcp_model.specs.Timeout.{timeout_restarted}
-use Rattle.tcp_model.specs.Value.{TcpValue, Arrived, with_block, dropped, answered_with, unoffered, queued_in, free_in}
+use Rattle.tcp_model.specs.Value.{TcpValue, Arrived, with_block, dropped, answered_with, unoffered, queued_in, free_in, room_of}
 
 -- a FIN that comes again in TIME-WAIT restarts it
 abbrev pub time_wait_after : Block → TcpHeader → ℤ → Option ℤ
@@ -29,54 +30,94 @@ abbrev pub waiting_anew : TcpValue → TcpHeader → ℤ → TcpValue
 waiting_anew v header now =
     with_block v (record v.block { timers = record v.block.timers { time_wait_ends = time_wait_after v.block header now } })
 
--- outside the window: an answer may be drawn, but for a reset
+-- outside the window: an answer may be drawn
 abbrev pub outside : ContextValue → TcpValue → IpRepr → TcpHeader → Arrived
 outside cx v ip header =
-    if is_rst header.control then dropped v else drawn cx (waiting_anew v header cx.moment) ip header
+    if is_closed v.block.state then dropped v else drawn cx (waiting_anew v header cx.moment) ip header
 
--- the timers that an accepted segment moves beside the acknowledgement that is due
-abbrev pub timers_moved : Block → ℤ → ℕ → Block
-timers_moved b now queued = probe_kept (timeout_restarted b now queued) queued
+-- a segment whose text is old, past SYN-RECEIVED: its acknowledgement may be new
+abbrev pub tells_news : TcpValue → TcpHeader → ℕ → Bool
+tells_news v header size = not (is_answering v.block.state) && lies_before v.block (room_of v.received) header size
+
+-- Outside the window, with an acknowledgement that passes. The acknowledgement of a segment that lies just before the window is taken,
+-- since the remote may have nothing else to say it in: all that it sends may be old here.
+abbrev pub passed_outside : ContextValue → TcpValue → IpRepr → TcpHeader → ℕ → ℕ → Arrived
+passed_outside cx v ip header size by =
+    if tells_news v header size then outside cx (acknowledged v by cx.moment) ip header else outside cx v ip header
 
 -- its text was taken: then its FIN is, and it may be answered. `old` is the block before the text.
 abbrev pub finished : ContextValue → Block → Texted → IpRepr → TcpHeader → ℕ → Arrived
 finished cx old t ip header size =
     answer_for cx
-    (with_block t.socket (timers_moved (with_fin t.socket.block old header size t.advance cx.moment) cx.moment (queued_in t.socket)))
-    ip header size t.early
+    (with_block t.socket (probe_kept (with_fin t.socket.block old header size t.advance cx.moment) (queued_in t.socket)))
+    ip header size t.fills t.early
+
+-- the text and the FIN of a segment
+abbrev pub with_content : ContextValue → TcpValue → IpRepr → TcpHeader → List ℕ → Arrived
+with_content cx v ip header bytes = finished cx v.block (with_text v header bytes) ip header (length bytes)
+
+-- the window of a segment, what its ranges name, and which duplicate it is
+abbrev pub told : TcpValue → TcpHeader → ℕ → ℤ → TcpValue
+told v header duplicates now =
+    with_block v (timeout_restarted (counted (ranges_taken (window_set v.block header) header) duplicates) now (queued_in v))
 
 -- its acknowledgement was taken: then its window and its text are. `old` is the block as the segment found it.
 abbrev pub continued : ContextValue → Block → TcpValue → IpRepr → TcpHeader → List ℕ → ℕ → Arrived
 continued cx old v ip header bytes by =
     if is_closed v.block.state then dropped v
-    else finished cx v.block
-    (with_text (with_block v (counted (window_set v.block header) (duplicates_after old header (length bytes) by))) header bytes)
-    ip header (length bytes)
+    else with_content cx (told v header (duplicates_after old header (length bytes) by) cx.moment) ip header bytes
 
 -- an accepted segment; where it ends LAST-ACK nothing more is done
 abbrev pub taken : ContextValue → TcpValue → IpRepr → TcpHeader → List ℕ → ℕ → Arrived
 taken cx v ip header bytes by = continued cx v.block (acknowledged v by cx.moment) ip header bytes by
 
--- inside the window: a reset, a SYN, or a segment to take (second to fourth)
+-- inside the window: in SYN-RECEIVED it may be a SYN still (fourth)
 abbrev pub inside : ContextValue → TcpValue → IpRepr → TcpHeader → List ℕ → ℕ → Arrived
-inside cx v ip header bytes by =
-    if is_rst header.control then dropped (taken_down v)
-    else if is_syn header.control then drawn cx v ip header
-    else taken cx v ip header bytes by
+inside cx v ip header bytes by = if is_syn header.control then drawn cx v ip header else taken cx v ip header bytes by
 
--- from SYN-RECEIVED on (3.10.7.4)
+-- from SYN-RECEIVED on (3.10.7.4), what is no reset
 abbrev pub checked : Check → ContextValue → TcpValue → IpRepr → TcpHeader → List ℕ → Arrived
 checked (Passes by) cx v ip header bytes =
-    if is_in_window v.block (free_in v) header (length bytes) then inside cx v ip header bytes by else outside cx v ip header
+    if is_in_window v.block (free_in v) header (length bytes) then inside cx v ip header bytes by
+    else passed_outside cx v ip header (length bytes) by
+checked Old cx v ip header bytes =
+    if is_in_window v.block (free_in v) header (length bytes) then with_content cx (with_block v (heard v.block)) ip header bytes
+    else outside cx v ip header
 checked Drops cx v ip header bytes = dropped v
 checked Draws cx v ip header bytes = drawn cx v ip header
 checked Resets cx v ip header bytes = answered_with v (rst_reply ip header (length bytes))
+
+-- A reset counts at RCV.NXT alone. Elsewhere in the window it may be forged: past SYN-RECEIVED it draws an ACK, which a remote that is
+-- gone answers by a reset at RCV.NXT (RFC 5961, 3.2). In TIME-WAIT none counts (RFC 1337).
+abbrev pub takes_reset : Block → TcpHeader → Bool
+takes_reset b header = not (is_time_wait b.state) && (b.receiver.next.0 == header.seq_number.0)
+
+-- a reset that doesn't count is challenged
+abbrev pub challenges_reset : TcpValue → TcpHeader → ℕ → Bool
+challenges_reset v header size =
+    not (is_time_wait v.block.state || is_answering v.block.state) && is_in_window v.block (free_in v) header size
+
+abbrev pub reset_comes : ContextValue → TcpValue → IpRepr → TcpHeader → ℕ → Arrived
+reset_comes cx v ip header size =
+    if takes_reset v.block header then dropped (taken_down v)
+    else if challenges_reset v header size then drawn cx v ip header
+    else dropped v
+
+-- past SYN-RECEIVED a SYN draws an ACK, whatever its numbers: a remote that restarted answers it by a reset (RFC 5961, 4.2)
+abbrev pub challenges_syn : Block → TcpHeader → Bool
+challenges_syn b header = is_syn header.control && not (is_answering b.state)
+
+abbrev pub received : ContextValue → TcpValue → IpRepr → TcpHeader → List ℕ → Arrived
+received cx v ip header bytes =
+    if is_rst header.control then reset_comes cx v ip header (length bytes)
+    else if challenges_syn v.block header then drawn cx v ip header
+    else checked (acknowledgement_check v.block header.ack_number) cx v ip header bytes
 
 abbrev pub arrives_in : State → ContextValue → TcpValue → IpRepr → TcpHeader → List ℕ → Arrived
 arrives_in In.Closed cx v ip header bytes = dropped v
 arrives_in In.Listen cx v ip header bytes = opens cx v ip header
 arrives_in In.SynSent cx v ip header bytes = takes_answer cx v ip header bytes
-arrives_in state cx v ip header bytes = checked (acknowledgement_check v.block (queued_in v) header) cx v ip header bytes
+arrives_in state cx v ip header bytes = received cx v ip header bytes
 
 -- a SYN that names an MSS of 0 is dropped in every state
 abbrev pub is_void_syn : TcpHeader → Bool

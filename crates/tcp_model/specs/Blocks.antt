@@ -1,6 +1,6 @@
 -- The control block (RFC 9293, 3.3.1): a fresh one, and what follows from its fields. `queued` is the length of the send queue,
 -- which begins at the first byte that isn't acknowledged.
-use Rattle.std.specs.Prelude.{ℕ, zero, suc, ◌+◌, ◌/◌, ◌^◌, nat_lt, min, Bool, true, false, if◌then◌else◌, Option, Some, None}
+use Rattle.std.specs.Prelude.{ℕ, zero, suc, ◌+◌, ◌*◌, ◌/◌, ◌^◌, ◌==◌, nat_le, nat_lt, ◌||◌, min, max, Bool, true, false, if◌then◌else◌, Option, Some, None}
 use Rattle.ip_wire.specs.IpListenEndpoint.{IpListenEndpoint}
 use Rattle.ip_wire.specs.SeqNumber.{SeqNumber}
 use Rattle.tcp_model.specs.declared.block.Block.{Block}
@@ -33,15 +33,28 @@ no_names = record { listen = nowhere; pair = None }
 
 -- a sender whose SYN will have this number, or without one
 abbrev pub fresh_sender : SeqNumber → Bool → Sender
-fresh_sender una syn_unacked =
-    record { una = una; syn_unacked = syn_unacked; in_flight = 0; duplicates = 0; resend = false; stamped = false; reset_due = false }
+fresh_sender una syn_unacked = record {
+  una = una;
+  past_iss = 0;
+  syn_unacked = syn_unacked;
+  in_flight = 0;
+  top = 0;
+  duplicates = 0;
+  sacked = 0;
+  resend = false;
+  syn_lost = false;
+  timeouts = 0;
+  unanswered = 0;
+  stamped = false;
+  reset_due = false;
+}
 
 abbrev pub fresh_receiver : Receiver
-fresh_receiver = record { next = no_number; took_syn = false; took_fin = false; advertised = 0 }
+fresh_receiver = record { next = no_number; took_syn = false; took_fin = false; edge = 0; mss = 0 }
 
 -- the largest payload is 536 bytes where the remote names none (3.7.1)
 abbrev pub fresh_peer : Peer
-fresh_peer = record { window = 0; mss = 536; scale = None; sack = false; timestamps = false; recent = 0 }
+fresh_peer = record { window = 0; largest_window = 0; window_seq = no_number; window_ack = no_number; mss = 536; scale = None; sack = false; timestamps = false; recent = 0 }
 
 abbrev pub fresh_timers : Timers
 fresh_timers = record {
@@ -50,11 +63,13 @@ fresh_timers = record {
   ack_at = None;
   text_unacked = false;
   draws_from = None;
+  counts_from = None;
   time_wait_ends = None;
   timeout_since = None;
 }
 
--- nothing is set: the delay of an acknowledgement is 10 milliseconds
+-- nothing is set: the delay of an acknowledgement is 10 milliseconds, and a connection gives up after more than three minutes while it is
+-- opened, later after 16 timeouts (3.8.3)
 abbrev pub default_settings : Settings
 default_settings = record {
   timeout = None;
@@ -66,6 +81,8 @@ default_settings = record {
   timestamps = None;
   congestion_control = Congestion.Reno;
   synack_paused = false;
+  opening_retries = Some 9;
+  retries = Some 16;
 }
 
 -- no connection, and nothing left of an earlier one
@@ -94,6 +111,11 @@ unacked b queued = one_if b.sender.syn_unacked + queued + one_if (owes_fin b.sta
 abbrev pub nxt : Block → SeqNumber
 nxt b = behind_by b.sender.una b.sender.in_flight
 
+-- The number one past the highest position that was ever sent. The retransmission timer sets SND.NXT back, and never this: what
+-- lies below it may be old to the remote.
+abbrev pub top : Block → SeqNumber
+top b = behind_by b.sender.una b.sender.top
+
 -- THE WINDOW FIELD (RFC 7323, 2.3)
 
 -- the least shift, at most so large, that brings a count into 16 bits
@@ -113,6 +135,29 @@ shift_of (Some n) scale = scale
 abbrev pub field_of : ℕ → ℕ
 field_of space = min space 65_535
 
--- of a receive buffer with this capacity and so much free space, but on a SYN
+-- the shift of its window fields, but on a SYN, with a receive buffer of this capacity
+abbrev pub own_shift : Block → ℕ → ℕ
+own_shift b capacity = shift_of b.peer.scale (own_scale capacity)
+
+-- for so much space, but on a SYN
 abbrev pub window_field : Block → ℕ → ℕ → ℕ
-window_field b capacity free = field_of (free / 2 ^ shift_of b.peer.scale (own_scale capacity))
+window_field b capacity space = field_of (space / 2 ^ own_shift b capacity)
+
+-- THE RIGHT EDGE OF THE WINDOW (RFC 9293, 3.8.6.2.2)
+
+-- how much of so much space a window field can tell
+abbrev pub told_of : Block → ℕ → ℕ → ℕ
+told_of b capacity space = window_field b capacity space * 2 ^ own_shift b capacity
+
+-- by how much the edge moves at least: half of the buffer, or a segment as the own SYN names it
+abbrev pub least_step : Block → ℕ → ℕ
+least_step b capacity = max 1 (min ((capacity + 1) / 2) b.receiver.mss)
+
+-- so much free space is worth telling
+abbrev pub is_worth_telling : Block → ℕ → ℕ → Bool
+is_worth_telling b capacity free = nat_le (b.receiver.edge + least_step b capacity) (told_of b capacity free)
+
+-- the space that a segment announces, where so many bytes wait to be read: the edge stays, unless it moves far enough or nothing waits
+abbrev pub announced : Block → ℕ → ℕ → ℕ → ℕ
+announced b capacity free waiting =
+    if (waiting == 0) || is_worth_telling b capacity free then free else min b.receiver.edge free

@@ -23,7 +23,7 @@ use Rattle.tcp_control.specs.declared.error.SendError.TheVariants as Send
 use Rattle.tcp_control.specs.declared.state.State.TheVariants as In
 use Rattle.tcp_model.specs.Blocks.{fresh_block, fresh_sender, nowhere}
 use Rattle.tcp_control.specs.Endpoints.{pair_of, is_same_listener}
-use Rattle.tcp_control.specs.States.{is_closed, is_listening, is_opening, takes_writes, takes_text, after_close}
+use Rattle.tcp_control.specs.States.{is_closed, is_time_wait, is_listening, is_opening, takes_writes, takes_text, after_close}
 use Rattle.tcp_model.specs.Value.{TcpValue, Received, received_of, with_block, unoffered, ended, opened, room_of}
 
 -- LISTEN: a passive OPEN
@@ -148,7 +148,8 @@ close_after v =
     if is_opening v.block.state then ended (unoffered v)
     else with_block (unoffered v) (record v.block { state = after_close v.block.state })
 
--- a reset is due if there is a remote endpoint
+-- a reset is due if there is a remote endpoint; in TIME-WAIT the remote has all that it waits for
 abbrev pub abort_after : TcpValue → TcpValue
 abort_after v =
-    with_block (unoffered v) (record v.block { state = In.Closed; sender = record v.block.sender { reset_due = is_some v.block.names.pair } })
+    if is_time_wait v.block.state then ended (unoffered v)
+    else with_block (unoffered v) (record v.block { state = In.Closed; sender = record v.block.sender { reset_due = is_some v.block.names.pair } })

@@ -1,20 +1,20 @@
 -- Whether a segment is acceptable, from SYN-RECEIVED on (RFC 9293, 3.10.7.4, first to fifth).
-use Rattle.std.specs.Prelude.{ℕ, ◌==◌, ◌^◌, nat_lt, not, ◌&&◌, ◌||◌, Bool, if◌then◌else◌, Option, Some, None}
+use Rattle.std.specs.Prelude.{ℕ, ◌+◌, ◌==◌, nat_le, nat_lt, not, ◌&&◌, Bool, if◌then◌else◌, Option, Some, None}
 use Rattle.ip_wire.specs.Seq.{distance_of}
 use Rattle.ip_wire.specs.SeqNumber.{SeqNumber}
 use Rattle.ip_wire.specs.TcpHeader.{TcpHeader}
 use Rattle.tcp_model.specs.declared.block.Block.{Block}
-use Rattle.tcp_model.specs.Blocks.{unacked}
-use Rattle.tcp_control.specs.Controls.{is_rst}
 use Rattle.tcp_control.specs.Offsets.{past_by, before_by, meets_window}
 use Rattle.tcp_model.specs.Segments.{segment_len}
 use Rattle.tcp_control.specs.States.{is_answering}
 use Rattle.tcp_model.specs.Value.{TcpValue, ended}
 use Rattle.tcp_model.specs.Calls.{listening}
 
--- what becomes of a segment: it is taken and SND.UNA rises by so much, it is dropped, an acknowledgement answers it, or a reset
+-- What becomes of a segment: it is taken and SND.UNA rises by so much, it is taken but for its acknowledgement, which is old, it is
+-- dropped, an acknowledgement answers it, or a reset.
 pub data Check : Type 0 where
   Passes : (by : ℕ) → Check
+  Old : Check
   Drops : Check
   Draws : Check
   Resets : Check
@@ -23,28 +23,33 @@ pub data Check : Type 0 where
 abbrev pub opening_check : ℕ → Check
 opening_check by = if by == 1 then Passes 1 else Resets
 
--- Later, an acknowledgement below SND.UNA, or of nothing while the SYN isn't acknowledged, doesn't count, and one past all that
--- may be acknowledged is answered.
-abbrev pub synchronized_check : Bool → ℕ → ℕ → Check
-synchronized_check syn_unacked last by =
-    if not (nat_lt by (2 ^ 31)) || (syn_unacked && (by == 0)) then Drops
-    else if nat_lt last by then Draws
-    else Passes by
+-- Later, of an acknowledgement so far past SND.UNA or before it: what was never sent can't be acknowledged. One that doesn't reach
+-- past ISS doesn't count. An older one is ignored, and answered where no window of the remote reached so far (RFC 5961, 5.2).
+abbrev pub synchronized_check : Block → ℕ → ℕ → Check
+synchronized_check b past before =
+    if nat_lt b.sender.top past then Draws
+    else if (past == 0) && nat_le b.sender.past_iss before then Drops
+    else if before == 0 then Passes past
+    else if nat_lt b.peer.largest_window before then Draws
+    else Old
 
-abbrev pub ack_check : Block → ℕ → Option SeqNumber → Check
-ack_check b queued None = Drops
-ack_check b queued (Some n) =
+abbrev pub acknowledgement_check : Block → Option SeqNumber → Check
+acknowledgement_check b None = Drops
+acknowledgement_check b (Some n) =
     if is_answering b.state then opening_check (distance_of b.sender.una n)
-    else synchronized_check b.sender.syn_unacked (unacked b queued) (distance_of b.sender.una n)
-
--- a reset's acknowledgement isn't looked at
-abbrev pub acknowledgement_check : Block → ℕ → TcpHeader → Check
-acknowledgement_check b queued header = if is_rst header.control then Passes 0 else ack_check b queued header.ack_number
+    else synchronized_check b (past_by b.sender.una n) (before_by b.sender.una n)
 
 -- the segment meets the receive window of so much space
 abbrev pub is_in_window : Block → ℕ → TcpHeader → ℕ → Bool
 is_in_window b space header size =
     meets_window (before_by b.receiver.next header.seq_number) (past_by b.receiver.next header.seq_number) (segment_len header size) space
+
+-- it lies wholly before RCV.NXT, by no more than a receive buffer of this capacity holds, a SYN and a FIN
+abbrev pub lies_before : Block → ℕ → TcpHeader → ℕ → Bool
+lies_before b capacity header size =
+    not (before_by b.receiver.next header.seq_number == 0)
+    && (nat_le (segment_len header size) (before_by b.receiver.next header.seq_number)
+    && nat_le (before_by b.receiver.next header.seq_number) (capacity + 2))
 
 -- it was opened by listen, and its connection isn't there yet
 abbrev pub falls_back : Block → Bool

@@ -11,15 +11,15 @@ use Rattle.tcp_model.specs.Probing.{is_probe_unset, probe_moment}
 use Rattle.tcp_model.specs.Rules.{time_wait_end, owes_syn, resends, ack_moment, has_text, updates_window, keep_alive_moment}
 use Rattle.tcp_control.specs.States.{is_closed}
 use Rattle.tcp_model.specs.Timeout.{timeout_end, is_timeout_unset}
-use Rattle.tcp_model.specs.Value.{TcpValue, queued_in, window_of}
+use Rattle.tcp_model.specs.Value.{TcpValue, queued_in, free_in, room_of}
 
 -- what makes it want to be polled at once: a segment that may go, or a moment that is to be set
-abbrev pub wishes : Block → AddressPair → ℕ → Ring ℕ → ℕ → ℕ → List Bool
-wishes b addresses ip_mtu ring queued window =
+abbrev pub wishes : Block → AddressPair → ℕ → Ring ℕ → ℕ → ℕ → ℕ → List Bool
+wishes b addresses ip_mtu ring queued capacity free =
     owes_syn b
     ∷ resends b
     ∷ has_text b addresses ip_mtu ring
-    ∷ updates_window b window
+    ∷ updates_window b capacity free
     ∷ is_timeout_unset b queued
     ∷ is_probe_unset b queued
     ∷ []
@@ -55,7 +55,7 @@ at_moment (Some moment) = At.Time moment
 -- of a socket that isn't closed
 abbrev pub poll_open : ℕ → TcpValue → EndpointPair → PollAt
 poll_open ip_mtu v pair =
-    if any (wishes v.block pair.addresses ip_mtu v.queued (queued_in v) (window_of v)) then At.Now
+    if any (wishes v.block pair.addresses ip_mtu v.queued (queued_in v) (room_of v.received) (free_in v)) then At.Now
     else at_moment (earliest (moments v.block (queued_in v)))
 
 -- CLOSED has nothing but a reset to send

@@ -6,6 +6,7 @@ pub mod Names
 pub mod Segments
 pub mod Timeout
 pub mod Probing
+pub mod Retries
 pub mod Calls
 pub mod Settings
 pub mod Opening

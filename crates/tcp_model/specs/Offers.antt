@@ -1,5 +1,5 @@
 -- What a socket offers when it is asked for a segment: the first rule that applies (RFC 9293, 3.8 and 3.10.8).
-use Rattle.std.specs.Prelude.{ℕ, ◌+◌, ℤ, Bool, true, false, if◌then◌else◌, List, [], ◌∷◌, take, drop, Option, Some, None}
+use Rattle.std.specs.Prelude.{ℕ, ◌+◌, ◌==◌, ℤ, Bool, true, false, if◌then◌else◌, List, [], ◌∷◌, take, drop, Option, Some, None}
 use Rattle.ip_wire.specs.SeqNumber.{SeqNumber}
 use Rattle.ip_wire.specs.Tcp.{header_len}
 use Rattle.ip_wire.specs.TcpHeader.{TcpHeader}
@@ -18,6 +18,7 @@ use Rattle.tcp_control.specs.Moments.{is_due}
 use Rattle.tcp_control.specs.Endpoints.{header_for}
 use Rattle.tcp_control.specs.Offsets.{behind_by}
 use Rattle.tcp_model.specs.Probing.{probe_started, probe_moment}
+use Rattle.tcp_model.specs.Retries.{gives_up, given_up}
 use Rattle.tcp_model.specs.Rules.{Choice, time_wait_end, owes_syn, resends, ack_moment, has_text, text_choice, resend_choice, probe_choice, control_for, updates_window, keep_alive_moment, backed_off_now}
 use Rattle.tcp_model.specs.Segments.{segment, ack_segment, syn_segment, reset_segment, keep_alive_segment, hops_of}
 use Rattle.tcp_control.specs.States.{is_closed}
@@ -68,12 +69,18 @@ offer_reset cx v pair = offer_empty Kind.Reset cx v pair (reset_segment v.block 
 abbrev pub offer_keep_alive : ContextValue → TcpValue → EndpointPair → Offered TcpValue
 offer_keep_alive cx v pair = offer_segment Kind.KeepAlive cx v pair (keep_alive_segment v.block pair cx.moment (window_of v)) 0 1
 
+-- what the remote's window held back is due: the byte at SND.UNA where it is closed, else as much as it takes
+abbrev pub offer_held_back : ContextValue → TcpValue → EndpointPair → Offered TcpValue
+offer_held_back cx v pair =
+    if v.block.peer.window == 0 then offer_choice Kind.Probe cx v pair probe_choice
+    else offer_choice Kind.Text cx v pair (text_choice v.block pair.addresses cx.ip_mtu v.queued)
+
 -- nothing of the SYN or the send queue is to go: a probe, a due acknowledgement, a window update, a keep-alive
 abbrev pub last_rules : ContextValue → TcpValue → EndpointPair → Offered TcpValue
 last_rules cx v pair =
-    if is_due cx.moment (probe_moment v.block (queued_in v)) then offer_choice Kind.Probe cx v pair probe_choice
+    if is_due cx.moment (probe_moment v.block (queued_in v)) then offer_held_back cx v pair
     else if is_due cx.moment (ack_moment v.block) then offer_ack Kind.Ack cx v pair
-    else if updates_window v.block (window_of v) then offer_ack Kind.WindowUpdate cx v pair
+    else if updates_window v.block (room_of v.received) (free_in v) then offer_ack Kind.WindowUpdate cx v pair
     else if is_due cx.moment (keep_alive_moment v.block) then offer_keep_alive cx v pair
     else silent false v
 
@@ -94,6 +101,7 @@ offer_between cx v pair =
     if is_due cx.moment (time_wait_end v.block) then silent true (ended v)
     else if is_due cx.moment (timeout_end v.block (queued_in v)) then silent true (with_block v (timed_out v.block))
     else if is_closed v.block.state then (if v.block.sender.reset_due then offer_reset cx v pair else silent false v)
+    else if gives_up cx.moment v.block (queued_in v) then silent true (given_up v)
     else first_rules cx (with_block v (backed_off cx.moment (timeout_started cx.moment (queued_in v) v.block))) pair
 
 abbrev pub offer_with : Option EndpointPair → ContextValue → TcpValue → Offered TcpValue

@@ -9,13 +9,14 @@ use Rattle.socket_base.specs.Context.{ContextValue, next_random}
 use Rattle.tcp_model.specs.declared.block.Block.{Block}
 use Rattle.tcp_model.specs.declared.block.Peer.{Peer}
 use Rattle.tcp_control.specs.declared.state.State.TheVariants as In
-use Rattle.tcp_model.specs.Acknowledged.{una_moved}
-use Rattle.tcp_model.specs.Blocks.{fresh_sender}
+use Rattle.tcp_model.specs.Acknowledged.{una_moved, or_number}
+use Rattle.tcp_model.specs.Blocks.{fresh_sender, no_number}
 use Rattle.tcp_control.specs.Controls.{is_syn, is_rst, or_mss, or_recent}
 use Rattle.tcp_control.specs.Endpoints.{pair_in}
 use Rattle.tcp_control.specs.Offsets.{behind_by}
 use Rattle.tcp_control.specs.Reno.{with_mss}
 use Rattle.tcp_model.specs.Segments.{rst_reply}
+use Rattle.tcp_model.specs.Retries.{heard}
 use Rattle.tcp_model.specs.Timeout.{timeout_restarted}
 use Rattle.tcp_model.specs.Value.{TcpValue, Arrived, with_block, dropped, answered_with, ended, queued_in}
 
@@ -23,6 +24,9 @@ use Rattle.tcp_model.specs.Value.{TcpValue, Arrived, with_block, dropped, answer
 abbrev pub peer_of : TcpHeader → Peer
 peer_of header = record {
   window = header.window_len;
+  largest_window = header.window_len;
+  window_seq = header.seq_number;
+  window_ack = or_number no_number header.ack_number;
   mss = or_mss header.options.max_seg_size;
   scale = header.options.window_scale;
   sack = header.options.sack_permitted;
@@ -76,7 +80,7 @@ connected b header now =
 
 -- SYN-SENT takes a SYN without ACK: both sides open at once (3.5)
 abbrev pub crossed : Block → TcpHeader → Block
-crossed b header = record (took_syn b header) { state = In.SynReceived }
+crossed b header = record (heard (took_syn b header)) { state = In.SynReceived }
 
 abbrev pub syn_answered : Block → TcpHeader → ℤ → Block
 syn_answered b header now = if is_some header.ack_number then connected b header now else crossed b header

@@ -4,32 +4,43 @@ use Rattle.ip_wire.specs.IpRepr.{IpRepr}
 use Rattle.ip_wire.specs.TcpHeader.{TcpHeader}
 use Rattle.socket_base.specs.Context.{ContextValue}
 use Rattle.tcp_control.specs.Controls.{is_syn, is_rst}
-use Rattle.tcp_control.specs.States.{is_listening}
+use Rattle.tcp_control.specs.States.{is_closed, is_listening}
 use Rattle.tcp_control.specs.declared.state.State.{State}
 use Rattle.tcp_control.specs.declared.state.State.TheVariants as In
-use Rattle.tcp_model.specs.Arrival.{arrives, is_void_syn}
+use Rattle.tcp_model.specs.Acknowledged.{block_acknowledged}
+use Rattle.tcp_model.specs.Arrival.{arrives, is_void_syn, tells_news, takes_reset, challenges_reset, challenges_syn}
 use Rattle.tcp_model.specs.Checks.{Check, acknowledgement_check, is_in_window}
-use Rattle.tcp_model.specs.Checks.Check.{Passes, Draws}
+use Rattle.tcp_model.specs.Checks.Check.{Passes, Old, Draws}
 use Rattle.tcp_model.specs.Offers.{offer_of}
 use Rattle.tcp_model.specs.Settled.{settled}
 use Rattle.tcp_model.specs.Value.{TcpValue, queued_in, free_in}
 
--- A segment draws an answer where it acknowledges what may not be, where it lies outside the window and is no reset, and where it
--- is a SYN (RFC 9293, 3.10.7.4, first, fourth and fifth; RFC 5961, 4 and 5).
-abbrev pub draws_by : Check → TcpValue → TcpHeader → ℕ → Bool
-draws_by (Passes by) v header size =
-    not (is_rst header.control) && (not (is_in_window v.block (free_in v) header size) || is_syn header.control)
-draws_by Draws v header size = true
-draws_by check v header size = false
+-- A segment draws an answer where it acknowledges what may not be, and where it lies outside the window and its acknowledgement doesn't end
+-- LAST-ACK (RFC 9293, 3.10.7.4, first and fifth).
+abbrev pub draws_by : Check → ContextValue → TcpValue → TcpHeader → ℕ → Bool
+draws_by (Passes by) cx v header size =
+    if is_in_window v.block (free_in v) header size then is_syn header.control
+    else if tells_news v header size then not (is_closed (block_acknowledged v.block by (queued_in v) cx.moment).state)
+    else not (is_closed v.block.state)
+draws_by Old cx v header size = not (is_in_window v.block (free_in v) header size) && not (is_closed v.block.state)
+draws_by Draws cx v header size = true
+draws_by check cx v header size = false
 
-abbrev pub draws_in : State → TcpValue → TcpHeader → ℕ → Bool
-draws_in In.Closed v header size = false
-draws_in In.Listen v header size = false
-draws_in In.SynSent v header size = false
-draws_in state v header size = draws_by (acknowledgement_check v.block (queued_in v) header) v header size
+-- so does a SYN, and a reset inside the window that isn't taken (RFC 5961, 3 and 4)
+abbrev pub draws_any : ContextValue → TcpValue → TcpHeader → ℕ → Bool
+draws_any cx v header size =
+    if is_rst header.control then not (takes_reset v.block header) && challenges_reset v header size
+    else if challenges_syn v.block header then true
+    else draws_by (acknowledgement_check v.block header.ack_number) cx v header size
 
-abbrev pub is_drawing : TcpValue → TcpHeader → List ℕ → Bool
-is_drawing v header bytes = not (is_void_syn header) && draws_in v.block.state v header (length bytes)
+abbrev pub draws_in : State → ContextValue → TcpValue → TcpHeader → ℕ → Bool
+draws_in In.Closed cx v header size = false
+draws_in In.Listen cx v header size = false
+draws_in In.SynSent cx v header size = false
+draws_in state cx v header size = draws_any cx v header size
+
+abbrev pub is_drawing : ContextValue → TcpValue → TcpHeader → List ℕ → Bool
+is_drawing cx v header bytes = not (is_void_syn header) && draws_in v.block.state cx v header (length bytes)
 
 -- before it no answer is drawn
 abbrev pub pause_of : TcpValue → Option ℤ
@@ -49,11 +60,11 @@ after v (Comes cx ip header bytes) = (arrives cx v ip header bytes).socket
 after v (Asked cx sent) = settled sent (offer_of cx v).socket
 after v (Called new) = new
 
--- the connection lasts: no reset takes a listener back to LISTEN
+-- the connection lasts: neither a reset nor giving up takes a listener back to LISTEN
 abbrev pub Lasts : TcpValue → Happening → Type 0
 Lasts v (Comes cx ip header bytes) =
     is_listening (arrives cx v ip header bytes).socket.block.state ≡ true → is_listening v.block.state ≡ true
-Lasts v (Asked cx sent) = Unit {0}
+Lasts v (Asked cx sent) = is_listening (offer_of cx v).socket.block.state ≡ true → is_listening v.block.state ≡ true
 Lasts v (Called new) = pause_of new ≡ pause_of v
 
 abbrev pub IsOneConnection : TcpValue → List Happening → Type 0
@@ -62,7 +73,7 @@ IsOneConnection v (it ∷ more) = Lasts v it × IsOneConnection (after v it) mor
 
 abbrev pub drawn_at : TcpValue → Happening → List ℤ
 drawn_at v (Comes cx ip header bytes) =
-    if is_drawing v header bytes && is_some (arrives cx v ip header bytes).answer then cx.moment ∷ [] else []
+    if is_drawing cx v header bytes && is_some (arrives cx v ip header bytes).answer then cx.moment ∷ [] else []
 drawn_at v other = []
 
 -- the moments at which answers are drawn

@@ -6,7 +6,7 @@ use Rattle.tcp_control.specs.Moments.{is_due}
 use Rattle.tcp_model.specs.Probing.{is_probe_unset, probe_moment}
 use Rattle.tcp_model.specs.Rules.{time_wait_end, owes_syn, resends, ack_moment, has_text, updates_window, keep_alive_moment}
 use Rattle.tcp_model.specs.Timeout.{timeout_end, is_timeout_unset}
-use Rattle.tcp_model.specs.Value.{TcpValue, queued_in, window_of}
+use Rattle.tcp_model.specs.Value.{TcpValue, queued_in, free_in, room_of}
 
 -- none of the moments has come
 abbrev pub AreLater : ℤ → List (Option ℤ) → Type 0
@@ -25,5 +25,5 @@ pub record IsQuiet (cx : ContextValue) (v : TcpValue) (pair : EndpointPair) : Ty
   pub probe_set : is_probe_unset v.block (queued_in v) ≡ false
   pub probe : is_due cx.moment (probe_moment v.block (queued_in v)) ≡ false
   pub ack : is_due cx.moment (ack_moment v.block) ≡ false
-  pub window_update : updates_window v.block (window_of v) ≡ false
+  pub window_update : updates_window v.block (room_of v.received) (free_in v) ≡ false
   pub keep_alive : is_due cx.moment (keep_alive_moment v.block) ≡ false

@@ -1,6 +1,6 @@
 -- What a socket offers: a test for each rule, and what the rules for text may send. `queued` is the length of the send queue,
 -- and `unbroken` says how many of its bytes from a place on lie before the end of the storage.
-use Rattle.std.specs.Prelude.{ℕ, ◌+◌, ◌-◌, ◌/◌, ◌==◌, nat_lt, nat_le, not, ◌&&◌, ◌||◌, min, ℤ, Bool, false, if◌then◌else◌, length, Option, None, is_some}
+use Rattle.std.specs.Prelude.{ℕ, ◌+◌, ◌-◌, ◌/◌, ◌==◌, nat_lt, nat_le, not, ◌&&◌, ◌||◌, min, max, ℤ, Bool, false, if◌then◌else◌, length, Option, None, is_some}
 use Rattle.net_base.specs.Ring.{Ring, until_end}
 use Rattle.ip_wire.specs.TcpControl.{TcpControl}
 use Rattle.ip_wire.specs.TcpControl.TheVariants as Control
@@ -8,7 +8,7 @@ use Rattle.tcp_control.specs.declared.endpoints.AddressPair.{AddressPair}
 use Rattle.tcp_model.specs.declared.block.Block.{Block}
 use Rattle.tcp_model.specs.declared.block.CongestionControl.{CongestionControl}
 use Rattle.tcp_model.specs.declared.block.CongestionControl.TheVariants as Congestion
-use Rattle.tcp_model.specs.Blocks.{one_if, unacked}
+use Rattle.tcp_model.specs.Blocks.{one_if, unacked, is_worth_telling}
 use Rattle.tcp_control.specs.Endpoints.{ip_header_len}
 use Rattle.tcp_control.specs.Reno as reno
 use Rattle.tcp_control.specs.RoundTrip as round_trip
@@ -37,10 +37,10 @@ pub record Choice : Type 0 where
 abbrev pub stamp_len : Block → ℕ
 stamp_len b = if (b.peer.timestamps && b.sender.stamped) && is_some b.settings.timestamps then 12 else 0
 
--- What the remote takes in one segment, and a packet holds behind its headers (3.7.1; RFC 6691). The length field of a packet has
--- 16 bits.
+-- The longest text of a segment: what the remote takes, and a packet holds behind headers without options, less the options that the
+-- segment carries (3.7.1; RFC 6691), but at least a byte. The length field of a packet has 16 bits.
 abbrev pub size_limit : Block → AddressPair → ℕ → ℕ
-size_limit b addresses ip_mtu = min b.peer.mss (min ip_mtu 65_535 - ip_header_len addresses - (20 + stamp_len b))
+size_limit b addresses ip_mtu = max 1 (min b.peer.mss (min ip_mtu 65_535 - ip_header_len addresses - 20) - stamp_len b)
 
 abbrev pub congestion_limit : CongestionControl → ℕ → ℕ → ℕ
 congestion_limit Congestion.None cwnd size = size
@@ -67,20 +67,34 @@ fin_goes b queued end = owes_fin b.state && (end == queued)
 abbrev pub text_of_size : Block → ℕ → ℕ → Choice
 text_of_size b queued len = record { place = next_place b; len = len; fin = fin_goes b queued (next_place b + len) }
 
--- what may go from SND.NXT
+-- what may go from SND.NXT: a segment lies in the storage in one piece
 abbrev pub text_choice : Block → AddressPair → ℕ → Ring ℕ → Choice
 text_choice b addresses ip_mtu queued =
     text_of_size b (length queued.queue) (window_limit b (min (size_limit b addresses ip_mtu) (unbroken queued (next_place b))))
 
--- something goes, and Nagle's rule doesn't hold back a small segment while others are in flight (3.7.4)
-abbrev pub is_sendable : Block → ℕ → Choice → Bool
-is_sendable b limit c =
-    c.fin || (not (c.len == 0) && not (b.settings.nagle && (nat_lt c.len limit && not (b.sender.in_flight == 0))))
+-- how much of the send queue may go from SND.NXT, in however many pieces it lies
+abbrev pub ready : Block → ℕ → ℕ → ℕ
+ready b limit queued = window_limit b (min limit (queued - next_place b))
+
+-- Nagle's rule doesn't hold back a small segment (3.7.4)
+abbrev pub may_be_small : Block → Bool
+may_be_small b = not b.settings.nagle || (b.sender.in_flight == 0)
+
+-- all that is queued may go, or half of the largest window that the remote named (3.8.6.2.1)
+abbrev pub fills_enough : Block → ℕ → ℕ → Bool
+fills_enough b queued size = (next_place b + size == queued) || nat_le (b.peer.largest_window / 2) size
+
+-- something goes, and so much is worth a segment: a full one, or enough where small ones may go
+abbrev pub is_sendable : Block → ℕ → ℕ → Choice → Bool
+is_sendable b queued limit c =
+    c.fin
+    || (not (c.len == 0)
+    && (nat_le limit (ready b limit queued) || (may_be_small b && fills_enough b queued (ready b limit queued))))
 
 -- bytes or a FIN are to go from SND.NXT, and what may go is worth it
 abbrev pub sends_choice : Block → ℕ → ℕ → Choice → Bool
 sends_choice b queued limit c =
-    sends_text b.state && (nat_le (one_if b.sender.syn_unacked) b.sender.in_flight && (nat_lt b.sender.in_flight (unacked b queued) && is_sendable b limit c))
+    sends_text b.state && (nat_le (one_if b.sender.syn_unacked) b.sender.in_flight && (nat_lt b.sender.in_flight (unacked b queued) && is_sendable b queued limit c))
 
 abbrev pub has_text : Block → AddressPair → ℕ → Ring ℕ → Bool
 has_text b addresses ip_mtu queued =
@@ -115,9 +129,9 @@ control_for c queued =
 abbrev pub ack_moment : Block → Option ℤ
 ack_moment b = if b.receiver.took_syn then b.timers.ack_at else None
 
--- the window field would be at least twice what was sent last (3.8.6.2.2)
-abbrev pub updates_window : Block → ℕ → Bool
-updates_window b window = takes_text b.state && (not (window == 0) && nat_le b.receiver.advertised (window / 2))
+-- so much space came free that it is worth a segment of its own (3.8.6.2.2)
+abbrev pub updates_window : Block → ℕ → ℕ → Bool
+updates_window b capacity free = takes_text b.state && is_worth_telling b capacity free
 
 -- while nothing is in flight (3.8.4)
 abbrev pub keep_alive_moment : Block → Option ℤ
@@ -125,11 +139,15 @@ keep_alive_moment b = if keeps_alive b.state && (b.sender.in_flight == 0) then b
 
 -- THE RETRANSMISSION TIMER (RFC 6298, 5.4 to 5.6; RFC 5681, 3.1)
 
--- SND.NXT goes back to SND.UNA, and the timer is off until a segment goes
+-- SND.NXT goes back to SND.UNA, and the timer is off until a segment goes; congestion control isn't told of a SYN
 abbrev pub backed_off_now : Block → Block
 backed_off_now b = record b {
-  sender = record b.sender { in_flight = 0 };
+  sender = record b.sender {
+    in_flight = 0;
+    timeouts = min (b.sender.timeouts + 1) 255;
+    syn_lost = b.sender.syn_lost || b.sender.syn_unacked;
+  };
   timers = record b.timers { retransmit_at = None };
   round_trip = round_trip.untimed (round_trip.backed_off b.round_trip);
-  reno = reno.timed_out b.reno b.sender.in_flight;
+  reno = if b.sender.syn_unacked then b.reno else reno.timed_out b.reno b.sender.in_flight;
 }

@@ -1,5 +1,5 @@
 -- The segments that a socket makes (RFC 9293, 3.1, with options of RFC 7323 and RFC 2018).
-use Rattle.std.specs.Prelude.{ℕ, ◌+◌, ◌-◌, ◌^◌, ◌&&◌, ◌||◌, not, min, suc, ℤ, if◌then◌else◌, List, [], ◌∷◌, Option, Some, None, is_some}
+use Rattle.std.specs.Prelude.{ℕ, ◌+◌, ◌-◌, ◌^◌, ◌&&◌, ◌||◌, not, min, ℤ, if◌then◌else◌, List, [], ◌∷◌, Option, Some, None, is_some}
 use Rattle.ip_wire.specs.IpRepr.{IpRepr}
 use Rattle.ip_wire.specs.SeqNumber.{SeqNumber}
 use Rattle.ip_wire.specs.Control.{control_len}
@@ -15,7 +15,7 @@ use Rattle.ip_wire.specs.Timestamp.{value_at}
 use Rattle.tcp_model.specs.declared.block.Block.{Block}
 use Rattle.tcp_control.specs.declared.endpoints.EndpointPair.{EndpointPair}
 use Rattle.tcp_control.specs.declared.offer.Reply.{Reply}
-use Rattle.tcp_model.specs.Blocks.{nxt, own_scale, field_of}
+use Rattle.tcp_model.specs.Blocks.{top, own_scale, field_of}
 use Rattle.tcp_control.specs.Endpoints.{addresses_in, header_for, ip_header_len}
 use Rattle.tcp_control.specs.Offsets.{behind_by}
 
@@ -48,9 +48,9 @@ segment b pair now window control seq = record {
   options = record no_options { timestamp = stamp_of b now };
 }
 
--- a bare acknowledgement, at SND.NXT
+-- a bare acknowledgement, past all that was ever sent: at a lower number it could be old to the remote, which then takes nothing of it
 abbrev pub ack_segment : Block → EndpointPair → ℤ → ℕ → TcpHeader
-ack_segment b pair now window = segment b pair now window Control.None (nxt b)
+ack_segment b pair now window = segment b pair now window Control.None (top b)
 
 -- the same with a range that is held out of order (RFC 2018)
 abbrev pub sack_segment : Block → EndpointPair → ℤ → ℕ → Option (ℕ × ℕ) → TcpHeader
@@ -87,9 +87,9 @@ syn_segment b pair now ip_mtu capacity free = record {
   options = syn_options b (mss_for ip_mtu (ip_header_len pair.addresses)) now (own_scale capacity);
 }
 
--- the reset after an abort or a user timeout (3.10.5)
+-- the reset after an abort or a user timeout, past all that was ever sent (3.10.5)
 abbrev pub reset_segment : Block → EndpointPair → ℤ → ℕ → TcpHeader
-reset_segment b pair now window = record (segment b pair now window Control.Rst (nxt b)) { ack_number = next_if_heard b }
+reset_segment b pair now window = record (segment b pair now window Control.Rst (top b)) { ack_number = next_if_heard b }
 
 -- one byte 0 below SND.UNA (3.8.4)
 abbrev pub keep_alive_segment : Block → EndpointPair → ℤ → ℕ → TcpHeader
@@ -108,10 +108,10 @@ abbrev pub reset_seq : Option SeqNumber → SeqNumber
 reset_seq None = record { 0 = 0 }
 reset_seq (Some n) = n
 
--- a reset acknowledges a SYN that came without ACK, one past its end
+-- a reset acknowledges the end of a segment that came without ACK
 abbrev pub reset_ack : Option SeqNumber → TcpControl → SeqNumber → ℕ → Option SeqNumber
-reset_ack None Control.Syn seq size = Some (behind_by seq (suc size))
-reset_ack ack control seq size = None
+reset_ack None control seq size = Some (behind_by seq (size + control_len control))
+reset_ack (Some n) control seq size = None
 
 -- the reset that answers a segment which no socket takes, or whose acknowledgement can't be (3.10.7.1; 3.5.2)
 abbrev pub reset_for : TcpHeader → ℕ → TcpHeader

@@ -45,6 +45,10 @@ set_tsval_generator v generator = with_settings v (record v.block.settings { tim
 abbrev pub pause_synack : TcpValue → Bool → TcpValue
 pause_synack v paused = with_settings v (record v.block.settings { synack_paused = paused })
 
+-- how often a segment goes without an answer until the connection gives up
+abbrev pub set_retries : TcpValue → Option ℕ → TcpValue
+set_retries v limit = with_settings v (record v.block.settings { opening_retries = limit; retries = limit })
+
 -- congestion control as it starts, with the remote's MSS if that is known
 abbrev pub fresh_reno : Block → RenoValue
 fresh_reno b = if b.receiver.took_syn then reno.with_mss reno.fresh b.peer.mss else reno.fresh

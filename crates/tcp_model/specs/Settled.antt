@@ -1,22 +1,29 @@
 -- What an offer is told. A segment that was sent is recorded; one that wasn't leaves all as it is.
-use Rattle.std.specs.Prelude.{ℕ, ◌+◌, nat_lt, max, not, ◌&&◌, ℤ, Bool, true, false, if◌then◌else◌, Option, Some, None, is_some}
+use Rattle.std.specs.Prelude.{ℕ, ◌+◌, ◌*◌, ◌^◌, nat_lt, max, not, ◌&&◌, ℤ, Bool, true, false, if◌then◌else◌, Option, Some, None, is_some}
 use Rattle.ip_wire.specs.Control.{control_len}
 use Rattle.ip_wire.specs.Seq.{distance_of}
 use Rattle.tcp_model.specs.declared.block.Block.{Block}
 use Rattle.tcp_control.specs.declared.offer.OfferKind.{OfferKind}
 use Rattle.tcp_control.specs.declared.offer.OfferKind.TheVariants as Kind
 use Rattle.tcp_control.specs.declared.offer.OpenOffer.{OpenOffer}
-use Rattle.tcp_model.specs.Blocks.{forgotten}
+use Rattle.tcp_model.specs.Blocks.{forgotten, own_shift}
+use Rattle.tcp_control.specs.Controls.{is_syn, or_mss}
 use Rattle.tcp_control.specs.Moments.{later_by, timeout_from}
 use Rattle.tcp_model.specs.Probing.{probe_kept}
+use Rattle.tcp_model.specs.Retries.{asked}
 use Rattle.tcp_control.specs.RoundTrip as round_trip
-use Rattle.tcp_model.specs.Value.{TcpValue, with_block, unoffered, queued_in}
+use Rattle.tcp_model.specs.Value.{TcpValue, with_block, unoffered, queued_in, room_of}
 
--- Its window field is recorded, and its acknowledgement, if it has one: none is due any more. The next keep-alive is counted from
+-- The right edge of the window that a segment announced, of a receive buffer with this capacity. A SYN's field isn't shifted and may not
+-- tell all of an empty buffer; what it leaves out is no space that came free.
+abbrev pub edge_by : Block → OpenOffer → ℕ → ℕ
+edge_by b o capacity = if is_syn o.segment.control then capacity else o.segment.window_len * 2 ^ own_shift b capacity
+
+-- The edge of its window is recorded, and its acknowledgement, if it has one: none is due any more. The next keep-alive is counted from
 -- each segment (3.8.4).
-abbrev pub recorded : Block → OpenOffer → Block
-recorded b o = record b {
-  receiver = record b.receiver { advertised = o.segment.window_len };
+abbrev pub recorded : Block → OpenOffer → ℕ → Block
+recorded b o capacity = record b {
+  receiver = record b.receiver { edge = edge_by b o capacity };
   timers = record b.timers {
     ack_at = if is_some o.segment.ack_number then None else b.timers.ack_at;
     text_unacked = not (is_some o.segment.ack_number) && b.timers.text_unacked;
@@ -28,11 +35,12 @@ recorded b o = record b {
 abbrev pub end_of : Block → OpenOffer → ℕ
 end_of b o = distance_of b.sender.una o.segment.seq_number + (o.len + control_len o.segment.control)
 
--- SND.NXT moves past the segment, if that is higher; then its round trip is timed, if none is
+-- SND.NXT moves past the segment, if that is higher. What reaches further than anything before was sent for the first time: its round
+-- trip is timed, if none is (RFC 6298, 3).
 abbrev pub nxt_moved : Block → ℕ → ℤ → Block
 nxt_moved b end now = record b {
-  sender = record b.sender { in_flight = max b.sender.in_flight end };
-  round_trip = if nat_lt b.sender.in_flight end then round_trip.timing b.round_trip end now else b.round_trip;
+  sender = record b.sender { in_flight = max b.sender.in_flight end; top = max b.sender.top end };
+  round_trip = if nat_lt b.sender.top end then round_trip.timing b.round_trip end now else b.round_trip;
 }
 
 -- the retransmission timer runs from now, if it doesn't yet (RFC 6298, 5.1)
@@ -44,18 +52,22 @@ timer_started b now =
 abbrev pub went : Block → OpenOffer → ℕ → Block
 went b o queued = probe_kept (timer_started (nxt_moved b (end_of b o) o.moment) o.moment) queued
 
--- its SYN has timestamps, or has none
+-- its SYN has timestamps, or has none, and names the largest payload of a segment
 abbrev pub syn_went : Block → OpenOffer → Block
-syn_went b o = record b { sender = record b.sender { stamped = is_some o.segment.options.timestamp } }
+syn_went b o = record b {
+  sender = record b.sender { stamped = is_some o.segment.options.timestamp };
+  receiver = record b.receiver { mss = or_mss o.segment.options.max_seg_size };
+}
 
 -- the segment at SND.UNA went again: it can't be timed (RFC 6298, 3)
 abbrev pub resent : Block → Block
 resent b = record b { sender = record b.sender { resend = false }; round_trip = round_trip.untimed b.round_trip }
 
--- the next probe waits twice as long (3.8.6.1)
-abbrev pub probed : Block → ℤ → Block
-probed b now =
+-- a probe went that ends so far past SND.UNA, where SND.NXT stays; the next one waits twice as long (3.8.6.1)
+abbrev pub probed : Block → ℕ → ℤ → Block
+probed b end now =
     record b {
+      sender = record b.sender { top = max b.sender.top end };
       timers = record b.timers { probe_at = Some (timeout_from now (round_trip.backed_off b.round_trip)) };
       round_trip = round_trip.backed_off b.round_trip;
     }
@@ -65,12 +77,13 @@ sent_as Kind.Reset b o queued = forgotten b
 sent_as Kind.Syn b o queued = went (syn_went b o) o queued
 sent_as Kind.FastRetransmission b o queued = went (resent b) o queued
 sent_as Kind.Text b o queued = went b o queued
-sent_as Kind.Probe b o queued = probed b o.moment
+sent_as Kind.Probe b o queued = asked (probed b (end_of b o) o.moment) o.moment
+sent_as Kind.KeepAlive b o queued = asked b o.moment
 sent_as kind b o queued = b
 
 abbrev pub sent_off : Option OpenOffer → TcpValue → TcpValue
 sent_off None v = v
-sent_off (Some o) v = with_block v (sent_as o.kind (recorded v.block o) o (queued_in v))
+sent_off (Some o) v = with_block v (sent_as o.kind (recorded v.block o (room_of v.received)) o (queued_in v))
 
 abbrev pub settled : Bool → TcpValue → TcpValue
 settled false v = unoffered v

@@ -1,5 +1,5 @@
 -- The text and the FIN of an accepted segment (RFC 9293, 3.10.7.4, seventh and eighth).
-use Rattle.std.specs.Prelude.{ℕ, ◌+◌, ◌==◌, nat_lt, nat_le, not, ◌&&◌, ℤ, Bool, true, if◌then◌else◌, List, ◌++◌, length, drop, Option, Some, None}
+use Rattle.std.specs.Prelude.{ℕ, ◌+◌, ◌-◌, ◌==◌, nat_lt, nat_le, not, ◌&&◌, ℤ, Bool, true, false, if◌then◌else◌, List, ◌++◌, length, drop, Option, Some, None}
 use Rattle.held_bytes.specs.Held.{runs_of}
 use Rattle.ip_wire.specs.TcpHeader.{TcpHeader}
 use Rattle.tcp_law.specs.ReceiveMap.{store, front, behind}
@@ -10,14 +10,20 @@ use Rattle.tcp_control.specs.Offsets.{past_by, before_by, behind_by}
 use Rattle.tcp_control.specs.States.{takes_text, after_fin}
 use Rattle.tcp_model.specs.Value.{TcpValue, received_of, free_in}
 
--- the socket with a segment's text; how far RCV.NXT rose; and of text that is held early the place of its first byte
+-- the socket with a segment's text; how far RCV.NXT rose; whether the text came in order while other text was held; and of text that is
+-- held early the place of its first byte
 pub record Texted : Type 0 where
   pub socket : TcpValue
   pub advance : ℕ
+  pub fills : Bool
   pub early : Option ℕ
 
-abbrev pub texted : TcpValue → ℕ → Option ℕ → Texted
-texted v advance early = record { socket = v; advance = advance; early = early }
+abbrev pub texted : TcpValue → ℕ → Bool → Option ℕ → Texted
+texted v advance fills early = record { socket = v; advance = advance; fills = fills; early = early }
+
+-- text is held out of order
+abbrev pub is_holding : TcpValue → Bool
+is_holding v = not (length (runs_of v.received.map) == 0)
 
 -- the map with these bytes at a place
 abbrev pub laid : TcpValue → ℕ → List ℕ → List (Option ℕ)
@@ -27,11 +33,12 @@ laid v place bytes = store v.received.map place bytes
 abbrev pub held_early : TcpValue → ℕ → List (Option ℕ) → Texted
 held_early v place map =
     if nat_le (length (runs_of map)) 4
-    then texted (record v { received = received_of v.received.waiting map v.received.start }) 0 (Some place)
-    else texted v 0 None
+    then texted (record v { received = received_of v.received.waiting map v.received.start }) 0 false (Some place)
+    else texted v 0 false None
 
 abbrev pub with_next : Block → ℕ → Block
-with_next b advance = record b { receiver = record b.receiver { next = behind_by b.receiver.next advance } }
+with_next b advance =
+    record b { receiver = record b.receiver { next = behind_by b.receiver.next advance; edge = b.receiver.edge - advance } }
 
 -- bytes from RCV.NXT on: they may be read at once, with those that were held behind them
 abbrev pub taken_in_order : TcpValue → List (Option ℕ) → Texted
@@ -42,6 +49,7 @@ taken_in_order v map =
       received = received_of (v.received.waiting ++ front map) (behind map) v.received.start;
     })
     (length (front map))
+    (is_holding v)
     None
 
 -- bytes at a place of the window; what lies past it is cut off
@@ -54,7 +62,7 @@ has_new_text v place bytes = not (length bytes == 0) && nat_lt place (free_in v)
 
 abbrev pub with_text_at : TcpValue → ℕ → List ℕ → Texted
 with_text_at v place bytes =
-    if takes_text v.block.state && has_new_text v place bytes then with_bytes_at v place bytes else texted v 0 None
+    if takes_text v.block.state && has_new_text v place bytes then with_bytes_at v place bytes else texted v 0 false None
 
 abbrev pub with_text : TcpValue → TcpHeader → List ℕ → Texted
 with_text v header bytes =
@@ -72,7 +80,7 @@ takes_fin old header size advance = is_fin header.control && (takes_text old.sta
 
 abbrev pub fin_taken : Block → ℤ → Block
 fin_taken b now =
-    record (in_state b (after_fin b.state) now) { receiver = record b.receiver { next = behind_by b.receiver.next 1; took_fin = true } }
+    record (in_state b (after_fin b.state) now) { receiver = record b.receiver { next = behind_by b.receiver.next 1; took_fin = true; edge = b.receiver.edge - 1 } }
 
 -- `old` is the block before the segment's text was taken
 abbrev pub with_fin : Block → Block → TcpHeader → ℕ → ℕ → ℤ → Block

@@ -4,15 +4,16 @@ use Rattle.tcp_model.specs.declared.block.Block.{Block}
 use Rattle.tcp_control.specs.declared.state.State.TheVariants as In
 use Rattle.tcp_model.specs.Blocks.{unacked}
 use Rattle.tcp_control.specs.Moments.{later}
-use Rattle.tcp_control.specs.States.{is_closed, is_opening, is_answering}
+use Rattle.tcp_control.specs.States.{is_closed, is_time_wait, is_opening, is_answering}
 
 -- something isn't acknowledged, the connection isn't there yet, or keep-alives go
 abbrev pub waits_for_remote : Block → ℕ → Bool
 waits_for_remote b queued =
     (is_opening b.state || is_answering b.state) || (not (unacked b queued == 0) || is_some b.settings.keep_alive)
 
+-- TIME-WAIT ends by its own moment alone
 abbrev pub timeout_runs : Block → ℕ → Bool
-timeout_runs b queued = is_some b.settings.timeout && (not (is_closed b.state) && waits_for_remote b queued)
+timeout_runs b queued = is_some b.settings.timeout && (not (is_closed b.state || is_time_wait b.state) && waits_for_remote b queued)
 
 abbrev pub with_timeout_since : Block → Option ℤ → Block
 with_timeout_since b since = record b { timers = record b.timers { timeout_since = since } }

@@ -6,9 +6,10 @@ use Rattle.tcp_control.specs.declared.offer.OfferKind.TheVariants as Kind
 use Rattle.tcp_control.specs.declared.offer.OpenOffer.{OpenOffer}
 use Rattle.tcp_model.specs.Settled.{end_of}
 
--- a segment that may move SND.NXT ends less than 2 ^ 32 past SND.UNA
+-- a segment that is new to the remote ends less than 2 ^ 32 past SND.UNA
 abbrev pub EndsNear : OfferKind → Block → OpenOffer → Type 0
 EndsNear Kind.Syn b o = end_of b o < 2 ^ 32
 EndsNear Kind.FastRetransmission b o = end_of b o < 2 ^ 32
 EndsNear Kind.Text b o = end_of b o < 2 ^ 32
+EndsNear Kind.Probe b o = end_of b o < 2 ^ 32
 EndsNear kind b o = Unit {0}

@@ -2,7 +2,7 @@
 use Rattle.std.specs.Prelude.{ℕ, ◌+◌, Bool, false, List, [], length, Option, Some, None}
 use Rattle.net_base.specs.Ring.{Ring, cleared}
 use Rattle.tcp_law.specs.ReceiveMap.{space}
-use Rattle.tcp_model.specs.Blocks.{fresh_block, forgotten, default_settings, window_field}
+use Rattle.tcp_model.specs.Blocks.{fresh_block, forgotten, default_settings, window_field, announced}
 use Rattle.tcp_model.specs.declared.block.Block.{Block}
 use Rattle.tcp_control.specs.declared.offer.OpenOffer.{OpenOffer}
 use Rattle.tcp_control.specs.declared.offer.Reply.{Reply}
@@ -71,8 +71,9 @@ queued_in v = length v.queued.queue
 abbrev pub free_in : TcpValue → ℕ
 free_in v = length v.received.map
 
+-- the window field of its segments, but of a SYN
 abbrev pub window_of : TcpValue → ℕ
-window_of v = window_field v.block (room_of v.received) (free_in v)
+window_of v = window_field v.block (room_of v.received) (announced v.block (room_of v.received) (free_in v) (length v.received.waiting))
 
 -- nothing comes of it
 abbrev pub dropped : TcpValue → Arrived

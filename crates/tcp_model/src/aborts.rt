@@ -11,9 +11,12 @@ ghost use Rattle.tcp_control.specs.declared.endpoints.EndpointPair.{EndpointPair
 ghost use Rattle.tcp_model.specs.Aborts.{OwesReset, IsResetOf};
 ghost use Rattle.tcp_model.specs.Arrival.{arrives};
 ghost use Rattle.tcp_model.specs.Calls.{send_after, recv_after, close_after, abort_after};
+ghost use Rattle.tcp_control.specs.States.{is_closed, is_time_wait};
+ghost use Rattle.tcp_model.specs.Checks.{falls_back};
 ghost use Rattle.tcp_model.specs.Due.{poll_of};
 ghost use Rattle.tcp_model.specs.Names.{accepts};
 ghost use Rattle.tcp_model.specs.Offers.{offer_of};
+ghost use Rattle.tcp_model.specs.Retries.{gives_up};
 ghost use Rattle.tcp_model.specs.Rules.{time_wait_end};
 ghost use Rattle.tcp_model.specs.Settings.{with_settings};
 ghost use Rattle.tcp_model.specs.Settled.{settled};
@@ -21,14 +24,20 @@ ghost use Rattle.tcp_model.specs.Timeout.{timeout_end};
 ghost use Rattle.tcp_model.specs.Value.{TcpValue, queued_in};
 ghost use Rattle.tcp_model.specs.declared.block.Settings.{Settings};
 
-/// An abort owes the remote a reset, and so does the user timeout. Where there is no remote endpoint
-/// nothing is owed.
-#[tactic(auto, using(crate::proofs::Resets::aborted, crate::proofs::Resets::ran_out, crate::proofs::Resets::owes_nothing))]
+/// An abort owes the remote a reset, and so do the user timeout and a connection that gives up. Where
+/// there is no remote endpoint, or the connection was in TIME-WAIT, nothing is owed.
+#[tactic(auto, using(crate::proofs::Resets::aborted, crate::proofs::Resets::ran_out, crate::proofs::Resets::gave_up, crate::proofs::Resets::owes_nothing, crate::proofs::Resets::waited))]
 pub fn an_abort_owes_a_reset()
-    ensures abort { (v : TcpValue) (pair : EndpointPair) → v.block.names.pair ≡ Some pair → OwesReset (abort_after v) pair }
+    ensures abort { (v : TcpValue) (pair : EndpointPair) → v.block.names.pair ≡ Some pair → is_time_wait v.block.state ≡ false
+        → OwesReset (abort_after v) pair }
     ensures timeout { (cx : ContextValue) (v : TcpValue) (pair : EndpointPair) → v.block.names.pair ≡ Some pair
         → is_due cx.moment (time_wait_end v.block) ≡ false → is_due cx.moment (timeout_end v.block (queued_in v)) ≡ true
         → OwesReset (offer_of cx v).socket pair }
+    ensures giving_up { (cx : ContextValue) (v : TcpValue) (pair : EndpointPair) → v.block.names.pair ≡ Some pair
+        → is_due cx.moment (time_wait_end v.block) ≡ false → is_due cx.moment (timeout_end v.block (queued_in v)) ≡ false
+        → is_closed v.block.state ≡ false → gives_up cx.moment v.block (queued_in v) ≡ true → falls_back v.block ≡ false
+        → OwesReset (offer_of cx v).socket pair }
+    ensures time_wait { (ip_mtu : ℕ) (v : TcpValue) → is_time_wait v.block.state ≡ true → poll_of ip_mtu (abort_after v) ≡ At.Ingress }
     ensures nowhere { (ip_mtu : ℕ) (v : TcpValue) → v.block.names.pair ≡ None → poll_of ip_mtu (abort_after v) ≡ At.Ingress }
 {}
 

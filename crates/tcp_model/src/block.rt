@@ -16,14 +16,26 @@ pub struct Names {
 pub struct Sender {
     /// SND.UNA, the first number that isn't acknowledged.
     pub una: SeqNumber,
-    /// Whether that is the SYN's.
+    /// How far it lies past ISS, as far as 32 bits tell.
+    pub past_iss: u32,
+    /// Whether it is the SYN's.
     pub syn_unacked: bool,
     /// SND.NXT less SND.UNA.
     pub in_flight: u32,
+    /// How far past SND.UNA the highest position lies, and one more, that was ever sent.
+    pub top: u32,
     /// Duplicate acknowledgements of SND.UNA in a row, at most 4.
     pub duplicates: u8,
+    /// How far past SND.UNA the highest position lies that a SACK range named.
+    pub sacked: u32,
     /// Whether the segment at SND.UNA is to go again at once, since the third duplicate came.
     pub resend: bool,
+    /// Whether a SYN of its own went again.
+    pub syn_lost: bool,
+    /// Timeouts of the retransmission timer in a row.
+    pub timeouts: u8,
+    /// Probes of a closed window and keep-alives in a row without an answer.
+    pub unanswered: u8,
     /// Whether its SYN, as it went last, had timestamps.
     pub stamped: bool,
     /// Whether a reset is to go.
@@ -37,8 +49,10 @@ pub struct Receiver {
     pub next: SeqNumber,
     pub took_syn: bool,
     pub took_fin: bool,
-    /// The window field sent last.
-    pub advertised: u16,
+    /// How far past RCV.NXT the window lies that was announced.
+    pub edge: u32,
+    /// The largest payload of a segment, as the own SYN named it.
+    pub mss: u16,
 }
 
 /// What the remote said of itself.
@@ -46,6 +60,12 @@ pub struct Receiver {
 pub struct Peer {
     /// SND.WND, scaled already.
     pub window: u32,
+    /// The largest window that it named.
+    pub largest_window: u32,
+    /// SND.WL1, the sequence number of the segment that set the window last.
+    pub window_seq: SeqNumber,
+    /// SND.WL2, its acknowledgement.
+    pub window_ack: SeqNumber,
     /// The largest payload that it takes.
     pub mss: u16,
     /// The shift of its window fields, if its SYN had the option.
@@ -70,6 +90,8 @@ pub struct Timers {
     pub text_unacked: bool,
     /// When an answer to a segment that isn't acceptable may be drawn again.
     pub draws_from: Option<Instant>,
+    /// When a probe or a keep-alive counts again as one without an answer.
+    pub counts_from: Option<Instant>,
     pub time_wait_ends: Option<Instant>,
     /// Since when the user timeout runs.
     pub timeout_since: Option<Instant>,
@@ -100,6 +122,10 @@ pub struct Settings {
     pub congestion_control: CongestionControl,
     /// Whether the answer to a SYN waits.
     pub synack_paused: bool,
+    /// How many timeouts end a connection that is being opened.
+    pub opening_retries: Option<u8>,
+    /// How many end one that is open.
+    pub retries: Option<u8>,
 }
 
 /// The control block.
@@ -122,6 +148,7 @@ mod due;
 mod endpoints;
 mod fresh;
 mod opening;
+mod retries;
 mod rules;
 mod segments;
 mod settled;

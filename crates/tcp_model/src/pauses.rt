@@ -16,7 +16,7 @@ ghost use Rattle.tcp_model.specs.Pauses.{Happening, IsOneConnection, AreApart, d
 ghost use Rattle.tcp_model.specs.Segments.{segment_len};
 ghost use Rattle.tcp_model.specs.Settings.{set_timeout, set_keep_alive, set_congestion_control, with_settings};
 ghost use Rattle.tcp_model.specs.Settled.{settled};
-ghost use Rattle.tcp_model.specs.Value.{TcpValue, queued_in, free_in};
+ghost use Rattle.tcp_model.specs.Value.{TcpValue, free_in};
 ghost use Rattle.tcp_model.specs.declared.block.Block.{Block};
 ghost use Rattle.tcp_model.specs.declared.block.CongestionControl.{CongestionControl};
 ghost use Rattle.tcp_model.specs.declared.block.Settings.{Settings};
@@ -25,10 +25,10 @@ ghost use Rattle.tcp_model.specs.declared.block.Settings.{Settings};
 #[tactic(auto, using(crate::proofs::Drawing::drawn_after_pause, crate::proofs::Drawing::pause_begins))]
 pub fn a_drawn_answer_begins_a_pause()
     ensures answered { (cx : ContextValue) (v : TcpValue) (ip : IpRepr) (header : TcpHeader) (bytes : List ℕ)
-        → is_drawing v header bytes ≡ true
+        → is_drawing cx v header bytes ≡ true
         → is_some (arrives cx v ip header bytes).answer ≡ may_draw cx.moment (pause_of v) }
     ensures pause { (cx : ContextValue) (v : TcpValue) (ip : IpRepr) (header : TcpHeader) (bytes : List ℕ)
-        → is_drawing v header bytes ≡ true → is_some (arrives cx v ip header bytes).answer ≡ true
+        → is_drawing cx v header bytes ≡ true → is_some (arrives cx v ip header bytes).answer ≡ true
         → pause_of (arrives cx v ip header bytes).socket ≡ Some (cx.moment +ℤ pos 1_000_000) }
 {}
 
@@ -41,11 +41,12 @@ pub fn drawn_answers_are_a_second_apart()
 
 /// No segment that has length is in a closed window. So one with text that comes where the user reads
 /// nothing, as a probe does, draws an answer.
+#[tactic(auto, using(crate::proofs::Drawing::nothing_meets))]
 pub fn a_closed_window_takes_nothing()
     ensures outside { (b : Block) (header : TcpHeader) (size : ℕ) → 1 ≤ segment_len header size → is_in_window b 0 header size ≡ false }
-    ensures drawn { (v : TcpValue) (header : TcpHeader) (bytes : List ℕ) (by : ℕ) → takes_text v.block.state ≡ true → free_in v ≡ 0
+    ensures drawn { (cx : ContextValue) (v : TcpValue) (header : TcpHeader) (bytes : List ℕ) (by : ℕ) → takes_text v.block.state ≡ true → free_in v ≡ 0
         → 1 ≤ segment_len header (length bytes) → is_rst header.control ≡ false → is_void_syn header ≡ false
-        → acknowledgement_check v.block (queued_in v) header ≡ Passes by → is_drawing v header bytes ≡ true }
+        → acknowledgement_check v.block header.ack_number ≡ Passes by → is_drawing cx v header bytes ≡ true }
 {}
 
 /// Of the calls only an OPEN ends the pause.

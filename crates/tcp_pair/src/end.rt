@@ -208,6 +208,7 @@ impl End {
                 self.socket.set_congestion_control(*control);
             }
             TcpSetting::PauseSynack(paused) => self.socket.pause_synack(*paused),
+            TcpSetting::Retries(limit) => self.socket.set_retries(*limit),
         }
     }
 

@@ -24,6 +24,8 @@ pub enum TcpSetting {
     TsvalGenerator(Option<TcpTimestampGenerator>),
     CongestionControl(CongestionControl),
     PauseSynack(bool),
+    /// After how many timeouts without an answer it gives up.
+    Retries(Option<u8>),
 }
 
 /// What happens to the pair: a call of a user on one socket, an offer with its settling, or a delivery.

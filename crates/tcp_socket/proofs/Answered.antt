@@ -1,7 +1,6 @@
 -- What answers a segment can be sent, and from SYN-SENT on no random word is drawn.
-use Rattle.std.proofs.Common.{◌≡◌, ℕ, ◌+◌, ◌^◌, ◌<◌, ◌≤◌, ◌&&◌, not, Bool, true, false, ℤ, List, [], ◌∷◌, length, Option, Some, None, is_some, if◌then◌else◌, refl, sym, ap, ◌∙◌, arith}
+use Rattle.std.proofs.Common.{◌≡◌, ℕ, ◌≤◌, ◌&&◌, not, Bool, true, false, ℤ, List, [], ◌∷◌, length, Option, Some, None, is_some, if◌then◌else◌, refl, arith}
 use Rattle.std.specs.Prelude.{IfSome}
-use Rattle.ip_wire.specs.Ip.{source_of}
 use Rattle.ip_wire.specs.IpRepr.{IpRepr}
 use Rattle.ip_wire.specs.IpRepr.TheVariants as Ip
 use Rattle.ip_wire.specs.Tcp.{header_len}
@@ -15,15 +14,16 @@ use Rattle.tcp_model.specs.declared.block.Block.{Block}
 use Rattle.tcp_model.specs.EndpointPair.{EndpointPair}
 use Rattle.tcp_model.specs.State.{State}
 use Rattle.tcp_model.specs.State.TheVariants as In
-use Rattle.tcp_model.specs.Reply.{Reply}
-use Rattle.tcp_model.specs.Acknowledged.{acknowledged, window_set, counted, duplicates_after}
+use Rattle.tcp_model.specs.Acknowledged.{acknowledged, duplicates_after}
 use Rattle.tcp_model.specs.Answers.{may_draw, with_draw, acked, drawn, answer_for, range_held}
-use Rattle.tcp_model.specs.Arrival.{waiting_anew, outside, finished, continued, taken, inside, checked, arrives_in, is_void_syn, arrives, timers_moved}
+use Rattle.tcp_model.specs.Arrival.{waiting_anew, outside, tells_news, passed_outside, finished, with_content, told, continued, taken, inside, checked, takes_reset, challenges_reset, reset_comes, challenges_syn, received, arrives_in, is_void_syn, arrives}
 use Rattle.tcp_model.specs.Checks.{Check, acknowledgement_check, is_in_window, taken_down}
-use Rattle.tcp_model.specs.Checks.Check.{Passes, Drops, Draws, Resets}
+use Rattle.tcp_model.specs.Checks.Check.{Passes, Old, Drops, Draws, Resets}
 use Rattle.tcp_model.specs.Controls.{is_syn, is_rst}
 use Rattle.tcp_model.specs.Endpoints.{pair_in}
 use Rattle.tcp_model.specs.Opening.{acks_syn, syn_answered, takes_answer, answering, is_first_syn}
+use Rattle.tcp_model.specs.Probing.{probe_kept}
+use Rattle.tcp_model.specs.Retries.{heard}
 use Rattle.tcp_model.specs.Segments.{stamp_of, sack_segment, rst_reply, reply_to, reset_for, hops_of}
 use Rattle.tcp_model.specs.States.{is_closed}
 use Rattle.tcp_model.specs.Text.{Texted, with_text, with_fin}
@@ -80,35 +80,58 @@ quick_drawn cx v ip header =
 quick_outside : (cx : ContextValue) (v : TcpValue) (ip : IpRepr) (header : TcpHeader) → IsQuick (outside cx v ip header)
 quick_outside cx v ip header =
     let again = waiting_anew v header cx.moment in
-    quick_if (is_rst header.control) (dropped v) (drawn cx again ip header) (quick_dropped v) (quick_drawn cx again ip header)
+    quick_if (is_closed v.block.state) (dropped v) (drawn cx again ip header) (quick_dropped v) (quick_drawn cx again ip header)
 
-quick_answer : (cx : ContextValue) (v : TcpValue) (ip : IpRepr) (header : TcpHeader) (size : ℕ) (early : Option ℕ) → IsQuick (answer_for cx v ip header size early)
-quick_answer cx v ip header size (Some place) = quick_acked cx v ip header (range_held v place)
-quick_answer cx v ip header size None = record { draws = refl; sendable = tt }
+quick_passed_outside : (cx : ContextValue) (v : TcpValue) (ip : IpRepr) (header : TcpHeader) (size by : ℕ) → IsQuick (passed_outside cx v ip header size by)
+quick_passed_outside cx v ip header size by =
+    let told_of = acknowledged v by cx.moment in
+    quick_if (tells_news v header size) (outside cx told_of ip header) (outside cx v ip header) (quick_outside cx told_of ip header) (quick_outside cx v ip header)
+
+quick_answer : (cx : ContextValue) (v : TcpValue) (ip : IpRepr) (header : TcpHeader) (size : ℕ) (fills : Bool) (early : Option ℕ) → IsQuick (answer_for cx v ip header size fills early)
+quick_answer cx v ip header size fills (Some place) = quick_acked cx v ip header (range_held v place)
+quick_answer cx v ip header size fills None = record { draws = refl; sendable = tt }
 
 quick_finished : (cx : ContextValue) (old : Block) (t : Texted) (ip : IpRepr) (header : TcpHeader) (size : ℕ) → IsQuick (finished cx old t ip header size)
 quick_finished cx old t ip header size =
-    quick_answer cx (with_block t.socket (timers_moved (with_fin t.socket.block old header size t.advance cx.moment) cx.moment (queued_in t.socket))) ip header size t.early
+    quick_answer cx (with_block t.socket (probe_kept (with_fin t.socket.block old header size t.advance cx.moment) (queued_in t.socket))) ip header size t.fills t.early
+
+quick_content : (cx : ContextValue) (v : TcpValue) (ip : IpRepr) (header : TcpHeader) (bytes : List ℕ) → IsQuick (with_content cx v ip header bytes)
+quick_content cx v ip header bytes = quick_finished cx v.block (with_text v header bytes) ip header (length bytes)
 
 quick_continued : (cx : ContextValue) (old : Block) (v : TcpValue) (ip : IpRepr) (header : TcpHeader) (bytes : List ℕ) (by : ℕ) → IsQuick (continued cx old v ip header bytes by)
 quick_continued cx old v ip header bytes by =
-    let text = with_text (with_block v (counted (window_set v.block header) (duplicates_after old header (length bytes) by))) header bytes in
-    quick_if (is_closed v.block.state) (dropped v) (finished cx v.block text ip header (length bytes)) (quick_dropped v) (quick_finished cx v.block text ip header (length bytes))
+    let heard_of = told v header (duplicates_after old header (length bytes) by) cx.moment in
+    quick_if (is_closed v.block.state) (dropped v) (with_content cx heard_of ip header bytes) (quick_dropped v) (quick_content cx heard_of ip header bytes)
 
 quick_inside : (cx : ContextValue) (v : TcpValue) (ip : IpRepr) (header : TcpHeader) (bytes : List ℕ) (by : ℕ) → IsQuick (inside cx v ip header bytes by)
 quick_inside cx v ip header bytes by =
-    let rest : Arrived = if is_syn header.control then drawn cx v ip header else taken cx v ip header bytes by in
-    quick_if (is_rst header.control) (dropped (taken_down v)) rest (quick_dropped (taken_down v))
-    (quick_if (is_syn header.control) (drawn cx v ip header) (taken cx v ip header bytes by) (quick_drawn cx v ip header)
-    (quick_continued cx v.block (acknowledged v by cx.moment) ip header bytes by))
+    quick_if (is_syn header.control) (drawn cx v ip header) (taken cx v ip header bytes by) (quick_drawn cx v ip header)
+    (quick_continued cx v.block (acknowledged v by cx.moment) ip header bytes by)
 
 quick_checked : (c : Check) (cx : ContextValue) (v : TcpValue) (ip : IpRepr) (header : TcpHeader) (bytes : List ℕ) → IsQuick (checked c cx v ip header bytes)
 quick_checked (Passes by) cx v ip header bytes =
-    quick_if (is_in_window v.block (free_in v) header (length bytes)) (inside cx v ip header bytes by) (outside cx v ip header)
-    (quick_inside cx v ip header bytes by) (quick_outside cx v ip header)
+    quick_if (is_in_window v.block (free_in v) header (length bytes)) (inside cx v ip header bytes by) (passed_outside cx v ip header (length bytes) by)
+    (quick_inside cx v ip header bytes by) (quick_passed_outside cx v ip header (length bytes) by)
+quick_checked Old cx v ip header bytes =
+    let heard_of = with_block v (heard v.block) in
+    quick_if (is_in_window v.block (free_in v) header (length bytes)) (with_content cx heard_of ip header bytes) (outside cx v ip header)
+    (quick_content cx heard_of ip header bytes) (quick_outside cx v ip header)
 quick_checked Drops cx v ip header bytes = quick_dropped v
 quick_checked Draws cx v ip header bytes = quick_drawn cx v ip header
 quick_checked Resets cx v ip header bytes = quick_reset v ip header (length bytes)
+
+quick_reset_comes : (cx : ContextValue) (v : TcpValue) (ip : IpRepr) (header : TcpHeader) (size : ℕ) → IsQuick (reset_comes cx v ip header size)
+quick_reset_comes cx v ip header size =
+    let rest : Arrived = if challenges_reset v header size then drawn cx v ip header else dropped v in
+    quick_if (takes_reset v.block header) (dropped (taken_down v)) rest (quick_dropped (taken_down v))
+    (quick_if (challenges_reset v header size) (drawn cx v ip header) (dropped v) (quick_drawn cx v ip header) (quick_dropped v))
+
+quick_received : (cx : ContextValue) (v : TcpValue) (ip : IpRepr) (header : TcpHeader) (bytes : List ℕ) → IsQuick (received cx v ip header bytes)
+quick_received cx v ip header bytes =
+    let check = acknowledgement_check v.block header.ack_number in
+    let rest : Arrived = if challenges_syn v.block header then drawn cx v ip header else checked check cx v ip header bytes in
+    quick_if (is_rst header.control) (reset_comes cx v ip header (length bytes)) rest (quick_reset_comes cx v ip header (length bytes))
+    (quick_if (challenges_syn v.block header) (drawn cx v ip header) (checked check cx v ip header bytes) (quick_drawn cx v ip header) (quick_checked check cx v ip header bytes))
 
 quick_takes_answer : (cx : ContextValue) (v : TcpValue) (ip : IpRepr) (header : TcpHeader) (bytes : List ℕ) → IsQuick (takes_answer cx v ip header bytes)
 quick_takes_answer cx v ip header bytes =
@@ -123,8 +146,8 @@ quick_takes_answer cx v ip header bytes =
     (quick_if (is_some header.ack_number && not known) reset last (quick_reset v ip header (length bytes))
     (quick_if (is_syn header.control) (dropped taken_syn) (dropped v) (quick_dropped taken_syn) (quick_dropped v)))
 
-pub checked_draws : (c : Check) (cx : ContextValue) (v : TcpValue) (ip : IpRepr) (header : TcpHeader) (bytes : List ℕ) → (checked c cx v ip header bytes).draws ≡ false
-checked_draws c cx v ip header bytes = (quick_checked c cx v ip header bytes).draws
+pub received_draws : (cx : ContextValue) (v : TcpValue) (ip : IpRepr) (header : TcpHeader) (bytes : List ℕ) → (received cx v ip header bytes).draws ≡ false
+received_draws cx v ip header bytes = (quick_received cx v ip header bytes).draws
 
 pub takes_answer_draws : (cx : ContextValue) (v : TcpValue) (ip : IpRepr) (header : TcpHeader) (bytes : List ℕ) → (takes_answer cx v ip header bytes).draws ≡ false
 takes_answer_draws cx v ip header bytes = (quick_takes_answer cx v ip header bytes).draws
@@ -132,7 +155,7 @@ takes_answer_draws cx v ip header bytes = (quick_takes_answer cx v ip header byt
 -- the states from SYN-RECEIVED on
 pub later_arrives : (state : State) (cx : ContextValue) (v : TcpValue) (ip : IpRepr) (header : TcpHeader) (bytes : List ℕ)
     → (state ≡ In.Closed → ⊥) → (state ≡ In.Listen → ⊥) → (state ≡ In.SynSent → ⊥)
-    → arrives_in state cx v ip header bytes ≡ checked (acknowledgement_check v.block (queued_in v) header) cx v ip header bytes
+    → arrives_in state cx v ip header bytes ≡ received cx v ip header bytes
 later_arrives In.Closed cx v ip header bytes closed listens opens = absurd (closed refl)
 later_arrives In.Listen cx v ip header bytes closed listens opens = absurd (listens refl)
 later_arrives In.SynSent cx v ip header bytes closed listens opens = absurd (opens refl)
@@ -149,7 +172,7 @@ sendable_in In.Listen cx v ip header bytes =
     let opened : Arrived = record { socket = with_block v (timeout_restarted (answering v.block ip header (word (next_random cx).random)) cx.moment 0); answer = None; draws = true } in
     if_sendable (is_first_syn header) opened (dropped v) tt tt
 sendable_in In.SynSent cx v ip header bytes = (quick_takes_answer cx v ip header bytes).sendable
-sendable_in other cx v ip header bytes = (quick_checked (acknowledgement_check v.block (queued_in v) header) cx v ip header bytes).sendable
+sendable_in other cx v ip header bytes = (quick_received cx v ip header bytes).sendable
 
 pub sendable_answer : (cx : ContextValue) (v : TcpValue) (ip : IpRepr) (header : TcpHeader) (bytes : List ℕ) → IfSome (arrives cx v ip header bytes).answer (λ reply. IsSendable (packet_in reply))
 sendable_answer cx v ip header bytes =

@@ -1,5 +1,6 @@
 -- The steps of a receive buffer: what they do to its ring and its runs is what the receive map does.
-use Rattle.std.proofs.Common.{◌≡◌, ◌↔◌, ℕ, ◌+◌, ◌-◌, ◌%◌, ◌^◌, ◌<◌, ◌≤◌, min, true, false, List, [], ◌++◌, length, take, drop, Result, Ok, Err, IsErr, is_ok, IfOk, refl, sym, ap, subst, ◌∙◌, inl, inr, arith, length-append, length-drop}
+use Rattle.std.proofs.Common.{◌≡◌, ◌↔◌, ℕ, ◌+◌, ◌-◌, ◌%◌, ◌^◌, ◌<◌, ◌≤◌, min, not, ◌==◌, Bool, true, false, List, [], ◌∷◌, ◌++◌, length, take, drop, Result, Ok, Err, IsErr, is_ok, IfOk, refl, sym, ap, subst, ◌∙◌, inl, inr, arith, length-append, length-drop}
+use Rattle.std.specs.Prelude.{IsTrue}
 use Rattle.std.specs.Result.{result_unwrap_or}
 use Rattle.std.proofs.lemmas.Bool.Decides.{nat_tests}
 use Rattle.std.proofs.lemmas.List.{length-take-le, take_all, length-take}
@@ -183,3 +184,14 @@ does_hold r held v past bytes n laid runs is by far fits union few n_is laid_is 
 pub run_held : (r : Ring ℕ) (held : List (ℕ × ℕ)) (v : Received) (place : ℕ) → received r held ≡ v → IsHeldBy r held → run_at held place ≡ run_at (runs_of v.map) place
 run_held r held v place is by =
     rw (← is) (ap (λ rs. run_at rs place) (sym (runs_of-held held r.free by.runs by.ends)))
+
+-- whether anything is held
+pub holds_held : (r : Ring ℕ) (held : List (ℕ × ℕ)) (v : Received) (empty : Bool) → received r held ≡ v → IsHeldBy r held → IsTrue empty ↔ (held ≡ []) → not empty ≡ not (length (runs_of v.map) == 0)
+holds_held r held v empty is by tells =
+    rw (← is) (ap not (same held empty tells) ∙ ap (λ rs. not (length rs == 0)) (sym (runs_of-held held r.free by.runs by.ends)))
+  where
+    same : (rs : List (ℕ × ℕ)) (t : Bool) → IsTrue t ↔ (rs ≡ []) → t ≡ (length rs == 0)
+    same [] true so = refl
+    same [] false so = absurd (let clash = so.1 refl in cc)
+    same (run ∷ rs) true so = absurd (let clash = so.0 refl in cc)
+    same (run ∷ rs) false so = grind (arith, nat_tests)

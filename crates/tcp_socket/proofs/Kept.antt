@@ -1,23 +1,19 @@
 -- What the rules of an arrival keep of a block.
-use Rattle.std.proofs.Common.{◌≡◌, ℕ, ◌+◌, ◌-◌, ◌==◌, ◌&&◌, ◌^◌, ◌<◌, ◌≤◌, Bool, true, false, ℤ, Option, Some, None, if◌then◌else◌, refl, sym, ap, ◌∙◌, arith, length}
+use Rattle.std.proofs.Common.{◌≡◌, ℕ, ◌&&◌, ◌≤◌, Bool, true, false, ℤ, Option, Some, None, if◌then◌else◌, arith}
 use Rattle.std.specs.Prelude.{IfSome}
 use Rattle.std.proofs.lemmas.Bool.Decides.{nat_tests}
 use Rattle.net_base.specs.Ring.{Ring}
 use Rattle.net_base.specs.Time.{IsMoment}
-use Rattle.ip_wire.specs.IpRepr.{IpRepr}
 use Rattle.ip_wire.specs.TcpHeader.{TcpHeader}
-use Rattle.tcp_model.specs.Acknowledged.{una_moved, in_state, ended_if, block_acknowledged, state_after_ack, window_set, counted}
-use Rattle.tcp_model.specs.Arrival.{is_void_syn, timers_moved, waiting_anew}
-use Rattle.tcp_model.specs.Controls.{is_syn, is_zero, or_mss}
-use Rattle.tcp_model.specs.Opening.{took_syn, answering, syn_answered, is_first_syn}
-use Rattle.tcp_model.specs.Probing.{probe_kept}
+use Rattle.tcp_model.specs.Acknowledged.{una_moved, in_state, ended_if, block_acknowledged, state_after_ack, names_window, windowed, window_set, ranges_taken, counted}
+use Rattle.tcp_model.specs.Controls.{is_zero, or_mss}
 use Rattle.tcp_model.specs.States.{is_closed}
-use Rattle.tcp_model.specs.Text.{with_fin, fin_taken, takes_fin, with_next}
+use Rattle.tcp_model.specs.Text.{with_fin, fin_taken, takes_fin}
 use Rattle.tcp_model.specs.Timeout.{timeout_restarted, timeout_runs}
 use Rattle.tcp_model.specs.Blocks.{forgotten}
 use Rattle.tcp_model.specs.declared.block.Block.{Block}
 use Rattle.tcp_model.specs.OpenOffer.{OpenOffer}
-use Rattle.tcp_socket.specs.Socket.{IsBlock, IsOpen, IsSocket}
+use Rattle.tcp_socket.specs.Socket.{IsBlock, IsOpen}
 
 -- nothing is offered
 pub none_open : (o : Option OpenOffer) (b : Block) (queued : Ring ℕ) → o ≡ None → IfSome o (IsOpen b queued)
@@ -50,8 +46,14 @@ start_of false now is = tt
 pub kept_timeout : (b : Block) (now : ℤ) (queued : ℕ) → IsMoment now → 1 ≤ b.peer.mss → IsBlock (timeout_restarted b now queued)
 kept_timeout b now queued is mss = record { start = start_of (timeout_runs b queued) now is; mss = mss }
 
-pub kept_timers : (b : Block) (now : ℤ) (queued : ℕ) → IsMoment now → 1 ≤ b.peer.mss → IsBlock (timers_moved b now queued)
-kept_timers b now queued is mss = let kept = kept_timeout b now queued is mss in record { start = kept.start; mss = kept.mss }
+kept_window : (t : Bool) (b : Block) (header : TcpHeader) → 1 ≤ b.peer.mss → 1 ≤ (if t then windowed b header else b).peer.mss
+kept_window true b header mss = mss
+kept_window false b header mss = mss
+
+pub kept_told : (b : Block) (header : TcpHeader) (count queued : ℕ) (now : ℤ) → IsMoment now → IsBlock b
+    → IsBlock (timeout_restarted (counted (ranges_taken (window_set b header) header) count) now queued)
+kept_told b header count queued now is block =
+    kept_timeout (counted (ranges_taken (window_set b header) header) count) now queued is (kept_window (names_window b header) b header block.mss)
 
 -- a SYN that isn't dropped names no MSS of 0
 pub sized_syn : (syn zero_mss : Bool) → (syn && zero_mss) ≡ false → syn ≡ true → zero_mss ≡ false

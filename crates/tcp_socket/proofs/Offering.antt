@@ -1,20 +1,21 @@
 -- What is offered lies in the send ring, near SND.UNA.
-use Rattle.std.proofs.Common.{◌≡◌, ℕ, ◌+◌, ◌-◌, ◌%◌, ◌==◌, ◌&&◌, not, ◌^◌, ◌<◌, ◌≤◌, nat_lt, nat_le, min, ℤ, Bool, true, false, List, length, Option, Some, None, is_some, if◌then◌else◌, refl, sym, ap, ◌∙◌, arith}
+use Rattle.std.proofs.Common.{◌≡◌, ℕ, ◌+◌, ◌-◌, ◌%◌, ◌/◌, ◌==◌, ◌&&◌, ◌^◌, ◌<◌, ◌≤◌, nat_lt, nat_le, min, max, ℤ, Bool, true, false, length, Option, None, if◌then◌else◌, refl, arith}
 use Rattle.std.proofs.lemmas.Bool.Decides.{nat_tests}
 use Rattle.ip_wire.specs.Control.{control_len}
-use Rattle.ip_wire.specs.Seq.{distance_of, advanced}
+use Rattle.ip_wire.specs.Seq.{distance_of}
 use Rattle.ip_wire.specs.SeqNumber.{SeqNumber}
 use Rattle.ip_wire.specs.TcpControl.{TcpControl}
 use Rattle.ip_wire.specs.TcpControl.TheVariants as Control
 use Rattle.ip_wire.specs.TcpHeader.{TcpHeader}
-use Rattle.net_base.specs.Ring.{Ring, capacity, until_end, unbroken_queued}
+use Rattle.net_base.specs.Ring.{Ring, capacity, unbroken_queued}
 use Rattle.socket_base.specs.Context.{ContextValue}
-use Rattle.tcp_model.specs.Blocks.{one_if, unacked, nxt}
+use Rattle.socket_base.specs.Offers.{Offered}
+use Rattle.tcp_model.specs.Blocks.{one_if, unacked}
 use Rattle.tcp_model.specs.Moments.{is_due}
 use Rattle.tcp_model.specs.Offers.{number_at}
 use Rattle.tcp_model.specs.Offsets.{behind_by}
-use Rattle.tcp_model.specs.Probing.{is_probing, probe_moment}
-use Rattle.tcp_model.specs.Rules.{Choice, unbroken, size_limit, congestion_limit, window_limit, next_place, is_sendable, sends_choice, text_choice, has_text, resend_choice, probe_choice, control_for}
+use Rattle.tcp_model.specs.Probing.{is_window_small, is_probing, probe_moment}
+use Rattle.tcp_model.specs.Rules.{Choice, unbroken, size_limit, congestion_limit, window_limit, next_place, is_sendable, text_choice, has_text, resend_choice, probe_choice, control_for}
 use Rattle.tcp_model.specs.Segments.{segment}
 use Rattle.tcp_model.specs.Settled.{end_of}
 use Rattle.tcp_model.specs.States.{owes_fin, sends_text}
@@ -60,7 +61,7 @@ window_small b size =
 pub part_of_text : (v : TcpValue) (addresses : AddressPair) (ip_mtu : ℕ) → FitsBuffer v.queued → has_text v.block addresses ip_mtu v.queued ≡ true → IsPartOf v (text_choice v.block addresses ip_mtu v.queued)
 part_of_text v addresses ip_mtu fits has =
     let b = v.block in
-    let sendable = is_sendable b (size_limit b addresses ip_mtu) (text_choice b addresses ip_mtu v.queued) in
+    let sendable = is_sendable b (queued_in v) (size_limit b addresses ip_mtu) (text_choice b addresses ip_mtu v.queued) in
     let below_end = nat_lt b.sender.in_flight (unacked b (queued_in v)) && sendable in
     let sends = both (sends_text b.state) (nat_le (one_if b.sender.syn_unacked) b.sender.in_flight && below_end) has in
     let past = both (nat_le (one_if b.sender.syn_unacked) b.sender.in_flight) below_end sends.1 in
@@ -86,15 +87,30 @@ some_unbroken queued some =
     let place : at % room < room = omega (arith, within) in
     omega (arith, some, place)
 
+probing_small : (v : TcpValue) → is_probing v.block (queued_in v) ≡ true → (is_window_small v.block (queued_in v) ≡ true) × ((v.block.sender.in_flight == 0) ≡ true)
+probing_small v probing =
+    let sends = both (sends_text v.block.state) (is_window_small v.block (queued_in v) && (v.block.sender.in_flight == 0)) probing in
+    both (is_window_small v.block (queued_in v)) (v.block.sender.in_flight == 0) sends.1
+
+-- something is queued where less than that may go
+held_back : (limit queued enough : ℕ) → nat_lt limit (min queued enough) ≡ true → queued ≡ 0 → ⊥
+held_back limit queued enough small none = grind (arith, nat_tests, small, none)
+
 pub part_of_probe : (v : TcpValue) (now : ℤ) → is_due now (probe_moment v.block (queued_in v)) ≡ true → IsPartOf v probe_choice
 part_of_probe v now due =
     let probing : is_probing v.block (queued_in v) ≡ true = unset (is_probing v.block (queued_in v)) now v.block.timers.probe_at due in
-    let b = v.block in
-    let idle = not (queued_in v == 0) && (b.sender.in_flight == 0) in
-    let sends = both (sends_text b.state) ((b.peer.window == 0) && idle) probing in
-    let closed = both (b.peer.window == 0) idle sends.1 in
-    let some = both (not (queued_in v == 0)) (b.sender.in_flight == 0) closed.1 in
-    record { near = omega arith; unbroken = some_unbroken v.queued (grind (arith, nat_tests, some.0)) }
+    let small = probing_small v probing in
+    record { near = omega arith; unbroken = some_unbroken v.queued (held_back (window_limit v.block (queued_in v)) (queued_in v) (max 1 (v.block.peer.largest_window / 2)) small.0) }
+
+-- what a small window holds back is a part of the send queue
+pub part_of_held : (v : TcpValue) (addresses : AddressPair) (ip_mtu : ℕ) (now : ℤ) → is_due now (probe_moment v.block (queued_in v)) ≡ true
+    → IsPartOf v (text_choice v.block addresses ip_mtu v.queued)
+part_of_held v addresses ip_mtu now due =
+    let probing : is_probing v.block (queued_in v) ≡ true = unset (is_probing v.block (queued_in v)) now v.block.timers.probe_at due in
+    let small = probing_small v probing in
+    let idle : v.block.sender.in_flight ≡ 0 = grind (arith, nat_tests, small.1) in
+    let least = window_small v.block (min (size_limit v.block addresses ip_mtu) (unbroken v.queued (next_place v.block))) in
+    record { near = omega (arith, idle); unbroken = omega (arith, least) }
 
 -- a part of the send queue may be offered
 distance_behind : (a : SeqNumber) (n : ℕ) → a.0 < 2 ^ 32 → n < 2 ^ 32 → distance_of a (behind_by a n) ≡ n
@@ -104,6 +120,7 @@ pub ends_near : (kind : OfferKind) (b : Block) (o : OpenOffer) → end_of b o < 
 ends_near Kind.Syn b o is = is
 ends_near Kind.FastRetransmission b o is = is
 ends_near Kind.Text b o is = is
+ends_near Kind.Probe b o is = is
 ends_near other b o is = tt
 
 pub lies_in : (kind : OfferKind) (queued : Ring ℕ) (o : OpenOffer) → o.len ≤ unbroken queued o.place → LiesInRing kind queued o
@@ -140,3 +157,11 @@ all_unbroken queued place = omega arith
 
 pub whole_part : (queued : Ring ℕ) (place len : ℕ) → len ≤ unbroken queued place → unbroken_queued queued place len ≡ len
 whole_part queued place len lies = omega (arith, lies)
+
+pub not_zero : (n : ℕ) → (n ≡ 0 → ⊥) → (n == 0) ≡ false
+not_zero n some = grind (arith, nat_tests, some)
+
+-- of two offers the second
+pub offered_else : (test : Bool) (one other : Offered TcpValue) → test ≡ false → other.socket ≡ (if test then one else other).socket
+offered_else true one other is = absurd (cc)
+offered_else false one other is = refl

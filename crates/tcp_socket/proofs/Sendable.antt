@@ -1,17 +1,13 @@
 -- What is offered can be sent: its lengths fit their fields.
-use Rattle.std.proofs.Common.{◌≡◌, ℕ, ◌+◌, ◌-◌, ◌*◌, ◌/◌, ◌%◌, ◌==◌, ◌&&◌, ◌||◌, not, ◌^◌, ◌<◌, ◌≤◌, min, ℤ, Bool, true, false, List, [], ◌∷◌, ◌++◌, length, take, drop, Option, Some, None, is_some, if◌then◌else◌, refl, sym, ap, ◌∙◌, arith, length-append, length-drop}
+use Rattle.std.proofs.Common.{◌≡◌, ℕ, ◌+◌, ◌-◌, ◌==◌, ◌&&◌, ◌||◌, not, ◌^◌, ◌<◌, ◌≤◌, min, ℤ, Bool, true, false, List, [], ◌∷◌, length, take, drop, Option, Some, None, is_some, if◌then◌else◌, refl, ap, arith, length-drop}
 use Rattle.std.specs.Prelude.{IfSome}
 use Rattle.std.proofs.lemmas.List.{length-take}
-use Rattle.ip_wire.specs.Options.{padded, options_room, options_bytes, size_options, scale_options, permitted_options, range_options, stamp_options}
-use Rattle.ip_wire.specs.Tcp as Tcp
+use Rattle.ip_wire.specs.Options.{padded, options_bytes, scale_options, permitted_options, stamp_options}
 use Rattle.ip_wire.specs.Tcp.{header_len}
 use Rattle.ip_wire.specs.TcpControl.{TcpControl}
 use Rattle.ip_wire.specs.SeqNumber.{SeqNumber}
 use Rattle.ip_wire.specs.TcpHeader.{TcpHeader}
-use Rattle.ip_wire.specs.TcpOptions.{TcpOptions}
 use Rattle.ip_wire.specs.TcpTimestampGenerator.{TcpTimestampGenerator}
-use Rattle.ip_wire.specs.TcpTimestampRepr.{TcpTimestampRepr}
-use Rattle.net_base.specs.Ring.{Ring}
 use Rattle.socket_base.specs.Context.{ContextValue}
 use Rattle.socket_base.specs.Offers.{Offered}
 use Rattle.socket_base.specs.Packet.{PacketValue, packet_of, IsSendable}
@@ -19,10 +15,13 @@ use Rattle.socket_base.specs.Packet as Carried
 use Rattle.tcp_model.specs.Blocks.{own_scale}
 use Rattle.tcp_model.specs.Moments.{is_due}
 use Rattle.tcp_model.specs.Endpoints.{header_for, ip_header_len}
-use Rattle.tcp_model.specs.Offers.{offer_segment, silent, number_at, offer_choice, offer_ack, offer_syn, offer_reset, offer_keep_alive, last_rules, first_rules, backed_off, offer_between, offer_with, offer_of, payload_of, offered_packet}
+use Rattle.tcp_model.specs.Offers.{offer_segment, silent, number_at, offer_choice, offer_ack, offer_syn, offer_reset, offer_keep_alive, offer_held_back, last_rules, first_rules, backed_off, offer_between, offer_with, offer_of, payload_of, offered_packet}
 use Rattle.tcp_model.specs.Probing.{probe_started, probe_moment}
+use Rattle.tcp_model.specs.Calls.{listening}
+use Rattle.tcp_model.specs.Checks.{falls_back}
+use Rattle.tcp_model.specs.Retries.{gives_up, given_up}
 use Rattle.tcp_model.specs.Rules.{Choice, unbroken, stamp_len, size_limit, window_limit, next_place, time_wait_end, owes_syn, resends, ack_moment, has_text, text_choice, resend_choice, probe_choice, control_for, updates_window, keep_alive_moment}
-use Rattle.tcp_model.specs.Segments.{stamp_by, segment, ack_segment, syn_segment, reset_segment, keep_alive_segment, syn_options, mss_for, hops_of}
+use Rattle.tcp_model.specs.Segments.{stamp_by, segment, ack_segment, syn_segment, reset_segment, keep_alive_segment, hops_of}
 use Rattle.tcp_model.specs.States.{is_closed}
 use Rattle.tcp_model.specs.Timeout.{timeout_end, timeout_started, timed_out}
 use Rattle.tcp_model.specs.Value.{TcpValue, with_block, unoffered, ended, queued_in, free_in, room_of, window_of}
@@ -33,7 +32,7 @@ use Rattle.tcp_model.specs.EndpointPair.{EndpointPair}
 use Rattle.tcp_model.specs.OfferKind.{OfferKind}
 use Rattle.tcp_model.specs.OfferKind.TheVariants as Kind
 use Rattle.tcp_socket.proofs.Offering.{window_small, part_of_probe}
-use Rattle.tcp_socket.specs.Opening.{open_offer, IsPartOf}
+use Rattle.tcp_socket.specs.Opening.{open_offer}
 
 -- the packet of the open offer, if there is one, can be sent
 abbrev Fits : TcpValue → Type 0
@@ -182,18 +181,23 @@ fits_probe cx v pair due =
     let ip = ip_header_small pair.addresses in
     fits_choice Kind.Probe cx v pair probe_choice refl part.unbroken (omega (arith, stamp, ip))
 
+fits_held : (cx : ContextValue) (v : TcpValue) (pair : EndpointPair) → is_due cx.moment (probe_moment v.block (queued_in v)) ≡ true → Fits (offer_held_back cx v pair).socket
+fits_held cx v pair due =
+    fits_when (v.block.peer.window == 0) (offer_choice Kind.Probe cx v pair probe_choice)
+    (offer_choice Kind.Text cx v pair (text_choice v.block pair.addresses cx.ip_mtu v.queued)) (λ _. fits_probe cx v pair due) (λ _. fits_text cx v pair)
+
 fits_last : (cx : ContextValue) (v : TcpValue) (pair : EndpointPair) → v.offered ≡ None → Fits (last_rules cx v pair).socket
 fits_last cx v pair none =
     let alive = offer_keep_alive cx v pair in
     let update = offer_ack Kind.WindowUpdate cx v pair in
     let ack = offer_ack Kind.Ack cx v pair in
-    let probe = offer_choice Kind.Probe cx v pair probe_choice in
+    let probe = offer_held_back cx v pair in
     let fourth : Offered TcpValue = if is_due cx.moment (keep_alive_moment v.block) then alive else silent false v in
-    let third : Offered TcpValue = if updates_window v.block (window_of v) then update else fourth in
+    let third : Offered TcpValue = if updates_window v.block (room_of v.received) (free_in v) then update else fourth in
     let second : Offered TcpValue = if is_due cx.moment (ack_moment v.block) then ack else third in
-    fits_when (is_due cx.moment (probe_moment v.block (queued_in v))) probe second (fits_probe cx v pair) (λ _.
+    fits_when (is_due cx.moment (probe_moment v.block (queued_in v))) probe second (fits_held cx v pair) (λ _.
     fits_when (is_due cx.moment (ack_moment v.block)) ack third (λ _. fits_ack Kind.Ack cx v pair refl) (λ _.
-    fits_when (updates_window v.block (window_of v)) update fourth (λ _. fits_ack Kind.WindowUpdate cx v pair refl) (λ _.
+    fits_when (updates_window v.block (room_of v.received) (free_in v)) update fourth (λ _. fits_ack Kind.WindowUpdate cx v pair refl) (λ _.
     fits_when (is_due cx.moment (keep_alive_moment v.block)) alive (silent false v) (λ _. fits_keep_alive cx v pair) (λ _. fits_none v none))))
 
 fits_first : (cx : ContextValue) (v : TcpValue) (pair : EndpointPair) → v.offered ≡ None → Fits (first_rules cx v pair).socket
@@ -209,19 +213,25 @@ fits_first cx v pair none =
     fits_when (has_text v.block pair.addresses cx.ip_mtu v.queued) text (last_rules cx probing pair) (λ _. fits_text cx v pair) (λ _.
     fits_last cx probing pair none)))
 
+none_up : (v : TcpValue) → v.offered ≡ None → (given_up v).offered ≡ None
+none_up v none = elim (falls_back v.block) as (λ t. (if t then listening v v.block.names.listen else with_block v (timed_out v.block)).offered ≡ None) [ true ↦ refl | false ↦ none ]
+
 fits_between : (cx : ContextValue) (v : TcpValue) (pair : EndpointPair) → v.offered ≡ None → Fits (offer_between cx v pair).socket
 fits_between cx v pair none =
     let end = silent true (ended v) in
     let late = silent true (with_block v (timed_out v.block)) in
     let reset : Offered TcpValue = if v.block.sender.reset_due then offer_reset cx v pair else silent false v in
     let going = with_block v (backed_off cx.moment (timeout_started cx.moment (queued_in v) v.block)) in
-    let third : Offered TcpValue = if is_closed v.block.state then reset else first_rules cx going pair in
+    let over = silent true (given_up v) in
+    let fourth : Offered TcpValue = if gives_up cx.moment v.block (queued_in v) then over else first_rules cx going pair in
+    let third : Offered TcpValue = if is_closed v.block.state then reset else fourth in
     let second : Offered TcpValue = if is_due cx.moment (timeout_end v.block (queued_in v)) then late else third in
     fits_when (is_due cx.moment (time_wait_end v.block)) end second (λ _. fits_none (ended v) none) (λ _.
     fits_when (is_due cx.moment (timeout_end v.block (queued_in v))) late third (λ _. fits_none (with_block v (timed_out v.block)) none) (λ _.
-    fits_when (is_closed v.block.state) reset (first_rules cx going pair)
+    fits_when (is_closed v.block.state) reset fourth
     (λ _. fits_when v.block.sender.reset_due (offer_reset cx v pair) (silent false v) (λ _. fits_reset cx v pair) (λ _. fits_none v none))
-    (λ _. fits_first cx going pair none)))
+    (λ _. fits_when (gives_up cx.moment v.block (queued_in v)) over (first_rules cx going pair) (λ _. fits_none (given_up v) (none_up v none)) (λ _.
+    fits_first cx going pair none))))
 
 fits_with : (names : Option EndpointPair) (cx : ContextValue) (v : TcpValue) → v.offered ≡ None → Fits (offer_with names cx v).socket
 fits_with None cx v none = fits_none v none

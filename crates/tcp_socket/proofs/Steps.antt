@@ -1,5 +1,5 @@
 -- The steps of an arrival, as its functions join them.
-use Rattle.std.proofs.Common.{◌≡◌, ℕ, ◌+◌, ◌-◌, ◌==◌, ◌&&◌, not, nat_lt, ◌<◌, ◌≤◌, ◌^◌, min, nat_le, Bool, true, false, ℤ, List, [], length, take, drop, Option, Some, None, if◌then◌else◌, refl, sym, ap, subst, ◌∙◌, arith}
+use Rattle.std.proofs.Common.{◌≡◌, ℕ, ◌-◌, ◌==◌, ◌&&◌, not, nat_lt, ◌<◌, ◌≤◌, ◌^◌, min, nat_le, Bool, true, false, ℤ, List, [], length, take, drop, Option, Some, None, if◌then◌else◌, refl, sym, ap, subst, ◌∙◌, arith}
 use Rattle.std.specs.Prelude.{IfSome}
 use Rattle.std.proofs.lemmas.Bool.Decides.{nat_tests}
 use Rattle.net_base.specs.Ring.{Ring}
@@ -13,10 +13,10 @@ use Rattle.socket_base.specs.Context.{ContextValue}
 use Rattle.socket_base.specs.Packet.{IsSendable, packet_of}
 use Rattle.socket_base.specs.Packet as Carried
 use Rattle.tcp_law.specs.ReceiveMap.{store, front}
-use Rattle.tcp_model.specs.Acknowledged.{acknowledged, window_set, counted, duplicates_after}
+use Rattle.tcp_model.specs.Acknowledged.{acknowledged, duplicates_after}
 use Rattle.tcp_model.specs.Answers.{answer_for}
-use Rattle.tcp_model.specs.Arrival.{timers_moved, finished, taken, checked, arrives_in}
-use Rattle.tcp_model.specs.Checks.{acknowledgement_check}
+use Rattle.tcp_model.specs.Arrival.{finished, told, taken, received, arrives_in}
+use Rattle.tcp_model.specs.Probing.{probe_kept}
 use Rattle.tcp_model.specs.States.{is_closed, takes_text}
 use Rattle.tcp_model.specs.Text.{Texted, texted, laid, has_new_text, with_text, with_text_at, with_bytes_at, taken_in_order, held_early, with_fin}
 use Rattle.tcp_model.specs.Offsets.{past_by, before_by}
@@ -26,7 +26,7 @@ use Rattle.tcp_model.specs.OpenOffer.{OpenOffer}
 use Rattle.tcp_model.specs.Reply.{Reply}
 use Rattle.tcp_model.specs.State.{State}
 use Rattle.tcp_model.specs.State.TheVariants as In
-use Rattle.tcp_socket.proofs.Answered.{checked_draws, takes_answer_draws, later_arrives}
+use Rattle.tcp_socket.proofs.Answered.{received_draws, takes_answer_draws, later_arrives}
 use Rattle.tcp_socket.proofs.Arrivals.{length-store, length-front, stored_cut}
 use Rattle.tcp_socket.specs.Answering.{next_at, continued_by}
 use Rattle.tcp_socket.specs.Replies.{replies_in, packet_in, packet_with}
@@ -56,7 +56,7 @@ pub text_at : (v : TcpValue) (place n : ℕ) (bytes : List ℕ) (t : Texted) →
 text_at v place n bytes t takes some fits n_is is =
     is
     ∙ ap (λ (map : List (Option ℕ)). if place == 0 then taken_in_order v map else held_early v place map) (stored_cut v.received.map place n bytes n_is)
-    ∙ new_text (takes_text v.block.state) (length bytes == 0) (nat_lt place (free_in v)) (with_bytes_at v place bytes) (texted v 0 None) takes some (below place (free_in v) fits)
+    ∙ new_text (takes_text v.block.state) (length bytes == 0) (nat_lt place (free_in v)) (with_bytes_at v place bytes) (texted v 0 false None) takes some (below place (free_in v) fits)
 
 -- what a step answers and leaves
 pub record Leads (a : Arrived) (reply : Option Reply) (after : TcpValue) : Type 0 where
@@ -66,16 +66,16 @@ pub record Leads (a : Arrived) (reply : Option Reply) (after : TcpValue) : Type 
 pub leads_to : (F : TcpValue → Arrived) (w w' : TcpValue) (answer : Option Reply) (socket : TcpValue) → w ≡ w' → answer ≡ (F w).answer → socket ≡ (F w).socket → Leads (F w') answer socket
 leads_to F w w' answer socket is a s = subst (λ (x : TcpValue). Leads (F x) answer socket) is (record { answer = a; socket = s })
 
--- the FIN is taken, and then the timers are moved
-pub finish_leads : (cx : ContextValue) (next : SeqNumber) (b b2 : Block) (r : Received) (q : Ring ℕ) (o : Option OpenOffer) (v w : TcpValue) (advance : ℕ) (early : Option ℕ) (ip : IpRepr) (header : TcpHeader) (size n : ℕ) (now : ℤ) (answer : Option Reply) (socket : TcpValue)
-    → value_of b r q o ≡ w → now ≡ cx.moment → n ≡ length q.queue → w ≡ with_block v (with_fin v.block (next_at v.block next) header size advance now) → b2 ≡ timers_moved b now n
-    → answer ≡ (answer_for cx (value_of b2 r q o) ip header size early).answer → socket ≡ (answer_for cx (value_of b2 r q o) ip header size early).socket
-    → Leads (finished cx (next_at v.block next) (texted v advance early) ip header size) answer socket
-finish_leads cx next b b2 r q o v w advance early ip header size n now answer socket is now_is n_is w_is b2_is a s =
-    let moved : b2 ≡ timers_moved b cx.moment (length q.queue) = rw (b2_is, now_is, n_is) refl in
-    let F = λ (x : TcpValue). answer_for cx (with_block x (timers_moved x.block cx.moment (queued_in x))) ip header size early in
+-- the FIN is taken, and then the probe's moment may end
+pub finish_leads : (cx : ContextValue) (next : SeqNumber) (b b2 : Block) (r : Received) (q : Ring ℕ) (o : Option OpenOffer) (v w : TcpValue) (advance : ℕ) (fills : Bool) (early : Option ℕ) (ip : IpRepr) (header : TcpHeader) (size n : ℕ) (now : ℤ) (answer : Option Reply) (socket : TcpValue)
+    → value_of b r q o ≡ w → now ≡ cx.moment → n ≡ length q.queue → w ≡ with_block v (with_fin v.block (next_at v.block next) header size advance now) → b2 ≡ probe_kept b n
+    → answer ≡ (answer_for cx (value_of b2 r q o) ip header size fills early).answer → socket ≡ (answer_for cx (value_of b2 r q o) ip header size fills early).socket
+    → Leads (finished cx (next_at v.block next) (texted v advance fills early) ip header size) answer socket
+finish_leads cx next b b2 r q o v w advance fills early ip header size n now answer socket is now_is n_is w_is b2_is a s =
+    let moved : b2 ≡ probe_kept b (length q.queue) = rw (b2_is, n_is) refl in
+    let F = λ (x : TcpValue). answer_for cx (with_block x (probe_kept x.block (queued_in x))) ip header size fills early in
     let first : Leads (F (value_of b r q o)) answer socket =
-    subst (λ (x : Block). Leads (answer_for cx (value_of x r q o) ip header size early) answer socket) moved (record { answer = a; socket = s })
+    subst (λ (x : Block). Leads (answer_for cx (value_of x r q o) ip header size fills early) answer socket) moved (record { answer = a; socket = s })
     in
     let all : value_of b r q o ≡ with_block v (with_fin v.block (next_at v.block next) header size advance cx.moment) =
     is ∙ w_is ∙ ap (λ (m : ℤ). with_block v (with_fin v.block (next_at v.block next) header size advance m)) now_is
@@ -86,7 +86,7 @@ finish_leads cx next b b2 r q o v w advance early ip header size n now answer so
 
 state_held : (v : TcpValue) (place : ℕ) (map : List (Option ℕ)) → (held_early v place map).socket.block.state ≡ v.block.state
 state_held v place map =
-    elim (nat_le (length (runs_of map)) 4) as (λ t. (if t then texted (record v { received = received_of v.received.waiting map v.received.start }) 0 (Some place) else texted v 0 None).socket.block.state ≡ v.block.state) [ true ↦ refl | false ↦ refl ]
+    elim (nat_le (length (runs_of map)) 4) as (λ t. (if t then texted (record v { received = received_of v.received.waiting map v.received.start }) 0 false (Some place) else texted v 0 false None).socket.block.state ≡ v.block.state) [ true ↦ refl | false ↦ refl ]
 
 state_bytes : (v : TcpValue) (place : ℕ) (bytes : List ℕ) → (with_bytes_at v place bytes).socket.block.state ≡ v.block.state
 state_bytes v place bytes =
@@ -95,7 +95,7 @@ state_bytes v place bytes =
 
 state_text : (v : TcpValue) (place : ℕ) (bytes : List ℕ) → (with_text_at v place bytes).socket.block.state ≡ v.block.state
 state_text v place bytes =
-    elim (takes_text v.block.state && has_new_text v place bytes) as (λ t. (if t then with_bytes_at v place bytes else texted v 0 None).socket.block.state ≡ v.block.state) [ true ↦ state_bytes v place bytes | false ↦ refl ]
+    elim (takes_text v.block.state && has_new_text v place bytes) as (λ t. (if t then with_bytes_at v place bytes else texted v 0 false None).socket.block.state ≡ v.block.state) [ true ↦ state_bytes v place bytes | false ↦ refl ]
 
 -- the FIN is taken by the state and RCV.NXT alone
 abbrev fin_by : ContextValue → State → SeqNumber → Texted → IpRepr → TcpHeader → ℕ → Arrived
@@ -103,11 +103,11 @@ fin_by cx state next t ip header size =
     finished cx (record (next_at t.socket.block next) { state = state }) t ip header size
 
 -- the text is taken, then the FIN
-pub content_leads : (cx : ContextValue) (next : SeqNumber) (v w : TcpValue) (advance : ℕ) (early : Option ℕ) (ip : IpRepr) (header : TcpHeader) (bytes : List ℕ) (answer : Option Reply) (socket : TcpValue)
-    → next ≡ v.block.receiver.next → texted w advance early ≡ with_text v header bytes
-    → answer ≡ (finished cx (next_at w.block next) (texted w advance early) ip header (length bytes)).answer → socket ≡ (finished cx (next_at w.block next) (texted w advance early) ip header (length bytes)).socket
+pub content_leads : (cx : ContextValue) (next : SeqNumber) (v w : TcpValue) (advance : ℕ) (fills : Bool) (early : Option ℕ) (ip : IpRepr) (header : TcpHeader) (bytes : List ℕ) (answer : Option Reply) (socket : TcpValue)
+    → next ≡ v.block.receiver.next → texted w advance fills early ≡ with_text v header bytes
+    → answer ≡ (finished cx (next_at w.block next) (texted w advance fills early) ip header (length bytes)).answer → socket ≡ (finished cx (next_at w.block next) (texted w advance fills early) ip header (length bytes)).socket
     → Leads (finished cx v.block (with_text v header bytes) ip header (length bytes)) answer socket
-content_leads cx next v w advance early ip header bytes answer socket next_is text a s =
+content_leads cx next v w advance fills early ip header bytes answer socket next_is text a s =
     let size = length bytes in
     let t = with_text v header bytes in
     let first : Leads (fin_by cx t.socket.block.state next t ip header size) answer socket =
@@ -125,13 +125,13 @@ if_open false a b answer socket is leads = leads
 
 -- the window is taken, then text and FIN
 pub rest_leads : (cx : ContextValue) (duplicates : ℕ) (v w : TcpValue) (ip : IpRepr) (header : TcpHeader) (bytes : List ℕ) (answer : Option Reply) (socket : TcpValue)
-    → is_closed v.block.state ≡ false → w ≡ with_block v (counted (window_set v.block header) duplicates)
+    → is_closed v.block.state ≡ false → w ≡ told v header duplicates cx.moment
     → answer ≡ (finished cx w.block (with_text w header bytes) ip header (length bytes)).answer → socket ≡ (finished cx w.block (with_text w header bytes) ip header (length bytes)).socket
     → Leads (continued_by cx duplicates v ip header bytes) answer socket
 rest_leads cx duplicates v w ip header bytes answer socket opened w_is a s =
-    let counts = with_block v (counted (window_set v.block header) duplicates) in
+    let counts = told v header duplicates cx.moment in
     let first = leads_to (λ (x : TcpValue). finished cx x.block (with_text x header bytes) ip header (length bytes)) w counts answer socket w_is a s in
-    if_open (is_closed v.block.state) (dropped v) (finished cx v.block (with_text counts header bytes) ip header (length bytes)) answer socket opened (record { answer = first.answer; socket = first.socket })
+    if_open (is_closed v.block.state) (dropped v) (finished cx counts.block (with_text counts header bytes) ip header (length bytes)) answer socket opened first
 
 -- the acknowledgement is taken, then the rest
 pub taken_leads : (cx : ContextValue) (duplicates : ℕ) (v w : TcpValue) (now : ℤ) (ip : IpRepr) (header : TcpHeader) (bytes : List ℕ) (by : ℕ) (answer : Option Reply) (socket : TcpValue)
@@ -150,7 +150,7 @@ pub quiet_in : (state : State) (cx : ContextValue) (v : TcpValue) (ip : IpRepr) 
 quiet_in In.Closed cx v ip header bytes not_listen = refl
 quiet_in In.Listen cx v ip header bytes not_listen = absurd (not_listen refl)
 quiet_in In.SynSent cx v ip header bytes not_listen = takes_answer_draws cx v ip header bytes
-quiet_in other cx v ip header bytes not_listen = checked_draws (acknowledgement_check v.block (queued_in v) header) cx v ip header bytes
+quiet_in other cx v ip header bytes not_listen = received_draws cx v ip header bytes
 
 pub not_drawn : {X : Type 0} (cx drawn : X) (draws : Bool) → draws ≡ false → cx ≡ (if draws then drawn else cx)
 not_drawn cx drawn true is = absurd (cc)
@@ -159,7 +159,7 @@ not_drawn cx drawn false is = refl
 -- from SYN-RECEIVED on
 pub later_leads : (cx : ContextValue) (v : TcpValue) (ip : IpRepr) (header : TcpHeader) (bytes : List ℕ) (answer : Option Reply) (socket : TcpValue)
     → (v.block.state ≡ In.Closed → ⊥) → (v.block.state ≡ In.Listen → ⊥) → (v.block.state ≡ In.SynSent → ⊥)
-    → answer ≡ (checked (acknowledgement_check v.block (queued_in v) header) cx v ip header bytes).answer → socket ≡ (checked (acknowledgement_check v.block (queued_in v) header) cx v ip header bytes).socket
+    → answer ≡ (received cx v ip header bytes).answer → socket ≡ (received cx v ip header bytes).socket
     → Leads (arrives_in v.block.state cx v ip header bytes) answer socket
 later_leads cx v ip header bytes answer socket closed listens opens a s =
     subst (λ (x : Arrived). Leads x answer socket) (sym (later_arrives v.block.state cx v ip header bytes closed listens opens)) (record { answer = a; socket = s })

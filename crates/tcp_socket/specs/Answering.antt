@@ -1,32 +1,30 @@
 -- The answer that is due to a segment, which is made of the socket as the segment left it; and what is kept of the socket as it
 -- was before.
-use Rattle.std.specs.Prelude.{ℕ, ℤ, if◌then◌else◌, List, length, Option, Some, None}
+use Rattle.std.specs.Prelude.{ℕ, ℤ, if◌then◌else◌, List, Option, Some, None}
 use Rattle.ip_wire.specs.IpRepr.{IpRepr}
 use Rattle.ip_wire.specs.SeqNumber.{SeqNumber}
 use Rattle.ip_wire.specs.TcpHeader.{TcpHeader}
 use Rattle.socket_base.specs.Context.{ContextValue}
 use Rattle.tcp_model.specs.declared.block.Block.{Block}
-use Rattle.tcp_model.specs.Acknowledged.{window_set, counted}
 use Rattle.tcp_model.specs.Answers.{range_held}
-use Rattle.tcp_model.specs.Arrival.{finished}
+use Rattle.tcp_model.specs.Arrival.{with_content, told}
 use Rattle.tcp_model.specs.Endpoints.{pair_in}
 use Rattle.tcp_model.specs.Reply.{Reply}
 use Rattle.tcp_model.specs.Segments.{sack_segment, reply_to, rst_reply, hops_of}
 use Rattle.tcp_model.specs.States.{is_closed}
-use Rattle.tcp_model.specs.Text.{with_text}
-use Rattle.tcp_model.specs.Value.{TcpValue, Arrived, with_block, dropped, window_of}
+use Rattle.tcp_model.specs.Value.{TcpValue, Arrived, dropped}
 use Rattle.tcp_socket.specs.declared.arrival.Due.{Due}
 use Rattle.tcp_socket.specs.declared.arrival.Due.TheVariants as Is
 
--- of all that came, with a range that is held out of order
-abbrev pub acknowledgement : ℤ → TcpValue → IpRepr → TcpHeader → Option (ℕ × ℕ) → Reply
-acknowledgement now v ip header range =
-    reply_to ip (hops_of v.block.settings.hop_limit) (sack_segment v.block (pair_in ip header) now (window_of v) range)
+-- of all that came, with this window field and a range that is held out of order
+abbrev pub acknowledgement : ℤ → TcpValue → IpRepr → TcpHeader → ℕ → Option (ℕ × ℕ) → Reply
+acknowledgement now v ip header window range =
+    reply_to ip (hops_of v.block.settings.hop_limit) (sack_segment v.block (pair_in ip header) now window range)
 
 abbrev pub reply_of : Due → ℤ → TcpValue → IpRepr → TcpHeader → ℕ → Reply
 reply_of Is.Reset now v ip header size = rst_reply ip header size
-reply_of Is.Ack now v ip header size = acknowledgement now v ip header None
-reply_of (Is.AckHeld place) now v ip header size = acknowledgement now v ip header (range_held v place)
+reply_of (Is.Ack window) now v ip header size = acknowledgement now v ip header window None
+reply_of (Is.AckHeld window place) now v ip header size = acknowledgement now v ip header window (range_held v place)
 
 abbrev pub answer_of : Option Due → ℤ → TcpValue → IpRepr → TcpHeader → ℕ → Option Reply
 answer_of None now v ip header size = None
@@ -40,4 +38,4 @@ next_at b next = record b { receiver = record b.receiver { next = next } }
 abbrev pub continued_by : ContextValue → ℕ → TcpValue → IpRepr → TcpHeader → List ℕ → Arrived
 continued_by cx duplicates v ip header bytes =
     if is_closed v.block.state then dropped v
-    else finished cx v.block (with_text (with_block v (counted (window_set v.block header) duplicates)) header bytes) ip header (length bytes)
+    else with_content cx (told v header duplicates cx.moment) ip header bytes

@@ -4,16 +4,16 @@ ghost use Rattle.net_base.specs.Time.{IsMoment};
 ghost use Rattle.socket_base.specs.Context.{ContextValue};
 ghost use Rattle.socket_base.specs.Packet.{IsSendable};
 ghost use Rattle.ip_wire.specs.Tcp.{header_of};
-ghost use Rattle.tcp_model.specs.Acknowledged.{acknowledged, window_set, counted};
+ghost use Rattle.tcp_model.specs.Acknowledged.{acknowledged};
 ghost use Rattle.tcp_model.specs.Answers.{ack_recorded, drawn, range_held, answer_for};
-ghost use Rattle.tcp_model.specs.Arrival.{waiting_anew, outside, finished, taken, inside, checked, is_void_syn, arrives_in, arrives};
+ghost use Rattle.tcp_model.specs.Arrival.{waiting_anew, outside, tells_news, passed_outside, finished, told, taken, inside, checked, challenges_reset, reset_comes, received, is_void_syn, arrives_in, arrives};
 ghost use Rattle.tcp_model.specs.Checks.{acknowledgement_check, taken_down};
-ghost use Rattle.tcp_model.specs.Checks.Check.{Passes};
+ghost use Rattle.tcp_model.specs.Checks.Check.{Passes, Old};
 ghost use Rattle.tcp_model.specs.Names.{accepts};
 ghost use Rattle.tcp_model.specs.Opening.{is_first_syn, opens, takes_answer};
 ghost use Rattle.tcp_model.specs.Segments.{rst_reply};
 ghost use Rattle.tcp_model.specs.Text.{texted, with_text, with_text_at, with_bytes_at, with_fin};
-ghost use Rattle.tcp_model.specs.Value.{queued_in, window_of, with_block};
+ghost use Rattle.tcp_model.specs.Value.{queued_in, room_of, window_of, with_block};
 ghost use Rattle.tcp_socket.specs.Replies.{replies_in, packet_with};
 ghost use Rattle.tcp_socket.specs.Answering.{acknowledgement, reply_of, answer_of, next_at, continued_by};
 
@@ -87,23 +87,27 @@ impl Socket {
     {
         match due {
             Due::Reset => rst_reply(incoming.ip_repr, &incoming.header, incoming.bytes.len()),
-            Due::Ack => self.acknowledgement(now, incoming, None),
-            Due::AckHeld(place) => self.acknowledgement(now, incoming, self.range_held(place)),
+            Due::Ack(window) => self.acknowledgement(now, incoming, window, None),
+            Due::AckHeld(window, place) => {
+                self.acknowledgement(now, incoming, window, self.range_held(place))
+            }
         }
     }
 
-    /// The acknowledgement that answers a segment, with a range that is held out of order.
+    /// The acknowledgement that answers a segment, with this window field and a range that is held out
+    /// of order.
     fn acknowledgement(
         &self,
         now: Instant,
         incoming: &Incoming<'_>,
+        window: u16,
         range: Option<(u32, u32)>,
     ) -> Reply
         requires { IsMoment now }
-        ensures { result ≡ acknowledgement now self.now incoming.now.ip_repr.now incoming.now.header range }
+        ensures { result ≡ acknowledgement now self.now incoming.now.ip_repr.now incoming.now.header window range }
     {
         let pair = EndpointPair::of_segment(incoming.ip_repr, &incoming.header);
-        let segment = self.block.sack_segment(&pair, now, self.window(), range);
+        let segment = self.block.sack_segment(&pair, now, window, range);
         reply_to(incoming.ip_repr, self.block.hops(), segment)
     }
 
@@ -132,7 +136,7 @@ impl Socket {
             State::Closed => None,
             State::Listen => self.take_first(cx, incoming),
             State::SynSent => self.take_answer(&*cx, incoming),
-            _ => self.check(&*cx, incoming),
+            _ => self.receive(&*cx, incoming),
         }
     }
 
@@ -180,16 +184,56 @@ impl Socket {
     }
 
     /// From SYN-RECEIVED on.
+    fn receive<C: Context>(&mut self, cx: &C, incoming: &Incoming<'_>) -> Option<Due>
+        requires unoffered { self.old.offered ≡ None }
+        ensures answer { answer_of result (C.context cx.now).moment self.new incoming.now.ip_repr.now incoming.now.header (length incoming.now.bytes.now) ≡ (received (C.context cx.now) self.old incoming.now.ip_repr.now incoming.now.header incoming.now.bytes.now).answer }
+        ensures socket { self.new ≡ (received (C.context cx.now) self.old incoming.now.ip_repr.now incoming.now.header incoming.now.bytes.now).socket }
+    {
+        if is_rst(incoming.header.control) {
+            self.take_reset(cx, incoming)
+        } else if self.block.challenges_syn(&incoming.header) {
+            self.draw(cx, incoming)
+        } else {
+            self.check(cx, incoming)
+        }
+    }
+
+    /// A reset counts at RCV.NXT alone. Elsewhere in the window it is challenged.
+    fn take_reset<C: Context>(&mut self, cx: &C, incoming: &Incoming<'_>) -> Option<Due>
+        requires unoffered { self.old.offered ≡ None }
+        ensures answer { answer_of result (C.context cx.now).moment self.new incoming.now.ip_repr.now incoming.now.header (length incoming.now.bytes.now) ≡ (reset_comes (C.context cx.now) self.old incoming.now.ip_repr.now incoming.now.header (length incoming.now.bytes.now)).answer }
+        ensures socket { self.new ≡ (reset_comes (C.context cx.now) self.old incoming.now.ip_repr.now incoming.now.header (length incoming.now.bytes.now)).socket }
+    {
+        if self.block.takes_reset(&incoming.header) {
+            self.take_down();
+            None
+        } else if self.challenges_reset(&incoming.header, incoming.bytes.len()) {
+            self.draw(cx, incoming)
+        } else {
+            None
+        }
+    }
+
+    /// Whether a reset that doesn't count draws an acknowledgement.
+    fn challenges_reset(&self, header: &TcpHeader, size: usize) -> bool
+        requires { size < 2 ^ 63 }
+        ensures { result ≡ challenges_reset self.now header.now size }
+    {
+        !(self.block.state.is_time_wait() || self.block.state.is_answering())
+            && self
+                .block
+                .is_in_window(self.received.window(), header, size)
+    }
+
+    /// What is no reset, by its acknowledgement.
     fn check<C: Context>(&mut self, cx: &C, incoming: &Incoming<'_>) -> Option<Due>
         requires unoffered { self.old.offered ≡ None }
-        ensures answer { answer_of result (C.context cx.now).moment self.new incoming.now.ip_repr.now incoming.now.header (length incoming.now.bytes.now) ≡ (checked (acknowledgement_check self.old.block (queued_in self.old) incoming.now.header) (C.context cx.now) self.old incoming.now.ip_repr.now incoming.now.header incoming.now.bytes.now).answer }
-        ensures socket { self.new ≡ (checked (acknowledgement_check self.old.block (queued_in self.old) incoming.now.header) (C.context cx.now) self.old incoming.now.ip_repr.now incoming.now.header incoming.now.bytes.now).socket }
+        ensures answer { answer_of result (C.context cx.now).moment self.new incoming.now.ip_repr.now incoming.now.header (length incoming.now.bytes.now) ≡ (checked (acknowledgement_check self.old.block incoming.now.header.ack_number) (C.context cx.now) self.old incoming.now.ip_repr.now incoming.now.header incoming.now.bytes.now).answer }
+        ensures socket { self.new ≡ (checked (acknowledgement_check self.old.block incoming.now.header.ack_number) (C.context cx.now) self.old incoming.now.ip_repr.now incoming.now.header incoming.now.bytes.now).socket }
     {
-        match self
-            .block
-            .check_acknowledgement(self.queued.len(), &incoming.header)
-        {
+        match self.block.check_acknowledgement(incoming.header.ack_number) {
             Verdict::Passes(by) => self.take_passed(cx, incoming, by),
+            Verdict::Old => self.take_old(cx, incoming),
             Verdict::Drops => None,
             Verdict::Draws => self.draw(cx, incoming),
             Verdict::Resets => Some(Due::Reset),
@@ -209,17 +253,59 @@ impl Socket {
         {
             self.take_inside(cx, incoming, by)
         } else {
+            self.take_outside(cx, incoming, by)
+        }
+    }
+
+    /// A segment whose acknowledgement is old: its text and its FIN are taken.
+    fn take_old<C: Context>(&mut self, cx: &C, incoming: &Incoming<'_>) -> Option<Due>
+        requires unoffered { self.old.offered ≡ None }
+        ensures answer { answer_of result (C.context cx.now).moment self.new incoming.now.ip_repr.now incoming.now.header (length incoming.now.bytes.now) ≡ (checked Old (C.context cx.now) self.old incoming.now.ip_repr.now incoming.now.header incoming.now.bytes.now).answer }
+        ensures socket { self.new ≡ (checked Old (C.context cx.now) self.old incoming.now.ip_repr.now incoming.now.header incoming.now.bytes.now).socket }
+    {
+        let free = self.received.window();
+        if self
+            .block
+            .is_in_window(free, &incoming.header, incoming.bytes.len())
+        {
+            self.block.hear();
+            self.take_content(cx, incoming)
+        } else {
             self.answer_outside(cx, incoming)
         }
     }
 
-    /// Outside the window: an answer may be drawn, but for a reset.
+    /// Outside the window. The acknowledgement of a segment that lies just before the window is taken.
+    fn take_outside<C: Context>(&mut self, cx: &C, incoming: &Incoming<'_>, by: u32) -> Option<Due>
+        requires unoffered { self.old.offered ≡ None }
+        ensures answer { answer_of result (C.context cx.now).moment self.new incoming.now.ip_repr.now incoming.now.header (length incoming.now.bytes.now) ≡ (passed_outside (C.context cx.now) self.old incoming.now.ip_repr.now incoming.now.header (length incoming.now.bytes.now) by).answer }
+        ensures socket { self.new ≡ (passed_outside (C.context cx.now) self.old incoming.now.ip_repr.now incoming.now.header (length incoming.now.bytes.now) by).socket }
+    {
+        if self.tells_news(&incoming.header, incoming.bytes.len()) {
+            self.acknowledge(by, cx.now());
+            return self.answer_outside(cx, incoming);
+        }
+        self.answer_outside(cx, incoming)
+    }
+
+    /// Whether a segment outside the window lies just before it, past SYN-RECEIVED.
+    fn tells_news(&self, header: &TcpHeader, size: usize) -> bool
+        requires { size < 2 ^ 63 }
+        ensures { result ≡ tells_news self.now header.now size }
+    {
+        !self.block.state.is_answering()
+            && self
+                .block
+                .lies_before(self.received.capacity(), header, size)
+    }
+
+    /// Outside the window an answer may be drawn.
     fn answer_outside<C: Context>(&mut self, cx: &C, incoming: &Incoming<'_>) -> Option<Due>
         requires unoffered { self.old.offered ≡ None }
         ensures answer { answer_of result (C.context cx.now).moment self.new incoming.now.ip_repr.now incoming.now.header (length incoming.now.bytes.now) ≡ (outside (C.context cx.now) self.old incoming.now.ip_repr.now incoming.now.header).answer }
         ensures socket { self.new ≡ (outside (C.context cx.now) self.old incoming.now.ip_repr.now incoming.now.header).socket }
     {
-        if is_rst(incoming.header.control) {
+        if self.block.state.is_closed() {
             return None;
         }
         self.wait_anew(&incoming.header, cx.now());
@@ -237,23 +323,20 @@ impl Socket {
         }
     }
 
-    /// Inside the window: a reset, a SYN, or a segment to take.
+    /// Inside the window: a SYN, or a segment to take.
     fn take_inside<C: Context>(&mut self, cx: &C, incoming: &Incoming<'_>, by: u32) -> Option<Due>
         requires unoffered { self.old.offered ≡ None }
         ensures answer { answer_of result (C.context cx.now).moment self.new incoming.now.ip_repr.now incoming.now.header (length incoming.now.bytes.now) ≡ (inside (C.context cx.now) self.old incoming.now.ip_repr.now incoming.now.header incoming.now.bytes.now by).answer }
         ensures socket { self.new ≡ (inside (C.context cx.now) self.old incoming.now.ip_repr.now incoming.now.header incoming.now.bytes.now by).socket }
     {
-        if is_rst(incoming.header.control) {
-            self.take_down();
-            None
-        } else if is_syn(incoming.header.control) {
+        if is_syn(incoming.header.control) {
             self.draw(cx, incoming)
         } else {
             self.take(cx, incoming, by)
         }
     }
 
-    /// A reset takes the socket down: a listener back to LISTEN, any other to CLOSED.
+    /// Takes the socket down: a listener back to LISTEN, any other to CLOSED.
     fn take_down(&mut self)
         requires unoffered { self.old.offered ≡ None }
         ensures { self.new ≡ taken_down self.old }
@@ -293,17 +376,20 @@ impl Socket {
         if self.block.state.is_closed() {
             return None;
         }
-        self.take_window(&incoming.header, duplicates);
+        self.take_window(&incoming.header, duplicates, cx.now());
         self.take_content(cx, incoming)
     }
 
-    /// The window of a segment, which is so many duplicates in a row.
-    fn take_window(&mut self, header: &TcpHeader, duplicates: u8)
+    /// The window of a segment and what its ranges name. It is so many duplicates in a row.
+    fn take_window(&mut self, header: &TcpHeader, duplicates: u8, now: Instant)
         requires unoffered { self.old.offered ≡ None }
-        ensures { self.new ≡ with_block self.old (counted (window_set self.old.block header.now) duplicates) }
+        requires moment { IsMoment now }
+        ensures { self.new ≡ told self.old header.now duplicates now }
     {
         self.block.set_window(header);
+        self.block.take_ranges(header);
         self.block.count(duplicates);
+        self.block.restart_timeout(now, self.queued.len());
     }
 
     /// SND.UNA rises by so much, and what is acknowledged is freed.
@@ -339,13 +425,13 @@ impl Socket {
     ) -> Option<Due>
         requires unoffered { self.old.offered ≡ None }
         requires small { text.now.advance ≤ 2 ^ 30 }
-        ensures answer { answer_of result (C.context cx.now).moment self.new incoming.now.ip_repr.now incoming.now.header (length incoming.now.bytes.now) ≡ (finished (C.context cx.now) (next_at self.old.block next) (texted self.old text.now.advance text.now.early) incoming.now.ip_repr.now incoming.now.header (length incoming.now.bytes.now)).answer }
-        ensures socket { self.new ≡ (finished (C.context cx.now) (next_at self.old.block next) (texted self.old text.now.advance text.now.early) incoming.now.ip_repr.now incoming.now.header (length incoming.now.bytes.now)).socket }
+        ensures answer { answer_of result (C.context cx.now).moment self.new incoming.now.ip_repr.now incoming.now.header (length incoming.now.bytes.now) ≡ (finished (C.context cx.now) (next_at self.old.block next) (texted self.old text.now.advance text.now.fills text.now.early) incoming.now.ip_repr.now incoming.now.header (length incoming.now.bytes.now)).answer }
+        ensures socket { self.new ≡ (finished (C.context cx.now) (next_at self.old.block next) (texted self.old text.now.advance text.now.fills text.now.early) incoming.now.ip_repr.now incoming.now.header (length incoming.now.bytes.now)).socket }
     {
         let (now, size) = (cx.now(), incoming.bytes.len());
         self.take_fin(next, &incoming.header, size, text.advance, now);
-        self.block.move_timers(now, self.queued.len());
-        self.answer(cx, incoming, text.early)
+        self.block.keep_probe(self.queued.len());
+        self.answer(cx, incoming, text.fills, text.early)
     }
 
     /// Takes the FIN of a segment whose text made RCV.NXT rise by so much from `next`.
@@ -374,20 +460,18 @@ impl Socket {
         &mut self,
         cx: &C,
         incoming: &Incoming<'_>,
+        fills: bool,
         early: Option<usize>,
     ) -> Option<Due>
         requires unoffered { self.old.offered ≡ None }
-        ensures answer { answer_of result (C.context cx.now).moment self.new incoming.now.ip_repr.now incoming.now.header (length incoming.now.bytes.now) ≡ (answer_for (C.context cx.now) self.old incoming.now.ip_repr.now incoming.now.header (length incoming.now.bytes.now) early).answer }
-        ensures socket { self.new ≡ (answer_for (C.context cx.now) self.old incoming.now.ip_repr.now incoming.now.header (length incoming.now.bytes.now) early).socket }
+        ensures answer { answer_of result (C.context cx.now).moment self.new incoming.now.ip_repr.now incoming.now.header (length incoming.now.bytes.now) ≡ (answer_for (C.context cx.now) self.old incoming.now.ip_repr.now incoming.now.header (length incoming.now.bytes.now) fills early).answer }
+        ensures socket { self.new ≡ (answer_for (C.context cx.now) self.old incoming.now.ip_repr.now incoming.now.header (length incoming.now.bytes.now) fills early).socket }
     {
         match early {
-            Some(place) => {
-                self.acknowledge_all();
-                Some(Due::AckHeld(place))
-            }
+            Some(place) => Some(Due::AckHeld(self.acknowledge_all(), place)),
             None => {
-                self.block
-                    .ack_due(&incoming.header, incoming.bytes.len(), cx.now());
+                let size = incoming.bytes.len();
+                self.block.ack_due(&incoming.header, size, fills, cx.now());
                 None
             }
         }
@@ -396,7 +480,7 @@ impl Socket {
     /// The text of an accepted segment.
     fn take_text(&mut self, header: &TcpHeader, bytes: &[u8]) -> Text
         requires unoffered { self.old.offered ≡ None }
-        ensures text { texted self.new result.advance result.early ≡ with_text self.old header.now bytes.now }
+        ensures text { texted self.new result.advance result.fills result.early ≡ with_text self.old header.now bytes.now }
         ensures small { result.advance ≤ 2 ^ 30 }
         ensures unoffered { self.new.offered ≡ None }
     {
@@ -408,7 +492,7 @@ impl Socket {
     /// Text of which what lies before RCV.NXT is cut off, so far past RCV.NXT.
     fn take_text_at(&mut self, place: usize, bytes: &[u8]) -> Text
         requires unoffered { self.old.offered ≡ None }
-        ensures text { texted self.new result.advance result.early ≡ with_text_at self.old place bytes.now }
+        ensures text { texted self.new result.advance result.fills result.early ≡ with_text_at self.old place bytes.now }
         ensures small { result.advance ≤ 2 ^ 30 }
         ensures unoffered { self.new.offered ≡ None }
     {
@@ -424,21 +508,24 @@ impl Socket {
         requires unoffered { self.old.offered ≡ None }
         requires fits { place + length bytes.now ≤ length self.old.received.map }
         requires small { length self.old.received.map ≤ 2 ^ 30 }
-        ensures text { texted self.new result.advance result.early ≡ with_bytes_at self.old place bytes.now }
+        ensures text { texted self.new result.advance result.fills result.early ≡ with_bytes_at self.old place bytes.now }
         ensures small { result.advance ≤ 2 ^ 30 }
         ensures unoffered { self.new.offered ≡ None }
     {
         if place == 0 {
+            let fills = self.received.is_holding();
             let advance = self.received.store(bytes);
             self.block.advance(advance);
             return Text {
                 advance,
+                fills,
                 early: None,
             };
         }
         match self.received.hold(place, bytes) {
             Ok(()) => Text {
                 advance: 0,
+                fills: false,
                 early: Some(place),
             },
             Err(_) => Text::NONE,
@@ -464,28 +551,31 @@ impl Socket {
     {
         if self.block.may_draw(cx.now()) {
             self.block.timers.draws_from = Some(next_draw_from(cx.now()));
-            self.acknowledge_all();
-            Some(Due::Ack)
+            Some(Due::Ack(self.acknowledge_all()))
         } else {
             None
         }
     }
 
-    /// An acknowledgement of all that came answers a segment.
-    fn acknowledge_all(&mut self)
+    /// An acknowledgement of all that came answers a segment. Returns its window field: what is recorded
+    /// of it may change the next one.
+    fn acknowledge_all(&mut self) -> u16
         requires unoffered { self.old.offered ≡ None }
-        ensures { self.new ≡ with_block self.old (ack_recorded self.old.block (window_of self.old)) }
+        ensures window { result ≡ window_of self.old }
+        ensures socket { self.new ≡ with_block self.old (ack_recorded self.old.block (room_of self.old.received) (window_of self.old)) }
     {
         let window = self.window();
-        self.block.record_ack(window);
+        self.block.record_ack(self.received.capacity(), window);
+        window
     }
 
     /// The window field, but on a SYN.
     pub(crate) fn window(&self) -> u16
         ensures { result ≡ window_of self.now }
     {
-        self.block
-            .window_field(self.received.capacity(), self.received.window())
+        let (capacity, free) = (self.received.capacity(), self.received.window());
+        let space = self.block.announced(capacity, free, self.received.len());
+        self.block.window_field(capacity, space)
     }
 }
 
@@ -493,22 +583,25 @@ impl Socket {
 #[derive(Clone, Copy)]
 enum Due {
     Reset,
-    Ack,
-    /// An acknowledgement that tells of the run which is held with its first byte at this place.
-    AckHeld(usize),
+    /// An acknowledgement with this window field.
+    Ack(u16),
+    /// One that tells of the run which is held with its first byte at this place.
+    AckHeld(u16, usize),
 }
 
-/// The text of a segment: how far RCV.NXT rose, and of text that is held early the place of its first
-/// byte.
+/// The text of a segment: how far RCV.NXT rose, whether it came in order while other text was held, and
+/// of text that is held early the place of its first byte.
 #[derive(Clone, Copy)]
 struct Text {
     advance: usize,
+    fills: bool,
     early: Option<usize>,
 }
 
 impl Text {
     const NONE: Text = Text {
         advance: 0,
+        fills: false,
         early: None,
     };
 }

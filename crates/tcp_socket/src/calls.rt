@@ -165,13 +165,18 @@ impl Socket {
         }
     }
 
-    /// Ends the connection. A reset goes to the remote, if there is one.
+    /// Ends the connection. A reset goes to the remote, if there is one, but in TIME-WAIT, where the
+    /// remote has all that it waits for.
     pub fn abort(&mut self)
         ensures { self.new ≡ abort_after self.old }
     {
         self.offered = None;
-        self.block.state = State::Closed;
-        self.block.sender.reset_due = self.block.names.pair.is_some();
+        if self.block.state.is_time_wait() {
+            self.block.forget();
+        } else {
+            self.block.state = State::Closed;
+            self.block.sender.reset_due = self.block.names.pair.is_some();
+        }
     }
 
     fn check_send(&self) -> Result<(), SendError>

@@ -3,10 +3,13 @@ ghost use Rattle.std.specs.Prelude.{◌≡◌, ◌≤◌, ◌<◌, ◌^◌, true
 ghost use Rattle.socket_base.specs.Context.{ContextValue};
 ghost use Rattle.tcp_model.specs.Choices.{choice_of};
 ghost use Rattle.tcp_model.specs.Due.{poll_open, poll_between, poll_of};
-ghost use Rattle.tcp_model.specs.Offers.{offer_segment, silent, offer_choice, offer_ack, offer_syn, offer_reset, offer_keep_alive, last_rules, first_rules, offer_between, offer_of, payload_of, offered_packet};
-ghost use Rattle.tcp_model.specs.Rules.{unbroken, text_choice, has_text, resend_choice};
+ghost use Rattle.tcp_model.specs.Offers.{offer_segment, silent, offer_choice, offer_ack, offer_syn, offer_reset, offer_keep_alive, offer_held_back, last_rules, first_rules, offer_between, offer_of, payload_of, offered_packet};
+ghost use Rattle.tcp_model.specs.Moments.{is_due};
+ghost use Rattle.tcp_model.specs.Probing.{probe_moment};
+ghost use Rattle.tcp_model.specs.Retries.{given_up};
+ghost use Rattle.tcp_model.specs.Rules.{unbroken, text_choice, has_text, resend_choice, updates_window};
 ghost use Rattle.tcp_model.specs.Settled.{settled};
-ghost use Rattle.tcp_model.specs.Value.{unoffered};
+ghost use Rattle.tcp_model.specs.Value.{unoffered, queued_in, free_in, room_of};
 ghost use Rattle.tcp_socket.specs.Socket.{LiesInRing};
 ghost use Rattle.tcp_socket.specs.Dispatch.{TakesOffered, Hands};
 ghost use Rattle.tcp_socket.specs.Opening.{open_offer, MayOpen, IsPartOf};
@@ -55,9 +58,26 @@ impl Socket {
         if self.block.state.is_closed() {
             return self.offer_reset(cx, pair);
         }
+        if self.block.gives_up(now, queued) {
+            self.give_up();
+            return Offer::Silent { changed: true };
+        }
         self.block.start_timeout(now, queued);
         self.block.back_off(now);
         self.offer_first(cx, pair)
+    }
+
+    /// The connection gives up: a listener whose connection isn't there yet listens again, any other ends
+    /// as by the user timeout.
+    fn give_up(&mut self)
+        requires unoffered { self.old.offered ≡ None }
+        ensures { self.new ≡ given_up self.old }
+    {
+        if self.block.falls_back() {
+            self.listen_on(self.block.names.listen);
+        } else {
+            self.block.time_out();
+        }
     }
 
     fn offer_reset<C: Context>(&mut self, cx: &C, pair: &EndpointPair) -> Offer
@@ -97,18 +117,41 @@ impl Socket {
         ensures answer { result ≡ (last_rules (C.context cx.now) self.old pair.now).answer }
         ensures socket { self.new ≡ (last_rules (C.context cx.now) self.old pair.now).socket }
     {
-        let (now, window) = (cx.now(), self.window());
+        let now = cx.now();
         if is_due(now, self.block.probe_moment(self.queued.len())) {
-            self.offer_part(OfferKind::Probe, cx, pair, &PROBE)
+            self.offer_held_back(cx, pair)
         } else if is_due(now, self.block.ack_moment()) {
             self.offer_ack(OfferKind::Ack, cx, pair)
-        } else if self.block.updates_window(window) {
+        } else if self.updates_window() {
             self.offer_ack(OfferKind::WindowUpdate, cx, pair)
         } else if is_due(now, self.block.keep_alive_moment()) {
             self.offer_keep_alive(cx, pair)
         } else {
             Offer::Silent { changed: false }
         }
+    }
+
+    /// What the remote's window held back: the byte at SND.UNA where it is closed, else as much as it
+    /// takes.
+    fn offer_held_back<C: Context>(&mut self, cx: &C, pair: &EndpointPair) -> Offer
+        requires due { is_due (C.context cx.now).moment (probe_moment self.old.block (queued_in self.old)) ≡ true }
+        ensures answer { result ≡ (offer_held_back (C.context cx.now) self.old pair.now).answer }
+        ensures socket { self.new ≡ (offer_held_back (C.context cx.now) self.old pair.now).socket }
+    {
+        if self.block.peer.window == 0 {
+            self.offer_part(OfferKind::Probe, cx, pair, &PROBE)
+        } else {
+            let part = self.ready_part(&pair.addresses, cx.ip_mtu());
+            self.offer_part(OfferKind::Text, cx, pair, &part)
+        }
+    }
+
+    /// Whether so much space came free that it is worth a segment of its own.
+    fn updates_window(&self) -> bool
+        ensures { result ≡ updates_window self.now.block (room_of self.now.received) (free_in self.now) }
+    {
+        self.block
+            .updates_window(self.received.capacity(), self.received.window())
     }
 
     fn offer_syn<C: Context>(&mut self, cx: &C, pair: &EndpointPair) -> Offer
@@ -197,18 +240,24 @@ impl Socket {
         self.queued.get_allocated(place, self.queued.len()).len()
     }
 
+    /// What may go from SND.NXT on.
+    fn ready_part(&self, addresses: &AddressPair, ip_mtu: usize) -> Part
+        ensures { choice_of result ≡ text_choice self.now.block addresses.now ip_mtu self.now.queued }
+    {
+        let place = self.block.next_place();
+        let (queued, unbroken) = (self.queued.len(), self.unbroken(place));
+        self.block.text_part(addresses, ip_mtu, queued, unbroken)
+    }
+
     /// What may go from SND.NXT on, if it is worth it.
     fn text_part(&self, addresses: &AddressPair, ip_mtu: usize) -> Option<Part>
         ensures has { is_some result ≡ has_text self.now.block addresses.now ip_mtu self.now.queued }
         ensures value { IfSome result (λ part. choice_of part ≡ text_choice self.now.block addresses.now ip_mtu self.now.queued) }
         ensures part { IfSome result (λ part. IsPartOf self.now (choice_of part)) }
     {
-        let queued = self.queued.len();
-        let place = self.block.next_place();
-        let unbroken = self.unbroken(place);
-        let part = self.block.text_part(addresses, ip_mtu, queued, unbroken);
+        let part = self.ready_part(addresses, ip_mtu);
         let limit = self.block.size_limit(addresses, ip_mtu);
-        if self.block.sends_part(queued, limit, &part) {
+        if self.block.sends_part(self.queued.len(), limit, &part) {
             Some(part)
         } else {
             None
@@ -265,7 +314,8 @@ impl Socket {
         ensures { self.new ≡ settled true self.old }
     {
         if let Some(offer) = &self.offered {
-            self.block.sent(offer, self.queued.len());
+            let capacity = self.received.capacity();
+            self.block.sent(offer, self.queued.len(), capacity);
             self.offered = None;
         }
     }
@@ -329,7 +379,8 @@ impl Socket {
     {
         let queued = self.queued.len();
         let has_text = self.text_part(&pair.addresses, ip_mtu).is_some();
-        if self.block.has_wish(has_text, queued, self.window()) {
+        let (capacity, free) = (self.received.capacity(), self.received.window());
+        if self.block.has_wish(has_text, queued, capacity, free) {
             return PollAt::Now;
         }
         match self.block.earliest_moment(queued) {

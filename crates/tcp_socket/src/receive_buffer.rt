@@ -1,5 +1,5 @@
 //! The receive buffer of a socket.
-ghost use Rattle.std.specs.Prelude.{◌≡◌, ◌↔◌, ◌+◌, ◌≤◌, ◌++◌, IsTrue, is_ok, length, take, drop, min, []};
+ghost use Rattle.std.specs.Prelude.{◌≡◌, ◌==◌, ◌↔◌, ◌+◌, ◌≤◌, ◌++◌, not, IsTrue, is_ok, length, take, drop, min, []};
 ghost use Rattle.tcp_socket.specs.Receive.{most_bytes, FitsBuffer, in_order, can_hold, early, unbroken};
 ghost use Rattle.tcp_model.specs.Value.{received_of, room_of, emptied};
 ghost use Rattle.tcp_model.specs.Calls.{read_from};
@@ -130,6 +130,13 @@ impl ReceiveBuffer {
         self.held.add(past, bytes.len())?;
         self.ring.write_unallocated(past, bytes);
         Ok(())
+    }
+
+    /// Whether bytes are held out of order.
+    pub fn is_holding(&self) -> bool
+        ensures { result ≡ not (length (runs_of self.now.map) == 0) }
+    {
+        !self.held.is_empty()
     }
 
     /// The run of held bytes with this place, from its first place to the one behind its last.

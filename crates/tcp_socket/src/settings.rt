@@ -1,6 +1,6 @@
 //! What a user may set. Each setting first settles an open offer as not sent.
 ghost use Rattle.std.specs.Prelude.{◌≡◌, ◌≢◌, Some};
-ghost use Rattle.tcp_model.specs.Settings.{with_timeout_kept, set_timeout, set_keep_alive, set_ack_delay, set_nagle_enabled, set_hop_limit, set_tsval_generator, pause_synack, set_congestion_control};
+ghost use Rattle.tcp_model.specs.Settings.{with_timeout_kept, set_timeout, set_keep_alive, set_ack_delay, set_nagle_enabled, set_hop_limit, set_tsval_generator, pause_synack, set_retries, set_congestion_control};
 ghost use Rattle.tcp_model.specs.Value.{unoffered};
 
 use crate::Socket;
@@ -72,6 +72,16 @@ impl Socket {
     {
         self.offered = None;
         self.block.settings.timestamps = generator;
+    }
+
+    /// Sets after how many timeouts without an answer the connection gives up: `None` for never. As long
+    /// as nothing is set it is 9 while the connection is opened, and 16 later.
+    pub fn set_retries(&mut self, limit: Option<u8>)
+        ensures { self.new ≡ set_retries self.old limit }
+    {
+        self.offered = None;
+        self.block.settings.opening_retries = limit;
+        self.block.settings.retries = limit;
     }
 
     /// Sets whether the answer to a SYN waits.

@@ -1,5 +1,5 @@
 -- Which segments are acceptable, and how much a socket sends at once.
-use Rattle.std.proofs.Common.{◌≡◌, ◌↔◌, ◌⊎◌, inl, inr, ℕ, zero, suc, ◌+◌, ◌-◌, ◌^◌, ◌<◌, ◌≤◌, ◌==◌, ◌&&◌, not, nat_lt, min, Bool, true, false, if◌then◌else◌, List, length, Option, Some, None, is_some, refl, sym, ap, ◌∙◌, subst, arith}
+use Rattle.std.proofs.Common.{◌≡◌, ◌↔◌, ◌⊎◌, inl, inr, ℕ, zero, suc, ◌+◌, ◌-◌, ◌^◌, ◌<◌, ◌≤◌, ◌==◌, ◌&&◌, not, nat_lt, min, max, Bool, true, false, if◌then◌else◌, List, length, Option, Some, None, is_some, refl, sym, ap, ◌∙◌, subst, arith}
 use Rattle.std.proofs.lemmas.Bool.{and_parts, cond_both}
 use Rattle.std.proofs.lemmas.Bool.Decides.{nat_tests}
 use Rattle.ip_wire.specs.IpRepr.{IpRepr}
@@ -19,20 +19,21 @@ use Rattle.tcp_model.specs.declared.block.CongestionControl.{CongestionControl}
 use Rattle.tcp_model.specs.declared.block.CongestionControl.TheVariants as Congestion
 use Rattle.tcp_model.specs.State.{State}
 use Rattle.tcp_model.specs.State.TheVariants as In
-use Rattle.tcp_model.specs.Answers.{drawn}
-use Rattle.tcp_model.specs.Arrival.{arrives, arrives_in, is_void_syn, inside, outside, waiting_anew, checked}
-use Rattle.tcp_model.specs.Checks.{Check, acknowledgement_check, ack_check, is_in_window}
-use Rattle.tcp_model.specs.Checks.Check.{Passes}
+use Rattle.tcp_model.specs.Answers.{drawn, acked, may_draw, with_draw}
+use Rattle.tcp_model.specs.Arrival.{arrives, arrives_in, is_void_syn, checked, takes_reset, challenges_reset, reset_comes, challenges_syn, received}
+use Rattle.tcp_model.specs.Checks.{acknowledgement_check, is_in_window, taken_down}
 use Rattle.tcp_model.specs.Controls.{is_syn, is_rst}
 use Rattle.tcp_model.specs.Endpoints.{ip_header_len}
 use Rattle.tcp_model.specs.Offsets.{past_by, before_by, meets_window}
 use Rattle.tcp_model.specs.Opening.{is_first_syn, opens, answering, takes_answer, acks_syn, syn_answered}
 use Rattle.tcp_model.specs.Rules.{text_choice, resend_choice, stamp_len, size_limit, window_limit, congestion_limit, unbroken, next_place}
 use Rattle.tcp_model.specs.Segments.{segment_len, rst_reply}
+use Rattle.tcp_model.specs.States.{is_time_wait}
 use Rattle.tcp_model.specs.Timeout.{timeout_restarted}
-use Rattle.tcp_model.specs.Value.{TcpValue, Arrived, with_block, dropped, answered_with, unoffered, ended, queued_in, free_in}
+use Rattle.tcp_model.specs.Value.{TcpValue, Arrived, with_block, dropped, answered_with, unoffered, ended, queued_in}
 use Rattle.tcp_model.proofs.Positions.{offsets_nearest}
-use Rattle.tcp_tie.specs.Acceptance.{Meets, reset_counts_in, reset_counts}
+use Rattle.tcp_tie.specs.Acceptance.{Meets, reset_counts_in, reset_counts, IsIgnored}
+use Rattle.tcp_tie.specs.Tie.{core_of}
 use Rattle.tcp_tie.proofs.Tied.{if_so, if_not}
 
 -- THE WINDOW
@@ -146,37 +147,74 @@ no_syn : (control : TcpControl) → is_rst control ≡ true → is_syn control �
 no_syn Control.Rst e = refl
 no_syn other e = absurd (cc)
 
+drawn_core : (cx : ContextValue) (v : TcpValue) (ip : IpRepr) (header : TcpHeader) → core_of (drawn cx v ip header).socket ≡ core_of v
+drawn_core cx v ip header =
+    cond_both (may_draw cx.moment v.block.timers.draws_from) (acked cx (with_draw v cx.moment) ip header None) (dropped v)
+    (λ (a : Arrived). core_of a.socket ≡ core_of v) (λ _. refl) (λ _. refl)
+
 module _ (cx : ContextValue) (v : TcpValue) (ip : IpRepr) (header : TcpHeader) (bytes : List ℕ) (rst : is_rst header.control ≡ true) where
-  reset_checked : is_in_window v.block (free_in v) header (length bytes) ≡ false → checked (acknowledgement_check v.block (queued_in v) header) cx v ip header bytes ≡ dropped v
-  reset_checked not_in =
-      ap (λ (check : Check). checked check cx v ip header bytes) (if_so (is_rst header.control) (Passes 0) (ack_check v.block (queued_in v) header.ack_number) rst)
-      ∙ if_not (is_in_window v.block (free_in v) header (length bytes)) (inside cx v ip header bytes 0) (outside cx v ip header) not_in
-      ∙ if_so (is_rst header.control) (dropped v) (drawn cx (waiting_anew v header cx.moment) ip header) rst
+  silently : IsIgnored cx v ip header (dropped (unoffered v))
+  silently = record { core = refl; answer = inl refl }
+
+  by_an_answer : IsIgnored cx v ip header (drawn cx (unoffered v) ip header)
+  by_an_answer = record { core = drawn_core cx (unoffered v) ip header; answer = inr refl }
+
+  -- from SYN-RECEIVED on
+  later_reset : takes_reset v.block header ≡ false → IsIgnored cx v ip header (received cx (unoffered v) ip header bytes)
+  later_reset other_reset =
+      cond_both (is_rst header.control) (reset_comes cx (unoffered v) ip header (length bytes))
+      (if challenges_syn v.block header then drawn cx (unoffered v) ip header
+      else checked (acknowledgement_check v.block header.ack_number) cx (unoffered v) ip header bytes)
+      (IsIgnored cx v ip header)
+      (λ _.
+      cond_both (takes_reset v.block header) (dropped (taken_down (unoffered v)))
+      (if challenges_reset (unoffered v) header (length bytes) then drawn cx (unoffered v) ip header else dropped (unoffered v))
+      (IsIgnored cx v ip header)
+      (λ taken. absurd (let clash : true ≡ false = sym taken ∙ other_reset in cc))
+      (λ _.
+      cond_both (challenges_reset (unoffered v) header (length bytes)) (drawn cx (unoffered v) ip header) (dropped (unoffered v)) (IsIgnored cx v ip header)
+      (λ _. by_an_answer)
+      (λ _. silently)))
+      (λ none. absurd (let clash : true ≡ false = sym rst ∙ none in cc))
 
   no_first_syn : is_first_syn header ≡ false
   no_first_syn = ap (λ (syn : Bool). syn && not (is_some header.ack_number)) (no_syn header.control rst)
 
-  reset_in : (state : State) → v.block.state ≡ state → reset_counts_in state v.block (free_in v) header (length bytes) ≡ false → arrives_in state cx v ip header bytes ≡ dropped v
-  reset_in In.Closed at other_reset = refl
+  and_false : (test : Bool) → (test && false) ≡ false
+  and_false true = refl
+  and_false false = refl
+
+  reset_in : (state : State) → v.block.state ≡ state → reset_counts_in state v.block header ≡ false → IsIgnored cx v ip header (arrives_in state cx (unoffered v) ip header bytes)
+  reset_in In.Closed at other_reset = silently
   reset_in In.Listen at other_reset =
-      if_not (is_first_syn header)
-      (record { socket = with_block v (timeout_restarted (answering v.block ip header (word (next_random cx).random)) cx.moment 0); answer = None; draws = true }) (dropped v) no_first_syn
+      subst (IsIgnored cx v ip header)
+      (sym (if_not (is_first_syn header)
+      (record { socket = with_block (unoffered v) (timeout_restarted (answering v.block ip header (word (next_random cx).random)) cx.moment 0); answer = None; draws = true }) (dropped (unoffered v)) no_first_syn))
+      silently
   reset_in In.SynSent at other_reset =
-      if_so (is_rst header.control) (if acks_syn v.block.sender.una header.ack_number then dropped (ended v) else dropped v)
-      (if is_some header.ack_number && not (acks_syn v.block.sender.una header.ack_number) then answered_with v (rst_reply ip header (length bytes))
-      else if is_syn header.control then dropped (with_block v (timeout_restarted (syn_answered v.block header cx.moment) cx.moment (queued_in v)))
-      else dropped v)
-      rst
-      ∙ if_not (acks_syn v.block.sender.una header.ack_number) (dropped (ended v)) (dropped v) other_reset
-  reset_in other at other_reset = reset_checked other_reset
+      cond_both (is_rst header.control) (if acks_syn v.block.sender.una header.ack_number then dropped (ended (unoffered v)) else dropped (unoffered v))
+      (if is_some header.ack_number && not (acks_syn v.block.sender.una header.ack_number) then answered_with (unoffered v) (rst_reply ip header (length bytes))
+      else if is_syn header.control then dropped (with_block (unoffered v) (timeout_restarted (syn_answered v.block header cx.moment) cx.moment (queued_in v)))
+      else dropped (unoffered v))
+      (IsIgnored cx v ip header)
+      (λ _.
+      cond_both (acks_syn v.block.sender.una header.ack_number) (dropped (ended (unoffered v))) (dropped (unoffered v)) (IsIgnored cx v ip header)
+      (λ acks. absurd (let clash : true ≡ false = sym acks ∙ other_reset in cc))
+      (λ _. silently))
+      (λ none. absurd (let clash : true ≡ false = sym rst ∙ none in cc))
+  reset_in In.TimeWait at other_reset =
+      later_reset (ap (λ (state : State). not (is_time_wait state) && (v.block.receiver.next.0 == header.seq_number.0)) at)
+  reset_in other at other_reset =
+      later_reset
+      (ap (λ (test : Bool). not (is_time_wait v.block.state) && test) other_reset ∙ and_false (not (is_time_wait v.block.state)))
 
 pub reset_ignored :
-    (cx : ContextValue) (v : TcpValue) (ip : IpRepr) (header : TcpHeader) (bytes : List ℕ) → is_rst header.control ≡ true → reset_counts v header bytes ≡ false
-    → arrives cx v ip header bytes ≡ dropped (unoffered v)
+    (cx : ContextValue) (v : TcpValue) (ip : IpRepr) (header : TcpHeader) (bytes : List ℕ) → is_rst header.control ≡ true → reset_counts v header ≡ false
+    → IsIgnored cx v ip header (arrives cx v ip header bytes)
 reset_ignored cx v ip header bytes rst other_reset =
-    cond_both (is_void_syn header) (dropped (unoffered v)) (arrives_in v.block.state cx (unoffered v) ip header bytes) (λ (a : Arrived). a ≡ dropped (unoffered v))
-    (λ _. refl)
-    (λ _. reset_in cx (unoffered v) ip header bytes rst v.block.state refl other_reset)
+    cond_both (is_void_syn header) (dropped (unoffered v)) (arrives_in v.block.state cx (unoffered v) ip header bytes) (IsIgnored cx v ip header)
+    (λ _. silently cx v ip header bytes rst)
+    (λ _. reset_in cx v ip header bytes rst v.block.state refl other_reset)
 
 -- LIMITS
 
@@ -215,20 +253,20 @@ module _ (b : Block) (addresses : AddressPair) (mtu : ℕ) (queued : Ring ℕ) w
   again_in_size : (resend_choice b addresses mtu queued).len ≤ size_limit b addresses mtu
   again_in_size = (min_both (size_limit b addresses mtu) (unbroken queued 0)).0
 
-  size_in_mss : size_limit b addresses mtu ≤ b.peer.mss
-  size_in_mss = (min_both b.peer.mss _).0
+  size_in_mss : size_limit b addresses mtu ≤ max 1 (b.peer.mss - stamp_len b)
+  size_in_mss = omega arith
 
-  size_in_packet : size_limit b addresses mtu ≤ mtu - (ip_header_len addresses + 20 + stamp_len b)
+  size_in_packet : size_limit b addresses mtu ≤ max 1 (mtu - (ip_header_len addresses + 20 + stamp_len b))
   size_in_packet = omega arith
 
-  pub text_in_mss : (text_choice b addresses mtu queued).len ≤ b.peer.mss
+  pub text_in_mss : (text_choice b addresses mtu queued).len ≤ max 1 (b.peer.mss - stamp_len b)
   text_in_mss = below_parts _ _ _ text_in_size size_in_mss
 
-  pub text_in_packet : (text_choice b addresses mtu queued).len ≤ mtu - (ip_header_len addresses + 20 + stamp_len b)
+  pub text_in_packet : (text_choice b addresses mtu queued).len ≤ max 1 (mtu - (ip_header_len addresses + 20 + stamp_len b))
   text_in_packet = below_parts _ _ _ text_in_size size_in_packet
 
-  pub again_in_mss : (resend_choice b addresses mtu queued).len ≤ b.peer.mss
+  pub again_in_mss : (resend_choice b addresses mtu queued).len ≤ max 1 (b.peer.mss - stamp_len b)
   again_in_mss = below_parts _ _ _ again_in_size size_in_mss
 
-  pub again_in_packet : (resend_choice b addresses mtu queued).len ≤ mtu - (ip_header_len addresses + 20 + stamp_len b)
+  pub again_in_packet : (resend_choice b addresses mtu queued).len ≤ max 1 (mtu - (ip_header_len addresses + 20 + stamp_len b))
   again_in_packet = below_parts _ _ _ again_in_size size_in_packet

@@ -1,6 +1,6 @@
 -- Each segment that the partner sent, when it comes, keeps the invariant.
-use Rattle.std.proofs.Common.{◌≡◌, ℕ, zero, suc, ◌^◌, ◌≤◌, nat_lt, not, ◌==◌, ◌&&◌, ◌||◌, Bool, true, false, if◌then◌else◌, List, Option, Some, None, slice_get, length, refl, sym, ap, ◌∙◌, arith}
-use Rattle.std.proofs.lemmas.Bool.{cond_both, eqb-true}
+use Rattle.std.proofs.Common.{◌≡◌, ◌⊎◌, inl, inr, ℕ, zero, suc, ◌-◌, ◌^◌, ◌<◌, ◌≤◌, nat_lt, nat_le, not, ◌==◌, ◌&&◌, ℤ, Bool, true, false, if◌then◌else◌, List, Option, Some, None, slice_get, length, refl, sym, ap, ◌∙◌, subst, arith}
+use Rattle.std.proofs.lemmas.Bool.{and_cases, cond_both, eqb-true, not-false}
 use Rattle.std.proofs.lemmas.Bool.Decides.{nat_tests}
 use Rattle.ip_wire.specs.IpRepr.{IpRepr}
 use Rattle.ip_wire.specs.Seq.{distance_of}
@@ -12,136 +12,231 @@ use Rattle.tcp_law.specs.Side.{Side, one_if}
 use Rattle.tcp_law.specs.Side.Phase.{SynReceived}
 use Rattle.tcp_model.specs.State.{State}
 use Rattle.tcp_model.specs.State.TheVariants as In
-use Rattle.tcp_model.specs.Acknowledged.{acknowledged, window_set, counted, duplicates_after}
+use Rattle.tcp_model.specs.declared.block.Block.{Block}
+use Rattle.tcp_model.specs.Acknowledged.{acknowledged, duplicates_after, names_window, windowed, stamp_taken, ranges_taken, counted}
 use Rattle.tcp_model.specs.Answers.{drawn}
-use Rattle.tcp_model.specs.Arrival.{waiting_anew, outside, finished, taken, inside, checked, arrives_in, arrives, is_void_syn}
-use Rattle.tcp_model.specs.Blocks.{unacked}
-use Rattle.tcp_model.specs.Checks.{Check, opening_check, synchronized_check, ack_check, acknowledgement_check, is_in_window, taken_down}
-use Rattle.tcp_model.specs.Checks.Check.{Passes, Drops, Draws, Resets}
+use Rattle.tcp_model.specs.Arrival.{waiting_anew, outside, passed_outside, tells_news, with_content, told, taken, inside, checked, takes_reset, challenges_reset, reset_comes, challenges_syn, received, arrives_in, arrives, is_void_syn}
+use Rattle.tcp_model.specs.Checks.{Check, opening_check, synchronized_check, acknowledgement_check, is_in_window, taken_down}
+use Rattle.tcp_model.specs.Checks.Check.{Passes, Old, Drops, Draws, Resets}
 use Rattle.tcp_model.specs.Controls.{is_syn, is_rst}
+use Rattle.tcp_model.specs.Offsets.{past_by, before_by}
+use Rattle.tcp_model.specs.Retries.{heard}
 use Rattle.tcp_model.specs.States.{is_closed, is_answering}
-use Rattle.tcp_model.specs.Text.{with_text}
+use Rattle.tcp_model.specs.Timeout.{timeout_restarted}
 use Rattle.tcp_model.specs.Value.{TcpValue, Arrived, with_block, dropped, unoffered, queued_in, free_in}
-use Rattle.tcp_tie.specs.Tie.{Past, unsent, phase_of, Keeps, core_of, segment_of}
+use Rattle.tcp_tie.specs.Tie.{Core, Past, unsent, phase_of, IsConnectedAs, Keeps, core_of, segment_of}
 use Rattle.tcp_tie.specs.History.{with_answer}
 use Rattle.tcp_tie.proofs.Tied.{Tied, fits_connected, is_connected, keeps_by}
 use Rattle.tcp_tie.proofs.ArrivalMoves.{IsAcceptable}
-use Rattle.tcp_tie.proofs.AckLaws.{acks}
-use Rattle.tcp_tie.proofs.TextLaws.{Led, data_control, no_reset_control, led_drawn, led_finished}
+use Rattle.tcp_tie.proofs.AckLaws.{IsAcked, acks}
+use Rattle.tcp_tie.proofs.TextLaws.{Led, data_control, no_reset_control, led_drawn, led_content}
 use Rattle.tcp_tie.proofs.OpeningLaws.{state_phase, led_opens, led_takes_answer, led_reset, tied_down}
 
 not_answering : (state : State) → is_answering state ≡ false → phase_of state ≡ SynReceived → ⊥
 not_answering In.SynReceived e f = absurd (cc)
 not_answering other e f = absurd (cc)
 
-or_second : (x y : Bool) → (x || y) ≡ false → y ≡ false
-or_second true y e = absurd (cc)
-or_second false y e = e
-
-past_syn : (syn : Bool) (by : ℕ) → (syn && (by == 0)) ≡ false → one_if syn ≤ by
-past_syn true zero e = absurd (cc)
-past_syn true (suc by) e = omega arith
-past_syn false by e = omega arith
-
 not_above : (last by : ℕ) → nat_lt last by ≡ false → by ≤ last
 not_above last by e = grind (arith, nat_tests)
+
+-- HOW FAR AN ACKNOWLEDGEMENT LIES FROM SND.UNA
+
+-- a number that doesn't lie before the reference lies past it by its distance
+distance_past :
+    (far : ℕ) → far < 2 ^ 32 → ((if nat_lt far (2 ^ 31) then 0 else 2 ^ 32 - far) == 0) ≡ true → (if nat_lt far (2 ^ 31) then far else 0) ≡ far
+distance_past far small = by (nat_lt far (2 ^ 31)) where
+  by : (test : Bool) → ((if test then 0 else 2 ^ 32 - far) == 0) ≡ true → (if test then far else 0) ≡ far
+  by true none = refl
+  by false none = absurd (let gone = eqb-true (2 ^ 32 - far) 0 none in omega arith)
+
+-- and one that does lies past it by nothing
+nothing_past : (far : ℕ) → ((if nat_lt far (2 ^ 31) then 0 else 2 ^ 32 - far) == 0) ≡ false → ((if nat_lt far (2 ^ 31) then far else 0) == 0) ≡ true
+nothing_past far = by (nat_lt far (2 ^ 31)) where
+  by : (test : Bool) → ((if test then 0 else 2 ^ 32 - far) == 0) ≡ false → ((if test then far else 0) == 0) ≡ true
+  by true some = absurd (cc)
+  by false some = refl
+
+small_distance : (una n : SeqNumber) → distance_of una n < 2 ^ 32
+small_distance una n = omega arith
+
+at_least : (past_iss before : ℕ) → past_iss ≡ 0 → nat_le past_iss before ≡ true
+at_least past_iss before e = grind (arith, nat_tests)
+
+-- An acknowledgement that reaches past ISS acknowledges the SYN, or the SYN is acknowledged.
+past_syn :
+    (syn : Bool) (past_iss past before : ℕ) → (syn ≡ true → past_iss ≡ 0) → ((past == 0) && nat_le past_iss before) ≡ false → one_if syn ≤ past
+past_syn false past_iss past before first e = omega arith
+past_syn true past_iss zero before first e = absurd (let reaches = at_least past_iss before (first refl) in let clash : true ≡ false = sym reaches ∙ e in cc)
+past_syn true past_iss (suc past) before first e = omega arith
+
+-- one that lies before SND.UNA, and past ISS, comes only after the SYN's
+syn_gone :
+    (syn : Bool) (past_iss past before : ℕ) → (syn ≡ true → past_iss ≡ 0) → ((past == 0) && nat_le past_iss before) ≡ false → (past == 0) ≡ true → syn ≡ false
+syn_gone false past_iss past before first e none = refl
+syn_gone true past_iss past before first e none =
+    absurd (let reaches = at_least past_iss before (first refl) in let all = ap (λ (t : Bool). t && nat_le past_iss before) none ∙ reaches in let clash : true ≡ false = sym all ∙ e in cc)
+
+-- the window and the duplicates change nothing that the tie reads
+told_core : (v : TcpValue) (header : TcpHeader) (duplicates : ℕ) (now : ℤ) → core_of (told v header duplicates now) ≡ core_of v
+told_core v header duplicates now =
+    cond_both (names_window v.block header) (windowed v.block header) v.block
+    (λ (b : Block). core_of (with_block v (timeout_restarted (counted (ranges_taken (stamp_taken b header) header) duplicates) now (queued_in v))) ≡ core_of v)
+    (λ _. refl)
+    (λ _. refl)
 
 module _ (cx : ContextValue) (v : TcpValue) (ip : IpRepr) (header : TcpHeader) (bytes : List ℕ) (p : Past) (t : Side)
     (comes : Comes t (segment_of header bytes)) (r : Tied (core_of v) p t) where
   module _ (connected : is_connected v.block.state ≡ true) where
-    led_taken :
-        (by : ℕ) (n : SeqNumber) → header.ack_number ≡ Some n → by ≡ distance_of v.block.sender.una n → IsAcceptable (core_of v) by
-        → is_rst header.control ≡ false → is_syn header.control ≡ false → Led p t (taken cx v ip header bytes by)
-    led_taken by n e distance ok no_rst no_syn =
-        let new = acks v p t header bytes n by cx.moment comes (no_reset_control header.control no_rst) e distance ok connected r in
-        cond_both (is_closed (acknowledged v by cx.moment).block.state) (dropped (acknowledged v by cx.moment))
-        (finished cx (acknowledged v by cx.moment).block
-        (with_text (with_block (acknowledged v by cx.moment) (counted (window_set (acknowledged v by cx.moment).block header) (duplicates_after v.block header (length bytes) by))) header bytes)
-        ip header (length bytes))
-        (λ (a : Arrived). Led p t a)
-        (λ _. new.tied)
-        (λ open_yet.
-        let on = new.running open_yet in
-        led_finished cx
-        (with_block (acknowledged v by cx.moment) (counted (window_set (acknowledged v by cx.moment).block header) (duplicates_after v.block header (length bytes) by)))
-        ip header bytes p t comes (data_control header.control no_rst no_syn) on.0 on.1 new.tied)
+    tied_as : IsConnectedAs (core_of v) (unsent r.side)
+    tied_as = fits_connected v.block.state (core_of v) (unsent r.side) connected r.fits
 
-    led_inside :
-        (by : ℕ) → (is_rst header.control ≡ false → is_syn header.control ≡ false → Led p t (taken cx v ip header bytes by)) → Led p t (inside cx v ip header bytes by)
-    led_inside by takes =
-        cond_both (is_rst header.control) (dropped (taken_down v)) (if is_syn header.control then drawn cx v ip header else taken cx v ip header bytes by)
-        (λ (a : Arrived). Led p t a)
-        (λ _. tied_down v p t connected r)
-        (λ no_rst.
-        cond_both (is_syn header.control) (drawn cx v ip header) (taken cx v ip header bytes by) (λ (a : Arrived). Led p t a)
-        (λ _. led_drawn cx v ip header p t connected r)
-        (λ no_syn. takes no_rst no_syn))
+    -- outside the window
+    led_outside : (w : TcpValue) → Tied (core_of w) p t → (is_closed w.block.state ≡ false → is_connected w.block.state ≡ true) → Led p t (outside cx w ip header)
+    led_outside w tied on =
+        cond_both (is_closed w.block.state) (dropped w) (drawn cx (waiting_anew w header cx.moment) ip header) (λ (a : Arrived). Led p t a)
+        (λ _. tied)
+        (λ open_yet. led_drawn cx (waiting_anew w header cx.moment) ip header p t (on open_yet) tied)
 
-    led_passes :
-        (by : ℕ) → (is_rst header.control ≡ false → is_syn header.control ≡ false → Led p t (taken cx v ip header bytes by))
-        → Led p t (checked (Passes by) cx v ip header bytes)
-    led_passes by takes =
-        cond_both (is_in_window v.block (free_in v) header (length bytes)) (inside cx v ip header bytes by) (outside cx v ip header) (λ (a : Arrived). Led p t a)
-        (λ _. led_inside by takes)
-        (λ _.
-        cond_both (is_rst header.control) (dropped v) (drawn cx (waiting_anew v header cx.moment) ip header) (λ (a : Arrived). Led p t a)
-        (λ _. r)
-        (λ _. led_drawn cx (waiting_anew v header cx.moment) ip header p t connected r))
+    module _ (by : ℕ) (n : SeqNumber) (e : header.ack_number ≡ Some n) (distance : by ≡ distance_of v.block.sender.una n) (ok : IsAcceptable (core_of v) by)
+        (no_rst : is_rst header.control ≡ false) where
+      acked_now : IsAcked p t (acknowledged v by cx.moment)
+      acked_now = acks v p t header bytes n by cx.moment comes (no_reset_control header.control no_rst) e distance ok connected r
+
+      led_taken : is_syn header.control ≡ false → Led p t (taken cx v ip header bytes by)
+      led_taken no_syn =
+          cond_both (is_closed (acknowledged v by cx.moment).block.state) (dropped (acknowledged v by cx.moment))
+          (with_content cx (told (acknowledged v by cx.moment) header (duplicates_after v.block header (length bytes) by) cx.moment) ip header bytes)
+          (λ (a : Arrived). Led p t a)
+          (λ _. acked_now.tied)
+          (λ open_yet.
+          let on = acked_now.running open_yet in
+          let same = told_core (acknowledged v by cx.moment) header (duplicates_after v.block header (length bytes) by) cx.moment in
+          led_content cx (told (acknowledged v by cx.moment) header (duplicates_after v.block header (length bytes) by) cx.moment) ip header bytes p t comes
+          (data_control header.control no_rst no_syn) (ap (λ (c : Core). is_connected c.state) same ∙ on.0) (ap (λ (c : Core). c.syn_unacked) same ∙ on.1)
+          (subst (λ (c : Core). Tied c p t) (sym same) acked_now.tied))
+
+      led_passes : Led p t (checked (Passes by) cx v ip header bytes)
+      led_passes =
+          cond_both (is_in_window v.block (free_in v) header (length bytes)) (inside cx v ip header bytes by) (passed_outside cx v ip header (length bytes) by)
+          (λ (a : Arrived). Led p t a)
+          (λ _.
+          cond_both (is_syn header.control) (drawn cx v ip header) (taken cx v ip header bytes by) (λ (a : Arrived). Led p t a)
+          (λ _. led_drawn cx v ip header p t connected r)
+          led_taken)
+          (λ _.
+          cond_both (tells_news v header (length bytes)) (outside cx (acknowledged v by cx.moment) ip header) (outside cx v ip header) (λ (a : Arrived). Led p t a)
+          (λ _. led_outside (acknowledged v by cx.moment) acked_now.tied (λ open_yet. (acked_now.running open_yet).0))
+          (λ _. led_outside v r (λ _. connected)))
+
+    -- its acknowledgement is old
+    led_old : is_rst header.control ≡ false → is_syn header.control ≡ false → v.block.sender.syn_unacked ≡ false → Led p t (checked Old cx v ip header bytes)
+    led_old no_rst no_syn acked =
+        cond_both (is_in_window v.block (free_in v) header (length bytes)) (with_content cx (with_block v (heard v.block)) ip header bytes) (outside cx v ip header)
+        (λ (a : Arrived). Led p t a)
+        (λ _. led_content cx (with_block v (heard v.block)) ip header bytes p t comes (data_control header.control no_rst no_syn) connected acked r)
+        (λ _. led_outside v r (λ _. connected))
 
     -- in SYN-RECEIVED
-    led_opening : (n : SeqNumber) → header.ack_number ≡ Some n → is_answering v.block.state ≡ true → Led p t (checked (opening_check (distance_of v.block.sender.una n)) cx v ip header bytes)
-    led_opening n e answering =
-        let k = fits_connected v.block.state (core_of v) (unsent r.side) connected r.fits in
-        let unacked_syn = ap one_if (k.unopened (state_phase v.block.state answering)) in
+    led_opening :
+        (n : SeqNumber) → header.ack_number ≡ Some n → is_answering v.block.state ≡ true → is_rst header.control ≡ false
+        → Led p t (checked (opening_check (distance_of v.block.sender.una n)) cx v ip header bytes)
+    led_opening n e answering no_rst =
+        let unacked_syn = ap one_if (tied_as.unopened (state_phase v.block.state answering)) in
         cond_both (distance_of v.block.sender.una n == 1) (Passes 1) Resets (λ (c : Check). Led p t (checked c cx v ip header bytes))
         (λ one.
         let ok : IsAcceptable (core_of v) 1 = record { within = omega arith; past_syn = omega arith; opens = λ _. refl } in
-        led_passes 1 (led_taken 1 n e (sym (eqb-true (distance_of v.block.sender.una n) 1 one)) ok))
+        led_passes 1 n e (sym (eqb-true (distance_of v.block.sender.una n) 1 one)) ok no_rst)
         (λ _. led_reset v ip header (length bytes) p t r)
 
     -- later
-    led_synchronized :
-        (n : SeqNumber) → header.ack_number ≡ Some n → is_answering v.block.state ≡ false
-        → Led p t (checked (synchronized_check v.block.sender.syn_unacked (unacked v.block (queued_in v)) (distance_of v.block.sender.una n)) cx v ip header bytes)
-    led_synchronized n e other =
-        let by = distance_of v.block.sender.una n in
-        cond_both (not (nat_lt (distance_of v.block.sender.una n) (2 ^ 31)) || (v.block.sender.syn_unacked && (distance_of v.block.sender.una n == 0))) Drops
-        (if nat_lt (unacked v.block (queued_in v)) (distance_of v.block.sender.una n) then Draws else Passes (distance_of v.block.sender.una n))
-        (λ (c : Check). Led p t (checked c cx v ip header bytes))
-        (λ _. r)
-        (λ good.
-        cond_both (nat_lt (unacked v.block (queued_in v)) (distance_of v.block.sender.una n)) Draws (Passes (distance_of v.block.sender.una n))
-        (λ (c : Check). Led p t (checked c cx v ip header bytes))
-        (λ _. led_drawn cx v ip header p t connected r)
-        (λ low.
-        let ok : IsAcceptable (core_of v) (distance_of v.block.sender.una n) = record {
-          within = not_above (unacked v.block (queued_in v)) (distance_of v.block.sender.una n) low;
-          past_syn = past_syn v.block.sender.syn_unacked (distance_of v.block.sender.una n)
-              (or_second (not (nat_lt (distance_of v.block.sender.una n) (2 ^ 31))) (v.block.sender.syn_unacked && (distance_of v.block.sender.una n == 0)) good);
-          opens = λ at. absurd (not_answering v.block.state other at);
-        } in
-        led_passes (distance_of v.block.sender.una n) (led_taken (distance_of v.block.sender.una n) n e refl ok)))
+    module _ (n : SeqNumber) (e : header.ack_number ≡ Some n) (other : is_answering v.block.state ≡ false)
+        (no_rst : is_rst header.control ≡ false) (no_syn : is_syn header.control ≡ false) where
+      abbrev past : ℕ
+      past = past_by v.block.sender.una n
 
-    led_ack : (ack : Option SeqNumber) → header.ack_number ≡ ack → Led p t (checked (ack_check v.block (queued_in v) ack) cx v ip header bytes)
-    led_ack None e = r
-    led_ack (Some n) e =
+      abbrev before : ℕ
+      before = before_by v.block.sender.una n
+
+      led_past : (before == 0) ≡ true → nat_lt v.block.sender.top past ≡ false → ((past == 0) && nat_le v.block.sender.past_iss before) ≡ false → Led p t (checked (Passes past) cx v ip header bytes)
+      led_past none low reaches =
+          let top = tied_as.top in
+          let below = not_above v.block.sender.top past low in
+          let ok : IsAcceptable (core_of v) past = record {
+            within = omega (arith, top, below);
+            past_syn = past_syn v.block.sender.syn_unacked v.block.sender.past_iss past before tied_as.past_iss reaches;
+            opens = λ at. absurd (not_answering v.block.state other at);
+          } in
+          led_passes past n e (distance_past (distance_of v.block.sender.una n) (small_distance v.block.sender.una n) none) ok no_rst
+
+      led_synchronized : Led p t (checked (synchronized_check v.block past before) cx v ip header bytes)
+      led_synchronized =
+          cond_both (nat_lt v.block.sender.top past) Draws
+          (if (past == 0) && nat_le v.block.sender.past_iss before then Drops
+          else if before == 0 then Passes past
+          else if nat_lt v.block.peer.largest_window before then Draws
+          else Old)
+          (λ (c : Check). Led p t (checked c cx v ip header bytes))
+          (λ _. led_drawn cx v ip header p t connected r)
+          (λ low.
+          cond_both ((past == 0) && nat_le v.block.sender.past_iss before) Drops
+          (if before == 0 then Passes past else if nat_lt v.block.peer.largest_window before then Draws else Old)
+          (λ (c : Check). Led p t (checked c cx v ip header bytes))
+          (λ _. r)
+          (λ reaches.
+          cond_both (before == 0) (Passes past) (if nat_lt v.block.peer.largest_window before then Draws else Old) (λ (c : Check). Led p t (checked c cx v ip header bytes))
+          (λ none. led_past none low reaches)
+          (λ some.
+          cond_both (nat_lt v.block.peer.largest_window before) Draws Old (λ (c : Check). Led p t (checked c cx v ip header bytes))
+          (λ _. led_drawn cx v ip header p t connected r)
+          (λ _.
+          led_old no_rst no_syn
+          (syn_gone v.block.sender.syn_unacked v.block.sender.past_iss past before tied_as.past_iss reaches (nothing_past (distance_of v.block.sender.una n) some))))))
+
+    led_ack :
+        (ack : Option SeqNumber) → header.ack_number ≡ ack → is_rst header.control ≡ false → challenges_syn v.block header ≡ false
+        → Led p t (checked (acknowledgement_check v.block ack) cx v ip header bytes)
+    led_ack None e no_rst calm = r
+    led_ack (Some n) e no_rst calm =
         cond_both (is_answering v.block.state) (opening_check (distance_of v.block.sender.una n))
-        (synchronized_check v.block.sender.syn_unacked (unacked v.block (queued_in v)) (distance_of v.block.sender.una n))
+        (synchronized_check v.block (past_by v.block.sender.una n) (before_by v.block.sender.una n))
         (λ (c : Check). Led p t (checked c cx v ip header bytes))
-        (λ answering. led_opening n e answering)
-        (λ other. led_synchronized n e other)
+        (λ answering. led_opening n e answering no_rst)
+        (λ other. led_synchronized n e other no_rst (no_syn other calm))
+      where
+        no_syn : is_answering v.block.state ≡ false → (is_syn header.control && not (is_answering v.block.state)) ≡ false → is_syn header.control ≡ false
+        no_syn other calm = by (and_cases (is_syn header.control) (not (is_answering v.block.state)) calm) where
+          by : (is_syn header.control ≡ false) ⊎ (not (is_answering v.block.state) ≡ false) → is_syn header.control ≡ false
+          by (inl none) = none
+          by (inr its) = absurd (let answers = not-false (is_answering v.block.state) its in let clash : true ≡ false = sym answers ∙ other in cc)
 
-    led_checked : Led p t (checked (acknowledgement_check v.block (queued_in v) header) cx v ip header bytes)
-    led_checked =
-        cond_both (is_rst header.control) (Passes 0) (ack_check v.block (queued_in v) header.ack_number) (λ (c : Check). Led p t (checked c cx v ip header bytes))
-        (λ rst. led_passes 0 (λ no_rst. λ _. absurd (let clash : true ≡ false = sym rst ∙ no_rst in cc)))
-        (λ _. led_ack header.ack_number refl)
+    -- a reset
+    led_reset_comes : Led p t (reset_comes cx v ip header (length bytes))
+    led_reset_comes =
+        cond_both (takes_reset v.block header) (dropped (taken_down v)) (if challenges_reset v header (length bytes) then drawn cx v ip header else dropped v)
+        (λ (a : Arrived). Led p t a)
+        (λ _. tied_down v p t r)
+        (λ _.
+        cond_both (challenges_reset v header (length bytes)) (drawn cx v ip header) (dropped v) (λ (a : Arrived). Led p t a)
+        (λ _. led_drawn cx v ip header p t connected r)
+        (λ _. r))
+
+    led_received : Led p t (received cx v ip header bytes)
+    led_received =
+        cond_both (is_rst header.control) (reset_comes cx v ip header (length bytes))
+        (if challenges_syn v.block header then drawn cx v ip header else checked (acknowledgement_check v.block header.ack_number) cx v ip header bytes)
+        (λ (a : Arrived). Led p t a)
+        (λ _. led_reset_comes)
+        (λ no_rst.
+        cond_both (challenges_syn v.block header) (drawn cx v ip header) (checked (acknowledgement_check v.block header.ack_number) cx v ip header bytes)
+        (λ (a : Arrived). Led p t a)
+        (λ _. led_drawn cx v ip header p t connected r)
+        (λ calm. led_ack header.ack_number refl no_rst calm))
 
   led_in : (state : State) → v.block.state ≡ state → Led p t (arrives_in state cx v ip header bytes)
   led_in In.Closed e = r
   led_in In.Listen e = led_opens cx v ip header bytes p t comes e r
   led_in In.SynSent e = led_takes_answer cx v ip header bytes p t comes e r
-  led_in other e = led_checked (ap is_connected e)
+  led_in other e = led_received (ap is_connected e)
 
 pub keeps_arrival :
     (cx : ContextValue) (v w : TcpValue) (p q : Past) (ip : IpRepr) (header : TcpHeader) (bytes : List ℕ) (k : ℕ) → Keeps v p w q

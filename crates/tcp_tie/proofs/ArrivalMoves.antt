@@ -21,6 +21,8 @@ acked_core c state by = record c {
   state = state;
   una = (c.una + by) % 2 ^ 32;
   syn_unacked = c.syn_unacked && (by == 0);
+  past_iss = min (c.past_iss + by) 4_294_967_295;
+  top = c.top - by;
   queue = drop (min (by - one_if c.syn_unacked) (length c.queue)) c.queue;
 }
 
@@ -87,6 +89,8 @@ takes_ack c s t x n by state comes control number small distance ok leads k hold
       syn = omega arith;
       opened = inl no_syn;
       unopened = λ e. absurd (let clash : Synchronized ≡ SynReceived = sym leads.phase ∙ e in cc);
+      past_iss = λ e. absurd (let clash : false ≡ true = sym no_syn ∙ e in cc);
+      top = top_after leads.fin none;
       end = end_after leads.fin none;
       next = k.next;
       queue = drop-min (by - one_if c.syn_unacked) c.queue ∙ (ap (λ (queue : List ℕ). drop (by - one_if c.syn_unacked) queue) k.queue
@@ -98,6 +102,23 @@ takes_ack c s t x n by state comes control number small distance ok leads k hold
     } in
     tied_by _ _ s t (TakesAck x (s.una + by)) holds may refl (connected_fits state (acked_core c state by) _ leads.connected k')
   where
+    top_after :
+        ((by ≡ one_if c.syn_unacked + length c.queue + one_if (owes_fin c.state)) × (one_if (owes_fin state) ≡ 0))
+        ⊎ ((by ≤ one_if c.syn_unacked + length c.queue) × (one_if (owes_fin state) ≡ one_if (owes_fin c.state)))
+        → one_if (c.syn_unacked && (by == 0)) ≡ 0
+        → c.top - by ≤ one_if (c.syn_unacked && (by == 0)) + length (drop (min (by - one_if c.syn_unacked) (length c.queue)) c.queue) + one_if (owes_fin state)
+    top_after (inl f) none =
+        let all = f.0 in
+        let top = k.top in
+        omega arith
+    top_after (inr f) none =
+        let some = f.0 in
+        let same = f.1 in
+        let top = k.top in
+        let past_syn = ok.past_syn in
+        let left = length-drop (min (by - one_if c.syn_unacked) (length c.queue)) c.queue in
+        omega arith
+
     end_after :
         ((by ≡ one_if c.syn_unacked + length c.queue + one_if (owes_fin c.state)) × (one_if (owes_fin state) ≡ 0))
         ⊎ ((by ≤ one_if c.syn_unacked + length c.queue) × (one_if (owes_fin state) ≡ one_if (owes_fin c.state)))

@@ -1,5 +1,6 @@
 -- The invariant between two sockets after each call of a user.
-use Rattle.std.proofs.Common.{◌≡◌, ◌⊎◌, inl, inr, ℕ, zero, suc, ◌^◌, ◌<◌, Bool, true, false, if◌then◌else◌, List, [], ◌∷◌, ◌++◌, Option, length, take, drop, refl, sym, ap, ◌∙◌, subst, arith, append-nil}
+use Rattle.std.proofs.Common.{◌≡◌, ◌⊎◌, inl, inr, ℕ, zero, suc, ◌^◌, ◌<◌, Bool, true, false, if◌then◌else◌, List, [], ◌∷◌, ◌++◌, Option, is_some, length, take, drop, refl, sym, ap, ◌∙◌, subst, arith, append-nil}
+use Rattle.std.proofs.lemmas.Bool.{cond_both}
 use Rattle.ip_wire.specs.IpListenEndpoint.{IpListenEndpoint}
 use Rattle.tcp_law.specs.Invariant.{HoldsBetween}
 use Rattle.tcp_law.specs.ReceiveMap.{space}
@@ -11,7 +12,7 @@ use Rattle.tcp_model.specs.EndpointPair.{EndpointPair}
 use Rattle.tcp_model.specs.State.{State}
 use Rattle.tcp_model.specs.State.TheVariants as In
 use Rattle.tcp_model.specs.Calls.{listening, connecting, recv_after, close_after, abort_after}
-use Rattle.tcp_model.specs.States.{is_closed, is_opening, after_close, owes_fin, sends_syn}
+use Rattle.tcp_model.specs.States.{is_closed, is_time_wait, is_opening, after_close, owes_fin, sends_syn}
 use Rattle.tcp_model.specs.Value.{TcpValue, room_of, unoffered, ended, with_block}
 use Rattle.tcp_tie.specs.Tie.{Core, Past, past_of, unsent, FitsIn, IsUnopened, IsEnded, Keeps, IsSideOf, core_of, is_closed_in, is_finished_in}
 use Rattle.tcp_tie.specs.History.{listened, called, with_read, closes_in, closed_by}
@@ -156,7 +157,14 @@ pub keeps_abort : (v w : TcpValue) (p q : Past) → Keeps v p w q → Keeps (abo
 keeps_abort v w p q k =
     keeps_by v (abort_after v) w p p q k (λ s t past _ fits holds.
     subst (λ (p : Past). Tied (core_of (abort_after v)) p t) past
-    (to_closed (core_of v) (core_of (abort_after v)) s t refl refl refl refl refl fits holds))
+    (cond_both (is_time_wait v.block.state) (ended (unoffered v))
+    (with_block (unoffered v) (record v.block { state = In.Closed; sender = record v.block.sender { reset_due = is_some v.block.names.pair } }))
+    (λ (w : TcpValue). Tied (core_of w) (past_of s) t)
+    (λ _. to_closed (core_of v) (core_of (ended (unoffered v))) s t refl refl refl refl refl fits holds)
+    (λ _.
+    to_closed (core_of v)
+    (core_of (with_block (unoffered v) (record v.block { state = In.Closed; sender = record v.block.sender { reset_due = is_some v.block.names.pair } })))
+    s t refl refl refl refl refl fits holds)))
 
 -- CLOSE
 

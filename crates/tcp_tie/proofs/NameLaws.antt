@@ -30,30 +30,31 @@ use Rattle.tcp_model.specs.OpenOffer.{OpenOffer}
 use Rattle.tcp_model.specs.Reply.{Reply}
 use Rattle.tcp_model.specs.State.{State}
 use Rattle.tcp_model.specs.State.TheVariants as In
-use Rattle.tcp_model.specs.Acknowledged.{acknowledged, block_acknowledged, state_after_ack, acks_fin, una_moved, in_state, ended_if, window_set, counted, duplicates_after}
+use Rattle.tcp_model.specs.Acknowledged.{acknowledged, block_acknowledged, state_after_ack, acks_fin, una_moved, in_state, ended_if, duplicates_after, names_window, windowed, stamp_taken, ranges_taken, counted}
 use Rattle.tcp_model.specs.Answers.{drawn, may_draw, with_draw, acked, answer_for, range_held}
-use Rattle.tcp_model.specs.Arrival.{waiting_anew, outside, finished, continued, taken, inside, checked, arrives_in, arrives, is_void_syn, timers_moved}
+use Rattle.tcp_model.specs.Arrival.{waiting_anew, outside, passed_outside, tells_news, finished, with_content, told, taken, inside, checked, takes_reset, challenges_reset, reset_comes, challenges_syn, received, arrives_in, arrives, is_void_syn}
 use Rattle.tcp_model.specs.Blocks.{unacked, no_names}
 use Rattle.tcp_model.specs.Calls.{listening, connecting, close_after, abort_after}
-use Rattle.tcp_model.specs.Checks.{Check, opening_check, synchronized_check, ack_check, acknowledgement_check, is_in_window, taken_down, falls_back}
-use Rattle.tcp_model.specs.Checks.Check.{Passes, Drops, Draws, Resets}
+use Rattle.tcp_model.specs.Checks.{Check, acknowledgement_check, is_in_window, taken_down, falls_back}
+use Rattle.tcp_model.specs.Checks.Check.{Passes, Old, Drops, Draws, Resets}
 use Rattle.tcp_model.specs.Controls.{is_syn, is_fin, is_rst}
-use Rattle.tcp_model.specs.Moments.{is_due}
+use Rattle.tcp_model.specs.Moments.{is_due, is_over, timeout_from}
 use Rattle.tcp_model.specs.Endpoints.{local_of, remote_of, pair_in, addresses_in, header_for, is_between, is_connected_by, is_bare, takes_address}
 use Rattle.tcp_model.specs.Names.{accepts_in, accepts}
-use Rattle.tcp_model.specs.Offers.{offer_segment, offer_choice, offer_ack, offer_syn, offer_reset, offer_keep_alive, silent, last_rules, first_rules, backed_off, offer_between, offer_with, offer_of, number_at}
+use Rattle.tcp_model.specs.Offers.{offer_segment, offer_choice, offer_ack, offer_syn, offer_reset, offer_keep_alive, offer_held_back, silent, last_rules, first_rules, backed_off, offer_between, offer_with, offer_of, number_at}
 use Rattle.tcp_model.specs.Opening.{is_first_syn, opens, takes_answer, acks_syn, syn_answered, connected, crossed, answering}
-use Rattle.tcp_model.specs.Probing.{probe_started, probe_moment}
+use Rattle.tcp_model.specs.Probing.{probe_started, probe_moment, probe_kept}
 use Rattle.tcp_model.specs.Offsets.{past_by, before_by}
 use Rattle.tcp_model.specs.Rules.{control_for, time_wait_end, owes_syn, resends, ack_moment, has_text, text_choice, resend_choice, probe_choice, updates_window, keep_alive_moment, backed_off_now}
 use Rattle.tcp_model.specs.Segments.{rst_reply, reset_for, reply_to, hops_of, segment, sack_segment, ack_segment, syn_segment, reset_segment, keep_alive_segment}
-use Rattle.tcp_model.specs.Settled.{settled}
-use Rattle.tcp_model.specs.States.{is_closed, is_listening, is_answering, is_opening, after_ack, after_ack_of_fin, after_fin, after_close, takes_text}
+use Rattle.tcp_model.specs.Retries.{heard, asked, one_more, gives_up, given_up}
+use Rattle.tcp_model.specs.Settled.{settled, recorded, probed, end_of}
+use Rattle.tcp_model.specs.States.{is_closed, is_time_wait, is_listening, is_answering, is_opening, after_ack, after_ack_of_fin, after_fin, after_close, takes_text}
 use Rattle.tcp_model.specs.Text.{Texted, texted, with_text, with_text_at, with_bytes_at, taken_in_order, held_early, laid, has_new_text, with_fin, takes_fin, fin_taken}
 use Rattle.tcp_model.specs.Timeout.{timeout_end, timeout_started, timeout_restarted, timed_out}
 use Rattle.tcp_model.specs.Value.{TcpValue, Arrived, with_block, dropped, answered_with, unoffered, ended, queued_in, free_in, room_of, received_of, window_of}
 use Rattle.tcp_tie.specs.Tie.{Core, core_of}
-use Rattle.tcp_tie.specs.Endpoints.{GoesBetween, GoesBack, CameBetween, IsFor, KeepsNames, Forgets, IsOpenedBy, FallsBack, KeepsOrForgets, IsRenamed, Ports, IsToward, HasPorts, IsNameless}
+use Rattle.tcp_tie.specs.Endpoints.{GoesBetween, GoesBack, CameBetween, IsFor, KeepsNames, Forgets, IsOpenedBy, FallsBack, KeepsOrForgets, IsLeftBy, IsRenamed, Ports, IsToward, HasPorts, IsNameless}
 use Rattle.tcp_tie.proofs.CallLaws.{closed_state}
 
 -- WHICH SEGMENTS IT TAKES
@@ -159,8 +160,13 @@ close_names v =
     (λ _. inr (record { state = refl; names = refl }))
     (λ _. inl (keeps_off v.block (record v.block { state = after_close v.block.state }) refl (off_after_close v.block.state)))
 
-pub abort_names : (v : TcpValue) → KeepsNames v.block (abort_after v).block
-abort_names v = keeps_off v.block (abort_after v).block refl refl
+pub abort_names : (v : TcpValue) → KeepsOrForgets v.block (abort_after v).block
+abort_names v =
+    cond_both (is_time_wait v.block.state) (ended (unoffered v))
+    (with_block (unoffered v) (record v.block { state = In.Closed; sender = record v.block.sender { reset_due = is_some v.block.names.pair } }))
+    (λ (w : TcpValue). KeepsOrForgets v.block w.block)
+    (λ _. inr (record { state = refl; names = refl }))
+    (λ _. inl (keeps_off v.block (record v.block { state = In.Closed; sender = record v.block.sender { reset_due = is_some v.block.names.pair } }) refl refl))
 
 -- WHEN A SEGMENT COMES
 
@@ -213,13 +219,13 @@ module _ (cx : ContextValue) (ip : IpRepr) (header : TcpHeader) where
 
   text_stays : (v : TcpValue) (place : ℕ) (bytes : List ℕ) → Stays v.block (with_text_at v place bytes).socket.block
   text_stays v place bytes =
-      cond_both (takes_text v.block.state && has_new_text v place bytes) (with_bytes_at v place bytes) (texted v 0 None) (λ (t : Texted). Stays v.block t.socket.block)
+      cond_both (takes_text v.block.state && has_new_text v place bytes) (with_bytes_at v place bytes) (texted v 0 false None) (λ (t : Texted). Stays v.block t.socket.block)
       (λ _.
       cond_both (place == 0) (taken_in_order v (laid v place bytes)) (held_early v place (laid v place bytes)) (λ (t : Texted). Stays v.block t.socket.block)
       (λ _. (refl, refl))
       (λ _.
       cond_both (nat_le (length (runs_of (laid v place bytes))) 4)
-      (texted (record v { received = received_of v.received.waiting (laid v place bytes) v.received.start }) 0 (Some place)) (texted v 0 None)
+      (texted (record v { received = received_of v.received.waiting (laid v place bytes) v.received.start }) 0 false (Some place)) (texted v 0 false None)
       (λ (t : Texted). Stays v.block t.socket.block)
       (λ _. (refl, refl))
       (λ _. (refl, refl))))
@@ -231,16 +237,16 @@ module _ (cx : ContextValue) (ip : IpRepr) (header : TcpHeader) where
       (λ _. (refl, listening_after_fin b.state))
       (λ _. (refl, refl))
 
-  named_answer : (old : Block) (v : TcpValue) (size : ℕ) (early : Option ℕ) → KeepsNames old v.block → Named old (answer_for cx v ip header size early)
-  named_answer old v size (Some place) names = named_acked old v (range_held v place) names
-  named_answer old v size None names = named_dropped old (answer_for cx v ip header size None).socket (inl (record { names = names.names; listening = names.listening }))
+  named_answer : (old : Block) (v : TcpValue) (size : ℕ) (fills : Bool) (early : Option ℕ) → KeepsNames old v.block → Named old (answer_for cx v ip header size fills early)
+  named_answer old v size fills (Some place) names = named_acked old v (range_held v place) names
+  named_answer old v size fills None names = named_dropped old (answer_for cx v ip header size fills None).socket (inl (record { names = names.names; listening = names.listening }))
 
   named_finished : (old before : Block) (t : Texted) (size : ℕ) → KeepsNames old t.socket.block → Named old (finished cx before t ip header size)
   named_finished old before t size names =
       let stays = fin_stays t.socket.block before size t.advance in
       let new = with_fin t.socket.block before header size t.advance cx.moment in
       let after = then_keeps old t.socket.block new names (keeps t.socket.block new stays.0 stays.1) in
-      named_answer old (with_block t.socket (timers_moved new cx.moment (queued_in t.socket))) size t.early
+      named_answer old (with_block t.socket (probe_kept new (queued_in t.socket))) size t.fills t.early
       (record { names = after.names; listening = after.listening })
 
   -- the acknowledgement: it keeps the names, or ends LAST-ACK
@@ -260,18 +266,37 @@ module _ (cx : ContextValue) (ip : IpRepr) (header : TcpHeader) where
   open_keeps old new open_yet (inl names) = names
   open_keeps old new open_yet (inr forgets) = absurd (let clash : true ≡ false = sym forgets.state ∙ open_yet in cc)
 
+  named_content : (old : Block) (v : TcpValue) (bytes : List ℕ) → KeepsNames old v.block → Named old (with_content cx v ip header bytes)
+  named_content old v bytes names =
+      let text = text_stays v (past_by v.block.receiver.next header.seq_number) (drop (before_by v.block.receiver.next header.seq_number) bytes) in
+      named_finished old v.block (with_text v header bytes) (length bytes)
+      (then_keeps old v.block (with_text v header bytes).socket.block names (keeps v.block (with_text v header bytes).socket.block text.0 text.1))
+
+  told_stays : (w : TcpValue) (duplicates : ℕ) → Stays w.block (told w header duplicates cx.moment).block
+  told_stays w duplicates =
+      cond_both (names_window w.block header) (windowed w.block header) w.block
+      (λ (b : Block). Stays w.block (timeout_restarted (counted (ranges_taken (stamp_taken b header) header) duplicates) cx.moment (queued_in w)))
+      (λ _. (refl, refl))
+      (λ _. (refl, refl))
+
   named_taken : (v : TcpValue) (bytes : List ℕ) (by : ℕ) → Named v.block (taken cx v ip header bytes by)
   named_taken v bytes by =
       let w = acknowledged v by cx.moment in
-      let names = acked_names v.block by (queued_in v) in
-      let counts = with_block w (counted (window_set w.block header) (duplicates_after v.block header (length bytes) by)) in
-      cond_both (is_closed w.block.state) (dropped w) (finished cx w.block (with_text counts header bytes) ip header (length bytes)) (λ (a : Arrived). Named v.block a)
-      (λ _. named_dropped v.block w names)
+      let heeded = told w header (duplicates_after v.block header (length bytes) by) cx.moment in
+      cond_both (is_closed w.block.state) (dropped w) (with_content cx heeded ip header bytes) (λ (a : Arrived). Named v.block a)
+      (λ _. named_dropped v.block w (acked_names v.block by (queued_in v)))
       (λ open_yet.
-      let kept = open_keeps v.block w.block open_yet names in
-      let text = text_stays counts (past_by counts.block.receiver.next header.seq_number) (drop (before_by counts.block.receiver.next header.seq_number) bytes) in
-      named_finished v.block w.block (with_text counts header bytes) (length bytes)
-      (then_keeps v.block w.block (with_text counts header bytes).socket.block kept (keeps w.block (with_text counts header bytes).socket.block text.0 text.1)))
+      let kept = open_keeps v.block w.block open_yet (acked_names v.block by (queued_in v)) in
+      let heeds = told_stays w (duplicates_after v.block header (length bytes) by) in
+      named_content v.block heeded bytes (then_keeps v.block w.block heeded.block kept (keeps w.block heeded.block heeds.0 heeds.1)))
+
+  named_outside : (old : Block) (w : TcpValue) → KeepsOrForgets old w.block → Named old (outside cx w ip header)
+  named_outside old w names =
+      cond_both (is_closed w.block.state) (dropped w) (drawn cx (waiting_anew w header cx.moment) ip header) (λ (a : Arrived). Named old a)
+      (λ _. named_dropped old w names)
+      (λ open_yet.
+      let kept = open_keeps old w.block open_yet names in
+      named_drawn old (waiting_anew w header cx.moment) (record { names = kept.names; listening = kept.listening }))
 
   abbrev Renamed : Block → Arrived → Type 0
   Renamed old a = IsRenamed ip header old a.socket.block × ((reply : Reply) → a.answer ≡ Some reply → GoesBack ip header reply)
@@ -287,26 +312,53 @@ module _ (cx : ContextValue) (ip : IpRepr) (header : TcpHeader) where
       (inr (inl (record { answering = parts.0; listened = not_true (v.block.names.listen.port == 0) parts.1; state = refl; names = refl })), λ reply none. absurd (cc)))
       (λ _. renamed_by v.block (dropped (ended v)) (named_dropped v.block (ended v) (inr (record { state = refl; names = refl }))))
 
-  renamed_checked : (check : Check) (v : TcpValue) (bytes : List ℕ) → Renamed v.block (checked check cx v ip header bytes)
-  renamed_checked (Passes by) v bytes =
-      cond_both (is_in_window v.block (free_in v) header (length bytes)) (inside cx v ip header bytes by) (outside cx v ip header) (λ (a : Arrived). Renamed v.block a)
+  stays_named : (v : TcpValue) → Named v.block (dropped v)
+  stays_named v = named_dropped v.block v (inl (keeps v.block v.block refl refl))
+
+  draws_named : (v : TcpValue) → Named v.block (drawn cx v ip header)
+  draws_named v = named_drawn v.block v (keeps v.block v.block refl refl)
+
+  named_checked : (check : Check) (v : TcpValue) (bytes : List ℕ) → Named v.block (checked check cx v ip header bytes)
+  named_checked (Passes by) v bytes =
+      cond_both (is_in_window v.block (free_in v) header (length bytes)) (inside cx v ip header bytes by) (passed_outside cx v ip header (length bytes) by)
+      (λ (a : Arrived). Named v.block a)
       (λ _.
-      cond_both (is_rst header.control) (dropped (taken_down v)) (if is_syn header.control then drawn cx v ip header else taken cx v ip header bytes by)
+      cond_both (is_syn header.control) (drawn cx v ip header) (taken cx v ip header bytes by) (λ (a : Arrived). Named v.block a)
+      (λ _. draws_named v)
+      (λ _. named_taken v bytes by))
+      (λ _.
+      cond_both (tells_news v header (length bytes)) (outside cx (acknowledged v by cx.moment) ip header) (outside cx v ip header) (λ (a : Arrived). Named v.block a)
+      (λ _. named_outside v.block (acknowledged v by cx.moment) (acked_names v.block by (queued_in v)))
+      (λ _. named_outside v.block v (inl (keeps v.block v.block refl refl))))
+  named_checked Old v bytes =
+      cond_both (is_in_window v.block (free_in v) header (length bytes)) (with_content cx (with_block v (heard v.block)) ip header bytes) (outside cx v ip header)
+      (λ (a : Arrived). Named v.block a)
+      (λ _. named_content v.block (with_block v (heard v.block)) bytes (keeps v.block (heard v.block) refl refl))
+      (λ _. named_outside v.block v (inl (keeps v.block v.block refl refl)))
+  named_checked Drops v bytes = stays_named v
+  named_checked Draws v bytes = draws_named v
+  named_checked Resets v bytes = named_reset v (length bytes)
+
+  renamed_received : (v : TcpValue) (bytes : List ℕ) → Renamed v.block (received cx v ip header bytes)
+  renamed_received v bytes =
+      cond_both (is_rst header.control) (reset_comes cx v ip header (length bytes))
+      (if challenges_syn v.block header then drawn cx v ip header else checked (acknowledgement_check v.block header.ack_number) cx v ip header bytes)
+      (λ (a : Arrived). Renamed v.block a)
+      (λ _.
+      cond_both (takes_reset v.block header) (dropped (taken_down v)) (if challenges_reset v header (length bytes) then drawn cx v ip header else dropped v)
       (λ (a : Arrived). Renamed v.block a)
       (λ _. renamed_down v)
       (λ _.
-      cond_both (is_syn header.control) (drawn cx v ip header) (taken cx v ip header bytes by) (λ (a : Arrived). Renamed v.block a)
-      (λ _. renamed_by v.block (drawn cx v ip header) (named_drawn v.block v (keeps v.block v.block refl refl)))
-      (λ _. renamed_by v.block (taken cx v ip header bytes by) (named_taken v bytes by))))
+      cond_both (challenges_reset v header (length bytes)) (drawn cx v ip header) (dropped v) (λ (a : Arrived). Renamed v.block a)
+      (λ _. renamed_by v.block (drawn cx v ip header) (draws_named v))
+      (λ _. renamed_by v.block (dropped v) (stays_named v))))
       (λ _.
-      cond_both (is_rst header.control) (dropped v) (drawn cx (waiting_anew v header cx.moment) ip header) (λ (a : Arrived). Renamed v.block a)
-      (λ _. renamed_by v.block (dropped v) (named_dropped v.block v (inl (keeps v.block v.block refl refl))))
+      cond_both (challenges_syn v.block header) (drawn cx v ip header) (checked (acknowledgement_check v.block header.ack_number) cx v ip header bytes)
+      (λ (a : Arrived). Renamed v.block a)
+      (λ _. renamed_by v.block (drawn cx v ip header) (draws_named v))
       (λ _.
-      renamed_by v.block (drawn cx (waiting_anew v header cx.moment) ip header)
-      (named_drawn v.block (waiting_anew v header cx.moment) (keeps v.block (waiting_anew v header cx.moment).block refl refl))))
-  renamed_checked Drops v bytes = renamed_by v.block (dropped v) (named_dropped v.block v (inl (keeps v.block v.block refl refl)))
-  renamed_checked Draws v bytes = renamed_by v.block (drawn cx v ip header) (named_drawn v.block v (keeps v.block v.block refl refl))
-  renamed_checked Resets v bytes = renamed_by v.block (answered_with v (rst_reply ip header (length bytes))) (named_reset v (length bytes))
+      renamed_by v.block (checked (acknowledgement_check v.block header.ack_number) cx v ip header bytes)
+      (named_checked (acknowledgement_check v.block header.ack_number) v bytes)))
 
   renamed_opens : (v : TcpValue) → v.block.state ≡ In.Listen → Renamed v.block (opens cx v ip header)
   renamed_opens v at =
@@ -351,7 +403,7 @@ module _ (cx : ContextValue) (ip : IpRepr) (header : TcpHeader) where
   renamed_in In.Closed v bytes at = renamed_by v.block (dropped v) (named_dropped v.block v (inl (keeps v.block v.block refl refl)))
   renamed_in In.Listen v bytes at = renamed_opens v at
   renamed_in In.SynSent v bytes at = renamed_answer v bytes
-  renamed_in other v bytes at = renamed_checked (acknowledgement_check v.block (queued_in v) header) v bytes
+  renamed_in other v bytes at = renamed_received v bytes
 
   pub arrival_renamed : (v : TcpValue) (bytes : List ℕ) → Renamed v.block (arrives cx v ip header bytes)
   arrival_renamed v bytes =
@@ -373,11 +425,21 @@ header_between : (pair : AddressPair) (hops len : ℕ) → (source_of (header_fo
 header_between (Pair.Ipv4 local remote) hops len = (refl, refl)
 header_between (Pair.Ipv6 local remote) hops len = (refl, refl)
 
+-- a question that goes counts, and leaves the names
+asked_names : (old b : Block) (now : ℤ) → KeepsNames old b → KeepsNames old (asked b now)
+asked_names old b now names =
+    cond_both (is_over now b.timers.counts_from)
+    (record b {
+      sender = record b.sender { unanswered = one_more b.sender.unanswered };
+      timers = record b.timers { counts_from = Some (timeout_from now b.round_trip) };
+    })
+    b (KeepsNames old) (λ _. record { names = names.names; listening = names.listening }) (λ _. names)
+
 module _ (cx : ContextValue) (pair : EndpointPair) where
   -- of a socket with these names: where its offer goes, and its names once it is settled
   abbrev Directed : Block → Offered TcpValue → Type 0
   Directed old o =
-      ((x : OpenOffer) → o.socket.offered ≡ Some x → GoesBetween pair x) × (KeepsOrForgets old (settled true o.socket).block × KeepsOrForgets old o.socket.block)
+      ((x : OpenOffer) → o.socket.offered ≡ Some x → GoesBetween pair x) × (IsLeftBy old (settled true o.socket).block × IsLeftBy old o.socket.block)
 
   between : (x : OpenOffer) (hops len : ℕ) → x.header ≡ header_for pair.addresses hops len → x.segment.src_port ≡ pair.local_port → x.segment.dst_port ≡ pair.remote_port → GoesBetween pair x
   between x hops len header source destination =
@@ -396,15 +458,15 @@ module _ (cx : ContextValue) (pair : EndpointPair) where
   plain v b = record v { block = b; offered = None }
 
   module _ (v : TcpValue) (old b : Block) (names : KeepsNames old b) where
-    stays : KeepsOrForgets old b
-    stays = inl names
+    stays : IsLeftBy old b
+    stays = inr (inl names)
 
     directed_silent : (changed : Bool) → Directed old (silent changed (plain v b))
     directed_silent changed = (λ x e. absurd (cc), (stays, stays))
 
     directed_segment :
         (kind : OfferKind) (header : TcpHeader) (place len : ℕ) → header.src_port ≡ pair.local_port → header.dst_port ≡ pair.remote_port
-        → KeepsOrForgets old (settled true (offer_segment kind cx (plain v b) pair header place len).socket).block
+        → IsLeftBy old (settled true (offer_segment kind cx (plain v b) pair header place len).socket).block
         → Directed old (offer_segment kind cx (plain v b) pair header place len)
     directed_segment kind header place len source destination after =
         let mine : OpenOffer = record {
@@ -417,33 +479,57 @@ module _ (cx : ContextValue) (pair : EndpointPair) where
         } in
         (one_offer mine (between mine (hops_of b.settings.hop_limit) (header_len header + len) refl source destination), (after, stays))
 
+    abbrev offer_with_header : OfferKind → TcpHeader → OpenOffer
+    offer_with_header kind header = record {
+      kind = kind;
+      moment = cx.moment;
+      header = header_for pair.addresses (hops_of b.settings.hop_limit) (header_len header + 1);
+      segment = header;
+      place = 0;
+      len = 1;
+    }
+
+    directed_held_back : Directed old (offer_held_back cx (plain v b) pair)
+    directed_held_back =
+        let probe = segment b pair cx.moment (window_of (plain v b)) (control_for probe_choice (queued_in v)) (number_at b 0) in
+        let text = text_choice b pair.addresses cx.ip_mtu v.queued in
+        cond_both (b.peer.window == 0) (offer_choice Kind.Probe cx (plain v b) pair probe_choice) (offer_choice Kind.Text cx (plain v b) pair text)
+        (λ (o : Offered TcpValue). Directed old o)
+        (λ _.
+        directed_segment Kind.Probe probe 0 1 refl refl
+        (inr (inl (asked_names old (probed (recorded b (offer_with_header Kind.Probe probe) (room_of v.received)) (end_of b (offer_with_header Kind.Probe probe)) cx.moment) cx.moment (record { names = names.names; listening = names.listening })))))
+        (λ _.
+        directed_segment Kind.Text (segment b pair cx.moment (window_of (plain v b)) (control_for text (queued_in v)) (number_at b text.place)) text.place text.len refl refl
+        (inr (inl (record { names = names.names; listening = names.listening }))))
+
     directed_last : Directed old (last_rules cx (plain v b) pair)
     directed_last =
         let ack = ack_segment b pair cx.moment (window_of (plain v b)) in
         let alive = keep_alive_segment b pair cx.moment (window_of (plain v b)) in
-        let probe = segment b pair cx.moment (window_of (plain v b)) (control_for probe_choice (queued_in v)) (number_at b 0) in
-        cond_both (is_due cx.moment (probe_moment b (queued_in v))) (offer_choice Kind.Probe cx (plain v b) pair probe_choice)
+        cond_both (is_due cx.moment (probe_moment b (queued_in v))) (offer_held_back cx (plain v b) pair)
         (if is_due cx.moment (ack_moment b) then offer_ack Kind.Ack cx (plain v b) pair
-        else if updates_window b (window_of (plain v b)) then offer_ack Kind.WindowUpdate cx (plain v b) pair
+        else if updates_window b (room_of v.received) (free_in v) then offer_ack Kind.WindowUpdate cx (plain v b) pair
         else if is_due cx.moment (keep_alive_moment b) then offer_keep_alive cx (plain v b) pair
         else silent false (plain v b))
         (λ (o : Offered TcpValue). Directed old o)
-        (λ _. directed_segment Kind.Probe probe 0 1 refl refl (inl (record { names = names.names; listening = names.listening })))
+        (λ _. directed_held_back)
         (λ _.
         cond_both (is_due cx.moment (ack_moment b)) (offer_ack Kind.Ack cx (plain v b) pair)
-        (if updates_window b (window_of (plain v b)) then offer_ack Kind.WindowUpdate cx (plain v b) pair
+        (if updates_window b (room_of v.received) (free_in v) then offer_ack Kind.WindowUpdate cx (plain v b) pair
         else if is_due cx.moment (keep_alive_moment b) then offer_keep_alive cx (plain v b) pair
         else silent false (plain v b))
         (λ (o : Offered TcpValue). Directed old o)
-        (λ _. directed_segment Kind.Ack ack 0 0 refl refl (inl (record { names = names.names; listening = names.listening })))
+        (λ _. directed_segment Kind.Ack ack 0 0 refl refl (inr (inl (record { names = names.names; listening = names.listening }))))
         (λ _.
-        cond_both (updates_window b (window_of (plain v b))) (offer_ack Kind.WindowUpdate cx (plain v b) pair)
+        cond_both (updates_window b (room_of v.received) (free_in v)) (offer_ack Kind.WindowUpdate cx (plain v b) pair)
         (if is_due cx.moment (keep_alive_moment b) then offer_keep_alive cx (plain v b) pair else silent false (plain v b))
         (λ (o : Offered TcpValue). Directed old o)
-        (λ _. directed_segment Kind.WindowUpdate ack 0 0 refl refl (inl (record { names = names.names; listening = names.listening })))
+        (λ _. directed_segment Kind.WindowUpdate ack 0 0 refl refl (inr (inl (record { names = names.names; listening = names.listening }))))
         (λ _.
         cond_both (is_due cx.moment (keep_alive_moment b)) (offer_keep_alive cx (plain v b) pair) (silent false (plain v b)) (λ (o : Offered TcpValue). Directed old o)
-        (λ _. directed_segment Kind.KeepAlive alive 0 1 refl refl (inl (record { names = names.names; listening = names.listening })))
+        (λ _.
+        directed_segment Kind.KeepAlive alive 0 1 refl refl
+        (inr (inl (asked_names old (recorded b (offer_with_header Kind.KeepAlive alive) (room_of v.received)) cx.moment (record { names = names.names; listening = names.listening })))))
         (λ _. directed_silent false))))
 
   directed_first : (v : TcpValue) (old b : Block) → KeepsNames old b → Directed old (first_rules cx (plain v b) pair)
@@ -458,7 +544,7 @@ module _ (cx : ContextValue) (pair : EndpointPair) where
       else if has_text b pair.addresses cx.ip_mtu v.queued then offer_choice Kind.Text cx (plain v b) pair text
       else last_rules cx (with_block (plain v b) probing) pair)
       (λ (o : Offered TcpValue). Directed old o)
-      (λ _. directed_segment v old b names Kind.Syn syn 0 0 refl refl (inl (record { names = names.names; listening = names.listening })))
+      (λ _. directed_segment v old b names Kind.Syn syn 0 0 refl refl (inr (inl (record { names = names.names; listening = names.listening }))))
       (λ _.
       cond_both (resends b) (offer_choice Kind.FastRetransmission cx (plain v b) pair again)
       (if has_text b pair.addresses cx.ip_mtu v.queued then offer_choice Kind.Text cx (plain v b) pair text
@@ -466,15 +552,27 @@ module _ (cx : ContextValue) (pair : EndpointPair) where
       (λ (o : Offered TcpValue). Directed old o)
       (λ _.
       directed_segment v old b names Kind.FastRetransmission (segment b pair cx.moment window (control_for again (queued_in v)) (number_at b again.place)) again.place again.len refl refl
-      (inl (record { names = names.names; listening = names.listening })))
+      (inr (inl (record { names = names.names; listening = names.listening }))))
       (λ _.
       cond_both (has_text b pair.addresses cx.ip_mtu v.queued) (offer_choice Kind.Text cx (plain v b) pair text)
       (last_rules cx (with_block (plain v b) probing) pair)
       (λ (o : Offered TcpValue). Directed old o)
       (λ _.
       directed_segment v old b names Kind.Text (segment b pair cx.moment window (control_for text (queued_in v)) (number_at b text.place)) text.place text.len refl refl
-      (inl (record { names = names.names; listening = names.listening })))
+      (inr (inl (record { names = names.names; listening = names.listening }))))
       (λ _. directed_last v old probing (record { names = names.names; listening = names.listening }))))
+
+  -- it gives up
+  directed_end : (v : TcpValue) → Directed v.block (silent true (given_up (unoffered v)))
+  directed_end v =
+      cond_both (falls_back v.block) (listening (unoffered v) v.block.names.listen) (with_block (unoffered v) (timed_out v.block))
+      (λ (w : TcpValue). Directed v.block (silent true w))
+      (λ e.
+      let parts = and_parts (is_answering v.block.state) (not (v.block.names.listen.port == 0)) e in
+      let back : FallsBack v.block (listening (unoffered v) v.block.names.listen).block =
+      record { answering = parts.0; listened = not_true (v.block.names.listen.port == 0) parts.1; state = refl; names = refl } in
+      (λ x none. absurd (cc), (inl back, inl back)))
+      (λ _. directed_silent v v.block (timed_out v.block) (keeps_off v.block (timed_out v.block) refl refl) true)
 
   directed_between : (v : TcpValue) → Directed v.block (offer_between cx (unoffered v) pair)
   directed_between v =
@@ -483,39 +581,47 @@ module _ (cx : ContextValue) (pair : EndpointPair) where
       cond_both (is_due cx.moment (time_wait_end v.block)) (silent true (ended (unoffered v)))
       (if is_due cx.moment (timeout_end v.block (queued_in v)) then silent true (with_block (unoffered v) (timed_out v.block))
       else if is_closed v.block.state then (if v.block.sender.reset_due then offer_reset cx (unoffered v) pair else silent false (unoffered v))
+      else if gives_up cx.moment v.block (queued_in v) then silent true (given_up (unoffered v))
       else first_rules cx (with_block (unoffered v) (backed_off cx.moment started)) pair)
       (λ (o : Offered TcpValue). Directed v.block o)
       (λ _.
       let forgets : Forgets (ended v).block = record { state = refl; names = refl } in
-      (λ x e. absurd (cc), (inr forgets, inr forgets)))
+      (λ x e. absurd (cc), (inr (inr forgets), inr (inr forgets))))
       (λ _.
       cond_both (is_due cx.moment (timeout_end v.block (queued_in v))) (silent true (with_block (unoffered v) (timed_out v.block)))
       (if is_closed v.block.state then (if v.block.sender.reset_due then offer_reset cx (unoffered v) pair else silent false (unoffered v))
+      else if gives_up cx.moment v.block (queued_in v) then silent true (given_up (unoffered v))
       else first_rules cx (with_block (unoffered v) (backed_off cx.moment started)) pair)
       (λ (o : Offered TcpValue). Directed v.block o)
       (λ _. directed_silent v v.block (timed_out v.block) (keeps_off v.block (timed_out v.block) refl refl) true)
       (λ _.
       cond_both (is_closed v.block.state) (if v.block.sender.reset_due then offer_reset cx (unoffered v) pair else silent false (unoffered v))
-      (first_rules cx (with_block (unoffered v) (backed_off cx.moment started)) pair)
+      (if gives_up cx.moment v.block (queued_in v) then silent true (given_up (unoffered v))
+      else first_rules cx (with_block (unoffered v) (backed_off cx.moment started)) pair)
       (λ (o : Offered TcpValue). Directed v.block o)
       (λ _.
       cond_both v.block.sender.reset_due (offer_reset cx (unoffered v) pair) (silent false (unoffered v)) (λ (o : Offered TcpValue). Directed v.block o)
-      (λ _. directed_segment v v.block v.block same Kind.Reset (reset_segment v.block pair cx.moment (window_of v)) 0 0 refl refl (inr (record { state = refl; names = refl })))
+      (λ _. directed_segment v v.block v.block same Kind.Reset (reset_segment v.block pair cx.moment (window_of v)) 0 0 refl refl (inr (inr (record { state = refl; names = refl }))))
       (λ _. directed_silent v v.block v.block same false))
+      (λ _.
+      cond_both (gives_up cx.moment v.block (queued_in v)) (silent true (given_up (unoffered v)))
+      (first_rules cx (with_block (unoffered v) (backed_off cx.moment started)) pair)
+      (λ (o : Offered TcpValue). Directed v.block o)
+      (λ _. directed_end v)
       (λ _.
       cond_both (is_due cx.moment v.block.timers.retransmit_at) (backed_off_now started) started (λ (b : Block). Directed v.block (first_rules cx (with_block (unoffered v) b) pair))
       (λ _. directed_first v v.block (backed_off_now started) (keeps v.block (backed_off_now started) refl refl))
-      (λ _. directed_first v v.block started (keeps v.block started refl refl)))))
+      (λ _. directed_first v v.block started (keeps v.block started refl refl))))))
 
 -- a socket without a remote endpoint offers nothing
 abbrev Goes : TcpValue → Offered TcpValue → Type 0
 Goes v o =
     ((x : OpenOffer) → o.socket.offered ≡ Some x → (pair : EndpointPair) × (v.block.names.pair ≡ Some pair) × GoesBetween pair x)
-    × (KeepsOrForgets v.block (settled true o.socket).block × KeepsOrForgets v.block o.socket.block)
+    × (IsLeftBy v.block (settled true o.socket).block × IsLeftBy v.block o.socket.block)
 
 goes_with : (cx : ContextValue) (v : TcpValue) (names : Option EndpointPair) → v.block.names.pair ≡ names → Goes v (offer_with names cx (unoffered v))
 goes_with cx v None named =
-    let same : KeepsOrForgets v.block v.block = inl (keeps v.block v.block refl refl) in
+    let same : IsLeftBy v.block v.block = inr (inl (keeps v.block v.block refl refl)) in
     (λ x e. absurd (cc), (same, same))
 goes_with cx v (Some pair) named = let d = directed_between cx pair v in (λ x e. (pair, named, d.0 x e), d.1)
 
@@ -527,10 +633,10 @@ pub offer_between_ends :
     → (pair : EndpointPair) × (v.block.names.pair ≡ Some pair) × GoesBetween pair o
 offer_between_ends cx v = (offer_directed cx v).0
 
-pub sent_names : (cx : ContextValue) (v : TcpValue) → KeepsOrForgets v.block (settled true (offer_of cx v).socket).block
+pub sent_names : (cx : ContextValue) (v : TcpValue) → IsLeftBy v.block (settled true (offer_of cx v).socket).block
 sent_names cx v = (offer_directed cx v).1.0
 
-pub withheld_names : (cx : ContextValue) (v : TcpValue) → KeepsOrForgets v.block (settled false (offer_of cx v).socket).block
+pub withheld_names : (cx : ContextValue) (v : TcpValue) → IsLeftBy v.block (settled false (offer_of cx v).socket).block
 withheld_names cx v = (offer_directed cx v).1.1
 
 -- PORTS
@@ -557,6 +663,20 @@ ports_after : (o : Ports) (old new : Block) → KeepsOrForgets old new → HasPo
 ports_after o old new (inl k) has = ports_kept o old new k has
 ports_after o old new (inr f) has = ports_forgotten o new f
 
+ports_fallen : (o : Ports) (old new : Block) → FallsBack old new → HasPorts o old → HasPorts o new
+ports_fallen o old new fallen has =
+    let mine = has.listened fallen.listened in
+    let same = ap (λ (n : Names). n.listen.port) fallen.names in
+    record {
+      listening = λ _. (same ∙ mine.0, mine.1);
+      listened = λ _. (same ∙ mine.0, mine.1);
+      pair = λ pair e. absurd (let clash : None ≡ Some pair = sym (ap (λ (n : Names). n.pair) fallen.names) ∙ e in cc);
+    }
+
+ports_left : (o : Ports) (old new : Block) → IsLeftBy old new → HasPorts o old → HasPorts o new
+ports_left o old new (inl fallen) has = ports_fallen o old new fallen has
+ports_left o old new (inr kept) has = ports_after o old new kept has
+
 pub ports_listening : (v : TcpValue) (endpoint : IpListenEndpoint) → HasPorts (record { local = endpoint.port; remote = None }) (listening v endpoint).block
 ports_listening v endpoint = record { listening = λ _. (refl, refl); listened = λ _. (refl, refl); pair = λ pair e. absurd (cc) }
 
@@ -578,13 +698,13 @@ pub ports_close : (v : TcpValue) (o : Ports) → HasPorts o v.block → HasPorts
 ports_close v o has = ports_after o v.block (close_after v).block (close_names v) has
 
 pub ports_abort : (v : TcpValue) (o : Ports) → HasPorts o v.block → HasPorts o (abort_after v).block
-ports_abort v o has = ports_kept o v.block (abort_after v).block (abort_names v) has
+ports_abort v o has = ports_after o v.block (abort_after v).block (abort_names v) has
 
 pub ports_sent : (cx : ContextValue) (v : TcpValue) (o : Ports) → HasPorts o v.block → HasPorts o (settled true (offer_of cx v).socket).block
-ports_sent cx v o has = ports_after o v.block (settled true (offer_of cx v).socket).block (sent_names cx v) has
+ports_sent cx v o has = ports_left o v.block (settled true (offer_of cx v).socket).block (sent_names cx v) has
 
 pub ports_withheld : (cx : ContextValue) (v : TcpValue) (o : Ports) → HasPorts o v.block → HasPorts o (settled false (offer_of cx v).socket).block
-ports_withheld cx v o has = ports_after o v.block (settled false (offer_of cx v).socket).block (withheld_names cx v) has
+ports_withheld cx v o has = ports_left o v.block (settled false (offer_of cx v).socket).block (withheld_names cx v) has
 
 open_toward : (remote : Option ℕ) (port : ℕ) → remote ≡ None → IsToward remote port
 open_toward remote port e = subst (λ (remote : Option ℕ). IsToward remote port) (sym e) tt
@@ -604,16 +724,6 @@ ports_opened o old new ip header port opened has =
     off : (state : State) → is_answering state ≡ true → is_listening state ≡ true → ⊥
     off In.SynReceived e f = absurd (cc)
     off other e f = absurd (cc)
-
-ports_fallen : (o : Ports) (old new : Block) → FallsBack old new → HasPorts o old → HasPorts o new
-ports_fallen o old new fallen has =
-    let mine = has.listened fallen.listened in
-    let same = ap (λ (n : Names). n.listen.port) fallen.names in
-    record {
-      listening = λ _. (same ∙ mine.0, mine.1);
-      listened = λ _. (same ∙ mine.0, mine.1);
-      pair = λ pair e. absurd (let clash : None ≡ Some pair = sym (ap (λ (n : Names). n.pair) fallen.names) ∙ e in cc);
-    }
 
 ports_renamed : (o : Ports) (old new : Block) (ip : IpRepr) (header : TcpHeader) → IsFor old ip header → IsRenamed ip header old new → HasPorts o old → HasPorts o new
 ports_renamed o old new ip header mine (inl opened) has = ports_opened o old new ip header (mine.listening opened.listening).0 opened has

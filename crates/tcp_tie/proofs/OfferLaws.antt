@@ -1,34 +1,47 @@
 -- Each offer, with its settling, keeps the invariant.
-use Rattle.std.proofs.Common.{◌≡◌, ◌⊎◌, inl, inr, ℕ, ◌+◌, ◌-◌, ◌/◌, ◌%◌, ◌^◌, ◌<◌, ◌≤◌, nat_lt, nat_le, not, ◌==◌, ◌&&◌, ℤ, Bool, true, false, if◌then◌else◌, [], Option, Some, None, length, take, drop, refl, sym, ap, ◌∙◌, subst, arith}
+use Rattle.std.proofs.Common.{◌≡◌, ◌⊎◌, inl, inr, ℕ, zero, suc, ◌+◌, ◌-◌, ◌/◌, ◌%◌, ◌^◌, ◌<◌, ◌≤◌, nat_lt, nat_le, min, max, not, ◌==◌, ◌&&◌, ℤ, Bool, true, false, if◌then◌else◌, [], Option, Some, None, length, take, drop, refl, sym, ap, ◌∙◌, subst, arith}
 use Rattle.std.proofs.lemmas.Bool.{and_parts, cond_both, eqb-true}
 use Rattle.std.proofs.lemmas.Bool.Decides.{nat_tests}
+use Rattle.ip_wire.specs.Control.{control_len}
+use Rattle.ip_wire.specs.Seq.{distance_of}
 use Rattle.ip_wire.specs.SeqNumber.{SeqNumber}
+use Rattle.ip_wire.specs.Tcp.{header_len}
 use Rattle.ip_wire.specs.TcpControl.TheVariants as Bits
-use Rattle.net_base.specs.Ring.{Ring}
+use Rattle.ip_wire.specs.TcpHeader.{TcpHeader}
+use Rattle.net_base.specs.Ring.{Ring, until_end}
 use Rattle.socket_base.specs.Context.{ContextValue}
 use Rattle.socket_base.specs.Offers.{Offered}
 use Rattle.tcp_law.specs.Segment.{Segment, fin_if}
 use Rattle.tcp_law.specs.Side.{Side, one_if}
 use Rattle.tcp_model.specs.declared.block.Block.{Block}
+use Rattle.tcp_model.specs.declared.block.CongestionControl.{CongestionControl}
+use Rattle.tcp_model.specs.declared.block.CongestionControl.TheVariants as Congestion
 use Rattle.tcp_model.specs.EndpointPair.{EndpointPair}
+use Rattle.tcp_model.specs.OfferKind.{OfferKind}
 use Rattle.tcp_model.specs.OfferKind.TheVariants as Kind
+use Rattle.tcp_model.specs.OpenOffer.{OpenOffer}
 use Rattle.tcp_model.specs.State.{State}
 use Rattle.tcp_model.specs.State.TheVariants as In
-use Rattle.tcp_model.specs.Blocks.{unacked}
-use Rattle.tcp_model.specs.Moments.{is_due}
-use Rattle.tcp_model.specs.Offers.{offer_choice, offer_ack, offer_syn, offer_reset, offer_keep_alive, silent, last_rules, first_rules, backed_off, offer_between, offer_with, offer_of, number_at}
-use Rattle.tcp_model.specs.Probing.{probe_started, probe_moment, is_probing}
-use Rattle.tcp_model.specs.Rules.{Choice, time_wait_end, owes_syn, resends, ack_moment, has_text, text_choice, resend_choice, probe_choice, control_for, updates_window, keep_alive_moment, backed_off_now, fin_goes, next_place, size_limit, is_sendable}
-use Rattle.tcp_model.specs.Segments.{segment, reset_segment}
-use Rattle.tcp_model.specs.Settled.{settled}
+use Rattle.tcp_model.specs.Blocks.{unacked, is_worth_telling}
+use Rattle.tcp_model.specs.Calls.{listening}
+use Rattle.tcp_model.specs.Checks.{falls_back}
+use Rattle.tcp_model.specs.Endpoints.{header_for}
+use Rattle.tcp_model.specs.Moments.{is_due, is_over, timeout_from}
+use Rattle.tcp_model.specs.Offers.{offer_choice, offer_ack, offer_syn, offer_reset, offer_keep_alive, offer_held_back, silent, last_rules, first_rules, backed_off, offer_between, offer_with, offer_of, number_at}
+use Rattle.tcp_model.specs.Probing.{probe_started, probe_moment, is_probing, is_window_small}
+use Rattle.tcp_model.specs.Retries.{asked, one_more, gives_up, given_up}
+use Rattle.tcp_model.specs.Rules.{Choice, time_wait_end, owes_syn, resends, ack_moment, has_text, text_choice, resend_choice, probe_choice, control_for, updates_window, keep_alive_moment, backed_off_now, fin_goes, next_place, size_limit, window_limit, congestion_limit, unbroken, is_sendable}
+use Rattle.tcp_model.specs.Segments.{segment, reset_segment, keep_alive_segment, hops_of}
+use Rattle.tcp_model.specs.Settled.{settled, recorded, probed, end_of}
 use Rattle.tcp_model.specs.States.{is_closed, is_answering, owes_fin, sends_syn, sends_text, takes_text, keeps_alive}
 use Rattle.tcp_model.specs.Timeout.{timeout_end, timeout_started, timed_out}
-use Rattle.tcp_model.specs.Value.{TcpValue, with_block, unoffered, ended, queued_in, window_of}
+use Rattle.tcp_model.specs.Value.{TcpValue, with_block, unoffered, ended, queued_in, free_in, room_of, window_of}
 use Rattle.tcp_tie.specs.Tie.{Core, Past, unsent, FitsIn, IsAsking, Keeps, core_of, segment_of, control_of, ack_of}
 use Rattle.tcp_tie.specs.History.{with_sent, with_offer}
 use Rattle.tcp_tie.proofs.Tied.{Tied, is_connected, keeps_by, takes_in}
 use Rattle.tcp_tie.proofs.CallLaws.{to_closed}
-use Rattle.tcp_tie.proofs.OfferMoves.{syn_of, sends_data, sends_keep_alive, sends_syn_first, sends_syn_ack}
+use Rattle.tcp_tie.proofs.OfferMoves.{with_top, raised, raised_asking, una_small, syn_of, sends_in, sends_data, sends_keep_alive, sends_syn_first, sends_syn_ack}
+use Rattle.tcp_tie.proofs.OpeningLaws.{tied_back}
 use Rattle.tcp_tie.proofs.TextMoves.{sends_ack, sends_reset}
 
 -- an offer that is settled, as sent or not, leads to a side
@@ -57,6 +70,7 @@ control_part false false = refl
 record IsPart (b : Block) (queued : ℕ) (c : Choice) : Type 0 where
   sends : sends_text b.state ≡ true
   within : c.place ≤ queued
+  fits : c.place + c.len ≤ queued
   last : c.fin ≡ true → (owes_fin b.state ≡ true) × (c.place + c.len ≡ queued)
 
 part_sent :
@@ -69,31 +83,82 @@ part_sent cx v b pair c p t part r =
     (sym (control_part c.fin (not (c.len == 0) && (c.place + c.len == queued_in v)))))
     (sends_data (core_of (plain v b)) p t c.place c.len c.fin part.sends part.within part.last r)
 
+-- HOW FAR IT REACHES
+
+number_back : (una k : ℕ) → una < 2 ^ 32 → ((una + k) % 2 ^ 32 + (2 ^ 32 - una)) % 2 ^ 32 ≤ k
+number_back una k small = omega arith
+
+control_size : (fin last : Bool) → control_len (if fin then Bits.Fin else if last then Bits.Psh else Bits.None) ≡ one_if fin
+control_size true last = refl
+control_size false true = refl
+control_size false false = refl
+
+fin_owed : (fin owes : Bool) → (fin ≡ true → owes ≡ true) → one_if fin ≤ one_if owes
+fin_owed true owes last = let one = ap one_if (last refl) in omega arith
+fin_owed false owes last = omega arith
+
+part_end :
+    (b : Block) (c : Choice) (queued : ℕ) → b.sender.una.0 < 2 ^ 32 → IsPart b queued c
+    → distance_of b.sender.una (number_at b c.place) + (c.len + control_len (control_for c queued)) ≤ one_if b.sender.syn_unacked + queued + one_if (owes_fin b.state)
+part_end b c queued small part =
+    let back = number_back b.sender.una.0 (one_if b.sender.syn_unacked + c.place) small in
+    let size = control_size c.fin (not (c.len == 0) && (c.place + c.len == queued)) in
+    let owed = fin_owed c.fin (owes_fin b.state) (λ e. (part.last e).0) in
+    let fits = part.fits in
+    omega (arith, back, size, owed, fits)
+
+-- the part goes, and SND.NXT and the highest position move past it
+part_goes :
+    (cx : ContextValue) (v : TcpValue) (b : Block) (pair : EndpointPair) (c : Choice) (p : Past) (t : Side) → IsPart b (queued_in v) c → Tied (core_of (plain v b)) p t
+    → Tied (with_top (core_of (plain v b)) (distance_of b.sender.una (number_at b c.place) + (c.len + control_len (control_for c (queued_in v)))))
+    (with_sent p (segment_of (segment b pair cx.moment (window_of (plain v b)) (control_for c (queued_in v)) (number_at b c.place)) (take c.len (drop c.place v.queued.queue)))) t
+part_goes cx v b pair c p t part r =
+    let connected = (sends_in b.state part.sends).connected in
+    raised (core_of (plain v b)) _ t (distance_of b.sender.una (number_at b c.place) + (c.len + control_len (control_for c (queued_in v)))) connected
+    (part_end b c (queued_in v) (una_small (core_of (plain v b)) p t connected r) part)
+    (part_sent cx v b pair c p t part r)
+
 test_below : (a b : ℕ) → nat_lt a b ≡ true → a < b
 test_below a b e = grind (arith, nat_tests)
 
 fin_place : (b : Block) (queued end : ℕ) → fin_goes b queued end ≡ true → (owes_fin b.state ≡ true) × (end ≡ queued)
 fin_place b queued end e = let both = and_parts (owes_fin b.state) (end == queued) e in (both.0, eqb-true end queued both.1)
 
+-- what may go is no longer than what is left
+limited_by : (control : CongestionControl) (cwnd window size : ℕ) → congestion_limit control cwnd (min window size) ≤ size
+limited_by Congestion.None cwnd window size = omega arith
+limited_by Congestion.Reno cwnd window size = omega arith
+
+limited : (b : Block) (size : ℕ) → window_limit b size ≤ size
+limited b size = limited_by b.settings.congestion_control (b.reno.cwnd - b.sender.in_flight) (b.peer.window - b.sender.in_flight) size
+
+left_over : (place len queue limit storage : ℕ) → place ≤ queue → len ≤ min limit (min (queue - place) storage) → place + len ≤ queue
+left_over place len queue limit storage inside low = omega arith
+
+-- what goes from SND.NXT, which lies in the send queue
+next_part :
+    (b : Block) (pair : EndpointPair) (mtu : ℕ) (queued : Ring ℕ) → sends_text b.state ≡ true → next_place b ≤ length queued.queue
+    → IsPart b (length queued.queue) (text_choice b pair.addresses mtu queued)
+next_part b pair mtu queued sends inside = record {
+  sends = sends;
+  within = inside;
+  fits = left_over (next_place b) (text_choice b pair.addresses mtu queued).len (length queued.queue) (size_limit b pair.addresses mtu) (until_end queued (next_place b)) inside
+      (limited b (min (size_limit b pair.addresses mtu) (unbroken queued (next_place b))));
+  last = fin_place b (length queued.queue) (next_place b + (text_choice b pair.addresses mtu queued).len);
+}
+
 text_part : (b : Block) (pair : EndpointPair) (mtu : ℕ) (queued : Ring ℕ) → has_text b pair.addresses mtu queued ≡ true → IsPart b (length queued.queue) (text_choice b pair.addresses mtu queued)
 text_part b pair mtu queued e =
+    let sendable = is_sendable b (length queued.queue) (size_limit b pair.addresses mtu) (text_choice b pair.addresses mtu queued) in
     let tests =
     and_parts (sends_text b.state)
-    (nat_le (one_if b.sender.syn_unacked) b.sender.in_flight
-    && (nat_lt b.sender.in_flight (unacked b (length queued.queue)) && is_sendable b (size_limit b pair.addresses mtu) (text_choice b pair.addresses mtu queued)))
+    (nat_le (one_if b.sender.syn_unacked) b.sender.in_flight && (nat_lt b.sender.in_flight (unacked b (length queued.queue)) && sendable))
     e in
-    let more =
-    and_parts (nat_le (one_if b.sender.syn_unacked) b.sender.in_flight)
-    (nat_lt b.sender.in_flight (unacked b (length queued.queue)) && is_sendable b (size_limit b pair.addresses mtu) (text_choice b pair.addresses mtu queued)) tests.1 in
-    let below =
-    and_parts (nat_lt b.sender.in_flight (unacked b (length queued.queue))) (is_sendable b (size_limit b pair.addresses mtu) (text_choice b pair.addresses mtu queued)) more.1 in
+    let more = and_parts (nat_le (one_if b.sender.syn_unacked) b.sender.in_flight) (nat_lt b.sender.in_flight (unacked b (length queued.queue)) && sendable) tests.1 in
+    let below = and_parts (nat_lt b.sender.in_flight (unacked b (length queued.queue))) sendable more.1 in
     let flight = test_below b.sender.in_flight (unacked b (length queued.queue)) below.0 in
     let one = small (owes_fin b.state) in
-    record {
-      sends = tests.0;
-      within = within b.sender.in_flight (one_if b.sender.syn_unacked) (length queued.queue) (one_if (owes_fin b.state)) flight one;
-      last = fin_place b (length queued.queue) (next_place b + (text_choice b pair.addresses mtu queued).len);
-    }
+    next_part b pair mtu queued tests.0 (within b.sender.in_flight (one_if b.sender.syn_unacked) (length queued.queue) (one_if (owes_fin b.state)) flight one)
   where
     small : (owes : Bool) → one_if owes ≤ 1
     small true = omega arith
@@ -106,6 +171,7 @@ resend_part : (b : Block) (pair : EndpointPair) (mtu : ℕ) (queued : Ring ℕ) 
 resend_part b pair mtu queued e = record {
   sends = (and_parts (sends_text b.state) b.sender.resend e).0;
   within = omega arith;
+  fits = omega arith;
   last = λ fin. let at_end = fin_place b (length queued.queue) (resend_choice b pair.addresses mtu queued).len fin in (at_end.0, from_start (resend_choice b pair.addresses mtu queued).len (length queued.queue) at_end.1);
 }
   where
@@ -118,14 +184,54 @@ probes b queued now e = by (is_probing b queued) refl e where
   by true is_so e = is_so
   by false is_so e = absurd (cc)
 
-probe_part : (b : Block) (queued : ℕ) (now : ℤ) → is_due now (probe_moment b queued) ≡ true → IsPart b queued probe_choice
-probe_part b queued now e = record {
-  sends = (and_parts (sends_text b.state) ((b.peer.window == 0) && (not (queued == 0) && (b.sender.in_flight == 0))) (probes b queued now e)).0;
-  within = omega arith;
-  last = λ (fin : false ≡ true). absurd (cc);
-}
+-- what the window holds back: there is some, and nothing is in flight
+record IsHeldBack (b : Block) (queued : ℕ) : Type 0 where
+  sends : sends_text b.state ≡ true
+  some : 0 + 1 ≤ queued
+  idle : b.sender.in_flight ≡ 0
+
+held_back : (b : Block) (queued : ℕ) (now : ℤ) → is_due now (probe_moment b queued) ≡ true → IsHeldBack b queued
+held_back b queued now e =
+    let tests = and_parts (sends_text b.state) (is_window_small b queued && (b.sender.in_flight == 0)) (probes b queued now e) in
+    let more = and_parts (is_window_small b queued) (b.sender.in_flight == 0) tests.1 in
+    record {
+      sends = tests.0;
+      some = some (window_limit b queued) queued (max 1 (b.peer.largest_window / 2)) (test_below (window_limit b queued) (min queued (max 1 (b.peer.largest_window / 2))) more.0);
+      idle = eqb-true b.sender.in_flight 0 more.1;
+    }
+  where
+    some : (limit queued half : ℕ) → limit < min queued half → 0 + 1 ≤ queued
+    some limit queued half e = omega arith
+
+probe_part : (b : Block) (queued : ℕ) → IsHeldBack b queued → IsPart b queued probe_choice
+probe_part b queued k = record { sends = k.sends; within = omega arith; fits = k.some; last = λ (fin : false ≡ true). absurd (cc) }
+
+held_part : (b : Block) (pair : EndpointPair) (mtu : ℕ) (queued : Ring ℕ) → IsHeldBack b (length queued.queue) → IsPart b (length queued.queue) (text_choice b pair.addresses mtu queued)
+held_part b pair mtu queued k = next_part b pair mtu queued k.sends (from_start b.sender.in_flight (one_if b.sender.syn_unacked) (length queued.queue) k.idle) where
+  from_start : (flight syn queue : ℕ) → flight ≡ 0 → flight - syn ≤ queue
+  from_start flight syn queue e = omega arith
 
 -- WITHOUT A PAYLOAD
+
+abbrev open_of : OfferKind → ContextValue → TcpValue → EndpointPair → TcpHeader → ℕ → ℕ → OpenOffer
+open_of kind cx v pair header place len = record {
+  kind = kind;
+  moment = cx.moment;
+  header = header_for pair.addresses (hops_of v.block.settings.hop_limit) (header_len header + len);
+  segment = header;
+  place = place;
+  len = len;
+}
+
+-- a question that goes counts, and changes nothing that the tie reads
+asked_tied : (v : TcpValue) (b : Block) (now : ℤ) (p : Past) (t : Side) → Tied (core_of (with_block v b)) p t → Tied (core_of (with_block v (asked b now))) p t
+asked_tied v b now p t r =
+    cond_both (is_over now b.timers.counts_from)
+    (record b {
+      sender = record b.sender { unanswered = one_more b.sender.unanswered };
+      timers = record b.timers { counts_from = Some (timeout_from now b.round_trip) };
+    })
+    b (λ (b : Block). Tied (core_of (with_block v b)) p t) (λ _. r) (λ _. r)
 
 heard_of : (test : Bool) (next : SeqNumber) → test ≡ true → ack_of (if test then Some next else None) ≡ Some next.0
 heard_of test next e = ap (λ (t : Bool). ack_of (if t then Some next else None)) e
@@ -139,7 +245,7 @@ takes_connected state e = (takes_in state e).connected
 module _ (cx : ContextValue) (v : TcpValue) (pair : EndpointPair) (p : Past) (t : Side) where
   led_ack : (b : Block) → is_connected b.state ≡ true → Tied (core_of (plain v b)) p t → LedOffer p t (offer_ack Kind.Ack cx (plain v b) pair) × LedOffer p t (offer_ack Kind.WindowUpdate cx (plain v b) pair)
   led_ack b connected r =
-      let gone = sends_ack (core_of (plain v b)) p t b.sender.in_flight connected r in
+      let gone = sends_ack (core_of (plain v b)) p t b.sender.top connected r in
       ((gone, r), (gone, r))
 
   led_due_ack : (b : Block) → b.names.pair ≡ Some pair → is_closed b.state ≡ false → is_due cx.moment (ack_moment b) ≡ true → Tied (core_of (plain v b)) p t → LedOffer p t (offer_ack Kind.Ack cx (plain v b) pair)
@@ -161,44 +267,76 @@ module _ (cx : ContextValue) (v : TcpValue) (pair : EndpointPair) (p : Past) (t 
         let tests = and_parts (sends_syn b.state && not (is_answering b.state && b.settings.synack_paused)) (b.sender.syn_unacked && (b.sender.in_flight == 0)) owes in
         (and_parts b.sender.syn_unacked (b.sender.in_flight == 0) tests.1).0
 
-    by : (b.state ≡ In.SynSent) ⊎ (is_connected b.state ≡ true) → Tied (core_of (plain v b)) (with_sent p (syn_of (core_of (plain v b)) (ack_of (if b.receiver.took_syn then Some b.receiver.next else None)))) t
+    -- one position is sent
+    size : ℕ
+    size = distance_of b.sender.una b.sender.una + (0 + control_len Bits.Syn)
+
+    one_position : (una : ℕ) → una < 2 ^ 32 → (una + (2 ^ 32 - una)) % 2 ^ 32 + (0 + 1) ≤ 1
+    one_position una small = omega arith
+
+    by :
+        (b.state ≡ In.SynSent) ⊎ (is_connected b.state ≡ true)
+        → Tied (with_top (core_of (plain v b)) size) (with_sent p (syn_of (core_of (plain v b)) (ack_of (if b.receiver.took_syn then Some b.receiver.next else None)))) t
     by (inl asking) =
-        sends_syn_first (core_of (plain v b)) p t (ack_of (if b.receiver.took_syn then Some b.receiver.next else None)) (unheard_of b.receiver.took_syn b.receiver.next) r
-        (subst (λ (state : State). FitsIn state (core_of (plain v b)) (unsent r.side)) asking r.fits)
+        let k : IsAsking (core_of (plain v b)) (unsent r.side) = subst (λ (state : State). FitsIn state (core_of (plain v b)) (unsent r.side)) asking r.fits in
+        let una = k.una in
+        let small : b.sender.una.0 < 2 ^ 32 = omega arith in
+        raised_asking (core_of (plain v b)) _ t size asking (one_position b.sender.una.0 small)
+        (sends_syn_first (core_of (plain v b)) p t (ack_of (if b.receiver.took_syn then Some b.receiver.next else None)) (unheard_of b.receiver.took_syn b.receiver.next) r
+        k)
     by (inr connected) =
-        sends_syn_ack (core_of (plain v b)) p t (ack_of (if b.receiver.took_syn then Some b.receiver.next else None)) connected unacked_syn (heard_of b.receiver.took_syn b.receiver.next) r
+        let one = one_position b.sender.una.0 (una_small (core_of (plain v b)) p t connected r) in
+        let unacked = ap one_if unacked_syn in
+        raised (core_of (plain v b)) _ t size connected (omega (arith, one, unacked))
+        (sends_syn_ack (core_of (plain v b)) p t (ack_of (if b.receiver.took_syn then Some b.receiver.next else None)) connected unacked_syn (heard_of b.receiver.took_syn b.receiver.next) r)
 
   led_keep_alive : (b : Block) → is_due cx.moment (keep_alive_moment b) ≡ true → Tied (core_of (plain v b)) p t → LedOffer p t (offer_keep_alive cx (plain v b) pair)
-  led_keep_alive b due r =
-      (sends_keep_alive (core_of (plain v b)) p t (and_parts (keeps_alive b.state) (b.sender.in_flight == 0) (by (keeps_alive b.state && (b.sender.in_flight == 0)) refl due)).0 r, r)
+  led_keep_alive b due r = (
+    asked_tied (plain v b) (recorded b (open_of Kind.KeepAlive cx (plain v b) pair (keep_alive_segment b pair cx.moment (window_of (plain v b))) 0 1) (room_of v.received)) cx.moment _ t
+        (sends_keep_alive (core_of (plain v b)) p t (and_parts (keeps_alive b.state) (b.sender.in_flight == 0) (by (keeps_alive b.state && (b.sender.in_flight == 0)) refl due)).0 r),
+    r,
+  )
     where
       by : (test : Bool) → (keeps_alive b.state && (b.sender.in_flight == 0)) ≡ test → is_due cx.moment (if test then b.settings.keep_alive_at else None) ≡ true → (keeps_alive b.state && (b.sender.in_flight == 0)) ≡ true
       by true is_so e = is_so
       by false is_so e = absurd (cc)
 
+  led_held_back : (b : Block) → IsHeldBack b (queued_in v) → Tied (core_of (plain v b)) p t → LedOffer p t (offer_held_back cx (plain v b) pair)
+  led_held_back b k r =
+      cond_both (b.peer.window == 0) (offer_choice Kind.Probe cx (plain v b) pair probe_choice)
+      (offer_choice Kind.Text cx (plain v b) pair (text_choice b pair.addresses cx.ip_mtu v.queued))
+      (λ (o : Offered TcpValue). LedOffer p t o)
+      (λ _.
+      let o = open_of Kind.Probe cx (plain v b) pair (segment b pair cx.moment (window_of (plain v b)) (control_for probe_choice (queued_in v)) (number_at b 0)) 0 1 in (
+        asked_tied (plain v b) (probed (recorded b o (room_of v.received)) (end_of (recorded b o (room_of v.received)) o) cx.moment) cx.moment _ t
+            (part_goes cx v b pair probe_choice p t (probe_part b (queued_in v) k) r),
+        r,
+      ))
+      (λ _. (part_goes cx v b pair (text_choice b pair.addresses cx.ip_mtu v.queued) p t (held_part b pair cx.ip_mtu v.queued k) r, r))
+
   -- THE RULES IN THEIR ORDER
 
   led_last : (b : Block) → b.names.pair ≡ Some pair → is_closed b.state ≡ false → Tied (core_of (plain v b)) p t → LedOffer p t (last_rules cx (plain v b) pair)
   led_last b named open_yet r =
-      cond_both (is_due cx.moment (probe_moment b (queued_in v))) (offer_choice Kind.Probe cx (plain v b) pair probe_choice)
+      cond_both (is_due cx.moment (probe_moment b (queued_in v))) (offer_held_back cx (plain v b) pair)
       (if is_due cx.moment (ack_moment b) then offer_ack Kind.Ack cx (plain v b) pair
-      else if updates_window b (window_of (plain v b)) then offer_ack Kind.WindowUpdate cx (plain v b) pair
+      else if updates_window b (room_of v.received) (free_in v) then offer_ack Kind.WindowUpdate cx (plain v b) pair
       else if is_due cx.moment (keep_alive_moment b) then offer_keep_alive cx (plain v b) pair
       else silent false (plain v b))
       (λ (o : Offered TcpValue). LedOffer p t o)
-      (λ e. (part_sent cx v b pair probe_choice p t (probe_part b (queued_in v) cx.moment e) r, r))
+      (λ e. led_held_back b (held_back b (queued_in v) cx.moment e) r)
       (λ _.
       cond_both (is_due cx.moment (ack_moment b)) (offer_ack Kind.Ack cx (plain v b) pair)
-      (if updates_window b (window_of (plain v b)) then offer_ack Kind.WindowUpdate cx (plain v b) pair
+      (if updates_window b (room_of v.received) (free_in v) then offer_ack Kind.WindowUpdate cx (plain v b) pair
       else if is_due cx.moment (keep_alive_moment b) then offer_keep_alive cx (plain v b) pair
       else silent false (plain v b))
       (λ (o : Offered TcpValue). LedOffer p t o)
       (λ due. led_due_ack b named open_yet due r)
       (λ _.
-      cond_both (updates_window b (window_of (plain v b))) (offer_ack Kind.WindowUpdate cx (plain v b) pair)
+      cond_both (updates_window b (room_of v.received) (free_in v)) (offer_ack Kind.WindowUpdate cx (plain v b) pair)
       (if is_due cx.moment (keep_alive_moment b) then offer_keep_alive cx (plain v b) pair else silent false (plain v b))
       (λ (o : Offered TcpValue). LedOffer p t o)
-      (λ e. (led_ack b (takes_connected b.state (and_parts (takes_text b.state) (not (window_of (plain v b) == 0) && nat_le b.receiver.advertised (window_of (plain v b) / 2)) e).0) r).1)
+      (λ e. (led_ack b (takes_connected b.state (and_parts (takes_text b.state) (is_worth_telling b (room_of v.received) (free_in v)) e).0) r).1)
       (λ _.
       cond_both (is_due cx.moment (keep_alive_moment b)) (offer_keep_alive cx (plain v b) pair) (silent false (plain v b)) (λ (o : Offered TcpValue). LedOffer p t o)
       (λ due. led_keep_alive b due r)
@@ -217,18 +355,26 @@ module _ (cx : ContextValue) (v : TcpValue) (pair : EndpointPair) (p : Past) (t 
       (if has_text b pair.addresses cx.ip_mtu v.queued then offer_choice Kind.Text cx (plain v b) pair (text_choice b pair.addresses cx.ip_mtu v.queued)
       else last_rules cx (with_block (plain v b) (probe_started cx.moment (queued_in v) b)) pair)
       (λ (o : Offered TcpValue). LedOffer p t o)
-      (λ e. (part_sent cx v b pair (resend_choice b pair.addresses cx.ip_mtu v.queued) p t (resend_part b pair cx.ip_mtu v.queued e) r, r))
+      (λ e. (part_goes cx v b pair (resend_choice b pair.addresses cx.ip_mtu v.queued) p t (resend_part b pair cx.ip_mtu v.queued e) r, r))
       (λ _.
       cond_both (has_text b pair.addresses cx.ip_mtu v.queued) (offer_choice Kind.Text cx (plain v b) pair (text_choice b pair.addresses cx.ip_mtu v.queued))
       (last_rules cx (with_block (plain v b) (probe_started cx.moment (queued_in v) b)) pair)
       (λ (o : Offered TcpValue). LedOffer p t o)
-      (λ e. (part_sent cx v b pair (text_choice b pair.addresses cx.ip_mtu v.queued) p t (text_part b pair cx.ip_mtu v.queued e) r, r))
+      (λ e. (part_goes cx v b pair (text_choice b pair.addresses cx.ip_mtu v.queued) p t (text_part b pair cx.ip_mtu v.queued e) r, r))
       (λ _. led_last (probe_started cx.moment (queued_in v) b) named open_yet r)))
 
   -- to CLOSED
   tied_closed : (b : Block) (p : Past) → b.state ≡ In.Closed → b.receiver.took_fin ≡ v.block.receiver.took_fin → Tied (core_of v) p t → Tied (core_of (plain v b)) p t
   tied_closed b p closed took r =
       subst (λ (p : Past). Tied (core_of (plain v b)) p t) r.past (to_closed (core_of v) (core_of (plain v b)) r.side t closed took refl refl refl r.fits r.holds)
+
+  -- it gives up
+  led_given_up : Tied (core_of v) p t → LedOffer p t (silent true (given_up (unoffered v)))
+  led_given_up r =
+      cond_both (falls_back v.block) (listening (unoffered v) v.block.names.listen) (with_block (unoffered v) (timed_out v.block))
+      (λ (w : TcpValue). LedOffer p t (silent true w))
+      (λ e. let back = tied_back (unoffered v) p t e r in (back, back))
+      (λ _. let closed = tied_closed (timed_out v.block) p refl refl r in (closed, closed))
 
   -- a reset goes, and the endpoints are forgotten
   led_reset : Tied (core_of v) p t → LedOffer p t (offer_reset cx (unoffered v) pair)
@@ -251,26 +397,34 @@ module _ (cx : ContextValue) (v : TcpValue) (pair : EndpointPair) (p : Past) (t 
       cond_both (is_due cx.moment (time_wait_end v.block)) (silent true (ended (unoffered v)))
       (if is_due cx.moment (timeout_end v.block (queued_in v)) then silent true (with_block (unoffered v) (timed_out v.block))
       else if is_closed v.block.state then (if v.block.sender.reset_due then offer_reset cx (unoffered v) pair else silent false (unoffered v))
+      else if gives_up cx.moment v.block (queued_in v) then silent true (given_up (unoffered v))
       else first_rules cx (with_block (unoffered v) (backed_off cx.moment (timeout_started cx.moment (queued_in v) v.block))) pair)
       (λ (o : Offered TcpValue). LedOffer p t o)
       (λ _. let closed = tied_closed (ended v).block p refl refl r in (closed, closed))
       (λ _.
       cond_both (is_due cx.moment (timeout_end v.block (queued_in v))) (silent true (with_block (unoffered v) (timed_out v.block)))
       (if is_closed v.block.state then (if v.block.sender.reset_due then offer_reset cx (unoffered v) pair else silent false (unoffered v))
+      else if gives_up cx.moment v.block (queued_in v) then silent true (given_up (unoffered v))
       else first_rules cx (with_block (unoffered v) (backed_off cx.moment (timeout_started cx.moment (queued_in v) v.block))) pair)
       (λ (o : Offered TcpValue). LedOffer p t o)
       (λ _. let closed = tied_closed (timed_out v.block) p refl refl r in (closed, closed))
       (λ _.
       cond_both (is_closed v.block.state) (if v.block.sender.reset_due then offer_reset cx (unoffered v) pair else silent false (unoffered v))
-      (first_rules cx (with_block (unoffered v) (backed_off cx.moment (timeout_started cx.moment (queued_in v) v.block))) pair)
+      (if gives_up cx.moment v.block (queued_in v) then silent true (given_up (unoffered v))
+      else first_rules cx (with_block (unoffered v) (backed_off cx.moment (timeout_started cx.moment (queued_in v) v.block))) pair)
       (λ (o : Offered TcpValue). LedOffer p t o)
       (λ _.
       cond_both v.block.sender.reset_due (offer_reset cx (unoffered v) pair) (silent false (unoffered v)) (λ (o : Offered TcpValue). LedOffer p t o)
       (λ _. led_reset r)
       (λ _. (r, r)))
       (λ open_yet.
+      cond_both (gives_up cx.moment v.block (queued_in v)) (silent true (given_up (unoffered v)))
+      (first_rules cx (with_block (unoffered v) (backed_off cx.moment (timeout_started cx.moment (queued_in v) v.block))) pair)
+      (λ (o : Offered TcpValue). LedOffer p t o)
+      (λ _. led_given_up r)
+      (λ _.
       let k = backs_off (timeout_started cx.moment (queued_in v) v.block) (named, open_yet, r) in
-      led_first (backed_off cx.moment (timeout_started cx.moment (queued_in v) v.block)) k.0 k.1 k.2)))
+      led_first (backed_off cx.moment (timeout_started cx.moment (queued_in v) v.block)) k.0 k.1 k.2))))
 
 led_with : (cx : ContextValue) (v : TcpValue) (p : Past) (t : Side) (names : Option EndpointPair) → v.block.names.pair ≡ names → Tied (core_of v) p t → LedOffer p t (offer_with names cx (unoffered v))
 led_with cx v p t None e r = (r, r)

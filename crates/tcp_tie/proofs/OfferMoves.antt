@@ -1,5 +1,5 @@
 -- Each segment that a socket sends by itself is a move.
-use Rattle.std.proofs.Common.{◌≡◌, ◌⊎◌, inl, inr, ℕ, suc, ◌+◌, ◌-◌, ◌%◌, ◌^◌, ◌<◌, ◌≤◌, Bool, true, false, List, [], ◌∷◌, Option, Some, None, length, take, drop, refl, sym, ap, ◌∙◌, arith, length-drop, length-take}
+use Rattle.std.proofs.Common.{◌≡◌, ◌⊎◌, inl, inr, ℕ, suc, ◌+◌, ◌-◌, ◌%◌, ◌^◌, ◌<◌, ◌≤◌, max, Bool, true, false, List, [], ◌∷◌, Option, Some, None, length, take, drop, refl, sym, ap, ◌∙◌, subst, arith, length-drop, length-take}
 use Rattle.tcp_law.specs.Move.{syn, syn_ack, data_segment, bytes_from, keep_alive, MaySendData}
 use Rattle.tcp_law.specs.Move.Move.{SendsSyn, SendsSynAck, SendsData, SendsKeepAlive}
 use Rattle.tcp_law.specs.Numbers.{wire}
@@ -11,13 +11,72 @@ use Rattle.tcp_law.proofs.Lists as lists
 use Rattle.tcp_model.specs.State.{State}
 use Rattle.tcp_model.specs.State.TheVariants as In
 use Rattle.tcp_model.specs.States.{owes_fin, sends_syn, sends_text, keeps_alive}
-use Rattle.tcp_tie.specs.Tie.{Core, Past, past_of, unsent, IsAsking, phase_of, is_closed_in}
+use Rattle.tcp_tie.specs.Tie.{Core, Past, past_of, unsent, FitsIn, IsAsking, IsConnectedAs, phase_of, is_closed_in}
 use Rattle.tcp_tie.specs.History.{with_sent}
-use Rattle.tcp_tie.proofs.Tied.{Tied, tied_by, fits_connected, is_connected, is_connected_side}
+use Rattle.tcp_tie.proofs.Tied.{Tied, tied_by, stays, fits_connected, connected_fits, is_connected, is_connected_side}
 
 -- a move that sends a segment
 sent_by : (c : Core) (p : Past) (t : Side) (x y : Segment) (r : Tied c p t) → x ≡ y → record (past_of r.side) { sent = (with_sent (past_of r.side) x).sent } ≡ with_sent p y
 sent_by c p t x y r same = ap (λ (p : Past). with_sent p x) r.past ∙ ap (λ (x : Segment). with_sent p x) same
+
+-- THE HIGHEST POSITION THAT WAS SENT
+
+-- it is raised to the end of what goes
+abbrev pub with_top : Core → ℕ → Core
+with_top c end = record c { top = max c.top end }
+
+pub raised :
+    (c : Core) (p : Past) (t : Side) (end : ℕ) → is_connected c.state ≡ true → end ≤ one_if c.syn_unacked + length c.queue + one_if (owes_fin c.state)
+    → Tied c p t → Tied (with_top c end) p t
+raised c p t end connected within r =
+    let k = fits_connected c.state c (unsent r.side) connected r.fits in
+    let top = k.top in
+    let k' : IsConnectedAs (with_top c end) (unsent r.side) = record {
+      once = k.once;
+      phase = k.phase;
+      closed = k.closed;
+      side_finished = k.side_finished;
+      finished = k.finished;
+      heard = k.heard;
+      una = k.una;
+      syn = k.syn;
+      opened = k.opened;
+      unopened = k.unopened;
+      past_iss = k.past_iss;
+      top = omega arith;
+      end = k.end;
+      next = k.next;
+      queue = k.queue;
+      waiting = k.waiting;
+      map = k.map;
+      gap = k.gap;
+      listener = k.listener;
+    } in
+    stays (with_top c end) p r.side t r.holds r.past (connected_fits c.state (with_top c end) (unsent r.side) connected k')
+
+pub raised_asking : (c : Core) (p : Past) (t : Side) (end : ℕ) → c.state ≡ In.SynSent → end ≤ 1 → Tied c p t → Tied (with_top c end) p t
+raised_asking c p t end e within r =
+    let k : IsAsking c (unsent r.side) = subst (λ (state : State). FitsIn state c (unsent r.side)) e r.fits in
+    let top = k.top in
+    let k' : IsAsking (with_top c end) (unsent r.side) = record {
+      phase = k.phase;
+      una = k.una;
+      syn_unacked = k.syn_unacked;
+      past_iss = k.past_iss;
+      top = omega arith;
+      first = k.first;
+      alone = k.alone;
+      unfinished = k.unfinished;
+      queue = k.queue;
+      waiting = k.waiting;
+      map = k.map;
+      gap = k.gap;
+      caller = k.caller;
+    } in
+    stays (with_top c end) p r.side t r.holds r.past (subst (λ (state : State). FitsIn state (with_top c end) (unsent r.side)) (sym e) k')
+
+pub una_small : (c : Core) (p : Past) (t : Side) → is_connected c.state ≡ true → Tied c p t → c.una < 2 ^ 32
+una_small c p t connected r = let una = (fits_connected c.state c (unsent r.side) connected r.fits).una in omega arith
 
 -- BYTES AND THE FIN
 

@@ -1,5 +1,5 @@
 -- A segment comes in LISTEN or SYN-SENT, and a reset comes later.
-use Rattle.std.proofs.Common.{◌≡◌, ◌⊎◌, inl, inr, ℕ, suc, ◌+◌, ◌-◌, ◌%◌, ◌^◌, ◌<◌, not, ◌==◌, ◌&&◌, ℤ, Bool, true, false, if◌then◌else◌, List, [], ◌∷◌, ◌++◌, Option, Some, None, is_some, length, drop, refl, sym, ap, ◌∙◌, subst, arith}
+use Rattle.std.proofs.Common.{◌≡◌, ◌⊎◌, inl, inr, ℕ, suc, ◌+◌, ◌-◌, ◌%◌, ◌^◌, ◌<◌, not, ◌==◌, ◌&&◌, min, ℤ, Bool, true, false, if◌then◌else◌, List, [], ◌∷◌, ◌++◌, Option, Some, None, is_some, length, drop, refl, sym, ap, ◌∙◌, subst, arith}
 use Rattle.std.proofs.lemmas.Bool.{and_parts, and_cases, cond_both, not-true, not-false, eqb-true}
 use Rattle.ip_wire.specs.IpRepr.{IpRepr}
 use Rattle.ip_wire.specs.Seq.{distance_of}
@@ -50,7 +50,7 @@ syn_control other e = absurd (cc)
 
 abbrev pub answering_core : Core → EndpointPair → ℕ → ℕ → Core
 answering_core c pair number seq =
-    record c { state = In.SynReceived; pair = Some pair; una = number; syn_unacked = true; next = (seq + 1) % 2 ^ 32; took_syn = true }
+    record c { state = In.SynReceived; pair = Some pair; una = number; syn_unacked = true; past_iss = 0; top = 0; next = (seq + 1) % 2 ^ 32; took_syn = true }
 
 takes_syn :
     (c : Core) (s t : Side) (x : Segment) (number : ℕ) (pair : EndpointPair) → Comes t x → x.control ≡ Syn → x.ack ≡ None → number < 2 ^ 32
@@ -78,6 +78,8 @@ takes_syn c s t x number pair comes syn bare small l holds =
       syn = omega arith;
       opened = inr refl;
       unopened = λ e. refl;
+      past_iss = λ e. refl;
+      top = omega arith;
       end = omega arith;
       next = omega arith;
       queue = l.blank.queue ∙ sym (ap (λ (bytes : List ℕ). drop (2 ^ 32 + number - suc (2 ^ 32 + number)) bytes) unwritten ∙ lists.drop-nothing (2 ^ 32 + number - suc (2 ^ 32 + number)));
@@ -119,17 +121,17 @@ led_opens cx v ip header bytes p t comes e r =
 
 -- SYN-SENT
 
-abbrev pub asked_core : Core → State → ℕ → Bool → ℕ → Core
-asked_core c state una syn_unacked seq =
-    record c { state = state; una = una; syn_unacked = syn_unacked; next = (seq + 1) % 2 ^ 32; took_syn = true }
+abbrev pub asked_core : Core → State → ℕ → Bool → ℕ → ℕ → ℕ → Core
+asked_core c state una syn_unacked past_iss top seq =
+    record c { state = state; una = una; syn_unacked = syn_unacked; past_iss = past_iss; top = top; next = (seq + 1) % 2 ^ 32; took_syn = true }
 
 no_listener : {A : Type 0} (port : ℕ) → port ≡ 0 → (port == 0) ≡ false → A
 no_listener port e f = absurd (let clash : (port == 0) ≡ true = ap (λ (n : ℕ). n == 0) e in let both : true ≡ false = sym clash ∙ f in cc)
 
 takes_syn_ack :
-    (c : Core) (s t : Side) (x : Segment) (n : ℕ) (syn : Bool) → Comes t x → x.control ≡ Syn → x.ack ≡ Some n → (n + (2 ^ 32 - c.una)) % 2 ^ 32 ≡ 1 → syn ≡ false
-    → IsAsking c (unsent s) → HoldsBetween s t → Tied (asked_core c In.Established ((c.una + 1) % 2 ^ 32) syn x.seq) (past_of s) t
-takes_syn_ack c s t x n syn comes control number distance no_syn k holds =
+    (c : Core) (s t : Side) (x : Segment) (n past_iss : ℕ) (syn : Bool) → Comes t x → x.control ≡ Syn → x.ack ≡ Some n → (n + (2 ^ 32 - c.una)) % 2 ^ 32 ≡ 1 → syn ≡ false
+    → IsAsking c (unsent s) → HoldsBetween s t → Tied (asked_core c In.Established ((c.una + 1) % 2 ^ 32) syn past_iss (c.top - 1) x.seq) (past_of s) t
+takes_syn_ack c s t x n past_iss syn comes control number distance no_syn k holds =
     let nothing = no_stream s t SynSent holds k.phase tt in
     let active : s.opening ≡ Active = (law.fits_at s SynSent holds.0.well_formed k.phase).0 in
     let reached = (acked t s x n (subst IsNoReset (sym control) tt) number (honest t s x holds.1 comes)).same in
@@ -142,7 +144,8 @@ takes_syn_ack c s t x n syn comes control number distance no_syn k holds =
     let no_fin = ap one_if nothing.2 in
     let no_fin_taken = ap one_if nothing.3 in
     let acked_syn = ap one_if no_syn in
-    let k' : IsConnectedAs (asked_core c In.Established ((c.una + 1) % 2 ^ 32) syn x.seq) (unsent (after s (TakesSynAck x))) = record {
+    let top = k.top in
+    let k' : IsConnectedAs (asked_core c In.Established ((c.una + 1) % 2 ^ 32) syn past_iss (c.top - 1) x.seq) (unsent (after s (TakesSynAck x))) = record {
       once = λ e. absurd (let clash : Active ≡ NotYet = sym active ∙ e in cc);
       phase = refl;
       closed = nothing.2;
@@ -153,6 +156,8 @@ takes_syn_ack c s t x n syn comes control number distance no_syn k holds =
       syn = omega arith;
       opened = inl no_syn;
       unopened = λ e. absurd (cc);
+      past_iss = λ e. absurd (let clash : false ≡ true = sym no_syn ∙ e in cc);
+      top = omega arith;
       end = omega arith;
       next = omega arith;
       queue = k.queue ∙ sym (ap (λ (bytes : List ℕ). drop (suc s.iss - suc s.iss) bytes) nothing.0 ∙ lists.drop-nothing (suc s.iss - suc s.iss));
@@ -166,7 +171,7 @@ takes_syn_ack c s t x n syn comes control number distance no_syn k holds =
 
 takes_crossed_syn :
     (c : Core) (s t : Side) (x : Segment) → Comes t x → x.control ≡ Syn → x.ack ≡ None
-    → IsAsking c (unsent s) → HoldsBetween s t → Tied (asked_core c In.SynReceived c.una c.syn_unacked x.seq) (past_of s) t
+    → IsAsking c (unsent s) → HoldsBetween s t → Tied (asked_core c In.SynReceived c.una c.syn_unacked c.past_iss c.top x.seq) (past_of s) t
 takes_crossed_syn c s t x comes control bare k holds =
     let nothing = no_stream s t SynSent holds k.phase tt in
     let active : s.opening ≡ Active = (law.fits_at s SynSent holds.0.well_formed k.phase).0 in
@@ -177,7 +182,8 @@ takes_crossed_syn c s t x comes control bare k holds =
     let no_fin = ap one_if nothing.2 in
     let no_fin_taken = ap one_if nothing.3 in
     let unacked = ap one_if k.syn_unacked in
-    let k' : IsConnectedAs (asked_core c In.SynReceived c.una c.syn_unacked x.seq) (unsent (after s (TakesCrossedSyn x))) = record {
+    let top = k.top in
+    let k' : IsConnectedAs (asked_core c In.SynReceived c.una c.syn_unacked c.past_iss c.top x.seq) (unsent (after s (TakesCrossedSyn x))) = record {
       once = λ e. absurd (let clash : Active ≡ NotYet = sym active ∙ e in cc);
       phase = refl;
       closed = nothing.2;
@@ -188,6 +194,8 @@ takes_crossed_syn c s t x comes control bare k holds =
       syn = omega arith;
       opened = inr refl;
       unopened = λ e. k.syn_unacked;
+      past_iss = λ e. k.past_iss;
+      top = omega arith;
       end = omega arith;
       next = omega arith;
       queue = k.queue ∙ sym (ap (λ (bytes : List ℕ). drop (s.una - suc s.iss) bytes) nothing.0 ∙ lists.drop-nothing (s.una - suc s.iss));
@@ -210,8 +218,9 @@ led_syn_ack v header bytes now p t None comes e syn number some acks r = absurd 
 led_syn_ack v header bytes now p t (Some n) comes e syn number some acks r =
     let k = asking_state v p t e r in
     let no_syn = and_zero v.block.sender.syn_unacked in
-    subst (λ (p : Past). Tied (asked_core (core_of v) In.Established ((v.block.sender.una.0 + 1) % 2 ^ 32) (v.block.sender.syn_unacked && (1 == 0)) header.seq_number.0) p t) r.past
-    (takes_syn_ack (core_of v) r.side t (segment_of header bytes) n.0 (v.block.sender.syn_unacked && (1 == 0)) comes (syn_control header.control syn) (ap ack_of number)
+    subst (λ (p : Past). Tied (asked_core (core_of v) In.Established ((v.block.sender.una.0 + 1) % 2 ^ 32) (v.block.sender.syn_unacked && (1 == 0)) (min (v.block.sender.past_iss + 1) 4_294_967_295)
+    (v.block.sender.top - 1) header.seq_number.0) p t) r.past
+    (takes_syn_ack (core_of v) r.side t (segment_of header bytes) n.0 (min (v.block.sender.past_iss + 1) 4_294_967_295) (v.block.sender.syn_unacked && (1 == 0)) comes (syn_control header.control syn) (ap ack_of number)
     (eqb-true (distance_of v.block.sender.una n) 1 acks) no_syn k r.holds)
   where
     and_zero : (test : Bool) → (test && (1 == 0)) ≡ false
@@ -226,7 +235,7 @@ led_syn cx v header bytes p t comes e syn good r =
     cond_both (is_some header.ack_number) (connected v.block header cx.moment) (crossed v.block header) (λ (b : Block). Tied (core_of (with_block v b)) p t)
     (λ some. led_syn_ack v header bytes cx.moment p t header.ack_number comes e syn refl some (acknowledges some (and_cases (is_some header.ack_number) (not (acks_syn v.block.sender.una header.ack_number)) good)) r)
     (λ none.
-    subst (λ (p : Past). Tied (asked_core (core_of v) In.SynReceived v.block.sender.una.0 v.block.sender.syn_unacked header.seq_number.0) p t) r.past
+    subst (λ (p : Past). Tied (asked_core (core_of v) In.SynReceived v.block.sender.una.0 v.block.sender.syn_unacked v.block.sender.past_iss v.block.sender.top header.seq_number.0) p t) r.past
     (takes_crossed_syn (core_of v) r.side t (segment_of header bytes) comes (syn_control header.control syn) (no_number_of header.ack_number none) (asking_state v p t e r) r.holds))
   where
     acknowledges :
@@ -306,11 +315,20 @@ falls_back_to v s t answers listens k holds =
     ∙ ap (λ (b : Bool). record { opening = s.opening; written = s.written; read = s.read; closed = b; sent = s.sent }) (sym open_yet))) in
     tied_by _ (past_of s) s t FallsBack holds (phase, passive) same l
 
-pub tied_down : (v : TcpValue) (p : Past) (t : Side) → is_connected v.block.state ≡ true → Tied (core_of v) p t → Tied (core_of (taken_down v)) p t
-tied_down v p t connected r =
-    cond_both (falls_back v.block) (calls.listening v v.block.names.listen) (ended v) (λ (v : TcpValue). Tied (core_of v) p t)
-    (λ e.
+answering_connected : (state : State) → is_answering state ≡ true → is_connected state ≡ true
+answering_connected In.SynReceived e = refl
+answering_connected other e = absurd (cc)
+
+-- a listener whose connection isn't there yet listens again
+pub tied_back : (v : TcpValue) (p : Past) (t : Side) → falls_back v.block ≡ true → Tied (core_of v) p t → Tied (core_of (calls.listening v v.block.names.listen)) p t
+tied_back v p t e r =
     let tests = and_parts (is_answering v.block.state) (not (v.block.names.listen.port == 0)) e in
     subst (λ (p : Past). Tied (core_of (calls.listening v v.block.names.listen)) p t) r.past
-    (falls_back_to v r.side t tests.0 (not-true (v.block.names.listen.port == 0) tests.1) (fits_connected v.block.state (core_of v) (unsent r.side) connected r.fits) r.holds))
+    (falls_back_to v r.side t tests.0 (not-true (v.block.names.listen.port == 0) tests.1)
+    (fits_connected v.block.state (core_of v) (unsent r.side) (answering_connected v.block.state tests.0) r.fits) r.holds)
+
+pub tied_down : (v : TcpValue) (p : Past) (t : Side) → Tied (core_of v) p t → Tied (core_of (taken_down v)) p t
+tied_down v p t r =
+    cond_both (falls_back v.block) (calls.listening v v.block.names.listen) (ended v) (λ (v : TcpValue). Tied (core_of v) p t)
+    (λ e. tied_back v p t e r)
     (λ _. tied_ended v p t r)

@@ -17,9 +17,10 @@ use Rattle.tcp_law.proofs.Calls as law
 use Rattle.tcp_model.specs.declared.block.Block.{Block}
 use Rattle.tcp_model.specs.State.{State}
 use Rattle.tcp_model.specs.Answers.{acked, drawn, with_draw, may_draw, answer_for, range_held}
-use Rattle.tcp_model.specs.Arrival.{finished, timers_moved}
+use Rattle.tcp_model.specs.Arrival.{with_content}
 use Rattle.tcp_model.specs.Controls.{is_syn, is_fin, is_rst}
 use Rattle.tcp_model.specs.Offsets.{past_by, before_by}
+use Rattle.tcp_model.specs.Probing.{probe_kept}
 use Rattle.tcp_model.specs.States.{takes_text, after_fin}
 use Rattle.tcp_model.specs.Text.{Texted, texted, laid, held_early, taken_in_order, with_bytes_at, has_new_text, with_text, is_at_fin, takes_fin, fin_taken, with_fin}
 use Rattle.tcp_model.specs.Value.{TcpValue, Arrived, with_block, dropped, queued_in, free_in, received_of}
@@ -58,7 +59,7 @@ fin_control other e = absurd (cc)
 pub led_acked :
     (cx : ContextValue) (v : TcpValue) (ip : IpRepr) (header : TcpHeader) (range : Option (ℕ × ℕ)) (p : Past) (t : Side) → is_connected v.block.state ≡ true
     → Tied (core_of v) p t → Led p t (acked cx v ip header range)
-led_acked cx v ip header range p t connected r = sends_ack (core_of v) p t v.block.sender.in_flight connected r
+led_acked cx v ip header range p t connected r = sends_ack (core_of v) p t v.block.sender.top connected r
 
 pub led_drawn :
     (cx : ContextValue) (v : TcpValue) (ip : IpRepr) (header : TcpHeader) (p : Past) (t : Side) → is_connected v.block.state ≡ true
@@ -68,10 +69,10 @@ led_drawn cx v ip header p t connected r =
     (λ _. led_acked cx (with_draw v cx.moment) ip header None p t connected r) (λ _. r)
 
 led_answer :
-    (cx : ContextValue) (v : TcpValue) (ip : IpRepr) (header : TcpHeader) (size : ℕ) (early : Option ℕ) (p : Past) (t : Side) → is_connected v.block.state ≡ true
-    → Tied (core_of v) p t → Led p t (answer_for cx v ip header size early)
-led_answer cx v ip header size (Some place) p t connected r = led_acked cx v ip header (range_held v place) p t connected r
-led_answer cx v ip header size None p t connected r = r
+    (cx : ContextValue) (v : TcpValue) (ip : IpRepr) (header : TcpHeader) (size : ℕ) (fills : Bool) (early : Option ℕ) (p : Past) (t : Side) → is_connected v.block.state ≡ true
+    → Tied (core_of v) p t → Led p t (answer_for cx v ip header size fills early)
+led_answer cx v ip header size fills (Some place) p t connected r = led_acked cx v ip header (range_held v place) p t connected r
+led_answer cx v ip header size fills None p t connected r = r
 
 -- TEXT
 
@@ -90,7 +91,7 @@ same_next : (n : ℕ) → n < 2 ^ 32 → n ≡ (n + 0) % 2 ^ 32
 same_next n small = omega arith
 
 texted_none :
-    (v : TcpValue) (early : Option ℕ) (p : Past) (t : Side) → is_connected v.block.state ≡ true → Tied (core_of v) p t → IsTexted (core_of v) p t (texted v 0 early)
+    (v : TcpValue) (early : Option ℕ) (p : Past) (t : Side) → is_connected v.block.state ≡ true → Tied (core_of v) p t → IsTexted (core_of v) p t (texted v 0 false early)
 texted_none v early p t connected r =
     let small = next_small (core_of v) p t connected r in
     record { tied = r; state = refl; syn = refl; small = small; next = same_next v.block.receiver.next.0 small }
@@ -158,15 +159,15 @@ module _ (v : TcpValue) (header : TcpHeader) (bytes : List ℕ) (p : Past) (t : 
       move v.block.receiver.next.0 v.received.waiting map_with takes some still
       (sym (append-nil v.received.waiting) ∙ ap (λ (more : List ℕ). v.received.waiting ++ more) (sym gap)) (sym (behind-gap map_with gap)) in
       cond_both (nat_le (length (runs_of map_with)) 4)
-      (texted (record v { received = received_of v.received.waiting map_with v.received.start }) 0 (Some past))
-      (texted v 0 None)
+      (texted (record v { received = received_of v.received.waiting map_with v.received.start }) 0 false (Some past))
+      (texted v 0 false None)
       (λ (x : Texted). IsTexted (core_of v) p t x)
       (λ _. record { tied = held; state = refl; syn = refl; small = small; next = same_next v.block.receiver.next.0 small })
       (λ _. texted_none v None p t connected r)
 
   pub texts : IsTexted (core_of v) p t (with_text v header bytes)
   texts =
-      cond_both (takes_text v.block.state && has_new_text v past (drop before bytes)) (with_bytes_at v past (drop before bytes)) (texted v 0 None)
+      cond_both (takes_text v.block.state && has_new_text v past (drop before bytes)) (with_bytes_at v past (drop before bytes)) (texted v 0 false None)
       (λ (x : Texted). IsTexted (core_of v) p t x)
       (λ both.
       let tests = and_parts (takes_text v.block.state) (has_new_text v past (drop before bytes)) both in
@@ -217,13 +218,13 @@ fins old x header bytes now p t comes connected acked texted =
     (λ _. (texted.tied, ap is_connected texted.state ∙ connected))
 
 -- text, FIN and answer
-pub led_finished :
+pub led_content :
     (cx : ContextValue) (v : TcpValue) (ip : IpRepr) (header : TcpHeader) (bytes : List ℕ) (p : Past) (t : Side) → Comes t (segment_of header bytes)
     → IsData (control_of header.control) → is_connected v.block.state ≡ true → v.block.sender.syn_unacked ≡ false → Tied (core_of v) p t
-    → Led p t (finished cx v.block (with_text v header bytes) ip header (length bytes))
-led_finished cx v ip header bytes p t comes kind connected acked r =
+    → Led p t (with_content cx v ip header bytes)
+led_content cx v ip header bytes p t comes kind connected acked r =
     let done = fins v (with_text v header bytes) header bytes cx.moment p t comes connected acked (texts v header bytes p t comes kind connected r) in
     led_answer cx
     (with_block (with_text v header bytes).socket
-    (timers_moved (with_fin (with_text v header bytes).socket.block v.block header (length bytes) (with_text v header bytes).advance cx.moment) cx.moment (queued_in (with_text v header bytes).socket)))
-    ip header (length bytes) (with_text v header bytes).early p t done.1 done.0
+    (probe_kept (with_fin (with_text v header bytes).socket.block v.block header (length bytes) (with_text v header bytes).advance cx.moment) (queued_in (with_text v header bytes).socket)))
+    ip header (length bytes) (with_text v header bytes).fills (with_text v header bytes).early p t done.1 done.0

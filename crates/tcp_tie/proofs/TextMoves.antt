@@ -110,6 +110,8 @@ takes_bytes c s t x past before next waiting laid_map map comes kind test place 
       syn = k.syn;
       opened = k.opened;
       unopened = k.unopened;
+      past_iss = k.past_iss;
+      top = k.top;
       end = k.end;
       next = omega arith;
       queue = k.queue;
@@ -150,6 +152,7 @@ takes_fin c s t x comes fin test acked place fits holds =
     let open_yet = ap one_if (k.side_finished ∙ state.finished) in
     let was = k.next in
     let end = k.end in
+    let top = k.top in
     let owes = ap one_if new.owes in
     let may : MayTakeFin s t x = record {
       running = k.phase ∙ state.phase;
@@ -169,6 +172,8 @@ takes_fin c s t x comes fin test acked place fits holds =
       syn = k.syn;
       opened = inl acked;
       unopened = λ e. absurd (let clash : Synchronized ≡ SynReceived = sym new.phase ∙ e in cc);
+      past_iss = k.past_iss;
+      top = omega arith;
       end = omega arith;
       next = omega arith;
       queue = k.queue;

@@ -1,12 +1,15 @@
 -- Which segments are acceptable (RFC 9293, 3.4 and 3.10.7), in positions.
-use Rattle.std.specs.Prelude.{◌≡◌, ◌⊎◌, ℕ, zero, suc, ◌+◌, ◌<◌, ◌≤◌, Bool, false, length, List}
+use Rattle.std.specs.Prelude.{◌≡◌, ◌⊎◌, ℕ, zero, suc, ◌+◌, ◌<◌, ◌≤◌, ◌==◌, Bool, false}
+use Rattle.ip_wire.specs.IpRepr.{IpRepr}
 use Rattle.ip_wire.specs.TcpHeader.{TcpHeader}
+use Rattle.socket_base.specs.Context.{ContextValue}
 use Rattle.tcp_model.specs.declared.block.Block.{Block}
 use Rattle.tcp_model.specs.State.{State}
 use Rattle.tcp_model.specs.State.TheVariants as In
-use Rattle.tcp_model.specs.Checks.{is_in_window}
+use Rattle.tcp_model.specs.Answers.{drawn}
 use Rattle.tcp_model.specs.Opening.{acks_syn}
-use Rattle.tcp_model.specs.Value.{TcpValue, free_in}
+use Rattle.tcp_model.specs.Value.{TcpValue, Arrived, dropped, unoffered}
+use Rattle.tcp_tie.specs.Tie.{core_of}
 
 -- A segment of so many positions from `at` on meets a window of so much space from RCV.NXT on: without length at RCV.NXT or inside
 -- the window; else one of its positions lies inside. So none that has length meets a closed window.
@@ -14,12 +17,19 @@ abbrev pub Meets : ℕ → ℕ → ℕ → ℕ → Type 0
 Meets next at zero space = (at ≡ next) ⊎ ((next ≤ at) × (at < next + space))
 Meets next at (suc more) space = (p : ℕ) × (at ≤ p) × (p ≤ at + more) × (next ≤ p) × (p < next + space)
 
--- A reset counts in SYN-SENT if it acknowledges the SYN, and from SYN-RECEIVED on in the window; never before.
-abbrev pub reset_counts_in : State → Block → ℕ → TcpHeader → ℕ → Bool
-reset_counts_in In.Closed b space header size = false
-reset_counts_in In.Listen b space header size = false
-reset_counts_in In.SynSent b space header size = acks_syn b.sender.una header.ack_number
-reset_counts_in state b space header size = is_in_window b space header size
+-- A reset counts in SYN-SENT if it acknowledges the SYN, and from SYN-RECEIVED on at RCV.NXT alone (RFC 5961, 3.2); never before, and
+-- not in TIME-WAIT.
+abbrev pub reset_counts_in : State → Block → TcpHeader → Bool
+reset_counts_in In.Closed b header = false
+reset_counts_in In.Listen b header = false
+reset_counts_in In.SynSent b header = acks_syn b.sender.una header.ack_number
+reset_counts_in In.TimeWait b header = false
+reset_counts_in state b header = b.receiver.next.0 == header.seq_number.0
 
-abbrev pub reset_counts : TcpValue → TcpHeader → List ℕ → Bool
-reset_counts v header bytes = reset_counts_in v.block.state v.block (free_in v) header (length bytes)
+abbrev pub reset_counts : TcpValue → TcpHeader → Bool
+reset_counts v header = reset_counts_in v.block.state v.block header
+
+-- Any other changes nothing but when an answer may be drawn and when an acknowledgement is due: whoever sent it may draw one.
+pub record IsIgnored (cx : ContextValue) (v : TcpValue) (ip : IpRepr) (header : TcpHeader) (a : Arrived) : Type 0 where
+  pub core : core_of a.socket ≡ core_of v
+  pub answer : (a ≡ dropped (unoffered v)) ⊎ (a ≡ drawn cx (unoffered v) ip header)

@@ -73,6 +73,10 @@ pub record FallsBack (old new : Block) : Type 0 where
 abbrev pub KeepsOrForgets : Block → Block → Type 0
 KeepsOrForgets old new = KeepsNames old new ⊎ Forgets new
 
+-- when it is asked for a segment: the names stay, or are forgotten, or it gives up, which takes a listener back
+abbrev pub IsLeftBy : Block → Block → Type 0
+IsLeftBy old new = FallsBack old new ⊎ KeepsOrForgets old new
+
 -- when a segment comes
 abbrev pub IsRenamed : IpRepr → TcpHeader → Block → Block → Type 0
 IsRenamed ip header old new = IsOpenedBy ip header old new ⊎ (FallsBack old new ⊎ KeepsOrForgets old new)

@@ -1,5 +1,5 @@
 -- A socket is a side of the written machine: which side goes with a socket, and what its user and the network saw of it.
-use Rattle.std.specs.Prelude.{◌≡◌, ◌≢◌, ◌⊎◌, ℕ, suc, ◌+◌, ◌-◌, ◌==◌, Bool, true, false, List, [], length, Option, Some, None}
+use Rattle.std.specs.Prelude.{◌≡◌, ◌≢◌, ◌⊎◌, ℕ, suc, ◌+◌, ◌-◌, ◌≤◌, ◌==◌, Bool, true, false, List, [], length, Option, Some, None}
 use Rattle.ip_wire.specs.SeqNumber.{SeqNumber}
 use Rattle.ip_wire.specs.TcpControl.{TcpControl}
 use Rattle.ip_wire.specs.TcpControl.TheVariants as Bits
@@ -62,6 +62,8 @@ pub record Core : Type 0 where
   pub pair : Option EndpointPair
   pub una : ℕ
   pub syn_unacked : Bool
+  pub past_iss : ℕ
+  pub top : ℕ
   pub next : ℕ
   pub took_syn : Bool
   pub took_fin : Bool
@@ -76,6 +78,8 @@ core_of v = record {
   pair = v.block.names.pair;
   una = v.block.sender.una.0;
   syn_unacked = v.block.sender.syn_unacked;
+  past_iss = v.block.sender.past_iss;
+  top = v.block.sender.top;
   next = v.block.receiver.next.0;
   took_syn = v.block.receiver.took_syn;
   took_fin = v.block.receiver.took_fin;
@@ -122,6 +126,8 @@ pub record IsAsking (c : Core) (s : Side) : Type 0 where
   pub phase : s.phase ≡ SynSent
   pub una : c.una ≡ wire s.una
   pub syn_unacked : c.syn_unacked ≡ true
+  pub past_iss : c.past_iss ≡ 0
+  pub top : c.top ≤ 1
   pub first : s.una ≡ s.iss
   pub alone : c.took_syn ≡ false
   pub unfinished : c.took_fin ≡ false
@@ -164,6 +170,8 @@ pub record IsConnectedAs (c : Core) (s : Side) : Type 0 where
   pub syn : one_if c.syn_unacked ≡ suc s.iss - s.una
   pub opened : (c.syn_unacked ≡ false) ⊎ (sends_syn c.state ≡ true)
   pub unopened : phase_of c.state ≡ SynReceived → c.syn_unacked ≡ true
+  pub past_iss : c.syn_unacked ≡ true → c.past_iss ≡ 0
+  pub top : c.top ≤ one_if c.syn_unacked + length c.queue + one_if (owes_fin c.state)
   pub end : s.una + (one_if c.syn_unacked + length c.queue + one_if (owes_fin c.state)) ≡ send_end s
   pub next : c.next ≡ wire (rcv_next s)
   pub queue : c.queue ≡ send_queue s

@@ -1,6 +1,6 @@
 //! Which segments are acceptable, and how much a socket sends at once.
 
-ghost use Rattle.std.specs.Prelude.{◌≡◌, ◌↔◌, ◌+◌, ◌-◌, ◌^◌, ◌≤◌, ℕ, true, false, List};
+ghost use Rattle.std.specs.Prelude.{◌≡◌, ◌↔◌, ◌+◌, ◌-◌, ◌^◌, ◌≤◌, ℕ, max, true, false, List};
 ghost use Rattle.ip_wire.specs.IpRepr.{IpRepr};
 ghost use Rattle.ip_wire.specs.TcpHeader.{TcpHeader};
 ghost use Rattle.net_base.specs.Ring.{Ring};
@@ -15,8 +15,8 @@ ghost use Rattle.tcp_model.specs.Controls.{is_rst};
 ghost use Rattle.tcp_model.specs.Endpoints.{ip_header_len};
 ghost use Rattle.tcp_model.specs.Rules.{text_choice, resend_choice, stamp_len};
 ghost use Rattle.tcp_model.specs.Segments.{segment_len};
-ghost use Rattle.tcp_model.specs.Value.{TcpValue, dropped, unoffered};
-ghost use Rattle.tcp_tie.specs.Acceptance.{Meets, reset_counts};
+ghost use Rattle.tcp_model.specs.Value.{TcpValue};
+ghost use Rattle.tcp_tie.specs.Acceptance.{Meets, reset_counts, IsIgnored};
 
 /// The window test is that of RFC 9293, 3.4, whatever positions have these numbers.
 #[tactic(auto, using(crate::proofs::AcceptLaws::window_meets))]
@@ -26,16 +26,17 @@ pub fn segments_meet_the_window()
         → (is_in_window b space header size ≡ true) ↔ Meets next at (segment_len header size) space }
 {}
 
-/// A reset that doesn't count changes nothing, and isn't answered.
+/// A reset that doesn't count changes nothing but when an answer may be drawn again: it is dropped, or draws an acknowledgement. So past
+/// SYN-RECEIVED none does whose number isn't RCV.NXT, wherever in the window it lies.
 #[tactic(auto, using(crate::proofs::AcceptLaws::reset_ignored))]
 pub fn other_resets_are_ignored()
     ensures ignored { (cx : ContextValue) (v : TcpValue) (ip : IpRepr) (header : TcpHeader) (bytes : List ℕ)
-        → is_rst header.control ≡ true → reset_counts v header bytes ≡ false
-        → arrives cx v ip header bytes ≡ dropped (unoffered v) }
+        → is_rst header.control ≡ true → reset_counts v header ≡ false
+        → IsIgnored cx v ip header (arrives cx v ip header bytes) }
 {}
 
-/// Text keeps to the remote's window and to the congestion window; it and what goes again keep to the remote's largest payload, and to
-/// the longest packet where that holds the headers.
+/// Text keeps to the remote's window and to the congestion window; it and what goes again keep to the remote's largest payload less the
+/// options that the segment carries, and to the longest packet where that holds the headers, but a byte always fits.
 #[tactic(auto, using(crate::proofs::AcceptLaws::text_in_window, crate::proofs::AcceptLaws::text_in_congestion, crate::proofs::AcceptLaws::text_in_mss, crate::proofs::AcceptLaws::text_in_packet, crate::proofs::AcceptLaws::again_in_mss, crate::proofs::AcceptLaws::again_in_packet))]
 pub fn text_keeps_to_the_limits()
     ensures remote { (b : Block) (addresses : AddressPair) (mtu : ℕ) (queued : Ring ℕ)
@@ -44,11 +45,11 @@ pub fn text_keeps_to_the_limits()
         → b.settings.congestion_control ≡ Congestion.Reno
         → (text_choice b addresses mtu queued).len ≤ b.reno.cwnd - b.sender.in_flight }
     ensures payload { (b : Block) (addresses : AddressPair) (mtu : ℕ) (queued : Ring ℕ)
-        → (text_choice b addresses mtu queued).len ≤ b.peer.mss }
+        → (text_choice b addresses mtu queued).len ≤ max 1 (b.peer.mss - stamp_len b) }
     ensures packet { (b : Block) (addresses : AddressPair) (mtu : ℕ) (queued : Ring ℕ)
-        → (text_choice b addresses mtu queued).len ≤ mtu - (ip_header_len addresses + 20 + stamp_len b) }
+        → (text_choice b addresses mtu queued).len ≤ max 1 (mtu - (ip_header_len addresses + 20 + stamp_len b)) }
     ensures payload_again { (b : Block) (addresses : AddressPair) (mtu : ℕ) (queued : Ring ℕ)
-        → (resend_choice b addresses mtu queued).len ≤ b.peer.mss }
+        → (resend_choice b addresses mtu queued).len ≤ max 1 (b.peer.mss - stamp_len b) }
     ensures packet_again { (b : Block) (addresses : AddressPair) (mtu : ℕ) (queued : Ring ℕ)
-        → (resend_choice b addresses mtu queued).len ≤ mtu - (ip_header_len addresses + 20 + stamp_len b) }
+        → (resend_choice b addresses mtu queued).len ≤ max 1 (mtu - (ip_header_len addresses + 20 + stamp_len b)) }
 {}

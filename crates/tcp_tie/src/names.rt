@@ -22,7 +22,7 @@ ghost use Rattle.tcp_model.specs.Segments.{rst_reply};
 ghost use Rattle.tcp_model.specs.Settled.{settled};
 ghost use Rattle.tcp_model.specs.Value.{TcpValue, dropped, unoffered};
 ghost use Rattle.tcp_tie.specs.Tie.{core_of, segment_of};
-ghost use Rattle.tcp_tie.specs.Endpoints.{IsFor, GoesBetween, GoesBack, KeepsNames, KeepsOrForgets, IsRenamed, Ports, HasPorts, IsNameless};
+ghost use Rattle.tcp_tie.specs.Endpoints.{IsFor, GoesBetween, GoesBack, KeepsOrForgets, IsLeftBy, IsRenamed, Ports, HasPorts, IsNameless};
 
 /// A socket takes a segment only where both its ports are the socket's: in LISTEN the port that it listens on, later both endpoints.
 #[tactic(auto, using(crate::proofs::NameLaws::accepted))]
@@ -30,8 +30,8 @@ pub fn accepted_segments_are_for_the_socket()
     ensures accepted { (b : Block) (ip : IpRepr) (header : TcpHeader) → accepts b ip header ≡ true → IsFor b ip header }
 {}
 
-/// Of the calls only an OPEN names a socket, and only a close may forget the names.
-#[tactic(auto, using(crate::proofs::NameLaws::close_names))]
+/// Of the calls only an OPEN names a socket, and only a close or an abort may forget the names.
+#[tactic(auto, using(crate::proofs::NameLaws::close_names, crate::proofs::NameLaws::abort_names))]
 pub fn calls_name_a_socket()
     ensures listens { (v : TcpValue) (endpoint : IpListenEndpoint)
         → (listening v endpoint).block.names ≡ record { listen = endpoint; pair = None } }
@@ -40,7 +40,7 @@ pub fn calls_name_a_socket()
     ensures sends { (v : TcpValue) (queued : Ring ℕ) → (sent_more v queued).block ≡ v.block }
     ensures reads { (v : TcpValue) (count : ℕ) → (recv_after v count).block ≡ v.block }
     ensures closes { (v : TcpValue) → KeepsOrForgets v.block (close_after v).block }
-    ensures aborts { (v : TcpValue) → KeepsNames v.block (abort_after v).block }
+    ensures aborts { (v : TcpValue) → KeepsOrForgets v.block (abort_after v).block }
 {}
 
 /// When a segment comes, the endpoints stay, or are forgotten; or a listener takes the segment's, or loses them again. What answers
@@ -53,15 +53,16 @@ pub fn arrivals_rename_a_socket()
         → (arrives cx v ip header bytes).answer ≡ Some reply → GoesBack ip header reply }
 {}
 
-/// What a socket offers goes between the endpoints of its pair; and with its settling they stay, or are forgotten.
+/// What a socket offers goes between the endpoints of its pair; and with its settling they stay, or are forgotten, or a listener that
+/// gives up listens again.
 #[tactic(auto, using(crate::proofs::NameLaws::offer_between_ends, crate::proofs::NameLaws::sent_names, crate::proofs::NameLaws::withheld_names))]
 pub fn offers_go_between_the_endpoints()
     ensures offered { (cx : ContextValue) (v : TcpValue) (o : OpenOffer) → (offer_of cx v).socket.offered ≡ Some o
         → (pair : EndpointPair) × (v.block.names.pair ≡ Some pair) × GoesBetween pair o }
     ensures sent { (cx : ContextValue) (v : TcpValue)
-        → KeepsOrForgets v.block (settled true (offer_of cx v).socket).block }
+        → IsLeftBy v.block (settled true (offer_of cx v).socket).block }
     ensures withheld { (cx : ContextValue) (v : TcpValue)
-        → KeepsOrForgets v.block (settled false (offer_of cx v).socket).block }
+        → IsLeftBy v.block (settled false (offer_of cx v).socket).block }
 {}
 
 /// A host answers a segment that no socket takes by a reset, back to where it came from.

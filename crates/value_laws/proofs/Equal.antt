@@ -181,26 +181,33 @@ Decides-names a b =
 pub Decides-sender : (a b : Sender) → Decides (Sending.ghosts.eq a b) (a ≡ b)
 Decides-sender a b =
     let from_stamped = Decides-and _ _ (booleans_Decides a.stamped b.stamped) (booleans_Decides a.reset_due b.reset_due) in
-    let from_resend = Decides-and _ _ (booleans_Decides a.resend b.resend) (from_stamped) in
-    let from_duplicates = Decides-and _ _ (Decides-eqb a.duplicates b.duplicates) (from_resend) in
-    let from_in_flight = Decides-and _ _ (Decides-eqb a.in_flight b.in_flight) (from_duplicates) in
+    let from_unanswered = Decides-and _ _ (Decides-eqb a.unanswered b.unanswered) (from_stamped) in
+    let from_timeouts = Decides-and _ _ (Decides-eqb a.timeouts b.timeouts) (from_unanswered) in
+    let from_syn_lost = Decides-and _ _ (booleans_Decides a.syn_lost b.syn_lost) (from_timeouts) in
+    let from_resend = Decides-and _ _ (booleans_Decides a.resend b.resend) (from_syn_lost) in
+    let from_sacked = Decides-and _ _ (Decides-eqb a.sacked b.sacked) (from_resend) in
+    let from_duplicates = Decides-and _ _ (Decides-eqb a.duplicates b.duplicates) (from_sacked) in
+    let from_top = Decides-and _ _ (Decides-eqb a.top b.top) (from_duplicates) in
+    let from_in_flight = Decides-and _ _ (Decides-eqb a.in_flight b.in_flight) (from_top) in
     let from_syn_unacked = Decides-and _ _ (booleans_Decides a.syn_unacked b.syn_unacked) (from_in_flight) in
-    let all = Decides-and _ _ (Decides-number a.una b.una) (from_syn_unacked) in (
+    let from_past_iss = Decides-and _ _ (Decides-eqb a.past_iss b.past_iss) (from_syn_unacked) in
+    let all = Decides-and _ _ (Decides-number a.una b.una) (from_past_iss) in (
       λ yes.
           let parts = all.0 yes in
-          λ i. record { una = parts.0 i; syn_unacked = parts.1.0 i; in_flight = parts.1.1.0 i; duplicates = parts.1.1.1.0 i; resend = parts.1.1.1.1.0 i; stamped = parts.1.1.1.1.1.0 i; reset_due = parts.1.1.1.1.1.1 i },
-      λ e. all.1 (both (ap (λ (v : Sender). v.una) e) (both (ap (λ (v : Sender). v.syn_unacked) e) (both (ap (λ (v : Sender). v.in_flight) e) (both (ap (λ (v : Sender). v.duplicates) e) (both (ap (λ (v : Sender). v.resend) e) (both (ap (λ (v : Sender). v.stamped) e) (ap (λ (v : Sender). v.reset_due) e))))))),
+          λ i. record { una = parts.0 i; past_iss = parts.1.0 i; syn_unacked = parts.1.1.0 i; in_flight = parts.1.1.1.0 i; top = parts.1.1.1.1.0 i; duplicates = parts.1.1.1.1.1.0 i; sacked = parts.1.1.1.1.1.1.0 i; resend = parts.1.1.1.1.1.1.1.0 i; syn_lost = parts.1.1.1.1.1.1.1.1.0 i; timeouts = parts.1.1.1.1.1.1.1.1.1.0 i; unanswered = parts.1.1.1.1.1.1.1.1.1.1.0 i; stamped = parts.1.1.1.1.1.1.1.1.1.1.1.0 i; reset_due = parts.1.1.1.1.1.1.1.1.1.1.1.1 i },
+      λ e. all.1 (both (ap (λ (v : Sender). v.una) e) (both (ap (λ (v : Sender). v.past_iss) e) (both (ap (λ (v : Sender). v.syn_unacked) e) (both (ap (λ (v : Sender). v.in_flight) e) (both (ap (λ (v : Sender). v.top) e) (both (ap (λ (v : Sender). v.duplicates) e) (both (ap (λ (v : Sender). v.sacked) e) (both (ap (λ (v : Sender). v.resend) e) (both (ap (λ (v : Sender). v.syn_lost) e) (both (ap (λ (v : Sender). v.timeouts) e) (both (ap (λ (v : Sender). v.unanswered) e) (both (ap (λ (v : Sender). v.stamped) e) (ap (λ (v : Sender). v.reset_due) e))))))))))))),
     )
 
 pub Decides-receiver : (a b : Receiver) → Decides (Receiving.ghosts.eq a b) (a ≡ b)
 Decides-receiver a b =
-    let from_took_fin = Decides-and _ _ (booleans_Decides a.took_fin b.took_fin) (Decides-eqb a.advertised b.advertised) in
+    let from_edge = Decides-and _ _ (Decides-eqb a.edge b.edge) (Decides-eqb a.mss b.mss) in
+    let from_took_fin = Decides-and _ _ (booleans_Decides a.took_fin b.took_fin) (from_edge) in
     let from_took_syn = Decides-and _ _ (booleans_Decides a.took_syn b.took_syn) (from_took_fin) in
     let all = Decides-and _ _ (Decides-number a.next b.next) (from_took_syn) in (
       λ yes.
           let parts = all.0 yes in
-          λ i. record { next = parts.0 i; took_syn = parts.1.0 i; took_fin = parts.1.1.0 i; advertised = parts.1.1.1 i },
-      λ e. all.1 (both (ap (λ (v : Receiver). v.next) e) (both (ap (λ (v : Receiver). v.took_syn) e) (both (ap (λ (v : Receiver). v.took_fin) e) (ap (λ (v : Receiver). v.advertised) e)))),
+          λ i. record { next = parts.0 i; took_syn = parts.1.0 i; took_fin = parts.1.1.0 i; edge = parts.1.1.1.0 i; mss = parts.1.1.1.1 i },
+      λ e. all.1 (both (ap (λ (v : Receiver). v.next) e) (both (ap (λ (v : Receiver). v.took_syn) e) (both (ap (λ (v : Receiver). v.took_fin) e) (both (ap (λ (v : Receiver). v.edge) e) (ap (λ (v : Receiver). v.mss) e))))),
     )
 
 pub Decides-peer : (a b : Peer) → Decides (Remote.ghosts.eq a b) (a ≡ b)
@@ -209,25 +216,29 @@ Decides-peer a b =
     let from_sack = Decides-and _ _ (booleans_Decides a.sack b.sack) (from_timestamps) in
     let from_scale = Decides-and _ _ (Decides-option (λ (x y : ℕ). x == y) Decides-eqb a.scale b.scale) (from_sack) in
     let from_mss = Decides-and _ _ (Decides-eqb a.mss b.mss) (from_scale) in
-    let all = Decides-and _ _ (Decides-eqb a.window b.window) (from_mss) in (
+    let from_window_ack = Decides-and _ _ (Decides-number a.window_ack b.window_ack) (from_mss) in
+    let from_window_seq = Decides-and _ _ (Decides-number a.window_seq b.window_seq) (from_window_ack) in
+    let from_largest_window = Decides-and _ _ (Decides-eqb a.largest_window b.largest_window) (from_window_seq) in
+    let all = Decides-and _ _ (Decides-eqb a.window b.window) (from_largest_window) in (
       λ yes.
           let parts = all.0 yes in
-          λ i. record { window = parts.0 i; mss = parts.1.0 i; scale = parts.1.1.0 i; sack = parts.1.1.1.0 i; timestamps = parts.1.1.1.1.0 i; recent = parts.1.1.1.1.1 i },
-      λ e. all.1 (both (ap (λ (v : Peer). v.window) e) (both (ap (λ (v : Peer). v.mss) e) (both (ap (λ (v : Peer). v.scale) e) (both (ap (λ (v : Peer). v.sack) e) (both (ap (λ (v : Peer). v.timestamps) e) (ap (λ (v : Peer). v.recent) e)))))),
+          λ i. record { window = parts.0 i; largest_window = parts.1.0 i; window_seq = parts.1.1.0 i; window_ack = parts.1.1.1.0 i; mss = parts.1.1.1.1.0 i; scale = parts.1.1.1.1.1.0 i; sack = parts.1.1.1.1.1.1.0 i; timestamps = parts.1.1.1.1.1.1.1.0 i; recent = parts.1.1.1.1.1.1.1.1 i },
+      λ e. all.1 (both (ap (λ (v : Peer). v.window) e) (both (ap (λ (v : Peer). v.largest_window) e) (both (ap (λ (v : Peer). v.window_seq) e) (both (ap (λ (v : Peer). v.window_ack) e) (both (ap (λ (v : Peer). v.mss) e) (both (ap (λ (v : Peer). v.scale) e) (both (ap (λ (v : Peer). v.sack) e) (both (ap (λ (v : Peer). v.timestamps) e) (ap (λ (v : Peer). v.recent) e))))))))),
     )
 
 pub Decides-timers : (a b : Timers) → Decides (Timed.ghosts.eq a b) (a ≡ b)
 Decides-timers a b =
     let from_time_wait_ends = Decides-and _ _ (Decides-option (λ (x y : ℤ). int_eq x y) Decides-int_eq a.time_wait_ends b.time_wait_ends) (Decides-option (λ (x y : ℤ). int_eq x y) Decides-int_eq a.timeout_since b.timeout_since) in
-    let from_draws_from = Decides-and _ _ (Decides-option (λ (x y : ℤ). int_eq x y) Decides-int_eq a.draws_from b.draws_from) (from_time_wait_ends) in
+    let from_counts_from = Decides-and _ _ (Decides-option (λ (x y : ℤ). int_eq x y) Decides-int_eq a.counts_from b.counts_from) (from_time_wait_ends) in
+    let from_draws_from = Decides-and _ _ (Decides-option (λ (x y : ℤ). int_eq x y) Decides-int_eq a.draws_from b.draws_from) (from_counts_from) in
     let from_text_unacked = Decides-and _ _ (booleans_Decides a.text_unacked b.text_unacked) (from_draws_from) in
     let from_ack_at = Decides-and _ _ (Decides-option (λ (x y : ℤ). int_eq x y) Decides-int_eq a.ack_at b.ack_at) (from_text_unacked) in
     let from_probe_at = Decides-and _ _ (Decides-option (λ (x y : ℤ). int_eq x y) Decides-int_eq a.probe_at b.probe_at) (from_ack_at) in
     let all = Decides-and _ _ (Decides-option (λ (x y : ℤ). int_eq x y) Decides-int_eq a.retransmit_at b.retransmit_at) (from_probe_at) in (
       λ yes.
           let parts = all.0 yes in
-          λ i. record { retransmit_at = parts.0 i; probe_at = parts.1.0 i; ack_at = parts.1.1.0 i; text_unacked = parts.1.1.1.0 i; draws_from = parts.1.1.1.1.0 i; time_wait_ends = parts.1.1.1.1.1.0 i; timeout_since = parts.1.1.1.1.1.1 i },
-      λ e. all.1 (both (ap (λ (v : Timers). v.retransmit_at) e) (both (ap (λ (v : Timers). v.probe_at) e) (both (ap (λ (v : Timers). v.ack_at) e) (both (ap (λ (v : Timers). v.text_unacked) e) (both (ap (λ (v : Timers). v.draws_from) e) (both (ap (λ (v : Timers). v.time_wait_ends) e) (ap (λ (v : Timers). v.timeout_since) e))))))),
+          λ i. record { retransmit_at = parts.0 i; probe_at = parts.1.0 i; ack_at = parts.1.1.0 i; text_unacked = parts.1.1.1.0 i; draws_from = parts.1.1.1.1.0 i; counts_from = parts.1.1.1.1.1.0 i; time_wait_ends = parts.1.1.1.1.1.1.0 i; timeout_since = parts.1.1.1.1.1.1.1 i },
+      λ e. all.1 (both (ap (λ (v : Timers). v.retransmit_at) e) (both (ap (λ (v : Timers). v.probe_at) e) (both (ap (λ (v : Timers). v.ack_at) e) (both (ap (λ (v : Timers). v.text_unacked) e) (both (ap (λ (v : Timers). v.draws_from) e) (both (ap (λ (v : Timers). v.counts_from) e) (both (ap (λ (v : Timers). v.time_wait_ends) e) (ap (λ (v : Timers). v.timeout_since) e)))))))),
     )
 
 pub Decides-congestion : (a b : CongestionControl) → Decides (Congestion.ghosts.eq a b) (a ≡ b)
@@ -235,7 +246,9 @@ Decides-congestion a b = search rules
 
 pub Decides-settings : (a b : Settings) → Decides (Set.ghosts.eq a b) (a ≡ b)
 Decides-settings a b =
-    let from_congestion_control = Decides-and _ _ (Decides-congestion a.congestion_control b.congestion_control) (booleans_Decides a.synack_paused b.synack_paused) in
+    let from_opening_retries = Decides-and _ _ (Decides-option (λ (x y : ℕ). x == y) Decides-eqb a.opening_retries b.opening_retries) (Decides-option (λ (x y : ℕ). x == y) Decides-eqb a.retries b.retries) in
+    let from_synack_paused = Decides-and _ _ (booleans_Decides a.synack_paused b.synack_paused) (from_opening_retries) in
+    let from_congestion_control = Decides-and _ _ (Decides-congestion a.congestion_control b.congestion_control) (from_synack_paused) in
     let from_timestamps = Decides-and _ _ (Decides-option (λ x y. Generator.ghosts.eq x y) Decides-generator a.timestamps b.timestamps) (from_congestion_control) in
     let from_hop_limit = Decides-and _ _ (Decides-option (λ (x y : ℕ). x == y) Decides-eqb a.hop_limit b.hop_limit) (from_timestamps) in
     let from_nagle = Decides-and _ _ (booleans_Decides a.nagle b.nagle) (from_hop_limit) in
@@ -245,8 +258,8 @@ Decides-settings a b =
     let all = Decides-and _ _ (Decides-option (λ (x y : ℕ). x == y) Decides-eqb a.timeout b.timeout) (from_ack_delay) in (
       λ yes.
           let parts = all.0 yes in
-          λ i. record { timeout = parts.0 i; ack_delay = parts.1.0 i; keep_alive = parts.1.1.0 i; keep_alive_at = parts.1.1.1.0 i; nagle = parts.1.1.1.1.0 i; hop_limit = parts.1.1.1.1.1.0 i; timestamps = parts.1.1.1.1.1.1.0 i; congestion_control = parts.1.1.1.1.1.1.1.0 i; synack_paused = parts.1.1.1.1.1.1.1.1 i },
-      λ e. all.1 (both (ap (λ (v : Settings). v.timeout) e) (both (ap (λ (v : Settings). v.ack_delay) e) (both (ap (λ (v : Settings). v.keep_alive) e) (both (ap (λ (v : Settings). v.keep_alive_at) e) (both (ap (λ (v : Settings). v.nagle) e) (both (ap (λ (v : Settings). v.hop_limit) e) (both (ap (λ (v : Settings). v.timestamps) e) (both (ap (λ (v : Settings). v.congestion_control) e) (ap (λ (v : Settings). v.synack_paused) e))))))))),
+          λ i. record { timeout = parts.0 i; ack_delay = parts.1.0 i; keep_alive = parts.1.1.0 i; keep_alive_at = parts.1.1.1.0 i; nagle = parts.1.1.1.1.0 i; hop_limit = parts.1.1.1.1.1.0 i; timestamps = parts.1.1.1.1.1.1.0 i; congestion_control = parts.1.1.1.1.1.1.1.0 i; synack_paused = parts.1.1.1.1.1.1.1.1.0 i; opening_retries = parts.1.1.1.1.1.1.1.1.1.0 i; retries = parts.1.1.1.1.1.1.1.1.1.1 i },
+      λ e. all.1 (both (ap (λ (v : Settings). v.timeout) e) (both (ap (λ (v : Settings). v.ack_delay) e) (both (ap (λ (v : Settings). v.keep_alive) e) (both (ap (λ (v : Settings). v.keep_alive_at) e) (both (ap (λ (v : Settings). v.nagle) e) (both (ap (λ (v : Settings). v.hop_limit) e) (both (ap (λ (v : Settings). v.timestamps) e) (both (ap (λ (v : Settings). v.congestion_control) e) (both (ap (λ (v : Settings). v.synack_paused) e) (both (ap (λ (v : Settings). v.opening_retries) e) (ap (λ (v : Settings). v.retries) e))))))))))),
     )
 
 -- the control block is compared whole

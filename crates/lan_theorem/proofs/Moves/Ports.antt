@@ -1,5 +1,5 @@
 -- No UDP socket ever queues a datagram to port 0, and no TCP socket has an end of a connection there.
-use Rattle.std.proofs.Common.{◌≡◌, ◌≢◌, inl, inr, ℕ, Bool, true, false, if◌then◌else◌, List, length, take, min, Option, Some, None, Result, Ok, Err, refl, sym, ap, ◌∙◌, subst}
+use Rattle.std.proofs.Common.{◌≡◌, ◌≢◌, inl, inr, ℕ, ℤ, Bool, true, false, if◌then◌else◌, List, length, take, min, Option, Some, None, Result, Ok, Err, refl, sym, ap, ◌∙◌, subst}
 use Rattle.std.specs.Prelude.{◌&&◌, ◌||◌, ◌==◌, not}
 use Rattle.std.proofs.lemmas.Bool.{eqb-false}
 use Rattle.std.specs.List.{AllByRecursion}
@@ -26,11 +26,11 @@ use Rattle.datagram_sockets.specs.declared.error.SendError.TheVariants as SendTo
 use Rattle.datagram_sockets.specs.declared.udp.UdpMetadata.{UdpMetadata}
 use Rattle.net_base.specs.RandomWords.{word}
 use Rattle.net_base.specs.Ring.{anchored, enqueued}
-use Rattle.tcp_tie.specs.Endpoints.{KeepsOrForgets, IsRenamed}
-use Rattle.tcp_tie.proofs.NameLaws.{arrival_names, withheld_names, close_names}
+use Rattle.tcp_tie.specs.Endpoints.{KeepsOrForgets, IsLeftBy, IsRenamed}
+use Rattle.tcp_tie.proofs.NameLaws.{arrival_names, withheld_names, close_names, abort_names}
 use Rattle.tcp_model.specs.AddressPair.{AddressPair}
 use Rattle.tcp_model.specs.Arrival.{arrives}
-use Rattle.tcp_model.specs.Calls.{listening, connected_by, pair_by, pair_for, addresses_by, source_by, sent_more, send_after, recv_answer, close_after}
+use Rattle.tcp_model.specs.Calls.{listening, connected_by, pair_by, pair_for, addresses_by, source_by, sent_more, send_after, recv_answer, close_after, abort_after}
 use Rattle.tcp_model.specs.EndpointPair.{EndpointPair}
 use Rattle.tcp_model.specs.Endpoints.{pair_in}
 use Rattle.tcp_model.specs.declared.block.Names.{Names}
@@ -39,9 +39,11 @@ use Rattle.tcp_model.specs.OfferKind.TheVariants as Kind
 use Rattle.tcp_model.specs.Offers.{offer_of}
 use Rattle.tcp_model.specs.OpenOffer.{OpenOffer}
 use Rattle.tcp_model.specs.RecvError.{RecvError}
-use Rattle.tcp_model.specs.Settled.{recorded, sent_as, sent_off}
+use Rattle.tcp_model.specs.Moments.{is_over, timeout_from}
+use Rattle.tcp_model.specs.Retries.{asked, one_more}
+use Rattle.tcp_model.specs.Settled.{end_of, probed, recorded, sent_as, sent_off}
 use Rattle.tcp_model.specs.States.{is_closed, takes_writes}
-use Rattle.tcp_model.specs.Value.{TcpValue, unoffered, queued_in}
+use Rattle.tcp_model.specs.Value.{TcpValue, unoffered, queued_in, room_of}
 use Rattle.tcp_model.specs.declared.block.Block.{Block}
 use Rattle.sockets.specs.Socket.{Offers, settled}
 use Rattle.sockets.specs.declared.socket.Socket.{Socket}
@@ -53,7 +55,7 @@ use Rattle.lan_history.specs.declared.event.TcpSetting.{TcpSetting}
 use Rattle.lan_history.specs.declared.event.TcpSetting.TheVariants as Changed
 use Rattle.lan_packets.specs.Calls.{at_port, read_by, setting_after, tcp_does, udp_does}
 use Rattle.lan_packets.proofs.Queues.{each_left, each_appended}
-use Rattle.lan_packets.proofs.WireMoves.{pair_kept}
+use Rattle.lan_packets.proofs.WireMoves.{pair_kept, pair_left}
 use Rattle.lan_hosts.specs.Does.{does, icmp_does, raw_does}
 use Rattle.lan_hosts.specs.Fresh.{IsUnused}
 use Rattle.lan_theorem.specs.Moves.Fit.{AreNamed, NamesPorts}
@@ -89,14 +91,32 @@ renamed_named ip header old new (inl opened) named holds = λ pair is.
 renamed_named ip header old new (inr (inl back)) named holds = none_named new.names.pair (ap (λ (n : Names). n.pair) back.names)
 renamed_named ip header old new (inr (inr keeps)) named holds = kept_named old new keeps holds
 
+left_named : (old new : Block) → IsLeftBy old new → PairNamed old.names.pair → PairNamed new.names.pair
+left_named old new left holds pair is = holds pair (pair_left old new pair left is)
+
+-- a probe or a keep-alive that counts leaves the ends
+asked_named : (b : Block) (now : ℤ) → PairNamed b.names.pair → PairNamed (asked b now).names.pair
+asked_named b now holds = by (is_over now b.timers.counts_from) where
+  counted : Block
+  counted = record b {
+    sender = record b.sender { unanswered = one_more b.sender.unanswered };
+    timers = record b.timers { counts_from = Some (timeout_from now b.round_trip) };
+  }
+
+  by : (over : Bool) → PairNamed (if over then counted else b).names.pair
+  by true = holds
+  by false = holds
+
 -- a segment that went changes no end, and after a reset there is none
 sent_named : (kind : OfferKind) (b : Block) (o : OpenOffer) (queued : ℕ) → PairNamed b.names.pair → PairNamed (sent_as kind b o queued).names.pair
 sent_named Kind.Reset b o queued holds = none_named None refl
+sent_named Kind.Probe b o queued holds = asked_named (probed b (end_of b o) o.moment) o.moment holds
+sent_named Kind.KeepAlive b o queued holds = asked_named b o.moment holds
 sent_named other b o queued holds = holds
 
 off_named : (o : Option OpenOffer) (v : TcpValue) → TcpNames v → TcpNames (sent_off o v)
 off_named None v holds = holds
-off_named (Some o) v holds = sent_named o.kind (recorded v.block o) o (queued_in v) holds
+off_named (Some o) v holds = sent_named o.kind (recorded v.block o (room_of v.received)) o (queued_in v) holds
 
 -- IN A POLL
 
@@ -106,7 +126,7 @@ offers_named cx (Is.Icmp v) (Is.Icmp v') answer offers holds = tt
 offers_named cx (Is.Udp v) (Is.Udp v') answer offers holds =
     each_left IsNamed (contents v.queued) (contents v'.queued) (offer_left (Udps.TakesDatagram cx) (first v.queued) v v' answer offers) holds
 offers_named cx (Is.Tcp v) (Is.Tcp v') answer offers holds =
-    subst TcpNames (sym offers.1) (kept_named v.block (offer_of cx v).socket.block (withheld_names cx v) holds)
+    subst TcpNames (sym offers.1) (left_named v.block (offer_of cx v).socket.block (withheld_names cx v) holds)
 offers_named cx s s' answer offers holds = absurd offers
 
 settles_named : (sent : Bool) (s : Socket) → NamesPorts s → NamesPorts (settled sent s)
@@ -233,7 +253,7 @@ tcp_keeps cx v (Call.Connect remote port) holds = connects_named (is_closed v.bl
 tcp_keeps cx v (Call.Send bytes) holds = writes_named v bytes holds
 tcp_keeps cx v (Call.Recv limit) holds = reads_named v (recv_answer v limit) holds
 tcp_keeps cx v Call.Close holds = kept_named v.block (close_after v).block (close_names v) holds
-tcp_keeps cx v Call.Abort holds = holds
+tcp_keeps cx v Call.Abort holds = kept_named v.block (abort_after v).block (abort_names v) holds
 tcp_keeps cx v Call.State holds = holds
 tcp_keeps cx v (Call.Set setting) holds = settings_named v setting holds
 tcp_keeps cx v call holds = tt

@@ -1,6 +1,6 @@
 -- The header of a packet that a socket offers, and of one that answers, names what it carries.
 use Rattle.std.proofs.Common.{◌≡◌, ℕ, ◌+◌, Bool, true, false, if◌then◌else◌, not, List, length, Option, Some, None, IfSome, is_some, refl, sym, ap, ◌∙◌, subst}
-use Rattle.std.specs.Prelude.{◌^◌, ◌&&◌, nat_lt}
+use Rattle.std.specs.Prelude.{◌^◌, ◌==◌, ◌&&◌, nat_lt}
 use Rattle.control_wire.specs.Icmpv4Header.{Icmpv4Header}
 use Rattle.control_wire.specs.Icmpv6.{MessageValue}
 use Rattle.ip_wire.specs.Ip.{carried_in}
@@ -30,22 +30,24 @@ use Rattle.datagram_sockets.specs.Udp as Udps
 use Rattle.datagram_sockets.specs.declared.udp.UdpMetadata.{UdpMetadata}
 use Rattle.tcp_model.specs.AddressPair.{AddressPair}
 use Rattle.tcp_model.specs.AddressPair.TheVariants as Pair
-use Rattle.tcp_model.specs.Acknowledged.{acknowledged, window_set, counted, duplicates_after}
+use Rattle.tcp_model.specs.Acknowledged.{acknowledged, duplicates_after}
 use Rattle.tcp_model.specs.Answers.{drawn, may_draw, with_draw, acked, answer_for, range_held}
-use Rattle.tcp_model.specs.Arrival.{waiting_anew, outside, finished, taken, inside, checked, arrives_in, arrives, is_void_syn, timers_moved}
-use Rattle.tcp_model.specs.Checks.{Check, acknowledgement_check, is_in_window, taken_down}
-use Rattle.tcp_model.specs.Checks.Check.{Passes, Drops, Draws, Resets}
+use Rattle.tcp_model.specs.Arrival.{waiting_anew, outside, passed_outside, tells_news, finished, with_content, told, taken, inside, checked, takes_reset, challenges_reset, reset_comes, challenges_syn, received, arrives_in, arrives, is_void_syn}
+use Rattle.tcp_model.specs.Calls.{listening}
+use Rattle.tcp_model.specs.Checks.{Check, acknowledgement_check, is_in_window, taken_down, falls_back}
+use Rattle.tcp_model.specs.Checks.Check.{Passes, Old, Drops, Draws, Resets}
 use Rattle.tcp_model.specs.Controls.{is_syn, is_rst}
 use Rattle.tcp_model.specs.Endpoints.{addresses_in, header_for, pair_in}
 use Rattle.tcp_model.specs.EndpointPair.{EndpointPair}
 use Rattle.tcp_model.specs.Moments.{is_due}
 use Rattle.tcp_model.specs.OfferKind.{OfferKind}
 use Rattle.tcp_model.specs.OfferKind.TheVariants as Kind
-use Rattle.tcp_model.specs.Offers.{number_at, offer_segment, offer_choice, offer_ack, offer_syn, offer_reset, offer_keep_alive, silent, last_rules, first_rules, backed_off, offer_between, offer_with, offer_of, payload_of, packet_with, offered_packet}
+use Rattle.tcp_model.specs.Offers.{number_at, offer_segment, offer_choice, offer_ack, offer_syn, offer_reset, offer_keep_alive, offer_held_back, silent, last_rules, first_rules, backed_off, offer_between, offer_with, offer_of, payload_of, packet_with, offered_packet}
 use Rattle.tcp_model.specs.OpenOffer.{OpenOffer}
 use Rattle.tcp_model.specs.Opening.{is_first_syn, opens, takes_answer, acks_syn, syn_answered, answering}
-use Rattle.tcp_model.specs.Probing.{probe_started, probe_moment}
+use Rattle.tcp_model.specs.Probing.{probe_started, probe_moment, probe_kept}
 use Rattle.tcp_model.specs.Reply.{Reply}
+use Rattle.tcp_model.specs.Retries.{heard, gives_up, given_up}
 use Rattle.tcp_model.specs.Rules.{Choice, control_for, time_wait_end, owes_syn, resends, ack_moment, has_text, text_choice, resend_choice, probe_choice, updates_window, keep_alive_moment}
 use Rattle.tcp_model.specs.Segments.{hops_of, segment, ack_segment, sack_segment, syn_segment, reset_segment, keep_alive_segment, rst_reply, reset_for}
 use Rattle.tcp_model.specs.State.{State}
@@ -162,14 +164,19 @@ module _ (cx : ContextValue) (pair : EndpointPair) where
   plain : (changed : Bool) (v : TcpValue) → v.offered ≡ None → OffersTcp (silent changed v)
   plain changed v none = subst IsTcpOffer (sym none) tt
 
+  held_back : (v : TcpValue) → OffersTcp (offer_held_back cx v pair)
+  held_back v =
+      let text = text_choice v.block pair.addresses cx.ip_mtu v.queued in
+      either (v.block.peer.window == 0) (offer_choice Kind.Probe cx v pair probe_choice) (offer_choice Kind.Text cx v pair text) (choice Kind.Probe v probe_choice) (choice Kind.Text v text)
+
   last : (v : TcpValue) → v.offered ≡ None → OffersTcp (last_rules cx v pair)
   last v none =
       let fourth : Offered TcpValue = if is_due cx.moment (keep_alive_moment v.block) then offer_keep_alive cx v pair else silent false v in
-      let third : Offered TcpValue = if updates_window v.block (window_of v) then offer_ack Kind.WindowUpdate cx v pair else fourth in
+      let third : Offered TcpValue = if updates_window v.block (room_of v.received) (free_in v) then offer_ack Kind.WindowUpdate cx v pair else fourth in
       let second : Offered TcpValue = if is_due cx.moment (ack_moment v.block) then offer_ack Kind.Ack cx v pair else third in
-      either (is_due cx.moment (probe_moment v.block (queued_in v))) (offer_choice Kind.Probe cx v pair probe_choice) second (choice Kind.Probe v probe_choice)
+      either (is_due cx.moment (probe_moment v.block (queued_in v))) (offer_held_back cx v pair) second (held_back v)
       (either (is_due cx.moment (ack_moment v.block)) (offer_ack Kind.Ack cx v pair) third (ack Kind.Ack v)
-      (either (updates_window v.block (window_of v)) (offer_ack Kind.WindowUpdate cx v pair) fourth (ack Kind.WindowUpdate v)
+      (either (updates_window v.block (room_of v.received) (free_in v)) (offer_ack Kind.WindowUpdate cx v pair) fourth (ack Kind.WindowUpdate v)
       (either (is_due cx.moment (keep_alive_moment v.block)) (offer_keep_alive cx v pair) (silent false v) (one Kind.KeepAlive v (keep_alive_segment v.block pair cx.moment (window_of v)) 0 1) (plain false v none))))
 
   first_rule : (v : TcpValue) → v.offered ≡ None → OffersTcp (first_rules cx v pair)
@@ -184,18 +191,24 @@ module _ (cx : ContextValue) (pair : EndpointPair) where
       (either (has_text v.block pair.addresses cx.ip_mtu v.queued) (offer_choice Kind.Text cx v pair text) fourth (choice Kind.Text v text)
       (last (with_block v (probe_started cx.moment (queued_in v) v.block)) none)))
 
+  gives : (v : TcpValue) (back : Bool) → v.offered ≡ None → OffersTcp (silent true (if back then listening v v.block.names.listen else with_block v (timed_out v.block)))
+  gives v true none = tt
+  gives v false none = plain true (with_block v (timed_out v.block)) none
+
   between : (v : TcpValue) → v.offered ≡ None → OffersTcp (offer_between cx v pair)
   between v none =
       let going = with_block v (backed_off cx.moment (timeout_started cx.moment (queued_in v) v.block)) in
       let reset : Offered TcpValue = if v.block.sender.reset_due then offer_reset cx v pair else silent false v in
-      let third : Offered TcpValue = if is_closed v.block.state then reset else first_rules cx going pair in
+      let over : Offered TcpValue = silent true (given_up v) in
+      let open_yet : Offered TcpValue = if gives_up cx.moment v.block (queued_in v) then over else first_rules cx going pair in
+      let third : Offered TcpValue = if is_closed v.block.state then reset else open_yet in
       let late = silent true (with_block v (timed_out v.block)) in
       let second : Offered TcpValue = if is_due cx.moment (timeout_end v.block (queued_in v)) then late else third in
       either (is_due cx.moment (time_wait_end v.block)) (silent true (ended v)) second (plain true (ended v) none)
       (either (is_due cx.moment (timeout_end v.block (queued_in v))) late third (plain true (with_block v (timed_out v.block)) none)
-      (either (is_closed v.block.state) reset (first_rules cx going pair)
+      (either (is_closed v.block.state) reset open_yet
       (either v.block.sender.reset_due (offer_reset cx v pair) (silent false v) (one Kind.Reset v (reset_segment v.block pair cx.moment (window_of v)) 0 0) (plain false v none))
-      (first_rule going none)))
+      (either (gives_up cx.moment v.block (queued_in v)) over (first_rules cx going pair) (gives v (falls_back v.block) none) (first_rule going none))))
 
 names_with : (pair : Option EndpointPair) (cx : ContextValue) (v : TcpValue) → v.offered ≡ None → OffersTcp (offer_with pair cx v)
 names_with None cx v none = subst IsTcpOffer (sym none) tt
@@ -245,36 +258,60 @@ module _ (cx : ContextValue) (ip : IpRepr) (header : TcpHeader) where
   drawn_tcp : (v : TcpValue) → AnswersTcp (drawn cx v ip header)
   drawn_tcp v = either_arrived (may_draw cx.moment v.block.timers.draws_from) (acked cx (with_draw v cx.moment) ip header None) (dropped v) (acked_tcp (with_draw v cx.moment) None) tt
 
-  answer_tcp : (v : TcpValue) (size : ℕ) (early : Option ℕ) → AnswersTcp (answer_for cx v ip header size early)
-  answer_tcp v size (Some place) = acked_tcp v (range_held v place)
-  answer_tcp v size None = tt
+  answer_tcp : (v : TcpValue) (size : ℕ) (fills : Bool) (early : Option ℕ) → AnswersTcp (answer_for cx v ip header size fills early)
+  answer_tcp v size fills (Some place) = acked_tcp v (range_held v place)
+  answer_tcp v size fills None = tt
 
   finished_tcp : (old : Block) (t : Texted) (size : ℕ) → AnswersTcp (finished cx old t ip header size)
   finished_tcp old t size =
-      answer_tcp (with_block t.socket (timers_moved (with_fin t.socket.block old header size t.advance cx.moment) cx.moment (queued_in t.socket))) size t.early
+      answer_tcp (with_block t.socket (probe_kept (with_fin t.socket.block old header size t.advance cx.moment) (queued_in t.socket))) size t.fills t.early
+
+  content_tcp : (v : TcpValue) (bytes : List ℕ) → AnswersTcp (with_content cx v ip header bytes)
+  content_tcp v bytes = finished_tcp v.block (with_text v header bytes) (length bytes)
 
   taken_tcp : (v : TcpValue) (bytes : List ℕ) (by : ℕ) → AnswersTcp (taken cx v ip header bytes by)
   taken_tcp v bytes by =
       let w = acknowledged v by cx.moment in
-      let text = with_text (with_block w (counted (window_set w.block header) (duplicates_after v.block header (length bytes) by))) header bytes in
-      either_arrived (is_closed w.block.state) (dropped w) (finished cx w.block text ip header (length bytes)) tt (finished_tcp w.block text (length bytes))
+      let heeded = told w header (duplicates_after v.block header (length bytes) by) cx.moment in
+      either_arrived (is_closed w.block.state) (dropped w) (with_content cx heeded ip header bytes) tt (content_tcp heeded bytes)
 
   inside_tcp : (v : TcpValue) (bytes : List ℕ) (by : ℕ) → AnswersTcp (inside cx v ip header bytes by)
   inside_tcp v bytes by =
-      let syn : Arrived = if is_syn header.control then drawn cx v ip header else taken cx v ip header bytes by in
-      either_arrived (is_rst header.control) (dropped (taken_down v)) syn tt
-      (either_arrived (is_syn header.control) (drawn cx v ip header) (taken cx v ip header bytes by) (drawn_tcp v) (taken_tcp v bytes by))
+      either_arrived (is_syn header.control) (drawn cx v ip header) (taken cx v ip header bytes by) (drawn_tcp v) (taken_tcp v bytes by)
 
   outside_tcp : (v : TcpValue) → AnswersTcp (outside cx v ip header)
   outside_tcp v =
-      either_arrived (is_rst header.control) (dropped v) (drawn cx (waiting_anew v header cx.moment) ip header) tt (drawn_tcp (waiting_anew v header cx.moment))
+      either_arrived (is_closed v.block.state) (dropped v) (drawn cx (waiting_anew v header cx.moment) ip header) tt (drawn_tcp (waiting_anew v header cx.moment))
+
+  passed_outside_tcp : (v : TcpValue) (size by : ℕ) → AnswersTcp (passed_outside cx v ip header size by)
+  passed_outside_tcp v size by =
+      let w = acknowledged v by cx.moment in
+      either_arrived (tells_news v header size) (outside cx w ip header) (outside cx v ip header) (outside_tcp w) (outside_tcp v)
 
   checked_tcp : (check : Check) (v : TcpValue) (bytes : List ℕ) → AnswersTcp (checked check cx v ip header bytes)
   checked_tcp (Passes by) v bytes =
-      either_arrived (is_in_window v.block (free_in v) header (length bytes)) (inside cx v ip header bytes by) (outside cx v ip header) (inside_tcp v bytes by) (outside_tcp v)
+      either_arrived (is_in_window v.block (free_in v) header (length bytes)) (inside cx v ip header bytes by) (passed_outside cx v ip header (length bytes) by)
+      (inside_tcp v bytes by) (passed_outside_tcp v (length bytes) by)
+  checked_tcp Old v bytes =
+      either_arrived (is_in_window v.block (free_in v) header (length bytes)) (with_content cx (with_block v (heard v.block)) ip header bytes) (outside cx v ip header)
+      (content_tcp (with_block v (heard v.block)) bytes) (outside_tcp v)
   checked_tcp Drops v bytes = tt
   checked_tcp Draws v bytes = drawn_tcp v
   checked_tcp Resets v bytes = reset_tcp v (length bytes)
+
+  reset_comes_tcp : (v : TcpValue) (size : ℕ) → AnswersTcp (reset_comes cx v ip header size)
+  reset_comes_tcp v size =
+      let challenged : Arrived = if challenges_reset v header size then drawn cx v ip header else dropped v in
+      either_arrived (takes_reset v.block header) (dropped (taken_down v)) challenged tt
+      (either_arrived (challenges_reset v header size) (drawn cx v ip header) (dropped v) (drawn_tcp v) tt)
+
+  received_tcp : (v : TcpValue) (bytes : List ℕ) → AnswersTcp (received cx v ip header bytes)
+  received_tcp v bytes =
+      let tested : Arrived = checked (acknowledgement_check v.block header.ack_number) cx v ip header bytes in
+      let segment : Arrived = if challenges_syn v.block header then drawn cx v ip header else tested in
+      either_arrived (is_rst header.control) (reset_comes cx v ip header (length bytes)) segment (reset_comes_tcp v (length bytes))
+      (either_arrived (challenges_syn v.block header) (drawn cx v ip header) tested (drawn_tcp v)
+      (checked_tcp (acknowledgement_check v.block header.ack_number) v bytes))
 
   opens_tcp : (v : TcpValue) → AnswersTcp (opens cx v ip header)
   opens_tcp v =
@@ -300,7 +337,7 @@ module _ (cx : ContextValue) (ip : IpRepr) (header : TcpHeader) where
   arrives_in_tcp In.Closed v bytes = tt
   arrives_in_tcp In.Listen v bytes = opens_tcp v
   arrives_in_tcp In.SynSent v bytes = takes_answer_tcp v bytes
-  arrives_in_tcp other v bytes = checked_tcp (acknowledgement_check v.block (queued_in v) header) v bytes
+  arrives_in_tcp other v bytes = received_tcp v bytes
 
   pub arrives_tcp : (v : TcpValue) (bytes : List ℕ) → AnswersTcp (arrives cx v ip header bytes)
   arrives_tcp v bytes =

@@ -1,15 +1,15 @@
 //! The acknowledgement and the window of an accepted segment.
 ghost use Rattle.std.specs.Prelude.{◌≡◌, ◌≤◌, ◌<◌, ◌^◌, IfSome};
 ghost use Rattle.net_base.specs.Time.{IsMoment};
-ghost use Rattle.tcp_model.specs.Acknowledged.{freed_by, sender_moved, retransmit_after, una_moved, acks_fin, state_after_ack, in_state, block_acknowledged, scaled, window_set, is_duplicate, duplicates_after, reno_counted, counted};
+ghost use Rattle.tcp_model.specs.Acknowledged.{freed_by, sender_moved, retransmit_after, acks_own_syn, round_trip_after, reno_after, una_moved, acks_fin, state_after_ack, in_state, block_acknowledged, scaled, acks_no_less, or_number, names_window, windowed, window_set, end_past, highest_end, sacked_by, ranges_taken, tells_of_loss, is_duplicate, duplicates_after, reno_counted, counted};
 
 use super::opening::or_recent;
 use crate::{Block, State};
-use ip_wire::{MAX_WINDOW_SCALE, TcpHeader};
+use ip_wire::{MAX_WINDOW_SCALE, SeqNumber, TcpHeader};
 use net_base::Instant;
 use tcp_control::controls::is_fin;
 use tcp_control::moments::{time_wait_from, timeout_from};
-use tcp_control::offsets::behind_by;
+use tcp_control::offsets::{before_by, behind_by, past_by};
 
 /// What a window field means.
 fn scaled(scale: Option<u8>, field: u16) -> u32
@@ -18,6 +18,44 @@ fn scaled(scale: Option<u8>, field: u16) -> u32
     match scale {
         None => field as u32,
         Some(scale) => (field as u32) << scale.min(MAX_WINDOW_SCALE),
+    }
+}
+
+/// Whether an acknowledgement isn't less than the one before.
+fn acks_no_less(last: SeqNumber, ack_number: Option<SeqNumber>) -> bool
+    ensures { result ≡ acks_no_less last ack_number }
+{
+    match ack_number {
+        None => true,
+        Some(number) => before_by(last, number) == 0,
+    }
+}
+
+/// The number that is named, or the last one.
+pub fn or_number(last: SeqNumber, number: Option<SeqNumber>) -> SeqNumber
+    ensures { result ≡ or_number last number }
+{
+    match number {
+        None => last,
+        Some(number) => number,
+    }
+}
+
+/// How far past a number the highest of these ranges ends.
+fn highest_end(una: SeqNumber, ranges: &[Option<(u32, u32)>; 3]) -> u32
+    ensures { result ≡ highest_end una ranges.now }
+{
+    let [first, second, third] = *ranges;
+    end_past(una, first).max(end_past(una, second).max(end_past(una, third)))
+}
+
+/// How far past a number a range ends.
+fn end_past(una: SeqNumber, range: Option<(u32, u32)>) -> u32
+    ensures { result ≡ end_past una range }
+{
+    match range {
+        None => 0,
+        Some((_, end)) => past_by(una, SeqNumber(end)),
     }
 }
 
@@ -37,9 +75,7 @@ impl Block {
         requires { IsMoment now }
         ensures { self.new ≡ una_moved self.old by queued now }
     {
-        let freed = self.freed_by(by, queued);
-        self.reno.acknowledged(freed);
-        self.round_trip.advance(by, now);
+        self.time_una(by, queued, now);
         self.move_sender(by);
         if by != 0 {
             self.timers.retransmit_at = if self.sender.in_flight == 0 {
@@ -50,15 +86,44 @@ impl Block {
         }
     }
 
+    /// What round trip and congestion control learn of this. A connection begins with its first window.
+    fn time_una(&mut self, by: u32, queued: usize, now: Instant)
+        requires { IsMoment now }
+        ensures { self.new ≡ record self.old { round_trip = round_trip_after self.old by now; reno = reno_after self.old by queued } }
+    {
+        let freed = self.freed_by(by, queued);
+        self.round_trip.advance(by, now);
+        if !self.acks_own_syn(by) {
+            self.reno.acknowledged(freed);
+            return;
+        }
+        self.reno.start(self.sender.syn_lost);
+        if self.sender.syn_lost {
+            self.round_trip.begin_late();
+        }
+    }
+
+    /// Whether the own SYN is acknowledged.
+    fn acks_own_syn(&self, by: u32) -> bool
+        ensures { result ≡ acks_own_syn self.now by }
+    {
+        self.sender.syn_unacked && by != 0
+    }
+
     /// SND.UNA and what is counted from it.
     fn move_sender(&mut self, by: u32)
         ensures { self.new ≡ record self.old { sender = sender_moved self.old.sender by } }
     {
         let stays = by == 0;
         self.sender.una = behind_by(self.sender.una, by as usize);
+        self.sender.past_iss = self.sender.past_iss.saturating_add(by);
         self.sender.syn_unacked = self.sender.syn_unacked && stays;
         self.sender.in_flight = self.sender.in_flight.saturating_sub(by);
+        self.sender.top = self.sender.top.saturating_sub(by);
+        self.sender.sacked = self.sender.sacked.saturating_sub(by);
         self.sender.resend = self.sender.resend && stays;
+        self.sender.timeouts = 0;
+        self.sender.unanswered = 0;
     }
 
     /// The state after an acknowledgement, which may be of the FIN.
@@ -98,23 +163,71 @@ impl Block {
         }
     }
 
-    /// Takes the window of an accepted segment, and its timestamp.
+    /// Whether a segment is no older than the one that set the window last.
+    fn names_window(&self, header: &TcpHeader) -> bool
+        ensures { result ≡ names_window self.now header.now }
+    {
+        before_by(self.peer.window_seq, header.seq_number) == 0
+            && (past_by(self.peer.window_seq, header.seq_number) != 0
+                || acks_no_less(self.peer.window_ack, header.ack_number))
+    }
+
+    /// Takes the window that a segment names.
+    fn take_window(&mut self, header: &TcpHeader)
+        ensures { self.new ≡ windowed self.old header.now }
+    {
+        let window = scaled(self.peer.scale, header.window_len);
+        self.peer.window = window;
+        self.peer.largest_window = self.peer.largest_window.max(window);
+        self.peer.window_seq = header.seq_number;
+        self.peer.window_ack = or_number(self.peer.window_ack, header.ack_number);
+    }
+
+    /// Takes the window of an accepted segment, if no newer one was named, and its timestamp.
     pub fn set_window(&mut self, header: &TcpHeader)
         ensures { self.new ≡ window_set self.old header.now }
     {
-        self.peer.window = scaled(self.peer.scale, header.window_len);
+        if self.names_window(header) {
+            self.take_window(header);
+        }
         self.peer.recent = or_recent(header.options.timestamp, self.peer.recent);
     }
 
-    /// Whether a segment only acknowledges SND.UNA again, with the same window, while something is in
-    /// flight.
+    /// How far past SND.UNA the highest position lies that the SACK ranges of a segment name, if both
+    /// SYNs permitted them.
+    fn sacked_by(&self, header: &TcpHeader) -> u32
+        ensures { result ≡ sacked_by self.now header.now }
+    {
+        if self.peer.sack {
+            highest_end(self.sender.una, &header.options.sack_ranges)
+        } else {
+            0
+        }
+    }
+
+    /// Takes what the ranges of a segment name.
+    pub fn take_ranges(&mut self, header: &TcpHeader)
+        ensures { self.new ≡ ranges_taken self.old header.now }
+    {
+        self.sender.sacked = self.sender.sacked.max(self.sacked_by(header));
+    }
+
+    /// Whether the window is the same, or the ranges tell of text that came since.
+    fn tells_of_loss(&self, header: &TcpHeader) -> bool
+        ensures { result ≡ tells_of_loss self.now header.now }
+    {
+        scaled(self.peer.scale, header.window_len) == self.peer.window
+            || self.sender.sacked < self.sacked_by(header)
+    }
+
+    /// Whether a segment only acknowledges SND.UNA again, while something is in flight.
     pub fn is_duplicate(&self, header: &TcpHeader, size: usize, by: u32) -> bool
         ensures { result ≡ is_duplicate self.now header.now size by }
     {
         by == 0
             && size == 0
             && !is_fin(header.control)
-            && scaled(self.peer.scale, header.window_len) == self.peer.window
+            && self.tells_of_loss(header)
             && self.sender.in_flight != 0
     }
 

@@ -1,11 +1,12 @@
 //! Whether a segment is acceptable, from SYN-RECEIVED on.
 ghost use Rattle.std.specs.Prelude.{◌≡◌, ◌≤◌, ◌<◌, ◌^◌};
-ghost use Rattle.tcp_model.specs.Checks.{opening_check, synchronized_check, ack_check, acknowledgement_check, is_in_window, falls_back};
+ghost use Rattle.tcp_model.specs.Checks.{opening_check, synchronized_check, acknowledgement_check, is_in_window, lies_before, falls_back};
+ghost use Rattle.tcp_model.specs.Arrival.{takes_reset, challenges_syn};
 ghost use Rattle.tcp_model.specs.Checked.{check_of};
 
 use crate::Block;
 use ip_wire::{SeqNumber, TcpHeader};
-use tcp_control::controls::is_rst;
+use tcp_control::controls::is_syn;
 use tcp_control::offsets::{before_by, meets_window, past_by};
 
 /// What becomes of a segment.
@@ -13,6 +14,8 @@ use tcp_control::offsets::{before_by, meets_window, past_by};
 pub enum Verdict {
     /// It is taken, and SND.UNA rises by so much.
     Passes(u32),
+    /// It is taken but for its acknowledgement, which is old.
+    Old,
     Drops,
     /// An acknowledgement answers it.
     Draws,
@@ -31,46 +34,64 @@ fn opening_check(by: u32) -> Verdict
     }
 }
 
-/// Later, an acknowledgement below SND.UNA, or of nothing while the SYN isn't acknowledged, doesn't
-/// count, and one past all that may be acknowledged is answered.
-fn synchronized_check(syn_unacked: bool, last: usize, by: u32) -> Verdict
-    ensures { check_of result ≡ synchronized_check syn_unacked last by }
-{
-    if by >= 1 << 31 || syn_unacked && by == 0 {
-        Verdict::Drops
-    } else if last < by as usize {
-        Verdict::Draws
-    } else {
-        Verdict::Passes(by)
-    }
-}
-
 impl Block {
-    fn check_ack(&self, queued: usize, ack_number: Option<SeqNumber>) -> Verdict
-        requires { queued ≤ 2 ^ 30 }
-        ensures { check_of result ≡ ack_check self.now queued ack_number }
+    /// Of an acknowledgement so far past SND.UNA or before it: what was never sent can't be
+    /// acknowledged. One that doesn't reach past ISS doesn't count. An older one is ignored, and
+    /// answered where no window of the remote reached so far.
+    fn check_synchronized(&self, past: u32, before: u32) -> Verdict
+        ensures { check_of result ≡ synchronized_check self.now past before }
+    {
+        if self.sender.top < past {
+            Verdict::Draws
+        } else if past == 0 && self.sender.past_iss <= before {
+            Verdict::Drops
+        } else if before == 0 {
+            Verdict::Passes(past)
+        } else if self.peer.largest_window < before {
+            Verdict::Draws
+        } else {
+            Verdict::Old
+        }
+    }
+
+    /// What becomes of a segment by its acknowledgement.
+    pub fn check_acknowledgement(&self, ack_number: Option<SeqNumber>) -> Verdict
+        ensures { check_of result ≡ acknowledgement_check self.now ack_number }
     {
         let Some(number) = ack_number else {
             return Verdict::Drops;
         };
-        let by = self.sender.una.distance(number);
+        let una = self.sender.una;
         if self.state.is_answering() {
-            opening_check(by)
+            opening_check(una.distance(number))
         } else {
-            synchronized_check(self.sender.syn_unacked, self.unacked(queued), by)
+            self.check_synchronized(past_by(una, number), before_by(una, number))
         }
     }
 
-    /// What becomes of a segment by its acknowledgement. A reset's isn't looked at.
-    pub fn check_acknowledgement(&self, queued: usize, header: &TcpHeader) -> Verdict
-        requires { queued ≤ 2 ^ 30 }
-        ensures { check_of result ≡ acknowledgement_check self.now queued header.now }
+    /// Whether a segment lies wholly before RCV.NXT, by no more than a receive buffer of this capacity
+    /// holds, a SYN and a FIN.
+    pub fn lies_before(&self, capacity: usize, header: &TcpHeader, size: usize) -> bool
+        requires capacity { capacity ≤ 2 ^ 30 }
+        requires size { size < 2 ^ 63 }
+        ensures { result ≡ lies_before self.now capacity header.now size }
     {
-        if is_rst(header.control) {
-            Verdict::Passes(0)
-        } else {
-            self.check_ack(queued, header.ack_number)
-        }
+        let before = before_by(self.receiver.next, header.seq_number) as usize;
+        before != 0 && size + header.control.len() <= before && before <= capacity + 2
+    }
+
+    /// Whether a reset takes the connection down: it counts at RCV.NXT alone, and not in TIME-WAIT.
+    pub fn takes_reset(&self, header: &TcpHeader) -> bool
+        ensures { result ≡ takes_reset self.now header.now }
+    {
+        !self.state.is_time_wait() && self.receiver.next == header.seq_number
+    }
+
+    /// Whether a SYN draws an acknowledgement, whatever its numbers.
+    pub fn challenges_syn(&self, header: &TcpHeader) -> bool
+        ensures { result ≡ challenges_syn self.now header.now }
+    {
+        is_syn(header.control) && !self.state.is_answering()
     }
 
     /// Whether a segment with so many bytes meets the receive window of so much space.

@@ -23,15 +23,16 @@ fn earlier_of(one: Option<Instant>, other: Option<Instant>) -> Option<Instant>
 
 impl Block {
     /// Whether the socket wants to be polled at once, where `has_text` says that text may go.
-    pub fn has_wish(&self, has_text: bool, queued: usize, window: u16) -> bool
-        requires { queued ≤ 2 ^ 30 }
-        ensures { result ≡ any (owes_syn self.now ∷ resends self.now ∷ has_text ∷ updates_window self.now window
+    pub fn has_wish(&self, has_text: bool, queued: usize, capacity: usize, free: usize) -> bool
+        requires queued { queued ≤ 2 ^ 30 }
+        requires capacity { capacity ≤ 2 ^ 30 }
+        ensures { result ≡ any (owes_syn self.now ∷ resends self.now ∷ has_text ∷ updates_window self.now capacity free
             ∷ is_timeout_unset self.now queued ∷ is_probe_unset self.now queued ∷ []) }
     {
         self.owes_syn()
             || self.resends()
             || has_text
-            || self.updates_window(window)
+            || self.updates_window(capacity, free)
             || self.is_timeout_unset(queued)
             || self.is_probe_unset(queued)
     }

@@ -1,6 +1,6 @@
 //! A fresh control block, and what follows from its fields.
 ghost use Rattle.std.specs.Prelude.{◌≡◌, ◌+◌, ◌≤◌, ◌^◌};
-ghost use Rattle.tcp_model.specs.Blocks.{default_settings, fresh_sender, fresh_block, forgotten, unacked, nxt, own_scale, scale_for, field_of, window_field};
+ghost use Rattle.tcp_model.specs.Blocks.{default_settings, fresh_sender, fresh_block, forgotten, unacked, nxt, top, own_scale, scale_for, field_of, own_shift, window_field, told_of, least_step, is_worth_telling, announced};
 
 use crate::{
     Block, CongestionControl, Names, Peer, Receiver, Reno, RoundTrip, Sender, Settings, State,
@@ -12,6 +12,13 @@ use tcp_control::offsets::behind_by;
 
 /// The delay of an acknowledgement, if no other is set, in microseconds.
 const ACK_DELAY: u64 = 10_000;
+
+/// How many timeouts end a connection that is being opened, if nothing else is set: more than three
+/// minutes.
+const OPENING_RETRIES: u8 = 9;
+
+/// How many end one that is open.
+const RETRIES: u8 = 16;
 
 /// The largest payload that a remote takes that names none.
 pub const DEFAULT_MSS: u16 = 536;
@@ -34,10 +41,16 @@ impl Sender {
     {
         Sender {
             una,
+            past_iss: 0,
             syn_unacked,
             in_flight: 0,
+            top: 0,
             duplicates: 0,
+            sacked: 0,
             resend: false,
+            syn_lost: false,
+            timeouts: 0,
+            unanswered: 0,
             stamped: false,
             reset_due: false,
         }
@@ -59,6 +72,8 @@ impl Settings {
             timestamps: None,
             congestion_control: CongestionControl::Reno,
             synack_paused: false,
+            opening_retries: Some(OPENING_RETRIES),
+            retries: Some(RETRIES),
         }
     }
 }
@@ -76,10 +91,14 @@ impl Block {
                 next: SeqNumber(0),
                 took_syn: false,
                 took_fin: false,
-                advertised: 0,
+                edge: 0,
+                mss: 0,
             },
             peer: Peer {
                 window: 0,
+                largest_window: 0,
+                window_seq: SeqNumber(0),
+                window_ack: SeqNumber(0),
                 mss: DEFAULT_MSS,
                 scale: None,
                 sack: false,
@@ -92,6 +111,7 @@ impl Block {
                 ack_at: None,
                 text_unacked: false,
                 draws_from: None,
+                counts_from: None,
                 time_wait_ends: None,
                 timeout_since: None,
             },
@@ -126,15 +146,67 @@ impl Block {
         behind_by(self.sender.una, self.sender.in_flight as usize)
     }
 
-    /// The window field for a receive buffer of this capacity and so much free space, but on a SYN.
-    pub fn window_field(&self, capacity: usize, free: usize) -> u16
-        ensures { result ≡ window_field self.now capacity free }
+    /// The number one past the highest position that was ever sent.
+    pub fn top(&self) -> SeqNumber
+        ensures { result ≡ top self.now }
     {
-        let shift = match self.peer.scale {
+        behind_by(self.sender.una, self.sender.top as usize)
+    }
+
+    /// The shift of the own window fields, but on a SYN, with a receive buffer of this capacity.
+    pub fn own_shift(&self, capacity: usize) -> u8
+        ensures value { result ≡ own_shift self.now capacity }
+        ensures small { result ≤ 14 }
+    {
+        match self.peer.scale {
             None => 0,
             Some(_) => own_scale(capacity),
-        };
-        field_of(free >> shift)
+        }
+    }
+
+    /// The window field for so much space, but on a SYN.
+    pub fn window_field(&self, capacity: usize, space: usize) -> u16
+        ensures { result ≡ window_field self.now capacity space }
+    {
+        field_of(space >> self.own_shift(capacity))
+    }
+
+    /// How much of so much space a window field can tell.
+    fn told_of(&self, capacity: usize, space: usize) -> u32
+        ensures { result ≡ told_of self.now capacity space }
+    {
+        (self.window_field(capacity, space) as u32) << self.own_shift(capacity)
+    }
+
+    /// By how much the right edge of the window moves at least.
+    fn least_step(&self, capacity: usize) -> usize
+        requires { capacity ≤ 2 ^ 30 }
+        ensures value { result ≡ least_step self.now capacity }
+        ensures small { result ≤ 65_535 }
+    {
+        capacity.div_ceil(2).min(self.receiver.mss as usize).max(1)
+    }
+
+    /// Whether so much free space is worth telling.
+    pub fn is_worth_telling(&self, capacity: usize, free: usize) -> bool
+        requires { capacity ≤ 2 ^ 30 }
+        ensures { result ≡ is_worth_telling self.now capacity free }
+    {
+        let edge = self.receiver.edge as usize + self.least_step(capacity);
+        edge <= self.told_of(capacity, free) as usize
+    }
+
+    /// The space that a segment announces, where so many bytes wait to be read: the right edge stays,
+    /// unless it moves far enough or nothing waits.
+    pub fn announced(&self, capacity: usize, free: usize, waiting: usize) -> usize
+        requires { capacity ≤ 2 ^ 30 }
+        ensures { result ≡ announced self.now capacity free waiting }
+    {
+        if waiting == 0 || self.is_worth_telling(capacity, free) {
+            free
+        } else {
+            free.min(self.receiver.edge as usize)
+        }
     }
 }
 

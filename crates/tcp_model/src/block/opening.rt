@@ -5,6 +5,7 @@ ghost use Rattle.tcp_control.specs.Controls.{is_syn, is_fin, is_rst, or_mss, is_
 ghost use Rattle.tcp_model.specs.Opening.{peer_of, took_syn, is_first_syn, answering, acks_syn, connected, crossed, syn_answered};
 ghost use Rattle.tcp_model.specs.Arrival.{is_void_syn};
 
+use super::acknowledged::or_number;
 use super::fresh::DEFAULT_MSS;
 use crate::{Block, EndpointPair, Peer, Sender, State};
 use ip_wire::{IpRepr, SeqNumber, TcpControl, TcpHeader, TcpTimestampRepr};
@@ -36,7 +37,7 @@ pub fn is_first_syn(header: &TcpHeader) -> bool
 }
 
 /// The largest payload that the remote takes.
-fn or_mss(mss: Option<u16>) -> u16
+pub fn or_mss(mss: Option<u16>) -> u16
     ensures { result ≡ or_mss mss }
 {
     match mss {
@@ -62,6 +63,9 @@ impl Peer {
     {
         Peer {
             window: header.window_len as u32,
+            largest_window: header.window_len as u32,
+            window_seq: header.seq_number,
+            window_ack: or_number(SeqNumber(0), header.ack_number),
             mss: or_mss(header.options.max_seg_size),
             scale: header.options.window_scale,
             sack: header.options.sack_permitted,
@@ -116,6 +120,7 @@ impl Block {
             self.state = State::Established;
             self.timers.ack_at = Some(now);
         } else {
+            self.hear();
             self.state = State::SynReceived;
         }
     }

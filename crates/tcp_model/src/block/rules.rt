@@ -1,9 +1,10 @@
 //! What a socket offers: a test for each rule, and what the rules for text may send.
 ghost use Rattle.std.specs.Prelude.{◌≡◌, ◌+◌, ◌≤◌, ◌<◌, ◌^◌, min};
-ghost use Rattle.tcp_model.specs.Rules.{time_wait_end, owes_syn, resends, ack_moment, Choice, stamp_len, size_limit, congestion_limit, window_limit, next_place, fin_goes, text_of_size, is_sendable, sends_choice, first_text, probe_choice, control_for, updates_window, keep_alive_moment, backed_off_now};
+ghost use Rattle.tcp_model.specs.Rules.{time_wait_end, owes_syn, resends, ack_moment, Choice, stamp_len, size_limit, congestion_limit, window_limit, next_place, fin_goes, text_of_size, ready, may_be_small, fills_enough, is_sendable, sends_choice, first_text, probe_choice, control_for, updates_window, keep_alive_moment, backed_off_now};
 ghost use Rattle.tcp_model.specs.Offers.{number_at, backed_off};
 ghost use Rattle.tcp_model.specs.Choices.{choice_of};
 
+use super::retries::one_more;
 use crate::{AddressPair, Block, CongestionControl};
 use ip_wire::{SeqNumber, TcpControl};
 use net_base::Instant;
@@ -96,7 +97,8 @@ impl Block {
         }
     }
 
-    /// What the remote takes in one segment, and a packet holds behind its headers.
+    /// The longest text of a segment: what the remote takes, and a packet holds behind headers without
+    /// options, less the options, but at least a byte.
     pub fn size_limit(&self, addresses: &AddressPair, ip_mtu: usize) -> usize
         ensures value { result ≡ size_limit self.now addresses.now ip_mtu }
         ensures small { result ≤ 65_535 }
@@ -104,12 +106,14 @@ impl Block {
         ip_mtu
             .min(LONGEST_PACKET)
             .saturating_sub(addresses.ip_header_len())
-            .saturating_sub(20 + self.stamp_len())
+            .saturating_sub(20)
             .min(self.peer.mss as usize)
+            .saturating_sub(self.stamp_len())
+            .max(1)
     }
 
     /// What both windows leave of so many bytes.
-    fn window_limit(&self, size: usize) -> usize
+    pub fn window_limit(&self, size: usize) -> usize
         ensures value { result ≡ window_limit self.now size }
         ensures small { result ≤ size }
     {
@@ -164,16 +168,43 @@ impl Block {
         self.state.sends_text()
             && self.sender.syn_unacked as u32 <= flight
             && (flight as usize) < self.unacked(queued)
-            && self.is_sendable(limit, part)
+            && self.is_sendable(queued, limit, part)
     }
 
-    /// Whether something goes, and Nagle's rule doesn't hold it back.
-    fn is_sendable(&self, limit: usize, part: &Part) -> bool
-        ensures { result ≡ is_sendable self.now limit (choice_of part.now) }
+    /// How much of the send queue may go from SND.NXT, in however many pieces it lies.
+    fn ready(&self, limit: usize, queued: usize) -> usize
+        ensures value { result ≡ ready self.now limit queued }
+        ensures small { result ≤ queued }
     {
-        part.fin
-            || part.len != 0
-                && !(self.settings.nagle && part.len < limit && self.sender.in_flight != 0)
+        self.window_limit(limit.min(queued.saturating_sub(self.next_place())))
+    }
+
+    /// Whether Nagle's rule doesn't hold back a small segment.
+    fn may_be_small(&self) -> bool
+        ensures { result ≡ may_be_small self.now }
+    {
+        !self.settings.nagle || self.sender.in_flight == 0
+    }
+
+    /// Whether all that is queued may go, or half of the largest window that the remote named.
+    fn fills_enough(&self, queued: usize, size: usize) -> bool
+        requires { size ≤ 2 ^ 30 }
+        ensures { result ≡ fills_enough self.now queued size }
+    {
+        self.next_place() + size == queued || self.peer.largest_window as usize / 2 <= size
+    }
+
+    /// Whether something goes, and so much is worth a segment: a full one, or enough where small ones
+    /// may go.
+    fn is_sendable(&self, queued: usize, limit: usize, part: &Part) -> bool
+        requires { queued ≤ 2 ^ 30 }
+        ensures { result ≡ is_sendable self.now queued limit (choice_of part.now) }
+    {
+        if part.fin || part.len == 0 {
+            return part.fin;
+        }
+        let ready = self.ready(limit, queued);
+        limit <= ready || self.may_be_small() && self.fills_enough(queued, ready)
     }
 
     /// The segment at SND.UNA again, where so many bytes are queued and so many of them lie there
@@ -203,11 +234,12 @@ impl Block {
         behind_by(self.sender.una, self.sender.syn_unacked as usize + place)
     }
 
-    /// Whether the window field would be at least twice what was sent last.
-    pub fn updates_window(&self, window: u16) -> bool
-        ensures { result ≡ updates_window self.now window }
+    /// Whether so much space came free that it is worth a segment of its own.
+    pub fn updates_window(&self, capacity: usize, free: usize) -> bool
+        requires { capacity ≤ 2 ^ 30 }
+        ensures { result ≡ updates_window self.now capacity free }
     {
-        self.state.takes_text() && window != 0 && self.receiver.advertised <= window / 2
+        self.state.takes_text() && self.is_worth_telling(capacity, free)
     }
 
     /// When a keep-alive is due.
@@ -222,15 +254,19 @@ impl Block {
     }
 
     /// Where the retransmission timer has run out: SND.NXT goes back to SND.UNA, and the timer is off
-    /// until a segment goes.
+    /// until a segment goes. Congestion control isn't told of a SYN.
     pub fn back_off(&mut self, now: Instant)
         ensures { self.new ≡ backed_off now self.old }
     {
         if !is_due(now, self.timers.retransmit_at) {
             return;
         }
-        self.reno.timed_out(self.sender.in_flight);
+        if !self.sender.syn_unacked {
+            self.reno.timed_out(self.sender.in_flight);
+        }
+        self.sender.syn_lost = self.sender.syn_lost || self.sender.syn_unacked;
         self.sender.in_flight = 0;
+        self.sender.timeouts = one_more(self.sender.timeouts);
         self.timers.retransmit_at = None;
         self.round_trip.back_off();
         self.round_trip.forget_sample();

@@ -102,12 +102,12 @@ impl Block {
         }
     }
 
-    /// A bare acknowledgement, at SND.NXT.
+    /// A bare acknowledgement, past all that was ever sent.
     pub fn ack_segment(&self, pair: &EndpointPair, now: Instant, window: u16) -> TcpHeader
         requires { IsMoment now }
         ensures { result ≡ ack_segment self.now pair.now now window }
     {
-        self.segment(pair, now, window, TcpControl::None, self.nxt())
+        self.segment(pair, now, window, TcpControl::None, self.top())
     }
 
     /// The same with a range that is held out of order.
@@ -189,12 +189,12 @@ impl Block {
         }
     }
 
-    /// The reset after an abort or a user timeout.
+    /// The reset after an abort or a user timeout, past all that was ever sent.
     pub fn reset_segment(&self, pair: &EndpointPair, now: Instant, window: u16) -> TcpHeader
         requires { IsMoment now }
         ensures { result ≡ reset_segment self.now pair.now now window }
     {
-        let mut header = self.segment(pair, now, window, TcpControl::Rst, self.nxt());
+        let mut header = self.segment(pair, now, window, TcpControl::Rst, self.top());
         header.ack_number = self.next_if_heard();
         header
     }
@@ -229,13 +229,13 @@ fn reset_seq(ack_number: Option<SeqNumber>) -> SeqNumber
     }
 }
 
-/// What a reset acknowledges: a SYN that came without ACK, one past its end.
+/// What a reset acknowledges: the end of a segment that came without ACK.
 fn reset_ack(header: &TcpHeader, size: usize) -> Option<SeqNumber>
     ensures { result ≡ reset_ack header.now.ack_number header.now.control header.now.seq_number size }
 {
-    match (header.ack_number, header.control) {
-        (None, TcpControl::Syn) => Some(behind_by(behind_by(header.seq_number, size), 1)),
-        _ => None,
+    match header.ack_number {
+        None => Some(behind_by(behind_by(header.seq_number, size), header.control.len())),
+        Some(_) => None,
     }
 }
 

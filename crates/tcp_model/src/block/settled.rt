@@ -2,19 +2,22 @@
 ghost use Rattle.std.specs.Prelude.{◌≡◌, ◌+◌, ◌≤◌, ◌<◌, ◌^◌};
 ghost use Rattle.net_base.specs.Time.{IsMoment};
 ghost use Rattle.tcp_model.specs.Unsettled.{EndsNear};
-ghost use Rattle.tcp_model.specs.Settled.{recorded, end_of, nxt_moved, timer_started, went, syn_went, resent, probed, sent_as};
+ghost use Rattle.tcp_model.specs.Settled.{edge_by, recorded, end_of, nxt_moved, timer_started, went, syn_went, resent, probed, sent_as};
 
+use super::opening::or_mss;
 use crate::{Block, OfferKind, OpenOffer};
 use net_base::Instant;
+use tcp_control::controls::is_syn;
 use tcp_control::moments::{later_by, timeout_from};
 
 impl Block {
     /// Records what each segment that went counts for.
-    fn record(&mut self, offer: &OpenOffer)
-        requires { IsMoment offer.now.moment }
-        ensures { self.new ≡ recorded self.old offer.now }
+    fn record(&mut self, offer: &OpenOffer, capacity: usize)
+        requires moment { IsMoment offer.now.moment }
+        requires capacity { capacity ≤ 2 ^ 30 }
+        ensures { self.new ≡ recorded self.old offer.now capacity }
     {
-        self.receiver.advertised = offer.segment.window_len;
+        self.receiver.edge = self.edge_by(offer, capacity);
         if offer.segment.ack_number.is_some() {
             self.timers.ack_at = None;
             self.timers.text_unacked = false;
@@ -22,15 +25,29 @@ impl Block {
         self.settings.keep_alive_at = later_by(offer.moment, self.settings.keep_alive);
     }
 
-    /// SND.NXT moves so far past SND.UNA, if that is higher, and the segment's round trip is timed.
+    /// The right edge of the window that a segment announced, of a receive buffer with this capacity.
+    fn edge_by(&self, offer: &OpenOffer, capacity: usize) -> u32
+        requires { capacity ≤ 2 ^ 30 }
+        ensures { result ≡ edge_by self.now offer.now capacity }
+    {
+        if is_syn(offer.segment.control) {
+            capacity as u32
+        } else {
+            (offer.segment.window_len as u32) << self.own_shift(capacity)
+        }
+    }
+
+    /// SND.NXT moves so far past SND.UNA, if that is higher. The round trip is timed of a segment that
+    /// reaches further than anything before.
     fn move_nxt(&mut self, end: u32, now: Instant)
         requires { IsMoment now }
         ensures { self.new ≡ nxt_moved self.old end now }
     {
-        if self.sender.in_flight < end {
-            self.sender.in_flight = end;
+        if self.sender.top < end {
             self.round_trip.time(end, now);
         }
+        self.sender.in_flight = self.sender.in_flight.max(end);
+        self.sender.top = self.sender.top.max(end);
     }
 
     fn start_timer(&mut self, now: Instant)
@@ -42,15 +59,23 @@ impl Block {
         }
     }
 
+    /// How far past SND.UNA the segment of an offer ends.
+    fn end_of(&self, offer: &OpenOffer) -> u32
+        requires { end_of self.now offer.now < 2 ^ 32 }
+        ensures { result ≡ end_of self.now offer.now }
+    {
+        let start = self.sender.una.distance(offer.segment.seq_number) as usize;
+        (start + offer.len + offer.segment.control.len()) as u32
+    }
+
     /// A segment from the send queue, or a SYN, went.
     fn went(&mut self, offer: &OpenOffer, queued: usize)
         requires moment { IsMoment offer.now.moment }
         requires end { end_of self.old offer.now < 2 ^ 32 }
         ensures { self.new ≡ went self.old offer.now queued }
     {
-        let start = self.sender.una.distance(offer.segment.seq_number) as usize;
-        let end = start + offer.len + offer.segment.control.len();
-        self.move_nxt(end as u32, offer.moment);
+        let end = self.end_of(offer);
+        self.move_nxt(end, offer.moment);
         self.start_timer(offer.moment);
         self.keep_probe(queued);
     }
@@ -63,26 +88,29 @@ impl Block {
         self.round_trip.forget_sample();
     }
 
-    /// A probe went: the next waits twice as long.
-    fn probed(&mut self, now: Instant)
+    /// A probe went that ends so far past SND.UNA: the next waits twice as long.
+    fn probed(&mut self, end: u32, now: Instant)
         requires { IsMoment now }
-        ensures { self.new ≡ probed self.old now }
+        ensures { self.new ≡ probed self.old end now }
     {
+        self.sender.top = self.sender.top.max(end);
         self.round_trip.back_off();
         self.timers.probe_at = Some(timeout_from(now, &self.round_trip));
     }
 
-    /// What was offered went.
-    pub fn sent(&mut self, offer: &OpenOffer, queued: usize)
+    /// What was offered went, where the receive buffer has this capacity.
+    pub fn sent(&mut self, offer: &OpenOffer, queued: usize, capacity: usize)
         requires moment { IsMoment offer.now.moment }
         requires end { EndsNear offer.now.kind self.old offer.now }
-        ensures { self.new ≡ sent_as offer.now.kind (recorded self.old offer.now) offer.now queued }
+        requires capacity { capacity ≤ 2 ^ 30 }
+        ensures { self.new ≡ sent_as offer.now.kind (recorded self.old offer.now capacity) offer.now queued }
     {
-        self.record(offer);
+        self.record(offer, capacity);
         match offer.kind {
             OfferKind::Reset => self.forget(),
             OfferKind::Syn => {
                 self.sender.stamped = offer.segment.options.timestamp.is_some();
+                self.receiver.mss = or_mss(offer.segment.options.max_seg_size);
                 self.went(offer, queued);
             }
             OfferKind::FastRetransmission => {
@@ -90,8 +118,13 @@ impl Block {
                 self.went(offer, queued);
             }
             OfferKind::Text => self.went(offer, queued),
-            OfferKind::Probe => self.probed(offer.moment),
-            OfferKind::Ack | OfferKind::WindowUpdate | OfferKind::KeepAlive => {}
+            OfferKind::Probe => {
+                let end = self.end_of(offer);
+                self.probed(end, offer.moment);
+                self.ask(offer.moment);
+            }
+            OfferKind::KeepAlive => self.ask(offer.moment),
+            OfferKind::Ack | OfferKind::WindowUpdate => {}
         }
     }
 }

@@ -3,7 +3,6 @@ ghost use Rattle.std.specs.Prelude.{◌≡◌, ◌+◌, ◌≤◌, ◌<◌, ◌^
 ghost use Rattle.net_base.specs.Time.{IsMoment};
 ghost use Rattle.tcp_model.specs.Text.{with_next, is_at_fin, takes_fin, fin_taken, with_fin};
 ghost use Rattle.tcp_model.specs.Answers.{ack_recorded, may_draw, delayed, sooner, ack_moment_after, ack_due, numbers_of};
-ghost use Rattle.tcp_model.specs.Arrival.{timers_moved};
 
 use crate::Block;
 use ip_wire::{SeqNumber, TcpHeader};
@@ -18,6 +17,7 @@ impl Block {
         ensures { self.new ≡ with_next self.old count }
     {
         self.receiver.next = behind_by(self.receiver.next, count);
+        self.receiver.edge = (self.receiver.edge as usize).saturating_sub(count) as u32;
     }
 
     /// Whether a segment starts at or before RCV.NXT, and ends where RCV.NXT is once it rose by so much.
@@ -49,24 +49,17 @@ impl Block {
         {
             self.enter(self.state.after_fin(), now);
             self.receiver.next = behind_by(self.receiver.next, 1);
+            self.receiver.edge = self.receiver.edge.saturating_sub(1);
             self.receiver.took_fin = true;
         }
     }
 
-    /// The timers that an accepted segment moves beside the acknowledgement that is due.
-    pub fn move_timers(&mut self, now: Instant, queued: usize)
-        requires { queued ≤ 2 ^ 30 }
-        ensures { self.new ≡ timers_moved self.old now queued }
+    /// An acknowledgement of all that came went out, with this window field, for a receive buffer of this
+    /// capacity.
+    pub fn record_ack(&mut self, capacity: usize, window: u16)
+        ensures { self.new ≡ ack_recorded self.old capacity window }
     {
-        self.restart_timeout(now, queued);
-        self.keep_probe(queued);
-    }
-
-    /// An acknowledgement of all that came went out, with this window field.
-    pub fn record_ack(&mut self, window: u16)
-        ensures { self.new ≡ ack_recorded self.old window }
-    {
-        self.receiver.advertised = window;
+        self.receiver.edge = (window as u32) << self.own_shift(capacity);
         self.timers.ack_at = None;
         self.timers.text_unacked = false;
     }
@@ -78,22 +71,28 @@ impl Block {
         self.timers.draws_from.is_none() || is_due(now, self.timers.draws_from)
     }
 
-    /// Makes an acknowledgement due: at once for a FIN or a second segment with text, for a first one
-    /// after the delay.
-    pub fn ack_due(&mut self, header: &TcpHeader, size: usize, now: Instant)
+    /// Makes an acknowledgement due: at once for a FIN, for text in order while other text is held, or
+    /// for a second segment with text, for a first one after the delay.
+    pub fn ack_due(&mut self, header: &TcpHeader, size: usize, fills: bool, now: Instant)
         requires { IsMoment now }
-        ensures { self.new ≡ ack_due self.old header.now size now }
+        ensures { self.new ≡ ack_due self.old header.now size fills now }
     {
-        self.timers.ack_at = self.ack_moment_after(header, size, now);
+        self.timers.ack_at = self.ack_moment_after(header, size, fills, now);
         self.timers.text_unacked = self.timers.text_unacked || size != 0;
     }
 
     /// When an acknowledgement is due after a segment with so many bytes.
-    fn ack_moment_after(&self, header: &TcpHeader, size: usize, now: Instant) -> Option<Instant>
+    fn ack_moment_after(
+        &self,
+        header: &TcpHeader,
+        size: usize,
+        fills: bool,
+        now: Instant,
+    ) -> Option<Instant>
         requires { IsMoment now }
-        ensures { result ≡ ack_moment_after self.now header.now size now }
+        ensures { result ≡ ack_moment_after self.now header.now size fills now }
     {
-        if is_fin(header.control) {
+        if is_fin(header.control) || fills {
             Some(now)
         } else if size == 0 {
             self.timers.ack_at

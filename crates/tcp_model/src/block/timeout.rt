@@ -2,7 +2,7 @@
 ghost use Rattle.std.specs.Prelude.{◌≡◌, ◌≤◌, ◌^◌, IfSome};
 ghost use Rattle.net_base.specs.Time.{IsMoment};
 ghost use Rattle.tcp_model.specs.Timeout.{waits_for_remote, timeout_runs, timeout_restarted, timeout_kept, is_timeout_unset, timeout_started, timeout_end, timed_out};
-ghost use Rattle.tcp_model.specs.Probing.{is_probing, probe_kept, is_probe_unset, probe_started, probe_moment};
+ghost use Rattle.tcp_model.specs.Probing.{is_window_small, is_probing, probe_kept, is_probe_unset, probe_started, probe_moment};
 
 use crate::{Block, State};
 use net_base::Instant;
@@ -20,12 +20,14 @@ impl Block {
             || self.settings.keep_alive.is_some()
     }
 
-    /// Whether the user timeout runs.
+    /// Whether the user timeout runs. TIME-WAIT ends by its own moment alone.
     pub fn timeout_runs(&self, queued: usize) -> bool
         requires { queued ≤ 2 ^ 30 }
         ensures { result ≡ timeout_runs self.now queued }
     {
-        self.settings.timeout.is_some() && !self.state.is_closed() && self.waits_for_remote(queued)
+        self.settings.timeout.is_some()
+            && !(self.state.is_closed() || self.state.is_time_wait())
+            && self.waits_for_remote(queued)
     }
 
     /// An accepted segment starts the user timeout again, if it still runs.
@@ -91,14 +93,20 @@ impl Block {
         self.sender.reset_due = true;
     }
 
-    /// Whether bytes are queued, nothing is in flight, and the remote's window is closed.
+    /// Whether the window is closed, or takes neither all that is queued nor half of the largest window
+    /// that the remote named.
+    fn is_window_small(&self, queued: usize) -> bool
+        ensures { result ≡ is_window_small self.now queued }
+    {
+        let enough = (self.peer.largest_window as usize / 2).max(1);
+        self.window_limit(queued) < queued.min(enough)
+    }
+
+    /// Whether bytes are queued, nothing is in flight, and the window holds them back.
     pub fn is_probing(&self, queued: usize) -> bool
         ensures { result ≡ is_probing self.now queued }
     {
-        self.state.sends_text()
-            && self.peer.window == 0
-            && queued != 0
-            && self.sender.in_flight == 0
+        self.state.sends_text() && self.is_window_small(queued) && self.sender.in_flight == 0
     }
 
     /// Forgets the moment of the next probe where the window isn't probed any more.

@@ -1,4 +1,4 @@
-use Rattle.std.proofs.Common.{◌≡◌, ℕ, ◌+◌, ◌-◌, ◌==◌, ◌<◌, ◌≤◌, ◌^◌, min, Bool, true, false, List, [], length, take, Option, Some, None, if◌then◌else◌, refl, sym, ap, subst, ◌∙◌, arith}
+use Rattle.std.proofs.Common.{◌≡◌, length, ap, ◌∙◌}
 use Rattle.tcp_model.specs.Value.{TcpValue}
 use Rattle.tcp_model.specs.Arrival.{arrives_in}
 use Rattle.tcp_model.specs.State.TheVariants as In
@@ -25,7 +25,7 @@ returns-in_default g c =
     let not_closed : v.block.state ≡ In.Closed → ⊥ = λ h. c.in_default.not-Closed (at ∙ h) in
     let not_listen : v.block.state ≡ In.Listen → ⊥ = λ h. c.in_default.not-Listen (at ∙ h) in
     let not_opening : v.block.state ≡ In.SynSent → ⊥ = λ h. c.in_default.not-SynSent (at ∙ h) in
-    let leads = later_leads cx v i.ip_repr.now i.header i.bytes.now (answer_of c.check.result cx.moment c.check.new.self i.ip_repr.now i.header (length i.bytes.now)) c.check.new.self not_closed not_listen not_opening c.check.ensures.answer c.check.ensures.socket in
+    let leads = later_leads cx v i.ip_repr.now i.header i.bytes.now (answer_of c.receive.result cx.moment c.receive.new.self i.ip_repr.now i.header (length i.bytes.now)) c.receive.new.self not_closed not_listen not_opening c.receive.ensures.answer c.receive.ensures.socket in
     record {
       answer = leads.answer;
       socket = leads.socket;

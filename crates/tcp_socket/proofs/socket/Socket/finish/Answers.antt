@@ -1,10 +1,7 @@
-use Rattle.std.proofs.Common.{◌≡◌, ℕ, ◌+◌, ◌-◌, ◌==◌, ◌<◌, ◌≤◌, ◌^◌, min, Bool, true, false, List, [], length, take, Option, Some, None, if◌then◌else◌, refl, sym, ap, subst, ◌∙◌, arith}
+use Rattle.std.proofs.Common.{◌≡◌, length, None, ap, ◌∙◌}
 use Rattle.tcp_model.specs.Value.{TcpValue}
-use Rattle.tcp_model.specs.OpenOffer.{OpenOffer}
-use Rattle.tcp_model.specs.declared.block.Block.{Block}
-use Rattle.tcp_model.specs.Arrival.{timers_moved}
 use Rattle.tcp_socket.specs.Answering.{answer_of}
-use Rattle.tcp_socket.proofs.Kept.{none_open, kept_timers}
+use Rattle.tcp_socket.proofs.Kept.{none_open}
 use Rattle.tcp_socket.proofs.Steps.{finish_leads}
 use Rattle.tcp_socket.proofs.socket.Socket.finish.Goals as goal
 
@@ -15,8 +12,8 @@ invariant_of-self g c =
     in
     record {
       room = c.self.invariant.room;
-      block = rw c.move_timers.ensures (kept_timers c.self.inside.block c.now-now.result c.len.result c.now-now.ensures.moment c.self.invariant.block.mss);
-      unsettled = none_open c.self.inside.offered c.move_timers.new.self c.self.inside.queued none;
+      block = rw c.keep_probe.ensures (record { start = c.self.invariant.block.start; mss = c.self.invariant.block.mss });
+      unsettled = none_open c.self.inside.offered c.keep_probe.new.self c.self.inside.queued none;
     }
 
 pub returns-clause-answer : goal.returns-clause-answer
@@ -24,11 +21,11 @@ returns-clause-answer g c =
     let cx = g.C.Context.context c.args.cx.now in
     let i = c.args.incoming.now in
     let answer = answer_of c.answer.result cx.moment c.answer.new.self i.ip_repr.now i.header (length i.bytes.now) in
-    (finish_leads cx c.args.next c.self.inside.block c.move_timers.new.self c.self.inside.received c.self.inside.queued c.self.inside.offered c.args.self.now c.take_fin.new.self c.args.text.now.advance c.args.text.now.early i.ip_repr.now i.header (length i.bytes.now) c.len.result c.now-now.result answer c.answer.new.self c.self.view_is c.now-now.ensures.value c.len.ensures c.take_fin.ensures c.move_timers.ensures c.answer.ensures.answer c.answer.ensures.socket).answer
+    (finish_leads cx c.args.next c.self.inside.block c.keep_probe.new.self c.self.inside.received c.self.inside.queued c.self.inside.offered c.args.self.now c.take_fin.new.self c.args.text.now.advance c.args.text.now.fills c.args.text.now.early i.ip_repr.now i.header (length i.bytes.now) c.len.result c.now-now.result answer c.answer.new.self c.self.view_is c.now-now.ensures.value c.len.ensures c.take_fin.ensures c.keep_probe.ensures c.answer.ensures.answer c.answer.ensures.socket).answer
 
 pub returns-clause-socket : goal.returns-clause-socket
 returns-clause-socket g c =
     let cx = g.C.Context.context c.args.cx.now in
     let i = c.args.incoming.now in
     let answer = answer_of c.answer.result cx.moment c.answer.new.self i.ip_repr.now i.header (length i.bytes.now) in
-    (finish_leads cx c.args.next c.self.inside.block c.move_timers.new.self c.self.inside.received c.self.inside.queued c.self.inside.offered c.args.self.now c.take_fin.new.self c.args.text.now.advance c.args.text.now.early i.ip_repr.now i.header (length i.bytes.now) c.len.result c.now-now.result answer c.answer.new.self c.self.view_is c.now-now.ensures.value c.len.ensures c.take_fin.ensures c.move_timers.ensures c.answer.ensures.answer c.answer.ensures.socket).socket
+    (finish_leads cx c.args.next c.self.inside.block c.keep_probe.new.self c.self.inside.received c.self.inside.queued c.self.inside.offered c.args.self.now c.take_fin.new.self c.args.text.now.advance c.args.text.now.fills c.args.text.now.early i.ip_repr.now i.header (length i.bytes.now) c.len.result c.now-now.result answer c.answer.new.self c.self.view_is c.now-now.ensures.value c.len.ensures c.take_fin.ensures c.keep_probe.ensures c.answer.ensures.answer c.answer.ensures.socket).socket

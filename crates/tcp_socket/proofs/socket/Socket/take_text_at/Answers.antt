@@ -1,4 +1,4 @@
-use Rattle.std.proofs.Common.{◌≡◌, ℕ, ◌+◌, ◌-◌, ◌==◌, ◌<◌, ◌≤◌, ◌^◌, min, Bool, true, false, List, [], length, take, Option, Some, None, if◌then◌else◌, refl, sym, ap, subst, ◌∙◌, arith}
+use Rattle.std.proofs.Common.{◌≡◌, ◌-◌, ◌==◌, ◌<◌, min, true, false, length, ap, ◌∙◌, arith}
 use Rattle.tcp_model.specs.States.{takes_text}
 use Rattle.tcp_model.specs.Text.{texted}
 use Rattle.tcp_model.specs.Value.{TcpValue}
@@ -8,7 +8,7 @@ use Rattle.tcp_socket.proofs.socket.Socket.take_text_at.Goals as goal
 pub returns-clause-text : goal.returns-clause-text
 returns-clause-text c =
     let v = c.args.self.now in
-    let t = texted c.take_bytes.new.self c.take_bytes.result.advance c.take_bytes.result.early in
+    let t = texted c.take_bytes.new.self c.take_bytes.result.advance c.take_bytes.result.fills c.take_bytes.result.early in
     let room : length c.self.inside.received.map ≡ length v.received.map = ap (λ (w : TcpValue). length w.received.map) c.self.view_is in
     let state : takes_text c.self.inside.block.state ≡ takes_text v.block.state = ap (λ (w : TcpValue). takes_text w.block.state) c.self.view_is in
     let takes : takes_text v.block.state ≡ true = grind (arith, state, c.takes_text.ensures, c.if-not-takes_text.false) in

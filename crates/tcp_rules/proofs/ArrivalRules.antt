@@ -1,0 +1,237 @@
+-- What a segment that comes does to what is in flight, and where its answer lies.
+use Rattle.std.proofs.Common.{◌≡◌, ◌⊎◌, inl, inr, ℕ, ◌==◌, ◌&&◌, nat_le, not, ℤ, Bool, true, false, if◌then◌else◌, List, Option, Some, None, is_some, length, drop, refl, sym, ap, ◌∙◌, subst}
+use Rattle.std.proofs.lemmas.Bool.{cond_both}
+use Rattle.held_bytes.specs.Held.{runs_of}
+use Rattle.ip_wire.specs.IpRepr.{IpRepr}
+use Rattle.ip_wire.specs.TcpHeader.{TcpHeader}
+use Rattle.net_base.specs.RandomWords.{word}
+use Rattle.socket_base.specs.Context.{ContextValue, next_random}
+use Rattle.tcp_control.specs.Controls.{is_syn, is_rst}
+use Rattle.tcp_control.specs.Offsets.{past_by, before_by}
+use Rattle.tcp_control.specs.States.{is_closed, is_listening, after_fin, takes_text}
+use Rattle.tcp_control.specs.declared.offer.Reply.{Reply}
+use Rattle.tcp_control.specs.declared.state.State.{State}
+use Rattle.tcp_control.specs.declared.state.State.TheVariants as In
+use Rattle.tcp_control.specs.Endpoints.{pair_in}
+use Rattle.tcp_model.specs.Acknowledged.{acknowledged, duplicates_after, names_window, windowed, stamp_taken, ranges_taken, counted, una_moved}
+use Rattle.tcp_model.specs.Answers.{drawn, may_draw, with_draw, acked, answer_for, range_held}
+use Rattle.tcp_model.specs.Arrival.{waiting_anew, outside, passed_outside, tells_news, finished, with_content, told, taken, inside, checked, takes_reset, challenges_reset, reset_comes, challenges_syn, received, arrives_in, arrives, is_void_syn}
+use Rattle.tcp_model.specs.Calls.{listening}
+use Rattle.tcp_model.specs.Checks.{Check, acknowledgement_check, is_in_window, taken_down, falls_back}
+use Rattle.tcp_model.specs.Checks.Check.{Passes, Old, Drops, Draws, Resets}
+use Rattle.tcp_model.specs.Opening.{is_first_syn, opens, takes_answer, acks_syn, syn_answered, connected, crossed, answering, took_syn}
+use Rattle.tcp_model.specs.Probing.{probe_kept}
+use Rattle.tcp_model.specs.Retries.{heard}
+use Rattle.tcp_model.specs.Segments.{rst_reply, reply_to, hops_of, sack_segment}
+use Rattle.tcp_model.specs.Text.{Texted, texted, with_text, with_text_at, with_bytes_at, taken_in_order, held_early, laid, has_new_text, with_fin, takes_fin, fin_taken}
+use Rattle.tcp_model.specs.Timeout.{timeout_restarted}
+use Rattle.tcp_model.specs.Value.{TcpValue, Arrived, with_block, dropped, answered_with, unoffered, ended, queued_in, free_in, received_of, window_of}
+use Rattle.tcp_model.specs.declared.block.Block.{Block}
+use Rattle.tcp_rules.specs.Flight.{flight_of, Goes, IsPastAll}
+use Rattle.tcp_rules.proofs.Steps.{same, goes_on, anew, una_goes, acked_goes}
+
+same_reply : (b : Block) (mine reply : Reply) → IsPastAll b mine → Some mine ≡ Some reply → IsPastAll b reply
+same_reply b mine reply past e = let it : mine ≡ reply = cc in subst (IsPastAll b) it past
+
+listening_after_fin : (state : State) → is_listening (after_fin state) ≡ is_listening state
+listening_after_fin In.Listen = refl
+listening_after_fin other = refl
+
+module _ (cx : ContextValue) (ip : IpRepr) (header : TcpHeader) where
+  abbrev Sound : Block → Arrived → Type 0
+  Sound old a = Goes old a.socket.block × ((reply : Reply) → a.answer ≡ Some reply → IsPastAll a.socket.block reply)
+
+  by_dropped : (old : Block) (v : TcpValue) → Goes old v.block → Sound old (dropped v)
+  by_dropped old v goes = (goes, λ reply e. absurd (cc))
+
+  by_acked : (old : Block) (v : TcpValue) (range : Option (ℕ × ℕ)) → Goes old v.block → Sound old (acked cx v ip header range)
+  by_acked old v range goes = (
+    goes_on old v.block (acked cx v ip header range).socket.block goes refl refl,
+    λ reply e. same_reply (acked cx v ip header range).socket.block
+        (reply_to ip (hops_of v.block.settings.hop_limit) (sack_segment v.block (pair_in ip header) cx.moment (window_of v) range)) reply (inr refl) e,
+  )
+
+  by_drawn : (old : Block) (v : TcpValue) → Goes old v.block → Sound old (drawn cx v ip header)
+  by_drawn old v goes =
+      cond_both (may_draw cx.moment v.block.timers.draws_from) (acked cx (with_draw v cx.moment) ip header None) (dropped v) (Sound old)
+      (λ _. by_acked old (with_draw v cx.moment) None (goes_on old v.block (with_draw v cx.moment).block goes refl refl))
+      (λ _. by_dropped old v goes)
+
+  by_reset : (v : TcpValue) (size : ℕ) → Sound v.block (answered_with v (rst_reply ip header size))
+  by_reset v size = (same v.block v.block refl, λ reply e. same_reply v.block (rst_reply ip header size) reply (inl refl) e)
+
+  stays : (v : TcpValue) → Sound v.block (dropped v)
+  stays v = by_dropped v.block v (same v.block v.block refl)
+
+  draws : (v : TcpValue) → Sound v.block (drawn cx v ip header)
+  draws v = by_drawn v.block v (same v.block v.block refl)
+
+  -- the text and the FIN leave what is in flight
+  abbrev Leaves : Block → Block → Type 0
+  Leaves old new = (flight_of new ≡ flight_of old) × (is_listening new.state ≡ is_listening old.state)
+
+  text_leaves : (v : TcpValue) (place : ℕ) (bytes : List ℕ) → Leaves v.block (with_text_at v place bytes).socket.block
+  text_leaves v place bytes =
+      cond_both (takes_text v.block.state && has_new_text v place bytes) (with_bytes_at v place bytes) (texted v 0 false None) (λ (t : Texted). Leaves v.block t.socket.block)
+      (λ _.
+      cond_both (place == 0) (taken_in_order v (laid v place bytes)) (held_early v place (laid v place bytes)) (λ (t : Texted). Leaves v.block t.socket.block)
+      (λ _. (refl, refl))
+      (λ _.
+      cond_both (nat_le (length (runs_of (laid v place bytes))) 4)
+      (texted (record v { received = received_of v.received.waiting (laid v place bytes) v.received.start }) 0 false (Some place)) (texted v 0 false None)
+      (λ (t : Texted). Leaves v.block t.socket.block)
+      (λ _. (refl, refl))
+      (λ _. (refl, refl))))
+      (λ _. (refl, refl))
+
+  fin_leaves : (b old : Block) (size advance : ℕ) → Leaves b (with_fin b old header size advance cx.moment)
+  fin_leaves b old size advance =
+      cond_both (takes_fin old header size advance) (fin_taken b cx.moment) b (Leaves b)
+      (λ _. (refl, listening_after_fin b.state))
+      (λ _. (refl, refl))
+
+  by_answer : (old : Block) (v : TcpValue) (size : ℕ) (fills : Bool) (early : Option ℕ) → Goes old v.block → Sound old (answer_for cx v ip header size fills early)
+  by_answer old v size fills (Some place) goes = by_acked old v (range_held v place) goes
+  by_answer old v size fills None goes =
+      by_dropped old (answer_for cx v ip header size fills None).socket (goes_on old v.block (answer_for cx v ip header size fills None).socket.block goes refl refl)
+
+  by_content : (old : Block) (v : TcpValue) (bytes : List ℕ) → Goes old v.block → Sound old (with_content cx v ip header bytes)
+  by_content old v bytes goes =
+      let t = with_text v header bytes in
+      let text = text_leaves v (past_by v.block.receiver.next header.seq_number) (drop (before_by v.block.receiver.next header.seq_number) bytes) in
+      let fin = fin_leaves t.socket.block v.block (length bytes) t.advance in
+      let new = with_fin t.socket.block v.block header (length bytes) t.advance cx.moment in
+      by_answer old (with_block t.socket (probe_kept new (queued_in t.socket))) (length bytes) t.fills t.early
+      (goes_on old t.socket.block (probe_kept new (queued_in t.socket)) (goes_on old v.block t.socket.block goes text.0 text.1) fin.0 fin.1)
+
+  told_leaves : (w : TcpValue) (duplicates : ℕ) → Leaves w.block (told w header duplicates cx.moment).block
+  told_leaves w duplicates =
+      cond_both (names_window w.block header) (windowed w.block header) w.block
+      (λ (b : Block). Leaves w.block (timeout_restarted (counted (ranges_taken (stamp_taken b header) header) duplicates) cx.moment (queued_in w)))
+      (λ _. (refl, refl))
+      (λ _. (refl, refl))
+
+  by_taken : (v : TcpValue) (bytes : List ℕ) (by : ℕ) → Sound v.block (taken cx v ip header bytes by)
+  by_taken v bytes by =
+      let w = acknowledged v by cx.moment in
+      let heeded = told w header (duplicates_after v.block header (length bytes) by) cx.moment in
+      let goes = acked_goes v.block by (queued_in v) cx.moment in
+      cond_both (is_closed w.block.state) (dropped w) (with_content cx heeded ip header bytes) (Sound v.block)
+      (λ _. by_dropped v.block w goes)
+      (λ _.
+      let heeds = told_leaves w (duplicates_after v.block header (length bytes) by) in
+      by_content v.block heeded bytes (goes_on v.block w.block heeded.block goes heeds.0 heeds.1))
+
+  by_outside : (old : Block) (w : TcpValue) → Goes old w.block → Sound old (outside cx w ip header)
+  by_outside old w goes =
+      cond_both (is_closed w.block.state) (dropped w) (drawn cx (waiting_anew w header cx.moment) ip header) (Sound old)
+      (λ _. by_dropped old w goes)
+      (λ _. by_drawn old (waiting_anew w header cx.moment) (goes_on old w.block (waiting_anew w header cx.moment).block goes refl refl))
+
+  by_checked : (check : Check) (v : TcpValue) (bytes : List ℕ) → Sound v.block (checked check cx v ip header bytes)
+  by_checked (Passes by) v bytes =
+      cond_both (is_in_window v.block (free_in v) header (length bytes)) (inside cx v ip header bytes by) (passed_outside cx v ip header (length bytes) by) (Sound v.block)
+      (λ _.
+      cond_both (is_syn header.control) (drawn cx v ip header) (taken cx v ip header bytes by) (Sound v.block)
+      (λ _. draws v)
+      (λ _. by_taken v bytes by))
+      (λ _.
+      cond_both (tells_news v header (length bytes)) (outside cx (acknowledged v by cx.moment) ip header) (outside cx v ip header) (Sound v.block)
+      (λ _. by_outside v.block (acknowledged v by cx.moment) (acked_goes v.block by (queued_in v) cx.moment))
+      (λ _. by_outside v.block v (same v.block v.block refl)))
+  by_checked Old v bytes =
+      cond_both (is_in_window v.block (free_in v) header (length bytes)) (with_content cx (with_block v (heard v.block)) ip header bytes) (outside cx v ip header) (Sound v.block)
+      (λ _. by_content v.block (with_block v (heard v.block)) bytes (same v.block (heard v.block) refl))
+      (λ _. by_outside v.block v (same v.block v.block refl))
+  by_checked Drops v bytes = stays v
+  by_checked Draws v bytes = draws v
+  by_checked Resets v bytes = by_reset v (length bytes)
+
+  by_down : (v : TcpValue) → Sound v.block (dropped (taken_down v))
+  by_down v =
+      cond_both (falls_back v.block) (listening v v.block.names.listen) (ended v) (λ (w : TcpValue). Sound v.block (dropped w))
+      (λ _. by_dropped v.block (listening v v.block.names.listen) (anew v.block (listening v v.block.names.listen).block refl refl))
+      (λ _. by_dropped v.block (ended v) (same v.block (ended v).block refl))
+
+  by_received : (v : TcpValue) (bytes : List ℕ) → Sound v.block (received cx v ip header bytes)
+  by_received v bytes =
+      cond_both (is_rst header.control) (reset_comes cx v ip header (length bytes))
+      (if challenges_syn v.block header then drawn cx v ip header else checked (acknowledgement_check v.block header.ack_number) cx v ip header bytes)
+      (Sound v.block)
+      (λ _.
+      cond_both (takes_reset v.block header) (dropped (taken_down v)) (if challenges_reset v header (length bytes) then drawn cx v ip header else dropped v) (Sound v.block)
+      (λ _. by_down v)
+      (λ _.
+      cond_both (challenges_reset v header (length bytes)) (drawn cx v ip header) (dropped v) (Sound v.block)
+      (λ _. draws v)
+      (λ _. stays v)))
+      (λ _.
+      cond_both (challenges_syn v.block header) (drawn cx v ip header) (checked (acknowledgement_check v.block header.ack_number) cx v ip header bytes) (Sound v.block)
+      (λ _. draws v)
+      (λ _. by_checked (acknowledgement_check v.block header.ack_number) v bytes))
+
+  -- a listener takes a SYN: nothing is in flight
+  begun : (old new : Block) → is_listening old.state ≡ true → new.sender.in_flight ≡ 0 → Goes old new
+  begun old new listens none = record {
+    armed = λ _ some. absurd (let zero : (new.sender.in_flight == 0) ≡ true = ap (λ (n : ℕ). n == 0) none in let clash : true ≡ false = sym zero ∙ some in cc);
+    rises = λ before _. absurd (let clash : true ≡ false = sym listens ∙ before in cc);
+  }
+
+  by_opens : (v : TcpValue) → v.block.state ≡ In.Listen → Sound v.block (opens cx v ip header)
+  by_opens v at =
+      let answers : TcpValue = with_block v (timeout_restarted (answering v.block ip header (word (next_random cx).random)) cx.moment 0) in
+      cond_both (is_first_syn header) (record { socket = answers; answer = None; draws = true }) (dropped v) (Sound v.block)
+      (λ _. (begun v.block answers.block (ap is_listening at) refl, λ reply none. absurd (cc)))
+      (λ _. stays v)
+
+  by_syn : (v : TcpValue) → Goes v.block (timeout_restarted (syn_answered v.block header cx.moment) cx.moment (queued_in v))
+  by_syn v =
+      cond_both (is_some header.ack_number) (connected v.block header cx.moment) (crossed v.block header) (λ (b : Block). Goes v.block (timeout_restarted b cx.moment (queued_in v)))
+      (λ _.
+      let new = timeout_restarted (connected v.block header cx.moment) cx.moment (queued_in v) in
+      let taken = una_goes (took_syn v.block header) 1 0 cx.moment new refl in
+      record { armed = taken.armed; rises = taken.rises })
+      (λ _. same v.block (timeout_restarted (crossed v.block header) cx.moment (queued_in v)) refl)
+
+  by_answer_to_syn : (v : TcpValue) (bytes : List ℕ) → Sound v.block (takes_answer cx v ip header bytes)
+  by_answer_to_syn v bytes =
+      let answered = with_block v (timeout_restarted (syn_answered v.block header cx.moment) cx.moment (queued_in v)) in
+      cond_both (is_rst header.control) (if acks_syn v.block.sender.una header.ack_number then dropped (ended v) else dropped v)
+      (if is_some header.ack_number && not (acks_syn v.block.sender.una header.ack_number)
+      then answered_with v (rst_reply ip header (length bytes))
+      else if is_syn header.control
+      then dropped answered
+      else dropped v)
+      (Sound v.block)
+      (λ _.
+      cond_both (acks_syn v.block.sender.una header.ack_number) (dropped (ended v)) (dropped v) (Sound v.block)
+      (λ _. by_dropped v.block (ended v) (same v.block (ended v).block refl))
+      (λ _. stays v))
+      (λ _.
+      cond_both (is_some header.ack_number && not (acks_syn v.block.sender.una header.ack_number)) (answered_with v (rst_reply ip header (length bytes)))
+      (if is_syn header.control then dropped answered else dropped v) (Sound v.block)
+      (λ _. by_reset v (length bytes))
+      (λ _.
+      cond_both (is_syn header.control) (dropped answered) (dropped v) (Sound v.block)
+      (λ _. by_dropped v.block answered (by_syn v))
+      (λ _. stays v)))
+
+  by_state : (state : State) (v : TcpValue) (bytes : List ℕ) → v.block.state ≡ state → Sound v.block (arrives_in state cx v ip header bytes)
+  by_state In.Closed v bytes at = stays v
+  by_state In.Listen v bytes at = by_opens v at
+  by_state In.SynSent v bytes at = by_answer_to_syn v bytes
+  by_state other v bytes at = by_received v bytes
+
+  pub sound_arrival : (v : TcpValue) (bytes : List ℕ) → Sound v.block (arrives cx v ip header bytes)
+  sound_arrival v bytes =
+      cond_both (is_void_syn header) (dropped (unoffered v)) (arrives_in v.block.state cx (unoffered v) ip header bytes) (Sound v.block)
+      (λ _. stays (unoffered v))
+      (λ _. by_state v.block.state (unoffered v) bytes refl)
+
+pub arrival_goes : (cx : ContextValue) (v : TcpValue) (ip : IpRepr) (header : TcpHeader) (bytes : List ℕ) → Goes v.block (arrives cx v ip header bytes).socket.block
+arrival_goes cx v ip header bytes = (sound_arrival cx ip header v bytes).0
+
+pub answers_past_all :
+    (cx : ContextValue) (v : TcpValue) (ip : IpRepr) (header : TcpHeader) (bytes : List ℕ) (reply : Reply) → (arrives cx v ip header bytes).answer ≡ Some reply
+    → IsPastAll (arrives cx v ip header bytes).socket.block reply
+answers_past_all cx v ip header bytes = (sound_arrival cx ip header v bytes).1

@@ -1,0 +1,4 @@
+mod Steps
+pub mod ArrivalRules
+pub mod OfferRules
+pub mod RunRules

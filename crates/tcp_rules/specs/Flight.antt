@@ -1,0 +1,50 @@
+-- What a socket has in flight: how far past SND.UNA it was sent, what was ever sent, and the timer of what isn't acknowledged.
+use Rattle.std.specs.Prelude.{◌≡◌, ◌⊎◌, ℕ, ◌+◌, ◌<◌, ◌≤◌, ◌==◌, ◌||◌, ℤ, Bool, true, false, Option, Some, None, is_some}
+use Rattle.ip_wire.specs.TcpControl.TheVariants as Control
+use Rattle.tcp_control.specs.States.{is_listening}
+use Rattle.tcp_control.specs.declared.offer.OfferKind.{OfferKind}
+use Rattle.tcp_control.specs.declared.offer.OfferKind.TheVariants as Kind
+use Rattle.tcp_control.specs.declared.offer.OpenOffer.{OpenOffer}
+use Rattle.tcp_control.specs.declared.offer.Reply.{Reply}
+use Rattle.tcp_model.specs.Blocks.{top}
+use Rattle.tcp_model.specs.declared.block.Block.{Block}
+
+pub record Flight : Type 0 where
+  pub past_iss : ℕ  -- SND.UNA less ISS, as far as it is counted
+  pub in_flight : ℕ  -- SND.NXT less SND.UNA
+  pub top : ℕ  -- one past the highest position that was ever sent, less SND.UNA
+  pub retransmit_at : Option ℤ
+
+abbrev pub flight_of : Block → Flight
+flight_of b = record {
+  past_iss = b.sender.past_iss;
+  in_flight = b.sender.in_flight;
+  top = b.sender.top;
+  retransmit_at = b.timers.retransmit_at;
+}
+
+-- what is in flight has a timer that runs (RFC 6298, 5.1)
+abbrev pub IsArmed : Flight → Type 0
+IsArmed f = (f.in_flight == 0) ≡ false → is_some f.retransmit_at ≡ true
+
+-- The highest position that was sent, counted from ISS, never falls, nor does SND.UNA, as long as the latter is counted.
+abbrev pub Rises : Flight → Flight → Type 0
+Rises f g = g.past_iss < 4_294_967_295 → (f.past_iss ≤ g.past_iss) × (f.past_iss + f.top ≤ g.past_iss + g.top)
+
+-- one step of a socket; it may begin a connection, or take a listener back
+pub record Goes (old new : Block) : Type 0 where
+  pub armed : IsArmed (flight_of old) → IsArmed (flight_of new)
+  pub rises : is_listening old.state ≡ false → is_listening new.state ≡ false → Rises (flight_of old) (flight_of new)
+
+-- WHERE BARE SEGMENTS LIE
+
+-- what answers a segment is a reset, or lies past all that was ever sent
+abbrev pub IsPastAll : Block → Reply → Type 0
+IsPastAll b reply = (reply.segment.control ≡ Control.Rst) ⊎ (reply.segment.seq_number ≡ top b)
+
+-- an offer that carries neither text nor SYN nor FIN
+abbrev pub is_bare : OfferKind → Bool
+is_bare Kind.Ack = true
+is_bare Kind.WindowUpdate = true
+is_bare Kind.Reset = true
+is_bare other = false
