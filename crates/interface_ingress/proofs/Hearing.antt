@@ -93,9 +93,7 @@ asked-own : (i : InnerValue) (header : Ipv6Repr) (target : Ipv6Address) (b : Boo
     → IsTrue (is_own i (Address.Ipv6 target))
 asked-own i header target true asked =
     either i.any_ip (list_any (is_address_of (Address.Ipv6 target)) i.addresses)
-    (second (solicits header.dst_addr target) (list_any (is_address_of (Address.Ipv6 target)) i.addresses)
-    (second (not (is_loopback_v6 target)) (solicits header.dst_addr target && list_any (is_address_of (Address.Ipv6 target)) i.addresses)
-    (second (is_unicast_v6 target) (not (is_loopback_v6 target) && (solicits header.dst_addr target && list_any (is_address_of (Address.Ipv6 target)) i.addresses)) asked)))
+    (second (is_unicast_v6 target && not (is_loopback_v6 target) && solicits header.dst_addr target) (list_any (is_address_of (Address.Ipv6 target)) i.addresses) asked)
 asked-own i header target false asked =
     second (is_own_solicited_node i header.dst_addr || is_own i (Address.Ipv6 header.dst_addr)) (is_own i (Address.Ipv6 target)) asked
 
