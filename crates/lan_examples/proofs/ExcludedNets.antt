@@ -32,13 +32,13 @@ partners_back = record {
 pub other_byte : Cannot (with_sockets (waits (97 ∷ 98 ∷ 100 ∷ [])) (queues text) spoken)
 other_byte safe =
     let p = safe.prefix A 0 0 (waits (97 ∷ 98 ∷ 100 ∷ [])) partners refl in
-    let third : 100 ≡ 99 = ap (λ (xs : List ℕ). get_or xs 2 0) p.1 in
+    let third : ◌≡◌ {A = ℕ} 100 99 = ap (λ (xs : List ℕ). get_or xs 2 0) p.1 in
     omega arith
 
 pub swapped : Cannot (with_sockets (waits (98 ∷ 97 ∷ [])) (queues text) spoken)
 swapped safe =
     let p = safe.prefix A 0 0 (waits (98 ∷ 97 ∷ [])) partners refl in
-    let first : 98 ≡ 97 = ap (λ (xs : List ℕ). get_or xs 0 0) p.1 in
+    let first : ◌≡◌ {A = ℕ} 98 97 = ap (λ (xs : List ℕ). get_or xs 0 0) p.1 in
     omega arith
 
 pub one_more : Cannot (with_sockets (waits (97 ∷ 98 ∷ 99 ∷ 100 ∷ [])) (queues text) spoken)
@@ -67,7 +67,7 @@ ended_early safe =
 pub alone : Cannot (with_sockets (waits (97 ∷ [])) fresh listened)
 alone safe =
     let has = safe.alone A 0 (waits (97 ∷ [])) (λ j p. let none = p.partner_opened in absurd (cc)) refl in
-    let size : 1 ≡ 0 = ap length has.taken in
+    let size : ◌≡◌ {A = ℕ} 1 0 = ap length has.taken in
     absurd (omega arith)
 
 -- DATAGRAMS
@@ -95,7 +95,7 @@ cut_short safe = by safe.reads.0 where
   by (inl a) =
       let was = a.was_sent in
       let same : text ≡ 97 ∷ 98 ∷ [] = cc in
-      let size : 3 ≡ 2 = ap length same in
+      let size : ◌≡◌ {A = ℕ} 3 2 = ap length same in
       absurd (omega arith)
 
 pub other_port : Cannot (only (and_read 7 text (and_sent bound)))
@@ -104,6 +104,6 @@ other_port safe = by safe.reads.0 where
   by (inr a) = not_bound 7 text a
   by (inl a) =
       let was = a.was_sent in
-      let place : 0 ≡ a.socket = cc in
+      let place : ◌≡◌ {A = ℕ} 0 a.socket = cc in
       let port = subst (λ (i : ℕ). bound_port unbound bound A i ≡ 7) (sym place) a.from_port in
       absurd (omega arith)
