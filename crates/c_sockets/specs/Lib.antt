@@ -1,0 +1,4 @@
+pub mod Codes
+pub mod Places
+pub mod Streams
+pub mod Datagrams

@@ -1,0 +1,32 @@
+//! Buffers of sockets.
+ghost use Rattle.std.specs.Prelude.{◌≡◌, ◌≢◌, ◌+◌, length, IfSome, Some};
+ghost use Rattle.c_sockets.specs.Streams.{limit_of};
+
+use net_base::{ManagedSlice, PacketBuffer, PacketMetadata, RingBuffer};
+use std::alloc::Global;
+
+/// A queue of so many packets, of so many bytes together.
+pub fn queue<H: Drop>(alloc: Global, packets: usize, bytes: usize) -> Option<PacketBuffer<H>> {
+    let mut places = Vec::with_capacity(alloc, packets).ok()?;
+    for _ in 0..packets {
+        places.push(PacketMetadata::EMPTY).ok()?;
+    }
+    let bytes = Vec::from_elem(alloc, 0, bytes).ok()?;
+    Some(PacketBuffer::new(ManagedSlice::Fixed(places), ManagedSlice::Fixed(bytes)))
+}
+
+/// A ring of so many bytes.
+pub fn ring(alloc: Global, bytes: usize) -> Option<RingBuffer<u8>>
+    ensures { IfSome result (λ ring. length ring.queue + length ring.free ≡ bytes) }
+{
+    let bytes = Vec::from_elem(alloc, 0u8, bytes).ok()?;
+    Some(RingBuffer::new(ManagedSlice::Fixed(bytes)))
+}
+
+/// The hop limit, none where it is 0.
+pub(crate) fn limit_of(limit: u8) -> Option<u8>
+    ensures value { result ≡ limit_of limit }
+    ensures some { result ≢ Some 0 }
+{
+    if limit == 0 { None } else { Some(limit) }
+}
