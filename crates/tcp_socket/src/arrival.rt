@@ -87,23 +87,27 @@ impl Socket {
     {
         match due {
             Due::Reset => rst_reply(incoming.ip_repr, &incoming.header, incoming.bytes.len()),
-            Due::Ack => self.acknowledgement(now, incoming, None),
-            Due::AckHeld(place) => self.acknowledgement(now, incoming, self.range_held(place)),
+            Due::Ack(window) => self.acknowledgement(now, incoming, window, None),
+            Due::AckHeld(window, place) => {
+                self.acknowledgement(now, incoming, window, self.range_held(place))
+            }
         }
     }
 
-    /// The acknowledgement that answers a segment, with a range that is held out of order.
+    /// The acknowledgement that answers a segment, with this window field and a range that is held out
+    /// of order.
     fn acknowledgement(
         &self,
         now: Instant,
         incoming: &Incoming<'_>,
+        window: u16,
         range: Option<(u32, u32)>,
     ) -> Reply
         requires { IsMoment now }
-        ensures { result ≡ acknowledgement now self.now incoming.now.ip_repr.now incoming.now.header range }
+        ensures { result ≡ acknowledgement now self.now incoming.now.ip_repr.now incoming.now.header window range }
     {
         let pair = EndpointPair::of_segment(incoming.ip_repr, &incoming.header);
-        let segment = self.block.sack_segment(&pair, now, self.window(), range);
+        let segment = self.block.sack_segment(&pair, now, window, range);
         reply_to(incoming.ip_repr, self.block.hops(), segment)
     }
 
@@ -464,10 +468,7 @@ impl Socket {
         ensures socket { self.new ≡ (answer_for (C.context cx.now) self.old incoming.now.ip_repr.now incoming.now.header (length incoming.now.bytes.now) fills early).socket }
     {
         match early {
-            Some(place) => {
-                self.acknowledge_all();
-                Some(Due::AckHeld(place))
-            }
+            Some(place) => Some(Due::AckHeld(self.acknowledge_all(), place)),
             None => {
                 let size = incoming.bytes.len();
                 self.block.ack_due(&incoming.header, size, fills, cx.now());
@@ -550,20 +551,22 @@ impl Socket {
     {
         if self.block.may_draw(cx.now()) {
             self.block.timers.draws_from = Some(next_draw_from(cx.now()));
-            self.acknowledge_all();
-            Some(Due::Ack)
+            Some(Due::Ack(self.acknowledge_all()))
         } else {
             None
         }
     }
 
-    /// An acknowledgement of all that came answers a segment.
-    fn acknowledge_all(&mut self)
+    /// An acknowledgement of all that came answers a segment. Returns its window field: what is recorded
+    /// of it may change the next one.
+    fn acknowledge_all(&mut self) -> u16
         requires unoffered { self.old.offered ≡ None }
-        ensures { self.new ≡ with_block self.old (ack_recorded self.old.block (room_of self.old.received) (window_of self.old)) }
+        ensures window { result ≡ window_of self.old }
+        ensures socket { self.new ≡ with_block self.old (ack_recorded self.old.block (room_of self.old.received) (window_of self.old)) }
     {
         let window = self.window();
         self.block.record_ack(self.received.capacity(), window);
+        window
     }
 
     /// The window field, but on a SYN.
@@ -580,9 +583,10 @@ impl Socket {
 #[derive(Clone, Copy)]
 enum Due {
     Reset,
-    Ack,
-    /// An acknowledgement that tells of the run which is held with its first byte at this place.
-    AckHeld(usize),
+    /// An acknowledgement with this window field.
+    Ack(u16),
+    /// One that tells of the run which is held with its first byte at this place.
+    AckHeld(u16, usize),
 }
 
 /// The text of a segment: how far RCV.NXT rose, whether it came in order while other text was held, and

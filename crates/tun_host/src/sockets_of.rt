@@ -4,10 +4,10 @@ ghost use Rattle.net_base.specs.Packets.{packets_in};
 ghost use Rattle.interface.specs.Set.{places};
 ghost use Rattle.tun_host.specs.Begins.{echo_socket, IsUnopened, IsFreshAs, IsFreshPlace, AreFresh};
 
-use crate::place::{DATAGRAMS, ECHO_PORT, ECHOES, PAGES, Service, service_at};
+use crate::place::{DATAGRAMS, ECHO_PORT, ECHOES, KEEPERS, PAGES, Service, service_at};
 use interface::{Item, Meta, SocketSet, SocketStorage};
 use ip_wire::IpListenEndpoint;
-use net_base::{ManagedSlice, PacketBuffer, PacketMetadata, RingBuffer};
+use net_base::{Duration, ManagedSlice, PacketBuffer, PacketMetadata, RingBuffer};
 use sockets::{Socket, tcp, udp};
 use std::alloc::{AllocError, Global};
 
@@ -15,7 +15,7 @@ use std::alloc::{AllocError, Global};
 pub const ROOM: usize = 65_536;
 
 /// How many sockets a host has.
-const PLACES: usize = 1 + ECHOES + PAGES;
+const PLACES: usize = 1 + ECHOES + PAGES + 2 * KEEPERS;
 
 /// A queue for so many datagrams of so many bytes together.
 fn queue<H: Drop>(alloc: Global, count: usize, room: usize) -> Result<PacketBuffer<H>, AllocError>
@@ -51,7 +51,10 @@ fn stream(alloc: Global, room: usize) -> Result<tcp::Socket, AllocError>
 {
     let rx = RingBuffer::new(ManagedSlice::Owned(vec![in alloc; 0u8; room]?));
     let tx = RingBuffer::new(ManagedSlice::Owned(vec![in alloc; 0u8; room]?));
-    Ok(tcp::Socket::new(rx, tx))
+    let mut socket = tcp::Socket::new(rx, tx);
+    socket.set_keep_alive(Some(Duration::from_secs(30)));
+    socket.set_timeout(Some(Duration::from_secs(120)));
+    Ok(socket)
 }
 
 fn socket(alloc: Global, service: Service) -> Result<Socket, AllocError>
@@ -61,6 +64,7 @@ fn socket(alloc: Global, service: Service) -> Result<Socket, AllocError>
         Service::Datagrams => Ok(Socket::Udp(datagrams(alloc)?)),
         Service::Streams => Ok(Socket::Tcp(stream(alloc, ROOM)?)),
         Service::Page => Ok(Socket::Tcp(stream(alloc, ROOM)?)),
+        Service::Keeper => Ok(Socket::Tcp(stream(alloc, 1)?)),
     }
 }
 

@@ -1,0 +1,12 @@
+-- The entry that has been at a stage for longest.
+use Rattle.std.specs.Prelude.{◌≡◌, ◌≢◌, ℕ, ◌≤◌, ◌<◌, List, length, Option, Some, None}
+use Rattle.tcp_listener.specs.declared.entry.Entry.{Entry}
+use Rattle.tcp_listener.specs.declared.stage.Stage.{Stage}
+use Rattle.tcp_listener.specs.Entries.{entry_at}
+
+-- no entry is at this stage, or this one is, and none of those that are came to it before
+abbrev pub IsOldest : Stage → List Entry → Option ℕ → Type 0
+IsOldest stage es None = (j : ℕ) → j < length es → (entry_at es j).stage ≢ stage
+IsOldest stage es (Some i) =
+    (i < length es) × ((entry_at es i).stage ≡ stage)
+    × ((j : ℕ) → j < length es → (entry_at es j).stage ≡ stage → (entry_at es i).since ≤ (entry_at es j).since)

@@ -1,0 +1,31 @@
+-- How far a socket of a backlog came, by its state.
+use Rattle.std.specs.Prelude.{ℕ, Bool, true, false}
+use Rattle.tcp_control.specs.declared.state.State.{State}
+use Rattle.tcp_control.specs.declared.state.State.TheVariants as In
+use Rattle.tcp_listener.specs.declared.stage.Stage.{Stage}
+use Rattle.tcp_listener.specs.declared.stage.Stage.TheVariants as Is
+
+-- its user gave it back
+abbrev pub is_given_back : Stage → Bool
+is_given_back Is.Ending = true
+is_given_back Is.TimeWait = true
+is_given_back other = false
+
+abbrev pub connected_stage : Stage → Stage
+connected_stage Is.Ending = Is.Ending
+connected_stage Is.TimeWait = Is.Ending
+connected_stage other = Is.Open
+
+abbrev pub last_stage : Stage → Stage
+last_stage Is.Ending = Is.TimeWait
+last_stage Is.TimeWait = Is.TimeWait
+last_stage other = Is.Open
+
+-- a closed socket is free, since it listens again; one that took a SYN is half open; else it is open, or ends where it was given back
+abbrev pub stage_after : Stage → State → Stage
+stage_after stage In.Closed = Is.Free
+stage_after stage In.Listen = Is.Free
+stage_after stage In.SynSent = Is.HalfOpen
+stage_after stage In.SynReceived = Is.HalfOpen
+stage_after stage In.TimeWait = last_stage stage
+stage_after stage other = connected_stage stage

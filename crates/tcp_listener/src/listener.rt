@@ -1,0 +1,150 @@
+//! A listener with a backlog.
+ghost use Rattle.std.specs.Prelude.{◌≡◌, ◌∷◌, ◌++◌, [], map, IfOk, OnErr};
+ghost use Rattle.interface_egress.specs.Set.{places};
+ghost use Rattle.tcp_listener.specs.Calls.{fresh_entry, micros_of, Refreshes, Accepts, given_back};
+
+use crate::entry::Entry;
+use crate::keepers::keep_all;
+use crate::noting::note_all;
+use crate::oldest::oldest;
+use crate::stage::Stage;
+use crate::way::give_way;
+use interface_egress::{SocketHandle, SocketSet, SocketStorage};
+use ip_wire::IpListenEndpoint;
+use net_base::{Instant, ManagedSlice};
+use sockets::Socket;
+use std::alloc::{AllocError, Global};
+
+/// An endpoint, a backlog of sockets that listen on it, and keepers for what is beyond it. The keepers' places in the set lie behind
+/// those of the backlog.
+#[derive(Debug, Drop)]
+pub struct Listener {
+    pub endpoint: IpListenEndpoint,
+    pub entries: Vec<Entry>,
+    pub keepers: Vec<SocketHandle>,
+}
+
+/// The moment in microseconds, 0 for one before the start.
+fn micros_of(moment: Instant) -> u64
+    ensures { result ≡ micros_of moment }
+{
+    u64::try_from(moment.total_micros()).unwrap_or(0)
+}
+
+/// What a refresh makes of the sockets of a set.
+fn refresh_places(
+    places: &mut [SocketStorage<Socket>],
+    entries: &mut [Entry],
+    keepers: &[SocketHandle],
+    endpoint: IpListenEndpoint,
+    now: u64,
+)
+    ensures { Refreshes endpoint now keepers.now places.old entries.old places.new entries.new }
+{
+    note_all(places, entries, endpoint, now);
+    give_way(places, entries, endpoint, now);
+    keep_all(places, keepers, endpoint);
+}
+
+impl Listener {
+    /// A listener without sockets.
+    pub fn new(alloc: Global, endpoint: IpListenEndpoint) -> Listener
+        ensures endpoint { result.endpoint ≡ endpoint }
+        ensures entries { result.entries.items ≡ [] }
+        ensures keepers { result.keepers.items ≡ [] }
+    {
+        Listener {
+            endpoint,
+            entries: Vec::new(alloc),
+            keepers: Vec::new(alloc),
+        }
+    }
+
+    /// Takes a closed socket of the set into the backlog. It listens from the next refresh on.
+    pub fn add(&mut self, handle: SocketHandle) -> Result<(), AllocError>
+        ensures added { IfOk result (λ u. self.new.entries.items ≡ self.old.entries.items ++ fresh_entry handle ∷ []) }
+        ensures refused { OnErr result (self.new.entries.items ≡ self.old.entries.items) }
+        ensures keepers { self.new.keepers.items ≡ self.old.keepers.items }
+        ensures endpoint { self.new.endpoint ≡ self.old.endpoint }
+    {
+        self.entries.push(Entry {
+            handle,
+            stage: Stage::Free,
+            since: 0,
+        })?;
+        Ok(())
+    }
+
+    /// Takes a closed socket of the set, behind those of the backlog, for a keeper. It needs no room for bytes.
+    pub fn add_keeper(&mut self, handle: SocketHandle) -> Result<(), AllocError>
+        ensures added { IfOk result (λ u. self.new.keepers.items ≡ self.old.keepers.items ++ handle ∷ []) }
+        ensures refused { OnErr result (self.new.keepers.items ≡ self.old.keepers.items) }
+        ensures entries { self.new.entries.items ≡ self.old.entries.items }
+        ensures endpoint { self.new.endpoint ≡ self.old.endpoint }
+    {
+        self.keepers.push(handle)?;
+        Ok(())
+    }
+
+    /// Sees how far each socket came, to be called behind each poll, at its moment.
+    pub fn refresh(&mut self, set: &mut SocketSet<Socket>, now: Instant)
+        ensures refreshed { Refreshes self.old.endpoint (micros_of now) self.old.keepers.items (places set.old) self.old.entries.items (places set.new) self.new.entries.items }
+        ensures endpoint { self.new.endpoint ≡ self.old.endpoint }
+        ensures keepers { self.new.keepers.items ≡ self.old.keepers.items }
+    {
+        let now = micros_of(now);
+        let entries = self.entries.as_mut_slice();
+        let keepers = self.keepers.as_slice();
+        match &mut set.sockets {
+            ManagedSlice::Fixed(places) => refresh_places(
+                places.as_mut_slice(),
+                entries,
+                keepers,
+                self.endpoint,
+                now,
+            ),
+            ManagedSlice::Owned(places) => refresh_places(
+                places.as_mut_slice(),
+                entries,
+                keepers,
+                self.endpoint,
+                now,
+            ),
+        }
+    }
+
+    /// The socket whose connection has waited for longest. It is its user's until `give_back`.
+    pub fn accept(&mut self) -> Option<SocketHandle>
+        ensures accepted { Accepts self.old.entries.items result self.new.entries.items }
+    {
+        let at = oldest(self.entries.as_slice(), Stage::Open)?;
+        self.entries[at].stage = Stage::Accepted;
+        Some(self.entries[at].handle)
+    }
+
+    /// Takes an accepted socket back, which its user closed or aborted. It listens again when its connection has ended.
+    pub fn give_back(&mut self, handle: SocketHandle)
+        ensures back { self.new.entries.items ≡ map (given_back handle) self.old.entries.items }
+        ensures rest { self.new ≡ record self.old { entries = self.new.entries } }
+    {
+        give_back_all(self.entries.as_mut_slice(), handle);
+    }
+}
+
+#[tactic(auto, using(std::proofs::lemmas::List::Edits::map_over_more))]
+fn give_back_all(entries: &mut [Entry], handle: SocketHandle)
+    ensures { entries.new ≡ map (given_back handle) entries.old }
+{
+    for i in 0..entries.len() {
+        give_back_entry(&mut entries[i], handle);
+    }
+}
+
+/// Takes the socket of this handle back, if it is this accepted one.
+fn give_back_entry(entry: &mut Entry, handle: SocketHandle)
+    ensures { entry.new ≡ given_back handle entry.old }
+{
+    if entry.stage.is_accepted() && entry.handle == handle {
+        entry.stage = Stage::Ending;
+    }
+}

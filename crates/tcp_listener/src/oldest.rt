@@ -1,0 +1,22 @@
+//! The entry that has been at a stage for longest.
+ghost use Rattle.tcp_listener.specs.Oldest.{IsOldest};
+
+use crate::entry::Entry;
+use crate::stage::Stage;
+
+/// Where the entry is that has been at this stage for longest, the first of several.
+#[tactic(auto, using(crate::proofs::Older::older_other, crate::proofs::Older::older_later, crate::proofs::Older::older_sooner, crate::proofs::Older::older_first))]
+pub(crate) fn oldest(entries: &[Entry], stage: Stage) -> Option<usize>
+    ensures { IsOldest stage entries.now result }
+{
+    let mut found: Option<usize> = None;
+    for i in 0..entries.len() {
+        if entries[i].stage == stage {
+            match found {
+                Some(best) if entries[best].since <= entries[i].since => {}
+                _ => found = Some(i),
+            }
+        }
+    }
+    found
+}
