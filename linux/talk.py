@@ -2,8 +2,8 @@
 """What Linux's stack says to the program `host`, in a network namespace of its own:
 
     talk.py HOST SECONDS [FOLDER]   first over a good link, then for so many seconds over one that loses, repeats and reorders
-    talk.py HOST echo FOLDER        a short exchange: pings, datagrams and a stream, each echoed
-    talk.py HOST page FOLDER        a short exchange: the page by curl, and a request that isn't understood
+    talk.py HOST exchange FOLDER    a short exchange: pings, datagrams and a stream, each echoed; the page by curl, and a request
+                                    that isn't understood
 
 FOLDER keeps what the program read and wrote (of the link that loses, in the first form): the files stdin and stdout.
 """
@@ -121,10 +121,10 @@ def refusal():
     return say("a request that isn't understood is refused", got.startswith(b"HTTP/1.0 400 "))
 
 
-def exchange(program, what, folder):
-    """A short exchange, which goes on until the last connection is forgotten."""
+def exchange(program, folder):
+    """A short exchange with each service, which goes on until the last connection is forgotten."""
     pump = start(program, "--seed", "7", "--record", folder)
-    well = [pings(3), datagrams(5), stream(5000)] if what == "echo" else [page(), refusal()]
+    well = [pings(3), datagrams(5), stream(5000), page(), refusal()]
     time.sleep(11)
     stop(pump)
     return well
@@ -145,8 +145,8 @@ def try_all(program, seconds, record):
 
 def main():
     program, what, folder = sys.argv[1], sys.argv[2], "".join(sys.argv[3:4])
-    if what in ("echo", "page"):
-        well = exchange(program, what, folder)
+    if what == "exchange":
+        well = exchange(program, folder)
     else:
         well = try_all(program, float(what), ["--record", folder] if folder else [])
     return 0 if all(well) else 1

@@ -1,13 +1,15 @@
--- A segment that came, as it shows in what a pair keeps of a socket.
-use Rattle.std.proofs.Common.{◌≡◌, ℕ, Bool, true, false, List, if◌then◌else◌, refl, sym, ap, ◌∙◌}
+-- A segment that came, and one that was sent, as they show in what a pair keeps of a socket.
+use Rattle.std.proofs.Common.{◌≡◌, ℕ, ℤ, Bool, true, false, List, if◌then◌else◌, refl, sym, ap, ◌∙◌}
 use Rattle.net_base.specs.RandomWords.{next_state}
 use Rattle.ip_wire.specs.TcpHeader.{TcpHeader}
 use Rattle.tcp_model.specs.Arrival.{arrives}
 use Rattle.tcp_model.specs.Names.{accepts}
+use Rattle.tcp_model.specs.Offers.{offer_of}
+use Rattle.tcp_model.specs.Settled.{settled}
 use Rattle.tcp_model.specs.Value.{TcpValue, Arrived}
 use Rattle.tcp_pair_model.specs.declared.event.SentSegment.{SentSegment}
-use Rattle.tcp_pair_model.specs.Steps.{comes_to, taken_at}
-use Rattle.tcp_pair_model.specs.Values.{PairSide, and_reply}
+use Rattle.tcp_pair_model.specs.Steps.{comes_to, offered_at, taken_at}
+use Rattle.tcp_pair_model.specs.Values.{PairSide, and_offer, and_reply}
 use Rattle.tcp_pair.specs.Context.{PairContextValue, context_of, drawn}
 use Rattle.tcp_pair.specs.Ends.{EndValue, with_own}
 
@@ -46,3 +48,14 @@ module _ (k : PairContextValue) (v : TcpValue) (sent : List SentSegment) (opened
       ∙ ap (λ (v : TcpValue). end_of (record k { random = if wanted.draws then next_state k.random else k.random }) v sent' opened accepted) (socket ∙ ap (λ (a : Arrived). a.socket) same)
       ∙ ap (λ (sent : List SentSegment). end_of (record k { random = if wanted.draws then next_state k.random else k.random }) wanted.socket sent opened accepted) (joined ∙ ap (λ (a : Arrived). and_reply sent a.answer) same)
       ∙ sym (ap (λ (own : PairSide). with_own (end_of k v sent opened accepted) own) (when (accepts v.block x.header x.segment) (taken_at (own_of k v sent) wanted) (own_of k v sent) accepted_it))
+
+-- an offer is made at a moment, joins what was sent, and is settled
+pub went :
+    (k k' : PairContextValue) (v w v' : TcpValue) (sent room sent' : List SentSegment) (opened : Bool) (accepted : ℕ) (moment : ℤ) → k' ≡ record k { moment = moment }
+    → w ≡ (offer_of (context_of k') v).socket → room ≡ sent → sent' ≡ and_offer room w.offered w.queued.queue → v' ≡ settled true w
+    → end_of k' v' sent' opened accepted ≡ with_own (end_of k v sent opened accepted) (offered_at k.side (record (own_of k v sent) { moment = moment }) true)
+went k k' v w v' sent room sent' opened accepted moment context offered same joined recorded =
+    ap (λ (x : TcpValue). end_of k' x sent' opened accepted) recorded
+    ∙ ap (λ (xs : List SentSegment). end_of k' (settled true w) xs opened accepted) (joined ∙ ap (λ (xs : List SentSegment). and_offer xs w.offered w.queued.queue) same)
+    ∙ ap (λ (x : TcpValue). end_of k' (settled true x) (and_offer sent x.offered x.queued.queue) opened accepted) offered
+    ∙ ap (λ (c : PairContextValue). end_of c (settled true (offer_of (context_of c) v).socket) (and_offer sent (offer_of (context_of c) v).socket.offered (offer_of (context_of c) v).socket.queued.queue) opened accepted) context

@@ -1,7 +1,6 @@
 -- What answers a segment can be sent, and from SYN-SENT on no random word is drawn.
-use Rattle.std.proofs.Common.{◌≡◌, ℕ, ◌+◌, ◌^◌, ◌<◌, ◌≤◌, ◌&&◌, not, Bool, true, false, ℤ, List, [], ◌∷◌, length, Option, Some, None, is_some, if◌then◌else◌, refl, sym, ap, ◌∙◌, arith}
+use Rattle.std.proofs.Common.{◌≡◌, ℕ, ◌≤◌, ◌&&◌, not, Bool, true, false, ℤ, List, [], ◌∷◌, length, Option, Some, None, is_some, if◌then◌else◌, refl, arith}
 use Rattle.std.specs.Prelude.{IfSome}
-use Rattle.ip_wire.specs.Ip.{source_of}
 use Rattle.ip_wire.specs.IpRepr.{IpRepr}
 use Rattle.ip_wire.specs.IpRepr.TheVariants as Ip
 use Rattle.ip_wire.specs.Tcp.{header_len}
@@ -15,7 +14,6 @@ use Rattle.tcp_model.specs.declared.block.Block.{Block}
 use Rattle.tcp_model.specs.EndpointPair.{EndpointPair}
 use Rattle.tcp_model.specs.State.{State}
 use Rattle.tcp_model.specs.State.TheVariants as In
-use Rattle.tcp_model.specs.Reply.{Reply}
 use Rattle.tcp_model.specs.Acknowledged.{acknowledged, duplicates_after}
 use Rattle.tcp_model.specs.Answers.{may_draw, with_draw, acked, drawn, answer_for, range_held}
 use Rattle.tcp_model.specs.Arrival.{waiting_anew, outside, tells_news, passed_outside, finished, with_content, told, continued, taken, inside, checked, takes_reset, challenges_reset, reset_comes, challenges_syn, received, arrives_in, is_void_syn, arrives}

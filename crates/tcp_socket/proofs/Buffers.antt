@@ -194,4 +194,4 @@ holds_held r held v empty is by tells =
     same [] true so = refl
     same [] false so = absurd (let clash = so.1 refl in cc)
     same (run ∷ rs) true so = absurd (let clash = so.0 refl in cc)
-    same (run ∷ rs) false so = refl
+    same (run ∷ rs) false so = grind (arith, nat_tests)

@@ -1,23 +1,19 @@
 -- What the rules of an arrival keep of a block.
-use Rattle.std.proofs.Common.{◌≡◌, ℕ, ◌+◌, ◌-◌, ◌==◌, ◌&&◌, ◌^◌, ◌<◌, ◌≤◌, Bool, true, false, ℤ, Option, Some, None, if◌then◌else◌, refl, sym, ap, ◌∙◌, arith, length}
+use Rattle.std.proofs.Common.{◌≡◌, ℕ, ◌&&◌, ◌≤◌, Bool, true, false, ℤ, Option, Some, None, if◌then◌else◌, arith}
 use Rattle.std.specs.Prelude.{IfSome}
 use Rattle.std.proofs.lemmas.Bool.Decides.{nat_tests}
 use Rattle.net_base.specs.Ring.{Ring}
 use Rattle.net_base.specs.Time.{IsMoment}
-use Rattle.ip_wire.specs.IpRepr.{IpRepr}
 use Rattle.ip_wire.specs.TcpHeader.{TcpHeader}
 use Rattle.tcp_model.specs.Acknowledged.{una_moved, in_state, ended_if, block_acknowledged, state_after_ack, names_window, windowed, window_set, ranges_taken, counted}
-use Rattle.tcp_model.specs.Arrival.{is_void_syn, waiting_anew}
-use Rattle.tcp_model.specs.Controls.{is_syn, is_zero, or_mss}
-use Rattle.tcp_model.specs.Opening.{took_syn, answering, syn_answered, is_first_syn}
-use Rattle.tcp_model.specs.Probing.{probe_kept}
+use Rattle.tcp_model.specs.Controls.{is_zero, or_mss}
 use Rattle.tcp_model.specs.States.{is_closed}
-use Rattle.tcp_model.specs.Text.{with_fin, fin_taken, takes_fin, with_next}
+use Rattle.tcp_model.specs.Text.{with_fin, fin_taken, takes_fin}
 use Rattle.tcp_model.specs.Timeout.{timeout_restarted, timeout_runs}
 use Rattle.tcp_model.specs.Blocks.{forgotten}
 use Rattle.tcp_model.specs.declared.block.Block.{Block}
 use Rattle.tcp_model.specs.OpenOffer.{OpenOffer}
-use Rattle.tcp_socket.specs.Socket.{IsBlock, IsOpen, IsSocket}
+use Rattle.tcp_socket.specs.Socket.{IsBlock, IsOpen}
 
 -- nothing is offered
 pub none_open : (o : Option OpenOffer) (b : Block) (queued : Ring ℕ) → o ≡ None → IfSome o (IsOpen b queued)

@@ -1,20 +1,21 @@
 -- What is offered lies in the send ring, near SND.UNA.
-use Rattle.std.proofs.Common.{◌≡◌, ℕ, ◌+◌, ◌-◌, ◌%◌, ◌/◌, ◌==◌, ◌&&◌, not, ◌^◌, ◌<◌, ◌≤◌, nat_lt, nat_le, min, max, ℤ, Bool, true, false, List, length, Option, Some, None, is_some, if◌then◌else◌, refl, sym, ap, ◌∙◌, arith}
+use Rattle.std.proofs.Common.{◌≡◌, ℕ, ◌+◌, ◌-◌, ◌%◌, ◌/◌, ◌==◌, ◌&&◌, ◌^◌, ◌<◌, ◌≤◌, nat_lt, nat_le, min, max, ℤ, Bool, true, false, length, Option, None, if◌then◌else◌, refl, arith}
 use Rattle.std.proofs.lemmas.Bool.Decides.{nat_tests}
 use Rattle.ip_wire.specs.Control.{control_len}
-use Rattle.ip_wire.specs.Seq.{distance_of, advanced}
+use Rattle.ip_wire.specs.Seq.{distance_of}
 use Rattle.ip_wire.specs.SeqNumber.{SeqNumber}
 use Rattle.ip_wire.specs.TcpControl.{TcpControl}
 use Rattle.ip_wire.specs.TcpControl.TheVariants as Control
 use Rattle.ip_wire.specs.TcpHeader.{TcpHeader}
-use Rattle.net_base.specs.Ring.{Ring, capacity, until_end, unbroken_queued}
+use Rattle.net_base.specs.Ring.{Ring, capacity, unbroken_queued}
 use Rattle.socket_base.specs.Context.{ContextValue}
-use Rattle.tcp_model.specs.Blocks.{one_if, unacked, nxt}
+use Rattle.socket_base.specs.Offers.{Offered}
+use Rattle.tcp_model.specs.Blocks.{one_if, unacked}
 use Rattle.tcp_model.specs.Moments.{is_due}
 use Rattle.tcp_model.specs.Offers.{number_at}
 use Rattle.tcp_model.specs.Offsets.{behind_by}
 use Rattle.tcp_model.specs.Probing.{is_window_small, is_probing, probe_moment}
-use Rattle.tcp_model.specs.Rules.{Choice, unbroken, size_limit, congestion_limit, window_limit, next_place, is_sendable, sends_choice, text_choice, has_text, resend_choice, probe_choice, control_for}
+use Rattle.tcp_model.specs.Rules.{Choice, unbroken, size_limit, congestion_limit, window_limit, next_place, is_sendable, text_choice, has_text, resend_choice, probe_choice, control_for}
 use Rattle.tcp_model.specs.Segments.{segment}
 use Rattle.tcp_model.specs.Settled.{end_of}
 use Rattle.tcp_model.specs.States.{owes_fin, sends_text}
@@ -156,3 +157,11 @@ all_unbroken queued place = omega arith
 
 pub whole_part : (queued : Ring ℕ) (place len : ℕ) → len ≤ unbroken queued place → unbroken_queued queued place len ≡ len
 whole_part queued place len lies = omega (arith, lies)
+
+pub not_zero : (n : ℕ) → (n ≡ 0 → ⊥) → (n == 0) ≡ false
+not_zero n some = grind (arith, nat_tests, some)
+
+-- of two offers the second
+pub offered_else : (test : Bool) (one other : Offered TcpValue) → test ≡ false → other.socket ≡ (if test then one else other).socket
+offered_else true one other is = absurd (cc)
+offered_else false one other is = refl

@@ -1,8 +1,8 @@
 -- What each step keeps of a socket's invariant.
-use Rattle.std.proofs.Common.{◌≡◌, ℕ, ◌+◌, ◌-◌, ◌==◌, ◌^◌, ◌<◌, ◌≤◌, min, Bool, true, false, List, [], ◌∷◌, ◌++◌, length, take, drop, Option, Some, None, Ok, if◌then◌else◌, refl, sym, ap, ◌∙◌, arith, length-append, length-drop}
+use Rattle.std.proofs.Common.{◌≡◌, ℕ, ◌-◌, ◌==◌, ◌≤◌, min, Bool, true, false, List, ◌++◌, length, take, Option, Some, None, Ok, if◌then◌else◌, refl, arith, length-append, length-drop}
 use Rattle.std.specs.Prelude.{IfSome, ℤ}
 use Rattle.std.proofs.lemmas.List.{length-take-le, length-take}
-use Rattle.net_base.specs.Ring.{Ring, ring, capacity, rotated, storage_of, cleared, anchored, overwritten, extended, enqueued, released, contiguous}
+use Rattle.net_base.specs.Ring.{Ring, capacity, rotated, cleared, anchored, overwritten, extended, enqueued, released, contiguous}
 use Rattle.net_base.specs.Time.{IsMoment}
 use Rattle.tcp_model.specs.Moments.{is_due}
 use Rattle.tcp_model.specs.Offers.{backed_off}

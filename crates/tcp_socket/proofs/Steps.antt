@@ -1,5 +1,5 @@
 -- The steps of an arrival, as its functions join them.
-use Rattle.std.proofs.Common.{◌≡◌, ℕ, ◌+◌, ◌-◌, ◌==◌, ◌&&◌, not, nat_lt, ◌<◌, ◌≤◌, ◌^◌, min, nat_le, Bool, true, false, ℤ, List, [], length, take, drop, Option, Some, None, if◌then◌else◌, refl, sym, ap, subst, ◌∙◌, arith}
+use Rattle.std.proofs.Common.{◌≡◌, ℕ, ◌-◌, ◌==◌, ◌&&◌, not, nat_lt, ◌<◌, ◌≤◌, ◌^◌, min, nat_le, Bool, true, false, ℤ, List, [], length, take, drop, Option, Some, None, if◌then◌else◌, refl, sym, ap, subst, ◌∙◌, arith}
 use Rattle.std.specs.Prelude.{IfSome}
 use Rattle.std.proofs.lemmas.Bool.Decides.{nat_tests}
 use Rattle.net_base.specs.Ring.{Ring}

@@ -1,6 +1,6 @@
 -- The answer that is due to a segment, which is made of the socket as the segment left it; and what is kept of the socket as it
 -- was before.
-use Rattle.std.specs.Prelude.{ℕ, ℤ, if◌then◌else◌, List, length, Option, Some, None}
+use Rattle.std.specs.Prelude.{ℕ, ℤ, if◌then◌else◌, List, Option, Some, None}
 use Rattle.ip_wire.specs.IpRepr.{IpRepr}
 use Rattle.ip_wire.specs.SeqNumber.{SeqNumber}
 use Rattle.ip_wire.specs.TcpHeader.{TcpHeader}
@@ -12,19 +12,19 @@ use Rattle.tcp_model.specs.Endpoints.{pair_in}
 use Rattle.tcp_model.specs.Reply.{Reply}
 use Rattle.tcp_model.specs.Segments.{sack_segment, reply_to, rst_reply, hops_of}
 use Rattle.tcp_model.specs.States.{is_closed}
-use Rattle.tcp_model.specs.Value.{TcpValue, Arrived, dropped, window_of}
+use Rattle.tcp_model.specs.Value.{TcpValue, Arrived, dropped}
 use Rattle.tcp_socket.specs.declared.arrival.Due.{Due}
 use Rattle.tcp_socket.specs.declared.arrival.Due.TheVariants as Is
 
--- of all that came, with a range that is held out of order
-abbrev pub acknowledgement : ℤ → TcpValue → IpRepr → TcpHeader → Option (ℕ × ℕ) → Reply
-acknowledgement now v ip header range =
-    reply_to ip (hops_of v.block.settings.hop_limit) (sack_segment v.block (pair_in ip header) now (window_of v) range)
+-- of all that came, with this window field and a range that is held out of order
+abbrev pub acknowledgement : ℤ → TcpValue → IpRepr → TcpHeader → ℕ → Option (ℕ × ℕ) → Reply
+acknowledgement now v ip header window range =
+    reply_to ip (hops_of v.block.settings.hop_limit) (sack_segment v.block (pair_in ip header) now window range)
 
 abbrev pub reply_of : Due → ℤ → TcpValue → IpRepr → TcpHeader → ℕ → Reply
 reply_of Is.Reset now v ip header size = rst_reply ip header size
-reply_of Is.Ack now v ip header size = acknowledgement now v ip header None
-reply_of (Is.AckHeld place) now v ip header size = acknowledgement now v ip header (range_held v place)
+reply_of (Is.Ack window) now v ip header size = acknowledgement now v ip header window None
+reply_of (Is.AckHeld window place) now v ip header size = acknowledgement now v ip header window (range_held v place)
 
 abbrev pub answer_of : Option Due → ℤ → TcpValue → IpRepr → TcpHeader → ℕ → Option Reply
 answer_of None now v ip header size = None

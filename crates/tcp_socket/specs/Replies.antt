@@ -1,5 +1,5 @@
 -- The answer to a segment as a value.
-use Rattle.std.specs.Prelude.{List, [], Option, Some, None}
+use Rattle.std.specs.Prelude.{[], Option, Some, None}
 use Rattle.ip_wire.specs.IpRepr.{IpRepr}
 use Rattle.ip_wire.specs.Tcp.{header_of}
 use Rattle.ip_wire.specs.TcpRepr.{TcpRepr}

@@ -1,7 +1,5 @@
-use Rattle.std.proofs.Common.{◌≡◌, ℕ, ◌+◌, ◌-◌, ◌==◌, ◌<◌, ◌≤◌, ◌^◌, min, Bool, true, false, List, [], length, take, Option, Some, None, if◌then◌else◌, refl, sym, ap, subst, ◌∙◌, arith}
+use Rattle.std.proofs.Common.{◌≡◌, length, None, ap, ◌∙◌}
 use Rattle.tcp_model.specs.Value.{TcpValue}
-use Rattle.tcp_model.specs.OpenOffer.{OpenOffer}
-use Rattle.tcp_model.specs.declared.block.Block.{Block}
 use Rattle.tcp_socket.specs.Answering.{answer_of}
 use Rattle.tcp_socket.proofs.Kept.{none_open}
 use Rattle.tcp_socket.proofs.Steps.{finish_leads}

@@ -1,5 +1,4 @@
-use Rattle.std.proofs.Common.{◌≡◌, ℕ, List, Bool, true, false, Result, Ok, Err, if◌then◌else◌, refl, sym, ap}
-use Rattle.net_base.specs.Ring.{Ring}
+use Rattle.std.proofs.Common.{◌≡◌, refl, sym, ap}
 use Rattle.tcp_model.specs.Value.{TcpValue}
 use Rattle.tcp_socket.proofs.Sockets.{fits_sent, is_allowed}
 use Rattle.tcp_socket.proofs.socket.Socket.send.Goals as goal

@@ -1,4 +1,4 @@
-use Rattle.std.proofs.Common.{◌≡◌, ℕ, List, length, Option, refl, sym, ap, subst, ◌∙◌}
+use Rattle.std.proofs.Common.{length, ap}
 use Rattle.tcp_model.specs.Value.{TcpValue}
 use Rattle.tcp_socket.specs.Answering.{answer_of}
 use Rattle.tcp_socket.proofs.Steps.{content_leads}

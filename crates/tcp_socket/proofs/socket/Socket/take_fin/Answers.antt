@@ -1,4 +1,4 @@
-use Rattle.std.proofs.Common.{◌≡◌, ℕ, ◌∙◌, None, refl, sym, ap}
+use Rattle.std.proofs.Common.{◌≡◌, ◌∙◌, None, ap}
 use Rattle.tcp_model.specs.Value.{TcpValue}
 use Rattle.tcp_socket.specs.Answering.{next_at}
 use Rattle.tcp_socket.proofs.Kept.{none_open, kept_fin}

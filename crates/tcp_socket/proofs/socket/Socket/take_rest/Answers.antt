@@ -1,4 +1,5 @@
-use Rattle.std.proofs.Common.{◌≡◌, ℕ, ◌+◌, ◌-◌, ◌==◌, ◌<◌, ◌≤◌, ◌^◌, min, Bool, true, false, List, [], length, take, Option, Some, None, if◌then◌else◌, refl, sym, ap, subst, ◌∙◌, arith}
+use Rattle.std.proofs.Common.{◌≡◌, false, ℤ, length, sym, ap, ◌∙◌}
+use Rattle.tcp_model.specs.Arrival.{told}
 use Rattle.tcp_model.specs.Value.{TcpValue}
 use Rattle.tcp_model.specs.States.{is_closed}
 use Rattle.tcp_socket.specs.Answering.{answer_of}
@@ -12,7 +13,10 @@ returns-clause-answer g c =
     let v = c.args.self.now in
     let state : is_closed c.self.inside.block.state ≡ is_closed v.block.state = ap (λ (w : TcpValue). is_closed w.block.state) c.self.view_is in
     let opened : is_closed v.block.state ≡ false = sym state ∙ sym c.is_closed.ensures ∙ c.if-is_closed.false in
-    (rest_leads cx c.args.duplicates v c.take_window.new.self i.ip_repr.now i.header i.bytes.now (answer_of c.take_content.result cx.moment c.take_content.new.self i.ip_repr.now i.header (length i.bytes.now)) c.take_content.new.self opened c.take_window.ensures c.take_content.ensures.answer c.take_content.ensures.socket).answer
+    let heard : c.take_window.new.self ≡ told v i.header c.args.duplicates cx.moment =
+    c.take_window.ensures ∙ ap (λ (m : ℤ). told v i.header c.args.duplicates m) c.now.ensures.value
+    in
+    (rest_leads cx c.args.duplicates v c.take_window.new.self i.ip_repr.now i.header i.bytes.now (answer_of c.take_content.result cx.moment c.take_content.new.self i.ip_repr.now i.header (length i.bytes.now)) c.take_content.new.self opened heard c.take_content.ensures.answer c.take_content.ensures.socket).answer
 
 pub returns-clause-socket : goal.returns-clause-socket
 returns-clause-socket g c =
@@ -21,4 +25,7 @@ returns-clause-socket g c =
     let v = c.args.self.now in
     let state : is_closed c.self.inside.block.state ≡ is_closed v.block.state = ap (λ (w : TcpValue). is_closed w.block.state) c.self.view_is in
     let opened : is_closed v.block.state ≡ false = sym state ∙ sym c.is_closed.ensures ∙ c.if-is_closed.false in
-    (rest_leads cx c.args.duplicates v c.take_window.new.self i.ip_repr.now i.header i.bytes.now (answer_of c.take_content.result cx.moment c.take_content.new.self i.ip_repr.now i.header (length i.bytes.now)) c.take_content.new.self opened c.take_window.ensures c.take_content.ensures.answer c.take_content.ensures.socket).socket
+    let heard : c.take_window.new.self ≡ told v i.header c.args.duplicates cx.moment =
+    c.take_window.ensures ∙ ap (λ (m : ℤ). told v i.header c.args.duplicates m) c.now.ensures.value
+    in
+    (rest_leads cx c.args.duplicates v c.take_window.new.self i.ip_repr.now i.header i.bytes.now (answer_of c.take_content.result cx.moment c.take_content.new.self i.ip_repr.now i.header (length i.bytes.now)) c.take_content.new.self opened heard c.take_content.ensures.answer c.take_content.ensures.socket).socket

@@ -1,4 +1,4 @@
-use Rattle.std.proofs.Common.{◌≡◌, ℕ, ◌+◌, ◌-◌, ◌==◌, ◌<◌, ◌≤◌, ◌^◌, min, Bool, true, false, List, [], length, take, Option, Some, None, if◌then◌else◌, refl, sym, ap, subst, ◌∙◌, arith}
+use Rattle.std.proofs.Common.{◌≡◌, ◌-◌, ◌==◌, ◌<◌, min, true, false, length, ap, ◌∙◌, arith}
 use Rattle.tcp_model.specs.States.{takes_text}
 use Rattle.tcp_model.specs.Text.{texted}
 use Rattle.tcp_model.specs.Value.{TcpValue}

@@ -1,0 +1,107 @@
+#!/usr/bin/env python3
+"""The program `host` beside Linux's own stack over the same bad link, in a network namespace of its own:
+
+    badlink.py PUMP HOST [STREAMS [BYTES]]
+
+For each kind of link so many streams (5) of so many bytes (200,000) are echoed one after the other: first by the host, over a TUN
+device, then by a program over Linux's own stack, between two TUN devices, of which the other one is in a namespace within. PUMP is
+linux/pump.c, built; it loses, repeats, holds back and damages the packets of both by the same chances. It prints a table.
+"""
+import os, random, select, socket, statistics, subprocess, sys, time
+
+import talk
+from hostile import start
+from talk import LINUX, OURS, sh
+
+LINKS = (
+    ("good", ()),
+    ("2% lost", ("-l", "20")),
+    ("5% lost", ("-l", "50")),
+    ("10% lost", ("-l", "100")),
+    ("10% repeated", ("-r", "100")),
+    ("10% held back", ("-h", "100")),
+    ("5% damaged", ("-d", "50")),
+    ("3% lost, 3% repeated, 3% held back, 3% damaged", ("-l", "30", "-r", "30", "-h", "30", "-d", "30")),
+)
+
+ECHO = f"""
+import socket, threading
+def serve(it):
+    with it:
+        while piece := it.recv(65536):
+            it.sendall(piece)
+with socket.create_server(("{OURS}", 7)) as server:
+    print("ready", flush=True)
+    while True:
+        threading.Thread(target=serve, args=(server.accept()[0],), daemon=True).start()
+"""
+
+
+def stream(count, seconds=300):
+    """How long so many bytes take there and back, or None if they don't come back as they went."""
+    sent, got, at = os.urandom(count), bytearray(), 0
+    began = time.monotonic()
+    try:
+        with socket.create_connection((OURS, 7), timeout=seconds) as it:
+            it.setblocking(False)
+            while len(got) < count and time.monotonic() < began + seconds:
+                ready = select.select([it], [it] if at < count else [], [], 1)
+                if ready[1]:
+                    at += it.send(sent[at:at + 65536])
+                if ready[0]:
+                    piece = it.recv(65536)
+                    if not piece:
+                        break
+                    got += piece
+    except OSError:
+        return None
+    return time.monotonic() - began if got == sent else None
+
+
+def streams(count, size):
+    took = [it for _ in range(count) if (it := stream(size)) is not None]
+    if not took:
+        return f"0 of {count}"
+    return f"{len(took)} of {count}; {statistics.median(took):.2f} s, {max(took):.2f} s"
+
+
+def by_host(pump, program, options, count, size):
+    ran = start(pump, program, *options)
+    said = streams(count, size)
+    ran.terminate()
+    ran.wait()
+    return said
+
+
+def by_linux(pump, options, count, size):
+    within = subprocess.Popen(["unshare", "-n", "sh", "-c", "echo here; exec sleep 100000"], stdout=subprocess.PIPE, text=True)
+    within.stdout.readline()
+    ran = subprocess.Popen([pump, *options, "zemplovir", "beyond"], stdout=subprocess.PIPE, text=True)
+    ran.stdout.readline()
+    at = str(within.pid)
+    sh("ip", "link", "set", "beyond", "netns", at)
+    for words in (f"addr add {LINUX}/24 dev zemplovir", "link set zemplovir up", "link set lo up"):
+        sh("ip", *words.split())
+    inside = ["nsenter", "-t", at, "-n"]
+    for words in (f"addr add {OURS}/24 dev beyond", "link set beyond up", "link set lo up"):
+        sh(*inside, "ip", *words.split())
+    server = subprocess.Popen([*inside, sys.executable, "-c", ECHO], stdout=subprocess.PIPE, text=True)
+    server.stdout.readline()
+    said = streams(count, size)
+    for it in (server, ran, within):
+        it.terminate()
+        it.wait()
+    return said
+
+
+def main():
+    pump, program = sys.argv[1], sys.argv[2]
+    count, size = (int(it) for it in (sys.argv[3:] + ["5", "200000"][len(sys.argv) - 3:])[:2])
+    print(f"{count} streams of {size} bytes, there and back: how many came whole; the median, the longest\n")
+    print("| Link, each way | The host | Linux's own stack |\n|---|---|---|")
+    for name, options in LINKS:
+        chance = ("-c", str(random.randrange(1, 2**32)))
+        print(f"| {name} | {by_host(pump, program, (*options, *chance), count, size)} | {by_linux(pump, (*options, *chance), count, size)} |", flush=True)
+
+
+main()

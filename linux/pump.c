@@ -1,0 +1,210 @@
+// Owns a TUN or TAP device, the clock and the waiting for the program `host`, as pump.py does, which is the readable one.
+//
+//     cc -O2 -o pump linux/pump.c
+//     pump [OPTIONS] DEVICE HOST ADDRESS/LEN ROUTER     a link between the device and the program, whose settings these are
+//     pump [OPTIONS] DEVICE OTHER                       the same link between two devices
+//
+// -l N, -r N, -h N, -d N: so many of 1000 packets each way are lost, repeated, held back behind the next one, or damaged in a byte;
+// -c N: where the random numbers begin; -s N: the seed of the host; -e: the devices carry Ethernet frames (TAP);
+// -k FOLDER keeps what the program read and wrote as the files stdin and stdout.
+// SIGUSR1 lets the host's clock go on by an hour: each moment at which it wants a turn comes at once; it says when that is done. SIGTERM ends it.
+//
+// A turn is a packet's length (2 bytes), the moment in microseconds (8 bytes) and the packet, all numbers with the low byte first; the
+// answer is each packet behind its length, a length of 0, and the moment of the next turn (8 bytes, all ones for never).
+#define _GNU_SOURCE
+#include <arpa/inet.h>
+#include <fcntl.h>
+#include <linux/if.h>
+#include <linux/if_tun.h>
+#include <signal.h>
+#include <stdint.h>
+#include <stdio.h>
+#include <stdlib.h>
+#include <string.h>
+#include <sys/epoll.h>
+#include <sys/ioctl.h>
+#include <sys/random.h>
+#include <sys/socket.h>
+#include <time.h>
+#include <unistd.h>
+
+enum { MOST = 65536, HEAD = 10, HOUR = 3600 };
+typedef unsigned char byte;
+static int kind = IFF_TUN, tun = -1, other = -1, host = -1;
+static uint64_t lose, repeat, hold, damage, chance = 1, seed, ahead, turns, carried[2];
+static FILE *said, *answered;
+static volatile sig_atomic_t ends, skips;
+static struct { byte bytes[MOST]; int len; } held[2];  // what goes behind the next packet, each way
+
+static void stop(const char *why) { perror(why); exit(1); }
+static void on_signal(int number) { if (number == SIGUSR1) skips = 1; else ends = 1; }
+
+static int open_device(const char *name) {
+    struct ifreq request = {.ifr_flags = kind | IFF_NO_PI};
+    int device = open("/dev/net/tun", O_RDWR | O_NONBLOCK | O_CLOEXEC);
+    strncpy(request.ifr_name, name, IFNAMSIZ - 1);
+    if (device < 0 || ioctl(device, TUNSETIFF, &request) < 0) stop(name);
+    return device;
+}
+
+static uint64_t now(void) {
+    struct timespec it;
+    clock_gettime(CLOCK_MONOTONIC, &it);
+    static uint64_t began;
+    uint64_t at = it.tv_sec * 1000000ull + it.tv_nsec / 1000;
+    if (!began) began = at;
+    return at - began + ahead;
+}
+
+static uint64_t random_below(uint64_t most) {  // xorshift64*
+    chance ^= chance >> 12, chance ^= chance << 25, chance ^= chance >> 27;
+    return (chance * 0x2545F4914F6CDD1Dull >> 33) % most;
+}
+
+static uint64_t take_turn(const byte *packet, int len);
+static uint64_t next_turn = UINT64_MAX;
+
+// Hands a packet over: way 0 to the host or the other device, way 1 to the device.
+static void give(int way, const byte *packet, int len) {
+    carried[way]++;
+    if (way == 0 && host >= 0) next_turn = take_turn(packet, len);
+    else if (write(way == 0 ? other : tun, packet, len) < 0) {}  // a device that is down takes nothing
+}
+
+// What becomes of a packet on its way.
+static void carry(int way, const byte *packet, int len) {
+    static byte before[2][MOST], changed[2][MOST];
+    int behind = held[way].len;
+    uint64_t dice = lose + repeat + hold + damage ? random_below(1000) : 1000;
+    memcpy(before[way], held[way].bytes, behind);
+    held[way].len = 0;
+    if (dice >= lose && dice < lose + hold) {
+        memcpy(held[way].bytes, packet, held[way].len = len);
+    } else if (dice >= lose) {
+        memcpy(changed[way], packet, len);
+        if (dice < lose + hold + damage) changed[way][random_below(len)] ^= 1 + random_below(255);
+        give(way, changed[way], len);
+        if (dice >= lose + hold + damage && dice < lose + hold + damage + repeat) give(way, changed[way], len);
+    }
+    if (behind) give(way, before[way], behind);
+}
+
+static uint64_t number(const byte *from, int len) {
+    uint64_t value = 0;
+    while (len--) value = value << 8 | from[len];
+    return value;
+}
+
+static void keep(FILE *file, const byte *bytes, size_t len) { if (file) fwrite(bytes, 1, len, file); }
+
+// Reads so many bytes of the answer, of what was read at once.
+static const byte *answer(int len) {
+    static byte room[1 << 20];
+    static int from, to;
+    if (from == to) from = to = 0;
+    if (from > (int)sizeof room - MOST) memmove(room, room + from, to - from), to -= from, from = 0;
+    while (to - from < len) {
+        ssize_t more = read(host, room + to, sizeof room - to);
+        if (more <= 0) { fprintf(stderr, "pump: the program ended\n"); exit(1); }
+        to += more;
+    }
+    keep(answered, room + from, len);
+    from += len;
+    return room + from - len;
+}
+
+// One turn, in one write; the moment of the next one.
+static uint64_t take_turn(const byte *packet, int len) {
+    static byte turn[HEAD + MOST];
+    uint64_t at = now();
+    turn[0] = len, turn[1] = len >> 8;
+    for (int i = 0; i < 8; i++) turn[2 + i] = at >> 8 * i;
+    memcpy(turn + HEAD, packet, len);
+    for (int sent = 0, more; sent < HEAD + len; sent += more)
+        if ((more = write(host, turn + sent, HEAD + len - sent)) < 0) stop("host");
+    keep(said, turn, HEAD + len);
+    turns++;
+    for (int size; (size = number(answer(2), 2));) carry(1, answer(size), size);
+    return number(answer(8), 8);
+}
+
+static void start_host(const char *program, char *address, const char *router) {
+    byte settings[17] = {0};
+    int ends_of[2];
+    char *slash = strchr(address, '/');
+    if (!slash) stop("ADDRESS/LEN");
+    *slash = 0;
+    if (!inet_pton(AF_INET, address, settings) || !inet_pton(AF_INET, router, settings + 5)) stop("address");
+    settings[4] = atoi(slash + 1);
+    for (int i = 0; i < 8; i++) settings[9 + i] = seed >> 8 * i;
+    if (socketpair(AF_UNIX, SOCK_STREAM, 0, ends_of) < 0) stop("socketpair");
+    if (!fork()) {
+        dup2(ends_of[1], 0), dup2(ends_of[1], 1), close(ends_of[0]), close(ends_of[1]);
+        execl(program, program, (char *)0);
+        stop(program);
+    }
+    close(ends_of[1]);
+    host = ends_of[0];
+    next_turn = take_turn(settings, sizeof settings);
+}
+
+static void pass(int device, int way) {
+    static byte packet[MOST];
+    for (int i = 0, len; i < 64 && (len = read(device, packet, sizeof packet - 1)) > 0; i++) carry(way, packet, len);
+}
+
+static void skip_an_hour(void) {
+    uint64_t until = now() + HOUR * 1000000ull;
+    while (next_turn < until) {
+        if (next_turn > now()) ahead += next_turn - now();
+        next_turn = take_turn((const byte *)"", 0);
+    }
+    ahead += until - now();
+    printf("pump: an hour on, %llu turns\n", (unsigned long long)turns), fflush(stdout);
+}
+
+int main(int count, char **words) {
+    int option;
+    char path[4096];
+    if (getrandom(&seed, sizeof seed, 0) < 0) stop("getrandom");
+    while ((option = getopt(count, words, "l:r:h:d:c:s:k:e")) != -1) {
+        uint64_t value = optarg ? strtoull(optarg, 0, 10) : 0;
+        switch (option) {
+        case 'l': lose = value; break;
+        case 'r': repeat = value; break;
+        case 'h': hold = value; break;
+        case 'd': damage = value; break;
+        case 'c': chance = value | 1; break;
+        case 's': seed = value; break;
+        case 'e': kind = IFF_TAP; break;
+        case 'k':
+            snprintf(path, sizeof path, "%s/stdin", optarg), said = fopen(path, "wb");
+            snprintf(path, sizeof path, "%s/stdout", optarg), answered = fopen(path, "wb");
+            break;
+        default: return 2;
+        }
+    }
+    words += optind, count -= optind;
+    if (count != 2 && count != 4) return fprintf(stderr, "pump [OPTIONS] DEVICE HOST ADDRESS/LEN ROUTER | DEVICE OTHER\n"), 2;
+    struct sigaction act = {.sa_handler = on_signal, .sa_flags = SA_RESTART};
+    sigaction(SIGTERM, &act, 0), sigaction(SIGINT, &act, 0), sigaction(SIGUSR1, &act, 0);
+    tun = open_device(words[0]);
+    if (count == 4) start_host(words[1], words[2], words[3]);
+    else other = open_device(words[1]);
+    int waiting = epoll_create1(0);
+    struct epoll_event of_tun = {.events = EPOLLIN, .data.fd = tun}, of_other = {.events = EPOLLIN, .data.fd = other}, ready[2];
+    epoll_ctl(waiting, EPOLL_CTL_ADD, tun, &of_tun);
+    if (other >= 0) epoll_ctl(waiting, EPOLL_CTL_ADD, other, &of_other);
+    printf("pump: ready\n"), fflush(stdout);
+    while (!ends) {
+        uint64_t at = now(), wait = next_turn > at ? next_turn - at : 0;
+        struct timespec until = {wait / 1000000, wait % 1000000 * 1000};
+        int come = epoll_pwait2(waiting, ready, 2, next_turn == UINT64_MAX ? 0 : &until, 0);
+        for (int i = 0; i < come; i++) pass(ready[i].data.fd, ready[i].data.fd == tun ? 0 : 1);
+        if (host >= 0 && next_turn <= now()) next_turn = take_turn((const byte *)"", 0);
+        if (skips && host >= 0) skips = 0, skip_an_hour();
+    }
+    printf("pump: %llu turns, %llu packets in, %llu out\n", (unsigned long long)turns, (unsigned long long)carried[0], (unsigned long long)carried[1]);
+    if (said) fclose(said), fclose(answered);
+    return 0;
+}
