@@ -1,1 +1,7 @@
 pub mod Stages
+pub mod Entries
+pub mod Oldest
+pub mod Noted
+pub mod GivesWay
+pub mod Kept
+pub mod Calls

@@ -4,9 +4,12 @@ use Rattle.tcp_listener.specs.declared.entry.Entry.{Entry}
 use Rattle.tcp_listener.specs.declared.stage.Stage.{Stage}
 use Rattle.tcp_listener.specs.Entries.{entry_at}
 
--- no entry is at this stage, or this one is, and none of those that are came to it before
+-- of the first n entries none is at this stage, or this one is, and none of those that are came to it before
+abbrev pub IsOldestOf : ℕ → Stage → List Entry → Option ℕ → Type 0
+IsOldestOf n stage es None = (j : ℕ) → j < n → (entry_at es j).stage ≢ stage
+IsOldestOf n stage es (Some i) =
+    (i < n) × ((entry_at es i).stage ≡ stage)
+    × ((j : ℕ) → j < n → (entry_at es j).stage ≡ stage → (entry_at es i).since ≤ (entry_at es j).since)
+
 abbrev pub IsOldest : Stage → List Entry → Option ℕ → Type 0
-IsOldest stage es None = (j : ℕ) → j < length es → (entry_at es j).stage ≢ stage
-IsOldest stage es (Some i) =
-    (i < length es) × ((entry_at es i).stage ≡ stage)
-    × ((j : ℕ) → j < length es → (entry_at es j).stage ≡ stage → (entry_at es i).since ≤ (entry_at es j).since)
+IsOldest stage es found = IsOldestOf (length es) stage es found

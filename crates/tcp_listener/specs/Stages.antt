@@ -1,15 +1,14 @@
 -- How far a socket of a backlog came, by its state.
-use Rattle.std.specs.Prelude.{ℕ, Bool, true, false}
+use Rattle.std.specs.Prelude.{Bool, true, false}
 use Rattle.tcp_control.specs.declared.state.State.{State}
 use Rattle.tcp_control.specs.declared.state.State.TheVariants as In
 use Rattle.tcp_listener.specs.declared.stage.Stage.{Stage}
 use Rattle.tcp_listener.specs.declared.stage.Stage.TheVariants as Is
 
--- its user gave it back
-abbrev pub is_given_back : Stage → Bool
-is_given_back Is.Ending = true
-is_given_back Is.TimeWait = true
-is_given_back other = false
+-- it is its user's
+abbrev pub is_accepted : Stage → Bool
+is_accepted Is.Accepted = true
+is_accepted other = false
 
 abbrev pub connected_stage : Stage → Stage
 connected_stage Is.Ending = Is.Ending

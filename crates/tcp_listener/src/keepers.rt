@@ -32,8 +32,8 @@ fn keep_place(place: &mut SocketStorage<Socket>, endpoint: IpListenEndpoint)
     }
 }
 
-fn keep_at(places: &mut [SocketStorage<Socket>], at: usize, endpoint: IpListenEndpoint)
-    ensures { places.new ≡ kept_at endpoint at places.old }
+fn keep_at(places: &mut Vec<SocketStorage<Socket>>, at: usize, endpoint: IpListenEndpoint)
+    ensures { places.new.items ≡ kept_at endpoint at places.old.items }
 {
     if at < places.len() {
         keep_place(&mut places[at], endpoint);
@@ -42,11 +42,11 @@ fn keep_at(places: &mut [SocketStorage<Socket>], at: usize, endpoint: IpListenEn
 
 /// Each keeper listens.
 pub(crate) fn keep_all(
-    places: &mut [SocketStorage<Socket>],
+    places: &mut Vec<SocketStorage<Socket>>,
     keepers: &[SocketHandle],
     endpoint: IpListenEndpoint,
 )
-    ensures { places.new ≡ kept_all endpoint keepers.now places.old }
+    ensures { places.new.items ≡ kept_all endpoint keepers.now places.old.items }
 {
     for i in 0..keepers.len() {
         keep_at(places, keepers[i].place(), endpoint);

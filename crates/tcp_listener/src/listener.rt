@@ -33,13 +33,13 @@ fn micros_of(moment: Instant) -> u64
 
 /// What a refresh makes of the sockets of a set.
 fn refresh_places(
-    places: &mut [SocketStorage<Socket>],
-    entries: &mut [Entry],
+    places: &mut Vec<SocketStorage<Socket>>,
+    entries: &mut Vec<Entry>,
     keepers: &[SocketHandle],
     endpoint: IpListenEndpoint,
     now: u64,
 )
-    ensures { Refreshes endpoint now keepers.now places.old entries.old places.new entries.new }
+    ensures { Refreshes endpoint now keepers.now places.old.items entries.old.items places.new.items entries.new.items }
 {
     note_all(places, entries, endpoint, now);
     give_way(places, entries, endpoint, now);
@@ -93,23 +93,14 @@ impl Listener {
         ensures keepers { self.new.keepers.items ≡ self.old.keepers.items }
     {
         let now = micros_of(now);
-        let entries = self.entries.as_mut_slice();
         let keepers = self.keepers.as_slice();
         match &mut set.sockets {
-            ManagedSlice::Fixed(places) => refresh_places(
-                places.as_mut_slice(),
-                entries,
-                keepers,
-                self.endpoint,
-                now,
-            ),
-            ManagedSlice::Owned(places) => refresh_places(
-                places.as_mut_slice(),
-                entries,
-                keepers,
-                self.endpoint,
-                now,
-            ),
+            ManagedSlice::Fixed(places) => {
+                refresh_places(places, &mut self.entries, keepers, self.endpoint, now)
+            }
+            ManagedSlice::Owned(places) => {
+                refresh_places(places, &mut self.entries, keepers, self.endpoint, now)
+            }
         }
     }
 
@@ -127,13 +118,13 @@ impl Listener {
         ensures back { self.new.entries.items ≡ map (given_back handle) self.old.entries.items }
         ensures rest { self.new ≡ record self.old { entries = self.new.entries } }
     {
-        give_back_all(self.entries.as_mut_slice(), handle);
+        give_back_all(&mut self.entries, handle);
     }
 }
 
-#[tactic(auto, using(std::proofs::lemmas::List::Edits::map_over_more))]
-fn give_back_all(entries: &mut [Entry], handle: SocketHandle)
-    ensures { entries.new ≡ map (given_back handle) entries.old }
+/// Takes the socket of this handle back, in each entry that has it as accepted.
+fn give_back_all(entries: &mut Vec<Entry>, handle: SocketHandle)
+    ensures { entries.new.items ≡ map (given_back handle) entries.old.items }
 {
     for i in 0..entries.len() {
         give_back_entry(&mut entries[i], handle);

@@ -58,12 +58,12 @@ fn noted(entry: &Entry, state: Option<State>, now: u64) -> Entry
 
 /// Sees how far the socket of an entry came, unless it is its user's.
 fn note(
-    places: &mut [SocketStorage<Socket>],
+    places: &mut Vec<SocketStorage<Socket>>,
     entry: &mut Entry,
     endpoint: IpListenEndpoint,
     now: u64,
 )
-    ensures { NotesOne endpoint now places.old entry.old places.new entry.new }
+    ensures { NotesOne endpoint now places.old.items entry.old places.new.items entry.new }
 {
     let at = entry.handle.place();
     if entry.stage.is_accepted() || at >= places.len() {
@@ -74,14 +74,14 @@ fn note(
 }
 
 /// Sees how far each socket of a backlog came, at this time. A closed one listens again.
-#[tactic(auto, using(crate::proofs::Seen::noted_none, crate::proofs::Seen::noted_more, crate::proofs::Seen::noted_all))]
+#[tactic(auto, using(crate::proofs::Seen::noted_none, crate::proofs::Seen::noted_all))]
 pub(crate) fn note_all(
-    places: &mut [SocketStorage<Socket>],
-    entries: &mut [Entry],
+    places: &mut Vec<SocketStorage<Socket>>,
+    entries: &mut Vec<Entry>,
     endpoint: IpListenEndpoint,
     now: u64,
 )
-    ensures { AreNoted endpoint now places.old entries.old places.new entries.new }
+    ensures { AreNoted endpoint now places.old.items entries.old.items places.new.items entries.new.items }
 {
     for i in 0..entries.len() {
         note(places, &mut entries[i], endpoint, now);

@@ -31,8 +31,8 @@ fn restart_place(place: &mut SocketStorage<Socket>, endpoint: IpListenEndpoint)
     }
 }
 
-fn restart_at(places: &mut [SocketStorage<Socket>], at: usize, endpoint: IpListenEndpoint)
-    ensures { places.new ≡ restarted_at endpoint at places.old }
+fn restart_at(places: &mut Vec<SocketStorage<Socket>>, at: usize, endpoint: IpListenEndpoint)
+    ensures { places.new.items ≡ restarted_at endpoint at places.old.items }
 {
     if at < places.len() {
         restart_place(&mut places[at], endpoint);
@@ -66,17 +66,17 @@ fn long_half_open(entries: &[Entry], now: u64) -> Option<usize>
 
 /// Where no socket of the backlog is free, the next one gives way.
 pub(crate) fn give_way(
-    places: &mut [SocketStorage<Socket>],
-    entries: &mut [Entry],
+    places: &mut Vec<SocketStorage<Socket>>,
+    entries: &mut Vec<Entry>,
     endpoint: IpListenEndpoint,
     now: u64,
 )
-    ensures { GivesWay endpoint now places.old entries.old places.new entries.new }
+    ensures { GivesWay endpoint now places.old.items entries.old.items places.new.items entries.new.items }
 {
-    if oldest(entries, Stage::Free).is_some() {
+    if oldest(entries.as_slice(), Stage::Free).is_some() {
         return;
     }
-    let Some(at) = next(entries, now) else {
+    let Some(at) = next(entries.as_slice(), now) else {
         return;
     };
     let handle = entries[at].handle;

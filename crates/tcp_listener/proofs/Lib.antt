@@ -1,0 +1,4 @@
+mod Older
+mod Relisting
+mod Seen
+mod Back
