@@ -46,20 +46,29 @@ def checksum(data):
     return total ^ 0xFFFF
 
 
+def is_answered(it, rest, seconds=3):
+    """Whether an echo reply with this text comes within so many seconds; one that comes late is passed over."""
+    end = time.monotonic() + seconds
+    while (left := end - time.monotonic()) > 0:
+        it.settimeout(left)
+        try:
+            message = it.recv(65536)[20:]
+        except OSError:
+            return False
+        if message[0] == 0 and checksum(message) == 0 and message[4:] == rest:
+            return True
+    return False
+
+
 def pings(count=20, size=56):
     """ICMP echo requests, by a raw socket: not every machine has a ping."""
     well = 0
     with socket.socket(socket.AF_INET, socket.SOCK_RAW, socket.IPPROTO_ICMP) as it:
-        it.settimeout(1)
         it.connect((OURS, 0))
         for number in range(count):
             rest = (4242).to_bytes(2, "big") + number.to_bytes(2, "big") + os.urandom(size)
             it.send(b"\x08\0" + checksum(b"\x08\0\0\0" + rest).to_bytes(2, "big") + rest)
-            try:
-                message = it.recv(65536)[20:]
-                well += message[0] == 0 and checksum(message) == 0 and message[4:] == rest
-            except OSError:
-                pass
+            well += is_answered(it, rest)
     return say(f"{well} of {count} pings of {size} bytes", well == count)
 
 

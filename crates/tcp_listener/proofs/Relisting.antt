@@ -1,6 +1,6 @@
 -- A socket that listens again does so once.
-use Rattle.std.proofs.Common.{◌≡◌, ◌≢◌, ℕ, ◌==◌, not, ◌&&◌, Bool, true, false, List, arith, refl, subst, ap}
-use Rattle.std.specs.Prelude.{Option, Some, None, if◌then◌else◌}
+use Rattle.std.proofs.Common.{◌≡◌, ℕ, ◌==◌, Bool, true, false, arith, refl, subst, ap}
+use Rattle.std.specs.Prelude.{Option, Some, None}
 use Rattle.interface_egress.specs.declared.socket_set.Item.{Item}
 use Rattle.interface_egress.specs.declared.socket_set.SocketStorage.{SocketStorage}
 use Rattle.ip_wire.specs.IpListenEndpoint.{IpListenEndpoint}
@@ -9,8 +9,7 @@ use Rattle.sockets.specs.declared.socket.Socket.TheVariants as Kind
 use Rattle.tcp_control.specs.declared.state.State.{State}
 use Rattle.tcp_control.specs.declared.state.State.TheVariants as In
 use Rattle.tcp_control.specs.States.{is_closed}
-use Rattle.tcp_model.specs.Calls.{listen_after, listening}
-use Rattle.tcp_model.specs.Value.{TcpValue, unoffered}
+use Rattle.tcp_model.specs.Value.{TcpValue}
 use Rattle.tcp_listener.specs.declared.entry.Entry.{Entry}
 use Rattle.tcp_listener.specs.Noted.{socket_state, item_state, state_at, relisted, relisted_socket, relisted_item, relisted_place, ComesTo, IsNoted}
 use Rattle.tcp_listener.specs.Stages.{stage_after}

@@ -11,7 +11,7 @@ use Rattle.tcp_control.specs.declared.state.State.{State}
 use Rattle.tcp_listener.specs.declared.entry.Entry.{Entry}
 use Rattle.tcp_listener.specs.Entries.{entry_at, no_entry}
 use Rattle.tcp_listener.specs.Stages.{is_accepted}
-use Rattle.tcp_listener.specs.Noted.{place_at, state_at, relisted_place, IsNoted, IsSeen, NotesBy, NotesOne, IsWaitingAt, AreNoted}
+use Rattle.tcp_listener.specs.Noted.{place_at, state_at, relisted_place, IsNoted, NotesBy, NotesOne, IsWaitingAt, AreNoted}
 use Rattle.tcp_listener.proofs.Relisting.{relisted_once, noted_before}
 
 -- none of the first n entries is for this place, which is as it was

@@ -1,5 +1,5 @@
 -- What a listener keeps of its sockets.
-use Rattle.std.specs.Prelude.{ℕ, List, length, slice_index_or}
+use Rattle.std.specs.Prelude.{ℕ, List, slice_index_or}
 use Rattle.tcp_listener.specs.declared.entry.Entry.{Entry}
 use Rattle.tcp_listener.specs.declared.stage.Stage.TheVariants as Is
 
