@@ -1,0 +1,99 @@
+-- Areas of options, an option at a time.
+use Rattle.std.proofs.Common.{◌≡◌, ◌≢◌, ℕ, zero, suc, ◌+◌, ◌-◌, ◌<◌, ◌≤◌, Bool, true, false, List, [], ◌∷◌, length, take, drop, refl, sym, ◌∙◌, ap, arith}
+use Rattle.std.proofs.lemmas.Bool.{eq-eqb, ne_eqb, le-leb}
+use Rattle.std.specs.Prelude.{◌==◌, if◌then◌else◌, slice_index, Option, Some}
+use Rattle.dhcp_wire.specs.Options.{OptionValue, option_before, options_in, is_area, last_of}
+
+-- skipping bytes that are there
+pub options_in-skip : (n : ℕ) (bytes : List ℕ) → n ≤ length bytes → options_in n bytes ≡ options_in 0 (drop n bytes)
+options_in-skip zero bytes le = refl
+options_in-skip (suc n) [] le = absurd (omega arith)
+options_in-skip (suc n) (b ∷ bytes) le = options_in-skip n bytes (omega arith)
+
+pub is_area-skip : (n : ℕ) (bytes : List ℕ) → n ≤ length bytes → is_area n bytes ≡ is_area 0 (drop n bytes)
+is_area-skip zero bytes le = refl
+is_area-skip (suc n) [] le = absurd (omega arith)
+is_area-skip (suc n) (b ∷ bytes) le = is_area-skip n bytes (omega arith)
+
+-- skipping more than is there
+pub is_area-cut : (n : ℕ) (bytes : List ℕ) → length bytes < n → is_area n bytes ≡ false
+is_area-cut zero bytes lt = absurd (omega arith)
+is_area-cut (suc n) [] lt = ne_eqb (suc n) 0 (λ e. omega (arith, e))
+is_area-cut (suc n) (b ∷ bytes) lt = is_area-cut n bytes (omega arith)
+
+-- a pad at the front
+pub options_in-pad : (b : ℕ) (bytes : List ℕ) → b ≡ 0 → options_in 0 (b ∷ bytes) ≡ options_in 0 bytes
+options_in-pad b bytes is = rw is refl
+
+pub is_area-pad : (b : ℕ) (bytes : List ℕ) → b ≡ 0 → is_area 0 (b ∷ bytes) ≡ is_area 0 bytes
+is_area-pad b bytes is = rw is refl
+
+-- the end at the front
+pub options_in-end : (b : ℕ) (bytes : List ℕ) → b ≡ 255 → options_in 0 (b ∷ bytes) ≡ []
+options_in-end b bytes is = rw is refl
+
+pub is_area-end : (b : ℕ) (bytes : List ℕ) → b ≡ 255 → is_area 0 (b ∷ bytes) ≡ true
+is_area-end b bytes is = rw is refl
+
+-- what a byte at the front is, told of its two tests
+abbrev options_by : ℕ → List ℕ → Bool → Bool → List OptionValue
+options_by b bytes is_pad is_end = elim is_pad [
+  | true ↦ options_in 0 bytes
+  | false ↦ elim is_end [ true ↦ [] | false ↦ option_before b bytes (options_in (suc (slice_index bytes 0)) bytes) ]
+]
+
+options_in-by : (b : ℕ) (bytes : List ℕ) (is_pad is_end : Bool) → (b == 0) ≡ is_pad → (b == 255) ≡ is_end → options_in 0 (b ∷ bytes) ≡ options_by b bytes is_pad is_end
+options_in-by b bytes is_pad is_end pad end = ap (λ t. options_by b bytes t (b == 255)) pad ∙ ap (options_by b bytes is_pad) end
+
+abbrev area_by : List ℕ → Bool → Bool → Bool
+area_by bytes is_pad is_end = elim is_pad [
+  | true ↦ is_area 0 bytes
+  | false ↦ elim is_end [ true ↦ true | false ↦ is_area (suc (slice_index bytes 0)) bytes ]
+]
+
+is_area-by : (b : ℕ) (bytes : List ℕ) (is_pad is_end : Bool) → (b == 0) ≡ is_pad → (b == 255) ≡ is_end → is_area 0 (b ∷ bytes) ≡ area_by bytes is_pad is_end
+is_area-by b bytes is_pad is_end pad end = ap (λ t. area_by bytes t (b == 255)) pad ∙ ap (area_by bytes is_pad) end
+
+abbrev with_length : ℕ → List ℕ → List OptionValue → Bool → List OptionValue
+with_length kind inside others whole = if whole then record { kind = kind; inside = inside } ∷ others else []
+
+-- an option at the front
+pub options_in-one : (kind n : ℕ) (inner : List ℕ) → kind ≢ 0 → kind ≢ 255 → n ≤ length inner
+    → options_in 0 (kind ∷ n ∷ inner) ≡ record { kind = kind; inside = take n inner } ∷ options_in 0 (drop n inner)
+options_in-one kind n inner some goes le =
+    options_in-by kind (n ∷ inner) false false (ne_eqb kind 0 some) (ne_eqb kind 255 goes)
+    ∙ ap (with_length kind (take n inner) (options_in n inner)) (le-leb n (length inner) le)
+    ∙ ap (λ os. with_length kind (take n inner) os true) (options_in-skip n inner le)
+
+pub is_area-one : (kind n : ℕ) (inner : List ℕ) → kind ≢ 0 → kind ≢ 255 → n ≤ length inner → is_area 0 (kind ∷ n ∷ inner) ≡ is_area 0 (drop n inner)
+is_area-one kind n inner some goes le =
+    is_area-by kind (n ∷ inner) false false (ne_eqb kind 0 some) (ne_eqb kind 255 goes) ∙ is_area-skip n inner le
+
+-- an option that is cut
+pub is_area-short : (kind n : ℕ) (inner : List ℕ) → kind ≢ 0 → kind ≢ 255 → length inner < n → is_area 0 (kind ∷ n ∷ inner) ≡ false
+is_area-short kind n inner some goes lt =
+    is_area-by kind (n ∷ inner) false false (ne_eqb kind 0 some) (ne_eqb kind 255 goes) ∙ is_area-cut n inner lt
+
+pub is_area-lone : (kind : ℕ) → kind ≢ 0 → kind ≢ 255 → is_area 0 (kind ∷ []) ≡ false
+is_area-lone kind some goes =
+    is_area-by kind [] false false (ne_eqb kind 0 some) (ne_eqb kind 255 goes) ∙ is_area-cut (suc (slice_index [] 0)) [] (omega arith)
+
+-- an option at the front of an area that is read
+pub last_of-one : (kind code n : ℕ) (inner : List ℕ) (so_far : Option (List ℕ)) → code ≢ 0 → code ≢ 255 → n ≤ length inner
+    → last_of kind so_far (options_in 0 (code ∷ n ∷ inner)) ≡ last_of kind (if code == kind then Some (take n inner) else so_far) (options_in 0 (drop n inner))
+last_of-one kind code n inner so_far some goes le = ap (last_of kind so_far) (options_in-one code n inner some goes le)
+
+-- the same, where it has the code, and where it hasn't
+pub last_of-hit : (kind code n : ℕ) (inner : List ℕ) (so_far : Option (List ℕ)) → code ≢ 0 → code ≢ 255 → n ≤ length inner → code ≡ kind
+    → last_of kind so_far (options_in 0 (code ∷ n ∷ inner)) ≡ last_of kind (Some (take n inner)) (options_in 0 (drop n inner))
+last_of-hit kind code n inner so_far some goes le is =
+    last_of-one kind code n inner so_far some goes le
+    ∙ ap (λ (t : Bool). last_of kind (if t then Some (take n inner) else so_far) (options_in 0 (drop n inner))) (eq-eqb code kind is)
+
+pub last_of-miss : (kind code n : ℕ) (inner : List ℕ) (so_far : Option (List ℕ)) → code ≢ 0 → code ≢ 255 → n ≤ length inner → code ≢ kind
+    → last_of kind so_far (options_in 0 (code ∷ n ∷ inner)) ≡ last_of kind so_far (options_in 0 (drop n inner))
+last_of-miss kind code n inner so_far some goes le isnt =
+    last_of-one kind code n inner so_far some goes le
+    ∙ ap (λ (t : Bool). last_of kind (if t then Some (take n inner) else so_far) (options_in 0 (drop n inner))) (ne_eqb code kind isnt)
+
+pub ruleset area_steps = (options_in-pad, options_in-end, options_in-one, is_area-pad, is_area-end, is_area-one, is_area-short, is_area-lone, last_of-hit, last_of-miss)

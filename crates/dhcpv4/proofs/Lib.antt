@@ -1,0 +1,4 @@
+pub mod Ends
+pub mod Given
+pub mod Short
+pub mod Turns

@@ -1,0 +1,4 @@
+-- What the contracts of this crate speak of.
+pub mod Codes
+pub mod Message
+pub mod Name

@@ -1,0 +1,107 @@
+//! Names, read through their compression.
+ghost use Rattle.std.specs.Prelude.{◌≡◌, ◌↔◌, ℕ, ◌+◌, ◌<◌, ◌≤◌, ◌++◌, ◌∷◌, IsOk, IfOk, OnOk, List, length};
+ghost use Rattle.dns_wire.specs.Name.{IsName, IsPartAt, bytes_of_name};
+
+use arrayvec::ArrayVec;
+use ip_address::Error;
+use ip_address::network_order::read_u16;
+
+/// How long a name is at most, its lengths and its last zero included (RFC 1035, section 2.3.4).
+pub const MAX_NAME_LEN: usize = 255;
+
+/// A name without compression: labels, each behind its length, and a zero.
+#[derive(Clone, Debug, Drop)]
+pub struct DnsName {
+    bytes: ArrayVec<u8, MAX_NAME_LEN>,
+}
+
+impl DnsName {
+    /// The name that stands at a place of a message, and where its own bytes end. Pointers lead
+    /// back, below the place where the name begins and below every pointer before.
+    pub fn parse(message: &[u8], at: usize) -> Result<(DnsName, usize), Error>
+        ensures found { IfOk result (λ p. IsName message.now at (bytes_of_name p.0) p.1) }
+        ensures only { (name : List ℕ) (end : ℕ) → IsName message.now at name end
+            → IsOk result × IfOk result (λ p. (bytes_of_name p.0 ≡ name) × (p.1 ≡ end)) }
+    {
+        let mut bytes = ArrayVec::new();
+        let mut end = None;
+        let mut limit = at;
+        let mut place = at;
+        loop {
+            match part_at(message, limit, place)? {
+                Part::Root => {
+                    let Ok(()) = bytes.try_push(0) else {
+                        return Err(Error);
+                    };
+                    return Ok((DnsName { bytes }, end.unwrap_or(place + 1)));
+                }
+                Part::Label(label) => {
+                    push_label(&mut bytes, label)?;
+                    place += 1 + label.len();
+                }
+                Part::Pointer(target) => {
+                    end = Some(end.unwrap_or(place + 2));
+                    limit = target;
+                    place = target;
+                }
+            }
+        }
+    }
+
+    /// The bytes of the name: its labels, each behind its length, and a zero.
+    pub fn as_bytes(&self) -> &[u8]
+        ensures { result.now ≡ bytes_of_name self.now }
+    {
+        self.bytes.as_slice()
+    }
+}
+
+/// What stands at a place of a name.
+#[derive(Clone, Copy)]
+enum Part<'a> {
+    Root,
+    Label(&'a [u8]),
+    Pointer(usize),
+}
+
+/// What stands at a place of a name whose pointers lead below a limit.
+fn part_at<'a>(message: &'a [u8], limit: usize, at: usize) -> Result<Part<'a>, Error>
+    ensures { IsPartAt message.now limit at result }
+{
+    if at >= message.len() {
+        return Err(Error);
+    }
+    let behind = message.len() - at - 1;
+    let first = message[at] as usize;
+    if first == 0 {
+        Ok(Part::Root)
+    } else if first < 64 {
+        if first > behind {
+            return Err(Error);
+        }
+        Ok(Part::Label(&message[at + 1..at + 1 + first]))
+    } else {
+        if first < 192 || behind == 0 {
+            return Err(Error);
+        }
+        let place = read_u16(message, at) as usize - 49152;
+        if place >= limit {
+            return Err(Error);
+        }
+        Ok(Part::Pointer(place))
+    }
+}
+
+/// Appends a label behind its length, where there is room.
+fn push_label(bytes: &mut ArrayVec<u8, MAX_NAME_LEN>, label: &[u8]) -> Result<(), Error>
+    requires { length label.now < 64 }
+    ensures pushed { OnOk result (bytes.new.items ≡ bytes.old.items ++ (length label.now ∷ label.now)) }
+    ensures full { IsOk result ↔ (length bytes.old.items + 1 + length label.now ≤ 255) }
+{
+    if bytes.len() + 1 + label.len() > MAX_NAME_LEN {
+        return Err(Error);
+    }
+    bytes.push(label.len() as u8);
+    let _ = bytes.try_extend_from_slice(label);
+    Ok(())
+}
