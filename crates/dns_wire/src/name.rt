@@ -27,7 +27,7 @@ impl DnsName {
         let mut end = None;
         let mut limit = at;
         let mut place = at;
-        loop {
+        'parts: loop {
             match part_at(message, limit, place)? {
                 Part::Root => {
                     let Ok(()) = bytes.try_push(0) else {
