@@ -35,8 +35,9 @@ pub record IsSmall (m : DhcpRepr) : Type 0 where
 client-short : (m : DhcpRepr) → IsSmall m → length (client_bytes m) ≤ 22
 unfolding client_bytes
 client-short m is =
+    let nine : length (inside_bytes 61 (station_inside (Some is.station))) ≡ 9 = omega (arith, is.six.0) in
     let e61 : length (inside_bytes 61 (station_inside m.client_identifier)) ≡ 9 =
-    ap (λ (o : Option EthernetAddress). length (inside_bytes 61 (station_inside o))) is.client_identifier ∙ (omega (arith, is.six.0))
+    ap (λ (o : Option EthernetAddress). length (inside_bytes 61 (station_inside o))) is.client_identifier ∙ nine
     in
     let e57 : length (inside_bytes 57 (number16_inside m.max_size)) ≡ 4 = ap (λ (o : Option ℕ). length (inside_bytes 57 (number16_inside o))) is.max_size_is in
     omega (
@@ -64,13 +65,25 @@ name-short m is =
       length-append (inside_bytes 55 (seen m.parameter_request_list)) [],
     )
 
+abbrev times_of : Option ℕ → Option ℕ → Option ℕ → List ℕ
+times_of a b c = inside_bytes 51 (number32_inside a) ++ (inside_bytes 58 (number32_inside b) ++ (inside_bytes 59 (number32_inside c) ++ []))
+
 time-none : (m : DhcpRepr) → IsSmall m → time_bytes m ≡ []
 unfolding time_bytes
-time-none m is = simp (is.lease_duration, is.renew_duration, is.rebind_duration) refl
+time-none m is =
+    ap (λ (o : Option ℕ). times_of o m.renew_duration m.rebind_duration) is.lease_duration
+    ∙ ap (λ (o : Option ℕ). times_of None o m.rebind_duration) is.renew_duration
+    ∙ ap (λ (o : Option ℕ). times_of None None o) is.rebind_duration
+
+abbrev networks_of : Option Ipv4Address → Option Ipv4Address → List (Option Ipv4Address) → List ℕ
+networks_of a b c = inside_bytes 1 (address_inside a) ++ (inside_bytes 3 (address_inside b) ++ (inside_bytes 6 (addresses_inside (addresses_bytes c)) ++ []))
 
 network-none : (m : DhcpRepr) → IsSmall m → network_bytes m ≡ []
 unfolding network_bytes
-network-none m is = simp (is.subnet_mask, is.router, is.dns_servers) refl
+network-none m is =
+    ap (λ (o : Option Ipv4Address). networks_of o m.router m.dns_servers) is.subnet_mask
+    ∙ ap (λ (o : Option Ipv4Address). networks_of None o m.dns_servers) is.router
+    ∙ ap (λ (l : List (Option Ipv4Address)). networks_of None None l) is.dns_servers
 
 pub long : (m : DhcpRepr) → IsSmall m → buffer_len m ≡ 300
 long m is =

@@ -1,6 +1,7 @@
 -- Questions and records that were read are the ones that stand there.
 use Rattle.std.proofs.Common.{◌≡◌, ◌≢◌, ℕ, ◌+◌, ◌≤◌, List, length, refl, sym, ◌∙◌, ap, subst, arith}
-use Rattle.std.specs.Prelude.{slice_range}
+use Rattle.std.specs.Prelude.{slice_range, Ok}
+use Rattle.ip_address.specs.declared.Error.{Error}
 use Rattle.ip_address.specs.Fields.{be16, be32}
 use Rattle.ip_address.specs.declared.ipv4.Ipv4Address.{Ipv4Address}
 use Rattle.ip_address.specs.declared.ipv6.Ipv6Address.{Ipv6Address}
@@ -99,3 +100,26 @@ cname-is message start len (A other) holds = absurd (omega (arith, holds.1))
 cname-is message start len (Aaaa other) holds = absurd (omega (arith, holds.1))
 cname-is message start len (Cname name) holds = record { name = name; is = refl; stands = holds.2 }
 cname-is message start len (Other kind first count) holds = absurd ((holds.0 refl).1 refl)
+
+-- the same, of numbers that are equal to these
+pub holds-as : (message : List ℕ) (at : ℕ) (r : DnsRecord) (end stop class kind len : ℕ) (is : IsRecord message at r end) → stop ≡ is.name_end
+    → class ≡ be16 message (stop + 2) → kind ≡ be16 message stop → len ≡ be16 message (stop + 8) → IsData message class kind (stop + 10) len r.«data»
+holds-as message at r end stop class kind len is ends class_is kind_is len_is =
+    subst (λ (k : ℕ). IsData message k kind (stop + 10) len r.«data») (sym class_is)
+    (subst (λ (k : ℕ). IsData message (be16 message (stop + 2)) k (stop + 10) len r.«data») (sym kind_is)
+    (subst (λ (k : ℕ). IsData message (be16 message (stop + 2)) (be16 message stop) (stop + 10) k r.«data») (sym len_is) (holds-at message at r end stop is ends)))
+
+-- a record and where it ends
+abbrev pub pair : DnsName → ℕ → DnsRecordData → ℕ → DnsRecord × ℕ
+pair name ttl held stop = (record { name = name; ttl = ttl; «data» = held }, stop)
+
+held-same : (a b : DnsRecordData) → Ok {E = Error} a ≡ Ok b → a ≡ b
+held-same a b same = cc
+
+-- a record that was read, with a length that was read before
+pub one-record : (message : List ℕ) (at : ℕ) (r : DnsRecord) (end : ℕ) (name : DnsName) (ttl : ℕ) (held : DnsRecordData) (stop len : ℕ) (is : IsRecord message at r end) → bytes_of_name name ≡ bytes_of_name r.name → stop ≡ is.name_end
+    → ttl ≡ be32 message (stop + 4) → Ok {E = Error} held ≡ Ok r.«data» → len ≡ be16 message (stop + 8)
+    → Ok {E = Error} (pair name ttl held (stop + 10 + len)) ≡ Ok (r, end)
+one-record message at r end name ttl held stop len is same ends ttl_is held_is len_is =
+    ap (λ k. Ok (pair name ttl held (stop + 10 + k))) len_is
+    ∙ ap Ok (record-is message at r end name ttl held stop is same ends ttl_is (held-same held r.«data» held_is))
