@@ -1,6 +1,6 @@
 -- Questions and records that were read are the ones that stand there.
 use Rattle.std.proofs.Common.{◌≡◌, ◌≢◌, ℕ, ◌+◌, ◌≤◌, List, length, refl, sym, ◌∙◌, ap, subst, arith}
-use Rattle.std.specs.Prelude.{slice_range, Ok}
+use Rattle.std.specs.Prelude.{slice_range, Result, Ok}
 use Rattle.ip_address.specs.declared.Error.{Error}
 use Rattle.ip_address.specs.Fields.{be16, be32}
 use Rattle.ip_address.specs.declared.ipv4.Ipv4Address.{Ipv4Address}
@@ -113,13 +113,18 @@ holds-as message at r end stop class kind len is ends class_is kind_is len_is =
 abbrev pub pair : DnsName → ℕ → DnsRecordData → ℕ → DnsRecord × ℕ
 pair name ttl held stop = (record { name = name; ttl = ttl; «data» = held }, stop)
 
-held-same : (a b : DnsRecordData) → Ok {E = Error} a ≡ Ok b → a ≡ b
+abbrev pub told : DnsRecord × ℕ → Result (DnsRecord × ℕ) Error
+told p = Ok p
+
+abbrev pub held_as : DnsRecordData → Result DnsRecordData Error
+held_as d = Ok d
+
+held-same : (a b : DnsRecordData) → held_as a ≡ held_as b → a ≡ b
 held-same a b same = cc
 
 -- a record that was read, with a length that was read before
 pub one-record : (message : List ℕ) (at : ℕ) (r : DnsRecord) (end : ℕ) (name : DnsName) (ttl : ℕ) (held : DnsRecordData) (stop len : ℕ) (is : IsRecord message at r end) → bytes_of_name name ≡ bytes_of_name r.name → stop ≡ is.name_end
-    → ttl ≡ be32 message (stop + 4) → Ok {E = Error} held ≡ Ok r.«data» → len ≡ be16 message (stop + 8)
-    → Ok {E = Error} (pair name ttl held (stop + 10 + len)) ≡ Ok (r, end)
+    → ttl ≡ be32 message (stop + 4) → held_as held ≡ held_as r.«data» → len ≡ be16 message (stop + 8) → told (pair name ttl held (stop + 10 + len)) ≡ told (r, end)
 one-record message at r end name ttl held stop len is same ends ttl_is held_is len_is =
-    ap (λ k. Ok (pair name ttl held (stop + 10 + k))) len_is
-    ∙ ap Ok (record-is message at r end name ttl held stop is same ends ttl_is (held-same held r.«data» held_is))
+    ap (λ (k : ℕ). told (pair name ttl held (stop + 10 + k))) len_is
+    ∙ ap told (record-is message at r end name ttl held stop is same ends ttl_is (held-same held r.«data» held_is))
