@@ -1,0 +1,5 @@
+pub mod Ends
+pub mod Given
+pub mod Short
+pub mod Turns
+pub mod Taken

@@ -1,0 +1,10 @@
+-- What the contracts of this crate speak of.
+pub mod Answers
+pub mod Events
+pub mod Laws
+pub mod Leases
+pub mod Moments
+pub mod Offers
+pub mod Requests
+pub mod States
+pub mod Value
