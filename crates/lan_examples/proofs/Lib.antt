@@ -8,3 +8,4 @@ pub mod OpeningRun
 pub mod Worlds
 pub mod ConnectionRun
 pub mod ConnectionEnd
+pub mod ExcludedNets

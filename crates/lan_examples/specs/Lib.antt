@@ -7,3 +7,4 @@ pub mod Fallback
 pub mod Played
 pub mod Opening
 pub mod Connection
+pub mod Excluded

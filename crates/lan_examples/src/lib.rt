@@ -2,4 +2,5 @@
 #![tactic(auto)]
 
 pub mod datagrams;
+pub mod excluded;
 pub mod streams;

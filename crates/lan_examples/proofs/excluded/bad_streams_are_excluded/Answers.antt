@@ -1,0 +1,12 @@
+use Rattle.lan_examples.proofs.ExcludedNets as nets
+use Rattle.lan_examples.proofs.excluded.bad_streams_are_excluded.Goals as goal
+
+pub returns : goal.returns
+returns c = record {
+  other_byte = nets.other_byte;
+  swapped = nets.swapped;
+  one_more = nets.one_more;
+  freed_early = nets.freed_early;
+  ended_early = nets.ended_early;
+  alone = nets.alone;
+}
