@@ -289,11 +289,11 @@ def tried(what, *given):
     return all(said) if isinstance(said, list) else said
 
 
-# What a host without listeners bears, too, and whose link takes no longer packets.
-CONNECTIONS = ((talk.pings,), (pages, "at first", 10), (comes_again,), (attacks,), (talk.stream, 1_000_000))
+# What a host of sockets without listeners bears, too.
+CONNECTIONS = ((talk.pings,), (pages, "at first", 10), (comes_again,), (attacks,), (long_packets,), (talk.stream, 1_000_000))
 
 LISTENERS = (
-    (long_packets,), (flood,), (pages, "one after the other", 1000), (pages, "50 at a time", 1000, 50), (by_ab, 1000, 1), (by_ab, 500, 50), (pages, "at last", 20),
+    (flood,), (pages, "one after the other", 1000), (pages, "50 at a time", 1000, 50), (by_ab, 1000, 1), (by_ab, 500, 50), (pages, "at last", 20),
 )
 
 

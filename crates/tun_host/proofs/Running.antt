@@ -9,7 +9,7 @@ use Rattle.tun_host.specs.Settings.{settings_in}
 use Rattle.tun_host.specs.Turns.{HostState, Turn, Arrives, Answers, Serves, Runs, Reads, BeginsNone, ArrivesNot, Ends, IsServed}
 use Rattle.tun_host.specs.declared.error.ServeError.{ServeError}
 use Rattle.tun_host.specs.declared.error.ServeError.TheVariants.{Turn as NoTurn, Settings as NoSettings, Address, Memory, Writer, Turns}
-use Rattle.tun_host.specs.declared.interface_of.TheConstants.{MTU}
+use Rattle.tun_host.specs.declared.turns.TheConstants.{LONGEST}
 use Rattle.tun_host.specs.declared.settings.Settings.{Settings}
 
 -- these turns were read, where the bytes are known
@@ -35,7 +35,7 @@ pub running_none : (input before : Option (List ℕ)) → IsRunning 0 input inpu
 running_none input before = record { past = []; output = []; count = refl; runs = (refl, refl); writes = Appends-nil before; reads = reads_none input }
 
 reads_more : (input now next : Option (List ℕ)) (past : List Turn) (last moment : ℤ) (packet : List ℕ) → ReadsTo input now past last
-    → IfSome now (λ bytes. Next MTU last bytes (Some moment) packet next) → ReadsTo input next (record { moment = moment; packet = packet } ∷ past) moment
+    → IfSome now (λ bytes. Next LONGEST last bytes (Some moment) packet next) → ReadsTo input next (record { moment = moment; packet = packet } ∷ past) moment
 reads_more None now next past last moment packet reads comes = tt
 reads_more (Some bytes) None next past last moment packet reads comes = absurd reads
 reads_more (Some bytes) (Some left) None past last moment packet reads comes = absurd comes
@@ -44,7 +44,7 @@ reads_more (Some bytes) (Some left) (Some rest) past last moment packet reads co
 -- one turn more
 pub running_more : (n : ℕ) (input now next before after written : Option (List ℕ)) (last moment : ℤ) (old : Option HostState) (packet taken said : List ℕ) (host new : HostState)
     → IsRunning n input now before after last old
-    → IfSome now (λ bytes. Next MTU last bytes (Some moment) packet next)
+    → IfSome now (λ bytes. Next LONGEST last bytes (Some moment) packet next)
     → Arrives old (record { moment = moment; packet = packet }) host taken
     → Answers host moment taken said new → Appends after written said
     → IsRunning (n + 1) input next before written moment (Some new)
@@ -102,7 +102,7 @@ no_count : (host : Option HostState) (packet : List ℕ) → ArrivesNot host pac
 no_count None packet not = no_count_settings (settings_in packet) not
 no_count (Some h) packet not = not
 
-ends_not : (e : ServeError) (past : List Turn) (host : Option HostState) (last : ℤ) (left : List ℕ) (t : Turn) (rest : List ℕ) → Takes MTU last left t.moment t.packet rest
+ends_not : (e : ServeError) (past : List Turn) (host : Option HostState) (last : ℤ) (left : List ℕ) (t : Turn) (rest : List ℕ) → Takes LONGEST last left t.moment t.packet rest
     → ArrivesNot host t.packet e → Ends (Err e) past host last left
 ends_not (NoTurn why) past host last left t rest takes not = absurd (no_turn why host t.packet not)
 ends_not NoSettings past host last left t rest takes not = (t, rest, takes, not)
@@ -113,12 +113,12 @@ ends_not Turns past host last left t rest takes not = absurd (no_count host t.pa
 
 -- a turn that no host takes
 pub refused_at : (now next : Option (List ℕ)) (past : List Turn) (last moment : ℤ) (host : Option HostState) (packet : List ℕ) (e : ServeError)
-    → IfSome now (λ bytes. Next MTU last bytes (Some moment) packet next) → ArrivesNot host packet e → IfSome now (λ left. Ends (Err e) past host last left)
+    → IfSome now (λ bytes. Next LONGEST last bytes (Some moment) packet next) → ArrivesNot host packet e → IfSome now (λ left. Ends (Err e) past host last left)
 refused_at None next past last moment host packet e comes not = tt
 refused_at (Some left) None past last moment host packet e comes not = absurd comes
 refused_at (Some left) (Some rest) past last moment host packet e comes not = ends_not e past host last left (record { moment = moment; packet = packet }) rest comes not
 
 -- a turn that can't be read
 pub unread_at : (now : Option (List ℕ)) (past : List Turn) (last : ℤ) (host : Option HostState) (e : ServeError) (why : TurnError) → e ≡ NoTurn why
-    → IfSome now (λ bytes. Refuses MTU last bytes why) → IfSome now (λ left. Ends (Err e) past host last left)
+    → IfSome now (λ bytes. Refuses LONGEST last bytes why) → IfSome now (λ left. Ends (Err e) past host last left)
 unread_at now past last host e why is refuses = subst (λ (e : ServeError). IfSome now (λ left. Ends (Err e) past host last left)) (sym is) refuses

@@ -120,7 +120,7 @@ pub record AreFresh (places : List (SocketStorage Socket)) : Type 0 where
 
 -- nothing waits at the device, and nothing was sent
 abbrev pub fresh_device : DrainValue
-fresh_device = record { waiting = None; sent = []; refusals = 0; capabilities = capabilities }
+fresh_device = record { waiting = None; dropped = 0; sent = []; refusals = 0; capabilities = capabilities }
 
 -- a host of these settings, from this moment on
 pub record Begins (s : Settings) (moment : ℤ) (new : State DrainValue) : Type 0 where

@@ -14,10 +14,10 @@ use Rattle.tun_host.specs.Settings.{settings_in}
 use Rattle.tun_host.specs.declared.error.ServeError.{ServeError}
 use Rattle.tun_host.specs.declared.error.ServeError.TheVariants.{Turn as NoTurn, Settings as NoSettings, Turns}
 use Rattle.tun_host.specs.declared.host.Host.{Host}
-use Rattle.tun_host.specs.declared.interface_of.TheConstants.{MTU}
+use Rattle.tun_host.specs.declared.turns.TheConstants.{LONGEST}
 use Rattle.tun_host.specs.declared.settings.Settings.{Settings}
 use Rattle.tun_link.specs.Answer.{answer_end}
-use Rattle.tun_link.specs.Drain.{DrainValue, DrainMove, unless_empty}
+use Rattle.tun_link.specs.Drain.{DrainValue, DrainMove, brought}
 use Rattle.tun_link.specs.Turn.{Takes, Refuses}
 
 -- a host: its device, its interface, and its sockets
@@ -37,9 +37,9 @@ HasBuffers h = (vec_len h.buffer ≡ echo_room) × (vec_len h.request ≡ most_r
 unfoldable pub budget : ℕ
 budget = 64
 
--- the packet comes to the device; one of no bytes is none
+-- the packet comes to the device; one of no bytes is none, and one that is too long is dropped
 abbrev pub with_packet : HostState → List ℕ → HostState
-with_packet s packet = at_device s (record s.device { waiting = unless_empty packet })
+with_packet s packet = at_device s (brought packet s.device)
 
 -- The packet comes, the interface is polled at the turn's moment, the services do what can be done, their sockets are arranged, and
 -- the interface is polled again; then it is asked when it wants to be polled next. Nothing but the host before, the packet and the
@@ -100,7 +100,7 @@ Runs (t ∷ past) output host =
 abbrev pub Reads : List ℕ → List Turn → ℤ → List ℕ → Type 0
 Reads bytes [] last left = (last ≡ pos 0) × (left ≡ bytes)
 Reads bytes (t ∷ past) last left =
-    (before : ℤ) × (mid : List ℕ) × Reads bytes past before mid × Takes MTU before mid t.moment t.packet left × (last ≡ t.moment)
+    (before : ℤ) × (mid : List ℕ) × Reads bytes past before mid × Takes LONGEST before mid t.moment t.packet left × (last ≡ t.moment)
 
 -- ITS END
 
@@ -118,10 +118,10 @@ ArrivesNot (Some host) packet e = ⊥
 -- host takes
 abbrev pub Ends : Result (Unit {0}) ServeError → List Turn → Option HostState → ℤ → List ℕ → Type 0
 Ends (Ok u) past host last left = left ≡ []
-Ends (Err (NoTurn e)) past host last left = Refuses MTU last left e
+Ends (Err (NoTurn e)) past host last left = Refuses LONGEST last left e
 Ends (Err Turns) past host last left = length past ≡ 2 ^ 64 - 1
 Ends (Err e) past host last left =
-    (t : Turn) × (rest : List ℕ) × Takes MTU last left t.moment t.packet rest × ArrivesNot host t.packet e
+    (t : Turn) × (rest : List ℕ) × Takes LONGEST last left t.moment t.packet rest × ArrivesNot host t.packet e
 
 -- what is written is what the turns at the front of the input write, up to the end of the run
 pub record IsServed (input : Option (List ℕ)) (output : List ℕ) (result : Result (Unit {0}) ServeError) : Type 0 where

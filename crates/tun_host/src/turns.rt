@@ -10,12 +10,14 @@ ghost use Rattle.tun_host.specs.Turns.{state_of, HasBuffers, Begun, Arrives, Beg
 
 use crate::error::ServeError;
 use crate::host::Host;
-use crate::interface_of::MTU;
 use crate::settings::Settings;
 use net_base::Instant;
 use std::alloc::Global;
 use std::io::{Read, Write};
 use tun_link::read_turn;
+
+/// The longest packet that a turn brings, in bytes: the most that its length can say. The link drops one that is longer than its own.
+pub const LONGEST: usize = 65_535;
 
 /// Takes turns until the reader ends. The first one brings the settings; each other one brings a packet, or none, and is answered
 /// with the packets that the host sends and the moment at which it wants its next turn.
@@ -51,11 +53,11 @@ fn next_turn<R: Read>(
     last: Instant,
 ) -> Result<Option<Instant>, ServeError>
     requires { IsMoment last }
-    ensures turn { IfOk result (λ moment. IfSome (R.remaining reader.old) (λ bytes. Next MTU last bytes moment packet.new.items (R.remaining reader.new))) }
+    ensures turn { IfOk result (λ moment. IfSome (R.remaining reader.old) (λ bytes. Next LONGEST last bytes moment packet.new.items (R.remaining reader.new))) }
     ensures moment { IfOk result (λ moment. IfSome moment IsMoment) }
-    ensures refused { IfErr result (λ error. (why : TurnError) × (error ≡ ServeError.Turn why) × IfSome (R.remaining reader.old) (λ bytes. Refuses MTU last bytes why)) }
+    ensures refused { IfErr result (λ error. (why : TurnError) × (error ≡ ServeError.Turn why) × IfSome (R.remaining reader.old) (λ bytes. Refuses LONGEST last bytes why)) }
 {
-    match read_turn(reader, packet, MTU, last) {
+    match read_turn(reader, packet, LONGEST, last) {
         Ok(moment) => Ok(moment),
         Err(error) => Err(ServeError::Turn(error)),
     }

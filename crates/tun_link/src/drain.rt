@@ -1,7 +1,7 @@
 //! The device of a host that takes turns.
 ghost use Rattle.std.specs.Prelude.{◌≡◌, ◌+◌, ◌^◌, ◌<◌, ◌≤◌, [], ◌++◌, length, vec_len, vec_capacity, IfSome, OnSome, None};
 ghost use Rattle.tun_link.specs.Answer.{packet_bytes};
-ghost use Rattle.tun_link.specs.Drain.{unless_empty};
+ghost use Rattle.tun_link.specs.Drain.{brought};
 
 use net_base::{Device, DeviceCapabilities, Instant, OwnedRxToken, SendRefused, TxToken};
 use std::alloc::Global;
@@ -21,6 +21,7 @@ const LENGTH_LEN: usize = 2;
 #[derive(Debug, Drop)]
 pub struct Drain {
     packet: Option<Vec<u8>>,
+    dropped: u64,
     answer: Vec<u8>,
     spare: Vec<u8>,
     refused: u64,
@@ -35,6 +36,7 @@ impl Model for Drain {
 
     ghost view = { λ d. record {
       waiting = option_map (λ packet. packet.items) d.packet;
+      dropped = d.dropped;
       sent = d.answer.items;
       refusals = d.refused;
       capabilities = d.described;
@@ -50,10 +52,11 @@ impl TxToken for DrainTxToken {}
 impl Drain {
     /// A device of these capabilities, with no packet and nothing to answer. It allocates nothing: `alloc` serves later calls.
     pub fn new(alloc: Global, capabilities: DeviceCapabilities) -> Drain
-        ensures { result ≡ record { waiting = None; sent = []; refusals = 0; capabilities = capabilities } }
+        ensures { result ≡ record { waiting = None; dropped = 0; sent = []; refusals = 0; capabilities = capabilities } }
     {
         Drain {
             packet: None,
+            dropped: 0,
             answer: Vec::new(alloc),
             spare: Vec::new(alloc),
             refused: 0,
@@ -61,15 +64,28 @@ impl Drain {
         }
     }
 
-    /// A turn's packet comes, in place of one that wasn't taken. One of no bytes is none.
+    /// A turn's packet comes, in place of one that wasn't taken. One of no bytes is none, and one that is longer than the link takes is
+    /// dropped and counted.
     pub fn put(&mut self, packet: Vec<u8>)
-        ensures { self.new ≡ record self.old { waiting = unless_empty packet.items } }
+        ensures { self.new ≡ brought packet.items self.old }
     {
+        if self.described.max_transmission_unit < packet.len() {
+            self.packet = None;
+            self.dropped = self.dropped.saturating_add(1);
+            return;
+        }
         self.packet = if packet.is_empty() {
             None
         } else {
             Some(packet)
         };
+    }
+
+    /// How many packets were dropped for their length.
+    pub fn dropped(&self) -> u64
+        ensures { result ≡ self.now.dropped }
+    {
+        self.dropped
     }
 
     /// The bytes of the answer so far: each sent packet behind its length.

@@ -46,3 +46,16 @@ fn a_turn_brings_one_packet(rt: HostRuntime) -> Result<(), Fail> {
     assert!(rt; drain.receive(Instant::ZERO).is_none());
     Ok(())
 }
+
+#[test]
+fn a_packet_that_is_too_long_is_dropped(rt: HostRuntime) -> Result<(), Fail> {
+    let mut drain = drain(&rt);
+    drain.put(vec![in rt.alloc(); 7; 1501]?);
+    assert!(rt; drain.receive(Instant::ZERO).is_none());
+    drain.put(vec![in rt.alloc(); 7; 1500]?);
+    let longest = drain
+        .receive(Instant::ZERO)
+        .map(|(packet, _)| packet.bytes().len());
+    assert!(rt; (longest, drain.dropped()) == (Some(1500), 1));
+    Ok(())
+}

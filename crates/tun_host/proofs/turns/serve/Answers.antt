@@ -5,7 +5,7 @@ use Rattle.net_base.specs.Time.{IsMoment}
 use Rattle.tun_link.specs.Turn.{Next}
 use Rattle.tun_host.specs.Turns.{state_of, IsServed}
 use Rattle.tun_host.specs.declared.error.ServeError.{ServeError}
-use Rattle.tun_host.specs.declared.interface_of.TheConstants.{MTU}
+use Rattle.tun_host.specs.declared.turns.TheConstants.{LONGEST}
 use Rattle.tun_host.proofs.Running.{ended, unread_at, refused_at, running_more}
 use Rattle.tun_host.proofs.turns.serve.Goals as goal
 
@@ -29,7 +29,7 @@ returns-in_err-current g c =
     let same : c.from_residual-in_err-current.result ≡ Err c.in_err-current.field-0.0 = cc (p.1, p.2) in
     let now = g.R.Read.remaining c.loop.reader in
     let next = g.R.Read.remaining c.next_turn.new.reader in
-    let comes = subst (λ (m : Option ℤ). IfSome now (λ bytes. Next MTU c.loop.last bytes m c.next_turn.new.packet.items next)) c.in-Some.is c.in_ok-now.ensures.turn in
+    let comes = subst (λ (m : Option ℤ). IfSome now (λ bytes. Next LONGEST c.loop.last bytes m c.next_turn.new.packet.items next)) c.in-Some.is c.in_ok-now.ensures.turn in
     record {
       served = λ not.
           subst (λ (r : Result (Unit {0}) ServeError). (output : List ℕ) × IsServed (g.R.Read.remaining c.args.reader.now) output r × Appends (g.W.Write.contents c.args.writer.now) (g.W.Write.contents c.loop.writer) output) (sym same)
@@ -42,7 +42,7 @@ pub loop-preserved : goal.loop-preserved
 loop-preserved g c =
     let now = g.R.Read.remaining c.loop.reader in
     let next = g.R.Read.remaining c.next_turn.new.reader in
-    let comes = subst (λ (m : Option ℤ). IfSome now (λ bytes. Next MTU c.loop.last bytes m c.next_turn.new.packet.items next)) c.in-Some.is c.in_ok-now.ensures.turn in
+    let comes = subst (λ (m : Option ℤ). IfSome now (λ bytes. Next LONGEST c.loop.last bytes m c.next_turn.new.packet.items next)) c.in-Some.is c.in_ok-now.ensures.turn in
     let moment = subst (λ (m : Option ℤ). IfSome m IsMoment) c.in-Some.is c.in_ok-now.ensures.moment in
     let said = c.in_ok-answer_turn.ensures.answers in (
       moment,
