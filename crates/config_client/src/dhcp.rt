@@ -1,0 +1,128 @@
+//! A client of DHCP.
+use crate::context::Host;
+use dhcpv4::{RetryConfig, Socket};
+use ip_wire::{EthernetAddress, IpProtocol, IpRepr, Ipv4Address, Ipv4Repr, UdpRepr};
+use net_base::{Duration, Instant};
+use socket_base::{IpPayload, Offer};
+use std::alloc::Global;
+use std::io::{self, Write};
+
+/// Answers a line: a word, and for most a moment in microseconds. Says nothing of another one.
+pub(crate) fn answer<W: Write>(
+    alloc: Global,
+    line: &str,
+    client: &mut Socket,
+    writer: &mut W,
+) -> io::Result<()> {
+    let (word, rest) = line.split_once(' ').unwrap_or((line, ""));
+    let (first, more) = rest.split_once(' ').unwrap_or((rest, ""));
+    let micros = first.parse::<u64>().unwrap_or(0);
+    match word {
+        "client" => {
+            *client = Socket::new(EthernetAddress([2, 0, 0, 0, 0, 7]), micros);
+            Ok(())
+        }
+        "retries" => {
+            client.set_retry_config(retries(micros));
+            Ok(())
+        }
+        "longest" => {
+            client.set_max_lease_duration(Some(Duration::from_micros(micros)));
+            Ok(())
+        }
+        "ignore" => {
+            client.set_ignore_naks(true);
+            Ok(())
+        }
+        "reset" => {
+            client.reset();
+            Ok(())
+        }
+        "offer" => offer(alloc, micros, client, writer),
+        "sent" => {
+            client.settle(true);
+            Ok(())
+        }
+        "unsent" => {
+            client.settle(false);
+            Ok(())
+        }
+        "arrives" => {
+            arrives(alloc, micros, more, client);
+            Ok(())
+        }
+        "poll" => {
+            let now = Instant::from_micros(micros.min(1 << 61) as i64);
+            let event = client.poll(now);
+            writeln!(writer, "{event:?}")
+        }
+        "when" => {
+            let when = client.poll_at(&Host::at(0));
+            writeln!(writer, "{when:?}")
+        }
+        "state" => {
+            let state = client.state();
+            writeln!(writer, "{state:?}")
+        }
+        _ => Ok(()),
+    }
+}
+
+/// Four seconds at first, and so many requests.
+fn retries(count: u64) -> RetryConfig {
+    RetryConfig {
+        discover_timeout: Duration::from_secs(4),
+        initial_request_timeout: Duration::from_secs(4),
+        request_retries: count.min(9) as u16,
+        min_renew_timeout: Duration::from_secs(60),
+        max_renew_timeout: Duration::from_secs(3600),
+    }
+}
+
+/// Says what is offered.
+fn offer<W: Write>(
+    alloc: Global,
+    micros: u64,
+    client: &mut Socket,
+    writer: &mut W,
+) -> io::Result<()> {
+    let answer = client.offer(&Host::at(micros));
+    if let Offer::Silent { changed } = answer {
+        return writeln!(writer, "silent {changed}");
+    }
+    let Some(packet) = client.offered() else {
+        return Ok(());
+    };
+    let header = packet.ip_repr();
+    if let IpPayload::Udp(ports, bytes) = packet.payload() {
+        let digits = hex::encode(alloc, bytes)?;
+        let (from, to) = (header.src_addr(), header.dst_addr());
+        let (source, destination) = (ports.src_port, ports.dst_port);
+        return writeln!(writer, "{from}:{source} {to}:{destination} {digits}");
+    }
+    Ok(())
+}
+
+/// A message from 10.7.0.1 arrives.
+fn arrives(alloc: Global, micros: u64, digits: &str, client: &mut Socket) {
+    let Ok(bytes) = hex::decode(alloc, digits) else {
+        return;
+    };
+    let header = IpRepr::Ipv4(Ipv4Repr {
+        src_addr: Ipv4Address::new(10, 7, 0, 1),
+        dst_addr: Ipv4Address::BROADCAST,
+        next_header: IpProtocol::Udp,
+        payload_len: 8 + bytes.len().min(60_000),
+        hop_limit: 64,
+        ident: 0,
+        dont_frag: false,
+    });
+    let ports = UdpRepr {
+        src_port: 67,
+        dst_port: 68,
+    };
+    let host = Host::at(micros);
+    if client.accepts(&host, &header, &ports) {
+        client.process(&host, &header, &ports, bytes.as_slice());
+    }
+}
