@@ -1,5 +1,5 @@
 -- Why no two hosts come to these histories.
-use Rattle.std.proofs.Common.{◌≡◌, inl, inr, ℕ, ◌≤◌, true, false, List, [], ◌∷◌, length, get_or, Some, None, refl, sym, ap, ◌∙◌, subst, arith}
+use Rattle.std.proofs.Common.{◌≡◌, inl, inr, ℕ, ◌+◌, true, false, List, [], ◌∷◌, ◌++◌, length, get_or, length-append, Some, None, refl, sym, ap, ◌∙◌, subst, arith}
 use Rattle.std.specs.Prelude.{◌==◌, ◌||◌, Bool, if◌then◌else◌}
 use Rattle.lan_history.specs.declared.event.Side.{Side}
 use Rattle.lan_history.specs.declared.event.Side.TheVariants.{A, B}
@@ -10,7 +10,7 @@ use Rattle.lan_history.specs.Partners.{ArePartners}
 use Rattle.lan_history.specs.Reads.{Accepts, Accepted}
 use Rattle.lan_examples.specs.Hosts.{endpoint, text, unbound}
 use Rattle.lan_examples.specs.Streams.{fresh}
-use Rattle.lan_examples.specs.Excluded.{Cannot, had, listened, spoken, ended, waits, queues, with_sockets, bound, and_sent, and_read, only}
+use Rattle.lan_examples.specs.Excluded.{Cannot, had, listened, spoken, lonely, ended, waits, queues, with_sockets, bound, and_sent, and_read, only}
 
 partners : ArePartners spoken A 0 0
 partners = record {
@@ -48,9 +48,25 @@ one_more safe =
     let fourth : ◌≡◌ {A = ℕ} 100 0 = ap (λ (xs : List ℕ). get_or xs 3 0) p.1 in
     omega arith
 
+empty : (xs : List ℕ) → length xs ≡ 0 → xs ≡ []
+empty [] none = refl
+empty (x ∷ xs) none = absurd (omega (arith, none))
+
 pub freed_early : Cannot (with_sockets (waits (97 ∷ [])) (queues (99 ∷ [])) spoken)
 freed_early safe =
-    let freed : 2 ≤ 1 = safe.freed B 0 0 (queues (99 ∷ [])) (waits (97 ∷ [])) partners_back refl refl in
+    let holds = safe.freed B 0 0 (queues (99 ∷ [])) (waits (97 ∷ [])) partners_back refl refl in
+    let all : length holds.gone + 1 ≡ 3 = sym (length-append holds.gone (99 ∷ [])) ∙ ap length holds.rest in
+    let part : length holds.gone + length holds.was_taken.0 ≡ 1 = sym (length-append holds.gone holds.was_taken.0) ∙ ap length holds.was_taken.1 in
+    omega arith
+
+-- the last byte of what is queued is that of what was written
+pub queued_otherwise : Cannot (with_sockets fresh (queues (97 ∷ 98 ∷ 100 ∷ [])) spoken)
+queued_otherwise safe =
+    let holds = safe.freed B 0 0 (queues (97 ∷ 98 ∷ 100 ∷ [])) fresh partners_back refl refl in
+    let size : length holds.gone + 3 ≡ 3 = sym (length-append holds.gone (97 ∷ 98 ∷ 100 ∷ [])) ∙ ap length holds.rest in
+    let none : holds.gone ≡ [] = empty holds.gone (omega arith) in
+    let same : 97 ∷ 98 ∷ 100 ∷ [] ≡ text = ap (λ (xs : List ℕ). xs ++ 97 ∷ 98 ∷ 100 ∷ []) (sym none) ∙ holds.rest in
+    let third : ◌≡◌ {A = ℕ} 100 99 = ap (λ (xs : List ℕ). get_or xs 2 0) same in
     omega arith
 
 -- nothing closes B's socket, whichever it is
@@ -65,6 +81,16 @@ ended_early safe =
     let h = safe.ends.0 in
     let clash : false ≡ true = sym (open_yet h.partner) ∙ h.closed in
     absurd (cc)
+
+-- B wrote to a socket that nobody listens for
+no_partner : (j : ℕ) → ¬ (ArePartners lonely B 0 j)
+no_partner j p = let none = p.partner_opened in absurd (cc)
+
+pub queued_otherwise_alone : Cannot (with_sockets fresh (queues (97 ∷ 98 ∷ 100 ∷ [])) lonely)
+queued_otherwise_alone safe =
+    let has = safe.alone B 0 (queues (97 ∷ 98 ∷ 100 ∷ [])) no_partner refl in
+    let third : ◌≡◌ {A = ℕ} 100 99 = ap (λ (xs : List ℕ). get_or xs 2 0) has.queued in
+    absurd (omega arith)
 
 pub alone : Cannot (with_sockets (waits (97 ∷ [])) fresh listened)
 alone safe =

@@ -38,6 +38,10 @@ listened = had A 0 (Call.Listen 80) To.Done ∷ []
 abbrev pub spoken : List Entry
 spoken = had B 0 (Call.Send text) (To.Count 3) ∷ had B 0 (Call.Connect (endpoint A 80) 49_500) To.Done ∷ listened
 
+-- B connects to a host at which nobody listens, and writes abc
+abbrev pub lonely : List Entry
+lonely = had B 0 (Call.Send text) (To.Count 3) ∷ had B 0 (Call.Connect (endpoint A 80) 49_500) To.Done ∷ []
+
 -- A was told the end of the stream
 abbrev pub ended : List Entry
 ended = had A 0 (Call.Recv 8) (To.Error Fault.Finished) ∷ spoken

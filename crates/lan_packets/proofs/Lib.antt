@@ -13,6 +13,7 @@ pub mod CallSteps
 pub mod StreamCalls
 pub mod Found
 pub mod Kept
+pub mod SendQueues
 pub mod Runs
 pub mod HistoryLemmas
 pub mod Extended

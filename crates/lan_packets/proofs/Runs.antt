@@ -1,5 +1,5 @@
 -- Each run is safe.
-use Rattle.std.proofs.Common.{◌≡◌, ◌≢◌, ◌⊎◌, inl, inr, ℕ, ◌-◌, ◌≤◌, Bool, true, false, List, [], ◌∷◌, ◌++◌, length, map, Option, Some, None, refl, sym, ap, ◌∙◌, subst, arith}
+use Rattle.std.proofs.Common.{◌≡◌, ◌≢◌, ◌⊎◌, inl, inr, ℕ, Bool, true, false, List, [], ◌∷◌, ◌++◌, length, map, Option, Some, None, refl, sym, ap, ◌∙◌, subst, arith}
 use Rattle.ip_wire.specs.IpRepr.{IpRepr}
 use Rattle.ip_wire.specs.TcpHeader.{TcpHeader}
 use Rattle.ip_wire.specs.UdpRepr.{UdpRepr}
@@ -14,6 +14,7 @@ use Rattle.tcp_law.specs.Segment.Control.{Rst}
 use Rattle.tcp_tie.specs.Host.{Made, made_of, past_at, IsAmong, and_answer}
 use Rattle.tcp_tie.specs.Promises.{AreSafeSockets}
 use Rattle.tcp_tie.proofs.PromiseLemmas.{safe_sockets, alone_nothing}
+use Rattle.lan_packets.proofs.SendQueues.{alone_queue, pair_rest}
 use Rattle.tcp_tie.specs.Tie.{Past}
 use Rattle.tcp_model.specs.Arrival.{arrives}
 use Rattle.tcp_model.specs.Names.{accepts}
@@ -205,18 +206,20 @@ safe_pair starts places h side p q i j v w k a is_v is_w =
 
 nothing_alone :
     (starts : Side → ℕ → ℕ) (places : Places) (h : List Entry) (side : Side) (p q : Party) (i : ℕ) (v : TcpValue) → KeptFrom starts places h side p q
-    → ((j : ℕ) → ¬ (ArePartners h side i j)) → socket_at p i ≡ Some (Tcp v) → (read h side i ++ v.received.waiting ≡ []) × (length (written h side i) - length v.queued.queue ≡ 0)
+    → ((j : ℕ) → ¬ (ArePartners h side i j)) → socket_at p i ≡ Some (Tcp v) → (read h side i ++ v.received.waiting ≡ []) × (v.queued.queue ≡ written h side i)
 nothing_alone starts places h side p q i v k lone is = by (opening h side i) refl where
   ok : TcpOk h side p.segments i v
   ok = k.mine.streams.sockets i v is
 
-  by : (o : Option Opening) → opening h side i ≡ o → (read h side i ++ v.received.waiting ≡ []) × (length (written h side i) - length v.queued.queue ≡ 0)
+  by : (o : Option Opening) → opening h side i ≡ o → (read h side i ++ v.received.waiting ≡ []) × (v.queued.queue ≡ written h side i)
   by None none =
       let u = ok.untouched none in
       let nothing = ap (λ (t : Past). t.read) u.nothing in
-      let unwritten = ap (λ (t : Past). length t.written) u.nothing in
-      (ap (λ (r : List ℕ). r ++ v.received.waiting) nothing ∙ u.fresh.waiting, omega arith)
-  by (Some o) opened = let n = alone_nothing v (past_at o.local p.segments (told h side i)) (ok.alone o opened lone) in (n.read, n.freed)
+      let unwritten = ap (λ (t : Past). t.written) u.nothing in
+      (ap (λ (r : List ℕ). r ++ v.received.waiting) nothing ∙ u.fresh.waiting, u.fresh.queue ∙ sym unwritten)
+  by (Some o) opened =
+      let keeps = ok.alone o opened lone in
+      ((alone_nothing v (past_at o.local p.segments (told h side i)) keeps).read, alone_queue v (past_at o.local p.segments (told h side i)) keeps)
 
 kept_at : (starts : Side → ℕ → ℕ) (places : Places) (net : Net) (side : Side) → Kept starts places net → KeptFrom starts places net.history side (party net side) (party net (other side))
 kept_at starts places net A k = k
@@ -237,10 +240,13 @@ safe_kept : (starts : Side → ℕ → ℕ) (places : Places) (net : Net) → Ke
 safe_kept starts places net k = record {
   prefix = prefix_at starts places net k;
   freed = λ side i j v w a is_v is_w.
-      (safe_pair starts places net.history side (party net side) (party net (other side)) i j v w (kept_at starts places net side k) a is_v is_w).freed;
+      let at = kept_at starts places net side k in
+      let p = past_at a.one.local (party net side).segments (told net.history side i) in
+      let q = past_at a.another.local (party net (other side)).segments (told net.history (other side) j) in
+      pair_rest v w p q (at.pairs i j v w a is_v is_w);
   alone = λ side i v lone is.
       let n = nothing_alone starts places net.history side (party net side) (party net (other side)) i v (kept_at starts places net side k) lone is in
-      record { taken = n.0; freed = n.1 };
+      record { taken = n.0; queued = n.1 };
   ends = k.ends;
   reads = k.reads;
 }

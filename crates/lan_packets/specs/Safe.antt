@@ -1,5 +1,5 @@
 -- What holds of two hosts in every run, from hosts to which nothing has happened.
-use Rattle.std.specs.Prelude.{◌≡◌, ℕ, ◌-◌, ◌≤◌, List, [], ◌++◌, length, Some}
+use Rattle.std.specs.Prelude.{◌≡◌, ℕ, List, [], ◌++◌, Some}
 use Rattle.net_base.specs.Packets.{contents}
 use Rattle.tcp_law.specs.Safe.{IsPrefixOf}
 use Rattle.tcp_tie.specs.Endpoints.{IsNameless}
@@ -44,21 +44,27 @@ IsTcpAt net side i v = socket_at (party net side) i ≡ Some (Tcp v)
 abbrev pub taken_in : Net → Side → ℕ → TcpValue → List ℕ
 taken_in net side i v = read net.history side i ++ v.received.waiting
 
--- nothing was read or waits, and all that was written is still queued
+-- nothing was read or waits, and the send queue holds all that was written
 pub record HasNothing (net : Net) (side : Side) (i : ℕ) (v : TcpValue) : Type 0 where
   pub taken : taken_in net side i v ≡ []
-  pub freed : length (written net.history side i) - length v.queued.queue ≡ 0
+  pub queued : v.queued.queue ≡ written net.history side i
+
+-- the send queue holds what was written but for its beginning, all of which was taken in
+pub record HoldsRest (written queue taken : List ℕ) : Type 0 where
+  pub gone : List ℕ
+  pub rest : gone ++ queue ≡ written
+  pub was_taken : IsPrefixOf gone taken
 
 pub record IsSafe (starts : Side → ℕ → ℕ) (net : Net) : Type 0 where
   -- what a socket took in begins what its partner wrote
   pub prefix :
       (side : Side) (i j : ℕ) (v : TcpValue) → ArePartners net.history side i j → IsTcpAt net side i v
       → IsPrefixOf (taken_in net side i v) (written net.history (other side) j)
-  -- only bytes that the partner took in have left the send queue
+  -- only bytes that the partner took in have left the send queue, which holds the rest
   pub freed :
       (side : Side) (i j : ℕ) (v w : TcpValue) → ArePartners net.history side i j → IsTcpAt net side i v → IsTcpAt net (other side) j w
-      → length (written net.history side i) - length v.queued.queue ≤ length (taken_in net (other side) j w)
-  -- a socket without a partner has taken nothing in, and freed nothing
+      → HoldsRest (written net.history side i) v.queued.queue (taken_in net (other side) j w)
+  -- a socket without a partner has taken nothing in, and holds all that was written
   pub alone :
       (side : Side) (i : ℕ) (v : TcpValue) → ((j : ℕ) → ¬ (ArePartners net.history side i j)) → IsTcpAt net side i v
       → HasNothing net side i v

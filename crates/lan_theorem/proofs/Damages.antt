@@ -55,7 +55,7 @@ module _ (firsts most : Side → ℕ) (hosts : Stations) (net : Net) (j : AreJoi
         subst (λ (m : Medium). IsHostFrame m (j.out from) frame) (sym (same ∙ j.device from)) (sent_frame firsts most hosts net j from k there) in
         damaged_bad (MadeBy (party net from)) hardware (j.out from) (j.sends from).are_sent.packets frame part place word padding here is (damage_of frame part place word small allowed)
 
-    brings_none : first_refusal (link_tests hosts (Hands (Damaged from k place word padding))) ≡ None → BringsNoSegment (medium_of (station hosts from)) (frame_of_origin hosts (Damaged from k place word padding))
+    pub brings_none : first_refusal (link_tests hosts (Hands (Damaged from k place word padding))) ≡ None → BringsNoSegment (medium_of (station hosts from)) (frame_of_origin hosts (Damaged from k place word padding))
     brings_none allowed hardware v of is =
         let o : Option Part = tcp_part (medium_of (station hosts from)) frame in
         let tests = passed (is_no_frame (station hosts from) k) For.NoFrame (first_refusal (segment_tests frame o place word)) allowed in

@@ -51,15 +51,15 @@ use Rattle.lan_theorem.proofs.Told.{told_between}
 
 -- THE PORT
 
-waits_same : (d d' : PortValue) (frame : List ℕ) (len : ℕ) (gone : Bool) → Emits PortMove d frame len gone d' → d'.link.waiting ≡ d.link.waiting
+pub waits_same : (d d' : PortValue) (frame : List ℕ) (len : ℕ) (gone : Bool) → Emits PortMove d frame len gone d' → d'.link.waiting ≡ d.link.waiting
 waits_same d d' frame len true is = ap (λ (p : PortValue). p.link.waiting) is.0
 waits_same d d' frame len false is = ap (λ (p : PortValue). p.link.waiting) is.0
 
-once_waits : (d d' : PortValue) (i : InnerValue) (o : Option Departure) (gone : Bool) → SendsOnce PortMove d i o gone d' → d'.link.waiting ≡ d.link.waiting
+pub once_waits : (d d' : PortValue) (i : InnerValue) (o : Option Departure) (gone : Bool) → SendsOnce PortMove d i o gone d' → d'.link.waiting ≡ d.link.waiting
 once_waits d d' i None gone is = ap (λ (p : PortValue). p.link.waiting) is
 once_waits d d' i (Some x) gone is = waits_same d d' (frame_of i x) (frame_len_of i x) gone is
 
-taken_frame : (d d' : PortValue) (frame : List ℕ) → PortMove d (Took frame) d' → d.link.waiting ≡ frame ∷ d'.link.waiting
+pub taken_frame : (d d' : PortValue) (frame : List ℕ) → PortMove d (Took frame) d' → d.link.waiting ≡ frame ∷ d'.link.waiting
 taken_frame d d' frame is = ap (λ (p : PortValue). p.link.waiting) is.1
 
 taken_sent : (d d' : PortValue) (frame : List ℕ) → PortMove d (Took frame) d' → d'.link.sent ≡ d.link.sent

@@ -12,4 +12,6 @@ pub mod PolledJoins
 pub mod Runs
 pub mod Rebuilding
 pub mod Damages
+pub mod SaidPolls
+pub mod SaidRuns
 pub mod PortMoves

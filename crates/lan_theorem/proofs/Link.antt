@@ -5,6 +5,8 @@ pub mod Contents
 pub mod Noise
 pub mod Numbers
 pub mod Slots
+pub mod SlotFacts
+pub mod SaidFrames
 pub mod Taken
 pub mod Grown
 pub mod CutFrames

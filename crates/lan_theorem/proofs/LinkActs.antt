@@ -48,15 +48,15 @@ less k n is = grind (arith, nat_tests)
 equal : (n m : ℕ) → n == m ≡ true → n ≡ m
 equal n m is = grind (arith, nat_tests)
 
-below : (k n : ℕ) → not (nat_lt k n) ≡ false → k < n
+pub below : (k n : ℕ) → not (nat_lt k n) ≡ false → k < n
 below k n none = less k n (not_false (nat_lt k n) none)
 
-all_get : {X : Type 0} (P : X → Type 0) (xs : List X) (k : ℕ) (d : X) → AllByRecursion P xs → k < length xs → P (get_or xs k d)
+pub all_get : {X : Type 0} (P : X → Type 0) (xs : List X) (k : ℕ) (d : X) → AllByRecursion P xs → k < length xs → P (get_or xs k d)
 all_get P [] k d all within = absurd (omega arith)
 all_get P (x ∷ xs) zero d all within = all.0
 all_get P (x ∷ xs) (suc k) d all within = all_get P xs k d all.1 (omega arith)
 
-either_none : (a b : Bool) → a || b ≡ false → (a ≡ false) × (b ≡ false)
+pub either_none : (a b : Bool) → a || b ≡ false → (a ≡ false) × (b ≡ false)
 either_none true b none = absurd cc
 either_none false b none = (refl, none)
 
@@ -75,10 +75,10 @@ equal_so n m same = grind (arith, nat_tests)
 other_sum : (n m : ℕ) → n == m ≡ false → n ≢ m
 other_sum n m none = λ same. let e : true ≡ false = sym (equal_so n m same) ∙ none in cc
 
-unit_by : (n : ℕ) → not (n % 8 == 0) ≡ false → n % 8 ≡ 0
+pub unit_by : (n : ℕ) → not (n % 8 == 0) ≡ false → n % 8 ≡ 0
 unit_by n none = equal (n % 8) 0 (not_false (n % 8 == 0) none)
 
-inside_by : (n m : ℕ) → not (nat_lt n m) ≡ false → n ≤ m
+pub inside_by : (n m : ℕ) → not (nat_lt n m) ≡ false → n ≤ m
 inside_by n m none = let h : n < m = below n m none in omega arith
 
 -- a word that may be exchanged

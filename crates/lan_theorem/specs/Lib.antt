@@ -5,6 +5,7 @@ pub mod Events
 pub mod Linked
 pub mod Joins
 pub mod Rebuilt
+pub mod Said
 pub use Rattle.lan_hosts.specs.Runs
 pub use Rattle.interface.specs.Made
 pub use Rattle.interface_tables.specs.Settings

@@ -10,6 +10,7 @@ ghost use Rattle.lan_hosts.specs.Tables.{first_refusal};
 ghost use Rattle.lan_hosts.specs.Refusals.{link_tests};
 ghost use Rattle.lan_hosts.specs.Answer.{Answer};
 ghost use Rattle.lan_hosts.specs.Side.{Side};
+ghost use Rattle.lan_history.specs.declared.event.Side.TheVariants.{A, B};
 ghost use Rattle.lan_hosts.specs.Parties.{Party, Net, party};
 ghost use Rattle.lan_hosts.specs.Runs.{Leads, Starts, WorldRun, unused_both};
 ghost use Rattle.lan_hosts.specs.Sets.{Configures};
@@ -23,6 +24,8 @@ ghost use Rattle.lan_hosts.specs.Fresh.{IsFreshWorld};
 ghost use Rattle.lan_hosts.specs.Safe.{first_port, net_of};
 ghost use Rattle.lan_theorem.specs.Linked.{IsOther, IsLinked};
 ghost use Rattle.lan_theorem.specs.Rebuilt.{RebuiltWasMade};
+ghost use Rattle.lan_theorem.specs.Said.{RebuiltWasSent, by_side};
+ghost use Rattle.lan_theorem.specs.Hosts.HostRuns.{IsHostRun};
 
 /// Law: while a host polls at its port, each thing that the poll does keeps what is said of its frames and of those that wait, and each
 /// frame that it takes brings only what the other host made, of which fewer than 65,536 are IPv4 packets. A packet's way out counts one
@@ -84,6 +87,18 @@ pub fn rebuilt_was_made()
         → AreTyped history
         → WorldRun history (unused_both starts) hosts
         → RebuiltWasMade (record { hosts = hosts; starts = starts; history = history }) }
+{}
+
+/// Law: wherever events led two fresh hosts, whatever TCP or UDP datagram a host rebuilds when it takes a frame that waits for it was
+/// sent: what the other host's turns sent with that identification, those addresses and that protocol, whole or in pieces, is this
+/// payload, all of it and nothing else.
+pub fn rebuilt_was_sent()
+    ensures { (starts : Starts) (history : List Entry) (hosts : Stations)
+        → IsFreshWorld starts
+        → AreTyped history
+        → WorldRun history (unused_both starts) hosts
+        → (a : IsHostRun (record { hosts = hosts; starts = starts; history = history }) A) (b : IsHostRun (record { hosts = hosts; starts = starts; history = history }) B)
+        → RebuiltWasSent (record { hosts = hosts; starts = starts; history = history }) (by_side a.turns b.turns) }
 {}
 
 /// Law: wherever events led two fresh hosts, each frame that the link damaged does no harm: it touches no TCP and no UDP socket of

@@ -30,6 +30,7 @@ pub record IsTurn (s : StationValue) (act : Act) (s' : StationValue) : Type 0 wh
   pub sent : s'.link.sent ≡ s.link.sent ++ frames_of s.host.inner departures
   pub room : s'.link.room ≡ room_behind act s.link.room (length departures)
   pub silent : Silences (moment_of act) departures s.host.inner.neighbors.silent s'.host.inner.neighbors.silent
+  pub device : s'.link.capabilities ≡ s.link.capabilities
 
 no_less : (a : ℕ) → a ≡ a - 0
 no_less a = omega arith
@@ -42,11 +43,12 @@ quiet_turn s s' act room quiet = record {
   sent = ap (λ (x : LinkEnd). x.sent) quiet.link ∙ sym (append-nil s.link.sent);
   room = ap (λ (x : LinkEnd). x.room) quiet.link ∙ no_less s.link.room ∙ sym (room s.link.room);
   silent = quiet.clock.silent;
+  device = ap (λ (x : LinkEnd). x.capabilities) quiet.link;
 }
 
 polled_turn : (s s' : StationValue) (moment : ℤ) (budget : ℕ) → IsPolled s moment s' → IsTurn s (Polls moment budget) s'
 polled_turn s s' moment budget p =
-    record { taken = looked p.touches; departures = departed p.touches; waiting = p.waiting; sent = p.sent; room = p.room; silent = p.silent }
+    record { taken = looked p.touches; departures = departed p.touches; waiting = p.waiting; sent = p.sent; room = p.room; silent = p.silent; device = p.capabilities }
 
 pub is_turn : (s s' : StationValue) (act : Act) (answer : Answer) (found : Option State) → Acts s act answer found s' → IsTurn s act s'
 is_turn s s' (Calls i call) answer found acts = quiet_turn s s' (Calls i call) (λ n. refl) (call_quiet s s' i call answer found acts)
@@ -60,6 +62,7 @@ is_turn s s' (Opens n) answer found acts =
       sent = ap (λ (x : StationValue). x.link.sent) is ∙ sym (append-nil s.link.sent);
       room = ap (λ (x : StationValue). x.link.room) is;
       silent = ap (λ (x : StationValue). x.host.inner.neighbors.silent) is;
+      device = ap (λ (x : StationValue). x.link.capabilities) is;
     }
 is_turn s s' (Asks moment) answer found acts =
     let is = acts.2 in
@@ -70,6 +73,7 @@ is_turn s s' (Asks moment) answer found acts =
       sent = ap (λ (x : StationValue). x.link.sent) is ∙ sym (append-nil s.link.sent);
       room = ap (λ (x : StationValue). x.link.room) is ∙ no_less s.link.room;
       silent = ap (λ (x : StationValue). x.host.inner.neighbors.silent) is;
+      device = ap (λ (x : StationValue). x.link.capabilities) is;
     }
 is_turn s s' (Polls moment budget) answer found acts = polled_turn s s' moment budget (polled s s' moment budget acts.0 acts.1)
 
@@ -89,6 +93,9 @@ pub step_of : (s s' : StationValue) (act : Act) (answer : Answer) (found : Optio
 step_of s s' act answer found t acts = record {
   link = s.link;
   link_after = s'.link;
+  device = refl;
+  device_after = t.device;
+  stays = t.device;
   acts = acts;
   room = refl;
   takes = t.waiting;

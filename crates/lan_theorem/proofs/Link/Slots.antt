@@ -54,7 +54,7 @@ set_at (z ∷ xs) zero x y is = refl
 set_at (z ∷ xs) (suc k) x y is = set_at xs k x y is
 
 -- the test of keys tells equal keys
-key_test : IsTest is_same_datagram
+pub key_test : IsTest is_same_datagram
 key_test a b = Decides-key a b
 
 -- CHANGES
@@ -72,7 +72,7 @@ module _ (P : Slot → Type 0) (f : Slot → Slot) where
   changed_keeps place slots keeps all = changed_by place (at_place place slots) slots refl keeps all
 
 -- what stands at the place after a change
-changed_there : (f : Slot → Slot) (at : ℕ) (o : Option Slot) (slots : Slots) (s' : Slot) → at_place (Some at) slots ≡ o → at_place (Some at) (changed f (Some at) o slots) ≡ Some s' → (s : Slot) × (s' ≡ f s)
+pub changed_there : (f : Slot → Slot) (at : ℕ) (o : Option Slot) (slots : Slots) (s' : Slot) → at_place (Some at) slots ≡ o → at_place (Some at) (changed f (Some at) o slots) ≡ Some s' → (s : Slot) × (s' ≡ f s)
 changed_there f at None slots s' is there = absurd (let e : at_place (Some at) slots ≡ Some s' = there in cc)
 changed_there f at (Some s) slots s' is there =
     let e : at_place (Some at) (slice_set slots at (f s)) ≡ Some (f s) = set_at slots at s (f s) is in

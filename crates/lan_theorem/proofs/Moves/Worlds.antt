@@ -14,7 +14,7 @@ use Rattle.lan_history.specs.Partners.{ArePartners}
 use Rattle.lan_packets.specs.Moves.{IsNoCall}
 use Rattle.lan_packets.specs.Parties as Parties
 use Rattle.lan_packets.specs.Parties.{Party, Net, party}
-use Rattle.lan_packets.specs.Safe.{IsFreshSocket, IsFreshParty, IsFreshNet, IsSafe, IsTcpAt, taken_in, HasNothing}
+use Rattle.lan_packets.specs.Safe.{IsFreshSocket, IsFreshParty, IsFreshNet, IsSafe, IsTcpAt, taken_in, HasNothing, HoldsRest}
 use Rattle.lan_packets.proofs.Runs.{runs_safe}
 use Rattle.interface_egress.specs.Set.{socket_at}
 use Rattle.sockets.specs.declared.socket.Socket.{Socket}
@@ -120,12 +120,12 @@ module _ (ports : Side → ℕ → ℕ) (net : Net) (safe : IsSafe ports net) wh
   prefix B i j v partners at = safe.prefix B i j v partners at
 
   freed : (side : Side) (i j : ℕ) (v w : TcpValue) → ArePartners net.history side i j → IsTcpAt (unmade net) side i v → IsTcpAt (unmade net) (other side) j w
-      → length (written net.history side i) - length v.queued.queue ≤ length (taken_in net (other side) j w)
+      → HoldsRest (written net.history side i) v.queued.queue (taken_in net (other side) j w)
   freed A i j v w partners at there = safe.freed A i j v w partners at there
   freed B i j v w partners at there = safe.freed B i j v w partners at there
 
   still_nothing : (side : Side) (i : ℕ) (v : TcpValue) → HasNothing net side i v → HasNothing (unmade net) side i v
-  still_nothing side i v nothing = record { taken = nothing.taken; freed = nothing.freed }
+  still_nothing side i v nothing = record { taken = nothing.taken; queued = nothing.queued }
 
   alone : (side : Side) (i : ℕ) (v : TcpValue) → ((j : ℕ) → ¬ (ArePartners net.history side i j)) → IsTcpAt (unmade net) side i v → HasNothing (unmade net) side i v
   alone A i v none at = still_nothing A i v (safe.alone A i v none at)

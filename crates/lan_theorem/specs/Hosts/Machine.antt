@@ -1,5 +1,6 @@
 -- A host as a machine: what it takes, answers and sends at a turn, and what it becomes.
 use Rattle.std.specs.Prelude.{◌≡◌, ℕ, ◌-◌, ℤ, pos, List, [], ◌∷◌, ◌++◌, length, Option}
+use Rattle.net_base.specs.DeviceCapabilities.{DeviceCapabilities}
 use Rattle.interface.specs.Host.{HostValue}
 use Rattle.interface_egress.specs.Departure.{Departure}
 use Rattle.interface_egress.specs.GoesOut.{frame_of}
@@ -15,13 +16,14 @@ use Rattle.lan_hosts.specs.Steps.{Acts}
 use Rattle.sockets.specs.declared.socket.Socket.{Socket}
 use Rattle.tcp_model.specs.State.{State}
 
--- a host with its sockets, whatever link it is at
+-- a host with its sockets, and what its device says of itself, whatever link it is at
 pub record Machine : Type 0 where
   pub host : HostValue
   pub places : List (SocketStorage Socket)
+  pub capabilities : DeviceCapabilities
 
 abbrev pub machine_of : StationValue → Machine
-machine_of s = record { host = s.host; places = s.places }
+machine_of s = record { host = s.host; places = s.places; capabilities = s.link.capabilities }
 
 abbrev pub at_link : Machine → LinkEnd → StationValue
 at_link m link = record { host = m.host; places = m.places; link = link }
@@ -47,11 +49,14 @@ abbrev pub moment_of : Act → ℤ
 moment_of (Polls moment budget) = moment
 moment_of act = pos 0
 
--- The machine makes this turn and becomes the next one, at some end of the link. What it takes are the first of the frames that wait
+-- The machine makes this turn and becomes the next one, at some end of the link, of its device. What it takes are the first of the frames that wait
 -- there, and what it sends joins those that were sent. Its own requests leave when its silence is over, and begin another.
 pub record HostStep (m : Machine) (turn : Turn) (m' : Machine) : Type 0 where
   pub link : LinkEnd
   pub link_after : LinkEnd
+  pub device : link.capabilities ≡ m.capabilities
+  pub device_after : link_after.capabilities ≡ m.capabilities
+  pub stays : m'.capabilities ≡ m.capabilities
   pub acts : Acts (at_link m link) turn.act turn.answer turn.found (at_link m' link_after)
   pub room : link.room ≡ turn.room
   pub takes : link.waiting ≡ turn.taken ++ link_after.waiting

@@ -7,6 +7,8 @@ returns c = record {
   swapped = nets.swapped;
   one_more = nets.one_more;
   freed_early = nets.freed_early;
+  queued_otherwise = nets.queued_otherwise;
+  queued_otherwise_alone = nets.queued_otherwise_alone;
   ended_early = nets.ended_early;
   alone = nets.alone;
 }
