@@ -58,9 +58,9 @@ AliasLeft-next message place left left' end name answer read r next found l fewe
 -- where a reader finds none there are none left
 pub AliasLeft-cut : {E : Type 0} (message : List ℕ) (place left end : ℕ) (name : DnsName) (answer : Option DnsName) (read : Result (DnsRecord × ℕ) E)
     → AliasLeft message place left end name answer → 0 < left → ((p : DnsRecord × ℕ) → read ≡ Ok p → ⊥) → ((s : DnsRecord) (n : ℕ) → IsRecord message place s n → read ≡ Ok (s, n)) → ⊥
-AliasLeft-cut message place left end name answer read l more no only =
+AliasLeft-cut message place left end name answer read l more other only =
     let f = AliasLeft-first message place left end name answer l more in
-    no (f.first, f.next) (only f.first f.next f.is)
+    other (f.first, f.next) (only f.first f.next f.is)
 
 -- one more alias at the end of a chain
 LeadsTo-more : (n : ℕ) (rs : List DnsRecord) (name last target : DnsName) → LeadsTo n rs name last → alias_in last rs ≡ Some target → LeadsTo (suc n) rs name target
@@ -90,5 +90,5 @@ pub Led-eighth : (rs : List DnsRecord) (name last : DnsName) (left : ℕ) → Le
 Led-eighth rs name last left led none = record { aliases = led.aliases; most = omega (arith, led.rest); leads = led.leads; ends = inr (omega (arith, led.rest, none)) }
 
 pub not-some : (o : Option DnsName) → ((target : DnsName) → o ≡ Some target → ⊥) → o ≡ None
-not-some None no = refl
-not-some (Some target) no = absurd (no target refl)
+not-some None other = refl
+not-some (Some target) other = absurd (other target refl)

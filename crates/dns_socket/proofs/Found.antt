@@ -119,17 +119,17 @@ FoundSo-full message place left left' end kind name found count answer read r ne
 -- where a reader finds none there are none left
 pub FoundSo-cut : {E : Type 0} (message : List ℕ) (place left end : ℕ) (kind : DnsQueryType) (name : DnsName) (found : List (Option IpAddress)) (count : ℕ) (answer : List (Option IpAddress)) (read : Result (DnsRecord × ℕ) E)
     → FoundSo message place left end kind name found count answer → 0 < left → ((p : DnsRecord × ℕ) → read ≡ Ok p → ⊥) → ((s : DnsRecord) (n : ℕ) → IsRecord message place s n → read ≡ Ok (s, n)) → ⊥
-FoundSo-cut message place left end kind name found count answer read l more no only =
+FoundSo-cut message place left end kind name found count answer read l more other only =
     let f = FoundSo-first message place left end kind name found count answer l more in
-    no (f.first, f.next) (only f.first f.next f.is)
+    other (f.first, f.next) (only f.first f.next f.is)
 
 -- a record was read, and its address put behind the others
 pub FoundSo-step : {E : Type 0} (message : List ℕ) (place left left' end : ℕ) (kind : DnsQueryType) (name : DnsName) (found : List (Option IpAddress)) (count : ℕ) (answer : List (Option IpAddress))
     (read : Result (DnsRecord × ℕ) E) (r : DnsRecord) (next : ℕ) (address : Option IpAddress) (put : (List (Option IpAddress)) × ℕ)
     → FoundSo message place left end kind name found count answer → left' + 1 ≡ left → read ≡ Ok (r, next) → ((s : DnsRecord) (n : ℕ) → IsRecord message place s n → read ≡ Ok (s, n))
     → address ≡ address_by kind name r → put ≡ with_address found count address → FoundSo message next left' end kind name put.0 put.1 answer
-FoundSo-step message place left left' end kind name found count answer read r next address put l fewer is only by as =
-    subst (λ (p : (List (Option IpAddress)) × ℕ). FoundSo message next left' end kind name p.0 p.1 answer) (sym as) (cases address (nat_lt count 4) by refl) where
+FoundSo-step message place left left' end kind name found count answer read r next address put l fewer is only by same =
+    subst (λ (p : (List (Option IpAddress)) × ℕ). FoundSo message next left' end kind name p.0 p.1 answer) (sym same) (cases address (nat_lt count 4) by refl) where
   cases : (o : Option IpAddress) (room : Bool) → o ≡ address_by kind name r → nat_lt count 4 ≡ room
       → FoundSo message next left' end kind name (if is_some o && room then (set found count o, count + 1) else (found, count)).0 (if is_some o && room then (set found count o, count + 1) else (found, count)).1 answer
   cases None room by here = FoundSo-none message place left left' end kind name found count answer read r next None l fewer is only by refl

@@ -135,13 +135,13 @@ pub(crate) fn is_same_name(one: &DnsName, other: &DnsName) -> bool
 }
 
 /// The name of which a record says that it is the true one of a name.
-fn alias_by(record: DnsRecord, name: &DnsName) -> Option<DnsName>
-    ensures { result ≡ alias_by name.now record }
+fn alias_by(answer: DnsRecord, name: &DnsName) -> Option<DnsName>
+    ensures { result ≡ alias_by name.now answer }
 {
-    if !is_same_name(&record.name, name) {
+    if !is_same_name(&answer.name, name) {
         return None;
     }
-    match record.data {
+    match answer.data {
         DnsRecordData::Cname(target) => Some(target),
         DnsRecordData::A(_) => None,
         DnsRecordData::Aaaa(_) => None,
@@ -150,13 +150,13 @@ fn alias_by(record: DnsRecord, name: &DnsName) -> Option<DnsName>
 }
 
 /// The address of a type that a record gives a name.
-fn address_by(record: &DnsRecord, name: &DnsName, type_: DnsQueryType) -> Option<IpAddress>
-    ensures { result ≡ address_by type_ name.now record.now }
+fn address_by(answer: &DnsRecord, name: &DnsName, type_: DnsQueryType) -> Option<IpAddress>
+    ensures { result ≡ address_by type_ name.now answer.now }
 {
-    if !is_same_name(&record.name, name) {
+    if !is_same_name(&answer.name, name) {
         return None;
     }
-    match (&record.data, type_) {
+    match (&answer.data, type_) {
         (DnsRecordData::A(address), DnsQueryType::A) => Some(IpAddress::Ipv4(*address)),
         (DnsRecordData::Aaaa(address), DnsQueryType::Aaaa) => Some(IpAddress::Ipv6(*address)),
         _ => None,

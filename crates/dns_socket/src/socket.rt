@@ -124,10 +124,10 @@ impl Socket {
     /// Writes a query, and begins to ask it.
     fn begin(&mut self, now: Instant, question: DnsQuestion, transaction_id: u16, port: u16)
         requires moment { IsMoment now }
-        requires unoffered { self.old.offered ≡ None }
         requires short { length (bytes_of_name question.name) ≤ 255 }
         ensures { self.new ≡ started now self.old question transaction_id port }
     {
+        self.offered = None;
         let repr = DnsRepr {
             transaction_id,
             opcode: DnsOpcode::Query,
