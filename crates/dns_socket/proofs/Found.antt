@@ -123,6 +123,10 @@ FoundSo-cut message place left end kind name found count answer read l more othe
     let f = FoundSo-first message place left end kind name found count answer l more in
     other (f.first, f.next) (only f.first f.next f.is)
 
+-- an address behind the others, where there is room
+abbrev put_if : Bool → List (Option IpAddress) → ℕ → Option IpAddress → (List (Option IpAddress)) × ℕ
+put_if room found count address = if is_some address && room then (set found count address, count + 1) else (found, count)
+
 -- a record was read, and its address put behind the others
 pub FoundSo-step : {E : Type 0} (message : List ℕ) (place left left' end : ℕ) (kind : DnsQueryType) (name : DnsName) (found : List (Option IpAddress)) (count : ℕ) (answer : List (Option IpAddress))
     (read : Result (DnsRecord × ℕ) E) (r : DnsRecord) (next : ℕ) (address : Option IpAddress) (put : (List (Option IpAddress)) × ℕ)
@@ -131,7 +135,7 @@ pub FoundSo-step : {E : Type 0} (message : List ℕ) (place left left' end : ℕ
 FoundSo-step message place left left' end kind name found count answer read r next address put l fewer is only by same =
     subst (λ (p : (List (Option IpAddress)) × ℕ). FoundSo message next left' end kind name p.0 p.1 answer) (sym same) (cases address (nat_lt count 4) by refl) where
   cases : (o : Option IpAddress) (room : Bool) → o ≡ address_by kind name r → nat_lt count 4 ≡ room
-      → FoundSo message next left' end kind name (if is_some o && room then (set found count o, count + 1) else (found, count)).0 (if is_some o && room then (set found count o, count + 1) else (found, count)).1 answer
+      → FoundSo message next left' end kind name (put_if room found count o).0 (put_if room found count o).1 answer
   cases None room by here = FoundSo-none message place left left' end kind name found count answer read r next None l fewer is only by refl
   cases (Some a) true by here = FoundSo-more message place left left' end kind name found (set found count (Some a)) count (count + 1) answer read r next (Some a) l fewer is only by refl (ltb-true count 4 here) refl refl
   cases (Some a) false by here = FoundSo-full message place left left' end kind name found count answer read r next l fewer is only (grind (arith, here))

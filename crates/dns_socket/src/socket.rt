@@ -6,7 +6,7 @@ ghost use Rattle.dns_wire.specs.Codes.{opcode_number};
 ghost use Rattle.dns_wire.specs.Message.{written};
 ghost use Rattle.dns_wire.specs.Name.{bytes_of_name};
 ghost use Rattle.dns_socket.specs.Offers.{Offers, header_between, turn_in, turn_of};
-ghost use Rattle.dns_socket.specs.Processed.{Processed, accepts};
+ghost use Rattle.dns_socket.specs.Processed.{Processed, accepts, judged};
 ghost use Rattle.dns_socket.specs.Starts.{Starts, started};
 ghost use Rattle.dns_socket.specs.Turns.{poll_of};
 ghost use Rattle.dns_socket.specs.Records.{padded};
@@ -181,11 +181,21 @@ impl Socket {
         if !self.state.accepts(ip_repr, repr) {
             return;
         }
-        match verdict_in(&self.state, payload) {
+        let verdict = verdict_in(&self.state, payload);
+        self.judge(cx.now(), verdict);
+    }
+
+    /// Does what a datagram says.
+    fn judge(&mut self, now: Instant, verdict: Verdict)
+        requires { IsMoment now }
+        ensures { self.new ≡ judged now self.old verdict }
+    {
+        self.offered = None;
+        match verdict {
             Verdict::Unrelated => {}
             Verdict::Found(addresses) => self.state = State::Completed(addresses),
             Verdict::Missing => self.state = State::Failed,
-            Verdict::Refused => self.turn(cx.now()),
+            Verdict::Refused => self.turn(now),
         }
     }
 
