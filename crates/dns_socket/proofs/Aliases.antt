@@ -1,9 +1,9 @@
 -- The chain of aliases of a name.
-use Rattle.std.proofs.Common.{◌≡◌, ◌⊎◌, inl, inr, ℕ, zero, suc, ◌+◌, ◌-◌, ◌<◌, ◌≤◌, Bool, true, false, is_some, Option, Some, None, Result, Ok, Err, List, [], ◌∷◌, length, refl, sym, ◌∙◌, ap, subst, arith}
+use Rattle.std.proofs.Common.{◌≡◌, inl, inr, ℕ, zero, suc, ◌+◌, ◌<◌, true, false, is_some, Option, Some, None, Result, Ok, List, [], ◌∷◌, length, refl, sym, ◌∙◌, ap, subst, arith}
 use Rattle.dns_wire.specs.declared.name.DnsName.{DnsName}
 use Rattle.dns_wire.specs.declared.record_at.DnsRecord.{DnsRecord}
 use Rattle.dns_wire.specs.Message.{IsRecord}
-use Rattle.dns_socket.specs.Records.{AreRecords, alias_by, alias_in, or_else, or_name, LeadsTo, IsTrueName}
+use Rattle.dns_socket.specs.Records.{AreRecords, alias_by, alias_in, or_else, LeadsTo, IsTrueName}
 use Rattle.dns_socket.proofs.Stood.{First, first_left, read_first}
 
 some-first : (found other answer : Option DnsName) → is_some found ≡ true → or_else found other ≡ answer → found ≡ answer

@@ -1,5 +1,5 @@
 -- The addresses of a name, in their places.
-use Rattle.std.proofs.Common.{◌≡◌, ℕ, zero, suc, ◌+◌, ◌<◌, ◌≤◌, Bool, true, false, ◌&&◌, nat_lt, if◌then◌else◌, is_some, Option, Some, None, Result, Ok, Err, List, [], ◌∷◌, ◌++◌, length, refl, sym, ◌∙◌, ap, subst, arith, append_assoc, length-append}
+use Rattle.std.proofs.Common.{◌≡◌, ℕ, zero, suc, ◌+◌, ◌<◌, ◌≤◌, Bool, true, false, ◌&&◌, nat_lt, if◌then◌else◌, is_some, Option, Some, None, Result, Ok, List, [], ◌∷◌, ◌++◌, length, refl, sym, ◌∙◌, ap, subst, arith, append_assoc, length-append}
 use Rattle.std.proofs.Math.ListN.{set}
 use Rattle.std.proofs.lemmas.Bool.{ltb-true}
 use Rattle.ip_wire.specs.IpAddress.{IpAddress}
@@ -85,8 +85,8 @@ FoundSo-more message place left left' end kind name found found' count count' an
     record {
       addresses = l.addresses ++ (a ∷ []);
       are =
-        written ∙ ap (λ (xs : List (Option IpAddress)). set xs count (Some a)) l.are ∙ ap (λ n. set (padded 4 l.addresses) n (Some a)) l.counted
-        ∙ padded-set 4 l.addresses a (omega (arith, l.counted, room));
+          written ∙ ap (λ (xs : List (Option IpAddress)). set xs count (Some a)) l.are ∙ ap (λ n. set (padded 4 l.addresses) n (Some a)) l.counted
+          ∙ padded-set 4 l.addresses a (omega (arith, l.counted, room));
       counted = omega (arith, more, l.counted, length-append l.addresses (a ∷ []));
       todo = f.rest;
       stand = subst (λ (n : ℕ). AreRecords message n f.rest end) (sym same.1) f.stand;
@@ -111,9 +111,9 @@ FoundSo-full message place left left' end kind name found count answer read r ne
       stand = subst (λ (n : ℕ). AreRecords message n f.rest end) (sym same.1) f.stand;
       len = omega (arith, l.len, fewer, ap length f.same);
       same =
-        padded-full 4 l.addresses (addresses_of kind name f.rest) four
-        ∙ sym (padded-full 4 l.addresses (put_address (address_by kind name f.first) (addresses_of kind name f.rest)) four)
-        ∙ rest-same message place left end kind name found count answer l f (address_by kind name f.first) refl;
+          padded-full 4 l.addresses (addresses_of kind name f.rest) four
+          ∙ sym (padded-full 4 l.addresses (put_address (address_by kind name f.first) (addresses_of kind name f.rest)) four)
+          ∙ rest-same message place left end kind name found count answer l f (address_by kind name f.first) refl;
     }
 
 -- where a reader finds none there are none left
@@ -134,8 +134,8 @@ pub FoundSo-step : {E : Type 0} (message : List ℕ) (place left left' end : ℕ
     → address ≡ address_by kind name r → put ≡ with_address found count address → FoundSo message next left' end kind name put.0 put.1 answer
 FoundSo-step message place left left' end kind name found count answer read r next address put l fewer is only by same =
     subst (λ (p : (List (Option IpAddress)) × ℕ). FoundSo message next left' end kind name p.0 p.1 answer) (sym same) (cases address (nat_lt count 4) by refl) where
-  cases : (o : Option IpAddress) (room : Bool) → o ≡ address_by kind name r → nat_lt count 4 ≡ room
-      → FoundSo message next left' end kind name (put_if room found count o).0 (put_if room found count o).1 answer
-  cases None room by here = FoundSo-none message place left left' end kind name found count answer read r next None l fewer is only by refl
-  cases (Some a) true by here = FoundSo-more message place left left' end kind name found (set found count (Some a)) count (count + 1) answer read r next (Some a) l fewer is only by refl (ltb-true count 4 here) refl refl
-  cases (Some a) false by here = FoundSo-full message place left left' end kind name found count answer read r next l fewer is only (grind (arith, here))
+      cases : (o : Option IpAddress) (room : Bool) → o ≡ address_by kind name r → nat_lt count 4 ≡ room
+          → FoundSo message next left' end kind name (put_if room found count o).0 (put_if room found count o).1 answer
+      cases None room by here = FoundSo-none message place left left' end kind name found count answer read r next None l fewer is only by refl
+      cases (Some a) true by here = FoundSo-more message place left left' end kind name found (set found count (Some a)) count (count + 1) answer read r next (Some a) l fewer is only by refl (ltb-true count 4 here) refl refl
+      cases (Some a) false by here = FoundSo-full message place left left' end kind name found count answer read r next l fewer is only (grind (arith, here))

@@ -1,5 +1,5 @@
 -- Addresses come from the answer alone.
-use Rattle.std.proofs.Common.{◌≡◌, ◌⊎◌, inl, inr, ℕ, zero, suc, Bool, true, false, if◌then◌else◌, ℤ, List, [], ◌∷◌, length, Option, Some, None, refl, sym, ap, ◌∙◌, subst, arith}
+use Rattle.std.proofs.Common.{◌≡◌, ◌⊎◌, inl, inr, ℕ, zero, suc, Bool, true, false, if◌then◌else◌, ℤ, List, [], ◌∷◌, Option, Some, None, refl, sym, ap, ◌∙◌, subst}
 use Rattle.std.specs.List.{Contains}
 use Rattle.std.specs.Prelude.{slice_index, ◌%◌, ◌==◌, ◌&&◌}
 use Rattle.std.proofs.lemmas.Bool.{and_parts, eqb-true}
@@ -19,10 +19,10 @@ use Rattle.dns_wire.specs.declared.record_at.DnsRecord.{DnsRecord}
 use Rattle.dns_wire.specs.declared.record_at.DnsRecordData.{DnsRecordData}
 use Rattle.dns_wire.specs.declared.record_at.DnsRecordData.TheVariants as Data
 use Rattle.dns_socket.specs.Laws.{IsAlias, IsChain, HoldsAddress, Belongs, IsAnswered, AreGiven}
-use Rattle.dns_socket.specs.Processed.{is_from, is_for, accepts, judged, Takes, ProcessedIf, Processed}
-use Rattle.dns_socket.specs.Records.{AreRecords, is_same_name, alias_of, alias_by, alias_in, or_else, LeadsTo, address_of, address_by, addresses_of, put_address, padded}
-use Rattle.dns_socket.specs.Replies.{IsReply, IsAnswer, IsJudgedBy, IsReplied, IsVerdict, IsVerdictIn}
-use Rattle.dns_socket.specs.Value.{DnsValue, unoffered, has_next, ask_next, next_state, turned}
+use Rattle.dns_socket.specs.Processed.{is_from, is_for, accepts, judged, ProcessedIf, Processed}
+use Rattle.dns_socket.specs.Records.{is_same_name, alias_of, alias_by, alias_in, or_else, LeadsTo, address_of, address_by, addresses_of, put_address, padded}
+use Rattle.dns_socket.specs.Replies.{IsAnswer, IsJudgedBy, IsVerdict, IsVerdictIn}
+use Rattle.dns_socket.specs.Value.{DnsValue, unoffered, has_next, ask_next, next_state}
 use Rattle.dns_socket.specs.declared.answer.Verdict.{Verdict}
 use Rattle.dns_socket.specs.declared.answer.Verdict.TheVariants as V
 use Rattle.dns_socket.specs.declared.query.Query.{Query}

@@ -1,5 +1,5 @@
 -- A query that is offered can be sent.
-use Rattle.std.proofs.Common.{◌≡◌, ℕ, ◌+◌, ◌≤◌, ◌<◌, ◌^◌, Bool, true, false, if◌then◌else◌, ℤ, int_lt, int_le, List, length, Option, Some, None, refl, sym, ap, ◌∙◌, subst, arith}
+use Rattle.std.proofs.Common.{◌≡◌, ℕ, ◌≤◌, Bool, true, false, if◌then◌else◌, ℤ, int_lt, int_le, List, length, Option, Some, None, refl, subst, arith}
 use Rattle.std.specs.Prelude.{IfSome}
 use Rattle.ip_wire.specs.IpAddress.{IpAddress}
 use Rattle.ip_wire.specs.IpAddress.TheVariants as Address

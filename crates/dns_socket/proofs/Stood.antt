@@ -1,5 +1,5 @@
 -- Records, one after the other.
-use Rattle.std.proofs.Common.{◌≡◌, ℕ, zero, suc, ◌+◌, ◌<◌, Result, Ok, Err, List, [], ◌∷◌, ◌++◌, length, refl, sym, ap, ◌∙◌, subst, arith, length-append}
+use Rattle.std.proofs.Common.{◌≡◌, ℕ, ◌+◌, ◌<◌, Result, Ok, Err, List, [], ◌∷◌, ◌++◌, length, refl, sym, ap, ◌∙◌, subst, arith, length-append}
 use Rattle.dns_wire.specs.Message.{IsRecord}
 use Rattle.dns_wire.specs.declared.record_at.DnsRecord.{DnsRecord}
 use Rattle.dns_socket.specs.Records.{AreRecords, HasRecords, IsCut}

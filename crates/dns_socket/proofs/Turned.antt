@@ -1,13 +1,13 @@
 -- What the client does before its due moment, and that no offer gives addresses.
-use Rattle.std.proofs.Common.{◌≡◌, ◌+◌, Bool, true, false, if◌then◌else◌, ℤ, ◌<ℤ◌, int_lt, int_le, List, Option, Some, None, is_some, refl, sym, ap, ◌∙◌, subst, arith}
+use Rattle.std.proofs.Common.{◌≡◌, Bool, true, false, if◌then◌else◌, ℤ, ◌<ℤ◌, int_lt, int_le, List, Option, Some, None, refl, sym, ap, ◌∙◌, subst, arith}
 use Rattle.ip_wire.specs.IpAddress.{IpAddress}
 use Rattle.socket_base.specs.Context.{ContextValue}
 use Rattle.socket_base.specs.Offers.{IsBefore}
 use Rattle.socket_base.specs.declared.offer.Offer.{Offer}
 use Rattle.socket_base.specs.declared.offer.Offer.TheVariants as Answer
-use Rattle.dns_socket.specs.Offers.{Offers, OffersAs, turn_in, turn_of, sent_to}
+use Rattle.dns_socket.specs.Offers.{Offers, OffersAs, turn_in, sent_to}
 use Rattle.dns_socket.specs.Turns.{poll_of, due_at}
-use Rattle.dns_socket.specs.Value.{DnsValue, Open, settled, sent_by, sent_state, unoffered, server_at, has_next, ask_next, next_state}
+use Rattle.dns_socket.specs.Value.{DnsValue, Open, settled, sent_by, sent_state, server_at, has_next, ask_next, next_state}
 use Rattle.dns_socket.specs.declared.query.Query.{Query}
 use Rattle.dns_socket.specs.declared.query.Sending.{Sending}
 use Rattle.dns_socket.specs.declared.state.State.{State}

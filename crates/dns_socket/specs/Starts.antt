@@ -3,7 +3,6 @@ use Rattle.std.specs.Prelude.{◌≡◌, ℕ, ◌+◌, ◌%◌, Bool, true, fals
 use Rattle.net_base.specs.RandomWords.{word, next_state}
 use Rattle.dns_wire.specs.Message.{written}
 use Rattle.dns_wire.specs.Text.{IsNameOfText}
-use Rattle.dns_wire.specs.declared.codes.DnsFlags.{DnsFlags}
 use Rattle.dns_wire.specs.declared.codes.DnsOpcode.TheVariants as Opcode
 use Rattle.dns_wire.specs.declared.codes.DnsQueryType.{DnsQueryType}
 use Rattle.dns_wire.specs.declared.name.DnsName.{DnsName}

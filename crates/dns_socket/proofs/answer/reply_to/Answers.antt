@@ -1,4 +1,4 @@
-use Rattle.std.proofs.Common.{◌≡◌, ℕ, Bool, true, false, Result, Ok, Err, Some, sym, ap, ◌∙◌}
+use Rattle.std.proofs.Common.{◌≡◌, ℕ, true, false, Result, Ok, Err, Some, sym, ap, ◌∙◌}
 use Rattle.dns_wire.specs.declared.question.DnsQuestion.{DnsQuestion}
 use Rattle.dns_socket.specs.Replies.{repeats}
 use Rattle.dns_socket.proofs.answer.reply_to.Goals as goal

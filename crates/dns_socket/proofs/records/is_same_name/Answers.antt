@@ -1,4 +1,4 @@
-use Rattle.std.proofs.Common.{◌≡◌, map}
+use Rattle.std.proofs.Common.{map}
 use Rattle.std.specs.Char.{to_ascii_lowercase}
 use Rattle.dns_socket.proofs.Decided.{decided}
 use Rattle.dns_socket.proofs.records.is_same_name.Goals as goal
