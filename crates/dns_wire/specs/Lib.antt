@@ -2,3 +2,4 @@
 pub mod Codes
 pub mod Message
 pub mod Name
+pub mod Text

@@ -10,6 +10,7 @@ mod packet;
 mod question;
 mod record_at;
 mod repr;
+mod text;
 
 pub use codes::{DnsFlags, DnsOpcode, DnsQueryType, DnsRcode};
 pub use name::{DnsName, MAX_NAME_LEN};
@@ -17,3 +18,4 @@ pub use packet::DnsPacket;
 pub use question::DnsQuestion;
 pub use record_at::{DnsRecord, DnsRecordData};
 pub use repr::DnsRepr;
+pub use text::DnsNameError;

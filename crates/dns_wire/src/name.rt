@@ -1,13 +1,18 @@
 //! Names, read through their compression.
 ghost use Rattle.std.specs.Prelude.{◌≡◌, ◌↔◌, ℕ, ◌+◌, ◌<◌, ◌≤◌, ◌++◌, ◌∷◌, IsOk, IfOk, OnOk, List, length};
 ghost use Rattle.dns_wire.specs.Name.{IsName, IsPartAt, bytes_of_name};
+ghost use Rattle.dns_wire.specs.Text.{IsNameOfText};
 
+use crate::text::{DnsNameError, label_end, without_last_dot};
 use arrayvec::ArrayVec;
 use ip_address::Error;
 use ip_address::network_order::read_u16;
 
 /// How long a name is at most, its lengths and its last zero included (RFC 1035, section 2.3.4).
 pub const MAX_NAME_LEN: usize = 255;
+
+/// How long a label is at most.
+const MAX_LABEL_LEN: usize = 63;
 
 /// A name without compression: labels, each behind its length, and a zero.
 #[derive(Clone, Debug, Drop)]
@@ -45,6 +50,36 @@ impl DnsName {
                     place = target;
                 }
             }
+        }
+    }
+
+    /// The name that a text is, with dots between its labels (RFC 1035, section 2.3.1). One dot may stand at its end.
+    pub fn from_text(text: &str) -> Result<DnsName, DnsNameError>
+        ensures { IsNameOfText text.now result }
+    {
+        let whole = without_last_dot(text.as_bytes());
+        if whole.len() + 2 > MAX_NAME_LEN {
+            return Err(DnsNameError::TooLong);
+        }
+        let mut bytes = ArrayVec::new();
+        let mut rest = whole;
+        'labels: loop {
+            let end = label_end(rest);
+            if end == 0 {
+                return Err(DnsNameError::Invalid);
+            }
+            if end > MAX_LABEL_LEN {
+                return Err(DnsNameError::Invalid);
+            }
+            let (label, _) = rest.split_at(end);
+            let Ok(()) = push_label(&mut bytes, label) else {
+                return Err(DnsNameError::TooLong);
+            };
+            if end == rest.len() {
+                bytes.push(0);
+                return Ok(DnsName { bytes });
+            }
+            rest = rest.split_at(end + 1).1;
         }
     }
 

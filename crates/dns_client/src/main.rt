@@ -1,0 +1,17 @@
+//! Plays a client of DNS, line by line. Standard input says what time it is and what arrives; the answers say what the client sends,
+//! which addresses it found, and when it wants to be polled.
+#![tactic(auto)]
+
+mod context;
+mod datagrams;
+mod lines;
+
+use std::io;
+use std::process::ExitCode;
+
+fn main(rt: HostRuntime) -> ExitCode {
+    match lines::run(rt.alloc(), rt.reader(), &mut io::writer(&rt)) {
+        Ok(()) => ExitCode::SUCCESS,
+        Err(_) => ExitCode::from(1),
+    }
+}

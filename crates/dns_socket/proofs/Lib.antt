@@ -1,0 +1,9 @@
+pub mod Aliases
+pub mod Among
+pub mod Decided
+pub mod Found
+pub mod Given
+pub mod Sent
+pub mod Stood
+pub mod Taken
+pub mod Turned

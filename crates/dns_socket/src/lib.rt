@@ -1,0 +1,20 @@
+//! A client of the domain name system (RFC 1034, RFC 1035): a socket that asks servers for the addresses of a name, and reads
+//! their answers.
+//!
+//! It stands on what sockets of all kinds share, so that an interface can poll it as any other.
+#![tactic(auto)]
+
+mod answer;
+mod error;
+pub mod laws;
+mod query;
+mod records;
+mod socket;
+mod state;
+
+pub use dns_wire::DnsQueryType;
+pub use error::{GetQueryResultError, StartQueryError};
+pub use query::Query;
+pub use records::{Addresses, MAX_ADDRESSES};
+pub use socket::Socket;
+pub use state::{MAX_SERVERS, State};
