@@ -1,0 +1,11 @@
+use Rattle.std.proofs.Common.{arith, ◌≡◌, ◌<◌, length, None}
+use Rattle.sockets.specs.AnySocket.{as_udp}
+use Rattle.sockets.specs.declared.socket.Socket.TheVariants as Kind
+use Rattle.c_sockets.specs.Datagrams.{act_after}
+use Rattle.c_sockets.proofs.Free.{kept}
+use Rattle.c_sockets.proofs.datagrams.perform.Goals as goal
+
+pub returns-in-None-clause-after : goal.returns-in-None-clause-after
+returns-in-None-clause-after c =
+    let within : c.args.place < length c.args.places.now = omega (arith, c.if-place-places.false) in let free : c.index-places-place.result.inner ≡ None = cc in
+    kept c.args.places.now c.args.place c.index-places-place.result within c.index-places-place.is free as_udp (λ x. Kind.Udp x) (act_after c.args.act)

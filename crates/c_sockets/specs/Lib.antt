@@ -1,0 +1,5 @@
+pub mod Codes
+pub mod Places
+pub mod Streams
+pub mod Datagrams
+pub mod Controls

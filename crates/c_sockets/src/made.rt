@@ -1,0 +1,36 @@
+//! Buffers of sockets.
+ghost use Rattle.std.specs.Prelude.{◌≡◌, ◌≢◌, [], replicate, IfSome, Some};
+ghost use Rattle.net_base.specs.Packets.{packets_in};
+ghost use Rattle.net_base.specs.Ring.{ring};
+ghost use Rattle.c_sockets.specs.Streams.{limit_of};
+
+use net_base::{ManagedSlice, PacketBuffer, PacketMetadata, RingBuffer};
+use std::alloc::Global;
+
+/// A queue of so many packets, of so many bytes together.
+pub fn queue<H: Drop>(alloc: Global, packets: usize, bytes: usize) -> Option<PacketBuffer<H>>
+    ensures { IfSome result (λ queue. queue ≡ packets_in [] 0 packets bytes) }
+{
+    let mut places = Vec::with_capacity(alloc, packets).ok()?;
+    for _ in 0..packets {
+        places.push(PacketMetadata::EMPTY).ok()?;
+    }
+    let bytes = Vec::from_elem(alloc, 0, bytes).ok()?;
+    Some(PacketBuffer::new(ManagedSlice::Fixed(places), ManagedSlice::Fixed(bytes)))
+}
+
+/// A ring of so many bytes.
+pub fn ring(alloc: Global, bytes: usize) -> Option<RingBuffer<u8>>
+    ensures { IfSome result (λ made. made ≡ ring [] (replicate bytes 0) 0) }
+{
+    let bytes = Vec::from_elem(alloc, 0u8, bytes).ok()?;
+    Some(RingBuffer::new(ManagedSlice::Fixed(bytes)))
+}
+
+/// The hop limit, none where it is 0.
+pub(crate) fn limit_of(limit: u8) -> Option<u8>
+    ensures value { result ≡ limit_of limit }
+    ensures some { result ≢ Some 0 }
+{
+    if limit == 0 { None } else { Some(limit) }
+}
