@@ -10,4 +10,4 @@ carry-requires-clause-fits g c =
     let i = c.args.inner.now in
     let left = c.args.fragmenter.now in
     let p = packet_value c.args.packet.now in
-    subst (λ (plan : Plan). CanBeCarried i.mtu left p plan) (sym c.requires.plan) (planned_can_be_carried i left p c.mtu.ensures.high c.requires.packet)
+    subst (λ (plan : Plan). CanBeCarried i.mtu left p plan) (sym c.requires.plan) (planned_can_be_carried i left p c.mtu-mtu.ensures.high c.requires.packet)
