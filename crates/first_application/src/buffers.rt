@@ -17,7 +17,7 @@ fn queue<H: Drop>(alloc: Global, bytes: usize) -> Result<PacketBuffer<H>> {
 /// A UDP socket, bound to this port of every own address.
 pub fn datagrams(alloc: Global, port: u16) -> Result<udp::Socket> {
     let mut socket = udp::Socket::new(queue(alloc, 1024)?, queue(alloc, 1024)?);
-    socket.bind(port.into())?;
+    socket.bind(port)?;
     Ok(socket)
 }
 
