@@ -2,9 +2,7 @@
 use crate::common::{queue, zeros};
 use crate::script::Step::{Anew, Offers, Shows, Silent, Udp};
 use crate::script::{Kind, Shown, Step, play};
-use ip_wire::{
-    IpAddress, IpEndpoint, IpProtocol, IpRepr, Ipv4Address, Ipv6Address, UdpRepr,
-};
+use ip_wire::{IpAddress, IpEndpoint, IpProtocol, IpRepr, Ipv4Address, Ipv6Address, UdpRepr};
 use net_base::PacketMeta;
 use sockets::IpPayload;
 use sockets::udp::{BindError, RecvError, SendError, Socket, UdpMetadata};
