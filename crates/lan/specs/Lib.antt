@@ -32,3 +32,4 @@ pub use Rattle.lan_world.specs.Promises
 pub use Rattle.lan_world.specs.declared.error.WorldError
 pub use Rattle.lan_theorem.specs.Hosts.Asked
 pub use Rattle.lan_theorem.specs.Hosts.Machine
+pub use Rattle.lan_theorem.specs.Said

@@ -35,4 +35,4 @@ pub use lan_script::Line;
 pub use lan_world::{
     Answer, Bytes, Event, Fault, Host, Refused, Side, TcpSetting, World, WorldError, host_laws,
 };
-pub use script::{MOST_READS, replay};
+pub use script::{MOST_READS, replay, try_replay};

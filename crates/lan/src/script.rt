@@ -38,8 +38,10 @@ pub fn replay<R: Read, W: Write>(alloc: Global, reader: &mut R, writer: &mut W) 
     }
 }
 
-// `None`: the reader failed, or came to no end in 2^32 reads. The lines that it gave have been run.
-fn try_replay<R: Read, W: Write>(
+/// The same, with the ways apart in which a run may end without a status. `None`: the reader failed, or came to no end in 2^32 reads; the
+/// lines that it gave whole have been run, and what they write has been written (clause `unended`). An error is the writer's, or says
+/// that there was no memory; of what was written then nothing is said.
+pub fn try_replay<R: Read, W: Write>(
     alloc: Global,
     reader: &mut R,
     writer: &mut W,

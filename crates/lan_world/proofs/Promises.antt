@@ -11,6 +11,7 @@ use Rattle.lan_hosts.specs.Safe.{first_port, net_of}
 use Rattle.lan_hosts.specs.Station.{StationValue, Stations}
 use Rattle.lan_theorem.specs.Events.{AreTyped}
 use Rattle.lan_theorem.specs.Rebuilt.{RebuiltWasMade}
+use Rattle.lan_theorem.specs.Said.{RebuiltWasSent, by_side}
 use Rattle.lan_theorem.specs.Hosts.Asked.{requests, AreApart}
 use Rattle.lan_theorem.specs.Hosts.Damage.{DamageIsHarmless}
 use Rattle.lan_theorem.specs.Hosts.HostRuns.{IsHostRun}
@@ -50,6 +51,15 @@ RebuiltWereMade =
     → WorldRun history (unused_both starts) hosts
     → RebuiltWasMade (record { hosts = hosts; starts = starts; history = history })
 
+abbrev pub RebuiltWereSent : Type 0
+RebuiltWereSent =
+    (starts : Starts) (history : List Entry) (hosts : Stations)
+    → IsFreshWorld starts
+    → AreTyped history
+    → WorldRun history (unused_both starts) hosts
+    → (a : IsHostRun (record { hosts = hosts; starts = starts; history = history }) A) (b : IsHostRun (record { hosts = hosts; starts = starts; history = history }) B)
+    → RebuiltWasSent (record { hosts = hosts; starts = starts; history = history }) (by_side a.turns b.turns)
+
 abbrev pub DamageWasHarmless : Type 0
 DamageWasHarmless =
     (starts : Starts) (history : List Entry) (hosts : Stations)
@@ -62,9 +72,9 @@ apart : RequestsAreApart → (w : WorldValue) (side : Side) (r : IsHostRun w sid
 apart law w side r = law _ _ r.turns _ r.run
 
 pub well_run : (start_a start_b a b : StationValue) (of_a of_b : Table) (history : List Entry)
-    → HostsRun → RequestsAreApart → PollsAreQuiet → WorldsAreSafe → RebuiltWereMade → DamageWasHarmless → HasCome start_a start_b a b of_a of_b history
+    → HostsRun → RequestsAreApart → PollsAreQuiet → WorldsAreSafe → RebuiltWereMade → RebuiltWereSent → DamageWasHarmless → HasCome start_a start_b a b of_a of_b history
     → IsSafeWorld (world start_a start_b a b history)
-well_run start_a start_b a b of_a of_b history hosts_run are_apart are_quiet are_safe were_made was_harmless come =
+well_run start_a start_b a b of_a of_b history hosts_run are_apart are_quiet are_safe were_made were_sent was_harmless come =
     let starts = starts_of start_a start_b in
     let w = world start_a start_b a b history in
     let of_host_a = hosts_run starts history (both a b) A come.run in
@@ -77,6 +87,7 @@ well_run start_a start_b a b of_a of_b history hosts_run are_apart are_quiet are
       quiet = are_quiet starts history (both a b) come.run;
       asks_a = apart are_apart w A of_host_a;
       asks_b = apart are_apart w B of_host_b;
-      rebuilt = were_made starts history (both a b) come.fresh come.typed come.run;
+      rebuilt = were_sent starts history (both a b) come.fresh come.typed come.run of_host_a of_host_b;
+      made = were_made starts history (both a b) come.fresh come.typed come.run;
       damage = was_harmless starts history (both a b) come.fresh come.typed come.run;
     }

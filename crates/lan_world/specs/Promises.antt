@@ -8,10 +8,11 @@ use Rattle.lan_theorem.specs.Hosts.Damage.{DamageIsHarmless}
 use Rattle.lan_theorem.specs.Hosts.HostRuns.{IsHostRun}
 use Rattle.lan_theorem.specs.Hosts.Quiet.{PollsWereQuiet}
 use Rattle.lan_theorem.specs.Rebuilt.{RebuiltWasMade}
+use Rattle.lan_theorem.specs.Said.{RebuiltWasSent, by_side}
 
 pub record IsSafeWorld (w : WorldValue) : Type 0 where
-  -- of both hosts' sockets: what was read and what waits begins what the partner wrote, only bytes that the partner took in are freed, a
-  -- socket without a partner has nothing, the end of a stream is true, and each datagram read was accepted
+  -- of both hosts' sockets: what was read and what waits begins what the partner wrote, only bytes that the partner took in have left the
+  -- send queue, which holds the rest, a socket without a partner has nothing, the end of a stream is true, and each datagram read was accepted
   pub sockets : IsSafe (first_port w.starts) (net_of w)
   -- the hosts and the link came here by this history, and no event was taken that had to be refused
   pub run : WorldRun w.history (unused_both w.starts) w.hosts
@@ -24,8 +25,11 @@ pub record IsSafeWorld (w : WorldValue) : Type 0 where
   -- a host's own requests for neighbours are a second apart
   pub asks_a : AreApart (requests run_a.turns)
   pub asks_b : AreApart (requests run_b.turns)
-  -- if a host takes a frame that waits for it next, and rebuilds a TCP or UDP datagram of pieces with it, its payload is that of one
-  -- packet that the other host made
-  pub rebuilt : RebuiltWasMade w
-  -- a frame of which the link exchanged a word touches no TCP and no UDP socket of whichever host takes it, and isn't answered
+  -- if a host takes a frame that waits for it next, and rebuilds a TCP or UDP datagram of pieces with it, what the other host's turns
+  -- sent with that identification, those addresses and that protocol is its payload, all of it and nothing else
+  pub rebuilt : RebuiltWasSent w (by_side run_a.turns run_b.turns)
+  -- and that is the payload of one packet whose segment or datagram the other host's sockets made
+  pub made : RebuiltWasMade w
+  -- a frame of which the link exchanged one aligned word of its whole TCP segment, for one of another remainder by 65535, touches no TCP
+  -- and no UDP socket of whichever host takes it, and isn't answered
   pub damage : DamageIsHarmless w.hosts w.history

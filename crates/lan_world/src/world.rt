@@ -18,7 +18,7 @@ use crate::kept::Kept;
 use crate::typed::{event_is_typed, host_is_typed};
 use lan_history::{Answer, Event, Refused, Side};
 use lan_theorem::host_laws::{hosts_run, polls_are_quiet, requests_are_apart};
-use lan_theorem::laws::{damage_was_harmless, rebuilt_was_made, worlds_are_safe};
+use lan_theorem::laws::{damage_was_harmless, rebuilt_was_made, rebuilt_was_sent, worlds_are_safe};
 use lan_theorem::table_laws::{numbers_are_few, tables_go_on};
 use lan_theorem::{Host, Records, refusal_of, take};
 use std::alloc::{AllocError, Global};
@@ -127,6 +127,7 @@ impl World {
         polls_are_quiet();
         worlds_are_safe();
         rebuilt_was_made();
+        rebuilt_was_sent();
         damage_was_harmless();
         // (a look at a field makes known what a world keeps)
         let _ = &self.history;

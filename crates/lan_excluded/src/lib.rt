@@ -1,0 +1,120 @@
+//! What the headline excludes: worlds of which no field of what is promised of every world may hold. Each law is of a field by itself;
+//! `lan_examples::excluded` has those of the sockets' field.
+#![tactic(auto)]
+
+ghost use Rattle.std.specs.Prelude.{◌≡◌, ◌≢◌, ◌≤◌, ℕ, ℤ, pos, List, [], ◌∷◌, length, slice_get, Some, None};
+ghost use Rattle.ip_wire.specs.Ipv4.{key_of};
+ghost use Rattle.ip_wire.specs.Ipv4Repr.{Ipv4Repr};
+ghost use Rattle.interface_egress.specs.declared.frame.Question.{Question};
+ghost use Rattle.interface_ingress.specs.Arrives.{Arrived, ReplyValue};
+ghost use Rattle.interface_ingress.specs.Delivered.{Places};
+ghost use Rattle.interface_ingress.specs.Kept.{with_ports};
+ghost use Rattle.interface_ingress.specs.Reassembled.{Slots};
+ghost use Rattle.interface_tables.specs.Inner.{InnerValue};
+ghost use Rattle.lan_history.specs.History.{Entry};
+ghost use Rattle.lan_history.specs.Kinds.{other};
+ghost use Rattle.lan_history.specs.declared.answer.Answer.TheVariants as To;
+ghost use Rattle.lan_history.specs.declared.event.Side.{Side};
+ghost use Rattle.lan_history.specs.declared.event.Side.TheVariants.{A};
+ghost use Rattle.lan_hosts.specs.Origins.{medium_of};
+ghost use Rattle.lan_hosts.specs.Runs.{Starts, WorldValue, WorldRun, unused_both};
+ghost use Rattle.lan_hosts.specs.Station.{Stations, station};
+ghost use Rattle.lan_theorem.specs.Hosts.Asked.{requests, AreApart};
+ghost use Rattle.lan_theorem.specs.Hosts.Damage.{DamageIsHarmless};
+ghost use Rattle.lan_theorem.specs.Hosts.HostRuns.{IsHostRun, frames_sent};
+ghost use Rattle.lan_theorem.specs.Hosts.Machine.{Turn};
+ghost use Rattle.lan_theorem.specs.Hosts.Quiet.{PollsWereQuiet};
+ghost use Rattle.lan_theorem.specs.Rebuilt.{Rebuilds};
+ghost use Rattle.lan_theorem.specs.Said.{ByteAt, EndsAt, IsSaid, RebuiltWasSent};
+ghost use Rattle.lan_excluded.specs.Worlds.{after, Delivers, Damages, IsAsked, GetsRoom, sent_by_a, asked, polled, asking, AreOfOther, IsTaken};
+
+/// `run`: a host sent a frame though nothing happened; a frame was handed over that wasn't sent yet; a question when to poll was answered as
+/// a call is.
+pub fn bad_runs_are_excluded()
+    ensures sent_unbidden { (starts : Starts) (hosts : Stations) (frame : List ℕ) (more : List (List ℕ))
+        → hosts.a.link.sent ≡ frame ∷ more
+        → WorldRun [] (unused_both starts) hosts → ⊥ }
+    ensures not_sent_yet { (starts : Starts) (hosts : Stations) (past : List Entry) (e : Entry) (k : ℕ) (padding : List ℕ)
+        → Delivers k padding e
+        → e.before.sent_a ≤ k
+        → WorldRun (e ∷ past) (unused_both starts) hosts → ⊥ }
+    ensures other_answer { (starts : Starts) (hosts : Stations) (past : List Entry) (e : Entry) (moment : ℤ)
+        → IsAsked moment e
+        → e.answer ≡ To.Done
+        → WorldRun (e ∷ past) (unused_both starts) hosts → ⊥ }
+{}
+
+/// `run_a` and `run_b`: a host sent a frame though it did nothing, or though it was only given room; a frame waits for it that the link
+/// didn't hand over; it isn't what it was, though it did nothing.
+pub fn bad_hosts_are_excluded()
+    ensures sent_unbidden { (starts : Starts) (hosts : Stations) (frame : List ℕ) (more : List (List ℕ))
+        → hosts.a.link.sent ≡ frame ∷ more
+        → IsHostRun (after starts [] hosts) A → ⊥ }
+    ensures sent_without_a_poll { (starts : Starts) (hosts : Stations) (e : Entry) (room : ℕ) (frame : List ℕ) (more : List (List ℕ))
+        → GetsRoom room e
+        → e.before.sent_a ≡ 0
+        → hosts.a.link.sent ≡ frame ∷ more
+        → IsHostRun (after starts (e ∷ []) hosts) A → ⊥ }
+    ensures not_handed_over { (starts : Starts) (hosts : Stations) (frame : List ℕ) (more : List (List ℕ))
+        → hosts.a.link.waiting ≡ frame ∷ more
+        → IsHostRun (after starts [] hosts) A → ⊥ }
+    ensures other_host { (starts : Starts) (hosts : Stations)
+        → hosts.a.host.timeout ≢ starts.a.host.timeout
+        → IsHostRun (after starts [] hosts) A → ⊥ }
+{}
+
+/// `quiet`: a host was asked when to poll, was polled undisturbed before that moment, and sent a frame; it answered that it never wants
+/// to be polled, and sent one.
+pub fn bad_polls_are_excluded()
+    ensures before_the_moment { (starts : Starts)
+        → starts.a.host.inner.routes ≡ []
+        → PollsWereQuiet starts (polled ∷ asked (Some (pos 10)) ∷ []) (sent_by_a 1) → ⊥ }
+    ensures never { (starts : Starts)
+        → starts.a.host.inner.routes ≡ []
+        → PollsWereQuiet starts (polled ∷ asked None ∷ []) (sent_by_a 1) → ⊥ }
+{}
+
+/// `asks_a` and `asks_b`: a host asked for a neighbour twice at one moment, in one turn or in two; and again a microsecond before the
+/// second was over.
+pub fn bad_questions_are_excluded()
+    ensures in_one_turn { (q r : Question) → AreApart (requests (asking (pos 0) (q ∷ r ∷ []) ∷ [])) → ⊥ }
+    ensures in_two_turns { (q r : Question) → AreApart (requests (asking (pos 0) (q ∷ []) ∷ asking (pos 0) (r ∷ []) ∷ [])) → ⊥ }
+    ensures too_early { (q r : Question) → AreApart (requests (asking (pos 999_999) (q ∷ []) ∷ asking (pos 0) (r ∷ []) ∷ [])) → ⊥ }
+{}
+
+/// `rebuilt`: a host rebuilds a payload of which the other host sent nothing; or only frames of another identification; or another byte at
+/// a place; or one more byte; or an end at another place.
+pub fn bad_payloads_are_excluded()
+    ensures never_sent { (w : WorldValue) (turns : Side → List Turn) (side : Side) (header : Ipv4Repr) (payload : List ℕ)
+        → Rebuilds (station w.hosts side) header payload
+        → frames_sent (turns (other side)) ≡ []
+        → RebuiltWasSent w turns → ⊥ }
+    ensures other_identification { (w : WorldValue) (turns : Side → List Turn) (side : Side) (header : Ipv4Repr) (payload : List ℕ)
+        → Rebuilds (station w.hosts side) header payload
+        → AreOfOther (medium_of (station w.hosts (other side))) (frames_sent (turns (other side))) (key_of header)
+        → RebuiltWasSent w turns → ⊥ }
+    ensures other_byte { (w : WorldValue) (turns : Side → List Turn) (side : Side) (header : Ipv4Repr) (payload : List ℕ) (place byte : ℕ)
+        → Rebuilds (station w.hosts side) header payload
+        → IsSaid (medium_of (station w.hosts (other side))) (frames_sent (turns (other side))) (key_of header) (ByteAt place byte)
+        → slice_get payload place ≢ Some byte
+        → RebuiltWasSent w turns → ⊥ }
+    ensures other_end { (w : WorldValue) (turns : Side → List Turn) (side : Side) (header : Ipv4Repr) (payload : List ℕ) (place : ℕ)
+        → Rebuilds (station w.hosts side) header payload
+        → IsSaid (medium_of (station w.hosts (other side))) (frames_sent (turns (other side))) (key_of header) (EndsAt place)
+        → place ≢ length payload
+        → RebuiltWasSent w turns → ⊥ }
+{}
+
+/// `damage`: a frame that the link damaged is answered by a host that takes it, or touches a TCP or UDP socket there.
+pub fn bad_damage_is_excluded()
+    ensures answered { (hosts : Stations) (past : List Entry) (e : Entry) (k place word : ℕ) (padding : List ℕ) (i : InnerValue) (timeout : ℕ) (slots after : Slots) (places : Places) (a : Arrived) (reply : ReplyValue)
+        → Damages k place word padding e
+        → IsTaken hosts k place word padding i timeout slots after places a
+        → a.reply ≡ Some reply
+        → DamageIsHarmless hosts (e ∷ past) → ⊥ }
+    ensures heard { (hosts : Stations) (past : List Entry) (e : Entry) (k place word : ℕ) (padding : List ℕ) (i : InnerValue) (timeout : ℕ) (slots after : Slots) (places : Places) (a : Arrived)
+        → Damages k place word padding e
+        → IsTaken hosts k place word padding i timeout slots after places a
+        → with_ports a.places ≢ with_ports places
+        → DamageIsHarmless hosts (e ∷ past) → ⊥ }
+{}
