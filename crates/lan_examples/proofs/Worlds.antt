@@ -68,6 +68,8 @@ at_rest side = record {
     duplicates = 0;
     sacked = 0;
     resend = false;
+    recover = 0;
+    partial = false;
     syn_lost = false;
     timeouts = 0;
     unanswered = 0;
@@ -87,7 +89,7 @@ at_rest side = record {
     recent = 0;
   };
   timers = fresh_timers;
-  round_trip = record { estimate = Some (record { smoothed = 0; variation = 0 }); timeout = 1000; sample = None };
+  round_trip = record { estimate = Some (record { smoothed = 0; variation = 0 }); timeout = 1000; least = 1000; sample = None };
   reno = record { mss = 1460; cwnd = 14_600; ssthresh = 1_073_741_824; recovers = false; timed_out = false };
   settings = default_settings;
 }

@@ -1,5 +1,6 @@
--- Congestion control by slow start, congestion avoidance, fast retransmit and fast recovery (RFC 5681). All counts are bytes.
-use Rattle.std.specs.Prelude.{ℕ, ◌+◌, ◌*◌, ◌/◌, ◌^◌, ◌==◌, ◌≤◌, nat_lt, min, max, Bool, true, false, if◌then◌else◌}
+-- Congestion control by slow start, congestion avoidance, fast retransmit and fast recovery (RFC 5681), which a partial
+-- acknowledgement doesn't end (RFC 6582). All counts are bytes.
+use Rattle.std.specs.Prelude.{ℕ, ◌+◌, ◌-◌, ◌*◌, ◌/◌, ◌^◌, ◌==◌, ◌≤◌, nat_le, nat_lt, min, max, Bool, true, false, if◌then◌else◌}
 
 pub record RenoValue : Type 0 where
   pub mss : ℕ  -- SMSS
@@ -33,7 +34,7 @@ first_window mss = min (10 * mss) (max (2 * mss) 14_600)
 
 -- a connection is there: its window is the first one, or one segment where its SYN was lost (RFC 5681, 3.1)
 abbrev pub started : RenoValue → Bool → RenoValue
-started r lost = record r { cwnd = if lost then r.mss else first_window r.mss }
+started r lost = record r { cwnd = (if lost then r.mss else first_window r.mss); recovers = false }
 
 -- how much cwnd grows by, where so many bytes are acknowledged: in slow start, else in congestion avoidance (3.1, equations 2 and 3)
 abbrev pub growth : RenoValue → ℕ → ℕ
@@ -43,22 +44,29 @@ growth r count = if nat_lt r.cwnd r.ssthresh then min count r.mss else max 1 (r.
 abbrev pub halved : RenoValue → ℕ → ℕ
 halved r flight = min most (max (flight / 2) (2 * r.mss))
 
--- so many bytes were acknowledged; the first of them end fast recovery (3.2, step 6)
+-- so many bytes were acknowledged, outside of fast recovery (3.1)
 abbrev pub acknowledged : RenoValue → ℕ → RenoValue
-acknowledged r count =
-    if count == 0 then r
-    else record r {
-      cwnd = (if r.recovers then r.ssthresh else min most (r.cwnd + growth r count));
-      recovers = false;
-      timed_out = false;
-    }
+acknowledged r count = if count == 0 then r else record r { cwnd = min most (r.cwnd + growth r count); timed_out = false }
 
--- the third duplicate came (3.2, steps 2 and 3). After a timeout it may answer a segment that went again without need, and says nothing
--- until new data is acknowledged (RFC 6582, 3.2 and 4.3).
+-- In fast recovery so many were, but not all that was sent when it began: the window shrinks by them, to no less than a segment, and
+-- grows by one where at least one was acknowledged (RFC 6582, 3.2, step 3, partial acknowledgements).
+abbrev pub partly : RenoValue → ℕ → RenoValue
+partly r count = record r { cwnd = min most (max r.mss (r.cwnd - count) + (if nat_le r.mss count then r.mss else 0)) }
+
+-- all of it was: fast recovery ends (RFC 6582, 3.2, step 3, full acknowledgements)
+abbrev pub recovered : RenoValue → RenoValue
+recovered r = record r { cwnd = r.ssthresh; recovers = false; timed_out = false }
+
+-- The third duplicate came (3.2, steps 2 and 3). What limited transmit sent beyond the window doesn't count as in flight. After a
+-- timeout it may answer a segment that went again without need, and says nothing until new data is acknowledged (RFC 6582, 3.2 and 4).
 abbrev pub lost : RenoValue → ℕ → RenoValue
 lost r flight =
     if r.timed_out then r
-    else record r { ssthresh = halved r flight; cwnd = min most (halved r flight + 3 * r.mss); recovers = true }
+    else record r {
+      ssthresh = halved r (min flight r.cwnd);
+      cwnd = min most (halved r (min flight r.cwnd) + 3 * r.mss);
+      recovers = true;
+    }
 
 -- a duplicate beyond the third came: in recovery alone, which a timeout ends (3.2, step 4)
 abbrev pub inflated : RenoValue → RenoValue

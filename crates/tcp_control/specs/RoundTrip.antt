@@ -7,23 +7,39 @@ use Rattle.tcp_control.specs.declared.round_trip.Sample.{Sample}
 pub record RoundTripValue : Type 0 where
   pub estimate : Option Estimate  -- none before the first sample
   pub timeout : ℕ  -- RTO
+  pub least : ℕ  -- what it never falls below
   pub sample : Option Sample  -- the segment that is timed
 
-abbrev pub least_timeout : ℕ
-least_timeout = 1000
+-- before the first sample (2.1), and the least as long as no other is set (2.4)
+abbrev pub first_timeout : ℕ
+first_timeout = 1000
 
+-- no least timeout lies below it
+abbrev pub shortest_timeout : ℕ
+shortest_timeout = 10
+
+-- the timeout never rises above it (2.5)
 abbrev pub most_timeout : ℕ
 most_timeout = 60_000
 
--- the estimates lie below 2^52, and the segment that is timed was sent at a moment
+-- The estimates lie below 2^52, the timeout isn't below the least that is set, and the segment that is timed was sent at a moment.
 pub record IsTimed (r : RoundTripValue) : Type 0 where
   pub estimate : IfSome r.estimate (λ e. (e.smoothed < 2 ^ 52) × (e.variation < 2 ^ 52))
-  pub timeout : (least_timeout ≤ r.timeout) × (r.timeout ≤ most_timeout)
+  pub least : shortest_timeout ≤ r.least
+  pub timeout : (r.least ≤ r.timeout) × (r.timeout ≤ most_timeout)
   pub sample : IfSome r.sample (λ s. IsMoment s.since)
 
 -- of a new connection (2.1)
 abbrev pub fresh : RoundTripValue
-fresh = record { estimate = None; timeout = least_timeout; sample = None }
+fresh = record { estimate = None; timeout = first_timeout; least = first_timeout; sample = None }
+
+-- the least timeout where a user asks for so many microseconds: whole milliseconds, between 10 and a minute
+abbrev pub least_of : ℕ → ℕ
+least_of duration = min most_timeout (max shortest_timeout (duration / 1000))
+
+-- another least timeout is set: one that is higher than the timeout counts at once, another from the next sample on
+abbrev pub with_least : ℕ → RoundTripValue → RoundTripValue
+with_least duration r = record r { least = least_of duration; timeout = max (least_of duration) r.timeout }
 
 abbrev pub distance : ℕ → ℕ → ℕ
 distance a b = (a - b) + (b - a)
@@ -37,14 +53,14 @@ smoothed (Some e) millis =
       variation = (3 * e.variation + distance e.smoothed millis) / 4;
     }
 
--- the timeout that they give (2.3 to 2.5)
-abbrev pub timeout_of : Estimate → ℕ
-timeout_of e = min most_timeout (max least_timeout (e.smoothed + 4 * e.variation))
+-- the timeout that they give, where the clock counts milliseconds (2.3 to 2.5)
+abbrev pub timeout_of : ℕ → Estimate → ℕ
+timeout_of least e = min most_timeout (max least (e.smoothed + max 1 (4 * e.variation)))
 
 -- a round trip of so many milliseconds was measured
 abbrev pub measured : RoundTripValue → ℕ → RoundTripValue
 measured r millis =
-    record { estimate = Some (smoothed r.estimate millis); timeout = timeout_of (smoothed r.estimate millis); sample = None }
+    record r { estimate = Some (smoothed r.estimate millis); timeout = timeout_of r.least (smoothed r.estimate millis); sample = None }
 
 -- the whole milliseconds from one moment to another, none where that isn't later
 abbrev pub millis_between : ℤ → ℤ → ℕ
@@ -72,9 +88,9 @@ timing r ends now = timing_with r ends now r.sample
 abbrev pub untimed : RoundTripValue → RoundTripValue
 untimed r = record r { sample = None }
 
--- data begins to go after the SYN was lost: the timeout is three seconds, if no round trip is known (5.7)
+-- data begins to go after the SYN was lost: the timeout is three seconds, if no round trip is known and the least isn't longer (5.7)
 abbrev pub begun_late : RoundTripValue → RoundTripValue
-begun_late r = record r { timeout = if is_none r.estimate then 3000 else r.timeout }
+begun_late r = record r { timeout = if is_none r.estimate then max 3000 r.least else r.timeout }
 
 -- the timer ran out: the timeout is doubled (5.5)
 abbrev pub backed_off : RoundTripValue → RoundTripValue

@@ -19,5 +19,5 @@ pub use endpoints::{AddressPair, EndpointPair};
 pub use error::{ConnectError, ListenError, RecvError, SendError};
 pub use offer::{OfferKind, OpenOffer, Reply};
 pub use reno::{Reno, congestion_laws, congestion_windows};
-pub use round_trip::{RoundTrip, timeouts};
+pub use round_trip::{RoundTrip, least_timeouts, timeouts};
 pub use state::State;

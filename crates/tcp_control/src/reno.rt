@@ -1,6 +1,7 @@
-//! Congestion control by slow start, congestion avoidance, fast retransmit and fast recovery (RFC 5681).
+//! Congestion control by slow start, congestion avoidance, fast retransmit and fast recovery (RFC 5681), which
+//! a partial acknowledgement doesn't end (RFC 6582).
 ghost use Rattle.std.specs.Prelude.{◌≡◌, ◌≤◌, ℕ, true, false};
-ghost use Rattle.tcp_control.specs.Reno.{RenoValue, IsBounded, fresh, with_mss, first_window, started, growth, halved, acknowledged, lost, inflated, timed_out};
+ghost use Rattle.tcp_control.specs.Reno.{RenoValue, IsBounded, fresh, with_mss, first_window, started, growth, halved, acknowledged, partly, recovered, lost, inflated, timed_out};
 
 use std::marker::Model;
 
@@ -75,33 +76,61 @@ impl Reno {
         } else {
             first_window(self.mss)
         };
+        self.recovers = false;
     }
 
-    /// So many bytes were acknowledged.
+    /// Whether fast recovery lasts.
+    pub const fn recovers(&self) -> bool
+        ensures { result ≡ self.now.recovers }
+    {
+        self.recovers
+    }
+
+    /// The largest payload of a segment.
+    pub const fn mss(&self) -> u16
+        ensures { result ≡ self.now.mss }
+    {
+        self.mss
+    }
+
+    /// So many bytes were acknowledged, outside of fast recovery.
     pub fn acknowledged(&mut self, count: usize)
         ensures { self.new ≡ acknowledged self.old count }
     {
-        if count == 0 {
-            return;
+        if count != 0 {
+            self.cwnd = (self.cwnd + self.growth(count)).min(MOST);
+            self.timed_out = false;
         }
-        self.cwnd = if self.recovers {
-            self.ssthresh
-        } else {
-            (self.cwnd + self.growth(count)).min(MOST)
-        };
+    }
+
+    /// In fast recovery so many bytes were acknowledged, but not all that was sent when it began.
+    pub fn acknowledged_partly(&mut self, count: usize)
+        ensures { self.new ≡ partly self.old count }
+    {
+        let mss = self.mss as u32;
+        let left = (self.cwnd as usize).saturating_sub(count) as u32;
+        let back = if mss as usize <= count { mss } else { 0 };
+        self.cwnd = (left.max(mss) + back).min(MOST);
+    }
+
+    /// All that was sent when fast recovery began is acknowledged: it ends.
+    pub const fn recover(&mut self)
+        ensures { self.new ≡ recovered self.old }
+    {
+        self.cwnd = self.ssthresh;
         self.recovers = false;
         self.timed_out = false;
     }
 
-    /// The third duplicate came while so much was in flight. After a timeout it may answer a segment that
-    /// went again without need.
+    /// The third duplicate came while so much was in flight, with what went beyond the window. After a
+    /// timeout it may answer a segment that went again without need.
     pub fn lost(&mut self, flight: u32)
         ensures { self.new ≡ lost self.old flight }
     {
         if self.timed_out {
             return;
         }
-        self.ssthresh = self.halved(flight);
+        self.ssthresh = self.halved(flight.min(self.cwnd));
         self.cwnd = (self.ssthresh + 3 * self.mss as u32).min(MOST);
         self.recovers = true;
     }
@@ -160,7 +189,11 @@ pub fn congestion_windows()
     ensures slow_start { acknowledged (acknowledged fresh 1024) 5000 ≡ record fresh { cwnd = 4096 } }
     ensures avoidance { acknowledged (record fresh { cwnd = 4096; ssthresh = 4096 }) 1024 ≡ record fresh { cwnd = 4352; ssthresh = 4096 } }
     ensures loss { lost (record fresh { cwnd = 32768 }) 16384 ≡ record fresh { cwnd = 11264; ssthresh = 8192; recovers = true } }
-    ensures recovery { acknowledged (inflated (lost (record fresh { cwnd = 32768 }) 16384)) 1 ≡ record fresh { cwnd = 8192; ssthresh = 8192 } }
+    ensures recovery { recovered (inflated (lost (record fresh { cwnd = 32768 }) 16384)) ≡ record fresh { cwnd = 8192; ssthresh = 8192 } }
+    ensures limited { lost (record fresh { cwnd = 8192 }) 10_240 ≡ record fresh { cwnd = 7168; ssthresh = 4096; recovers = true } }
+    ensures hole { partly (lost (record fresh { cwnd = 32768 }) 16384) 3072 ≡ record fresh { cwnd = 9216; ssthresh = 8192; recovers = true } }
+    ensures small_hole { partly (lost (record fresh { cwnd = 32768 }) 16384) 1000 ≡ record fresh { cwnd = 10_264; ssthresh = 8192; recovers = true } }
+    ensures far_hole { partly (lost (record fresh { cwnd = 32768 }) 16384) 30_000 ≡ record fresh { cwnd = 2048; ssthresh = 8192; recovers = true } }
     ensures first { started fresh false ≡ record fresh { cwnd = 10_240 } }
     ensures first_1460 { first_window 1460 ≡ 14_600 }
     ensures first_9000 { first_window 9000 ≡ 18_000 }

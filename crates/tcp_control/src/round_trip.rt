@@ -1,9 +1,9 @@
 //! The retransmission timeout (RFC 6298), in whole milliseconds.
-ghost use Rattle.std.specs.Prelude.{◌≡◌, ◌<◌, ◌^◌, pos, Some};
+ghost use Rattle.std.specs.Prelude.{◌≡◌, ◌<◌, ◌≤◌, ◌^◌, ◌*◌, pos, Some};
 ghost use Rattle.net_base.specs.Time.{IsMoment};
-ghost use Rattle.tcp_control.specs.RoundTrip.{IsTimed, fresh, smoothed, timeout_of, measured, millis_between, advanced, timing, untimed, begun_late, backed_off};
+ghost use Rattle.tcp_control.specs.RoundTrip.{IsTimed, shortest_timeout, most_timeout, fresh, least_of, with_least, smoothed, timeout_of, measured, millis_between, advanced, timing, untimed, begun_late, backed_off};
 
-use net_base::Instant;
+use net_base::{Duration, Instant};
 use std::marker::Model;
 
 /// The smoothed round trip and its variation, in milliseconds.
@@ -26,6 +26,7 @@ pub struct Sample {
 pub struct RoundTrip {
     estimate: Option<Estimate>,
     timeout: u16,
+    least: u16,
     sample: Option<Sample>,
 }
 
@@ -34,14 +35,18 @@ impl Model for RoundTrip {
 
     ghost Value = { RoundTripValue };
 
-    ghost view = { λ r. record { estimate = r.estimate; timeout = r.timeout; sample = r.sample } };
+    ghost view = { λ r. record { estimate = r.estimate; timeout = r.timeout; least = r.least; sample = r.sample } };
 
-    ghost invariant = { λ r. IsTimed (record { estimate = r.estimate; timeout = r.timeout; sample = r.sample }) };
+    ghost invariant = { λ r. IsTimed (record { estimate = r.estimate; timeout = r.timeout; least = r.least; sample = r.sample }) };
 
-    ghost inverse = { λ v. record { estimate = v.estimate; timeout = v.timeout; sample = v.sample } };
+    ghost inverse = { λ v. record { estimate = v.estimate; timeout = v.timeout; least = v.least; sample = v.sample } };
 }
 
-const LEAST_TIMEOUT: u16 = 1000;
+/// Before the first sample, and the least as long as no other is set.
+const FIRST_TIMEOUT: u16 = 1000;
+
+/// The least timeout isn't set below it.
+const SHORTEST_TIMEOUT: u16 = 10;
 
 const MOST_TIMEOUT: u16 = 60_000;
 
@@ -54,7 +59,8 @@ impl RoundTrip {
     {
         RoundTrip {
             estimate: None,
-            timeout: LEAST_TIMEOUT,
+            timeout: FIRST_TIMEOUT,
+            least: FIRST_TIMEOUT,
             sample: None,
         }
     }
@@ -65,6 +71,22 @@ impl RoundTrip {
         ensures timed { IsTimed self.now }
     {
         self.timeout
+    }
+
+    /// The least timeout.
+    pub const fn least(&self) -> Duration
+        ensures value { result ≡ self.now.least * 1000 }
+    {
+        Duration::from_millis(self.least as u64)
+    }
+
+    /// Sets the least timeout, in whole milliseconds between 10 and a minute. One that is higher than
+    /// the timeout counts at once, another from the next round trip on.
+    pub fn set_least(&mut self, least: Duration)
+        ensures { self.new ≡ with_least least self.old }
+    {
+        self.least = least_of(least);
+        self.timeout = self.timeout.max(self.least);
     }
 
     /// SND.UNA rose by so much.
@@ -108,7 +130,7 @@ impl RoundTrip {
         ensures { self.new ≡ begun_late self.old }
     {
         if self.estimate.is_none() {
-            self.timeout = LATE_TIMEOUT;
+            self.timeout = LATE_TIMEOUT.max(self.least);
         }
     }
 
@@ -134,19 +156,30 @@ impl RoundTrip {
                 variation: (3 * old.variation + old.smoothed.abs_diff(millis)) / 4,
             },
         };
-        self.timeout = timeout_of(&estimate);
+        self.timeout = timeout_of(self.least, &estimate);
         self.estimate = Some(estimate);
         self.sample = None;
     }
 }
 
-/// The timeout that an estimate gives.
-fn timeout_of(estimate: &Estimate) -> u16
-    requires { (estimate.now.smoothed < 2 ^ 52) × (estimate.now.variation < 2 ^ 52) }
-    ensures { result ≡ timeout_of estimate.now }
+/// The least timeout where a user asks for this one.
+fn least_of(duration: Duration) -> u16
+    ensures value { result ≡ least_of duration }
+    ensures bounded { (shortest_timeout ≤ result) × (result ≤ most_timeout) }
 {
-    (estimate.smoothed + 4 * estimate.variation)
-        .max(LEAST_TIMEOUT as u64)
+    duration
+        .total_millis()
+        .max(SHORTEST_TIMEOUT as u64)
+        .min(MOST_TIMEOUT as u64) as u16
+}
+
+/// The timeout that an estimate gives.
+fn timeout_of(least: u16, estimate: &Estimate) -> u16
+    requires { (estimate.now.smoothed < 2 ^ 52) × (estimate.now.variation < 2 ^ 52) }
+    ensures { result ≡ timeout_of least estimate.now }
+{
+    (estimate.smoothed + (4 * estimate.variation).max(1))
+        .max(least as u64)
         .min(MOST_TIMEOUT as u64) as u16
 }
 
@@ -175,4 +208,22 @@ pub fn timeouts()
     ensures second { measured (measured fresh 801) 700 ≡ record fresh { estimate = Some (record { smoothed = 788; variation = 325 }); timeout = 2088 } }
     ensures whole { millis_between (pos 1_500) (pos 4_499) ≡ 2 }
     ensures timed { advanced (advanced (timing fresh 10 (pos 0)) 4 (pos 500_000)) 6 (pos 801_999) ≡ measured fresh 801 }
+{}
+
+/// Runs on numerals with a least timeout of 200 ms: the first timeout is a second, then it follows round
+/// trips of 100 ms down to the least, and each more costs the doubling. What may be set lies between 10
+/// ms and a minute.
+pub fn least_timeouts()
+    ensures first { (with_least 200_000 fresh).timeout ≡ 1000 }
+    ensures one { measured (with_least 200_000 fresh) 100 ≡ record fresh { estimate = Some (record { smoothed = 100; variation = 50 }); timeout = 300; least = 200 } }
+    ensures two { (measured (measured (with_least 200_000 fresh) 100) 100).timeout ≡ 248 }
+    ensures three { (measured (measured (measured (with_least 200_000 fresh) 100) 100) 100).timeout ≡ 208 }
+    ensures four { (measured (measured (measured (measured (with_least 200_000 fresh) 100) 100) 100) 100).timeout ≡ 200 }
+    ensures steady { (timeout_of 10 (record { smoothed = 100; variation = 0 })) ≡ 101 }
+    ensures doubled { (backed_off (measured (with_least 200_000 fresh) 100)).timeout ≡ 600 }
+    ensures raised { (with_least 5_000_000 fresh).timeout ≡ 5000 }
+    ensures late { (begun_late (with_least 200_000 fresh)).timeout ≡ 3000 }
+    ensures later { (begun_late (with_least 5_000_000 fresh)).timeout ≡ 5000 }
+    ensures lowest { least_of 9_999 ≡ 10 }
+    ensures highest { least_of 90_000_000 ≡ 60_000 }
 {}

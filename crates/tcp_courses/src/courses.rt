@@ -16,7 +16,7 @@ const OPEN: &[Act] = &[
     Come(A, 1),
 ];
 
-pub const COURSES: [Course; 9] = [
+pub const COURSES: [Course; 10] = [
     // Each side took what the other doesn't know of; then both send again what the other counts as old.
     Course {
         name: "two_sides",
@@ -227,5 +227,44 @@ pub const COURSES: [Course; 9] = [
             Heal(70_000),
         ],
         end: End::Read,
+    },
+    // Two of six segments are lost: the third duplicate makes the first go again, the partial acknowledgement the other one, and no
+    // timer runs out.
+    Course {
+        name: "holes",
+        sizes: (9000, 9000),
+        open: OPEN,
+        acts: &[
+            Send(A, 8760),
+            Ask(A, 0),
+            Sent(A, 8),
+            Come(A, 3),
+            Come(A, 5),
+            Come(A, 6),
+            Come(A, 7),
+            Sent(B, 5),
+            Come(B, 1),
+            Come(B, 2),
+            Ask(A, 0),
+            Sent(A, 8),
+            Come(B, 3),
+            Ask(A, 0),
+            Sent(A, 9),
+            Come(B, 4),
+            Come(A, 8),
+            Ask(B, 0),
+            Sent(B, 6),
+            Come(B, 5),
+            Ask(A, 0),
+            Sent(A, 10),
+            Come(A, 9),
+            Ask(B, 0),
+            Sent(B, 7),
+            Come(B, 6),
+            Ask(A, 0),
+            Sent(A, 10),
+            Within(B, 8760),
+        ],
+        end: End::Open,
     },
 ];

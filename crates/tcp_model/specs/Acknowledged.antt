@@ -9,7 +9,7 @@ use Rattle.tcp_model.specs.declared.block.Block.{Block}
 use Rattle.tcp_model.specs.declared.block.Sender.{Sender}
 use Rattle.tcp_model.specs.declared.block.Timers.{Timers}
 use Rattle.tcp_control.specs.declared.state.State.{State}
-use Rattle.tcp_model.specs.Blocks.{one_if, unacked, forgotten}
+use Rattle.tcp_model.specs.Blocks.{one_if, unacked, forgotten, past_top}
 use Rattle.tcp_control.specs.Controls.{or_recent, is_fin}
 use Rattle.tcp_control.specs.Moments.{timeout_from, time_wait_from}
 use Rattle.tcp_control.specs.Offsets.{behind_by, past_by, before_by}
@@ -33,14 +33,16 @@ sender_moved s by = record s {
   top = s.top - by;
   sacked = s.sacked - by;
   resend = s.resend && (by == 0);
+  recover = s.recover - by;
   timeouts = 0;
   unanswered = 0;
 }
 
--- a new acknowledgement restarts the retransmission timer, or ends it where nothing is in flight (RFC 6298, 5.2 and 5.3)
-abbrev pub retransmit_after : Timers → ℕ → ℕ → ℤ → RoundTripValue → Option ℤ
-retransmit_after t by flight now r =
-    if by == 0 then t.retransmit_at else if flight == 0 then None else Some (timeout_from now r)
+-- A new acknowledgement restarts the retransmission timer, or ends it where nothing is in flight (RFC 6298, 5.2 and 5.3). A further
+-- partial acknowledgement of one recovery leaves it as it runs (RFC 6582, 3.2, step 3).
+abbrev pub retransmit_after : Timers → ℕ → ℕ → Bool → ℤ → RoundTripValue → Option ℤ
+retransmit_after t by flight stays now r =
+    if by == 0 then t.retransmit_at else if flight == 0 then None else if stays then t.retransmit_at else Some (timeout_from now r)
 
 -- the own SYN is acknowledged
 abbrev pub acks_own_syn : Block → ℕ → Bool
@@ -52,17 +54,39 @@ round_trip_after b by now =
     if acks_own_syn b by && b.sender.syn_lost then round_trip.begun_late (round_trip.advanced b.round_trip by now)
     else round_trip.advanced b.round_trip by now
 
--- a connection begins with its first window; later the window grows by what is acknowledged
+-- PARTIAL ACKNOWLEDGEMENTS (RFC 6582, 3.2, step 3)
+
+-- something new is acknowledged in fast recovery
+abbrev pub acks_in_recovery : Block → ℕ → Bool
+acks_in_recovery b by = b.reno.recovers && not (by == 0)
+
+-- and not all of it up to `recover`: another segment was lost, which now stands at SND.UNA
+abbrev pub is_partial : Block → ℕ → Bool
+is_partial b by = acks_in_recovery b by && nat_lt (by + 1) b.sender.recover
+
+-- what recovery makes of so many bytes
+abbrev pub recovery_after : Block → ℕ → ℕ → RenoValue
+recovery_after b by queued = if is_partial b by then reno.partly b.reno (freed_by b by queued) else reno.recovered b.reno
+
+-- a connection begins with its first window; in fast recovery an acknowledgement is partial, or ends it; else the window grows by what is
+-- acknowledged
 abbrev pub reno_after : Block → ℕ → ℕ → RenoValue
 reno_after b by queued =
-    if acks_own_syn b by then reno.started b.reno b.sender.syn_lost else reno.acknowledged b.reno (freed_by b by queued)
+    if acks_own_syn b by then reno.started b.reno b.sender.syn_lost
+    else if acks_in_recovery b by then recovery_after b by queued
+    else reno.acknowledged b.reno (freed_by b by queued)
 
--- SND.UNA rises: sender, retransmission timer, round trip and congestion
+-- SND.UNA rises: sender, retransmission timer, round trip and congestion. After a partial acknowledgement the segment at SND.UNA is to
+-- go again at once.
 abbrev pub una_moved : Block → ℕ → ℕ → ℤ → Block
 una_moved b by queued now = record b {
-  sender = sender_moved b.sender by;
+  sender = record (sender_moved b.sender by) {
+    resend = (b.sender.resend && (by == 0)) || is_partial b by;
+    partial = b.sender.partial || is_partial b by;
+  };
   timers = record b.timers {
-    retransmit_at = retransmit_after b.timers by (b.sender.in_flight - by) now (round_trip_after b by now);
+    retransmit_at =
+        retransmit_after b.timers by (b.sender.in_flight - by) (b.sender.partial && is_partial b by) now (round_trip_after b by now);
   };
   round_trip = round_trip_after b by now;
   reno = reno_after b by queued;
@@ -167,9 +191,18 @@ is_duplicate b header size by =
 abbrev pub duplicates_after : Block → TcpHeader → ℕ → ℕ → ℕ
 duplicates_after old header size by = if is_duplicate old header size by then min (old.sender.duplicates + 1) 4 else 0
 
--- the third says that a segment was lost, each further one that a segment has left
-abbrev pub reno_counted : RenoValue → ℕ → ℕ → RenoValue
-reno_counted r count flight = if count == 3 then reno.lost r flight else if count == 4 then reno.inflated r else r
+-- The third says that the segment at SND.UNA was lost, but in recovery, where that went again already (RFC 5681, 3.2).
+abbrev pub is_third : Block → ℕ → Bool
+is_third b count = (count == 3) && not b.reno.recovers
+
+-- It begins fast recovery where more than `recover` is acknowledged (RFC 6582, 3.2, step 2). Else the timer ran out, and it may answer a
+-- segment that went again without need: it says nothing of the window.
+abbrev pub begins_recovery : Block → ℕ → Bool
+begins_recovery b count = (count == 3) && (b.sender.recover == 0)
+
+-- where recovery begins a segment was lost; each other one in recovery says that a segment has left
+abbrev pub reno_counted : RenoValue → ℕ → ℕ → Bool → RenoValue
+reno_counted r count flight begins = if begins then reno.lost r flight else if count == 0 then r else reno.inflated r
 
 -- its ranges name positions
 abbrev pub ranges_taken : Block → TcpHeader → Block
@@ -178,6 +211,11 @@ ranges_taken b header = record b { sender = record b.sender { sacked = max b.sen
 -- at the third the segment at SND.UNA is to go again
 abbrev pub counted : Block → ℕ → Block
 counted b count = record b {
-  sender = record b.sender { duplicates = count; resend = b.sender.resend || (count == 3) };
-  reno = reno_counted b.reno count b.sender.in_flight;
+  sender = record b.sender {
+    duplicates = count;
+    resend = b.sender.resend || is_third b count;
+    recover = if begins_recovery b count then past_top b else b.sender.recover;
+    partial = b.sender.partial && not (begins_recovery b count);
+  };
+  reno = reno_counted b.reno count b.sender.in_flight (begins_recovery b count);
 }

@@ -42,6 +42,8 @@ fresh_sender una syn_unacked = record {
   duplicates = 0;
   sacked = 0;
   resend = false;
+  recover = 0;
+  partial = false;
   syn_lost = false;
   timeouts = 0;
   unanswered = 0;
@@ -68,8 +70,8 @@ fresh_timers = record {
   timeout_since = None;
 }
 
--- nothing is set: the delay of an acknowledgement is 10 milliseconds, and a connection gives up after more than three minutes while it is
--- opened, later after 16 timeouts (3.8.3)
+-- Nothing is set: the delay of an acknowledgement is 10 milliseconds, a connection gives up after more than three minutes while it is
+-- opened, later after 16 timeouts (3.8.3), and the least retransmission timeout is a second (RFC 6298, 2.4).
 abbrev pub default_settings : Settings
 default_settings = record {
   timeout = None;
@@ -83,6 +85,7 @@ default_settings = record {
   synack_paused = false;
   opening_retries = Some 9;
   retries = Some 16;
+  min_rto = 1_000_000;
 }
 
 -- no connection, and nothing left of an earlier one
@@ -94,7 +97,7 @@ fresh_block settings = record {
   receiver = fresh_receiver;
   peer = fresh_peer;
   timers = fresh_timers;
-  round_trip = round_trip.fresh;
+  round_trip = round_trip.with_least settings.min_rto round_trip.fresh;
   reno = reno.fresh;
   settings = settings;
 }
@@ -115,6 +118,10 @@ nxt b = behind_by b.sender.una b.sender.in_flight
 -- lies below it may be old to the remote.
 abbrev pub top : Block → SeqNumber
 top b = behind_by b.sender.una b.sender.top
+
+-- how much is to be acknowledged until it is more than was ever sent, as far as 32 bits tell
+abbrev pub past_top : Block → ℕ
+past_top b = min (b.sender.top + 1) 4_294_967_295
 
 -- THE WINDOW FIELD (RFC 7323, 2.3)
 

@@ -1,6 +1,6 @@
 -- What a socket offers: a test for each rule, and what the rules for text may send. `queued` is the length of the send queue,
 -- and `unbroken` says how many of its bytes from a place on lie before the end of the storage.
-use Rattle.std.specs.Prelude.{ℕ, ◌+◌, ◌-◌, ◌/◌, ◌==◌, nat_lt, nat_le, not, ◌&&◌, ◌||◌, min, max, ℤ, Bool, false, if◌then◌else◌, length, Option, None, is_some}
+use Rattle.std.specs.Prelude.{ℕ, ◌+◌, ◌-◌, ◌*◌, ◌/◌, ◌==◌, nat_lt, nat_le, not, ◌&&◌, ◌||◌, min, max, ℤ, Bool, false, if◌then◌else◌, length, Option, None, is_some}
 use Rattle.net_base.specs.Ring.{Ring, until_end}
 use Rattle.ip_wire.specs.TcpControl.{TcpControl}
 use Rattle.ip_wire.specs.TcpControl.TheVariants as Control
@@ -8,7 +8,7 @@ use Rattle.tcp_control.specs.declared.endpoints.AddressPair.{AddressPair}
 use Rattle.tcp_model.specs.declared.block.Block.{Block}
 use Rattle.tcp_model.specs.declared.block.CongestionControl.{CongestionControl}
 use Rattle.tcp_model.specs.declared.block.CongestionControl.TheVariants as Congestion
-use Rattle.tcp_model.specs.Blocks.{one_if, unacked, is_worth_telling}
+use Rattle.tcp_model.specs.Blocks.{one_if, unacked, past_top, is_worth_telling}
 use Rattle.tcp_control.specs.Endpoints.{ip_header_len}
 use Rattle.tcp_control.specs.Reno as reno
 use Rattle.tcp_control.specs.RoundTrip as round_trip
@@ -46,10 +46,15 @@ abbrev pub congestion_limit : CongestionControl → ℕ → ℕ → ℕ
 congestion_limit Congestion.None cwnd size = size
 congestion_limit Congestion.Reno cwnd size = min cwnd size
 
+-- limited transmit: the first two duplicates let a segment each go beyond the congestion window, where a third would begin recovery
+-- (RFC 3042)
+abbrev pub beyond : Block → ℕ
+beyond b = if b.sender.recover == 0 then b.reno.mss * min 2 b.sender.duplicates else 0
+
 -- what both windows leave of so many bytes (3.8.6; RFC 5681)
 abbrev pub window_limit : Block → ℕ → ℕ
 window_limit b size =
-    congestion_limit b.settings.congestion_control (b.reno.cwnd - b.sender.in_flight) (min (b.peer.window - b.sender.in_flight) size)
+    congestion_limit b.settings.congestion_control (b.reno.cwnd + beyond b - b.sender.in_flight) (min (b.peer.window - b.sender.in_flight) size)
 
 -- how many queued bytes from a place on lie before the end of the storage
 abbrev pub unbroken : Ring ℕ → ℕ → ℕ
@@ -100,17 +105,21 @@ abbrev pub has_text : Block → AddressPair → ℕ → Ring ℕ → Bool
 has_text b addresses ip_mtu queued =
     sends_choice b (length queued.queue) (size_limit b addresses ip_mtu) (text_choice b addresses ip_mtu queued)
 
--- the third duplicate came: the segment at SND.UNA is to go again (RFC 5681, 3.2)
+-- the third duplicate came, or a partial acknowledgement: the segment at SND.UNA is to go again (RFC 5681, 3.2; RFC 6582, 3.2)
 abbrev pub resends : Block → Bool
 resends b = sends_text b.state && b.sender.resend
 
--- no window limits it
+-- how many places of the send queue, and one for the FIN behind it, were ever sent
+abbrev pub sent_places : Block → ℕ
+sent_places b = b.sender.top - one_if b.sender.syn_unacked
+
+-- what was sent before, and no more; no window limits it
 abbrev pub first_text : Block → ℕ → ℕ → Choice
-first_text b queued len = record { place = 0; len = len; fin = fin_goes b queued len }
+first_text b queued len = record { place = 0; len = len; fin = fin_goes b queued len && nat_lt len (sent_places b) }
 
 abbrev pub resend_choice : Block → AddressPair → ℕ → Ring ℕ → Choice
 resend_choice b addresses ip_mtu queued =
-    first_text b (length queued.queue) (min (size_limit b addresses ip_mtu) (unbroken queued 0))
+    first_text b (length queued.queue) (min (sent_places b) (min (size_limit b addresses ip_mtu) (unbroken queued 0)))
 
 -- the byte at SND.UNA, which probes a closed window
 abbrev pub probe_choice : Choice
@@ -139,11 +148,13 @@ keep_alive_moment b = if keeps_alive b.state && (b.sender.in_flight == 0) then b
 
 -- THE RETRANSMISSION TIMER (RFC 6298, 5.4 to 5.6; RFC 5681, 3.1)
 
--- SND.NXT goes back to SND.UNA, and the timer is off until a segment goes; congestion control isn't told of a SYN
+-- SND.NXT goes back to SND.UNA, and the timer is off until a segment goes; congestion control isn't told of a SYN. Recovery begins
+-- again only once more is acknowledged than was sent (RFC 6582, 3.2, step 4).
 abbrev pub backed_off_now : Block → Block
 backed_off_now b = record b {
   sender = record b.sender {
     in_flight = 0;
+    recover = if b.sender.syn_unacked then b.sender.recover else past_top b;
     timeouts = min (b.sender.timeouts + 1) 255;
     syn_lost = b.sender.syn_lost || b.sender.syn_unacked;
   };

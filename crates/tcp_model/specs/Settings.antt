@@ -8,6 +8,7 @@ use Rattle.tcp_control.specs.declared.state.State.{State}
 use Rattle.tcp_control.specs.declared.state.State.TheVariants as In
 use Rattle.tcp_control.specs.Reno as reno
 use Rattle.tcp_control.specs.Reno.{RenoValue}
+use Rattle.tcp_control.specs.RoundTrip.{with_least}
 use Rattle.tcp_control.specs.States.{takes_writes, takes_text}
 use Rattle.tcp_model.specs.Timeout.{timeout_kept}
 use Rattle.tcp_model.specs.Value.{TcpValue, with_block, unoffered, queued_in}
@@ -48,6 +49,14 @@ pause_synack v paused = with_settings v (record v.block.settings { synack_paused
 -- how often a segment goes without an answer until the connection gives up
 abbrev pub set_retries : TcpValue → Option ℕ → TcpValue
 set_retries v limit = with_settings v (record v.block.settings { opening_retries = limit; retries = limit })
+
+-- the least retransmission timeout, of this connection too
+abbrev pub set_min_rto : TcpValue → ℕ → TcpValue
+set_min_rto v duration =
+    with_block (unoffered v) (record v.block {
+      round_trip = with_least duration v.block.round_trip;
+      settings = record v.block.settings { min_rto = duration };
+    })
 
 -- congestion control as it starts, with the remote's MSS if that is known
 abbrev pub fresh_reno : Block → RenoValue

@@ -28,8 +28,14 @@ pub struct Sender {
     pub duplicates: u8,
     /// How far past SND.UNA the highest position lies that a SACK range named.
     pub sacked: u32,
-    /// Whether the segment at SND.UNA is to go again at once, since the third duplicate came.
+    /// Whether the segment at SND.UNA is to go again at once, since the third duplicate came, or a partial
+    /// acknowledgement.
     pub resend: bool,
+    /// How much is to be acknowledged until it is more than `recover` (RFC 6582), the highest position that
+    /// was sent when fast recovery began, or the timer ran out.
+    pub recover: u32,
+    /// Whether a partial acknowledgement came since fast recovery began.
+    pub partial: bool,
     /// Whether a SYN of its own went again.
     pub syn_lost: bool,
     /// Timeouts of the retransmission timer in a row.
@@ -126,6 +132,8 @@ pub struct Settings {
     pub opening_retries: Option<u8>,
     /// How many end one that is open.
     pub retries: Option<u8>,
+    /// The least retransmission timeout that is asked for.
+    pub min_rto: Duration,
 }
 
 /// The control block.

@@ -209,6 +209,7 @@ impl End {
             }
             TcpSetting::PauseSynack(paused) => self.socket.pause_synack(*paused),
             TcpSetting::Retries(limit) => self.socket.set_retries(*limit),
+            TcpSetting::MinRto(duration) => self.socket.set_min_rto(*duration),
         }
     }
 

@@ -26,6 +26,8 @@ pub enum TcpSetting {
     PauseSynack(bool),
     /// After how many timeouts without an answer it gives up.
     Retries(Option<u8>),
+    /// The least retransmission timeout.
+    MinRto(Duration),
 }
 
 /// What happens to the pair: a call of a user on one socket, an offer with its settling, or a delivery.

@@ -1,5 +1,5 @@
 -- The congestion window after a timeout.
-use Rattle.std.proofs.Common.{◌≡◌, ◌⊎◌, inl, inr, ⊎_elim, ℕ, zero, suc, ◌+◌, ◌-◌, ◌*◌, ◌<◌, ◌≤◌, ◌==◌, ◌&&◌, ◌||◌, not, min, ℤ, Bool, true, false, if◌then◌else◌, List, [], ◌∷◌, ◌++◌, length, take, drop, Option, Some, None, is_some, refl, sym, ap, ◌∙◌, subst, arith, length-append}
+use Rattle.std.proofs.Common.{◌≡◌, ◌⊎◌, inl, inr, ⊎_elim, ℕ, zero, suc, ◌+◌, ◌-◌, ◌*◌, ◌<◌, ◌≤◌, ◌==◌, nat_lt, ◌&&◌, ◌||◌, not, min, ℤ, Bool, true, false, if◌then◌else◌, List, [], ◌∷◌, ◌++◌, length, take, drop, Option, Some, None, is_some, refl, sym, ap, ◌∙◌, subst, arith, length-append}
 use Rattle.std.proofs.lemmas.Bool.{cond_both, eqb-true, eq-eqb}
 use Rattle.std.proofs.lemmas.List.{length-drop}
 use Rattle.ip_wire.specs.IpListenEndpoint.{IpListenEndpoint}
@@ -36,7 +36,7 @@ use Rattle.tcp_rules.specs.Congestion.{Control, control_of, IsHeld, renews, Stay
 use Rattle.tcp_rules.specs.Ends.{GoesOn}
 use Rattle.tcp_rules.specs.Events.{Event, Setting, after, led, set, is_past}
 use Rattle.tcp_rules.specs.Events.Event.{Comes, Asked, Listens, Connects, Sends, Reads, Closes, Aborts, Sets}
-use Rattle.tcp_rules.specs.Events.Setting.{Timeout, KeepAlive, AckDelay, Nagle, HopLimit, Timestamps, Paused, Retries, Congestion}
+use Rattle.tcp_rules.specs.Events.Setting.{Timeout, KeepAlive, AckDelay, Nagle, HopLimit, Timestamps, Paused, Retries, Congestion, MinRto}
 use Rattle.tcp_rules.specs.InOrder.{sending_of, IsInOrder}
 use Rattle.tcp_rules.proofs.ArrivalCases.{by_arrival, Received, Opening, Content, Drawing, acked_open}
 use Rattle.tcp_rules.proofs.OfferCases.{Rules, FirstRules, LastRules, by_rules, begun, probing}
@@ -54,51 +54,76 @@ not_and syn t e = ap (λ (s : Bool). s && t) e
 no_both : (syn : Bool) (t : Bool) → syn ≡ false → (syn && t) ≡ true → true ≡ false
 no_both syn t e f = sym f ∙ not_and syn t e
 
-out_counted : (r : RenoValue) (syn : Bool) (count flight : ℕ) → Out r syn → Out (reno_counted r count flight) syn
-out_counted r syn count flight out =
-    cond_both (count == 3) (reno.lost r flight) (if count == 4 then reno.inflated r else r) (λ (x : RenoValue). Out x syn)
+pub left_true : (a b : Bool) → (a && b) ≡ true → a ≡ true
+left_true true b e = refl
+left_true false b e = clash (sym e)
+
+out_counted : (r : RenoValue) (syn begins : Bool) (count flight : ℕ) → Out r syn → Out (reno_counted r count flight begins) syn
+out_counted r syn begins count flight out =
+    cond_both begins (reno.lost r flight) (if count == 0 then r else reno.inflated r) (λ (x : RenoValue). Out x syn)
     (λ _.
     cond_both r.timed_out r
-    (record r { ssthresh = reno.halved r flight; cwnd = min reno.most (reno.halved r flight + 3 * r.mss); recovers = true }) (λ (x : RenoValue). Out x syn)
+    (record r { ssthresh = reno.halved r (min flight r.cwnd); cwnd = min reno.most (reno.halved r (min flight r.cwnd) + 3 * r.mss); recovers = true })
+    (λ (x : RenoValue). Out x syn)
     (λ _. out)
     (λ not e. clash (sym e ∙ not)))
     (λ _.
-    cond_both (count == 4) (reno.inflated r) r (λ (x : RenoValue). Out x syn)
+    cond_both (count == 0) r (reno.inflated r) (λ (x : RenoValue). Out x syn)
+    (λ _. out)
     (λ _.
     cond_both r.recovers (record r { cwnd = min reno.most (r.cwnd + r.mss) }) r (λ (x : RenoValue). Out x syn)
     (λ recovers e. clash (sym recovers ∙ (out e).1))
-    (λ _. out))
-    (λ _. out))
+    (λ _. out)))
 
-out_acked : (r : RenoValue) (syn lost : Bool) (by queued : ℕ) → Out r syn
-    → Out (if syn && not (by == 0) then reno.started r lost else reno.acknowledged r (min (by - one_if syn) queued)) (syn && (by == 0))
-out_acked r syn lost by queued out =
-    cond_both (syn && not (by == 0)) (reno.started r lost) (reno.acknowledged r (min (by - one_if syn) queued)) (λ (x : RenoValue). Out x (syn && (by == 0)))
-    (λ acks e. clash (no_both syn (not (by == 0)) (out e).2 acks))
+-- what an acknowledgement makes of it, where so many bytes are queued, and so much is to be acknowledged until it is more than `recover`
+abbrev pub acked_reno : RenoValue → Bool → Bool → ℕ → ℕ → ℕ → RenoValue
+acked_reno r syn lost by queued recover =
+    if syn && not (by == 0) then reno.started r lost
+    else if r.recovers && not (by == 0)
+    then (if (r.recovers && not (by == 0)) && nat_lt (by + 1) recover then reno.partly r (min (by - one_if syn) queued) else reno.recovered r)
+    else reno.acknowledged r (min (by - one_if syn) queued)
+
+-- a part of it, and all: both alike
+acked_both : (P : RenoValue → Type 0) (r : RenoValue) (syn lost : Bool) (by queued recover : ℕ)
+    → ((syn && not (by == 0)) ≡ true → P (reno.started r lost))
+    → (r.recovers ≡ true → P (reno.partly r (min (by - one_if syn) queued)))
+    → (r.recovers ≡ true → P (reno.recovered r))
+    → P (reno.acknowledged r (min (by - one_if syn) queued))
+    → P (acked_reno r syn lost by queued recover)
+acked_both P r syn lost by queued recover starts part whole grows =
+    cond_both (syn && not (by == 0)) (reno.started r lost)
+    (if r.recovers && not (by == 0)
+    then (if (r.recovers && not (by == 0)) && nat_lt (by + 1) recover then reno.partly r (min (by - one_if syn) queued) else reno.recovered r)
+    else reno.acknowledged r (min (by - one_if syn) queued))
+    P starts
     (λ _.
-    cond_both (min (by - one_if syn) queued == 0) r
-    (record r {
-      cwnd = (if r.recovers then r.ssthresh else min reno.most (r.cwnd + reno.growth r (min (by - one_if syn) queued)));
-      recovers = false;
-      timed_out = false;
-    })
+    cond_both (r.recovers && not (by == 0))
+    (if (r.recovers && not (by == 0)) && nat_lt (by + 1) recover then reno.partly r (min (by - one_if syn) queued) else reno.recovered r)
+    (reno.acknowledged r (min (by - one_if syn) queued)) P
+    (λ recovers.
+    cond_both ((r.recovers && not (by == 0)) && nat_lt (by + 1) recover) (reno.partly r (min (by - one_if syn) queued)) (reno.recovered r) P
+    (λ _. part (left_true r.recovers (not (by == 0)) recovers)) (λ _. whole (left_true r.recovers (not (by == 0)) recovers)))
+    (λ _. grows))
+
+out_acked : (r : RenoValue) (syn lost : Bool) (by queued recover : ℕ) → Out r syn → Out (acked_reno r syn lost by queued recover) (syn && (by == 0))
+out_acked r syn lost by queued recover out =
+    acked_both (λ (x : RenoValue). Out x (syn && (by == 0))) r syn lost by queued recover
+    (λ acks e. clash (no_both syn (not (by == 0)) (out e).2 acks))
+    (λ recovers e. clash (sym recovers ∙ (out e).1))
+    (λ _ e. clash (sym e))
+    (cond_both (min (by - one_if syn) queued == 0) r
+    (record r { cwnd = min reno.most (r.cwnd + reno.growth r (min (by - one_if syn) queued)); timed_out = false })
     (λ (x : RenoValue). Out x (syn && (by == 0)))
     (λ _ e. let old = out e in (old.0, old.1, not_and syn (by == 0) old.2))
     (λ _ e. clash (sym e)))
 
 -- no timeout counts, so none does behind it
-quiet_acked : (r : RenoValue) (syn lost : Bool) (by queued : ℕ) → r.timed_out ≡ false
-    → (if syn && not (by == 0) then reno.started r lost else reno.acknowledged r (min (by - one_if syn) queued)).timed_out ≡ false
-quiet_acked r syn lost by queued quiet =
-    cond_both (syn && not (by == 0)) (reno.started r lost) (reno.acknowledged r (min (by - one_if syn) queued)) (λ (x : RenoValue). x.timed_out ≡ false)
-    (λ _. quiet)
-    (λ _.
-    cond_both (min (by - one_if syn) queued == 0) r
-    (record r {
-      cwnd = (if r.recovers then r.ssthresh else min reno.most (r.cwnd + reno.growth r (min (by - one_if syn) queued)));
-      recovers = false;
-      timed_out = false;
-    })
+quiet_acked : (r : RenoValue) (syn lost : Bool) (by queued recover : ℕ) → r.timed_out ≡ false → (acked_reno r syn lost by queued recover).timed_out ≡ false
+quiet_acked r syn lost by queued recover quiet =
+    acked_both (λ (x : RenoValue). x.timed_out ≡ false) r syn lost by queued recover
+    (λ _. quiet) (λ _. quiet) (λ _. refl)
+    (cond_both (min (by - one_if syn) queued == 0) r
+    (record r { cwnd = min reno.most (r.cwnd + reno.growth r (min (by - one_if syn) queued)); timed_out = false })
     (λ (x : RenoValue). x.timed_out ≡ false) (λ _. quiet) (λ _. refl))
 
 state_on : (state : State) → is_past state ≡ true → (is_listening (after_ack state) ≡ false) × (is_listening (after_ack_of_fin state) ≡ false)
@@ -160,19 +185,25 @@ module _ (cx : ContextValue) (ip : IpRepr) (header : TcpHeader) (bytes : List �
   acked_held : (u : TcpValue) (by : ℕ) → IsHeld (control_of u.block) → is_past u.block.state ≡ true → IsHeld (control_of (acked_open u by cx.moment).block)
   acked_held u by h past =
       held (reno_after u.block by (queued_in u)) (u.block.sender.syn_unacked && (by == 0)) (state_after_ack u.block by (queued_in u))
-      (out_acked u.block.reno u.block.sender.syn_unacked u.block.sender.syn_lost by (queued_in u) h.window) (state_past u by past)
+      (out_acked u.block.reno u.block.sender.syn_unacked u.block.sender.syn_lost by (queued_in u) u.block.sender.recover h.window) (state_past u by past)
 
   heeded_held : (u : TcpValue) (by : ℕ) → IsHeld (control_of u.block) → is_past u.block.state ≡ true
       → IsHeld (record {
-        reno = reno_counted (reno_after u.block by (queued_in u)) (duplicates_after u.block header (length bytes) by) (u.block.sender.in_flight - by);
+        reno =
+            reno_counted (reno_after u.block by (queued_in u)) (duplicates_after u.block header (length bytes) by) (u.block.sender.in_flight - by)
+            ((duplicates_after u.block header (length bytes) by == 3) && (u.block.sender.recover - by == 0));
         syn_unacked = u.block.sender.syn_unacked && (by == 0);
         state = state_after_ack u.block by (queued_in u);
       })
   heeded_held u by h past =
-      held (reno_counted (reno_after u.block by (queued_in u)) (duplicates_after u.block header (length bytes) by) (u.block.sender.in_flight - by))
+      held
+      (reno_counted (reno_after u.block by (queued_in u)) (duplicates_after u.block header (length bytes) by) (u.block.sender.in_flight - by)
+      ((duplicates_after u.block header (length bytes) by == 3) && (u.block.sender.recover - by == 0)))
       (u.block.sender.syn_unacked && (by == 0)) (state_after_ack u.block by (queued_in u))
-      (out_counted (reno_after u.block by (queued_in u)) (u.block.sender.syn_unacked && (by == 0)) (duplicates_after u.block header (length bytes) by) (u.block.sender.in_flight - by)
-      (out_acked u.block.reno u.block.sender.syn_unacked u.block.sender.syn_lost by (queued_in u) h.window))
+      (out_counted (reno_after u.block by (queued_in u)) (u.block.sender.syn_unacked && (by == 0))
+      ((duplicates_after u.block header (length bytes) by == 3) && (u.block.sender.recover - by == 0))
+      (duplicates_after u.block header (length bytes) by) (u.block.sender.in_flight - by)
+      (out_acked u.block.reno u.block.sender.syn_unacked u.block.sender.syn_lost by (queued_in u) u.block.sender.recover h.window))
       (state_past u by past)
 
   held_received : (u : TcpValue) → IsHeld (control_of u.block) → is_past u.block.state ≡ true → Received cx ip header bytes Held u
@@ -184,7 +215,7 @@ module _ (cx : ContextValue) (ip : IpRepr) (header : TcpHeader) (bytes : List �
     ends = λ _ _ _. closed_held u h;
     closes = λ by _ _.
         held (reno_after u.block by (queued_in u)) (u.block.sender.syn_unacked && (by == 0)) In.Closed
-        (out_acked u.block.reno u.block.sender.syn_unacked u.block.sender.syn_lost by (queued_in u) h.window) refl;
+        (out_acked u.block.reno u.block.sender.syn_unacked u.block.sender.syn_lost by (queued_in u) u.block.sender.recover h.window) refl;
     taken = λ by _ _. held_content _ (heeded_held u by h past);
     taken_window = λ by _ _. held_content _ (heeded_held u by h past);
     news = λ by _ _. held_drawing _ (acked_held u by h past);
@@ -208,7 +239,7 @@ module _ (cx : ContextValue) (ip : IpRepr) (header : TcpHeader) (bytes : List �
         let quiet = no_timeout u h (is_syn_unacked u p (ap (λ (s : State). is_opening s || is_answering s) at)) in
         record {
           window = λ e.
-              clash (sym e ∙ quiet_acked (reno.with_mss u.block.reno (or_mss header.options.max_seg_size)) u.block.sender.syn_unacked u.block.sender.syn_lost 1 0 quiet);
+              clash (sym e ∙ quiet_acked (reno.with_mss u.block.reno (or_mss header.options.max_seg_size)) u.block.sender.syn_unacked u.block.sender.syn_lost 1 0 u.block.sender.recover quiet);
           listens = λ e. clash (sym e);
         };
     crosses = λ at _.
@@ -328,6 +359,7 @@ set_held v (HopLimit limit) h = h
 set_held v (Timestamps generator) h = h
 set_held v (Paused paused) h = h
 set_held v (Retries limit) h = h
+set_held v (MinRto duration) h = h
 set_held v (Congestion control) h = record { window = λ e. clash (sym e ∙ fresh); listens = λ _. fresh } where
   fresh : (if v.block.receiver.took_syn then reno.with_mss reno.fresh v.block.peer.mss else reno.fresh).timed_out ≡ false
   fresh = cond_both v.block.receiver.took_syn (reno.with_mss reno.fresh v.block.peer.mss) reno.fresh (λ (r : RenoValue). r.timed_out ≡ false) (λ _. refl) (λ _. refl)
@@ -424,36 +456,37 @@ module _ (cx : ContextValue) (ip : IpRepr) (header : TcpHeader) (bytes : List �
   -- the acknowledgement frees nothing, or bytes
   acked_stays : (by : ℕ) → ((reno_after v.block by (queued_in v)).timed_out ≡ true) ⊎ (length (drop (freed_by v.block by (queued_in v)) v.queued.queue) < queued_in v)
   acked_stays by =
-      cond_both (acks_own_syn v.block by) (reno.started v.block.reno v.block.sender.syn_lost) (reno.acknowledged v.block.reno (freed_by v.block by (queued_in v)))
-      (λ (r : RenoValue). (r.timed_out ≡ true) ⊎ (length (drop (freed_by v.block by (queued_in v)) v.queued.queue) < queued_in v))
-      (λ _. inl out)
-      (λ _.
-      cond_both (freed_by v.block by (queued_in v) == 0) v.block.reno
-      (record v.block.reno {
-        cwnd = (if v.block.reno.recovers then v.block.reno.ssthresh else min reno.most (v.block.reno.cwnd + reno.growth v.block.reno (freed_by v.block by (queued_in v))));
-        recovers = false;
-        timed_out = false;
-      })
+      acked_both (λ (r : RenoValue). (r.timed_out ≡ true) ⊎ (length (drop (freed_by v.block by (queued_in v)) v.queued.queue) < queued_in v))
+      v.block.reno v.block.sender.syn_unacked v.block.sender.syn_lost by (queued_in v) v.block.sender.recover
+      (λ _. inl out) (λ _. inl out) (λ recovers. clash (sym recovers ∙ (h.window out).1))
+      (cond_both (freed_by v.block by (queued_in v) == 0) v.block.reno
+      (record v.block.reno { cwnd = min reno.most (v.block.reno.cwnd + reno.growth v.block.reno (freed_by v.block by (queued_in v))); timed_out = false })
       (λ (r : RenoValue). (r.timed_out ≡ true) ⊎ (length (drop (freed_by v.block by (queued_in v)) v.queued.queue) < queued_in v))
       (λ _. inl out)
       (λ some. inr (shorter v.queued.queue by (one_if v.block.sender.syn_unacked) some)))
 
-  counted_stays : (r : RenoValue) (count flight : ℕ) → r.timed_out ≡ true → (reno_counted r count flight).timed_out ≡ true
-  counted_stays r count flight e =
-      cond_both (count == 3) (reno.lost r flight) (if count == 4 then reno.inflated r else r) (λ (x : RenoValue). x.timed_out ≡ true)
+  counted_stays : (r : RenoValue) (count flight : ℕ) (begins : Bool) → r.timed_out ≡ true → (reno_counted r count flight begins).timed_out ≡ true
+  counted_stays r count flight begins e =
+      cond_both begins (reno.lost r flight) (if count == 0 then r else reno.inflated r) (λ (x : RenoValue). x.timed_out ≡ true)
       (λ _.
-      cond_both r.timed_out r (record r { ssthresh = reno.halved r flight; cwnd = min reno.most (reno.halved r flight + 3 * r.mss); recovers = true })
+      cond_both r.timed_out r
+      (record r { ssthresh = reno.halved r (min flight r.cwnd); cwnd = min reno.most (reno.halved r (min flight r.cwnd) + 3 * r.mss); recovers = true })
       (λ (x : RenoValue). x.timed_out ≡ true) (λ _. e) (λ _. e))
       (λ _.
-      cond_both (count == 4) (reno.inflated r) r (λ (x : RenoValue). x.timed_out ≡ true)
-      (λ _. cond_both r.recovers (record r { cwnd = min reno.most (r.cwnd + r.mss) }) r (λ (x : RenoValue). x.timed_out ≡ true) (λ _. e) (λ _. e))
-      (λ _. e))
+      cond_both (count == 0) r (reno.inflated r) (λ (x : RenoValue). x.timed_out ≡ true)
+      (λ _. e)
+      (λ _. cond_both r.recovers (record r { cwnd = min reno.most (r.cwnd + r.mss) }) r (λ (x : RenoValue). x.timed_out ≡ true) (λ _. e) (λ _. e)))
 
   heeded_stays : (by : ℕ)
-      → ((reno_counted (reno_after v.block by (queued_in v)) (duplicates_after v.block header (length bytes) by) (v.block.sender.in_flight - by)).timed_out ≡ true)
+      → ((reno_counted (reno_after v.block by (queued_in v)) (duplicates_after v.block header (length bytes) by) (v.block.sender.in_flight - by)
+      ((duplicates_after v.block header (length bytes) by == 3) && (v.block.sender.recover - by == 0))).timed_out ≡ true)
       ⊎ (length (drop (freed_by v.block by (queued_in v)) v.queued.queue) < queued_in v)
   heeded_stays by =
-      ⊎_elim (λ e. inl (counted_stays (reno_after v.block by (queued_in v)) (duplicates_after v.block header (length bytes) by) (v.block.sender.in_flight - by) e)) (λ less. inr less) (acked_stays by)
+      ⊎_elim
+      (λ e.
+      inl (counted_stays (reno_after v.block by (queued_in v)) (duplicates_after v.block header (length bytes) by) (v.block.sender.in_flight - by)
+      ((duplicates_after v.block header (length bytes) by == 3) && (v.block.sender.recover - by == 0)) e))
+      (λ less. inr less) (acked_stays by)
 
   stays_received : IsInOrder (sending_of v) → Received cx ip header bytes StaysBy (unoffered v)
   stays_received p = record {
@@ -551,4 +584,5 @@ stays_out v (Sets setting) p h not out = at setting not where
   at (Timestamps generator) e = inl out
   at (Paused paused) e = inl out
   at (Retries limit) e = inl out
+  at (MinRto duration) e = inl out
   at (Congestion control) e = clash e

@@ -13,3 +13,4 @@ pub mod TimeWaitRules
 pub mod WaitingRules
 pub mod CongestionRules
 pub mod TimingRules
+pub mod RecoveryRules

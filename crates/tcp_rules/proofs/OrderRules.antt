@@ -26,7 +26,7 @@ use Rattle.tcp_control.specs.declared.offer.OfferKind.TheVariants as Kind
 use Rattle.tcp_control.specs.declared.offer.OpenOffer.{OpenOffer}
 use Rattle.tcp_control.specs.declared.state.State.{State}
 use Rattle.tcp_control.specs.declared.state.State.TheVariants as In
-use Rattle.tcp_model.specs.Acknowledged.{acks_fin, state_after_ack, freed_by, windowed}
+use Rattle.tcp_model.specs.Acknowledged.{acks_fin, state_after_ack, freed_by, windowed, is_partial}
 use Rattle.tcp_model.specs.Arrival.{arrives, waiting_anew}
 use Rattle.tcp_model.specs.Blocks.{one_if, unacked}
 use Rattle.tcp_model.specs.Calls.{listening, connecting, connected_by, pair_for, sent_more}
@@ -36,7 +36,7 @@ use Rattle.tcp_model.specs.Offers.{offer_of, offer_choice, offer_syn, number_at}
 use Rattle.tcp_model.specs.Opening.{answering}
 use Rattle.tcp_model.specs.Probing.{probe_moment, is_probing}
 use Rattle.tcp_model.specs.Retries.{asked, one_more, heard}
-use Rattle.tcp_model.specs.Rules.{Choice, congestion_limit, window_limit, size_limit, unbroken, next_place, text_choice, resend_choice, probe_choice, control_for, owes_syn, resends, has_text, backed_off_now}
+use Rattle.tcp_model.specs.Rules.{Choice, congestion_limit, window_limit, size_limit, unbroken, next_place, text_choice, resend_choice, probe_choice, control_for, owes_syn, resends, has_text, backed_off_now, beyond, sent_places}
 use Rattle.tcp_model.specs.Segments.{hops_of, segment, keep_alive_segment}
 use Rattle.tcp_model.specs.Settled.{settled, sent_off, recorded, probed, end_of}
 use Rattle.tcp_model.specs.Timeout.{timeout_restarted}
@@ -46,7 +46,7 @@ use Rattle.tcp_model.specs.declared.block.CongestionControl.{CongestionControl}
 use Rattle.tcp_model.specs.declared.block.CongestionControl.TheVariants as Avoids
 use Rattle.tcp_rules.specs.Events.{Event, Setting, after, led, set, is_past}
 use Rattle.tcp_rules.specs.Events.Event.{Comes, Asked, Listens, Connects, Sends, Reads, Closes, Aborts, Sets}
-use Rattle.tcp_rules.specs.Events.Setting.{Timeout, KeepAlive, AckDelay, Nagle, HopLimit, Timestamps, Paused, Retries, Congestion}
+use Rattle.tcp_rules.specs.Events.Setting.{Timeout, KeepAlive, AckDelay, Nagle, HopLimit, Timestamps, Paused, Retries, Congestion, MinRto}
 use Rattle.tcp_rules.specs.InOrder.{has_all, Sending, sending_of, all_of, IsInOrder}
 use Rattle.tcp_rules.proofs.ArrivalCases.{by_arrival, Received, Opening, Content, Drawing, acked_open, heeded}
 use Rattle.tcp_rules.proofs.OfferCases.{Rules, FirstRules, LastRules, by_rules, begun, probing}
@@ -82,7 +82,8 @@ acked_order u by now p past news alive = at (acks_fin u.block by (queued_in u)) 
   left = length (drop (freed_by u.block by (queued_in u)) u.queued.queue)
 
   moment : Option ℤ
-  moment = Some (timeout_from now (acked_open u by now).block.round_trip)
+  moment =
+      if u.block.sender.partial && is_partial u.block by then u.block.timers.retransmit_at else Some (timeout_from now (acked_open u by now).block.round_trip)
 
   at :
       (fin : Bool) → acks_fin u.block by (queued_in u) ≡ fin → is_closed (if fin then after_ack_of_fin u.block.state else after_ack u.block.state) ≡ false
@@ -131,7 +132,7 @@ module _ (cx : ContextValue) (ip : IpRepr) (header : TcpHeader) (bytes : List �
     ends = λ _ _ _. closed_order (sending_of u) false p;
     closes = λ by passes _.
         last_order (sending_of u) (behind_by u.block.sender.una by).0 by (length (drop (freed_by u.block by (queued_in u)) u.queued.queue))
-        (Some (timeout_from cx.moment (acked_open u by cx.moment).block.round_trip)) p (small_number u.block.sender.una by) (syn_gone (sending_of u) by p (passes_news u.block header.ack_number by passes));
+        (if u.block.sender.partial && is_partial u.block by then u.block.timers.retransmit_at else Some (timeout_from cx.moment (acked_open u by cx.moment).block.round_trip)) p (small_number u.block.sender.una by) (syn_gone (sending_of u) by p (passes_news u.block header.ack_number by passes));
     taken = λ by passes alive.
         order_content (heeded cx.moment header (length bytes) u by (acked_open u by cx.moment).block) (acked_order u by cx.moment p past (passes_news u.block header.ack_number by passes) alive)
         (syn_gone (sending_of u) by p (passes_news u.block header.ack_number by passes));
@@ -201,9 +202,9 @@ limit_least Avoids.Reno window size = omega arith
 
 window_least : (b : Block) (size : ℕ) → window_limit b size ≤ size
 window_least b size =
-    let limit = limit_least b.settings.congestion_control (b.reno.cwnd - b.sender.in_flight) (min (b.peer.window - b.sender.in_flight) size) in omega (arith, limit)
+    let limit = limit_least b.settings.congestion_control (b.reno.cwnd + beyond b - b.sender.in_flight) (min (b.peer.window - b.sender.in_flight) size) in omega (arith, limit)
 
-control_least : (c : Choice) (queued : ℕ) → control_len (control_for c queued) ≤ one_if c.fin
+pub control_least : (c : Choice) (queued : ℕ) → control_len (control_for c queued) ≤ one_if c.fin
 control_least c queued = at c.fin where
   least : (m : ℕ) → 0 ≤ m
   least m = omega arith
@@ -225,7 +226,7 @@ part_within syn queued owes place len far control fin a b c d e = omega arith
 
 choice_within :
     (x : TcpValue) (c : Choice) → IsInOrder (sending_of x) → c.place ≤ queued_in x + one_if (owes_fin x.block.state) → c.len ≤ queued_in x - c.place
-    → c.fin ≡ (owes_fin x.block.state && (c.place + c.len == queued_in x))
+    → (c.fin ≡ true → (owes_fin x.block.state && (c.place + c.len == queued_in x)) ≡ true)
     → distance_of x.block.sender.una (number_at x.block c.place) + (c.len + control_len (control_for c (queued_in x))) ≤ all_of (sending_of x)
 choice_within x c p place len fin = at c.fin refl where
   near : distance_of x.block.sender.una (number_at x.block c.place) ≤ one_if x.block.sender.syn_unacked + c.place
@@ -235,7 +236,7 @@ choice_within x c p place len fin = at c.fin refl where
       (with_fin : Bool) → c.fin ≡ with_fin
       → distance_of x.block.sender.una (number_at x.block c.place) + (c.len + control_len (control_for c (queued_in x))) ≤ all_of (sending_of x)
   at true e =
-      let parts = and_true (owes_fin x.block.state) (c.place + c.len == queued_in x) (sym fin ∙ e) in
+      let parts = and_true (owes_fin x.block.state) (c.place + c.len == queued_in x) (fin e) in
       part_with_fin (one_if x.block.sender.syn_unacked) (queued_in x) (one_if (owes_fin x.block.state)) c.place c.len (distance_of x.block.sender.una (number_at x.block c.place))
       (control_len (control_for c (queued_in x))) (eqb-true (c.place + c.len) (queued_in x) parts.1) (ap one_if parts.0) near
       (subst (λ (t : Bool). control_len (control_for c (queued_in x)) ≤ one_if t) e (control_least c (queued_in x)))
@@ -313,7 +314,7 @@ module _ (cx : ContextValue) (pair : EndpointPair) where
       ≤ all_of (sending_of x)
   text_within x p alive =
       choice_within x (text_choice x.block pair.addresses cx.ip_mtu x.queued) p
-      (place_within x.block.sender.in_flight (one_if x.block.sender.syn_unacked) (queued_in x) (one_if (owes_fin x.block.state)) (p.within alive)) shorter refl
+      (place_within x.block.sender.in_flight (one_if x.block.sender.syn_unacked) (queued_in x) (one_if (owes_fin x.block.state)) (p.within alive)) shorter (λ e. e)
     where
       least : (text_choice x.block pair.addresses cx.ip_mtu x.queued).len ≤ min (size_limit x.block pair.addresses cx.ip_mtu) (unbroken x.queued (next_place x.block))
       least = window_least x.block (min (size_limit x.block pair.addresses cx.ip_mtu) (unbroken x.queued (next_place x.block)))
@@ -335,19 +336,22 @@ module _ (cx : ContextValue) (pair : EndpointPair) where
     least : (m : ℕ) → 0 ≤ m
     least m = omega arith
 
-    twice : (m k u : ℕ) → min m (min k u) ≤ k
-    twice m k u = omega arith
+    twice : (s m k u : ℕ) → min s (min m (min k u)) ≤ k
+    twice s m k u = omega arith
 
     shorter : (resend_choice x.block pair.addresses cx.ip_mtu x.queued).len ≤ queued_in x - 0
-    shorter = twice (size_limit x.block pair.addresses cx.ip_mtu) (queued_in x - 0) (until_end x.queued 0)
+    shorter = twice (sent_places x.block) (size_limit x.block pair.addresses cx.ip_mtu) (queued_in x - 0) (until_end x.queued 0)
 
     none_before : (n : ℕ) → n ≡ 0 + n
     none_before n = omega arith
 
     same :
-        (owes_fin x.block.state && ((resend_choice x.block pair.addresses cx.ip_mtu x.queued).len == queued_in x))
-        ≡ (owes_fin x.block.state && (0 + (resend_choice x.block pair.addresses cx.ip_mtu x.queued).len == queued_in x))
-    same = ap (λ (n : ℕ). owes_fin x.block.state && (n == queued_in x)) (none_before (resend_choice x.block pair.addresses cx.ip_mtu x.queued).len)
+        (resend_choice x.block pair.addresses cx.ip_mtu x.queued).fin ≡ true
+        → (owes_fin x.block.state && (0 + (resend_choice x.block pair.addresses cx.ip_mtu x.queued).len == queued_in x)) ≡ true
+    same fin =
+        sym (ap (λ (n : ℕ). owes_fin x.block.state && (n == queued_in x)) (none_before (resend_choice x.block pair.addresses cx.ip_mtu x.queued).len))
+        ∙ (and_true (owes_fin x.block.state && ((resend_choice x.block pair.addresses cx.ip_mtu x.queued).len == queued_in x))
+        (nat_lt (resend_choice x.block pair.addresses cx.ip_mtu x.queued).len (sent_places x.block)) fin).0
 
   order_last : (x : TcpValue) → x.offered ≡ None → IsInOrder (sending_of x) → LastRules cx pair Both x
   order_last x none p = record {
@@ -497,6 +501,7 @@ set_order v (HopLimit limit) p = p
 set_order v (Timestamps generator) p = p
 set_order v (Paused paused) p = p
 set_order v (Retries limit) p = p
+set_order v (MinRto duration) p = p
 set_order v (Congestion control) p = p
 
 pub event_order : (v : TcpValue) (it : Event) → IsInOrder (sending_of v) → IsInOrder (sending_of (after v it))

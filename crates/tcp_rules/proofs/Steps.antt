@@ -51,23 +51,34 @@ acked_rises : (f : Flight) (by : ℕ) (moment : Option ℤ) → Rises f (acked_f
 acked_rises f by moment = λ counted. (omega (arith, counted), omega (arith, counted))
 
 acked_armed :
-    (f : Flight) (by : ℕ) (moment : ℤ) → IsArmed f
-    → IsArmed (acked_flight f by (if by == 0 then f.retransmit_at else if f.in_flight - by == 0 then None else Some moment))
-acked_armed f by moment armed =
-    cond_both (by == 0) f.retransmit_at (if f.in_flight - by == 0 then None else Some moment)
+    (f : Flight) (by : ℕ) (stays : Bool) (moment : ℤ) → IsArmed f
+    → IsArmed (acked_flight f by (if by == 0 then f.retransmit_at else if f.in_flight - by == 0 then None else if stays then f.retransmit_at else Some moment))
+acked_armed f by stays moment armed =
+    cond_both (by == 0) f.retransmit_at (if f.in_flight - by == 0 then None else if stays then f.retransmit_at else Some moment)
     (λ (at : Option ℤ). (f.in_flight - by == 0) ≡ false → is_some at ≡ true)
     (λ none some. armed (sym (ap (λ (n : ℕ). n == 0) (left f.in_flight by (eqb-true by 0 none))) ∙ some))
     (λ _.
-    cond_both (f.in_flight - by == 0) None (Some moment) (λ (at : Option ℤ). (f.in_flight - by == 0) ≡ false → is_some at ≡ true)
+    cond_both (f.in_flight - by == 0) None (if stays then f.retransmit_at else Some moment) (λ (at : Option ℤ). (f.in_flight - by == 0) ≡ false → is_some at ≡ true)
     (λ none some. absurd (let clash : true ≡ false = sym none ∙ some in cc))
-    (λ _ _. refl))
+    (λ _ some.
+    cond_both stays f.retransmit_at (Some moment) (λ (at : Option ℤ). is_some at ≡ true)
+    (λ _. armed (before (f.in_flight == 0) refl some))
+    (λ _. refl)))
   where
     left : (flight by : ℕ) → by ≡ 0 → flight - by ≡ flight
     left flight by e = omega arith
 
+    none_left : (flight by : ℕ) → flight ≡ 0 → flight - by ≡ 0
+    none_left flight by e = omega arith
+
+    before : (test : Bool) → (f.in_flight == 0) ≡ test → (f.in_flight - by == 0) ≡ false → (f.in_flight == 0) ≡ false
+    before false e some = e
+    before true e some =
+        absurd (let clash : true ≡ false = sym (ap (λ (n : ℕ). n == 0) (none_left f.in_flight by (eqb-true f.in_flight 0 e))) ∙ some in cc)
+
 pub una_goes : (b : Block) (by queued : ℕ) (now : ℤ) (new : Block) → flight_of new ≡ flight_of (una_moved b by queued now) → Goes b new
 una_goes b by queued now new e = record {
-  armed = λ a. subst IsArmed (sym e) (acked_armed (flight_of b) by _ a);
+  armed = λ a. subst IsArmed (sym e) (acked_armed (flight_of b) by _ _ a);
   rises = λ _ _. subst (λ (f : Flight). Rises (flight_of b) f) (sym e) (acked_rises (flight_of b) by None);
 }
 

@@ -36,7 +36,7 @@ use Rattle.tcp_model.specs.Value.{TcpValue, Arrived, with_block, unoffered, ende
 use Rattle.tcp_model.specs.declared.block.Block.{Block}
 use Rattle.tcp_rules.specs.Events.{Event, Setting, after, led, set, is_past}
 use Rattle.tcp_rules.specs.Events.Event.{Comes, Asked, Listens, Connects, Sends, Reads, Closes, Aborts, Sets}
-use Rattle.tcp_rules.specs.Events.Setting.{Timeout, KeepAlive, AckDelay, Nagle, HopLimit, Timestamps, Paused, Retries, Congestion}
+use Rattle.tcp_rules.specs.Events.Setting.{Timeout, KeepAlive, AckDelay, Nagle, HopLimit, Timestamps, Paused, Retries, Congestion, MinRto}
 use Rattle.tcp_rules.specs.InOrder.{sending_of, IsInOrder}
 use Rattle.tcp_rules.specs.Timing.{Timing, timing_of, IsTimedRight, carries, start_of}
 use Rattle.tcp_rules.proofs.ArrivalCases.{by_arrival, Received, Opening, Content, Drawing, acked_open}
@@ -247,6 +247,7 @@ set_right v (HopLimit limit) t = t
 set_right v (Timestamps generator) t = t
 set_right v (Paused paused) t = t
 set_right v (Retries limit) t = t
+set_right v (MinRto duration) t = t
 set_right v (Congestion control) t = t
 
 connected_right : (v : TcpValue) (names : Option EndpointPair) (number : ℕ) → IsTimedRight (timing_of v.block) → IsTimedRight (timing_of (connected_by v names number).block)

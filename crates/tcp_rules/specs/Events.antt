@@ -11,7 +11,7 @@ use Rattle.tcp_control.specs.declared.state.State.{State}
 use Rattle.tcp_model.specs.Arrival.{arrives}
 use Rattle.tcp_model.specs.Calls.{listen_after, connect_after, send_after, recv_after, close_after, abort_after}
 use Rattle.tcp_model.specs.Offers.{offer_of}
-use Rattle.tcp_model.specs.Settings.{set_timeout, set_keep_alive, set_ack_delay, set_nagle_enabled, set_hop_limit, set_tsval_generator, pause_synack, set_retries, set_congestion_control}
+use Rattle.tcp_model.specs.Settings.{set_timeout, set_keep_alive, set_ack_delay, set_nagle_enabled, set_hop_limit, set_tsval_generator, pause_synack, set_retries, set_congestion_control, set_min_rto}
 use Rattle.tcp_model.specs.Settled.{settled}
 use Rattle.tcp_model.specs.Value.{TcpValue}
 use Rattle.tcp_model.specs.declared.block.CongestionControl.{CongestionControl}
@@ -26,6 +26,7 @@ pub data Setting : Type 0 where
   Timestamps : (generator : Option TcpTimestampGenerator) → Setting
   Paused : (paused : Bool) → Setting
   Retries : (limit : Option ℕ) → Setting
+  MinRto : (duration : ℕ) → Setting
   Congestion : (control : CongestionControl) → Setting
 
 abbrev pub set : TcpValue → Setting → TcpValue
@@ -37,6 +38,7 @@ set v (HopLimit limit) = set_hop_limit v limit
 set v (Timestamps generator) = set_tsval_generator v generator
 set v (Paused paused) = pause_synack v paused
 set v (Retries limit) = set_retries v limit
+set v (MinRto duration) = set_min_rto v duration
 set v (Congestion control) = set_congestion_control v control
 
 pub data Event : Type 0 where

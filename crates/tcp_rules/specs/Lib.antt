@@ -10,3 +10,4 @@ pub mod TimeWait
 pub mod Waiting
 pub mod Congestion
 pub mod Timing
+pub mod Recovery

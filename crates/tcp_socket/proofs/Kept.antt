@@ -1,5 +1,5 @@
 -- What the rules of an arrival keep of a block.
-use Rattle.std.proofs.Common.{◌≡◌, ℕ, ◌&&◌, ◌≤◌, Bool, true, false, ℤ, Option, Some, None, if◌then◌else◌, arith}
+use Rattle.std.proofs.Common.{◌≡◌, ℕ, ◌&&◌, ◌≤◌, Bool, true, false, ℤ, Option, Some, None, is_some, if◌then◌else◌, arith}
 use Rattle.std.specs.Prelude.{IfSome}
 use Rattle.std.proofs.lemmas.Bool.Decides.{nat_tests}
 use Rattle.net_base.specs.Ring.{Ring}
@@ -7,6 +7,7 @@ use Rattle.net_base.specs.Time.{IsMoment}
 use Rattle.ip_wire.specs.TcpHeader.{TcpHeader}
 use Rattle.tcp_model.specs.Acknowledged.{una_moved, in_state, ended_if, block_acknowledged, state_after_ack, names_window, windowed, window_set, ranges_taken, counted}
 use Rattle.tcp_model.specs.Controls.{is_zero, or_mss}
+use Rattle.tcp_model.specs.Opening.{connected, crossed, syn_answered}
 use Rattle.tcp_model.specs.States.{is_closed}
 use Rattle.tcp_model.specs.Text.{with_fin, fin_taken, takes_fin}
 use Rattle.tcp_model.specs.Timeout.{timeout_restarted, timeout_runs}
@@ -63,3 +64,12 @@ sized_syn false zero_mss sized is = absurd (cc)
 pub sized_mss : (mss : Option ℕ) → is_zero mss ≡ false → 1 ≤ or_mss mss
 sized_mss None is = omega arith
 sized_mss (Some n) is = grind (arith, nat_tests, is)
+
+answered_mss : (t : Bool) (b : Block) (header : TcpHeader) (now : ℤ) → 1 ≤ or_mss header.options.max_seg_size → 1 ≤ (if t then connected b header now else crossed b header).peer.mss
+answered_mss true b header now some = some
+answered_mss false b header now some = some
+
+-- SYN-SENT takes a SYN
+pub kept_answer : (b : Block) (header : TcpHeader) (now : ℤ) (queued : ℕ) → IsMoment now → 1 ≤ or_mss header.options.max_seg_size
+    → IsBlock (timeout_restarted (syn_answered b header now) now queued)
+kept_answer b header now queued moment some = kept_timeout (syn_answered b header now) now queued moment (answered_mss (is_some header.ack_number) b header now some)

@@ -15,7 +15,7 @@ use Rattle.tcp_model.specs.Moments.{is_due}
 use Rattle.tcp_model.specs.Offers.{number_at}
 use Rattle.tcp_model.specs.Offsets.{behind_by}
 use Rattle.tcp_model.specs.Probing.{is_window_small, is_probing, probe_moment}
-use Rattle.tcp_model.specs.Rules.{Choice, unbroken, size_limit, congestion_limit, window_limit, next_place, is_sendable, text_choice, has_text, resend_choice, probe_choice, control_for}
+use Rattle.tcp_model.specs.Rules.{Choice, unbroken, size_limit, congestion_limit, window_limit, next_place, is_sendable, text_choice, has_text, resend_choice, probe_choice, control_for, beyond}
 use Rattle.tcp_model.specs.Segments.{segment}
 use Rattle.tcp_model.specs.Settled.{end_of}
 use Rattle.tcp_model.specs.States.{owes_fin, sends_text}
@@ -54,7 +54,7 @@ congestion_small Congestion.Reno cwnd size = omega arith
 
 pub window_small : (b : Block) (size : ℕ) → window_limit b size ≤ size
 window_small b size =
-    let least = congestion_small b.settings.congestion_control (b.reno.cwnd - b.sender.in_flight) (min (b.peer.window - b.sender.in_flight) size) in
+    let least = congestion_small b.settings.congestion_control (b.reno.cwnd + beyond b - b.sender.in_flight) (min (b.peer.window - b.sender.in_flight) size) in
     omega arith
 
 -- what the rules choose is a part of the send queue

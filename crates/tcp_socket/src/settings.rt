@@ -1,6 +1,6 @@
 //! What a user may set. Each setting first settles an open offer as not sent.
 ghost use Rattle.std.specs.Prelude.{◌≡◌, ◌≢◌, Some};
-ghost use Rattle.tcp_model.specs.Settings.{with_timeout_kept, set_timeout, set_keep_alive, set_ack_delay, set_nagle_enabled, set_hop_limit, set_tsval_generator, pause_synack, set_retries, set_congestion_control};
+ghost use Rattle.tcp_model.specs.Settings.{with_timeout_kept, set_timeout, set_keep_alive, set_ack_delay, set_nagle_enabled, set_hop_limit, set_tsval_generator, pause_synack, set_retries, set_min_rto, set_congestion_control};
 ghost use Rattle.tcp_model.specs.Value.{unoffered};
 
 use crate::Socket;
@@ -82,6 +82,19 @@ impl Socket {
         self.offered = None;
         self.block.settings.opening_retries = limit;
         self.block.settings.retries = limit;
+    }
+
+    /// Sets the least retransmission timeout. It counts in whole milliseconds, of which the rest is
+    /// dropped, and as 10 ms where it is less, as a minute where it is more. It is a second as long as
+    /// nothing is set. One that is higher than the timeout of a connection counts at once, another from
+    /// its next round trip on; the first timeout of a connection is a second at least. What is shorter
+    /// than the remote's delay of an acknowledgement makes segments go twice without need.
+    pub fn set_min_rto(&mut self, duration: Duration)
+        ensures { self.new ≡ set_min_rto self.old duration }
+    {
+        self.offered = None;
+        self.block.settings.min_rto = duration;
+        self.block.round_trip.set_least(duration);
     }
 
     /// Sets whether the answer to a SYN waits.

@@ -30,7 +30,7 @@ use Rattle.tcp_model.specs.Moments.{is_due, is_over, timeout_from}
 use Rattle.tcp_model.specs.Offers.{offer_choice, offer_ack, offer_syn, offer_reset, offer_keep_alive, offer_held_back, silent, last_rules, first_rules, backed_off, offer_between, offer_with, offer_of, number_at}
 use Rattle.tcp_model.specs.Probing.{probe_started, probe_moment, is_probing, is_window_small}
 use Rattle.tcp_model.specs.Retries.{asked, one_more, gives_up, given_up}
-use Rattle.tcp_model.specs.Rules.{Choice, time_wait_end, owes_syn, resends, ack_moment, has_text, text_choice, resend_choice, probe_choice, control_for, updates_window, keep_alive_moment, backed_off_now, fin_goes, next_place, size_limit, window_limit, congestion_limit, unbroken, is_sendable}
+use Rattle.tcp_model.specs.Rules.{Choice, time_wait_end, owes_syn, resends, ack_moment, has_text, text_choice, resend_choice, probe_choice, control_for, updates_window, keep_alive_moment, backed_off_now, fin_goes, next_place, size_limit, window_limit, congestion_limit, unbroken, is_sendable, beyond, sent_places}
 use Rattle.tcp_model.specs.Segments.{segment, reset_segment, keep_alive_segment, hops_of}
 use Rattle.tcp_model.specs.Settled.{settled, recorded, probed, end_of}
 use Rattle.tcp_model.specs.States.{is_closed, is_answering, owes_fin, sends_syn, sends_text, takes_text, keeps_alive}
@@ -130,7 +130,7 @@ limited_by Congestion.None cwnd window size = omega arith
 limited_by Congestion.Reno cwnd window size = omega arith
 
 limited : (b : Block) (size : ℕ) → window_limit b size ≤ size
-limited b size = limited_by b.settings.congestion_control (b.reno.cwnd - b.sender.in_flight) (b.peer.window - b.sender.in_flight) size
+limited b size = limited_by b.settings.congestion_control (b.reno.cwnd + beyond b - b.sender.in_flight) (b.peer.window - b.sender.in_flight) size
 
 left_over : (place len queue limit storage : ℕ) → place ≤ queue → len ≤ min limit (min (queue - place) storage) → place + len ≤ queue
 left_over place len queue limit storage inside low = omega arith
@@ -172,7 +172,10 @@ resend_part b pair mtu queued e = record {
   sends = (and_parts (sends_text b.state) b.sender.resend e).0;
   within = omega arith;
   fits = omega arith;
-  last = λ fin. let at_end = fin_place b (length queued.queue) (resend_choice b pair.addresses mtu queued).len fin in (at_end.0, from_start (resend_choice b pair.addresses mtu queued).len (length queued.queue) at_end.1);
+  last = λ fin.
+      let len = (resend_choice b pair.addresses mtu queued).len in
+      let at_end = fin_place b (length queued.queue) len (and_parts (fin_goes b (length queued.queue) len) (nat_lt len (sent_places b)) fin).0 in
+      (at_end.0, from_start len (length queued.queue) at_end.1);
 }
   where
     from_start : (len queue : ℕ) → len ≡ queue → 0 + len ≡ queue

@@ -161,12 +161,13 @@ Decides-sample a b =
 
 pub Decides-round_trip : (a b : RoundTripValue) → Decides (Trip.ghosts.eq a b) (a ≡ b)
 Decides-round_trip a b =
-    let from_timeout = Decides-and _ _ (Decides-eqb a.timeout b.timeout) (Decides-option (λ x y. Sampled.ghosts.eq x y) Decides-sample a.sample b.sample) in
+    let from_least = Decides-and _ _ (Decides-eqb a.least b.least) (Decides-option (λ x y. Sampled.ghosts.eq x y) Decides-sample a.sample b.sample) in
+    let from_timeout = Decides-and _ _ (Decides-eqb a.timeout b.timeout) (from_least) in
     let all = Decides-and _ _ (Decides-option (λ x y. Estimated.ghosts.eq x y) Decides-estimate a.estimate b.estimate) (from_timeout) in (
       λ yes.
           let parts = all.0 yes in
-          λ i. record { estimate = parts.0 i; timeout = parts.1.0 i; sample = parts.1.1 i },
-      λ e. all.1 (both (ap (λ (v : RoundTripValue). v.estimate) e) (both (ap (λ (v : RoundTripValue). v.timeout) e) (ap (λ (v : RoundTripValue). v.sample) e))),
+          λ i. record { estimate = parts.0 i; timeout = parts.1.0 i; least = parts.1.1.0 i; sample = parts.1.1.1 i },
+      λ e. all.1 (both (ap (λ (v : RoundTripValue). v.estimate) e) (both (ap (λ (v : RoundTripValue). v.timeout) e) (both (ap (λ (v : RoundTripValue). v.least) e) (ap (λ (v : RoundTripValue). v.sample) e)))),
     )
 
 pub Decides-names : (a b : Names) → Decides (Named.ghosts.eq a b) (a ≡ b)
@@ -184,7 +185,9 @@ Decides-sender a b =
     let from_unanswered = Decides-and _ _ (Decides-eqb a.unanswered b.unanswered) (from_stamped) in
     let from_timeouts = Decides-and _ _ (Decides-eqb a.timeouts b.timeouts) (from_unanswered) in
     let from_syn_lost = Decides-and _ _ (booleans_Decides a.syn_lost b.syn_lost) (from_timeouts) in
-    let from_resend = Decides-and _ _ (booleans_Decides a.resend b.resend) (from_syn_lost) in
+    let from_partial = Decides-and _ _ (booleans_Decides a.partial b.partial) (from_syn_lost) in
+    let from_recover = Decides-and _ _ (Decides-eqb a.recover b.recover) (from_partial) in
+    let from_resend = Decides-and _ _ (booleans_Decides a.resend b.resend) (from_recover) in
     let from_sacked = Decides-and _ _ (Decides-eqb a.sacked b.sacked) (from_resend) in
     let from_duplicates = Decides-and _ _ (Decides-eqb a.duplicates b.duplicates) (from_sacked) in
     let from_top = Decides-and _ _ (Decides-eqb a.top b.top) (from_duplicates) in
@@ -194,8 +197,8 @@ Decides-sender a b =
     let all = Decides-and _ _ (Decides-number a.una b.una) (from_past_iss) in (
       λ yes.
           let parts = all.0 yes in
-          λ i. record { una = parts.0 i; past_iss = parts.1.0 i; syn_unacked = parts.1.1.0 i; in_flight = parts.1.1.1.0 i; top = parts.1.1.1.1.0 i; duplicates = parts.1.1.1.1.1.0 i; sacked = parts.1.1.1.1.1.1.0 i; resend = parts.1.1.1.1.1.1.1.0 i; syn_lost = parts.1.1.1.1.1.1.1.1.0 i; timeouts = parts.1.1.1.1.1.1.1.1.1.0 i; unanswered = parts.1.1.1.1.1.1.1.1.1.1.0 i; stamped = parts.1.1.1.1.1.1.1.1.1.1.1.0 i; reset_due = parts.1.1.1.1.1.1.1.1.1.1.1.1 i },
-      λ e. all.1 (both (ap (λ (v : Sender). v.una) e) (both (ap (λ (v : Sender). v.past_iss) e) (both (ap (λ (v : Sender). v.syn_unacked) e) (both (ap (λ (v : Sender). v.in_flight) e) (both (ap (λ (v : Sender). v.top) e) (both (ap (λ (v : Sender). v.duplicates) e) (both (ap (λ (v : Sender). v.sacked) e) (both (ap (λ (v : Sender). v.resend) e) (both (ap (λ (v : Sender). v.syn_lost) e) (both (ap (λ (v : Sender). v.timeouts) e) (both (ap (λ (v : Sender). v.unanswered) e) (both (ap (λ (v : Sender). v.stamped) e) (ap (λ (v : Sender). v.reset_due) e))))))))))))),
+          λ i. record { una = parts.0 i; past_iss = parts.1.0 i; syn_unacked = parts.1.1.0 i; in_flight = parts.1.1.1.0 i; top = parts.1.1.1.1.0 i; duplicates = parts.1.1.1.1.1.0 i; sacked = parts.1.1.1.1.1.1.0 i; resend = parts.1.1.1.1.1.1.1.0 i; recover = parts.1.1.1.1.1.1.1.1.0 i; partial = parts.1.1.1.1.1.1.1.1.1.0 i; syn_lost = parts.1.1.1.1.1.1.1.1.1.1.0 i; timeouts = parts.1.1.1.1.1.1.1.1.1.1.1.0 i; unanswered = parts.1.1.1.1.1.1.1.1.1.1.1.1.0 i; stamped = parts.1.1.1.1.1.1.1.1.1.1.1.1.1.0 i; reset_due = parts.1.1.1.1.1.1.1.1.1.1.1.1.1.1 i },
+      λ e. all.1 (both (ap (λ (v : Sender). v.una) e) (both (ap (λ (v : Sender). v.past_iss) e) (both (ap (λ (v : Sender). v.syn_unacked) e) (both (ap (λ (v : Sender). v.in_flight) e) (both (ap (λ (v : Sender). v.top) e) (both (ap (λ (v : Sender). v.duplicates) e) (both (ap (λ (v : Sender). v.sacked) e) (both (ap (λ (v : Sender). v.resend) e) (both (ap (λ (v : Sender). v.recover) e) (both (ap (λ (v : Sender). v.partial) e) (both (ap (λ (v : Sender). v.syn_lost) e) (both (ap (λ (v : Sender). v.timeouts) e) (both (ap (λ (v : Sender). v.unanswered) e) (both (ap (λ (v : Sender). v.stamped) e) (ap (λ (v : Sender). v.reset_due) e))))))))))))))),
     )
 
 pub Decides-receiver : (a b : Receiver) → Decides (Receiving.ghosts.eq a b) (a ≡ b)
@@ -246,7 +249,8 @@ Decides-congestion a b = search rules
 
 pub Decides-settings : (a b : Settings) → Decides (Set.ghosts.eq a b) (a ≡ b)
 Decides-settings a b =
-    let from_opening_retries = Decides-and _ _ (Decides-option (λ (x y : ℕ). x == y) Decides-eqb a.opening_retries b.opening_retries) (Decides-option (λ (x y : ℕ). x == y) Decides-eqb a.retries b.retries) in
+    let from_retries = Decides-and _ _ (Decides-option (λ (x y : ℕ). x == y) Decides-eqb a.retries b.retries) (Decides-eqb a.min_rto b.min_rto) in
+    let from_opening_retries = Decides-and _ _ (Decides-option (λ (x y : ℕ). x == y) Decides-eqb a.opening_retries b.opening_retries) (from_retries) in
     let from_synack_paused = Decides-and _ _ (booleans_Decides a.synack_paused b.synack_paused) (from_opening_retries) in
     let from_congestion_control = Decides-and _ _ (Decides-congestion a.congestion_control b.congestion_control) (from_synack_paused) in
     let from_timestamps = Decides-and _ _ (Decides-option (λ x y. Generator.ghosts.eq x y) Decides-generator a.timestamps b.timestamps) (from_congestion_control) in
@@ -258,8 +262,8 @@ Decides-settings a b =
     let all = Decides-and _ _ (Decides-option (λ (x y : ℕ). x == y) Decides-eqb a.timeout b.timeout) (from_ack_delay) in (
       λ yes.
           let parts = all.0 yes in
-          λ i. record { timeout = parts.0 i; ack_delay = parts.1.0 i; keep_alive = parts.1.1.0 i; keep_alive_at = parts.1.1.1.0 i; nagle = parts.1.1.1.1.0 i; hop_limit = parts.1.1.1.1.1.0 i; timestamps = parts.1.1.1.1.1.1.0 i; congestion_control = parts.1.1.1.1.1.1.1.0 i; synack_paused = parts.1.1.1.1.1.1.1.1.0 i; opening_retries = parts.1.1.1.1.1.1.1.1.1.0 i; retries = parts.1.1.1.1.1.1.1.1.1.1 i },
-      λ e. all.1 (both (ap (λ (v : Settings). v.timeout) e) (both (ap (λ (v : Settings). v.ack_delay) e) (both (ap (λ (v : Settings). v.keep_alive) e) (both (ap (λ (v : Settings). v.keep_alive_at) e) (both (ap (λ (v : Settings). v.nagle) e) (both (ap (λ (v : Settings). v.hop_limit) e) (both (ap (λ (v : Settings). v.timestamps) e) (both (ap (λ (v : Settings). v.congestion_control) e) (both (ap (λ (v : Settings). v.synack_paused) e) (both (ap (λ (v : Settings). v.opening_retries) e) (ap (λ (v : Settings). v.retries) e))))))))))),
+          λ i. record { timeout = parts.0 i; ack_delay = parts.1.0 i; keep_alive = parts.1.1.0 i; keep_alive_at = parts.1.1.1.0 i; nagle = parts.1.1.1.1.0 i; hop_limit = parts.1.1.1.1.1.0 i; timestamps = parts.1.1.1.1.1.1.0 i; congestion_control = parts.1.1.1.1.1.1.1.0 i; synack_paused = parts.1.1.1.1.1.1.1.1.0 i; opening_retries = parts.1.1.1.1.1.1.1.1.1.0 i; retries = parts.1.1.1.1.1.1.1.1.1.1.0 i; min_rto = parts.1.1.1.1.1.1.1.1.1.1.1 i },
+      λ e. all.1 (both (ap (λ (v : Settings). v.timeout) e) (both (ap (λ (v : Settings). v.ack_delay) e) (both (ap (λ (v : Settings). v.keep_alive) e) (both (ap (λ (v : Settings). v.keep_alive_at) e) (both (ap (λ (v : Settings). v.nagle) e) (both (ap (λ (v : Settings). v.hop_limit) e) (both (ap (λ (v : Settings). v.timestamps) e) (both (ap (λ (v : Settings). v.congestion_control) e) (both (ap (λ (v : Settings). v.synack_paused) e) (both (ap (λ (v : Settings). v.opening_retries) e) (both (ap (λ (v : Settings). v.retries) e) (ap (λ (v : Settings). v.min_rto) e)))))))))))),
     )
 
 -- the control block is compared whole

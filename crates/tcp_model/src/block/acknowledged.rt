@@ -1,7 +1,7 @@
 //! The acknowledgement and the window of an accepted segment.
 ghost use Rattle.std.specs.Prelude.{◌≡◌, ◌≤◌, ◌<◌, ◌^◌, IfSome};
 ghost use Rattle.net_base.specs.Time.{IsMoment};
-ghost use Rattle.tcp_model.specs.Acknowledged.{freed_by, sender_moved, retransmit_after, acks_own_syn, round_trip_after, reno_after, una_moved, acks_fin, state_after_ack, in_state, block_acknowledged, scaled, acks_no_less, or_number, names_window, windowed, window_set, end_past, highest_end, sacked_by, ranges_taken, tells_of_loss, is_duplicate, duplicates_after, reno_counted, counted};
+ghost use Rattle.tcp_model.specs.Acknowledged.{freed_by, sender_moved, retransmit_after, acks_own_syn, acks_in_recovery, is_partial, round_trip_after, recovery_after, reno_after, una_moved, acks_fin, state_after_ack, in_state, block_acknowledged, scaled, acks_no_less, or_number, names_window, windowed, window_set, end_past, highest_end, sacked_by, ranges_taken, tells_of_loss, is_duplicate, duplicates_after, is_third, begins_recovery, reno_counted, counted};
 
 use super::opening::or_recent;
 use crate::{Block, State};
@@ -75,14 +75,55 @@ impl Block {
         requires { IsMoment now }
         ensures { self.new ≡ una_moved self.old by queued now }
     {
+        let partial = self.is_partial(by);
+        let again = self.sender.partial && partial;
         self.time_una(by, queued, now);
         self.move_sender(by);
-        if by != 0 {
-            self.timers.retransmit_at = if self.sender.in_flight == 0 {
-                None
-            } else {
-                Some(timeout_from(now, &self.round_trip))
-            };
+        self.sender.resend = self.sender.resend || partial;
+        self.sender.partial = self.sender.partial || partial;
+        self.timers.retransmit_at = self.retransmit_after(by, again, now);
+    }
+
+    /// The moment of the retransmission timer after SND.UNA rose by so much. It stays after a partial
+    /// acknowledgement that isn't the first.
+    fn retransmit_after(&self, by: u32, stays: bool, now: Instant) -> Option<Instant>
+        requires { IsMoment now }
+        ensures { result ≡ retransmit_after self.now.timers by self.now.sender.in_flight stays now self.now.round_trip }
+    {
+        if by == 0 {
+            self.timers.retransmit_at
+        } else if self.sender.in_flight == 0 {
+            None
+        } else if stays {
+            self.timers.retransmit_at
+        } else {
+            Some(timeout_from(now, &self.round_trip))
+        }
+    }
+
+    /// Whether something new is acknowledged in fast recovery.
+    fn acks_in_recovery(&self, by: u32) -> bool
+        ensures { result ≡ acks_in_recovery self.now by }
+    {
+        self.reno.recovers() && by != 0
+    }
+
+    /// Whether something new is acknowledged in fast recovery, and not all up to `recover`.
+    fn is_partial(&self, by: u32) -> bool
+        ensures { result ≡ is_partial self.now by }
+    {
+        self.acks_in_recovery(by) && (by as u64 + 1) < self.sender.recover as u64
+    }
+
+    /// What fast recovery makes of this.
+    fn recover_una(&mut self, by: u32, freed: usize, queued: usize)
+        requires { freed ≡ freed_by self.old by queued }
+        ensures { self.new ≡ record self.old { reno = recovery_after self.old by queued } }
+    {
+        if self.is_partial(by) {
+            self.reno.acknowledged_partly(freed);
+        } else {
+            self.reno.recover();
         }
     }
 
@@ -94,7 +135,11 @@ impl Block {
         let freed = self.freed_by(by, queued);
         self.round_trip.advance(by, now);
         if !self.acks_own_syn(by) {
-            self.reno.acknowledged(freed);
+            if self.acks_in_recovery(by) {
+                self.recover_una(by, freed, queued);
+            } else {
+                self.reno.acknowledged(freed);
+            }
             return;
         }
         self.reno.start(self.sender.syn_lost);
@@ -122,6 +167,7 @@ impl Block {
         self.sender.top = self.sender.top.saturating_sub(by);
         self.sender.sacked = self.sender.sacked.saturating_sub(by);
         self.sender.resend = self.sender.resend && stays;
+        self.sender.recover = self.sender.recover.saturating_sub(by);
         self.sender.timeouts = 0;
         self.sender.unanswered = 0;
     }
@@ -242,16 +288,19 @@ impl Block {
         }
     }
 
-    /// There were so many duplicates in a row. At the third the segment at SND.UNA is to go again.
+    /// There were so many duplicates in a row. At the third the segment at SND.UNA is to go again, and fast
+    /// recovery begins where more than `recover` is acknowledged.
     pub fn count(&mut self, count: u8)
         ensures { self.new ≡ counted self.old count }
     {
-        match count {
-            3 => self.reno.lost(self.sender.in_flight),
-            4 => self.reno.inflate(),
-            _ => {}
-        }
         self.sender.duplicates = count;
-        self.sender.resend = self.sender.resend || count == 3;
+        self.sender.resend = self.sender.resend || count == 3 && !self.reno.recovers();
+        if count == 3 && self.sender.recover == 0 {
+            self.reno.lost(self.sender.in_flight);
+            self.sender.recover = self.past_top();
+            self.sender.partial = false;
+        } else if count != 0 {
+            self.reno.inflate();
+        }
     }
 }

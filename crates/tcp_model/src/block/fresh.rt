@@ -1,6 +1,6 @@
 //! A fresh control block, and what follows from its fields.
 ghost use Rattle.std.specs.Prelude.{◌≡◌, ◌+◌, ◌≤◌, ◌^◌};
-ghost use Rattle.tcp_model.specs.Blocks.{default_settings, fresh_sender, fresh_block, forgotten, unacked, nxt, top, own_scale, scale_for, field_of, own_shift, window_field, told_of, least_step, is_worth_telling, announced};
+ghost use Rattle.tcp_model.specs.Blocks.{default_settings, fresh_sender, fresh_block, forgotten, unacked, nxt, top, past_top, own_scale, scale_for, field_of, own_shift, window_field, told_of, least_step, is_worth_telling, announced};
 
 use crate::{
     Block, CongestionControl, Names, Peer, Receiver, Reno, RoundTrip, Sender, Settings, State,
@@ -19,6 +19,9 @@ const OPENING_RETRIES: u8 = 9;
 
 /// How many end one that is open.
 const RETRIES: u8 = 16;
+
+/// The least retransmission timeout, if no other is set, in microseconds.
+const MIN_RTO: u64 = 1_000_000;
 
 /// The largest payload that a remote takes that names none.
 pub const DEFAULT_MSS: u16 = 536;
@@ -48,6 +51,8 @@ impl Sender {
             duplicates: 0,
             sacked: 0,
             resend: false,
+            recover: 0,
+            partial: false,
             syn_lost: false,
             timeouts: 0,
             unanswered: 0,
@@ -74,15 +79,18 @@ impl Settings {
             synack_paused: false,
             opening_retries: Some(OPENING_RETRIES),
             retries: Some(RETRIES),
+            min_rto: Duration::from_micros(MIN_RTO),
         }
     }
 }
 
 impl Block {
     /// No connection, and nothing left of an earlier one.
-    pub const fn new(settings: Settings) -> Block
+    pub fn new(settings: Settings) -> Block
         ensures { result ≡ fresh_block settings }
     {
+        let mut round_trip = RoundTrip::new();
+        round_trip.set_least(settings.min_rto);
         Block {
             state: State::Closed,
             names: Names::NONE,
@@ -115,7 +123,7 @@ impl Block {
                 time_wait_ends: None,
                 timeout_since: None,
             },
-            round_trip: RoundTrip::new(),
+            round_trip,
             reno: Reno::new(),
             settings,
         }
@@ -144,6 +152,13 @@ impl Block {
         ensures { result ≡ nxt self.now }
     {
         behind_by(self.sender.una, self.sender.in_flight as usize)
+    }
+
+    /// How much is to be acknowledged until it is more than was ever sent.
+    pub fn past_top(&self) -> u32
+        ensures { result ≡ past_top self.now }
+    {
+        self.sender.top.saturating_add(1)
     }
 
     /// The number one past the highest position that was ever sent.

@@ -1,6 +1,6 @@
 //! What a socket offers: a test for each rule, and what the rules for text may send.
 ghost use Rattle.std.specs.Prelude.{◌≡◌, ◌+◌, ◌≤◌, ◌<◌, ◌^◌, min};
-ghost use Rattle.tcp_model.specs.Rules.{time_wait_end, owes_syn, resends, ack_moment, Choice, stamp_len, size_limit, congestion_limit, window_limit, next_place, fin_goes, text_of_size, ready, may_be_small, fills_enough, is_sendable, sends_choice, first_text, probe_choice, control_for, updates_window, keep_alive_moment, backed_off_now};
+ghost use Rattle.tcp_model.specs.Rules.{time_wait_end, owes_syn, resends, ack_moment, Choice, stamp_len, size_limit, congestion_limit, beyond, window_limit, next_place, fin_goes, text_of_size, ready, may_be_small, fills_enough, is_sendable, sends_choice, sent_places, first_text, probe_choice, control_for, updates_window, keep_alive_moment, backed_off_now};
 ghost use Rattle.tcp_model.specs.Offers.{number_at, backed_off};
 ghost use Rattle.tcp_model.specs.Choices.{choice_of};
 
@@ -67,7 +67,8 @@ impl Block {
             && self.sender.in_flight == 0
     }
 
-    /// Whether the third duplicate came, and the segment at SND.UNA is to go again.
+    /// Whether the third duplicate came, or a partial acknowledgement, and the segment at SND.UNA is to go
+    /// again.
     pub fn resends(&self) -> bool
         ensures { result ≡ resends self.now }
     {
@@ -122,8 +123,21 @@ impl Block {
         match self.settings.congestion_control {
             CongestionControl::None => size,
             CongestionControl::Reno => {
-                size.min(self.reno.window().saturating_sub(flight) as usize)
+                let window = self.reno.window() + self.beyond();
+                size.min(window.saturating_sub(flight) as usize)
             }
+        }
+    }
+
+    /// How far the first two duplicates let what goes lie beyond the congestion window.
+    fn beyond(&self) -> u32
+        ensures value { result ≡ beyond self.now }
+        ensures small { result ≤ 131_070 }
+    {
+        if self.sender.recover == 0 {
+            self.reno.mss() as u32 * self.sender.duplicates.min(2) as u32
+        } else {
+            0
         }
     }
 
@@ -207,8 +221,15 @@ impl Block {
         limit <= ready || self.may_be_small() && self.fills_enough(queued, ready)
     }
 
-    /// The segment at SND.UNA again, where so many bytes are queued and so many of them lie there
-    /// behind one another.
+    /// How many places of the send queue, and one for the FIN behind it, were ever sent.
+    fn sent_places(&self) -> usize
+        ensures { result ≡ sent_places self.now }
+    {
+        (self.sender.top as usize).saturating_sub(self.sender.syn_unacked as usize)
+    }
+
+    /// The segment at SND.UNA again, as far as it was sent, where so many bytes are queued and so many of
+    /// them lie there behind one another.
     pub fn first_part(
         &self,
         addresses: &AddressPair,
@@ -216,13 +237,14 @@ impl Block {
         queued: usize,
         unbroken: usize,
     ) -> Part
-        ensures { choice_of result ≡ first_text self.now queued (min (size_limit self.now addresses.now ip_mtu) unbroken) }
+        ensures { choice_of result ≡ first_text self.now queued (min (sent_places self.now) (min (size_limit self.now addresses.now ip_mtu) unbroken)) }
     {
-        let len = self.size_limit(addresses, ip_mtu).min(unbroken);
+        let sent = self.sent_places();
+        let len = self.size_limit(addresses, ip_mtu).min(unbroken).min(sent);
         Part {
             place: 0,
             len,
-            fin: self.fin_goes(queued, len),
+            fin: self.fin_goes(queued, len) && len < sent,
         }
     }
 
@@ -263,6 +285,7 @@ impl Block {
         }
         if !self.sender.syn_unacked {
             self.reno.timed_out(self.sender.in_flight);
+            self.sender.recover = self.past_top();
         }
         self.sender.syn_lost = self.sender.syn_lost || self.sender.syn_unacked;
         self.sender.in_flight = 0;

@@ -1,0 +1,503 @@
+-- Fast recovery, what goes again, and the least retransmission timeout.
+use Rattle.std.proofs.Common.{◌≡◌, ◌⊎◌, inl, inr, ⊎_elim, ℕ, zero, suc, ◌+◌, ◌-◌, ◌*◌, ◌^◌, ◌<◌, ◌≤◌, ◌==◌, nat_le, nat_lt, ◌&&◌, not, min, max, ℤ, Bool, true, false, if◌then◌else◌, List, [], ◌∷◌, length, take, Option, Some, None, is_none, is_some, refl, sym, ap, ◌∙◌, subst, arith}
+use Rattle.std.proofs.lemmas.Bool.{cond_both, eqb-true, ltb-true}
+use Rattle.ip_wire.specs.Control.{control_len}
+use Rattle.ip_wire.specs.IpRepr.{IpRepr}
+use Rattle.ip_wire.specs.Seq.{distance_of}
+use Rattle.ip_wire.specs.SeqNumber.{SeqNumber}
+use Rattle.ip_wire.specs.TcpHeader.{TcpHeader}
+use Rattle.net_base.specs.RandomWords.{word}
+use Rattle.net_base.specs.Ring.{Ring, anchored, enqueued}
+use Rattle.socket_base.specs.Context.{ContextValue, next_random}
+use Rattle.socket_base.specs.Offers.{Offered}
+use Rattle.tcp_control.specs.Controls.{or_mss}
+use Rattle.tcp_control.specs.Moments.{is_over, timeout_from}
+use Rattle.tcp_control.specs.Reno as reno
+use Rattle.tcp_control.specs.Reno.{RenoValue}
+use Rattle.tcp_control.specs.RoundTrip as round_trip
+use Rattle.tcp_control.specs.RoundTrip.{RoundTripValue, least_of}
+use Rattle.tcp_control.specs.States.{is_closed, is_listening, is_opening, is_time_wait, takes_writes, after_fin, after_close}
+use Rattle.tcp_control.specs.declared.endpoints.AddressPair.{AddressPair}
+use Rattle.tcp_control.specs.declared.endpoints.EndpointPair.{EndpointPair}
+use Rattle.tcp_control.specs.declared.offer.OfferKind.{OfferKind}
+use Rattle.tcp_control.specs.declared.offer.OfferKind.TheVariants as Kind
+use Rattle.tcp_control.specs.declared.offer.OpenOffer.{OpenOffer}
+use Rattle.tcp_control.specs.declared.round_trip.Sample.{Sample}
+use Rattle.tcp_control.specs.declared.state.State.{State}
+use Rattle.tcp_control.specs.declared.state.State.TheVariants as In
+use Rattle.tcp_model.specs.Acknowledged.{state_after_ack, acks_own_syn, round_trip_after, reno_after, reno_counted, duplicates_after}
+use Rattle.tcp_model.specs.Arrival.{arrives}
+use Rattle.tcp_model.specs.Blocks.{one_if}
+use Rattle.tcp_model.specs.Calls.{listening, connected_by, pair_for, sent_more}
+use Rattle.tcp_model.specs.Offers.{offer_of, number_at}
+use Rattle.tcp_model.specs.Opening.{took_syn}
+use Rattle.tcp_model.specs.Retries.{asked, one_more}
+use Rattle.tcp_model.specs.Rules.{Choice, backed_off_now, resend_choice, control_for, fin_goes, sent_places, size_limit, unbroken}
+use Rattle.tcp_model.specs.Settled.{settled, sent_off, sent_as, recorded, probed, end_of}
+use Rattle.tcp_model.specs.Value.{TcpValue, Arrived, with_block, unoffered, ended, new_socket, queued_in, room_of}
+use Rattle.tcp_model.specs.declared.block.Block.{Block}
+use Rattle.tcp_rules.specs.Events.{Event, Setting, after, led, set, is_past}
+use Rattle.tcp_rules.specs.Events.Event.{Comes, Asked, Listens, Connects, Sends, Reads, Closes, Aborts, Sets}
+use Rattle.tcp_rules.specs.Events.Setting.{Timeout, KeepAlive, AckDelay, Nagle, HopLimit, Timestamps, Paused, Retries, MinRto, Congestion}
+use Rattle.tcp_rules.specs.InOrder.{sending_of, IsInOrder}
+use Rattle.tcp_rules.specs.Recovery.{Recovery, recovery_of, IsPaced}
+use Rattle.tcp_rules.proofs.ArrivalCases.{by_arrival, Received, Opening, Content, Drawing, acked_open}
+use Rattle.tcp_rules.proofs.CongestionRules.{acked_reno, fin_on, state_past, close_on, unnamed, left_true}
+use Rattle.tcp_rules.proofs.OfferCases.{Rules, FirstRules, LastRules, by_rules, begun, probing}
+use Rattle.tcp_rules.proofs.OrderRules.{event_order, new_order, control_least}
+use Rattle.tcp_rules.proofs.OrderSteps.{clash, distance_at_most}
+
+-- FAST RECOVERY
+
+abbrev Lasts : RenoValue → ℕ → Type 0
+Lasts r recover = r.recovers ≡ true → 1 ≤ recover
+
+right_true : (a b : Bool) → (a && b) ≡ true → b ≡ true
+right_true true b e = e
+right_true false b e = clash (sym e)
+
+lasts_acked : (r : RenoValue) (syn lost : Bool) (by queued recover : ℕ) → Lasts r recover → Lasts (acked_reno r syn lost by queued recover) (recover - by)
+lasts_acked r syn lost by queued recover lasts =
+    cond_both (syn && not (by == 0)) (reno.started r lost)
+    (if r.recovers && not (by == 0)
+    then (if (r.recovers && not (by == 0)) && nat_lt (by + 1) recover then reno.partly r (min (by - one_if syn) queued) else reno.recovered r)
+    else reno.acknowledged r (min (by - one_if syn) queued))
+    (λ (x : RenoValue). Lasts x (recover - by))
+    (λ _ e. clash (sym e))
+    (λ _.
+    cond_both (r.recovers && not (by == 0))
+    (if (r.recovers && not (by == 0)) && nat_lt (by + 1) recover then reno.partly r (min (by - one_if syn) queued) else reno.recovered r)
+    (reno.acknowledged r (min (by - one_if syn) queued)) (λ (x : RenoValue). Lasts x (recover - by))
+    (λ _.
+    cond_both ((r.recovers && not (by == 0)) && nat_lt (by + 1) recover) (reno.partly r (min (by - one_if syn) queued)) (reno.recovered r)
+    (λ (x : RenoValue). Lasts x (recover - by))
+    (λ part _. more by recover (ltb-true (by + 1) recover (right_true (r.recovers && not (by == 0)) (nat_lt (by + 1) recover) part)))
+    (λ _ e. clash (sym e)))
+    (λ none.
+    cond_both (min (by - one_if syn) queued == 0) r
+    (record r { cwnd = min reno.most (r.cwnd + reno.growth r (min (by - one_if syn) queued)); timed_out = false })
+    (λ (x : RenoValue). Lasts x (recover - by))
+    (λ _ e. stays r.recovers none e lasts) (λ _ e. stays r.recovers none e lasts)))
+  where
+    more : (by recover : ℕ) → by + 1 < recover → 1 ≤ recover - by
+    more by recover e = omega arith
+
+    same : (by recover : ℕ) → by ≡ 0 → 1 ≤ recover → 1 ≤ recover - by
+    same by recover none e = omega arith
+
+    is_none_by : (n : ℕ) → not (n == 0) ≡ false → n ≡ 0
+    is_none_by n e = at (n == 0) refl e where
+      at : (test : Bool) → (n == 0) ≡ test → not test ≡ false → n ≡ 0
+      at true is e = eqb-true n 0 is
+      at false is e = clash e
+
+    stays : (recovers : Bool) → (recovers && not (by == 0)) ≡ false → recovers ≡ true → (recovers ≡ true → 1 ≤ recover) → 1 ≤ recover - by
+    stays true none e f = same by recover (is_none_by by none) (f e)
+    stays false none e f = clash (sym e)
+
+lasts_counted : (r : RenoValue) (begins : Bool) (count flight top recover : ℕ) → Lasts r recover
+    → Lasts (reno_counted r count flight begins) (if begins then min (top + 1) 4_294_967_295 else recover)
+lasts_counted r true count flight top recover lasts = λ _. one_at_least top where
+  one_at_least : (top : ℕ) → 1 ≤ min (top + 1) 4_294_967_295
+  one_at_least top = omega arith
+lasts_counted r false count flight top recover lasts =
+    cond_both (count == 0) r (reno.inflated r) (λ (x : RenoValue). Lasts x recover)
+    (λ _. lasts)
+    (λ _. cond_both r.recovers (record r { cwnd = min reno.most (r.cwnd + r.mss) }) r (λ (x : RenoValue). Lasts x recover) (λ _. lasts) (λ _. lasts))
+
+-- THE LEAST TIMEOUT
+
+record Fine (r : RoundTripValue) (duration : ℕ) : Type 0 where
+  least : r.least ≡ least_of duration
+  timeout : r.least ≤ r.timeout
+
+not_above : (duration : ℕ) → least_of duration ≤ round_trip.most_timeout
+not_above duration = omega arith
+
+within : (least most n : ℕ) → least ≤ most → least ≤ min most (max least n)
+within least most n e = omega arith
+
+fine_measured : (r : RoundTripValue) (millis duration : ℕ) → Fine r duration → Fine (round_trip.measured r millis) duration
+fine_measured r millis duration f = record {
+  least = f.least;
+  timeout = within r.least round_trip.most_timeout _ (subst (λ (n : ℕ). n ≤ round_trip.most_timeout) (sym f.least) (not_above duration));
+}
+
+fine_advanced : (r : RoundTripValue) (by duration : ℕ) (now : ℤ) → Fine r duration → Fine (round_trip.advanced r by now) duration
+fine_advanced r by duration now f = at r.sample where
+  at : (sample : Option Sample) → Fine (round_trip.advanced_with r by now sample) duration
+  at None = f
+  at (Some s) =
+      cond_both (nat_le s.ends by) (round_trip.measured r (round_trip.millis_between s.since now)) (record r { sample = Some (record s { ends = s.ends - by }) })
+      (λ (x : RoundTripValue). Fine x duration)
+      (λ _. fine_measured r (round_trip.millis_between s.since now) duration f) (λ _. record { least = f.least; timeout = f.timeout })
+
+fine_late : (r : RoundTripValue) (duration : ℕ) → Fine r duration → Fine (round_trip.begun_late r) duration
+fine_late r duration f = record {
+  least = f.least;
+  timeout = cond_both (is_none r.estimate) (max 3000 r.least) r.timeout (λ (n : ℕ). r.least ≤ n) (λ _. above 3000 r.least) (λ _. f.timeout);
+}
+  where
+    above : (a b : ℕ) → b ≤ max a b
+    above a b = omega arith
+
+fine_acked : (b : Block) (by : ℕ) (now : ℤ) → Fine b.round_trip b.settings.min_rto → Fine (round_trip_after b by now) b.settings.min_rto
+fine_acked b by now f =
+    cond_both (acks_own_syn b by && b.sender.syn_lost) (round_trip.begun_late (round_trip.advanced b.round_trip by now)) (round_trip.advanced b.round_trip by now)
+    (λ (x : RoundTripValue). Fine x b.settings.min_rto)
+    (λ _. fine_late (round_trip.advanced b.round_trip by now) b.settings.min_rto (fine_advanced b.round_trip by b.settings.min_rto now f))
+    (λ _. fine_advanced b.round_trip by b.settings.min_rto now f)
+
+fine_backed : (r : RoundTripValue) (duration : ℕ) → Fine r duration → Fine (round_trip.backed_off r) duration
+fine_backed r duration f = record {
+  least = f.least;
+  timeout = doubled r.least r.timeout round_trip.most_timeout f.timeout (subst (λ (n : ℕ). n ≤ round_trip.most_timeout) (sym f.least) (not_above duration));
+}
+  where
+    doubled : (least timeout most : ℕ) → least ≤ timeout → least ≤ most → least ≤ min most (2 * timeout)
+    doubled least timeout most e f = omega arith
+
+fine_timing : (r : RoundTripValue) (top end duration : ℕ) (now : ℤ) → Fine r duration → Fine (if nat_lt top end then round_trip.timing r end now else r) duration
+fine_timing r top end duration now f =
+    cond_both (nat_lt top end) (round_trip.timing r end now) r (λ (x : RoundTripValue). Fine x duration) (λ _. at r.sample) (λ _. f)
+  where
+    at : (sample : Option Sample) → Fine (round_trip.timing_with r end now sample) duration
+    at None = record { least = f.least; timeout = f.timeout }
+    at (Some s) = f
+
+fine_set : (r : RoundTripValue) (duration : ℕ) → Fine (round_trip.with_least duration r) duration
+fine_set r duration = record { least = refl; timeout = above (least_of duration) r.timeout } where
+  above : (a b : ℕ) → a ≤ max a b
+  above a b = omega arith
+
+-- BOTH
+
+fine_of : (r : Recovery) → IsPaced r → Fine r.round_trip r.min_rto
+fine_of r p = record { least = p.least; timeout = p.timeout }
+
+paced : (r : Recovery) → Lasts r.reno r.recover → is_listening r.state ≡ false → Fine r.round_trip r.min_rto → IsPaced r
+paced r lasts not f = record { lasts = lasts; listens = λ e. clash (sym e ∙ not); least = f.least; timeout = f.timeout }
+
+-- one that begins with nothing in recovery
+fresh_paced : (state : State) (recover duration : ℕ) → IsPaced (record { state = state; reno = reno.fresh; recover = recover; round_trip = round_trip.with_least duration round_trip.fresh; min_rto = duration })
+fresh_paced state recover duration =
+    let f = fine_set round_trip.fresh duration in record { lasts = λ e. clash (sym e); listens = λ _. refl; least = f.least; timeout = f.timeout }
+
+asked_paced : (b : Block) (now : ℤ) → IsPaced (recovery_of b) → IsPaced (recovery_of (asked b now))
+asked_paced b now p =
+    cond_both (is_over now b.timers.counts_from)
+    (record b {
+      sender = record b.sender { unanswered = one_more b.sender.unanswered };
+      timers = record b.timers { counts_from = Some (timeout_from now b.round_trip) };
+    })
+    b (λ (c : Block). IsPaced (recovery_of c)) (λ _. p) (λ _. p)
+
+went_paced : (r : Recovery) (top end : ℕ) (now : ℤ) → IsPaced r → is_listening r.state ≡ false
+    → IsPaced (record r { round_trip = if nat_lt top end then round_trip.timing r.round_trip end now else r.round_trip })
+went_paced r top end now p not = paced _ p.lasts not (fine_timing r.round_trip top end r.min_rto now (fine_of r p))
+
+sent_paced : (kind : OfferKind) (b : Block) (o : OpenOffer) (queued : ℕ) → is_listening b.state ≡ false → IsPaced (recovery_of b) → IsPaced (recovery_of (sent_as kind b o queued))
+sent_paced Kind.Reset b o queued not p = paced _ p.lasts refl (fine_of (recovery_of b) p)
+sent_paced Kind.Syn b o queued not p = went_paced (recovery_of b) b.sender.top (end_of b o) o.moment p not
+sent_paced Kind.FastRetransmission b o queued not p =
+    paced _ p.lasts not
+    (fine_timing (round_trip.untimed b.round_trip) b.sender.top (end_of b o) b.settings.min_rto o.moment (record { least = p.least; timeout = p.timeout }))
+sent_paced Kind.Text b o queued not p = went_paced (recovery_of b) b.sender.top (end_of b o) o.moment p not
+sent_paced Kind.Probe b o queued not p =
+    asked_paced (probed b (end_of b o) o.moment) o.moment (paced _ p.lasts not (fine_backed b.round_trip b.settings.min_rto (fine_of (recovery_of b) p)))
+sent_paced Kind.KeepAlive b o queued not p = asked_paced b o.moment p
+sent_paced other b o queued not p = p
+
+-- A SEGMENT COMES
+
+module _ (cx : ContextValue) (ip : IpRepr) (header : TcpHeader) (bytes : List ℕ) where
+  abbrev Paced : Arrived → Type 0
+  Paced a = IsPaced (recovery_of a.socket.block)
+
+  paced_content : (x : TcpValue) → IsPaced (recovery_of x.block) → Content cx ip header bytes Paced x
+  paced_content x p = record {
+    plain = p;
+    fin = λ _ takes. paced _ p.lasts (fin_on x.block.state takes) (fine_of _ p);
+    ordered = λ _ _ _ _. p;
+    ordered_fin = λ _ _ _ takes. paced _ p.lasts (fin_on x.block.state takes) (fine_of _ p);
+    early = λ _ _ _ _. p;
+  }
+
+  paced_drawing : (x : TcpValue) → IsPaced (recovery_of x.block) → Drawing cx ip header bytes Paced x
+  paced_drawing x p = record { answers = λ _. p; pauses = p }
+
+  closed_paced : (u : TcpValue) → IsPaced (recovery_of u.block) → IsPaced (recovery_of (ended u).block)
+  closed_paced u p = paced _ p.lasts refl (fine_of _ p)
+
+  acked_paced : (b : Block) (by queued : ℕ) (state : State) → IsPaced (recovery_of b) → is_listening state ≡ false
+      → IsPaced (record {
+        state = state;
+        reno = reno_after b by queued;
+        recover = b.sender.recover - by;
+        round_trip = round_trip_after b by cx.moment;
+        min_rto = b.settings.min_rto;
+      })
+  acked_paced b by queued state p not =
+      paced _ (lasts_acked b.reno b.sender.syn_unacked b.sender.syn_lost by queued b.sender.recover p.lasts) not (fine_acked b by cx.moment (fine_of (recovery_of b) p))
+
+  abbrev begins_now : TcpValue → ℕ → Bool
+  begins_now u by = (duplicates_after u.block header (length bytes) by == 3) && (u.block.sender.recover - by == 0)
+
+  heeded_paced : (u : TcpValue) (by : ℕ) → IsPaced (recovery_of u.block) → is_past u.block.state ≡ true
+      → IsPaced (record {
+        state = state_after_ack u.block by (queued_in u);
+        reno = reno_counted (reno_after u.block by (queued_in u)) (duplicates_after u.block header (length bytes) by) (u.block.sender.in_flight - by) (begins_now u by);
+        recover = if begins_now u by then min (u.block.sender.top - by + 1) 4_294_967_295 else u.block.sender.recover - by;
+        round_trip = round_trip_after u.block by cx.moment;
+        min_rto = u.block.settings.min_rto;
+      })
+  heeded_paced u by p past =
+      paced _
+      (lasts_counted (reno_after u.block by (queued_in u)) (begins_now u by) (duplicates_after u.block header (length bytes) by) (u.block.sender.in_flight - by)
+      (u.block.sender.top - by) (u.block.sender.recover - by)
+      (lasts_acked u.block.reno u.block.sender.syn_unacked u.block.sender.syn_lost by (queued_in u) u.block.sender.recover p.lasts))
+      (state_past u by past) (fine_acked u.block by cx.moment (fine_of (recovery_of u.block) p))
+
+  paced_received : (u : TcpValue) → IsPaced (recovery_of u.block) → is_past u.block.state ≡ true → Received cx ip header bytes Paced u
+  paced_received u p past = record {
+    stays = p;
+    refuses = p;
+    draws = paced_drawing u p;
+    falls = λ _ _ _. fresh_paced In.Listen 0 u.block.settings.min_rto;
+    ends = λ _ _ _. closed_paced u p;
+    closes = λ by _ _. acked_paced u.block by (queued_in u) In.Closed p refl;
+    taken = λ by _ _. paced_content _ (heeded_paced u by p past);
+    taken_window = λ by _ _. paced_content _ (heeded_paced u by p past);
+    news = λ by _ _. paced_drawing _ (acked_paced u.block by (queued_in u) (state_after_ack u.block by (queued_in u)) p (state_past u by past));
+    outside = paced_drawing _ p;
+    old = λ _. paced_content _ p;
+  }
+
+  paced_opening : (u : TcpValue) → IsPaced (recovery_of u.block) → Opening cx ip header bytes Paced u
+  paced_opening u p = record {
+    opens = λ at _. paced _ (λ e. clash (sym e ∙ p.listens (ap is_listening at))) refl (fine_of _ p);
+    refuses = p;
+    ends = λ _. closed_paced u p;
+    connects = λ at _. acked_paced (took_syn u.block header) 1 0 In.Established (paced _ p.lasts (ap is_listening at) (fine_of _ p)) refl;
+    crosses = λ at _. paced _ p.lasts refl (fine_of _ p);
+  }
+
+  paced_arrival : (v : TcpValue) → IsPaced (recovery_of v.block) → Paced (arrives cx v ip header bytes)
+  paced_arrival v p = by_arrival cx ip header bytes Paced v p (λ _. paced_opening (unoffered v) p) (λ past. paced_received (unoffered v) p past)
+
+-- IT IS ASKED
+
+abbrev PacedOffer : Offered TcpValue → Type 0
+PacedOffer o = IsPaced (recovery_of o.socket.block) × ((is_listening o.socket.block.state ≡ false) ⊎ (o.socket.offered ≡ None))
+
+module _ (cx : ContextValue) where
+  paced_last : (pair : EndpointPair) (x : TcpValue) → IsPaced (recovery_of x.block) → is_listening x.block.state ≡ false → LastRules cx pair PacedOffer x
+  paced_last pair x p not = record {
+    probe = λ _ _. (p, inl not);
+    held_back = λ _ _. (p, inl not);
+    ack = λ _. (p, inl not);
+    update = λ _ _. (p, inl not);
+    keep_alive = λ _ _. (p, inl not);
+    quiet = λ _. (p, inl not);
+  }
+
+  paced_first : (pair : EndpointPair) (w : TcpValue) → IsPaced (recovery_of w.block) → is_listening w.block.state ≡ false → FirstRules cx pair PacedOffer w
+  paced_first pair w p not = record { syn = λ _. (p, inl not); again = λ _ _. (p, inl not); text = λ _ _. (p, inl not); last = λ _. paced_last pair (probing cx w) p not }
+
+  -- the timer runs out
+  backed_paced : (v : TcpValue) → IsPaced (recovery_of v.block) → is_listening v.block.state ≡ false → IsPaced (recovery_of (backed_off_now (begun cx v)))
+  backed_paced v p not = at v.block.sender.syn_unacked where
+    at : (syn : Bool)
+        → IsPaced (record {
+          state = v.block.state;
+          reno = if syn then v.block.reno else reno.timed_out v.block.reno v.block.sender.in_flight;
+          recover = if syn then v.block.sender.recover else min (v.block.sender.top + 1) 4_294_967_295;
+          round_trip = round_trip.untimed (round_trip.backed_off v.block.round_trip);
+          min_rto = v.block.settings.min_rto;
+        })
+    at true = let f = fine_backed v.block.round_trip v.block.settings.min_rto (fine_of (recovery_of v.block) p) in paced _ p.lasts not (record { least = f.least; timeout = f.timeout })
+    at false =
+        let f = fine_backed v.block.round_trip v.block.settings.min_rto (fine_of (recovery_of v.block) p) in
+        paced _ (λ e. clash (sym e)) not (record { least = f.least; timeout = f.timeout })
+
+  paced_rules : (v : TcpValue) → IsInOrder (sending_of v) → IsPaced (recovery_of v.block) → Rules cx v PacedOffer
+  paced_rules v p k = record {
+    nobody = λ _. (k, inr refl);
+    time_wait = λ _. (paced _ k.lasts refl (fine_of _ k), inr refl);
+    timeout = λ _. (paced _ k.lasts refl (fine_of _ k), inr refl);
+    closed = λ _. (k, inr refl);
+    reset = λ _ closed _. (k, inl (not_listening v.block.state closed));
+    falls = λ _ _ _. (fresh_paced In.Listen 0 v.block.settings.min_rto, inr refl);
+    over = λ _ _ _. (paced _ k.lasts refl (fine_of _ k), inr refl);
+    backs = λ pair named _ _.
+        paced_first pair (with_block (unoffered v) (backed_off_now (begun cx v))) (backed_paced v k (unnamed v pair p named)) (unnamed v pair p named);
+    goes = λ pair named _ _. paced_first pair (with_block (unoffered v) (begun cx v)) k (unnamed v pair p named);
+  }
+    where
+      not_listening : (state : State) → is_closed state ≡ true → is_listening state ≡ false
+      not_listening In.Closed e = refl
+      not_listening In.Listen e = clash (sym e)
+      not_listening other e = refl
+
+  paced_offer : (v : TcpValue) → IsInOrder (sending_of v) → IsPaced (recovery_of v.block) → PacedOffer (offer_of cx v)
+  paced_offer v p k = by_rules cx v PacedOffer (paced_rules v p k)
+
+settled_paced :
+    (offered : Option OpenOffer) (x : TcpValue) → (is_listening x.block.state ≡ false) ⊎ (offered ≡ None) → IsPaced (recovery_of x.block)
+    → IsPaced (recovery_of (sent_off offered x).block)
+settled_paced None x which p = p
+settled_paced (Some o) x which p =
+    ⊎_elim (λ not. sent_paced o.kind (recorded x.block o (room_of x.received)) o (queued_in x) not p) (λ none. absurd (cc)) which
+
+-- ITS USER CALLS
+
+set_paced : (v : TcpValue) (setting : Setting) → IsPaced (recovery_of v.block) → IsPaced (recovery_of (set v setting).block)
+set_paced v (Timeout duration) p = p
+set_paced v (KeepAlive interval) p = p
+set_paced v (AckDelay duration) p = p
+set_paced v (Nagle enabled) p = p
+set_paced v (HopLimit limit) p = p
+set_paced v (Timestamps generator) p = p
+set_paced v (Paused paused) p = p
+set_paced v (Retries limit) p = p
+set_paced v (MinRto duration) p =
+    let f = fine_set v.block.round_trip duration in record { lasts = p.lasts; listens = p.listens; least = f.least; timeout = f.timeout }
+set_paced v (Congestion control) p = record { lasts = λ e. clash (sym e ∙ none); listens = λ _. none; least = p.least; timeout = p.timeout } where
+  none : (if v.block.receiver.took_syn then reno.with_mss reno.fresh v.block.peer.mss else reno.fresh).recovers ≡ false
+  none = cond_both v.block.receiver.took_syn (reno.with_mss reno.fresh v.block.peer.mss) reno.fresh (λ (r : RenoValue). r.recovers ≡ false) (λ _. refl) (λ _. refl)
+
+connected_paced : (v : TcpValue) (names : Option EndpointPair) (number : ℕ) → IsPaced (recovery_of v.block) → IsPaced (recovery_of (connected_by v names number).block)
+connected_paced v None number p = p
+connected_paced v (Some pair) number p = fresh_paced In.SynSent 0 v.block.settings.min_rto
+
+event_paced : (v : TcpValue) (it : Event) → IsInOrder (sending_of v) → IsPaced (recovery_of v.block) → IsPaced (recovery_of (after v it).block)
+event_paced v (Comes cx ip header bytes) p k = paced_arrival cx ip header bytes v k
+event_paced v (Asked cx true) p k =
+    let it = paced_offer cx v p k in settled_paced (offer_of cx v).socket.offered (unoffered (offer_of cx v).socket) it.1 it.0
+event_paced v (Asked cx false) p k = (paced_offer cx v p k).0
+event_paced v (Listens endpoint) p k =
+    cond_both (is_closed v.block.state && not (endpoint.port == 0)) (listening v endpoint) (unoffered v) (λ (w : TcpValue). IsPaced (recovery_of w.block))
+    (λ _. fresh_paced In.Listen 0 v.block.settings.min_rto) (λ _. k)
+event_paced v (Connects cx remote local) p k =
+    cond_both (is_closed v.block.state) (connected_by v (pair_for cx remote local) (word (next_random cx).random)) (unoffered v) (λ (w : TcpValue). IsPaced (recovery_of w.block))
+    (λ _. connected_paced v (pair_for cx remote local) (word (next_random cx).random) k) (λ _. k)
+event_paced v (Sends bytes) p k =
+    cond_both (takes_writes v.block.state) (sent_more v (enqueued (anchored v.queued) (take (min (length bytes) (length v.queued.free)) bytes))) (unoffered v)
+    (λ (w : TcpValue). IsPaced (recovery_of w.block)) (λ _. k) (λ _. k)
+event_paced v (Reads count) p k = k
+event_paced v Closes p k =
+    cond_both (is_opening v.block.state) (ended (unoffered v)) (with_block (unoffered v) (record v.block { state = after_close v.block.state })) (λ (w : TcpValue). IsPaced (recovery_of w.block))
+    (λ _. paced _ k.lasts refl (fine_of _ k)) (λ _. paced _ k.lasts (close_on v.block.state) (fine_of _ k))
+event_paced v Aborts p k =
+    cond_both (is_time_wait v.block.state) (ended (unoffered v))
+    (with_block (unoffered v) (record v.block { state = In.Closed; sender = record v.block.sender { reset_due = is_some v.block.names.pair } }))
+    (λ (w : TcpValue). IsPaced (recovery_of w.block)) (λ _. paced _ k.lasts refl (fine_of _ k)) (λ _. paced _ k.lasts refl (fine_of _ k))
+event_paced v (Sets setting) p k = set_paced v setting k
+
+led_paced : (v : TcpValue) (events : List Event) → IsInOrder (sending_of v) → IsPaced (recovery_of v.block) → IsPaced (recovery_of (led v events).block)
+led_paced v [] p k = k
+led_paced v (it ∷ more) p k = led_paced (after v it) more (event_order v it p) (event_paced v it p k)
+
+run_paced : (capacity : ℕ) (queued : Ring ℕ) (events : List Event) → IsPaced (recovery_of (led (new_socket capacity queued) events).block)
+run_paced capacity queued events = led_paced (new_socket capacity queued) events (new_order capacity queued) (fresh_paced In.Closed 0 1_000_000)
+
+pub led_lasts : (capacity : ℕ) (queued : Ring ℕ) (events : List Event)
+    → (led (new_socket capacity queued) events).block.reno.recovers ≡ true → 1 ≤ (led (new_socket capacity queued) events).block.sender.recover
+led_lasts capacity queued events recovers = (run_paced capacity queued events).lasts recovers
+
+pub led_least : (capacity : ℕ) (queued : Ring ℕ) (events : List Event)
+    → least_of (led (new_socket capacity queued) events).block.settings.min_rto ≤ (led (new_socket capacity queued) events).block.round_trip.timeout
+led_least capacity queued events =
+    let k = run_paced capacity queued events in subst (λ (n : ℕ). n ≤ (led (new_socket capacity queued) events).block.round_trip.timeout) k.least k.timeout
+
+-- WHAT GOES AGAIN
+
+module _ (x : TcpValue) (addresses : AddressPair) (mtu : ℕ) where
+  abbrev again : Choice
+  again = resend_choice x.block addresses mtu x.queued
+
+  again_end : x.block.sender.una.0 < 2 ^ 32 → x.block.sender.syn_unacked ≡ false
+      → distance_of x.block.sender.una (number_at x.block 0) + (again.len + control_len (control_for again (queued_in x))) ≤ x.block.sender.top
+  again_end small no_syn = at again.fin refl where
+    near : distance_of x.block.sender.una (number_at x.block 0) ≤ one_if x.block.sender.syn_unacked + 0
+    near = distance_at_most x.block.sender.una (one_if x.block.sender.syn_unacked + 0) small
+
+    with_fin : (d syn len control top : ℕ) → d ≤ syn + 0 → syn ≡ 0 → len < top - syn → control ≤ 1 → d + (len + control) ≤ top
+    with_fin d syn len control top a b c d' = omega arith
+
+    without : (d syn len control top : ℕ) → d ≤ syn + 0 → syn ≡ 0 → len ≤ top - syn → control ≤ 0 → d + (len + control) ≤ top
+    without d syn len control top a b c d' = omega arith
+
+    cut : (s m : ℕ) → min s m ≤ s
+    cut s m = omega arith
+
+    at : (fin : Bool) → again.fin ≡ fin → distance_of x.block.sender.una (number_at x.block 0) + (again.len + control_len (control_for again (queued_in x))) ≤ x.block.sender.top
+    at true e =
+        with_fin (distance_of x.block.sender.una (number_at x.block 0)) (one_if x.block.sender.syn_unacked) again.len (control_len (control_for again (queued_in x))) x.block.sender.top near
+        (ap one_if no_syn)
+        (ltb-true again.len (sent_places x.block) (right_true (fin_goes x.block (queued_in x) again.len) (nat_lt again.len (sent_places x.block)) e))
+        (subst (λ (t : Bool). control_len (control_for again (queued_in x)) ≤ one_if t) e (control_least again (queued_in x)))
+    at false e =
+        without (distance_of x.block.sender.una (number_at x.block 0)) (one_if x.block.sender.syn_unacked) again.len (control_len (control_for again (queued_in x))) x.block.sender.top near
+        (ap one_if no_syn)
+        (cut (sent_places x.block) (min (size_limit x.block addresses mtu) (unbroken x.queued 0)))
+        (subst (λ (t : Bool). control_len (control_for again (queued_in x)) ≤ one_if t) e (control_least again (queued_in x)))
+
+abbrev is_again : OfferKind → Bool
+is_again Kind.FastRetransmission = true
+is_again other = false
+
+module _ (cx : ContextValue) (v : TcpValue) (p : IsInOrder (sending_of v)) (no_syn : v.block.sender.syn_unacked ≡ false) where
+  abbrev EndsSent : Offered TcpValue → Type 0
+  EndsSent o = (k : OpenOffer) → o.socket.offered ≡ Some k → is_again k.kind ≡ true → end_of o.socket.block k ≤ v.block.sender.top
+
+  one_offer : (a b : OpenOffer) → Some a ≡ Some b → a ≡ b
+  one_offer a b e = cc
+
+  another : {A : Type 0} (a k : OpenOffer) → Some a ≡ Some k → is_again a.kind ≡ false → is_again k.kind ≡ true → A
+  another a k e not is = clash (sym is ∙ sym (ap (λ (o : OpenOffer). is_again o.kind) (one_offer a k e)) ∙ not)
+
+  nothing : {A : Type 0} (k : OpenOffer) → None ≡ Some k → A
+  nothing k e = absurd (cc)
+
+  ends_last : (pair : EndpointPair) (x : TcpValue) → x.offered ≡ None → LastRules cx pair EndsSent x
+  ends_last pair x none = record {
+    probe = λ _ _ k e is. another _ k e refl is;
+    held_back = λ _ _ k e is. another _ k e refl is;
+    ack = λ _ k e is. another _ k e refl is;
+    update = λ _ _ k e is. another _ k e refl is;
+    keep_alive = λ _ _ k e is. another _ k e refl is;
+    quiet = λ _ k e is. nothing k (sym none ∙ e);
+  }
+
+  ends_first : (pair : EndpointPair) (w : TcpValue) → w.offered ≡ None → w.block.sender.una ≡ v.block.sender.una → w.block.sender.syn_unacked ≡ v.block.sender.syn_unacked
+      → w.block.sender.top ≡ v.block.sender.top → FirstRules cx pair EndsSent w
+  ends_first pair w none una syn top = record {
+    syn = λ _ k e is. another _ k e refl is;
+    again = λ _ _ k e is.
+        subst (λ (o : OpenOffer). end_of w.block o ≤ v.block.sender.top) (one_offer _ k e)
+        (at_top _ (again_end w pair.addresses cx.ip_mtu (subst (λ (n : SeqNumber). n.0 < 2 ^ 32) (sym una) p.number) (syn ∙ no_syn)));
+    text = λ _ _ k e is. another _ k e refl is;
+    last = λ _. ends_last pair (probing cx w) none;
+  }
+    where
+      at_top : (n : ℕ) → n ≤ w.block.sender.top → n ≤ v.block.sender.top
+      at_top n below = subst (λ (t : ℕ). n ≤ t) top below
+
+  ends_rules : Rules cx v EndsSent
+  ends_rules = record {
+    nobody = λ _ k e is. nothing k e;
+    time_wait = λ _ k e is. nothing k e;
+    timeout = λ _ k e is. nothing k e;
+    closed = λ _ k e is. nothing k e;
+    reset = λ _ _ _ k e is. another _ k e refl is;
+    falls = λ _ _ _ k e is. nothing k e;
+    over = λ _ _ _ k e is. nothing k e;
+    backs = λ pair _ _ _. ends_first pair (with_block (unoffered v) (backed_off_now (begun cx v))) refl refl refl refl;
+    goes = λ pair _ _ _. ends_first pair (with_block (unoffered v) (begun cx v)) refl refl refl refl;
+  }
+
+pub again_was_sent :
+    (cx : ContextValue) (v : TcpValue) (o : OpenOffer) → IsInOrder (sending_of v) → v.block.sender.syn_unacked ≡ false
+    → (offer_of cx v).socket.offered ≡ Some o → o.kind ≡ Kind.FastRetransmission → end_of (offer_of cx v).socket.block o ≤ v.block.sender.top
+again_was_sent cx v o p no_syn offered kind = by_rules cx v (EndsSent cx v p no_syn) (ends_rules cx v p no_syn) o offered (ap is_again kind)
