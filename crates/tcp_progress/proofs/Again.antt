@@ -1,0 +1,139 @@
+-- What goes where nothing is in flight, or the timer has run out, begins at SND.UNA.
+use Rattle.std.proofs.Common.{◌≡◌, inl, inr, ℕ, ◌+◌, ◌-◌, ◌%◌, ◌^◌, ◌<◌, Bool, true, false, Some, None, refl, sym, ap, ◌∙◌, arith}
+use Rattle.ip_wire.specs.SeqNumber.{SeqNumber}
+use Rattle.ip_wire.specs.Tcp.{header_len}
+use Rattle.ip_wire.specs.TcpHeader.{TcpHeader}
+use Rattle.socket_base.specs.Context.{ContextValue}
+use Rattle.socket_base.specs.Offers.{Offered}
+use Rattle.tcp_control.specs.Endpoints.{header_for}
+use Rattle.tcp_control.specs.Moments.{is_due}
+use Rattle.tcp_control.specs.declared.endpoints.EndpointPair.{EndpointPair}
+use Rattle.tcp_control.specs.declared.offer.OfferKind.{OfferKind}
+use Rattle.tcp_control.specs.declared.offer.OfferKind.TheVariants as Kind
+use Rattle.tcp_control.specs.declared.offer.OpenOffer.{OpenOffer}
+use Rattle.tcp_model.specs.Blocks.{one_if}
+use Rattle.tcp_model.specs.Offers.{offer_of, offer_segment, offer_choice, number_at}
+use Rattle.tcp_model.specs.Rules.{Choice, next_place, text_choice, resend_choice, probe_choice, control_for, backed_off_now}
+use Rattle.tcp_model.specs.Segments.{hops_of, segment, ack_segment, syn_segment, reset_segment, keep_alive_segment}
+use Rattle.tcp_model.specs.Value.{TcpValue, with_block, unoffered, queued_in, free_in, room_of, window_of}
+use Rattle.tcp_model.specs.declared.block.Block.{Block}
+use Rattle.tcp_rules.proofs.OfferCases.{FirstRules, by_rules, begun, probing}
+use Rattle.tcp_rules.proofs.OrderSteps.{clash}
+use Rattle.tcp_rules.specs.Timing.{carries}
+use Rattle.tcp_progress.specs.Again.{StartsOver}
+
+one_offer : (mine k : OpenOffer) → Some mine ≡ Some k → mine ≡ k
+one_offer mine k e = cc
+
+none_offered : {A : Type 0} → (k : OpenOffer) → None ≡ Some k → A
+none_offered k e = absurd (cc)
+
+at_una : (una syn place : ℕ) → una < 2 ^ 32 → syn ≡ 0 → place ≡ 0 → (una + (syn + place)) % 2 ^ 32 ≡ una
+at_una una syn place small none first = omega arith
+
+first_place : (flight syn : ℕ) → flight ≡ 0 → flight - syn ≡ 0
+first_place flight syn e = omega arith
+
+module _ (cx : ContextValue) (v : TcpValue) (small : v.block.sender.una.0 < 2 ^ 32) (syn : v.block.sender.syn_unacked ≡ false) (over : StartsOver cx v) where
+  abbrev AtUna : Offered TcpValue → Type 0
+  AtUna o = (k : OpenOffer) → o.socket.offered ≡ Some k → carries k.kind ≡ true → k.segment.seq_number.0 ≡ v.block.sender.una.0
+
+  -- it begins at a place of the send queue
+  by_place :
+      (kind : OfferKind) (x : TcpValue) (pair : EndpointPair) (header : TcpHeader) (place len : ℕ) → header.seq_number.0 ≡ v.block.sender.una.0
+      → AtUna (offer_segment kind cx x pair header place len)
+  by_place kind x pair header place len number k e _ = ap (λ (o : OpenOffer). o.segment.seq_number.0) (sym (one_offer mine k e)) ∙ number where
+    mine : OpenOffer
+    mine = record {
+      kind = kind;
+      moment = cx.moment;
+      header = header_for pair.addresses (hops_of x.block.settings.hop_limit) (header_len header + len);
+      segment = header;
+      place = place;
+      len = len;
+    }
+
+  by_choice :
+      (kind : OfferKind) (x : TcpValue) (pair : EndpointPair) (c : Choice) → (number_at x.block c.place).0 ≡ v.block.sender.una.0
+      → AtUna (offer_choice kind cx x pair c)
+  by_choice kind x pair c number =
+      by_place kind x pair (segment x.block pair cx.moment (window_of x) (control_for c (queued_in x)) (number_at x.block c.place)) c.place c.len number
+
+  -- it carries nothing
+  by_bare :
+      (kind : OfferKind) (x : TcpValue) (pair : EndpointPair) (header : TcpHeader) (place len : ℕ) → carries kind ≡ false
+      → AtUna (offer_segment kind cx x pair header place len)
+  by_bare kind x pair header place len bare k e some = clash (sym some ∙ (ap (λ (o : OpenOffer). carries o.kind) (sym (one_offer mine k e)) ∙ bare)) where
+    mine : OpenOffer
+    mine = record {
+      kind = kind;
+      moment = cx.moment;
+      header = header_for pair.addresses (hops_of x.block.settings.hop_limit) (header_len header + len);
+      segment = header;
+      place = place;
+      len = len;
+    }
+
+  no_syn : one_if v.block.sender.syn_unacked ≡ 0
+  no_syn = ap one_if syn
+
+  number_of : (place : ℕ) → place ≡ 0 → (v.block.sender.una.0 + (one_if v.block.sender.syn_unacked + place)) % 2 ^ 32 ≡ v.block.sender.una.0
+  number_of place first = at_una v.block.sender.una.0 (one_if v.block.sender.syn_unacked) place small no_syn first
+
+  by_first :
+      (pair : EndpointPair) (b : Block) → b.sender.una ≡ v.block.sender.una → b.sender.syn_unacked ≡ v.block.sender.syn_unacked → b.sender.in_flight ≡ 0
+      → FirstRules cx pair AtUna (with_block (unoffered v) b)
+  by_first pair b una same none = record {
+    syn = λ _. by_place Kind.Syn w pair (syn_segment w.block pair cx.moment cx.ip_mtu (room_of w.received) (free_in w)) 0 0 (ap (λ (s : SeqNumber). s.0) una);
+    again = λ _ _. by_choice Kind.FastRetransmission w pair (resend_choice w.block pair.addresses cx.ip_mtu w.queued) (at_place 0 refl);
+    text = λ _ _. by_choice Kind.Text w pair (text_choice w.block pair.addresses cx.ip_mtu w.queued) (at_place (next_place b) first);
+    last = λ _.
+        record {
+          probe = λ _ _. by_choice Kind.Probe x pair probe_choice (at_place 0 refl);
+          held_back = λ _ _. by_choice Kind.Text x pair (text_choice x.block pair.addresses cx.ip_mtu x.queued) (at_place (next_place b) first);
+          ack = λ _. by_bare Kind.Ack x pair (ack_segment x.block pair cx.moment (window_of x)) 0 0 refl;
+          update = λ _ _. by_bare Kind.WindowUpdate x pair (ack_segment x.block pair cx.moment (window_of x)) 0 0 refl;
+          keep_alive = λ _ _. by_bare Kind.KeepAlive x pair (keep_alive_segment x.block pair cx.moment (window_of x)) 0 1 refl;
+          quiet = λ _ k e _. none_offered k e;
+        };
+  }
+    where
+      w : TcpValue
+      w = with_block (unoffered v) b
+
+      x : TcpValue
+      x = probing cx w
+
+      first : next_place b ≡ 0
+      first = first_place b.sender.in_flight (one_if b.sender.syn_unacked) none
+
+      at_place : (place : ℕ) → place ≡ 0 → (b.sender.una.0 + (one_if b.sender.syn_unacked + place)) % 2 ^ 32 ≡ v.block.sender.una.0
+      at_place place zero =
+          ap (λ (s : SeqNumber). (s.0 + (one_if b.sender.syn_unacked + place)) % 2 ^ 32) una
+          ∙ (ap (λ (t : Bool). (v.block.sender.una.0 + (one_if t + place)) % 2 ^ 32) same ∙ number_of place zero)
+
+  not_due : is_due cx.moment v.block.timers.retransmit_at ≡ false → v.block.sender.in_flight ≡ 0
+  not_due not = by over where
+    by : StartsOver cx v → v.block.sender.in_flight ≡ 0
+    by (inl none) = none
+    by (inr due) = clash (sym due ∙ not)
+
+  pub begins_at_una : AtUna (offer_of cx v)
+  begins_at_una =
+      by_rules cx v AtUna
+      (record {
+        nobody = λ _ k e _. none_offered k e;
+        time_wait = λ _ k e _. none_offered k e;
+        timeout = λ _ k e _. none_offered k e;
+        closed = λ _ k e _. none_offered k e;
+        reset = λ pair _ _. by_bare Kind.Reset (unoffered v) pair (reset_segment v.block pair cx.moment (window_of v)) 0 0 refl;
+        falls = λ _ _ _ k e _. none_offered k e;
+        over = λ _ _ _ k e _. none_offered k e;
+        backs = λ pair _ _ _. by_first pair (backed_off_now (begun cx v)) refl refl refl;
+        goes = λ pair _ _ not. by_first pair (begun cx v) refl refl (not_due not);
+      })
+
+pub again_at_una :
+    (cx : ContextValue) (v : TcpValue) (k : OpenOffer) → v.block.sender.una.0 < 2 ^ 32 → v.block.sender.syn_unacked ≡ false → StartsOver cx v
+    → (offer_of cx v).socket.offered ≡ Some k → carries k.kind ≡ true → k.segment.seq_number.0 ≡ v.block.sender.una.0
+again_at_una cx v k small syn over e some = begins_at_una cx v small syn over k e some

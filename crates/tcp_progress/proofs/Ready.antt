@@ -1,0 +1,298 @@
+-- Each side of a pair that events led to is ready: it is in order, what it has in flight has a timer, and a connection has its endpoints.
+use Rattle.std.proofs.Common.{◌≡◌, ℕ, ◌+◌, ◌==◌, ◌&&◌, min, not, true, false, List, length, take, Option, Some, None, is_some, refl, sym, ap, ◌∙◌}
+use Rattle.std.proofs.lemmas.Bool.{cond_both}
+use Rattle.ip_wire.specs.IpRepr.{IpRepr}
+use Rattle.ip_wire.specs.Tcp.{header_len}
+use Rattle.ip_wire.specs.TcpHeader.{TcpHeader}
+use Rattle.net_base.specs.RandomWords.{word}
+use Rattle.net_base.specs.Ring.{Ring, anchored, enqueued}
+use Rattle.socket_base.specs.Context.{ContextValue, next_random}
+use Rattle.socket_base.specs.Offers.{Offered, IsBefore, offered_as}
+use Rattle.socket_base.specs.declared.offer.Offer.TheVariants as Answer
+use Rattle.socket_base.specs.declared.poll_at.PollAt.TheVariants as At
+use Rattle.tcp_control.specs.Endpoints.{header_for}
+use Rattle.tcp_control.specs.Moments.{is_over, timeout_from}
+use Rattle.tcp_control.specs.States.{is_closed, is_listening, is_opening, is_time_wait, takes_writes, after_close}
+use Rattle.tcp_control.specs.declared.endpoints.EndpointPair.{EndpointPair}
+use Rattle.tcp_control.specs.declared.offer.OfferKind.{OfferKind}
+use Rattle.tcp_control.specs.declared.offer.OfferKind.TheVariants as Kind
+use Rattle.tcp_control.specs.declared.offer.OpenOffer.{OpenOffer}
+use Rattle.tcp_control.specs.declared.state.State.{State}
+use Rattle.tcp_control.specs.declared.state.State.TheVariants as In
+use Rattle.tcp_model.specs.Acknowledged.{windowed}
+use Rattle.tcp_model.specs.Arrival.{arrives, waiting_anew}
+use Rattle.tcp_model.specs.Calls.{listening, connecting, connected_by, pair_for, sent_more}
+use Rattle.tcp_model.specs.Due.{poll_of}
+use Rattle.tcp_model.specs.Offers.{offer_of, number_at}
+use Rattle.tcp_model.specs.Retries.{heard, asked, one_more}
+use Rattle.tcp_model.specs.Rules.{backed_off_now, probe_choice, control_for}
+use Rattle.tcp_model.specs.Segments.{hops_of, segment, keep_alive_segment}
+use Rattle.tcp_model.specs.Settled.{settled, recorded, probed, end_of}
+use Rattle.tcp_model.specs.Value.{TcpValue, Arrived, with_block, unoffered, ended, new_socket, queued_in, room_of, window_of}
+use Rattle.tcp_model.specs.declared.block.Block.{Block}
+use Rattle.tcp_model.specs.declared.block.Names.{Names}
+use Rattle.tcp_pair_model.specs.Sides.{at}
+use Rattle.tcp_pair_model.specs.Values.{PairValue, new_pair}
+use Rattle.tcp_pair_model.specs.declared.event.Side.{Side}
+use Rattle.tcp_rules.proofs.ArrivalCases.{by_arrival, Received, Opening, Content, Drawing, acked_open, heeded}
+use Rattle.tcp_rules.proofs.ArrivalRules.{arrival_goes}
+use Rattle.tcp_rules.proofs.OfferCases.{FirstRules, by_rules, begun, probing}
+use Rattle.tcp_rules.proofs.OfferRules.{offer_sent_goes, offer_goes}
+use Rattle.tcp_rules.proofs.OrderRules.{event_order, new_order}
+use Rattle.tcp_rules.proofs.OrderSteps.{clash}
+use Rattle.tcp_rules.proofs.WaitingRules.{names_moment, acts_then}
+use Rattle.tcp_rules.specs.Events.{Event, after, is_past}
+use Rattle.tcp_rules.specs.Events.Event.{Comes, Asked, Listens, Connects, Sends, Reads, Closes, Aborts, Sets}
+use Rattle.tcp_rules.specs.Events.Setting.{Timeout, KeepAlive, AckDelay, Nagle, HopLimit, Timestamps, Paused, Retries, Congestion, MinRto}
+use Rattle.tcp_rules.specs.Flight.{flight_of, IsArmed}
+use Rattle.tcp_rules.specs.InOrder.{sending_of, IsInOrder}
+use Rattle.tcp_rules.specs.Waiting.{IsWaiting}
+use Rattle.tcp_progress.specs.Reached.{IsReached, Owes}
+use Rattle.tcp_progress.proofs.Events.{of_side, by_steps}
+
+-- A TIMER
+
+abbrev Armed : TcpValue → Type 0
+Armed v = IsArmed (flight_of v.block)
+
+nothing_out : (v : TcpValue) → v.block.sender.in_flight ≡ 0 → Armed v
+nothing_out v none = λ some. clash (sym (ap (λ (n : ℕ). n == 0) none) ∙ some)
+
+connected_armed : (v : TcpValue) (names : Option EndpointPair) (number : ℕ) → Armed v → Armed (connected_by v names number)
+connected_armed v None number a = a
+connected_armed v (Some pair) number a = nothing_out (connecting v pair number) refl
+
+event_armed : (v : TcpValue) (it : Event) → Armed v → Armed (after v it)
+event_armed v (Sets (Timeout duration)) a = a
+event_armed v (Sets (KeepAlive interval)) a = a
+event_armed v (Sets (AckDelay duration)) a = a
+event_armed v (Sets (Nagle enabled)) a = a
+event_armed v (Sets (HopLimit limit)) a = a
+event_armed v (Sets (Timestamps generator)) a = a
+event_armed v (Sets (Paused paused)) a = a
+event_armed v (Sets (Retries limit)) a = a
+event_armed v (Sets (Congestion control)) a = a
+event_armed v (Sets (MinRto duration)) a = a
+event_armed v (Comes cx ip header bytes) a = (arrival_goes cx v ip header bytes).armed a
+event_armed v (Asked cx true) a = (offer_sent_goes cx v).armed a
+event_armed v (Asked cx false) a = (offer_goes cx v).armed a
+event_armed v (Listens endpoint) a =
+    cond_both (is_closed v.block.state && not (endpoint.port == 0)) (listening v endpoint) (unoffered v) Armed
+    (λ _. nothing_out (listening v endpoint) refl) (λ _. a)
+event_armed v (Connects cx remote local) a =
+    cond_both (is_closed v.block.state) (connected_by v (pair_for cx remote local) (word (next_random cx).random)) (unoffered v) Armed
+    (λ _. connected_armed v (pair_for cx remote local) (word (next_random cx).random) a) (λ _. a)
+event_armed v (Sends bytes) a = cond_both (takes_writes v.block.state) (sent_more v (enqueued (anchored v.queued) (take (min (length bytes) (length v.queued.free)) bytes))) (unoffered v) Armed (λ _. a) (λ _. a)
+event_armed v (Reads count) a = a
+event_armed v Closes a =
+    cond_both (is_opening v.block.state) (ended (unoffered v)) (with_block (unoffered v) (record v.block { state = after_close v.block.state })) Armed (λ _. a) (λ _. a)
+event_armed v Aborts a =
+    cond_both (is_time_wait v.block.state) (ended (unoffered v))
+    (with_block (unoffered v) (record v.block { state = In.Closed; sender = record v.block.sender { reset_due = is_some v.block.names.pair } })) Armed (λ _. a) (λ _. a)
+
+-- ENDPOINTS
+
+abbrev Named : TcpValue → Type 0
+Named v = is_closed v.block.state ≡ false → is_listening v.block.state ≡ false → is_some v.block.names.pair ≡ true
+
+past_open : (state : State) → is_past state ≡ true → (is_closed state ≡ false) × (is_listening state ≡ false)
+past_open In.Closed past = clash (sym past)
+past_open In.Listen past = clash (sym past)
+past_open In.SynSent past = clash (sym past)
+past_open other past = (refl, refl)
+
+module _ (cx : ContextValue) (ip : IpRepr) (header : TcpHeader) (bytes : List ℕ) where
+  abbrev NamedAfter : Arrived → Type 0
+  NamedAfter a = Named a.socket
+
+  named_drawing : (x : TcpValue) → is_some x.block.names.pair ≡ true → Drawing cx ip header bytes NamedAfter x
+  named_drawing x some = record { answers = λ _ _ _. some; pauses = λ _ _. some }
+
+  named_content : (x : TcpValue) → is_some x.block.names.pair ≡ true → Content cx ip header bytes NamedAfter x
+  named_content x some = record {
+    plain = λ _ _. some;
+    fin = λ _ _ _ _. some;
+    ordered = λ _ _ _ _ _ _. some;
+    ordered_fin = λ _ _ _ _ _ _. some;
+    early = λ _ _ _ _ _ _. some;
+  }
+
+  named_received : (u : TcpValue) → is_some u.block.names.pair ≡ true → Received cx ip header bytes NamedAfter u
+  named_received u some = record {
+    stays = λ _ _. some;
+    refuses = λ _ _. some;
+    draws = named_drawing u some;
+    falls = λ _ _ _ _ listens. clash listens;
+    ends = λ _ _ _ closed _. clash closed;
+    closes = λ _ _ _ closed _. clash closed;
+    taken = λ by passes alive. named_content (heeded cx.moment header (length bytes) u by (acked_open u by cx.moment).block) some;
+    taken_window = λ by passes alive. named_content (heeded cx.moment header (length bytes) u by (windowed (acked_open u by cx.moment).block header)) some;
+    news = λ by passes alive. named_drawing (waiting_anew (acked_open u by cx.moment) header cx.moment) some;
+    outside = named_drawing (waiting_anew u header cx.moment) some;
+    old = λ _. named_content (with_block u (heard u.block)) some;
+  }
+
+  named_opening : (u : TcpValue) → Named u → Opening cx ip header bytes NamedAfter u
+  named_opening u n = record {
+    opens = λ _ _ _ _. refl;
+    refuses = n;
+    ends = λ _ closed _. clash closed;
+    connects = λ at _ _ _. n (ap is_closed at) (ap is_listening at);
+    crosses = λ at _ _ _. n (ap is_closed at) (ap is_listening at);
+  }
+
+  named_arrival : (v : TcpValue) → Named v → Named (arrives cx v ip header bytes).socket
+  named_arrival v n =
+      by_arrival cx ip header bytes NamedAfter v n (λ _. named_opening (unoffered v) n)
+      (λ past. let it = past_open v.block.state past in named_received (unoffered v) (n it.0 it.1))
+
+module _ (cx : ContextValue) (v : TcpValue) (n : Named v) where
+  abbrev NamedBoth : Offered TcpValue → Type 0
+  NamedBoth o = Named (settled true o.socket) × Named o.socket
+
+  abbrev NamedBlock : Block → Type 0
+  NamedBlock b = is_closed b.state ≡ false → is_listening b.state ≡ false → is_some b.names.pair ≡ true
+
+  -- a question counts
+  asked_named : (b : Block) → NamedBlock b → NamedBlock (asked b cx.moment)
+  asked_named b m =
+      cond_both (is_over cx.moment b.timers.counts_from)
+      (record b {
+        sender = record b.sender { unanswered = one_more b.sender.unanswered };
+        timers = record b.timers { counts_from = Some (timeout_from cx.moment b.round_trip) };
+      })
+      b NamedBlock (λ _. m) (λ _. m)
+
+  abbrev opened_by : OfferKind → TcpValue → EndpointPair → TcpHeader → ℕ → ℕ → OpenOffer
+  opened_by kind x pair header place len = record {
+    kind = kind;
+    moment = cx.moment;
+    header = header_for pair.addresses (hops_of x.block.settings.hop_limit) (header_len header + len);
+    segment = header;
+    place = place;
+    len = len;
+  }
+
+  named_first : (pair : EndpointPair) (b : Block) → b.state ≡ v.block.state → b.names ≡ v.block.names → FirstRules cx pair NamedBoth (with_block (unoffered v) b)
+  named_first pair b state names = record {
+    syn = λ _. (m, m);
+    again = λ _ _. (m, m);
+    text = λ _ _. (m, m);
+    last = λ _.
+        record {
+          probe = λ _ _.
+              let o = opened_by Kind.Probe x pair (segment x.block pair cx.moment (window_of x) (control_for probe_choice (queued_in x)) (number_at x.block 0)) 0 1 in
+              (asked_named (probed (recorded x.block o (room_of x.received)) (end_of (recorded x.block o (room_of x.received)) o) cx.moment) m, m);
+          held_back = λ _ _. (m, m);
+          ack = λ _. (m, m);
+          update = λ _ _. (m, m);
+          keep_alive = λ _ _.
+              let o = opened_by Kind.KeepAlive x pair (keep_alive_segment x.block pair cx.moment (window_of x)) 0 1 in
+              (asked_named (recorded x.block o (room_of x.received)) m, m);
+          quiet = λ _. (m, m);
+        };
+  }
+    where
+      x : TcpValue
+      x = probing cx (with_block (unoffered v) b)
+
+      m : is_closed b.state ≡ false → is_listening b.state ≡ false → is_some b.names.pair ≡ true
+      m alive listens = ap (λ (x : Names). is_some x.pair) names ∙ n (sym (ap is_closed state) ∙ alive) (sym (ap is_listening state) ∙ listens)
+
+  named_offer : NamedBoth (offer_of cx v)
+  named_offer =
+      by_rules cx v NamedBoth
+      (record {
+        nobody = λ _. (n, n);
+        time_wait = λ _. (λ closed _. clash closed, λ closed _. clash closed);
+        timeout = λ _. (λ closed _. clash closed, λ closed _. clash closed);
+        closed = λ _. (n, n);
+        reset = λ _ _ _. (λ closed _. clash closed, n);
+        falls = λ _ _ _. (λ _ listens. clash listens, λ _ listens. clash listens);
+        over = λ _ _ _. (λ closed _. clash closed, λ closed _. clash closed);
+        backs = λ pair _ _ _. named_first pair (backed_off_now (begun cx v)) refl refl;
+        goes = λ pair _ _ _. named_first pair (begun cx v) refl refl;
+      })
+
+closes_open : (state : State) → is_closed (after_close state) ≡ false → (is_closed state ≡ false) × (is_listening state ≡ false)
+closes_open In.Closed e = clash e
+closes_open In.Listen e = clash e
+closes_open In.SynSent e = clash e
+closes_open other e = (refl, refl)
+
+connected_named : (v : TcpValue) (names : Option EndpointPair) (number : ℕ) → Named v → Named (connected_by v names number)
+connected_named v None number n = n
+connected_named v (Some pair) number n = λ _ _. refl
+
+event_named : (v : TcpValue) (it : Event) → Named v → Named (after v it)
+event_named v (Comes cx ip header bytes) n = named_arrival cx ip header bytes v n
+event_named v (Asked cx true) n = (named_offer cx v n).0
+event_named v (Asked cx false) n = (named_offer cx v n).1
+event_named v (Listens endpoint) n =
+    cond_both (is_closed v.block.state && not (endpoint.port == 0)) (listening v endpoint) (unoffered v) Named
+    (λ _ _ listens. clash listens) (λ _. n)
+event_named v (Connects cx remote local) n =
+    cond_both (is_closed v.block.state) (connected_by v (pair_for cx remote local) (word (next_random cx).random)) (unoffered v) Named
+    (λ _. connected_named v (pair_for cx remote local) (word (next_random cx).random) n) (λ _. n)
+event_named v (Sends bytes) n =
+    cond_both (takes_writes v.block.state) (sent_more v (enqueued (anchored v.queued) (take (min (length bytes) (length v.queued.free)) bytes))) (unoffered v) Named (λ _. n) (λ _. n)
+event_named v (Reads count) n = n
+event_named v Closes n =
+    cond_both (is_opening v.block.state) (ended (unoffered v)) (with_block (unoffered v) (record v.block { state = after_close v.block.state })) Named
+    (λ _ closed _. clash closed)
+    (λ _ closed _. let it = closes_open v.block.state closed in n it.0 it.1)
+event_named v Aborts n =
+    cond_both (is_time_wait v.block.state) (ended (unoffered v))
+    (with_block (unoffered v) (record v.block { state = In.Closed; sender = record v.block.sender { reset_due = is_some v.block.names.pair } })) Named
+    (λ _ closed _. clash closed) (λ _ closed _. clash closed)
+event_named v (Sets (Timeout duration)) n = n
+event_named v (Sets (KeepAlive interval)) n = n
+event_named v (Sets (AckDelay duration)) n = n
+event_named v (Sets (Nagle enabled)) n = n
+event_named v (Sets (HopLimit limit)) n = n
+event_named v (Sets (Timestamps generator)) n = n
+event_named v (Sets (Paused paused)) n = n
+event_named v (Sets (Retries limit)) n = n
+event_named v (Sets (Congestion control)) n = n
+event_named v (Sets (MinRto duration)) n = n
+
+-- ALL THREE
+
+pub record IsReady (v : TcpValue) : Type 0 where
+  pub order : IsInOrder (sending_of v)
+  pub armed : IsArmed (flight_of v.block)
+  pub named : is_closed v.block.state ≡ false → is_listening v.block.state ≡ false → is_some v.block.names.pair ≡ true
+
+event_ready : (v : TcpValue) (it : Event) → IsReady v → IsReady (after v it)
+event_ready v it r = record { order = event_order v it r.order; armed = event_armed v it r.armed; named = event_named v it r.named }
+
+unoffered_ready : (v : TcpValue) → IsReady v → IsReady (unoffered v)
+unoffered_ready v r = record { order = r.order; armed = r.armed; named = r.named }
+
+new_ready : (room : ℕ) (ring : Ring ℕ) → IsReady (new_socket room ring)
+new_ready room ring = record { order = new_order room ring; armed = nothing_out (new_socket room ring) refl; named = λ closed _. clash closed }
+
+pub ready_side : (p : PairValue) (side : Side) → IsReached p → IsReady (at p.sides side).socket
+ready_side p side r =
+    of_side IsReady p.sides side
+    (by_steps IsReady event_ready unoffered_ready (new_pair (new_socket r.room_a r.ring_a) (new_socket r.room_b r.ring_b)) r.events p r.steps
+    (record { first = new_ready r.room_a r.ring_a; second = new_ready r.room_b r.ring_b }))
+
+some_pair : (names : Option EndpointPair) → is_some names ≡ true → (pair : EndpointPair) × (names ≡ Some pair)
+some_pair None e = clash (sym e)
+some_pair (Some pair) e = (pair, refl)
+
+waiting : (v : TcpValue) → IsReady v → Owes v → (pair : EndpointPair) × IsWaiting v pair
+waiting v r o =
+    let it = some_pair v.block.names.pair (r.named o.alive o.connected) in
+    (it.0, record { named = it.1; alive = o.alive; owes = o.owes; unpaused = o.unpaused; order = r.order; armed = r.armed })
+
+pub names_in : (p : PairValue) (side : Side) (cx : ContextValue) → IsReached p → Owes (at p.sides side).socket → poll_of cx.ip_mtu (at p.sides side).socket ≡ At.Ingress → ⊥
+names_in p side cx r o =
+    let w = waiting (at p.sides side).socket (ready_side p side r) o in names_moment cx (at p.sides side).socket w.0 w.1
+
+pub acts_in :
+    (p : PairValue) (side : Side) (cx : ContextValue) → IsReached p → Owes (at p.sides side).socket
+    → (IsBefore cx.moment (poll_of cx.ip_mtu (at p.sides side).socket) → ⊥)
+    → offer_of cx (at p.sides side).socket ≡ offered_as (Answer.Silent false) (unoffered (at p.sides side).socket) → ⊥
+acts_in p side cx r o = let w = waiting (at p.sides side).socket (ready_side p side r) o in acts_then cx (at p.sides side).socket w.0 w.1

@@ -1,0 +1,449 @@
+-- Text and a FIN that come at RCV.NXT, or begin before it, raise it; what was taken already is answered.
+use Rattle.std.proofs.Common.{◌≡◌, ◌⊎◌, inl, inr, ℕ, ◌+◌, ◌-◌, ◌%◌, ◌^◌, ◌<◌, ◌≤◌, ◌==◌, ◌&&◌, ◌||◌, nat_le, nat_lt, not, min, ℤ, ◌≤ℤ◌, int_lt, pos, ◌+ℤ◌, Bool, true, false, if◌then◌else◌, List, [], ◌∷◌, length, drop, Option, Some, None, refl, sym, ap, ◌∙◌, subst, arith, length-drop}
+use Rattle.std.proofs.lemmas.Bool.{cond_both, le-ltb, lt-ltb, eq-eqb, ne_eqb, le-leb, ltb-true, ltb-false}
+use Rattle.std.proofs.lemmas.Int.{ints}
+use Rattle.ip_wire.specs.Control.{control_len}
+use Rattle.ip_wire.specs.IpRepr.{IpRepr}
+use Rattle.ip_wire.specs.Seq.{distance_of}
+use Rattle.ip_wire.specs.SeqNumber.{SeqNumber}
+use Rattle.ip_wire.specs.TcpControl.{TcpControl}
+use Rattle.ip_wire.specs.TcpControl.TheVariants as Control
+use Rattle.ip_wire.specs.TcpHeader.{TcpHeader}
+use Rattle.net_base.specs.Time.{last_moment}
+use Rattle.socket_base.specs.Context.{ContextValue}
+use Rattle.tcp_control.specs.Controls.{is_syn, is_fin}
+use Rattle.tcp_control.specs.Offsets.{past_by, before_by, behind_by, meets_window}
+use Rattle.tcp_control.specs.States.{is_closed, takes_text, after_ack, after_ack_of_fin}
+use Rattle.tcp_control.specs.declared.state.State.{State}
+use Rattle.tcp_control.specs.declared.state.State.TheVariants as In
+use Rattle.tcp_law.specs.ReceiveMap.{store, front}
+use Rattle.tcp_model.specs.Acknowledged.{acknowledged, acks_fin, state_after_ack, names_window, windowed, duplicates_after}
+use Rattle.tcp_model.specs.Answers.{drawn, may_draw, with_draw, acked, answer_for, delayed, sooner, ack_moment_after}
+use Rattle.tcp_model.specs.Arrival.{arrives, checked, inside, taken, continued, told, with_content, finished, passed_outside, outside, tells_news, waiting_anew}
+use Rattle.tcp_model.specs.Checks.{is_in_window, lies_before}
+use Rattle.tcp_model.specs.Checks.Check.{Passes}
+use Rattle.tcp_model.specs.Probing.{probe_kept}
+use Rattle.tcp_model.specs.Segments.{segment_len, reply_to, sack_segment, hops_of}
+use Rattle.tcp_control.specs.Endpoints.{pair_in}
+use Rattle.tcp_model.specs.Text.{Texted, texted, with_text, with_text_at, with_bytes_at, taken_in_order, is_holding, laid, has_new_text, takes_fin, fin_taken}
+use Rattle.tcp_model.specs.Value.{TcpValue, Received, Arrived, with_block, dropped, unoffered, queued_in, free_in, room_of, window_of}
+use Rattle.tcp_model.specs.declared.block.Block.{Block}
+use Rattle.tcp_model.specs.declared.block.Receiver.{Receiver}
+use Rattle.tcp_tie.proofs.Tied.{if_so, if_not}
+use Rattle.tcp_rules.proofs.ArrivalCases.{acked_cases, acked_open, heeded}
+use Rattle.tcp_rules.proofs.OrderSteps.{clash}
+use Rattle.tcp_rules.specs.Acks.{IsDueWithin}
+use Rattle.tcp_progress.specs.Arrivals.{Counts, IsNew, Rises, IsAgain, IsAnswered}
+use Rattle.tcp_progress.proofs.Acked.{comes_to, not_answering}
+
+-- WHERE IT BEGINS
+
+both_small : (m n : ℕ) → m < 2 ^ 32 → n < 2 ^ 32 → (n + (2 ^ 32 - m)) % 2 ^ 32 < 2 ^ 31 → (m + (2 ^ 32 - n)) % 2 ^ 32 < 2 ^ 31
+    → ((m + (2 ^ 32 - n)) % 2 ^ 32 ≡ 0) × (0 ≡ (n + (2 ^ 32 - m)) % 2 ^ 32)
+both_small m n a b c d = (omega arith, omega arith)
+
+turned : (m n : ℕ) → m < 2 ^ 32 → n < 2 ^ 32 → (n + (2 ^ 32 - m)) % 2 ^ 32 < 2 ^ 31 → 2 ^ 31 ≤ (m + (2 ^ 32 - n)) % 2 ^ 32
+    → 2 ^ 32 - (m + (2 ^ 32 - n)) % 2 ^ 32 ≡ (n + (2 ^ 32 - m)) % 2 ^ 32
+turned m n a b c d = omega arith
+
+below : (a b : ℕ) → nat_lt a b ≡ true → a < b
+below a b e = ltb-true a b e
+
+not_below : (a b : ℕ) → nat_lt a b ≡ false → b ≤ a
+not_below a b e = ltb-false a b e
+
+-- the segment begins so far before RCV.NXT
+pub record Begins (next seq : SeqNumber) : Type 0 where
+  pub past : past_by next seq ≡ 0
+  pub before : before_by next seq ≡ distance_of seq next
+
+pub begins : (next seq : SeqNumber) → seq.0 < 2 ^ 32 → next.0 < 2 ^ 32 → distance_of seq next < 2 ^ 31 → Begins next seq
+begins next seq a b near = at (nat_lt (distance_of next seq) (2 ^ 31)) refl where
+  at : (t : Bool) → nat_lt (distance_of next seq) (2 ^ 31) ≡ t → Begins next seq
+  at true e =
+      let it = both_small seq.0 next.0 a b near (below (distance_of next seq) (2 ^ 31) e) in
+      record {
+        past = ap (λ (t : Bool). if t then distance_of next seq else 0) e ∙ it.0;
+        before = ap (λ (t : Bool). if t then 0 else 2 ^ 32 - distance_of next seq) e ∙ it.1;
+      }
+  at false e = record {
+    past = ap (λ (t : Bool). if t then distance_of next seq else 0) e;
+    before = ap (λ (t : Bool). if t then 0 else 2 ^ 32 - distance_of next seq) e ∙ turned seq.0 next.0 a b near (not_below (distance_of next seq) (2 ^ 31) e);
+  }
+
+-- THE WINDOW
+
+some_of : (d size : ℕ) → d < size → size ≡ 0 → ⊥
+some_of d size e f = absurd (omega arith)
+
+meets : (d size space : ℕ) → 1 ≤ space → d < size → meets_window d 0 size space ≡ true
+meets d size space room e =
+    if_not (size == 0) ((d == 0) && true) (nat_lt 0 space && nat_lt d size) (ne_eqb size 0 (some_of d size e))
+    ∙ (ap (λ (t : Bool). t && nat_lt d size) (lt-ltb 0 space room) ∙ lt-ltb d size e)
+
+pub new_is_inside : (v : TcpValue) (header : TcpHeader) (size : ℕ) → IsNew v header size → is_in_window v.block (free_in v) header size ≡ true
+new_is_inside v header size n =
+    let it = begins v.block.receiver.next header.seq_number n.seq_small n.next_small n.begins in
+    ap (λ (d : ℕ). meets_window d (past_by v.block.receiver.next header.seq_number) (segment_len header size) (free_in v)) it.before
+    ∙ (ap (λ (p : ℕ). meets_window (distance_of header.seq_number v.block.receiver.next) p (segment_len header size) (free_in v)) it.past
+    ∙ meets (distance_of header.seq_number v.block.receiver.next) (segment_len header size) (free_in v) n.room n.ends)
+
+meets_not : (d size space : ℕ) → 1 ≤ size → size ≤ d → meets_window d 0 size space ≡ false
+meets_not d size space some e =
+    if_not (size == 0) ((d == 0) && true) (nat_lt 0 space && nat_lt d size) (ne_eqb size 0 (none size some)) ∙ second (nat_lt 0 space) (nat_lt d size) (le-ltb d size e)
+  where
+    none : (n : ℕ) → 1 ≤ n → n ≡ 0 → ⊥
+    none n e f = absurd (omega arith)
+
+    second : (x y : Bool) → y ≡ false → (x && y) ≡ false
+    second true y e = e
+    second false y e = refl
+
+again_is_outside : (v : TcpValue) (header : TcpHeader) (size : ℕ) → IsAgain v header size → is_in_window v.block (free_in v) header size ≡ false
+again_is_outside v header size n =
+    let it = begins v.block.receiver.next header.seq_number n.seq_small n.next_small n.begins in
+    ap (λ (d : ℕ). meets_window d (past_by v.block.receiver.next header.seq_number) (segment_len header size) (free_in v)) it.before
+    ∙ (ap (λ (p : ℕ). meets_window (distance_of header.seq_number v.block.receiver.next) p (segment_len header size) (free_in v)) it.past
+    ∙ meets_not (distance_of header.seq_number v.block.receiver.next) (segment_len header size) (free_in v) n.some n.ends)
+
+before_so : (d size far : ℕ) → 1 ≤ size → size ≤ d → d ≤ far → (not (d == 0) && (nat_le size d && nat_le d far)) ≡ true
+before_so d size far some e f =
+    ap (λ (t : Bool). not t && (nat_le size d && nat_le d far)) (ne_eqb d 0 (none d size some e))
+    ∙ (ap (λ (t : Bool). t && nat_le d far) (le-leb size d e) ∙ le-leb d far f)
+  where
+    none : (d size : ℕ) → 1 ≤ size → size ≤ d → d ≡ 0 → ⊥
+    none d size some e f = absurd (omega arith)
+
+pub again_lies_before : (v : TcpValue) (header : TcpHeader) (size : ℕ) → IsAgain v header size → lies_before v.block (room_of v.received) header size ≡ true
+again_lies_before v header size n =
+    let it = begins v.block.receiver.next header.seq_number n.seq_small n.next_small n.begins in
+    ap (λ (d : ℕ). not (d == 0) && (nat_le (segment_len header size) d && nat_le d (room_of v.received + 2))) it.before
+    ∙ before_so (distance_of header.seq_number v.block.receiver.next) (segment_len header size) (room_of v.received + 2) n.some n.ends n.near
+
+-- WHAT IS DUE
+
+now_or_later : (now : ℤ) (n : ℕ) → now ≤ℤ (now +ℤ pos n)
+now_or_later now n = first_of (omega (arith, ints), grind (arith, ints))
+
+after_delay : (now : ℤ) (delay : Option ℕ) → now ≤ℤ delayed now delay
+after_delay now None = same where
+  same : now ≤ℤ now
+  same = grind arith
+after_delay now (Some delay) = now_or_later now (min delay last_moment)
+
+sooner_within : (at : Option ℤ) (limit : ℤ) → sooner at limit ≤ℤ limit
+sooner_within None limit = same where
+  same : limit ≤ℤ limit
+  same = grind arith
+sooner_within (Some other) limit = cond_both (int_lt limit other) limit other (λ (m : ℤ). m ≤ℤ limit) (λ _. same) (λ e. not_less e) where
+  same : limit ≤ℤ limit
+  same = grind arith
+
+  not_less : int_lt limit other ≡ false → other ≤ℤ limit
+  not_less e = grind arith
+
+module _ (b : Block) (header : TcpHeader) (size : ℕ) (fills : Bool) (now : ℤ) where
+  abbrev Within : Option ℤ → Type 0
+  Within at = IsDueWithin at (delayed now b.settings.ack_delay)
+
+  at_once : Within (Some now)
+  at_once = record { moment = now; due = refl; soon = after_delay now b.settings.ack_delay }
+
+  -- with text or a FIN
+  within : (is_fin header.control ≡ true) ⊎ ((size == 0) ≡ false) → Within (ack_moment_after b header size fills now)
+  within (inl fin) =
+      subst (λ (f : Bool). Within (if f || fills then Some now
+      else if size == 0 then b.timers.ack_at else if b.timers.text_unacked then Some now else Some (sooner b.timers.ack_at (delayed now b.settings.ack_delay)))) (sym fin) at_once
+  within (inr some) =
+      cond_both (is_fin header.control || fills) (Some now)
+      (if size == 0 then b.timers.ack_at else if b.timers.text_unacked then Some now else Some (sooner b.timers.ack_at (delayed now b.settings.ack_delay))) Within
+      (λ _. at_once)
+      (λ _.
+      cond_both (size == 0) b.timers.ack_at (if b.timers.text_unacked then Some now else Some (sooner b.timers.ack_at (delayed now b.settings.ack_delay))) Within
+      (λ none. clash (sym none ∙ some))
+      (λ _.
+      cond_both b.timers.text_unacked (Some now) (Some (sooner b.timers.ack_at (delayed now b.settings.ack_delay))) Within
+      (λ _. at_once)
+      (λ _.
+      record {
+        moment = sooner b.timers.ack_at (delayed now b.settings.ack_delay);
+        due = refl;
+        soon = sooner_within b.timers.ack_at (delayed now b.settings.ack_delay);
+      })))
+
+-- WHAT IS TAKEN
+
+-- all that the map has room for may be read
+front_least : (map : List (Option ℕ)) (bytes : List ℕ) → min (length bytes) (length map) ≤ length (front (store map 0 bytes))
+front_least [] bytes = omega arith
+front_least (entry ∷ map) [] = omega arith
+front_least (entry ∷ map) (byte ∷ bytes) = omega (arith, front_least map bytes)
+
+abbrev number : ℕ → SeqNumber
+number n = record { 0 = n }
+
+twice : (n a : ℕ) → ((n + a) % 2 ^ 32 + 1) % 2 ^ 32 ≡ (n + (a + 1)) % 2 ^ 32
+twice n a = omega arith
+
+one_more : (least a : ℕ) → least ≤ a → least ≤ a + 1
+one_more least a e = omega arith
+
+some_more : (a : ℕ) → 1 ≤ a → 1 ≤ a + 1
+some_more a e = omega arith
+
+fin_only : (control : TcpControl) (d size : ℕ) → is_syn control ≡ false → size ≤ d → d < size + control_len control → (is_fin control ≡ true) × (d + 0 ≡ size)
+fin_only Control.None d size no_syn e f = absurd (omega arith)
+fin_only Control.Psh d size no_syn e f = absurd (omega arith)
+fin_only Control.Syn d size no_syn e f = clash no_syn
+fin_only Control.Fin d size no_syn e f = (refl, omega arith)
+fin_only Control.Rst d size no_syn e f = absurd (omega arith)
+
+module _ (cx : ContextValue) (ip : IpRepr) (header : TcpHeader) (bytes : List ℕ) (x : TcpValue) (n : IsNew x header (length bytes)) (no_syn : is_syn header.control ≡ false) where
+  abbrev d : ℕ
+  d = distance_of header.seq_number x.block.receiver.next
+
+  abbrev size : ℕ
+  size = length bytes
+
+  at_next : Begins x.block.receiver.next header.seq_number
+  at_next = begins x.block.receiver.next header.seq_number n.seq_small n.next_small n.begins
+
+  abbrev rest : List ℕ
+  rest = drop d bytes
+
+  abbrev Risen : Arrived → Type 0
+  Risen a = Rises cx x header (length bytes) a
+
+  text : with_text x header bytes ≡ with_text_at x 0 rest
+  text =
+      ap (λ (p : ℕ). with_text_at x p (drop (before_by x.block.receiver.next header.seq_number) bytes)) at_next.past
+      ∙ ap (λ (k : ℕ). with_text_at x 0 (drop k bytes)) at_next.before
+
+  -- some of its text is new
+  by_text : d < size → Risen (finished cx x.block (with_text_at x 0 rest) ip header (length bytes))
+  by_text more = subst (λ (t : Texted). Risen (finished cx x.block t ip header (length bytes))) (sym is) taken_text where
+    long : length rest ≡ length bytes - d
+    long = length-drop d bytes
+
+    lots : (len whole : ℕ) → len ≡ whole - d → d < whole → len ≡ 0 → ⊥
+    lots len whole e f g = absurd (omega arith)
+
+    new : (takes_text x.block.state && has_new_text x 0 rest) ≡ true
+    new =
+        ap (λ (t : Bool). t && has_new_text x 0 rest) n.takes
+        ∙ (ap (λ (t : Bool). not t && nat_lt 0 (free_in x)) (ne_eqb (length rest) 0 (lots (length rest) (length bytes) long more)) ∙ lt-ltb 0 (free_in x) n.room)
+
+    map : List (Option ℕ)
+    map = laid x 0 rest
+
+    is : with_text_at x 0 rest ≡ taken_in_order x map
+    is = if_so (takes_text x.block.state && has_new_text x 0 rest) (with_bytes_at x 0 rest) (texted x 0 false None) new
+
+    advance : ℕ
+    advance = length (front map)
+
+    least : min (length rest) (free_in x) ≤ advance
+    least = front_least x.received.map rest
+
+    all : min (length bytes - d) (free_in x) ≤ advance
+    all = subst (λ (len : ℕ). min len (free_in x) ≤ advance) long least
+
+    some : 1 ≤ advance
+    some = at_least (length bytes) (free_in x) advance more n.room all where
+      at_least : (whole room a : ℕ) → d < whole → 1 ≤ room → min (whole - d) room ≤ a → 1 ≤ a
+      at_least whole room a e f g = omega arith
+
+    not_empty : (length bytes == 0) ≡ false
+    not_empty = ne_eqb (length bytes) 0 (some_of d (length bytes) more)
+
+    with_fin_or_not : (b : Block) → (by : ℕ) → b.receiver.next ≡ behind_by x.block.receiver.next by → 1 ≤ by → min (length bytes - d) (free_in x) ≤ by
+        → b.settings.ack_delay ≡ x.block.settings.ack_delay
+        → Risen (answer_for cx (with_block (taken_in_order x map).socket (probe_kept b (queued_in x))) ip header (length bytes) (is_holding x) None)
+    with_fin_or_not b by next one enough delay = record {
+      by = by;
+      next = next;
+      some = one;
+      all = enough;
+      due = subst (λ (wait : Option ℕ). IsDueWithin (ack_moment_after (probe_kept b (queued_in x)) header (length bytes) (is_holding x) cx.moment) (delayed cx.moment wait)) delay
+          (within (probe_kept b (queued_in x)) header (length bytes) (is_holding x) cx.moment (inr not_empty));
+    }
+
+    taken_text : Risen (finished cx x.block (taken_in_order x map) ip header (length bytes))
+    taken_text =
+        cond_both (takes_fin x.block header (length bytes) advance) (fin_taken (taken_in_order x map).socket.block cx.moment) (taken_in_order x map).socket.block
+        (λ (b : Block). Risen (answer_for cx (with_block (taken_in_order x map).socket (probe_kept b (queued_in x))) ip header (length bytes) (is_holding x) None))
+        (λ _.
+        with_fin_or_not (fin_taken (taken_in_order x map).socket.block cx.moment) (advance + 1) (ap number (twice x.block.receiver.next.0 advance)) (some_more advance some)
+        (one_more (min (length bytes - d) (free_in x)) advance all) refl)
+        (λ _. with_fin_or_not (taken_in_order x map).socket.block advance refl some all refl)
+
+  -- its FIN alone is
+  by_fin : size ≤ d → Risen (finished cx x.block (with_text_at x 0 rest) ip header (length bytes))
+  by_fin whole = subst (λ (t : Texted). Risen (finished cx x.block t ip header (length bytes))) (sym is) taken_fin where
+    fin : (is_fin header.control ≡ true) × (d + 0 ≡ length bytes)
+    fin = fin_only header.control d (length bytes) no_syn whole n.ends
+
+    nothing : (len size : ℕ) → len ≡ size - d → size ≤ d → len ≡ 0
+    nothing len size e f = omega arith
+
+    none : (length rest == 0) ≡ true
+    none = eq-eqb (length rest) 0 (nothing (length rest) (length bytes) (length-drop d bytes) whole)
+
+    second : (a c : Bool) → c ≡ false → (a && c) ≡ false
+    second true c e = e
+    second false c e = refl
+
+    is : with_text_at x 0 rest ≡ texted x 0 false None
+    is =
+        if_not (takes_text x.block.state && has_new_text x 0 rest) (with_bytes_at x 0 rest) (texted x 0 false None)
+        (second (takes_text x.block.state) (has_new_text x 0 rest) (ap (λ (t : Bool). not t && nat_lt 0 (free_in x)) none))
+
+    takes : takes_fin x.block header (length bytes) 0 ≡ true
+    takes =
+        ap (λ (t : Bool). t && (takes_text x.block.state && ((past_by x.block.receiver.next header.seq_number == 0) && (before_by x.block.receiver.next header.seq_number + 0 == length bytes)))) fin.0
+        ∙ (ap (λ (t : Bool). t && ((past_by x.block.receiver.next header.seq_number == 0) && (before_by x.block.receiver.next header.seq_number + 0 == length bytes))) n.takes
+        ∙ (ap (λ (p : ℕ). (p == 0) && (before_by x.block.receiver.next header.seq_number + 0 == length bytes)) at_next.past
+        ∙ (ap (λ (k : ℕ). k + 0 == length bytes) at_next.before ∙ eq-eqb (d + 0) (length bytes) fin.1)))
+
+    none_new : (size room : ℕ) → size ≤ d → min (size - d) room ≤ 1
+    none_new size room e = omega arith
+
+    one : 1 ≤ 1
+    one = omega arith
+
+    taken_fin : Risen (finished cx x.block (texted x 0 false None) ip header (length bytes))
+    taken_fin =
+        subst (λ (b : Block). Risen (answer_for cx (with_block x (probe_kept b (queued_in x))) ip header (length bytes) false None))
+        (sym (if_so (takes_fin x.block header (length bytes) 0) (fin_taken x.block cx.moment) x.block takes))
+        (record {
+          by = 1;
+          next = refl;
+          some = one;
+          all = none_new (length bytes) (free_in x) whole;
+          due = within (probe_kept (fin_taken x.block cx.moment) (queued_in x)) header (length bytes) false cx.moment (inl fin.0);
+        })
+
+  pub content_rises : Risen (with_content cx x ip header bytes)
+  content_rises = subst (λ (t : Texted). Risen (finished cx x.block t ip header (length bytes))) (sym text) (at (nat_lt d size) refl) where
+    at : (t : Bool) → nat_lt d size ≡ t → Risen (finished cx x.block (with_text_at x 0 rest) ip header (length bytes))
+    at true e = by_text (below d size e)
+    at false e = by_fin (not_below d size e)
+
+-- IT COMES
+
+takes_on : (state : State) (fin : Bool) → takes_text state ≡ true → takes_text (if fin then after_ack_of_fin state else after_ack state) ≡ true
+takes_on In.Established true e = refl
+takes_on In.Established false e = refl
+takes_on In.FinWait1 true e = refl
+takes_on In.FinWait1 false e = refl
+takes_on In.FinWait2 true e = refl
+takes_on In.FinWait2 false e = refl
+takes_on other fin e = clash (sym e)
+
+open_on : (state : State) → takes_text state ≡ true → is_closed state ≡ false
+open_on In.Closed e = clash (sym e)
+open_on other e = refl
+
+module _ (cx : ContextValue) (u : TcpValue) (ip : IpRepr) (header : TcpHeader) (bytes : List ℕ) (by : ℕ) (n : IsNew u header (length bytes)) (no_syn : is_syn header.control ≡ false) where
+  abbrev TextRises : Arrived → Type 0
+  TextRises a = Rises cx u header (length bytes) a
+
+  takes_after : takes_text (state_after_ack u.block by (queued_in u)) ≡ true
+  takes_after = takes_on u.block.state (acks_fin u.block by (queued_in u)) n.takes
+
+  -- what the text finds
+  new_of : (x : TcpValue) → takes_text x.block.state ≡ true → x.block.receiver ≡ u.block.receiver → x.received ≡ u.received → IsNew x header (length bytes)
+  new_of x takes receiver received = record {
+    takes = takes;
+    room = subst (λ (r : Received). 1 ≤ length r.map) (sym received) n.room;
+    begins = subst (λ (r : Receiver). distance_of header.seq_number r.next < 2 ^ 31) (sym receiver) n.begins;
+    ends = subst (λ (r : Receiver). distance_of header.seq_number r.next < segment_len header (length bytes)) (sym receiver) n.ends;
+    seq_small = n.seq_small;
+    next_small = subst (λ (r : Receiver). r.next.0 < 2 ^ 32) (sym receiver) n.next_small;
+  }
+
+  rises_taken : TextRises (taken cx u ip header bytes by)
+  rises_taken =
+      acked_cases u by cx.moment (λ (w : TcpValue). TextRises (continued cx u.block w ip header bytes by))
+      (λ closed. clash (sym closed ∙ open_on (state_after_ack u.block by (queued_in u)) takes_after))
+      (λ alive.
+      let x = acked_open u by cx.moment in
+      cond_both (is_closed x.block.state) (dropped x) (with_content cx (told x header (duplicates_after u.block header (length bytes) by) cx.moment) ip header bytes) TextRises
+      (λ closed. clash (sym closed ∙ alive))
+      (λ _.
+      cond_both (names_window x.block header) (windowed x.block header) x.block (λ (b : Block). TextRises (with_content cx (heeded cx.moment header (length bytes) u by b) ip header bytes))
+      (λ _.
+      let y = heeded cx.moment header (length bytes) u by (windowed x.block header) in
+      let r = content_rises cx ip header bytes y (new_of y takes_after refl refl) no_syn in
+      record { by = r.by; next = r.next; some = r.some; all = r.all; due = r.due })
+      (λ _.
+      let y = heeded cx.moment header (length bytes) u by x.block in
+      let r = content_rises cx ip header bytes y (new_of y takes_after refl refl) no_syn in
+      record { by = r.by; next = r.next; some = r.some; all = r.all; due = r.due })))
+
+  rises_checked : TextRises (checked (Passes by) cx u ip header bytes)
+  rises_checked =
+      subst TextRises
+      (sym (if_so (is_in_window u.block (free_in u) header (length bytes)) (inside cx u ip header bytes by) (passed_outside cx u ip header (length bytes) by) (new_is_inside u header (length bytes) n)
+      ∙ if_not (is_syn header.control) (drawn cx u ip header) (taken cx u ip header bytes by) no_syn))
+      rises_taken
+
+-- an offer that isn't settled bears on none of it
+unoffered_new : (v : TcpValue) (header : TcpHeader) (size : ℕ) → IsNew v header size → IsNew (unoffered v) header size
+unoffered_new v header size n = record { takes = n.takes; room = n.room; begins = n.begins; ends = n.ends; seq_small = n.seq_small; next_small = n.next_small }
+
+offered_rises : (cx : ContextValue) (v : TcpValue) (header : TcpHeader) (size : ℕ) (a : Arrived) → Rises cx (unoffered v) header size a → Rises cx v header size a
+offered_rises cx v header size a r = record { by = r.by; next = r.next; some = r.some; all = r.all; due = r.due }
+
+pub next_rises :
+    (cx : ContextValue) (v : TcpValue) (ip : IpRepr) (header : TcpHeader) (bytes : List ℕ) (number : SeqNumber) → Counts v.block header number
+    → IsNew v header (length bytes) → Rises cx v header (length bytes) (arrives cx v ip header bytes)
+next_rises cx v ip header bytes number c n =
+    let by = distance_of v.block.sender.una number in
+    subst (λ (a : Arrived). Rises cx v header (length bytes) a) (sym (comes_to cx v ip header bytes number c))
+    (offered_rises cx v header (length bytes) (checked (Passes by) cx (unoffered v) ip header bytes)
+    (rises_checked cx (unoffered v) ip header bytes by (unoffered_new v header (length bytes) n) c.no_syn))
+
+-- WHAT WAS TAKEN ALREADY
+
+module _ (cx : ContextValue) (u : TcpValue) (ip : IpRepr) (header : TcpHeader) (bytes : List ℕ) (by : ℕ) (may : may_draw cx.moment u.block.timers.draws_from ≡ true) where
+  abbrev Answered : Arrived → Type 0
+  Answered a = (is_closed a.socket.block.state ≡ true) ⊎ IsAnswered u a
+
+  answered_outside : Answered (outside cx (acknowledged u by cx.moment) ip header)
+  answered_outside =
+      acked_cases u by cx.moment (λ (w : TcpValue). Answered (outside cx w ip header)) (λ _. inl refl)
+      (λ alive.
+      let x = acked_open u by cx.moment in
+      let y = waiting_anew x header cx.moment in
+      cond_both (is_closed x.block.state) (dropped x) (drawn cx y ip header) Answered
+      (λ closed. clash (sym closed ∙ alive))
+      (λ _.
+      cond_both (may_draw cx.moment u.block.timers.draws_from) (acked cx (with_draw y cx.moment) ip header None) (dropped y) Answered
+      (λ _.
+      inr
+      (record {
+        reply = reply_to ip (hops_of u.block.settings.hop_limit) (sack_segment (with_draw y cx.moment).block (pair_in ip header) cx.moment (window_of (with_draw y cx.moment)) None);
+        answer = refl;
+        acknowledges = refl;
+        bare = refl;
+      }))
+      (λ no. clash (sym may ∙ no))))
+
+answered_too : (v : TcpValue) (a : Arrived) → (is_closed a.socket.block.state ≡ true) ⊎ IsAnswered (unoffered v) a → (is_closed a.socket.block.state ≡ true) ⊎ IsAnswered v a
+answered_too v a (inl closed) = inl closed
+answered_too v a (inr r) = inr (record { reply = r.reply; answer = r.answer; acknowledges = r.acknowledges; bare = r.bare })
+
+pub again_answered :
+    (cx : ContextValue) (v : TcpValue) (ip : IpRepr) (header : TcpHeader) (bytes : List ℕ) (number : SeqNumber) → Counts v.block header number
+    → IsAgain v header (length bytes) → may_draw cx.moment v.block.timers.draws_from ≡ true
+    → (is_closed (arrives cx v ip header bytes).socket.block.state ≡ true) ⊎ IsAnswered v (arrives cx v ip header bytes)
+again_answered cx v ip header bytes number c n may =
+    let by = distance_of v.block.sender.una number in
+    let u = unoffered v in
+    subst (λ (a : Arrived). (is_closed a.socket.block.state ≡ true) ⊎ IsAnswered v a)
+    (sym (comes_to cx v ip header bytes number c
+    ∙ (if_not (is_in_window v.block (free_in v) header (length bytes)) (inside cx u ip header bytes by) (passed_outside cx u ip header (length bytes) by) (again_is_outside v header (length bytes) n)
+    ∙ if_so (tells_news u header (length bytes)) (outside cx (acknowledged u by cx.moment) ip header) (outside cx u ip header)
+    (ap (λ (t : Bool). not t && lies_before v.block (room_of v.received) header (length bytes)) (not_answering v.block.state c.synchronized) ∙ again_lies_before v header (length bytes) n))))
+    (answered_too v (outside cx (acknowledged u by cx.moment) ip header) (answered_outside cx u ip header bytes by may))

@@ -1,0 +1,81 @@
+-- Segments of a connection that come: what makes them count, and what they bring about (RFC 9293, 3.10.7.4).
+use Rattle.std.specs.Prelude.{◌≡◌, ◌⊎◌, ℕ, ◌+◌, ◌-◌, ◌^◌, ◌<◌, ◌≤◌, ◌&&◌, not, min, Bool, true, false, Some}
+use Rattle.ip_wire.specs.Seq.{distance_of}
+use Rattle.ip_wire.specs.SeqNumber.{SeqNumber}
+use Rattle.ip_wire.specs.TcpHeader.{TcpHeader}
+use Rattle.socket_base.specs.Context.{ContextValue}
+use Rattle.tcp_control.specs.Controls.{is_syn, is_rst}
+use Rattle.tcp_control.specs.Offsets.{behind_by}
+use Rattle.tcp_control.specs.States.{is_answering, takes_text}
+use Rattle.tcp_control.specs.declared.offer.Reply.{Reply}
+use Rattle.tcp_control.specs.declared.state.State.{State}
+use Rattle.tcp_model.specs.Answers.{delayed}
+use Rattle.tcp_model.specs.Blocks.{top}
+use Rattle.tcp_model.specs.Checks.{is_in_window, lies_before}
+use Rattle.tcp_model.specs.Segments.{segment_len}
+use Rattle.tcp_model.specs.Value.{TcpValue, Arrived, free_in, room_of}
+use Rattle.tcp_model.specs.declared.block.Block.{Block}
+use Rattle.tcp_rules.specs.Acks.{IsDueWithin}
+use Rattle.tcp_rules.specs.Events.{is_past}
+
+-- ESTABLISHED, and each later state up to TIME-WAIT
+abbrev pub is_synchronized : State → Bool
+is_synchronized state = is_past state && not (is_answering state)
+
+-- The segment counts for the connection: both SYNs were acknowledged, it is neither a SYN nor a reset, and what it acknowledges lies
+-- between SND.UNA and all that was ever sent. What was sent is less than half of the circle of numbers.
+pub record Counts (b : Block) (header : TcpHeader) (number : SeqNumber) : Type 0 where
+  pub synchronized : is_synchronized b.state ≡ true
+  pub opened : 1 ≤ b.sender.past_iss
+  pub no_syn : is_syn header.control ≡ false
+  pub no_reset : is_rst header.control ≡ false
+  pub acknowledges : header.ack_number ≡ Some number
+  pub sent : distance_of b.sender.una number ≤ b.sender.top
+  pub few : b.sender.top < 2 ^ 31
+  -- numbers of 32 bits
+  pub number_small : number.0 < 2 ^ 32
+  pub una_small : b.sender.una.0 < 2 ^ 32
+
+-- it lies inside the receive window, or wholly before it, no further than a receive buffer reaches
+abbrev pub IsNearWindow : TcpValue → TcpHeader → ℕ → Type 0
+IsNearWindow v header size = (is_in_window v.block (free_in v) header size ≡ true) ⊎ (lies_before v.block (room_of v.received) header size ≡ true)
+
+-- The segment begins at RCV.NXT, or so far before it that some of it is new.
+pub record IsNew (v : TcpValue) (header : TcpHeader) (size : ℕ) : Type 0 where
+  pub takes : takes_text v.block.state ≡ true
+  pub room : 1 ≤ free_in v
+  pub begins : distance_of header.seq_number v.block.receiver.next < 2 ^ 31
+  pub ends : distance_of header.seq_number v.block.receiver.next < segment_len header size
+  -- numbers of 32 bits
+  pub seq_small : header.seq_number.0 < 2 ^ 32
+  pub next_small : v.block.receiver.next.0 < 2 ^ 32
+
+-- how much of its text is new
+abbrev pub new_text : TcpValue → TcpHeader → ℕ → ℕ
+new_text v header size = size - distance_of header.seq_number v.block.receiver.next
+
+-- RCV.NXT rises: by one position at least, by all new text that the window has room for, and an acknowledgement of it is due
+pub record Rises (cx : ContextValue) (v : TcpValue) (header : TcpHeader) (size : ℕ) (a : Arrived) : Type 0 where
+  pub by : ℕ
+  pub next : a.socket.block.receiver.next ≡ behind_by v.block.receiver.next by
+  pub some : 1 ≤ by
+  pub all : min (new_text v header size) (free_in v) ≤ by
+  pub due : IsDueWithin a.socket.block.timers.ack_at (delayed cx.moment v.block.settings.ack_delay)
+
+-- The segment lies wholly before RCV.NXT: all of it was taken already.
+pub record IsAgain (v : TcpValue) (header : TcpHeader) (size : ℕ) : Type 0 where
+  pub some : 1 ≤ segment_len header size
+  pub begins : distance_of header.seq_number v.block.receiver.next < 2 ^ 31
+  pub ends : segment_len header size ≤ distance_of header.seq_number v.block.receiver.next
+  -- no further than a receive buffer, a SYN and a FIN reach
+  pub near : distance_of header.seq_number v.block.receiver.next ≤ room_of v.received + 2
+  -- numbers of 32 bits
+  pub seq_small : header.seq_number.0 < 2 ^ 32
+  pub next_small : v.block.receiver.next.0 < 2 ^ 32
+
+-- it is answered at once: with RCV.NXT, past all that was sent
+pub record IsAnswered (v : TcpValue) (a : Arrived) : Type 0 where
+  pub reply : Reply
+  pub answer : a.answer ≡ Some reply
+  pub acknowledges : reply.segment.ack_number ≡ Some v.block.receiver.next
+  pub bare : reply.segment.seq_number ≡ top a.socket.block

@@ -1,0 +1,34 @@
+-- That what the laws ask for is met, on numerals: a pair with room for 64 bytes each way, opened by three segments; then A writes abc.
+use Rattle.std.specs.Prelude.{pos, true, List, [], ◌∷◌, Option, slice_get}
+use Rattle.tcp_pair_model.specs.declared.event.SentSegment.{SentSegment}
+use Rattle.tcp_pair_model.specs.declared.event.Side.TheVariants.{A, B}
+use Rattle.tcp_pair_model.specs.declared.event.PairEvent.{PairEvent}
+use Rattle.tcp_pair_model.specs.declared.event.PairEvent.TheVariants.{Listen, Connect, Send, Offer, Deliver}
+use Rattle.tcp_pair_model.specs.Examples.{socket, server, port, run}
+use Rattle.tcp_pair_model.specs.Values.{PairValue, new_pair}
+
+abbrev pub events : List PairEvent
+events =
+    Listen B (port 80)
+    ∷ Connect A server (port 49_500)
+    ∷ Offer A (pos 0) true
+    ∷ Deliver A 0
+    ∷ Offer B (pos 0) true
+    ∷ Deliver B 0
+    ∷ Offer A (pos 0) true
+    ∷ Deliver A 1
+    ∷ Send A (97 ∷ 98 ∷ 99 ∷ [])
+    ∷ Offer A (pos 0) true
+    ∷ []
+
+-- the text has gone, and hasn't come
+abbrev pub gone : PairValue
+gone = run (new_pair socket socket) events
+
+-- it has come
+abbrev pub come : PairValue
+come = run gone (Deliver A 2 ∷ [])
+
+-- the segment
+abbrev pub text : Option SentSegment
+text = slice_get gone.sides.a.sent 2

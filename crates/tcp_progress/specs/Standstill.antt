@@ -1,0 +1,55 @@
+-- Two sides of which each took what the other doesn't know of: all that either sends again is old to the other. Under rules that set a
+-- bare acknowledgement at SND.NXT and drop the acknowledgement of old text, neither ever learns of it, on a perfect link.
+use Rattle.std.specs.Prelude.{pos, true, [], ◌∷◌, replicate}
+use Rattle.net_base.specs.Ring.{ring}
+use Rattle.tcp_model.specs.Value.{TcpValue, new_socket}
+use Rattle.tcp_pair_model.specs.declared.event.Side.TheVariants.{A, B}
+use Rattle.tcp_pair_model.specs.declared.event.PairEvent.TheVariants.{Listen, Connect, Send, Recv, Offer, Deliver}
+use Rattle.tcp_pair_model.specs.Examples.{server, port, run}
+use Rattle.tcp_pair_model.specs.Values.{PairValue, new_pair}
+use Rattle.tcp_progress.specs.Rounds.{linked, rounds}
+
+-- room for one byte to receive, and eight to send
+abbrev pub narrow : TcpValue
+narrow = new_socket 1 (ring [] (replicate 8 0) 0)
+
+abbrev pub opened : PairValue
+opened =
+    run (new_pair narrow narrow)
+    (Listen B (port 80)
+    ∷ Connect A server (port 49_500)
+    ∷ Offer A (pos 0) true
+    ∷ Deliver A 0
+    ∷ Offer B (pos 0) true
+    ∷ Deliver B 0
+    ∷ Offer A (pos 0) true
+    ∷ Deliver A 1
+    ∷ [])
+
+-- abc one way and xyz the other; each window holds a byte, so that what follows is probes, which cross while both users read
+abbrev pub crossed : PairValue
+crossed =
+    run opened
+    (Send A (97 ∷ 98 ∷ 99 ∷ [])
+    ∷ Send B (120 ∷ 121 ∷ 122 ∷ [])
+    ∷ Offer A (pos 0) true
+    ∷ Offer B (pos 0) true
+    ∷ Deliver A 2
+    ∷ Deliver B 1
+    ∷ Offer A (pos 10_000) true
+    ∷ Offer B (pos 10_000) true
+    ∷ Deliver A 3
+    ∷ Deliver B 2
+    ∷ Offer A (pos 10_000) true
+    ∷ Offer B (pos 10_000) true
+    ∷ Offer A (pos 1_010_000) true
+    ∷ Offer B (pos 1_010_000) true
+    ∷ Recv A 8
+    ∷ Recv B 8
+    ∷ Deliver A 4
+    ∷ Deliver B 3
+    ∷ [])
+
+-- six rounds of a good link
+abbrev pub healed : PairValue
+healed = (rounds 6 (linked crossed)).pair

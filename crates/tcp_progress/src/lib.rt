@@ -1,0 +1,6 @@
+//! Laws of two sockets: a connection goes on.
+#![tactic(auto)]
+
+pub mod laws;
+pub mod met;
+pub mod standstill;

@@ -1,0 +1,15 @@
+//! What the laws ask for is met, on numerals.
+
+ghost use Rattle.std.specs.Prelude.{length, IfSome};
+ghost use Rattle.tcp_progress.specs.Arrivals.{Counts, IsNew, IsAgain};
+ghost use Rattle.tcp_progress.specs.Met.{gone, come, text};
+ghost use Rattle.tcp_progress.specs.Reached.{IsReached, Owes};
+
+/// Three bytes that have gone: their side waits, and they count and are new to the other; once they have come, they are old to it.
+pub fn what_the_laws_ask_for_is_met()
+    ensures reached { IsReached gone }
+    ensures owes { Owes gone.sides.a.socket }
+    ensures counts { IfSome text (λ x. IfSome x.segment.ack_number (λ number. Counts gone.sides.b.socket.block x.segment number)) }
+    ensures new { IfSome text (λ x. IsNew gone.sides.b.socket x.segment (length x.bytes)) }
+    ensures again { IfSome text (λ x. IsAgain come.sides.b.socket x.segment (length x.bytes)) }
+{}
