@@ -1,4 +1,4 @@
 mod Beginning
 mod Fresh
-mod Served
+mod Connections
 mod Running

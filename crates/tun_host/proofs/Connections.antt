@@ -1,0 +1,370 @@
+-- The connections of a service, made and served one after the other.
+use Rattle.std.proofs.Common.{◌≡◌, ◌≢◌, ℕ, ◌+◌, ◌<◌, ◌≤◌, ◌==◌, Bool, true, false, List, [], ◌∷◌, ◌++◌, length, map, length-append, if◌then◌else◌, ◌&&◌, arith, refl, sym, ap, ◌∙◌, subst, ◌⊎◌, inl, inr, Option, None, Some}
+use Rattle.std.specs.Prelude.{slice_index_or, slice_set}
+use Rattle.std.proofs.lemmas.Bool.{false≢true}
+use Rattle.std.proofs.lemmas.List.{length-map, get_or-map, get_or-set_same, get_or-set_other, get_or_past, get_or_append_left, get_or_push, get_or_default, set-get_or, set_past}
+use Rattle.std.proofs.Math.ListN.{length-set}
+use Rattle.interface_egress.specs.Set.{free}
+use Rattle.interface_egress.specs.declared.socket_set.Item.{Item}
+use Rattle.interface_egress.specs.declared.socket_set.SocketHandle.{SocketHandle}
+use Rattle.interface_egress.specs.declared.socket_set.SocketStorage.{SocketStorage}
+use Rattle.sockets.specs.declared.socket.Socket.{Socket}
+use Rattle.ip_wire.specs.IpListenEndpoint.{IpListenEndpoint}
+use Rattle.tcp_listener.specs.Calls.{fresh_entry, accepted, given_back, Refreshes}
+use Rattle.tcp_listener.specs.Entries.{entry_at, no_entry}
+use Rattle.tcp_listener.specs.GivesWay.{Freed, GivesWay}
+use Rattle.tcp_listener.specs.Noted.{place_at}
+use Rattle.tcp_listener.specs.Stages.{is_accepted, is_open}
+use Rattle.tcp_listener.specs.declared.entry.Entry.{Entry}
+use Rattle.tcp_listener.specs.declared.listener.Listener.{Listener}
+use Rattle.tcp_listener.specs.declared.stage.Stage.TheVariants as Stage
+use Rattle.tun_host.specs.Backlogs.{on_port, handle, keepers_of, IsListener, StandsFrom, AreFreshEntries, ended_if, EntryServesBy, EntryServes, BacklogServes, back_if, ServesAt, OneServesBy, OneServes}
+use Rattle.tun_host.specs.Services.{first_place, socket_count, port_of, PlaceServes, is_over}
+use Rattle.tun_host.specs.declared.place.Service.{Service}
+
+is_or_isnt : (i k : ℕ) → (i ≡ k) ⊎ (i ≢ k)
+is_or_isnt i k = by_test (i == k) refl where
+  by_test : (b : Bool) → (i == k) ≡ b → (i ≡ k) ⊎ (i ≢ k)
+  by_test true h = inl (grind arith)
+  by_test false h = inr (grind arith)
+
+-- ENTRIES THAT ARE MADE
+
+-- so many entries of fresh sockets, at the places from the first one on
+pub record FreshTo (n first : ℕ) (es : List Entry) : Type 0 where
+  pub count : length es ≡ n
+  pub each : (i : ℕ) → i < n → entry_at es i ≡ fresh_entry (handle (first + i))
+
+pub made_none : (first : ℕ) → FreshTo 0 first []
+made_none first = record { count = refl; each = λ i h. absurd (omega arith) }
+
+module _ (n first : ℕ) (es : List Entry) (so_far : FreshTo n first es) where
+  made_at : (i : ℕ) → i < n + 1 → (i ≡ n) ⊎ (i ≢ n) → entry_at (es ++ fresh_entry (handle (first + n)) ∷ []) i ≡ fresh_entry (handle (first + i))
+  made_at i h (inl is) =
+      subst (λ (k : ℕ). entry_at (es ++ fresh_entry (handle (first + n)) ∷ []) k ≡ fresh_entry (handle (first + k))) (sym is)
+      (get_or_push es (fresh_entry (handle (first + n))) no_entry n so_far.count)
+  made_at i h (inr isnt) =
+      get_or_append_left es (fresh_entry (handle (first + n)) ∷ []) no_entry i (omega (arith, so_far.count, isnt, h)) ∙ so_far.each i (omega (arith, isnt, h))
+
+  pub made_more : FreshTo (n + 1) first (es ++ fresh_entry (handle (first + n)) ∷ [])
+  made_more = record {
+    count = length-append es (fresh_entry (handle (first + n)) ∷ []) ∙ omega (arith, so_far.count);
+    each = λ i h. made_at i h (is_or_isnt i n);
+  }
+
+pub made_all : (service : Service) (es : List Entry) → FreshTo (socket_count service) (first_place service) es → AreFreshEntries service es
+made_all service es to = record { count = to.count; each = to.each }
+
+pub fresh_stand : (service : Service) (es : List Entry) → AreFreshEntries service es → StandsFrom (first_place service) (socket_count service) es
+fresh_stand service es fresh = record { long = fresh.count; handles = λ i h. ap (λ (e : Entry). e.handle.0) (fresh.each i h) }
+
+-- WHERE ENTRIES STAND
+
+entry_map : (f : Entry → Entry) (es : List Entry) (i : ℕ) → i < length es → entry_at (map f es) i ≡ f (entry_at es i)
+entry_map f es i h = get_or-map f es i no_entry no_entry h
+
+same_either : (b : Bool) (x y : Entry) (h : SocketHandle) → x.handle ≡ h → y.handle ≡ h → (if b then x else y).handle ≡ h
+same_either true x y h p q = p
+same_either false x y h p q = q
+
+accepted_keeps : (e : Entry) → (accepted e).handle ≡ e.handle
+accepted_keeps e = same_either (is_open e.stage) (record e { stage = Stage.Accepted }) e e.handle refl refl
+
+module _ (first count : ℕ) (es : List Entry) (stands : StandsFrom first count es) where
+  pub accepted_stand : StandsFrom first count (map accepted es)
+  accepted_stand = record {
+    long = length-map es accepted ∙ stands.long;
+    handles = λ i h. ap (λ (e : Entry). e.handle.0) (entry_map accepted es i (omega (arith, stands.long, h))) ∙ (ap (λ (x : SocketHandle). x.0) (accepted_keeps (entry_at es i)) ∙ stands.handles i h);
+  }
+
+  -- entries of the same handles stand at the same places
+  pub kept_stand : (es' : List Entry) → length es' ≡ length es → ((i : ℕ) → i < length es → (entry_at es' i).handle ≡ (entry_at es i).handle) → StandsFrom first count es'
+  kept_stand es' long same = record {
+    long = long ∙ stands.long;
+    handles = λ i h. ap (λ (x : SocketHandle). x.0) (same i (omega (arith, stands.long, h))) ∙ stands.handles i h;
+  }
+
+-- an entry that is freed keeps its handle
+freed_at : (es : List Entry) (k : ℕ) (e : Entry) → e.handle ≡ (entry_at es k).handle → (i : ℕ) → i < length es → (i ≡ k) ⊎ (i ≢ k)
+    → (entry_at (slice_set es k e) i).handle ≡ (entry_at es i).handle
+freed_at es k e same i h (inl is) =
+    subst (λ (n : ℕ). (entry_at (slice_set es k e) n).handle ≡ (entry_at es n).handle) (sym is)
+    (ap (λ (x : Entry). x.handle) (get_or-set_same es k e no_entry (subst (λ (n : ℕ). n < length es) is h)) ∙ same)
+freed_at es k e same i h (inr isnt) = ap (λ (x : Entry). x.handle) (get_or-set_other es k i e no_entry isnt)
+
+module _ (endpoint : IpListenEndpoint) (now first count : ℕ) where
+  freed_stand : (next : Option ℕ) (ps : List (SocketStorage Socket)) (es : List Entry) (ps' : List (SocketStorage Socket)) (es' : List Entry)
+      → Freed endpoint now next ps es ps' es' → StandsFrom first count es → StandsFrom first count es'
+  freed_stand None ps es ps' es' (places, same) stands = subst (StandsFrom first count) (sym same) stands
+  freed_stand (Some k) ps es ps' es' (places, set) stands =
+      let e : Entry = record { handle = (entry_at es k).handle; stage = Stage.Free; since = now } in
+      subst (StandsFrom first count) (sym set)
+      (kept_stand first count es stands (slice_set es k e) (length-set es k e) (λ i h. freed_at es k e refl i h (is_or_isnt i k)))
+
+  way_stand : (ps : List (SocketStorage Socket)) (es : List Entry) (ps' : List (SocketStorage Socket)) (es' : List Entry)
+      → GivesWay endpoint now ps es ps' es' → StandsFrom first count es → StandsFrom first count es'
+  way_stand ps es ps' es' (inl (one, places, same)) stands = subst (StandsFrom first count) (sym same) stands
+  way_stand ps es ps' es' (inr (none, (next, is, freed))) stands = freed_stand next ps es ps' es' freed stands
+
+  pub refreshed_stand : (keepers : List SocketHandle) (ps : List (SocketStorage Socket)) (es : List Entry) (ps' : List (SocketStorage Socket)) (es' : List Entry)
+      → Refreshes endpoint now keepers ps es ps' es' → StandsFrom first count es → StandsFrom first count es'
+  refreshed_stand keepers ps es ps' es' (seen, (noted, (freed, notes, way, kept))) stands =
+      way_stand seen noted freed es' way (kept_stand first count es stands noted notes.entries (λ i h. notes.handles i))
+
+-- ENTRIES THAT ARE SERVED
+
+ended_keeps : (b : Bool) (e : Entry) → (ended_if b e).handle ≡ e.handle
+ended_keeps true e = refl
+ended_keeps false e = refl
+
+entry_keeps : (b : Bool) (service : Service) (e e' : Entry) (p p' : SocketStorage Socket) → EntryServesBy b service e p e' p' → e'.handle ≡ e.handle
+entry_keeps true service e e' p p' (serves, is) = ap (λ (x : Entry). x.handle) is ∙ ended_keeps (is_over p') e
+entry_keeps false service e e' p p' (place, is) = ap (λ (x : Entry). x.handle) is
+
+pub served_stand : (first count : ℕ) (service : Service) (ps : List (SocketStorage Socket)) (es : List Entry) (ps' : List (SocketStorage Socket)) (es' : List Entry)
+    → BacklogServes first service ps es ps' es' → StandsFrom first count es → StandsFrom first count es'
+served_stand first count service ps es ps' es' serves stands =
+    kept_stand first count es stands es' serves.entries
+    (λ i h. entry_keeps (is_accepted (entry_at es i).stage) service (entry_at es i) (entry_at es' i) (place_at ps (first + i)) (place_at ps' (first + i)) (serves.each i h))
+
+-- the first n entries were served, and the others and their places are as they were
+pub record ServedTo (n first : ℕ) (service : Service) (ps : List (SocketStorage Socket)) (es : List Entry) (ps' : List (SocketStorage Socket)) (es' : List Entry) : Type 0 where
+  pub places : length ps' ≡ length ps
+  pub entries : length es' ≡ length es
+  pub below : (i : ℕ) → i < n → EntryServes service (entry_at es i) (place_at ps (first + i)) (entry_at es' i) (place_at ps' (first + i))
+  pub handles : (i : ℕ) → i < length es → (entry_at es' i).handle.0 ≡ first + i
+  pub above : (i : ℕ) → n ≤ i → entry_at es' i ≡ entry_at es i
+  pub before : (m : ℕ) → m < first → place_at ps' m ≡ place_at ps m
+  pub behind : (m : ℕ) → first + n ≤ m → place_at ps' m ≡ place_at ps m
+
+pub served_none : (first count : ℕ) (service : Service) (ps : List (SocketStorage Socket)) (es : List Entry) → StandsFrom first count es → ServedTo 0 first service ps es ps es
+served_none first count service ps es stands = record {
+  places = refl;
+  entries = refl;
+  below = λ i h. absurd (omega (arith, h));
+  handles = λ i h. stands.handles i (omega (arith, stands.long, h));
+  above = λ i h. refl;
+  before = λ m h. refl;
+  behind = λ m h. refl;
+}
+
+pub served_all : (n first : ℕ) (service : Service) (ps : List (SocketStorage Socket)) (es : List Entry) (ps' : List (SocketStorage Socket)) (es' : List Entry)
+    → ServedTo n first service ps es ps' es' → n ≡ length es → BacklogServes first service ps es ps' es'
+served_all n first service ps es ps' es' to all = record {
+  places = to.places;
+  entries = to.entries;
+  each = λ i h. to.below i (omega (arith, h, all));
+  before = to.before;
+  behind = λ m h. to.behind m (omega (arith, h, all));
+}
+
+both_hold : (a b : Bool) (x y : Entry) → a ≡ true → b ≡ true → (if a && b then x else y) ≡ x
+both_hold true true x y p q = refl
+both_hold true false x y p q = absurd (false≢true q)
+both_hold false b x y p q = absurd (false≢true p)
+
+one_fails : (a b : Bool) (x y : Entry) → b ≡ false → (if a && b then x else y) ≡ y
+one_fails true true x y q = absurd (false≢true (sym q))
+one_fails true false x y q = refl
+one_fails false b x y q = refl
+
+same_number : (a b : ℕ) → a ≡ b → (a == b) ≡ true
+same_number a b is = grind (arith)
+
+given_same : (x : SocketHandle) (e : Entry) → e.handle.0 ≡ x.0 → is_accepted e.stage ≡ true → given_back x e ≡ record e { stage = Stage.Ending }
+given_same x e is accepted = both_hold (is_accepted e.stage) (e.handle.0 == x.0) (record e { stage = Stage.Ending }) e accepted (same_number e.handle.0 x.0 is)
+
+other_number : (a b : ℕ) → a ≢ b → (a == b) ≡ false
+other_number a b isnt = grind (arith)
+
+given_other : (x : SocketHandle) (e : Entry) → e.handle.0 ≢ x.0 → given_back x e ≡ e
+given_other x e isnt = one_fails (is_accepted e.stage) (e.handle.0 == x.0) (record e { stage = Stage.Ending }) e (other_number e.handle.0 x.0 isnt)
+
+back_long : (b : Bool) (x : SocketHandle) (es : List Entry) → length (back_if b x es) ≡ length es
+back_long true x es = length-map es (given_back x)
+back_long false x es = refl
+
+-- the entry of the handle ends if its connection is over
+back_here : (b : Bool) (x : SocketHandle) (es : List Entry) (i : ℕ) → i < length es → (entry_at es i).handle.0 ≡ x.0 → is_accepted (entry_at es i).stage ≡ true
+    → entry_at (back_if b x es) i ≡ ended_if b (entry_at es i)
+back_here true x es i h is accepted = entry_map (given_back x) es i h ∙ given_same x (entry_at es i) is accepted
+back_here false x es i h is accepted = refl
+
+back_other : (b : Bool) (x : SocketHandle) (es : List Entry) (i : ℕ) → i < length es → (entry_at es i).handle.0 ≢ x.0 → entry_at (back_if b x es) i ≡ entry_at es i
+back_other true x es i h isnt = entry_map (given_back x) es i h ∙ given_other x (entry_at es i) isnt
+back_other false x es i h isnt = refl
+
+back_past : (b : Bool) (x : SocketHandle) (es : List Entry) (i : ℕ) → length es ≤ i → entry_at (back_if b x es) i ≡ entry_at es i
+back_past b x es i h =
+    get_or_past (back_if b x es) i no_entry (omega (arith, h, back_long b x es)) ∙ sym (get_or_past es i no_entry h)
+
+abbrev place_with : Option (Item Socket) → SocketStorage Socket
+place_with o = record { inner = o }
+
+-- where there is no place, there is none afterwards
+past_by : (service : Service) (p p' : SocketStorage Socket) → p ≡ free → PlaceServes service p p' → p' ≡ free
+past_by service p p' none serves =
+    let it : PlaceServes service free p' = subst (λ (q : SocketStorage Socket). PlaceServes service q p') none serves in
+    ap place_with it
+
+set_here : (service : Service) (ps : List (SocketStorage Socket)) (m : ℕ) (p' : SocketStorage Socket) → PlaceServes service (place_at ps m) p'
+    → (m < length ps) ⊎ (length ps ≤ m) → place_at (slice_set ps m p') m ≡ p'
+set_here service ps m p' serves (inl less) = get_or-set_same ps m p' free less
+set_here service ps m p' serves (inr past) =
+    let none : place_at ps m ≡ free = get_or_past ps m free past in
+    ap (λ (qs : List (SocketStorage Socket)). place_at qs m) (set_past ps m p' past) ∙ (none ∙ sym (past_by service (place_at ps m) p' none serves))
+
+module _ (n first : ℕ) (service : Service) (ps : List (SocketStorage Socket)) (es : List Entry) (mid : List (SocketStorage Socket)) (ms : List Entry)
+    (to : ServedTo n first service ps es mid ms) (within : n < length ms) (after : List (SocketStorage Socket)) (fs : List Entry) where
+  here : entry_at ms n ≡ entry_at es n
+  here = to.above n (omega arith)
+
+  at_place : (entry_at ms n).handle.0 ≡ first + n
+  at_place = to.handles n (omega (arith, to.entries, within))
+
+  -- what is shown of entry n, and that nothing else changed
+  module _ (long : length after ≡ length ps) (count : length fs ≡ length es)
+      (served : EntryServes service (entry_at es n) (place_at ps (first + n)) (entry_at fs n) (place_at after (first + n)))
+      (others : (i : ℕ) → i ≢ n → entry_at fs i ≡ entry_at ms i) (same_handle : (entry_at fs n).handle.0 ≡ first + n)
+      (elsewhere : (m : ℕ) → m ≢ first + n → place_at after m ≡ place_at mid m) where
+    below_at : (i : ℕ) → i < n + 1 → (i ≡ n) ⊎ (i ≢ n) → EntryServes service (entry_at es i) (place_at ps (first + i)) (entry_at fs i) (place_at after (first + i))
+    below_at i h (inl is) =
+        subst (λ (k : ℕ). EntryServes service (entry_at es k) (place_at ps (first + k)) (entry_at fs k) (place_at after (first + k))) (sym is) served
+    below_at i h (inr isnt) =
+        let less : i < n = omega (arith, h, isnt) in
+        let there : EntryServes service (entry_at es i) (place_at ps (first + i)) (entry_at ms i) (place_at mid (first + i)) = to.below i less in
+        subst (λ (p : SocketStorage Socket). EntryServes service (entry_at es i) (place_at ps (first + i)) (entry_at fs i) p) (sym (elsewhere (first + i) (λ q. absurd (omega (arith, q, less)))))
+        (subst (λ (x : Entry). EntryServes service (entry_at es i) (place_at ps (first + i)) x (place_at mid (first + i))) (sym (others i isnt)) there)
+
+    handle_at : (i : ℕ) → i < length es → (i ≡ n) ⊎ (i ≢ n) → (entry_at fs i).handle.0 ≡ first + i
+    handle_at i h (inl is) = subst (λ (k : ℕ). (entry_at fs k).handle.0 ≡ first + k) (sym is) same_handle
+    handle_at i h (inr isnt) = ap (λ (x : Entry). x.handle.0) (others i isnt) ∙ to.handles i h
+
+    step : ServedTo (n + 1) first service ps es after fs
+    step = record {
+      places = long;
+      entries = count;
+      below = λ i h. below_at i h (is_or_isnt i n);
+      handles = λ i h. handle_at i h (is_or_isnt i n);
+      above = λ i h. others i (λ q. absurd (omega (arith, q, h))) ∙ to.above i (omega (arith, h));
+      before = λ m h. elsewhere m (λ q. absurd (omega (arith, q, h))) ∙ to.before m h;
+      behind = λ m h. elsewhere m (λ q. absurd (omega (arith, q, h))) ∙ to.behind m (omega (arith, h));
+    }
+
+  -- one that isn't accepted
+  left_alone : is_accepted (entry_at ms n).stage ≡ false → after ≡ mid → fs ≡ ms → ServedTo (n + 1) first service ps es after fs
+  left_alone off places entries =
+      let off_here : is_accepted (entry_at es n).stage ≡ false = ap (λ (x : Entry). is_accepted x.stage) (sym here) ∙ off in
+      let place : place_at after (first + n) ≡ place_at ps (first + n) = ap (λ (qs : List (SocketStorage Socket)). place_at qs (first + n)) places ∙ to.behind (first + n) (omega arith) in
+      let entry : entry_at fs n ≡ entry_at es n = ap (λ (xs : List Entry). entry_at xs n) entries ∙ here in
+      step (ap length places ∙ to.places) (ap length entries ∙ to.entries)
+      (subst (λ (b : Bool). EntryServesBy b service (entry_at es n) (place_at ps (first + n)) (entry_at fs n) (place_at after (first + n))) (sym off_here) (place, entry))
+      (λ i isnt. ap (λ (xs : List Entry). entry_at xs i) entries) (ap (λ (xs : List Entry). (entry_at xs n).handle.0) entries ∙ at_place)
+      (λ m isnt. ap (λ (qs : List (SocketStorage Socket)). place_at qs m) places)
+
+  in_or_past : (m : ℕ) → (m < length mid) ⊎ (length mid ≤ m)
+  in_or_past m = grind arith
+
+  in_or_past_ms : (i : ℕ) → (i < length ms) ⊎ (length ms ≤ i)
+  in_or_past_ms i = grind arith
+
+  module _ (on : is_accepted (entry_at ms n).stage ≡ true) (p' : SocketStorage Socket) (serves : PlaceServes service (place_at mid (entry_at ms n).handle.0) p')
+      (places : after ≡ slice_set mid (entry_at ms n).handle.0 p') (entries : fs ≡ back_if (is_over p') (entry_at ms n).handle ms) where
+    other_entry : (i : ℕ) → i ≢ n → (i < length ms) ⊎ (length ms ≤ i) → entry_at fs i ≡ entry_at ms i
+    other_entry i isnt (inl less) =
+        let differs : (entry_at ms i).handle.0 ≢ (entry_at ms n).handle.0 = λ q. absurd (omega (arith, q, isnt, to.handles i (omega (arith, less, to.entries)), at_place)) in
+        ap (λ (xs : List Entry). entry_at xs i) entries ∙ back_other (is_over p') (entry_at ms n).handle ms i less differs
+    other_entry i isnt (inr past) = ap (λ (xs : List Entry). entry_at xs i) entries ∙ back_past (is_over p') (entry_at ms n).handle ms i past
+
+    this_entry : entry_at fs n ≡ ended_if (is_over p') (entry_at ms n)
+    this_entry = ap (λ (xs : List Entry). entry_at xs n) entries ∙ back_here (is_over p') (entry_at ms n).handle ms n within refl on
+
+    this_place : place_at after (first + n) ≡ p'
+    this_place =
+        let there : place_at after (entry_at ms n).handle.0 ≡ p' =
+        ap (λ (qs : List (SocketStorage Socket)). place_at qs (entry_at ms n).handle.0) places ∙ set_here service mid (entry_at ms n).handle.0 p' serves (in_or_past (entry_at ms n).handle.0) in
+        subst (λ (m : ℕ). place_at after m ≡ p') at_place there
+
+    old_place : place_at mid (entry_at ms n).handle.0 ≡ place_at ps (first + n)
+    old_place = ap (place_at mid) at_place ∙ to.behind (first + n) (omega arith)
+
+    other_place : (m : ℕ) → m ≢ first + n → place_at after m ≡ place_at mid m
+    other_place m isnt =
+        ap (λ (qs : List (SocketStorage Socket)). place_at qs m) places ∙ get_or-set_other mid (entry_at ms n).handle.0 m p' free (λ q. isnt (q ∙ at_place))
+
+    served_here : EntryServes service (entry_at es n) (place_at ps (first + n)) (entry_at fs n) (place_at after (first + n))
+    served_here =
+        let on_here : is_accepted (entry_at es n).stage ≡ true = ap (λ (x : Entry). is_accepted x.stage) (sym here) ∙ on in
+        let place : PlaceServes service (place_at ps (first + n)) (place_at after (first + n)) =
+        subst (λ (q : SocketStorage Socket). PlaceServes service (place_at ps (first + n)) q) (sym this_place)
+        (subst (λ (q : SocketStorage Socket). PlaceServes service q p') old_place serves) in
+        let entry : entry_at fs n ≡ ended_if (is_over (place_at after (first + n))) (entry_at es n) =
+        subst (λ (q : SocketStorage Socket). entry_at fs n ≡ ended_if (is_over q) (entry_at es n)) (sym this_place) (subst (λ (x : Entry). entry_at fs n ≡ ended_if (is_over p') x) here this_entry) in
+        subst (λ (b : Bool). EntryServesBy b service (entry_at es n) (place_at ps (first + n)) (entry_at fs n) (place_at after (first + n))) (sym on_here) (place, entry)
+
+    served_one : ServedTo (n + 1) first service ps es after fs
+    served_one =
+        step (ap length places ∙ (length-set mid (entry_at ms n).handle.0 p' ∙ to.places)) (ap length entries ∙ (back_long (is_over p') (entry_at ms n).handle ms ∙ to.entries)) served_here
+        (λ i isnt. other_entry i isnt (in_or_past_ms i))
+        (ap (λ (x : Entry). x.handle.0) this_entry ∙ (ap (λ (x : SocketHandle). x.0) (ended_keeps (is_over p') (entry_at ms n)) ∙ at_place)) other_place
+
+  by_stage : (b : Bool) → is_accepted (entry_at ms n).stage ≡ b → OneServesBy b service (entry_at ms n) mid ms after fs → ServedTo (n + 1) first service ps es after fs
+  by_stage true is (over, (p', serves, places, over_is), entries) =
+      served_one is p' serves places (subst (λ (b : Bool). fs ≡ back_if b (entry_at ms n).handle ms) over_is entries)
+  by_stage false is (places, entries) = left_alone is places entries
+
+  pub served_more : OneServes service n mid ms after fs → ServedTo (n + 1) first service ps es after fs
+  served_more one = by_stage (is_accepted (entry_at ms n).stage) refl one
+
+-- ONE ENTRY
+
+-- where there is no place, nothing is served
+pub served_nowhere : (service : Service) (ps : List (SocketStorage Socket)) (at : ℕ) → length ps ≤ at → ServesAt service at ps ps false
+served_nowhere service ps at past =
+    let none : place_at ps at ≡ free = get_or_past ps at free past in
+    let same : PlaceServes service free free = refl in
+    let serves : PlaceServes service (place_at ps at) (place_at ps at) = subst (λ (q : SocketStorage Socket). PlaceServes service q q) (sym none) same in
+    (place_at ps at, serves, sym (set-get_or ps at free), ap is_over (sym none))
+
+-- the place that was read is served
+pub served_somewhere : (service : Service) (ps : List (SocketStorage Socket)) (at : ℕ) (x p' : SocketStorage Socket) (over : Bool) → at < length ps
+    → PlaceServes service (slice_index_or ps at x) p' → over ≡ is_over p' → ServesAt service at ps (slice_set ps at p') over
+served_somewhere service ps at x p' over within serves over_is =
+    (p', subst (λ (q : SocketStorage Socket). PlaceServes service q p') (get_or_default ps at x free within) serves, refl, over_is)
+
+module _ (service : Service) (at : ℕ) (ps : List (SocketStorage Socket)) (es : List Entry) (e : Entry) (within : at < length es) (read : e ≡ slice_index_or es at e) where
+  entry_is : e ≡ entry_at es at
+  entry_is = read ∙ get_or_default es at e no_entry within
+
+  pub one_left : is_accepted e.stage ≡ false → OneServes service at ps es ps es
+  one_left off =
+      subst (λ (x : Entry). OneServesBy (is_accepted x.stage) service x ps es ps es) entry_is
+      (subst (λ (b : Bool). OneServesBy b service e ps es ps es) (sym off) (refl, refl))
+
+  pub one_served : (ps' : List (SocketStorage Socket)) (es' : List Entry) → is_accepted e.stage ≡ true → OneServesBy true service e ps es ps' es' → OneServes service at ps es ps' es'
+  one_served ps' es' on served =
+      subst (λ (x : Entry). OneServesBy (is_accepted x.stage) service x ps es ps' es') entry_is
+      (subst (λ (b : Bool). OneServesBy b service e ps es ps' es') (sym on) served)
+
+-- LISTENERS
+
+-- what a refresh of a listener says of its service's port and keeper
+pub seen_as : (service : Service) (l : Listener) (now : ℕ) (ps : List (SocketStorage Socket)) (es : List Entry) (ps' : List (SocketStorage Socket)) (es' : List Entry)
+    → IsListener service l → Refreshes l.endpoint now l.keepers.items ps es ps' es' → Refreshes (on_port (port_of service)) now (keepers_of service) ps es ps' es'
+seen_as service l now ps es ps' es' is refreshes =
+    subst (λ (ks : List SocketHandle). Refreshes (on_port (port_of service)) now ks ps es ps' es') is.keepers
+    (subst (λ (e : IpListenEndpoint). Refreshes e now l.keepers.items ps es ps' es') is.endpoint refreshes)
+
+-- a listener whose sockets are seen and served stays one
+pub still_listener : (service : Service) (l m n : Listener) (now : ℕ) (ps ps' qs qs' : List (SocketStorage Socket)) → IsListener service l
+    → Refreshes l.endpoint now l.keepers.items ps l.entries.items ps' m.entries.items → m.endpoint ≡ l.endpoint → m.keepers.items ≡ l.keepers.items
+    → BacklogServes (first_place service) service qs (map accepted m.entries.items) qs' n.entries.items → n ≡ record m { entries = n.entries } → IsListener service n
+still_listener service l m n now ps ps' qs qs' is refreshes endpoint keepers serves rest =
+    let seen : StandsFrom (first_place service) (socket_count service) m.entries.items =
+    refreshed_stand l.endpoint now (first_place service) (socket_count service) l.keepers.items ps l.entries.items ps' m.entries.items refreshes is.stands in
+    record {
+      endpoint = ap (λ (x : Listener). x.endpoint) rest ∙ (endpoint ∙ is.endpoint);
+      keepers = ap (λ (x : Listener). x.keepers.items) rest ∙ (keepers ∙ is.keepers);
+      stands = served_stand (first_place service) (socket_count service) service qs (map accepted m.entries.items) qs' n.entries.items serves
+          (accepted_stand (first_place service) (socket_count service) m.entries.items seen);
+    }
