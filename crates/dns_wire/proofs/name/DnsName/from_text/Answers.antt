@@ -40,8 +40,8 @@ labels-preserved c =
     let next : n + 1 ≡ suc n = omega arith in
     record {
       kept =
-        Kept-more _ c.labels.bytes.items c.labels.rest.now _ _ n c.labels.invariant.kept c.label_end-end.ensures (omega (arith, c.label_end-end.ensures.within)) (omega arith) (omega arith)
-        (c.split_at-in-labels.ensures.back ∙ ap (λ k. drop k c.labels.rest.now) next)
-        (c.in-Ok.ensures.pushed ∙ ap (λ m. c.labels.bytes.items ++ (m ∷ c.split_at.result.0.now)) c.split_at.ensures.front_len ∙ ap (λ xs. c.labels.bytes.items ++ (n ∷ xs)) c.split_at.ensures.front);
+          Kept-more _ c.labels.bytes.items c.labels.rest.now _ _ n c.labels.invariant.kept c.label_end-end.ensures (omega (arith, c.label_end-end.ensures.within)) (omega arith) (omega arith)
+          (c.split_at-in-labels.ensures.back ∙ ap (λ k. drop k c.labels.rest.now) next)
+          (c.in-Ok.ensures.pushed ∙ ap (λ m. c.labels.bytes.items ++ (m ∷ c.split_at.result.0.now)) c.split_at.ensures.front_len ∙ ap (λ xs. c.labels.bytes.items ++ (n ∷ xs)) c.split_at.ensures.front);
       short = c.labels.invariant.short;
     }
