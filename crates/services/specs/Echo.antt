@@ -1,14 +1,13 @@
 -- What the echo services make of their sockets (RFC 862).
 use Rattle.std.specs.Prelude.{ℕ, nat_lt, min, if◌then◌else◌, List, length, take, Option, None, Some}
 use Rattle.net_base.specs.Packets.{first}
-use Rattle.ip_wire.specs.IpListenEndpoint.{IpListenEndpoint}
 use Rattle.datagram_sockets.specs.SocketValue as Datagrams
 use Rattle.datagram_sockets.specs.Udp.{UdpValue, send_after}
 use Rattle.datagram_sockets.specs.declared.udp.UdpMetadata.{UdpMetadata}
 use Rattle.tcp_model.specs.Calls as Streams
 use Rattle.tcp_model.specs.RecvError.{RecvError}
 use Rattle.tcp_model.specs.RecvError.TheVariants as Recv
-use Rattle.tcp_model.specs.States.{is_closed, takes_writes}
+use Rattle.tcp_model.specs.States.{takes_writes}
 use Rattle.tcp_model.specs.Value.{TcpValue, unoffered}
 
 -- DATAGRAMS
@@ -24,9 +23,6 @@ datagram_echoed room v = sent_back room (first v.received) (Datagrams.recv_after
 
 -- STREAMS
 
-abbrev pub on_port : ℕ → IpListenEndpoint
-on_port port = record { addr = None; port = port }
-
 -- for how many bytes more the send queue has room, at most so many
 abbrev pub room_left : ℕ → TcpValue → ℕ
 room_left most v = min most (length v.queued.free)
@@ -40,9 +36,6 @@ echoed_unless None room v = Streams.send_after (Streams.recv_after v (echo_len r
 echoed_unless (Some Recv.Finished) room v = Streams.close_after (unoffered v)
 echoed_unless (Some Recv.InvalidState) room v = unoffered v
 
--- a closed socket listens; one that takes writes sends back what waits, and closes at the end of it; another waits
-abbrev pub stream_echoed : ℕ → ℕ → TcpValue → TcpValue
-stream_echoed port most v =
-    if is_closed v.block.state then Streams.listen_after v (on_port port)
-    else if takes_writes v.block.state then echoed_unless (Streams.recv_refusal v) (room_left most v) v
-    else v
+-- one that takes writes sends back what waits, and closes at the end of it; another waits
+abbrev pub stream_echoed : ℕ → TcpValue → TcpValue
+stream_echoed most v = if takes_writes v.block.state then echoed_unless (Streams.recv_refusal v) (room_left most v) v else v

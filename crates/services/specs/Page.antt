@@ -2,11 +2,10 @@
 use Rattle.std.specs.Prelude.{◌≡◌, ℕ, ◌≤◌, ◌==◌, ◌||◌, ◌⊎◌, Bool, true, false, List, [], ◌∷◌, length, take, min}
 use Rattle.httparse.specs.Grammar.{RequestHead, ReadsRequest, MayBecomeRequest}
 use Rattle.httparse.specs.Spans.{RequestOverflows}
-use Rattle.tcp_model.specs.Calls.{listen_after, send_after, close_after}
+use Rattle.tcp_model.specs.Calls.{send_after, close_after}
 use Rattle.tcp_model.specs.State.{State}
 use Rattle.tcp_model.specs.State.TheVariants as In
 use Rattle.tcp_model.specs.Value.{TcpValue}
-use Rattle.services.specs.Echo.{on_port}
 use Rattle.services.specs.declared.page.Verdict.{Verdict}
 use Rattle.services.specs.declared.page.Verdict.TheVariants as Is
 
@@ -48,12 +47,11 @@ IsAnswered page refusal most is_all v w =
     × Judges (take most v.received.waiting) (is_all || (min most (length v.received.waiting) == most)) verdict
     × (w ≡ answered page refusal verdict v)
 
--- a closed socket listens, an established one answers, and one whose partner has closed answers at once
-abbrev pub ServedIn : State → ℕ → List ℕ → List ℕ → ℕ → TcpValue → TcpValue → Type 0
-ServedIn In.Closed port page refusal most v w = w ≡ listen_after v (on_port port)
-ServedIn In.Established port page refusal most v w = IsAnswered page refusal most false v w
-ServedIn In.CloseWait port page refusal most v w = IsAnswered page refusal most true v w
-ServedIn state port page refusal most v w = w ≡ v
+-- an established socket answers, and one whose partner has closed answers at once
+abbrev pub ServedIn : State → List ℕ → List ℕ → ℕ → TcpValue → TcpValue → Type 0
+ServedIn In.Established page refusal most v w = IsAnswered page refusal most false v w
+ServedIn In.CloseWait page refusal most v w = IsAnswered page refusal most true v w
+ServedIn state page refusal most v w = w ≡ v
 
-abbrev pub IsServed : ℕ → List ℕ → List ℕ → ℕ → TcpValue → TcpValue → Type 0
-IsServed port page refusal most v w = ServedIn v.block.state port page refusal most v w
+abbrev pub IsServed : List ℕ → List ℕ → ℕ → TcpValue → TcpValue → Type 0
+IsServed page refusal most v w = ServedIn v.block.state page refusal most v w

@@ -5,7 +5,6 @@ ghost use Rattle.services.specs.Page.{IsServed, IsAnswered, Judges, answered};
 
 use httparse::Status;
 use httparse::spans::{EMPTY_HEADER_SPAN, parse_request};
-use ip_wire::IpListenEndpoint;
 use sockets::tcp;
 
 /// How many header fields a request may have.
@@ -52,15 +51,12 @@ pub struct Site<'a> {
     pub refusal: &'a [u8],
 }
 
-/// Listens on the port while the socket is closed; else answers the request that waits, once it is whole, and closes: one request
-/// a connection (RFC 1945). A request is judged by as many bytes as the buffer holds.
-pub fn serve_page(socket: &mut tcp::Socket, port: u16, site: &Site<'_>, buffer: &mut [u8])
-    ensures { IsServed port site.now.page.now site.now.refusal.now (length buffer.old) socket.old socket.new }
+/// Answers the request that waits, once it is whole, and closes: one request a connection (RFC 1945). A request is judged by as many
+/// bytes as the buffer holds.
+pub fn serve_page(socket: &mut tcp::Socket, site: &Site<'_>, buffer: &mut [u8])
+    ensures { IsServed site.now.page.now site.now.refusal.now (length buffer.old) socket.old socket.new }
 {
     match socket.state() {
-        tcp::State::Closed => {
-            let _ = socket.listen(IpListenEndpoint { addr: None, port });
-        }
         tcp::State::Established => answer(socket, site, buffer, false),
         tcp::State::CloseWait => answer(socket, site, buffer, true),
         _ => {}

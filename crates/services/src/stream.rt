@@ -3,18 +3,12 @@ ghost use Rattle.std.specs.Prelude.{◌≡◌, length};
 ghost use Rattle.sockets.specs.TcpCalls.{recv_refusal};
 ghost use Rattle.services.specs.Echo.{stream_echoed, echoed_unless, room_left};
 
-use ip_wire::IpListenEndpoint;
 use sockets::tcp;
 
-/// Listens on the port while the socket is closed; else sends back what waits, as much as the buffer and the send queue have room
-/// for, and closes at the end of what comes (RFC 862).
-pub fn echo_stream(socket: &mut tcp::Socket, port: u16, buffer: &mut [u8])
-    ensures { socket.new ≡ stream_echoed port (length buffer.old) socket.old }
+/// Sends back what waits, as much as the buffer and the send queue have room for, and closes at the end of what comes (RFC 862).
+pub fn echo_stream(socket: &mut tcp::Socket, buffer: &mut [u8])
+    ensures { socket.new ≡ stream_echoed (length buffer.old) socket.old }
 {
-    if socket.state() == tcp::State::Closed {
-        let _ = socket.listen(IpListenEndpoint { addr: None, port });
-        return;
-    }
     if !socket.may_send() {
         return;
     }

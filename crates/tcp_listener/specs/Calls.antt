@@ -11,7 +11,7 @@ use Rattle.tcp_listener.specs.GivesWay.{HasNone, GivesWay}
 use Rattle.tcp_listener.specs.Kept.{kept_all}
 use Rattle.tcp_listener.specs.Noted.{AreNoted}
 use Rattle.tcp_listener.specs.Oldest.{IsOldest}
-use Rattle.tcp_listener.specs.Stages.{is_accepted}
+use Rattle.tcp_listener.specs.Stages.{is_accepted, is_open}
 
 -- a socket that was taken into the backlog
 abbrev pub fresh_entry : SocketHandle → Entry
@@ -34,6 +34,10 @@ abbrev pub Accepts : List Entry → Option SocketHandle → List Entry → Type 
 Accepts es None es' = HasNone Is.Open es × (es' ≡ es)
 Accepts es (Some handle) es' =
     (i : ℕ) × IsOldest Is.Open es (Some i) × (handle ≡ (entry_at es i).handle) × (es' ≡ slice_set es i (record (entry_at es i) { stage = Is.Accepted }))
+
+-- a connection that waits is its user's from now on
+abbrev pub accepted : Entry → Entry
+accepted e = if is_open e.stage then record e { stage = Is.Accepted } else e
 
 -- an accepted socket of this handle ends from now on
 abbrev pub given_back : SocketHandle → Entry → Entry

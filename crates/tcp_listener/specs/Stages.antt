@@ -10,6 +10,11 @@ abbrev pub is_accepted : Stage → Bool
 is_accepted Is.Accepted = true
 is_accepted other = false
 
+-- it has a connection that wasn't accepted
+abbrev pub is_open : Stage → Bool
+is_open Is.Open = true
+is_open other = false
+
 abbrev pub connected_stage : Stage → Stage
 connected_stage Is.Ending = Is.Ending
 connected_stage Is.TimeWait = Is.Ending

@@ -1,7 +1,7 @@
 //! A listener with a backlog.
 ghost use Rattle.std.specs.Prelude.{◌≡◌, ◌∷◌, ◌++◌, [], map, IfOk, OnErr};
 ghost use Rattle.interface_egress.specs.Set.{places};
-ghost use Rattle.tcp_listener.specs.Calls.{fresh_entry, micros_of, Refreshes, Accepts, given_back};
+ghost use Rattle.tcp_listener.specs.Calls.{fresh_entry, micros_of, Refreshes, Accepts, accepted, given_back};
 
 use crate::entry::Entry;
 use crate::keepers::keep_all;
@@ -113,12 +113,38 @@ impl Listener {
         Some(self.entries[at].handle)
     }
 
+    /// Accepts each connection that waits, for a user that sees which sockets are its own by the stages of the entries.
+    pub fn accept_all(&mut self)
+        ensures accepted { self.new.entries.items ≡ map accepted self.old.entries.items }
+        ensures rest { self.new ≡ record self.old { entries = self.new.entries } }
+    {
+        accept_entries(&mut self.entries);
+    }
+
     /// Takes an accepted socket back, which its user closed or aborted. It listens again when its connection has ended.
     pub fn give_back(&mut self, handle: SocketHandle)
         ensures back { self.new.entries.items ≡ map (given_back handle) self.old.entries.items }
         ensures rest { self.new ≡ record self.old { entries = self.new.entries } }
     {
         give_back_all(&mut self.entries, handle);
+    }
+}
+
+/// Accepts each connection that waits.
+fn accept_entries(entries: &mut Vec<Entry>)
+    ensures { entries.new.items ≡ map accepted entries.old.items }
+{
+    for i in 0..entries.len() {
+        accept_entry(&mut entries[i]);
+    }
+}
+
+/// Accepts a connection, if it waits.
+fn accept_entry(entry: &mut Entry)
+    ensures { entry.new ≡ accepted entry.old }
+{
+    if entry.stage.is_open() {
+        entry.stage = Stage::Accepted;
     }
 }
 

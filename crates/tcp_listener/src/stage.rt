@@ -1,6 +1,6 @@
 //! How far a socket of a backlog came.
 ghost use Rattle.std.specs.Prelude.{◌≡◌};
-ghost use Rattle.tcp_listener.specs.Stages.{is_accepted, stage_after};
+ghost use Rattle.tcp_listener.specs.Stages.{is_accepted, is_open, stage_after};
 
 use sockets::tcp::State;
 
@@ -27,6 +27,13 @@ impl Stage {
         ensures { result ≡ is_accepted self }
     {
         matches!(self, Stage::Accepted)
+    }
+
+    /// Whether it has a connection that waits to be accepted.
+    pub fn is_open(self) -> bool
+        ensures { result ≡ is_open self }
+    {
+        matches!(self, Stage::Open)
     }
 
     /// The stage of a socket that isn't its user's, in this state, if it was at this stage.

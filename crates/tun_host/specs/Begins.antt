@@ -23,7 +23,8 @@ use Rattle.net_base.specs.Medium.TheVariants as Medium
 use Rattle.net_base.specs.Packets.{packets_in}
 use Rattle.net_base.specs.Ring.{capacity}
 use Rattle.datagram_sockets.specs.Udp.{UdpValue, made as made_socket, bind_after}
-use Rattle.services.specs.Echo.{on_port}
+use Rattle.tun_host.specs.Backlogs.{on_port, HostState, AreFreshEntries}
+use Rattle.tcp_model.specs.Settings.{set_timeout, set_keep_alive}
 use Rattle.sockets.specs.declared.socket.Socket.{Socket}
 use Rattle.sockets.specs.declared.socket.Socket.TheVariants as Is
 use Rattle.tcp_model.specs.Blocks.{fresh_block, default_settings}
@@ -33,7 +34,7 @@ use Rattle.tun_host.specs.declared.error.ServeError.{ServeError}
 use Rattle.tun_host.specs.declared.error.ServeError.TheVariants.{Address, Memory}
 use Rattle.tun_host.specs.declared.interface_of.TheConstants.{MTU}
 use Rattle.tun_host.specs.declared.place.Service.{Service}
-use Rattle.tun_host.specs.declared.place.Service.TheVariants.{Datagrams}
+use Rattle.tun_host.specs.declared.place.Service.TheVariants.{Datagrams, Streams, Page, Keeper}
 use Rattle.tun_host.specs.declared.place.TheConstants.{ECHO_PORT, DATAGRAMS}
 use Rattle.tun_host.specs.declared.settings.Settings.{Settings}
 use Rattle.tun_link.specs.Drain.{DrainValue}
@@ -95,9 +96,32 @@ pub record IsUnopened (room : ℕ) (v : TcpValue) : Type 0 where
   pub receive_room : room_of v.received ≡ room
   pub send_room : capacity v.queued ≡ room
 
+-- how long a partner may say nothing until it is asked whether it is there, and how long at all while something waits for it, in
+-- microseconds
+abbrev pub keep_alive : ℕ
+keep_alive = 30_000_000
+
+abbrev pub timeout : ℕ
+timeout = 120_000_000
+
+abbrev pub patient : TcpValue → TcpValue
+patient v = set_timeout (set_keep_alive v (Some keep_alive)) (Some timeout)
+
+-- one that serves connections, and sees that its partner vanished
+pub record IsPatient (room : ℕ) (v : TcpValue) : Type 0 where
+  pub before : TcpValue
+  pub unopened : IsUnopened room before
+  pub set : v ≡ patient before
+
+-- a keeper never has a connection
+abbrev pub keeper_room : ℕ
+keeper_room = 1
+
 abbrev pub IsFreshAs : Service → Socket → Type 0
 IsFreshAs Datagrams s = s ≡ Is.Udp echo_socket
-IsFreshAs service (Is.Tcp v) = IsUnopened echo_room v
+IsFreshAs Streams (Is.Tcp v) = IsPatient echo_room v
+IsFreshAs Page (Is.Tcp v) = IsPatient echo_room v
+IsFreshAs Keeper (Is.Tcp v) = IsUnopened keeper_room v
 IsFreshAs service s = ⊥
 
 -- a socket that waits for no neighbour
@@ -108,9 +132,9 @@ IsFreshItem service (Some item) = IsFreshAs service item.socket × (item.meta �
 abbrev pub IsFreshPlace : Service → SocketStorage Socket → Type 0
 IsFreshPlace service place = IsFreshItem service place.inner
 
--- how many sockets a host has: for datagrams, for streams, for the page
+-- how many sockets a host has: for datagrams, for streams, for the page, and the keepers
 abbrev pub place_count : ℕ
-place_count = 21
+place_count = 71
 
 pub record AreFresh (places : List (SocketStorage Socket)) : Type 0 where
   pub count : length places ≡ place_count
@@ -122,8 +146,13 @@ pub record AreFresh (places : List (SocketStorage Socket)) : Type 0 where
 abbrev pub fresh_device : DrainValue
 fresh_device = record { waiting = None; dropped = 0; sent = []; refusals = 0; capabilities = capabilities }
 
--- a host of these settings, from this moment on
-pub record Begins (s : Settings) (moment : ℤ) (new : State DrainValue) : Type 0 where
+-- a host of these settings, from this moment on, on a link
+pub record BeginsAt (s : Settings) (moment : ℤ) (new : State DrainValue) : Type 0 where
   pub device : new.device ≡ fresh_device
   pub host : IsInterface s moment new.host
   pub sockets : AreFresh new.places
+
+pub record Begins (s : Settings) (moment : ℤ) (new : HostState) : Type 0 where
+  pub net : BeginsAt s moment new.net
+  pub echoes : AreFreshEntries Streams new.echoes
+  pub pages : AreFreshEntries Page new.pages

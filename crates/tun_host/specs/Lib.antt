@@ -1,4 +1,5 @@
 pub mod Settings
 pub mod Services
+pub mod Backlogs
 pub mod Begins
 pub mod Turns

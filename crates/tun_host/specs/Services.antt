@@ -1,21 +1,41 @@
 -- The services at the places of a host's sockets, and what a turn makes of them.
-use Rattle.std.specs.Prelude.{◌≡◌, ℕ, zero, suc, ◌==◌, nat_lt, ◌||◌, if◌then◌else◌, List, ◌++◌, length, take, drop, codes, slice_index_or, Option, None, Some, IsPermutation}
-use Rattle.std.specs.List.Sorted.{IsNonDecreasingBy}
-use Rattle.interface_egress.specs.Set.{free}
+use Rattle.std.specs.Prelude.{◌≡◌, ℕ, zero, suc, ◌==◌, nat_le, Bool, false, not, if◌then◌else◌, List, codes, slice_set, Option, None, Some}
 use Rattle.interface_egress.specs.declared.socket_set.Item.{Item}
 use Rattle.interface_egress.specs.declared.socket_set.SocketStorage.{SocketStorage}
 use Rattle.services.specs.Echo.{datagram_echoed, stream_echoed}
 use Rattle.services.specs.Page.{IsServed}
 use Rattle.sockets.specs.declared.socket.Socket.{Socket}
 use Rattle.sockets.specs.declared.socket.Socket.TheVariants as Is
-use Rattle.tcp_control.specs.States.{is_closed, is_listening}
+use Rattle.tcp_control.specs.States.{takes_writes}
+use Rattle.tcp_listener.specs.Noted.{place_at}
 use Rattle.tun_host.specs.declared.place.Service.{Service}
-use Rattle.tun_host.specs.declared.place.Service.TheVariants.{Datagrams, Streams, Page}
+use Rattle.tun_host.specs.declared.place.Service.TheVariants.{Datagrams, Streams, Page, Keeper}
 use Rattle.tun_host.specs.declared.place.TheConstants.{ECHO_PORT, PAGE_PORT}
 
--- a socket for datagrams, four that echo streams, and others that serve the page
+-- a socket for datagrams, four that echo streams, 64 that serve the page, and a keeper for either port
 abbrev pub service_at : ℕ → Service
-service_at place = if place == 0 then Datagrams else if nat_lt 4 place then Page else Streams
+service_at place = if place == 0 then Datagrams else if nat_le place 4 then Streams else if nat_le place 68 then Page else Keeper
+
+abbrev pub first_place : Service → ℕ
+first_place Datagrams = 0
+first_place Streams = 1
+first_place Page = 5
+first_place Keeper = 69
+
+abbrev pub socket_count : Service → ℕ
+socket_count Datagrams = 1
+socket_count Streams = 4
+socket_count Page = 64
+socket_count Keeper = 2
+
+-- the keeper of a service's port
+abbrev pub keeper_place : Service → ℕ
+keeper_place Page = 70
+keeper_place other = 69
+
+abbrev pub port_of : Service → ℕ
+port_of Page = PAGE_PORT
+port_of other = ECHO_PORT
 
 -- how many bytes a socket keeps each way, and how many of them are echoed in a turn at most
 abbrev pub echo_room : ℕ
@@ -49,11 +69,11 @@ datagrams_served room (Is.Udp v) = Is.Udp (times datagram_count (datagram_echoed
 datagrams_served room s = s
 
 abbrev pub stream_served : ℕ → Socket → Socket
-stream_served room (Is.Tcp v) = Is.Tcp (stream_echoed ECHO_PORT room v)
+stream_served room (Is.Tcp v) = Is.Tcp (stream_echoed room v)
 stream_served room s = s
 
 abbrev pub PageServed : ℕ → Socket → Socket → Type 0
-PageServed most (Is.Tcp v) (Is.Tcp w) = IsServed PAGE_PORT page refusal most v w
+PageServed most (Is.Tcp v) (Is.Tcp w) = IsServed page refusal most v w
 PageServed most (Is.Tcp v) s = ⊥
 PageServed most s s' = s' ≡ s
 
@@ -61,6 +81,7 @@ abbrev pub ServesAs : Service → Socket → Socket → Type 0
 ServesAs Datagrams s s' = s' ≡ datagrams_served echo_room s
 ServesAs Streams s s' = s' ≡ stream_served echo_room s
 ServesAs Page s s' = PageServed most_request s s'
+ServesAs Keeper s s' = s' ≡ s
 
 -- A PLACE
 
@@ -73,35 +94,20 @@ ItemServes service (Some old) (Some new) = ServesAs service old.socket new.socke
 abbrev pub PlaceServes : Service → SocketStorage Socket → SocketStorage Socket → Type 0
 PlaceServes service old new = ItemServes service old.inner new.inner
 
--- each place is served by its service
-pub record AreServed (old new : List (SocketStorage Socket)) : Type 0 where
-  pub count : length new ≡ length old
-  pub each : (i : ℕ) → PlaceServes (service_at i) (slice_index_or old i free) (slice_index_or new i free)
+-- the first place is served
+abbrev pub FirstServes : List (SocketStorage Socket) → List (SocketStorage Socket) → Type 0
+FirstServes old new = (place : SocketStorage Socket) × PlaceServes Datagrams (place_at old 0) place × (new ≡ slice_set old 0 place)
 
--- THE ORDER OF THE PLACES
+-- THE END OF A CONNECTION
 
--- 1 of a TCP socket without a connection, else 0
-abbrev pub socket_rank : Socket → ℕ
-socket_rank (Is.Tcp v) = if is_closed v.block.state || is_listening v.block.state then 1 else 0
-socket_rank s = 0
+-- no more can be written to a stream's socket
+abbrev pub socket_is_over : Socket → Bool
+socket_is_over (Is.Tcp v) = not (takes_writes v.block.state)
+socket_is_over s = false
 
-abbrev pub item_rank : Option (Item Socket) → ℕ
-item_rank None = 0
-item_rank (Some item) = socket_rank item.socket
+abbrev pub item_is_over : Option (Item Socket) → Bool
+item_is_over None = false
+item_is_over (Some item) = socket_is_over item.socket
 
-abbrev pub rank : SocketStorage Socket → ℕ
-rank place = item_rank place.inner
-
--- the same sockets, and each that has a connection before each that has none
-pub record ConnectedFirst (old new : List (SocketStorage Socket)) : Type 0 where
-  pub moved : IsPermutation old new
-  pub ranks : IsNonDecreasingBy rank new
-
--- within the places of each service, the sockets that have a connection come first: so a segment, which goes to the first socket that
--- accepts it, comes to the one that has its connection, and not to a listener in front of it
-pub record AreArranged (old new : List (SocketStorage Socket)) : Type 0 where
-  pub streams : List (SocketStorage Socket)
-  pub pages : List (SocketStorage Socket)
-  pub streams_first : ConnectedFirst (take 4 (drop 1 old)) streams
-  pub pages_first : ConnectedFirst (drop 4 (drop 1 old)) pages
-  pub whole : new ≡ take 1 old ++ (streams ++ pages)
+abbrev pub is_over : SocketStorage Socket → Bool
+is_over place = item_is_over place.inner

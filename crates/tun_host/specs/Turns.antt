@@ -1,5 +1,5 @@
 -- A host's turns: what one makes of it, what is written, and how a run of turns ends.
-use Rattle.std.specs.Prelude.{◌≡◌, ℕ, ◌-◌, ◌^◌, ℤ, pos, Bool, List, [], ◌∷◌, ◌++◌, length, vec_len, Option, None, Some, Result, Ok, Err, IfSome, ⊤}
+use Rattle.std.specs.Prelude.{◌≡◌, ℕ, ◌-◌, ◌^◌, ℤ, pos, Bool, List, [], ◌∷◌, ◌++◌, length, map, vec_len, Option, None, Some, Result, Ok, Err, IfSome, ⊤}
 use Rattle.interface.specs.Host.{host_at}
 use Rattle.interface.specs.Instant.{poll_instant}
 use Rattle.interface.specs.Polls.{Polls}
@@ -9,27 +9,31 @@ use Rattle.interface_egress.specs.declared.socket_set.SocketStorage.{SocketStora
 use Rattle.interface_tables.specs.Inner.{at_moment}
 use Rattle.sockets.specs.declared.socket.Socket.{Socket}
 use Rattle.tun_host.specs.Begins.{Begins, RefusesAddress}
-use Rattle.tun_host.specs.Services.{AreServed, AreArranged, echo_room, most_request}
+use Rattle.tcp_listener.specs.Calls.{micros_of, Refreshes, accepted}
+use Rattle.tcp_listener.specs.declared.entry.Entry.{Entry}
+use Rattle.tun_host.specs.Backlogs.{on_port, keepers_of, IsListener, HostState, BacklogServes}
+use Rattle.tun_host.specs.Services.{first_place, FirstServes, echo_room, most_request}
 use Rattle.tun_host.specs.Settings.{settings_in}
 use Rattle.tun_host.specs.declared.error.ServeError.{ServeError}
 use Rattle.tun_host.specs.declared.error.ServeError.TheVariants.{Turn as NoTurn, Settings as NoSettings, Turns}
 use Rattle.tun_host.specs.declared.host.Host.{Host}
+use Rattle.tun_host.specs.declared.place.Service.TheVariants.{Streams, Page}
+use Rattle.tun_host.specs.declared.place.TheConstants.{ECHO_PORT, PAGE_PORT}
 use Rattle.tun_host.specs.declared.turns.TheConstants.{LONGEST}
 use Rattle.tun_host.specs.declared.settings.Settings.{Settings}
 use Rattle.tun_link.specs.Answer.{answer_end}
 use Rattle.tun_link.specs.Drain.{DrainValue, DrainMove, brought}
 use Rattle.tun_link.specs.Turn.{Takes, Refuses}
 
--- a host: its device, its interface, and its sockets
-abbrev pub HostState : Type 0
-HostState = State DrainValue
-
 abbrev pub state_of : Host → HostState
-state_of h = state h.drain h.interface (places h.sockets)
+state_of h = record { net = state h.drain h.interface (places h.sockets); echoes = h.echoes.entries.items; pages = h.pages.entries.items }
 
--- its services' buffers have their lengths
-abbrev pub HasBuffers : Host → Type 0
-HasBuffers h = (vec_len h.buffer ≡ echo_room) × (vec_len h.request ≡ most_request)
+-- its services' buffers have their lengths, and its listeners their sockets
+pub record IsSetUp (h : Host) : Type 0 where
+  pub buffer : vec_len h.buffer ≡ echo_room
+  pub request : vec_len h.request ≡ most_request
+  pub echoes : IsListener Streams h.echoes
+  pub pages : IsListener Page h.pages
 
 -- A TURN
 
@@ -38,33 +42,53 @@ unfoldable pub budget : ℕ
 budget = 64
 
 -- the packet comes to the device; one of no bytes is none, and one that is too long is dropped
-abbrev pub with_packet : HostState → List ℕ → HostState
+abbrev pub with_packet : State DrainValue → List ℕ → State DrainValue
 with_packet s packet = at_device s (brought packet s.device)
 
--- The packet comes, the interface is polled at the turn's moment, the services do what can be done, their sockets are arranged, and
--- the interface is polled again; then it is asked when it wants to be polled next. Nothing but the host before, the packet and the
--- moment goes in.
+-- sockets, and how far those of the listeners came
+pub record Served : Type 0 where
+  pub sockets : List (SocketStorage Socket)
+  pub echoes : List Entry
+  pub pages : List Entry
+
+abbrev pub served : List (SocketStorage Socket) → List Entry → List Entry → Served
+served sockets echoes pages = record { sockets = sockets; echoes = echoes; pages = pages }
+
+-- The listeners see how far their sockets came; then the datagrams are served, and the connections that were accepted.
+pub record AreServed (moment : ℤ) (old new : Served) : Type 0 where
+  pub seen : List (SocketStorage Socket)
+  pub echoes : List Entry
+  pub ready : List (SocketStorage Socket)
+  pub pages : List Entry
+  pub datagrams : List (SocketStorage Socket)
+  pub streams : List (SocketStorage Socket)
+  pub sees_echoes : Refreshes (on_port ECHO_PORT) (micros_of moment) (keepers_of Streams) old.sockets old.echoes seen echoes
+  pub sees_pages : Refreshes (on_port PAGE_PORT) (micros_of moment) (keepers_of Page) seen old.pages ready pages
+  pub serves_datagrams : FirstServes ready datagrams
+  pub serves_streams : BacklogServes (first_place Streams) Streams datagrams (map accepted echoes) streams new.echoes
+  pub serves_pages : BacklogServes (first_place Page) Page streams (map accepted pages) new.sockets new.pages
+
+-- The packet comes, the interface is polled at the turn's moment, the services do what can be done, and the interface is polled again;
+-- then it is asked when it wants to be polled next. Nothing but the host before, the packet and the moment goes in.
 pub record TakesTurn (old : HostState) (moment : ℤ) (packet : List ℕ) (next : Option ℤ) (new : HostState) : Type 0 where
-  pub come : HostState
-  pub served : List (SocketStorage Socket)
-  pub arranged : List (SocketStorage Socket)
-  pub gone : HostState
+  pub come : State DrainValue
+  pub done : Served
+  pub gone : State DrainValue
   pub changed : Bool
   pub changed_again : Bool
-  pub takes : Polls DrainMove moment budget (with_packet old packet) changed come
-  pub serves : AreServed come.places served
-  pub arranges : AreArranged served arranged
-  pub sends : Polls DrainMove moment budget (state come.device come.host arranged) changed_again gone
+  pub takes : Polls DrainMove moment budget (with_packet old.net packet) changed come
+  pub serves : AreServed moment (served come.places old.echoes old.pages) done
+  pub sends : Polls DrainMove moment budget (state come.device come.host done.sockets) changed_again gone
   pub asked : next ≡ poll_instant (at_moment moment gone.host.inner) gone.host.left gone.places
-  pub after : new ≡ state gone.device (host_at moment gone.host) gone.places
+  pub after : new ≡ record { net = state gone.device (host_at moment gone.host) gone.places; echoes = done.echoes; pages = done.pages }
 
 -- a turn, and what is written: the packets that were sent, and the moment of the next turn. After that the device has nothing sent.
 pub record Answers (old : HostState) (moment : ℤ) (packet said : List ℕ) (new : HostState) : Type 0 where
   pub next : Option ℤ
   pub turned : HostState
   pub turn : TakesTurn old moment packet next turned
-  pub writes : said ≡ turned.device.sent ++ answer_end next
-  pub emptied : new ≡ at_device turned (record turned.device { sent = [] })
+  pub writes : said ≡ turned.net.device.sent ++ answer_end next
+  pub emptied : new ≡ record turned { net = at_device turned.net (record turned.net.device { sent = [] }) }
 
 -- A RUN
 

@@ -4,23 +4,25 @@ ghost use Rattle.std.specs.Io.KnownBytes.{Appends};
 ghost use Rattle.interface.specs.Set.{places};
 ghost use Rattle.net_base.specs.Time.{IsMoment};
 ghost use Rattle.tun_host.specs.Begins.{Begins, RefusesAddress};
-ghost use Rattle.tun_host.specs.Services.{echo_room, most_request, AreServed, AreArranged};
-ghost use Rattle.tun_host.specs.Turns.{state_of, HasBuffers, budget, TakesTurn, Answers};
+ghost use Rattle.tun_host.specs.Backlogs.{IsListener};
+ghost use Rattle.tun_host.specs.Services.{echo_room, most_request};
+ghost use Rattle.tun_host.specs.Turns.{state_of, IsSetUp, budget, served, AreServed, TakesTurn, Answers};
 ghost use Rattle.interface.specs.State.{state};
 ghost use Rattle.interface.specs.Polls.{Polls, is_change};
 ghost use Rattle.tun_link.specs.Drain.{DrainMove};
 
-use crate::arrange::arrange_places;
+use crate::backlog::{listener, serve_backlog, serve_first};
 use crate::error::ServeError;
 use crate::interface_of::{capabilities, interface};
-use crate::place::serve_places;
+use crate::place::Service;
 use crate::settings::Settings;
 use crate::sockets_of::{ROOM, sockets};
-use interface::{Interface, PollResult, SocketSet};
+use interface::{Interface, PollResult, SocketSet, SocketStorage};
 use net_base::{Instant, ManagedSlice};
 use sockets::Socket;
 use std::alloc::Global;
 use std::io::Write;
+use tcp_listener::Listener;
 use tun_link::{Drain, write_answer};
 
 /// How many frames a poll takes, and how many passes over the sockets it makes, at most.
@@ -37,6 +39,8 @@ pub struct Host {
     pub drain: Drain,
     pub buffer: Vec<u8>,
     pub request: Vec<u8>,
+    pub echoes: Listener,
+    pub pages: Listener,
 }
 
 #[tactic(auto, unfolding(crate::specs::Turns::budget))]
@@ -60,24 +64,45 @@ fn poll(
 }
 
 /// The services do what can be done now.
-fn serve(sockets: &mut SocketSet<Socket>, buffer: &mut [u8], request: &mut [u8])
-    requires buffer { length buffer.old ≡ echo_room }
-    requires request { length request.old ≡ most_request }
-    ensures { AreServed (places sockets.old) (places sockets.new) }
+fn serve_places(
+    places: &mut [SocketStorage<Socket>],
+    echoes: &mut Listener,
+    pages: &mut Listener,
+    buffer: &mut [u8],
+    request: &mut [u8],
+)
 {
-    match &mut sockets.sockets {
-        ManagedSlice::Fixed(places) => serve_places(places.as_mut_slice(), buffer, request),
-        ManagedSlice::Owned(places) => serve_places(places.as_mut_slice(), buffer, request),
-    }
+    serve_first(places, buffer, request);
+    serve_backlog(Service::Streams, places, echoes, buffer, request);
+    serve_backlog(Service::Page, places, pages, buffer, request);
 }
 
-/// The sockets that have a connection go before those of their service that have none.
-fn arrange(sockets: &mut SocketSet<Socket>)
-    ensures { AreArranged (places sockets.old) (places sockets.new) }
+/// The listeners see how far their sockets came, and the services do what can be done now.
+fn serve(
+    sockets: &mut SocketSet<Socket>,
+    echoes: &mut Listener,
+    pages: &mut Listener,
+    buffer: &mut [u8],
+    request: &mut [u8],
+    now: Instant,
+)
+    requires buffer { length buffer.old ≡ echo_room }
+    requires request { length request.old ≡ most_request }
+    requires echoes { IsListener Streams echoes.old }
+    requires pages { IsListener Page pages.old }
+    ensures served { AreServed now (served (places sockets.old) echoes.old.entries.items pages.old.entries.items) (served (places sockets.new) echoes.new.entries.items pages.new.entries.items) }
+    ensures echoes { IsListener Streams echoes.new }
+    ensures pages { IsListener Page pages.new }
 {
+    echoes.refresh(sockets, now);
+    pages.refresh(sockets, now);
     match &mut sockets.sockets {
-        ManagedSlice::Fixed(places) => arrange_places(places.as_mut_slice()),
-        ManagedSlice::Owned(places) => arrange_places(places.as_mut_slice()),
+        ManagedSlice::Fixed(places) => {
+            serve_places(places.as_mut_slice(), echoes, pages, buffer, request)
+        }
+        ManagedSlice::Owned(places) => {
+            serve_places(places.as_mut_slice(), echoes, pages, buffer, request)
+        }
     }
 }
 
@@ -87,20 +112,24 @@ impl Host {
         requires moment { IsMoment now }
         requires prefix_len { settings.now.prefix_len ≤ 32 }
         ensures begins { IfOk result (λ host. Begins settings.now now (state_of host)) }
-        ensures buffers { IfOk result HasBuffers }
+        ensures set_up { IfOk result IsSetUp }
         ensures refused { IfErr result (RefusesAddress settings.now) }
     {
         let drain = Drain::new(alloc, capabilities());
         let interface = interface(alloc, settings, &drain, now)?;
         let buffer = vec![in alloc; 0; ROOM];
         let request = vec![in alloc; 0; MOST_REQUEST];
-        match (sockets(alloc), buffer, request) {
-            (Ok(sockets), Ok(buffer), Ok(request)) => Ok(Host {
+        let echoes = listener(alloc, Service::Streams);
+        let pages = listener(alloc, Service::Page);
+        match (sockets(alloc), buffer, request, echoes, pages) {
+            (Ok(sockets), Ok(buffer), Ok(request), Ok(echoes), Ok(pages)) => Ok(Host {
                 interface,
                 sockets,
                 drain,
                 buffer,
                 request,
+                echoes,
+                pages,
             }),
             _ => Err(ServeError::Memory),
         }
@@ -110,18 +139,20 @@ impl Host {
     /// turn.
     pub fn take_turn(&mut self, packet: Vec<u8>, now: Instant) -> Option<Instant>
         requires moment { IsMoment now }
-        requires buffers { HasBuffers self.old }
+        requires set_up { IsSetUp self.old }
         ensures turn { TakesTurn (state_of self.old) now packet.items result (state_of self.new) }
-        ensures buffers { HasBuffers self.new }
+        ensures set_up { IsSetUp self.new }
     {
         self.drain.put(packet);
         let _ = poll(&mut self.interface, &mut self.drain, &mut self.sockets, now);
         serve(
             &mut self.sockets,
+            &mut self.echoes,
+            &mut self.pages,
             self.buffer.as_mut_slice(),
             self.request.as_mut_slice(),
+            now,
         );
-        arrange(&mut self.sockets);
         let _ = poll(&mut self.interface, &mut self.drain, &mut self.sockets, now);
         self.interface.poll_at(now, &self.sockets)
     }
@@ -134,9 +165,9 @@ impl Host {
         now: Instant,
     ) -> Result<(), ServeError>
         requires moment { IsMoment now }
-        requires buffers { HasBuffers self.old }
+        requires set_up { IsSetUp self.old }
         ensures answers { OnOk result ((said : List ℕ) × Answers (state_of self.old) now packet.items said (state_of self.new) × Appends (W.contents writer.old) (W.contents writer.new) said) }
-        ensures buffers { HasBuffers self.new }
+        ensures set_up { IsSetUp self.new }
         ensures error { IfErr result (λ e. e ≡ ServeError.Writer) }
     {
         let next = self.take_turn(packet, now);

@@ -2,7 +2,7 @@
 //! on port 7, and serves a page on port 80.
 #![tactic(auto)]
 
-mod arrange;
+mod backlog;
 mod error;
 mod host;
 mod interface_of;

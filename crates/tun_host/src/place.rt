@@ -1,17 +1,18 @@
 //! The services, each at its places among a host's sockets.
 ghost use Rattle.std.specs.Prelude.{◌≡◌, length};
 ghost use Rattle.services.specs.Echo.{datagram_echoed};
-ghost use Rattle.tun_host.specs.Services.{service_at, echo_room, most_request, datagram_count, page, refusal, times, datagrams_served, stream_served, PageServed, ServesAs, PlaceServes, AreServed};
+ghost use Rattle.tun_host.specs.Services.{service_at, first_place, socket_count, keeper_place, port_of, echo_room, most_request, datagram_count, page, refusal, times, datagrams_served, stream_served, PageServed, ServesAs, PlaceServes, is_over};
 
-use interface::SocketStorage;
+use interface::{Item, SocketStorage};
 use services::{Site, echo_datagram, echo_stream, serve_page};
 use sockets::{Socket, udp};
 
 /// How many streams are echoed at a time.
 pub const ECHOES: usize = 4;
 
-/// How many connections ask for the page at a time. Each of them waits for ten seconds behind its end (TIME-WAIT).
-pub const PAGES: usize = 16;
+/// How many connections ask for the page at a time. Each of them waits for ten seconds behind its end (TIME-WAIT), if it isn't needed
+/// before.
+pub const PAGES: usize = 64;
 
 /// How many datagrams wait for their echo, at most, and how many are sent back in a turn.
 pub const DATAGRAMS: usize = 64;
@@ -34,9 +35,11 @@ pub enum Service {
     Streams,
     /// The page.
     Page,
+    /// It takes a SYN that falls to no other, one for streams and one for the page.
+    Keeper,
 }
 
-/// What the socket at a place is for: one for datagrams, then those that echo streams, then those that serve the page.
+/// What the socket at a place is for: one for datagrams, then those that echo streams, those that serve the page, and the keepers.
 pub fn service_at(place: usize) -> Service
     ensures { result ≡ service_at place }
 {
@@ -44,8 +47,53 @@ pub fn service_at(place: usize) -> Service
         Service::Datagrams
     } else if place <= ECHOES {
         Service::Streams
-    } else {
+    } else if place <= ECHOES + PAGES {
         Service::Page
+    } else {
+        Service::Keeper
+    }
+}
+
+/// The first of a service's places, which stand one behind the other.
+pub fn first_place(service: Service) -> usize
+    ensures { result ≡ first_place service }
+{
+    match service {
+        Service::Datagrams => 0,
+        Service::Streams => 1,
+        Service::Page => 1 + ECHOES,
+        Service::Keeper => 1 + ECHOES + PAGES,
+    }
+}
+
+/// How many sockets a service has.
+pub fn socket_count(service: Service) -> usize
+    ensures { result ≡ socket_count service }
+{
+    match service {
+        Service::Datagrams => 1,
+        Service::Streams => ECHOES,
+        Service::Page => PAGES,
+        Service::Keeper => 2,
+    }
+}
+
+/// Where the socket is that takes the SYNs for this service's port that fall to none of its own.
+pub fn keeper_place(service: Service) -> usize
+    ensures { result ≡ keeper_place service }
+{
+    match service {
+        Service::Page => 2 + ECHOES + PAGES,
+        _ => 1 + ECHOES + PAGES,
+    }
+}
+
+pub fn port_of(service: Service) -> u16
+    ensures { result ≡ port_of service }
+{
+    match service {
+        Service::Page => PAGE_PORT,
+        _ => ECHO_PORT,
     }
 }
 
@@ -87,7 +135,7 @@ fn serve_stream(socket: &mut Socket, buffer: &mut [u8])
     ensures { socket.new ≡ stream_served (length buffer.old) socket.old }
 {
     if let Socket::Tcp(socket) = socket {
-        echo_stream(socket, ECHO_PORT, buffer);
+        echo_stream(socket, buffer);
     }
 }
 
@@ -96,7 +144,7 @@ fn serve_request(socket: &mut Socket, request: &mut [u8])
 {
     if let Socket::Tcp(socket) = socket {
         let site = site();
-        serve_page(socket, PAGE_PORT, &site, request);
+        serve_page(socket, &site, request);
     }
 }
 
@@ -110,11 +158,12 @@ fn serve_socket(service: Service, socket: &mut Socket, buffer: &mut [u8], reques
         Service::Datagrams => serve_datagrams(socket, buffer),
         Service::Streams => serve_stream(socket, buffer),
         Service::Page => serve_request(socket, request),
+        Service::Keeper => {}
     }
 }
 
 /// A service does what can be done now, if there is a socket.
-fn serve_place(
+pub fn serve_place(
     service: Service,
     place: &mut SocketStorage<Socket>,
     buffer: &mut [u8],
@@ -129,14 +178,17 @@ fn serve_place(
     }
 }
 
-/// The services do what can be done now.
-#[tactic(auto, using(crate::proofs::Served::served_none, crate::proofs::Served::served_more, crate::proofs::Served::served_all))]
-pub fn serve_places(places: &mut [SocketStorage<Socket>], buffer: &mut [u8], request: &mut [u8])
-    requires buffer { length buffer.old ≡ echo_room }
-    requires request { length request.old ≡ most_request }
-    ensures { AreServed places.old places.new }
+/// Whether there is a stream's socket to which no more can be written: its service is done with it.
+pub fn is_over(place: &SocketStorage<Socket>) -> bool
+    ensures { result ≡ is_over place.now }
 {
-    for i in 0..places.len() {
-        serve_place(service_at(i), &mut places[i], buffer, request);
+    match &place.inner {
+        Some(
+            Item {
+                socket: Socket::Tcp(socket),
+                ..
+            },
+        ) => !socket.may_send(),
+        _ => false,
     }
 }

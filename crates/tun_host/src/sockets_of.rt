@@ -2,20 +2,30 @@
 ghost use Rattle.std.specs.Prelude.{◌≡◌, ◌≤◌, [], IfOk};
 ghost use Rattle.net_base.specs.Packets.{packets_in};
 ghost use Rattle.interface.specs.Set.{places};
-ghost use Rattle.tun_host.specs.Begins.{echo_socket, IsUnopened, IsFreshAs, IsFreshPlace, AreFresh};
+ghost use Rattle.tun_host.specs.Services.{echo_room};
+ghost use Rattle.tun_host.specs.Begins.{echo_socket, IsUnopened, IsPatient, patient, IsFreshAs, IsFreshPlace, AreFresh};
 
 use crate::place::{DATAGRAMS, ECHO_PORT, ECHOES, PAGES, Service, service_at};
 use interface::{Item, Meta, SocketSet, SocketStorage};
 use ip_wire::IpListenEndpoint;
-use net_base::{ManagedSlice, PacketBuffer, PacketMetadata, RingBuffer};
+use net_base::{Duration, ManagedSlice, PacketBuffer, PacketMetadata, RingBuffer};
 use sockets::{Socket, tcp, udp};
 use std::alloc::{AllocError, Global};
 
 /// How many bytes a socket keeps each way.
 pub const ROOM: usize = 65_536;
 
+/// How many bytes a keeper keeps each way: it never has a connection.
+const KEEPER_ROOM: usize = 1;
+
 /// How many sockets a host has.
-const PLACES: usize = 1 + ECHOES + PAGES;
+const PLACES: usize = 3 + ECHOES + PAGES;
+
+/// How long a partner may say nothing until it is asked whether it is there, in seconds.
+const KEEP_ALIVE_SECS: u64 = 30;
+
+/// How long it may say nothing at all while something waits for it, in seconds.
+const TIMEOUT_SECS: u64 = 120;
 
 /// A queue for so many datagrams of so many bytes together.
 fn queue<H: Drop>(alloc: Global, count: usize, room: usize) -> Result<PacketBuffer<H>, AllocError>
@@ -54,13 +64,31 @@ fn stream(alloc: Global, room: usize) -> Result<tcp::Socket, AllocError>
     Ok(tcp::Socket::new(rx, tx))
 }
 
+/// A connection whose partner vanishes ends.
+fn be_patient(socket: &mut tcp::Socket)
+    ensures { socket.new ≡ patient socket.old }
+{
+    socket.set_keep_alive(Some(Duration::from_secs(KEEP_ALIVE_SECS)));
+    socket.set_timeout(Some(Duration::from_secs(TIMEOUT_SECS)));
+}
+
+/// A socket that serves connections.
+fn server(alloc: Global) -> Result<tcp::Socket, AllocError>
+    ensures { IfOk result (IsPatient echo_room) }
+{
+    let mut socket = stream(alloc, ROOM)?;
+    be_patient(&mut socket);
+    Ok(socket)
+}
+
 fn socket(alloc: Global, service: Service) -> Result<Socket, AllocError>
     ensures { IfOk result (IsFreshAs service) }
 {
     match service {
         Service::Datagrams => Ok(Socket::Udp(datagrams(alloc)?)),
-        Service::Streams => Ok(Socket::Tcp(stream(alloc, ROOM)?)),
-        Service::Page => Ok(Socket::Tcp(stream(alloc, ROOM)?)),
+        Service::Streams => Ok(Socket::Tcp(server(alloc)?)),
+        Service::Page => Ok(Socket::Tcp(server(alloc)?)),
+        Service::Keeper => Ok(Socket::Tcp(stream(alloc, KEEPER_ROOM)?)),
     }
 }
 

@@ -6,7 +6,7 @@ ghost use Rattle.net_base.specs.Time.{IsMoment};
 ghost use Rattle.tun_link.specs.Turn.{Next, Refuses};
 ghost use Rattle.tun_link.specs.declared.turn.TurnError.{TurnError};
 ghost use Rattle.tun_host.specs.Settings.{settings_in};
-ghost use Rattle.tun_host.specs.Turns.{state_of, HasBuffers, Begun, Arrives, BeginsNone, ArrivesNot, IsServed};
+ghost use Rattle.tun_host.specs.Turns.{state_of, IsSetUp, Begun, Arrives, BeginsNone, ArrivesNot, IsServed};
 
 use crate::error::ServeError;
 use crate::host::Host;
@@ -67,7 +67,7 @@ fn next_turn<R: Read>(
 fn begun(alloc: Global, bytes: &[u8], now: Instant) -> Result<Host, ServeError>
     requires { IsMoment now }
     ensures begun { IfOk result (λ host. Begun (settings_in bytes.now) now (state_of host)) }
-    ensures buffers { IfOk result HasBuffers }
+    ensures set_up { IfOk result IsSetUp }
     ensures refused { IfErr result (BeginsNone (settings_in bytes.now)) }
 {
     match Settings::read(bytes) {
@@ -84,9 +84,9 @@ fn arrive(
     now: Instant,
 ) -> Result<(Host, Vec<u8>), ServeError>
     requires moment { IsMoment now }
-    requires buffers { IfSome host HasBuffers }
+    requires set_up { IfSome host IsSetUp }
     ensures arrives { IfOk result (λ r. Arrives (option_map state_of host) (record { moment = now; packet = packet.items }) (state_of r.0) r.1.items) }
-    ensures buffers { IfOk result (λ r. HasBuffers r.0) }
+    ensures set_up { IfOk result (λ r. IsSetUp r.0) }
     ensures refused { IfErr result (ArrivesNot (option_map state_of host) packet.items) }
 {
     match host {

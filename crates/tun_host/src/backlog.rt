@@ -1,0 +1,89 @@
+//! The connections of a service: its listener, and what the service makes of those that were accepted.
+ghost use Rattle.std.specs.Prelude.{◌≡◌, ◌<◌, ◌+◌, ◌∷◌, [], length, map, IfOk};
+ghost use Rattle.tcp_listener.specs.Calls.{accepted};
+ghost use Rattle.tcp_listener.specs.Entries.{entry_at};
+ghost use Rattle.tun_host.specs.Services.{echo_room, most_request, first_place, FirstServes};
+ghost use Rattle.tun_host.specs.Backlogs.{StandsFrom, StandAt, IsFreshListener, OneServes, BacklogServes};
+
+use crate::place::{
+    Service, first_place, is_over, keeper_place, port_of, serve_place, socket_count,
+};
+use interface::{SocketHandle, SocketStorage};
+use ip_wire::IpListenEndpoint;
+use sockets::Socket;
+use std::alloc::{AllocError, Global};
+use tcp_listener::Listener;
+
+/// The listener of a service at its places, with its keeper.
+pub fn listener(alloc: Global, service: Service) -> Result<Listener, AllocError>
+    ensures { IfOk result (IsFreshListener service) }
+{
+    let endpoint = IpListenEndpoint {
+        addr: None,
+        port: port_of(service),
+    };
+    let mut made = Listener::new(alloc, endpoint);
+    let first = first_place(service);
+    for i in 0..socket_count(service) {
+        made.add(SocketHandle::at(first + i))?;
+    }
+    made.add_keeper(SocketHandle::at(keeper_place(service)))?;
+    Ok(made)
+}
+
+/// The datagrams at the first place are served.
+pub fn serve_first(places: &mut [SocketStorage<Socket>], buffer: &mut [u8], request: &mut [u8])
+    requires buffer { length buffer.old ≡ echo_room }
+    requires request { length request.old ≡ most_request }
+    ensures { FirstServes places.old places.new }
+{
+    if let [place, ..] = places {
+        serve_place(Service::Datagrams, place, buffer, request);
+    }
+}
+
+/// The connection of an entry is served, if it was accepted, and given back once no more can be written to it.
+fn serve_one(
+    service: Service,
+    at: usize,
+    places: &mut [SocketStorage<Socket>],
+    listener: &mut Listener,
+    buffer: &mut [u8],
+    request: &mut [u8],
+)
+    requires buffer { length buffer.old ≡ echo_room }
+    requires request { length request.old ≡ most_request }
+    requires within { at < length listener.old.entries.items }
+    ensures served { OneServes service at places.old listener.old.entries.items places.new listener.new.entries.items }
+    ensures rest { listener.new ≡ record listener.old { entries = listener.new.entries } }
+{
+    let entry = listener.entries[at];
+    let place = entry.handle.place();
+    if !entry.stage.is_accepted() || place >= places.len() {
+        return;
+    }
+    serve_place(service, &mut places[place], buffer, request);
+    if is_over(&places[place]) {
+        listener.give_back(entry.handle);
+    }
+}
+
+/// The connections that wait are accepted, and each that was accepted is served.
+pub fn serve_backlog(
+    service: Service,
+    places: &mut [SocketStorage<Socket>],
+    listener: &mut Listener,
+    buffer: &mut [u8],
+    request: &mut [u8],
+)
+    requires buffer { length buffer.old ≡ echo_room }
+    requires request { length request.old ≡ most_request }
+    requires stands { StandAt service listener.old.entries.items }
+    ensures served { BacklogServes (first_place service) service places.old (map accepted listener.old.entries.items) places.new listener.new.entries.items }
+    ensures rest { listener.new ≡ record listener.old { entries = listener.new.entries } }
+{
+    listener.accept_all();
+    for at in 0..listener.entries.len() {
+        serve_one(service, at, places, listener, buffer, request);
+    }
+}
