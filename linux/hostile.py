@@ -11,17 +11,15 @@ then looks for what is malformed or has a wrong checksum.
 import os, random, shutil, signal, socket, struct, subprocess, sys, threading, time
 
 import talk
-from talk import LINUX, OURS, say, sh
+from talk import LINUX, LINUX6, OURS, OURS6, STATION, say, sh
 
 SO_REPAIR, REPAIR_QUEUE, QUEUE_SEQ, SEND_QUEUE = 19, 20, 21, 2
 
 
 def start(pump, program, *options):
-    ran = subprocess.Popen([pump, *options, "zemplovir", program, f"{OURS}/24", LINUX], stdout=subprocess.PIPE, text=True)
+    ran = subprocess.Popen([pump, *options, "zemplovir", program, f"{OURS}/24", LINUX, f"{OURS6}/64", LINUX6], stdout=subprocess.PIPE, text=True)
     ran.stdout.readline()
-    for words in (f"addr add {LINUX}/24 dev zemplovir", "link set zemplovir up", "link set lo up"):
-        sh("ip", *words.split())
-    time.sleep(0.3)
+    talk.set_up()
     return ran
 
 

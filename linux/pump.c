@@ -1,12 +1,13 @@
 // Owns a TUN or TAP device, the clock and the waiting for the program `host`, as pump.py does, which is the readable one.
 //
 //     cc -O2 -o pump linux/pump.c
-//     pump [OPTIONS] DEVICE HOST ADDRESS/LEN ROUTER     a link between the device and the program, whose settings these are
-//     pump [OPTIONS] DEVICE OTHER                       the same link between two devices
+//     pump [OPTIONS] DEVICE HOST ADDRESS/LEN ROUTER [ADDRESS6/LEN ROUTER6]     a link between the device and the program, whose settings
+//                                                                             these are
+//     pump [OPTIONS] DEVICE OTHER                                             the same link between two devices
 //
 // -l N, -r N, -h N, -d N: so many of 1000 packets each way are lost, repeated, held back behind the next one, or damaged in a byte;
-// -c N: where the random numbers begin; -s N: the seed of the host; -e: the devices carry Ethernet frames (TAP);
-// -k FOLDER keeps what the program read and wrote as the files stdin and stdout.
+// -c N: where the random numbers begin; -s N: the seed of the host; -e MAC: the devices carry Ethernet frames (TAP), and the host has this
+// hardware address; -k FOLDER keeps what the program read and wrote as the files stdin and stdout.
 // SIGUSR1 lets the host's clock go on by an hour: each moment at which it wants a turn comes at once; it says when that is done. SIGTERM ends it.
 //
 // A turn is a packet's length (2 bytes), the moment in microseconds (8 bytes) and the packet, all numbers with the low byte first; the
@@ -14,6 +15,7 @@
 #define _GNU_SOURCE
 #include <arpa/inet.h>
 #include <fcntl.h>
+#include <netinet/ether.h>
 #include <linux/if.h>
 #include <linux/if_tun.h>
 #include <signal.h>
@@ -32,6 +34,7 @@ enum { MOST = 65536, HEAD = 10, HOUR = 3600 };
 typedef unsigned char byte;
 static int kind = IFF_TUN, tun = -1, other = -1, host = -1;
 static uint64_t lose, repeat, hold, damage, chance = 1, seed, ahead, turns, carried[2];
+static struct ether_addr station;
 static FILE *said, *answered;
 static volatile sig_atomic_t ends, skips;
 static struct { byte bytes[MOST]; int len; } held[2];  // what goes behind the next packet, each way
@@ -128,15 +131,22 @@ static uint64_t take_turn(const byte *packet, int len) {
     return number(answer(8), 8);
 }
 
-static void start_host(const char *program, char *address, const char *router) {
-    byte settings[17] = {0};
-    int ends_of[2];
+// An address, its prefix and a router, of so many bytes each.
+static void put_family(byte *to, int family, int size, char *address, const char *router) {
     char *slash = strchr(address, '/');
     if (!slash) stop("ADDRESS/LEN");
     *slash = 0;
-    if (!inet_pton(AF_INET, address, settings) || !inet_pton(AF_INET, router, settings + 5)) stop("address");
-    settings[4] = atoi(slash + 1);
-    for (int i = 0; i < 8; i++) settings[9 + i] = seed >> 8 * i;
+    if (!inet_pton(family, address, to) || !inet_pton(family, router, to + size + 1)) stop("address");
+    to[size] = atoi(slash + 1);
+}
+
+static void start_host(const char *program, char **addresses, int count) {
+    byte settings[57] = {kind == IFF_TAP};
+    int ends_of[2];
+    memcpy(settings + 1, station.ether_addr_octet, 6);
+    put_family(settings + 7, AF_INET, 4, addresses[0], addresses[1]);
+    if (count > 2) put_family(settings + 16, AF_INET6, 16, addresses[2], addresses[3]);
+    for (int i = 0; i < 8; i++) settings[49 + i] = seed >> 8 * i;
     if (socketpair(AF_UNIX, SOCK_STREAM, 0, ends_of) < 0) stop("socketpair");
     if (!fork()) {
         dup2(ends_of[1], 0), dup2(ends_of[1], 1), close(ends_of[0]), close(ends_of[1]);
@@ -167,7 +177,7 @@ int main(int count, char **words) {
     int option;
     char path[4096];
     if (getrandom(&seed, sizeof seed, 0) < 0) stop("getrandom");
-    while ((option = getopt(count, words, "l:r:h:d:c:s:k:e")) != -1) {
+    while ((option = getopt(count, words, "l:r:h:d:c:s:k:e:")) != -1) {
         uint64_t value = optarg ? strtoull(optarg, 0, 10) : 0;
         switch (option) {
         case 'l': lose = value; break;
@@ -176,7 +186,7 @@ int main(int count, char **words) {
         case 'd': damage = value; break;
         case 'c': chance = value | 1; break;
         case 's': seed = value; break;
-        case 'e': kind = IFF_TAP; break;
+        case 'e': kind = IFF_TAP; if (!ether_aton_r(optarg, &station)) stop(optarg); break;
         case 'k':
             snprintf(path, sizeof path, "%s/stdin", optarg), said = fopen(path, "wb");
             snprintf(path, sizeof path, "%s/stdout", optarg), answered = fopen(path, "wb");
@@ -185,11 +195,11 @@ int main(int count, char **words) {
         }
     }
     words += optind, count -= optind;
-    if (count != 2 && count != 4) return fprintf(stderr, "pump [OPTIONS] DEVICE HOST ADDRESS/LEN ROUTER | DEVICE OTHER\n"), 2;
+    if (count != 2 && count != 4 && count != 6) return fprintf(stderr, "pump [OPTIONS] DEVICE HOST ADDRESS/LEN ROUTER [ADDRESS6/LEN ROUTER6] | DEVICE OTHER\n"), 2;
     struct sigaction act = {.sa_handler = on_signal, .sa_flags = SA_RESTART};
     sigaction(SIGTERM, &act, 0), sigaction(SIGINT, &act, 0), sigaction(SIGUSR1, &act, 0);
     tun = open_device(words[0]);
-    if (count == 4) start_host(words[1], words[2], words[3]);
+    if (count > 2) start_host(words[1], words + 2, count - 2);
     else other = open_device(words[1]);
     int waiting = epoll_create1(0);
     struct epoll_event of_tun = {.events = EPOLLIN, .data.fd = tun}, of_other = {.events = EPOLLIN, .data.fd = other}, ready[2];

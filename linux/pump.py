@@ -1,7 +1,10 @@
 #!/usr/bin/env python3
-"""Owns a TUN device, the clock and the waiting for the program `host`, which is a function of its standard input.
+"""Owns a TUN or TAP device, the clock and the waiting for the program `host`, which is a function of its standard input.
 
-    pump.py HOST DEVICE ADDRESS/LEN ROUTER [--seed N] [--lose N] [--repeat N] [--hold N] [--record FOLDER]
+    pump.py HOST DEVICE ADDRESS/LEN ROUTER [ADDRESS6/LEN ROUTER6] [--tap MAC] [--seed N] [--lose N] [--repeat N] [--hold N]
+            [--record FOLDER]
+
+--tap makes it a link of Ethernet frames, on which the host has this hardware address.
 
 A turn is a packet's length (2 bytes), the moment in microseconds (8 bytes) and the packet, all numbers with the low byte first;
 the answer is each packet behind its length, a length of 0, and the moment of the next turn (8 bytes, all ones for never).
@@ -13,11 +16,11 @@ import argparse, fcntl, ipaddress, os, random, select, signal, socket, struct, s
 NEVER = 2**64 - 1
 
 
-def open_tun(name):
-    tun = os.open("/dev/net/tun", os.O_RDWR)
-    iff_tun, iff_no_pi, tunsetiff = 0x0001, 0x1000, 0x400454CA
-    fcntl.ioctl(tun, tunsetiff, struct.pack("16sH", name.encode(), iff_tun | iff_no_pi))
-    return tun
+def open_device(name, is_tap):
+    device = os.open("/dev/net/tun", os.O_RDWR)
+    iff_tun, iff_tap, iff_no_pi, tunsetiff = 0x0001, 0x0002, 0x1000, 0x400454CA
+    fcntl.ioctl(device, tunsetiff, struct.pack("16sH", name.encode(), (iff_tap if is_tap else iff_tun) | iff_no_pi))
+    return device
 
 
 class Link:
@@ -77,9 +80,15 @@ class Host:
             answers.append(self.read(size))
 
 
-def settings(address, router, seed):
+def family(address, router):
     own = ipaddress.ip_interface(address)
-    return own.ip.packed + bytes([own.network.prefixlen]) + ipaddress.ip_address(router).packed + struct.pack("<Q", seed)
+    return own.ip.packed + bytes([own.network.prefixlen]) + ipaddress.ip_address(router).packed
+
+
+def settings(given):
+    """The medium and the hardware address; the addresses, prefixes and routers of both families; the seed."""
+    link = b"\1" + bytes.fromhex(given.tap.replace(":", "")) if given.tap else bytes(7)
+    return link + family(given.address, given.router) + family(given.address6, given.router6) + struct.pack("<Q", given.seed)
 
 
 def run(host, tun, given):
@@ -90,7 +99,7 @@ def run(host, tun, given):
             for it in to_linux.carry(packet):
                 os.write(tun, it)
 
-    answers, at = host.turn(settings(given.address, given.router, given.seed))
+    answers, at = host.turn(settings(given))
     send(answers)
     while True:
         wait = None if at == NEVER else max(at - host.now(), 0) / 1e6
@@ -105,12 +114,15 @@ def main():
     parser = argparse.ArgumentParser()
     for name in ("host", "device", "address", "router"):
         parser.add_argument(name)
+    parser.add_argument("address6", nargs="?", default="::/0")
+    parser.add_argument("router6", nargs="?", default="::")
+    parser.add_argument("--tap", metavar="MAC")
     parser.add_argument("--seed", type=int, default=int.from_bytes(os.urandom(8), "little"))
     for name in ("--lose", "--repeat", "--hold"):
         parser.add_argument(name, type=int, default=0)
     parser.add_argument("--record")
     given = parser.parse_args()
-    tun = open_tun(given.device)
+    tun = open_device(given.device, given.tap)
     print("pump: ready", flush=True)
     host = Host(given.host, given.record)
 

@@ -1,100 +1,173 @@
 -- A host that begins.
-use Rattle.std.proofs.Common.{◌≡◌, ℕ, zero, suc, ◌+◌, ◌-◌, not, ◌||◌, if◌then◌else◌, sym, ap, ap₂, ◌∙◌, ◌++◌, ◌∷◌, take, drop, length-append, length-drop, length-take, ℤ, pos, ◌≤ℤ◌, Bool, true, false, List, [], length, Result, Ok, Err, Option, None, IsOk, OnOk, IsTrue, ◌↔◌, refl, subst, arith}
+use Rattle.std.proofs.Common.{◌≡◌, ℕ, zero, suc, ◌+◌, ◌-◌, not, ◌||◌, ◌&&◌, if◌then◌else◌, sym, ap, ap₂, ◌∙◌, ◌++◌, ◌∷◌, take, drop, length-append, length-drop, length-take, ℤ, pos, ◌≤ℤ◌, Bool, true, false, List, [], length, Result, Ok, Err, Option, None, Some, IsOk, OnOk, IsTrue, ◌↔◌, refl, subst, arith}
 use Rattle.std.specs.Prelude.{int_lt}
 use Rattle.std.specs.List.{list_any}
 use Rattle.net_base.specs.Ring.{Ring, ring}
 use Rattle.tcp_law.specs.ReceiveMap.{space}
 use Rattle.tcp_model.specs.Value.{TcpValue, new_socket, received_of}
 use Rattle.interface.specs.Host.{HostValue}
-use Rattle.interface.specs.Made.{new_host, with_inner}
+use Rattle.interface.specs.Made.{new_host, with_inner, MadeUnless, Makes}
 use Rattle.interface_tables.specs.Inner.{InnerValue}
 use Rattle.interface_tables.specs.Neighbor.{flushed}
-use Rattle.ip_wire.specs.AddressTests.{is_unicast, is_unspecified}
+use Rattle.ip_wire.specs.AddressTests.{are_of_one_family}
 use Rattle.ip_wire.specs.Block.{block_address, block_prefix_len}
 use Rattle.ip_wire.specs.IpAddress.{IpAddress}
+use Rattle.ip_wire.specs.HardwareAddress.{HardwareAddress}
+use Rattle.ip_wire.specs.HardwareAddress.TheVariants as Hardware
 use Rattle.ip_wire.specs.IpCidr.{IpCidr}
+use Rattle.ip_wire.specs.IpCidr.TheVariants as Block
 use Rattle.net_base.specs.Time.{IsMoment, last_moment}
 use Rattle.ip_wire.specs.IpAddress.TheVariants as Ip
 use Rattle.ip_wire.specs.Ipv4Address.{Ipv4Address}
-use Rattle.interface_tables.specs.Route.{is_gateway_v4, IsGateway, IsAdded, has_room}
-use Rattle.interface_tables.specs.Settings.{refusal, is_stranger, made, with_addresses, with_routes}
+use Rattle.ip_wire.specs.Ipv6Address.{Ipv6Address}
+use Rattle.interface_tables.specs.Route.{is_all_v6, is_gateway_v4, is_gateway_v6, IsGateway, IsAdded, has_room, without}
+use Rattle.interface_tables.specs.Settings.{refusal, is_station, is_stranger, made, with_addresses, with_routes}
+use Rattle.interface_tables.specs.declared.config.NewError.{NewError}
+use Rattle.interface_tables.specs.declared.config.NewError.TheVariants as New
 use Rattle.interface_tables.specs.declared.route.Route.{Route}
 use Rattle.interface_tables.specs.declared.route.RouteTableFull.{RouteTableFull}
 use Rattle.std.proofs.Math.ListN.{replicate}
-use Rattle.tun_host.specs.Begins.{capabilities, config_of, is_host_address, AddsRouter, IsDefault, IsInterface, IsUnopened}
+use Rattle.tun_host.specs.Begins.{capabilities_of, config_of, is_host_address, IsBlockOf, AddsRouters, AreDefaults, IsInterface, IsUnopened}
 use Rattle.tun_host.specs.declared.settings.Settings.{Settings}
-
-first_route : (result : Result (Option Route) RouteTableFull) (new : List Route) (router : Ipv4Address)
-    → IsOk result → OnOk result (IsAdded is_gateway_v4 (λ r. IsGateway r (replicate 4 0) (Ip.Ipv4 router)) [] new) → IsDefault router new
-first_route (Ok o) new router ok added = added
-first_route (Err e) new router ok added = absurd (cc)
-
--- the first route of an empty table
-pub default_of : (result : Result (Option Route) RouteTableFull) (old new : List Route) (router : Ipv4Address)
-    → (IsOk result ↔ IsTrue (has_room 4 is_gateway_v4 old))
-    → OnOk result (IsAdded is_gateway_v4 (λ r. IsGateway r (replicate 4 0) (Ip.Ipv4 router)) old new)
-    → old ≡ [] → IsDefault router new
-default_of result old new router ok added none =
-    let room : IsOk result ↔ IsTrue (has_room 4 is_gateway_v4 []) = subst (λ (o : List Route). IsOk result ↔ IsTrue (has_room 4 is_gateway_v4 o)) none ok in
-    first_route result new router (room.1 refl) (subst (λ (o : List Route). OnOk result (IsAdded is_gateway_v4 (λ r. IsGateway r (replicate 4 0) (Ip.Ipv4 router)) o new)) none added)
 
 not_below : (a b : ℤ) → b ≤ℤ a → int_lt a b ≡ false
 not_below a b is = grind (arith)
 
--- an interface is refused nothing at a moment of the stack
-pub refuses_none : (s : Settings) (moment : ℤ) → IsMoment moment → refusal (config_of s) capabilities moment ≡ None
-refuses_none s moment is = rw (not_below moment (pos 0) is.0, not_below (pos last_moment) moment is.1) refl
+-- at a moment of the stack an interface is refused for a hardware address that is no station's alone
+pub refusal_is : (hardware : HardwareAddress) (seed : ℕ) (moment : ℤ) → IsMoment moment
+    → refusal (record { random_seed = seed; hardware_addr = hardware }) (capabilities_of hardware) moment ≡ (if is_station hardware then None else Some New.NotUnicast)
+refusal_is Hardware.Ip seed moment is = rw (not_below moment (pos 0) is.0, not_below (pos last_moment) moment is.1) refl
+refusal_is (Hardware.Ethernet a) seed moment is = rw (not_below moment (pos 0) is.0, not_below (pos last_moment) moment is.1) refl
+
+made_by : (b : Bool) (h made : HostValue) → MadeUnless (if b then None else Some New.NotUnicast) h (Ok made) → made ≡ h
+made_by true h made is = is
+made_by false h made is = absurd (cc)
+
+not_made_by : (b : Bool) (h : HostValue) → MadeUnless (if b then None else Some New.NotUnicast) h (Err New.NotUnicast) → b ≡ false
+not_made_by true h is = absurd (cc)
+not_made_by false h is = refl
+
+module _ (s : Settings) (moment : ℤ) (is : IsMoment moment) where
+  pub made_is : (made : HostValue) → Makes (config_of s) (capabilities_of s.hardware) moment (Ok made) → made ≡ new_host (config_of s) (capabilities_of s.hardware) moment
+  made_is made makes =
+      let h = new_host (config_of s) (capabilities_of s.hardware) moment in
+      made_by (is_station s.hardware) h made (subst (λ (o : Option NewError). MadeUnless o h (Ok made)) (refusal_is s.hardware s.seed moment is) makes)
+
+  pub no_station : Makes (config_of s) (capabilities_of s.hardware) moment (Err New.NotUnicast) → is_station s.hardware ≡ false
+  no_station makes =
+      let h = new_host (config_of s) (capabilities_of s.hardware) moment in
+      not_made_by (is_station s.hardware) h (subst (λ (o : Option NewError). MadeUnless o h (Err New.NotUnicast)) (refusal_is s.hardware s.seed moment is) makes)
+
+-- ROUTES
+
+first_v4 : (result : Result (Option Route) RouteTableFull) (new : List Route) (router : Ipv4Address)
+    → IsOk result → OnOk result (IsAdded is_gateway_v4 (λ r. IsGateway r (replicate 4 0) (Ip.Ipv4 router)) [] new)
+    → (r : Route) × IsGateway r (replicate 4 0) (Ip.Ipv4 router) × (new ≡ r ∷ [])
+first_v4 (Ok o) new router ok added = added
+first_v4 (Err e) new router ok added = absurd (cc)
+
+-- a route of all IPv4 packets isn't one of all IPv6 packets
+not_v6_by : (block : IpCidr) (router : Ipv4Address) → are_of_one_family (block_address block) (Ip.Ipv4 router) ≡ true → is_all_v6 block ≡ false
+not_v6_by (Block.Ipv4 b) router is = refl
+not_v6_by (Block.Ipv6 b) router is = absurd (cc)
+
+not_v6 : (r : Route) (router : Ipv4Address) → IsGateway r (replicate 4 0) (Ip.Ipv4 router) → is_gateway_v6 r ≡ false
+not_v6 r router is = not_v6_by r.cidr router is.family
+
+added_behind : (b : Bool) (r r6 : Route) (new : List Route) → is_gateway_v6 r ≡ b → b ≡ false
+    → new ≡ without is_gateway_v6 (r ∷ []) ++ r6 ∷ [] → new ≡ r ∷ r6 ∷ []
+added_behind true r r6 new is off added = absurd (cc)
+added_behind false r r6 new is off added = rw is at added
+
+room_by : (b : Bool) (r : Route) → is_gateway_v6 r ≡ b → has_room 4 is_gateway_v6 (r ∷ []) ≡ true
+room_by true r is = rw is refl
+room_by false r is = rw is refl
+
+room_of_one : (r : Route) → has_room 4 is_gateway_v6 (r ∷ []) ≡ true
+room_of_one r = room_by (is_gateway_v6 r) r refl
+
+second_v6 : (result : Result (Option Route) RouteTableFull) (r : Route) (new : List Route) (ipv4 : Ipv4Address) (ipv6 : Ipv6Address)
+    → IsGateway r (replicate 4 0) (Ip.Ipv4 ipv4) → IsOk result
+    → OnOk result (IsAdded is_gateway_v6 (λ r. IsGateway r (replicate 16 0) (Ip.Ipv6 ipv6)) (r ∷ []) new) → AreDefaults ipv4 ipv6 new
+second_v6 (Ok o) r new ipv4 ipv6 first ok (r6, is, added) = (r, (r6, (first, is, added_behind false r r6 new (not_v6 r ipv4 first) refl added)))
+second_v6 (Err e) r new ipv4 ipv6 first ok added = absurd (cc)
+
+module _ (ipv4 : Ipv4Address) (ipv6 : Ipv6Address) where
+  -- the first routes of an empty table
+  pub defaults_of : (one two : Result (Option Route) RouteTableFull) (old mid new : List Route)
+      → (IsOk one ↔ IsTrue (has_room 4 is_gateway_v4 old)) → OnOk one (IsAdded is_gateway_v4 (λ r. IsGateway r (replicate 4 0) (Ip.Ipv4 ipv4)) old mid)
+      → (IsOk two ↔ IsTrue (has_room 4 is_gateway_v6 mid)) → OnOk two (IsAdded is_gateway_v6 (λ r. IsGateway r (replicate 16 0) (Ip.Ipv6 ipv6)) mid new)
+      → old ≡ [] → AreDefaults ipv4 ipv6 new
+  defaults_of one two old mid new ok added ok2 added2 none =
+      let room : IsOk one ↔ IsTrue (has_room 4 is_gateway_v4 []) = subst (λ (o : List Route). IsOk one ↔ IsTrue (has_room 4 is_gateway_v4 o)) none ok in
+      let first : (r : Route) × IsGateway r (replicate 4 0) (Ip.Ipv4 ipv4) × (mid ≡ r ∷ []) =
+      first_v4 one mid ipv4 (room.1 refl) (subst (λ (o : List Route). OnOk one (IsAdded is_gateway_v4 (λ r. IsGateway r (replicate 4 0) (Ip.Ipv4 ipv4)) o mid)) none added) in
+      let r : Route = first.0 in
+      let room2 : IsOk two ↔ IsTrue (has_room 4 is_gateway_v6 (r ∷ [])) = subst (λ (o : List Route). IsOk two ↔ IsTrue (has_room 4 is_gateway_v6 o)) first.2 ok2 in
+      second_v6 two r new ipv4 ipv6 first.1 (room2.1 (room_of_one r))
+      (subst (λ (o : List Route). OnOk two (IsAdded is_gateway_v6 (λ r. IsGateway r (replicate 16 0) (Ip.Ipv6 ipv6)) o new)) first.2 added2)
 
 -- THE INTERFACE
 
 -- the routes of a host, set where there were none
-pub routed : (h h' : HostValue) (router : Ipv4Address) (before after : List Route) → before ≡ h.inner.routes → AddsRouter router before after
+pub routed : (h h' : HostValue) (ipv4 : Ipv4Address) (ipv6 : Ipv6Address) (before after : List Route) → before ≡ h.inner.routes → AddsRouters ipv4 ipv6 before after
     → h' ≡ with_inner h (with_routes h.inner after) → h.inner.routes ≡ []
-    → (routes : List Route) × IsDefault router routes × (h' ≡ with_inner h (with_routes h.inner routes))
-routed h h' router before after is adds set none = (after, adds.first (is ∙ none), set)
+    → (routes : List Route) × AreDefaults ipv4 ipv6 routes × (h' ≡ with_inner h (with_routes h.inner routes))
+routed h h' ipv4 ipv6 before after is adds set none = (after, adds.first (is ∙ none), set)
 
 kept_by : (b : Bool) (i j : InnerValue) (routes : List Route) → i.routes ≡ routes → j.routes ≡ routes → (if b then i else j).routes ≡ routes
 kept_by true i j routes p q = p
 kept_by false i j routes p q = q
 
-not_off : (b : Bool) → not b ≡ false → b ≡ true
-not_off true is = refl
-not_off false is = absurd (cc)
+both_known : (a b : Bool) → true ≡ not (not a || (not b || false)) → (a ≡ true) × (b ≡ true)
+both_known true true is = (refl, refl)
+both_known true false is = absurd (cc)
+both_known false b is = absurd (cc)
 
-not_on : (b : Bool) → true ≡ not b → b ≡ false
-not_on true is = absurd (cc)
-not_on false is = refl
+not_both : (a b : Bool) → false ≡ not (not a || (not b || false)) → a && b ≡ false
+not_both true true is = absurd (cc)
+not_both true false is = refl
+not_both false b is = refl
 
-module _ (s : Settings) (moment : ℤ) (own : IpCidr) where
-  is_host_of : block_address own ≡ Ip.Ipv4 s.address → is_stranger own ≡ false → is_host_address s.address ≡ true
-  is_host_of address known = ap (λ (a : IpAddress). is_unicast a || is_unspecified a) (sym address) ∙ not_off (is_unicast (block_address own) || is_unspecified (block_address own)) known
+module _ (s : Settings) (moment : ℤ) (ipv4 ipv6 : IpCidr) (own_ipv4 : IsBlockOf (Ip.Ipv4 s.ipv4) s.ipv4_prefix_len ipv4) (own_ipv6 : IsBlockOf (Ip.Ipv6 s.ipv6) s.ipv6_prefix_len ipv6) where
+  are_hosts : true ≡ not (list_any is_stranger (ipv4 ∷ ipv6 ∷ [])) → (is_host_address (Ip.Ipv4 s.ipv4) ≡ true) × (is_host_address (Ip.Ipv6 s.ipv6) ≡ true)
+  are_hosts known =
+      let both = both_known (is_host_address (block_address ipv4)) (is_host_address (block_address ipv6)) known in
+      (ap is_host_address (sym own_ipv4.0) ∙ both.0, ap is_host_address (sym own_ipv6.0) ∙ both.1)
+
+  pub are_not_hosts : false ≡ not (list_any is_stranger (ipv4 ∷ ipv6 ∷ [])) → is_host_address (Ip.Ipv4 s.ipv4) && is_host_address (Ip.Ipv6 s.ipv6) ≡ false
+  are_not_hosts unknown =
+      ap₂ (λ (a b : IpAddress). is_host_address a && is_host_address b) (sym own_ipv4.0) (sym own_ipv6.0)
+      ∙ not_both (is_host_address (block_address ipv4)) (is_host_address (block_address ipv6)) unknown
 
   fresh_with : HostValue
-  fresh_with = with_inner (new_host (config_of s) capabilities moment) (with_addresses (made (config_of s) capabilities moment) (own ∷ []))
+  fresh_with = with_inner (new_host (config_of s) (capabilities_of s.hardware) moment) (with_addresses (made (config_of s) (capabilities_of s.hardware) moment) (ipv4 ∷ ipv6 ∷ []))
 
   no_routes : fresh_with.inner.routes ≡ []
   unfolding fresh_with
   no_routes =
-      let i = made (config_of s) capabilities moment in
-      kept_by (list_any is_stranger (own ∷ [])) i (record i { addresses = own ∷ []; neighbors = flushed i.neighbors }) [] refl refl
+      let i = made (config_of s) (capabilities_of s.hardware) moment in
+      kept_by (list_any is_stranger (ipv4 ∷ ipv6 ∷ [])) i (record i { addresses = ipv4 ∷ ipv6 ∷ []; neighbors = flushed i.neighbors }) [] refl refl
 
-  pub interface_begun : (first addressed last : HostValue) → first ≡ new_host (config_of s) capabilities moment
-      → addressed ≡ with_inner first (with_addresses first.inner (own ∷ [])) → true ≡ not (is_stranger own)
-      → block_address own ≡ Ip.Ipv4 s.address → block_prefix_len own ≡ s.prefix_len
-      → (addressed.inner.routes ≡ [] → (routes : List Route) × IsDefault s.router routes × (last ≡ with_inner addressed (with_routes addressed.inner routes)))
+  pub interface_begun : (first addressed last : HostValue) → first ≡ new_host (config_of s) (capabilities_of s.hardware) moment
+      → addressed ≡ with_inner first (with_addresses first.inner (ipv4 ∷ ipv6 ∷ [])) → true ≡ not (list_any is_stranger (ipv4 ∷ ipv6 ∷ []))
+      → (addressed.inner.routes ≡ [] → (routes : List Route) × AreDefaults s.ipv4_router s.ipv6_router routes × (last ≡ with_inner addressed (with_routes addressed.inner routes)))
       → IsInterface s moment last
   unfolding fresh_with
-  interface_begun first addressed last first_is addressed_is known address prefix_len set =
-      let whole : addressed ≡ fresh_with = addressed_is ∙ ap (λ (h : HostValue). with_inner h (with_addresses h.inner (own ∷ []))) first_is in
+  interface_begun first addressed last first_is addressed_is known set =
+      let whole : addressed ≡ fresh_with = addressed_is ∙ ap (λ (h : HostValue). with_inner h (with_addresses h.inner (ipv4 ∷ ipv6 ∷ []))) first_is in
       let none : addressed.inner.routes ≡ [] = ap (λ (h : HostValue). h.inner.routes) whole ∙ no_routes in
       let routes : List Route = (set none).0 in
+      let hosts = are_hosts known in
       record {
-        own = own;
+        ipv4 = ipv4;
+        ipv6 = ipv6;
         routes = routes;
-        address = address;
-        prefix_len = prefix_len;
-        is_host = is_host_of address (not_on (is_stranger own) known);
-        router = (set none).1;
+        own_ipv4 = own_ipv4;
+        own_ipv6 = own_ipv6;
+        ipv4_is_host = hosts.0;
+        ipv6_is_host = hosts.1;
+        routers = (set none).1;
         host = (set none).2 ∙ ap (λ (h : HostValue). with_inner h (with_routes h.inner routes)) whole;
       }
 

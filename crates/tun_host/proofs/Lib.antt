@@ -1,4 +1,4 @@
 mod Beginning
 mod Fresh
-mod Served
+mod Backlog
 mod Running

@@ -6,9 +6,10 @@ use Rattle.std.proofs.KnownBytes.{Appends-nil, Appends-trans}
 use Rattle.tun_link.specs.Turn.{Takes, Next, Refuses}
 use Rattle.tun_link.specs.declared.turn.TurnError.{TurnError}
 use Rattle.tun_host.specs.Settings.{settings_in}
-use Rattle.tun_host.specs.Turns.{HostState, Turn, Arrives, Answers, Serves, Runs, Reads, BeginsNone, ArrivesNot, Ends, IsServed}
+use Rattle.tun_host.specs.Backlogs.{HostState}
+use Rattle.tun_host.specs.Turns.{Turn, Arrives, Answers, Serves, Runs, Reads, BeginsNone, ArrivesNot, Ends, IsServed}
 use Rattle.tun_host.specs.declared.error.ServeError.{ServeError}
-use Rattle.tun_host.specs.declared.error.ServeError.TheVariants.{Turn as NoTurn, Settings as NoSettings, Address, Memory, Writer, Turns}
+use Rattle.tun_host.specs.declared.error.ServeError.TheVariants.{Turn as NoTurn, Settings as NoSettings, Address, Hardware, Memory, Writer, Turns}
 use Rattle.tun_host.specs.declared.turns.TheConstants.{LONGEST}
 use Rattle.tun_host.specs.declared.settings.Settings.{Settings}
 
@@ -107,6 +108,7 @@ ends_not : (e : ServeError) (past : List Turn) (host : Option HostState) (last :
 ends_not (NoTurn why) past host last left t rest takes not = absurd (no_turn why host t.packet not)
 ends_not NoSettings past host last left t rest takes not = (t, rest, takes, not)
 ends_not Address past host last left t rest takes not = (t, rest, takes, not)
+ends_not Hardware past host last left t rest takes not = (t, rest, takes, not)
 ends_not Memory past host last left t rest takes not = (t, rest, takes, not)
 ends_not Writer past host last left t rest takes not = (t, rest, takes, not)
 ends_not Turns past host last left t rest takes not = absurd (no_count host t.packet not)

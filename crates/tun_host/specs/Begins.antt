@@ -1,5 +1,5 @@
 -- A host that begins: its interface, its device and its sockets.
-use Rattle.std.specs.Prelude.{◌≡◌, ℕ, ◌<◌, ◌||◌, ℤ, Bool, true, false, List, [], ◌∷◌, length, replicate, slice_index_or, Option, None, Some, ⊤}
+use Rattle.std.specs.Prelude.{◌≡◌, ℕ, ◌+◌, ◌<◌, ◌&&◌, ◌||◌, ℤ, Bool, true, false, List, [], ◌∷◌, length, replicate, slice_index_or, Option, None, Some, ⊤}
 use Rattle.interface.specs.Host.{HostValue}
 use Rattle.interface.specs.Made.{new_host, with_inner}
 use Rattle.interface.specs.State.{State}
@@ -7,18 +7,21 @@ use Rattle.interface_egress.specs.Set.{free}
 use Rattle.interface_egress.specs.declared.socket_set.Item.{Item}
 use Rattle.interface_egress.specs.declared.socket_set.SocketStorage.{SocketStorage}
 use Rattle.interface_tables.specs.Route.{IsGateway}
-use Rattle.interface_tables.specs.Settings.{made, with_addresses, with_routes}
+use Rattle.interface_tables.specs.Settings.{is_station, made, with_addresses, with_routes}
 use Rattle.interface_tables.specs.declared.config.Config.{Config}
 use Rattle.interface_tables.specs.declared.route.Route.{Route}
 use Rattle.ip_wire.specs.AddressTests.{is_unicast, is_unspecified}
 use Rattle.ip_wire.specs.Block.{block_address, block_prefix_len}
-use Rattle.ip_wire.specs.HardwareAddress.TheVariants as Hardware
+use Rattle.ip_wire.specs.HardwareAddress.{HardwareAddress}
+use Rattle.ip_wire.specs.IpAddress.{IpAddress}
 use Rattle.ip_wire.specs.IpAddress.TheVariants as Ip
 use Rattle.ip_wire.specs.IpCidr.{IpCidr}
 use Rattle.ip_wire.specs.Ipv4Address.{Ipv4Address}
+use Rattle.ip_wire.specs.Ipv6Address.{Ipv6Address}
 use Rattle.net_base.specs.Capabilities.{all_checksums}
 use Rattle.net_base.specs.Checksum.TheVariants.{Both}
 use Rattle.net_base.specs.DeviceCapabilities.{DeviceCapabilities}
+use Rattle.net_base.specs.Medium.{Medium}
 use Rattle.net_base.specs.Medium.TheVariants as Medium
 use Rattle.net_base.specs.Packets.{packets_in}
 use Rattle.net_base.specs.Ring.{capacity}
@@ -29,9 +32,10 @@ use Rattle.sockets.specs.declared.socket.Socket.{Socket}
 use Rattle.sockets.specs.declared.socket.Socket.TheVariants as Is
 use Rattle.tcp_model.specs.Blocks.{fresh_block, default_settings}
 use Rattle.tcp_model.specs.Value.{TcpValue, emptied, room_of}
+use Rattle.tun_host.specs.Settings.{medium_of}
 use Rattle.tun_host.specs.Services.{service_at, echo_room}
 use Rattle.tun_host.specs.declared.error.ServeError.{ServeError}
-use Rattle.tun_host.specs.declared.error.ServeError.TheVariants.{Address, Memory}
+use Rattle.tun_host.specs.declared.error.ServeError.TheVariants.{Address, Hardware, Memory}
 use Rattle.tun_host.specs.declared.interface_of.TheConstants.{MTU}
 use Rattle.tun_host.specs.declared.place.Service.{Service}
 use Rattle.tun_host.specs.declared.place.Service.TheVariants.{Datagrams, Streams, Page, Keeper}
@@ -41,45 +45,63 @@ use Rattle.tun_link.specs.Drain.{DrainValue}
 
 -- THE INTERFACE
 
--- packets without a link's header, and all checksums
-abbrev pub capabilities : DeviceCapabilities
-capabilities = record { medium = Medium.Ip; max_transmission_unit = MTU; checksum = all_checksums Both }
+-- how many bytes stand before a packet on a link
+abbrev pub head_len : Medium → ℕ
+head_len Medium.Ethernet = 14
+head_len Medium.Ip = 0
+
+-- packets of at most 1,500 bytes behind the link's header, and all checksums
+abbrev pub capabilities_of : HardwareAddress → DeviceCapabilities
+capabilities_of hardware =
+    record { medium = medium_of hardware; max_transmission_unit = MTU + head_len (medium_of hardware); checksum = all_checksums Both }
 
 abbrev pub config_of : Settings → Config
-config_of s = record { random_seed = s.seed; hardware_addr = Hardware.Ip }
+config_of s = record { random_seed = s.seed; hardware_addr = s.hardware }
 
--- one host's address, or 0.0.0.0
-abbrev pub is_host_address : Ipv4Address → Bool
-is_host_address address = is_unicast (Ip.Ipv4 address) || is_unspecified (Ip.Ipv4 address)
+-- one host's address, or the unspecified one
+abbrev pub is_host_address : IpAddress → Bool
+is_host_address address = is_unicast address || is_unspecified address
 
--- one route, for all destinations, by this router
-abbrev pub IsDefault : Ipv4Address → List Route → Type 0
-IsDefault router routes = (r : Route) × IsGateway r (replicate 4 0) (Ip.Ipv4 router) × (routes ≡ r ∷ [])
+-- a block of this address
+abbrev pub IsBlockOf : IpAddress → ℕ → IpCidr → Type 0
+IsBlockOf address prefix_len block = (block_address block ≡ address) × (block_prefix_len block ≡ prefix_len)
 
--- a table without routes gets this router
-pub record AddsRouter (router : Ipv4Address) (old new : List Route) : Type 0 where
-  pub first : old ≡ [] → IsDefault router new
+-- a route for all destinations of either family, by these routers
+abbrev pub AreDefaults : Ipv4Address → Ipv6Address → List Route → Type 0
+AreDefaults ipv4 ipv6 routes =
+    (r4 : Route) × ((r6 : Route) × (IsGateway r4 (replicate 4 0) (Ip.Ipv4 ipv4) × IsGateway r6 (replicate 16 0) (Ip.Ipv6 ipv6) × (routes ≡ r4 ∷ r6 ∷ [])))
 
-abbrev pub begun_host : Settings → ℤ → IpCidr → List Route → HostValue
+-- a table without routes gets these routers
+pub record AddsRouters (ipv4 : Ipv4Address) (ipv6 : Ipv6Address) (old new : List Route) : Type 0 where
+  pub first : old ≡ [] → AreDefaults ipv4 ipv6 new
+
+abbrev pub begun_host : Settings → ℤ → List IpCidr → List Route → HostValue
 begun_host s moment own routes =
-    with_inner (new_host (config_of s) capabilities moment)
-    (with_routes (with_addresses (made (config_of s) capabilities moment) (own ∷ [])) routes)
+    with_inner (new_host (config_of s) (capabilities_of s.hardware) moment)
+    (with_routes (with_addresses (made (config_of s) (capabilities_of s.hardware) moment) own) routes)
 
--- a new interface with the own address in its network, and the router
+-- a new interface with the own addresses in their networks, and the routers
 pub record IsInterface (s : Settings) (moment : ℤ) (h : HostValue) : Type 0 where
-  pub own : IpCidr
+  pub ipv4 : IpCidr
+  pub ipv6 : IpCidr
   pub routes : List Route
-  pub address : block_address own ≡ Ip.Ipv4 s.address
-  pub prefix_len : block_prefix_len own ≡ s.prefix_len
-  pub is_host : is_host_address s.address ≡ true
-  pub router : IsDefault s.router routes
-  pub host : h ≡ begun_host s moment own routes
+  pub own_ipv4 : IsBlockOf (Ip.Ipv4 s.ipv4) s.ipv4_prefix_len ipv4
+  pub own_ipv6 : IsBlockOf (Ip.Ipv6 s.ipv6) s.ipv6_prefix_len ipv6
+  pub ipv4_is_host : is_host_address (Ip.Ipv4 s.ipv4) ≡ true
+  pub ipv6_is_host : is_host_address (Ip.Ipv6 s.ipv6) ≡ true
+  pub routers : AreDefaults s.ipv4_router s.ipv6_router routes
+  pub host : h ≡ begun_host s moment (ipv4 ∷ ipv6 ∷ []) routes
 
--- why these settings make no interface; memory may be wanting at any
-abbrev pub RefusesAddress : Settings → ServeError → Type 0
-RefusesAddress s Address = is_host_address s.address ≡ false
-RefusesAddress s Memory = ⊤
-RefusesAddress s _ = ⊥
+-- why no interface is made of this hardware address; memory may be wanting at any
+abbrev pub RefusesHardware : Settings → ServeError → Type 0
+RefusesHardware s Hardware = is_station s.hardware ≡ false
+RefusesHardware s Memory = ⊤
+RefusesHardware s _ = ⊥
+
+-- why these settings make no interface
+abbrev pub RefusesSettings : Settings → ServeError → Type 0
+RefusesSettings s Address = is_host_address (Ip.Ipv4 s.ipv4) && is_host_address (Ip.Ipv6 s.ipv6) ≡ false
+RefusesSettings s e = RefusesHardware s e
 
 -- THE SOCKETS
 
@@ -143,12 +165,12 @@ pub record AreFresh (places : List (SocketStorage Socket)) : Type 0 where
 -- THE HOST
 
 -- nothing waits at the device, and nothing was sent
-abbrev pub fresh_device : DrainValue
-fresh_device = record { waiting = None; dropped = 0; sent = []; refusals = 0; capabilities = capabilities }
+abbrev pub fresh_device : HardwareAddress → DrainValue
+fresh_device hardware = record { waiting = None; dropped = 0; sent = []; refusals = 0; capabilities = capabilities_of hardware }
 
 -- a host of these settings, from this moment on, on a link
 pub record BeginsAt (s : Settings) (moment : ℤ) (new : State DrainValue) : Type 0 where
-  pub device : new.device ≡ fresh_device
+  pub device : new.device ≡ fresh_device s.hardware
   pub host : IsInterface s moment new.host
   pub sockets : AreFresh new.places
 

@@ -8,7 +8,7 @@ use Rattle.interface_egress.specs.Set.{places}
 use Rattle.interface_egress.specs.declared.socket_set.SocketStorage.{SocketStorage}
 use Rattle.interface_tables.specs.Inner.{at_moment}
 use Rattle.sockets.specs.declared.socket.Socket.{Socket}
-use Rattle.tun_host.specs.Begins.{Begins, RefusesAddress}
+use Rattle.tun_host.specs.Begins.{Begins, RefusesSettings}
 use Rattle.tcp_listener.specs.Calls.{micros_of, Refreshes, accepted}
 use Rattle.tcp_listener.specs.declared.entry.Entry.{Entry}
 use Rattle.tun_host.specs.Backlogs.{on_port, keepers_of, IsListener, HostState, BacklogServes}
@@ -131,7 +131,7 @@ Reads bytes (t ∷ past) last left =
 abbrev pub BeginsNone : Option Settings → ServeError → Type 0
 BeginsNone None NoSettings = ⊤
 BeginsNone None e = ⊥
-BeginsNone (Some s) e = RefusesAddress s e
+BeginsNone (Some s) e = RefusesSettings s e
 
 -- why no host takes a turn: the first one has no settings, or none that make a host
 abbrev pub ArrivesNot : Option HostState → List ℕ → ServeError → Type 0

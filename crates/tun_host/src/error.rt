@@ -11,9 +11,12 @@ pub enum ServeError {
     /// The first turn doesn't bring settings.
     #[error("the first turn has no settings")]
     Settings,
-    /// The settings' address isn't one that a host can have.
-    #[error("the address isn't a host's")]
+    /// One of the settings' addresses is none that a host can have.
+    #[error("an address isn't a host's")]
     Address,
+    /// The settings' hardware address isn't that of one station.
+    #[error("the hardware address isn't a station's")]
+    Hardware,
     /// There is no memory for the host's buffers.
     #[error("out of memory")]
     Memory,

@@ -1,9 +1,10 @@
 //! A host with its services.
-ghost use Rattle.std.specs.Prelude.{◌≡◌, ℕ, ◌≤◌, List, length, IfOk, IfErr, OnOk};
+ghost use Rattle.std.specs.Prelude.{◌≡◌, ℕ, List, length, IfOk, IfErr, OnOk};
 ghost use Rattle.std.specs.Io.KnownBytes.{Appends};
 ghost use Rattle.interface.specs.Set.{places};
 ghost use Rattle.net_base.specs.Time.{IsMoment};
-ghost use Rattle.tun_host.specs.Begins.{Begins, RefusesAddress};
+ghost use Rattle.tun_host.specs.Begins.{Begins, RefusesSettings};
+ghost use Rattle.tun_host.specs.Settings.{HasPrefixes};
 ghost use Rattle.tun_host.specs.Backlogs.{IsListener};
 ghost use Rattle.tun_host.specs.Services.{echo_room, most_request};
 ghost use Rattle.tun_host.specs.Turns.{state_of, IsSetUp, budget, served, AreServed, TakesTurn, Answers};
@@ -110,12 +111,12 @@ impl Host {
     /// A host of these settings, from this moment on.
     pub fn new(alloc: Global, settings: &Settings, now: Instant) -> Result<Host, ServeError>
         requires moment { IsMoment now }
-        requires prefix_len { settings.now.prefix_len ≤ 32 }
+        requires prefixes { HasPrefixes settings.now }
         ensures begins { IfOk result (λ host. Begins settings.now now (state_of host)) }
         ensures set_up { IfOk result IsSetUp }
-        ensures refused { IfErr result (RefusesAddress settings.now) }
+        ensures refused { IfErr result (RefusesSettings settings.now) }
     {
-        let drain = Drain::new(alloc, capabilities());
+        let drain = Drain::new(alloc, capabilities(settings));
         let interface = interface(alloc, settings, &drain, now)?;
         let buffer = vec![in alloc; 0; ROOM];
         let request = vec![in alloc; 0; MOST_REQUEST];

@@ -1,16 +1,18 @@
 //! The interface of a host that begins.
-ghost use Rattle.std.specs.Prelude.{◌≡◌, ◌≤◌, List, [], ◌∷◌, not, IfOk, IfErr};
+ghost use Rattle.std.specs.Prelude.{◌≡◌, List, [], ◌∷◌, not, IfOk, IfErr};
+ghost use Rattle.std.specs.List.{list_any};
 ghost use Rattle.net_base.specs.Time.{IsMoment};
 ghost use Rattle.interface.specs.Made.{new_host, with_inner};
 ghost use Rattle.interface.specs.Settings.{is_stranger, with_addresses, with_routes};
 ghost use Rattle.interface.specs.Route.{Route};
-ghost use Rattle.tun_host.specs.Begins.{capabilities, config_of, AddsRouter, IsDefault, IsInterface, RefusesAddress};
+ghost use Rattle.tun_host.specs.Settings.{HasPrefixes};
+ghost use Rattle.tun_host.specs.Begins.{capabilities_of, config_of, AddsRouters, AreDefaults, IsInterface, RefusesHardware, RefusesSettings};
 
 use crate::error::ServeError;
 use crate::settings::Settings;
 use arrayvec::ArrayVec;
-use interface::{Config, Interface, Routes, TABLE_ROOM};
-use ip_wire::{HardwareAddress, IpCidr, Ipv4Address};
+use interface::{Config, Interface, NewError, Routes, TABLE_ROOM};
+use ip_wire::{IpCidr, Ipv4Address, Ipv6Address};
 use net_base::{ChecksumCapabilities, DeviceCapabilities, Instant, Medium};
 use std::alloc::Global;
 use tun_link::Drain;
@@ -18,53 +20,64 @@ use tun_link::Drain;
 /// The longest packet, in bytes.
 pub const MTU: usize = 1500;
 
+/// How many bytes stand before a packet in an Ethernet frame.
+const ETHERNET_HEADER_LEN: usize = 14;
+
 /// What the host's device takes.
-pub fn capabilities() -> DeviceCapabilities
-    ensures { result ≡ capabilities }
+pub fn capabilities(settings: &Settings) -> DeviceCapabilities
+    ensures { result ≡ capabilities_of settings.now.hardware }
 {
+    let medium = settings.medium();
+    let head = match medium {
+        Medium::Ip => 0,
+        Medium::Ethernet => ETHERNET_HEADER_LEN,
+    };
     DeviceCapabilities {
-        medium: Medium::Ip,
-        max_transmission_unit: MTU,
+        medium,
+        max_transmission_unit: MTU + head,
         checksum: ChecksumCapabilities::default(),
     }
 }
 
-/// This address alone.
-fn put(addresses: &mut ArrayVec<IpCidr, TABLE_ROOM>, own: IpCidr)
-    ensures { addresses.new.items ≡ own ∷ [] }
+/// These addresses alone.
+fn put(addresses: &mut ArrayVec<IpCidr, TABLE_ROOM>, ipv4: IpCidr, ipv6: IpCidr)
+    ensures { addresses.new.items ≡ ipv4 ∷ ipv6 ∷ [] }
 {
     addresses.clear();
-    let Ok(()) = addresses.try_push(own) else {
+    let Ok(()) = addresses.try_push(ipv4) else {
+        unreachable!();
+    };
+    let Ok(()) = addresses.try_push(ipv6) else {
         unreachable!();
     };
 }
 
-/// The router of all other packets, where there was no route.
-fn add_router(routes: &mut Routes<TABLE_ROOM>, router: Ipv4Address)
-    ensures { AddsRouter router routes.old routes.new }
+/// The routers of all other packets, where there was no route.
+fn add_routers(routes: &mut Routes<TABLE_ROOM>, ipv4: Ipv4Address, ipv6: Ipv6Address)
+    ensures { AddsRouters ipv4 ipv6 routes.old routes.new }
 {
-    let _ = routes.add_default_ipv4_route(router);
+    let _ = routes.add_default_ipv4_route(ipv4);
+    let _ = routes.add_default_ipv6_route(ipv6);
 }
 
-/// Sets the own address, if a host can have it.
-fn set_address(interface: &mut Interface, own: IpCidr) -> bool
-    ensures answer { result ≡ not (is_stranger own) }
-    ensures after { interface.new ≡ with_inner interface.old (with_addresses interface.old.inner (own ∷ [])) }
+/// Sets the own addresses, if a host can have them.
+fn set_addresses(interface: &mut Interface, ipv4: IpCidr, ipv6: IpCidr) -> bool
+    ensures answer { result ≡ not (list_any is_stranger (ipv4 ∷ ipv6 ∷ [])) }
+    ensures after { interface.new ≡ with_inner interface.old (with_addresses interface.old.inner (ipv4 ∷ ipv6 ∷ [])) }
 {
     interface
-        .update_ip_addrs(|addresses| put(addresses, own))
+        .update_ip_addrs(|addresses| put(addresses, ipv4, ipv6))
         .is_ok()
 }
 
-/// Sets the router, where there was no route.
-fn set_router(interface: &mut Interface, router: Ipv4Address)
-    ensures { interface.old.inner.routes ≡ [] → (routes : List Route) × IsDefault router routes × (interface.new ≡ with_inner interface.old (with_routes interface.old.inner routes)) }
+/// Sets the routers, where there was no route.
+fn set_routers(interface: &mut Interface, ipv4: Ipv4Address, ipv6: Ipv6Address)
+    ensures { interface.old.inner.routes ≡ [] → (routes : List Route) × AreDefaults ipv4 ipv6 routes × (interface.new ≡ with_inner interface.old (with_routes interface.old.inner routes)) }
 {
-    interface.update_routes(|routes| add_router(routes, router));
+    interface.update_routes(|routes| add_routers(routes, ipv4, ipv6));
 }
 
 /// An interface at which nothing is set.
-#[tactic(auto, using(crate::proofs::Beginning::refuses_none))]
 fn fresh(
     alloc: Global,
     settings: &Settings,
@@ -72,21 +85,22 @@ fn fresh(
     now: Instant,
 ) -> Result<Interface, ServeError>
     requires moment { IsMoment now }
-    requires device { drain.now.capabilities ≡ capabilities }
-    ensures made { IfOk result (λ made. made ≡ new_host (config_of settings.now) capabilities now) }
-    ensures memory { IfErr result (λ e. e ≡ ServeError.Memory) }
+    requires device { drain.now.capabilities ≡ capabilities_of settings.now.hardware }
+    ensures made { IfOk result (λ made. made ≡ new_host (config_of settings.now) (capabilities_of settings.now.hardware) now) }
+    ensures refused { IfErr result (RefusesHardware settings.now) }
 {
     let config = Config {
         random_seed: settings.seed,
-        hardware_addr: HardwareAddress::Ip,
+        hardware_addr: settings.hardware,
     };
     match Interface::new(alloc, &config, drain, now) {
         Ok(interface) => Ok(interface),
+        Err(NewError::NotUnicast) => Err(ServeError::Hardware),
         Err(_) => Err(ServeError::Memory),
     }
 }
 
-/// The interface at its own address, with a route by the router.
+/// The interface at its own addresses, with routes by the routers.
 pub fn interface(
     alloc: Global,
     settings: &Settings,
@@ -94,16 +108,16 @@ pub fn interface(
     now: Instant,
 ) -> Result<Interface, ServeError>
     requires moment { IsMoment now }
-    requires prefix_len { settings.now.prefix_len ≤ 32 }
-    requires device { drain.now.capabilities ≡ capabilities }
+    requires prefixes { HasPrefixes settings.now }
+    requires device { drain.now.capabilities ≡ capabilities_of settings.now.hardware }
     ensures made { IfOk result (IsInterface settings.now now) }
-    ensures refused { IfErr result (RefusesAddress settings.now) }
+    ensures refused { IfErr result (RefusesSettings settings.now) }
 {
     let mut interface = fresh(alloc, settings, drain, now)?;
-    let own = settings.own();
-    if !set_address(&mut interface, own) {
+    let (ipv4, ipv6) = (settings.own_ipv4(), settings.own_ipv6());
+    if !set_addresses(&mut interface, ipv4, ipv6) {
         return Err(ServeError::Address);
     }
-    set_router(&mut interface, settings.router);
+    set_routers(&mut interface, settings.ipv4_router, settings.ipv6_router);
     Ok(interface)
 }

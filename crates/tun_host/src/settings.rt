@@ -1,49 +1,104 @@
 //! What a host begins with.
-ghost use Rattle.std.specs.Prelude.{◌≡◌, ◌≤◌, IfSome};
+ghost use Rattle.std.specs.Prelude.{◌≡◌, ◌≤◌, ◌+◌, length, slice_range, IfSome};
 ghost use Rattle.ip_wire.specs.Block.{block_address, block_prefix_len};
-ghost use Rattle.ip_wire.specs.IpAddress.TheVariants.{Ipv4};
-ghost use Rattle.tun_host.specs.Settings.{settings_in};
+ghost use Rattle.ip_wire.specs.IpAddress.TheVariants.{Ipv4, Ipv6};
+ghost use Rattle.tun_host.specs.Settings.{settings_in, hardware_in, medium_of, HasPrefixes};
 
 use byteorder::{ByteOrder, LittleEndian};
-use ip_wire::{IpAddress, IpCidr, Ipv4Address};
+use ip_wire::{EthernetAddress, HardwareAddress, IpAddress, IpCidr, Ipv4Address, Ipv6Address};
+use net_base::Medium;
 
-/// How many bytes settings have: an address, how long its network's prefix is, a router, a seed.
-const SETTINGS_LEN: usize = 17;
+/// How many bytes settings have: a medium, a hardware address, of either family an address, how long its network's prefix is and a
+/// router, and a seed.
+const SETTINGS_LEN: usize = 57;
 
-/// What a host begins with. In bytes: four of the address, one of the prefix, four of the router, and eight of the seed with the
-/// lowest first.
+/// What a host begins with. In bytes: 0 for a link of bare IP packets, 1 for one of Ethernet frames; six of the hardware address, which
+/// count on the latter alone; four of the IPv4 address, one of its prefix, four of the router; sixteen of the IPv6 address, one of its
+/// prefix, sixteen of the router; and eight of the seed with the lowest first. A host without addresses of a family has the unspecified
+/// one.
 #[derive(Clone, Copy, Debug, PartialEq, Eq)]
 pub struct Settings {
-    pub address: Ipv4Address,
-    pub prefix_len: u8,
-    pub router: Ipv4Address,
+    /// `Ip` on a link of bare IP packets.
+    pub hardware: HardwareAddress,
+    pub ipv4: Ipv4Address,
+    pub ipv4_prefix_len: u8,
+    pub ipv4_router: Ipv4Address,
+    pub ipv6: Ipv6Address,
+    pub ipv6_prefix_len: u8,
+    pub ipv6_router: Ipv6Address,
     /// What its random words begin with. Who can guess it can guess where its streams begin.
     pub seed: u64,
 }
 
+/// So many bytes from a place on.
+fn octets_at<const N: usize>(bytes: &[u8], at: usize) -> [u8; N]
+    requires { at + N ≤ length bytes.now }
+    ensures { result ≡ slice_range bytes.now at (at + N) }
+{
+    let mut octets = [0; N];
+    octets.copy_from_slice(&bytes[at..at + N]);
+    octets
+}
+
+/// The hardware address, if the first byte names a medium.
+fn hardware_of(bytes: &[u8]) -> Option<HardwareAddress>
+    requires { 7 ≤ length bytes.now }
+    ensures { result ≡ hardware_in bytes.now }
+{
+    match bytes[0] {
+        0 => Some(HardwareAddress::Ip),
+        1 => Some(HardwareAddress::Ethernet(EthernetAddress(octets_at(bytes, 1)))),
+        _ => None,
+    }
+}
+
 impl Settings {
-    /// The settings in these bytes, if there are so many, and the prefix has at most 32 bits.
+    /// The settings in these bytes, if there are so many, the medium is one, and each prefix isn't longer than an address.
     pub fn read(bytes: &[u8]) -> Option<Settings>
         ensures settings { result ≡ settings_in bytes.now }
-        ensures prefix_len { IfSome result (λ s. s.prefix_len ≤ 32) }
+        ensures prefixes { IfSome result HasPrefixes }
     {
-        if bytes.len() != SETTINGS_LEN || bytes[4] > 32 {
+        if bytes.len() != SETTINGS_LEN || bytes[11] > 32 || bytes[32] > 128 {
             return None;
         }
+        let hardware = hardware_of(bytes)?;
         Some(Settings {
-            address: Ipv4Address::new(bytes[0], bytes[1], bytes[2], bytes[3]),
-            prefix_len: bytes[4],
-            router: Ipv4Address::new(bytes[5], bytes[6], bytes[7], bytes[8]),
-            seed: LittleEndian::read_u64(&bytes[9..]),
+            hardware,
+            ipv4: Ipv4Address(octets_at(bytes, 7)),
+            ipv4_prefix_len: bytes[11],
+            ipv4_router: Ipv4Address(octets_at(bytes, 12)),
+            ipv6: Ipv6Address(octets_at(bytes, 16)),
+            ipv6_prefix_len: bytes[32],
+            ipv6_router: Ipv6Address(octets_at(bytes, 33)),
+            seed: LittleEndian::read_u64(&bytes[49..]),
         })
     }
 
-    /// The own address with its network.
-    pub fn own(&self) -> IpCidr
-        requires { self.now.prefix_len ≤ 32 }
-        ensures address { block_address result ≡ Ipv4 self.now.address }
-        ensures prefix_len { block_prefix_len result ≡ self.now.prefix_len }
+    /// The medium of the link.
+    pub fn medium(&self) -> Medium
+        ensures { result ≡ medium_of self.now.hardware }
     {
-        IpCidr::new(IpAddress::Ipv4(self.address), self.prefix_len)
+        match self.hardware {
+            HardwareAddress::Ip => Medium::Ip,
+            HardwareAddress::Ethernet(_) => Medium::Ethernet,
+        }
+    }
+
+    /// The own IPv4 address with its network.
+    pub fn own_ipv4(&self) -> IpCidr
+        requires { HasPrefixes self.now }
+        ensures address { block_address result ≡ Ipv4 self.now.ipv4 }
+        ensures prefix_len { block_prefix_len result ≡ self.now.ipv4_prefix_len }
+    {
+        IpCidr::new(IpAddress::Ipv4(self.ipv4), self.ipv4_prefix_len)
+    }
+
+    /// The own IPv6 address with its network.
+    pub fn own_ipv6(&self) -> IpCidr
+        requires { HasPrefixes self.now }
+        ensures address { block_address result ≡ Ipv6 self.now.ipv6 }
+        ensures prefix_len { block_prefix_len result ≡ self.now.ipv6_prefix_len }
+    {
+        IpCidr::new(IpAddress::Ipv6(self.ipv6), self.ipv6_prefix_len)
     }
 }

@@ -1,7 +1,8 @@
-use Rattle.tun_host.proofs.Beginning.{interface_begun}
+use Rattle.tun_host.proofs.Beginning.{interface_begun, are_not_hosts}
 use Rattle.tun_host.proofs.interface_of.interface.Goals as goal
 
 pub returns-clause-made : goal.returns-clause-made
 returns-clause-made c =
-    interface_begun c.args.settings.now c.args.now c.own-own.result c.in_ok-interface.interface c.set_address.new.interface c.set_router.new.interface
-    c.in_ok-interface.ensures.made c.set_address.ensures.after c.if-not-set_address.ensures.answer c.own-own.ensures.address c.own-own.ensures.prefix_len c.set_router.ensures
+    interface_begun c.args.settings.now c.args.now c.own_ipv4.result c.own_ipv6.result (c.own_ipv4.ensures.address, c.own_ipv4.ensures.prefix_len) (c.own_ipv6.ensures.address, c.own_ipv6.ensures.prefix_len)
+    c.in_ok-interface.interface c.set_addresses.new.interface c.set_routers.new.interface
+    c.in_ok-interface.ensures.made c.set_addresses.ensures.after c.if-not-set_addresses.ensures.answer c.set_routers.ensures

@@ -1,0 +1,310 @@
+-- The connections of a service, made and served one after the other.
+use Rattle.std.proofs.Common.{◌≡◌, ◌≢◌, ℕ, ◌+◌, ◌<◌, ◌≤◌, ◌==◌, Bool, true, false, List, [], ◌∷◌, ◌++◌, length, map, length-map, length-append, arith, refl, sym, ap, ◌∙◌, subst, ◌⊎◌, inl, inr, Option, None, Some}
+use Rattle.std.specs.Prelude.{slice_set}
+use Rattle.std.proofs.lemmas.List.{get_or-set_same, get_or-set_other, get_or_past, get_or_append_left, get_or_push, set_past}
+use Rattle.std.proofs.Math.ListN.{length-set}
+use Rattle.interface_egress.specs.Set.{free}
+use Rattle.interface_egress.specs.declared.socket_set.Item.{Item}
+use Rattle.interface_egress.specs.declared.socket_set.SocketHandle.{SocketHandle}
+use Rattle.interface_egress.specs.declared.socket_set.SocketStorage.{SocketStorage}
+use Rattle.sockets.specs.declared.socket.Socket.{Socket}
+use Rattle.ip_wire.specs.IpListenEndpoint.{IpListenEndpoint}
+use Rattle.tcp_listener.specs.Calls.{fresh_entry, accepted, given_back, Refreshes}
+use Rattle.tcp_listener.specs.Entries.{entry_at, no_entry}
+use Rattle.tcp_listener.specs.GivesWay.{Freed, GivesWay}
+use Rattle.tcp_listener.specs.Noted.{place_at}
+use Rattle.tcp_listener.specs.Stages.{is_accepted, is_open}
+use Rattle.tcp_listener.specs.declared.entry.Entry.{Entry}
+use Rattle.tcp_listener.specs.declared.stage.Stage.TheVariants as Stage
+use Rattle.tun_host.specs.Backlogs.{handle, StandsFrom, AreFreshEntries, ended_if, EntryServesBy, EntryServes, BacklogServes, back_if, OneServesBy, OneServes}
+use Rattle.tun_host.specs.Services.{first_place, socket_count, PlaceServes, is_over}
+use Rattle.tun_host.specs.declared.place.Service.{Service}
+
+is_or_isnt : (i k : ℕ) → (i ≡ k) ⊎ (i ≢ k)
+is_or_isnt i k = by_test (i == k) refl where
+  by_test : (b : Bool) → (i == k) ≡ b → (i ≡ k) ⊎ (i ≢ k)
+  by_test true h = inl (grind arith)
+  by_test false h = inr (grind arith)
+
+-- ENTRIES THAT ARE MADE
+
+-- so many entries of fresh sockets, at the places from the first one on
+pub record FreshTo (n first : ℕ) (es : List Entry) : Type 0 where
+  pub count : length es ≡ n
+  pub each : (i : ℕ) → i < n → entry_at es i ≡ fresh_entry (handle (first + i))
+
+pub made_none : (first : ℕ) → FreshTo 0 first []
+made_none first = record { count = refl; each = λ i h. absurd (omega arith) }
+
+module _ (n first : ℕ) (es : List Entry) (so_far : FreshTo n first es) where
+  made_at : (i : ℕ) → i < n + 1 → (i ≡ n) ⊎ (i ≢ n) → entry_at (es ++ fresh_entry (handle (first + n)) ∷ []) i ≡ fresh_entry (handle (first + i))
+  made_at i h (inl is) =
+      subst (λ (k : ℕ). entry_at (es ++ fresh_entry (handle (first + n)) ∷ []) k ≡ fresh_entry (handle (first + k))) (sym is)
+      (get_or_push es (fresh_entry (handle (first + n))) no_entry n so_far.count)
+  made_at i h (inr isnt) =
+      get_or_append_left es (fresh_entry (handle (first + n)) ∷ []) no_entry i (omega (arith, so_far.count, isnt, h)) ∙ so_far.each i (omega (arith, isnt, h))
+
+  pub made_more : FreshTo (n + 1) first (es ++ fresh_entry (handle (first + n)) ∷ [])
+  made_more = record {
+    count = length-append es (fresh_entry (handle (first + n)) ∷ []) ∙ omega (arith, so_far.count);
+    each = λ i h. made_at i h (is_or_isnt i n);
+  }
+
+pub made_all : (service : Service) (es : List Entry) → FreshTo (socket_count service) (first_place service) es → AreFreshEntries service es
+made_all service es to = record { count = to.count; each = to.each }
+
+pub fresh_stand : (service : Service) (es : List Entry) → AreFreshEntries service es → StandsFrom (first_place service) (socket_count service) es
+fresh_stand service es fresh = record { count = fresh.count; handles = λ i h. ap (λ (e : Entry). e.handle.0) (fresh.each i h) }
+
+-- WHERE ENTRIES STAND
+
+entry_map : (f : Entry → Entry) (es : List Entry) (i : ℕ) → i < length es → entry_at (map f es) i ≡ f (entry_at es i)
+entry_map f es i h = grind (arith)
+
+accepted_by : (b : Bool) (e : Entry) → is_open e.stage ≡ b → (accepted e).handle ≡ e.handle
+accepted_by true e is = rw is refl
+accepted_by false e is = rw is refl
+
+accepted_keeps : (e : Entry) → (accepted e).handle ≡ e.handle
+accepted_keeps e = accepted_by (is_open e.stage) e refl
+
+module _ (first count : ℕ) (es : List Entry) (stands : StandsFrom first count es) where
+  pub accepted_stand : StandsFrom first count (map accepted es)
+  accepted_stand = record {
+    count = length-map accepted es ∙ stands.count;
+    handles = λ i h. ap (λ (e : Entry). e.handle.0) (entry_map accepted es i (omega (arith, stands.count, h))) ∙ (ap (λ (x : SocketHandle). x.0) (accepted_keeps (entry_at es i)) ∙ stands.handles i h);
+  }
+
+  -- entries of the same handles stand at the same places
+  pub kept_stand : (es' : List Entry) → length es' ≡ length es → ((i : ℕ) → i < length es → (entry_at es' i).handle ≡ (entry_at es i).handle) → StandsFrom first count es'
+  kept_stand es' long same = record {
+    count = long ∙ stands.count;
+    handles = λ i h. ap (λ (x : SocketHandle). x.0) (same i (omega (arith, stands.count, h))) ∙ stands.handles i h;
+  }
+
+-- an entry that is freed keeps its handle
+freed_at : (es : List Entry) (k : ℕ) (e : Entry) → e.handle ≡ (entry_at es k).handle → (i : ℕ) → i < length es → (i ≡ k) ⊎ (i ≢ k)
+    → (entry_at (slice_set es k e) i).handle ≡ (entry_at es i).handle
+freed_at es k e same i h (inl is) =
+    subst (λ (n : ℕ). (entry_at (slice_set es k e) n).handle ≡ (entry_at es n).handle) (sym is)
+    (ap (λ (x : Entry). x.handle) (get_or-set_same es k e no_entry (subst (λ (n : ℕ). n < length es) is h)) ∙ same)
+freed_at es k e same i h (inr isnt) = ap (λ (x : Entry). x.handle) (get_or-set_other es k i e no_entry isnt)
+
+module _ (endpoint : IpListenEndpoint) (now first count : ℕ) where
+  freed_stand : (next : Option ℕ) (ps : List (SocketStorage Socket)) (es : List Entry) (ps' : List (SocketStorage Socket)) (es' : List Entry)
+      → Freed endpoint now next ps es ps' es' → StandsFrom first count es → StandsFrom first count es'
+  freed_stand None ps es ps' es' (places, same) stands = subst (StandsFrom first count) (sym same) stands
+  freed_stand (Some k) ps es ps' es' (places, set) stands =
+      let e : Entry = record { handle = (entry_at es k).handle; stage = Stage.Free; since = now } in
+      subst (StandsFrom first count) (sym set)
+      (kept_stand first count es stands (slice_set es k e) (length-set es k e) (λ i h. freed_at es k e refl i h (is_or_isnt i k)))
+
+  way_stand : (ps : List (SocketStorage Socket)) (es : List Entry) (ps' : List (SocketStorage Socket)) (es' : List Entry)
+      → GivesWay endpoint now ps es ps' es' → StandsFrom first count es → StandsFrom first count es'
+  way_stand ps es ps' es' (inl (one, places, same)) stands = subst (StandsFrom first count) (sym same) stands
+  way_stand ps es ps' es' (inr (none, (next, is, freed))) stands = freed_stand next ps es ps' es' freed stands
+
+  pub refreshed_stand : (keepers : List SocketHandle) (ps : List (SocketStorage Socket)) (es : List Entry) (ps' : List (SocketStorage Socket)) (es' : List Entry)
+      → Refreshes endpoint now keepers ps es ps' es' → StandsFrom first count es → StandsFrom first count es'
+  refreshed_stand keepers ps es ps' es' (seen, (noted, (freed, notes, way, kept))) stands =
+      way_stand seen noted freed es' way (kept_stand first count es stands noted notes.entries (λ i h. notes.handles i))
+
+-- ENTRIES THAT ARE SERVED
+
+ended_keeps : (b : Bool) (e : Entry) → (ended_if b e).handle ≡ e.handle
+ended_keeps true e = refl
+ended_keeps false e = refl
+
+entry_keeps : (b : Bool) (service : Service) (e e' : Entry) (p p' : SocketStorage Socket) → EntryServesBy b service e p e' p' → e'.handle ≡ e.handle
+entry_keeps true service e e' p p' (serves, is) = ap (λ (x : Entry). x.handle) is ∙ ended_keeps (is_over p') e
+entry_keeps false service e e' p p' (place, is) = ap (λ (x : Entry). x.handle) is
+
+pub served_stand : (first count : ℕ) (service : Service) (ps : List (SocketStorage Socket)) (es : List Entry) (ps' : List (SocketStorage Socket)) (es' : List Entry)
+    → BacklogServes first service ps es ps' es' → StandsFrom first count es → StandsFrom first count es'
+served_stand first count service ps es ps' es' serves stands =
+    kept_stand first count es stands es' serves.entries
+    (λ i h. entry_keeps (is_accepted (entry_at es i).stage) service (entry_at es i) (entry_at es' i) (place_at ps (first + i)) (place_at ps' (first + i)) (serves.each i h))
+
+-- the first n entries were served, and the others and their places are as they were
+pub record ServedTo (n first : ℕ) (service : Service) (ps : List (SocketStorage Socket)) (es : List Entry) (ps' : List (SocketStorage Socket)) (es' : List Entry) : Type 0 where
+  pub places : length ps' ≡ length ps
+  pub entries : length es' ≡ length es
+  pub below : (i : ℕ) → i < n → EntryServes service (entry_at es i) (place_at ps (first + i)) (entry_at es' i) (place_at ps' (first + i))
+  pub handles : (i : ℕ) → i < length es → (entry_at es' i).handle.0 ≡ first + i
+  pub above : (i : ℕ) → n ≤ i → entry_at es' i ≡ entry_at es i
+  pub before : (m : ℕ) → m < first → place_at ps' m ≡ place_at ps m
+  pub behind : (m : ℕ) → first + n ≤ m → place_at ps' m ≡ place_at ps m
+
+pub served_none : (first count : ℕ) (service : Service) (ps : List (SocketStorage Socket)) (es : List Entry) → StandsFrom first count es → ServedTo 0 first service ps es ps es
+served_none first count service ps es stands = record {
+  places = refl;
+  entries = refl;
+  below = λ i h. absurd (omega (arith, h));
+  handles = λ i h. stands.handles i (omega (arith, stands.count, h));
+  above = λ i h. refl;
+  before = λ m h. refl;
+  behind = λ m h. refl;
+}
+
+pub served_all : (n first : ℕ) (service : Service) (ps : List (SocketStorage Socket)) (es : List Entry) (ps' : List (SocketStorage Socket)) (es' : List Entry)
+    → ServedTo n first service ps es ps' es' → n ≡ length es → BacklogServes first service ps es ps' es'
+served_all n first service ps es ps' es' to all = record {
+  places = to.places;
+  entries = to.entries;
+  each = λ i h. to.below i (omega (arith, h, all));
+  before = to.before;
+  behind = λ m h. to.behind m (omega (arith, h, all));
+}
+
+given_by : (b : Bool) (x : SocketHandle) (e : Entry) → (e.handle.0 == x.0) ≡ b → is_accepted e.stage ≡ true → given_back x e ≡ ended_if b e
+given_by true x e is accepted = rw (accepted, is) refl
+given_by false x e is accepted = rw (accepted, is) refl
+
+same_number : (a b : ℕ) → a ≡ b → (a == b) ≡ true
+same_number a b is = grind (arith)
+
+given_same : (x : SocketHandle) (e : Entry) → e.handle.0 ≡ x.0 → is_accepted e.stage ≡ true → given_back x e ≡ record e { stage = Stage.Ending }
+given_same x e is accepted = given_by true x e (same_number e.handle.0 x.0 is) accepted
+
+other_by : (a b : Bool) (x : SocketHandle) (e : Entry) → is_accepted e.stage ≡ a → (e.handle.0 == x.0) ≡ b → b ≡ false → given_back x e ≡ e
+other_by true true x e p q off = absurd (cc)
+other_by true false x e p q off = rw (p, q) refl
+other_by false b x e p q off = rw p refl
+
+other_number : (a b : ℕ) → a ≢ b → (a == b) ≡ false
+other_number a b isnt = grind (arith)
+
+given_other : (x : SocketHandle) (e : Entry) → e.handle.0 ≢ x.0 → given_back x e ≡ e
+given_other x e isnt = other_by (is_accepted e.stage) (e.handle.0 == x.0) x e refl refl (other_number e.handle.0 x.0 isnt)
+
+back_long : (b : Bool) (x : SocketHandle) (es : List Entry) → length (back_if b x es) ≡ length es
+back_long true x es = length-map (given_back x) es
+back_long false x es = refl
+
+-- the entry of the handle ends if its connection is over
+back_here : (b : Bool) (x : SocketHandle) (es : List Entry) (i : ℕ) → i < length es → (entry_at es i).handle.0 ≡ x.0 → is_accepted (entry_at es i).stage ≡ true
+    → entry_at (back_if b x es) i ≡ ended_if b (entry_at es i)
+back_here true x es i h is accepted = entry_map (given_back x) es i h ∙ given_same x (entry_at es i) is accepted
+back_here false x es i h is accepted = refl
+
+back_other : (b : Bool) (x : SocketHandle) (es : List Entry) (i : ℕ) → i < length es → (entry_at es i).handle.0 ≢ x.0 → entry_at (back_if b x es) i ≡ entry_at es i
+back_other true x es i h isnt = entry_map (given_back x) es i h ∙ given_other x (entry_at es i) isnt
+back_other false x es i h isnt = refl
+
+back_past : (b : Bool) (x : SocketHandle) (es : List Entry) (i : ℕ) → length es ≤ i → entry_at (back_if b x es) i ≡ entry_at es i
+back_past b x es i h =
+    get_or_past (back_if b x es) i no_entry (omega (arith, h, back_long b x es)) ∙ sym (get_or_past es i no_entry h)
+
+-- where there is no place, there is none afterwards
+past_by : (service : Service) (p p' : SocketStorage Socket) → p ≡ free → PlaceServes service p p' → p' ≡ free
+past_by service p p' none serves =
+    let it : PlaceServes service free p' = subst (λ (q : SocketStorage Socket). PlaceServes service q p') none serves in
+    ap (λ (o : Option (Item Socket)). record { inner = o }) it
+
+set_here : (service : Service) (ps : List (SocketStorage Socket)) (m : ℕ) (p' : SocketStorage Socket) → PlaceServes service (place_at ps m) p'
+    → (m < length ps) ⊎ (length ps ≤ m) → place_at (slice_set ps m p') m ≡ p'
+set_here service ps m p' serves (inl less) = get_or-set_same ps m p' free less
+set_here service ps m p' serves (inr past) =
+    let none : place_at ps m ≡ free = get_or_past ps m free past in
+    ap (λ (qs : List (SocketStorage Socket)). place_at qs m) (set_past ps m p' past) ∙ (none ∙ sym (past_by service (place_at ps m) p' none serves))
+
+module _ (n first : ℕ) (service : Service) (ps : List (SocketStorage Socket)) (es : List Entry) (mid : List (SocketStorage Socket)) (ms : List Entry)
+    (to : ServedTo n first service ps es mid ms) (within : n < length ms) (after : List (SocketStorage Socket)) (fs : List Entry) where
+  here : entry_at ms n ≡ entry_at es n
+  here = to.above n (omega arith)
+
+  at_place : (entry_at ms n).handle.0 ≡ first + n
+  at_place = to.handles n (omega (arith, to.entries, within))
+
+  -- what is shown of entry n, and that nothing else changed
+  module _ (long : length after ≡ length ps) (count : length fs ≡ length es)
+      (served : EntryServes service (entry_at es n) (place_at ps (first + n)) (entry_at fs n) (place_at after (first + n)))
+      (others : (i : ℕ) → i ≢ n → entry_at fs i ≡ entry_at ms i) (same_handle : (entry_at fs n).handle.0 ≡ first + n)
+      (elsewhere : (m : ℕ) → m ≢ first + n → place_at after m ≡ place_at mid m) where
+    below_at : (i : ℕ) → i < n + 1 → (i ≡ n) ⊎ (i ≢ n) → EntryServes service (entry_at es i) (place_at ps (first + i)) (entry_at fs i) (place_at after (first + i))
+    below_at i h (inl is) =
+        subst (λ (k : ℕ). EntryServes service (entry_at es k) (place_at ps (first + k)) (entry_at fs k) (place_at after (first + k))) (sym is) served
+    below_at i h (inr isnt) =
+        let less : i < n = omega (arith, h, isnt) in
+        let there : EntryServes service (entry_at es i) (place_at ps (first + i)) (entry_at ms i) (place_at mid (first + i)) = to.below i less in
+        subst (λ (p : SocketStorage Socket). EntryServes service (entry_at es i) (place_at ps (first + i)) (entry_at fs i) p) (sym (elsewhere (first + i) (λ q. absurd (omega (arith, q, less)))))
+        (subst (λ (x : Entry). EntryServes service (entry_at es i) (place_at ps (first + i)) x (place_at mid (first + i))) (sym (others i isnt)) there)
+
+    handle_at : (i : ℕ) → i < length es → (i ≡ n) ⊎ (i ≢ n) → (entry_at fs i).handle.0 ≡ first + i
+    handle_at i h (inl is) = subst (λ (k : ℕ). (entry_at fs k).handle.0 ≡ first + k) (sym is) same_handle
+    handle_at i h (inr isnt) = ap (λ (x : Entry). x.handle.0) (others i isnt) ∙ to.handles i h
+
+    step : ServedTo (n + 1) first service ps es after fs
+    step = record {
+      places = long;
+      entries = count;
+      below = λ i h. below_at i h (is_or_isnt i n);
+      handles = λ i h. handle_at i h (is_or_isnt i n);
+      above = λ i h. others i (λ q. absurd (omega (arith, q, h))) ∙ to.above i (omega (arith, h));
+      before = λ m h. elsewhere m (λ q. absurd (omega (arith, q, h))) ∙ to.before m h;
+      behind = λ m h. elsewhere m (λ q. absurd (omega (arith, q, h))) ∙ to.behind m (omega (arith, h));
+    }
+
+  -- one that isn't accepted
+  left_alone : is_accepted (entry_at ms n).stage ≡ false → after ≡ mid → fs ≡ ms → ServedTo (n + 1) first service ps es after fs
+  left_alone off places entries =
+      let off_here : is_accepted (entry_at es n).stage ≡ false = ap (λ (x : Entry). is_accepted x.stage) (sym here) ∙ off in
+      let place : place_at after (first + n) ≡ place_at ps (first + n) = ap (λ (qs : List (SocketStorage Socket)). place_at qs (first + n)) places ∙ to.behind (first + n) (omega arith) in
+      let entry : entry_at fs n ≡ entry_at es n = ap (λ (xs : List Entry). entry_at xs n) entries ∙ here in
+      step (ap length places ∙ to.places) (ap length entries ∙ to.entries)
+      (subst (λ (b : Bool). EntryServesBy b service (entry_at es n) (place_at ps (first + n)) (entry_at fs n) (place_at after (first + n))) (sym off_here) (place, entry))
+      (λ i isnt. ap (λ (xs : List Entry). entry_at xs i) entries) (ap (λ (xs : List Entry). (entry_at xs n).handle.0) entries ∙ at_place)
+      (λ m isnt. ap (λ (qs : List (SocketStorage Socket)). place_at qs m) places)
+
+  in_or_past : (m : ℕ) → (m < length mid) ⊎ (length mid ≤ m)
+  in_or_past m = grind arith
+
+  in_or_past_ms : (i : ℕ) → (i < length ms) ⊎ (length ms ≤ i)
+  in_or_past_ms i = grind arith
+
+  module _ (on : is_accepted (entry_at ms n).stage ≡ true) (p' : SocketStorage Socket) (serves : PlaceServes service (place_at mid (entry_at ms n).handle.0) p')
+      (places : after ≡ slice_set mid (entry_at ms n).handle.0 p') (entries : fs ≡ back_if (is_over p') (entry_at ms n).handle ms) where
+    other_entry : (i : ℕ) → i ≢ n → (i < length ms) ⊎ (length ms ≤ i) → entry_at fs i ≡ entry_at ms i
+    other_entry i isnt (inl less) =
+        let differs : (entry_at ms i).handle.0 ≢ (entry_at ms n).handle.0 = λ q. absurd (omega (arith, q, isnt, to.handles i (omega (arith, less, to.entries)), at_place)) in
+        ap (λ (xs : List Entry). entry_at xs i) entries ∙ back_other (is_over p') (entry_at ms n).handle ms i less differs
+    other_entry i isnt (inr past) = ap (λ (xs : List Entry). entry_at xs i) entries ∙ back_past (is_over p') (entry_at ms n).handle ms i past
+
+    this_entry : entry_at fs n ≡ ended_if (is_over p') (entry_at ms n)
+    this_entry = ap (λ (xs : List Entry). entry_at xs n) entries ∙ back_here (is_over p') (entry_at ms n).handle ms n within refl on
+
+    this_place : place_at after (first + n) ≡ p'
+    this_place =
+        let there : place_at after (entry_at ms n).handle.0 ≡ p' =
+        ap (λ (qs : List (SocketStorage Socket)). place_at qs (entry_at ms n).handle.0) places ∙ set_here service mid (entry_at ms n).handle.0 p' serves (in_or_past (entry_at ms n).handle.0) in
+        subst (λ (m : ℕ). place_at after m ≡ p') at_place there
+
+    old_place : place_at mid (entry_at ms n).handle.0 ≡ place_at ps (first + n)
+    old_place = ap (place_at mid) at_place ∙ to.behind (first + n) (omega arith)
+
+    other_place : (m : ℕ) → m ≢ first + n → place_at after m ≡ place_at mid m
+    other_place m isnt =
+        ap (λ (qs : List (SocketStorage Socket)). place_at qs m) places ∙ get_or-set_other mid (entry_at ms n).handle.0 m p' free (λ q. isnt (q ∙ at_place))
+
+    served_here : EntryServes service (entry_at es n) (place_at ps (first + n)) (entry_at fs n) (place_at after (first + n))
+    served_here =
+        let on_here : is_accepted (entry_at es n).stage ≡ true = ap (λ (x : Entry). is_accepted x.stage) (sym here) ∙ on in
+        let place : PlaceServes service (place_at ps (first + n)) (place_at after (first + n)) =
+        subst (λ (q : SocketStorage Socket). PlaceServes service (place_at ps (first + n)) q) (sym this_place)
+        (subst (λ (q : SocketStorage Socket). PlaceServes service q p') old_place serves) in
+        let entry : entry_at fs n ≡ ended_if (is_over (place_at after (first + n))) (entry_at es n) =
+        subst (λ (q : SocketStorage Socket). entry_at fs n ≡ ended_if (is_over q) (entry_at es n)) (sym this_place) (subst (λ (x : Entry). entry_at fs n ≡ ended_if (is_over p') x) here this_entry) in
+        subst (λ (b : Bool). EntryServesBy b service (entry_at es n) (place_at ps (first + n)) (entry_at fs n) (place_at after (first + n))) (sym on_here) (place, entry)
+
+    served_one : ServedTo (n + 1) first service ps es after fs
+    served_one =
+        step (ap length places ∙ (length-set mid (entry_at ms n).handle.0 p' ∙ to.places)) (ap length entries ∙ (back_long (is_over p') (entry_at ms n).handle ms ∙ to.entries)) served_here
+        (λ i isnt. other_entry i isnt (in_or_past_ms i))
+        (ap (λ (x : Entry). x.handle.0) this_entry ∙ (ap (λ (x : SocketHandle). x.0) (ended_keeps (is_over p') (entry_at ms n)) ∙ at_place)) other_place
+
+  by_stage : (b : Bool) → is_accepted (entry_at ms n).stage ≡ b → OneServesBy b service (entry_at ms n) mid ms after fs → ServedTo (n + 1) first service ps es after fs
+  by_stage true is (p', serves, places, entries) = served_one is p' serves places entries
+  by_stage false is (places, entries) = left_alone is places entries
+
+  pub served_more : OneServes service n mid ms after fs → ServedTo (n + 1) first service ps es after fs
+  served_more one = by_stage (is_accepted (entry_at ms n).stage) refl one
