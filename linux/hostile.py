@@ -1,12 +1,12 @@
 #!/usr/bin/env python3
 """What a host on a real link must bear, tried by Linux's own stack in a network namespace of its own:
 
-    hostile.py PUMP HOST [FOLDER [connections]]
+    hostile.py PUMP HOST [FOLDER [tap] [SYNS [PAGES]]]
 
-SYNs from nobody, a client that is killed and comes again from its port, resets and SYNs inside a connection, clients that vanish at every
-stage, a packet that is longer than the host's link, a thousand pages in a row and fifty at once; `connections` leaves out what needs
-listeners with a backlog. PUMP is linux/pump.c, built. FOLDER keeps what went over the device (hostile.pcap), if tshark is there, which
-then looks for what is malformed or has a wrong checksum.
+So many SYNs from nobody (10,000), a client that is killed and comes again from its port, resets and SYNs inside a connection, clients that
+vanish at every stage, a packet that is longer than the host's link, so many pages in a row and fifty at once (1,000). `tap` makes it a
+link of Ethernet frames. PUMP is linux/pump.c, built. FOLDER keeps what went over the device (hostile.pcap), if tshark is there, which then
+looks for what is malformed or has a wrong checksum.
 """
 import os, random, shutil, signal, socket, struct, subprocess, sys, threading, time
 
@@ -287,22 +287,18 @@ def tried(what, *given):
     return all(said) if isinstance(said, list) else said
 
 
-# What a host of sockets without listeners bears, too.
-CONNECTIONS = ((talk.pings,), (pages, "at first", 10), (comes_again,), (attacks,), (long_packets,), (talk.stream, 1_000_000))
-
-LISTENERS = (
-    (flood,), (pages, "one after the other", 1000), (pages, "50 at a time", 1000, 50), (by_ab, 1000, 1), (by_ab, 500, 50), (pages, "at last", 20),
-)
-
-
 def main():
-    pump_program, program, folder = sys.argv[1], sys.argv[2], "".join(sys.argv[3:4])
-    trials = CONNECTIONS if "connections" in sys.argv[4:] else CONNECTIONS + LISTENERS
-    pump = start(pump_program, program)
+    pump_program, program, folder, *rest = [*sys.argv[1:], ""]
+    syns, count = ([int(it) for it in rest if it.isdigit()] + [10_000, 1000][sum(it.isdigit() for it in rest):])[:2]
+    trials = (
+        (talk.pings,), (pages, "at first", 10), (comes_again,), (attacks,), (long_packets,), (talk.stream, 1_000_000),
+        (flood, syns), (pages, "one after the other", count), (pages, "50 at a time", count, 50), (by_ab, count, 1), (by_ab, count // 2, 50),
+        (pages, "at last", 20),
+    )
+    pump = start(pump_program, program, *(("-e", STATION) if "tap" in rest else ()))
     taken = capture(folder)
     well = [tried(*it) for it in trials if it[0] is not by_ab or shutil.which("ab")]
-    if trials is not CONNECTIONS:
-        well += [tried(vanished, pump), tried(pages, "an hour later", 20)]
+    well += [tried(vanished, pump), tried(pages, "an hour later", 20)]
     wrong = refused()
     well.append(say(f"Linux found {wrong} packets with a wrong header or checksum", wrong == 0))
     if taken:

@@ -8,6 +8,7 @@ import ipaddress, struct, sys
 NEVER = 2**64 - 1
 FLAGS = ("FIN", "SYN", "RST", "PSH", "ACK")
 CONTROL = {0: "echo reply", 3: "unreachable", 8: "echo request", 11: "time exceeded"}
+CONTROL6 = {1: "unreachable", 128: "echo request", 129: "echo reply", 133: "router solicitation", 135: "neighbor solicitation", 136: "neighbor advertisement"}
 
 
 def tcp(segment):
@@ -22,23 +23,41 @@ def udp(datagram):
     return (source, target), f"udp {source} > {target}, {size - 8} bytes"
 
 
+def within(protocol, it, names):
+    if protocol == 6:
+        return tcp(it)
+    if protocol == 17:
+        return udp(it)
+    if protocol in (1, 58):
+        return (), f"icmp {names.get(it[0], it[0])}, {len(it)} bytes"
+    return (), f"protocol {protocol}, {len(it)} bytes"
+
+
 def packet(it):
     """The ports of a packet, and what it is in words."""
-    if it[0] >> 4 != 4:
-        return (), f"IP version {it[0] >> 4}, {len(it)} bytes"
-    within = it[(it[0] & 15) * 4:]
-    if it[9] == 6:
-        return tcp(within)
-    if it[9] == 17:
-        return udp(within)
-    if it[9] == 1:
-        return (), f"icmp {CONTROL.get(within[0], within[0])}, {len(it)} bytes"
-    return (), f"protocol {it[9]}, {len(it)} bytes"
+    if it[0] >> 4 == 4:
+        return within(it[9], it[(it[0] & 15) * 4:], CONTROL)
+    if it[0] >> 4 == 6:
+        ports, text = within(it[6], it[40:], CONTROL6)
+        return ports, f"IPv6 {text}"
+    return (), f"IP version {it[0] >> 4}, {len(it)} bytes"
+
+
+def frame(it):
+    """The same of an Ethernet frame."""
+    kind = struct.unpack(">H", it[12:14])[0]
+    if kind in (0x0800, 0x86DD):
+        return packet(it[14:])
+    if kind == 0x0806:
+        sender, target = (ipaddress.ip_address(it[at:at + 4]) for at in (28, 38))
+        return (), f"arp {'request' if it[21] == 1 else 'reply'} from {sender} for {target}"
+    return (), f"type {kind:04x}, {len(it)} bytes"
 
 
 def settings(it):
-    address, router = (ipaddress.ip_address(it[at:at + 4]) for at in (0, 5))
-    return f"settings: {address}/{it[4]}, router {router}, seed {struct.unpack('<Q', it[9:])[0]}"
+    link = f"Ethernet {it[1:7].hex(':')}" if it[0] else "bare IP"
+    families = [f"{ipaddress.ip_address(it[at:at + size])}/{it[at + size]}, router {ipaddress.ip_address(it[at + size + 1:at + 2 * size + 1])}" for at, size in ((7, 4), (16, 16))]
+    return f"settings: {link}; {'; '.join(families)}; seed {struct.unpack('<Q', it[49:])[0]}"
 
 
 def take(file, count):
@@ -72,9 +91,12 @@ def exchange(stdin, stdout):
 
 
 def show(stdin, stdout, port):
+    shape = packet
     for count, (moment, come, packets, at) in enumerate(exchange(stdin, stdout)):
-        lines = [] if count == 0 or not come else [("<", *packet(come))]
-        lines += [(">", *packet(it)) for it in packets]
+        if count == 0 and come[0]:
+            shape = frame
+        lines = [] if count == 0 or not come else [("<", *shape(come))]
+        lines += [(">", *shape(it)) for it in packets]
         shown = [(way, text) for way, ports, text in lines if port is None or port in ports]
         if count == 0:
             print(f"{moment / 1e6:.6f} {settings(come)}")

@@ -62,6 +62,10 @@ def named(at):
     return " by IPv6" if ":" in at else ""
 
 
+def connect(port, at=OURS, seconds=20):
+    return socket.create_connection((at, port), timeout=seconds)
+
+
 def is_answered(it, rest, at, seconds=3):
     """Whether an echo reply with this text comes within so many seconds; one that comes late is passed over."""
     end = time.monotonic() + seconds

@@ -7,7 +7,8 @@ them to the program and says every hundred thousand turns how much memory it hol
 import struct, subprocess, sys, threading, time
 
 OWN, OTHER = bytes([10, 77, 0, 2]), bytes([10, 77, 0, 1])
-SETTINGS = OWN + bytes([24]) + OTHER + struct.pack("<Q", 7)
+# a link of bare packets, no hardware address; the addresses of IPv4; none of IPv6; the seed
+SETTINGS = bytes(7) + OWN + bytes([24]) + OTHER + bytes(33) + struct.pack("<Q", 7)
 
 
 def checksum(data):

@@ -1,7 +1,8 @@
 -- The connections of a service, made and served one after the other.
-use Rattle.std.proofs.Common.{◌≡◌, ◌≢◌, ℕ, ◌+◌, ◌<◌, ◌≤◌, ◌==◌, Bool, true, false, List, [], ◌∷◌, ◌++◌, length, map, length-map, length-append, arith, refl, sym, ap, ◌∙◌, subst, ◌⊎◌, inl, inr, Option, None, Some}
+use Rattle.std.proofs.Common.{◌≡◌, ◌≢◌, ℕ, ◌+◌, ◌<◌, ◌≤◌, ◌==◌, Bool, true, false, List, [], ◌∷◌, ◌++◌, length, map, length-append, if◌then◌else◌, ◌&&◌, arith, refl, sym, ap, ◌∙◌, subst, ◌⊎◌, inl, inr, Option, None, Some}
 use Rattle.std.specs.Prelude.{slice_set}
-use Rattle.std.proofs.lemmas.List.{get_or-set_same, get_or-set_other, get_or_past, get_or_append_left, get_or_push, set_past}
+use Rattle.std.proofs.lemmas.Bool.{false≢true}
+use Rattle.std.proofs.lemmas.List.{length-map, get_or-map, get_or-set_same, get_or-set_other, get_or_past, get_or_append_left, get_or_push, set_past}
 use Rattle.std.proofs.Math.ListN.{length-set}
 use Rattle.interface_egress.specs.Set.{free}
 use Rattle.interface_egress.specs.declared.socket_set.Item.{Item}
@@ -15,9 +16,10 @@ use Rattle.tcp_listener.specs.GivesWay.{Freed, GivesWay}
 use Rattle.tcp_listener.specs.Noted.{place_at}
 use Rattle.tcp_listener.specs.Stages.{is_accepted, is_open}
 use Rattle.tcp_listener.specs.declared.entry.Entry.{Entry}
+use Rattle.tcp_listener.specs.declared.listener.Listener.{Listener}
 use Rattle.tcp_listener.specs.declared.stage.Stage.TheVariants as Stage
-use Rattle.tun_host.specs.Backlogs.{handle, StandsFrom, AreFreshEntries, ended_if, EntryServesBy, EntryServes, BacklogServes, back_if, OneServesBy, OneServes}
-use Rattle.tun_host.specs.Services.{first_place, socket_count, PlaceServes, is_over}
+use Rattle.tun_host.specs.Backlogs.{on_port, handle, keepers_of, IsListener, StandsFrom, AreFreshEntries, ended_if, EntryServesBy, EntryServes, BacklogServes, back_if, OneServesBy, OneServes}
+use Rattle.tun_host.specs.Services.{first_place, socket_count, port_of, PlaceServes, is_over}
 use Rattle.tun_host.specs.declared.place.Service.{Service}
 
 is_or_isnt : (i k : ℕ) → (i ≡ k) ⊎ (i ≢ k)
@@ -59,19 +61,19 @@ fresh_stand service es fresh = record { count = fresh.count; handles = λ i h. a
 -- WHERE ENTRIES STAND
 
 entry_map : (f : Entry → Entry) (es : List Entry) (i : ℕ) → i < length es → entry_at (map f es) i ≡ f (entry_at es i)
-entry_map f es i h = grind (arith)
+entry_map f es i h = get_or-map f es i no_entry no_entry h
 
-accepted_by : (b : Bool) (e : Entry) → is_open e.stage ≡ b → (accepted e).handle ≡ e.handle
-accepted_by true e is = rw is refl
-accepted_by false e is = rw is refl
+same_either : (b : Bool) (x y : Entry) (h : SocketHandle) → x.handle ≡ h → y.handle ≡ h → (if b then x else y).handle ≡ h
+same_either true x y h p q = p
+same_either false x y h p q = q
 
 accepted_keeps : (e : Entry) → (accepted e).handle ≡ e.handle
-accepted_keeps e = accepted_by (is_open e.stage) e refl
+accepted_keeps e = same_either (is_open e.stage) (record e { stage = Stage.Accepted }) e e.handle refl refl
 
 module _ (first count : ℕ) (es : List Entry) (stands : StandsFrom first count es) where
   pub accepted_stand : StandsFrom first count (map accepted es)
   accepted_stand = record {
-    count = length-map accepted es ∙ stands.count;
+    count = length-map es accepted ∙ stands.count;
     handles = λ i h. ap (λ (e : Entry). e.handle.0) (entry_map accepted es i (omega (arith, stands.count, h))) ∙ (ap (λ (x : SocketHandle). x.0) (accepted_keeps (entry_at es i)) ∙ stands.handles i h);
   }
 
@@ -156,29 +158,30 @@ served_all n first service ps es ps' es' to all = record {
   behind = λ m h. to.behind m (omega (arith, h, all));
 }
 
-given_by : (b : Bool) (x : SocketHandle) (e : Entry) → (e.handle.0 == x.0) ≡ b → is_accepted e.stage ≡ true → given_back x e ≡ ended_if b e
-given_by true x e is accepted = rw (accepted, is) refl
-given_by false x e is accepted = rw (accepted, is) refl
+both_hold : (a b : Bool) (x y : Entry) → a ≡ true → b ≡ true → (if a && b then x else y) ≡ x
+both_hold true true x y p q = refl
+both_hold true false x y p q = absurd (false≢true q)
+both_hold false b x y p q = absurd (false≢true p)
+
+one_fails : (a b : Bool) (x y : Entry) → b ≡ false → (if a && b then x else y) ≡ y
+one_fails true true x y q = absurd (false≢true (sym q))
+one_fails true false x y q = refl
+one_fails false b x y q = refl
 
 same_number : (a b : ℕ) → a ≡ b → (a == b) ≡ true
 same_number a b is = grind (arith)
 
 given_same : (x : SocketHandle) (e : Entry) → e.handle.0 ≡ x.0 → is_accepted e.stage ≡ true → given_back x e ≡ record e { stage = Stage.Ending }
-given_same x e is accepted = given_by true x e (same_number e.handle.0 x.0 is) accepted
-
-other_by : (a b : Bool) (x : SocketHandle) (e : Entry) → is_accepted e.stage ≡ a → (e.handle.0 == x.0) ≡ b → b ≡ false → given_back x e ≡ e
-other_by true true x e p q off = absurd (cc)
-other_by true false x e p q off = rw (p, q) refl
-other_by false b x e p q off = rw p refl
+given_same x e is accepted = both_hold (is_accepted e.stage) (e.handle.0 == x.0) (record e { stage = Stage.Ending }) e accepted (same_number e.handle.0 x.0 is)
 
 other_number : (a b : ℕ) → a ≢ b → (a == b) ≡ false
 other_number a b isnt = grind (arith)
 
 given_other : (x : SocketHandle) (e : Entry) → e.handle.0 ≢ x.0 → given_back x e ≡ e
-given_other x e isnt = other_by (is_accepted e.stage) (e.handle.0 == x.0) x e refl refl (other_number e.handle.0 x.0 isnt)
+given_other x e isnt = one_fails (is_accepted e.stage) (e.handle.0 == x.0) (record e { stage = Stage.Ending }) e (other_number e.handle.0 x.0 isnt)
 
 back_long : (b : Bool) (x : SocketHandle) (es : List Entry) → length (back_if b x es) ≡ length es
-back_long true x es = length-map (given_back x) es
+back_long true x es = length-map es (given_back x)
 back_long false x es = refl
 
 -- the entry of the handle ends if its connection is over
@@ -308,3 +311,26 @@ module _ (n first : ℕ) (service : Service) (ps : List (SocketStorage Socket)) 
 
   pub served_more : OneServes service n mid ms after fs → ServedTo (n + 1) first service ps es after fs
   served_more one = by_stage (is_accepted (entry_at ms n).stage) refl one
+
+-- LISTENERS
+
+-- what a refresh of a listener says of its service's port and keeper
+pub seen_as : (service : Service) (l : Listener) (now : ℕ) (ps : List (SocketStorage Socket)) (es : List Entry) (ps' : List (SocketStorage Socket)) (es' : List Entry)
+    → IsListener service l → Refreshes l.endpoint now l.keepers.items ps es ps' es' → Refreshes (on_port (port_of service)) now (keepers_of service) ps es ps' es'
+seen_as service l now ps es ps' es' is refreshes =
+    subst (λ (ks : List SocketHandle). Refreshes (on_port (port_of service)) now ks ps es ps' es') is.keepers
+    (subst (λ (e : IpListenEndpoint). Refreshes e now l.keepers.items ps es ps' es') is.endpoint refreshes)
+
+-- a listener whose sockets are seen and served stays one
+pub still_listener : (service : Service) (l m n : Listener) (now : ℕ) (ps ps' qs qs' : List (SocketStorage Socket)) → IsListener service l
+    → Refreshes l.endpoint now l.keepers.items ps l.entries.items ps' m.entries.items → m.endpoint ≡ l.endpoint → m.keepers.items ≡ l.keepers.items
+    → BacklogServes (first_place service) service qs (map accepted m.entries.items) qs' n.entries.items → n ≡ record m { entries = n.entries } → IsListener service n
+still_listener service l m n now ps ps' qs qs' is refreshes endpoint keepers serves rest =
+    let seen : StandsFrom (first_place service) (socket_count service) m.entries.items =
+    refreshed_stand l.endpoint now (first_place service) (socket_count service) l.keepers.items ps l.entries.items ps' m.entries.items refreshes is.stands in
+    record {
+      endpoint = ap (λ (x : Listener). x.endpoint) rest ∙ (endpoint ∙ is.endpoint);
+      keepers = ap (λ (x : Listener). x.keepers.items) rest ∙ (keepers ∙ is.keepers);
+      stands = served_stand (first_place service) (socket_count service) service qs (map accepted m.entries.items) qs' n.entries.items serves
+          (accepted_stand (first_place service) (socket_count service) m.entries.items seen);
+    }

@@ -1,6 +1,8 @@
 -- A host that begins.
-use Rattle.std.proofs.Common.{◌≡◌, ℕ, zero, suc, ◌+◌, ◌-◌, not, ◌||◌, ◌&&◌, if◌then◌else◌, sym, ap, ap₂, ◌∙◌, ◌++◌, ◌∷◌, take, drop, length-append, length-drop, length-take, ℤ, pos, ◌≤ℤ◌, Bool, true, false, List, [], length, Result, Ok, Err, Option, None, Some, IsOk, OnOk, IsTrue, ◌↔◌, refl, subst, arith}
-use Rattle.std.specs.Prelude.{int_lt}
+use Rattle.std.proofs.Common.{◌≡◌, ℕ, zero, suc, get_or, ◌+◌, ◌-◌, not, ◌||◌, ◌&&◌, if◌then◌else◌, sym, ap, ap₂, ◌∙◌, ◌++◌, ◌∷◌, take, drop, length-append, length-drop, length-take, ℤ, pos, ◌≤ℤ◌, Bool, true, false, List, [], length, Result, Ok, Err, Option, None, Some, IsOk, OnOk, IsTrue, ◌↔◌, refl, subst, arith}
+use Rattle.std.specs.Prelude.{int_lt, position, is_some}
+use Rattle.std.proofs.lemmas.Bool.{false≢true}
+use Rattle.std.proofs.lemmas.List.Quantifiers.{position-Some}
 use Rattle.std.specs.List.{list_any}
 use Rattle.net_base.specs.Ring.{Ring, ring}
 use Rattle.tcp_law.specs.ReceiveMap.{space}
@@ -20,7 +22,7 @@ use Rattle.net_base.specs.Time.{IsMoment, last_moment}
 use Rattle.ip_wire.specs.IpAddress.TheVariants as Ip
 use Rattle.ip_wire.specs.Ipv4Address.{Ipv4Address}
 use Rattle.ip_wire.specs.Ipv6Address.{Ipv6Address}
-use Rattle.interface_tables.specs.Route.{is_all_v6, is_gateway_v4, is_gateway_v6, IsGateway, IsAdded, has_room, without}
+use Rattle.interface_tables.specs.Route.{is_all_v6, is_gateway_v4, is_gateway_v6, IsGateway, IsAdded, has_room, without, without_at}
 use Rattle.interface_tables.specs.Settings.{refusal, is_station, is_stranger, made, with_addresses, with_routes}
 use Rattle.interface_tables.specs.declared.config.NewError.{NewError}
 use Rattle.interface_tables.specs.declared.config.NewError.TheVariants as New
@@ -74,22 +76,29 @@ not_v6_by (Block.Ipv6 b) router is = absurd (cc)
 not_v6 : (r : Route) (router : Ipv4Address) → IsGateway r (replicate 4 0) (Ip.Ipv4 router) → is_gateway_v6 r ≡ false
 not_v6 r router is = not_v6_by r.cidr router is.family
 
-added_behind : (b : Bool) (r r6 : Route) (new : List Route) → is_gateway_v6 r ≡ b → b ≡ false
-    → new ≡ without is_gateway_v6 (r ∷ []) ++ r6 ∷ [] → new ≡ r ∷ r6 ∷ []
-added_behind true r r6 new is off added = absurd (cc)
-added_behind false r r6 new is off added = rw is at added
+no_place : (r : Route) (o : Option ℕ) → position is_gateway_v6 (r ∷ []) ≡ o → is_gateway_v6 r ≡ false → position is_gateway_v6 (r ∷ []) ≡ None
+no_place r None is off = is
+no_place r (Some i) is off =
+    let found = position-Some is_gateway_v6 (r ∷ []) i r is in
+    let first : i ≡ 0 = omega (arith, found.0) in
+    let on : is_gateway_v6 r ≡ true = subst (λ (k : ℕ). is_gateway_v6 (get_or (r ∷ []) k r) ≡ true) first found.1 in
+    absurd (false≢true (sym off ∙ on))
 
-room_by : (b : Bool) (r : Route) → is_gateway_v6 r ≡ b → has_room 4 is_gateway_v6 (r ∷ []) ≡ true
-room_by true r is = rw is refl
-room_by false r is = rw is refl
+added_behind : (r r6 : Route) (new : List Route) → is_gateway_v6 r ≡ false → new ≡ without is_gateway_v6 (r ∷ []) ++ r6 ∷ [] → new ≡ r ∷ r6 ∷ []
+added_behind r r6 new off added =
+    added ∙ ap (λ (o : Option ℕ). without_at o (r ∷ []) ++ r6 ∷ []) (no_place r (position is_gateway_v6 (r ∷ [])) refl off)
+
+or_true : (b : Bool) → b || true ≡ true
+or_true true = refl
+or_true false = refl
 
 room_of_one : (r : Route) → has_room 4 is_gateway_v6 (r ∷ []) ≡ true
-room_of_one r = room_by (is_gateway_v6 r) r refl
+room_of_one r = or_true (is_some (position is_gateway_v6 (r ∷ [])))
 
 second_v6 : (result : Result (Option Route) RouteTableFull) (r : Route) (new : List Route) (ipv4 : Ipv4Address) (ipv6 : Ipv6Address)
     → IsGateway r (replicate 4 0) (Ip.Ipv4 ipv4) → IsOk result
     → OnOk result (IsAdded is_gateway_v6 (λ r. IsGateway r (replicate 16 0) (Ip.Ipv6 ipv6)) (r ∷ []) new) → AreDefaults ipv4 ipv6 new
-second_v6 (Ok o) r new ipv4 ipv6 first ok (r6, is, added) = (r, (r6, (first, is, added_behind false r r6 new (not_v6 r ipv4 first) refl added)))
+second_v6 (Ok o) r new ipv4 ipv6 first ok (r6, is, added) = (r, (r6, (first, is, added_behind r r6 new (not_v6 r ipv4 first) added)))
 second_v6 (Err e) r new ipv4 ipv6 first ok added = absurd (cc)
 
 module _ (ipv4 : Ipv4Address) (ipv6 : Ipv6Address) where

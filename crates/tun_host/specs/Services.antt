@@ -52,7 +52,7 @@ datagram_count = 64
 -- the page behind its head
 unfoldable pub page : List ℕ
 page =
-    codes "HTTP/1.0 200 OK\r\nContent-Type: text/html\r\nContent-Length: 105\r\n\r\n<!DOCTYPE html>\n<title>Zemplovir</title>\n<p>This page came over a TCP/IP stack whose promises are proved.\n"
+    codes "HTTP/1.0 200 OK\r\nContent-Type: text/html\r\nContent-Length: 106\r\n\r\n<!DOCTYPE html>\n<title>Zemplovir</title>\n<p>This page came over a TCP/IP stack whose promises are proved.\n"
 
 -- what any other request is told
 unfoldable pub refusal : List ℕ

@@ -51,22 +51,24 @@ pub record Served : Type 0 where
   pub echoes : List Entry
   pub pages : List Entry
 
-abbrev pub served : List (SocketStorage Socket) → List Entry → List Entry → Served
-served sockets echoes pages = record { sockets = sockets; echoes = echoes; pages = pages }
+abbrev pub served_of : List (SocketStorage Socket) → List Entry → List Entry → Served
+served_of sockets echoes pages = record { sockets = sockets; echoes = echoes; pages = pages }
 
--- The listeners see how far their sockets came; then the datagrams are served, and the connections that were accepted.
-pub record AreServed (moment : ℤ) (old new : Served) : Type 0 where
-  pub seen : List (SocketStorage Socket)
-  pub echoes : List Entry
-  pub ready : List (SocketStorage Socket)
-  pub pages : List Entry
+-- the datagrams are served, and the connections that were accepted
+pub record ServicesServe (old new : Served) : Type 0 where
   pub datagrams : List (SocketStorage Socket)
   pub streams : List (SocketStorage Socket)
-  pub sees_echoes : Refreshes (on_port ECHO_PORT) (micros_of moment) (keepers_of Streams) old.sockets old.echoes seen echoes
-  pub sees_pages : Refreshes (on_port PAGE_PORT) (micros_of moment) (keepers_of Page) seen old.pages ready pages
-  pub serves_datagrams : FirstServes ready datagrams
-  pub serves_streams : BacklogServes (first_place Streams) Streams datagrams (map accepted echoes) streams new.echoes
-  pub serves_pages : BacklogServes (first_place Page) Page streams (map accepted pages) new.sockets new.pages
+  pub serves_datagrams : FirstServes old.sockets datagrams
+  pub serves_streams : BacklogServes (first_place Streams) Streams datagrams (map accepted old.echoes) streams new.echoes
+  pub serves_pages : BacklogServes (first_place Page) Page streams (map accepted old.pages) new.sockets new.pages
+
+-- the listeners see how far their sockets came; then the services do what can be done
+pub record AreServed (moment : ℤ) (old new : Served) : Type 0 where
+  pub seen : List (SocketStorage Socket)
+  pub ready : Served
+  pub sees_echoes : Refreshes (on_port ECHO_PORT) (micros_of moment) (keepers_of Streams) old.sockets old.echoes seen ready.echoes
+  pub sees_pages : Refreshes (on_port PAGE_PORT) (micros_of moment) (keepers_of Page) seen old.pages ready.sockets ready.pages
+  pub serves : ServicesServe ready new
 
 -- The packet comes, the interface is polled at the turn's moment, the services do what can be done, and the interface is polled again;
 -- then it is asked when it wants to be polled next. Nothing but the host before, the packet and the moment goes in.
@@ -77,7 +79,7 @@ pub record TakesTurn (old : HostState) (moment : ℤ) (packet : List ℕ) (next 
   pub changed : Bool
   pub changed_again : Bool
   pub takes : Polls DrainMove moment budget (with_packet old.net packet) changed come
-  pub serves : AreServed moment (served come.places old.echoes old.pages) done
+  pub serves : AreServed moment (served_of come.places old.echoes old.pages) done
   pub sends : Polls DrainMove moment budget (state come.device come.host done.sockets) changed_again gone
   pub asked : next ≡ poll_instant (at_moment moment gone.host.inner) gone.host.left gone.places
   pub after : new ≡ record { net = state gone.device (host_at moment gone.host) gone.places; echoes = done.echoes; pages = done.pages }

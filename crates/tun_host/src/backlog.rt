@@ -1,9 +1,8 @@
 //! The connections of a service: its listener, and what the service makes of those that were accepted.
-ghost use Rattle.std.specs.Prelude.{◌≡◌, ◌<◌, ◌+◌, ◌∷◌, [], length, map, IfOk};
+ghost use Rattle.std.specs.Prelude.{◌≡◌, ◌<◌, length, map, IfOk};
 ghost use Rattle.tcp_listener.specs.Calls.{accepted};
-ghost use Rattle.tcp_listener.specs.Entries.{entry_at};
 ghost use Rattle.tun_host.specs.Services.{echo_room, most_request, first_place, FirstServes};
-ghost use Rattle.tun_host.specs.Backlogs.{StandsFrom, StandAt, IsFreshListener, OneServes, BacklogServes};
+ghost use Rattle.tun_host.specs.Backlogs.{StandAt, IsFreshListener, OneServes, BacklogServes};
 
 use crate::place::{
     Service, first_place, is_over, keeper_place, port_of, serve_place, socket_count,
@@ -68,6 +67,25 @@ fn serve_one(
     }
 }
 
+/// Each connection that was accepted is served.
+fn serve_accepted(
+    service: Service,
+    places: &mut [SocketStorage<Socket>],
+    listener: &mut Listener,
+    buffer: &mut [u8],
+    request: &mut [u8],
+)
+    requires buffer { length buffer.old ≡ echo_room }
+    requires request { length request.old ≡ most_request }
+    requires stands { StandAt service listener.old.entries.items }
+    ensures served { BacklogServes (first_place service) service places.old listener.old.entries.items places.new listener.new.entries.items }
+    ensures rest { listener.new ≡ record listener.old { entries = listener.new.entries } }
+{
+    for at in 0..listener.entries.len() {
+        serve_one(service, at, places, listener, buffer, request);
+    }
+}
+
 /// The connections that wait are accepted, and each that was accepted is served.
 pub fn serve_backlog(
     service: Service,
@@ -83,7 +101,5 @@ pub fn serve_backlog(
     ensures rest { listener.new ≡ record listener.old { entries = listener.new.entries } }
 {
     listener.accept_all();
-    for at in 0..listener.entries.len() {
-        serve_one(service, at, places, listener, buffer, request);
-    }
+    serve_accepted(service, places, listener, buffer, request);
 }

@@ -5,9 +5,9 @@ ghost use Rattle.interface.specs.Set.{places};
 ghost use Rattle.net_base.specs.Time.{IsMoment};
 ghost use Rattle.tun_host.specs.Begins.{Begins, RefusesSettings};
 ghost use Rattle.tun_host.specs.Settings.{HasPrefixes};
-ghost use Rattle.tun_host.specs.Backlogs.{IsListener};
+ghost use Rattle.tun_host.specs.Backlogs.{StandAt, IsListener};
 ghost use Rattle.tun_host.specs.Services.{echo_room, most_request};
-ghost use Rattle.tun_host.specs.Turns.{state_of, IsSetUp, budget, served, AreServed, TakesTurn, Answers};
+ghost use Rattle.tun_host.specs.Turns.{state_of, IsSetUp, budget, served_of, ServicesServe, AreServed, TakesTurn, Answers};
 ghost use Rattle.interface.specs.State.{state};
 ghost use Rattle.interface.specs.Polls.{Polls, is_change};
 ghost use Rattle.tun_link.specs.Drain.{DrainMove};
@@ -72,10 +72,43 @@ fn serve_places(
     buffer: &mut [u8],
     request: &mut [u8],
 )
+    requires buffer { length buffer.old ≡ echo_room }
+    requires request { length request.old ≡ most_request }
+    requires echoes { StandAt Service.Streams echoes.old.entries.items }
+    requires pages { StandAt Service.Page pages.old.entries.items }
+    ensures serve { ServicesServe (served_of places.old echoes.old.entries.items pages.old.entries.items) (served_of places.new echoes.new.entries.items pages.new.entries.items) }
+    ensures echoes { echoes.new ≡ record echoes.old { entries = echoes.new.entries } }
+    ensures pages { pages.new ≡ record pages.old { entries = pages.new.entries } }
 {
     serve_first(places, buffer, request);
     serve_backlog(Service::Streams, places, echoes, buffer, request);
     serve_backlog(Service::Page, places, pages, buffer, request);
+}
+
+/// The services do what can be done now, on a set of sockets.
+fn serve_set(
+    sockets: &mut SocketSet<Socket>,
+    echoes: &mut Listener,
+    pages: &mut Listener,
+    buffer: &mut [u8],
+    request: &mut [u8],
+)
+    requires buffer { length buffer.old ≡ echo_room }
+    requires request { length request.old ≡ most_request }
+    requires echoes { StandAt Service.Streams echoes.old.entries.items }
+    requires pages { StandAt Service.Page pages.old.entries.items }
+    ensures serve { ServicesServe (served_of (places sockets.old) echoes.old.entries.items pages.old.entries.items) (served_of (places sockets.new) echoes.new.entries.items pages.new.entries.items) }
+    ensures echoes { echoes.new ≡ record echoes.old { entries = echoes.new.entries } }
+    ensures pages { pages.new ≡ record pages.old { entries = pages.new.entries } }
+{
+    match &mut sockets.sockets {
+        ManagedSlice::Fixed(places) => {
+            serve_places(places.as_mut_slice(), echoes, pages, buffer, request)
+        }
+        ManagedSlice::Owned(places) => {
+            serve_places(places.as_mut_slice(), echoes, pages, buffer, request)
+        }
+    }
 }
 
 /// The listeners see how far their sockets came, and the services do what can be done now.
@@ -89,22 +122,15 @@ fn serve(
 )
     requires buffer { length buffer.old ≡ echo_room }
     requires request { length request.old ≡ most_request }
-    requires echoes { IsListener Streams echoes.old }
-    requires pages { IsListener Page pages.old }
-    ensures served { AreServed now (served (places sockets.old) echoes.old.entries.items pages.old.entries.items) (served (places sockets.new) echoes.new.entries.items pages.new.entries.items) }
-    ensures echoes { IsListener Streams echoes.new }
-    ensures pages { IsListener Page pages.new }
+    requires echoes { IsListener Service.Streams echoes.old }
+    requires pages { IsListener Service.Page pages.old }
+    ensures serve { AreServed now (served_of (places sockets.old) echoes.old.entries.items pages.old.entries.items) (served_of (places sockets.new) echoes.new.entries.items pages.new.entries.items) }
+    ensures echoes { IsListener Service.Streams echoes.new }
+    ensures pages { IsListener Service.Page pages.new }
 {
     echoes.refresh(sockets, now);
     pages.refresh(sockets, now);
-    match &mut sockets.sockets {
-        ManagedSlice::Fixed(places) => {
-            serve_places(places.as_mut_slice(), echoes, pages, buffer, request)
-        }
-        ManagedSlice::Owned(places) => {
-            serve_places(places.as_mut_slice(), echoes, pages, buffer, request)
-        }
-    }
+    serve_set(sockets, echoes, pages, buffer, request);
 }
 
 impl Host {

@@ -1,5 +1,5 @@
 //! The services, each at its places among a host's sockets.
-ghost use Rattle.std.specs.Prelude.{◌≡◌, length};
+ghost use Rattle.std.specs.Prelude.{◌≡◌, ◌≤◌, length};
 ghost use Rattle.services.specs.Echo.{datagram_echoed};
 ghost use Rattle.tun_host.specs.Services.{service_at, first_place, socket_count, keeper_place, port_of, echo_room, most_request, datagram_count, page, refusal, times, datagrams_served, stream_served, PageServed, ServesAs, PlaceServes, is_over};
 
@@ -22,7 +22,7 @@ pub const ECHO_PORT: u16 = 7;
 pub const PAGE_PORT: u16 = 80;
 
 const SITE: Site<'static> = Site {
-    page: b"HTTP/1.0 200 OK\r\nContent-Type: text/html\r\nContent-Length: 105\r\n\r\n<!DOCTYPE html>\n<title>Zemplovir</title>\n<p>This page came over a TCP/IP stack whose promises are proved.\n",
+    page: b"HTTP/1.0 200 OK\r\nContent-Type: text/html\r\nContent-Length: 106\r\n\r\n<!DOCTYPE html>\n<title>Zemplovir</title>\n<p>This page came over a TCP/IP stack whose promises are proved.\n",
     refusal: b"HTTP/1.0 400 Bad Request\r\nContent-Length: 0\r\n\r\n",
 };
 
@@ -56,7 +56,8 @@ pub fn service_at(place: usize) -> Service
 
 /// The first of a service's places, which stand one behind the other.
 pub fn first_place(service: Service) -> usize
-    ensures { result ≡ first_place service }
+    ensures place { result ≡ first_place service }
+    ensures small { result ≤ 69 }
 {
     match service {
         Service::Datagrams => 0,
@@ -68,7 +69,8 @@ pub fn first_place(service: Service) -> usize
 
 /// How many sockets a service has.
 pub fn socket_count(service: Service) -> usize
-    ensures { result ≡ socket_count service }
+    ensures count { result ≡ socket_count service }
+    ensures small { result ≤ 64 }
 {
     match service {
         Service::Datagrams => 1,

@@ -16,7 +16,7 @@ const SETTINGS_LEN: usize = 57;
 /// count on the latter alone; four of the IPv4 address, one of its prefix, four of the router; sixteen of the IPv6 address, one of its
 /// prefix, sixteen of the router; and eight of the seed with the lowest first. A host without addresses of a family has the unspecified
 /// one.
-#[derive(Clone, Copy, Debug, PartialEq, Eq)]
+#[derive(Clone, Copy, Debug)]
 pub struct Settings {
     /// `Ip` on a link of bare IP packets.
     pub hardware: HardwareAddress,

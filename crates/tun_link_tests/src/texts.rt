@@ -3,7 +3,7 @@ use std::test::Fail;
 use tun_host::ServeError;
 use tun_link::TurnError;
 
-const ENDS: [(ServeError, &str); 10] = [
+const ENDS: [(ServeError, &str); 11] = [
     (ServeError::Turn(TurnError::Length), "a packet is too long"),
     (
         ServeError::Turn(TurnError::Moment),
@@ -16,7 +16,11 @@ const ENDS: [(ServeError, &str); 10] = [
     (ServeError::Turn(TurnError::Memory), "out of memory"),
     (ServeError::Turn(TurnError::Reader), "the reader failed"),
     (ServeError::Settings, "the first turn has no settings"),
-    (ServeError::Address, "the address isn't a host's"),
+    (ServeError::Address, "an address isn't a host's"),
+    (
+        ServeError::Hardware,
+        "the hardware address isn't a station's",
+    ),
     (ServeError::Memory, "out of memory"),
     (ServeError::Writer, "the writer failed"),
     (ServeError::Turns, "too many turns"),

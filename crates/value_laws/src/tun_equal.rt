@@ -2,9 +2,7 @@
 //! the same value.
 ghost use Rattle.std.specs.Prelude.{◌≡◌, ◌↔◌, IsTrue};
 ghost use Rattle.tun_host.specs.contracts.place.ServicePartialEq.TheImpl as Services;
-ghost use Rattle.tun_host.specs.contracts.settings.SettingsPartialEq.TheImpl as AllSettings;
 ghost use Rattle.tun_host.specs.declared.place.Service.{Service};
-ghost use Rattle.tun_host.specs.declared.settings.Settings.{Settings};
 
 use services::Verdict;
 use tun_host::ServeError;
@@ -18,8 +16,7 @@ pub fn errors_are_equated()
     ensures verdicts { (a b : Verdict) → IsTrue (⟦<Verdict as PartialEq>⟧.eq a b) ↔ (a ≡ b) }
 {}
 
-/// Law: `==` says of what two sockets are for, and of what two hosts begin with, whether it is the same.
-pub fn settings_are_equated()
-    ensures services { (a b : Service) → IsTrue (Services.ghosts.eq a b) ↔ (a ≡ b) }
-    ensures settings { (a b : Settings) → IsTrue (AllSettings.ghosts.eq a b) ↔ (a ≡ b) }
+/// Law: `==` says of what two sockets are for whether it is the same.
+pub fn services_are_equated()
+    ensures { (a b : Service) → IsTrue (Services.ghosts.eq a b) ↔ (a ≡ b) }
 {}

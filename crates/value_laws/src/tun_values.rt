@@ -16,7 +16,7 @@ pub fn tun_numbers()
     ensures longest { MTU ≡ 1500 }
     ensures waiting { DATAGRAMS ≡ 64 }
     ensures echoed { datagram_count ≡ 64 }
-    ensures places { place_count ≡ 21 }
+    ensures places { place_count ≡ 71 }
     ensures room { echo_room ≡ 65536 }
     ensures request { most_request ≡ 1024 }
     ensures budget { budget ≡ 64 }

@@ -46,7 +46,7 @@ loop-preserved g c =
     let moment = subst (λ (m : Option ℤ). IfSome m IsMoment) c.in-Some.is c.in_ok-now.ensures.moment in
     let said = c.in_ok-answer_turn.ensures.answers in (
       moment,
-      c.in_ok-answer_turn.ensures.buffers,
+      c.in_ok-answer_turn.ensures.set_up,
       running_more c.loop.counter (g.R.Read.remaining c.args.reader.now) now next (g.W.Write.contents c.args.writer.now) (g.W.Write.contents c.loop.writer) (g.W.Write.contents c.answer_turn.new.writer)
           c.loop.last c.in-Some.now (option_map state_of c.loop.host) c.next_turn.new.packet.items c.in_ok-current.packet.items said.0 (state_of c.in_ok-current.current) (state_of c.answer_turn.new.self)
           c.loop.invariant.2 comes c.in_ok-current.ensures.arrives said.1 said.2,

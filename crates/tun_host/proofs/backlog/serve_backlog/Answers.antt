@@ -1,0 +1,21 @@
+use Rattle.std.proofs.Common.{◌≡◌, List, subst, sym, ap, ◌∙◌}
+use Rattle.tcp_listener.specs.declared.entry.Entry.{Entry}
+use Rattle.tcp_listener.specs.declared.listener.Listener.{Listener}
+use Rattle.tun_host.specs.Backlogs.{StandAt, BacklogServes}
+use Rattle.tun_host.specs.Services.{first_place, socket_count}
+use Rattle.tun_host.proofs.Backlog.{accepted_stand}
+use Rattle.tun_host.proofs.backlog.serve_backlog.Goals as goal
+
+pub serve_accepted-requires-clause-stands : goal.serve_accepted-requires-clause-stands
+serve_accepted-requires-clause-stands c =
+    subst (StandAt c.args.service) (sym c.accept_all.ensures.accepted)
+    (accepted_stand (first_place c.args.service) (socket_count c.args.service) c.args.listener.now.entries.items c.requires.stands)
+
+pub returns-clause-served : goal.returns-clause-served
+returns-clause-served c =
+    subst (λ (es : List Entry). BacklogServes (first_place c.args.service) c.args.service c.args.places.now es c.serve_accepted.new.places c.serve_accepted.new.listener.entries.items) c.accept_all.ensures.accepted
+    c.serve_accepted.ensures.served
+
+pub returns-clause-rest : goal.returns-clause-rest
+returns-clause-rest c =
+    c.serve_accepted.ensures.rest ∙ ap (λ (l : Listener). record l { entries = c.serve_accepted.new.listener.entries }) c.accept_all.ensures.rest
