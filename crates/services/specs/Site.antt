@@ -27,6 +27,10 @@ pub record Talk : Type 0 where
 abbrev pub talk : TcpValue → Session → Talk
 talk socket session = record { socket = socket; session = session }
 
+-- a connection that wasn't asked for anything
+abbrev pub fresh_session : Session
+fresh_session = record { left = 0; closes = false; answered = 0; declined = 0 }
+
 -- for how many bytes more the send queue has room
 abbrev pub room_in : TcpValue → ℕ
 room_in v = length v.queued.free

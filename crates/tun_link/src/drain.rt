@@ -135,6 +135,13 @@ impl Drain {
         self.resets_sent
     }
 
+    /// How many packets were refused, for want of memory.
+    pub fn refused(&self) -> u64
+        ensures { result ≡ self.now.refusals }
+    {
+        self.refused
+    }
+
     /// How many packets were dropped for their length.
     pub fn dropped(&self) -> u64
         ensures { result ≡ self.now.dropped }

@@ -4,7 +4,6 @@ use Rattle.interface.specs.Polls.{Polls, is_change}
 use Rattle.interface.specs.State.{state}
 use Rattle.interface_egress.specs.Set.{places}
 use Rattle.tun_link.specs.Drain.{DrainValue, DrainMove}
-use Rattle.tun_host.specs.Backlogs.{HostState}
 use Rattle.tun_host.specs.Turns.{budget, served_of}
 use Rattle.tun_host.proofs.host.Host.take_turn.Goals as goal
 
@@ -13,17 +12,24 @@ returns-clause-turn c =
     let before = c.args.self.now in
     let come = state c.poll.new.drain c.poll.new.interface (places c.poll.new.sockets) in
     let gone = state c.poll-2.new.drain c.poll-2.new.interface (places c.poll-2.new.sockets) in
-    let echoes = c.serve.new.echoes.entries.items in
-    let pages = c.serve.new.pages.entries.items in
+    let done = served_of (places c.serve.new.sockets) c.serve.new.echoes.entries.items c.serve.new.pages.entries.items c.serve.new.echo_sessions c.serve.new.sessions in
     record {
       come = come;
-      done = served_of (places c.serve.new.sockets) echoes pages;
+      done = done;
       gone = gone;
       changed = is_change c.poll.result;
       changed_again = is_change c.poll-2.result;
       takes = subst (λ (d : DrainValue). Polls DrainMove c.args.now budget (state d before.interface (places before.sockets)) (is_change c.poll.result) come) c.put.ensures c.poll.ensures;
+      tally = c.serve.new.tally;
       serves = c.serve.ensures.serve;
       sends = c.poll-2.ensures;
       asked = c.poll_at.ensures.value;
-      after = ap (λ (h : HostValue). record { net = state c.poll-2.new.drain h (places c.poll-2.new.sockets); echoes = echoes; pages = pages }) c.poll_at.ensures.after;
+      after = ap (λ (h : HostValue). record {
+        net = state c.poll-2.new.drain h (places c.poll-2.new.sockets);
+        echoes = done.echoes;
+        pages = done.pages;
+        echo_sessions = done.echo_sessions;
+        sessions = done.sessions;
+        tally = c.serve.new.tally;
+      }) c.poll_at.ensures.after;
     }
