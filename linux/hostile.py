@@ -292,7 +292,7 @@ def main():
     syns, count = ([int(it) for it in rest if it.isdigit()] + [10_000, 1000][sum(it.isdigit() for it in rest):])[:2]
     trials = (
         (talk.pings,), (pages, "at first", 10), (comes_again,), (attacks,), (long_packets,), (talk.stream, 1_000_000),
-        (flood, syns), (pages, "one after the other", count), (pages, "50 at a time", count, 50), (by_ab, count, 1), (by_ab, count // 2, 50),
+        (flood, syns), (pages, "one after the other", count), (pages, "50 at a time", count, 50), (by_ab, count, 1), (by_ab, count // 2, min(50, count // 2)),
         (pages, "at last", 20),
     )
     pump = start(pump_program, program, *(("-e", STATION) if "tap" in rest else ()))

@@ -1,4 +1,4 @@
 mod Beginning
 mod Fresh
-mod Backlog
+mod Connections
 mod Running

@@ -5,7 +5,7 @@ use Rattle.tcp_listener.specs.declared.entry.Entry.{Entry}
 use Rattle.ip_wire.specs.IpListenEndpoint.{IpListenEndpoint}
 use Rattle.tun_host.specs.Backlogs.{handle, on_port, AreFreshEntries}
 use Rattle.tun_host.specs.Services.{first_place, socket_count, keeper_place}
-use Rattle.tun_host.proofs.Backlog.{FreshTo, made_none, made_more, made_all, fresh_stand}
+use Rattle.tun_host.proofs.Connections.{FreshTo, made_none, made_more, made_all, fresh_stand}
 use Rattle.tun_host.proofs.backlog.listener.Goals as goal
 
 pub loop-i-init : goal.loop-i-init

@@ -1,5 +1,5 @@
 use Rattle.std.proofs.Common.{◌≡◌, []}
-use Rattle.tun_host.proofs.Backlog.{FreshTo}
+use Rattle.tun_host.proofs.Connections.{FreshTo}
 use Rattle.tun_host.proofs.backlog.listener.Given as goal
 
 -- so many sockets were taken

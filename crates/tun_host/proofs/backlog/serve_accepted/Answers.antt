@@ -2,15 +2,15 @@ use Rattle.std.proofs.Common.{◌≡◌, ◌<◌, length, vec_len, rules, arith,
 use Rattle.std.proofs.lemmas.Grind.{common_steps}
 use Rattle.tcp_listener.specs.declared.listener.Listener.{Listener}
 use Rattle.tun_host.specs.Services.{echo_room, most_request, first_place, socket_count}
-use Rattle.tun_host.proofs.Backlog.{served_none, served_more, served_all}
+use Rattle.tun_host.proofs.Connections.{served_none, served_more, served_all}
 use Rattle.tun_host.proofs.backlog.serve_accepted.Goals as goal
 
 pub loop-at-init : goal.loop-at-init
 loop-at-init c = (
-    c.requires.buffer,
-    c.requires.request,
-    refl,
-    served_none (first_place c.args.service) (socket_count c.args.service) c.args.service c.args.places.now c.args.listener.now.entries.items c.requires.stands,
+  c.requires.buffer,
+  c.requires.request,
+  refl,
+  served_none (first_place c.args.service) (socket_count c.args.service) c.args.service c.args.places.now c.args.listener.now.entries.items c.requires.stands,
 )
 
 -- one entry more

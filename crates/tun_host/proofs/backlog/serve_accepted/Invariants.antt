@@ -1,6 +1,6 @@
 use Rattle.std.proofs.Common.{◌≡◌, length}
 use Rattle.tun_host.specs.Services.{echo_room, most_request, first_place}
-use Rattle.tun_host.proofs.Backlog.{ServedTo}
+use Rattle.tun_host.proofs.Connections.{ServedTo}
 use Rattle.tun_host.proofs.backlog.serve_accepted.Given as goal
 
 -- so many entries were served

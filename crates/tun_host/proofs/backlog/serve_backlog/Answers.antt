@@ -3,7 +3,7 @@ use Rattle.tcp_listener.specs.declared.entry.Entry.{Entry}
 use Rattle.tcp_listener.specs.declared.listener.Listener.{Listener}
 use Rattle.tun_host.specs.Backlogs.{StandAt, BacklogServes}
 use Rattle.tun_host.specs.Services.{first_place, socket_count}
-use Rattle.tun_host.proofs.Backlog.{accepted_stand}
+use Rattle.tun_host.proofs.Connections.{accepted_stand}
 use Rattle.tun_host.proofs.backlog.serve_backlog.Goals as goal
 
 pub serve_accepted-requires-clause-stands : goal.serve_accepted-requires-clause-stands

@@ -3,7 +3,7 @@ use Rattle.tcp_listener.specs.Calls.{micros_of}
 use Rattle.tun_host.specs.Turns.{served_of}
 use Rattle.tun_host.specs.Services.{first_place, socket_count}
 use Rattle.tun_host.specs.declared.place.Service.TheVariants.{Streams, Page}
-use Rattle.tun_host.proofs.Backlog.{refreshed_stand, seen_as, still_listener}
+use Rattle.tun_host.proofs.Connections.{refreshed_stand, seen_as, still_listener}
 use Rattle.tun_host.proofs.host.serve.Goals as goal
 
 pub serve_set-requires-clause-echoes : goal.serve_set-requires-clause-echoes
