@@ -1,8 +1,8 @@
 -- The connections of a service, made and served one after the other.
 use Rattle.std.proofs.Common.{◌≡◌, ◌≢◌, ℕ, ◌+◌, ◌<◌, ◌≤◌, ◌==◌, Bool, true, false, List, [], ◌∷◌, ◌++◌, length, map, length-append, if◌then◌else◌, ◌&&◌, arith, refl, sym, ap, ◌∙◌, subst, ◌⊎◌, inl, inr, Option, None, Some}
-use Rattle.std.specs.Prelude.{slice_set}
+use Rattle.std.specs.Prelude.{slice_index_or, slice_set}
 use Rattle.std.proofs.lemmas.Bool.{false≢true}
-use Rattle.std.proofs.lemmas.List.{length-map, get_or-map, get_or-set_same, get_or-set_other, get_or_past, get_or_append_left, get_or_push, set_past}
+use Rattle.std.proofs.lemmas.List.{length-map, get_or-map, get_or-set_same, get_or-set_other, get_or_past, get_or_append_left, get_or_push, get_or_default, set-get_or, set_past}
 use Rattle.std.proofs.Math.ListN.{length-set}
 use Rattle.interface_egress.specs.Set.{free}
 use Rattle.interface_egress.specs.declared.socket_set.Item.{Item}
@@ -18,7 +18,7 @@ use Rattle.tcp_listener.specs.Stages.{is_accepted, is_open}
 use Rattle.tcp_listener.specs.declared.entry.Entry.{Entry}
 use Rattle.tcp_listener.specs.declared.listener.Listener.{Listener}
 use Rattle.tcp_listener.specs.declared.stage.Stage.TheVariants as Stage
-use Rattle.tun_host.specs.Backlogs.{on_port, handle, keepers_of, IsListener, StandsFrom, AreFreshEntries, ended_if, EntryServesBy, EntryServes, BacklogServes, back_if, OneServesBy, OneServes}
+use Rattle.tun_host.specs.Backlogs.{on_port, handle, keepers_of, IsListener, StandsFrom, AreFreshEntries, ended_if, EntryServesBy, EntryServes, BacklogServes, back_if, ServesAt, OneServesBy, OneServes}
 use Rattle.tun_host.specs.Services.{first_place, socket_count, port_of, PlaceServes, is_over}
 use Rattle.tun_host.specs.declared.place.Service.{Service}
 
@@ -198,11 +198,14 @@ back_past : (b : Bool) (x : SocketHandle) (es : List Entry) (i : ℕ) → length
 back_past b x es i h =
     get_or_past (back_if b x es) i no_entry (omega (arith, h, back_long b x es)) ∙ sym (get_or_past es i no_entry h)
 
+abbrev place_with : Option (Item Socket) → SocketStorage Socket
+place_with o = record { inner = o }
+
 -- where there is no place, there is none afterwards
 past_by : (service : Service) (p p' : SocketStorage Socket) → p ≡ free → PlaceServes service p p' → p' ≡ free
 past_by service p p' none serves =
     let it : PlaceServes service free p' = subst (λ (q : SocketStorage Socket). PlaceServes service q p') none serves in
-    ap (λ (o : Option (Item Socket)). record { inner = o }) it
+    ap place_with it
 
 set_here : (service : Service) (ps : List (SocketStorage Socket)) (m : ℕ) (p' : SocketStorage Socket) → PlaceServes service (place_at ps m) p'
     → (m < length ps) ⊎ (length ps ≤ m) → place_at (slice_set ps m p') m ≡ p'
@@ -306,11 +309,42 @@ module _ (n first : ℕ) (service : Service) (ps : List (SocketStorage Socket)) 
         (ap (λ (x : Entry). x.handle.0) this_entry ∙ (ap (λ (x : SocketHandle). x.0) (ended_keeps (is_over p') (entry_at ms n)) ∙ at_place)) other_place
 
   by_stage : (b : Bool) → is_accepted (entry_at ms n).stage ≡ b → OneServesBy b service (entry_at ms n) mid ms after fs → ServedTo (n + 1) first service ps es after fs
-  by_stage true is (p', serves, places, entries) = served_one is p' serves places entries
+  by_stage true is (over, (p', serves, places, over_is), entries) =
+      served_one is p' serves places (subst (λ (b : Bool). fs ≡ back_if b (entry_at ms n).handle ms) over_is entries)
   by_stage false is (places, entries) = left_alone is places entries
 
   pub served_more : OneServes service n mid ms after fs → ServedTo (n + 1) first service ps es after fs
   served_more one = by_stage (is_accepted (entry_at ms n).stage) refl one
+
+-- ONE ENTRY
+
+-- where there is no place, nothing is served
+pub served_nowhere : (service : Service) (ps : List (SocketStorage Socket)) (at : ℕ) → length ps ≤ at → ServesAt service at ps ps false
+served_nowhere service ps at past =
+    let none : place_at ps at ≡ free = get_or_past ps at free past in
+    let same : PlaceServes service free free = refl in
+    let serves : PlaceServes service (place_at ps at) (place_at ps at) = subst (λ (q : SocketStorage Socket). PlaceServes service q q) (sym none) same in
+    (place_at ps at, serves, sym (set-get_or ps at free), ap is_over (sym none))
+
+-- the place that was read is served
+pub served_somewhere : (service : Service) (ps : List (SocketStorage Socket)) (at : ℕ) (x p' : SocketStorage Socket) (over : Bool) → at < length ps → x ≡ slice_index_or ps at x
+    → PlaceServes service x p' → over ≡ is_over p' → ServesAt service at ps (slice_set ps at p') over
+served_somewhere service ps at x p' over within read serves over_is =
+    (p', subst (λ (q : SocketStorage Socket). PlaceServes service q p') (read ∙ get_or_default ps at x free within) serves, refl, over_is)
+
+module _ (service : Service) (at : ℕ) (ps : List (SocketStorage Socket)) (es : List Entry) (e : Entry) (within : at < length es) (read : e ≡ slice_index_or es at e) where
+  entry_is : e ≡ entry_at es at
+  entry_is = read ∙ get_or_default es at e no_entry within
+
+  pub one_left : is_accepted e.stage ≡ false → OneServes service at ps es ps es
+  one_left off =
+      subst (λ (x : Entry). OneServesBy (is_accepted x.stage) service x ps es ps es) entry_is
+      (subst (λ (b : Bool). OneServesBy b service e ps es ps es) (sym off) (refl, refl))
+
+  pub one_served : (ps' : List (SocketStorage Socket)) (es' : List Entry) → is_accepted e.stage ≡ true → OneServesBy true service e ps es ps' es' → OneServes service at ps es ps' es'
+  one_served ps' es' on served =
+      subst (λ (x : Entry). OneServesBy (is_accepted x.stage) service x ps es ps' es') entry_is
+      (subst (λ (b : Bool). OneServesBy b service e ps es ps' es') (sym on) served)
 
 -- LISTENERS
 

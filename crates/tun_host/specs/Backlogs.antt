@@ -85,9 +85,13 @@ abbrev pub back_if : Bool → SocketHandle → List Entry → List Entry
 back_if true handle es = map (given_back handle) es
 back_if false handle es = es
 
+-- a place is served, and whether its connection is over
+abbrev pub ServesAt : Service → ℕ → List (SocketStorage Socket) → List (SocketStorage Socket) → Bool → Type 0
+ServesAt service at ps ps' over =
+    (p' : SocketStorage Socket) × PlaceServes service (place_at ps at) p' × (ps' ≡ slice_set ps at p') × (over ≡ is_over p')
+
 abbrev pub OneServesBy : Bool → Service → Entry → List (SocketStorage Socket) → List Entry → List (SocketStorage Socket) → List Entry → Type 0
-OneServesBy true service e ps es ps' es' =
-    (p' : SocketStorage Socket) × PlaceServes service (place_at ps e.handle.0) p' × (ps' ≡ slice_set ps e.handle.0 p') × (es' ≡ back_if (is_over p') e.handle es)
+OneServesBy true service e ps es ps' es' = (over : Bool) × ServesAt service e.handle.0 ps ps' over × (es' ≡ back_if over e.handle es)
 OneServesBy false service e ps es ps' es' = (ps' ≡ ps) × (es' ≡ es)
 
 -- one entry's connection is served, where its handle says

@@ -2,7 +2,7 @@
 ghost use Rattle.std.specs.Prelude.{◌≡◌, ◌<◌, length, map, IfOk};
 ghost use Rattle.tcp_listener.specs.Calls.{accepted};
 ghost use Rattle.tun_host.specs.Services.{echo_room, most_request, first_place, FirstServes};
-ghost use Rattle.tun_host.specs.Backlogs.{StandAt, IsFreshListener, OneServes, BacklogServes};
+ghost use Rattle.tun_host.specs.Backlogs.{StandAt, IsFreshListener, back_if, ServesAt, OneServes, BacklogServes};
 
 use crate::place::{
     Service, first_place, is_over, keeper_place, port_of, serve_place, socket_count,
@@ -41,6 +41,36 @@ pub fn serve_first(places: &mut [SocketStorage<Socket>], buffer: &mut [u8], requ
     }
 }
 
+/// The connection at a place is served. Whether it is over.
+fn serve_at(
+    service: Service,
+    at: usize,
+    places: &mut [SocketStorage<Socket>],
+    buffer: &mut [u8],
+    request: &mut [u8],
+) -> bool
+    requires buffer { length buffer.old ≡ echo_room }
+    requires request { length request.old ≡ most_request }
+    ensures { ServesAt service at places.old places.new result }
+{
+    if at >= places.len() {
+        return false;
+    }
+    let place = &mut places[at];
+    serve_place(service, place, buffer, request);
+    is_over(place)
+}
+
+/// Gives the socket of a connection that is over back.
+fn give_back_if(listener: &mut Listener, is_over: bool, handle: SocketHandle)
+    ensures entries { listener.new.entries.items ≡ back_if is_over handle listener.old.entries.items }
+    ensures rest { listener.new ≡ record listener.old { entries = listener.new.entries } }
+{
+    if is_over {
+        listener.give_back(handle);
+    }
+}
+
 /// The connection of an entry is served, if it was accepted, and given back once no more can be written to it.
 fn serve_one(
     service: Service,
@@ -57,14 +87,11 @@ fn serve_one(
     ensures rest { listener.new ≡ record listener.old { entries = listener.new.entries } }
 {
     let entry = listener.entries[at];
-    let place = entry.handle.place();
-    if !entry.stage.is_accepted() || place >= places.len() {
+    if !entry.stage.is_accepted() {
         return;
     }
-    serve_place(service, &mut places[place], buffer, request);
-    if is_over(&places[place]) {
-        listener.give_back(entry.handle);
-    }
+    let over = serve_at(service, entry.handle.place(), places, buffer, request);
+    give_back_if(listener, over, entry.handle);
 }
 
 /// Each connection that was accepted is served.
