@@ -1,8 +1,8 @@
 -- The connections of a service, made and served one after the other.
 use Rattle.std.proofs.Common.{◌≡◌, ◌≢◌, ℕ, ◌+◌, ◌<◌, ◌≤◌, ◌==◌, Bool, true, false, List, [], ◌∷◌, ◌++◌, length, map, length-append, if◌then◌else◌, ◌&&◌, arith, refl, sym, ap, ◌∙◌, subst, ◌⊎◌, inl, inr, Option, None, Some}
-use Rattle.std.specs.Prelude.{slice_set}
+use Rattle.std.specs.Prelude.{slice_index_or, slice_set}
 use Rattle.std.proofs.lemmas.Bool.{false≢true}
-use Rattle.std.proofs.lemmas.List.{length-map, get_or-map, get_or-set_same, get_or-set_other, get_or_past, get_or_append_left, get_or_push, set_past}
+use Rattle.std.proofs.lemmas.List.{length-map, get_or-map, get_or-set_same, get_or-set_other, get_or_past, get_or_append_left, get_or_push, get_or_default, set-get_or, set_past}
 use Rattle.std.proofs.Math.ListN.{length-set}
 use Rattle.interface_egress.specs.Set.{free}
 use Rattle.interface_egress.specs.declared.socket_set.Item.{Item}
@@ -21,7 +21,7 @@ use Rattle.tcp_listener.specs.Stages.{is_accepted, is_open}
 use Rattle.tcp_listener.specs.declared.entry.Entry.{Entry}
 use Rattle.tcp_listener.specs.declared.listener.Listener.{Listener}
 use Rattle.tcp_listener.specs.declared.stage.Stage.TheVariants as Stage
-use Rattle.tun_host.specs.Backlogs.{session_at, session_after, on_port, handle, keepers_of, IsListener, StandsFrom, AreFreshEntries, ended_if, EntryServesBy, EntryServes, BacklogServes, back_if, OneServesBy, OneServes}
+use Rattle.tun_host.specs.Backlogs.{session_at, session_after, on_port, handle, keepers_of, IsListener, StandsFrom, AreFreshEntries, ended_if, EntryServesBy, EntryServes, BacklogServes, back_if, ServesAt, OneServesBy, OneServes}
 use Rattle.tun_host.specs.Services.{first_place, socket_count, port_of, PlaceServes, is_over}
 use Rattle.tun_host.specs.declared.place.Service.{Service}
 
@@ -208,11 +208,14 @@ back_past : (b : Bool) (x : SocketHandle) (es : List Entry) (i : ℕ) → length
 back_past b x es i h =
     get_or_past (back_if b x es) i no_entry (omega (arith, h, back_long b x es)) ∙ sym (get_or_past es i no_entry h)
 
+abbrev place_with : Option (Item Socket) → SocketStorage Socket
+place_with o = record { inner = o }
+
 -- where there is no place, there is none afterwards
 past_by : (c : Counts) (service : Service) (p p' : SocketStorage Socket) (x x' : Session) → p ≡ free → PlaceServes c service p x p' x' → p' ≡ free
 past_by c service p p' x x' none serves =
     let it : PlaceServes c service free x p' x' = subst (λ (q : SocketStorage Socket). PlaceServes c service q x p' x') none serves in
-    ap (λ (o : Option (Item Socket)). record { inner = o }) it.0
+    ap place_with it.0
 
 set_here : (c : Counts) (service : Service) (ps : List (SocketStorage Socket)) (m : ℕ) (p' : SocketStorage Socket) (x x' : Session) → PlaceServes c service (place_at ps m) x p' x'
     → (m < length ps) ⊎ (length ps ≤ m) → place_at (slice_set ps m p') m ≡ p'
@@ -335,13 +338,45 @@ module _ (n : ℕ) (c : Counts) (first : ℕ) (service : Service) (ps : List (So
 
   module _ (kept : length ss ≡ length es) where
     by_stage : (b : Bool) → is_accepted (entry_at ms n).stage ≡ b → OneServesBy b c service n (entry_at ms n) mid mss ms after fss fs → ServedTo (n + 1) c first service ps ss es after fss fs
-    by_stage true is (p', t, serves, places, sessions, entries) =
+    by_stage true is (over, t, (p', serves, places, over_is), sessions, entries) =
         let has : n < length mss = omega (arith, within, to.entries, to.sessions, kept) in
-        served_one is p' t serves (get_or-set_same mss n (session_after (is_over p') t) fresh_session has) places sessions entries
+        served_one is p' t serves (get_or-set_same mss n (session_after (is_over p') t) fresh_session has) places
+        (subst (λ (b : Bool). fss ≡ slice_set mss n (session_after b t)) over_is sessions)
+        (subst (λ (b : Bool). fs ≡ back_if b (entry_at ms n).handle ms) over_is entries)
     by_stage false is (places, sessions, entries) = left_alone is places sessions entries
 
     pub served_more : OneServes c service n mid mss ms after fss fs → ServedTo (n + 1) c first service ps ss es after fss fs
     served_more one = by_stage (is_accepted (entry_at ms n).stage) refl one
+
+-- ONE ENTRY
+
+-- where there is no place, nothing is served
+pub served_nowhere : (c : Counts) (service : Service) (ps : List (SocketStorage Socket)) (at : ℕ) (x : Session) → length ps ≤ at → ServesAt c service at ps x ps x false
+served_nowhere c service ps at x past =
+    let none : place_at ps at ≡ free = get_or_past ps at free past in
+    let same : PlaceServes c service free x free x = (refl, refl) in
+    let serves : PlaceServes c service (place_at ps at) x (place_at ps at) x = subst (λ (q : SocketStorage Socket). PlaceServes c service q x q x) (sym none) same in
+    (place_at ps at, serves, sym (set-get_or ps at free), ap is_over (sym none))
+
+-- the place that was read is served
+pub served_somewhere : (c : Counts) (service : Service) (ps : List (SocketStorage Socket)) (at : ℕ) (x p' : SocketStorage Socket) (y t : Session) (over : Bool) → at < length ps → x ≡ slice_index_or ps at x
+    → PlaceServes c service x y p' t → over ≡ is_over p' → ServesAt c service at ps y (slice_set ps at p') t over
+served_somewhere c service ps at x p' y t over within read serves over_is =
+    (p', subst (λ (q : SocketStorage Socket). PlaceServes c service q y p' t) (read ∙ get_or_default ps at x free within) serves, refl, over_is)
+
+module _ (c : Counts) (service : Service) (at : ℕ) (ps : List (SocketStorage Socket)) (ss : List Session) (es : List Entry) (e : Entry) (within : at < length es) (read : e ≡ slice_index_or es at e) where
+  entry_is : e ≡ entry_at es at
+  entry_is = read ∙ get_or_default es at e no_entry within
+
+  pub one_left : is_accepted e.stage ≡ false → OneServes c service at ps ss es ps ss es
+  one_left off =
+      subst (λ (x : Entry). OneServesBy (is_accepted x.stage) c service at x ps ss es ps ss es) entry_is
+      (subst (λ (b : Bool). OneServesBy b c service at e ps ss es ps ss es) (sym off) (refl, refl, refl))
+
+  pub one_served : (ps' : List (SocketStorage Socket)) (ss' : List Session) (es' : List Entry) → is_accepted e.stage ≡ true → OneServesBy true c service at e ps ss es ps' ss' es' → OneServes c service at ps ss es ps' ss' es'
+  one_served ps' ss' es' on served =
+      subst (λ (x : Entry). OneServesBy (is_accepted x.stage) c service at x ps ss es ps' ss' es') entry_is
+      (subst (λ (b : Bool). OneServesBy b c service at e ps ss es ps' ss' es') (sym on) served)
 
 -- LISTENERS
 

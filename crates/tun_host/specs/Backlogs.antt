@@ -104,10 +104,15 @@ abbrev pub back_if : Bool → SocketHandle → List Entry → List Entry
 back_if true handle es = map (given_back handle) es
 back_if false handle es = es
 
+-- a place is served, and whether its connection is over
+abbrev pub ServesAt : Counts → Service → ℕ → List (SocketStorage Socket) → Session → List (SocketStorage Socket) → Session → Bool → Type 0
+ServesAt c service at ps s ps' t over =
+    (p' : SocketStorage Socket) × PlaceServes c service (place_at ps at) s p' t × (ps' ≡ slice_set ps at p') × (over ≡ is_over p')
+
 abbrev pub OneServesBy : Bool → Counts → Service → ℕ → Entry → List (SocketStorage Socket) → List Session → List Entry → List (SocketStorage Socket) → List Session → List Entry → Type 0
 OneServesBy true c service at e ps ss es ps' ss' es' =
-    (p' : SocketStorage Socket) × (t : Session) × PlaceServes c service (place_at ps e.handle.0) (session_at ss at) p' t
-    × (ps' ≡ slice_set ps e.handle.0 p') × (ss' ≡ slice_set ss at (session_after (is_over p') t)) × (es' ≡ back_if (is_over p') e.handle es)
+    (over : Bool) × (t : Session) × ServesAt c service e.handle.0 ps (session_at ss at) ps' t over
+    × (ss' ≡ slice_set ss at (session_after over t)) × (es' ≡ back_if over e.handle es)
 OneServesBy false c service at e ps ss es ps' ss' es' = (ps' ≡ ps) × (ss' ≡ ss) × (es' ≡ es)
 
 -- one entry's connection is served, where its handle says

@@ -2,7 +2,7 @@
 ghost use Rattle.std.specs.Prelude.{◌≡◌, ◌<◌, length, map, slice_set, IfOk};
 ghost use Rattle.tcp_listener.specs.Calls.{accepted};
 ghost use Rattle.tun_host.specs.Services.{echo_room, most_request, first_place, socket_count, FirstServes};
-ghost use Rattle.tun_host.specs.Backlogs.{StandAt, IsFreshListener, session_at, session_after, OneServes, BacklogServes};
+ghost use Rattle.tun_host.specs.Backlogs.{StandAt, IsFreshListener, session_at, session_after, back_if, ServesAt, OneServes, BacklogServes};
 
 use crate::place::{
     Service, first_place, is_over, keeper_place, port_of, serve_place, socket_count,
@@ -89,6 +89,38 @@ fn session_after(is_over: bool, session: Session) -> Session
     }
 }
 
+/// The connection at a place is served. Whether it is over.
+fn serve_at(
+    service: Service,
+    at: usize,
+    places: &mut [SocketStorage<Socket>],
+    session: &mut Session,
+    counts: &Counts,
+    buffer: &mut [u8],
+    request: &mut [u8],
+) -> bool
+    requires buffer { length buffer.old ≡ echo_room }
+    requires request { length request.old ≡ most_request }
+    ensures { ServesAt counts.now service at places.old session.old places.new session.new result }
+{
+    if at >= places.len() {
+        return false;
+    }
+    let place = &mut places[at];
+    serve_place(service, place, session, counts, buffer, request);
+    is_over(place)
+}
+
+/// Gives the socket of a connection that is over back.
+fn give_back_if(listener: &mut Listener, is_over: bool, handle: SocketHandle)
+    ensures entries { listener.new.entries.items ≡ back_if is_over handle listener.old.entries.items }
+    ensures rest { listener.new ≡ record listener.old { entries = listener.new.entries } }
+{
+    if is_over {
+        listener.give_back(handle);
+    }
+}
+
 /// The connection of an entry is served, if it was accepted, and given back once no more can be written to it.
 fn serve_one(
     service: Service,
@@ -108,24 +140,21 @@ fn serve_one(
     ensures rest { listener.new ≡ record listener.old { entries = listener.new.entries } }
 {
     let entry = listener.entries[at];
-    let place = entry.handle.place();
-    if !entry.stage.is_accepted() || place >= places.len() {
+    if !entry.stage.is_accepted() {
         return;
     }
     let mut session = session_at(sessions, at);
-    serve_place(
+    let over = serve_at(
         service,
-        &mut places[place],
+        entry.handle.place(),
+        places,
         &mut session,
         counts,
         buffer,
         request,
     );
-    let over = is_over(&places[place]);
     put_session(sessions, at, session_after(over, session));
-    if over {
-        listener.give_back(entry.handle);
-    }
+    give_back_if(listener, over, entry.handle);
 }
 
 /// Each connection that was accepted is served.
