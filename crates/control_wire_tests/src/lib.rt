@@ -6,4 +6,6 @@ mod icmpv4_messages;
 #[cfg(test)]
 mod icmpv6_messages;
 #[cfg(test)]
+mod names;
+#[cfg(test)]
 mod neighbor_messages;

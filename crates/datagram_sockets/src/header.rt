@@ -1,3 +1,4 @@
+//! The headers of the packets that sockets offer.
 ghost use Rattle.std.specs.Prelude.{◌≡◌, None};
 ghost use Rattle.datagram_sockets.specs.Header.{header_between};
 

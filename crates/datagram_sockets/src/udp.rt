@@ -3,6 +3,8 @@ ghost use Rattle.std.specs.Prelude.{◌≡◌, ◌≢◌, ◌+◌, ◌<◌, ◌�
 ghost use Rattle.std.specs.Borrow.{sem};
 ghost use Rattle.std.specs.Fn.{FnOnceTakesAtMut, FnOnceReturnsAtMut};
 ghost use Rattle.net_base.specs.Packets.{used_room, first};
+ghost use Rattle.ip_wire.specs.Text.{endpoint_text};
+ghost use Rattle.ip_wire.specs.IpListenEndpoint.{IpListenEndpoint};
 ghost use Rattle.socket_base.specs.Offers.{IsBefore};
 ghost use Rattle.socket_base.specs.Context.{ContextValue};
 ghost use Rattle.socket_base.specs.Packet.{PacketValue, IsSendable, option_value};
@@ -12,6 +14,7 @@ ghost use Rattle.datagram_sockets.specs.Udp.{UdpValue, made, metadata_to, is_ope
 ghost use Rattle.datagram_sockets.specs.SocketValue.{can_send, can_recv, with_queued, is_done, recv_answer, recv_after, recv_written, settled, poll_of};
 ghost use Rattle.datagram_sockets.specs.Offers.{HasPacket, IsSameButForPlaces, changed_by};
 ghost use Rattle.datagram_sockets.specs.Dispatch.{TakesOffered, Dispatches};
+ghost use Rattle.datagram_sockets.specs.declared.udp.UdpMetadata.{UdpMetadata};
 ghost use Rattle.datagram_sockets.specs.declared.error.SendError.TheVariants as Send;
 ghost use Rattle.datagram_sockets.specs.declared.error.RecvError.TheVariants as Recv;
 
@@ -24,6 +27,7 @@ use ip_wire::{
 use net_base::PacketMeta;
 use socket_base::addresses::{is_multicast, is_same_address, is_unspecified};
 use socket_base::{Context, IpPayload, Offer, Packet, PollAt};
+use std::fmt;
 use std::marker::Model;
 
 /// Where a datagram goes to or comes from, and the address of this host on its other end, if it is known.
@@ -43,6 +47,23 @@ impl From<IpEndpoint> for UdpMetadata {
             local_address: None,
             meta: PacketMeta {},
         }
+    }
+}
+
+impl From<(IpAddress, u16)> for UdpMetadata {
+    ghost from_gives = { λ pair metadata. metadata ≡ metadata_to (record { addr = pair.0; port = pair.1 }) };
+
+    fn from(value: (IpAddress, u16)) -> UdpMetadata {
+        UdpMetadata::from(IpEndpoint::from(value))
+    }
+}
+
+/// The endpoint.
+impl fmt::Display for UdpMetadata {
+    ghost output = { λ metadata. Some (endpoint_text metadata.endpoint) };
+
+    fn fmt<W: fmt::Write>(&self, f: &mut fmt::Formatter<W>) -> fmt::Result {
+        write!(f, "{}", self.endpoint)
     }
 }
 
@@ -180,8 +201,16 @@ impl Socket {
         self.queues.send_queue()
     }
 
-    /// Binds the socket to an endpoint. Without an address it takes the datagrams to all.
-    pub fn bind(&mut self, endpoint: IpListenEndpoint) -> Result<(), BindError>
+    /// Binds the socket to an endpoint: a port, an address and a port, or an endpoint of either kind. Without
+    /// an address it takes the datagrams to all.
+    pub fn bind<T: Into<IpListenEndpoint>>(&mut self, endpoint: T) -> Result<(), BindError>
+        ensures { (to : IpListenEndpoint) × T.converts endpoint to
+            × (result ≡ bind_answer self.old to) × (self.new ≡ bind_after self.old to) }
+    {
+        self.bind_to(endpoint.into())
+    }
+
+    fn bind_to(&mut self, endpoint: IpListenEndpoint) -> Result<(), BindError>
         ensures answer { result ≡ bind_answer self.old endpoint }
         ensures state { self.new ≡ bind_after self.old endpoint }
     {
@@ -263,7 +292,19 @@ impl Socket {
 
     /// Queues a datagram of so many bytes, and lends these for writing. The contract doesn't say what is
     /// queued once they are written: those of `send_slice` and `send_with` do.
-    pub fn send(&mut self, size: usize, meta: UdpMetadata) -> Result<&mut [u8], SendError>
+    pub fn send<T: Into<UdpMetadata>>(
+        &mut self,
+        size: usize,
+        meta: T,
+    ) -> Result<&mut [u8], SendError>
+        ensures { (to : UdpMetadata) × T.converts meta to
+            × IfErr result (λ e. send_answer self.old to size ≡ Err e)
+            × IfOk result (λ bytes. (send_answer self.old to size ≡ Ok tt) × (length bytes.now ≡ size)) }
+    {
+        self.send_to(size, meta.into())
+    }
+
+    fn send_to(&mut self, size: usize, meta: UdpMetadata) -> Result<&mut [u8], SendError>
         ensures refused { IfErr result (λ e. send_answer self.old meta size ≡ Err e) }
         ensures room { IfOk result (λ bytes. (send_answer self.old meta size ≡ Ok tt) × (length bytes.now ≡ size)) }
     {
@@ -273,7 +314,18 @@ impl Socket {
     }
 
     /// Queues a datagram of these bytes. One for which an offer finds no source address is dropped then, in silence.
-    pub fn send_slice(&mut self, data: &[u8], meta: UdpMetadata) -> Result<(), SendError>
+    pub fn send_slice<T: Into<UdpMetadata>>(
+        &mut self,
+        data: &[u8],
+        meta: T,
+    ) -> Result<(), SendError>
+        ensures { (to : UdpMetadata) × T.converts meta to
+            × (result ≡ send_answer self.old to (length «data».now)) × (self.new ≡ send_after self.old to «data».now) }
+    {
+        self.send_slice_to(data, meta.into())
+    }
+
+    fn send_slice_to(&mut self, data: &[u8], meta: UdpMetadata) -> Result<(), SendError>
         ensures answer { result ≡ send_answer self.old meta (length «data».now) }
         ensures state { self.new ≡ send_after self.old meta «data».now }
     {
@@ -285,7 +337,27 @@ impl Socket {
 
     /// Queues a datagram of the bytes that `f` writes: it is lent `max_size` bytes, and answers how many
     /// from the first on are the datagram's.
-    pub fn send_with<F: FnOnce(&mut [u8]) -> usize>(
+    pub fn send_with<T: Into<UdpMetadata>, F: FnOnce(&mut [u8]) -> usize>(
+        &mut self,
+        max_size: usize,
+        meta: T,
+        f: F,
+    ) -> Result<usize, SendError>
+    where
+        F: Drop,
+        requires callable { (bytes : List ℕ) → length bytes ≡ max_size → FnOnceTakesAtMut F.FnOnce f bytes }
+        requires within { (bytes left : List ℕ) (size : ℕ) → length bytes ≡ max_size → FnOnceReturnsAtMut F.FnOnce f bytes size left → size ≤ max_size }
+        ensures { (to : UdpMetadata) × T.converts meta to
+            × (is_done result ≡ send_answer self.old to max_size)
+            × OnErr result (self.new ≡ settled false self.old)
+            × IfOk result (λ size. (bytes : List ℕ) × (left : List ℕ) × (length bytes ≡ max_size) × (length left ≡ max_size)
+            × FnOnceReturnsAtMut F.FnOnce f bytes size left
+            × (self.new ≡ with_queued self.old to max_size (take size left))) }
+    {
+        self.send_with_to(max_size, meta.into(), f)
+    }
+
+    fn send_with_to<F: FnOnce(&mut [u8]) -> usize>(
         &mut self,
         max_size: usize,
         meta: UdpMetadata,

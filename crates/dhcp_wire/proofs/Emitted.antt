@@ -1,6 +1,6 @@
 -- Options that were written one behind the other.
 use Rattle.std.proofs.Common.{◌≡◌, ℕ, ◌+◌, ◌-◌, List, ◌∷◌, ◌++◌, length, take, replicate, ◌∙◌, ap, arith, append_assoc, length-append}
-use Rattle.dhcp_wire.specs.Extends.{Extends}
+use Rattle.ip_address.specs.Extends.{Extends}
 
 -- four runs of bytes, their end, and zeros
 pub ended : (area a1 a2 a3 a4 : List ℕ) (e1 e2 e3 e4 pad : ℕ) (c n t w : List ℕ) → Extends area 0 a1 e1 c → Extends a1 e1 a2 e2 n → Extends a2 e2 a3 e3 t → Extends a3 e3 a4 e4 w

@@ -4,6 +4,7 @@ use Rattle.std.specs.Prelude.{Option, Some, None, IsTrue, slice_range}
 use Rattle.std.specs.Int.{w16, w32, to_be_bytes}
 use Rattle.std.proofs.lemmas.Bool.{le-leb, lt-leb, eq-eqb}
 use Rattle.std.proofs.lemmas.List.{take_at, drop_at, append-nil}
+use Rattle.ip_address.specs.Fields.{IsNumber}
 use Rattle.ip_address.specs.Address.{IsIpv4Address, IsEthernetAddress}
 use Rattle.ip_address.specs.declared.ipv4.Ipv4Address.{Ipv4Address}
 use Rattle.ip_address.specs.declared.ethernet.EthernetAddress.{EthernetAddress}
@@ -12,7 +13,7 @@ use Rattle.dhcp_wire.specs.declared.message_type.DhcpMessageType.{DhcpMessageTyp
 use Rattle.dhcp_wire.specs.declared.message_type.DhcpMessageType.TheVariants.{Discover, Offer, Request, Decline, Ack, Nak, Release, Inform}
 use Rattle.dhcp_wire.specs.Values.{has_length, has_addresses, address_at, address_in, number16_in, number32_in, station_in, servers_in}
 use Rattle.dhcp_wire.specs.Written.{address_inside, number16_inside, number32_inside, station_inside, addresses_bytes, addresses_inside}
-use Rattle.dhcp_wire.specs.Normal.{IsAddress, IsStation, IsNumber, AreServers, closed_up}
+use Rattle.dhcp_wire.specs.Normal.{IsAddress, IsStation, AreServers, closed_up}
 use Rattle.dhcp_wire.specs.Dhcp.{type_in}
 
 -- the address of four bytes

@@ -1,6 +1,5 @@
 -- What the contracts of this crate speak of.
 pub mod Dhcp
-pub mod Extends
 pub mod MessageType
 pub mod Normal
 pub mod Options

@@ -1,5 +1,6 @@
 -- What a reader makes of a message that was sent, and what can be sent.
 use Rattle.std.specs.Prelude.{◌≡◌, ℕ, ◌<◌, ◌^◌, Option, Some, None, List, [], ◌∷◌, ◌++◌, length}
+use Rattle.ip_address.specs.Fields.{IsNumber}
 use Rattle.ip_address.specs.Address.{IsIpv4Address, IsEthernetAddress}
 use Rattle.ip_address.specs.declared.ipv4.Ipv4Address.{Ipv4Address}
 use Rattle.ip_address.specs.declared.ethernet.EthernetAddress.{EthernetAddress}
@@ -24,10 +25,6 @@ IsAddress (Some address) = IsIpv4Address address
 abbrev pub IsStation : Option EthernetAddress → Type 0
 IsStation None = Unit {0}
 IsStation (Some station) = IsEthernetAddress station
-
-abbrev pub IsNumber : ℕ → Option ℕ → Type 0
-IsNumber width None = Unit {0}
-IsNumber width (Some n) = n < width
 
 abbrev pub AreServers : List (Option Ipv4Address) → Type 0
 AreServers (a ∷ b ∷ c ∷ []) = IsAddress a × IsAddress b × IsAddress c

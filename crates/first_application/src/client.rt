@@ -24,7 +24,7 @@ fn text(alloc: Global, bytes: &[u8]) -> Result<String> {
 pub fn send_datagram(host: &mut Host, text: &[u8]) -> Result<()> {
     let server = IpEndpoint::new(address(SERVER), ECHO);
     let socket = host.udp().context("no socket")?;
-    Ok(socket.send_slice(text, UdpMetadata::from(server))?)
+    Ok(socket.send_slice(text, server)?)
 }
 
 /// Reads the next datagram: its text, and where it came from.

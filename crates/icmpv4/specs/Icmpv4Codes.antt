@@ -1,6 +1,6 @@
 -- The types of control messages (RFC 792, "Summary of Message Types"; RFC 1256, section 3, for router messages)
 -- and the codes of two of them (RFC 792; RFC 1812, section 5.2.7.1; RFC 1122, section 3.2.2.1).
-use Rattle.std.specs.Prelude.{ℕ, ◌==◌, if◌then◌else◌}
+use Rattle.std.specs.Prelude.{ℕ, List, ◌==◌, if◌then◌else◌, codes, decimal}
 use Rattle.icmpv4.specs.declared.message.Icmpv4Message.{Icmpv4Message}
 use Rattle.icmpv4.specs.declared.message.Icmpv4Message.TheVariants as Message
 use Rattle.icmpv4.specs.declared.message.Icmpv4DstUnreachable.{Icmpv4DstUnreachable}
@@ -90,3 +90,45 @@ exceeded_of n =
     if n == 0 then Exceeded.TtlExpired
     else (if n == 1 then Exceeded.FragExpired
     else Exceeded.Unknown n)
+
+-- The names that are printed; a number without one is printed itself.
+
+-- what is printed of a type
+abbrev pub message_text : Icmpv4Message → List ℕ
+message_text Message.EchoReply = codes "echo reply"
+message_text Message.DstUnreachable = codes "destination unreachable"
+message_text Message.Redirect = codes "redirect"
+message_text Message.EchoRequest = codes "echo request"
+message_text Message.RouterAdvert = codes "router advertisement"
+message_text Message.RouterSolicit = codes "router solicitation"
+message_text Message.TimeExceeded = codes "time exceeded"
+message_text Message.ParamProblem = codes "parameter problem"
+message_text Message.Timestamp = codes "timestamp"
+message_text Message.TimestampReply = codes "timestamp reply"
+message_text (Message.Unknown n) = decimal n
+
+-- what is printed of why a destination can't be reached
+abbrev pub unreachable_text : Icmpv4DstUnreachable → List ℕ
+unreachable_text Unreachable.NetUnreachable = codes "network unreachable"
+unreachable_text Unreachable.HostUnreachable = codes "host unreachable"
+unreachable_text Unreachable.ProtoUnreachable = codes "protocol unreachable"
+unreachable_text Unreachable.PortUnreachable = codes "port unreachable"
+unreachable_text Unreachable.FragRequired = codes "fragmentation needed and DF set"
+unreachable_text Unreachable.SrcRouteFailed = codes "source route failed"
+unreachable_text Unreachable.DstNetUnknown = codes "destination network unknown"
+unreachable_text Unreachable.DstHostUnknown = codes "destination host unknown"
+unreachable_text Unreachable.SrcHostIsolated = codes "source host isolated"
+unreachable_text Unreachable.NetProhibited = codes "network administratively prohibited"
+unreachable_text Unreachable.HostProhibited = codes "host administratively prohibited"
+unreachable_text Unreachable.NetUnreachToS = codes "network unreachable for type of service"
+unreachable_text Unreachable.HostUnreachToS = codes "host unreachable for type of service"
+unreachable_text Unreachable.CommProhibited = codes "communication administratively prohibited"
+unreachable_text Unreachable.HostPrecedViol = codes "host precedence violation"
+unreachable_text Unreachable.PrecedCutoff = codes "precedence cutoff in effect"
+unreachable_text (Unreachable.Unknown n) = decimal n
+
+-- what is printed of which time was exceeded
+abbrev pub exceeded_text : Icmpv4TimeExceeded → List ℕ
+exceeded_text Exceeded.TtlExpired = codes "time to live exceeded in transit"
+exceeded_text Exceeded.FragExpired = codes "fragment reassembly time exceeded"
+exceeded_text (Exceeded.Unknown n) = decimal n

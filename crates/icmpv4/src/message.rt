@@ -1,6 +1,8 @@
 //! What a message is, by its type, and why an error was sent, by its code.
-ghost use Rattle.std.specs.Prelude.{◌≡◌};
-ghost use Rattle.icmpv4.specs.Icmpv4Codes.{message_number, message_of, unreachable_number, unreachable_of, exceeded_number, exceeded_of};
+ghost use Rattle.std.specs.Prelude.{◌≡◌, Some};
+ghost use Rattle.icmpv4.specs.Icmpv4Codes.{message_number, message_of, unreachable_number, unreachable_of, exceeded_number, exceeded_of, message_text, unreachable_text, exceeded_text};
+
+use std::fmt;
 
 /// What a message is, by its type.
 #[derive(Clone, Copy, Debug, PartialEq, Eq, PartialOrd, Ord, Hash)]
@@ -56,6 +58,26 @@ impl From<Icmpv4Message> for u8 {
             Icmpv4Message::Timestamp => 13,
             Icmpv4Message::TimestampReply => 14,
             Icmpv4Message::Unknown(other) => other,
+        }
+    }
+}
+
+impl fmt::Display for Icmpv4Message {
+    ghost output = { λ message. Some (message_text message) };
+
+    fn fmt<W: fmt::Write>(&self, f: &mut fmt::Formatter<W>) -> fmt::Result {
+        match self {
+            Icmpv4Message::EchoReply => write!(f, "echo reply"),
+            Icmpv4Message::DstUnreachable => write!(f, "destination unreachable"),
+            Icmpv4Message::Redirect => write!(f, "redirect"),
+            Icmpv4Message::EchoRequest => write!(f, "echo request"),
+            Icmpv4Message::RouterAdvert => write!(f, "router advertisement"),
+            Icmpv4Message::RouterSolicit => write!(f, "router solicitation"),
+            Icmpv4Message::TimeExceeded => write!(f, "time exceeded"),
+            Icmpv4Message::ParamProblem => write!(f, "parameter problem"),
+            Icmpv4Message::Timestamp => write!(f, "timestamp"),
+            Icmpv4Message::TimestampReply => write!(f, "timestamp reply"),
+            Icmpv4Message::Unknown(number) => write!(f, "{number}"),
         }
     }
 }
@@ -140,6 +162,41 @@ impl From<Icmpv4DstUnreachable> for u8 {
     }
 }
 
+impl fmt::Display for Icmpv4DstUnreachable {
+    ghost output = { λ reason. Some (unreachable_text reason) };
+
+    fn fmt<W: fmt::Write>(&self, f: &mut fmt::Formatter<W>) -> fmt::Result {
+        match self {
+            Icmpv4DstUnreachable::NetUnreachable => write!(f, "network unreachable"),
+            Icmpv4DstUnreachable::HostUnreachable => write!(f, "host unreachable"),
+            Icmpv4DstUnreachable::ProtoUnreachable => write!(f, "protocol unreachable"),
+            Icmpv4DstUnreachable::PortUnreachable => write!(f, "port unreachable"),
+            Icmpv4DstUnreachable::FragRequired => write!(f, "fragmentation needed and DF set"),
+            Icmpv4DstUnreachable::SrcRouteFailed => write!(f, "source route failed"),
+            Icmpv4DstUnreachable::DstNetUnknown => write!(f, "destination network unknown"),
+            Icmpv4DstUnreachable::DstHostUnknown => write!(f, "destination host unknown"),
+            Icmpv4DstUnreachable::SrcHostIsolated => write!(f, "source host isolated"),
+            Icmpv4DstUnreachable::NetProhibited => write!(f, "network administratively prohibited"),
+            Icmpv4DstUnreachable::HostProhibited => write!(f, "host administratively prohibited"),
+            Icmpv4DstUnreachable::NetUnreachToS => write!(
+                f,
+                "network unreachable for type of service"
+            ),
+            Icmpv4DstUnreachable::HostUnreachToS => write!(
+                f,
+                "host unreachable for type of service"
+            ),
+            Icmpv4DstUnreachable::CommProhibited => write!(
+                f,
+                "communication administratively prohibited"
+            ),
+            Icmpv4DstUnreachable::HostPrecedViol => write!(f, "host precedence violation"),
+            Icmpv4DstUnreachable::PrecedCutoff => write!(f, "precedence cutoff in effect"),
+            Icmpv4DstUnreachable::Unknown(number) => write!(f, "{number}"),
+        }
+    }
+}
+
 /// Which time was exceeded, by the code of the message.
 #[derive(Clone, Copy, Debug, PartialEq, Eq, PartialOrd, Ord, Hash)]
 pub enum Icmpv4TimeExceeded {
@@ -172,6 +229,18 @@ impl From<Icmpv4TimeExceeded> for u8 {
             Icmpv4TimeExceeded::TtlExpired => 0,
             Icmpv4TimeExceeded::FragExpired => 1,
             Icmpv4TimeExceeded::Unknown(other) => other,
+        }
+    }
+}
+
+impl fmt::Display for Icmpv4TimeExceeded {
+    ghost output = { λ reason. Some (exceeded_text reason) };
+
+    fn fmt<W: fmt::Write>(&self, f: &mut fmt::Formatter<W>) -> fmt::Result {
+        match self {
+            Icmpv4TimeExceeded::TtlExpired => write!(f, "time to live exceeded in transit"),
+            Icmpv4TimeExceeded::FragExpired => write!(f, "fragment reassembly time exceeded"),
+            Icmpv4TimeExceeded::Unknown(number) => write!(f, "{number}"),
         }
     }
 }

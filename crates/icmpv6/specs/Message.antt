@@ -1,5 +1,5 @@
 -- Types of ICMPv6 messages (IANA, "ICMPv6 type Numbers").
-use Rattle.std.specs.Prelude.{ℕ, Bool, ◌==◌, ◌&&◌, nat_le, if◌then◌else◌}
+use Rattle.std.specs.Prelude.{ℕ, List, codes, decimal, Bool, ◌==◌, ◌&&◌, nat_le, if◌then◌else◌}
 use Rattle.icmpv6.specs.declared.message.Icmpv6Message.{Icmpv6Message}
 use Rattle.icmpv6.specs.declared.message.Icmpv6Message.TheVariants as Message
 
@@ -69,3 +69,21 @@ header_len_of Message.Redirect = 40
 header_len_of Message.MldReport = 8
 header_len_of Message.RplControl = 4
 header_len_of (Message.Unknown n) = 4
+
+-- what is printed of a type: its name, or the number
+abbrev pub message_text : Icmpv6Message → List ℕ
+message_text Message.DstUnreachable = codes "destination unreachable"
+message_text Message.PktTooBig = codes "packet too big"
+message_text Message.TimeExceeded = codes "time exceeded"
+message_text Message.ParamProblem = codes "parameter problem"
+message_text Message.EchoRequest = codes "echo request"
+message_text Message.EchoReply = codes "echo reply"
+message_text Message.MldQuery = codes "multicast listener query"
+message_text Message.RouterSolicit = codes "router solicitation"
+message_text Message.RouterAdvert = codes "router advertisement"
+message_text Message.NeighborSolicit = codes "neighbor solicitation"
+message_text Message.NeighborAdvert = codes "neighbor advertisement"
+message_text Message.Redirect = codes "redirect"
+message_text Message.MldReport = codes "multicast listener report"
+message_text Message.RplControl = codes "RPL control"
+message_text (Message.Unknown n) = decimal n

@@ -1,5 +1,5 @@
 -- Codes of ICMPv6 errors (RFC 4443, sections 3.1, 3.3 and 3.4).
-use Rattle.std.specs.Prelude.{ℕ, ◌==◌, if◌then◌else◌}
+use Rattle.std.specs.Prelude.{ℕ, List, codes, decimal, ◌==◌, if◌then◌else◌}
 use Rattle.icmpv6.specs.declared.reason.Icmpv6DstUnreachable.{Icmpv6DstUnreachable}
 use Rattle.icmpv6.specs.declared.reason.Icmpv6DstUnreachable.TheVariants as Unreachable
 use Rattle.icmpv6.specs.declared.reason.Icmpv6TimeExceeded.{Icmpv6TimeExceeded}
@@ -55,3 +55,29 @@ problem_of code =
     if code == 0 then Problem.ErroneousHdrField
     else (if code == 1 then Problem.UnrecognizedNxtHdr
     else (if code == 2 then Problem.UnrecognizedOption else Problem.Unknown code))
+
+-- The names that are printed; a number without one is printed itself.
+
+-- what is printed of why a destination can't be reached
+abbrev pub unreachable_text : Icmpv6DstUnreachable → List ℕ
+unreachable_text Unreachable.NoRoute = codes "no route to destination"
+unreachable_text Unreachable.AdminProhibit = codes "communication with destination administratively prohibited"
+unreachable_text Unreachable.BeyondScope = codes "beyond scope of source address"
+unreachable_text Unreachable.AddrUnreachable = codes "address unreachable"
+unreachable_text Unreachable.PortUnreachable = codes "port unreachable"
+unreachable_text Unreachable.FailedPolicy = codes "source address failed ingress/egress policy"
+unreachable_text Unreachable.RejectRoute = codes "reject route to destination"
+unreachable_text (Unreachable.Unknown n) = decimal n
+
+-- what is printed of which limit was exceeded
+abbrev pub exceeded_text : Icmpv6TimeExceeded → List ℕ
+exceeded_text Exceeded.HopLimitExceeded = codes "hop limit exceeded in transit"
+exceeded_text Exceeded.FragReassemExceeded = codes "fragment reassembly time exceeded"
+exceeded_text (Exceeded.Unknown n) = decimal n
+
+-- what is printed of what was wrong with a packet
+abbrev pub problem_text : Icmpv6ParamProblem → List ℕ
+problem_text Problem.ErroneousHdrField = codes "erroneous header field"
+problem_text Problem.UnrecognizedNxtHdr = codes "unrecognized next header type"
+problem_text Problem.UnrecognizedOption = codes "unrecognized IPv6 option"
+problem_text (Problem.Unknown n) = decimal n

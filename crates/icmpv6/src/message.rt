@@ -1,6 +1,8 @@
 //! What a message is for.
-ghost use Rattle.std.specs.Prelude.{◌≡◌, ◌<◌, ◌↔◌, IsTrue};
-ghost use Rattle.icmpv6.specs.Message.{message_number, message_of, header_len_of, IsKnown, is_neighbor_number};
+ghost use Rattle.std.specs.Prelude.{◌≡◌, ◌<◌, ◌↔◌, IsTrue, Some};
+ghost use Rattle.icmpv6.specs.Message.{message_number, message_of, header_len_of, IsKnown, is_neighbor_number, message_text};
+
+use std::fmt;
 
 /// What a message is for, by its type.
 #[derive(Clone, Copy, Debug, PartialEq, Eq, PartialOrd, Ord, Hash)]
@@ -125,6 +127,30 @@ impl From<Icmpv6Message> for u8 {
             Icmpv6Message::MldReport => 0x8f,
             Icmpv6Message::RplControl => 0x9b,
             Icmpv6Message::Unknown(other) => other,
+        }
+    }
+}
+
+impl fmt::Display for Icmpv6Message {
+    ghost output = { λ message. Some (message_text message) };
+
+    fn fmt<W: fmt::Write>(&self, f: &mut fmt::Formatter<W>) -> fmt::Result {
+        match self {
+            Icmpv6Message::DstUnreachable => write!(f, "destination unreachable"),
+            Icmpv6Message::PktTooBig => write!(f, "packet too big"),
+            Icmpv6Message::TimeExceeded => write!(f, "time exceeded"),
+            Icmpv6Message::ParamProblem => write!(f, "parameter problem"),
+            Icmpv6Message::EchoRequest => write!(f, "echo request"),
+            Icmpv6Message::EchoReply => write!(f, "echo reply"),
+            Icmpv6Message::MldQuery => write!(f, "multicast listener query"),
+            Icmpv6Message::RouterSolicit => write!(f, "router solicitation"),
+            Icmpv6Message::RouterAdvert => write!(f, "router advertisement"),
+            Icmpv6Message::NeighborSolicit => write!(f, "neighbor solicitation"),
+            Icmpv6Message::NeighborAdvert => write!(f, "neighbor advertisement"),
+            Icmpv6Message::Redirect => write!(f, "redirect"),
+            Icmpv6Message::MldReport => write!(f, "multicast listener report"),
+            Icmpv6Message::RplControl => write!(f, "RPL control"),
+            Icmpv6Message::Unknown(number) => write!(f, "{number}"),
         }
     }
 }

@@ -1,6 +1,8 @@
 //! Why a message tells of an error. A reason stands for the message's code.
-ghost use Rattle.std.specs.Prelude.{◌≡◌};
-ghost use Rattle.icmpv6.specs.Reason.{unreachable_code, unreachable_of, exceeded_code, exceeded_of, problem_code, problem_of};
+ghost use Rattle.std.specs.Prelude.{◌≡◌, Some};
+ghost use Rattle.icmpv6.specs.Reason.{unreachable_code, unreachable_of, exceeded_code, exceeded_of, problem_code, problem_of, unreachable_text, exceeded_text, problem_text};
+
+use std::fmt;
 
 /// Why a packet didn't reach its destination (RFC 4443, section 3.1).
 #[derive(Clone, Copy, Debug, PartialEq, Eq, PartialOrd, Ord, Hash)]
@@ -58,6 +60,29 @@ impl From<Icmpv6DstUnreachable> for u8 {
     }
 }
 
+impl fmt::Display for Icmpv6DstUnreachable {
+    ghost output = { λ reason. Some (unreachable_text reason) };
+
+    fn fmt<W: fmt::Write>(&self, f: &mut fmt::Formatter<W>) -> fmt::Result {
+        match self {
+            Icmpv6DstUnreachable::NoRoute => write!(f, "no route to destination"),
+            Icmpv6DstUnreachable::AdminProhibit => write!(
+                f,
+                "communication with destination administratively prohibited"
+            ),
+            Icmpv6DstUnreachable::BeyondScope => write!(f, "beyond scope of source address"),
+            Icmpv6DstUnreachable::AddrUnreachable => write!(f, "address unreachable"),
+            Icmpv6DstUnreachable::PortUnreachable => write!(f, "port unreachable"),
+            Icmpv6DstUnreachable::FailedPolicy => write!(
+                f,
+                "source address failed ingress/egress policy"
+            ),
+            Icmpv6DstUnreachable::RejectRoute => write!(f, "reject route to destination"),
+            Icmpv6DstUnreachable::Unknown(number) => write!(f, "{number}"),
+        }
+    }
+}
+
 /// Which limit a packet exceeded (RFC 4443, section 3.3).
 #[derive(Clone, Copy, Debug, PartialEq, Eq, PartialOrd, Ord, Hash)]
 pub enum Icmpv6TimeExceeded {
@@ -90,6 +115,21 @@ impl From<Icmpv6TimeExceeded> for u8 {
             Icmpv6TimeExceeded::HopLimitExceeded => 0,
             Icmpv6TimeExceeded::FragReassemExceeded => 1,
             Icmpv6TimeExceeded::Unknown(other) => other,
+        }
+    }
+}
+
+impl fmt::Display for Icmpv6TimeExceeded {
+    ghost output = { λ reason. Some (exceeded_text reason) };
+
+    fn fmt<W: fmt::Write>(&self, f: &mut fmt::Formatter<W>) -> fmt::Result {
+        match self {
+            Icmpv6TimeExceeded::HopLimitExceeded => write!(f, "hop limit exceeded in transit"),
+            Icmpv6TimeExceeded::FragReassemExceeded => write!(
+                f,
+                "fragment reassembly time exceeded"
+            ),
+            Icmpv6TimeExceeded::Unknown(number) => write!(f, "{number}"),
         }
     }
 }
@@ -130,6 +170,19 @@ impl From<Icmpv6ParamProblem> for u8 {
             Icmpv6ParamProblem::UnrecognizedNxtHdr => 1,
             Icmpv6ParamProblem::UnrecognizedOption => 2,
             Icmpv6ParamProblem::Unknown(other) => other,
+        }
+    }
+}
+
+impl fmt::Display for Icmpv6ParamProblem {
+    ghost output = { λ reason. Some (problem_text reason) };
+
+    fn fmt<W: fmt::Write>(&self, f: &mut fmt::Formatter<W>) -> fmt::Result {
+        match self {
+            Icmpv6ParamProblem::ErroneousHdrField => write!(f, "erroneous header field"),
+            Icmpv6ParamProblem::UnrecognizedNxtHdr => write!(f, "unrecognized next header type"),
+            Icmpv6ParamProblem::UnrecognizedOption => write!(f, "unrecognized IPv6 option"),
+            Icmpv6ParamProblem::Unknown(number) => write!(f, "{number}"),
         }
     }
 }

@@ -1,4 +1,5 @@
 pub mod Fields
+pub mod Extends
 pub mod Sum
 pub mod LowFirst
 pub mod Address

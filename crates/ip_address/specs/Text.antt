@@ -6,6 +6,12 @@ use Rattle.std.specs.Net.Grammar.{IsNumber, IsColonHex}
 use Rattle.std.specs.Net.Text.{ipv4_text, ipv6_text}
 use Rattle.ip_address.specs.Block.{width_of, block_address, block_prefix_len}
 use Rattle.ip_address.specs.declared.ethernet.EthernetAddress.{EthernetAddress}
+use Rattle.ip_address.specs.declared.ethernet.EthernetProtocol.{EthernetProtocol}
+use Rattle.ip_address.specs.declared.ethernet.EthernetProtocol.TheVariants as Ether
+use Rattle.ip_address.specs.declared.ip.IpProtocol.{IpProtocol}
+use Rattle.ip_address.specs.declared.ip.IpProtocol.TheVariants as Protocol
+use Rattle.ip_address.specs.declared.ip.IpVersion.{IpVersion}
+use Rattle.ip_address.specs.declared.ip.IpVersion.TheVariants as Version
 use Rattle.ip_address.specs.declared.hardware.HardwareAddress.{HardwareAddress}
 use Rattle.ip_address.specs.declared.hardware.HardwareAddress.TheVariants as Hardware
 use Rattle.ip_address.specs.declared.ip.IpAddress.{IpAddress}
@@ -249,3 +255,33 @@ endpoint_text e = ip_text e.addr ++ 58 ∷ decimal e.port
 abbrev pub listen_endpoint_text : Option IpAddress → ℕ → List ℕ
 listen_endpoint_text (Some a) port = ip_text a ++ 58 ∷ decimal port
 listen_endpoint_text None port = 42 ∷ 58 ∷ decimal port
+
+-- Names of numbers, as messages and logs show them.
+
+-- what is printed of the family of a packet
+abbrev pub version_text : IpVersion → List ℕ
+version_text Version.Ipv4 = codes "IPv4"
+version_text Version.Ipv6 = codes "IPv6"
+
+-- what is printed of a protocol over IP: its name, or two hex digits
+abbrev pub protocol_text : IpProtocol → List ℕ
+protocol_text Protocol.HopByHop = codes "Hop-by-Hop"
+protocol_text Protocol.Icmp = codes "ICMP"
+protocol_text Protocol.Igmp = codes "IGMP"
+protocol_text Protocol.Tcp = codes "TCP"
+protocol_text Protocol.Udp = codes "UDP"
+protocol_text Protocol.Ipv6Route = codes "IPv6-Route"
+protocol_text Protocol.Ipv6Frag = codes "IPv6-Frag"
+protocol_text Protocol.IpSecEsp = codes "IPsec-ESP"
+protocol_text Protocol.IpSecAh = codes "IPsec-AH"
+protocol_text Protocol.Icmpv6 = codes "ICMPv6"
+protocol_text Protocol.Ipv6NoNxt = codes "IPv6-NoNxt"
+protocol_text Protocol.Ipv6Opts = codes "IPv6-Opts"
+protocol_text (Protocol.Unknown n) = codes "0x" ++ hex_pair n
+
+-- what is printed of an ethertype: its name, or four hex digits
+abbrev pub ether_text : EthernetProtocol → List ℕ
+ether_text Ether.Ipv4 = codes "IPv4"
+ether_text Ether.Arp = codes "ARP"
+ether_text Ether.Ipv6 = codes "IPv6"
+ether_text (Ether.Unknown n) = codes "0x" ++ (hex_pair (n / 256) ++ hex_pair (n % 256))

@@ -3,7 +3,7 @@ ghost use Rattle.std.specs.Prelude.{◌≡◌, ◌↔◌, IsTrue, Some, length};
 ghost use Rattle.ip_address.specs.Address.{IsEthernetBroadcast, IsEthernetMulticast, IsEthernetLocal, IsEthernetUnicast};
 ghost use Rattle.ip_address.specs.AddressTests.{is_ethernet_broadcast, is_ethernet_multicast, is_ethernet_local, is_ethernet_unicast};
 ghost use Rattle.ip_address.specs.Protocol.{ether_number, ether_of};
-ghost use Rattle.ip_address.specs.Text.{Reads, IsEthernetText, ethernet_text};
+ghost use Rattle.ip_address.specs.Text.{Reads, IsEthernetText, ethernet_text, ether_text};
 
 use crate::text::{HexPair, six_bytes};
 use std::fmt;
@@ -132,6 +132,22 @@ impl From<EthernetProtocol> for u16 {
             EthernetProtocol::Arp => 0x0806,
             EthernetProtocol::Ipv6 => 0x86dd,
             EthernetProtocol::Unknown(other) => other,
+        }
+    }
+}
+
+impl fmt::Display for EthernetProtocol {
+    ghost output = { λ protocol. Some (ether_text protocol) };
+
+    fn fmt<W: fmt::Write>(&self, f: &mut fmt::Formatter<W>) -> fmt::Result {
+        match self {
+            EthernetProtocol::Ipv4 => write!(f, "IPv4"),
+            EthernetProtocol::Arp => write!(f, "ARP"),
+            EthernetProtocol::Ipv6 => write!(f, "IPv6"),
+            EthernetProtocol::Unknown(number) => {
+                let (high, low) = ((*number / 256) as u8, (*number % 256) as u8);
+                write!(f, "0x{}{}", HexPair(high), HexPair(low))
+            }
         }
     }
 }

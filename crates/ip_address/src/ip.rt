@@ -7,12 +7,12 @@ ghost use Rattle.ip_address.specs.Address.{version_of, IsUnspecified, IsMulticas
 ghost use Rattle.ip_address.specs.AddressTests.{is_unspecified, is_multicast, is_broadcast, is_unicast, is_in_block};
 ghost use Rattle.ip_address.specs.Block.{width_of, block_address, block_prefix_len, IsBlock, IsIn, IsWithin};
 ghost use Rattle.ip_address.specs.Protocol.{protocol_number, protocol_of};
-ghost use Rattle.ip_address.specs.Text.{Reads, IsIpText, ReadsIpBlock, IsEndpointText, ip_text, block_text, endpoint_text, listen_endpoint_text};
+ghost use Rattle.ip_address.specs.Text.{Reads, IsIpText, ReadsIpBlock, IsEndpointText, ip_text, block_text, endpoint_text, listen_endpoint_text, version_text, protocol_text};
 
 use crate::Error;
 use crate::ipv4::{Ipv4Address, Ipv4Cidr};
 use crate::ipv6::{Ipv6Address, Ipv6Cidr};
-use crate::text::{ip_address, ip_block, ip_endpoint};
+use crate::text::{HexPair, ip_address, ip_block, ip_endpoint};
 use std::fmt;
 use std::str::FromStr;
 
@@ -37,6 +37,17 @@ impl IpVersion {
             4 => Ok(IpVersion::Ipv4),
             6 => Ok(IpVersion::Ipv6),
             _ => Err(Error),
+        }
+    }
+}
+
+impl fmt::Display for IpVersion {
+    ghost output = { λ version. Some (version_text version) };
+
+    fn fmt<W: fmt::Write>(&self, f: &mut fmt::Formatter<W>) -> fmt::Result {
+        match self {
+            IpVersion::Ipv4 => write!(f, "IPv4"),
+            IpVersion::Ipv6 => write!(f, "IPv6"),
         }
     }
 }
@@ -101,6 +112,28 @@ impl From<IpProtocol> for u8 {
             IpProtocol::Ipv6NoNxt => 0x3b,
             IpProtocol::Ipv6Opts => 0x3c,
             IpProtocol::Unknown(other) => other,
+        }
+    }
+}
+
+impl fmt::Display for IpProtocol {
+    ghost output = { λ protocol. Some (protocol_text protocol) };
+
+    fn fmt<W: fmt::Write>(&self, f: &mut fmt::Formatter<W>) -> fmt::Result {
+        match self {
+            IpProtocol::HopByHop => write!(f, "Hop-by-Hop"),
+            IpProtocol::Icmp => write!(f, "ICMP"),
+            IpProtocol::Igmp => write!(f, "IGMP"),
+            IpProtocol::Tcp => write!(f, "TCP"),
+            IpProtocol::Udp => write!(f, "UDP"),
+            IpProtocol::Ipv6Route => write!(f, "IPv6-Route"),
+            IpProtocol::Ipv6Frag => write!(f, "IPv6-Frag"),
+            IpProtocol::IpSecEsp => write!(f, "IPsec-ESP"),
+            IpProtocol::IpSecAh => write!(f, "IPsec-AH"),
+            IpProtocol::Icmpv6 => write!(f, "ICMPv6"),
+            IpProtocol::Ipv6NoNxt => write!(f, "IPv6-NoNxt"),
+            IpProtocol::Ipv6Opts => write!(f, "IPv6-Opts"),
+            IpProtocol::Unknown(number) => write!(f, "0x{}", HexPair(*number)),
         }
     }
 }

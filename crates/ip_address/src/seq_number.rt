@@ -1,7 +1,8 @@
 //! TCP sequence numbers.
-ghost use Rattle.std.specs.Prelude.{◌≡◌, ◌≢◌, ◌↔◌, ℕ, ◌≤◌, ◌<◌, ◌^◌, ◌⊎◌, IsTrue};
+ghost use Rattle.std.specs.Prelude.{◌≡◌, ◌≢◌, ◌↔◌, ℕ, ◌≤◌, ◌<◌, ◌^◌, ◌⊎◌, IsTrue, Some, decimal};
 ghost use Rattle.ip_address.specs.Seq.{distance_of, advanced, receded, ComesBefore};
 
+use std::fmt;
 use std::ops::{Add, AddAssign, Sub};
 
 /// A TCP sequence number. The numbers go round: the one above `0xffff_ffff` is 0, and a number is
@@ -48,6 +49,15 @@ impl SeqNumber {
         } else {
             other
         }
+    }
+}
+
+/// The number in decimal digits.
+impl fmt::Display for SeqNumber {
+    ghost output = { λ n. Some (decimal n.0) };
+
+    fn fmt<W: fmt::Write>(&self, f: &mut fmt::Formatter<W>) -> fmt::Result {
+        write!(f, "{}", self.0)
     }
 }
 

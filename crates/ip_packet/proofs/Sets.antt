@@ -4,11 +4,11 @@ use Rattle.std.specs.Prelude.{slice_index, slice_range}
 use Rattle.std.proofs.lemmas.List.{get_or-set_same, get_or-set_other, take_at, drop_at}
 use Rattle.std.proofs.lemmas.List.{length-take}
 use Rattle.std.proofs.Math.ListN.{set, length-set}
-use Rattle.ip_address.specs.Fields.{be16, put8, put16}
+use Rattle.ip_address.specs.Fields.{be16, put8, put16, with_flag}
 use Rattle.ip_address.specs.Protocol.{protocol_number, protocol_of}
 use Rattle.ip_address.specs.declared.ip.IpProtocol.{IpProtocol}
 use Rattle.ip_packet.specs.Ipv4.{header_len_of}
-use Rattle.ip_packet.specs.Parts.{put_run, has_flag, with_flag}
+use Rattle.ip_packet.specs.Parts.{put_run, has_flag}
 
 -- the byte at a place where one was put
 byte : (bytes : List ℕ) (i n : ℕ) → i < length bytes → slice_index (put8 bytes i n) i ≡ n

@@ -4,9 +4,10 @@ use Rattle.std.specs.Prelude.{Option, Some, None, slice_index, slice_range, ◌=
 use Rattle.std.proofs.lemmas.Bool.Decides.{eqb_tells, leb_tells}
 use Rattle.std.proofs.lemmas.Bool.{eq-eqb}
 use Rattle.std.proofs.lemmas.List.{take_at, drop_at, take-append-drop}
+use Rattle.ip_tcp.proofs.First.{first_option}
 use Rattle.ip_address.specs.Fields.{be16, be32}
 use Rattle.ip_tcp.specs.Options.{OptionValue, EndOfList, NoOperation, MaxSegmentSize, WindowScale, SackPermitted, SackRange, TimeStamp, Unknown, ranges_of, long_option, IsOption, IsOtherKind, Begins}
-use Rattle.ip_tcp.specs.Seen.{First, first_option, first_long, before, inside}
+use Rattle.ip_tcp.specs.Seen.{First, first_long, before, inside}
 
 -- no bytes are left
 pub empty : (bytes : List ℕ) → length bytes ≡ 0 → bytes ≡ []

@@ -1,5 +1,6 @@
 pub mod Borrowed
 pub mod Equal
+pub mod First
 pub mod Grammar
 pub mod Headers
 pub mod Kept

@@ -2,12 +2,13 @@
 use Rattle.std.proofs.Common.{◌≡◌, ℕ, ◌-◌, ◌^◌, zero, suc, Bool, true, false, List, [], ◌∷◌, ◌++◌, length, replicate, refl, sym, ◌∙◌, ap, subst, arith, append_assoc}
 use Rattle.std.specs.Prelude.{Option, Some, None}
 use Rattle.std.specs.Int.{w16, w32, to_be_bytes}
-use Rattle.ip_address.specs.Fields.{be32}
+use Rattle.ip_tcp.proofs.First.{first_option}
+use Rattle.ip_address.specs.Fields.{be32, IsNumber}
 use Rattle.ip_tcp.proofs.Steps.{Says-fold}
 use Rattle.ip_tcp.proofs.Grammar.{first_option-spelled}
 use Rattle.std.proofs.lemmas.List.{append-nil}
-use Rattle.ip_tcp.specs.Options.{OptionValue, Begins, EndOfList, NoOperation, MaxSegmentSize, WindowScale, SackPermitted, SackRange, TimeStamp, Unknown, IsOption, IsOptionValue, normal_option, option_bytes, ranges_bytes, taken, Says, no_options, options_bytes, size_options, scale_options, sack_options, range_options, stamp_options, sent_bytes, options_room, padded, options_area, normal_options, sent_ranges, closed_up, no_ranges, read_scale, IsNumber, IsRange, IsStamp, AreRanges, AreOptions}
-use Rattle.ip_tcp.specs.Seen.{first_option, is_end}
+use Rattle.ip_tcp.specs.Options.{OptionValue, Begins, EndOfList, NoOperation, MaxSegmentSize, WindowScale, SackPermitted, SackRange, TimeStamp, Unknown, IsOption, IsOptionValue, normal_option, option_bytes, ranges_bytes, taken, Says, no_options, options_bytes, size_options, scale_options, sack_options, range_options, stamp_options, sent_bytes, options_room, padded, options_area, normal_options, sent_ranges, closed_up, no_ranges, read_scale, IsRange, IsStamp, AreRanges, AreOptions}
+use Rattle.ip_tcp.specs.Seen.{is_end}
 use Rattle.ip_tcp.specs.declared.option.TcpOptions.{TcpOptions}
 use Rattle.ip_tcp.specs.declared.timestamp.TcpTimestampRepr.{TcpTimestampRepr}
 

@@ -3,10 +3,11 @@ use Rattle.std.proofs.Common.{◌≡◌, ◌≢◌, ℕ, ◌-◌, ◌<◌, ◌�
 use Rattle.std.specs.Prelude.{Option, Some, None, Result, Ok, Err, IsOk, IfOk, slice_index, slice_range}
 use denote.Ref.{Bor}
 use Rattle.std.proofs.lemmas.Bool.Decides.{eqb_tells, leb_tells}
+use Rattle.ip_tcp.proofs.First.{first_option}
 use Rattle.ip_tcp.proofs.Grammar.{before-read, empty, first_option-spelled}
 use Rattle.ip_address.specs.declared.Error.{Error}
 use Rattle.ip_tcp.specs.Options.{OptionValue, value_of, EndOfList, Begins, Spells, Says, taken, all_taken}
-use Rattle.ip_tcp.specs.Seen.{First, first_option, first_long, inside, is_end, seen_first}
+use Rattle.ip_tcp.specs.Seen.{First, first_long, inside, is_end, seen_first}
 use Rattle.ip_tcp.specs.declared.option.TcpOption.{TcpOption}
 use Rattle.ip_tcp.specs.declared.option.TcpOptions.{TcpOptions}
 

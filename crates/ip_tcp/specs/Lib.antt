@@ -1,5 +1,4 @@
 pub mod Control
-pub mod Extends
 pub mod Options
 pub mod Seen
 pub mod Tcp

@@ -3,7 +3,7 @@
 -- and what is inside.
 use Rattle.std.specs.Prelude.{◌≡◌, ◌≢◌, ◌==◌, ℕ, ◌+◌, ◌%◌, ◌<◌, ◌^◌, Bool, true, false, nat_le, if◌then◌else◌, Option, Some, None, List, [], ◌∷◌, ◌++◌, length, take, slice_index, min, replicate, ◌-◌, ◌*◌, ◌/◌}
 use Rattle.std.specs.Int.{w16, w32, to_be_bytes}
-use Rattle.ip_address.specs.Fields.{be16, be32}
+use Rattle.ip_address.specs.Fields.{be16, be32, IsNumber}
 use Rattle.ip_tcp.specs.declared.option.TcpOption.{TcpOption}
 use Rattle.ip_tcp.specs.declared.option.TcpOption.TheVariants as Tcp
 use Rattle.ip_tcp.specs.declared.option.TcpOptions.{TcpOptions}
@@ -222,10 +222,6 @@ pub record AreRead (v : TcpOptions) : Type 0 where
   pub ranges : closed_up v.sack_ranges ≡ v.sack_ranges
 
 -- each field is a number of its width
-abbrev pub IsNumber : ℕ → Option ℕ → Type 0
-IsNumber width None = Unit {0}
-IsNumber width (Some n) = n < width
-
 abbrev pub IsRange : Option (ℕ × ℕ) → Type 0
 IsRange None = Unit {0}
 IsRange (Some range) = (range.0 < 2 ^ 32) × (range.1 < 2 ^ 32)

@@ -5,7 +5,7 @@ use denote.Ref.{Bor}
 use Rattle.ip_address.specs.Fields.{be16, be32}
 use Rattle.ip_address.specs.declared.Error.{Error}
 use Rattle.ip_tcp.specs.declared.option.TcpOption.{TcpOption}
-use Rattle.ip_tcp.specs.Options.{OptionValue, EndOfList, NoOperation, MaxSegmentSize, WindowScale, SackPermitted, SackRange, TimeStamp, Unknown, value_of, ranges_of}
+use Rattle.ip_tcp.specs.Options.{OptionValue, EndOfList, MaxSegmentSize, WindowScale, SackPermitted, SackRange, TimeStamp, Unknown, value_of, ranges_of}
 
 -- what is inside an option of a kind that isn't 0 or 1, read; none where it doesn't fit the kind
 abbrev pub inside : ℕ → List ℕ → Option OptionValue
@@ -32,14 +32,6 @@ abbrev pub first_long : List ℕ → ℕ → Option First
 first_long bytes n =
     if nat_le 2 n then (if nat_le n (length bytes) then before (inside (slice_index bytes 0) (slice_range bytes 2 n)) (drop n bytes) else None)
     else None
-
--- the option at the front; none where the bytes are no option
-abbrev pub first_option : List ℕ → Option First
-first_option [] = None
-first_option (kind ∷ rest) =
-    if kind == 0 then Some (record { option = EndOfList; rest = rest })
-    else if kind == 1 then Some (record { option = NoOperation; rest = rest })
-    else first_long (kind ∷ rest) (slice_index rest 0)
 
 -- whether no option follows this one
 abbrev pub is_end : OptionValue → Bool

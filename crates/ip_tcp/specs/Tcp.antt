@@ -6,7 +6,7 @@ use Rattle.std.specs.Prelude.{◌≡◌, ◌≢◌, ◌==◌, IsTrue, Option, So
 use Rattle.std.specs.Int.{w16, w32, to_be_bytes}
 use Rattle.std.specs.Borrow.{GName}
 use Rattle.ip_address.specs.Address.{version_of}
-use Rattle.ip_address.specs.Fields.{be16, be32, put8, put16}
+use Rattle.ip_address.specs.Fields.{be16, be32, put8, put16, with_flag}
 use Rattle.ip_address.specs.Pseudo.{covered}
 use Rattle.ip_address.specs.Sum.{ChecksumHolds, complement}
 use Rattle.ip_address.specs.declared.ip.IpAddress.{IpAddress}
@@ -45,10 +45,6 @@ pub record IsWhole (bytes : List ℕ) : Type 0 where
 -- whether the bit of this weight is set in the byte at i
 abbrev pub flag : List ℕ → ℕ → ℕ → Bool
 flag bytes i weight = slice_index bytes i / weight % 2 == 1
-
--- the bit of this weight set so in a byte, and all others as they were
-abbrev pub with_flag : ℕ → ℕ → Bool → ℕ
-with_flag byte weight value = byte / (2 * weight) * (2 * weight) + (if value then weight else 0) + byte % weight
 
 -- the bytes with the bit of this weight in the byte at i set so
 abbrev pub put_flag : List ℕ → ℕ → ℕ → Bool → List ℕ

@@ -24,6 +24,8 @@ mod laws;
 #[cfg(test)]
 mod link;
 #[cfg(test)]
+mod names;
+#[cfg(test)]
 mod numbers;
 #[cfg(test)]
 mod samples;

@@ -1,3 +1,4 @@
+//! Ranges and in-order bytes of an assembler, on rows worked out by hand.
 use crate::text::prints;
 use net_base::{Assembler, TooManyHolesError};
 

@@ -1,3 +1,4 @@
+//! What devices answer, and what they say of themselves.
 use crate::text::prints;
 use net_base::{
     Checksum, ChecksumCapabilities, Device, DeviceCapabilities, IPV4_FRAGMENT_PAYLOAD_ALIGNMENT,

@@ -26,10 +26,7 @@ fn begins_with_no_packet(rt: HostRuntime) -> Result<(), Fail> {
 }
 
 fn queue_of(rt: &HostRuntime, places: usize, room: usize) -> Result<PacketBuffer<u16>, Fail> {
-    let mut entries = Vec::new(rt.alloc());
-    for _ in 0..places {
-        entries.push(PacketMetadata::EMPTY)?;
-    }
+    let entries = vec![in rt.alloc(); PacketMetadata::EMPTY; places]?;
     let bytes = vec![in rt.alloc(); 0; room]?;
     Ok(PacketBuffer::new(ManagedSlice::Fixed(entries), ManagedSlice::Fixed(bytes)))
 }

@@ -1,3 +1,4 @@
+//! Compares what a value prints with a text.
 use std::fmt::Display;
 
 /// Whether the value's text is this one.

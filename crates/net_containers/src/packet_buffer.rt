@@ -12,7 +12,7 @@ use crate::ring_buffer::{Empty, Full, RingBuffer};
 use std::marker::Model;
 
 /// An entry of a packet queue: a packet's header and the length of its bytes, or the length of padding.
-#[derive(Debug, Drop)]
+#[derive(Clone, Debug, Drop)]
 pub struct PacketMetadata<H> {
     size: usize,
     header: Option<H>,

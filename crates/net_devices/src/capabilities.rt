@@ -1,3 +1,4 @@
+//! What a device says of itself: what its frames are, how long they may be, and who handles checksums.
 ghost use Rattle.std.specs.Prelude.{◌≡◌, ◌≤◌};
 ghost use Rattle.net_devices.specs.Capabilities.{verifies, computes, all_checksums, ip_mtu, fragment_size};
 

@@ -1,3 +1,4 @@
+//! The traits of a device and of its tokens, by which frames come and go.
 ghost use Rattle.std.specs.Prelude.{◌≡◌, ℕ, ◌+◌, ◌-◌, ◌^◌, ◌<◌, List, length, is_ok, is_some, if◌then◌else◌, IfOk, OnErr, OnSome, MatchOption};
 ghost use Rattle.std.specs.Fn.{FnOnceReturnsAt, FnOnceReturnsAtMut, FnOnceTakesAt, FnOnceTakesAtMut};
 ghost use Rattle.net_time.specs.declared.instant.Instant.{Instant};

@@ -1,3 +1,4 @@
+//! A token that owns the frame that came.
 ghost use Rattle.std.specs.Prelude.{◌≡◌};
 
 use crate::device::RxToken;

@@ -1,3 +1,4 @@
+//! Lengths of time, in microseconds.
 ghost use Rattle.std.specs.Prelude.{◌≡◌, ℕ, ◌+◌, ◌-◌, ◌*◌, ◌/◌, ◌%◌, ◌^◌, ◌<◌, ◌≤◌, ◌↔◌, IsTrue};
 ghost use Rattle.net_time.specs.Text.{seconds_text};
 ghost use Rattle.net_time.specs.Time.{FitsDuration, micros_of_nanos};

@@ -1,3 +1,4 @@
+//! Moments, in microseconds before or after a moment that the caller chooses.
 ghost use Rattle.std.specs.Prelude.{◌≡◌, ℤ, pos, ◌≤ℤ◌, ◌+ℤ◌, ◌-ℤ◌, ◌*ℤ◌, ◌^◌, ◌↔◌, IsTrue, int_div, int_rem, unsigned_abs};
 ghost use Rattle.net_time.specs.Text.{signed_seconds_text};
 ghost use Rattle.net_time.specs.Time.{IsMoment, FitsInstant};

@@ -1,3 +1,4 @@
+//! Random words: ports, identifiers and first sequence numbers are drawn from them.
 ghost use Rattle.std.specs.Prelude.{◌≡◌, ℕ};
 ghost use Rattle.net_time.specs.Rand.{next_state, word, half_word, draw_port};
 

@@ -1,3 +1,4 @@
+//! The text that lengths of time and moments share.
 ghost use Rattle.std.specs.Prelude.{Some};
 ghost use Rattle.std.specs.Fmt.{DisplaysOnOk};
 ghost use Rattle.net_time.specs.Text.{seconds_text};

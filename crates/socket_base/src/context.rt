@@ -1,3 +1,4 @@
+//! What a socket may ask of the interface that polls it.
 ghost use Rattle.std.specs.Prelude.{◌≡◌};
 ghost use Rattle.net_base.specs.Time.{IsMoment};
 ghost use Rattle.net_base.specs.RandomWords.{word};

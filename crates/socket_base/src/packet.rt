@@ -1,3 +1,4 @@
+//! The packets that sockets offer, and how they are written behind an IP header.
 ghost use Rattle.std.specs.Prelude.{◌≡◌, length};
 ghost use Rattle.socket_base.specs.Packet.{packet_value, packet_of, payload_value, payload_len, PayloadFits, payload_written};
 

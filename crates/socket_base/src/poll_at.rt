@@ -1,3 +1,4 @@
+//! When a socket wants to be polled.
 use net_base::Instant;
 
 /// When a socket wants to be polled.

@@ -1,3 +1,4 @@
+//! A socket of any kind.
 ghost use Rattle.std.specs.Prelude.{◌≡◌};
 ghost use Rattle.datagram_sockets.specs.Packet.{option_value};
 ghost use Rattle.sockets.specs.Socket.{Offers, offered_by, settled, poll_of, IfSendable};

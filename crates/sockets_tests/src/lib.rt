@@ -5,6 +5,8 @@
 #[cfg(test)]
 mod any;
 #[cfg(test)]
+mod calls;
+#[cfg(test)]
 mod common;
 #[cfg(test)]
 mod icmp;

@@ -2,9 +2,7 @@
 use crate::common::{queue, zeros};
 use crate::script::Step::{Anew, Offers, Shows, Silent, Udp};
 use crate::script::{Kind, Shown, Step, play};
-use ip_wire::{
-    IpAddress, IpEndpoint, IpListenEndpoint, IpProtocol, IpRepr, Ipv4Address, Ipv6Address, UdpRepr,
-};
+use ip_wire::{IpAddress, IpEndpoint, IpProtocol, IpRepr, Ipv4Address, Ipv6Address, UdpRepr};
 use net_base::PacketMeta;
 use sockets::IpPayload;
 use sockets::udp::{BindError, RecvError, SendError, Socket, UdpMetadata};
@@ -78,19 +76,15 @@ fn goes_alone(socket: &mut Socket, call: &Call) -> bool {
 }
 
 fn bind(socket: &mut Socket, port: u16) -> Result<(), BindError> {
-    socket.bind(IpListenEndpoint { addr: None, port })
-}
-
-fn to(address: IpAddress) -> UdpMetadata {
-    UdpMetadata::from(IpEndpoint::new(address, 53))
+    socket.bind(port)
 }
 
 fn send(socket: &mut Socket, bytes: &[u8], remote: IpAddress) -> Result<(), SendError> {
-    socket.send_slice(bytes, to(remote))
+    socket.send_slice(bytes, (remote, 53))
 }
 
 fn write(socket: &mut Socket, bytes: &[u8]) -> Result<(), SendError> {
-    let room = socket.send(bytes.len(), to(V4))?;
+    let room = socket.send(bytes.len(), IpEndpoint::new(V4, 53))?;
     room.copy_from_slice(bytes);
     Ok(())
 }

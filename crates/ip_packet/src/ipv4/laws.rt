@@ -1,8 +1,8 @@
 //! Laws of the format.
 ghost use Rattle.std.specs.Prelude.{◌≡◌, ◌↔◌, ℕ, ◌+◌, ◌*◌, ◌/◌, ◌%◌, ◌<◌, ◌≤◌, ◌^◌, Bool, IsTrue, List, ◌++◌, length, take, drop, slice_index, slice_range};
-ghost use Rattle.ip_address.specs.Fields.{be16, put8, put16, IsBytes};
+ghost use Rattle.ip_address.specs.Fields.{be16, put8, put16, IsBytes, with_flag};
 ghost use Rattle.ip_address.specs.Protocol.{protocol_number, protocol_of};
-ghost use Rattle.ip_packet.specs.Parts.{put_run, has_flag, with_flag};
+ghost use Rattle.ip_packet.specs.Parts.{put_run, has_flag};
 ghost use Rattle.ip_packet.specs.Ipv4.{IsIpv4, IsQuoted, IsValue, IsKeyOf, Fits, key_of, piece_of, header_len_of, payload_of, free_fields, spelling, written_piece, written, normal};
 
 use super::field::{

@@ -1,8 +1,7 @@
 //! Laws of the format.
 ghost use Rattle.std.specs.Prelude.{◌≡◌, ℕ, ◌+◌, ◌/◌, ◌≤◌, List, ◌++◌, length, drop, ◌↔◌, IsTrue, Bool, ◌*◌, ◌%◌, ◌==◌, ◌<◌, ◌^◌, slice_index};
-ghost use Rattle.ip_address.specs.Fields.{IsBytes, be16, put8, put16};
+ghost use Rattle.ip_address.specs.Fields.{IsBytes, be16, put8, put16, with_flag};
 ghost use Rattle.ip_wire.specs.Fragment.{IsFragment, IsValue, reserved_of, spelling, written, normal};
-ghost use Rattle.ip_packet.specs.Parts.{with_flag};
 
 use super::field::{FR_OF_M, HEADER_LEN, IDENT, M};
 use super::repr::Ipv6FragmentRepr;

@@ -1,7 +1,6 @@
 //! A header in a buffer, read and written in place.
 ghost use Rattle.std.specs.Prelude.{◌≡◌, ◌↔◌, ◌+◌, ◌*◌, ◌/◌, ◌%◌, ◌<◌, ◌≤◌, ◌^◌, ◌==◌, IsOk, IfOk, length, slice_index};
-ghost use Rattle.ip_address.specs.Fields.{be16, be32, put8, put16, put32};
-ghost use Rattle.ip_packet.specs.Parts.{with_flag};
+ghost use Rattle.ip_address.specs.Fields.{be16, be32, put8, put16, put32, with_flag};
 ghost use Rattle.ip_wire.specs.Fragment.{IsWhole, bytes_in, name_of, written};
 
 use super::field;
