@@ -30,7 +30,7 @@ use Rattle.tcp_model.specs.Pauses.Happening.{Comes, Asked, Called}
 use Rattle.tcp_model.specs.Probing.{probe_moment, probe_started}
 use Rattle.tcp_model.specs.Retries.{heard, asked, gives_up, given_up}
 use Rattle.tcp_model.specs.Rules.{owes_syn, resends, resend_choice, has_text, text_choice, ack_moment, updates_window, keep_alive_moment, probe_choice, backed_off_now, time_wait_end}
-use Rattle.tcp_model.specs.Segments.{segment_len, rst_reply}
+use Rattle.tcp_model.specs.Segments.{no_ranges, segment_len, rst_reply}
 use Rattle.tcp_model.specs.Settled.{settled, sent_as, recorded, probed, end_of}
 use Rattle.tcp_model.specs.Text.{Texted, texted, with_text, with_text_at, with_bytes_at, taken_in_order, held_early, has_new_text, laid, takes_fin, with_fin, fin_taken}
 use Rattle.tcp_model.specs.Timeout.{timeout_end, timeout_started, timed_out}
@@ -203,7 +203,7 @@ undrawn cx v a keeps = record { answered = λ e. absurd (cc); paused = λ e _. a
 
 drawn_moves : (cx : ContextValue) (v w : TcpValue) (ip : IpRepr) (header : TcpHeader) → pause_of w ≡ pause_of v → Moves cx v true (drawn cx w ip header)
 drawn_moves cx v w ip header same =
-    cond_both (may_draw cx.moment w.block.timers.draws_from) (acked cx (with_draw w cx.moment) ip header None) (dropped w) (Moves cx v true)
+    cond_both (may_draw cx.moment w.block.timers.draws_from) (acked cx (with_draw w cx.moment) ip header no_ranges) (dropped w) (Moves cx v true)
     (λ over. record { answered = λ _. sym (ap (may_draw cx.moment) (sym same) ∙ over); paused = λ _ _. refl; left = λ e _. absurd (cc) })
     (λ early. record { answered = λ _. sym (ap (may_draw cx.moment) (sym same) ∙ early); paused = λ _ e. absurd (cc); left = λ _ _. same })
 

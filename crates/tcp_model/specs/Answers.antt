@@ -1,32 +1,32 @@
 -- What answers a segment, and which acknowledgement becomes due (RFC 9293, 3.8.6.3 and 3.10.7.4; RFC 5961, 5; RFC 2018).
-use Rattle.std.specs.Prelude.{ℕ, ◌*◌, ◌^◌, ◌==◌, nat_le, nat_lt, not, ◌&&◌, ◌||◌, ℤ, Bool, true, false, if◌then◌else◌, List, [], ◌∷◌, Option, Some, None}
+use Rattle.std.specs.Prelude.{ℕ, ◌*◌, ◌^◌, ◌==◌, nat_le, nat_lt, not, ◌&&◌, ◌||◌, ℤ, Bool, true, false, if◌then◌else◌, List, [], ◌∷◌, map, filter, reverse, Option, Some, None}
 use Rattle.held_bytes.specs.Held.{runs_of}
 use Rattle.ip_wire.specs.IpRepr.{IpRepr}
 use Rattle.ip_wire.specs.SeqNumber.{SeqNumber}
 use Rattle.ip_wire.specs.TcpHeader.{TcpHeader}
 use Rattle.socket_base.specs.Context.{ContextValue}
 use Rattle.tcp_model.specs.declared.block.Block.{Block}
-use Rattle.tcp_model.specs.Blocks.{own_shift}
+use Rattle.tcp_model.specs.Blocks.{own_shift, edge_after}
 use Rattle.tcp_control.specs.Controls.{is_fin}
 use Rattle.tcp_control.specs.Moments.{is_due, later, earlier, next_draw_from}
 use Rattle.tcp_control.specs.Endpoints.{pair_in}
 use Rattle.tcp_control.specs.Offsets.{behind_by}
-use Rattle.tcp_model.specs.Segments.{sack_segment, reply_to, hops_of}
+use Rattle.tcp_model.specs.Segments.{no_ranges, sack_segment, reply_to, hops_of}
 use Rattle.tcp_model.specs.Value.{TcpValue, Arrived, with_block, dropped, answered_with, room_of, window_of}
 
 -- an acknowledgement of all that came went out, with this window field, for a receive buffer of this capacity: none is due any more
 abbrev pub ack_recorded : Block → ℕ → ℕ → Block
 ack_recorded b capacity window = record b {
-  receiver = record b.receiver { edge = window * 2 ^ own_shift b capacity };
+  receiver = record b.receiver { edge = edge_after b capacity (window * 2 ^ own_shift b capacity) };
   timers = record b.timers { ack_at = None; text_unacked = false };
 }
 
--- an acknowledgement answers the segment
-abbrev pub acked : ContextValue → TcpValue → IpRepr → TcpHeader → Option (ℕ × ℕ) → Arrived
-acked cx v ip header range =
+-- an acknowledgement with these ranges answers the segment
+abbrev pub acked : ContextValue → TcpValue → IpRepr → TcpHeader → List (Option (ℕ × ℕ)) → Arrived
+acked cx v ip header ranges =
     answered_with
     (with_block v (ack_recorded v.block (room_of v.received) (window_of v)))
-    (reply_to ip (hops_of v.block.settings.hop_limit) (sack_segment v.block (pair_in ip header) cx.moment (window_of v) range))
+    (reply_to ip (hops_of v.block.settings.hop_limit) (sack_segment v.block (pair_in ip header) cx.moment (window_of v) ranges))
 
 -- DRAWN: at most once a second
 
@@ -39,7 +39,7 @@ with_draw v now = with_block v (record v.block { timers = record v.block.timers 
 
 abbrev pub drawn : ContextValue → TcpValue → IpRepr → TcpHeader → Arrived
 drawn cx v ip header =
-    if may_draw cx.moment v.block.timers.draws_from then acked cx (with_draw v cx.moment) ip header None else dropped v
+    if may_draw cx.moment v.block.timers.draws_from then acked cx (with_draw v cx.moment) ip header no_ranges else dropped v
 
 -- DUE
 
@@ -66,22 +66,38 @@ ack_due b header size fills now = record b {
   timers = record b.timers { ack_at = ack_moment_after b header size fills now; text_unacked = b.timers.text_unacked || not (size == 0) };
 }
 
--- HELD
+-- HELD (RFC 2018, 4)
+
+abbrev pub lies_in : ℕ → ℕ × ℕ → Bool
+lies_in place run = nat_le run.0 place && nat_lt place run.1
 
 -- the run that a place lies in
 abbrev pub run_at : List (ℕ × ℕ) → ℕ → Option (ℕ × ℕ)
 run_at [] place = None
-run_at (run ∷ runs) place = if nat_le run.0 place && nat_lt place run.1 then Some run else run_at runs place
+run_at (run ∷ runs) place = if lies_in place run then Some run else run_at runs place
 
--- its numbers, where the first place has this one
+-- the other runs, the highest first
+abbrev pub others : ℕ → List (ℕ × ℕ) → List (ℕ × ℕ)
+others place runs = reverse (filter (λ run. not (lies_in place run)) runs)
+
+abbrev pub first_two : List (ℕ × ℕ) → List (Option (ℕ × ℕ))
+first_two [] = None ∷ None ∷ []
+first_two (run ∷ []) = Some run ∷ None ∷ []
+first_two (run ∷ next ∷ runs) = Some run ∷ Some next ∷ []
+
+-- the numbers of a run, where the first place has this one
 abbrev pub numbers_of : SeqNumber → Option (ℕ × ℕ) → Option (ℕ × ℕ)
 numbers_of next None = None
 numbers_of next (Some run) = Some ((behind_by next run.0).0, (behind_by next run.1).0)
 
--- the run that is held with its first byte at a place, if both SYNs permitted to tell it (RFC 2018, 4)
-abbrev pub range_held : TcpValue → ℕ → Option (ℕ × ℕ)
-range_held v place = if v.block.peer.sack then numbers_of v.block.receiver.next (run_at (runs_of v.received.map) place) else None
+-- What is told of the runs that are held, where the first byte of a segment is held at a place, if both SYNs permitted it: the run that
+-- this byte lies in, and then the highest others, as many as an option beside timestamps has room for.
+abbrev pub ranges_held : TcpValue → ℕ → List (Option (ℕ × ℕ))
+ranges_held v place =
+    if v.block.peer.sack
+    then map (numbers_of v.block.receiver.next) (run_at (runs_of v.received.map) place ∷ first_two (others place (runs_of v.received.map)))
+    else no_ranges
 
 abbrev pub answer_for : ContextValue → TcpValue → IpRepr → TcpHeader → ℕ → Bool → Option ℕ → Arrived
-answer_for cx v ip header size fills (Some place) = acked cx v ip header (range_held v place)
+answer_for cx v ip header size fills (Some place) = acked cx v ip header (ranges_held v place)
 answer_for cx v ip header size fills None = dropped (with_block v (ack_due v.block header size fills cx.moment))

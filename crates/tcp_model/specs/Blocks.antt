@@ -1,6 +1,6 @@
 -- The control block (RFC 9293, 3.3.1): a fresh one, and what follows from its fields. `queued` is the length of the send queue,
 -- which begins at the first byte that isn't acknowledged.
-use Rattle.std.specs.Prelude.{ℕ, zero, suc, ◌+◌, ◌*◌, ◌/◌, ◌^◌, ◌==◌, nat_le, nat_lt, ◌||◌, min, max, Bool, true, false, if◌then◌else◌, Option, Some, None}
+use Rattle.std.specs.Prelude.{ℕ, zero, suc, ◌+◌, ◌-◌, ◌*◌, ◌/◌, ◌^◌, ◌==◌, nat_le, nat_lt, ◌||◌, min, max, Bool, true, false, if◌then◌else◌, Option, Some, None}
 use Rattle.ip_wire.specs.IpListenEndpoint.{IpListenEndpoint}
 use Rattle.ip_wire.specs.SeqNumber.{SeqNumber}
 use Rattle.tcp_model.specs.declared.block.Block.{Block}
@@ -163,6 +163,11 @@ least_step b capacity = max 1 (min ((capacity + 1) / 2) b.receiver.mss)
 -- so much free space is worth telling
 abbrev pub is_worth_telling : Block → ℕ → ℕ → Bool
 is_worth_telling b capacity free = nat_le (b.receiver.edge + least_step b capacity) (told_of b capacity free)
+
+-- The right edge after a segment that told so much space. What its field leaves out by rounding was announced before, and still is: else
+-- the roundings of many segments would add up.
+abbrev pub edge_after : Block → ℕ → ℕ → ℕ
+edge_after b capacity told = max told (min b.receiver.edge (told + (2 ^ own_shift b capacity - 1)))
 
 -- the space that a segment announces, where so many bytes wait to be read: the edge stays, unless it moves far enough or nothing waits
 abbrev pub announced : Block → ℕ → ℕ → ℕ → ℕ

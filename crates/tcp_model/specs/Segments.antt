@@ -52,10 +52,10 @@ segment b pair now window control seq = record {
 abbrev pub ack_segment : Block → EndpointPair → ℤ → ℕ → TcpHeader
 ack_segment b pair now window = segment b pair now window Control.None (top b)
 
--- the same with a range that is held out of order (RFC 2018)
-abbrev pub sack_segment : Block → EndpointPair → ℤ → ℕ → Option (ℕ × ℕ) → TcpHeader
-sack_segment b pair now window range =
-    record (ack_segment b pair now window) { options = record no_options { timestamp = stamp_of b now; sack_ranges = range ∷ None ∷ None ∷ [] } }
+-- the same with ranges that are held out of order (RFC 2018)
+abbrev pub sack_segment : Block → EndpointPair → ℤ → ℕ → List (Option (ℕ × ℕ)) → TcpHeader
+sack_segment b pair now window ranges =
+    record (ack_segment b pair now window) { options = record no_options { timestamp = stamp_of b now; sack_ranges = ranges } }
 
 -- the largest payload that an IP packet holds behind a header without options; the field has 16 bits (3.7.1)
 abbrev pub mss_for : ℕ → ℕ → ℕ

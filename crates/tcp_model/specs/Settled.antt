@@ -6,7 +6,7 @@ use Rattle.tcp_model.specs.declared.block.Block.{Block}
 use Rattle.tcp_control.specs.declared.offer.OfferKind.{OfferKind}
 use Rattle.tcp_control.specs.declared.offer.OfferKind.TheVariants as Kind
 use Rattle.tcp_control.specs.declared.offer.OpenOffer.{OpenOffer}
-use Rattle.tcp_model.specs.Blocks.{forgotten, own_shift}
+use Rattle.tcp_model.specs.Blocks.{forgotten, own_shift, edge_after}
 use Rattle.tcp_control.specs.Controls.{is_syn, or_mss}
 use Rattle.tcp_control.specs.Moments.{later_by, timeout_from}
 use Rattle.tcp_model.specs.Probing.{probe_kept}
@@ -14,10 +14,10 @@ use Rattle.tcp_model.specs.Retries.{asked}
 use Rattle.tcp_control.specs.RoundTrip as round_trip
 use Rattle.tcp_model.specs.Value.{TcpValue, with_block, unoffered, queued_in, room_of}
 
--- The right edge of the window that a segment announced, of a receive buffer with this capacity. A SYN's field isn't shifted and may not
+-- The right edge of the window after a segment announced it, of a receive buffer with this capacity. A SYN's field isn't shifted and may not
 -- tell all of an empty buffer; what it leaves out is no space that came free.
 abbrev pub edge_by : Block → OpenOffer → ℕ → ℕ
-edge_by b o capacity = if is_syn o.segment.control then capacity else o.segment.window_len * 2 ^ own_shift b capacity
+edge_by b o capacity = if is_syn o.segment.control then capacity else edge_after b capacity (o.segment.window_len * 2 ^ own_shift b capacity)
 
 -- The edge of its window is recorded, and its acknowledgement, if it has one: none is due any more. The next keep-alive is counted from
 -- each segment (3.8.4).

@@ -55,7 +55,7 @@ pub struct Receiver {
     pub next: SeqNumber,
     pub took_syn: bool,
     pub took_fin: bool,
-    /// How far past RCV.NXT the window lies that was announced.
+    /// How far past RCV.NXT the furthest right edge lies of the windows that were announced.
     pub edge: u32,
     /// The largest payload of a segment, as the own SYN named it.
     pub mss: u16,

@@ -22,6 +22,7 @@ use Rattle.held_bytes.specs.Held.{runs_of}
 use Rattle.tcp_model.specs.Value.{TcpValue, Arrived, with_block, dropped, unoffered, queued_in, free_in, room_of, received_of}
 use Rattle.tcp_model.specs.declared.block.Block.{Block}
 use Rattle.tcp_model.specs.declared.block.Sender.{Sender}
+use Rattle.tcp_model.specs.Segments.{no_ranges}
 use Rattle.tcp_tie.proofs.Tied.{if_so, if_not}
 use Rattle.tcp_rules.proofs.ArrivalCases.{acked_cases}
 use Rattle.tcp_rules.proofs.OrderSteps.{clash}
@@ -139,7 +140,7 @@ module _ (cx : ContextValue) (ip : IpRepr) (header : TcpHeader) where
 
   drawn_keeps : (v : TcpValue) → (drawn cx v ip header).socket.block.sender ≡ v.block.sender
   drawn_keeps v =
-      cond_both (may_draw cx.moment v.block.timers.draws_from) (acked cx (with_draw v cx.moment) ip header None) (dropped v) (λ (a : Arrived). a.socket.block.sender ≡ v.block.sender)
+      cond_both (may_draw cx.moment v.block.timers.draws_from) (acked cx (with_draw v cx.moment) ip header no_ranges) (dropped v) (λ (a : Arrived). a.socket.block.sender ≡ v.block.sender)
       (λ _. refl) (λ _. refl)
 
 -- IT IS TAKEN

@@ -23,7 +23,7 @@ use Rattle.tcp_model.specs.Arrival.{arrives, checked, inside, taken, continued, 
 use Rattle.tcp_model.specs.Checks.{is_in_window, lies_before}
 use Rattle.tcp_model.specs.Checks.Check.{Passes}
 use Rattle.tcp_model.specs.Probing.{probe_kept}
-use Rattle.tcp_model.specs.Segments.{segment_len, reply_to, sack_segment, hops_of}
+use Rattle.tcp_model.specs.Segments.{no_ranges, segment_len, reply_to, sack_segment, hops_of}
 use Rattle.tcp_control.specs.Endpoints.{pair_in}
 use Rattle.tcp_model.specs.Text.{Texted, texted, with_text, with_text_at, with_bytes_at, taken_in_order, is_holding, laid, has_new_text, takes_fin, fin_taken}
 use Rattle.tcp_model.specs.Value.{TcpValue, Received, Arrived, with_block, dropped, unoffered, queued_in, free_in, room_of, window_of}
@@ -419,11 +419,11 @@ module _ (cx : ContextValue) (u : TcpValue) (ip : IpRepr) (header : TcpHeader) (
       cond_both (is_closed x.block.state) (dropped x) (drawn cx y ip header) Answered
       (λ closed. clash (sym closed ∙ alive))
       (λ _.
-      cond_both (may_draw cx.moment u.block.timers.draws_from) (acked cx (with_draw y cx.moment) ip header None) (dropped y) Answered
+      cond_both (may_draw cx.moment u.block.timers.draws_from) (acked cx (with_draw y cx.moment) ip header no_ranges) (dropped y) Answered
       (λ _.
       inr
       (record {
-        reply = reply_to ip (hops_of u.block.settings.hop_limit) (sack_segment (with_draw y cx.moment).block (pair_in ip header) cx.moment (window_of (with_draw y cx.moment)) None);
+        reply = reply_to ip (hops_of u.block.settings.hop_limit) (sack_segment (with_draw y cx.moment).block (pair_in ip header) cx.moment (window_of (with_draw y cx.moment)) no_ranges);
         answer = refl;
         acknowledges = refl;
         bare = refl;

@@ -15,7 +15,7 @@ use Rattle.tcp_law.specs.ReceiveMap.{store, front}
 use Rattle.net_base.specs.Ring.{released}
 use Rattle.tcp_model.specs.Acknowledged.{acknowledged, duplicates_after, names_window, windowed, stamp_taken, ranges_taken, counted, ended_if, in_state, una_moved, state_after_ack, freed_by}
 use Rattle.tcp_model.specs.Blocks.{forgotten}
-use Rattle.tcp_model.specs.Answers.{drawn, may_draw, with_draw, acked, answer_for, range_held, ack_due}
+use Rattle.tcp_model.specs.Answers.{drawn, may_draw, with_draw, acked, answer_for, ranges_held, ack_due}
 use Rattle.tcp_model.specs.Arrival.{waiting_anew, outside, passed_outside, tells_news, finished, with_content, told, taken, inside, checked, continued, takes_reset, challenges_reset, reset_comes, challenges_syn, received, arrives_in, arrives, is_void_syn}
 use Rattle.tcp_model.specs.Calls.{listening}
 use Rattle.tcp_model.specs.Checks.{Check, acknowledgement_check, is_in_window, taken_down, falls_back}
@@ -23,7 +23,7 @@ use Rattle.tcp_model.specs.Checks.Check.{Passes, Old, Drops, Draws, Resets}
 use Rattle.tcp_model.specs.Opening.{is_first_syn, opens, takes_answer, acks_syn, syn_answered, connected, crossed, answering}
 use Rattle.tcp_model.specs.Probing.{probe_kept}
 use Rattle.tcp_model.specs.Retries.{heard}
-use Rattle.tcp_model.specs.Segments.{rst_reply}
+use Rattle.tcp_model.specs.Segments.{no_ranges, rst_reply}
 use Rattle.tcp_model.specs.Text.{Texted, texted, with_text, with_text_at, with_bytes_at, taken_in_order, held_early, is_holding, laid, has_new_text, with_fin, takes_fin, fin_taken, is_at_fin}
 use Rattle.tcp_model.specs.Timeout.{timeout_restarted}
 use Rattle.tcp_model.specs.Value.{TcpValue, Arrived, with_block, dropped, answered_with, unoffered, ended, queued_in, free_in, received_of}
@@ -85,11 +85,11 @@ heeded now header size u by b =
 module _ (cx : ContextValue) (ip : IpRepr) (header : TcpHeader) (bytes : List ℕ) (Q : Arrived → Type 0) where
   -- a segment that is answered, unless the last answer is too near
   pub record Drawing (x : TcpValue) : Type 0 where
-    pub answers : may_draw cx.moment x.block.timers.draws_from ≡ true → Q (acked cx (with_draw x cx.moment) ip header None)
+    pub answers : may_draw cx.moment x.block.timers.draws_from ≡ true → Q (acked cx (with_draw x cx.moment) ip header no_ranges)
     pub pauses : Q (dropped x)
 
   -- an acknowledgement is due after it
-  abbrev due : TcpValue → Bool → TcpValue
+  abbrev pub due : TcpValue → Bool → TcpValue
   due y fills = with_block y (ack_due y.block header (length bytes) fills cx.moment)
 
   -- its text and its FIN
@@ -104,7 +104,7 @@ module _ (cx : ContextValue) (ip : IpRepr) (header : TcpHeader) (bytes : List �
         → Q (dropped (due (kept (taken_in_order x map).socket (fin_taken (taken_in_order x map).socket.block cx.moment)) (is_holding x)))
     pub early :
         (map : List (Option ℕ)) (place : ℕ) → length map ≡ free_in x → takes_text x.block.state ≡ true
-        → Q (acked cx (kept (held x map) x.block) ip header (range_held (kept (held x map) x.block) place))
+        → Q (acked cx (kept (held x map) x.block) ip header (ranges_held (kept (held x map) x.block) place))
 
   pub record Received (u : TcpValue) : Type 0 where
     pub stays : Q (dropped u)
@@ -130,7 +130,7 @@ module _ (cx : ContextValue) (ip : IpRepr) (header : TcpHeader) (bytes : List �
 
   by_drawn : (x : TcpValue) → Drawing x → Q (drawn cx x ip header)
   by_drawn x d =
-      cond_both (may_draw cx.moment x.block.timers.draws_from) (acked cx (with_draw x cx.moment) ip header None) (dropped x) Q
+      cond_both (may_draw cx.moment x.block.timers.draws_from) (acked cx (with_draw x cx.moment) ip header no_ranges) (dropped x) Q
       (λ may. d.answers may)
       (λ _. d.pauses)
 
@@ -169,7 +169,7 @@ module _ (cx : ContextValue) (ip : IpRepr) (header : TcpHeader) (bytes : List �
   -- a segment whose text begins past RCV.NXT has no FIN at RCV.NXT
   by_early :
       (x : TcpValue) (map : List (Option ℕ)) (place : ℕ) → (past_by x.block.receiver.next header.seq_number == 0) ≡ false
-      → Q (acked cx (kept (held x map) x.block) ip header (range_held (kept (held x map) x.block) place)) → Finishing x.block (texted (held x map) 0 false (Some place))
+      → Q (acked cx (kept (held x map) x.block) ip header (ranges_held (kept (held x map) x.block) place)) → Finishing x.block (texted (held x map) 0 false (Some place))
   by_early x map place past q =
       cond_both (takes_fin x.block header (length bytes) 0) (fin_taken x.block cx.moment) x.block
       (λ (b : Block). Q (answer_for cx (kept (held x map) b) ip header (length bytes) false (Some place)))

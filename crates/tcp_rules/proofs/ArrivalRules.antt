@@ -14,7 +14,7 @@ use Rattle.tcp_control.specs.declared.state.State.{State}
 use Rattle.tcp_control.specs.declared.state.State.TheVariants as In
 use Rattle.tcp_control.specs.Endpoints.{pair_in}
 use Rattle.tcp_model.specs.Acknowledged.{acknowledged, duplicates_after, names_window, windowed, stamp_taken, ranges_taken, counted, una_moved}
-use Rattle.tcp_model.specs.Answers.{drawn, may_draw, with_draw, acked, answer_for, range_held}
+use Rattle.tcp_model.specs.Answers.{drawn, may_draw, with_draw, acked, answer_for, ranges_held}
 use Rattle.tcp_model.specs.Arrival.{waiting_anew, outside, passed_outside, tells_news, finished, with_content, told, taken, inside, checked, takes_reset, challenges_reset, reset_comes, challenges_syn, received, arrives_in, arrives, is_void_syn}
 use Rattle.tcp_model.specs.Calls.{listening}
 use Rattle.tcp_model.specs.Checks.{Check, acknowledgement_check, is_in_window, taken_down, falls_back}
@@ -22,7 +22,7 @@ use Rattle.tcp_model.specs.Checks.Check.{Passes, Old, Drops, Draws, Resets}
 use Rattle.tcp_model.specs.Opening.{is_first_syn, opens, takes_answer, acks_syn, syn_answered, connected, crossed, answering, took_syn}
 use Rattle.tcp_model.specs.Probing.{probe_kept}
 use Rattle.tcp_model.specs.Retries.{heard}
-use Rattle.tcp_model.specs.Segments.{rst_reply, reply_to, hops_of, sack_segment}
+use Rattle.tcp_model.specs.Segments.{no_ranges, rst_reply, reply_to, hops_of, sack_segment}
 use Rattle.tcp_model.specs.Text.{Texted, texted, with_text, with_text_at, with_bytes_at, taken_in_order, held_early, laid, has_new_text, with_fin, takes_fin, fin_taken}
 use Rattle.tcp_model.specs.Timeout.{timeout_restarted}
 use Rattle.tcp_model.specs.Value.{TcpValue, Arrived, with_block, dropped, answered_with, unoffered, ended, queued_in, free_in, received_of, window_of}
@@ -44,17 +44,17 @@ module _ (cx : ContextValue) (ip : IpRepr) (header : TcpHeader) where
   by_dropped : (old : Block) (v : TcpValue) → Goes old v.block → Sound old (dropped v)
   by_dropped old v goes = (goes, λ reply e. absurd (cc))
 
-  by_acked : (old : Block) (v : TcpValue) (range : Option (ℕ × ℕ)) → Goes old v.block → Sound old (acked cx v ip header range)
-  by_acked old v range goes = (
-    goes_on old v.block (acked cx v ip header range).socket.block goes refl refl,
-    λ reply e. same_reply (acked cx v ip header range).socket.block
-        (reply_to ip (hops_of v.block.settings.hop_limit) (sack_segment v.block (pair_in ip header) cx.moment (window_of v) range)) reply (inr refl) e,
+  by_acked : (old : Block) (v : TcpValue) (ranges : List (Option (ℕ × ℕ))) → Goes old v.block → Sound old (acked cx v ip header ranges)
+  by_acked old v ranges goes = (
+    goes_on old v.block (acked cx v ip header ranges).socket.block goes refl refl,
+    λ reply e. same_reply (acked cx v ip header ranges).socket.block
+        (reply_to ip (hops_of v.block.settings.hop_limit) (sack_segment v.block (pair_in ip header) cx.moment (window_of v) ranges)) reply (inr refl) e,
   )
 
   by_drawn : (old : Block) (v : TcpValue) → Goes old v.block → Sound old (drawn cx v ip header)
   by_drawn old v goes =
-      cond_both (may_draw cx.moment v.block.timers.draws_from) (acked cx (with_draw v cx.moment) ip header None) (dropped v) (Sound old)
-      (λ _. by_acked old (with_draw v cx.moment) None (goes_on old v.block (with_draw v cx.moment).block goes refl refl))
+      cond_both (may_draw cx.moment v.block.timers.draws_from) (acked cx (with_draw v cx.moment) ip header no_ranges) (dropped v) (Sound old)
+      (λ _. by_acked old (with_draw v cx.moment) no_ranges (goes_on old v.block (with_draw v cx.moment).block goes refl refl))
       (λ _. by_dropped old v goes)
 
   by_reset : (v : TcpValue) (size : ℕ) → Sound v.block (answered_with v (rst_reply ip header size))
@@ -91,7 +91,7 @@ module _ (cx : ContextValue) (ip : IpRepr) (header : TcpHeader) where
       (λ _. (refl, refl))
 
   by_answer : (old : Block) (v : TcpValue) (size : ℕ) (fills : Bool) (early : Option ℕ) → Goes old v.block → Sound old (answer_for cx v ip header size fills early)
-  by_answer old v size fills (Some place) goes = by_acked old v (range_held v place) goes
+  by_answer old v size fills (Some place) goes = by_acked old v (ranges_held v place) goes
   by_answer old v size fills None goes =
       by_dropped old (answer_for cx v ip header size fills None).socket (goes_on old v.block (answer_for cx v ip header size fills None).socket.block goes refl refl)
 

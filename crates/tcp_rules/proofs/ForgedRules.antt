@@ -14,6 +14,7 @@ use Rattle.tcp_model.specs.Answers.{drawn, may_draw, with_draw, acked}
 use Rattle.tcp_model.specs.Arrival.{takes_reset, challenges_reset, reset_comes, challenges_syn, checked, received, arrives_in, arrives, is_void_syn}
 use Rattle.tcp_model.specs.Checks.{acknowledgement_check, taken_down}
 use Rattle.tcp_model.specs.Value.{TcpValue, Arrived, dropped, unoffered}
+use Rattle.tcp_model.specs.Segments.{no_ranges}
 use Rattle.tcp_rules.specs.Events.{is_past}
 use Rattle.tcp_rules.specs.Forged.{IsUntouched}
 
@@ -42,7 +43,7 @@ module _ (cx : ContextValue) (ip : IpRepr) (header : TcpHeader) (bytes : List 鈩
     位 _. refl,
   )
 
-  answers : Left v (acked cx (with_draw (unoffered v) cx.moment) ip header None)
+  answers : Left v (acked cx (with_draw (unoffered v) cx.moment) ip header no_ranges)
   answers = (
     record {
       state = refl;
@@ -83,7 +84,7 @@ module _ (cx : ContextValue) (ip : IpRepr) (header : TcpHeader) (bytes : List 鈩
       (位 _.
       cond_both (challenges_reset (unoffered v) header (length bytes)) (drawn cx (unoffered v) ip header) (dropped (unoffered v)) (Left v)
       (位 _.
-      cond_both (may_draw cx.moment v.block.timers.draws_from) (acked cx (with_draw (unoffered v) cx.moment) ip header None) (dropped (unoffered v)) (Left v)
+      cond_both (may_draw cx.moment v.block.timers.draws_from) (acked cx (with_draw (unoffered v) cx.moment) ip header no_ranges) (dropped (unoffered v)) (Left v)
       (位 _. answers)
       (位 _. stays))
       (位 _. stays)))

@@ -14,3 +14,4 @@ pub mod WaitingRules
 pub mod CongestionRules
 pub mod TimingRules
 pub mod RecoveryRules
+pub mod EdgeRules

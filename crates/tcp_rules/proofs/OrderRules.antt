@@ -66,7 +66,7 @@ least_zero m = omega arith
 small_word : (n : ℕ) → word n < 2 ^ 32
 small_word n = omega arith
 
-and_true : (a b : Bool) → (a && b) ≡ true → (a ≡ true) × (b ≡ true)
+pub and_true : (a b : Bool) → (a && b) ≡ true → (a ≡ true) × (b ≡ true)
 and_true true b e = (refl, e)
 and_true false b e = clash (sym e)
 
@@ -249,7 +249,7 @@ abbrev Both : Offered TcpValue → Type 0
 Both o = IsInOrder (sending_of o.socket) × IsInOrder (sending_of (settled true o.socket))
 
 module _ (cx : ContextValue) (pair : EndpointPair) where
-  abbrev opened_by : OfferKind → TcpValue → TcpHeader → ℕ → ℕ → OpenOffer
+  abbrev pub opened_by : OfferKind → TcpValue → TcpHeader → ℕ → ℕ → OpenOffer
   opened_by kind x header place len = record {
     kind = kind;
     moment = cx.moment;

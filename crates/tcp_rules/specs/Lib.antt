@@ -2,6 +2,7 @@ pub mod Flight
 pub mod Runs
 pub mod Events
 pub mod Forged
+pub mod Edges
 pub mod Ends
 pub mod Acks
 pub mod GivingUp

@@ -4,6 +4,7 @@
 pub mod acks;
 pub mod bare;
 pub mod congestion;
+pub mod edges;
 pub mod flight;
 pub mod forged;
 pub mod giving_up;

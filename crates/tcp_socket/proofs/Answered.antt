@@ -1,11 +1,12 @@
 -- What answers a segment can be sent, and from SYN-SENT on no random word is drawn.
-use Rattle.std.proofs.Common.{◌≡◌, ℕ, ◌≤◌, ◌&&◌, not, Bool, true, false, ℤ, List, [], ◌∷◌, length, Option, Some, None, is_some, if◌then◌else◌, refl, arith}
+use Rattle.std.proofs.Common.{◌≡◌, ℕ, ◌≤◌, ◌&&◌, not, Bool, true, false, ℤ, List, [], ◌∷◌, map, length, Option, Some, None, is_some, if◌then◌else◌, refl, arith}
 use Rattle.std.specs.Prelude.{IfSome}
 use Rattle.ip_wire.specs.IpRepr.{IpRepr}
 use Rattle.ip_wire.specs.IpRepr.TheVariants as Ip
 use Rattle.ip_wire.specs.Tcp.{header_len}
 use Rattle.ip_wire.specs.TcpHeader.{TcpHeader}
 use Rattle.ip_wire.specs.TcpTimestampRepr.{TcpTimestampRepr}
+use Rattle.held_bytes.specs.Held.{runs_of}
 use Rattle.ip_wire.specs.Options.{options_bytes, range_options, stamp_options}
 use Rattle.net_base.specs.RandomWords.{word}
 use Rattle.socket_base.specs.Context.{ContextValue, next_random}
@@ -15,7 +16,7 @@ use Rattle.tcp_model.specs.EndpointPair.{EndpointPair}
 use Rattle.tcp_model.specs.State.{State}
 use Rattle.tcp_model.specs.State.TheVariants as In
 use Rattle.tcp_model.specs.Acknowledged.{acknowledged, duplicates_after}
-use Rattle.tcp_model.specs.Answers.{may_draw, with_draw, acked, drawn, answer_for, range_held}
+use Rattle.tcp_model.specs.Answers.{may_draw, with_draw, acked, drawn, answer_for, run_at, others, first_two, numbers_of, ranges_held}
 use Rattle.tcp_model.specs.Arrival.{waiting_anew, outside, tells_news, passed_outside, finished, with_content, told, continued, taken, inside, checked, takes_reset, challenges_reset, reset_comes, challenges_syn, received, arrives_in, is_void_syn, arrives}
 use Rattle.tcp_model.specs.Checks.{Check, acknowledgement_check, is_in_window, taken_down}
 use Rattle.tcp_model.specs.Checks.Check.{Passes, Old, Drops, Draws, Resets}
@@ -24,7 +25,7 @@ use Rattle.tcp_model.specs.Endpoints.{pair_in}
 use Rattle.tcp_model.specs.Opening.{acks_syn, syn_answered, takes_answer, answering, is_first_syn}
 use Rattle.tcp_model.specs.Probing.{probe_kept}
 use Rattle.tcp_model.specs.Retries.{heard}
-use Rattle.tcp_model.specs.Segments.{stamp_of, sack_segment, rst_reply, reply_to, reset_for, hops_of}
+use Rattle.tcp_model.specs.Segments.{no_ranges, stamp_of, sack_segment, rst_reply, reply_to, reset_for, hops_of}
 use Rattle.tcp_model.specs.States.{is_closed}
 use Rattle.tcp_model.specs.Text.{Texted, with_text, with_fin}
 use Rattle.tcp_model.specs.Timeout.{timeout_restarted}
@@ -45,16 +46,41 @@ sendable_to (Ip.Ipv6 v) hops segment short =
 pub sendable_reset : (ip : IpRepr) (header : TcpHeader) (size : ℕ) → IsSendable (packet_in (rst_reply ip header size))
 sendable_reset ip header size = sendable_to ip 64 (reset_for header size) (omega arith)
 
-range_room : (range : Option (ℕ × ℕ)) → length (options_bytes (range_options (range ∷ None ∷ None ∷ []))) ≤ 10
-range_room None = omega arith
-range_room (Some range) = omega arith
+-- three ranges at most, which leave room for timestamps
+abbrev FewRanges : List (Option (ℕ × ℕ)) → Type 0
+FewRanges ranges = length (options_bytes (range_options ranges)) ≤ 26
+
+few_ranges : (a b c : Option (ℕ × ℕ)) → FewRanges (a ∷ b ∷ c ∷ [])
+few_ranges None None None = omega arith
+few_ranges None None (Some c) = omega arith
+few_ranges None (Some b) None = omega arith
+few_ranges None (Some b) (Some c) = omega arith
+few_ranges (Some a) None None = omega arith
+few_ranges (Some a) None (Some c) = omega arith
+few_ranges (Some a) (Some b) None = omega arith
+few_ranges (Some a) (Some b) (Some c) = omega arith
+
+few_held : (v : TcpValue) (place : ℕ) → FewRanges (ranges_held v place)
+few_held v place = by v.block.peer.sack (others place (runs_of v.received.map)) where
+  numbered : Option (ℕ × ℕ) → Option (ℕ × ℕ)
+  numbered = numbers_of v.block.receiver.next
+
+  met : Option (ℕ × ℕ)
+  met = run_at (runs_of v.received.map) place
+
+  by : (t : Bool) (runs : List (ℕ × ℕ)) → FewRanges (if t then map numbered (met ∷ first_two runs) else no_ranges)
+  by false runs = few_ranges None None None
+  by true [] = few_ranges (numbered met) None None
+  by true (run ∷ []) = few_ranges (numbered met) (numbered (Some run)) None
+  by true (run ∷ next ∷ runs) = few_ranges (numbered met) (numbered (Some run)) (numbered (Some next))
 
 stamp_room : (stamp : Option TcpTimestampRepr) → length (options_bytes (stamp_options stamp)) ≤ 10
 stamp_room None = omega arith
 stamp_room (Some stamp) = omega arith
 
-sack_room : (b : Block) (pair : EndpointPair) (now : ℤ) (window : ℕ) (range : Option (ℕ × ℕ)) → header_len (sack_segment b pair now window range) ≤ 60
-sack_room b pair now window range = let ranges = range_room range in let stamp = stamp_room (stamp_of b now) in omega (arith, ranges, stamp)
+sack_room : (b : Block) (pair : EndpointPair) (now : ℤ) (window : ℕ) (ranges : List (Option (ℕ × ℕ))) → FewRanges ranges
+    → header_len (sack_segment b pair now window ranges) ≤ 60
+sack_room b pair now window ranges few = let stamp = stamp_room (stamp_of b now) in omega (arith, few, stamp)
 
 quick_dropped : (v : TcpValue) → IsQuick (dropped v)
 quick_dropped v = record { draws = refl; sendable = tt }
@@ -63,10 +89,10 @@ quick_if : (t : Bool) (a b : Arrived) → IsQuick a → IsQuick b → IsQuick (i
 quick_if true a b one other = one
 quick_if false a b one other = other
 
-quick_acked : (cx : ContextValue) (v : TcpValue) (ip : IpRepr) (header : TcpHeader) (range : Option (ℕ × ℕ)) → IsQuick (acked cx v ip header range)
-quick_acked cx v ip header range = record {
+quick_acked : (cx : ContextValue) (v : TcpValue) (ip : IpRepr) (header : TcpHeader) (ranges : List (Option (ℕ × ℕ))) → FewRanges ranges → IsQuick (acked cx v ip header ranges)
+quick_acked cx v ip header ranges few = record {
   draws = refl;
-  sendable = sendable_to ip (hops_of v.block.settings.hop_limit) (sack_segment v.block (pair_in ip header) cx.moment (window_of v) range) (sack_room v.block (pair_in ip header) cx.moment (window_of v) range);
+  sendable = sendable_to ip (hops_of v.block.settings.hop_limit) (sack_segment v.block (pair_in ip header) cx.moment (window_of v) ranges) (sack_room v.block (pair_in ip header) cx.moment (window_of v) ranges few);
 }
 
 quick_reset : (v : TcpValue) (ip : IpRepr) (header : TcpHeader) (size : ℕ) → IsQuick (answered_with v (rst_reply ip header size))
@@ -74,8 +100,8 @@ quick_reset v ip header size = record { draws = refl; sendable = sendable_reset 
 
 quick_drawn : (cx : ContextValue) (v : TcpValue) (ip : IpRepr) (header : TcpHeader) → IsQuick (drawn cx v ip header)
 quick_drawn cx v ip header =
-    quick_if (may_draw cx.moment v.block.timers.draws_from) (acked cx (with_draw v cx.moment) ip header None) (dropped v)
-    (quick_acked cx (with_draw v cx.moment) ip header None) (quick_dropped v)
+    quick_if (may_draw cx.moment v.block.timers.draws_from) (acked cx (with_draw v cx.moment) ip header no_ranges) (dropped v)
+    (quick_acked cx (with_draw v cx.moment) ip header no_ranges (few_ranges None None None)) (quick_dropped v)
 
 quick_outside : (cx : ContextValue) (v : TcpValue) (ip : IpRepr) (header : TcpHeader) → IsQuick (outside cx v ip header)
 quick_outside cx v ip header =
@@ -88,7 +114,7 @@ quick_passed_outside cx v ip header size by =
     quick_if (tells_news v header size) (outside cx told_of ip header) (outside cx v ip header) (quick_outside cx told_of ip header) (quick_outside cx v ip header)
 
 quick_answer : (cx : ContextValue) (v : TcpValue) (ip : IpRepr) (header : TcpHeader) (size : ℕ) (fills : Bool) (early : Option ℕ) → IsQuick (answer_for cx v ip header size fills early)
-quick_answer cx v ip header size fills (Some place) = quick_acked cx v ip header (range_held v place)
+quick_answer cx v ip header size fills (Some place) = quick_acked cx v ip header (ranges_held v place) (few_held v place)
 quick_answer cx v ip header size fills None = record { draws = refl; sendable = tt }
 
 quick_finished : (cx : ContextValue) (old : Block) (t : Texted) (ip : IpRepr) (header : TcpHeader) (size : ℕ) → IsQuick (finished cx old t ip header size)

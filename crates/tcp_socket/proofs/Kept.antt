@@ -14,6 +14,11 @@ use Rattle.tcp_model.specs.Timeout.{timeout_restarted, timeout_runs}
 use Rattle.tcp_model.specs.Blocks.{forgotten}
 use Rattle.tcp_model.specs.declared.block.Block.{Block}
 use Rattle.tcp_model.specs.OpenOffer.{OpenOffer}
+use Rattle.tcp_model.specs.OfferKind.{OfferKind}
+use Rattle.tcp_model.specs.OfferKind.TheVariants as Kind
+use Rattle.tcp_model.specs.Moments.{is_over, timeout_from}
+use Rattle.tcp_model.specs.Retries.{asked, one_more}
+use Rattle.tcp_model.specs.Settled.{sent_as, recorded, probed, end_of}
 use Rattle.tcp_socket.specs.Socket.{IsBlock, IsOpen}
 
 -- nothing is offered
@@ -73,3 +78,19 @@ answered_mss false b header now some = some
 pub kept_answer : (b : Block) (header : TcpHeader) (now : ℤ) (queued : ℕ) → IsMoment now → 1 ≤ or_mss header.options.max_seg_size
     → IsBlock (timeout_restarted (syn_answered b header now) now queued)
 kept_answer b header now queued moment some = kept_timeout (syn_answered b header now) now queued moment (answered_mss (is_some header.ack_number) b header now some)
+
+kept_asked : (b : Block) (now : ℤ) → IsBlock b → IsBlock (asked b now)
+kept_asked b now is =
+    kept_if (is_over now b.timers.counts_from)
+    (record b {
+      sender = record b.sender { unanswered = one_more b.sender.unanswered };
+      timers = record b.timers { counts_from = Some (timeout_from now b.round_trip) };
+    })
+    b (record { start = is.start; mss = is.mss }) is
+
+-- what was offered went
+pub kept_sent : (kind : OfferKind) (b : Block) (o : OpenOffer) (capacity queued : ℕ) → IsBlock b → IsBlock (sent_as kind (recorded b o capacity) o queued)
+kept_sent Kind.Probe b o capacity queued is =
+    kept_asked (probed (recorded b o capacity) (end_of (recorded b o capacity) o) o.moment) o.moment (record { start = is.start; mss = is.mss })
+kept_sent Kind.KeepAlive b o capacity queued is = kept_asked (recorded b o capacity) o.moment (record { start = is.start; mss = is.mss })
+kept_sent other b o capacity queued is = record { start = is.start; mss = is.mss }

@@ -5,7 +5,7 @@ ghost use Rattle.socket_base.specs.Context.{ContextValue};
 ghost use Rattle.socket_base.specs.Packet.{IsSendable};
 ghost use Rattle.ip_wire.specs.Tcp.{header_of};
 ghost use Rattle.tcp_model.specs.Acknowledged.{acknowledged};
-ghost use Rattle.tcp_model.specs.Answers.{ack_recorded, drawn, range_held, answer_for};
+ghost use Rattle.tcp_model.specs.Answers.{ack_recorded, drawn, ranges_held, answer_for};
 ghost use Rattle.tcp_model.specs.Arrival.{waiting_anew, outside, tells_news, passed_outside, finished, told, taken, inside, checked, challenges_reset, reset_comes, received, is_void_syn, arrives_in, arrives};
 ghost use Rattle.tcp_model.specs.Checks.{acknowledgement_check, taken_down};
 ghost use Rattle.tcp_model.specs.Checks.Check.{Passes, Old};
@@ -87,27 +87,27 @@ impl Socket {
     {
         match due {
             Due::Reset => rst_reply(incoming.ip_repr, &incoming.header, incoming.bytes.len()),
-            Due::Ack(window) => self.acknowledgement(now, incoming, window, None),
+            Due::Ack(window) => self.acknowledgement(now, incoming, window, [None; 3]),
             Due::AckHeld(window, place) => {
-                self.acknowledgement(now, incoming, window, self.range_held(place))
+                self.acknowledgement(now, incoming, window, self.ranges_held(place))
             }
         }
     }
 
-    /// The acknowledgement that answers a segment, with this window field and a range that is held out
-    /// of order.
+    /// The acknowledgement that answers a segment, with this window field and these ranges that are held
+    /// out of order.
     fn acknowledgement(
         &self,
         now: Instant,
         incoming: &Incoming<'_>,
         window: u16,
-        range: Option<(u32, u32)>,
+        sack_ranges: [Option<(u32, u32)>; 3],
     ) -> Reply
         requires { IsMoment now }
-        ensures { result ≡ acknowledgement now self.now incoming.now.ip_repr.now incoming.now.header window range }
+        ensures { result ≡ acknowledgement now self.now incoming.now.ip_repr.now incoming.now.header window sack_ranges }
     {
         let pair = EndpointPair::of_segment(incoming.ip_repr, &incoming.header);
-        let segment = self.block.sack_segment(&pair, now, window, range);
+        let segment = self.block.sack_segment(&pair, now, window, sack_ranges);
         reply_to(incoming.ip_repr, self.block.hops(), segment)
     }
 
@@ -532,15 +532,21 @@ impl Socket {
         }
     }
 
-    /// The run that is held with its first byte at a place, if both SYNs permitted to tell it.
-    fn range_held(&self, place: usize) -> Option<(u32, u32)>
-        ensures { result ≡ range_held self.now place }
+    /// What is told of the runs that are held, where the first byte of a segment is held at a place, if
+    /// both SYNs permitted it: the run with this byte, and then the two highest others.
+    fn ranges_held(&self, place: usize) -> [Option<(u32, u32)>; 3]
+        ensures { result ≡ ranges_held self.now place }
     {
-        if self.block.peer.sack {
-            numbers_of(self.block.receiver.next, self.received.run_at(place))
-        } else {
-            None
+        if !self.block.peer.sack {
+            return [None; 3];
         }
+        let next = self.block.receiver.next;
+        let [highest, second] = self.received.others_than(place);
+        [
+            numbers_of(next, self.received.run_at(place)),
+            numbers_of(next, highest),
+            numbers_of(next, second),
+        ]
     }
 
     /// An acknowledgement that answers a segment which isn't acceptable, at most one a second.

@@ -3,7 +3,7 @@ ghost use Rattle.std.specs.Prelude.{◌≡◌, ◌==◌, ◌↔◌, ◌+◌, ◌
 ghost use Rattle.tcp_socket.specs.Receive.{most_bytes, FitsBuffer, in_order, can_hold, early, unbroken};
 ghost use Rattle.tcp_model.specs.Value.{received_of, room_of, emptied};
 ghost use Rattle.tcp_model.specs.Calls.{read_from};
-ghost use Rattle.tcp_model.specs.Answers.{run_at};
+ghost use Rattle.tcp_model.specs.Answers.{run_at, others, first_two};
 ghost use Rattle.tcp_law.specs.ReceiveMap.{space, store, front};
 ghost use Rattle.held_bytes.specs.Held.{runs_of};
 
@@ -145,6 +145,13 @@ impl ReceiveBuffer {
     {
         run_at(&self.held, place)
     }
+
+    /// Of the runs without this place the two highest, the highest first.
+    pub fn others_than(&self, place: usize) -> [Option<(usize, usize)>; 2]
+        ensures { result ≡ first_two (others place (runs_of self.now.map)) }
+    {
+        others_than(&self.held, place)
+    }
 }
 
 /// The run with this place.
@@ -157,4 +164,20 @@ fn run_at(held: &Assembler<4>, place: usize) -> Option<(usize, usize)>
         }
     }
     None
+}
+
+/// The two highest runs without this place, the highest first.
+#[tactic(auto, using(crate::proofs::Others::told_is))]
+fn others_than(held: &Assembler<4>, place: usize) -> [Option<(usize, usize)>; 2]
+    ensures { result ≡ first_two (others place held.now) }
+{
+    let (mut highest, mut second) = (None, None);
+    for (start, end) in held.iter_data() {
+        let is_met = start <= place && place < end;
+        if !is_met {
+            second = highest;
+            highest = Some((start, end));
+        }
+    }
+    [highest, second]
 }

@@ -27,7 +27,7 @@ use Rattle.tcp_model.specs.Endpoints.{ip_header_len}
 use Rattle.tcp_model.specs.Offsets.{past_by, before_by, meets_window}
 use Rattle.tcp_model.specs.Opening.{is_first_syn, opens, answering, takes_answer, acks_syn, syn_answered}
 use Rattle.tcp_model.specs.Rules.{text_choice, resend_choice, stamp_len, size_limit, window_limit, congestion_limit, unbroken, next_place, beyond, sent_places}
-use Rattle.tcp_model.specs.Segments.{segment_len, rst_reply}
+use Rattle.tcp_model.specs.Segments.{no_ranges, segment_len, rst_reply}
 use Rattle.tcp_model.specs.States.{is_time_wait}
 use Rattle.tcp_model.specs.Timeout.{timeout_restarted}
 use Rattle.tcp_model.specs.Value.{TcpValue, Arrived, with_block, dropped, answered_with, unoffered, ended, queued_in}
@@ -149,7 +149,7 @@ no_syn other e = absurd (cc)
 
 drawn_core : (cx : ContextValue) (v : TcpValue) (ip : IpRepr) (header : TcpHeader) → core_of (drawn cx v ip header).socket ≡ core_of v
 drawn_core cx v ip header =
-    cond_both (may_draw cx.moment v.block.timers.draws_from) (acked cx (with_draw v cx.moment) ip header None) (dropped v)
+    cond_both (may_draw cx.moment v.block.timers.draws_from) (acked cx (with_draw v cx.moment) ip header no_ranges) (dropped v)
     (λ (a : Arrived). core_of a.socket ≡ core_of v) (λ _. refl) (λ _. refl)
 
 module _ (cx : ContextValue) (v : TcpValue) (ip : IpRepr) (header : TcpHeader) (bytes : List ℕ) (rst : is_rst header.control ≡ true) where

@@ -31,7 +31,7 @@ use Rattle.tcp_model.specs.Reply.{Reply}
 use Rattle.tcp_model.specs.State.{State}
 use Rattle.tcp_model.specs.State.TheVariants as In
 use Rattle.tcp_model.specs.Acknowledged.{acknowledged, block_acknowledged, state_after_ack, acks_fin, una_moved, in_state, ended_if, duplicates_after, names_window, windowed, stamp_taken, ranges_taken, counted}
-use Rattle.tcp_model.specs.Answers.{drawn, may_draw, with_draw, acked, answer_for, range_held}
+use Rattle.tcp_model.specs.Answers.{drawn, may_draw, with_draw, acked, answer_for, ranges_held}
 use Rattle.tcp_model.specs.Arrival.{waiting_anew, outside, passed_outside, tells_news, finished, with_content, told, taken, inside, checked, takes_reset, challenges_reset, reset_comes, challenges_syn, received, arrives_in, arrives, is_void_syn}
 use Rattle.tcp_model.specs.Blocks.{unacked, no_names}
 use Rattle.tcp_model.specs.Calls.{listening, connecting, close_after, abort_after}
@@ -46,7 +46,7 @@ use Rattle.tcp_model.specs.Opening.{is_first_syn, opens, takes_answer, acks_syn,
 use Rattle.tcp_model.specs.Probing.{probe_started, probe_moment, probe_kept}
 use Rattle.tcp_model.specs.Offsets.{past_by, before_by}
 use Rattle.tcp_model.specs.Rules.{control_for, time_wait_end, owes_syn, resends, ack_moment, has_text, text_choice, resend_choice, probe_choice, updates_window, keep_alive_moment, backed_off_now}
-use Rattle.tcp_model.specs.Segments.{rst_reply, reset_for, reply_to, hops_of, segment, sack_segment, ack_segment, syn_segment, reset_segment, keep_alive_segment}
+use Rattle.tcp_model.specs.Segments.{no_ranges, rst_reply, reset_for, reply_to, hops_of, segment, sack_segment, ack_segment, syn_segment, reset_segment, keep_alive_segment}
 use Rattle.tcp_model.specs.Retries.{heard, asked, one_more, gives_up, given_up}
 use Rattle.tcp_model.specs.Settled.{settled, recorded, probed, end_of}
 use Rattle.tcp_model.specs.States.{is_closed, is_time_wait, is_listening, is_answering, is_opening, after_ack, after_ack_of_fin, after_fin, after_close, takes_text}
@@ -195,19 +195,19 @@ module _ (cx : ContextValue) (ip : IpRepr) (header : TcpHeader) where
   named_dropped : (old : Block) (v : TcpValue) → KeepsOrForgets old v.block → Named old (dropped v)
   named_dropped old v names = (names, λ reply e. absurd (cc))
 
-  named_acked : (old : Block) (v : TcpValue) (range : Option (ℕ × ℕ)) → KeepsNames old v.block → Named old (acked cx v ip header range)
-  named_acked old v range names = (
+  named_acked : (old : Block) (v : TcpValue) (ranges : List (Option (ℕ × ℕ))) → KeepsNames old v.block → Named old (acked cx v ip header ranges)
+  named_acked old v ranges names = (
     inl (record { names = names.names; listening = names.listening }),
     λ reply e.
         answered_back ip header
-        (reply_to ip (hops_of v.block.settings.hop_limit) (sack_segment v.block (pair_in ip header) cx.moment (window_of v) range)) reply
-        (reply_back ip header (hops_of v.block.settings.hop_limit) (sack_segment v.block (pair_in ip header) cx.moment (window_of v) range) refl refl) e,
+        (reply_to ip (hops_of v.block.settings.hop_limit) (sack_segment v.block (pair_in ip header) cx.moment (window_of v) ranges)) reply
+        (reply_back ip header (hops_of v.block.settings.hop_limit) (sack_segment v.block (pair_in ip header) cx.moment (window_of v) ranges) refl refl) e,
   )
 
   named_drawn : (old : Block) (v : TcpValue) → KeepsNames old v.block → Named old (drawn cx v ip header)
   named_drawn old v names =
-      cond_both (may_draw cx.moment v.block.timers.draws_from) (acked cx (with_draw v cx.moment) ip header None) (dropped v) (λ (a : Arrived). Named old a)
-      (λ _. named_acked old (with_draw v cx.moment) None (record { names = names.names; listening = names.listening }))
+      cond_both (may_draw cx.moment v.block.timers.draws_from) (acked cx (with_draw v cx.moment) ip header no_ranges) (dropped v) (λ (a : Arrived). Named old a)
+      (λ _. named_acked old (with_draw v cx.moment) no_ranges (record { names = names.names; listening = names.listening }))
       (λ _. named_dropped old v (inl names))
 
   named_reset : (v : TcpValue) (size : ℕ) → Named v.block (answered_with v (rst_reply ip header size))
@@ -238,7 +238,7 @@ module _ (cx : ContextValue) (ip : IpRepr) (header : TcpHeader) where
       (λ _. (refl, refl))
 
   named_answer : (old : Block) (v : TcpValue) (size : ℕ) (fills : Bool) (early : Option ℕ) → KeepsNames old v.block → Named old (answer_for cx v ip header size fills early)
-  named_answer old v size fills (Some place) names = named_acked old v (range_held v place) names
+  named_answer old v size fills (Some place) names = named_acked old v (ranges_held v place) names
   named_answer old v size fills None names = named_dropped old (answer_for cx v ip header size fills None).socket (inl (record { names = names.names; listening = names.listening }))
 
   named_finished : (old before : Block) (t : Texted) (size : ℕ) → KeepsNames old t.socket.block → Named old (finished cx before t ip header size)

@@ -16,7 +16,7 @@ use Rattle.tcp_law.specs.Side.Phase.{Synchronized}
 use Rattle.tcp_law.proofs.Calls as law
 use Rattle.tcp_model.specs.declared.block.Block.{Block}
 use Rattle.tcp_model.specs.State.{State}
-use Rattle.tcp_model.specs.Answers.{acked, drawn, with_draw, may_draw, answer_for, range_held}
+use Rattle.tcp_model.specs.Answers.{acked, drawn, with_draw, may_draw, answer_for, ranges_held}
 use Rattle.tcp_model.specs.Arrival.{with_content}
 use Rattle.tcp_model.specs.Controls.{is_syn, is_fin, is_rst}
 use Rattle.tcp_model.specs.Offsets.{past_by, before_by}
@@ -24,6 +24,7 @@ use Rattle.tcp_model.specs.Probing.{probe_kept}
 use Rattle.tcp_model.specs.States.{takes_text, after_fin}
 use Rattle.tcp_model.specs.Text.{Texted, texted, laid, held_early, taken_in_order, with_bytes_at, has_new_text, with_text, is_at_fin, takes_fin, fin_taken, with_fin}
 use Rattle.tcp_model.specs.Value.{TcpValue, Arrived, with_block, dropped, queued_in, free_in, received_of}
+use Rattle.tcp_model.specs.Segments.{no_ranges}
 use Rattle.tcp_tie.specs.Tie.{Core, Past, unsent, core_of, segment_of, control_of}
 use Rattle.tcp_tie.specs.History.{with_answer}
 use Rattle.tcp_tie.proofs.Tied.{Tied, fits_connected, is_connected, takes_in}
@@ -57,21 +58,21 @@ fin_control other e = absurd (cc)
 -- ANSWERS
 
 pub led_acked :
-    (cx : ContextValue) (v : TcpValue) (ip : IpRepr) (header : TcpHeader) (range : Option (ℕ × ℕ)) (p : Past) (t : Side) → is_connected v.block.state ≡ true
-    → Tied (core_of v) p t → Led p t (acked cx v ip header range)
-led_acked cx v ip header range p t connected r = sends_ack (core_of v) p t v.block.sender.top connected r
+    (cx : ContextValue) (v : TcpValue) (ip : IpRepr) (header : TcpHeader) (ranges : List (Option (ℕ × ℕ))) (p : Past) (t : Side) → is_connected v.block.state ≡ true
+    → Tied (core_of v) p t → Led p t (acked cx v ip header ranges)
+led_acked cx v ip header ranges p t connected r = sends_ack (core_of v) p t v.block.sender.top connected r
 
 pub led_drawn :
     (cx : ContextValue) (v : TcpValue) (ip : IpRepr) (header : TcpHeader) (p : Past) (t : Side) → is_connected v.block.state ≡ true
     → Tied (core_of v) p t → Led p t (drawn cx v ip header)
 led_drawn cx v ip header p t connected r =
-    cond_both (may_draw cx.moment v.block.timers.draws_from) (acked cx (with_draw v cx.moment) ip header None) (dropped v) (λ (a : Arrived). Led p t a)
-    (λ _. led_acked cx (with_draw v cx.moment) ip header None p t connected r) (λ _. r)
+    cond_both (may_draw cx.moment v.block.timers.draws_from) (acked cx (with_draw v cx.moment) ip header no_ranges) (dropped v) (λ (a : Arrived). Led p t a)
+    (λ _. led_acked cx (with_draw v cx.moment) ip header no_ranges p t connected r) (λ _. r)
 
 led_answer :
     (cx : ContextValue) (v : TcpValue) (ip : IpRepr) (header : TcpHeader) (size : ℕ) (fills : Bool) (early : Option ℕ) (p : Past) (t : Side) → is_connected v.block.state ≡ true
     → Tied (core_of v) p t → Led p t (answer_for cx v ip header size fills early)
-led_answer cx v ip header size fills (Some place) p t connected r = led_acked cx v ip header (range_held v place) p t connected r
+led_answer cx v ip header size fills (Some place) p t connected r = led_acked cx v ip header (ranges_held v place) p t connected r
 led_answer cx v ip header size fills None p t connected r = r
 
 -- TEXT

@@ -31,7 +31,7 @@ use Rattle.datagram_sockets.specs.declared.udp.UdpMetadata.{UdpMetadata}
 use Rattle.tcp_model.specs.AddressPair.{AddressPair}
 use Rattle.tcp_model.specs.AddressPair.TheVariants as Pair
 use Rattle.tcp_model.specs.Acknowledged.{acknowledged, duplicates_after}
-use Rattle.tcp_model.specs.Answers.{drawn, may_draw, with_draw, acked, answer_for, range_held}
+use Rattle.tcp_model.specs.Answers.{drawn, may_draw, with_draw, acked, answer_for, ranges_held}
 use Rattle.tcp_model.specs.Arrival.{waiting_anew, outside, passed_outside, tells_news, finished, with_content, told, taken, inside, checked, takes_reset, challenges_reset, reset_comes, challenges_syn, received, arrives_in, arrives, is_void_syn}
 use Rattle.tcp_model.specs.Calls.{listening}
 use Rattle.tcp_model.specs.Checks.{Check, acknowledgement_check, is_in_window, taken_down, falls_back}
@@ -49,7 +49,7 @@ use Rattle.tcp_model.specs.Probing.{probe_started, probe_moment, probe_kept}
 use Rattle.tcp_model.specs.Reply.{Reply}
 use Rattle.tcp_model.specs.Retries.{heard, gives_up, given_up}
 use Rattle.tcp_model.specs.Rules.{Choice, control_for, time_wait_end, owes_syn, resends, ack_moment, has_text, text_choice, resend_choice, probe_choice, updates_window, keep_alive_moment}
-use Rattle.tcp_model.specs.Segments.{hops_of, segment, ack_segment, sack_segment, syn_segment, reset_segment, keep_alive_segment, rst_reply, reset_for}
+use Rattle.tcp_model.specs.Segments.{no_ranges, hops_of, segment, ack_segment, sack_segment, syn_segment, reset_segment, keep_alive_segment, rst_reply, reset_for}
 use Rattle.tcp_model.specs.State.{State}
 use Rattle.tcp_model.specs.State.TheVariants as In
 use Rattle.tcp_model.specs.States.{is_closed}
@@ -252,14 +252,14 @@ module _ (cx : ContextValue) (ip : IpRepr) (header : TcpHeader) where
   reset_tcp : (v : TcpValue) (size : ℕ) → AnswersTcp (answered_with v (rst_reply ip header size))
   reset_tcp v size = names_tcp (addresses_in ip) 64 (header_len (reset_for header size))
 
-  acked_tcp : (v : TcpValue) (range : Option (ℕ × ℕ)) → AnswersTcp (acked cx v ip header range)
-  acked_tcp v range = names_tcp (addresses_in ip) (hops_of v.block.settings.hop_limit) (header_len (sack_segment v.block (pair_in ip header) cx.moment (window_of v) range))
+  acked_tcp : (v : TcpValue) (ranges : List (Option (ℕ × ℕ))) → AnswersTcp (acked cx v ip header ranges)
+  acked_tcp v ranges = names_tcp (addresses_in ip) (hops_of v.block.settings.hop_limit) (header_len (sack_segment v.block (pair_in ip header) cx.moment (window_of v) ranges))
 
   drawn_tcp : (v : TcpValue) → AnswersTcp (drawn cx v ip header)
-  drawn_tcp v = either_arrived (may_draw cx.moment v.block.timers.draws_from) (acked cx (with_draw v cx.moment) ip header None) (dropped v) (acked_tcp (with_draw v cx.moment) None) tt
+  drawn_tcp v = either_arrived (may_draw cx.moment v.block.timers.draws_from) (acked cx (with_draw v cx.moment) ip header no_ranges) (dropped v) (acked_tcp (with_draw v cx.moment) no_ranges) tt
 
   answer_tcp : (v : TcpValue) (size : ℕ) (fills : Bool) (early : Option ℕ) → AnswersTcp (answer_for cx v ip header size fills early)
-  answer_tcp v size fills (Some place) = acked_tcp v (range_held v place)
+  answer_tcp v size fills (Some place) = acked_tcp v (ranges_held v place)
   answer_tcp v size fills None = tt
 
   finished_tcp : (old : Block) (t : Texted) (size : ℕ) → AnswersTcp (finished cx old t ip header size)

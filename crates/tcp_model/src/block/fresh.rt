@@ -1,6 +1,6 @@
 //! A fresh control block, and what follows from its fields.
-ghost use Rattle.std.specs.Prelude.{◌≡◌, ◌+◌, ◌≤◌, ◌^◌};
-ghost use Rattle.tcp_model.specs.Blocks.{default_settings, fresh_sender, fresh_block, forgotten, unacked, nxt, top, past_top, own_scale, scale_for, field_of, own_shift, window_field, told_of, least_step, is_worth_telling, announced};
+ghost use Rattle.std.specs.Prelude.{◌≡◌, ◌+◌, ◌*◌, ◌≤◌, ◌^◌};
+ghost use Rattle.tcp_model.specs.Blocks.{default_settings, fresh_sender, fresh_block, forgotten, unacked, nxt, top, past_top, own_scale, scale_for, field_of, own_shift, window_field, told_of, least_step, is_worth_telling, edge_after, announced};
 
 use crate::{
     Block, CongestionControl, Names, Peer, Receiver, Reno, RoundTrip, Sender, Settings, State,
@@ -209,6 +209,16 @@ impl Block {
     {
         let edge = self.receiver.edge as usize + self.least_step(capacity);
         edge <= self.told_of(capacity, free) as usize
+    }
+
+    /// The right edge after a segment with this window field. What its rounding leaves out stays
+    /// announced.
+    pub(crate) fn edge_after(&self, capacity: usize, window: u16) -> u32
+        ensures { result ≡ edge_after self.now capacity (window * 2 ^ own_shift self.now capacity) }
+    {
+        let shift = self.own_shift(capacity);
+        let told = (window as u32) << shift;
+        self.receiver.edge.min(told + ((1 << shift) - 1)).max(told)
     }
 
     /// The space that a segment announces, where so many bytes wait to be read: the right edge stays,

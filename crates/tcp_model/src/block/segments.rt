@@ -110,21 +110,21 @@ impl Block {
         self.segment(pair, now, window, TcpControl::None, self.top())
     }
 
-    /// The same with a range that is held out of order.
+    /// The same with ranges that are held out of order.
     pub fn sack_segment(
         &self,
         pair: &EndpointPair,
         now: Instant,
         window: u16,
-        range: Option<(u32, u32)>,
+        sack_ranges: [Option<(u32, u32)>; 3],
     ) -> TcpHeader
         requires { IsMoment now }
-        ensures { result ≡ sack_segment self.now pair.now now window range }
+        ensures { result ≡ sack_segment self.now pair.now now window sack_ranges }
     {
         let header = self.ack_segment(pair, now, window);
         TcpHeader {
             options: TcpOptions {
-                sack_ranges: [range, None, None],
+                sack_ranges,
                 ..header.options
             },
             ..header

@@ -25,7 +25,7 @@ impl Block {
         self.settings.keep_alive_at = later_by(offer.moment, self.settings.keep_alive);
     }
 
-    /// The right edge of the window that a segment announced, of a receive buffer with this capacity.
+    /// The right edge of the window after a segment announced it, of a receive buffer with this capacity.
     fn edge_by(&self, offer: &OpenOffer, capacity: usize) -> u32
         requires { capacity ≤ 2 ^ 30 }
         ensures { result ≡ edge_by self.now offer.now capacity }
@@ -33,7 +33,7 @@ impl Block {
         if is_syn(offer.segment.control) {
             capacity as u32
         } else {
-            (offer.segment.window_len as u32) << self.own_shift(capacity)
+            self.edge_after(capacity, offer.segment.window_len)
         }
     }
 

@@ -59,7 +59,7 @@ impl Block {
     pub fn record_ack(&mut self, capacity: usize, window: u16)
         ensures { self.new ≡ ack_recorded self.old capacity window }
     {
-        self.receiver.edge = (window as u32) << self.own_shift(capacity);
+        self.receiver.edge = self.edge_after(capacity, window);
         self.timers.ack_at = None;
         self.timers.text_unacked = false;
     }

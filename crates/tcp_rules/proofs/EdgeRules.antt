@@ -1,0 +1,870 @@
+-- What was announced of the window stays announced.
+use Rattle.std.proofs.Common.{◌≡◌, ◌⊎◌, ℕ, zero, suc, ◌+◌, ◌-◌, ◌*◌, ◌/◌, ◌%◌, ◌^◌, ◌<◌, ◌≤◌, ◌==◌, ◌&&◌, ◌||◌, nat_le, nat_lt, not, min, max, ℤ, Bool, true, false, if◌then◌else◌, List, [], ◌∷◌, ◌++◌, length, take, drop, Option, Some, None, is_some, inl, inr, ⊎_elim, refl, sym, ap, ◌∙◌, subst, arith, length-append, length-drop}
+use Rattle.std.proofs.lemmas.Bool.{cond_both, eqb-true, leb-true, leb-false}
+use Rattle.std.proofs.lemmas.List.{length-take}
+use Rattle.std.proofs.lemmas.Nat.{div-add-mod', pow_pos}
+use Rattle.std.proofs.Math.Nat.{mod-lt, mul-le-mul_right}
+use Rattle.ip_wire.specs.IpEndpoint.{IpEndpoint}
+use Rattle.ip_wire.specs.IpListenEndpoint.{IpListenEndpoint}
+use Rattle.ip_wire.specs.IpRepr.{IpRepr}
+use Rattle.ip_wire.specs.Seq.{distance_of}
+use Rattle.ip_wire.specs.SeqNumber.{SeqNumber}
+use Rattle.ip_wire.specs.TcpControl.{TcpControl}
+use Rattle.ip_wire.specs.TcpControl.TheVariants as Control
+use Rattle.ip_wire.specs.TcpHeader.{TcpHeader}
+use Rattle.net_base.specs.RandomWords.{word}
+use Rattle.net_base.specs.Ring.{Ring, anchored, enqueued}
+use Rattle.socket_base.specs.Context.{ContextValue, next_random}
+use Rattle.socket_base.specs.Offers.{Offered}
+use Rattle.tcp_control.specs.Controls.{is_syn, is_rst}
+use Rattle.tcp_control.specs.Moments.{is_due, timeout_from}
+use Rattle.tcp_control.specs.Moments as moments
+use Rattle.tcp_control.specs.Endpoints.{pair_in}
+use Rattle.tcp_control.specs.Offsets.{behind_by}
+use Rattle.tcp_control.specs.States.{is_closed, is_listening, is_opening, is_time_wait, takes_text, takes_writes, is_answering, sends_syn, after_close, after_fin, after_ack, after_ack_of_fin}
+use Rattle.tcp_control.specs.declared.endpoints.EndpointPair.{EndpointPair}
+use Rattle.tcp_control.specs.declared.offer.OfferKind.{OfferKind}
+use Rattle.tcp_control.specs.declared.offer.OfferKind.TheVariants as Kind
+use Rattle.tcp_control.specs.declared.offer.OpenOffer.{OpenOffer}
+use Rattle.tcp_control.specs.declared.state.State.{State}
+use Rattle.tcp_control.specs.declared.state.State.TheVariants as In
+use Rattle.tcp_law.specs.ReceiveMap.{space, front, behind}
+use Rattle.tcp_model.specs.Acknowledged.{windowed, state_after_ack, acks_fin}
+use Rattle.tcp_model.specs.Answers.{acked, with_draw, ranges_held}
+use Rattle.tcp_model.specs.Arrival.{arrives, waiting_anew}
+use Rattle.tcp_model.specs.Blocks.{forgotten, nowhere, own_scale, shift_of, own_shift, is_worth_telling}
+use Rattle.tcp_model.specs.Calls.{listening, connecting, connected_by, pair_for, sent_more, recv_after}
+use Rattle.tcp_model.specs.Offers.{offer_of, offer_syn, offer_choice, offer_ack, offer_reset, offer_keep_alive, silent, number_at}
+use Rattle.tcp_model.specs.Opening.{answering, connected, crossed}
+use Rattle.tcp_model.specs.Retries.{heard, asked, one_more}
+use Rattle.tcp_model.specs.Rules.{Choice, control_for, owes_syn, probe_choice, text_choice, resend_choice, backed_off_now}
+use Rattle.tcp_model.specs.Segments.{no_ranges, segment, ack_segment, sack_segment, syn_segment, reset_segment, keep_alive_segment, reset_for}
+use Rattle.tcp_model.specs.Settled.{settled, sent_off, recorded, probed, end_of}
+use Rattle.tcp_model.specs.Text.{taken_in_order, is_holding, fin_taken}
+use Rattle.tcp_model.specs.Timeout.{timeout_restarted, timed_out}
+use Rattle.tcp_model.specs.Value.{TcpValue, Arrived, with_block, unoffered, ended, new_socket, queued_in, free_in, room_of, window_of}
+use Rattle.tcp_model.specs.declared.block.Block.{Block}
+use Rattle.tcp_rules.specs.Edges.{answer_in, offer_in, goes, unit_of, window_in, risen, furthest_with, furthest_after, KeepsEdge, KeepEdges}
+use Rattle.tcp_rules.specs.Ends.{is_over}
+use Rattle.tcp_rules.specs.Events.{Event, Setting, after, set, is_past}
+use Rattle.tcp_rules.specs.Events.Event.{Comes, Asked, Listens, Connects, Sends, Reads, Closes, Aborts, Sets}
+use Rattle.tcp_rules.specs.Events.Setting.{Timeout, KeepAlive, AckDelay, Nagle, HopLimit, Timestamps, Paused, Retries, Congestion, MinRto}
+use Rattle.tcp_rules.specs.InOrder.{sending_of, IsInOrder}
+use Rattle.tcp_rules.proofs.ArrivalCases.{by_arrival, Received, Opening, Content, Drawing, acked_open, acked_last, heeded, held, kept, due}
+use Rattle.tcp_rules.proofs.OfferCases.{Rules, FirstRules, LastRules, by_rules, begun, probing}
+use Rattle.tcp_rules.proofs.OrderRules.{event_order, new_order, opened_by, and_true}
+use Rattle.tcp_rules.proofs.OrderSteps.{clash, backed_order}
+
+record Edge : Type 0 where
+  state : State
+  next : SeqNumber
+  took_syn : Bool
+  edge : ℕ
+  waiting : ℕ
+  free : ℕ
+  scale : Option ℕ
+
+abbrev edge_of : TcpValue → Edge
+edge_of v = record {
+  state = v.block.state;
+  next = v.block.receiver.next;
+  took_syn = v.block.receiver.took_syn;
+  edge = v.block.receiver.edge;
+  waiting = length v.received.waiting;
+  free = free_in v;
+  scale = v.block.peer.scale;
+}
+
+abbrev unit : Edge → ℕ
+unit e = 2 ^ shift_of e.scale (own_scale (e.waiting + e.free))
+
+-- the furthest edge that was announced isn't past the one that is kept, nor past what a field can tell
+record IsEdge (capacity furthest : ℕ) (e : Edge) : Type 0 where
+  room : e.waiting + e.free ≡ capacity
+  number : e.next.0 < 2 ^ 32
+  opening : is_opening e.state ≡ true → e.scale ≡ None
+  below : furthest ≤ e.edge
+  told : furthest ≤ 65_535 * unit e
+  within : e.edge ≤ e.free
+
+transitive : (a b c : ℕ) → a ≤ b → b ≤ c → a ≤ c
+transitive a b c e f = omega arith
+
+least : (m : ℕ) → 0 ≤ m
+least m = omega arith
+
+less : (capacity f g : ℕ) (e : Edge) → IsEdge capacity f e → g ≤ f → IsEdge capacity g e
+less capacity f g e p small = record {
+  room = p.room;
+  number = p.number;
+  opening = p.opening;
+  below = transitive g f e.edge small p.below;
+  told = transitive g f (65_535 * unit e) small p.told;
+  within = p.within;
+}
+
+-- another state
+in_state : (capacity f : ℕ) (e : Edge) (state : State) → IsEdge capacity f e → (is_opening state ≡ true → is_opening e.state ≡ true) → IsEdge capacity f (record e { state = state })
+in_state capacity f e state p opens = record {
+  room = p.room;
+  number = p.number;
+  opening = λ is. p.opening (opens is);
+  below = p.below;
+  told = p.told;
+  within = p.within;
+}
+
+minus_least : (f k : ℕ) → f - k ≤ f
+minus_least f k = omega arith
+
+over_least : (t : Bool) (f : ℕ) → (if t then 0 else f) ≤ f
+over_least true f = least f
+over_least false f = omega arith
+
+-- WHAT A FIELD TELLS
+
+-- between the edge that is kept and the free space
+announced_between : (t : Bool) (edge free : ℕ) → edge ≤ free → (edge ≤ (if t then free else min edge free)) × ((if t then free else min edge free) ≤ free)
+announced_between true edge free within = (within, omega arith)
+announced_between false edge free within = (omega (arith, within), omega (arith, within))
+
+-- a field tells so much space, but less than a unit of it, as far as it can
+told_near : (space u seen : ℕ) → 1 ≤ u → seen ≤ space → seen ≤ 65_535 * u
+    → (min (space / u) 65_535 * u ≤ space) × (min (space / u) 65_535 * u ≤ 65_535 * u) × (seen < min (space / u) 65_535 * u + u)
+told_near space u seen some below most = at (nat_le (space / u) 65_535) refl where
+  parts : space / u * u + space % u ≡ space
+  parts = div-add-mod' space u
+
+  rest : space % u < u
+  rest = mod-lt space some
+
+  low : (d : ℕ) → d ≤ 65_535 → min d 65_535 ≡ d
+  low d e = omega arith
+
+  high : (d : ℕ) → 65_535 < d → min d 65_535 ≡ 65_535
+  high d e = omega arith
+
+  within : (told rest all u seen : ℕ) → told + rest ≡ all → rest < u → seen ≤ all → (told ≤ all) × (seen < told + u)
+  within told rest all u seen e f g = (omega arith, omega arith)
+
+  past : (told seen u : ℕ) → seen ≤ told → 1 ≤ u → seen < told + u
+  past told seen u e f = omega arith
+
+  shrinks : (told rest all most : ℕ) → told + rest ≡ all → most ≤ told → most ≤ all
+  shrinks told rest all most e f = omega arith
+
+  at : (t : Bool) → nat_le (space / u) 65_535 ≡ t
+      → (min (space / u) 65_535 * u ≤ space) × (min (space / u) 65_535 * u ≤ 65_535 * u) × (seen < min (space / u) 65_535 * u + u)
+  at true e =
+      let small = leb-true (space / u) 65_535 e in
+      let near = within (space / u * u) (space % u) space u seen parts rest below in
+      subst (λ (d : ℕ). (d * u ≤ space) × (d * u ≤ 65_535 * u) × (seen < d * u + u)) (sym (low (space / u) small))
+      (near.0, mul-le-mul_right u small, near.1)
+  at false e =
+      let large = leb-false (space / u) 65_535 e in
+      subst (λ (d : ℕ). (d * u ≤ space) × (d * u ≤ 65_535 * u) × (seen < d * u + u)) (sym (high (space / u) large))
+      (shrinks (space / u * u) (space % u) space (65_535 * u) parts (mul-le-mul_right u (below_of (space / u) large)), omega arith, past (65_535 * u) seen u most some)
+    where
+      below_of : (d : ℕ) → 65_535 < d → 65_535 ≤ d
+      below_of d e = omega arith
+
+-- A SEGMENT GOES
+
+-- what is kept is no less than what was announced
+kept_edge : (edge free told u seen : ℕ) → seen ≤ edge → edge ≤ free → told ≤ free → seen < told + u
+    → (max seen told ≤ max told (min edge (told + (u - 1)))) × (max told (min edge (told + (u - 1))) ≤ free)
+kept_edge edge free told u seen below within small near = (omega arith, omega arith)
+
+larger : (a b c : ℕ) → a ≤ c → b ≤ c → max a b ≤ c
+larger a b c e f = omega arith
+
+-- of a segment with this field, a SYN or not, a reset or not
+abbrev KeepsWith : ℕ → Bool → Bool → ℕ → ℕ → Type 0
+KeepsWith seen syn rst window u =
+    (rst ≡ false → syn ≡ false → seen < (if syn then window else window * u) + u) × (syn ≡ true → min seen 65_535 ≤ (if syn then window else window * u))
+
+module _ (capacity seen : ℕ) (e : Edge) (p : IsEdge capacity seen e) (t : Bool) (state : State) (same : is_opening state ≡ true → is_opening e.state ≡ true) where
+  abbrev space_told : ℕ
+  space_told = if t then e.free else min e.edge e.free
+
+  abbrev field : ℕ
+  field = min (space_told / unit e) 65_535
+
+  some : 1 ≤ unit e
+  some = pow_pos (shift_of e.scale (own_scale (e.waiting + e.free)))
+
+  between : (e.edge ≤ space_told) × (space_told ≤ e.free)
+  between = announced_between t e.edge e.free p.within
+
+  near : (field * unit e ≤ space_told) × (field * unit e ≤ 65_535 * unit e) × (seen < field * unit e + unit e)
+  near = told_near space_told (unit e) seen some (transitive seen e.edge space_told p.below between.0) p.told
+
+  plain_goes : (syn rst : Bool) → syn ≡ false
+      → KeepsWith seen syn rst field (unit e)
+      × IsEdge capacity (if rst then seen else max seen (if syn then field else field * unit e))
+        (record e { state = state; edge = if syn then e.waiting + e.free else max (field * unit e) (min e.edge (field * unit e + (unit e - 1))) })
+  plain_goes true rst is = clash is
+  plain_goes false rst is = (
+    keeps rst,
+    less capacity (max seen (field * unit e)) (if rst then seen else max seen (field * unit e))
+    (record e { state = state; edge = max (field * unit e) (min e.edge (field * unit e + (unit e - 1))) })
+    (record {
+      room = p.room;
+      number = p.number;
+      opening = λ is. p.opening (same is);
+      below = kept.0;
+      told = larger seen (field * unit e) (65_535 * unit e) p.told near.1;
+      within = kept.1;
+    })
+    (lesser rst seen (field * unit e)),
+  )
+    where
+      kept : (max seen (field * unit e) ≤ max (field * unit e) (min e.edge (field * unit e + (unit e - 1)))) × (max (field * unit e) (min e.edge (field * unit e + (unit e - 1))) ≤ e.free)
+      kept = kept_edge e.edge e.free (field * unit e) (unit e) seen p.below p.within (transitive (field * unit e) space_told e.free near.0 between.1) near.2
+
+      lesser : (rst : Bool) (a b : ℕ) → (if rst then a else max a b) ≤ max a b
+      lesser true a b = omega arith
+      lesser false a b = omega arith
+
+      no_syn : false ≡ true → min seen 65_535 ≤ field * unit e
+      no_syn e = clash (sym e)
+
+      keeps : (rst : Bool) → KeepsWith seen false rst field (unit e)
+      keeps rst = ((λ _ _. near.2), no_syn)
+
+-- a SYN tells of an empty buffer what it can, and all of it is kept
+syn_goes : (capacity seen : ℕ) (e : Edge) → IsEdge capacity seen e → e.waiting ≡ 0
+    → KeepsWith seen true false (min e.free 65_535) (unit e) × IsEdge capacity (max seen (min e.free 65_535)) (record e { edge = e.waiting + e.free })
+syn_goes capacity seen e p none = (
+  ((λ _ no. clash no), (λ _. told seen e.edge e.free p.below p.within)),
+  record {
+    room = p.room;
+    number = p.number;
+    opening = p.opening;
+    below = below seen e.edge e.waiting e.free p.below p.within;
+    told = larger seen (min e.free 65_535) (65_535 * unit e) p.told (field e.free (unit e) (pow_pos (shift_of e.scale (own_scale (e.waiting + e.free)))));
+    within = within e.waiting e.free none;
+  },
+)
+  where
+    told : (seen edge free : ℕ) → seen ≤ edge → edge ≤ free → min seen 65_535 ≤ min free 65_535
+    told seen edge free e f = omega arith
+
+    below : (seen edge waiting free : ℕ) → seen ≤ edge → edge ≤ free → max seen (min free 65_535) ≤ waiting + free
+    below seen edge waiting free e f = omega arith
+
+    field : (free u : ℕ) → 1 ≤ u → min free 65_535 ≤ 65_535 * u
+    field free u e = omega (arith, e)
+
+    within : (waiting free : ℕ) → waiting ≡ 0 → waiting + free ≤ free
+    within waiting free e = omega arith
+
+-- THE EVENTS
+
+small_number : (a : SeqNumber) (n : ℕ) → (behind_by a n).0 < 2 ^ 32
+small_number a n = omega arith
+
+own_distance : (a : SeqNumber) → a.0 < 2 ^ 32 → distance_of a a ≡ 0
+own_distance a small = omega (arith, small)
+
+near_distance : (a : SeqNumber) (n : ℕ) → a.0 < 2 ^ 32 → n < 2 ^ 32 → distance_of a (behind_by a n) ≡ n
+near_distance a n small near = omega (arith, small, near)
+
+-- what an event leads to and the segment that goes with it, of a socket with this furthest edge
+abbrev Out : ℕ → ℕ → TcpValue → TcpValue → Option TcpHeader → Type 0
+Out capacity f v w segment =
+    KeepsEdge (f - risen v.block w.block) w segment
+    × IsEdge capacity (if is_over w.block.state then 0 else furthest_with (f - risen v.block w.block) w segment) (edge_of w)
+
+none_out : (capacity f : ℕ) (v w : TcpValue) → IsEdge capacity (f - risen v.block w.block) (edge_of w) → Out capacity f v w None
+none_out capacity f v w p = (tt, less capacity (f - risen v.block w.block) _ (edge_of w) p (over_least (is_over w.block.state) (f - risen v.block w.block)))
+
+over_out : (capacity f : ℕ) (v w : TcpValue) → is_over w.block.state ≡ true → IsEdge capacity 0 (edge_of w) → Out capacity f v w None
+over_out capacity f v w over p = (tt, subst (λ (t : Bool). IsEdge capacity (if t then 0 else f - risen v.block w.block) (edge_of w)) (sym over) p)
+
+reset_out : (capacity f : ℕ) (v w : TcpValue) (segment : TcpHeader) → segment.control ≡ Control.Rst → IsEdge capacity (f - risen v.block w.block) (edge_of w)
+    → Out capacity f v w (Some segment)
+reset_out capacity f v w segment rst p = (
+  ((λ no _. clash (sym (ap is_rst rst) ∙ no)), (λ syn. clash (sym syn ∙ ap is_syn rst))),
+  less capacity (f - risen v.block w.block) _ (edge_of w) p
+  (transitive _ _ _ (over_least (is_over w.block.state) _) (same_or (is_rst segment.control) (f - risen v.block w.block) _ (ap is_rst rst))),
+)
+  where
+    same_or : (t : Bool) (a b : ℕ) → t ≡ true → (if t then a else b) ≤ a
+    same_or true a b e = omega arith
+    same_or false a b e = clash (sym e)
+
+some_out : (capacity f : ℕ) (v w : TcpValue) (segment : TcpHeader) → KeepsEdge (f - risen v.block w.block) w (Some segment)
+    → IsEdge capacity (furthest_with (f - risen v.block w.block) w (Some segment)) (edge_of w) → Out capacity f v w (Some segment)
+some_out capacity f v w segment keeps p =
+    (keeps, less capacity (furthest_with (f - risen v.block w.block) w (Some segment)) _ (edge_of w) p (over_least (is_over w.block.state) _))
+
+-- RCV.NXT stays
+stays_least : (f : ℕ) (t : Bool) (a : SeqNumber) → (f - (if t then distance_of a a else 0)) ≤ f
+stays_least f true a = minus_least f (distance_of a a)
+stays_least f false a = minus_least f 0
+
+-- an acknowledgement of all that came answers, of a socket that is as the event left it
+acked_out : (capacity f : ℕ) (cx : ContextValue) (v x : TcpValue) (ip : IpRepr) (header : TcpHeader) (ranges : List (Option (ℕ × ℕ)))
+    → IsEdge capacity (f - risen v.block x.block) (edge_of x)
+    → Out capacity f v (acked cx x ip header ranges).socket (answer_in (acked cx x ip header ranges).answer)
+acked_out capacity f cx v x ip header ranges p =
+    let goes =
+    plain_goes capacity (f - risen v.block x.block) (edge_of x) p
+    ((length x.received.waiting == 0) || is_worth_telling x.block (room_of x.received) (free_in x)) x.block.state (λ e. e) false false refl in
+    some_out capacity f v (acked cx x ip header ranges).socket (sack_segment x.block (pair_in ip header) cx.moment (window_of x) ranges) goes.0 goes.1
+
+listens_edge : (capacity : ℕ) (v : TcpValue) (endpoint : IpListenEndpoint) (f : ℕ) → IsEdge capacity f (edge_of v) → IsEdge capacity 0 (edge_of (listening v endpoint))
+listens_edge capacity v endpoint f p = record {
+  room = none_waits (length (space (room_of v.received))) (room_of v.received) capacity (length-space (room_of v.received)) p.room;
+  number = omega arith;
+  opening = λ e. clash (sym e);
+  below = omega arith;
+  told = least _;
+  within = least _;
+}
+  where
+    none_waits : (a b c : ℕ) → a ≡ b → b ≡ c → 0 + a ≡ c
+    none_waits a b c e f = omega arith
+
+    length-space : (n : ℕ) → length (space n) ≡ n
+    length-space zero = refl
+    length-space (suc n) = ap suc (length-space n)
+
+-- TEXT AND FIN
+
+front_behind : (map : List (Option ℕ)) → length (front map) + length (behind map) ≡ length map
+front_behind [] = refl
+front_behind (None ∷ map) = omega arith
+front_behind (Some byte ∷ map) = let rest = front_behind map in omega (arith, rest)
+
+-- so much text is taken in order
+text_edge :
+    (capacity f : ℕ) (e : Edge) (a waiting free : ℕ) → IsEdge capacity f e → waiting ≡ e.waiting + a → a + free ≡ e.free
+    → IsEdge capacity (f - a) (record e { next = behind_by e.next a; edge = e.edge - a; waiting = waiting; free = free })
+text_edge capacity f e a waiting free p more split = record {
+  room = sym same ∙ p.room;
+  number = small_number e.next a;
+  opening = p.opening;
+  below = minus f e.edge a p.below;
+  told = transitive (f - a) f _ (minus_least f a) (subst (λ (n : ℕ). f ≤ 65_535 * 2 ^ shift_of e.scale (own_scale n)) same p.told);
+  within = within e.edge e.free a free p.within split;
+}
+  where
+    same : e.waiting + e.free ≡ waiting + free
+    same = sum e.waiting e.free a waiting free more split where
+      sum : (w f a v g : ℕ) → v ≡ w + a → a + g ≡ f → w + f ≡ v + g
+      sum w f a v g e h = omega arith
+
+    minus : (f edge a : ℕ) → f ≤ edge → f - a ≤ edge - a
+    minus f edge a e = omega arith
+
+    within : (edge all a free : ℕ) → edge ≤ all → a + free ≡ all → edge - a ≤ free
+    within edge all a free e f = omega arith
+
+-- the FIN is taken
+fin_edge :
+    (capacity f : ℕ) (e : Edge) (state : State) → IsEdge capacity f e → is_opening state ≡ false
+    → IsEdge capacity (f - 1) (record e { state = state; next = behind_by e.next 1; edge = e.edge - 1 })
+fin_edge capacity f e state p later = record {
+  room = p.room;
+  number = small_number e.next 1;
+  opening = λ is. clash (sym is ∙ later);
+  below = minus f e.edge p.below;
+  told = transitive (f - 1) f (65_535 * unit e) (minus_least f 1) p.told;
+  within = within e.edge e.free p.within;
+}
+  where
+    minus : (f edge : ℕ) → f ≤ edge → f - 1 ≤ edge - 1
+    minus f edge e = omega arith
+
+    within : (edge free : ℕ) → edge ≤ free → edge - 1 ≤ free
+    within edge free e = omega arith
+
+risen_is : (old new : Block) (n : ℕ) → old.receiver.took_syn ≡ true → old.receiver.next.0 < 2 ^ 32 → n < 2 ^ 32 → new.receiver.next ≡ behind_by old.receiver.next n → risen old new ≡ n
+risen_is old new n took small near is =
+    ap (λ (t : Bool). if t then distance_of old.receiver.next new.receiver.next else 0) took
+    ∙ ap (λ (m : SeqNumber). distance_of old.receiver.next m) is ∙ near_distance old.receiver.next n small near
+
+behind_twice : (a : SeqNumber) (n m : ℕ) → behind_by (behind_by a n) m ≡ behind_by a (n + m)
+behind_twice a n m = ap (λ (k : ℕ). record { 0 = k }) (at a.0 n m) where
+  at : (k n m : ℕ) → ((k + n) % 2 ^ 32 + m) % 2 ^ 32 ≡ (k + (n + m)) % 2 ^ 32
+  at k n m = omega arith
+
+fin_later : (state : State) → takes_text state ≡ true → is_opening (after_fin state) ≡ false
+fin_later In.Established e = refl
+fin_later In.FinWait1 e = refl
+fin_later In.FinWait2 e = refl
+fin_later other e = clash (sym e)
+
+-- the states behind an acknowledgement
+ack_later : (state : State) → is_past state ≡ true → is_opening (after_ack state) ≡ false
+ack_later In.Closed e = clash (sym e)
+ack_later In.Listen e = clash (sym e)
+ack_later In.SynSent e = clash (sym e)
+ack_later other e = refl
+
+ack_of_fin_later : (state : State) → is_past state ≡ true → is_opening (after_ack_of_fin state) ≡ false
+ack_of_fin_later In.Closed e = clash (sym e)
+ack_of_fin_later In.Listen e = clash (sym e)
+ack_of_fin_later In.SynSent e = clash (sym e)
+ack_of_fin_later other e = refl
+
+after_later : (u : TcpValue) (by : ℕ) → is_past u.block.state ≡ true → is_opening (state_after_ack u.block by (queued_in u)) ≡ false
+after_later u by past =
+    cond_both (acks_fin u.block by (queued_in u)) (after_ack_of_fin u.block.state) (after_ack u.block.state) (λ (s : State). is_opening s ≡ false)
+    (λ _. ack_of_fin_later u.block.state past) (λ _. ack_later u.block.state past)
+
+-- A SEGMENT COMES
+
+module _ (capacity f : ℕ) (cx : ContextValue) (ip : IpRepr) (header : TcpHeader) (bytes : List ℕ) (v : TcpValue) (few : capacity ≤ 2 ^ 30) where
+  abbrev Arrives : Arrived → Type 0
+  Arrives a = Out capacity f v a.socket (answer_in a.answer)
+
+  keeps : (w : TcpValue) → IsEdge capacity f (edge_of w) → Out capacity f v w None
+  keeps w p = none_out capacity f v w (less capacity f (f - risen v.block w.block) (edge_of w) p (minus_least f (risen v.block w.block)))
+
+  answers : (x : TcpValue) (ranges : List (Option (ℕ × ℕ))) → IsEdge capacity f (edge_of x) → Arrives (acked cx x ip header ranges)
+  answers x ranges p = acked_out capacity f cx v x ip header ranges (less capacity f (f - risen v.block x.block) (edge_of x) p (minus_least f (risen v.block x.block)))
+
+  edge_drawing : (x : TcpValue) → IsEdge capacity f (edge_of x) → Drawing cx ip header bytes Arrives x
+  edge_drawing x p = record { answers = λ _. answers (with_draw x cx.moment) no_ranges p; pauses = keeps x p }
+
+  -- so much is taken
+  rises : (w : TcpValue) (n : ℕ) → v.block.receiver.took_syn ≡ true → v.block.receiver.next.0 < 2 ^ 32 → n ≤ capacity + 1 → w.block.receiver.next ≡ behind_by v.block.receiver.next n
+      → IsEdge capacity (f - n) (edge_of w) → Out capacity f v w None
+  rises w n took small near is p =
+      none_out capacity f v w (subst (λ (k : ℕ). IsEdge capacity (f - k) (edge_of w)) (sym (risen_is v.block w.block n took small (below n capacity near few) is)) p)
+    where
+      below : (n capacity : ℕ) → n ≤ capacity + 1 → capacity ≤ 2 ^ 30 → n < 2 ^ 32
+      below n capacity e f = omega arith
+
+  module _ (x : TcpValue) (p : IsEdge capacity f (edge_of x)) (same : x.block.receiver.next ≡ v.block.receiver.next) (took : v.block.receiver.took_syn ≡ true) where
+    small : v.block.receiver.next.0 < 2 ^ 32
+    small = subst (λ (n : SeqNumber). n.0 < 2 ^ 32) same p.number
+
+    module _ (map : List (Option ℕ)) (size : length map ≡ free_in x) where
+      abbrev count : ℕ
+      count = length (front map)
+
+      fits : count ≤ capacity
+      fits = at (length (front map)) (length (behind map)) (length map) (free_in x) (length x.received.waiting) capacity (front_behind map) size p.room where
+        at : (a b m free waiting c : ℕ) → a + b ≡ m → m ≡ free → waiting + free ≡ c → a ≤ c
+        at a b m free waiting c e f g = omega arith
+
+      texted : IsEdge capacity (f - count) (edge_of (taken_in_order x map).socket)
+      texted =
+          text_edge capacity f (edge_of x) count (length (x.received.waiting ++ front map)) (length (behind map)) p (length-append x.received.waiting (front map))
+          (front_behind map ∙ size)
+
+    edge_content : Content cx ip header bytes Arrives x
+    edge_content = record {
+      plain = keeps (due cx ip header bytes Arrives (kept x x.block) false) p;
+      fin = λ _ takes.
+          rises (due cx ip header bytes Arrives (kept x (fin_taken x.block cx.moment)) false) 1 took small (one capacity) (ap (λ (n : SeqNumber). behind_by n 1) same)
+          (fin_edge capacity f (edge_of x) (after_fin x.block.state) p (fin_later x.block.state takes));
+      ordered = λ map size takes _.
+          rises (due cx ip header bytes Arrives (kept (taken_in_order x map).socket (taken_in_order x map).socket.block) (is_holding x)) (count map size) took small (more (count map size) capacity (fits map size)) (ap (λ (n : SeqNumber). behind_by n (count map size)) same) (texted map size);
+      ordered_fin = λ map size _ takes.
+          rises (due cx ip header bytes Arrives (kept (taken_in_order x map).socket (fin_taken (taken_in_order x map).socket.block cx.moment)) (is_holding x)) (count map size + 1) took small (next (count map size) capacity (fits map size))
+          (behind_twice x.block.receiver.next (count map size) 1 ∙ ap (λ (n : SeqNumber). behind_by n (count map size + 1)) same)
+          (subst (λ (k : ℕ). IsEdge capacity k (record (edge_of (taken_in_order x map).socket) {
+            state = after_fin x.block.state;
+            next = behind_by (behind_by x.block.receiver.next (count map size)) 1;
+            edge = x.block.receiver.edge - count map size - 1;
+          })) (twice f (count map size))
+          (fin_edge capacity (f - count map size) (edge_of (taken_in_order x map).socket) (after_fin x.block.state) (texted map size) (fin_later x.block.state takes)));
+      early = λ map place size _. answers (kept (held x map) x.block) (ranges_held (kept (held x map) x.block) place) (subst (λ (n : ℕ). IsEdge capacity f (record (edge_of x) { free = n })) (sym size) p);
+    }
+      where
+        one : (c : ℕ) → 1 ≤ c + 1
+        one c = omega arith
+
+        more : (a c : ℕ) → a ≤ c → a ≤ c + 1
+        more a c e = omega arith
+
+        next : (a c : ℕ) → a ≤ c → a + 1 ≤ c + 1
+        next a c e = omega arith
+
+        twice : (f a : ℕ) → f - a - 1 ≡ f - (a + 1)
+        twice f a = omega arith
+
+  edge_received :
+      (u : TcpValue) → IsEdge capacity f (edge_of u) → u.block.receiver.next ≡ v.block.receiver.next → v.block.receiver.took_syn ≡ true → is_past u.block.state ≡ true
+      → Received cx ip header bytes Arrives u
+  edge_received u p same took past = record {
+    stays = keeps u p;
+    refuses = reset_out capacity f v u (reset_for header (length bytes)) refl (less capacity f (f - risen v.block u.block) (edge_of u) p (minus_least f (risen v.block u.block)));
+    draws = edge_drawing u p;
+    falls = λ _ _ _. over_out capacity f v (listening u u.block.names.listen) refl (listens_edge capacity u u.block.names.listen f p);
+    ends = λ _ _ _. over_out capacity f v (ended u) refl (less capacity f 0 _ (in_state capacity f (edge_of u) In.Closed p (λ is. clash (sym is))) (least f));
+    closes = λ by _ _. over_out capacity f v (acked_last u by cx.moment) refl (less capacity f 0 _ (in_state capacity f (edge_of u) In.Closed p (λ is. clash (sym is))) (least f));
+    taken = λ by _ _. edge_content (heeded cx.moment header (length bytes) u by (acked_open u by cx.moment).block) (acked_edge by) same took;
+    taken_window = λ by _ _. edge_content (heeded cx.moment header (length bytes) u by (windowed (acked_open u by cx.moment).block header)) (acked_edge by) same took;
+    news = λ by _ _. edge_drawing (waiting_anew (acked_open u by cx.moment) header cx.moment) (acked_edge by);
+    outside = edge_drawing (waiting_anew u header cx.moment) p;
+    old = λ _. edge_content (with_block u (heard u.block)) p same took;
+  }
+    where
+      acked_edge : (by : ℕ) → IsEdge capacity f (record (edge_of u) { state = state_after_ack u.block by (queued_in u) })
+      acked_edge by = in_state capacity f (edge_of u) (state_after_ack u.block by (queued_in u)) p (λ is. clash (sym is ∙ after_later u by past))
+
+  edge_opening : (u : TcpValue) → IsEdge capacity f (edge_of u) → (is_over u.block.state ≡ true → f ≡ 0) → Opening cx ip header bytes Arrives u
+  edge_opening u p none = record {
+    opens = λ at _. none_out capacity f v (with_block u (timeout_restarted (answering u.block ip header (word (next_random cx).random)) cx.moment 0)) (less capacity 0 _ _ (begins header.options.window_scale In.SynReceived refl) (nothing _ (none (ap is_over at))));
+    refuses = reset_out capacity f v u (reset_for header (length bytes)) refl (less capacity f (f - risen v.block u.block) (edge_of u) p (minus_least f (risen v.block u.block)));
+    ends = λ _. over_out capacity f v (ended u) refl (less capacity f 0 _ (in_state capacity f (edge_of u) In.Closed p (λ is. clash (sym is))) (least f));
+    connects = λ at _. none_out capacity f v (with_block u (timeout_restarted (connected u.block header cx.moment) cx.moment (queued_in u))) (less capacity f _ _ (takes header.options.window_scale In.Established refl at) (minus_least f _));
+    crosses = λ at _. none_out capacity f v (with_block u (timeout_restarted (crossed u.block header) cx.moment (queued_in u))) (less capacity f _ _ (takes header.options.window_scale In.SynReceived refl at) (minus_least f _));
+  }
+    where
+      nothing : (k : ℕ) → f ≡ 0 → f - k ≤ 0
+      nothing k e = omega arith
+
+      synced : Option ℕ → State → Edge
+      synced scale state = record (edge_of u) { state = state; next = behind_by header.seq_number 1; took_syn = true; scale = scale }
+
+      begins : (scale : Option ℕ) (state : State) → is_opening state ≡ false → IsEdge capacity 0 (synced scale state)
+      begins scale state later = record {
+        room = p.room;
+        number = small_number header.seq_number 1;
+        opening = λ is. clash (sym is ∙ later);
+        below = least _;
+        told = least _;
+        within = p.within;
+      }
+
+      takes : (scale : Option ℕ) (state : State) → is_opening state ≡ false → u.block.state ≡ In.SynSent → IsEdge capacity f (synced scale state)
+      takes scale state later at = record {
+        room = p.room;
+        number = small_number header.seq_number 1;
+        opening = λ is. clash (sym is ∙ later);
+        below = p.below;
+        told = scaled f (2 ^ shift_of scale (own_scale (room_of u.received))) unscaled (pow_pos (shift_of scale (own_scale (room_of u.received))));
+        within = p.within;
+      }
+        where
+          unscaled : f ≤ 65_535 * 1
+          unscaled = subst (λ (s : Option ℕ). f ≤ 65_535 * 2 ^ shift_of s (own_scale (room_of u.received))) (p.opening (ap is_opening at)) p.told
+
+          scaled : (f u : ℕ) → f ≤ 65_535 * 1 → 1 ≤ u → f ≤ 65_535 * u
+          scaled f u e g = omega arith
+
+edge_arrival :
+    (capacity f : ℕ) (cx : ContextValue) (ip : IpRepr) (header : TcpHeader) (bytes : List ℕ) (v : TcpValue) → capacity ≤ 2 ^ 30 → IsInOrder (sending_of v)
+    → IsEdge capacity f (edge_of v) → (is_over v.block.state ≡ true → f ≡ 0)
+    → Out capacity f v (arrives cx v ip header bytes).socket (answer_in (arrives cx v ip header bytes).answer)
+edge_arrival capacity f cx ip header bytes v few order p none =
+    by_arrival cx ip header bytes (Arrives capacity f cx ip header bytes v few) v (keeps capacity f cx ip header bytes v few (unoffered v) p)
+    (λ _. edge_opening capacity f cx ip header bytes v few (unoffered v) p none)
+    (λ past. edge_received capacity f cx ip header bytes v few (unoffered v) p refl (order.took past) past)
+
+-- IT IS ASKED
+
+not_syn : (c : Choice) (queued : ℕ) → is_syn (control_for c queued) ≡ false
+not_syn c queued =
+    cond_both c.fin Control.Fin (if not (c.len == 0) && (c.place + c.len == queued) then Control.Psh else Control.None) (λ (k : TcpControl). is_syn k ≡ false)
+    (λ _. refl)
+    (λ _. cond_both (not (c.len == 0) && (c.place + c.len == queued)) Control.Psh Control.None (λ (k : TcpControl). is_syn k ≡ false) (λ _. refl) (λ _. refl))
+
+module _ (capacity f : ℕ) (cx : ContextValue) (v : TcpValue) where
+  -- whether what is offered goes or not
+  abbrev Both : Offered TcpValue → Type 0
+  Both o = Out capacity f v (settled true o.socket) (offer_in o.socket.offered) × Out capacity f v (settled false o.socket) None
+
+  stays : (w : TcpValue) → IsEdge capacity f (edge_of w) → Out capacity f v w None
+  stays w p = none_out capacity f v w (less capacity f (f - risen v.block w.block) (edge_of w) p (minus_least f (risen v.block w.block)))
+
+  none_offered : (x : TcpValue) → x.offered ≡ None → IsEdge capacity f (edge_of x) → Both (silent false x)
+  none_offered x none p = (subst (λ (o : Option OpenOffer). Out capacity f v (sent_off o (unoffered x)) (offer_in o)) (sym none) (stays (unoffered x) p), stays (unoffered x) p)
+
+  -- whether its text is worth telling
+  abbrev tells : TcpValue → Bool
+  tells x = (length x.received.waiting == 0) || is_worth_telling x.block (room_of x.received) (free_in x)
+
+  -- a segment with the window of the socket goes
+  text_out : (x : TcpValue) (pair : EndpointPair) (c : Choice) → IsEdge capacity f (edge_of x) → Both (offer_choice Kind.Text cx x pair c)
+  text_out x pair c p =
+      let w : TcpValue = settled true (offer_choice Kind.Text cx x pair c).socket in
+      let goes =
+      plain_goes capacity (f - risen v.block w.block) (edge_of x) (less capacity f (f - risen v.block w.block) (edge_of x) p (minus_least f (risen v.block w.block))) (tells x)
+      x.block.state (λ e. e) (is_syn (control_for c (queued_in x))) (is_rst (control_for c (queued_in x))) (not_syn c (queued_in x)) in
+      (some_out capacity f v w (segment x.block pair cx.moment (window_of x) (control_for c (queued_in x)) (number_at x.block c.place)) goes.0 goes.1, stays (unoffered x) p)
+
+  again_out : (x : TcpValue) (pair : EndpointPair) (c : Choice) → IsEdge capacity f (edge_of x) → Both (offer_choice Kind.FastRetransmission cx x pair c)
+  again_out x pair c p =
+      let w : TcpValue = settled true (offer_choice Kind.FastRetransmission cx x pair c).socket in
+      let goes =
+      plain_goes capacity (f - risen v.block w.block) (edge_of x) (less capacity f (f - risen v.block w.block) (edge_of x) p (minus_least f (risen v.block w.block))) (tells x)
+      x.block.state (λ e. e) (is_syn (control_for c (queued_in x))) (is_rst (control_for c (queued_in x))) (not_syn c (queued_in x)) in
+      (some_out capacity f v w (segment x.block pair cx.moment (window_of x) (control_for c (queued_in x)) (number_at x.block c.place)) goes.0 goes.1, stays (unoffered x) p)
+
+  ack_out : (kind : OfferKind) (x : TcpValue) (pair : EndpointPair) → kind ≡ Kind.Ack ⊎ (kind ≡ Kind.WindowUpdate) → IsEdge capacity f (edge_of x) → Both (offer_ack kind cx x pair)
+  ack_out kind x pair which p = ⊎_elim (λ e. subst (λ (k : OfferKind). Both (offer_ack k cx x pair)) (sym e) ack) (λ e. subst (λ (k : OfferKind). Both (offer_ack k cx x pair)) (sym e) update) which where
+    ack : Both (offer_ack Kind.Ack cx x pair)
+    ack =
+        let w : TcpValue = settled true (offer_ack Kind.Ack cx x pair).socket in
+        let goes =
+        plain_goes capacity (f - risen v.block w.block) (edge_of x) (less capacity f (f - risen v.block w.block) (edge_of x) p (minus_least f (risen v.block w.block))) (tells x)
+        x.block.state (λ e. e) false false refl in
+        (some_out capacity f v w (ack_segment x.block pair cx.moment (window_of x)) goes.0 goes.1, stays (unoffered x) p)
+
+    update : Both (offer_ack Kind.WindowUpdate cx x pair)
+    update =
+        let w : TcpValue = settled true (offer_ack Kind.WindowUpdate cx x pair).socket in
+        let goes =
+        plain_goes capacity (f - risen v.block w.block) (edge_of x) (less capacity f (f - risen v.block w.block) (edge_of x) p (minus_least f (risen v.block w.block))) (tells x)
+        x.block.state (λ e. e) false false refl in
+        (some_out capacity f v w (ack_segment x.block pair cx.moment (window_of x)) goes.0 goes.1, stays (unoffered x) p)
+
+  -- a question counts
+  asked_out : (x : TcpValue) (b : Block) (now : ℤ) (segment : TcpHeader) → Out capacity f v (with_block x b) (Some segment) → Out capacity f v (with_block x (asked b now)) (Some segment)
+  asked_out x b now segment out =
+      cond_both (moments.is_over now b.timers.counts_from)
+      (record b {
+        sender = record b.sender { unanswered = one_more b.sender.unanswered };
+        timers = record b.timers { counts_from = Some (timeout_from now b.round_trip) };
+      })
+      b (λ (new : Block). Out capacity f v (with_block x new) (Some segment))
+      (λ _. out)
+      (λ _. out)
+
+  probe_out : (x : TcpValue) (pair : EndpointPair) → IsEdge capacity f (edge_of x) → Both (offer_choice Kind.Probe cx x pair probe_choice)
+  probe_out x pair p =
+      let o = opened_by cx pair Kind.Probe x (segment x.block pair cx.moment (window_of x) (control_for probe_choice (queued_in x)) (number_at x.block 0)) 0 1 in
+      let b = recorded x.block o (room_of x.received) in
+      let after_it = probed b (end_of b o) cx.moment in
+      let w : TcpValue = with_block (unoffered x) after_it in
+      let goes =
+      plain_goes capacity (f - risen v.block w.block) (edge_of x) (less capacity f (f - risen v.block w.block) (edge_of x) p (minus_least f (risen v.block w.block))) (tells x)
+      x.block.state (λ e. e) (is_syn (control_for probe_choice (queued_in x))) (is_rst (control_for probe_choice (queued_in x))) (not_syn probe_choice (queued_in x)) in
+      (asked_out (unoffered x) after_it cx.moment (segment x.block pair cx.moment (window_of x) (control_for probe_choice (queued_in x)) (number_at x.block 0))
+        (some_out capacity f v w (segment x.block pair cx.moment (window_of x) (control_for probe_choice (queued_in x)) (number_at x.block 0)) goes.0 goes.1),
+      stays (unoffered x) p)
+
+  keep_alive_out : (x : TcpValue) (pair : EndpointPair) → IsEdge capacity f (edge_of x) → Both (offer_keep_alive cx x pair)
+  keep_alive_out x pair p =
+      let o = opened_by cx pair Kind.KeepAlive x (keep_alive_segment x.block pair cx.moment (window_of x)) 0 1 in
+      let b = recorded x.block o (room_of x.received) in
+      let w : TcpValue = with_block (unoffered x) b in
+      let goes =
+      plain_goes capacity (f - risen v.block w.block) (edge_of x) (less capacity f (f - risen v.block w.block) (edge_of x) p (minus_least f (risen v.block w.block))) (tells x)
+      x.block.state (λ e. e) false false refl in
+      (asked_out (unoffered x) b cx.moment (keep_alive_segment x.block pair cx.moment (window_of x))
+        (some_out capacity f v w (keep_alive_segment x.block pair cx.moment (window_of x)) goes.0 goes.1),
+      stays (unoffered x) p)
+
+  syn_out : (x : TcpValue) (pair : EndpointPair) → IsEdge capacity f (edge_of x) → length x.received.waiting ≡ 0 → Both (offer_syn cx x pair)
+  syn_out x pair p none =
+      let w : TcpValue = settled true (offer_syn cx x pair).socket in
+      let goes = syn_goes capacity (f - risen v.block w.block) (edge_of x) (less capacity f (f - risen v.block w.block) (edge_of x) p (minus_least f (risen v.block w.block))) none in
+      (some_out capacity f v w (syn_segment x.block pair cx.moment cx.ip_mtu (room_of x.received) (free_in x)) goes.0 goes.1, stays (unoffered x) p)
+
+  edge_last : (x : TcpValue) (pair : EndpointPair) → x.offered ≡ None → IsEdge capacity f (edge_of x) → LastRules cx pair Both x
+  edge_last x pair none p = record {
+    probe = λ _ _. probe_out x pair p;
+    held_back = λ _ _. text_out x pair (text_choice x.block pair.addresses cx.ip_mtu x.queued) p;
+    ack = λ _. ack_out Kind.Ack x pair (inl refl) p;
+    update = λ _ _. ack_out Kind.WindowUpdate x pair (inr refl) p;
+    keep_alive = λ _ _. keep_alive_out x pair p;
+    quiet = λ _. none_offered x none p;
+  }
+
+  edge_first : (w : TcpValue) (pair : EndpointPair) → w.offered ≡ None → IsEdge capacity f (edge_of w) → IsInOrder (sending_of w) → FirstRules cx pair Both w
+  edge_first w pair none p order = record {
+    syn = λ owes. syn_out w pair p ((order.opening (owes_unacked owes)).1);
+    again = λ _ _. again_out w pair (resend_choice w.block pair.addresses cx.ip_mtu w.queued) p;
+    text = λ _ _. text_out w pair (text_choice w.block pair.addresses cx.ip_mtu w.queued) p;
+    last = λ _. edge_last (probing cx w) pair none p;
+  }
+    where
+      owes_unacked : owes_syn w.block ≡ true → w.block.sender.syn_unacked ≡ true
+      owes_unacked owes =
+          let parts = and_true (sends_syn w.block.state && not (is_answering w.block.state && w.block.settings.synack_paused)) (w.block.sender.syn_unacked && (w.block.sender.in_flight == 0)) owes in
+          (and_true w.block.sender.syn_unacked (w.block.sender.in_flight == 0) parts.1).0
+
+  closed_out : (b : Block) → IsEdge capacity f (edge_of v) → b.state ≡ In.Closed → edge_of (with_block (unoffered v) b) ≡ record (edge_of v) { state = In.Closed }
+      → Out capacity f v (with_block (unoffered v) b) None
+  closed_out b p closed same =
+      over_out capacity f v (with_block (unoffered v) b) (ap is_over closed)
+      (subst (λ (e : Edge). IsEdge capacity 0 e) (sym same) (less capacity f 0 _ (in_state capacity f (edge_of v) In.Closed p (λ is. clash (sym is))) (least f)))
+
+  edge_rules : IsEdge capacity f (edge_of v) → IsInOrder (sending_of v) → Rules cx v Both
+  edge_rules p order = record {
+    nobody = λ _. (stays (unoffered v) p, stays (unoffered v) p);
+    time_wait = λ _. (closed_out (forgotten v.block) p refl refl, closed_out (forgotten v.block) p refl refl);
+    timeout = λ _. (closed_out (timed_out v.block) p refl refl, closed_out (timed_out v.block) p refl refl);
+    closed = λ _. (stays (unoffered v) p, stays (unoffered v) p);
+    reset = λ pair _ _. (reset_goes pair, stays (unoffered v) p);
+    falls = λ _ _ _. (fallen, fallen);
+    over = λ _ _ _. (closed_out (timed_out v.block) p refl refl, closed_out (timed_out v.block) p refl refl);
+    backs = λ pair _ _ _. edge_first (with_block (unoffered v) (backed_off_now (begun cx v))) pair refl p (backed_order (sending_of v) order);
+    goes = λ pair _ _ _. edge_first (with_block (unoffered v) (begun cx v)) pair refl p order;
+  }
+    where
+      fallen : Out capacity f v (listening (unoffered v) v.block.names.listen) None
+      fallen = over_out capacity f v (listening (unoffered v) v.block.names.listen) refl (listens_edge capacity (unoffered v) v.block.names.listen f p)
+
+      reset_goes : (pair : EndpointPair) → Out capacity f v (settled true (offer_reset cx (unoffered v) pair).socket) (Some (reset_segment v.block pair cx.moment (window_of v)))
+      reset_goes pair = (
+        ((λ no _. clash no), (λ syn. clash (sym syn))),
+        less capacity 0 _ _ (record {
+          room = p.room;
+          number = p.number;
+          opening = λ is. clash (sym is);
+          below = least _;
+          told = least _;
+          within = kept;
+        }) (least_of_nothing 0),
+      )
+        where
+          least_of_nothing : (n : ℕ) → 0 ≤ n
+          least_of_nothing n = omega arith
+
+          w : TcpValue
+          w = settled true (offer_reset cx (unoffered v) pair).socket
+
+          kept : w.block.receiver.edge ≤ free_in w
+          kept =
+              let goes = plain_goes capacity f (edge_of v) p (tells v) v.block.state (λ e. e) false false refl in goes.1.within
+
+edge_offer : (capacity f : ℕ) (cx : ContextValue) (v : TcpValue) → IsEdge capacity f (edge_of v) → IsInOrder (sending_of v) → Both capacity f cx v (offer_of cx v)
+edge_offer capacity f cx v p order = by_rules cx v (Both capacity f cx v) (edge_rules capacity f cx v p order)
+
+-- ITS USER CALLS
+
+-- bytes are read
+read_edge : (capacity f : ℕ) (e : Edge) (waiting free : ℕ) → IsEdge capacity f e → waiting + free ≡ e.waiting + e.free → e.free ≤ free
+    → IsEdge capacity f (record e { waiting = waiting; free = free })
+read_edge capacity f e waiting free p same more = record {
+  room = same ∙ p.room;
+  number = p.number;
+  opening = p.opening;
+  below = p.below;
+  told = subst (λ (n : ℕ). f ≤ 65_535 * 2 ^ shift_of e.scale (own_scale n)) (sym same) p.told;
+  within = transitive e.edge e.free free p.within more;
+}
+
+close_opening : (state : State) → is_opening state ≡ false → is_opening (after_close state) ≡ false
+close_opening In.SynSent e = clash e
+close_opening other e = refl
+
+module _ (capacity f : ℕ) (v : TcpValue) (p : IsEdge capacity f (edge_of v)) where
+  same_out : (w : TcpValue) → IsEdge capacity f (edge_of w) → Out capacity f v w None
+  same_out w q = none_out capacity f v w (less capacity f (f - risen v.block w.block) (edge_of w) q (minus_least f (risen v.block w.block)))
+
+  shut_out : (w : TcpValue) → is_over w.block.state ≡ true → edge_of w ≡ record (edge_of v) { state = In.Closed } → Out capacity f v w None
+  shut_out w over same =
+      over_out capacity f v w over (subst (λ (e : Edge). IsEdge capacity 0 e) (sym same) (less capacity f 0 _ (in_state capacity f (edge_of v) In.Closed p (λ is. clash (sym is))) (least f)))
+
+  connects_out : (names : Option EndpointPair) (number : ℕ) → f ≡ 0 → Out capacity f v (connected_by v names number) None
+  connects_out None number none = same_out (unoffered v) p
+  connects_out (Some pair) number none =
+      none_out capacity f v (connecting v pair number) (record {
+        room = (listens_edge capacity v nowhere f p).room;
+        number = (listens_edge capacity v nowhere f p).number;
+        opening = λ _. refl;
+        below = nothing f (risen v.block (connecting v pair number).block) none;
+        told = transitive _ 0 _ (nothing f (risen v.block (connecting v pair number).block) none) (least _);
+        within = least _;
+      })
+    where
+      nothing : (f k : ℕ) → f ≡ 0 → f - k ≤ 0
+      nothing f k e = omega arith
+
+  reads_out : (count : ℕ) → Out capacity f v (recv_after v count) None
+  reads_out count =
+      same_out (recv_after v count)
+      (read_edge capacity f (edge_of v) (length (drop count v.received.waiting)) (length (v.received.map ++ space (length (take count v.received.waiting)))) p
+      (sum (length (drop count v.received.waiting)) (length (v.received.map ++ space (length (take count v.received.waiting)))) (length v.received.map) (length v.received.waiting) count
+      (length (take count v.received.waiting)) (length-drop count v.received.waiting) grows (length-take count v.received.waiting))
+      (more (length (v.received.map ++ space (length (take count v.received.waiting)))) (length v.received.map) (length (take count v.received.waiting)) grows))
+    where
+      spaces : (n : ℕ) → length (space n) ≡ n
+      spaces zero = refl
+      spaces (suc n) = ap suc (spaces n)
+
+      grows : length (v.received.map ++ space (length (take count v.received.waiting))) ≡ length v.received.map + length (take count v.received.waiting)
+      grows = length-append v.received.map (space (length (take count v.received.waiting))) ∙ ap (λ (n : ℕ). length v.received.map + n) (spaces (length (take count v.received.waiting)))
+
+      sum : (left new free waiting count taken : ℕ) → left ≡ waiting - count → new ≡ free + taken → taken ≡ min count waiting → left + new ≡ waiting + free
+      sum left new free waiting count taken e g h = omega arith
+
+      more : (new free taken : ℕ) → new ≡ free + taken → free ≤ new
+      more new free taken e = omega arith
+
+  set_out : (setting : Setting) → Out capacity f v (set v setting) None
+  set_out (Timeout duration) = same_out (set v (Timeout duration)) p
+  set_out (KeepAlive interval) = same_out (set v (KeepAlive interval)) p
+  set_out (AckDelay duration) = same_out (set v (AckDelay duration)) p
+  set_out (Nagle enabled) = same_out (set v (Nagle enabled)) p
+  set_out (HopLimit limit) = same_out (set v (HopLimit limit)) p
+  set_out (Timestamps generator) = same_out (set v (Timestamps generator)) p
+  set_out (Paused paused) = same_out (set v (Paused paused)) p
+  set_out (Retries limit) = same_out (set v (Retries limit)) p
+  set_out (MinRto duration) = same_out (set v (MinRto duration)) p
+  set_out (Congestion control) = same_out (set v (Congestion control)) p
+
+closed_over : (state : State) → is_closed state ≡ true → is_over state ≡ true
+closed_over In.Closed e = refl
+closed_over other e = clash (sym e)
+
+event_edge :
+    (capacity f : ℕ) (v : TcpValue) (it : Event) → capacity ≤ 2 ^ 30 → IsInOrder (sending_of v) → IsEdge capacity f (edge_of v) → (is_over v.block.state ≡ true → f ≡ 0)
+    → Out capacity f v (after v it) (goes v it)
+event_edge capacity f v (Comes cx ip header bytes) few order p none = edge_arrival capacity f cx ip header bytes v few order p none
+event_edge capacity f v (Asked cx true) few order p none = (edge_offer capacity f cx v p order).0
+event_edge capacity f v (Asked cx false) few order p none = (edge_offer capacity f cx v p order).1
+event_edge capacity f v (Listens endpoint) few order p none =
+    cond_both (is_closed v.block.state && not (endpoint.port == 0)) (listening v endpoint) (unoffered v) (λ (w : TcpValue). Out capacity f v w None)
+    (λ _. over_out capacity f v (listening v endpoint) refl (listens_edge capacity v endpoint f p)) (λ _. same_out capacity f v p (unoffered v) p)
+event_edge capacity f v (Connects cx remote local) few order p none =
+    cond_both (is_closed v.block.state) (connected_by v (pair_for cx remote local) (word (next_random cx).random)) (unoffered v) (λ (w : TcpValue). Out capacity f v w None)
+    (λ closed. connects_out capacity f v p (pair_for cx remote local) (word (next_random cx).random) (none (closed_over v.block.state closed)))
+    (λ _. same_out capacity f v p (unoffered v) p)
+event_edge capacity f v (Sends bytes) few order p none =
+    let some = take (min (length bytes) (length v.queued.free)) bytes in
+    cond_both (takes_writes v.block.state) (sent_more v (enqueued (anchored v.queued) some)) (unoffered v) (λ (w : TcpValue). Out capacity f v w None)
+    (λ _. same_out capacity f v p (sent_more v (enqueued (anchored v.queued) some)) p) (λ _. same_out capacity f v p (unoffered v) p)
+event_edge capacity f v (Reads count) few order p none = reads_out capacity f v p count
+event_edge capacity f v Closes few order p none =
+    cond_both (is_opening v.block.state) (ended (unoffered v)) (with_block (unoffered v) (record v.block { state = after_close v.block.state })) (λ (w : TcpValue). Out capacity f v w None)
+    (λ _. shut_out capacity f v p (ended (unoffered v)) refl refl)
+    (λ on.
+    same_out capacity f v p (with_block (unoffered v) (record v.block { state = after_close v.block.state }))
+    (in_state capacity f (edge_of v) (after_close v.block.state) p (λ is. clash (sym is ∙ close_opening v.block.state on))))
+event_edge capacity f v Aborts few order p none =
+    let aborted : TcpValue = with_block (unoffered v) (record v.block { state = In.Closed; sender = record v.block.sender { reset_due = is_some v.block.names.pair } }) in
+    cond_both (is_time_wait v.block.state) (ended (unoffered v)) aborted (λ (w : TcpValue). Out capacity f v w None)
+    (λ _. shut_out capacity f v p (ended (unoffered v)) refl refl) (λ _. shut_out capacity f v p aborted refl refl)
+event_edge capacity f v (Sets setting) few order p none = set_out capacity f v p setting
+
+over_none : (t : Bool) (n : ℕ) → t ≡ true → (if t then 0 else n) ≡ 0
+over_none true n e = refl
+over_none false n e = clash (sym e)
+
+led_edges : (capacity f : ℕ) (v : TcpValue) (events : List Event) → capacity ≤ 2 ^ 30 → IsInOrder (sending_of v) → IsEdge capacity f (edge_of v)
+    → (is_over v.block.state ≡ true → f ≡ 0) → KeepEdges v f events
+led_edges capacity f v [] few order p none = tt
+led_edges capacity f v (it ∷ more) few order p none =
+    let out = event_edge capacity f v it few order p none in
+    (out.0, led_edges capacity (furthest_after v it f) (after v it) more few (event_order v it order) out.1 (λ over. over_none (is_over (after v it).block.state) _ over))
+
+pub new_edges : (capacity : ℕ) (queued : Ring ℕ) (events : List Event) → capacity ≤ 2 ^ 30 → KeepEdges (new_socket capacity queued) 0 events
+new_edges capacity queued events few = led_edges capacity 0 (new_socket capacity queued) events few (new_order capacity queued) begins (λ _. refl) where
+  spaces : (n : ℕ) → length (space n) ≡ n
+  spaces zero = refl
+  spaces (suc n) = ap suc (spaces n)
+
+  none_waits : (a b : ℕ) → a ≡ b → 0 + a ≡ b
+  none_waits a b e = omega arith
+
+  begins : IsEdge capacity 0 (edge_of (new_socket capacity queued))
+  begins = record {
+    room = none_waits (length (space capacity)) capacity (spaces capacity);
+    number = omega arith;
+    opening = λ is. clash (sym is);
+    below = omega arith;
+    told = least _;
+    within = least _;
+  }

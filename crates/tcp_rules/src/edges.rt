@@ -1,0 +1,13 @@
+//! The right edge of the window that a socket announces.
+
+ghost use Rattle.std.specs.Prelude.{ℕ, ◌≤◌, ◌^◌, List};
+ghost use Rattle.net_base.specs.Ring.{Ring};
+ghost use Rattle.tcp_model.specs.Value.{new_socket};
+ghost use Rattle.tcp_rules.specs.Edges.{KeepEdges};
+ghost use Rattle.tcp_rules.specs.Events.{Event};
+
+/// Of all segments that a socket sends within a connection, whatever comes, however it is asked and whatever its user calls, none
+/// announces a right edge left of one that was announced before, but by less than a unit of its window field: roundings don't add up.
+pub fn an_announced_edge_stays()
+    ensures edges { (capacity : ℕ) (queued : Ring ℕ) (events : List Event) → capacity ≤ 2 ^ 30 → KeepEdges (new_socket capacity queued) 0 events }
+{}

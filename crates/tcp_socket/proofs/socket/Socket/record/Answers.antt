@@ -1,0 +1,9 @@
+use Rattle.tcp_socket.proofs.Kept.{kept_sent}
+use Rattle.tcp_socket.proofs.socket.Socket.record.Goals as goal
+
+pub invariant_of-self : goal.invariant_of-self
+invariant_of-self c = record {
+  room = c.self.invariant.room;
+  block = rw c.sent.ensures (kept_sent c.offer.now.kind c.self.inside.block c.offer.now c.capacity.result c.len.result c.self.invariant.block);
+  unsettled = tt;
+}
