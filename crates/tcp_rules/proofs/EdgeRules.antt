@@ -202,21 +202,21 @@ module _ (capacity seen : ℕ) (e : Edge) (p : IsEdge capacity seen e) (t : Bool
   plain_goes : (syn rst : Bool) → syn ≡ false
       → KeepsWith seen syn rst field (unit e)
       × IsEdge capacity (if rst then seen else max seen (if syn then field else field * unit e))
-        (record e { state = state; edge = if syn then e.waiting + e.free else max (field * unit e) (min e.edge (field * unit e + (unit e - 1))) })
+      (record e { state = state; edge = if syn then e.waiting + e.free else max (field * unit e) (min e.edge (field * unit e + (unit e - 1))) })
   plain_goes true rst is = clash is
   plain_goes false rst is = (
     keeps rst,
     less capacity (max seen (field * unit e)) (if rst then seen else max seen (field * unit e))
-    (record e { state = state; edge = max (field * unit e) (min e.edge (field * unit e + (unit e - 1))) })
-    (record {
-      room = p.room;
-      number = p.number;
-      opening = λ is. p.opening (same is);
-      below = kept.0;
-      told = larger seen (field * unit e) (65_535 * unit e) p.told near.1;
-      within = kept.1;
-    })
-    (lesser rst seen (field * unit e)),
+        (record e { state = state; edge = max (field * unit e) (min e.edge (field * unit e + (unit e - 1))) })
+        (record {
+          room = p.room;
+          number = p.number;
+          opening = λ is. p.opening (same is);
+          below = kept.0;
+          told = larger seen (field * unit e) (65_535 * unit e) p.told near.1;
+          within = kept.1;
+        })
+        (lesser rst seen (field * unit e)),
   )
     where
       kept : (max seen (field * unit e) ≤ max (field * unit e) (min e.edge (field * unit e + (unit e - 1)))) × (max (field * unit e) (min e.edge (field * unit e + (unit e - 1))) ≤ e.free)
@@ -287,7 +287,7 @@ reset_out : (capacity f : ℕ) (v w : TcpValue) (segment : TcpHeader) → segmen
 reset_out capacity f v w segment rst p = (
   ((λ no _. clash (sym (ap is_rst rst) ∙ no)), (λ syn. clash (sym syn ∙ ap is_syn rst))),
   less capacity (f - risen v.block w.block) _ (edge_of w) p
-  (transitive _ _ _ (over_least (is_over w.block.state) _) (same_or (is_rst segment.control) (f - risen v.block w.block) _ (ap is_rst rst))),
+      (transitive _ _ _ (over_least (is_over w.block.state) _) (same_or (is_rst segment.control) (f - risen v.block w.block) _ (ap is_rst rst))),
 )
   where
     same_or : (t : Bool) (a b : ℕ) → t ≡ true → (if t then a else b) ≤ a
@@ -637,10 +637,11 @@ module _ (capacity f : ℕ) (cx : ContextValue) (v : TcpValue) where
       let w : TcpValue = with_block (unoffered x) after_it in
       let goes =
       plain_goes capacity (f - risen v.block w.block) (edge_of x) (less capacity f (f - risen v.block w.block) (edge_of x) p (minus_least f (risen v.block w.block))) (tells x)
-      x.block.state (λ e. e) (is_syn (control_for probe_choice (queued_in x))) (is_rst (control_for probe_choice (queued_in x))) (not_syn probe_choice (queued_in x)) in
-      (asked_out (unoffered x) after_it cx.moment (segment x.block pair cx.moment (window_of x) (control_for probe_choice (queued_in x)) (number_at x.block 0))
-        (some_out capacity f v w (segment x.block pair cx.moment (window_of x) (control_for probe_choice (queued_in x)) (number_at x.block 0)) goes.0 goes.1),
-      stays (unoffered x) p)
+      x.block.state (λ e. e) (is_syn (control_for probe_choice (queued_in x))) (is_rst (control_for probe_choice (queued_in x))) (not_syn probe_choice (queued_in x)) in (
+        asked_out (unoffered x) after_it cx.moment (segment x.block pair cx.moment (window_of x) (control_for probe_choice (queued_in x)) (number_at x.block 0))
+            (some_out capacity f v w (segment x.block pair cx.moment (window_of x) (control_for probe_choice (queued_in x)) (number_at x.block 0)) goes.0 goes.1),
+        stays (unoffered x) p,
+      )
 
   keep_alive_out : (x : TcpValue) (pair : EndpointPair) → IsEdge capacity f (edge_of x) → Both (offer_keep_alive cx x pair)
   keep_alive_out x pair p =
@@ -649,10 +650,11 @@ module _ (capacity f : ℕ) (cx : ContextValue) (v : TcpValue) where
       let w : TcpValue = with_block (unoffered x) b in
       let goes =
       plain_goes capacity (f - risen v.block w.block) (edge_of x) (less capacity f (f - risen v.block w.block) (edge_of x) p (minus_least f (risen v.block w.block))) (tells x)
-      x.block.state (λ e. e) false false refl in
-      (asked_out (unoffered x) b cx.moment (keep_alive_segment x.block pair cx.moment (window_of x))
-        (some_out capacity f v w (keep_alive_segment x.block pair cx.moment (window_of x)) goes.0 goes.1),
-      stays (unoffered x) p)
+      x.block.state (λ e. e) false false refl in (
+        asked_out (unoffered x) b cx.moment (keep_alive_segment x.block pair cx.moment (window_of x))
+            (some_out capacity f v w (keep_alive_segment x.block pair cx.moment (window_of x)) goes.0 goes.1),
+        stays (unoffered x) p,
+      )
 
   syn_out : (x : TcpValue) (pair : EndpointPair) → IsEdge capacity f (edge_of x) → length x.received.waiting ≡ 0 → Both (offer_syn cx x pair)
   syn_out x pair p none =
