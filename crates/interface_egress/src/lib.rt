@@ -22,4 +22,4 @@ pub use interface_tables::{
 pub use plan::{Plan, plan_for};
 pub use socket_meta::{Meta, Waiting};
 pub use socket_set::{AddError, Handles, Item, Iter, SocketHandle, SocketSet, SocketStorage};
-pub use way_out::{Sent, dispatch, send_next};
+pub use way_out::{Sent, dispatch, dispatch_by, send_next};

@@ -7,6 +7,6 @@ use Rattle.interface.proofs.arrival.answer.Goals as goal
 -- src/arrival.rt:115:1
 pub returns-in-Some-Packet-clause-settings : goal.returns-in-Some-Packet-clause-settings
 returns-in-Some-Packet-clause-settings g c =
-    keeps_out c.args.inner.now c.dispatch.new.inner
-    (goes_out_same (g.D).Device.moves c.args.device.now c.dispatch.new.device c.args.inner.now c.dispatch.new.inner c.args.fragmenter.now
-    c.dispatch.new.fragmenter (packet_value c.in-Some-Packet.packet) (is_some c.args.fragmenter.now) c.dispatch.result c.dispatch.ensures.out)
+    keeps_out c.args.inner.now c.dispatch_by.new.inner
+    (goes_out_same (g.D).Device.moves c.args.device.now c.dispatch_by.new.device c.args.inner.now c.dispatch_by.new.inner c.args.fragmenter.now
+    c.dispatch_by.new.fragmenter (packet_value c.in-Some-Packet.packet) (is_some c.args.fragmenter.now) c.dispatch_by.result c.dispatch_by.ensures.out)
