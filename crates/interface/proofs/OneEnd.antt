@@ -122,9 +122,10 @@ module _ (one_offer : OneOffer) {D : Type 0} (moves : D → Move → D → Type 
     one_leaves : (x y z : Sender D) (m : Meta) (p : PacketValue) (s t : Sent) → Det x.device → Leaves moves turn x m p s y → Leaves moves turn x m p t z → (s ≡ t) × (y ≡ z)
     one_leaves x y z m p s t det (inl a) (inl b) =
         let given : a.0 ≡ b.0 = one_given a.0 b.0 x.device y.device z.device det a.1 b.1 in
-        let again : moves x.device (Allowed a.0) z.device = subst (λ (g : Bool). moves x.device (Allowed g) z.device) (sym given) b.1 in
-        (same_sent s t (sym a.4 ∙ ap (λ (g : Bool). outcome_by g (held_at moves turn x m p)) given ∙ b.4),
-        same_sender y z (det.one_end y.device z.device (Allowed a.0) a.1 again) (a.2 ∙ sym b.2) (a.3 ∙ sym b.3))
+        let again : moves x.device (Allowed a.0) z.device = subst (λ (g : Bool). moves x.device (Allowed g) z.device) (sym given) b.1 in (
+          same_sent s t (sym a.4 ∙ ap (λ (g : Bool). outcome_by g (held_at moves turn x m p)) given ∙ b.4),
+          same_sender y z (det.one_end y.device z.device (Allowed a.0) a.1 again) (a.2 ∙ sym b.2) (a.3 ∙ sym b.3),
+        )
     one_leaves x y z m p s t det (inl a) (inr b) = absurd (rests_or_goes a.0 (held_at moves turn x m p) s x.device y.device b.0 det a.1 a.4 b.1 b.3)
     one_leaves x y z m p s t det (inr a) (inl b) = absurd (rests_or_goes b.0 (held_at moves turn x m p) t x.device z.device a.0 det b.1 b.4 a.1 a.3)
     one_leaves x y z m p s t det (inr a) (inr b) =
@@ -149,7 +150,7 @@ module _ (one_offer : OneOffer) {D : Type 0} (moves : D → Move → D → Type 
           one.2 ∙ ap (λ (s : Sent). turned_by s changed) same.0 ∙ sym two.2,
           same.1,
           one.3 ∙ ap (λ (s : Sent). settled_by s x.inner.moment (waits_until (plan_at x p) y.inner) (destination_of p.header) item) same.0
-          ∙ ap (λ (v : Sender D). settled_by two.0 x.inner.moment (waits_until (plan_at x p) v.inner) (destination_of p.header) item) same.1 ∙ sym two.3,
+              ∙ ap (λ (v : Sender D). settled_by two.0 x.inner.moment (waits_until (plan_at x p) v.inner) (destination_of p.header) item) same.1 ∙ sym two.3,
         )
 
     det_sends : (o : Option PacketValue) (x y : Sender D) (item m : Item Socket) (changed : Bool) (a : Turned) → SendsBy moves turn o x item changed a y m → Det x.device → Det y.device

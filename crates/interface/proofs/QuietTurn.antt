@@ -87,9 +87,12 @@ module _ (due_as_before : DueAsBefore) {D : Type 0} (moves : D → Move → D �
   quiet_asked : (item item' : Item Socket) (turned : Turned) → IsEarlier t (item_instant asked item) → (waits : Bool) → is_waiting (at_moment t asked) item.meta ≡ waits
       → TurnsIf moves turn waits s (let_through (at_moment t asked) item) turned s' item' → (turned ≡ Turn.Next false) × (s' ≡ s) × (item_instant asked item' ≡ item_instant asked item)
   quiet_asked item item' turned early true is turns =
-      let now = at_moment t asked in
-      (turns.0, turns.1, same_instant item.meta.waiting (is_heard asked item.meta) (is_heard now item.meta) (poll_of (context_of asked) item.socket) (stays_unknown asked t since routes item.meta) refl item'
-      (ap (λ (x : Item Socket). x.meta) turns.2) (ap (λ (x : Item Socket). poll_of (context_of asked) x.socket) turns.2))
+      let now = at_moment t asked in (
+        turns.0,
+        turns.1,
+        same_instant item.meta.waiting (is_heard asked item.meta) (is_heard now item.meta) (poll_of (context_of asked) item.socket) (stays_unknown asked t since routes item.meta) refl item'
+            (ap (λ (x : Item Socket). x.meta) turns.2) (ap (λ (x : Item Socket). poll_of (context_of asked) x.socket) turns.2),
+      )
   quiet_asked item item' turned early false is turns =
       let now = at_moment t asked in
       let w = item.meta.waiting in
@@ -99,7 +102,7 @@ module _ (due_as_before : DueAsBefore) {D : Type 0} (moves : D → Move → D �
         silent_turn.next,
         silent_turn.state,
         ap (λ (m : Meta). instant_of (poll_by m.waiting (poll_of (context_of asked) item'.socket) (is_heard asked m) asked.moment)) silent_turn.mark
-        ∙ ap instant_of silent_turn.due ∙ same_itself t asked.moment p w (is_heard asked item.meta) (is_heard now item.meta) stays is early,
+            ∙ ap instant_of silent_turn.due ∙ same_itself t asked.moment p w (is_heard asked item.meta) (is_heard now item.meta) stays is early,
       )
 
   pub quiet_turn : (item item' : Item Socket) (turned : Turned) → IsEarlier t (item_instant asked item) → Turns moves turn s item turned s' item'

@@ -120,7 +120,9 @@ fn send_offered<D: Device>(
     let destination = header.dst_addr();
     let plan = plan_for(inner, fragmenter.is_waiting(), &header);
     let held = held(turn, &item.meta, inner, &destination, &plan);
-    let sent = send_packet(turn, inner, fragmenter, device, &item.meta, &packet, plan, held);
+    let sent = send_packet(
+        turn, inner, fragmenter, device, &item.meta, &packet, plan, held,
+    );
     let until = waits_until(&plan, inner);
     settle(item, sent, now, until, destination);
     turned_by(sent, changed)
@@ -173,12 +175,7 @@ fn held(
 }
 
 /// Whether a packet is given up that has had no route, or whose neighbour hasn't been asked for often enough, for long.
-fn is_given_up(
-    meta: &Meta,
-    inner: &InterfaceInner,
-    destination: &IpAddress,
-    plan: &Plan,
-) -> bool
+fn is_given_up(meta: &Meta, inner: &InterfaceInner, destination: &IpAddress, plan: &Plan) -> bool
     ensures { result ≡ is_given_up meta.now inner.now destination.now plan.now }
 {
     match plan {
