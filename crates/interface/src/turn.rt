@@ -137,18 +137,18 @@ fn send_packet<D: Device>(
     meta: &Meta,
     packet: &Packet<'_>,
     plan: Plan,
-    held: Option<Sent>,
+    fate: Option<Sent>,
 ) -> Sent
     requires packet { IsPacket (packet_value packet.now) }
     requires plan { plan ≡ plan_of inner.old (is_some fragmenter.old) (packet_value packet.now).header }
-    requires held { held ≡ held turn meta.now inner.old (destination_of (packet_value packet.now).header) plan }
+    requires fate { fate ≡ held turn meta.now inner.old (destination_of (packet_value packet.now).header) plan }
     ensures leaves { Leaves D.moves turn (sender device.old inner.old fragmenter.old) meta.now (packet_value packet.now) result (sender device.new inner.new fragmenter.new) }
     ensures capabilities { D.described device.new ≡ D.described device.old }
 {
     let Some(token) = device.transmit(inner.now()) else {
         return Sent::Refused;
     };
-    match held {
+    match fate {
         Some(sent) => sent,
         None => dispatch_by(inner, fragmenter, device, token, packet, plan),
     }
