@@ -69,6 +69,7 @@ fn link(link: LinkAddress) -> Answer {
         LinkAddress::Known(station) => Answer::Station(station),
         LinkAddress::NoRoute => Answer::Says("no route"),
         LinkAddress::Silent => Answer::Says("silent"),
+        LinkAddress::Unanswered => Answer::Says("without answer"),
         LinkAddress::Unknown(hop) => Answer::Unknown(hop),
     }
 }
@@ -78,5 +79,6 @@ fn neighbor(neighbor: Neighbor) -> Answer {
         Neighbor::Found(station) => Answer::Station(station),
         Neighbor::NotFound => Answer::Says("not found"),
         Neighbor::RateLimited => Answer::Says("silent"),
+        Neighbor::Unanswered => Answer::Says("without answer"),
     }
 }

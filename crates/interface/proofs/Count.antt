@@ -18,7 +18,7 @@ module _ {D : Type 0} (moves : D → Move → D → Type 0) (t : ℤ) (Q : ℕ �
     maintenance = kept.maintenance;
     arrivals = kept.arrivals;
     pieces = kept.pieces;
-    turns = λ n h before after p p' x x' turned used runs so turns. kept.turns n h before after p p' x x' turned runs so turns;
+    turns = λ turn n h before after p p' x x' turned used runs so turns. kept.turns turn n h before after p p' x x' turned runs so turns;
   }
 
   pub polls_count : (budget n : ℕ) (s s' : State D) (changed : Bool)

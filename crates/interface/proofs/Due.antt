@@ -39,6 +39,19 @@ module _ (t asked_at : ℤ) (p : PollAt) where
       unwaited (int_lt asked_at w.silent_until) w.silent_until
       (subst (λ (known : Bool). (not known && int_lt t w.silent_until) ≡ false) (stays refl) idle) early
 
+  unwaited_same : (test : Bool) (until : ℤ) → int_lt t until ≡ false → IsEarlier t (instant_of (if test then At.Time until else p)) → instant_of p ≡ instant_of (if test then At.Time until else p)
+  unwaited_same true until late early = absurd (not_both t until early late)
+  unwaited_same false until late early = refl
+
+  -- its mark doesn't count any more
+  pub same_itself : (w : Option Waiting) (before now : Bool) → (before ≡ false → now ≡ false) → waits_by w now t ≡ false
+      → IsEarlier t (instant_of (poll_by w p before asked_at)) → instant_of p ≡ instant_of (poll_by w p before asked_at)
+  same_itself None before now stays idle early = refl
+  same_itself (Some w) true now stays idle early = refl
+  same_itself (Some w) false now stays idle early =
+      unwaited_same (int_lt asked_at w.silent_until) w.silent_until
+      (subst (λ (known : Bool). (not known && int_lt t w.silent_until) ≡ false) (stays refl) idle) early
+
 -- ALL OF THEM
 
 both_later : (t a b : ℤ) (test : Bool) → int_lt b a ≡ test → t <ℤ (if test then b else a) → (t <ℤ a) × (t <ℤ b)

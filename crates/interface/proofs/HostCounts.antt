@@ -3,6 +3,7 @@ use Rattle.std.proofs.Common.{◌≡◌, ℕ, ◌+◌, ◌≤◌, arith, Bool, t
 use Rattle.std.specs.Prelude.{ℤ}
 use Rattle.net_base.specs.Device.{Move}
 use Rattle.ip_wire.specs.IpRepr.{IpRepr}
+use Rattle.ip_wire.specs.IpAddress.{IpAddress}
 use Rattle.socket_base.specs.Packet.{PacketValue}
 use Rattle.socket_base.specs.declared.offer.Offer as Answer
 use Rattle.socket_base.specs.declared.offer.Offer.TheVariants as Offer
@@ -14,6 +15,7 @@ use Rattle.interface_egress.specs.Fragments.{LeftValue}
 use Rattle.interface_egress.specs.GoesOut.{GoesOut}
 use Rattle.interface_egress.specs.Plan.{plan_of}
 use Rattle.interface_egress.specs.declared.plan.Plan.{Plan}
+use Rattle.interface_egress.specs.declared.socket_meta.Meta.{Meta}
 use Rattle.interface_egress.specs.declared.socket_set.Item.{Item}
 use Rattle.interface_egress.specs.declared.way_out.Sent.{Sent}
 use Rattle.interface_egress.proofs.Changes.{changes}
@@ -21,7 +23,7 @@ use Rattle.interface_ingress.specs.Arrives as Replies
 use Rattle.interface_ingress.specs.Arrives.{ReplyValue}
 use Rattle.interface_ingress.specs.Kept.{HasSameSettings}
 use Rattle.interface.specs.Host.{Sender}
-use Rattle.interface.specs.Ingress.{Takes, Replied, sender_of, sender_with}
+use Rattle.interface.specs.Ingress.{Takes, Replied, is_awaited, sender_of, sender_with}
 use Rattle.interface.specs.State.{State}
 use Rattle.interface.specs.Turn.{Leaves, SendsBy, Answers, TurnsIf, ItemTurns, is_waiting, let_through}
 use Rattle.interface.specs.declared.turn.Turned.{Turned}
@@ -44,10 +46,11 @@ module _ {D : Type 0} (moves : D → Move → D → Type 0) (t : ℤ) (Q : ℕ �
 
   -- ARRIVALS
 
-  replied : (reply : Option ReplyValue) (x x' : Sender D) → Replied moves reply x x' → Q n x.inner → Q (n + 1) x'.inner
-  replied None x x' is so = still x.inner x'.inner (ap (λ (y : Sender D). y.inner) is) so
-  replied (Some (Replies.Tells packet)) x x' tells so = still x.inner x'.inner tells.2 so
-  replied (Some (Replies.Answers p)) x x' answers so = out x.device x'.device x.inner x'.inner x.left x'.left p (is_some x.left) answers.0 answers.1 so
+  replied : (awaited : Bool) (reply : Option ReplyValue) (x x' : Sender D) → Replied moves awaited reply x x' → Q n x.inner → Q (n + 1) x'.inner
+  replied awaited None x x' is so = still x.inner x'.inner (ap (λ (y : Sender D). y.inner) is) so
+  replied awaited (Some (Replies.Tells packet)) x x' tells so = still x.inner x'.inner tells.2 so
+  replied awaited (Some (Replies.Answers p)) x x' (inl held) so = still x.inner x'.inner (ap (λ (y : Sender D). y.inner) held.0) so
+  replied awaited (Some (Replies.Answers p)) x x' (inr answers) so = out x.device x'.device x.inner x'.inner x.left x'.left p (is_some x.left) answers.0 answers.1 so
 
   takes_count : (s s' : State D) (answer : Option Bool) → Q n s.host.inner → Takes moves s answer s' → Q (n + 1) s'.host.inner
   takes_count s s' None so takes = still s.host.inner s'.host.inner (ap (λ (x : State D). x.host.inner) takes.1) so
@@ -56,35 +59,35 @@ module _ {D : Type 0} (moves : D → Move → D → Type 0) (t : ℤ) (Q : ℕ �
       let reads = takes.4 in
       let receives = reads.2 in
       let at : State D = record s { device = takes.1 } in
-      replied receives.0.reply (sender_with moves at receives.0) (sender_of moves s') receives.3
+      replied (is_awaited receives.0) receives.0.reply (sender_with moves at receives.0) (sender_of moves s') receives.3
       (kept.arrives n s.host.inner receives.0.inner (receives_same moves reads.0 at s' receives).0 so)
 
   -- TURNS
 
-  module _ (x x' : Sender D) (so : Q n x.inner) where
+  module _ (turn : Option IpAddress) (x x' : Sender D) (so : Q n x.inner) where
     abbrev Next : Type 0
     Next = Q (n + 1) x'.inner
 
     rests : x' ≡ x → Next
     rests is = still x.inner x'.inner (ap (λ (y : Sender D). y.inner) is) so
 
-    leaves : (p : PacketValue) (sent : Sent) → Leaves moves x p sent x' → Next
-    leaves p sent (inl denied) = still x.inner x'.inner denied.1 so
-    leaves p sent (inr goes) = out goes.0 x'.device x.inner x'.inner x.left x'.left p (is_some x.left) sent goes.2 so
+    leaves : (m : Meta) (p : PacketValue) (sent : Sent) → Leaves moves turn x m p sent x' → Next
+    leaves m p sent (inl rests) = still x.inner x'.inner rests.2 so
+    leaves m p sent (inr goes) = out goes.0 x'.device x.inner x'.inner x.left x'.left p (is_some x.left) sent goes.2 so
 
-    offers : (o : Option PacketValue) (item item' : Item Socket) (changed : Bool) (turned : Turned) → SendsBy moves o x item changed turned x' item' → Next
+    offers : (o : Option PacketValue) (item item' : Item Socket) (changed : Bool) (turned : Turned) → SendsBy moves turn o x item changed turned x' item' → Next
     offers None item item' changed turned sends = absurd sends
-    offers (Some p) item item' changed turned sends = leaves p sends.0 sends.1
+    offers (Some p) item item' changed turned sends = leaves item.meta p sends.0 sends.1
 
-    answers : (answer : Answer.Offer) (item item' : Item Socket) (turned : Turned) → Answers moves answer x item turned x' item' → Next
+    answers : (answer : Answer.Offer) (item item' : Item Socket) (turned : Turned) → Answers moves turn answer x item turned x' item' → Next
     answers (Offer.Silent changed) item item' turned is = rests is.1
     answers (Offer.Packet changed) item item' turned is = offers (offered_by item.socket) item item' changed turned is
 
-    asked : (waits : Bool) (item item' : Item Socket) (turned : Turned) → TurnsIf moves waits x item turned x' item' → Next
+    asked : (waits : Bool) (item item' : Item Socket) (turned : Turned) → TurnsIf moves turn waits x item turned x' item' → Next
     asked true item item' turned turns = rests turns.1
     asked false item item' turned turns = answers turns.0 (record item { socket = turns.1 }) item' turned turns.3
 
-    turns_count : (o o' : Option (Item Socket)) (turned : Turned) → ItemTurns moves o x turned x' o' → Next
+    turns_count : (o o' : Option (Item Socket)) (turned : Turned) → ItemTurns moves turn o x turned x' o' → Next
     turns_count None None turned turns = rests turns.1
     turns_count (Some item) (Some item') turned turns = asked (is_waiting x.inner item.meta) (let_through x.inner item) item' turned turns
     turns_count None (Some item') turned turns = absurd turns
@@ -97,5 +100,5 @@ hosts_priced moves t Q kept = record {
   maintenance = λ n s so. kept.begins n s.host.inner so;
   arrivals = λ n s s' answer runs so takes. takes_count moves t Q kept n s s' answer so takes;
   pieces = λ n h ps x x' l gone runs is so leaves same. kept.more n (n + 0) x'.inner (omega arith) (subst (Q n) (sym same) so);
-  turns = λ n h before after p p' x x' turned used runs so turns. turns_count moves t Q kept n x x' so p.inner p'.inner turned turns;
+  turns = λ turn n h before after p p' x x' turned used runs so turns. turns_count moves t Q kept n turn x x' so p.inner p'.inner turned turns;
 }

@@ -28,7 +28,7 @@ module _ {D : Type 0} (moves : D → Move → D → Type 0) (t : ℤ) (Q : Inner
       maintenance = λ s holds. begins s.host.inner holds;
       arrivals = λ s s' answer runs holds takes. takes_keep s s' answer holds takes;
       pieces = λ h ps x x' l gone runs is holds leaves same. subst Q (sym same) holds;
-      turns = λ h before after p p' x x' turned runs holds turns. sends x.inner x'.inner (place_same moves x x' p p' turned turns) holds;
+      turns = λ turn h before after p p' x x' turned runs holds turns. sends x.inner x'.inner (place_same moves turn x x' p p' turned turns) holds;
     }
 
 -- SETTINGS

@@ -1,10 +1,12 @@
 -- What maintenance, arrivals, pieces and turns keep is kept by a poll.
 use Rattle.std.proofs.Common.{◌≡◌, ℕ, zero, suc, ℤ, Bool, true, false, ◌||◌, inl, inr, List, [], ◌∷◌, ◌++◌, Option, Some, None, refl, sym, subst, append_assoc, append-nil}
 use Rattle.net_base.specs.Device.{Move}
+use Rattle.ip_wire.specs.IpAddress.{IpAddress}
 use Rattle.sockets.specs.declared.socket.Socket.{Socket}
 use Rattle.interface_tables.specs.Inner.{InnerValue}
 use Rattle.interface_egress.specs.declared.socket_set.SocketStorage.{SocketStorage}
 use Rattle.interface_egress.specs.Fragments.{LeftValue}
+use Rattle.interface.specs.Awaited.{turn_of}
 use Rattle.interface.specs.Host.{HostValue, Sender, sender}
 use Rattle.interface.specs.Pass.{Pass, Passed}
 use Rattle.interface.specs.WayOut.{Clears, Egress}
@@ -24,17 +26,17 @@ module _ {D : Type 0} (moves : D → Move → D → Type 0) (t : ℤ) (P : State
   -- THE WAY OUT
 
   module _ (h : HostValue) where
-    pass_keeps : (ps before : List (SocketStorage Socket)) (x : Sender D) (changed : Bool) (e : Passed D) → Holds (sending_as h x (before ++ ps)) → Pass moves x before changed ps e → Holds (behind h e)
-    pass_keeps [] before x changed e holds ends =
+    pass_keeps : (turn : Option IpAddress) (ps before : List (SocketStorage Socket)) (x : Sender D) (changed : Bool) (e : Passed D) → Holds (sending_as h x (before ++ ps)) → Pass moves turn x before changed ps e → Holds (behind h e)
+    pass_keeps turn [] before x changed e holds ends =
         subst (λ (y : Passed D). Holds (behind h y)) (sym ends) (subst (λ (qs : List (SocketStorage Socket)). Holds (sending_as h x qs)) (append-nil before) holds)
-    pass_keeps (p ∷ ps) before x changed e holds (inl goes) =
-        let next : P (sending_as h goes.1 (before ++ goes.2 ∷ ps)) = kept.turns h before ps p goes.2 x goes.1 (Turn.Next goes.0) holds.1 holds.0 goes.3 in
-        let runs = turn_runs moves t x goes.1 p goes.2 (Turn.Next goes.0) goes.3 holds.1 in
-        pass_keeps ps (before ++ goes.2 ∷ []) goes.1 (changed || goes.0) e
+    pass_keeps turn (p ∷ ps) before x changed e holds (inl goes) =
+        let next : P (sending_as h goes.1 (before ++ goes.2 ∷ ps)) = kept.turns turn h before ps p goes.2 x goes.1 (Turn.Next goes.0) holds.1 holds.0 goes.3 in
+        let runs = turn_runs moves t turn x goes.1 p goes.2 (Turn.Next goes.0) goes.3 holds.1 in
+        pass_keeps turn ps (before ++ goes.2 ∷ []) goes.1 (changed || goes.0) e
         (subst (λ (qs : List (SocketStorage Socket)). P (sending_as h goes.1 qs)) (sym (append_assoc before (goes.2 ∷ []) ps)) next, runs) goes.4
-    pass_keeps (p ∷ ps) before x changed e holds (inr stops) =
-        let next : P (sending_as h stops.1 (before ++ stops.2 ∷ ps)) = kept.turns h before ps p stops.2 x stops.1 (Turn.Stop stops.0) holds.1 holds.0 stops.3 in
-        subst (λ (y : Passed D). Holds (behind h y)) (sym stops.4) (next, turn_runs moves t x stops.1 p stops.2 (Turn.Stop stops.0) stops.3 holds.1)
+    pass_keeps turn (p ∷ ps) before x changed e holds (inr stops) =
+        let next : P (sending_as h stops.1 (before ++ stops.2 ∷ ps)) = kept.turns turn h before ps p stops.2 x stops.1 (Turn.Stop stops.0) holds.1 holds.0 stops.3 in
+        subst (λ (y : Passed D). Holds (behind h y)) (sym stops.4) (next, turn_runs moves t turn x stops.1 p stops.2 (Turn.Stop stops.0) stops.3 holds.1)
 
     clears_keeps : (ps : List (SocketStorage Socket)) (x x' : Sender D) (l : Option LeftValue) (clear : Bool) → x.left ≡ l → Holds (sending_as h x ps) → Clears moves l x clear x' → Holds (sending_as h x' ps)
     clears_keeps ps x x' None clear is holds clears = subst (λ (y : Sender D). Holds (sending_as h y ps)) (sym clears.1) holds
@@ -44,7 +46,7 @@ module _ {D : Type 0} (moves : D → Move → D → Type 0) (t : ℤ) (P : State
     egress_keeps : (x : Sender D) (ps : List (SocketStorage Socket)) (e : Passed D) → Holds (sending_as h x ps) → Egress moves x ps e → Holds (behind h e)
     egress_keeps x ps e holds (inl stays) =
         subst (λ (y : Passed D). Holds (behind h y)) (sym stays.2) (clears_keeps ps x stays.0 x.left false refl holds stays.1)
-    egress_keeps x ps e holds (inr goes) = pass_keeps ps [] goes.0 false e (clears_keeps ps x goes.0 x.left true refl holds goes.1) goes.2
+    egress_keeps x ps e holds (inr goes) = pass_keeps (turn_of goes.0.inner ps) ps [] goes.0 false e (clears_keeps ps x goes.0 x.left true refl holds goes.1) goes.2
 
   pub out_step_keeps : (s s' : State D) (answer : Option Bool) → Holds s → EgressStep moves t s answer s' → Holds s'
   out_step_keeps s s' answer holds step =

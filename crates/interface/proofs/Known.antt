@@ -5,8 +5,9 @@ use Rattle.ip_wire.specs.HardwareAddress.TheVariants as Hardware
 use Rattle.ip_wire.specs.IpAddress.{IpAddress}
 use Rattle.interface_tables.specs.Best.{at_place}
 use Rattle.interface_tables.specs.Inner.{InnerValue, at_moment, is_known_on, is_known_hop, next_hop}
-use Rattle.interface_tables.specs.Neighbor.{CacheValue, answer_by, missing, is_found, place_of}
+use Rattle.interface_tables.specs.Neighbor.{CacheValue, answer_by, missing, is_found, place_of, has_failed, unless_failed}
 use Rattle.interface_tables.specs.declared.neighbor.Neighbor.{Neighbor}
+use Rattle.interface_tables.specs.declared.neighbor.Answer.{Answer}
 use Rattle.interface_tables.specs.declared.neighbor.Answer.TheVariants as Known
 use Rattle.interface_egress.specs.declared.socket_meta.Meta.{Meta}
 use Rattle.interface_egress.specs.Meta.{neighbor_of}
@@ -23,6 +24,15 @@ found_where : (test : Bool) (hardware : HardwareAddress) (c : CacheValue) (momen
 found_where true hardware c moment = refl
 found_where false hardware c moment = missing_unfound c moment
 
+-- who is without answer isn't found
+found_unless : (failed : Bool) (a : Answer) → is_found (unless_failed failed a) ≡ is_found a
+found_unless failed (Known.Found hardware) = refl
+found_unless true Known.NotFound = refl
+found_unless false Known.NotFound = refl
+found_unless true Known.RateLimited = refl
+found_unless false Known.RateLimited = refl
+found_unless failed Known.Unanswered = refl
+
 expired_later : (a b end : ℤ) → a ≤ℤ b → int_lt a end ≡ false → int_lt b end ≡ false
 expired_later a b end since past = grind (arith)
 
@@ -36,7 +46,10 @@ module _ (asked : InnerValue) (t : ℤ) (since : asked.moment ≤ℤ t) (routes 
   unknown_on : (hardware : HardwareAddress) (hop : IpAddress) → is_known_on hardware asked hop ≡ false → is_known_on hardware (at_moment t asked) hop ≡ false
   unknown_on Hardware.Ip hop unknown = unknown
   unknown_on (Hardware.Ethernet own) hop unknown =
-      unfound_by (at_place (place_of asked.neighbors.entries hop) asked.neighbors.entries) asked.neighbors asked.moment t since unknown
+      let entry : Option Neighbor = at_place (place_of asked.neighbors.entries hop) asked.neighbors.entries in
+      let before : is_found (answer_by entry asked.neighbors asked.moment) ≡ false =
+      sym (found_unless (has_failed asked.neighbors hop asked.moment) (answer_by entry asked.neighbors asked.moment)) ∙ unknown in
+      found_unless (has_failed asked.neighbors hop t) (answer_by entry asked.neighbors t) ∙ unfound_by entry asked.neighbors asked.moment t since before
 
   unknown_hop : (hop : Option IpAddress) → is_known_hop asked hop ≡ false → is_known_hop (at_moment t asked) hop ≡ false
   unknown_hop None unknown = refl

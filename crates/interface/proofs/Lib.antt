@@ -1,3 +1,4 @@
+pub mod Waiting
 pub mod Known
 pub mod Due
 pub mod QuietTurn

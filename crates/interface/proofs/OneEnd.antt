@@ -1,7 +1,8 @@
 -- At a device whose moves are determined a poll has one end.
-use Rattle.std.proofs.Common.{◌≡◌, ◌≤◌, ℕ, zero, suc, ℤ, Bool, true, false, ◌||◌, inl, inr, List, [], ◌∷◌, ◌++◌, Option, Some, None, is_some, refl, sym, ap, ◌∙◌, subst}
+use Rattle.std.proofs.Common.{◌≡◌, ◌≤◌, ℕ, zero, suc, ℤ, Bool, true, false, ◌||◌, ◌&&◌, inl, inr, List, [], ◌∷◌, ◌++◌, Option, Some, None, is_some, refl, sym, ap, ◌∙◌, subst}
 use Rattle.net_base.specs.Device.{Move, Took, Empty, Allowed, Emitted, Denied}
 use Rattle.ip_wire.specs.Ip.{destination_of}
+use Rattle.ip_wire.specs.IpAddress.{IpAddress}
 use Rattle.socket_base.specs.Context.{ContextValue}
 use Rattle.socket_base.specs.Packet.{PacketValue}
 use Rattle.socket_base.specs.declared.offer.Offer as Answer
@@ -9,6 +10,7 @@ use Rattle.socket_base.specs.declared.offer.Offer.TheVariants as Offer
 use Rattle.sockets.specs.Socket.{Offers, offered_by}
 use Rattle.sockets.specs.declared.socket.Socket.{Socket}
 use Rattle.interface_tables.specs.Inner.{InnerValue, context_of}
+use Rattle.interface_egress.specs.declared.socket_meta.Meta.{Meta}
 use Rattle.interface_egress.specs.declared.socket_set.Item.{Item}
 use Rattle.interface_egress.specs.declared.socket_set.SocketStorage.{SocketStorage}
 use Rattle.interface_egress.specs.Departing.{SendsOnce, departure_by, was_taken}
@@ -26,15 +28,16 @@ use Rattle.interface_ingress.proofs.OneContent.{one-content}
 use Rattle.interface_ingress.specs.Arrives as Replies
 use Rattle.interface_ingress.specs.Arrives.{ReplyValue, Arrived, ArrivesAs}
 use Rattle.interface_ingress.proofs.OneArrival.{one_arrives_as}
+use Rattle.interface.specs.Awaited.{turn_of}
 use Rattle.interface.specs.Host.{Sender}
 use Rattle.interface.specs.Pass.{Pass, Passed, passed}
 use Rattle.interface.specs.WayOut.{Clears, Egress, PieceLeaves}
-use Rattle.interface.specs.Turn.{Leaves, SendsBy, Answers, TurnsIf, ItemTurns, PlaceTurns, is_waiting, let_through, turned_by, settled_by}
+use Rattle.interface.specs.Turn.{Leaves, SendsBy, Answers, TurnsIf, ItemTurns, PlaceTurns, is_waiting, let_through, turned_by, settled_by, plan_at, held_at, outcome_by, waits_until}
 use Rattle.interface.specs.declared.turn.Turned.{Turned}
 use Rattle.interface.specs.declared.turn.Turned.TheVariants as Turn
 use Rattle.interface.specs.State.{State, at_device}
 use Rattle.interface.specs.Egress.{EgressStep, sending, behind, if_changed}
-use Rattle.interface.specs.Ingress.{IngressStep, Takes, Receives, Reads, Replied, is_read, sender_of, sender_with}
+use Rattle.interface.specs.Ingress.{IngressStep, Takes, Receives, Reads, Replied, is_awaited, would_ask, is_read, sender_of, sender_with}
 use Rattle.interface.specs.Polls.{Repeats, Polls, begun}
 use Rattle.interface.specs.Steady.{IsSteady}
 
@@ -102,119 +105,138 @@ module _ (one_offer : OneOffer) {D : Type 0} (moves : D → Move → D → Type 
 
   -- TURNS
 
-  one_leaves : (x y z : Sender D) (p : PacketValue) (s t : Sent) → Det x.device → Leaves moves x p s y → Leaves moves x p t z → (s ≡ t) × (y ≡ z)
-  one_leaves x y z p s t det (inl a) (inl b) =
-      (a.3 ∙ sym b.3, same_sender y z (det.one_end y.device z.device (Allowed false) a.0 b.0) (a.1 ∙ sym b.1) (a.2 ∙ sym b.2))
-  one_leaves x y z p s t det (inl a) (inr b) = absurd (det.gives b.0 y.device b.1 a.0)
-  one_leaves x y z p s t det (inr a) (inl b) = absurd (det.gives a.0 z.device a.1 b.0)
-  one_leaves x y z p s t det (inr a) (inr b) =
-      let mids : b.0 ≡ a.0 = det.one_end b.0 a.0 (Allowed true) b.1 a.1 in
-      let two : GoesOut moves a.0 x.inner x.left p (plan_of x.inner (is_some x.left) p.header) t z.device z.inner z.left =
-      subst (λ (d : D). GoesOut moves d x.inner x.left p (plan_of x.inner (is_some x.left) p.header) t z.device z.inner z.left) mids b.2 in
-      let same = one_out a.0 y.device z.device x.inner y.inner z.inner x.left y.left z.left p (is_some x.left) s t (steady.stays x.device a.0 (Allowed true) det a.1) a.2 two in
-      (same.0, same_sender y z same.1 same.2 same.3)
+  module _ (turn : Option IpAddress) where
+    one_given : (g h : Bool) (x y z : D) → Det x → moves x (Allowed g) y → moves x (Allowed h) z → g ≡ h
+    one_given true true x y z det one two = refl
+    one_given false false x y z det one two = refl
+    one_given true false x y z det one two = absurd (det.gives y z one two)
+    one_given false true x y z det one two = absurd (det.gives z y two one)
 
-  det_leaves : (x y : Sender D) (p : PacketValue) (s : Sent) → Leaves moves x p s y → Det x.device → Det y.device
-  det_leaves x y p s (inl a) det = steady.stays x.device y.device (Allowed false) det a.0
-  det_leaves x y p s (inr a) det = det_out a.0 y.device x.inner y.inner x.left y.left p (is_some x.left) s a.2 (steady.stays x.device a.0 (Allowed true) det a.1)
+    same_sent : (s t : Sent) → Some s ≡ Some t → s ≡ t
+    same_sent s t is = cc
 
-  abbrev SameTurn : {A : Type 0} → Turned → Sender D → A → Turned → Sender D → A → Type 0
-  SameTurn a y p b z q = (a ≡ b) × (y ≡ z) × (p ≡ q)
+    rests_or_goes : (g : Bool) (h : Option Sent) (s : Sent) (x y mid : D) → Det x → moves x (Allowed g) y → outcome_by g h ≡ Some s → moves x (Allowed true) mid → h ≡ None → ⊥
+    rests_or_goes false h s x y mid det rests is goes none = det.gives mid y goes rests
+    rests_or_goes true h s x y mid det rests is goes none = let off = sym none ∙ is in cc
 
-  one_sends : (o : Option PacketValue) (x y z : Sender D) (item m n : Item Socket) (changed : Bool) (a b : Turned) → Det x.device
-      → SendsBy moves o x item changed a y m → SendsBy moves o x item changed b z n → SameTurn a y m b z n
-  one_sends None x y z item m n changed a b det one two = absurd one
-  one_sends (Some p) x y z item m n changed a b det one two =
-      let same = one_leaves x y z p one.0 two.0 det one.1 two.1 in (
-        one.2 ∙ ap (λ (s : Sent). turned_by s changed) same.0 ∙ sym two.2,
-        same.1,
-        one.3 ∙ ap (λ (s : Sent). settled_by s x.inner.moment (destination_of p.header) item) same.0 ∙ sym two.3,
-      )
+    one_leaves : (x y z : Sender D) (m : Meta) (p : PacketValue) (s t : Sent) → Det x.device → Leaves moves turn x m p s y → Leaves moves turn x m p t z → (s ≡ t) × (y ≡ z)
+    one_leaves x y z m p s t det (inl a) (inl b) =
+        let given : a.0 ≡ b.0 = one_given a.0 b.0 x.device y.device z.device det a.1 b.1 in
+        let again : moves x.device (Allowed a.0) z.device = subst (λ (g : Bool). moves x.device (Allowed g) z.device) (sym given) b.1 in (
+          same_sent s t (sym a.4 ∙ ap (λ (g : Bool). outcome_by g (held_at moves turn x m p)) given ∙ b.4),
+          same_sender y z (det.one_end y.device z.device (Allowed a.0) a.1 again) (a.2 ∙ sym b.2) (a.3 ∙ sym b.3),
+        )
+    one_leaves x y z m p s t det (inl a) (inr b) = absurd (rests_or_goes a.0 (held_at moves turn x m p) s x.device y.device b.0 det a.1 a.4 b.1 b.3)
+    one_leaves x y z m p s t det (inr a) (inl b) = absurd (rests_or_goes b.0 (held_at moves turn x m p) t x.device z.device a.0 det b.1 b.4 a.1 a.3)
+    one_leaves x y z m p s t det (inr a) (inr b) =
+        let mids : b.0 ≡ a.0 = det.one_end b.0 a.0 (Allowed true) b.1 a.1 in
+        let two : GoesOut moves a.0 x.inner x.left p (plan_of x.inner (is_some x.left) p.header) t z.device z.inner z.left =
+        subst (λ (d : D). GoesOut moves d x.inner x.left p (plan_of x.inner (is_some x.left) p.header) t z.device z.inner z.left) mids b.2 in
+        let same = one_out a.0 y.device z.device x.inner y.inner z.inner x.left y.left z.left p (is_some x.left) s t (steady.stays x.device a.0 (Allowed true) det a.1) a.2 two in
+        (same.0, same_sender y z same.1 same.2 same.3)
 
-  det_sends : (o : Option PacketValue) (x y : Sender D) (item m : Item Socket) (changed : Bool) (a : Turned) → SendsBy moves o x item changed a y m → Det x.device → Det y.device
-  det_sends None x y item m changed a one det = absurd one
-  det_sends (Some p) x y item m changed a one det = det_leaves x y p one.0 one.1 det
+    det_leaves : (x y : Sender D) (m : Meta) (p : PacketValue) (s : Sent) → Leaves moves turn x m p s y → Det x.device → Det y.device
+    det_leaves x y m p s (inl a) det = steady.stays x.device y.device (Allowed a.0) det a.1
+    det_leaves x y m p s (inr a) det = det_out a.0 y.device x.inner y.inner x.left y.left p (is_some x.left) s a.2 (steady.stays x.device a.0 (Allowed true) det a.1)
 
-  one_answers : (answer : Answer.Offer) (x y z : Sender D) (item m n : Item Socket) (a b : Turned) → Det x.device
-      → Answers moves answer x item a y m → Answers moves answer x item b z n → SameTurn a y m b z n
-  one_answers (Offer.Silent changed) x y z item m n a b det one two = (one.0 ∙ sym two.0, one.1 ∙ sym two.1, one.2 ∙ sym two.2)
-  one_answers (Offer.Packet changed) x y z item m n a b det one two = one_sends (offered_by item.socket) x y z item m n changed a b det one two
+    abbrev SameTurn : {A : Type 0} → Turned → Sender D → A → Turned → Sender D → A → Type 0
+    SameTurn a y p b z q = (a ≡ b) × (y ≡ z) × (p ≡ q)
 
-  det_same : (x y : Sender D) → y ≡ x → Det x.device → Det y.device
-  det_same x y is det = subst (λ (v : Sender D). Det v.device) (sym is) det
+    one_sends : (o : Option PacketValue) (x y z : Sender D) (item m n : Item Socket) (changed : Bool) (a b : Turned) → Det x.device
+        → SendsBy moves turn o x item changed a y m → SendsBy moves turn o x item changed b z n → SameTurn a y m b z n
+    one_sends None x y z item m n changed a b det one two = absurd one
+    one_sends (Some p) x y z item m n changed a b det one two =
+        let same = one_leaves x y z item.meta p one.0 two.0 det one.1 two.1 in (
+          one.2 ∙ ap (λ (s : Sent). turned_by s changed) same.0 ∙ sym two.2,
+          same.1,
+          one.3 ∙ ap (λ (s : Sent). settled_by s x.inner.moment (waits_until (plan_at x p) y.inner) (destination_of p.header) item) same.0
+              ∙ ap (λ (v : Sender D). settled_by two.0 x.inner.moment (waits_until (plan_at x p) v.inner) (destination_of p.header) item) same.1 ∙ sym two.3,
+        )
 
-  det_answers : (answer : Answer.Offer) (x y : Sender D) (item m : Item Socket) (a : Turned) → Answers moves answer x item a y m → Det x.device → Det y.device
-  det_answers (Offer.Silent changed) x y item m a one det = det_same x y one.1 det
-  det_answers (Offer.Packet changed) x y item m a one det = det_sends (offered_by item.socket) x y item m changed a one det
+    det_sends : (o : Option PacketValue) (x y : Sender D) (item m : Item Socket) (changed : Bool) (a : Turned) → SendsBy moves turn o x item changed a y m → Det x.device → Det y.device
+    det_sends None x y item m changed a one det = absurd one
+    det_sends (Some p) x y item m changed a one det = det_leaves x y item.meta p one.0 one.1 det
 
-  one_turn : (waits : Bool) (x y z : Sender D) (item m n : Item Socket) (a b : Turned) → Det x.device
-      → TurnsIf moves waits x item a y m → TurnsIf moves waits x item b z n → SameTurn a y m b z n
-  one_turn true x y z item m n a b det one two = (one.0 ∙ sym two.0, one.1 ∙ sym two.1, one.2 ∙ sym two.2)
-  one_turn false x y z item m n a b det one two =
-      let same = one_offer (context_of x.inner) item.socket two.1 one.1 two.0 one.0 two.2 one.2 in
-      let again : Answers moves one.0 x (record item { socket = one.1 }) b z n =
-      subst (λ (s : Socket). Answers moves one.0 x (record item { socket = s }) b z n) same.1
-      (subst (λ (answer : Answer.Offer). Answers moves answer x (record item { socket = two.1 }) b z n) same.0 two.3) in
-      one_answers one.0 x y z (record item { socket = one.1 }) m n a b det one.3 again
+    one_answers : (answer : Answer.Offer) (x y z : Sender D) (item m n : Item Socket) (a b : Turned) → Det x.device
+        → Answers moves turn answer x item a y m → Answers moves turn answer x item b z n → SameTurn a y m b z n
+    one_answers (Offer.Silent changed) x y z item m n a b det one two = (one.0 ∙ sym two.0, one.1 ∙ sym two.1, one.2 ∙ sym two.2)
+    one_answers (Offer.Packet changed) x y z item m n a b det one two = one_sends (offered_by item.socket) x y z item m n changed a b det one two
 
-  det_turn : (waits : Bool) (x y : Sender D) (item m : Item Socket) (a : Turned) → TurnsIf moves waits x item a y m → Det x.device → Det y.device
-  det_turn true x y item m a one det = det_same x y one.1 det
-  det_turn false x y item m a one det = det_answers one.0 x y (record item { socket = one.1 }) m a one.3 det
+    det_same : (x y : Sender D) → y ≡ x → Det x.device → Det y.device
+    det_same x y is det = subst (λ (v : Sender D). Det v.device) (sym is) det
 
-  one_item : (o p q : Option (Item Socket)) (x y z : Sender D) (a b : Turned) → Det x.device → ItemTurns moves o x a y p → ItemTurns moves o x b z q → SameTurn a y p b z q
-  one_item None None None x y z a b det one two = (one.0 ∙ sym two.0, one.1 ∙ sym two.1, refl)
-  one_item (Some item) (Some m) (Some n) x y z a b det one two =
-      let same = one_turn (is_waiting x.inner item.meta) x y z (let_through x.inner item) m n a b det one two in
-      (same.0, same.1, ap (λ (v : Item Socket). Some v) same.2)
-  one_item None (Some m) q x y z a b det one two = absurd one
-  one_item None None (Some n) x y z a b det one two = absurd two
-  one_item (Some item) None q x y z a b det one two = absurd one
-  one_item (Some item) (Some m) None x y z a b det one two = absurd two
+    det_answers : (answer : Answer.Offer) (x y : Sender D) (item m : Item Socket) (a : Turned) → Answers moves turn answer x item a y m → Det x.device → Det y.device
+    det_answers (Offer.Silent changed) x y item m a one det = det_same x y one.1 det
+    det_answers (Offer.Packet changed) x y item m a one det = det_sends (offered_by item.socket) x y item m changed a one det
 
-  det_item : (o p : Option (Item Socket)) (x y : Sender D) (a : Turned) → ItemTurns moves o x a y p → Det x.device → Det y.device
-  det_item None None x y a one det = det_same x y one.1 det
-  det_item (Some item) (Some m) x y a one det = det_turn (is_waiting x.inner item.meta) x y (let_through x.inner item) m a one det
-  det_item None (Some m) x y a one det = absurd one
-  det_item (Some item) None x y a one det = absurd one
+    one_turn : (waits : Bool) (x y z : Sender D) (item m n : Item Socket) (a b : Turned) → Det x.device
+        → TurnsIf moves turn waits x item a y m → TurnsIf moves turn waits x item b z n → SameTurn a y m b z n
+    one_turn true x y z item m n a b det one two = (one.0 ∙ sym two.0, one.1 ∙ sym two.1, one.2 ∙ sym two.2)
+    one_turn false x y z item m n a b det one two =
+        let same = one_offer (context_of x.inner) item.socket two.1 one.1 two.0 one.0 two.2 one.2 in
+        let again : Answers moves turn one.0 x (record item { socket = one.1 }) b z n =
+        subst (λ (s : Socket). Answers moves turn one.0 x (record item { socket = s }) b z n) same.1
+        (subst (λ (answer : Answer.Offer). Answers moves turn answer x (record item { socket = two.1 }) b z n) same.0 two.3) in
+        one_answers one.0 x y z (record item { socket = one.1 }) m n a b det one.3 again
 
-  one_place : (o p q : SocketStorage Socket) (x y z : Sender D) (a b : Turned) → Det x.device → PlaceTurns moves x o a y p → PlaceTurns moves x o b z q → SameTurn a y p b z q
-  one_place o p q x y z a b det one two =
-      let same = one_item o.inner p.inner q.inner x y z a b det one two in
-      (same.0, same.1, λ k. record { inner = same.2 k })
+    det_turn : (waits : Bool) (x y : Sender D) (item m : Item Socket) (a : Turned) → TurnsIf moves turn waits x item a y m → Det x.device → Det y.device
+    det_turn true x y item m a one det = det_same x y one.1 det
+    det_turn false x y item m a one det = det_answers one.0 x y (record item { socket = one.1 }) m a one.3 det
 
-  det_place : (o p : SocketStorage Socket) (x y : Sender D) (a : Turned) → PlaceTurns moves x o a y p → Det x.device → Det y.device
-  det_place o p x y a one det = det_item o.inner p.inner x y a one det
+    one_item : (o p q : Option (Item Socket)) (x y z : Sender D) (a b : Turned) → Det x.device → ItemTurns moves turn o x a y p → ItemTurns moves turn o x b z q → SameTurn a y p b z q
+    one_item None None None x y z a b det one two = (one.0 ∙ sym two.0, one.1 ∙ sym two.1, refl)
+    one_item (Some item) (Some m) (Some n) x y z a b det one two =
+        let same = one_turn (is_waiting x.inner item.meta) x y z (let_through x.inner item) m n a b det one two in
+        (same.0, same.1, ap (λ (v : Item Socket). Some v) same.2)
+    one_item None (Some m) q x y z a b det one two = absurd one
+    one_item None None (Some n) x y z a b det one two = absurd two
+    one_item (Some item) None q x y z a b det one two = absurd one
+    one_item (Some item) (Some m) None x y z a b det one two = absurd two
+
+    det_item : (o p : Option (Item Socket)) (x y : Sender D) (a : Turned) → ItemTurns moves turn o x a y p → Det x.device → Det y.device
+    det_item None None x y a one det = det_same x y one.1 det
+    det_item (Some item) (Some m) x y a one det = det_turn (is_waiting x.inner item.meta) x y (let_through x.inner item) m a one det
+    det_item None (Some m) x y a one det = absurd one
+    det_item (Some item) None x y a one det = absurd one
+
+    one_place : (o p q : SocketStorage Socket) (x y z : Sender D) (a b : Turned) → Det x.device → PlaceTurns moves turn x o a y p → PlaceTurns moves turn x o b z q → SameTurn a y p b z q
+    one_place o p q x y z a b det one two =
+        let same = one_item o.inner p.inner q.inner x y z a b det one two in
+        (same.0, same.1, λ k. record { inner = same.2 k })
+
+    det_place : (o p : SocketStorage Socket) (x y : Sender D) (a : Turned) → PlaceTurns moves turn x o a y p → Det x.device → Det y.device
+    det_place o p x y a one det = det_item o.inner p.inner x y a one det
 
   -- THE WAY OUT
 
   abbrev Places : Type 0
   Places = List (SocketStorage Socket)
 
-  one_pass : (ps before : Places) (x : Sender D) (changed : Bool) (e f : Passed D) → Det x.device → Pass moves x before changed ps e → Pass moves x before changed ps f → e ≡ f
-  one_pass [] before x changed e f det one two = one ∙ sym two
-  one_pass (p ∷ ps) before x changed e f det (inl a) (inl b) =
-      let same = one_place p b.2 a.2 x b.1 a.1 (Turn.Next b.0) (Turn.Next a.0) det b.3 a.3 in
-      let two : Pass moves a.1 (before ++ a.2 ∷ []) (changed || a.0) ps f =
-      subst (λ (v : Bool). Pass moves a.1 (before ++ a.2 ∷ []) (changed || v) ps f) (same_next b.0 a.0 same.0)
-      (subst (λ (v : SocketStorage Socket). Pass moves a.1 (before ++ v ∷ []) (changed || b.0) ps f) same.2
-      (subst (λ (v : Sender D). Pass moves v (before ++ b.2 ∷ []) (changed || b.0) ps f) same.1 b.4)) in
-      one_pass ps (before ++ a.2 ∷ []) a.1 (changed || a.0) e f (det_place p a.2 x a.1 (Turn.Next a.0) a.3 det) a.4 two
-  one_pass (p ∷ ps) before x changed e f det (inl a) (inr b) =
-      absurd (next_or_stop a.0 b.0 (one_place p a.2 b.2 x a.1 b.1 (Turn.Next a.0) (Turn.Stop b.0) det a.3 b.3).0)
-  one_pass (p ∷ ps) before x changed e f det (inr a) (inl b) =
-      absurd (next_or_stop b.0 a.0 (one_place p b.2 a.2 x b.1 a.1 (Turn.Next b.0) (Turn.Stop a.0) det b.3 a.3).0)
-  one_pass (p ∷ ps) before x changed e f det (inr a) (inr b) =
-      let same = one_place p a.2 b.2 x a.1 b.1 (Turn.Stop a.0) (Turn.Stop b.0) det a.3 b.3 in
+  one_pass : (turn : Option IpAddress) (ps before : Places) (x : Sender D) (changed : Bool) (e f : Passed D) → Det x.device → Pass moves turn x before changed ps e → Pass moves turn x before changed ps f → e ≡ f
+  one_pass turn [] before x changed e f det one two = one ∙ sym two
+  one_pass turn (p ∷ ps) before x changed e f det (inl a) (inl b) =
+      let same = one_place turn p b.2 a.2 x b.1 a.1 (Turn.Next b.0) (Turn.Next a.0) det b.3 a.3 in
+      let two : Pass moves turn a.1 (before ++ a.2 ∷ []) (changed || a.0) ps f =
+      subst (λ (v : Bool). Pass moves turn a.1 (before ++ a.2 ∷ []) (changed || v) ps f) (same_next b.0 a.0 same.0)
+      (subst (λ (v : SocketStorage Socket). Pass moves turn a.1 (before ++ v ∷ []) (changed || b.0) ps f) same.2
+      (subst (λ (v : Sender D). Pass moves turn v (before ++ b.2 ∷ []) (changed || b.0) ps f) same.1 b.4)) in
+      one_pass turn ps (before ++ a.2 ∷ []) a.1 (changed || a.0) e f (det_place turn p a.2 x a.1 (Turn.Next a.0) a.3 det) a.4 two
+  one_pass turn (p ∷ ps) before x changed e f det (inl a) (inr b) =
+      absurd (next_or_stop a.0 b.0 (one_place turn p a.2 b.2 x a.1 b.1 (Turn.Next a.0) (Turn.Stop b.0) det a.3 b.3).0)
+  one_pass turn (p ∷ ps) before x changed e f det (inr a) (inl b) =
+      absurd (next_or_stop b.0 a.0 (one_place turn p b.2 a.2 x b.1 a.1 (Turn.Next b.0) (Turn.Stop a.0) det b.3 a.3).0)
+  one_pass turn (p ∷ ps) before x changed e f det (inr a) (inr b) =
+      let same = one_place turn p a.2 b.2 x a.1 b.1 (Turn.Stop a.0) (Turn.Stop b.0) det a.3 b.3 in
       a.4 ∙ ap (λ (v : Bool). passed a.1 (before ++ a.2 ∷ ps) (changed || v)) (same_stop a.0 b.0 same.0)
       ∙ ap (λ (v : SocketStorage Socket). passed a.1 (before ++ v ∷ ps) (changed || b.0)) same.2
       ∙ ap (λ (v : Sender D). passed v (before ++ b.2 ∷ ps) (changed || b.0)) same.1 ∙ sym b.4
 
-  det_pass : (ps before : Places) (x : Sender D) (changed : Bool) (e : Passed D) → Pass moves x before changed ps e → Det x.device → Det e.sender.device
-  det_pass [] before x changed e one det = subst (λ (v : Passed D). Det v.sender.device) (sym one) det
-  det_pass (p ∷ ps) before x changed e (inl a) det =
-      det_pass ps (before ++ a.2 ∷ []) a.1 (changed || a.0) e a.4 (det_place p a.2 x a.1 (Turn.Next a.0) a.3 det)
-  det_pass (p ∷ ps) before x changed e (inr a) det =
-      subst (λ (v : Passed D). Det v.sender.device) (sym a.4) (det_place p a.2 x a.1 (Turn.Stop a.0) a.3 det)
+  det_pass : (turn : Option IpAddress) (ps before : Places) (x : Sender D) (changed : Bool) (e : Passed D) → Pass moves turn x before changed ps e → Det x.device → Det e.sender.device
+  det_pass turn [] before x changed e one det = subst (λ (v : Passed D). Det v.sender.device) (sym one) det
+  det_pass turn (p ∷ ps) before x changed e (inl a) det =
+      det_pass turn ps (before ++ a.2 ∷ []) a.1 (changed || a.0) e a.4 (det_place turn p a.2 x a.1 (Turn.Next a.0) a.3 det)
+  det_pass turn (p ∷ ps) before x changed e (inr a) det =
+      subst (λ (v : Passed D). Det v.sender.device) (sym a.4) (det_place turn p a.2 x a.1 (Turn.Stop a.0) a.3 det)
 
   one_piece_leaves : (l : LeftValue) (x y z : Sender D) (a b : Bool) → Det x.device → y.inner ≡ x.inner → z.inner ≡ x.inner → PieceLeaves moves l x a y → PieceLeaves moves l x b z → (a ≡ b) × (y ≡ z)
   one_piece_leaves l x y z a b det i j (inl one) (inl two) =
@@ -239,7 +261,7 @@ module _ (one_offer : OneOffer) {D : Type 0} (moves : D → Move → D → Type 
   one_clears (Some l) x y z a b det one two = one_piece_leaves l x y z a b det one.1 two.1 one.0 two.0
 
   det_clears : (l : Option LeftValue) (x y : Sender D) (a : Bool) → Clears moves l x a y → Det x.device → Det y.device
-  det_clears None x y a one det = det_same x y one.1 det
+  det_clears None x y a one det = det_same None x y one.1 det
   det_clears (Some l) x y a one det = det_piece_leaves l x y a one.0 det
 
   one_egress : (x : Sender D) (ps : Places) (e f : Passed D) → Det x.device → Egress moves x ps e → Egress moves x ps f → e ≡ f
@@ -249,11 +271,11 @@ module _ (one_offer : OneOffer) {D : Type 0} (moves : D → Move → D → Type 
   one_egress x ps e f det (inr a) (inl b) = absurd (let same = (one_clears x.left x a.0 b.0 true false det a.1 b.1).0 in cc)
   one_egress x ps e f det (inr a) (inr b) =
       let same = one_clears x.left x b.0 a.0 true true det b.1 a.1 in
-      one_pass ps [] a.0 false e f (det_clears x.left x a.0 true a.1 det) a.2 (subst (λ (v : Sender D). Pass moves v [] false ps f) same.1 b.2)
+      one_pass (turn_of a.0.inner ps) ps [] a.0 false e f (det_clears x.left x a.0 true a.1 det) a.2 (subst (λ (v : Sender D). Pass moves (turn_of v.inner ps) v [] false ps f) same.1 b.2)
 
   det_egress : (x : Sender D) (ps : Places) (e : Passed D) → Egress moves x ps e → Det x.device → Det e.sender.device
   det_egress x ps e (inl a) det = subst (λ (v : Passed D). Det v.sender.device) (sym a.2) (det_clears x.left x a.0 false a.1 det)
-  det_egress x ps e (inr a) det = det_pass ps [] a.0 false e a.2 (det_clears x.left x a.0 true a.1 det)
+  det_egress x ps e (inr a) det = det_pass (turn_of a.0.inner ps) ps [] a.0 false e a.2 (det_clears x.left x a.0 true a.1 det)
 
   abbrev SameStep : Option Bool → State D → Option Bool → State D → Type 0
   SameStep a s b r = (a ≡ b) × (s ≡ r)
@@ -269,19 +291,23 @@ module _ (one_offer : OneOffer) {D : Type 0} (moves : D → Move → D → Type 
 
   -- THE WAY IN
 
-  one_replied : (reply : Option ReplyValue) (x y z : Sender D) → Det x.device → Replied moves reply x y → Replied moves reply x z → y ≡ z
-  one_replied None x y z det one two = one ∙ sym two
-  one_replied (Some (Replies.Tells packet)) x y z det one two =
+  one_replied : (awaited : Bool) (reply : Option ReplyValue) (x y z : Sender D) → Det x.device → Replied moves awaited reply x y → Replied moves awaited reply x z → y ≡ z
+  one_replied awaited None x y z det one two = one ∙ sym two
+  one_replied awaited (Some (Replies.Tells packet)) x y z det one two =
       let low = short_of x.device y.device x.inner (Departures.Tells packet) one.0 one.1 in
       same_sender y z (one_sent (Departures.Tells packet) x.device y.device z.device x.inner one.0 two.0 low det one.1 two.1) (one.2 ∙ sym two.2) (one.3 ∙ sym two.3)
-  one_replied (Some (Replies.Answers p)) x y z det one two =
+  one_replied awaited (Some (Replies.Answers p)) x y z det (inl one) (inl two) = one.0 ∙ sym two.0
+  one_replied awaited (Some (Replies.Answers p)) x y z det (inl one) (inr two) = absurd (both_read (awaited && would_ask x p) one.1 two.3)
+  one_replied awaited (Some (Replies.Answers p)) x y z det (inr one) (inl two) = absurd (both_read (awaited && would_ask x p) two.1 one.3)
+  one_replied awaited (Some (Replies.Answers p)) x y z det (inr one) (inr two) =
       let same = one_out x.device y.device z.device x.inner y.inner z.inner x.left y.left z.left p (is_some x.left) one.0 two.0 det one.1 two.1 in
       same_sender y z same.1 same.2 same.3
 
-  det_replied : (reply : Option ReplyValue) (x y : Sender D) → Replied moves reply x y → Det x.device → Det y.device
-  det_replied None x y one det = det_same x y one det
-  det_replied (Some (Replies.Tells packet)) x y one det = det_of x.device y.device x.inner (Departures.Tells packet) one.0 one.1 det
-  det_replied (Some (Replies.Answers p)) x y one det = det_out x.device y.device x.inner y.inner x.left y.left p (is_some x.left) one.0 one.1 det
+  det_replied : (awaited : Bool) (reply : Option ReplyValue) (x y : Sender D) → Replied moves awaited reply x y → Det x.device → Det y.device
+  det_replied awaited None x y one det = det_same None x y one det
+  det_replied awaited (Some (Replies.Tells packet)) x y one det = det_of x.device y.device x.inner (Departures.Tells packet) one.0 one.1 det
+  det_replied awaited (Some (Replies.Answers p)) x y (inl one) det = det_same None x y one.0 det
+  det_replied awaited (Some (Replies.Answers p)) x y (inr one) det = det_out x.device y.device x.inner y.inner x.left y.left p (is_some x.left) one.0 one.1 det
 
   same_state : (s r : State D) → s.device ≡ r.device → s.host.inner ≡ r.host.inner → s.host.left ≡ r.host.left → s.host.slots ≡ r.host.slots → s.host.timeout ≡ r.host.timeout → s.places ≡ r.places → s ≡ r
   same_state s r devices inners lefts slots timeouts places =
@@ -290,9 +316,9 @@ module _ (one_offer : OneOffer) {D : Type 0} (moves : D → Move → D → Type 
   one_receives : (content : Option IncomingValue) (o s r : State D) → Det o.device → Receives moves content o s → Receives moves content o r → s ≡ r
   one_receives content o s r det one two =
       let same = one_arrives_as o.host.inner o.host.timeout o.host.slots o.places content r.host.slots s.host.slots two.0 one.0 two.1 one.1 in
-      let again : Replied moves one.0.reply (sender_with moves o one.0) (sender_of moves r) =
-      subst (λ (a : Arrived). Replied moves a.reply (sender_with moves o a) (sender_of moves r)) same.1 two.3 in
-      let senders : sender_of moves s ≡ sender_of moves r = one_replied one.0.reply (sender_with moves o one.0) (sender_of moves s) (sender_of moves r) det one.3 again in
+      let again : Replied moves (is_awaited one.0) one.0.reply (sender_with moves o one.0) (sender_of moves r) =
+      subst (λ (a : Arrived). Replied moves (is_awaited a) a.reply (sender_with moves o a) (sender_of moves r)) same.1 two.3 in
+      let senders : sender_of moves s ≡ sender_of moves r = one_replied (is_awaited one.0) one.0.reply (sender_with moves o one.0) (sender_of moves s) (sender_of moves r) det one.3 again in
       same_state s r (ap (λ (x : Sender D). x.device) senders) (ap (λ (x : Sender D). x.inner) senders) (ap (λ (x : Sender D). x.left) senders)
       (sym same.0) (one.4 ∙ sym two.4) (one.2 ∙ ap (λ (a : Arrived). a.places) (sym same.1) ∙ sym two.2)
 
@@ -331,7 +357,7 @@ module _ (one_offer : OneOffer) {D : Type 0} (moves : D → Move → D → Type 
   det_takes o s (Some false) one det = steady.stays o.device s.device (Took one.0) det one.1
   det_takes o s (Some true) one det =
       let receives = one.4.2 in
-      det_replied receives.0.reply (sender_with moves (at_device o one.1) receives.0) (sender_of moves s) receives.3 (steady.stays o.device one.1 (Took one.0) det one.2)
+      det_replied (is_awaited receives.0) receives.0.reply (sender_with moves (at_device o one.1) receives.0) (sender_of moves s) receives.3 (steady.stays o.device one.1 (Took one.0) det one.2)
 
   -- STEPS
 

@@ -1,11 +1,13 @@
 -- A poll raises a count by what its arrivals, its pieces and its sockets' turns cost, for each step of its budget.
 use Rattle.std.proofs.Common.{◌≡◌, ℕ, zero, suc, ◌+◌, ◌*◌, ◌≤◌, ℤ, Bool, true, false, cond, ◌||◌, inl, inr, List, [], ◌∷◌, ◌++◌, Option, Some, None, refl, sym, ◌∙◌, ap, subst, arith, append_assoc, append-nil, suc-mul, mul-add}
 use Rattle.net_base.specs.Device.{Move}
+use Rattle.ip_wire.specs.IpAddress.{IpAddress}
 use Rattle.sockets.specs.declared.socket.Socket.{Socket}
 use Rattle.interface_tables.specs.Inner.{InnerValue}
 use Rattle.interface_egress.specs.declared.socket_set.Item.{Item}
 use Rattle.interface_egress.specs.declared.socket_set.SocketStorage.{SocketStorage}
 use Rattle.interface_egress.specs.Fragments.{LeftValue}
+use Rattle.interface.specs.Awaited.{turn_of}
 use Rattle.interface.specs.Host.{HostValue, Sender, sender}
 use Rattle.interface.specs.Pass.{Pass, Passed}
 use Rattle.interface.specs.Turn.{ItemTurns}
@@ -34,32 +36,32 @@ module _ {D : Type 0} (moves : D → Move → D → Type 0) (t : ℤ) (piece : �
   -- THE WAY OUT
 
   module _ (h : HostValue) where
-    item_counts : (before after : List (SocketStorage Socket)) (o o' : Option (Item Socket)) (n : ℕ) (x x' : Sender D) (turned : Turned) → Counts n (sending_as h x (before ++ record { inner = o } ∷ after)) → ItemTurns moves o x turned x' o'
+    item_counts : (turn : Option IpAddress) (before after : List (SocketStorage Socket)) (o o' : Option (Item Socket)) (n : ℕ) (x x' : Sender D) (turned : Turned) → Counts n (sending_as h x (before ++ record { inner = o } ∷ after)) → ItemTurns moves turn o x turned x' o'
         → Counts (n + cond (is_used (record { inner = o })) 1 0) (sending_as h x' (before ++ record { inner = o' } ∷ after))
-    item_counts before after None None n x x' turned holds turns =
+    item_counts turn before after None None n x x' turned holds turns =
         let free : SocketStorage Socket = record { inner = None } in
         subst (λ (y : Sender D). Counts (n + 0) (sending_as h y (before ++ free ∷ after))) (sym turns.1) (more n (n + 0) (sending_as h x (before ++ free ∷ after)) (omega arith) holds)
-    item_counts before after (Some item) (Some item') n x x' turned holds turns = record {
-      so = kept.turns n h before after (record { inner = Some item }) (record { inner = Some item' }) x x' turned refl holds.runs holds.so turns;
-      runs = turn_runs moves t x x' (record { inner = Some item }) (record { inner = Some item' }) turned turns holds.runs;
+    item_counts turn before after (Some item) (Some item') n x x' turned holds turns = record {
+      so = kept.turns turn n h before after (record { inner = Some item }) (record { inner = Some item' }) x x' turned refl holds.runs holds.so turns;
+      runs = turn_runs moves t turn x x' (record { inner = Some item }) (record { inner = Some item' }) turned turns holds.runs;
       places = one_place before after (record { inner = Some item }) (record { inner = Some item' }) refl ∙ holds.places;
     }
-    item_counts before after None (Some item') n x x' turned holds turns = absurd turns
-    item_counts before after (Some item) None n x x' turned holds turns = absurd turns
+    item_counts turn before after None (Some item') n x x' turned holds turns = absurd turns
+    item_counts turn before after (Some item) None n x x' turned holds turns = absurd turns
 
-    pass_counts : (ps before : List (SocketStorage Socket)) (n : ℕ) (x : Sender D) (changed : Bool) (e : Passed D) → Counts n (sending_as h x (before ++ ps)) → Pass moves x before changed ps e → Counts (n + trues (shape ps)) (behind h e)
-    pass_counts [] before n x changed e holds ends =
+    pass_counts : (turn : Option IpAddress) (ps before : List (SocketStorage Socket)) (n : ℕ) (x : Sender D) (changed : Bool) (e : Passed D) → Counts n (sending_as h x (before ++ ps)) → Pass moves turn x before changed ps e → Counts (n + trues (shape ps)) (behind h e)
+    pass_counts turn [] before n x changed e holds ends =
         more n (n + 0) (behind h e) (omega arith)
         (subst (λ (y : Passed D). Counts n (behind h y)) (sym ends) (subst (λ (qs : List (SocketStorage Socket)). Counts n (sending_as h x qs)) (append-nil before) holds))
-    pass_counts (p ∷ ps) before n x changed e holds (inl goes) =
+    pass_counts turn (p ∷ ps) before n x changed e holds (inl goes) =
         let cost : ℕ = cond (is_used p) 1 0 in
-        let next : Counts (n + cost) (sending_as h goes.1 (before ++ goes.2 ∷ ps)) = item_counts before ps p.inner goes.2.inner n x goes.1 (Turn.Next goes.0) holds goes.3 in
+        let next : Counts (n + cost) (sending_as h goes.1 (before ++ goes.2 ∷ ps)) = item_counts turn before ps p.inner goes.2.inner n x goes.1 (Turn.Next goes.0) holds goes.3 in
         more (n + cost + trues (shape ps)) (n + trues (shape (p ∷ ps))) (behind h e) (omega arith)
-        (pass_counts ps (before ++ goes.2 ∷ []) (n + cost) goes.1 (changed || goes.0) e
+        (pass_counts turn ps (before ++ goes.2 ∷ []) (n + cost) goes.1 (changed || goes.0) e
         (subst (λ (qs : List (SocketStorage Socket)). Counts (n + cost) (sending_as h goes.1 qs)) (sym (append_assoc before (goes.2 ∷ []) ps)) next) goes.4)
-    pass_counts (p ∷ ps) before n x changed e holds (inr stops) =
+    pass_counts turn (p ∷ ps) before n x changed e holds (inr stops) =
         let cost : ℕ = cond (is_used p) 1 0 in
-        let next : Counts (n + cost) (sending_as h stops.1 (before ++ stops.2 ∷ ps)) = item_counts before ps p.inner stops.2.inner n x stops.1 (Turn.Stop stops.0) holds stops.3 in
+        let next : Counts (n + cost) (sending_as h stops.1 (before ++ stops.2 ∷ ps)) = item_counts turn before ps p.inner stops.2.inner n x stops.1 (Turn.Stop stops.0) holds stops.3 in
         more (n + cost) (n + trues (shape (p ∷ ps))) (behind h e) (omega arith)
         (subst (λ (y : Passed D). Counts (n + cost) (behind h y)) (sym stops.4) next)
 
@@ -76,7 +78,7 @@ module _ {D : Type 0} (moves : D → Move → D → Type 0) (t : ℤ) (piece : �
     egress_counts n x ps e holds (inl stays) =
         more (n + piece) (n + piece + trues (shape ps)) (behind h e) (omega arith)
         (subst (λ (y : Passed D). Counts (n + piece) (behind h y)) (sym stays.2) (clears_counts n ps x stays.0 x.left false refl holds stays.1))
-    egress_counts n x ps e holds (inr goes) = pass_counts ps [] (n + piece) goes.0 false e (clears_counts n ps x goes.0 x.left true refl holds goes.1) goes.2
+    egress_counts n x ps e holds (inr goes) = pass_counts (turn_of goes.0.inner ps) ps [] (n + piece) goes.0 false e (clears_counts n ps x goes.0 x.left true refl holds goes.1) goes.2
 
   -- what a step of the way out costs
   abbrev out_cost : ℕ

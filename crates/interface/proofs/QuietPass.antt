@@ -2,10 +2,12 @@
 use Rattle.std.proofs.Common.{◌≡◌, Bool, true, false, ◌||◌, ℤ, pos, ◌≤ℤ◌, ◌<ℤ◌, ◌⊎◌, inl, inr, List, [], ◌∷◌, ◌++◌, map, Option, Some, None, refl, sym, ap, ◌∙◌, subst, arith, append_assoc, append-nil}
 use Rattle.std.proofs.lemmas.List.{map-append}
 use Rattle.net_base.specs.Device.{Move}
+use Rattle.ip_wire.specs.IpAddress.{IpAddress}
 use Rattle.sockets.specs.declared.socket.Socket.{Socket}
 use Rattle.interface_tables.specs.Inner.{InnerValue, at_moment}
 use Rattle.interface_egress.specs.declared.socket_set.SocketStorage.{SocketStorage}
 use Rattle.interface_egress.specs.Fragments.{LeftValue}
+use Rattle.interface.specs.Awaited.{turn_of}
 use Rattle.interface.specs.Host.{Sender}
 use Rattle.interface.specs.Instant.{place_instant, poll_instant}
 use Rattle.interface.specs.Pass.{Pass, Passed, passed}
@@ -37,30 +39,30 @@ module _ (due_as_before : DueAsBefore) {D : Type 0} (moves : D → Move → D �
     changed : e.changed ≡ false
     instants : map (place_instant asked) e.places ≡ map (place_instant asked) ps
 
-  idle_pass : (ps before : List (SocketStorage Socket)) (e : Passed D) → AllLater t asked ps → Pass moves s before false ps e → IsIdle (before ++ ps) e
-  idle_pass [] before e later ends =
+  idle_pass : (turn : Option IpAddress) (ps before : List (SocketStorage Socket)) (e : Passed D) → AllLater t asked ps → Pass moves turn s before false ps e → IsIdle (before ++ ps) e
+  idle_pass turn [] before e later ends =
       record {
         state = ap (λ (x : Passed D). x.sender) ends;
         changed = ap (λ (x : Passed D). x.changed) ends;
         instants = ap (λ (x : Passed D). map (place_instant asked) x.places) ends ∙ ap (map (place_instant asked)) (sym (append-nil before));
       }
-  idle_pass (p ∷ ps) before e later (inl goes) =
-      let turn = quiet_place due_as_before moves asked t moment since routes s goes.1 here p goes.2 (Turn.Next goes.0) later.0 goes.3 in
-      let rest : Pass moves s (before ++ goes.2 ∷ []) false ps e =
-      subst (λ (b : Bool). Pass moves s (before ++ goes.2 ∷ []) b ps e) (next_is goes.0 turn.0)
-      (subst (λ (mid : Sender D). Pass moves mid (before ++ goes.2 ∷ []) (false || goes.0) ps e) turn.1 goes.4) in
-      let idle = idle_pass ps (before ++ goes.2 ∷ []) e later.1 rest in
-      record { state = idle.state; changed = idle.changed; instants = idle.instants ∙ same_places (place_instant asked) before ps p goes.2 turn.2 }
-  idle_pass (p ∷ ps) before e later (inr stops) =
-      absurd (never_stops stops.0 (quiet_place due_as_before moves asked t moment since routes s stops.1 here p stops.2 (Turn.Stop stops.0) later.0 stops.3).0)
+  idle_pass turn (p ∷ ps) before e later (inl goes) =
+      let took = quiet_place due_as_before moves turn asked t moment since routes s goes.1 here p goes.2 (Turn.Next goes.0) later.0 goes.3 in
+      let rest : Pass moves turn s (before ++ goes.2 ∷ []) false ps e =
+      subst (λ (b : Bool). Pass moves turn s (before ++ goes.2 ∷ []) b ps e) (next_is goes.0 took.0)
+      (subst (λ (mid : Sender D). Pass moves turn mid (before ++ goes.2 ∷ []) (false || goes.0) ps e) took.1 goes.4) in
+      let idle = idle_pass turn ps (before ++ goes.2 ∷ []) e later.1 rest in
+      record { state = idle.state; changed = idle.changed; instants = idle.instants ∙ same_places (place_instant asked) before ps p goes.2 took.2 }
+  idle_pass turn (p ∷ ps) before e later (inr stops) =
+      absurd (never_stops stops.0 (quiet_place due_as_before moves turn asked t moment since routes s stops.1 here p stops.2 (Turn.Stop stops.0) later.0 stops.3).0)
 
   idle_egress : (ps : List (SocketStorage Socket)) (e : Passed D) (left : Option LeftValue) → s.left ≡ left → IsEarlier t (poll_instant asked left ps)
-      → ((mid : Sender D) × Clears moves left s false mid × (e ≡ passed mid ps false)) ⊎ ((mid : Sender D) × Clears moves left s true mid × Pass moves mid [] false ps e)
+      → ((mid : Sender D) × Clears moves left s false mid × (e ≡ passed mid ps false)) ⊎ ((mid : Sender D) × Clears moves left s true mid × Pass moves (turn_of mid.inner ps) mid [] false ps e)
       → IsQuiet asked s ps e
   idle_egress ps e (Some l) is early goes = absurd (negative t moment early)
   idle_egress ps e None is early (inl stays) = absurd (let off = stays.1.0 in cc)
   idle_egress ps e None is early (inr goes) =
-      let idle = idle_pass ps [] e (all_later t asked ps early) (subst (λ (mid : Sender D). Pass moves mid [] false ps e) goes.1.1 goes.2) in
+      let idle = idle_pass (turn_of s.inner ps) ps [] e (all_later t asked ps early) (subst (λ (mid : Sender D). Pass moves (turn_of mid.inner ps) mid [] false ps e) goes.1.1 goes.2) in
       record {
         sender = idle.state;
         changed = idle.changed;

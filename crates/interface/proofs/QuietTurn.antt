@@ -10,7 +10,8 @@ use Rattle.sockets.specs.Socket.{poll_of, settled}
 use Rattle.sockets.specs.declared.socket.Socket.{Socket}
 use Rattle.sockets.specs.declared.socket.Socket.TheVariants as Kind
 use Rattle.interface_tables.specs.Inner.{InnerValue, at_moment, context_of}
-use Rattle.interface_egress.specs.Meta.{poll_by, freed}
+use Rattle.ip_wire.specs.IpAddress.{IpAddress}
+use Rattle.interface_egress.specs.Meta.{poll_by, freed, unmarked}
 use Rattle.interface_egress.specs.declared.socket_meta.Meta.{Meta}
 use Rattle.interface_egress.specs.declared.socket_meta.Waiting.{Waiting}
 use Rattle.interface_egress.specs.declared.socket_set.Item.{Item}
@@ -22,7 +23,7 @@ use Rattle.interface.specs.QuietStep.{IsEarlier, RoutesStay}
 use Rattle.interface.specs.declared.turn.Turned.{Turned}
 use Rattle.interface.specs.declared.turn.Turned.TheVariants as Turn
 use Rattle.interface.proofs.Known.{stays_unknown}
-use Rattle.interface.proofs.Due.{before_due, due_itself}
+use Rattle.interface.proofs.Due.{before_due, due_itself, same_itself}
 
 -- when a socket wants to be polled doesn't depend on the moment
 same_due : (asked : InnerValue) (t : ℤ) (s : Socket) → poll_of (context_of (at_moment t asked)) s ≡ poll_of (context_of asked) s
@@ -35,21 +36,21 @@ same_due asked t (Kind.Tcp v) = refl
 abbrev pub DueAsBefore : Type 0
 DueAsBefore = (cx : ContextValue) (s : Socket) → poll_of cx (settled false s) ≡ poll_of cx s
 
-module _ (due_as_before : DueAsBefore) {D : Type 0} (moves : D → Move → D → Type 0) (asked : InnerValue) (t : ℤ) (moment : pos 0 ≤ℤ t) (since : asked.moment ≤ℤ t) (routes : RoutesStay asked t) (s s' : Sender D) (here : s.inner ≡ at_moment t asked) where
+module _ (due_as_before : DueAsBefore) {D : Type 0} (moves : D → Move → D → Type 0) (turn : Option IpAddress) (asked : InnerValue) (t : ℤ) (moment : pos 0 ≤ℤ t) (since : asked.moment ≤ℤ t) (routes : RoutesStay asked t) (s s' : Sender D) (here : s.inner ≡ at_moment t asked) where
   -- The socket was silent, and is due as before.
   record IsSilent (m : Meta) (socket : Socket) (turned : Turned) (item' : Item Socket) : Type 0 where
-    turn : turned ≡ Turn.Next false
+    next : turned ≡ Turn.Next false
     state : s' ≡ s
     mark : item'.meta ≡ m
     due : poll_of (context_of asked) item'.socket ≡ poll_of (context_of asked) socket
 
   answered : (answer : Answer.Offer) (item item' : Item Socket) (turned : Turned) → answer ≡ Offer.Silent false
-      → Answers moves answer s item turned s' item' → (turned ≡ Turn.Next false) × (s' ≡ s) × (item' ≡ item)
+      → Answers moves turn answer s item turned s' item' → (turned ≡ Turn.Next false) × (s' ≡ s) × (item' ≡ record item { meta = unmarked })
   answered answer item item' turned is answers =
-      subst (λ (a : Answer.Offer). Answers moves a s item turned s' item') is answers
+      subst (λ (a : Answer.Offer). Answers moves turn a s item turned s' item') is answers
 
   asks : (item item' : Item Socket) (turned : Turned) → IsEarlier t (instant_of (poll_of (context_of asked) item.socket))
-      → Asks moves s item turned s' item' → IsSilent item.meta item.socket turned item'
+      → Asks moves turn s item turned s' item' → IsSilent unmarked item.socket turned item'
   asks item item' turned early a =
       let cx = context_of (at_moment t asked) in
       let due : IsEarlier t (instant_of (poll_of cx item.socket)) = subst (λ (p : PollAt). IsEarlier t (instant_of p)) (sym (same_due asked t item.socket)) early in
@@ -57,17 +58,11 @@ module _ (due_as_before : DueAsBefore) {D : Type 0} (moves : D → Move → D �
       let quiet = silent item.socket a.1 cx a.0 (before_due t moment (poll_of cx item.socket) due) offers in
       let ends = answered a.0 (record item { socket = a.1 }) item' turned quiet.0 a.3 in
       record {
-        turn = ends.0;
+        next = ends.0;
         state = ends.1;
         mark = ap (λ (x : Item Socket). x.meta) ends.2;
         due = ap (λ (x : Item Socket). poll_of (context_of asked) x.socket) ends.2 ∙ ap (poll_of (context_of asked)) quiet.1 ∙ due_as_before (context_of asked) item.socket;
       }
-
-  turns_if : (waits : Bool) (item item' : Item Socket) (turned : Turned) → (waits ≡ false → IsEarlier t (instant_of (poll_of (context_of asked) item.socket)))
-      → TurnsIf moves waits s item turned s' item' → IsSilent item.meta item.socket turned item'
-  turns_if true item item' turned due turns =
-      record { turn = turns.0; state = turns.1; mark = ap (λ (x : Item Socket). x.meta) turns.2; due = ap (λ (x : Item Socket). poll_of (context_of asked) x.socket) turns.2 }
-  turns_if false item item' turned due turns = asks item item' turned (due refl) turns
 
   -- a mark that goes doesn't change when the socket is due
   same_instant : (w : Option Waiting) (before now : Bool) (p : PollAt) → (before ≡ false → now ≡ false) → (is_heard asked (record { waiting = w }) ≡ before)
@@ -89,26 +84,41 @@ module _ (due_as_before : DueAsBefore) {D : Type 0} (moves : D → Move → D �
         ∙ ap (λ (q : PollAt). instant_of (poll_by w q (is_heard asked (record { waiting = w })) asked.moment)) due
         ∙ ap (λ (known : Bool). instant_of (poll_by w p known asked.moment)) heard
 
-  pub quiet_turn : (item item' : Item Socket) (turned : Turned) → IsEarlier t (item_instant asked item) → Turns moves s item turned s' item'
-      → (turned ≡ Turn.Next false) × (s' ≡ s) × (item_instant asked item' ≡ item_instant asked item)
-  quiet_turn item item' turned early turns =
+  quiet_asked : (item item' : Item Socket) (turned : Turned) → IsEarlier t (item_instant asked item) → (waits : Bool) → is_waiting (at_moment t asked) item.meta ≡ waits
+      → TurnsIf moves turn waits s (let_through (at_moment t asked) item) turned s' item' → (turned ≡ Turn.Next false) × (s' ≡ s) × (item_instant asked item' ≡ item_instant asked item)
+  quiet_asked item item' turned early true is turns =
+      let now = at_moment t asked in (
+        turns.0,
+        turns.1,
+        same_instant item.meta.waiting (is_heard asked item.meta) (is_heard now item.meta) (poll_of (context_of asked) item.socket) (stays_unknown asked t since routes item.meta) refl item'
+            (ap (λ (x : Item Socket). x.meta) turns.2) (ap (λ (x : Item Socket). poll_of (context_of asked) x.socket) turns.2),
+      )
+  quiet_asked item item' turned early false is turns =
       let now = at_moment t asked in
       let w = item.meta.waiting in
       let p = poll_of (context_of asked) item.socket in
       let stays = stays_unknown asked t since routes item.meta in
-      let there : TurnsIf moves (is_waiting now item.meta) s (let_through now item) turned s' item' =
-      subst (λ (i : InnerValue). TurnsIf moves (is_waiting i item.meta) s (let_through i item) turned s' item') here turns in
-      let silent_turn = turns_if (is_waiting now item.meta) (let_through now item) item' turned
-      (λ idle. due_itself t asked.moment p w (is_heard asked item.meta) (is_heard now item.meta) stays idle early) there in
-      (silent_turn.turn, silent_turn.state, same_instant w (is_heard asked item.meta) (is_heard now item.meta) p stays refl item' silent_turn.mark silent_turn.due)
+      let silent_turn = asks (let_through now item) item' turned (due_itself t asked.moment p w (is_heard asked item.meta) (is_heard now item.meta) stays is early) turns in (
+        silent_turn.next,
+        silent_turn.state,
+        ap (λ (m : Meta). instant_of (poll_by m.waiting (poll_of (context_of asked) item'.socket) (is_heard asked m) asked.moment)) silent_turn.mark
+            ∙ ap instant_of silent_turn.due ∙ same_itself t asked.moment p w (is_heard asked item.meta) (is_heard now item.meta) stays is early,
+      )
 
-  item_quiet : (o o' : Option (Item Socket)) (turned : Turned) → IsEarlier t (instant_in asked o) → ItemTurns moves o s turned s' o'
+  pub quiet_turn : (item item' : Item Socket) (turned : Turned) → IsEarlier t (item_instant asked item) → Turns moves turn s item turned s' item'
+      → (turned ≡ Turn.Next false) × (s' ≡ s) × (item_instant asked item' ≡ item_instant asked item)
+  quiet_turn item item' turned early turns =
+      let now = at_moment t asked in
+      quiet_asked item item' turned early (is_waiting now item.meta) refl
+      (subst (λ (i : InnerValue). TurnsIf moves turn (is_waiting i item.meta) s (let_through i item) turned s' item') here turns)
+
+  item_quiet : (o o' : Option (Item Socket)) (turned : Turned) → IsEarlier t (instant_in asked o) → ItemTurns moves turn o s turned s' o'
       → (turned ≡ Turn.Next false) × (s' ≡ s) × (instant_in asked o' ≡ instant_in asked o)
   item_quiet None None turned early turns = (turns.0, turns.1, refl)
   item_quiet (Some item) (Some item') turned early turns = quiet_turn item item' turned early turns
   item_quiet None (Some item') turned early turns = absurd turns
   item_quiet (Some item) None turned early turns = absurd turns
 
-  pub quiet_place : (p p' : SocketStorage Socket) (turned : Turned) → IsEarlier t (place_instant asked p) → PlaceTurns moves s p turned s' p'
+  pub quiet_place : (p p' : SocketStorage Socket) (turned : Turned) → IsEarlier t (place_instant asked p) → PlaceTurns moves turn s p turned s' p'
       → (turned ≡ Turn.Next false) × (s' ≡ s) × (place_instant asked p' ≡ place_instant asked p)
   quiet_place p p' turned early turns = item_quiet p.inner p'.inner turned early turns

@@ -1,6 +1,7 @@
 -- The moment of a call, which nothing in a poll changes.
-use Rattle.std.proofs.Common.{◌≡◌, ℤ, Bool, true, false, Option, Some, None, ap, ◌∙◌, sym, is_some}
+use Rattle.std.proofs.Common.{◌≡◌, ℤ, Bool, true, false, inl, inr, Option, Some, None, ap, ◌∙◌, sym, is_some}
 use Rattle.net_base.specs.Device.{Move}
+use Rattle.ip_wire.specs.IpAddress.{IpAddress}
 use Rattle.sockets.specs.declared.socket.Socket.{Socket}
 use Rattle.interface_tables.specs.Inner.{InnerValue, at_moment}
 use Rattle.interface_egress.specs.declared.socket_set.SocketStorage.{SocketStorage}
@@ -16,7 +17,7 @@ use Rattle.interface.specs.Turn.{PlaceTurns}
 use Rattle.interface.specs.declared.turn.Turned.{Turned}
 use Rattle.interface.proofs.SameHost.{same_where, goes_out_same, place_same}
 use Rattle.interface.specs.State.{State}
-use Rattle.interface.specs.Ingress.{Takes, Receives, Replied, sender_of, sender_with}
+use Rattle.interface.specs.Ingress.{Takes, Receives, Replied, is_awaited, sender_of, sender_with}
 use Rattle.interface.specs.Kept.{RunsAt}
 
 pub runs_so : (t : ℤ) (i : InnerValue) → RunsAt t i → at_moment t i ≡ i
@@ -33,17 +34,18 @@ runs_in t i i' same runs = (same.moment ∙ runs.0, same.fresh ∙ runs.1)
 
 module _ {D : Type 0} (moves : D → Move → D → Type 0) where
   -- an answer's way out leaves the host
-  pub replied_same : (reply : Option ReplyValue) (x x' : Sender D) → Replied moves reply x x' → IsSameHost x.inner x'.inner
-  replied_same None x x' is = same_where x.inner x'.inner (ap (λ (y : Sender D). y.inner) is)
-  replied_same (Some (Replies.Tells packet)) x x' tells = same_where x.inner x'.inner tells.2
-  replied_same (Some (Replies.Answers p)) x x' answers =
+  pub replied_same : (awaited : Bool) (reply : Option ReplyValue) (x x' : Sender D) → Replied moves awaited reply x x' → IsSameHost x.inner x'.inner
+  replied_same awaited None x x' is = same_where x.inner x'.inner (ap (λ (y : Sender D). y.inner) is)
+  replied_same awaited (Some (Replies.Tells packet)) x x' tells = same_where x.inner x'.inner tells.2
+  replied_same awaited (Some (Replies.Answers p)) x x' (inl held) = same_where x.inner x'.inner (ap (λ (y : Sender D). y.inner) held.0)
+  replied_same awaited (Some (Replies.Answers p)) x x' (inr answers) =
       goes_out_same moves x.device x'.device x.inner x'.inner x.left x'.left p (is_some x.left) answers.0 answers.1
 
   pub receives_same : (content : Option IncomingValue) (s s' : State D) (receives : Receives moves content s s')
       → HasSameSettings s.host.inner receives.0.inner × IsSameHost receives.0.inner s'.host.inner
   receives_same content s s' receives = (
     brings_same s.host.inner s.places (whole_after s.host.inner s.host.timeout s.host.slots (taken_in s.host.inner content)) receives.0 receives.1.1,
-    replied_same receives.0.reply (sender_with moves s receives.0) (sender_of moves s') receives.3,
+    replied_same (is_awaited receives.0) receives.0.reply (sender_with moves s receives.0) (sender_of moves s') receives.3,
   )
 
   module _ (t : ℤ) where
@@ -55,5 +57,5 @@ module _ {D : Type 0} (moves : D → Move → D → Type 0) where
         let same = receives_same reads.0 (record s { device = takes.1 }) s' reads.2 in
         runs_out t reads.2.0.inner s'.host.inner same.1 (runs_in t s.host.inner reads.2.0.inner same.0 runs)
 
-    pub turn_runs : (x x' : Sender D) (p p' : SocketStorage Socket) (turned : Turned) → PlaceTurns moves x p turned x' p' → RunsAt t x.inner → RunsAt t x'.inner
-    turn_runs x x' p p' turned turns runs = runs_out t x.inner x'.inner (place_same moves x x' p p' turned turns) runs
+    pub turn_runs : (turn : Option IpAddress) (x x' : Sender D) (p p' : SocketStorage Socket) (turned : Turned) → PlaceTurns moves turn x p turned x' p' → RunsAt t x.inner → RunsAt t x'.inner
+    turn_runs turn x x' p p' turned turns runs = runs_out t x.inner x'.inner (place_same moves turn x x' p p' turned turns) runs

@@ -2,6 +2,7 @@
 use Rattle.std.proofs.Common.{◌≡◌, Bool, true, false, inl, inr, List, [], ◌∷◌, ◌++◌, ◌||◌, Option, Some, None, is_some, refl, sym, ap, ◌∙◌, subst}
 use Rattle.net_base.specs.Device.{Move}
 use Rattle.ip_wire.specs.IpRepr.{IpRepr}
+use Rattle.ip_wire.specs.IpAddress.{IpAddress}
 use Rattle.socket_base.specs.Packet.{PacketValue}
 use Rattle.socket_base.specs.declared.offer.Offer as Answer
 use Rattle.socket_base.specs.declared.offer.Offer.TheVariants as Offer
@@ -15,8 +16,12 @@ use Rattle.interface_egress.specs.Fragments.{LeftValue}
 use Rattle.interface_egress.specs.GoesOut.{GoesOut}
 use Rattle.interface_egress.specs.Plan.{plan_of}
 use Rattle.interface_egress.specs.declared.plan.Plan.{Plan}
+use Rattle.interface_egress.specs.declared.plan.Plan.TheVariants as Way
 use Rattle.interface_egress.specs.declared.way_out.Sent.{Sent}
+use Rattle.interface_egress.specs.declared.way_out.Sent.TheVariants as Outcome
+use Rattle.interface_egress.specs.declared.socket_meta.Meta.{Meta}
 use Rattle.interface_egress.proofs.Changes.{changes}
+use Rattle.interface.specs.Awaited.{turn_of}
 use Rattle.interface.specs.Host.{Sender}
 use Rattle.interface.specs.Pass.{Pass, Passed}
 use Rattle.interface.specs.WayOut.{Clears, Egress}
@@ -29,10 +34,20 @@ same_where i i' is = subst (λ (x : InnerValue). IsSameHost i x) (sym is) refl
 
 pub same_then : (a b c : InnerValue) → IsSameHost a b → IsSameHost b c → IsSameHost a c
 same_then a b c first second =
-    second ∙ ap (λ (x : InnerValue). record x { ident = c.ident; neighbors = record x.neighbors { silent = c.neighbors.silent } }) first
+    second ∙ ap (λ (x : InnerValue). record x { ident = c.ident; neighbors = record x.neighbors { silent = c.neighbors.silent; searches = c.neighbors.searches } }) first
 
 after_same : (plan : Plan) (sent : Sent) (h : IpRepr) (i : InnerValue) → IsSameHost i (host_after plan sent h i)
-after_same plan sent h i = refl
+after_same (Way.Ask question) Outcome.Waits h i = refl
+after_same (Way.Ask question) Outcome.Gone h i = refl
+after_same (Way.Ask question) Outcome.Dropped h i = refl
+after_same (Way.Ask question) Outcome.Busy h i = refl
+after_same (Way.Ask question) Outcome.Refused h i = refl
+after_same Way.Drop sent h i = refl
+after_same Way.NoRoute sent h i = refl
+after_same Way.Wait sent h i = refl
+after_same Way.Busy sent h i = refl
+after_same (Way.Go to) sent h i = refl
+after_same (Way.Cut to v) sent h i = refl
 
 module _ {D : Type 0} (moves : D → Move → D → Type 0) where
   pub goes_out_same : (old new : D) (i i' : InnerValue) (l l' : Option LeftValue) (p : PacketValue) (busy : Bool) (sent : Sent)
@@ -41,51 +56,51 @@ module _ {D : Type 0} (moves : D → Move → D → Type 0) where
       let is = (changes moves old new i i' l l' p busy sent goes).1 in
       subst (IsSameHost i) (sym is) (after_same (plan_of i busy p.header) sent p.header i)
 
-  module _ (s s' : Sender D) where
-    leaves_same : (p : PacketValue) (sent : Sent) → Leaves moves s p sent s' → IsSameHost s.inner s'.inner
-    leaves_same p sent (inl denied) = same_where s.inner s'.inner denied.1
-    leaves_same p sent (inr goes) = goes_out_same goes.0 s'.device s.inner s'.inner s.left s'.left p (is_some s.left) sent goes.2
+  module _ (turn : Option IpAddress) (s s' : Sender D) where
+    leaves_same : (m : Meta) (p : PacketValue) (sent : Sent) → Leaves moves turn s m p sent s' → IsSameHost s.inner s'.inner
+    leaves_same m p sent (inl rests) = same_where s.inner s'.inner rests.2
+    leaves_same m p sent (inr goes) = goes_out_same goes.0 s'.device s.inner s'.inner s.left s'.left p (is_some s.left) sent goes.2
 
     state_same : s' ≡ s → IsSameHost s.inner s'.inner
     state_same is = same_where s.inner s'.inner (ap (λ (x : Sender D). x.inner) is)
 
-    sends_same : (o : Option PacketValue) (item item' : Item Socket) (changed : Bool) (turned : Turned) → SendsBy moves o s item changed turned s' item' → IsSameHost s.inner s'.inner
+    sends_same : (o : Option PacketValue) (item item' : Item Socket) (changed : Bool) (turned : Turned) → SendsBy moves turn o s item changed turned s' item' → IsSameHost s.inner s'.inner
     sends_same None item item' changed turned sends = absurd sends
-    sends_same (Some p) item item' changed turned sends = leaves_same p sends.0 sends.1
+    sends_same (Some p) item item' changed turned sends = leaves_same item.meta p sends.0 sends.1
 
-    answers_same : (answer : Answer.Offer) (item item' : Item Socket) (turned : Turned) → Answers moves answer s item turned s' item' → IsSameHost s.inner s'.inner
+    answers_same : (answer : Answer.Offer) (item item' : Item Socket) (turned : Turned) → Answers moves turn answer s item turned s' item' → IsSameHost s.inner s'.inner
     answers_same (Offer.Silent changed) item item' turned answers = state_same answers.1
     answers_same (Offer.Packet changed) item item' turned answers = sends_same (offered_by item.socket) item item' changed turned answers
 
-    turns_same : (waits : Bool) (item item' : Item Socket) (turned : Turned) → TurnsIf moves waits s item turned s' item' → IsSameHost s.inner s'.inner
+    turns_same : (waits : Bool) (item item' : Item Socket) (turned : Turned) → TurnsIf moves turn waits s item turned s' item' → IsSameHost s.inner s'.inner
     turns_same true item item' turned turns = state_same turns.1
     turns_same false item item' turned turns = answers_same turns.0 (record item { socket = turns.1 }) item' turned turns.3
 
-    item_same : (o o' : Option (Item Socket)) (turned : Turned) → ItemTurns moves o s turned s' o' → IsSameHost s.inner s'.inner
+    item_same : (o o' : Option (Item Socket)) (turned : Turned) → ItemTurns moves turn o s turned s' o' → IsSameHost s.inner s'.inner
     item_same None None turned turns = state_same turns.1
     item_same (Some item) (Some item') turned turns = turns_same (is_waiting s.inner item.meta) (let_through s.inner item) item' turned turns
     item_same None (Some item') turned turns = absurd turns
     item_same (Some item) None turned turns = absurd turns
 
-    pub place_same : (p p' : SocketStorage Socket) (turned : Turned) → PlaceTurns moves s p turned s' p' → IsSameHost s.inner s'.inner
+    pub place_same : (p p' : SocketStorage Socket) (turned : Turned) → PlaceTurns moves turn s p turned s' p' → IsSameHost s.inner s'.inner
     place_same p p' turned turns = item_same p.inner p'.inner turned turns
 
     clears_same : (l : Option LeftValue) (clear : Bool) → Clears moves l s clear s' → IsSameHost s.inner s'.inner
     clears_same None clear clears = state_same clears.1
     clears_same (Some l) clear clears = same_where s.inner s'.inner clears.1
 
-  pass_same : (ps : List (SocketStorage Socket)) (s : Sender D) (before : List (SocketStorage Socket)) (changed : Bool) (e : Passed D)
-      → Pass moves s before changed ps e → IsSameHost s.inner e.sender.inner
-  pass_same [] s before changed e ends = same_where s.inner e.sender.inner (ap (λ (x : Passed D). x.sender.inner) ends)
-  pass_same (p ∷ ps) s before changed e (inl goes) =
-      same_then s.inner goes.1.inner e.sender.inner (place_same s goes.1 p goes.2 _ goes.3) (pass_same ps goes.1 (before ++ goes.2 ∷ []) (changed || goes.0) e goes.4)
-  pass_same (p ∷ ps) s before changed e (inr stops) =
-      same_then s.inner stops.1.inner e.sender.inner (place_same s stops.1 p stops.2 _ stops.3)
+  pass_same : (turn : Option IpAddress) (ps : List (SocketStorage Socket)) (s : Sender D) (before : List (SocketStorage Socket)) (changed : Bool) (e : Passed D)
+      → Pass moves turn s before changed ps e → IsSameHost s.inner e.sender.inner
+  pass_same turn [] s before changed e ends = same_where s.inner e.sender.inner (ap (λ (x : Passed D). x.sender.inner) ends)
+  pass_same turn (p ∷ ps) s before changed e (inl goes) =
+      same_then s.inner goes.1.inner e.sender.inner (place_same turn s goes.1 p goes.2 _ goes.3) (pass_same turn ps goes.1 (before ++ goes.2 ∷ []) (changed || goes.0) e goes.4)
+  pass_same turn (p ∷ ps) s before changed e (inr stops) =
+      same_then s.inner stops.1.inner e.sender.inner (place_same turn s stops.1 p stops.2 _ stops.3)
       (same_where stops.1.inner e.sender.inner (ap (λ (x : Passed D). x.sender.inner) stops.4))
 
   pub egress_same_host : (s : Sender D) (ps : List (SocketStorage Socket)) (e : Passed D) → Egress moves s ps e → IsSameHost s.inner e.sender.inner
   egress_same_host s ps e (inl stays) =
-      same_then s.inner stays.0.inner e.sender.inner (clears_same s stays.0 s.left false stays.1)
+      same_then s.inner stays.0.inner e.sender.inner (clears_same None s stays.0 s.left false stays.1)
       (same_where stays.0.inner e.sender.inner (ap (λ (x : Passed D). x.sender.inner) stays.2))
   egress_same_host s ps e (inr goes) =
-      same_then s.inner goes.0.inner e.sender.inner (clears_same s goes.0 s.left true goes.1) (pass_same ps goes.0 [] false e goes.2)
+      same_then s.inner goes.0.inner e.sender.inner (clears_same None s goes.0 s.left true goes.1) (pass_same (turn_of goes.0.inner ps) ps goes.0 [] false e goes.2)

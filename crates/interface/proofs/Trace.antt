@@ -3,6 +3,7 @@ use Rattle.std.proofs.Common.{◌≡◌, ℕ, ◌+◌, ◌*◌, ◌≤◌, lengt
 use Rattle.net_base.specs.ChecksumCapabilities.{ChecksumCapabilities}
 use Rattle.net_base.specs.Device.{Move}
 use Rattle.ip_wire.specs.HardwareAddress.{HardwareAddress}
+use Rattle.ip_wire.specs.IpAddress.{IpAddress}
 use Rattle.ip_wire.specs.IpRepr.{IpRepr}
 use Rattle.ip_wire.specs.IpRepr.TheVariants as Ip
 use Rattle.ip_wire.specs.declared.arp.repr.ArpRepr.{ArpRepr}
@@ -11,11 +12,12 @@ use Rattle.socket_base.specs.declared.offer.Offer as Answer
 use Rattle.socket_base.specs.declared.offer.Offer.TheVariants as Offer
 use Rattle.sockets.specs.Socket.{offered_by}
 use Rattle.sockets.specs.declared.socket.Socket.{Socket}
-use Rattle.interface_tables.specs.Inner.{InnerValue, at_moment, with_silence, with_next_ident}
+use Rattle.interface_tables.specs.Inner.{InnerValue, at_moment, with_request, with_next_ident}
+use Rattle.interface_egress.specs.declared.socket_meta.Meta.{Meta}
 use Rattle.interface_egress.specs.declared.socket_set.Item.{Item}
 use Rattle.interface_egress.specs.declared.socket_set.SocketStorage.{SocketStorage}
 use Rattle.interface_egress.specs.Departure as Departures
-use Rattle.interface_egress.specs.Departure.{Departure, frame_from, len_from}
+use Rattle.interface_egress.specs.Departure.{Departure, frame_from, len_from, target_of}
 use Rattle.interface_egress.specs.Emits.{Emits}
 use Rattle.interface_egress.specs.Fragments.{LeftValue, next_departure}
 use Rattle.interface_egress.specs.GoesOut.{GoesOut, PieceGoesOut, Departs, Asked, Went, WasCut, numbered, cut_of, after_header}
@@ -32,7 +34,7 @@ use Rattle.interface.specs.WayOut.{PieceLeaves}
 use Rattle.interface.specs.Turn.{Leaves, SendsBy, Answers, TurnsIf, ItemTurns, PlaceTurns, is_waiting, let_through}
 use Rattle.interface.specs.declared.turn.Turned.{Turned}
 use Rattle.interface.specs.State.{State}
-use Rattle.interface.specs.Ingress.{Takes, Replied}
+use Rattle.interface.specs.Ingress.{Takes, Replied, is_awaited}
 use Rattle.interface.specs.Polls.{Polls}
 use Rattle.interface.specs.Kept.{RunsAt, IsCounted}
 use Rattle.interface.specs.Touches.{Touch, Looks, Leave, Sends, Traced, Does, departed, Silences, second_after}
@@ -116,10 +118,10 @@ module _ {D : Type 0} (moves : D → Move → D → Type 0) (t : ℤ) (d0 : D) (
   so_piece l true d d' i l' goes so = so_sends (next_departure i.mtu l) true d d' i i goes.0 refl refl (λ ts silence. silence) so
   so_piece l false d d' i l' goes so = so_refused (next_departure i.mtu l) d d' i i goes.0 refl so
 
-  so_asked : (q : Question) (sent : Sent) (d d' : D) (i i' : InnerValue) → i.moment ≡ t → MayAsk i → Asked moves d i (Departures.Asks q) sent d' i' → So d i → To d' i'
+  so_asked : (q : Question) (sent : Sent) (d d' : D) (i i' : InnerValue) → i.moment ≡ t → MayAsk i → Asked moves d i q sent d' i' → So d i → To d' i'
   so_asked q Outcome.Waits d d' i i' now may goes so =
-      to_where d' d' (with_silence i) i' refl goes.1
-      (so_sends (Departures.Asks q) true d d' i (with_silence i) goes.0 refl refl
+      to_where d' d' (with_request i (target_of q)) i' refl goes.1
+      (so_sends (Departures.Asks q) true d d' i (with_request i (target_of q)) goes.0 refl refl
       (λ ts silence. (i.neighbors.silent, silence, subst (λ (m : ℤ). int_lt m i.neighbors.silent ≡ false) now may, ap second_after now)) so)
   so_asked q Outcome.Refused d d' i i' now may goes so = so_refused (Departures.Asks q) d d' i i' goes.0 goes.1 so
   so_asked q Outcome.Gone d d' i i' now may goes so = absurd goes
@@ -161,11 +163,13 @@ module _ {D : Type 0} (moves : D → Move → D → Type 0) (t : ℤ) (d0 : D) (
 
   -- ARRIVALS
 
-  so_replied : (reply : Option ReplyValue) (x x' : Sender D) → x.inner.moment ≡ t → Replied moves reply x x' → So x.device x.inner → To x'.device x'.inner
-  so_replied None x x' now is so = so_where x.device x'.device x.inner x'.inner (ap (λ (y : Sender D). y.device) is) (ap (λ (y : Sender D). y.inner) is) so
-  so_replied (Some (Replies.Tells packet)) x x' now tells so =
+  so_replied : (awaited : Bool) (reply : Option ReplyValue) (x x' : Sender D) → x.inner.moment ≡ t → Replied moves awaited reply x x' → So x.device x.inner → To x'.device x'.inner
+  so_replied awaited None x x' now is so = so_where x.device x'.device x.inner x'.inner (ap (λ (y : Sender D). y.device) is) (ap (λ (y : Sender D). y.inner) is) so
+  so_replied awaited (Some (Replies.Tells packet)) x x' now tells so =
       to_where x'.device x'.device x.inner x'.inner refl tells.2 (so_told packet tells.0 x.device x'.device x.inner tells.1 so)
-  so_replied (Some (Replies.Answers p)) x x' now answers so =
+  so_replied awaited (Some (Replies.Answers p)) x x' now (inl held) so =
+      so_where x.device x'.device x.inner x'.inner (ap (λ (y : Sender D). y.device) held.0) (ap (λ (y : Sender D). y.inner) held.0) so
+  so_replied awaited (Some (Replies.Answers p)) x x' now (inr answers) so =
       so_out x.device x'.device x.inner x'.inner x.left x'.left p (is_some x.left) answers.0 now answers.1 so
 
   abbrev SoAt : State D → Type 0
@@ -185,7 +189,7 @@ module _ {D : Type 0} (moves : D → Move → D → Type 0) (t : ℤ) (d0 : D) (
       let j : InnerValue = reads.2.0.inner in
       let same : HasSameSettings i j = (receives_same moves reads.0 (record s { device = takes.1 }) s' reads.2).0 in
       let took : So takes.1 i = so_looks (Some takes.0) s.device takes.1 i takes.2 so in
-      so_replied reads.2.0.reply (record { device = takes.1; inner = j; left = s.host.left }) (record { device = s'.device; inner = s'.host.inner; left = s'.host.left })
+      so_replied (is_awaited reads.2.0) reads.2.0.reply (record { device = takes.1; inner = j; left = s.host.left }) (record { device = s'.device; inner = s'.host.inner; left = s'.host.left })
       (same.moment ∙ runs.0) reads.2.3 (so_host n takes.1 i j same.hardware same.checksums same.silent took)
 
   -- THE WAY OUT
@@ -195,37 +199,37 @@ module _ {D : Type 0} (moves : D → Move → D → Type 0) (t : ℤ) (d0 : D) (
   so_piece_leaves l x x' gone (inr goes) is so =
       to_where x'.device x'.device x.inner x'.inner refl is (so_piece l gone goes.0 x'.device x.inner x'.left goes.2 (so_leave true x.device goes.0 x.inner goes.1 so))
 
-  module _ (x x' : Sender D) (now : x.inner.moment ≡ t) (so : So x.device x.inner) where
+  module _ (turn : Option IpAddress) (x x' : Sender D) (now : x.inner.moment ≡ t) (so : So x.device x.inner) where
     abbrev Next : Type 0
     Next = To x'.device x'.inner
 
     so_same : x' ≡ x → Next
     so_same is = so_where x.device x'.device x.inner x'.inner (ap (λ (y : Sender D). y.device) is) (ap (λ (y : Sender D). y.inner) is) so
 
-    so_leaves : (p : PacketValue) (sent : Sent) → Leaves moves x p sent x' → Next
-    so_leaves p sent (inl denied) = so_where x'.device x'.device x.inner x'.inner refl denied.1 (so_leave false x.device x'.device x.inner denied.0 so)
-    so_leaves p sent (inr goes) =
+    so_leaves : (m : Meta) (p : PacketValue) (sent : Sent) → Leaves moves turn x m p sent x' → Next
+    so_leaves m p sent (inl rests) = so_where x'.device x'.device x.inner x'.inner refl rests.2 (so_leave rests.0 x.device x'.device x.inner rests.1 so)
+    so_leaves m p sent (inr goes) =
         so_out goes.0 x'.device x.inner x'.inner x.left x'.left p (is_some x.left) sent now goes.2 (so_leave true x.device goes.0 x.inner goes.1 so)
 
-    so_sent : (o : Option PacketValue) (item item' : Item Socket) (changed : Bool) (turned : Turned) → SendsBy moves o x item changed turned x' item' → Next
+    so_sent : (o : Option PacketValue) (item item' : Item Socket) (changed : Bool) (turned : Turned) → SendsBy moves turn o x item changed turned x' item' → Next
     so_sent None item item' changed turned sends = absurd sends
-    so_sent (Some p) item item' changed turned sends = so_leaves p sends.0 sends.1
+    so_sent (Some p) item item' changed turned sends = so_leaves item.meta p sends.0 sends.1
 
-    so_answers : (answer : Answer.Offer) (item item' : Item Socket) (turned : Turned) → Answers moves answer x item turned x' item' → Next
+    so_answers : (answer : Answer.Offer) (item item' : Item Socket) (turned : Turned) → Answers moves turn answer x item turned x' item' → Next
     so_answers (Offer.Silent changed) item item' turned answers = so_same answers.1
     so_answers (Offer.Packet changed) item item' turned answers = so_sent (offered_by item.socket) item item' changed turned answers
 
-    so_turns : (waits : Bool) (item item' : Item Socket) (turned : Turned) → TurnsIf moves waits x item turned x' item' → Next
+    so_turns : (waits : Bool) (item item' : Item Socket) (turned : Turned) → TurnsIf moves turn waits x item turned x' item' → Next
     so_turns true item item' turned turns = so_same turns.1
     so_turns false item item' turned turns = so_answers turns.0 (record item { socket = turns.1 }) item' turned turns.3
 
-    so_item : (o o' : Option (Item Socket)) (turned : Turned) → ItemTurns moves o x turned x' o' → Next
+    so_item : (o o' : Option (Item Socket)) (turned : Turned) → ItemTurns moves turn o x turned x' o' → Next
     so_item None None turned turns = so_same turns.1
     so_item (Some item) (Some item') turned turns = so_turns (is_waiting x.inner item.meta) (let_through x.inner item) item' turned turns
     so_item None (Some item') turned turns = absurd turns
     so_item (Some item) None turned turns = absurd turns
 
-    so_place : (p p' : SocketStorage Socket) (turned : Turned) → PlaceTurns moves x p turned x' p' → Next
+    so_place : (p p' : SocketStorage Socket) (turned : Turned) → PlaceTurns moves turn x p turned x' p' → Next
     so_place p p' turned turns = so_item p.inner p'.inner turned turns
 
 module _ {D : Type 0} (moves : D → Move → D → Type 0) (t : ℤ) (d0 : D) (i0 : InnerValue) where
@@ -238,7 +242,7 @@ module _ {D : Type 0} (moves : D → Move → D → Type 0) (t : ℤ) (d0 : D) (
     maintenance = λ n s so. so_host moves t d0 i0 n n s.device s.host.inner (at_moment t s.host.inner) refl refl refl so;
     arrivals = λ n s s' answer runs so takes. so_takes moves t d0 i0 n s s' answer runs so takes;
     pieces = λ n h ps x x' l gone runs is so leaves same. so_piece_leaves moves t d0 i0 n l x x' gone leaves same so;
-    turns = λ n h before after p p' x x' turned runs so turns. so_place moves t d0 i0 n x x' runs.0 so p p' turned turns;
+    turns = λ turn n h before after p p' x x' turned runs so turns. so_place moves t d0 i0 n turn x x' runs.0 so p p' turned turns;
   }
 
 pub polls_traced : {D : Type 0} (moves : D → Move → D → Type 0) (t : ℤ) (budget : ℕ) (s s' : State D) (changed : Bool) → Polls moves t budget s changed s'

@@ -1,14 +1,18 @@
 -- What a frame that came makes of a host and its sockets.
-use Rattle.std.specs.Prelude.{◌≡◌, ℕ, nat_lt, not, ◌&&◌, ℤ, Bool, true, false, List, length, Option, None, Some, is_some}
+use Rattle.std.specs.Prelude.{◌≡◌, ℕ, nat_lt, not, ◌&&◌, ℤ, Bool, true, false, ◌⊎◌, List, length, Option, None, Some, is_some}
 use Rattle.net_base.specs.Device.{Move, Took, Empty}
 use Rattle.interface_egress.specs.Departure as Departures
 use Rattle.interface_egress.specs.GoesOut.{Departs, GoesOut}
+use Rattle.socket_base.specs.Packet.{PacketValue}
 use Rattle.socket_base.specs.WellFormed.{IsWellFormed}
 use Rattle.interface_egress.specs.Plan.{plan_of}
+use Rattle.interface_egress.specs.declared.plan.Plan.{Plan}
+use Rattle.interface_egress.specs.declared.plan.Plan.TheVariants as Way
 use Rattle.interface_egress.specs.declared.way_out.Sent.{Sent}
 use Rattle.interface_ingress.specs.Incoming.{IncomingValue, IsContent}
 use Rattle.interface_ingress.specs.Arrives as Replies
 use Rattle.interface_ingress.specs.Arrives.{ReplyValue, Arrived, ArrivesAs}
+use Rattle.interface.specs.Awaited.{turn_of}
 use Rattle.interface.specs.Host.{Sender, sender, maintained}
 use Rattle.interface.specs.State.{State, state, at_device}
 
@@ -19,15 +23,29 @@ longest_frame = 65_549
 abbrev pub is_read : List ℕ → Bool
 is_read frame = nat_lt 0 (length frame) && not (nat_lt longest_frame (length frame))
 
+-- its next hop isn't known, and may be asked for
+abbrev pub is_question : Plan → Bool
+is_question (Way.Ask question) = true
+is_question plan = false
+
+abbrev pub would_ask : {D : Type 0} → Sender D → PacketValue → Bool
+would_ask s p = is_question (plan_of s.inner (is_some s.left) p.header)
+
+-- a socket waits for a neighbour behind an arrival
+abbrev pub is_awaited : Arrived → Bool
+is_awaited a = is_some (turn_of a.inner a.places)
+
 module _ {D : Type 0} (moves : D → Move → D → Type 0) where
-  -- An answer, which can be sent, goes out if it can go now; else there is none. A request for its next hop may go in its place.
-  abbrev pub Replied : Option ReplyValue → Sender D → Sender D → Type 0
-  Replied None s s' = s' ≡ s
-  Replied (Some (Replies.Tells packet)) s s' =
+  -- An answer, which can be sent, goes out if it can go now; else there is none. A request for its next hop may go in its place, where
+  -- no socket waits for a neighbour.
+  abbrev pub Replied : Bool → Option ReplyValue → Sender D → Sender D → Type 0
+  Replied awaited None s s' = s' ≡ s
+  Replied awaited (Some (Replies.Tells packet)) s s' =
       (gone : Bool) × Departs moves s.device s.inner (Departures.Tells packet) gone s'.device × (s'.inner ≡ s.inner) × (s'.left ≡ s.left)
-  Replied (Some (Replies.Answers p)) s s' =
-      (sent : Sent) × GoesOut moves s.device s.inner s.left p (plan_of s.inner (is_some s.left) p.header) sent s'.device s'.inner s'.left
-      × IsWellFormed p
+  Replied awaited (Some (Replies.Answers p)) s s' =
+      ((s' ≡ s) × ((awaited && would_ask s p) ≡ true))
+      ⊎ ((sent : Sent) × GoesOut moves s.device s.inner s.left p (plan_of s.inner (is_some s.left) p.header) sent s'.device s'.inner s'.left
+      × IsWellFormed p × ((awaited && would_ask s p) ≡ false))
 
   abbrev pub sender_with : State D → Arrived → Sender D
   sender_with s a = sender s.device a.inner s.host.left
@@ -39,7 +57,7 @@ module _ {D : Type 0} (moves : D → Move → D → Type 0) where
   abbrev pub Receives : Option IncomingValue → State D → State D → Type 0
   Receives content s s' =
       (a : Arrived) × ArrivesAs s.host.inner s.host.timeout s.host.slots s.places content s'.host.slots a
-      × (s'.places ≡ a.places) × Replied a.reply (sender_with s a) (sender_of s') × (s'.host.timeout ≡ s.host.timeout)
+      × (s'.places ≡ a.places) × Replied (is_awaited a) a.reply (sender_with s a) (sender_of s') × (s'.host.timeout ≡ s.host.timeout)
 
   abbrev pub Reads : List ℕ → State D → State D → Type 0
   Reads frame s s' =

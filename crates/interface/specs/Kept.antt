@@ -1,6 +1,7 @@
 -- What each thing that a poll does keeps: words of the laws.
 use Rattle.std.specs.Prelude.{◌≡◌, ℕ, ◌+◌, ◌≤◌, ℤ, Bool, false, List, ◌∷◌, ◌++◌, Option, Some}
 use Rattle.net_base.specs.Device.{Move}
+use Rattle.ip_wire.specs.IpAddress.{IpAddress}
 use Rattle.sockets.specs.declared.socket.Socket.{Socket}
 use Rattle.interface_tables.specs.Inner.{InnerValue}
 use Rattle.interface_egress.specs.declared.socket_set.SocketStorage.{SocketStorage}
@@ -39,8 +40,8 @@ module _ {D : Type 0} (moves : D → Move → D → Type 0) (t : ℤ) (P : State
   -- a socket's turn at its place keeps it
   abbrev pub KeptByTurns : Type 0
   KeptByTurns =
-      (h : HostValue) (before after : List (SocketStorage Socket)) (p p' : SocketStorage Socket) (x x' : Sender D) (turned : Turned) → RunsAt t x.inner
-      → P (sending_as h x (before ++ p ∷ after)) → PlaceTurns moves x p turned x' p' → P (sending_as h x' (before ++ p' ∷ after))
+      (turn : Option IpAddress) (h : HostValue) (before after : List (SocketStorage Socket)) (p p' : SocketStorage Socket) (x x' : Sender D) (turned : Turned) → RunsAt t x.inner
+      → P (sending_as h x (before ++ p ∷ after)) → PlaceTurns moves turn x p turned x' p' → P (sending_as h x' (before ++ p' ∷ after))
 
   -- each of the four
   pub record IsKept : Type 0 where
@@ -60,5 +61,5 @@ module _ {D : Type 0} (moves : D → Move → D → Type 0) (t : ℤ) (Q : ℕ �
     pub arrivals : (n : ℕ) (s s' : State D) (answer : Option Bool) → RunsAt t s.host.inner → Q n s → Takes moves s answer s' → Q (n + 1) s'
     pub pieces : (n : ℕ) (h : HostValue) (ps : List (SocketStorage Socket)) (x x' : Sender D) (l : LeftValue) (gone : Bool) → RunsAt t x.inner → x.left ≡ Some l
         → Q n (sending_as h x ps) → PieceLeaves moves l x gone x' → x'.inner ≡ x.inner → Q (n + 1) (sending_as h x' ps)
-    pub turns : (n : ℕ) (h : HostValue) (before after : List (SocketStorage Socket)) (p p' : SocketStorage Socket) (x x' : Sender D) (turned : Turned) → RunsAt t x.inner
-        → Q n (sending_as h x (before ++ p ∷ after)) → PlaceTurns moves x p turned x' p' → Q (n + 1) (sending_as h x' (before ++ p' ∷ after))
+    pub turns : (turn : Option IpAddress) (n : ℕ) (h : HostValue) (before after : List (SocketStorage Socket)) (p p' : SocketStorage Socket) (x x' : Sender D) (turned : Turned) → RunsAt t x.inner
+        → Q n (sending_as h x (before ++ p ∷ after)) → PlaceTurns moves turn x p turned x' p' → Q (n + 1) (sending_as h x' (before ++ p' ∷ after))

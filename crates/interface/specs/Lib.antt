@@ -1,4 +1,5 @@
 pub mod Host
+pub mod Awaited
 pub mod Turn
 pub mod Pass
 pub mod WayOut

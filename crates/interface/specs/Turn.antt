@@ -1,13 +1,15 @@
 -- A socket's turn: it is asked for a packet, which goes out, or stays with it.
-use Rattle.std.specs.Prelude.{◌≡◌, ℤ, pos, ◌+ℤ◌, Bool, true, false, ◌⊎◌, Option, None, Some, is_some}
+use Rattle.std.specs.Prelude.{◌≡◌, ℕ, ℤ, pos, ◌+ℤ◌, not, ◌&&◌, Bool, true, false, if◌then◌else◌, ◌⊎◌, Option, None, Some, is_some}
 use Rattle.net_base.specs.Device.{Move, Allowed}
+use Rattle.ip_wire.specs.AddressTests.{is_same_address}
 use Rattle.ip_wire.specs.Ip.{destination_of}
 use Rattle.ip_wire.specs.IpAddress.{IpAddress}
 use Rattle.socket_base.specs.Packet.{PacketValue}
 use Rattle.socket_base.specs.declared.offer.Offer as Answer
 use Rattle.socket_base.specs.declared.offer.Offer.TheVariants as Offer
-use Rattle.interface_tables.specs.Inner.{InnerValue, context_of, has_neighbor}
-use Rattle.interface_egress.specs.Meta.{silent_time, neighbor_of, waits, freed}
+use Rattle.interface_tables.specs.Inner.{InnerValue, context_of, has_neighbor, is_crowded, next_request}
+use Rattle.interface_egress.specs.Departure.{target_of}
+use Rattle.interface_egress.specs.Meta.{silent_time, neighbor_of, waits, freed, missed, has_waited, unmarked}
 use Rattle.interface_egress.specs.declared.socket_meta.Meta.{Meta}
 use Rattle.interface_egress.specs.declared.socket_set.Item.{Item}
 use Rattle.interface_egress.specs.declared.socket_set.SocketStorage.{SocketStorage}
@@ -16,6 +18,8 @@ use Rattle.sockets.specs.declared.socket.Socket.{Socket}
 use Rattle.interface_egress.specs.GoesOut.{GoesOut}
 use Rattle.socket_base.specs.WellFormed.{IsWellFormed}
 use Rattle.interface_egress.specs.Plan.{plan_of}
+use Rattle.interface_egress.specs.declared.plan.Plan.{Plan}
+use Rattle.interface_egress.specs.declared.plan.Plan.TheVariants as Way
 use Rattle.interface_egress.specs.declared.way_out.Sent.{Sent}
 use Rattle.interface_egress.specs.declared.way_out.Sent.TheVariants as Outcome
 use Rattle.interface.specs.Host.{Sender}
@@ -40,6 +44,37 @@ is_waiting i m = waits m (is_heard i m) i.moment
 abbrev pub let_through : InnerValue → Item Socket → Item Socket
 let_through i item = record item { meta = freed item.meta (is_heard i item.meta) }
 
+-- WHAT DOESN'T GO
+
+-- how long a packet waits for a route; and for its neighbour where more are asked for than the host keeps count of
+abbrev pub lost_time : ℕ
+lost_time = 3_000_000
+
+abbrev pub crowded_time : ℕ
+crowded_time = 30_000_000
+
+-- a packet is given up whose plan is this: it has had no route, or its neighbour hasn't been asked for often enough, for so long
+abbrev pub is_given_up : Meta → InnerValue → IpAddress → Plan → Bool
+is_given_up m i destination Way.NoRoute = has_waited m destination lost_time i.moment
+is_given_up m i destination Way.Wait = is_crowded i && has_waited m destination crowded_time i.moment
+is_given_up m i destination (Way.Ask question) = is_crowded i && has_waited m destination crowded_time i.moment
+is_given_up m i destination plan = false
+
+abbrev pub is_other : Option IpAddress → IpAddress → Bool
+is_other None hop = false
+is_other (Some turn) hop = not (is_same_address turn hop)
+
+-- it isn't the turn of the neighbour that a packet would ask for
+abbrev pub is_out_of_turn : Option IpAddress → Plan → Bool
+is_out_of_turn turn (Way.Ask question) = is_other turn (target_of question)
+is_out_of_turn turn plan = false
+
+-- What becomes of a packet that doesn't go: it is given up, or waits for its turn.
+abbrev pub held : Option IpAddress → Meta → InnerValue → IpAddress → Plan → Option Sent
+held turn m i destination plan =
+    if is_given_up m i destination plan then Some Outcome.Dropped
+    else if is_out_of_turn turn plan then Some Outcome.Waits else None
+
 -- WHAT BECAME OF A PACKET
 
 -- it leaves the socket where it went, or can't go at all
@@ -50,18 +85,22 @@ is_done Outcome.Waits = false
 is_done Outcome.Busy = false
 is_done Outcome.Refused = false
 
--- a socket whose packet has to wait for its next hop is marked for a second
-abbrev pub marked : Sent → ℤ → IpAddress → Meta → Meta
-marked Outcome.Waits moment destination m =
-    record { waiting = Some (record { neighbor = destination; silent_until = moment +ℤ pos silent_time }) }
-marked Outcome.Gone moment destination m = m
-marked Outcome.Dropped moment destination m = m
-marked Outcome.Busy moment destination m = m
-marked Outcome.Refused moment destination m = m
+-- until when a packet waits that has no route, or waits for its neighbour
+abbrev pub waits_until : Plan → InnerValue → ℤ
+waits_until Way.NoRoute i = i.moment +ℤ pos silent_time
+waits_until plan i = next_request i
 
-abbrev pub settled_by : Sent → ℤ → IpAddress → Item Socket → Item Socket
-settled_by sent moment destination item =
-    record { meta = marked sent moment destination item.meta; socket = settled (is_done sent) item.socket }
+-- a socket whose packet has to wait for its next hop is marked, and one whose packet is done with doesn't wait any more
+abbrev pub marked : Sent → ℤ → ℤ → IpAddress → Meta → Meta
+marked Outcome.Waits moment until destination m = missed m moment destination until
+marked Outcome.Gone moment until destination m = unmarked
+marked Outcome.Dropped moment until destination m = unmarked
+marked Outcome.Busy moment until destination m = m
+marked Outcome.Refused moment until destination m = m
+
+abbrev pub settled_by : Sent → ℤ → ℤ → IpAddress → Item Socket → Item Socket
+settled_by sent moment until destination item =
+    record { meta = marked sent moment until destination item.meta; socket = settled (is_done sent) item.socket }
 
 -- A packet that is done with is a change. A refusal ends the pass; else the next socket has its turn.
 abbrev pub turned_by : Sent → Bool → Turned
@@ -73,34 +112,49 @@ turned_by Outcome.Refused changed = Turn.Stop changed
 
 -- THE TURN
 
-module _ {D : Type 0} (moves : D → Move → D → Type 0) where
-  -- the device gives no leave to send, which is as if it refused
-  abbrev pub Denies : Sender D → Sent → Sender D → Type 0
-  Denies s sent s' =
-      moves s.device (Allowed false) s'.device × (s'.inner ≡ s.inner) × (s'.left ≡ s.left) × (sent ≡ Outcome.Refused)
+abbrev pub plan_at : {D : Type 0} → Sender D → PacketValue → Plan
+plan_at s p = plan_of s.inner (is_some s.left) p.header
+
+-- what becomes of a packet that the device gives leave to send, or doesn't
+abbrev pub outcome_by : Bool → Option Sent → Option Sent
+outcome_by false held = Some Outcome.Refused
+outcome_by true held = held
+
+-- `turn` is the neighbour whose turn it is to be asked for, if a socket waits for one.
+module _ {D : Type 0} (moves : D → Move → D → Type 0) (turn : Option IpAddress) where
+  abbrev pub held_at : Sender D → Meta → PacketValue → Option Sent
+  held_at s m p = held turn m s.inner (destination_of p.header) (plan_at s p)
+
+  -- the device gives no leave to send, which is as if it refused; or the packet doesn't go
+  abbrev pub Rests : Sender D → Meta → PacketValue → Sent → Sender D → Type 0
+  Rests s m p sent s' =
+      (given : Bool) × moves s.device (Allowed given) s'.device × (s'.inner ≡ s.inner) × (s'.left ≡ s.left)
+      × (outcome_by given (held_at s m p) ≡ Some sent)
 
   -- it gives leave, and the packet goes its way out
-  abbrev pub Admits : Sender D → PacketValue → Sent → Sender D → Type 0
-  Admits s p sent s' =
+  abbrev pub Admits : Sender D → Meta → PacketValue → Sent → Sender D → Type 0
+  Admits s m p sent s' =
       (mid : D) × moves s.device (Allowed true) mid
-      × GoesOut moves mid s.inner s.left p (plan_of s.inner (is_some s.left) p.header) sent s'.device s'.inner s'.left
+      × GoesOut moves mid s.inner s.left p (plan_at s p) sent s'.device s'.inner s'.left
+      × (held_at s m p ≡ None)
 
-  abbrev pub Leaves : Sender D → PacketValue → Sent → Sender D → Type 0
-  Leaves s p sent s' = Denies s sent s' ⊎ Admits s p sent s'
+  abbrev pub Leaves : Sender D → Meta → PacketValue → Sent → Sender D → Type 0
+  Leaves s m p sent s' = Rests s m p sent s' ⊎ Admits s m p sent s'
 
   -- the packet of the open offer, which is one that can be sent, leaves, and the socket is told what became of it
   abbrev pub SendsBy : Option PacketValue → Sender D → Item Socket → Bool → Turned → Sender D → Item Socket → Type 0
   SendsBy None s item changed turned s' item' = ⊥
   SendsBy (Some p) s item changed turned s' item' =
-      (sent : Sent) × Leaves s p sent s' × (turned ≡ turned_by sent changed)
-      × (item' ≡ settled_by sent s.inner.moment (destination_of p.header) item) × IsWellFormed p
+      (sent : Sent) × Leaves s item.meta p sent s' × (turned ≡ turned_by sent changed)
+      × (item' ≡ settled_by sent s.inner.moment (waits_until (plan_at s p) s'.inner) (destination_of p.header) item) × IsWellFormed p
 
   abbrev pub Sends : Sender D → Item Socket → Bool → Turned → Sender D → Item Socket → Type 0
   Sends s item changed turned s' item' = SendsBy (offered_by item.socket) s item changed turned s' item'
 
-  -- a socket that answered has a packet, or has none and the next one has its turn
+  -- a socket that answered has a packet, or has none, waits for nobody, and the next one has its turn
   abbrev pub Answers : Answer.Offer → Sender D → Item Socket → Turned → Sender D → Item Socket → Type 0
-  Answers (Offer.Silent changed) s item turned s' item' = (turned ≡ Turn.Next changed) × (s' ≡ s) × (item' ≡ item)
+  Answers (Offer.Silent changed) s item turned s' item' =
+      (turned ≡ Turn.Next changed) × (s' ≡ s) × (item' ≡ record item { meta = unmarked })
   Answers (Offer.Packet changed) s item turned s' item' = Sends s item changed turned s' item'
 
   abbrev pub Asks : Sender D → Item Socket → Turned → Sender D → Item Socket → Type 0

@@ -5,6 +5,7 @@ use Rattle.interface_egress.specs.declared.socket_set.SocketStorage.{SocketStora
 use Rattle.sockets.specs.declared.socket.Socket.{Socket}
 use Rattle.interface_egress.specs.Fragments.{LeftValue}
 use Rattle.interface_egress.specs.GoesOut.{PieceGoesOut}
+use Rattle.interface.specs.Awaited.{turn_of}
 use Rattle.interface.specs.Host.{Sender}
 use Rattle.interface.specs.Pass.{Pass, Passed, passed}
 
@@ -20,8 +21,9 @@ module _ {D : Type 0} (moves : D → Move → D → Type 0) where
   Clears None s clear s' = (clear ≡ true) × (s' ≡ s)
   Clears (Some l) s clear s' = PieceLeaves l s clear s' × (s'.inner ≡ s.inner)
 
-  -- A piece that couldn't go ends the step before any socket is asked.
+  -- A piece that couldn't go ends the step before any socket is asked. One neighbour may be asked for in a step: the one whose turn it
+  -- is, where a socket waits.
   abbrev pub Egress : Sender D → List (SocketStorage Socket) → Passed D → Type 0
   Egress s ps e =
       ((mid : Sender D) × Clears s.left s false mid × (e ≡ passed mid ps false))
-      ⊎ ((mid : Sender D) × Clears s.left s true mid × Pass moves mid [] false ps e)
+      ⊎ ((mid : Sender D) × Clears s.left s true mid × Pass moves (turn_of mid.inner ps) mid [] false ps e)

@@ -1,13 +1,16 @@
 //! One step of the way in.
-ghost use Rattle.std.specs.Prelude.{◌≡◌, ◌+◌, ◌<◌, ◌^◌, false, None, Some};
+ghost use Rattle.std.specs.Prelude.{◌≡◌, ◌+◌, ◌<◌, ◌^◌, false, is_some, None, Some};
 ghost use Rattle.interface_ingress.specs.Incoming.{AreMeasured, content_of};
 ghost use Rattle.interface_ingress.specs.Arrives.{IfCanGo, reply_of};
+ghost use Rattle.interface.specs.Awaited.{turn_of};
 ghost use Rattle.interface.specs.Host.{sender};
 ghost use Rattle.interface.specs.State.{state, host, KeepsSettings};
-ghost use Rattle.interface.specs.Ingress.{is_read, Replied, Receives, Reads, Takes};
+ghost use Rattle.interface.specs.Ingress.{is_read, is_question, Replied, Receives, Reads, Takes};
 
+use crate::awaited::turn_of;
 use interface_egress::{
-    ArpFrame, Fragmenter, InterfaceInner, PacketAssemblerSet, SocketStorage, dispatch, send,
+    ArpFrame, Fragmenter, InterfaceInner, PacketAssemblerSet, Plan, SocketStorage, dispatch_by,
+    plan_for, send,
 };
 use interface_ingress::laws::same_settings;
 use interface_ingress::{Incoming, Reply, bring, keep, read_into, release, take_in};
@@ -107,21 +110,22 @@ fn receive<D: Device, const N: usize>(
     let place = keep(inner, slots, timeout, taken);
     let mut reply = None;
     bring(inner, places, slots, place, taken, &mut reply);
-    answer(inner, fragmenter, device, token, &reply);
+    answer(inner, fragmenter, device, token, places, &reply);
     release(slots, place);
 }
 
-/// Sends an answer, if it can go now.
+/// Sends an answer, if it can go now. Its next hop is asked for only where no socket waits for a neighbour.
 fn answer<D: Device>(
     inner: &mut InterfaceInner,
     fragmenter: &mut Fragmenter,
     device: &mut D,
     token: D::TxToken,
+    places: &[SocketStorage<Socket>],
     reply: &Option<Reply<'_>>,
 )
     requires room { D.refused device.old + 1 < 2 ^ 64 }
     requires fits { IfCanGo (reply_of reply.now) }
-    ensures replied { Replied D.moves (reply_of reply.now) (sender device.old inner.old fragmenter.old) (sender device.new inner.new fragmenter.new) }
+    ensures replied { Replied D.moves (is_some (turn_of inner.old places.now)) (reply_of reply.now) (sender device.old inner.old fragmenter.old) (sender device.new inner.new fragmenter.new) }
     ensures settings { KeepsSettings inner.old inner.new }
     ensures capabilities { D.described device.new ≡ D.described device.old }
 {
@@ -131,8 +135,19 @@ fn answer<D: Device>(
         }
         Some(Reply::Packet(packet)) => {
             fields_have_widths(packet);
-            let _ = dispatch(inner, fragmenter, device, token, packet);
+            let plan = plan_for(inner, fragmenter.is_waiting(), &packet.ip_repr());
+            if is_question(&plan) && turn_of(inner, places).is_some() {
+                return;
+            }
+            let _ = dispatch_by(inner, fragmenter, device, token, packet, plan);
         }
         None => {}
     }
+}
+
+/// Whether a packet's next hop has to be asked for.
+fn is_question(plan: &Plan) -> bool
+    ensures { result ≡ is_question plan.now }
+{
+    matches!(plan, Plan::Ask(_))
 }

@@ -4,6 +4,7 @@
 #![tactic(auto)]
 
 mod arrival;
+mod awaited;
 mod host;
 mod instant;
 mod passes;

@@ -1,5 +1,18 @@
 //! What follows from the definitions, for whoever reasons about runs of hosts.
-ghost use Rattle.std.specs.Prelude.{◌≡◌, ℕ, ◌+◌, ◌*◌, ℤ, Bool, length};
+ghost use Rattle.std.specs.Prelude.{◌≡◌, ℕ, ◌+◌, ◌*◌, ℤ, Bool, true, false, List, length, Some, None};
+ghost use Rattle.std.specs.List.{filter_map, list_any};
+ghost use Rattle.ip_wire.specs.AddressTests.{is_same_address};
+ghost use Rattle.ip_wire.specs.IpAddress.{IpAddress};
+ghost use Rattle.interface_egress.specs.Inner.{InnerValue};
+ghost use Rattle.interface_egress.specs.Departure.{target_of};
+ghost use Rattle.interface_egress.specs.declared.frame.Question.{Question};
+ghost use Rattle.interface_egress.specs.declared.plan.Plan.TheVariants as Way;
+ghost use Rattle.interface_egress.specs.declared.socket_meta.Meta.{Meta};
+ghost use Rattle.interface_egress.specs.declared.socket_set.SocketStorage.{SocketStorage};
+ghost use Rattle.sockets.specs.declared.socket.Socket.{Socket};
+ghost use Rattle.interface.specs.Awaited.{awaited_in, comes_before, next_awaited};
+ghost use Rattle.interface.specs.Turn.{held};
+ghost use Rattle.interface.specs.declared.awaited.Awaited.{Awaited};
 ghost use Rattle.interface_egress.specs.Departing.{HasSettingsOf};
 ghost use Rattle.interface.specs.State.{State};
 ghost use Rattle.interface.specs.Polls.{Polls};
@@ -26,6 +39,17 @@ pub fn asks_a_second_apart<D: Device>()
     ensures { (t : ℤ) (budget : ℕ) (s s' : State D) (changed : Bool)
         → Polls D.moves t budget s changed s'
         → Traced D.moves t (budget * (length s.places + 2)) s.device s.host.inner s'.device s'.host.inner }
+{}
+
+/// Law: of the neighbours that sockets wait for none comes before the one whose turn it is to be asked for; and while a socket waits,
+/// no socket's packet asks for another.
+pub fn neighbors_are_asked_in_turn()
+    ensures first { (i : InnerValue) (ps : List (SocketStorage Socket)) (a : Awaited)
+        → next_awaited i ps ≡ Some a
+        → list_any (λ b. comes_before b a) (filter_map (awaited_in i) ps) ≡ false }
+    ensures in_turn { (hop : IpAddress) (m : Meta) (i : InnerValue) (to : IpAddress) (q : Question)
+        → held (Some hop) m i to (Way.Ask q) ≡ None
+        → is_same_address hop (target_of q) ≡ true }
 {}
 
 /// Law: a poll takes at most one identification for each frame that it may take and each turn of a socket: one for each step of its

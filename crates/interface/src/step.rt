@@ -7,6 +7,7 @@ ghost use Rattle.interface.specs.WayOut.{Clears, Egress};
 ghost use Rattle.interface.specs.QuietStep.{AreUnchanged, IsEarly, IsQuiet};
 ghost use Rattle.interface.specs.SameHost.{IsSameHost};
 
+use crate::awaited::turn_of;
 use crate::passes::pass;
 use interface_egress::{Fragmenter, InterfaceInner, SocketStorage, send_next};
 use net_base::Device;
@@ -45,7 +46,8 @@ fn send_all<D: Device>(
     if !send_waiting(inner, fragmenter, device) {
         return false;
     }
-    pass(inner, fragmenter, device, places)
+    let turn = turn_of(inner, places);
+    pass(turn, inner, fragmenter, device, places)
 }
 
 /// Sends the piece that waits. Says whether none waits to go before the sockets' packets any more.

@@ -1,21 +1,31 @@
 //! A socket's turn.
 ghost use Rattle.std.specs.Prelude.{◌≡◌, is_some};
 ghost use Rattle.net_base.specs.Time.{IsMoment};
+ghost use Rattle.ip_wire.specs.Ip.{destination_of};
 ghost use Rattle.sockets.specs.Packet.{packet_value};
 ghost use Rattle.sockets.specs.Offer.TheVariants as Answer;
 ghost use Rattle.sockets.specs.Offers.{HasPacket};
 ghost use Rattle.sockets.specs.Socket.{offered_by, IfSendable};
-ghost use Rattle.interface_egress.specs.Plan.{IsPacket};
+ghost use Rattle.interface_egress.specs.Plan.{IsPacket, plan_of};
 ghost use Rattle.interface.specs.Host.{sender};
-ghost use Rattle.interface.specs.Turn.{is_known, is_heard, is_waiting, is_done, marked, settled_by, turned_by, Leaves, Sends, Turns, PlaceTurns};
+ghost use Rattle.interface.specs.Turn.{is_known, is_heard, is_waiting, is_given_up, is_other, is_out_of_turn, held, waits_until, is_done, marked, settled_by, turned_by, Leaves, Sends, Turns, PlaceTurns};
 ghost use Rattle.interface_egress.specs.Meta.{freed};
 
-use interface_egress::{Fragmenter, InterfaceInner, Item, Meta, Sent, SocketStorage, dispatch};
+use interface_egress::{
+    Fragmenter, InterfaceInner, Item, Meta, Plan, Sent, SocketStorage, dispatch_by, plan_for,
+};
 use ip_wire::IpAddress;
-use net_base::{Device, Instant};
+use net_base::{Device, Duration, Instant};
+use socket_base::addresses::is_same_address;
 use sockets::laws::unsent_is_offered_again;
 use sockets::widths::fields_have_widths;
 use sockets::{Context, Offer, Packet, Socket};
+
+/// How long a packet waits for a route, in milliseconds.
+const LOST_MILLIS: u64 = 3_000;
+
+/// How long a packet waits for its neighbour where more are asked for than the host keeps count of, in milliseconds.
+const CROWDED_MILLIS: u64 = 30_000;
 
 /// What a socket's turn came to. Each says whether the socket or a queue changed.
 #[derive(Clone, Copy, Debug, PartialEq, Eq)]
@@ -26,30 +36,33 @@ pub enum Turned {
     Stop(bool),
 }
 
-/// Gives the socket at a place its turn, if there is one.
+/// Gives the socket at a place its turn, if there is one. `turn` is the neighbour whose turn it is to be asked for.
 pub fn take_place<D: Device>(
+    turn: Option<IpAddress>,
     inner: &mut InterfaceInner,
     fragmenter: &mut Fragmenter,
     device: &mut D,
     place: &mut SocketStorage<Socket>,
 ) -> Turned
-    ensures turn { PlaceTurns D.moves (sender device.old inner.old fragmenter.old) place.old result (sender device.new inner.new fragmenter.new) place.new }
+    ensures turn { PlaceTurns D.moves turn (sender device.old inner.old fragmenter.old) place.old result (sender device.new inner.new fragmenter.new) place.new }
     ensures capabilities { D.described device.new ≡ D.described device.old }
 {
     match &mut place.inner {
-        Some(item) => take_turn(inner, fragmenter, device, item),
+        Some(item) => take_turn(turn, inner, fragmenter, device, item),
         None => Turned::Next(false),
     }
 }
 
-/// Asks a socket that doesn't wait for a packet, which goes out or stays with it.
+/// Asks a socket that doesn't wait for a packet, which goes out or stays with it. `turn` is the neighbour whose turn it is to be asked
+/// for, if a socket waits for one.
 pub fn take_turn<D: Device>(
+    turn: Option<IpAddress>,
     inner: &mut InterfaceInner,
     fragmenter: &mut Fragmenter,
     device: &mut D,
     item: &mut Item<Socket>,
 ) -> Turned
-    ensures turn { Turns D.moves (sender device.old inner.old fragmenter.old) item.old result (sender device.new inner.new fragmenter.new) item.new }
+    ensures turn { Turns D.moves turn (sender device.old inner.old fragmenter.old) item.old result (sender device.new inner.new fragmenter.new) item.new }
     ensures capabilities { D.described device.new ≡ D.described device.old }
 {
     if waits(inner, &mut item.meta) {
@@ -57,8 +70,11 @@ pub fn take_turn<D: Device>(
     }
     unsent_is_offered_again();
     match item.socket.offer(inner) {
-        Offer::Silent { changed } => Turned::Next(changed),
-        Offer::Packet { changed } => send_offered(inner, fragmenter, device, item, changed),
+        Offer::Silent { changed } => {
+            item.meta.unmark();
+            Turned::Next(changed)
+        }
+        Offer::Packet { changed } => send_offered(turn, inner, fragmenter, device, item, changed),
     }
 }
 
@@ -83,6 +99,7 @@ pub(crate) fn is_known(inner: &InterfaceInner, neighbor: Option<IpAddress>) -> b
 
 /// Sends the packet of the open offer, and tells the socket what became of it.
 fn send_offered<D: Device>(
+    turn: Option<IpAddress>,
     inner: &mut InterfaceInner,
     fragmenter: &mut Fragmenter,
     device: &mut D,
@@ -91,7 +108,7 @@ fn send_offered<D: Device>(
 ) -> Turned
     requires offered { HasPacket (Answer.Packet changed) (offered_by item.old.socket) }
     requires sendable { IfSendable (offered_by item.old.socket) }
-    ensures sends { Sends D.moves (sender device.old inner.old fragmenter.old) item.old changed result (sender device.new inner.new fragmenter.new) item.new }
+    ensures sends { Sends D.moves turn (sender device.old inner.old fragmenter.old) item.old changed result (sender device.new inner.new fragmenter.new) item.new }
     ensures capabilities { D.described device.new ≡ D.described device.old }
 {
     let now = inner.now();
@@ -99,37 +116,123 @@ fn send_offered<D: Device>(
         unreachable!()
     };
     fields_have_widths(&packet);
-    let destination = packet.ip_repr().dst_addr();
-    let sent = send_packet(inner, fragmenter, device, &packet);
-    settle(item, sent, now, destination);
+    let header = packet.ip_repr();
+    let destination = header.dst_addr();
+    let plan = plan_for(inner, fragmenter.is_waiting(), &header);
+    let held = held(turn, &item.meta, inner, &destination, &plan);
+    let sent = send_packet(
+        turn, inner, fragmenter, device, &item.meta, &packet, plan, held,
+    );
+    let until = waits_until(&plan, inner);
+    settle(item, sent, now, until, destination);
     turned_by(sent, changed)
 }
 
-/// Sends a packet, if the device gives leave. Without leave it counts as refused.
+/// Sends a packet that isn't held, if the device gives leave. Without leave it counts as refused.
 fn send_packet<D: Device>(
+    turn: Option<IpAddress>,
     inner: &mut InterfaceInner,
     fragmenter: &mut Fragmenter,
     device: &mut D,
+    meta: &Meta,
     packet: &Packet<'_>,
+    plan: Plan,
+    fate: Option<Sent>,
 ) -> Sent
     requires packet { IsPacket (packet_value packet.now) }
-    ensures leaves { Leaves D.moves (sender device.old inner.old fragmenter.old) (packet_value packet.now) result (sender device.new inner.new fragmenter.new) }
+    requires plan { plan ≡ plan_of inner.old (is_some fragmenter.old) (packet_value packet.now).header }
+    requires fate { fate ≡ held turn meta.now inner.old (destination_of (packet_value packet.now).header) plan }
+    ensures leaves { Leaves D.moves turn (sender device.old inner.old fragmenter.old) meta.now (packet_value packet.now) result (sender device.new inner.new fragmenter.new) }
     ensures capabilities { D.described device.new ≡ D.described device.old }
 {
     let Some(token) = device.transmit(inner.now()) else {
         return Sent::Refused;
     };
-    dispatch(inner, fragmenter, device, token, packet)
+    match fate {
+        Some(sent) => sent,
+        None => dispatch_by(inner, fragmenter, device, token, packet, plan),
+    }
 }
 
-/// Tells a socket what became of its packet. One whose packet has to wait for its next hop is marked.
-fn settle(item: &mut Item<Socket>, sent: Sent, now: Instant, destination: IpAddress)
-    requires { IsMoment now }
-    ensures { item.new ≡ settled_by sent now destination item.old }
+/// What becomes of a packet that doesn't go, though the device gives leave: it is given up, or waits for its neighbour's turn to be
+/// asked for.
+fn held(
+    turn: Option<IpAddress>,
+    meta: &Meta,
+    inner: &InterfaceInner,
+    destination: &IpAddress,
+    plan: &Plan,
+) -> Option<Sent>
+    ensures { result ≡ held turn meta.now inner.now destination.now plan.now }
+{
+    if is_given_up(meta, inner, destination, plan) {
+        Some(Sent::Dropped)
+    } else if is_out_of_turn(turn, plan) {
+        Some(Sent::Waits)
+    } else {
+        None
+    }
+}
+
+/// Whether a packet is given up that has had no route, or whose neighbour hasn't been asked for often enough, for long.
+fn is_given_up(meta: &Meta, inner: &InterfaceInner, destination: &IpAddress, plan: &Plan) -> bool
+    ensures { result ≡ is_given_up meta.now inner.now destination.now plan.now }
+{
+    match plan {
+        Plan::NoRoute => {
+            meta.has_waited(destination, Duration::from_millis(LOST_MILLIS), inner.now())
+        }
+        Plan::Wait | Plan::Ask(_) => {
+            inner.is_crowded()
+                && meta.has_waited(
+                    destination,
+                    Duration::from_millis(CROWDED_MILLIS),
+                    inner.now(),
+                )
+        }
+        _ => false,
+    }
+}
+
+/// Whether it isn't the turn of the neighbour that a packet would ask for.
+fn is_out_of_turn(turn: Option<IpAddress>, plan: &Plan) -> bool
+    ensures { result ≡ is_out_of_turn turn plan.now }
+{
+    match plan {
+        Plan::Ask(question) => is_other(turn, &question.target()),
+        _ => false,
+    }
+}
+
+fn is_other(turn: Option<IpAddress>, hop: &IpAddress) -> bool
+    ensures { result ≡ is_other turn hop.now }
+{
+    match turn {
+        Some(turn) => !is_same_address(&turn, hop),
+        None => false,
+    }
+}
+
+/// Until when a packet waits that has no route, or waits for its neighbour.
+fn waits_until(plan: &Plan, inner: &InterfaceInner) -> Instant
+    ensures { result ≡ waits_until plan.now inner.now }
+{
+    match plan {
+        Plan::NoRoute => inner.now() + Meta::discovery_silent_time(),
+        _ => inner.next_request(),
+    }
+}
+
+/// Tells a socket what became of its packet. One whose packet has to wait for its next hop is marked, and one whose packet is done with
+/// doesn't wait any more.
+fn settle(item: &mut Item<Socket>, sent: Sent, now: Instant, until: Instant, destination: IpAddress)
+    ensures { item.new ≡ settled_by sent now until destination item.old }
 {
     item.socket.settle(is_done(sent));
-    if let Sent::Waits = sent {
-        item.meta.neighbor_missing(now, destination);
+    match sent {
+        Sent::Waits => item.meta.neighbor_missing(now, destination, until),
+        Sent::Gone | Sent::Dropped => item.meta.unmark(),
+        Sent::Busy | Sent::Refused => {}
     }
 }
 

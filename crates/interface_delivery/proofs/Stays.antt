@@ -16,7 +16,7 @@ use Rattle.ip_wire.specs.Ipv4Address.{Ipv4Address}
 use Rattle.ip_wire.specs.Ipv4Repr.{Ipv4Repr}
 use Rattle.interface_tables.specs.Best.{at_place}
 use Rattle.interface_tables.specs.Inner.{InnerValue, is_local_broadcast, next_hop, link_by, link_of_hop, link_on, link_address, group_station, all_stations}
-use Rattle.interface_tables.specs.Neighbor.{CacheValue, lookup, missing, answer_by, place_of}
+use Rattle.interface_tables.specs.Neighbor.{CacheValue, lookup, missing, answer_by, place_of, unless_failed, has_failed}
 use Rattle.interface_tables.specs.Source.{source_v4}
 use Rattle.interface_tables.specs.declared.link.LinkAddress.{LinkAddress}
 use Rattle.interface_tables.specs.declared.link.LinkAddress.TheVariants as Link
@@ -39,11 +39,13 @@ abbrev AnswerStays : HardwareAddress → Answer → Type 0
 AnswerStays own (Known.Found hardware) = IsOfMedium own hardware
 AnswerStays own Known.RateLimited = Unit {0}
 AnswerStays own Known.NotFound = Unit {0}
+AnswerStays own Known.Unanswered = Unit {0}
 
 abbrev LinkStays : HardwareAddress → LinkAddress → Type 0
 LinkStays own (Link.Known to) = IsOfMedium own to
 LinkStays own Link.NoRoute = Unit {0}
 LinkStays own Link.Silent = Unit {0}
+LinkStays own Link.Unanswered = Unit {0}
 LinkStays own (Link.Unknown hop) = Unit {0}
 
 abbrev PlanStays : HardwareAddress → Plan → Type 0
@@ -73,16 +75,26 @@ answers : (own : HardwareAddress) (o : Option Neighbor) (c : CacheValue) (moment
 answers own None c moment is = missing_by own (int_lt moment c.silent)
 answers own (Some entry) c moment is = found_by own entry.hardware_addr c moment (int_lt moment entry.expires_at) is
 
+unless_stays : (own : HardwareAddress) (failed : Bool) (a : Answer) → AnswerStays own a → AnswerStays own (unless_failed failed a)
+unless_stays own failed (Known.Found hardware) is = is
+unless_stays own true Known.RateLimited is = tt
+unless_stays own false Known.RateLimited is = tt
+unless_stays own true Known.NotFound is = tt
+unless_stays own false Known.NotFound is = tt
+unless_stays own failed Known.Unanswered is = tt
+
 links : (own : HardwareAddress) (a : Answer) (hop : IpAddress) → AnswerStays own a → LinkStays own (link_by a hop)
 links own (Known.Found hardware) hop is = is
 links own Known.RateLimited hop is = tt
 links own Known.NotFound hop is = tt
+links own Known.Unanswered hop is = tt
 
 hops : (i : InnerValue) (o : Option IpAddress) → KnowsItsMedium i → LinkStays i.hardware (link_of_hop i o)
 hops i None knows = tt
 hops i (Some hop) knows =
     links i.hardware (lookup i.neighbors hop i.moment) hop
-    (answers i.hardware (at_place (place_of i.neighbors.entries hop) i.neighbors.entries) i.neighbors i.moment (at i.hardware (place_of i.neighbors.entries hop) i.neighbors.entries knows))
+    (unless_stays i.hardware (has_failed i.neighbors hop i.moment) (answer_by (at_place (place_of i.neighbors.entries hop) i.neighbors.entries) i.neighbors i.moment)
+    (answers i.hardware (at_place (place_of i.neighbors.entries hop) i.neighbors.entries) i.neighbors i.moment (at i.hardware (place_of i.neighbors.entries hop) i.neighbors.entries knows)))
 
 -- GROUPS
 
@@ -147,6 +159,7 @@ by_link : (own : HardwareAddress) (i : InnerValue) (busy : Bool) (h : IpRepr) (l
 by_link own i busy h (Link.Known to) is = to_by own to busy h (nat_le (total_len h) i.mtu) is
 by_link own i busy h Link.NoRoute is = tt
 by_link own i busy h Link.Silent is = tt
+by_link own i busy h Link.Unanswered is = tt
 by_link own i busy h (Link.Unknown hop) is = ask_if_by own i hop (may_ask i hop)
 
 plan_stays : (i : InnerValue) (busy : Bool) (h : IpRepr) → KnowsItsMedium i → IsIpAddress (destination_of h) → PlanStays i.hardware (plan_of i busy h)

@@ -23,7 +23,7 @@ module _ {D : Type 0} (moves : D → Move → D → Type 0) (old new : D) (i i' 
   abbrev pub Changes : Plan → Sent → Type 0
   Changes plan sent = SendsOnce moves old i (departure_by i p plan) (was_taken sent) new × (i' ≡ host_after plan sent p.header i) × (l' ≡ left_behind i p plan sent l)
 
-  asked : (q : Question) (sent : Sent) → Asked moves old i (Asks q) sent new i' → l' ≡ l → Changes (Way.Ask q) sent
+  asked : (q : Question) (sent : Sent) → Asked moves old i q sent new i' → l' ≡ l → Changes (Way.Ask q) sent
   asked q Outcome.Waits goes same = (goes.0, goes.1, same)
   asked q Outcome.Refused goes same = (goes.0, goes.1, same)
   asked q Outcome.Gone goes same = absurd goes

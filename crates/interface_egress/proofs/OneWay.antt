@@ -2,12 +2,13 @@
 use Rattle.std.proofs.Common.{◌≡◌, ◌≤◌, ℕ, Bool, true, false, cond, Option, Some, refl, ap, ◌∙◌, sym, subst}
 use Rattle.net_base.specs.Device.{Move, Emitted, Denied}
 use Rattle.socket_base.specs.Packet.{PacketValue}
-use Rattle.interface_tables.specs.Inner.{InnerValue, with_next_ident, with_silence}
-use Rattle.interface_egress.specs.Departure.{Departure, Asks, Whole}
+use Rattle.interface_tables.specs.Inner.{InnerValue, with_next_ident, with_request}
+use Rattle.interface_egress.specs.Departure.{Departure, Asks, Whole, target_of}
 use Rattle.interface_egress.specs.Departing.{departure_by}
 use Rattle.interface_egress.specs.Determined.{IsDetermined}
 use Rattle.interface_egress.specs.Fragments.{LeftValue, next_departure, left_after}
 use Rattle.interface_egress.specs.GoesOut.{GoesOut, PieceGoesOut, Departs, Stays, Asked, Went, WasCut, frame_of, frame_len_of, numbered, cut_of, after_header}
+use Rattle.interface_egress.specs.declared.frame.Question.{Question}
 use Rattle.interface_egress.specs.declared.way_out.Sent.{Sent}
 use Rattle.interface_egress.specs.declared.way_out.Sent.TheVariants as Outcome
 use Rattle.interface_egress.specs.declared.plan.Plan.{Plan}
@@ -43,12 +44,12 @@ module _ {D : Type 0} (moves : D → Move → D → Type 0) (longest : ℕ) (old
           went.4 ∙ ap (λ (b : Bool). cond b left l) one.0 ∙ sym again.4,
         )
 
-    asked : (d : Departure) (sent : Sent) (new : D) (j : InnerValue) (k : Option LeftValue) → Asked moves old i d sent new j → k ≡ l → Sends d Outcome.Waits (with_silence i) l sent new j k
-    asked d Outcome.Waits new j k goes same = (true, refl, goes.0, goes.1, same)
-    asked d Outcome.Refused new j k goes same = (false, refl, goes.0, goes.1, same)
-    asked d Outcome.Gone new j k goes same = absurd goes
-    asked d Outcome.Dropped new j k goes same = absurd goes
-    asked d Outcome.Busy new j k goes same = absurd goes
+    asked : (q : Question) (sent : Sent) (new : D) (j : InnerValue) (k : Option LeftValue) → Asked moves old i q sent new j → k ≡ l → Sends (Asks q) Outcome.Waits (with_request i (target_of q)) l sent new j k
+    asked q Outcome.Waits new j k goes same = (true, refl, goes.0, goes.1, same)
+    asked q Outcome.Refused new j k goes same = (false, refl, goes.0, goes.1, same)
+    asked q Outcome.Gone new j k goes same = absurd goes
+    asked q Outcome.Dropped new j k goes same = absurd goes
+    asked q Outcome.Busy new j k goes same = absurd goes
 
     went : (p : PacketValue) (d : Departure) (sent : Sent) (new : D) (j : InnerValue) (k : Option LeftValue) → Went moves old i p.header d sent new j → k ≡ l → Sends d Outcome.Gone (after_header p.header i) l sent new j k
     went p d Outcome.Gone new j k goes same = (true, refl, goes.0, goes.1, same)
@@ -76,7 +77,7 @@ module _ {D : Type 0} (moves : D → Move → D → Type 0) (longest : ℕ) (old
     one_way p Way.Wait short s t new other j j' k k' one two = same_stays Outcome.Waits s t new other j j' k k' one two
     one_way p Way.Busy short s t new other j j' k k' one two = same_stays Outcome.Busy s t new other j j' k k' one two
     one_way p (Way.Ask q) short s t new other j j' k k' one two =
-        same_sends (Asks q) (short (Asks q) refl) Outcome.Waits (with_silence i) l s t new other j j' k k' (asked (Asks q) s new j k one.0 one.1) (asked (Asks q) t other j' k' two.0 two.1)
+        same_sends (Asks q) (short (Asks q) refl) Outcome.Waits (with_request i (target_of q)) l s t new other j j' k k' (asked q s new j k one.0 one.1) (asked q t other j' k' two.0 two.1)
     one_way p (Way.Go to) short s t new other j j' k k' one two =
         let d : Departure = Whole to (numbered i p) in
         same_sends d (short d refl) Outcome.Gone (after_header p.header i) l s t new other j j' k k' (went p d s new j k one.0 one.1) (went p d t other j' k' two.0 two.1)

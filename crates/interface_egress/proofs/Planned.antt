@@ -1,5 +1,5 @@
 -- What is known where a packet has a plan.
-use Rattle.std.proofs.Common.{◌≡◌, ℕ, ◌+◌, ◌<◌, ◌≤◌, Bool, true, false, cond, Option, Some, None, is_some, refl, arith}
+use Rattle.std.proofs.Common.{◌≡◌, ℕ, ◌+◌, ◌<◌, ◌≤◌, Bool, true, false, cond, if◌then◌else◌, Option, Some, None, is_some, refl, arith}
 use Rattle.std.specs.Prelude.{ℤ, int_lt, nat_le}
 use Rattle.std.proofs.lemmas.Bool.Decides.{nat_tests}
 use Rattle.ip_wire.specs.AddressTests.{is_multicast}
@@ -16,7 +16,7 @@ use Rattle.ip_wire.specs.Ipv4Address.{Ipv4Address}
 use Rattle.ip_wire.specs.Ipv4Repr.{Ipv4Repr}
 use Rattle.socket_base.specs.Packet.{PacketValue, IsSendable}
 use Rattle.interface_tables.specs.Inner.{InnerValue, is_local_broadcast, next_hop, link_by, link_of_hop, link_on, link_address, group_station, all_stations}
-use Rattle.interface_tables.specs.Neighbor.{CacheValue, lookup, missing, answer_by, place_of}
+use Rattle.interface_tables.specs.Neighbor.{CacheValue, lookup, missing, answer_by, place_of, unless_failed, has_failed}
 use Rattle.interface_tables.specs.Best.{at_place}
 use Rattle.interface_tables.specs.Source.{source_v4, source_v6}
 use Rattle.interface_tables.specs.declared.link.LinkAddress.{LinkAddress}
@@ -49,15 +49,29 @@ answer_is : (o : Option Neighbor) (c : CacheValue) (moment : ℤ) → answer_by 
 answer_is None c moment is = missing_by (int_lt moment c.silent) is
 answer_is (Some entry) c moment is = missing_by (int_lt moment c.silent) (found_by (int_lt moment entry.expires_at) entry.hardware_addr (missing c moment) is)
 
+-- what is asked for has no answer, and doesn't count as without one
+limited_by : (failed : Bool) → unless_failed failed Known.RateLimited ≡ Known.NotFound → ⊥
+limited_by true is = cc
+limited_by false is = cc
+
+unless_is : (failed : Bool) (a : Answer) → unless_failed failed a ≡ Known.NotFound → a ≡ Known.NotFound
+unless_is failed (Known.Found hardware) is = absurd cc
+unless_is failed Known.NotFound is = refl
+unless_is failed Known.RateLimited is = absurd (limited_by failed is)
+unless_is failed Known.Unanswered is = absurd cc
+
 link_by_is : (a : Answer) (hop other : IpAddress) → link_by a hop ≡ Link.Unknown other → a ≡ Known.NotFound
 link_by_is (Known.Found hardware) hop other is = absurd cc
 link_by_is Known.RateLimited hop other is = absurd cc
+link_by_is Known.Unanswered hop other is = absurd cc
 link_by_is Known.NotFound hop other is = refl
 
 of_hop_is : (i : InnerValue) (o : Option IpAddress) (hop : IpAddress) → link_of_hop i o ≡ Link.Unknown hop → MayAsk i
 of_hop_is i None hop is = absurd cc
 of_hop_is i (Some next) hop is =
-    answer_is (at_place (place_of i.neighbors.entries next) i.neighbors.entries) i.neighbors i.moment (link_by_is (lookup i.neighbors next i.moment) next hop is)
+    let entry : Option Neighbor = at_place (place_of i.neighbors.entries next) i.neighbors.entries in
+    answer_is entry i.neighbors i.moment
+    (unless_is (has_failed i.neighbors next i.moment) (answer_by entry i.neighbors i.moment) (link_by_is (lookup i.neighbors next i.moment) next hop is))
 
 last_of : (b c : Bool) (x y : HardwareAddress) (z : LinkAddress) (hop : IpAddress) → cond b (Link.Known x) (cond c (Link.Known y) z) ≡ Link.Unknown hop → z ≡ Link.Unknown hop
 last_of true c x y z hop is = absurd cc
@@ -120,6 +134,7 @@ module _ (i : InnerValue) (busy : Bool) (h : IpRepr) (P : Plan → Type 0) (out 
   link_cases (Link.Known to) is = to_by to (nat_le (total_len h) i.mtu) refl
   link_cases Link.NoRoute is = none
   link_cases Link.Silent is = wait
+  link_cases Link.Unanswered is = out
   link_cases (Link.Unknown hop) is = ask_by (may_ask i hop) hop (on_is i.hardware i (destination_of h) hop is)
 
   pub plan_cases : P (plan_of i busy h)

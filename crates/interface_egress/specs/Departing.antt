@@ -6,9 +6,9 @@ use Rattle.ip_wire.specs.HardwareAddress.TheVariants as Hardware
 use Rattle.ip_wire.specs.IpRepr.{IpRepr}
 use Rattle.ip_wire.specs.IpRepr.TheVariants as Ip
 use Rattle.socket_base.specs.Packet.{PacketValue}
-use Rattle.interface_tables.specs.Inner.{InnerValue}
-use Rattle.interface_tables.specs.Neighbor.{CacheValue, silenced}
-use Rattle.interface_egress.specs.Departure.{Departure, Asks, Tells, Whole, Part}
+use Rattle.interface_tables.specs.Inner.{InnerValue, with_request}
+use Rattle.interface_tables.specs.Neighbor.{CacheValue}
+use Rattle.interface_egress.specs.Departure.{Departure, Asks, Tells, Whole, Part, target_of}
 use Rattle.interface_egress.specs.Fragments.{LeftValue, next_departure, left_after}
 use Rattle.interface_egress.specs.GoesOut.{Departs, numbered, cut_of}
 use Rattle.interface_egress.specs.declared.way_out.Sent.{Sent}
@@ -33,18 +33,18 @@ abbrev pub ident_after : Sent → IpRepr → ℕ → ℕ
 ident_after Outcome.Gone (Ip.Ipv4 v) ident = (ident + 1) % 2 ^ 16
 ident_after _ header ident = ident
 
+-- the neighbours behind a request that went, with its silence
+abbrev pub neighbors_after : Plan → Sent → InnerValue → CacheValue
+neighbors_after (Way.Ask question) Outcome.Waits i = (with_request i (target_of question)).neighbors
+neighbors_after plan sent i = i.neighbors
+
 -- until when no neighbour is asked for
 abbrev pub silent_after : Plan → Sent → InnerValue → ℤ
-silent_after (Way.Ask question) Outcome.Waits i = (silenced i.neighbors i.moment).silent
-silent_after plan sent i = i.neighbors.silent
+silent_after plan sent i = (neighbors_after plan sent i).silent
 
-abbrev pub with_silent : CacheValue → ℤ → CacheValue
-with_silent c until = record c { silent = until }
-
--- the host behind a packet's way out: all but its next identification and its silence stays
+-- the host behind a packet's way out: all stays but its next identification, its silence, and which neighbours it looks for
 abbrev pub host_after : Plan → Sent → IpRepr → InnerValue → InnerValue
-host_after plan sent header i =
-    record i { ident = ident_after sent header i.ident; neighbors = with_silent i.neighbors (silent_after plan sent i) }
+host_after plan sent header i = record i { ident = ident_after sent header i.ident; neighbors = neighbors_after plan sent i }
 
 -- what is left to send
 abbrev pub left_behind : InnerValue → PacketValue → Plan → Sent → Option LeftValue → Option LeftValue

@@ -18,6 +18,8 @@ use Rattle.ip_wire.specs.HardwareAddress.{HardwareAddress}
 use Rattle.ip_wire.specs.HardwareAddress.TheVariants as Hardware
 use Rattle.ip_wire.specs.Ip as Ips
 use Rattle.ip_wire.specs.Ip.{header_len_in}
+use Rattle.ip_wire.specs.IpAddress.{IpAddress}
+use Rattle.ip_wire.specs.IpAddress.TheVariants as Address
 use Rattle.ip_wire.specs.IpProtocol.TheVariants as Protocol
 use Rattle.ip_wire.specs.IpRepr.{IpRepr}
 use Rattle.ip_wire.specs.IpRepr.TheVariants as Ip
@@ -113,6 +115,11 @@ abbrev pub question_frame : ChecksumCapabilities → Question → List ℕ
 question_frame caps (Query.Arp own source target) = arp_frame (arp_request own source target)
 question_frame caps (Query.Neighbor own source target) =
     packet_frame caps (Hardware.Ethernet own) (Hardware.Ethernet (solicited_station target)) (solicitation own source target)
+
+-- the neighbour that is asked for
+abbrev pub target_of : Question → IpAddress
+target_of (Query.Arp own source target) = Address.Ipv4 target
+target_of (Query.Neighbor own source target) = Address.Ipv6 target
 
 abbrev pub question_len : Question → ℕ
 question_len (Query.Arp own source target) = 42

@@ -7,10 +7,11 @@ use Rattle.ip_wire.specs.IpRepr.{IpRepr}
 use Rattle.ip_wire.specs.IpRepr.TheVariants as Ip
 use Rattle.ip_wire.specs.Ipv4Repr.{Ipv4Repr}
 use Rattle.socket_base.specs.Packet.{PacketValue}
-use Rattle.interface_tables.specs.Inner.{InnerValue, with_next_ident, with_silence}
+use Rattle.interface_tables.specs.Inner.{InnerValue, with_next_ident, with_request}
 use Rattle.interface_egress.specs.Emits.{Emits}
-use Rattle.interface_egress.specs.Departure.{Departure, Asks, Whole, frame_from, len_from}
+use Rattle.interface_egress.specs.Departure.{Departure, Asks, Whole, frame_from, len_from, target_of}
 use Rattle.interface_egress.specs.Fragments.{LeftValue, begun, next_departure, left_after}
+use Rattle.interface_egress.specs.declared.frame.Question.{Question}
 use Rattle.interface_egress.specs.declared.way_out.Sent.{Sent}
 use Rattle.interface_egress.specs.declared.way_out.Sent.TheVariants as Outcome
 use Rattle.interface_egress.specs.declared.plan.Plan.{Plan}
@@ -54,11 +55,11 @@ cut_of i to v p = begun i.checksums to (numbered_v4 i v) (numbered i p)
 abbrev pub Stays : {D : Type 0} → D → InnerValue → Option LeftValue → D → InnerValue → Option LeftValue → Type 0
 Stays old i l new i' l' = (new ≡ old) × (i' ≡ i) × (l' ≡ l)
 
--- a request that the device took begins the silence
-abbrev pub Asked : {D : Type 0} → (D → Move → D → Type 0) → D → InnerValue → Departure → Sent → D → InnerValue → Type 0
-Asked moves old i d Outcome.Waits new i' = Departs moves old i d true new × (i' ≡ with_silence i)
-Asked moves old i d Outcome.Refused new i' = Departs moves old i d false new × (i' ≡ i)
-Asked moves old i d _ new i' = ⊥
+-- a request that the device took counts, and begins the silence
+abbrev pub Asked : {D : Type 0} → (D → Move → D → Type 0) → D → InnerValue → Question → Sent → D → InnerValue → Type 0
+Asked moves old i q Outcome.Waits new i' = Departs moves old i (Asks q) true new × (i' ≡ with_request i (target_of q))
+Asked moves old i q Outcome.Refused new i' = Departs moves old i (Asks q) false new × (i' ≡ i)
+Asked moves old i q _ new i' = ⊥
 
 -- a packet whose frame the device took has its number
 abbrev pub Went : {D : Type 0} → (D → Move → D → Type 0) → D → InnerValue → IpRepr → Departure → Sent → D → InnerValue → Type 0
@@ -79,7 +80,7 @@ GoesOut moves old i l p Way.Drop sent new i' l' = (sent ≡ Outcome.Dropped) × 
 GoesOut moves old i l p Way.NoRoute sent new i' l' = (sent ≡ Outcome.Waits) × Stays old i l new i' l'
 GoesOut moves old i l p Way.Wait sent new i' l' = (sent ≡ Outcome.Waits) × Stays old i l new i' l'
 GoesOut moves old i l p Way.Busy sent new i' l' = (sent ≡ Outcome.Busy) × Stays old i l new i' l'
-GoesOut moves old i l p (Way.Ask question) sent new i' l' = Asked moves old i (Asks question) sent new i' × (l' ≡ l)
+GoesOut moves old i l p (Way.Ask question) sent new i' l' = Asked moves old i question sent new i' × (l' ≡ l)
 GoesOut moves old i l p (Way.Go to) sent new i' l' = Went moves old i p.header (Whole to (numbered i p)) sent new i' × (l' ≡ l)
 GoesOut moves old i l p (Way.Cut to v) sent new i' l' = WasCut moves old i l (cut_of i to v p) sent new i' l'
 

@@ -1,5 +1,7 @@
--- Sockets that wait for a neighbour: a mark with the neighbour, and the moment up to which the socket waits for it at most.
-use Rattle.std.specs.Prelude.{ℕ, ℤ, int_lt, Bool, true, false, not, ◌&&◌, if◌then◌else◌, Option, None, Some}
+-- Sockets that wait for a neighbour: a mark with the neighbour, the moment since when the socket waits for it, and the moment when
+-- it is asked again.
+use Rattle.std.specs.Prelude.{ℕ, ℤ, pos, ◌-ℤ◌, int_lt, Bool, true, false, not, ◌&&◌, if◌then◌else◌, Option, None, Some}
+use Rattle.ip_wire.specs.AddressTests.{is_same_address}
 use Rattle.ip_wire.specs.IpAddress.{IpAddress}
 use Rattle.socket_base.specs.declared.poll_at.PollAt.{PollAt}
 use Rattle.socket_base.specs.declared.poll_at.PollAt.TheVariants as At
@@ -32,6 +34,29 @@ poll_by (Some w) poll known moment = if not known && int_lt moment w.silent_unti
 -- a socket that waits wants to be polled when its waiting ends
 abbrev pub poll_at : Meta → PollAt → Bool → ℤ → PollAt
 poll_at m poll known moment = poll_by m.waiting poll known moment
+
+-- since when it waits for this one: it keeps that as long as it waits for the same
+abbrev pub since_by : Option Waiting → IpAddress → ℤ → ℤ
+since_by None neighbor moment = moment
+since_by (Some w) neighbor moment = if is_same_address w.neighbor neighbor then w.since else moment
+
+-- a socket whose neighbour is missing waits until this moment
+abbrev pub missed : Meta → ℤ → IpAddress → ℤ → Meta
+missed m moment neighbor until =
+    record { waiting = Some (record { neighbor = neighbor; since = since_by m.waiting neighbor moment; silent_until = until }) }
+
+-- it has waited so long for this one
+abbrev pub has_waited_by : Option Waiting → IpAddress → ℕ → ℤ → Bool
+has_waited_by None neighbor span moment = false
+has_waited_by (Some w) neighbor span moment =
+    is_same_address w.neighbor neighbor && not (int_lt (moment -ℤ pos span) w.since)
+
+abbrev pub has_waited : Meta → IpAddress → ℕ → ℤ → Bool
+has_waited m neighbor span moment = has_waited_by m.waiting neighbor span moment
+
+-- the mark goes where the socket has nothing to send any more
+abbrev pub unmarked : Meta
+unmarked = record { waiting = None }
 
 -- the mark goes where the neighbour is known
 abbrev pub freed : Meta → Bool → Meta

@@ -69,6 +69,7 @@ abbrev pub plan_by : LinkAddress → InnerValue → Bool → IpRepr → Plan
 plan_by (Link.Known to) i busy header = plan_to to i.mtu busy header
 plan_by Link.NoRoute i busy header = Way.NoRoute
 plan_by Link.Silent i busy header = Way.Wait
+plan_by Link.Unanswered i busy header = Way.Drop
 plan_by (Link.Unknown hop) i busy header = ask_if (may_ask i hop) i hop
 
 -- A packet never leaves that is for the unspecified address or for a loopback address that isn't here, or whose source can't be
@@ -78,8 +79,8 @@ never_leaves i header =
     is_unspecified (destination_of header)
     || (is_foreign_loopback i (destination_of header) || not (may_come_from i (source_of header) (destination_of header)))
 
--- In this order: a packet that never leaves is dropped; one whose next hop isn't known waits, or asks; then its length counts. The
--- host is busy while pieces of a datagram wait.
+-- In this order: a packet that never leaves is dropped, and so is one whose next hop doesn't answer; one whose next hop isn't known
+-- waits, or asks; then its length counts. The host is busy while pieces of a datagram wait.
 abbrev pub plan_of : InnerValue → Bool → IpRepr → Plan
 plan_of i busy header =
     if never_leaves i header then Way.Drop

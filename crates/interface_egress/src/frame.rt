@@ -3,13 +3,13 @@ ghost use Rattle.std.specs.Prelude.{◌≡◌, ◌+◌, ◌<◌, ◌^◌, length
 ghost use Rattle.ip_wire.specs.Address.{solicited_of};
 ghost use Rattle.socket_base.specs.Packet.{packet_value, packet_of, payload_value, IsSendable};
 ghost use Rattle.interface_egress.specs.Emits.{Emits};
-ghost use Rattle.interface_egress.specs.Departure.{link_header, link_len, ether_for, packet_frame, packet_frame_len, piece_frame, piece_frame_len, arp_frame, arp_request, solicited_node, solicited_station, solicitation, question_frame, question_len};
+ghost use Rattle.interface_egress.specs.Departure.{link_header, link_len, ether_for, packet_frame, packet_frame_len, piece_frame, piece_frame_len, arp_frame, arp_request, solicited_node, solicited_station, solicitation, question_frame, question_len, target_of};
 
 use crate::fill::{Fill, send};
 use control_wire::{Icmpv6Repr, NdiscRepr};
 use ip_wire::{
     ArpOperation, ArpPacketMut, ArpRepr, ETHERNET_HEADER_LEN, EthernetAddress, EthernetFrameMut,
-    EthernetProtocol, EthernetRepr, HardwareAddress, IpProtocol, IpRepr, Ipv4Address,
+    EthernetProtocol, EthernetRepr, HardwareAddress, IpAddress, IpProtocol, IpRepr, Ipv4Address,
     Ipv4PacketMut, Ipv4Repr, Ipv6Address, Ipv6Repr, RawHardwareAddress,
 };
 use net_base::{ChecksumCapabilities, Device};
@@ -30,6 +30,18 @@ pub enum Question {
         source: Ipv6Address,
         target: Ipv6Address,
     },
+}
+
+impl Question {
+    /// The neighbour that is asked for.
+    pub fn target(&self) -> IpAddress
+        ensures { result ≡ target_of self.now }
+    {
+        match self {
+            Question::Arp { target, .. } => IpAddress::Ipv4(*target),
+            Question::Neighbor { target, .. } => IpAddress::Ipv6(*target),
+        }
+    }
 }
 
 /// A frame that carries an ARP packet.

@@ -24,4 +24,4 @@ pub use socket_meta::{Meta, Waiting};
 pub use socket_set::{
     AddError, Handles, Item, Iter, IterMut, SocketHandle, SocketSet, SocketStorage,
 };
-pub use way_out::{Sent, dispatch, send_next};
+pub use way_out::{Sent, dispatch, dispatch_by, send_next};

@@ -43,6 +43,7 @@ pub fn plan_for(inner: &InterfaceInner, busy: bool, header: &IpRepr) -> Plan
         LinkAddress::Known(to) => plan_to(to, mtu, busy, header),
         LinkAddress::NoRoute => Plan::NoRoute,
         LinkAddress::Silent => Plan::Wait,
+        LinkAddress::Unanswered => Plan::Drop,
         LinkAddress::Unknown(hop) => ask_if_possible(inner, &hop),
     }
 }

@@ -1,19 +1,21 @@
 //! What the interface keeps beside a socket: whether it waits for a neighbour.
-ghost use Rattle.std.specs.Prelude.{◌≡◌, pos, ◌+ℤ◌, not, Some};
+ghost use Rattle.std.specs.Prelude.{◌≡◌, ◌≤◌, ◌^◌, not};
 ghost use Rattle.net_base.specs.Time.{IsMoment};
-ghost use Rattle.interface_egress.specs.Meta.{waits, poll_at, freed, neighbor_of, silent_time};
+ghost use Rattle.interface_egress.specs.Meta.{waits, poll_at, freed, neighbor_of, silent_time, since_by, missed, has_waited, unmarked};
 
 use ip_wire::IpAddress;
 use net_base::{Duration, Instant};
 use socket_base::PollAt;
+use socket_base::addresses::is_same_address;
 
 /// How long a socket waits before its neighbour is asked for again, in milliseconds.
 const SILENT_MILLIS: u64 = 1_000;
 
-/// The neighbour that a socket waits for, and until when at most.
+/// The neighbour that a socket waits for, since when, and until when before it is asked again.
 #[derive(Clone, Copy, Debug)]
 pub struct Waiting {
     pub neighbor: IpAddress,
+    pub since: Instant,
     pub silent_until: Instant,
 }
 
@@ -75,14 +77,50 @@ impl Meta {
         permitted
     }
 
-    /// Lets the socket wait for this neighbour.
-    pub fn neighbor_missing(&mut self, timestamp: Instant, neighbor: IpAddress)
-        requires { IsMoment timestamp }
-        ensures { self.new ≡ record { waiting = Some (record { neighbor = neighbor; silent_until = timestamp +ℤ pos silent_time }) } }
+    /// Lets the socket wait for this neighbour, until this moment before it is asked again.
+    pub fn neighbor_missing(
+        &mut self,
+        timestamp: Instant,
+        neighbor: IpAddress,
+        silent_until: Instant,
+    )
+        ensures { self.new ≡ missed self.old timestamp neighbor silent_until }
     {
         self.waiting = Some(Waiting {
             neighbor,
-            silent_until: timestamp + Duration::from_millis(SILENT_MILLIS),
+            since: self.since(&neighbor, timestamp),
+            silent_until,
         });
+    }
+
+    /// Since when the socket waits for this neighbour: it keeps that as long as it waits for the same.
+    fn since(&self, neighbor: &IpAddress, timestamp: Instant) -> Instant
+        ensures { result ≡ since_by self.now.waiting neighbor.now timestamp }
+    {
+        match &self.waiting {
+            Some(waiting) if is_same_address(&waiting.neighbor, neighbor) => waiting.since,
+            _ => timestamp,
+        }
+    }
+
+    /// Whether the socket has waited so long for this neighbour.
+    pub fn has_waited(&self, neighbor: &IpAddress, span: Duration, timestamp: Instant) -> bool
+        requires moment { IsMoment timestamp }
+        requires short { span ≤ 2 ^ 61 }
+        ensures { result ≡ has_waited self.now neighbor.now span timestamp }
+    {
+        match &self.waiting {
+            Some(waiting) => {
+                is_same_address(&waiting.neighbor, neighbor) && !(timestamp - span < waiting.since)
+            }
+            None => false,
+        }
+    }
+
+    /// The socket doesn't wait any more.
+    pub fn unmark(&mut self)
+        ensures { self.new ≡ unmarked }
+    {
+        self.waiting = None;
     }
 }

@@ -3,7 +3,6 @@ ghost use Rattle.std.specs.Prelude.{◌≡◌, ◌+◌, ◌<◌, ◌≤◌, ◌^
 ghost use Rattle.socket_base.specs.Packet.{packet_value, IsSendable};
 ghost use Rattle.interface_egress.specs.Plan.{plan_of, IsPacket, CanBeCarried};
 ghost use Rattle.interface_egress.specs.Plan.{CanBeCut};
-ghost use Rattle.interface_egress.specs.Departure.{Asks};
 ghost use Rattle.interface_egress.specs.Departure as Departures;
 ghost use Rattle.interface_egress.specs.GoesOut.{GoesOut, PieceGoesOut, Asked, Went, WasCut, numbered_header, numbered, after_header, cut_of};
 
@@ -46,6 +45,26 @@ pub fn dispatch<D: Device>(
     ensures capabilities { D.described device.new ≡ D.described device.old }
 {
     let plan = plan_for(inner, fragmenter.is_waiting(), &packet.ip_repr());
+    dispatch_by(inner, fragmenter, device, token, packet, plan)
+}
+
+/// Does what is to be done with a packet, which `plan_for` said.
+pub fn dispatch_by<D: Device>(
+    inner: &mut InterfaceInner,
+    fragmenter: &mut Fragmenter,
+    device: &mut D,
+    token: D::TxToken,
+    packet: &Packet<'_>,
+    plan: Plan,
+) -> Sent
+    requires room { D.refused device.old + 1 < 2 ^ 64 }
+    requires packet { IsPacket (packet_value packet.now) }
+    requires plan { plan ≡ plan_of inner.old (is_some fragmenter.old) (packet_value packet.now).header }
+    ensures out { GoesOut D.moves device.old inner.old fragmenter.old (packet_value packet.now)
+        (plan_of inner.old (is_some fragmenter.old) (packet_value packet.now).header) result device.new inner.new fragmenter.new }
+    ensures capabilities { D.described device.new ≡ D.described device.old }
+{
+    let _mtu = inner.mtu();
     carry(inner, fragmenter, device, token, packet, plan)
 }
 
@@ -73,7 +92,7 @@ fn carry<D: Device>(
     }
 }
 
-/// Sends a question, and begins the time in which no neighbour is asked for.
+/// Sends a question, which counts, and begins the time in which no neighbour is asked for.
 fn send_question<D: Device>(
     inner: &mut InterfaceInner,
     device: &mut D,
@@ -81,13 +100,13 @@ fn send_question<D: Device>(
     question: &Question,
 ) -> Sent
     requires room { D.refused device.old + 1 < 2 ^ 64 }
-    ensures out { Asked D.moves device.old inner.old (Asks question.now) result device.new inner.new }
+    ensures out { Asked D.moves device.old inner.old question.now result device.new inner.new }
     ensures capabilities { D.described device.new ≡ D.described device.old }
 {
     if !ask(device, token, question, &inner.checksum_caps()) {
         return Sent::Refused;
     }
-    inner.limit_rate();
+    inner.request_neighbor(question.target());
     Sent::Waits
 }
 

@@ -117,6 +117,6 @@ heard_on (Hardware.Ethernet own) i header message = heard_at own i header messag
 abbrev pub neighbor_heard : InnerValue → Ipv6Repr → NeighborMessage → Heard
 neighbor_heard i header message = heard_on i.hardware i header message
 
--- a host with the neighbours' entries of another
+-- a host with the neighbours' entries, and the searches for neighbours, of another
 abbrev pub with_entries_of : InnerValue → InnerValue → InnerValue
-with_entries_of other i = record i { neighbors = record i.neighbors { entries = other.neighbors.entries } }
+with_entries_of other i = record i { neighbors = record i.neighbors { entries = other.neighbors.entries; searches = other.neighbors.searches } }

@@ -9,7 +9,7 @@ ghost use Rattle.sockets.specs.Packet.{PacketValue};
 ghost use Rattle.interface_egress.specs.Inner.{InnerValue, is_own};
 ghost use Rattle.interface_ingress.specs.Heard.{neighbor_heard, heard, told_at, with_entries_of};
 
-/// Law: a neighbour message changes the entries of neighbours alone: settings, identification and
+/// Law: a neighbour message changes the entries of neighbours, and whom the host looks for, alone: settings, identification and
 /// the time in which no neighbour is asked for stay as they were.
 pub fn entries_alone()
     ensures { (i : InnerValue) (header : Ipv6Repr) (message : NeighborMessage)

@@ -1,6 +1,6 @@
 -- A host beside its sockets and its slots, as a value: its addresses and tables, and where its packets go (RFC 1122, sections
 -- 3.2.1.3 and 3.3.1; RFC 4291, section 2.8).
-use Rattle.std.specs.Prelude.{ℕ, ◌+◌, ◌/◌, ◌%◌, ◌^◌, ◌==◌, ◌&&◌, ◌||◌, not, nat_lt, Bool, true, false, if◌then◌else◌, ℤ, pos, ◌+ℤ◌, List, [], ◌∷◌, ◌++◌, drop, replicate, slice_index, Option, None, Some}
+use Rattle.std.specs.Prelude.{ℕ, ◌+◌, ◌/◌, ◌%◌, ◌^◌, ◌==◌, ◌&&◌, ◌||◌, not, nat_lt, Bool, true, false, if◌then◌else◌, ℤ, pos, ◌+ℤ◌, int_lt, List, [], ◌∷◌, ◌++◌, length, drop, replicate, slice_index, Option, None, Some}
 use Rattle.std.specs.List.{list_any}
 use Rattle.std.specs.Str.{bytes_eq}
 use Rattle.net_base.specs.ChecksumCapabilities.{ChecksumCapabilities}
@@ -17,7 +17,7 @@ use Rattle.ip_wire.specs.IpCidr.TheVariants as Block
 use Rattle.ip_wire.specs.Ipv4Address.{Ipv4Address}
 use Rattle.ip_wire.specs.Ipv6Address.{Ipv6Address}
 use Rattle.socket_base.specs.Context.{ContextValue}
-use Rattle.interface_tables.specs.Neighbor.{CacheValue, lookup, is_found, filled, renewed, silenced, flushed, entry_lifetime}
+use Rattle.interface_tables.specs.Neighbor.{CacheValue, lookup, is_found, filled, renewed, requested, search_room, silent_time, entry_lifetime}
 use Rattle.interface_tables.specs.Route.{best_route, router_of}
 use Rattle.interface_tables.specs.Source.{source_for}
 use Rattle.interface_tables.specs.declared.link.LinkAddress.{LinkAddress}
@@ -145,6 +145,7 @@ group_station (Ip.Ipv6 group) = record { 0 = 0x33 ∷ 0x33 ∷ drop 12 group.0 }
 abbrev pub link_by : Answer → IpAddress → LinkAddress
 link_by (Known.Found hardware) hop = Link.Known hardware
 link_by Known.RateLimited hop = Link.Silent
+link_by Known.Unanswered hop = Link.Unanswered
 link_by Known.NotFound hop = Link.Unknown hop
 
 abbrev pub link_of_hop : InnerValue → Option IpAddress → LinkAddress
@@ -173,6 +174,30 @@ is_known_hop i (Some hop) = is_known_on i.hardware i hop
 -- there is a next hop for the destination, and its hardware address is known
 abbrev pub has_neighbor : InnerValue → IpAddress → Bool
 has_neighbor i address = is_known_hop i (next_hop i address)
+
+-- WAITING
+
+abbrev pub is_awaited : Answer → Bool
+is_awaited (Known.Found hardware) = false
+is_awaited Known.NotFound = true
+is_awaited Known.RateLimited = true
+is_awaited Known.Unanswered = false
+
+abbrev pub awaited_by : Option IpAddress → InnerValue → Option IpAddress
+awaited_by None i = None
+awaited_by (Some hop) i = if is_awaited (lookup i.neighbors hop i.moment) then Some hop else None
+
+-- the next hop that a packet for a destination waits for: one that isn't known, and doesn't count as without answer
+abbrev pub awaited_hop : InnerValue → IpAddress → Option IpAddress
+awaited_hop i address = awaited_by (next_hop i address) i
+
+-- the host asks for as many neighbours as it keeps count of
+abbrev pub is_crowded : InnerValue → Bool
+is_crowded i = not (nat_lt (length i.neighbors.searches) search_room)
+
+-- when a neighbour may be asked for again: at the end of the silence, else in a second
+abbrev pub next_request : InnerValue → ℤ
+next_request i = if int_lt i.moment i.neighbors.silent then i.neighbors.silent else i.moment +ℤ pos silent_time
 
 -- WHAT SOCKETS SEE
 
@@ -216,5 +241,5 @@ abbrev pub with_renewal : InnerValue → IpAddress → HardwareAddress → Inner
 with_renewal i address hardware = record i { neighbors = renewed i.neighbors address hardware i.moment }
 
 -- a neighbour was asked for
-abbrev pub with_silence : InnerValue → InnerValue
-with_silence i = record i { neighbors = silenced i.neighbors i.moment }
+abbrev pub with_request : InnerValue → IpAddress → InnerValue
+with_request i address = record i { neighbors = requested i.neighbors address i.moment }

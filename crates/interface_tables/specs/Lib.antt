@@ -1,6 +1,7 @@
 pub mod Best
 pub mod Inner
 pub mod Neighbor
+pub mod Searches
 pub mod Pieces
 pub mod Reassembly
 pub mod Route

@@ -1,5 +1,5 @@
 -- What an interface knows of its neighbours, as a value (RFC 826; RFC 1122, section 2.3.2; RFC 4861, section 5.1).
-use Rattle.std.specs.Prelude.{ℕ, ℤ, pos, ◌+ℤ◌, int_lt, Bool, true, false, nat_lt, if◌then◌else◌, List, [], ◌∷◌, ◌++◌, length, slice_set, remove, replicate, Option, None, Some, position}
+use Rattle.std.specs.Prelude.{ℕ, ◌+◌, ℤ, pos, ◌+ℤ◌, int_lt, Bool, true, false, not, ◌&&◌, nat_lt, if◌then◌else◌, List, [], ◌∷◌, ◌++◌, length, slice_set, remove, replicate, Option, None, Some, position}
 use Rattle.ip_wire.specs.HardwareAddress.{HardwareAddress}
 use Rattle.ip_wire.specs.HardwareAddress.TheVariants as Hardware
 use Rattle.ip_wire.specs.IpAddress.{IpAddress}
@@ -7,13 +7,16 @@ use Rattle.ip_wire.specs.IpAddress.TheVariants as Address
 use Rattle.ip_wire.specs.AddressTests.{is_same_address, is_same_hardware}
 use Rattle.interface_tables.specs.Best.{at_place, place_of_first_best}
 use Rattle.interface_tables.specs.declared.neighbor.Neighbor.{Neighbor}
+use Rattle.interface_tables.specs.declared.neighbor.Search.{Search}
 use Rattle.interface_tables.specs.declared.neighbor.Answer.{Answer}
 use Rattle.interface_tables.specs.declared.neighbor.Answer.TheVariants as Known
 
--- The entries, the one that has stood longest first, and the moment until which no neighbour is asked for.
+-- The entries, the one that has stood longest first; the moment until which no neighbour is asked for; and the addresses that were
+-- asked for and haven't answered.
 pub record CacheValue : Type 0 where
   pub entries : List Neighbor
   pub silent : ℤ
+  pub searches : List Search
 
 -- a second and a minute, in microseconds
 abbrev pub silent_time : ℕ
@@ -23,7 +26,7 @@ abbrev pub entry_lifetime : ℕ
 entry_lifetime = 60_000_000
 
 abbrev pub fresh : CacheValue
-fresh = record { entries = []; silent = pos 0 }
+fresh = record { entries = []; silent = pos 0; searches = [] }
 
 -- what stands in an unused place of a table
 abbrev pub blank : Neighbor
@@ -48,13 +51,60 @@ answer_by None c moment = missing c moment
 answer_by (Some entry) c moment =
     if int_lt moment entry.expires_at then Known.Found entry.hardware_addr else missing c moment
 
+-- NEIGHBOURS THAT DON'T ANSWER
+
+-- how often a neighbour is asked for (RFC 4861, section 10, MAX_MULTICAST_SOLICIT); how long it then counts as without answer; and
+-- how many are asked for at a time
+abbrev pub most_requests : ℕ
+most_requests = 3
+
+abbrev pub failed_time : ℕ
+failed_time = 3_000_000
+
+abbrev pub search_room : ℕ
+search_room = 8
+
+-- what stands in an unused place of that table
+abbrev pub no_search : Search
+no_search = record { protocol_addr = Address.Ipv4 (record { 0 = replicate 4 0 }); requests = 0; answer_by = pos 0; failed_until = pos 0 }
+
+abbrev pub is_search_for : IpAddress → Search → Bool
+is_search_for address s = is_same_address s.protocol_addr address
+
+-- where the search for an address stands, and that search
+abbrev pub search_place : List Search → IpAddress → Option ℕ
+search_place searches address = position (is_search_for address) searches
+
+abbrev pub search_of : List Search → IpAddress → Option Search
+search_of searches address = at_place (search_place searches address) searches
+
+-- It was asked for three times, and none was answered within its second: for three seconds more the address is without answer.
+abbrev pub is_failed : Search → ℤ → Bool
+is_failed s moment = not (nat_lt s.requests most_requests) && (not (int_lt moment s.answer_by) && int_lt moment s.failed_until)
+
+abbrev pub has_failed_by : Option Search → ℤ → Bool
+has_failed_by None moment = false
+has_failed_by (Some s) moment = is_failed s moment
+
+abbrev pub has_failed : CacheValue → IpAddress → ℤ → Bool
+has_failed c address moment = has_failed_by (search_of c.searches address) moment
+
+-- what is known of an address without answer
+abbrev pub unless_failed : Bool → Answer → Answer
+unless_failed failed (Known.Found hardware) = Known.Found hardware
+unless_failed failed Known.NotFound = if failed then Known.Unanswered else Known.NotFound
+unless_failed failed Known.RateLimited = if failed then Known.Unanswered else Known.RateLimited
+unless_failed failed Known.Unanswered = Known.Unanswered
+
 abbrev pub lookup : CacheValue → IpAddress → ℤ → Answer
-lookup c address moment = answer_by (at_place (place_of c.entries address) c.entries) c moment
+lookup c address moment =
+    unless_failed (has_failed c address moment) (answer_by (at_place (place_of c.entries address) c.entries) c moment)
 
 abbrev pub is_found : Answer → Bool
 is_found (Known.Found hardware) = true
 is_found Known.NotFound = false
 is_found Known.RateLimited = false
+is_found Known.Unanswered = false
 
 -- FILL
 
@@ -71,8 +121,20 @@ filled_at (Some at) room entries new = slice_set entries at new
 filled_at None room entries new =
     if nat_lt (length entries) room then entries ++ new ∷ [] else remove entries (victim entries) ++ new ∷ []
 
+-- a search that ends
+abbrev pub ended_at : Option ℕ → List Search → List Search
+ended_at None searches = searches
+ended_at (Some at) searches = remove searches at
+
+abbrev pub ended : List Search → IpAddress → List Search
+ended searches address = ended_at (search_place searches address) searches
+
+-- who answers isn't looked for any more
 abbrev pub filled : ℕ → CacheValue → Neighbor → CacheValue
-filled room c new = record c { entries = filled_at (place_of c.entries new.protocol_addr) room c.entries new }
+filled room c new = record c {
+  entries = filled_at (place_of c.entries new.protocol_addr) room c.entries new;
+  searches = ended c.searches new.protocol_addr;
+}
 
 -- RENEWAL, SILENCE
 
@@ -86,15 +148,63 @@ abbrev pub renewed_at : Option ℕ → Option Neighbor → List Neighbor → Har
 renewed_at (Some at) (Some entry) entries hardware moment = slice_set entries at (renewed_entry entry hardware moment)
 renewed_at place entry entries hardware moment = entries
 
+abbrev pub is_known_by : Option Neighbor → HardwareAddress → Bool
+is_known_by None hardware = false
+is_known_by (Some entry) hardware = is_same_hardware entry.hardware_addr hardware
+
+-- who is believed anew isn't looked for any more
 abbrev pub renewed : CacheValue → IpAddress → HardwareAddress → ℤ → CacheValue
 renewed c address hardware moment = record c {
   entries = renewed_at (place_of c.entries address) (at_place (place_of c.entries address) c.entries) c.entries hardware moment;
+  searches = if is_known_by (at_place (place_of c.entries address) c.entries) hardware then ended c.searches address else c.searches;
 }
 
 -- after a request at this moment
 abbrev pub silenced : CacheValue → ℤ → CacheValue
 silenced c moment = record c { silent = moment +ℤ pos silent_time }
 
--- no entry is left, and the silence goes on
+-- A request at this moment: the first one, or one more; behind the last one the count begins anew.
+abbrev pub first_search : IpAddress → ℤ → Search
+first_search address moment = record {
+  protocol_addr = address;
+  requests = 1;
+  answer_by = moment +ℤ pos silent_time;
+  failed_until = moment +ℤ pos (silent_time + failed_time);
+}
+
+abbrev pub count_after : ℕ → ℕ
+count_after requests = if nat_lt requests most_requests then requests + 1 else 1
+
+abbrev pub one_more : Search → ℤ → Search
+one_more s moment = record (first_search s.protocol_addr moment) { requests = count_after s.requests }
+
+-- where the search stands that makes room: the first of those than which none was asked for before
+abbrev pub asked_before : Search → Search → Bool
+asked_before a b = int_lt a.answer_by b.answer_by
+
+abbrev pub oldest_search : List Search → ℕ
+oldest_search searches = place_of_first_best asked_before searches
+
+abbrev pub searched_at : Option ℕ → Option Search → List Search → IpAddress → ℤ → List Search
+searched_at (Some at) (Some s) searches address moment = slice_set searches at (one_more s moment)
+searched_at place s searches address moment =
+    if nat_lt (length searches) search_room then searches ++ first_search address moment ∷ []
+    else remove searches (oldest_search searches) ++ first_search address moment ∷ []
+
+-- a neighbour was asked for, and the silence begins
+abbrev pub requested : CacheValue → IpAddress → ℤ → CacheValue
+requested c address moment = record (silenced c moment) {
+  searches = searched_at (search_place c.searches address) (search_of c.searches address) c.searches address moment;
+}
+
+-- until when the last request for an address is to be answered, if it is asked for
+abbrev pub answer_of : Option Search → Option ℤ
+answer_of None = None
+answer_of (Some s) = Some s.answer_by
+
+abbrev pub last_request : CacheValue → IpAddress → Option ℤ
+last_request c address = answer_of (search_of c.searches address)
+
+-- no entry and no search is left, and the silence goes on
 abbrev pub flushed : CacheValue → CacheValue
-flushed c = record c { entries = [] }
+flushed c = record c { entries = []; searches = [] }

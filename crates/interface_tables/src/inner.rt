@@ -9,12 +9,12 @@ ghost use Rattle.ip_wire.specs.AddressTests.{is_loopback};
 ghost use Rattle.interface_tables.specs.declared.route.Route.{Route};
 ghost use Rattle.interface_tables.specs.Source.{first_v4, first_v6, source_v4, source_v6};
 ghost use Rattle.interface_tables.specs.Neighbor as Neighbors;
-ghost use Rattle.interface_tables.specs.Inner.{is_own, is_address_of, is_in_own_network, is_this, is_broadcast_of, is_local_broadcast, is_all_systems, is_all_nodes, solicits, solicits_block, is_own_solicited_node, is_probed, is_member_of, is_loopback_in, is_for_us, is_loopback_of, is_foreign_loopback, may_come_from, next_hop, group_station, link_by, link_address, is_known_hop, has_neighbor, at_moment, with_next_ident, with_neighbor, with_renewal, with_silence};
+ghost use Rattle.interface_tables.specs.Inner.{is_own, is_address_of, is_in_own_network, is_this, is_broadcast_of, is_local_broadcast, is_all_systems, is_all_nodes, solicits, solicits_block, is_own_solicited_node, is_probed, is_member_of, is_loopback_in, is_for_us, is_loopback_of, is_foreign_loopback, may_come_from, next_hop, group_station, link_by, link_address, is_known_hop, has_neighbor, at_moment, with_next_ident, with_neighbor, with_renewal, with_request, awaited_hop, is_crowded, next_request};
 ghost use Rattle.interface_tables.specs.Settings.{refusal, made, unless, first_ident, hardware_refusal, with_hardware, is_stranger, with_addresses, with_any_ip, with_routes, used};
 
 use crate::config::{Config, HardwareAddrError, NewError, NotUnicast, refusal};
 use crate::link::LinkAddress;
-use crate::neighbor::{Answer, Cache};
+use crate::neighbor::{Answer, Cache, SILENT_MILLIS};
 use crate::route::Routes;
 use crate::source;
 use arrayvec::ArrayVec;
@@ -22,7 +22,7 @@ use ip_wire::{
     AddressExt, EthernetAddress, HardwareAddress, IPV4_MULTICAST_ALL_SYSTEMS,
     IPV6_LINK_LOCAL_ALL_NODES, IpAddress, IpCidr, Ipv4Address, Ipv6Address, Ipv6Cidr,
 };
-use net_base::{ChecksumCapabilities, DeviceCapabilities, Instant, Rand};
+use net_base::{ChecksumCapabilities, DeviceCapabilities, Duration, Instant, Rand};
 use socket_base::Context;
 use socket_base::addresses::{are_of_one_family, is_multicast, is_same_address};
 use std::marker::Model;
@@ -296,6 +296,7 @@ impl InterfaceInner {
         match self.neighbor_cache.lookup(hop, self.moment) {
             Answer::Found(hardware) => LinkAddress::Known(hardware),
             Answer::RateLimited => LinkAddress::Silent,
+            Answer::Unanswered => LinkAddress::Unanswered,
             Answer::NotFound => LinkAddress::Unknown(*hop),
         }
     }
@@ -323,11 +324,49 @@ impl InterfaceInner {
             .reset_expiry_if_existing(protocol_addr, hardware_addr, self.moment);
     }
 
-    /// Begins the time in which no neighbour is asked for.
-    pub fn limit_rate(&mut self)
-        ensures { self.new ≡ with_silence self.old }
+    /// Counts a request for a neighbour that goes now.
+    pub fn request_neighbor(&mut self, protocol_addr: IpAddress)
+        ensures { self.new ≡ with_request self.old protocol_addr }
     {
-        self.neighbor_cache.limit_rate(self.moment);
+        self.neighbor_cache.request(protocol_addr, self.moment);
+    }
+
+    /// The next hop that a packet for this destination waits for, if its hardware address isn't known, and it doesn't count as without
+    /// answer.
+    pub fn awaited_hop(&self, addr: &IpAddress) -> Option<IpAddress>
+        ensures { result ≡ awaited_hop self.now addr.now }
+    {
+        let hop = self.route(addr)?;
+        match self.neighbor_cache.lookup(&hop, self.moment) {
+            Answer::NotFound | Answer::RateLimited => Some(hop),
+            Answer::Found(_) | Answer::Unanswered => None,
+        }
+    }
+
+    /// Until when the last request for a neighbour is to be answered, if it is asked for.
+    pub fn last_request(&self, protocol_addr: &IpAddress) -> Option<Instant>
+        ensures { result ≡ Neighbors.last_request self.now.neighbors protocol_addr.now }
+    {
+        self.neighbor_cache.last_request(protocol_addr)
+    }
+
+    /// Whether the host asks for as many neighbours as it keeps count of.
+    pub fn is_crowded(&self) -> bool
+        ensures { result ≡ is_crowded self.now }
+    {
+        self.neighbor_cache.is_crowded()
+    }
+
+    /// When a neighbour may be asked for again: at the end of the silence, else in a second.
+    pub fn next_request(&self) -> Instant
+        ensures { result ≡ next_request self.now }
+    {
+        let silent_until = self.neighbor_cache.silent_until();
+        if self.moment < silent_until {
+            silent_until
+        } else {
+            self.moment + Duration::from_millis(SILENT_MILLIS)
+        }
     }
 
     /// Takes the identification of a datagram.

@@ -1,8 +1,11 @@
 //! What follows from the definitions.
-ghost use Rattle.std.specs.Prelude.{◌≡◌, ℕ, ℤ, ◌+◌, ◌<◌, ◌≤◌, ◌++◌, Bool, List, length, drop, Some};
+ghost use Rattle.std.specs.Prelude.{◌≡◌, ℕ, ℤ, ◌+◌, ◌<◌, ◌≤◌, ◌++◌, Bool, List, length, drop, pos, Some};
 ghost use Rattle.net_containers.specs.Assembler.{AreRuns, added};
 ghost use Rattle.held_bytes.specs.Held.{map_from};
 ghost use Rattle.interface_tables.specs.Best.{at_place};
+ghost use Rattle.interface_tables.specs.Neighbor.{lookup, filled};
+ghost use Rattle.interface_tables.specs.Searches.{nobody, twice, thrice, answer};
+ghost use Rattle.interface_tables.specs.declared.neighbor.Answer.TheVariants as Known;
 ghost use Rattle.interface_tables.specs.Reassembly.{SlotValue, freed, taken, placed, place_for, overwritten, marked, completed};
 ghost use Rattle.interface_tables.specs.Slots.{opened, changed_at, with_piece_of, without_expired, slot_of, AreApart, IsTest, map_some};
 ghost use Rattle.interface_tables.specs.Pieces.{Piece, piece_at, IsSliceOf, HoldsSlicesOf};
@@ -24,6 +27,18 @@ pub fn pieces_are_slices()
     ensures slice { (room : ℕ) (payload : List ℕ) (at : ℕ) → at ≤ length payload → IsSliceOf payload (piece_at room payload at) }
     ensures in_turn { (room : ℕ) (payload : List ℕ) (at : ℕ)
         → (piece_at room payload at).bytes ++ drop (at + room) payload ≡ drop at payload }
+{}
+
+/// Law: a neighbour that was asked for at 0, 1 and 2 s and hasn't answered counts as without answer from 3 s on, and up to 6 s. One that
+/// was asked for twice doesn't, nor one that answers meanwhile.
+pub fn three_requests()
+    ensures waited { lookup thrice nobody (pos 2_999_999) ≡ Known.RateLimited }
+    ensures failed { lookup thrice nobody (pos 3_000_000) ≡ Known.Unanswered }
+    ensures last { lookup thrice nobody (pos 5_999_999) ≡ Known.Unanswered }
+    ensures over { lookup thrice nobody (pos 6_000_000) ≡ Known.NotFound }
+    ensures asked_twice { lookup twice nobody (pos 2_000_000) ≡ Known.NotFound }
+    ensures answered { lookup (filled 4 thrice answer) nobody (pos 3_000_000) ≡ Known.Found answer.hardware_addr }
+    ensures forgotten { lookup (filled 4 thrice answer) nobody (pos 62_500_000) ≡ Known.NotFound }
 {}
 
 /// Law: the bytes of a piece that would leave too many runs change nothing of what came.

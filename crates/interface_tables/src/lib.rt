@@ -16,6 +16,6 @@ pub use config::{Config, HardwareAddrError, NewError, NotUnicast};
 pub use fragmentation::{AssemblerError, AssemblerFullError, PacketAssembler};
 pub use inner::{InterfaceInner, TABLE_ROOM};
 pub use link::LinkAddress;
-pub use neighbor::{Answer, Cache, Neighbor};
+pub use neighbor::{Answer, Cache, Neighbor, Search};
 pub use route::{Route, RouteTableFull, Routes};
 pub use slots::{PacketAssemblerSet, REASSEMBLY_SIZE};

@@ -9,6 +9,8 @@ pub enum LinkAddress {
     NoRoute,
     /// The next hop's isn't known, and a neighbour was asked for less than a second ago.
     Silent,
+    /// The next hop was asked for three times in vain, and counts as without answer for a while.
+    Unanswered,
     /// The hardware address of this next hop isn't known, and may be asked for.
     Unknown(IpAddress),
 }

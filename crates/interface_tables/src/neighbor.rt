@@ -1,9 +1,9 @@
 //! Which hardware address each neighbour has (RFC 826; RFC 4861, section 5.1).
-ghost use Rattle.std.specs.Prelude.{◌≡◌, ◌≤◌, ◌<◌, ◌+◌, [], pos, ◌+ℤ◌, length, slice_get, Some};
+ghost use Rattle.std.specs.Prelude.{◌≡◌, ◌≤◌, ◌<◌, ◌+◌, if◌then◌else◌, [], pos, ◌+ℤ◌, length, nat_lt, not, slice_get, Some};
 ghost use Rattle.std.specs.Option.{ForSome};
 ghost use Rattle.net_base.specs.Time.{IsMoment};
 ghost use Rattle.ip_wire.specs.AddressTests.{is_same_hardware};
-ghost use Rattle.interface_tables.specs.Neighbor.{fresh, lookup, filled, renewed, renewed_entry, silenced, flushed, is_found, place_of, victim, entry_lifetime, silent_time};
+ghost use Rattle.interface_tables.specs.Neighbor.{fresh, lookup, filled, renewed, renewed_entry, silenced, requested, searched_at, one_more, first_search, count_after, search_place, search_of, oldest_search, ended, is_failed, has_failed_by, has_failed, last_request, flushed, is_found, place_of, victim, search_room, entry_lifetime, silent_time};
 
 use arrayvec::ArrayVec;
 use ip_wire::{HardwareAddress, IpAddress, Ipv4Address};
@@ -12,9 +12,17 @@ use socket_base::addresses::is_same_address;
 use std::marker::Model;
 
 /// How long no other request goes out after one, and how long an entry is believed, in milliseconds.
-const SILENT_MILLIS: u64 = 1_000;
+pub(crate) const SILENT_MILLIS: u64 = 1_000;
 
 const LIFETIME_MILLIS: u64 = 60_000;
+
+/// How often a neighbour is asked for (RFC 4861, section 10), and how long it counts as without answer then, in milliseconds.
+const MOST_REQUESTS: u8 = 3;
+
+const FAILED_MILLIS: u64 = 3_000;
+
+/// How many neighbours are asked for at a time.
+const SEARCH_ROOM: usize = 8;
 
 /// A neighbour: its hardware address, and the instant from which on that isn't believed any more.
 #[derive(Clone, Copy, Debug)]
@@ -55,6 +63,69 @@ impl Default for Neighbor {
     }
 }
 
+/// A neighbour that was asked for and hasn't answered.
+#[derive(Clone, Copy, Debug)]
+pub struct Search {
+    pub protocol_addr: IpAddress,
+    /// How often it was asked for.
+    pub requests: u8,
+    /// Until when the last request is to be answered.
+    pub answer_by: Instant,
+    /// Until when the address counts as without answer, once all requests are made.
+    pub failed_until: Instant,
+}
+
+impl Search {
+    /// A search that begins with a request at this moment.
+    fn new(protocol_addr: IpAddress, timestamp: Instant) -> Search
+        requires { IsMoment timestamp }
+        ensures { result ≡ first_search protocol_addr timestamp }
+    {
+        Search {
+            protocol_addr,
+            requests: 1,
+            answer_by: timestamp + Duration::from_millis(SILENT_MILLIS),
+            failed_until: timestamp + Duration::from_millis(SILENT_MILLIS + FAILED_MILLIS),
+        }
+    }
+
+    /// The search behind one more request at this moment.
+    fn one_more(&self, timestamp: Instant) -> Search
+        requires { IsMoment timestamp }
+        ensures { result ≡ one_more self.now timestamp }
+    {
+        Search {
+            requests: count_after(self.requests),
+            ..Search::new(self.protocol_addr, timestamp)
+        }
+    }
+
+    /// Whether all requests stayed without an answer, a short while ago.
+    fn has_failed(&self, timestamp: Instant) -> bool
+        ensures { result ≡ is_failed self.now timestamp }
+    {
+        !(self.requests < MOST_REQUESTS)
+            && !(timestamp < self.answer_by)
+            && timestamp < self.failed_until
+    }
+}
+
+/// What stands in an unused place of a table.
+impl Default for Search {
+    ghost use Rattle.interface_tables.specs.Neighbor.{no_search};
+
+    ghost is_default = { λ s. s ≡ no_search };
+
+    fn default() -> Search {
+        Search {
+            protocol_addr: IpAddress::Ipv4(Ipv4Address::UNSPECIFIED),
+            requests: 0,
+            answer_by: Instant::ZERO,
+            failed_until: Instant::ZERO,
+        }
+    }
+}
+
 /// What a cache answers about an address.
 #[derive(Clone, Copy, Debug, PartialEq, Eq)]
 pub enum Answer {
@@ -64,6 +135,8 @@ pub enum Answer {
     NotFound,
     /// It isn't known, and a neighbour was asked for less than `SILENT_TIME` ago.
     RateLimited,
+    /// It was asked for three times in vain, and counts as without answer for a while.
+    Unanswered,
 }
 
 impl Answer {
@@ -75,11 +148,12 @@ impl Answer {
     }
 }
 
-/// The hardware addresses of at most `N` neighbours, and when the next may be asked for.
+/// The hardware addresses of at most `N` neighbours, those that are asked for, and when the next may be.
 #[derive(Debug, Drop)]
 pub struct Cache<const N: usize> {
     storage: ArrayVec<Neighbor, N>,
     silent_until: Instant,
+    searches: ArrayVec<Search, SEARCH_ROOM>,
 }
 
 impl<const N: usize> Model for Cache<N> {
@@ -88,7 +162,7 @@ impl<const N: usize> Model for Cache<N> {
 
     ghost Value = { CacheValue };
 
-    ghost view = { λ c. record { entries = c.storage.items; silent = c.silent_until } };
+    ghost view = { λ c. record { entries = c.storage.items; silent = c.silent_until; searches = c.searches.items } };
 
     ghost invariant = { λ c. 1 ≤ N };
 }
@@ -108,6 +182,7 @@ impl<const N: usize> Cache<N> {
         Cache {
             storage: ArrayVec::new(),
             silent_until: Instant::ZERO,
+            searches: ArrayVec::new(),
         }
     }
 
@@ -121,11 +196,47 @@ impl<const N: usize> Cache<N> {
                 return Answer::Found(neighbor.hardware_addr);
             }
         }
-        if timestamp < self.silent_until {
+        if self.has_failed(protocol_addr, timestamp) {
+            Answer::Unanswered
+        } else if timestamp < self.silent_until {
             Answer::RateLimited
         } else {
             Answer::NotFound
         }
+    }
+
+    /// Whether an address counts as without answer at a moment.
+    fn has_failed(&self, protocol_addr: &IpAddress, timestamp: Instant) -> bool
+        ensures { result ≡ has_failed self.now protocol_addr.now timestamp }
+    {
+        match search_of(self.searches.as_slice(), protocol_addr) {
+            Some(search) => search.has_failed(timestamp),
+            None => false,
+        }
+    }
+
+    /// Until when the last request for an address is to be answered, if it is asked for.
+    pub fn last_request(&self, protocol_addr: &IpAddress) -> Option<Instant>
+        ensures { result ≡ last_request self.now protocol_addr.now }
+    {
+        match search_of(self.searches.as_slice(), protocol_addr) {
+            Some(search) => Some(search.answer_by),
+            None => None,
+        }
+    }
+
+    /// Whether as many neighbours are asked for as are kept count of.
+    pub fn is_crowded(&self) -> bool
+        ensures { result ≡ not (nat_lt (length self.now.searches) search_room) }
+    {
+        self.searches.is_full()
+    }
+
+    /// Until when no neighbour is asked for.
+    pub fn silent_until(&self) -> Instant
+        ensures { result ≡ self.now.silent }
+    {
+        self.silent_until
     }
 
     /// Enters a neighbour that was heard at this moment. It is believed for `ENTRY_LIFETIME`.
@@ -145,8 +256,8 @@ impl<const N: usize> Cache<N> {
         );
     }
 
-    /// Enters a neighbour that is believed until this instant. An entry of this address is replaced where it stands; in a full
-    /// cache the one that expires first makes room, of several the one that has stood longest.
+    /// Enters a neighbour that is believed until this instant, and isn't asked for any more. An entry of this address is replaced
+    /// where it stands; in a full cache the one that expires first makes room, of several the one that has stood longest.
     pub fn fill_with_expiration(
         &mut self,
         protocol_addr: IpAddress,
@@ -160,6 +271,7 @@ impl<const N: usize> Cache<N> {
             hardware_addr,
             expires_at,
         };
+        self.end_search(&protocol_addr);
         if let Some(at) = place_of(self.storage.as_slice(), &protocol_addr) {
             self.storage[at] = neighbor;
             return;
@@ -183,7 +295,27 @@ impl<const N: usize> Cache<N> {
     {
         if let Some(at) = place_of(self.storage.as_slice(), &protocol_addr) {
             let entry = entry_at(self.storage.as_slice(), at);
+            let known = is_same_hardware(&entry.hardware_addr, &source_hardware_addr);
+            self.end_search_if(known, &protocol_addr);
             self.storage[at] = entry.renewed(&source_hardware_addr, timestamp);
+        }
+    }
+
+    /// A neighbour isn't asked for any more, where it was heard.
+    fn end_search_if(&mut self, heard: bool, protocol_addr: &IpAddress)
+        ensures { self.new ≡ record self.old { searches = if heard then ended self.old.searches protocol_addr.now else self.old.searches } }
+    {
+        if heard {
+            self.end_search(protocol_addr);
+        }
+    }
+
+    /// A neighbour isn't asked for any more.
+    fn end_search(&mut self, protocol_addr: &IpAddress)
+        ensures { self.new ≡ record self.old { searches = ended self.old.searches protocol_addr.now } }
+    {
+        if let Some(at) = search_place(self.searches.as_slice(), protocol_addr) {
+            self.searches.remove(at);
         }
     }
 
@@ -195,11 +327,31 @@ impl<const N: usize> Cache<N> {
         self.silent_until = timestamp + Duration::from_millis(SILENT_MILLIS);
     }
 
+    /// Counts a request for a neighbour, and begins the time in which none is asked for. In a full table the address makes room that
+    /// was asked for longest ago.
+    pub fn request(&mut self, protocol_addr: IpAddress, timestamp: Instant)
+        requires { IsMoment timestamp }
+        ensures { self.new ≡ requested self.old protocol_addr timestamp }
+    {
+        self.limit_rate(timestamp);
+        if let Some(at) = search_place(self.searches.as_slice(), &protocol_addr) {
+            let search = search_at(self.searches.as_slice(), at);
+            self.searches[at] = search.one_more(timestamp);
+            return;
+        }
+        if self.searches.is_full() {
+            let at = oldest_search(self.searches.as_slice());
+            self.searches.remove(at);
+        }
+        self.searches.push(Search::new(protocol_addr, timestamp));
+    }
+
     /// Forgets every neighbour. A time of silence goes on.
     pub fn flush(&mut self)
         ensures { self.new ≡ flushed self.old }
     {
         self.storage.clear();
+        self.searches.clear();
     }
 }
 
@@ -218,6 +370,59 @@ fn place_of(entries: &[Neighbor], address: &IpAddress) -> Option<usize>
     entries
         .iter()
         .position(|entry| is_same_address(&entry.protocol_addr, address))
+}
+
+fn search_at(searches: &[Search], at: usize) -> Search
+    requires { at < length searches.now }
+    ensures { slice_get searches.now at ≡ Some result }
+{
+    searches[at]
+}
+
+/// Where the search for this address stands.
+fn search_place(searches: &[Search], address: &IpAddress) -> Option<usize>
+    ensures place { result ≡ search_place searches.now address.now }
+    ensures in_range { ForSome result (λ at. at < length searches.now) }
+{
+    searches
+        .iter()
+        .position(|search| is_same_address(&search.protocol_addr, address))
+}
+
+/// The search for this address.
+fn search_of(searches: &[Search], address: &IpAddress) -> Option<Search>
+    ensures { result ≡ search_of searches.now address.now }
+{
+    match search_place(searches, address) {
+        Some(at) => Some(searches[at]),
+        None => None,
+    }
+}
+
+/// How often a neighbour was asked for behind one more request.
+fn count_after(requests: u8) -> u8
+    ensures { result ≡ count_after requests }
+{
+    if requests < MOST_REQUESTS {
+        requests + 1
+    } else {
+        1
+    }
+}
+
+/// Where the search stands that was asked for longest ago, of several the first.
+fn oldest_search(searches: &[Search]) -> usize
+    requires { 0 < length searches.now }
+    ensures place { result ≡ oldest_search searches.now }
+    ensures in_range { result < length searches.now }
+{
+    let mut at = 0;
+    for i in 1..searches.len() {
+        if searches[i].answer_by < searches[at].answer_by {
+            at = i;
+        }
+    }
+    at
 }
 
 /// Where the entry stands that expires first, of several the first.

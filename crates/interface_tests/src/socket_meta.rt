@@ -9,7 +9,11 @@ const NEIGHBOR: IpAddress = IpAddress::Ipv4(Ipv4Address([192, 168, 1, 2]));
 /// The mark of a socket whose neighbour was missing at 1000 ms.
 fn waiting() -> Meta {
     let mut meta = Meta::default();
-    meta.neighbor_missing(Instant::from_micros(1_000_000), NEIGHBOR);
+    meta.neighbor_missing(
+        Instant::from_micros(1_000_000),
+        NEIGHBOR,
+        Instant::from_micros(2_000_000),
+    );
     meta
 }
 

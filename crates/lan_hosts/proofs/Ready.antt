@@ -22,7 +22,9 @@ use Rattle.interface_egress.specs.declared.socket_set.Item.{Item}
 use Rattle.interface_egress.specs.declared.socket_set.SocketStorage.{SocketStorage}
 use Rattle.interface_egress.specs.Departing.{SendsOnce, HasSettingsOf, departure_by, was_taken, link_room}
 use Rattle.interface_egress.specs.Departure as Departures
+use Rattle.ip_wire.specs.IpAddress.{IpAddress}
 use Rattle.interface_egress.specs.Departure.{Departure}
+use Rattle.interface_egress.specs.declared.socket_meta.Meta.{Meta}
 use Rattle.interface_egress.specs.Fragments.{LeftValue, next_departure}
 use Rattle.interface_egress.specs.GoesOut.{GoesOut, PieceGoesOut, Departs, frame_of, frame_len_of}
 use Rattle.interface_egress.specs.Plan.{plan_of}
@@ -34,7 +36,7 @@ use Rattle.interface_ingress.specs.Arrives.{ReplyValue, whole_after}
 use Rattle.interface_ingress.specs.Kept.{HasSameSettings}
 use Rattle.interface_ingress.specs.Reassembled.{taken_in}
 use Rattle.interface.specs.Host.{Sender}
-use Rattle.interface.specs.Ingress.{Takes, Replied}
+use Rattle.interface.specs.Ingress.{Takes, Replied, is_awaited}
 use Rattle.interface.specs.Polls.{Polls}
 use Rattle.interface.specs.State.{State}
 use Rattle.interface.specs.Turn.{Leaves, SendsBy, Answers, TurnsIf, ItemTurns, PlaceTurns, is_waiting, let_through}
@@ -178,13 +180,15 @@ module _ (most refusals : ℕ) where
   so_told : (n : ℕ) (i : InnerValue) → 576 ≤ i.mtu → 42 ≤ link_room i.hardware + i.mtu
   so_told n i low = omega (arith, low)
 
-  so_replied : (n : ℕ) (reply : Option ReplyValue) (x x' : Sender PortValue) → n + 1 ≤ most → IfReplyMeasured reply → Replied PortMove reply x x' → So n x.device x.inner → So (n + 1) x'.device x'.inner
-  so_replied n None x x' within so_long is so =
+  so_replied : (n : ℕ) (awaited : Bool) (reply : Option ReplyValue) (x x' : Sender PortValue) → n + 1 ≤ most → IfReplyMeasured reply → Replied PortMove awaited reply x x' → So n x.device x.inner → So (n + 1) x'.device x'.inner
+  so_replied n awaited None x x' within so_long is so =
       so_more n (n + 1) x'.device x'.inner (omega arith) (subst (λ (y : Sender PortValue). So n y.device y.inner) (sym is) so)
-  so_replied n (Some (Replies.Tells packet)) x x' within so_long tells so =
+  so_replied n awaited (Some (Replies.Tells packet)) x x' within so_long tells so =
       subst (λ (i : InnerValue). So (n + 1) x'.device i) (sym tells.2)
       (so_sends n (Departures.Tells packet) tells.0 x.device x'.device x.inner within (so_told n x.inner so.low) tells.1 so)
-  so_replied n (Some (Replies.Answers p)) x x' within so_long answers so =
+  so_replied n awaited (Some (Replies.Answers p)) x x' within so_long (inl held) so =
+      so_more n (n + 1) x'.device x'.inner (omega arith) (subst (λ (y : Sender PortValue). So n y.device y.inner) (sym held.0) so)
+  so_replied n awaited (Some (Replies.Answers p)) x x' within so_long (inr answers) so =
       so_out n x.device x'.device x.inner x'.inner x.left x'.left p (is_some x.left) answers.0 within so_long answers.1 so
 
   so_takes : (n : ℕ) (s s' : State PortValue) (answer : Option Bool) → n + 1 ≤ most → So n s.device s.host.inner → Takes PortMove s answer s' → So (n + 1) s'.device s'.host.inner
@@ -200,7 +204,7 @@ module _ (most refusals : ℕ) where
       let j : InnerValue = reads.2.0.inner in
       let same : HasSameSettings i j = (receives_same PortMove reads.0 (record s { device = takes.1 }) s' reads.2).0 in
       let took : So n takes.1 i = so_took n s.device takes.1 i takes.0 takes.2 so in
-      so_replied n reads.2.0.reply (record { device = takes.1; inner = j; left = s.host.left }) (record { device = s'.device; inner = s'.host.inner; left = s'.host.left }) within
+      so_replied n (is_awaited reads.2.0) reads.2.0.reply (record { device = takes.1; inner = j; left = s.host.left }) (record { device = s'.device; inner = s'.host.inner; left = s'.host.left }) within
       (brings_so i s.places (whole_after i s.host.timeout s.host.slots (taken_in i reads.0)) reads.2.0 reads.2.1.1) reads.2.3 (so_host n takes.1 i j same.hardware same.mtu took)
 
   -- PIECES AND TURNS
@@ -212,41 +216,41 @@ module _ (most refusals : ℕ) where
       subst (λ (i : InnerValue). So (n + 1) x'.device i) (sym is)
       (so_piece n l gone goes.0 x'.device x.inner x'.left within goes.2 (so_same n x.device goes.0 x.inner goes.1.0 so))
 
-  module _ (raw : FitsRaw) (icmp : FitsIcmp) (udp : FitsUdp) (n : ℕ) (within : n + 1 ≤ most) (x x' : Sender PortValue) (so : So n x.device x.inner) where
+  module _ (raw : FitsRaw) (icmp : FitsIcmp) (udp : FitsUdp) (turn : Option IpAddress) (n : ℕ) (within : n + 1 ≤ most) (x x' : Sender PortValue) (so : So n x.device x.inner) where
     abbrev Next : Type 0
     Next = So (n + 1) x'.device x'.inner
 
     so_stays : x' ≡ x → Next
     so_stays is = so_more n (n + 1) x'.device x'.inner (omega arith) (subst (λ (y : Sender PortValue). So n y.device y.inner) (sym is) so)
 
-    so_leaves : (p : PacketValue) (sent : Sent) → IsMeasured p → Leaves PortMove x p sent x' → Next
-    so_leaves p sent len (inl denied) =
-        subst (λ (i : InnerValue). So (n + 1) x'.device i) (sym denied.1)
-        (so_more n (n + 1) x'.device x.inner (omega arith) (so_same n x.device x'.device x.inner denied.0.0 so))
-    so_leaves p sent len (inr goes) =
+    so_leaves : (m : Meta) (p : PacketValue) (sent : Sent) → IsMeasured p → Leaves PortMove turn x m p sent x' → Next
+    so_leaves m p sent len (inl rests) =
+        subst (λ (i : InnerValue). So (n + 1) x'.device i) (sym rests.2)
+        (so_more n (n + 1) x'.device x.inner (omega arith) (so_same n x.device x'.device x.inner rests.1.0 so))
+    so_leaves m p sent len (inr goes) =
         so_out n goes.0 x'.device x.inner x'.inner x.left x'.left p (is_some x.left) sent within len goes.2 (so_same n x.device goes.0 x.inner goes.1.0 so)
 
-    so_sent : (o : Option PacketValue) (item item' : Item Socket) (changed : Bool) (turned : Turned) → ((p : PacketValue) → o ≡ Some p → IsMeasured p) → SendsBy PortMove o x item changed turned x' item' → Next
+    so_sent : (o : Option PacketValue) (item item' : Item Socket) (changed : Bool) (turned : Turned) → ((p : PacketValue) → o ≡ Some p → IsMeasured p) → SendsBy PortMove turn o x item changed turned x' item' → Next
     so_sent None item item' changed turned len sends = absurd sends
-    so_sent (Some p) item item' changed turned len sends = so_leaves p sends.0 (len p refl) sends.1
+    so_sent (Some p) item item' changed turned len sends = so_leaves item.meta p sends.0 (len p refl) sends.1
 
-    so_answers : (s s' : Socket) (answer : Answer.Offer) (item item' : Item Socket) (turned : Turned) → Offers (context_of x.inner) s answer s' → item.socket ≡ s' → Answers PortMove answer x item turned x' item' → Next
+    so_answers : (s s' : Socket) (answer : Answer.Offer) (item item' : Item Socket) (turned : Turned) → Offers (context_of x.inner) s answer s' → item.socket ≡ s' → Answers PortMove turn answer x item turned x' item' → Next
     so_answers s s' (Offer.Silent changed) item item' turned offers is answers = so_stays answers.1
     so_answers s s' (Offer.Packet changed) item item' turned offers is answers =
         so_sent (offered_by item.socket) item item' changed turned
         (λ p some. measured raw icmp udp (context_of x.inner) s s' (Offer.Packet changed) p offers (subst (λ (y : Socket). offered_by y ≡ Some p) is some)) answers
 
-    so_turns : (waits : Bool) (item item' : Item Socket) (turned : Turned) → TurnsIf PortMove waits x item turned x' item' → Next
+    so_turns : (waits : Bool) (item item' : Item Socket) (turned : Turned) → TurnsIf PortMove turn waits x item turned x' item' → Next
     so_turns true item item' turned turns = so_stays turns.1
     so_turns false item item' turned turns = so_answers item.socket turns.1 turns.0 (record item { socket = turns.1 }) item' turned turns.2 refl turns.3
 
-    so_item : (o o' : Option (Item Socket)) (turned : Turned) → ItemTurns PortMove o x turned x' o' → Next
+    so_item : (o o' : Option (Item Socket)) (turned : Turned) → ItemTurns PortMove turn o x turned x' o' → Next
     so_item None None turned turns = so_stays turns.1
     so_item (Some item) (Some item') turned turns = so_turns (is_waiting x.inner item.meta) (let_through x.inner item) item' turned turns
     so_item None (Some item') turned turns = absurd turns
     so_item (Some item) None turned turns = absurd turns
 
-    so_place : (p p' : SocketStorage Socket) (turned : Turned) → PlaceTurns PortMove x p turned x' p' → Next
+    so_place : (p p' : SocketStorage Socket) (turned : Turned) → PlaceTurns PortMove turn x p turned x' p' → Next
     so_place p p' turned turns = so_item p.inner p'.inner turned turns
 
 module _ (raw : FitsRaw) (icmp : FitsIcmp) (udp : FitsUdp) (t : ℤ) (most refusals : ℕ) where
@@ -263,7 +267,7 @@ module _ (raw : FitsRaw) (icmp : FitsIcmp) (udp : FitsUdp) (t : ℤ) (most refus
     maintenance = λ n s so within. so_host most refusals n s.device s.host.inner (at_moment t s.host.inner) refl refl (so within);
     arrivals = λ n s s' answer runs so takes within. so_takes most refusals n s s' answer within (so (before n within)) takes;
     pieces = λ n h ps x x' l gone runs is so leaves same within. so_piece_leaves most refusals n l x x' gone within leaves same (so (before n within));
-    turns = λ n h earlier after p p' x x' turned runs so turns within. so_place most refusals raw icmp udp n within x x' (so (before n within)) p p' turned turns;
+    turns = λ turn n h earlier after p p' x x' turned runs so turns within. so_place most refusals raw icmp udp turn n within x x' (so (before n within)) p p' turned turns;
   }
 
   start : (d : PortValue) (i : InnerValue) → 576 ≤ i.mtu → link_room i.hardware + i.mtu ≤ d.size → most ≤ d.ready → d.link.refusals ≡ refusals → Stocked most refusals 0 d i

@@ -5,6 +5,7 @@ use Rattle.net_base.specs.ChecksumCapabilities.{ChecksumCapabilities}
 use Rattle.net_base.specs.Device.{Took, Empty, Allowed}
 use Rattle.net_base.specs.Medium.{Medium}
 use Rattle.ip_wire.specs.HardwareAddress.{HardwareAddress}
+use Rattle.ip_wire.specs.IpAddress.{IpAddress}
 use Rattle.ip_wire.specs.Ipv4FragKey.{Ipv4FragKey}
 use Rattle.socket_base.specs.Packet.{PacketValue}
 use Rattle.socket_base.specs.declared.offer.Offer as Answer
@@ -17,6 +18,7 @@ use Rattle.interface_egress.specs.Departing.{departure_by, was_taken}
 use Rattle.interface_egress.specs.Fragments.{LeftValue, next_departure}
 use Rattle.interface_egress.specs.GoesOut.{GoesOut, frame_of, frame_len_of}
 use Rattle.interface_egress.specs.Plan.{plan_of}
+use Rattle.interface_egress.specs.declared.socket_meta.Meta.{Meta}
 use Rattle.interface_egress.specs.declared.socket_set.Item.{Item}
 use Rattle.interface_egress.specs.declared.socket_set.SocketStorage.{SocketStorage}
 use Rattle.interface_egress.specs.declared.way_out.Sent.{Sent}
@@ -26,7 +28,7 @@ use Rattle.interface_ingress.specs.Arrives.{ReplyValue}
 use Rattle.interface_ingress.specs.Incoming.{IncomingValue, IsIncoming, IsContent}
 use Rattle.interface_ingress.specs.Reassembled.{is_taken_in, taken_in}
 use Rattle.interface.specs.Host.{HostValue, Sender}
-use Rattle.interface.specs.Ingress.{Takes, Replied, sender_of, sender_with}
+use Rattle.interface.specs.Ingress.{Takes, Replied, is_awaited, sender_of, sender_with}
 use Rattle.interface.specs.Kept.{IsKept, sending_as}
 use Rattle.interface.specs.Polls.{begun}
 use Rattle.interface.specs.State.{State, state, at_device}
@@ -58,28 +60,29 @@ goes_waits d d' i i' l l' p sent goes =
 leave_waits : (d d' : PortValue) (given : Bool) → PortMove d (Allowed given) d' → Waits d' ≡ Waits d
 leave_waits d d' given move = ap Waits move.0
 
-leaves_waits : (x x' : Sender PortValue) (p : PacketValue) (sent : Sent) → Leaves PortMove x p sent x' → Waits x'.device ≡ Waits x.device
-leaves_waits x x' p sent (inl denied) = leave_waits x.device x'.device false denied.0
-leaves_waits x x' p sent (inr admits) =
-    goes_waits admits.0 x'.device x.inner x'.inner x.left x'.left p sent admits.2 ∙ leave_waits x.device admits.0 true admits.1
+module _ (turn : Option IpAddress) where
+  leaves_waits : (x x' : Sender PortValue) (m : Meta) (p : PacketValue) (sent : Sent) → Leaves PortMove turn x m p sent x' → Waits x'.device ≡ Waits x.device
+  leaves_waits x x' m p sent (inl rests) = leave_waits x.device x'.device rests.0 rests.1
+  leaves_waits x x' m p sent (inr admits) =
+      goes_waits admits.0 x'.device x.inner x'.inner x.left x'.left p sent admits.2 ∙ leave_waits x.device admits.0 true admits.1
 
-offer_waits : (o : Option PacketValue) (x x' : Sender PortValue) (item item' : Item Socket) (changed : Bool) (turned : Turned) → SendsBy PortMove o x item changed turned x' item' → Waits x'.device ≡ Waits x.device
-offer_waits None x x' item item' changed turned sends = absurd sends
-offer_waits (Some p) x x' item item' changed turned sends = leaves_waits x x' p sends.0 sends.1
+  offer_waits : (o : Option PacketValue) (x x' : Sender PortValue) (item item' : Item Socket) (changed : Bool) (turned : Turned) → SendsBy PortMove turn o x item changed turned x' item' → Waits x'.device ≡ Waits x.device
+  offer_waits None x x' item item' changed turned sends = absurd sends
+  offer_waits (Some p) x x' item item' changed turned sends = leaves_waits x x' item.meta p sends.0 sends.1
 
-answer_waits : (answer : Answer.Offer) (x x' : Sender PortValue) (item item' : Item Socket) (turned : Turned) → Answers PortMove answer x item turned x' item' → Waits x'.device ≡ Waits x.device
-answer_waits (Offer.Silent changed) x x' item item' turned is = ap (λ (y : Sender PortValue). Waits y.device) is.1
-answer_waits (Offer.Packet changed) x x' item item' turned is = offer_waits (offered_by item.socket) x x' item item' changed turned is
+  answer_waits : (answer : Answer.Offer) (x x' : Sender PortValue) (item item' : Item Socket) (turned : Turned) → Answers PortMove turn answer x item turned x' item' → Waits x'.device ≡ Waits x.device
+  answer_waits (Offer.Silent changed) x x' item item' turned is = ap (λ (y : Sender PortValue). Waits y.device) is.1
+  answer_waits (Offer.Packet changed) x x' item item' turned is = offer_waits (offered_by item.socket) x x' item item' changed turned is
 
-if_waits : (waiting : Bool) (x x' : Sender PortValue) (item item' : Item Socket) (turned : Turned) → TurnsIf PortMove waiting x item turned x' item' → Waits x'.device ≡ Waits x.device
-if_waits true x x' item item' turned is = ap (λ (y : Sender PortValue). Waits y.device) is.1
-if_waits false x x' item item' turned is = answer_waits is.0 x x' (record item { socket = is.1 }) item' turned is.3
+  if_waits : (waiting : Bool) (x x' : Sender PortValue) (item item' : Item Socket) (turned : Turned) → TurnsIf PortMove turn waiting x item turned x' item' → Waits x'.device ≡ Waits x.device
+  if_waits true x x' item item' turned is = ap (λ (y : Sender PortValue). Waits y.device) is.1
+  if_waits false x x' item item' turned is = answer_waits is.0 x x' (record item { socket = is.1 }) item' turned is.3
 
-turn_waits : (o o' : Option (Item Socket)) (x x' : Sender PortValue) (turned : Turned) → ItemTurns PortMove o x turned x' o' → Waits x'.device ≡ Waits x.device
-turn_waits None None x x' turned is = ap (λ (y : Sender PortValue). Waits y.device) is.1
-turn_waits None (Some item') x x' turned is = absurd is
-turn_waits (Some item) None x x' turned is = absurd is
-turn_waits (Some item) (Some item') x x' turned is = if_waits (is_waiting x.inner item.meta) x x' (let_through x.inner item) item' turned is
+  turn_waits : (o o' : Option (Item Socket)) (x x' : Sender PortValue) (turned : Turned) → ItemTurns PortMove turn o x turned x' o' → Waits x'.device ≡ Waits x.device
+  turn_waits None None x x' turned is = ap (λ (y : Sender PortValue). Waits y.device) is.1
+  turn_waits None (Some item') x x' turned is = absurd is
+  turn_waits (Some item) None x x' turned is = absurd is
+  turn_waits (Some item) (Some item') x x' turned is = if_waits (is_waiting x.inner item.meta) x x' (let_through x.inner item) item' turned is
 
 piece_waits : (l : LeftValue) (x x' : Sender PortValue) (gone : Bool) → PieceLeaves PortMove l x gone x' → Waits x'.device ≡ Waits x.device
 piece_waits l x x' gone (inl denied) = leave_waits x.device x'.device false denied.0
@@ -87,11 +90,12 @@ piece_waits l x x' gone (inr goes) =
     once_waits goes.0 x'.device x.inner (Some (next_departure x.inner.mtu l)) gone (piece_sends PortMove goes.0 x'.device x.inner l x'.left gone goes.2)
     ∙ leave_waits x.device goes.0 true goes.1
 
-replied_waits : (reply : Option ReplyValue) (x x' : Sender PortValue) → Replied PortMove reply x x' → Waits x'.device ≡ Waits x.device
-replied_waits None x x' is = ap (λ (y : Sender PortValue). Waits y.device) is
-replied_waits (Some (Replies.Tells packet)) x x' is =
+replied_waits : (awaited : Bool) (reply : Option ReplyValue) (x x' : Sender PortValue) → Replied PortMove awaited reply x x' → Waits x'.device ≡ Waits x.device
+replied_waits awaited None x x' is = ap (λ (y : Sender PortValue). Waits y.device) is
+replied_waits awaited (Some (Replies.Tells packet)) x x' is =
     waits_same x.device x'.device (frame_of x.inner (Tells packet)) (frame_len_of x.inner (Tells packet)) is.0 is.1
-replied_waits (Some (Replies.Answers p)) x x' is = goes_waits x.device x'.device x.inner x'.inner x.left x'.left p is.0 is.1
+replied_waits awaited (Some (Replies.Answers p)) x x' (inl held) = ap (λ (y : Sender PortValue). Waits y.device) held.0
+replied_waits awaited (Some (Replies.Answers p)) x x' (inr goes) = goes_waits x.device x'.device x.inner x'.inner x.left x'.left p goes.0 goes.1
 
 -- A HOST THAT TAKES WHAT IS SO
 
@@ -133,7 +137,7 @@ module _ (S : Ipv4FragKey → Fact → Type 0) (medium : Medium) where
         hardware = ap (λ (x : InnerValue). medium_on x.hardware) same.1 ∙ ap medium_on same.0.hardware ∙ h.hardware;
         checksums = ap (λ (x : InnerValue). x.checksums) same.1 ∙ same.0.checksums ∙ h.checksums;
         slots_are = subst (SlotsSo S) (sym reads.2.1.0) (slots_so S s.host.inner s.host.timeout s.host.slots (taken_in s.host.inner reads.0) so h.slots_are);
-        waits = subst (AllByRecursion (TakenSo S medium)) (sym (replied_waits reads.2.0.reply (sender_with PortMove (at_device s mid) reads.2.0) (sender_of PortMove s') reads.2.3)) first.1;
+        waits = subst (AllByRecursion (TakenSo S medium)) (sym (replied_waits (is_awaited reads.2.0) reads.2.0.reply (sender_with PortMove (at_device s mid) reads.2.0) (sender_of PortMove s') reads.2.3)) first.1;
       }
 
   kept : (t : ℤ) → IsKept PortMove t P
@@ -146,13 +150,13 @@ module _ (S : Ipv4FragKey → Fact → Type 0) (medium : Medium) where
       slots_are = so.slots_are;
       waits = subst (AllByRecursion (TakenSo S medium)) (sym (piece_waits l x x' gone leaves)) so.waits;
     };
-    turns = λ h before after p p' x x' turned runs so turns.
-        let same = place_same PortMove x x' p p' turned turns in
+    turns = λ turn h before after p p' x x' turned runs so turns.
+        let same = place_same PortMove turn x x' p p' turned turns in
         record {
           hardware = ap (λ (i : InnerValue). medium_on i.hardware) same ∙ so.hardware;
           checksums = ap (λ (i : InnerValue). i.checksums) same ∙ so.checksums;
           slots_are = so.slots_are;
-          waits = subst (AllByRecursion (TakenSo S medium)) (sym (turn_waits p.inner p'.inner x x' turned turns)) so.waits;
+          waits = subst (AllByRecursion (TakenSo S medium)) (sym (turn_waits turn p.inner p'.inner x x' turned turns)) so.waits;
         };
   }
 

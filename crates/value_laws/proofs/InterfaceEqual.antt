@@ -37,6 +37,7 @@ Decides-answer hardware (Known.Found a) (Known.Found b) =
     let same = hardware a b in (λ yes. ap Known.Found (same.0 yes), λ e. same.1 (cc))
 Decides-answer hardware Known.NotFound Known.NotFound = (λ yes. refl, λ e. refl)
 Decides-answer hardware Known.RateLimited Known.RateLimited = (λ yes. refl, λ e. refl)
+Decides-answer hardware Known.Unanswered Known.Unanswered = (λ yes. refl, λ e. refl)
 Decides-answer hardware a b = (λ yes. absurd (cc), λ e. absurd (cc))
 
 pub Decides-link : ((a b : HardwareAddress) → Decides (Links.ghosts.eq (Link.Known a) (Link.Known b)) (a ≡ b))
@@ -46,6 +47,7 @@ Decides-link hardware address (Link.Known a) (Link.Known b) =
     let same = hardware a b in (λ yes. ap Link.Known (same.0 yes), λ e. same.1 (cc))
 Decides-link hardware address Link.NoRoute Link.NoRoute = (λ yes. refl, λ e. refl)
 Decides-link hardware address Link.Silent Link.Silent = (λ yes. refl, λ e. refl)
+Decides-link hardware address Link.Unanswered Link.Unanswered = (λ yes. refl, λ e. refl)
 Decides-link hardware address (Link.Unknown a) (Link.Unknown b) =
     let same = address a b in (λ yes. ap Link.Unknown (same.0 yes), λ e. same.1 (cc))
 Decides-link hardware address a b = (λ yes. absurd (cc), λ e. absurd (cc))

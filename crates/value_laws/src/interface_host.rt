@@ -34,7 +34,7 @@ pub fn begins<D: Device>(
     ensures addresses { IfOk result (λ h. h.inner.addresses ≡ []) }
     ensures any_ip { IfOk result (λ h. h.inner.any_ip ≡ false) }
     ensures routes { IfOk result (λ h. h.inner.routes ≡ []) }
-    ensures neighbors { IfOk result (λ h. h.inner.neighbors ≡ record { entries = []; silent = pos 0 }) }
+    ensures neighbors { IfOk result (λ h. h.inner.neighbors ≡ record { entries = []; silent = pos 0; searches = [] }) }
     ensures fresh { IfOk result (λ h. h.inner.fresh ≡ true) }
     ensures left { IfOk result (λ h. h.left ≡ None) }
     ensures slots { IfOk result (λ h. length h.slots ≡ 2) }

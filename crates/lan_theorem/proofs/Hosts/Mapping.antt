@@ -22,6 +22,10 @@ use Rattle.ip_wire.specs.IpRepr.{IpRepr}
 use Rattle.interface_ingress.specs.Arrives as Replies
 use Rattle.interface_ingress.specs.Arrives.{ReplyValue}
 use Rattle.interface_ingress.specs.Incoming.{IncomingValue}
+use Rattle.ip_wire.specs.IpAddress.{IpAddress}
+use Rattle.interface_egress.specs.declared.frame.Question.{Question}
+use Rattle.interface_egress.specs.declared.socket_meta.Meta.{Meta}
+use Rattle.interface.specs.Awaited.{turn_of}
 use Rattle.interface.specs.Host.{Sender, sender}
 use Rattle.interface.specs.Pass.{Pass, Passed, passed}
 use Rattle.interface.specs.WayOut.{Clears, Egress, PieceLeaves}
@@ -30,7 +34,7 @@ use Rattle.interface.specs.declared.turn.Turned.{Turned}
 use Rattle.interface.specs.declared.turn.Turned.TheVariants as Turn
 use Rattle.interface.specs.State.{State, state, at_device}
 use Rattle.interface.specs.Egress.{EgressStep, sending}
-use Rattle.interface.specs.Ingress.{IngressStep, Takes, Receives, Replied, sender_of, sender_with}
+use Rattle.interface.specs.Ingress.{IngressStep, Takes, Receives, Replied, is_awaited, sender_of, sender_with}
 use Rattle.interface.specs.Polls.{Repeats, Polls, begun}
 
 -- How moves of one device are moves of another: what holds of the devices before is kept, and what holds of those behind held before.
@@ -87,12 +91,12 @@ module _ {D E : Type 0} (f : D → E) (moves : D → Move → D → Type 0) (oth
 
   -- A PACKET'S WAY OUT
 
-  asked : (old new : D) (i i' : InnerValue) (d : Departure) (sent : Sent) → Asked moves old i d sent new i' → Leads old new (Asked others (f old) i d sent (f new) i')
-  asked old new i i' d Outcome.Waits goes = departs_and old new i d true (Asked others (f old) i d Outcome.Waits (f new) i') (λ x. (x, goes.1)) goes.0
-  asked old new i i' d Outcome.Refused goes = departs_and old new i d false (Asked others (f old) i d Outcome.Refused (f new) i') (λ x. (x, goes.1)) goes.0
-  asked old new i i' d Outcome.Gone goes = absurd goes
-  asked old new i i' d Outcome.Dropped goes = absurd goes
-  asked old new i i' d Outcome.Busy goes = absurd goes
+  asked : (old new : D) (i i' : InnerValue) (q : Question) (sent : Sent) → Asked moves old i q sent new i' → Leads old new (Asked others (f old) i q sent (f new) i')
+  asked old new i i' q Outcome.Waits goes = departs_and old new i (Departures.Asks q) true (Asked others (f old) i q Outcome.Waits (f new) i') (λ x. (x, goes.1)) goes.0
+  asked old new i i' q Outcome.Refused goes = departs_and old new i (Departures.Asks q) false (Asked others (f old) i q Outcome.Refused (f new) i') (λ x. (x, goes.1)) goes.0
+  asked old new i i' q Outcome.Gone goes = absurd goes
+  asked old new i i' q Outcome.Dropped goes = absurd goes
+  asked old new i i' q Outcome.Busy goes = absurd goes
 
   went : (old new : D) (i i' : InnerValue) (h : IpRepr) (d : Departure) (sent : Sent) → Went moves old i h d sent new i' → Leads old new (Went others (f old) i h d sent (f new) i')
   went old new i i' h d Outcome.Gone goes = departs_and old new i d true (Went others (f old) i h d Outcome.Gone (f new) i') (λ x. (x, goes.1)) goes.0
@@ -121,8 +125,8 @@ module _ {D E : Type 0} (f : D → E) (moves : D → Move → D → Type 0) (oth
   goes_out old new i i' l l' p Way.Busy sent goes =
       stays old new (GoesOut others (f old) i l p Way.Busy sent (f new) i' l') goes.1.0 (goes.0, (ap f goes.1.0, goes.1.1, goes.1.2))
   goes_out old new i i' l l' p (Way.Ask question) sent goes =
-      so old new (Asked others (f old) i (Departures.Asks question) sent (f new) i') (GoesOut others (f old) i l p (Way.Ask question) sent (f new) i' l') (λ x. (x, goes.1))
-      (asked old new i i' (Departures.Asks question) sent goes.0)
+      so old new (Asked others (f old) i question sent (f new) i') (GoesOut others (f old) i l p (Way.Ask question) sent (f new) i' l') (λ x. (x, goes.1))
+      (asked old new i i' question sent goes.0)
   goes_out old new i i' l l' p (Way.Go to) sent goes =
       so old new (Went others (f old) i p.header (Departures.Whole to (numbered i p)) sent (f new) i') (GoesOut others (f old) i l p (Way.Go to) sent (f new) i' l') (λ x. (x, goes.1))
       (went old new i i' p.header (Departures.Whole to (numbered i p)) sent goes.0)
@@ -134,63 +138,64 @@ module _ {D E : Type 0} (f : D → E) (moves : D → Move → D → Type 0) (oth
 
   -- TURNS
 
-  leaves : (x y : Sender D) (p : PacketValue) (sent : Sent) → Leaves moves x p sent y → Leads x.device y.device (Leaves others (on_sender x) p sent (on_sender y))
-  leaves x y p sent (inl a) =
-      so x.device y.device (others (f x.device) (Allowed false) (f y.device)) (Leaves others (on_sender x) p sent (on_sender y)) (λ n. inl (n, a.1, a.2, a.3))
-      (moves_so x.device y.device (Allowed false) a.0)
-  leaves x y p sent (inr a) =
-      both x.device a.0 y.device (others (f x.device) (Allowed true) (f a.0))
-      (GoesOut others (f a.0) x.inner x.left p (plan_of x.inner (is_some x.left) p.header) sent (f y.device) y.inner y.left)
-      (Leaves others (on_sender x) p sent (on_sender y)) (λ n g. inr (f a.0, n, g)) (moves_so x.device a.0 (Allowed true) a.1)
-      (goes_out a.0 y.device x.inner y.inner x.left y.left p (plan_of x.inner (is_some x.left) p.header) sent a.2)
+  module _ (turn : Option IpAddress) where
+    leaves : (x y : Sender D) (mark : Meta) (p : PacketValue) (sent : Sent) → Leaves moves turn x mark p sent y → Leads x.device y.device (Leaves others turn (on_sender x) mark p sent (on_sender y))
+    leaves x y mark p sent (inl a) =
+        so x.device y.device (others (f x.device) (Allowed a.0) (f y.device)) (Leaves others turn (on_sender x) mark p sent (on_sender y)) (λ n. inl (a.0, n, a.2, a.3, a.4))
+        (moves_so x.device y.device (Allowed a.0) a.1)
+    leaves x y mark p sent (inr a) =
+        both x.device a.0 y.device (others (f x.device) (Allowed true) (f a.0))
+        (GoesOut others (f a.0) x.inner x.left p (plan_of x.inner (is_some x.left) p.header) sent (f y.device) y.inner y.left)
+        (Leaves others turn (on_sender x) mark p sent (on_sender y)) (λ n g. inr (f a.0, n, g, a.3)) (moves_so x.device a.0 (Allowed true) a.1)
+        (goes_out a.0 y.device x.inner y.inner x.left y.left p (plan_of x.inner (is_some x.left) p.header) sent a.2)
 
-  sends : (o : Option PacketValue) (x y : Sender D) (item m : Item Socket) (changed : Bool) (a : Turned) → SendsBy moves o x item changed a y m
-      → Leads x.device y.device (SendsBy others o (on_sender x) item changed a (on_sender y) m)
-  sends None x y item m changed a one = absurd one
-  sends (Some p) x y item m changed a one =
-      so x.device y.device (Leaves others (on_sender x) p one.0 (on_sender y)) (SendsBy others (Some p) (on_sender x) item changed a (on_sender y) m) (λ n. (one.0, n, one.2, one.3, one.4)) (leaves x y p one.0 one.1)
+    sends : (o : Option PacketValue) (x y : Sender D) (item m : Item Socket) (changed : Bool) (a : Turned) → SendsBy moves turn o x item changed a y m
+        → Leads x.device y.device (SendsBy others turn o (on_sender x) item changed a (on_sender y) m)
+    sends None x y item m changed a one = absurd one
+    sends (Some p) x y item m changed a one =
+        so x.device y.device (Leaves others turn (on_sender x) item.meta p one.0 (on_sender y)) (SendsBy others turn (Some p) (on_sender x) item changed a (on_sender y) m) (λ n. (one.0, n, one.2, one.3, one.4)) (leaves x y item.meta p one.0 one.1)
 
-  same_device : (x y : Sender D) → y ≡ x → y.device ≡ x.device
-  same_device x y is = ap (λ (v : Sender D). v.device) is
+    same_device : (x y : Sender D) → y ≡ x → y.device ≡ x.device
+    same_device x y is = ap (λ (v : Sender D). v.device) is
 
-  answers : (answer : Answer.Offer) (x y : Sender D) (item m : Item Socket) (a : Turned) → Answers moves answer x item a y m
-      → Leads x.device y.device (Answers others answer (on_sender x) item a (on_sender y) m)
-  answers (Offer.Silent changed) x y item m a one =
-      stays x.device y.device (Answers others (Offer.Silent changed) (on_sender x) item a (on_sender y) m) (same_device x y one.1) (one.0, ap on_sender one.1, one.2)
-  answers (Offer.Packet changed) x y item m a one = sends (offered_by item.socket) x y item m changed a one
+    answers : (answer : Answer.Offer) (x y : Sender D) (item m : Item Socket) (a : Turned) → Answers moves turn answer x item a y m
+        → Leads x.device y.device (Answers others turn answer (on_sender x) item a (on_sender y) m)
+    answers (Offer.Silent changed) x y item m a one =
+        stays x.device y.device (Answers others turn (Offer.Silent changed) (on_sender x) item a (on_sender y) m) (same_device x y one.1) (one.0, ap on_sender one.1, one.2)
+    answers (Offer.Packet changed) x y item m a one = sends (offered_by item.socket) x y item m changed a one
 
-  turns_if : (waits : Bool) (x y : Sender D) (item m : Item Socket) (a : Turned) → TurnsIf moves waits x item a y m
-      → Leads x.device y.device (TurnsIf others waits (on_sender x) item a (on_sender y) m)
-  turns_if true x y item m a one = stays x.device y.device (TurnsIf others true (on_sender x) item a (on_sender y) m) (same_device x y one.1) (one.0, ap on_sender one.1, one.2)
-  turns_if false x y item m a one =
-      so x.device y.device (Answers others one.0 (on_sender x) (record item { socket = one.1 }) a (on_sender y) m) (TurnsIf others false (on_sender x) item a (on_sender y) m)
-      (λ n. (one.0, one.1, one.2, n)) (answers one.0 x y (record item { socket = one.1 }) m a one.3)
+    turns_if : (waits : Bool) (x y : Sender D) (item m : Item Socket) (a : Turned) → TurnsIf moves turn waits x item a y m
+        → Leads x.device y.device (TurnsIf others turn waits (on_sender x) item a (on_sender y) m)
+    turns_if true x y item m a one = stays x.device y.device (TurnsIf others turn true (on_sender x) item a (on_sender y) m) (same_device x y one.1) (one.0, ap on_sender one.1, one.2)
+    turns_if false x y item m a one =
+        so x.device y.device (Answers others turn one.0 (on_sender x) (record item { socket = one.1 }) a (on_sender y) m) (TurnsIf others turn false (on_sender x) item a (on_sender y) m)
+        (λ n. (one.0, one.1, one.2, n)) (answers one.0 x y (record item { socket = one.1 }) m a one.3)
 
-  item_turns : (o p : Option (Item Socket)) (x y : Sender D) (a : Turned) → ItemTurns moves o x a y p → Leads x.device y.device (ItemTurns others o (on_sender x) a (on_sender y) p)
-  item_turns None None x y a one = stays x.device y.device (ItemTurns others None (on_sender x) a (on_sender y) None) (same_device x y one.1) (one.0, ap on_sender one.1)
-  item_turns (Some item) (Some m) x y a one = turns_if (is_waiting x.inner item.meta) x y (let_through x.inner item) m a one
-  item_turns None (Some m) x y a one = absurd one
-  item_turns (Some item) None x y a one = absurd one
+    item_turns : (o p : Option (Item Socket)) (x y : Sender D) (a : Turned) → ItemTurns moves turn o x a y p → Leads x.device y.device (ItemTurns others turn o (on_sender x) a (on_sender y) p)
+    item_turns None None x y a one = stays x.device y.device (ItemTurns others turn None (on_sender x) a (on_sender y) None) (same_device x y one.1) (one.0, ap on_sender one.1)
+    item_turns (Some item) (Some m) x y a one = turns_if (is_waiting x.inner item.meta) x y (let_through x.inner item) m a one
+    item_turns None (Some m) x y a one = absurd one
+    item_turns (Some item) None x y a one = absurd one
 
-  place_turns : (o p : SocketStorage Socket) (x y : Sender D) (a : Turned) → PlaceTurns moves x o a y p → Leads x.device y.device (PlaceTurns others (on_sender x) o a (on_sender y) p)
-  place_turns o p x y a one = item_turns o.inner p.inner x y a one
+    place_turns : (o p : SocketStorage Socket) (x y : Sender D) (a : Turned) → PlaceTurns moves turn x o a y p → Leads x.device y.device (PlaceTurns others turn (on_sender x) o a (on_sender y) p)
+    place_turns o p x y a one = item_turns o.inner p.inner x y a one
 
   -- THE WAY OUT
 
   abbrev Places : Type 0
   Places = List (SocketStorage Socket)
 
-  pass : (ps before : Places) (x : Sender D) (changed : Bool) (e : Passed D) → Pass moves x before changed ps e → Leads x.device e.sender.device (Pass others (on_sender x) before changed ps (on_passed e))
-  pass [] before x changed e one =
-      stays x.device e.sender.device (Pass others (on_sender x) before changed [] (on_passed e)) (ap (λ (v : Passed D). v.sender.device) one) (ap on_passed one)
-  pass (p ∷ ps) before x changed e (inl a) =
-      both x.device a.1.device e.sender.device (PlaceTurns others (on_sender x) p (Turn.Next a.0) (on_sender a.1) a.2)
-      (Pass others (on_sender a.1) (before ++ a.2 ∷ []) (changed || a.0) ps (on_passed e)) (Pass others (on_sender x) before changed (p ∷ ps) (on_passed e))
-      (λ n g. inl (a.0, on_sender a.1, a.2, n, g)) (place_turns p a.2 x a.1 (Turn.Next a.0) a.3) (pass ps (before ++ a.2 ∷ []) a.1 (changed || a.0) e a.4)
-  pass (p ∷ ps) before x changed e (inr a) =
-      both x.device a.1.device e.sender.device (PlaceTurns others (on_sender x) p (Turn.Stop a.0) (on_sender a.1) a.2)
-      (on_passed e ≡ passed (on_sender a.1) (before ++ a.2 ∷ ps) (changed || a.0)) (Pass others (on_sender x) before changed (p ∷ ps) (on_passed e))
-      (λ n g. inr (a.0, on_sender a.1, a.2, n, g)) (place_turns p a.2 x a.1 (Turn.Stop a.0) a.3)
+  pass : (turn : Option IpAddress) (ps before : Places) (x : Sender D) (changed : Bool) (e : Passed D) → Pass moves turn x before changed ps e → Leads x.device e.sender.device (Pass others turn (on_sender x) before changed ps (on_passed e))
+  pass turn [] before x changed e one =
+      stays x.device e.sender.device (Pass others turn (on_sender x) before changed [] (on_passed e)) (ap (λ (v : Passed D). v.sender.device) one) (ap on_passed one)
+  pass turn (p ∷ ps) before x changed e (inl a) =
+      both x.device a.1.device e.sender.device (PlaceTurns others turn (on_sender x) p (Turn.Next a.0) (on_sender a.1) a.2)
+      (Pass others turn (on_sender a.1) (before ++ a.2 ∷ []) (changed || a.0) ps (on_passed e)) (Pass others turn (on_sender x) before changed (p ∷ ps) (on_passed e))
+      (λ n g. inl (a.0, on_sender a.1, a.2, n, g)) (place_turns turn p a.2 x a.1 (Turn.Next a.0) a.3) (pass turn ps (before ++ a.2 ∷ []) a.1 (changed || a.0) e a.4)
+  pass turn (p ∷ ps) before x changed e (inr a) =
+      both x.device a.1.device e.sender.device (PlaceTurns others turn (on_sender x) p (Turn.Stop a.0) (on_sender a.1) a.2)
+      (on_passed e ≡ passed (on_sender a.1) (before ++ a.2 ∷ ps) (changed || a.0)) (Pass others turn (on_sender x) before changed (p ∷ ps) (on_passed e))
+      (λ n g. inr (a.0, on_sender a.1, a.2, n, g)) (place_turns turn p a.2 x a.1 (Turn.Stop a.0) a.3)
       (stays a.1.device e.sender.device (on_passed e ≡ passed (on_sender a.1) (before ++ a.2 ∷ ps) (changed || a.0)) (ap (λ (v : Passed D). v.sender.device) a.4) (ap on_passed a.4))
 
   piece_leaves : (l : LeftValue) (x y : Sender D) (gone : Bool) → PieceLeaves moves l x gone y → Leads x.device y.device (PieceLeaves others l (on_sender x) gone (on_sender y))
@@ -201,7 +206,7 @@ module _ {D E : Type 0} (f : D → E) (moves : D → Move → D → Type 0) (oth
       (λ n g. inr (f a.0, n, g)) (moves_so x.device a.0 (Allowed true) a.1) (piece_out a.0 y.device x.inner l gone y.left a.2)
 
   clears : (l : Option LeftValue) (x y : Sender D) (clear : Bool) → Clears moves l x clear y → Leads x.device y.device (Clears others l (on_sender x) clear (on_sender y))
-  clears None x y clear one = stays x.device y.device (Clears others None (on_sender x) clear (on_sender y)) (same_device x y one.1) (one.0, ap on_sender one.1)
+  clears None x y clear one = stays x.device y.device (Clears others None (on_sender x) clear (on_sender y)) (same_device None x y one.1) (one.0, ap on_sender one.1)
   clears (Some l) x y clear one =
       so x.device y.device (PieceLeaves others l (on_sender x) clear (on_sender y)) (Clears others (Some l) (on_sender x) clear (on_sender y)) (λ n. (n, one.1)) (piece_leaves l x y clear one.0)
 
@@ -211,8 +216,8 @@ module _ {D E : Type 0} (f : D → E) (moves : D → Move → D → Type 0) (oth
       (λ n g. inl (on_sender a.0, n, g)) (clears x.left x a.0 false a.1)
       (stays a.0.device e.sender.device (on_passed e ≡ passed (on_sender a.0) ps false) (ap (λ (v : Passed D). v.sender.device) a.2) (ap on_passed a.2))
   egress x ps e (inr a) =
-      both x.device a.0.device e.sender.device (Clears others x.left (on_sender x) true (on_sender a.0)) (Pass others (on_sender a.0) [] false ps (on_passed e)) (Egress others (on_sender x) ps (on_passed e))
-      (λ n g. inr (on_sender a.0, n, g)) (clears x.left x a.0 true a.1) (pass ps [] a.0 false e a.2)
+      both x.device a.0.device e.sender.device (Clears others x.left (on_sender x) true (on_sender a.0)) (Pass others (turn_of a.0.inner ps) (on_sender a.0) [] false ps (on_passed e)) (Egress others (on_sender x) ps (on_passed e))
+      (λ n g. inr (on_sender a.0, n, g)) (clears x.left x a.0 true a.1) (pass (turn_of a.0.inner ps) ps [] a.0 false e a.2)
 
   out_step : (t : ℤ) (s s' : State D) (answer : Option Bool) → EgressStep moves t s answer s' → Leads s.device s'.device (EgressStep others t (on_state s) answer (on_state s'))
   out_step t s s' answer one =
@@ -222,20 +227,22 @@ module _ {D E : Type 0} (f : D → E) (moves : D → Move → D → Type 0) (oth
 
   -- THE WAY IN
 
-  replied : (reply : Option ReplyValue) (x y : Sender D) → Replied moves reply x y → Leads x.device y.device (Replied others reply (on_sender x) (on_sender y))
-  replied None x y one = stays x.device y.device (Replied others None (on_sender x) (on_sender y)) (same_device x y one) (ap on_sender one)
-  replied (Some (Replies.Tells packet)) x y one =
-      so x.device y.device (Departs others (f x.device) x.inner (Departures.Tells packet) one.0 (f y.device)) (Replied others (Some (Replies.Tells packet)) (on_sender x) (on_sender y))
+  replied : (awaited : Bool) (reply : Option ReplyValue) (x y : Sender D) → Replied moves awaited reply x y → Leads x.device y.device (Replied others awaited reply (on_sender x) (on_sender y))
+  replied awaited None x y one = stays x.device y.device (Replied others awaited None (on_sender x) (on_sender y)) (same_device None x y one) (ap on_sender one)
+  replied awaited (Some (Replies.Tells packet)) x y one =
+      so x.device y.device (Departs others (f x.device) x.inner (Departures.Tells packet) one.0 (f y.device)) (Replied others awaited (Some (Replies.Tells packet)) (on_sender x) (on_sender y))
       (λ n. (one.0, n, one.2, one.3)) (departs x.device y.device x.inner (Departures.Tells packet) one.0 one.1)
-  replied (Some (Replies.Answers p)) x y one =
+  replied awaited (Some (Replies.Answers p)) x y (inl held) =
+      stays x.device y.device (Replied others awaited (Some (Replies.Answers p)) (on_sender x) (on_sender y)) (same_device None x y held.0) (inl (ap on_sender held.0, held.1))
+  replied awaited (Some (Replies.Answers p)) x y (inr one) =
       so x.device y.device (GoesOut others (f x.device) x.inner x.left p (plan_of x.inner (is_some x.left) p.header) one.0 (f y.device) y.inner y.left)
-      (Replied others (Some (Replies.Answers p)) (on_sender x) (on_sender y)) (λ n. (one.0, n, one.2))
+      (Replied others awaited (Some (Replies.Answers p)) (on_sender x) (on_sender y)) (λ n. inr (one.0, n, one.2, one.3))
       (goes_out x.device y.device x.inner y.inner x.left y.left p (plan_of x.inner (is_some x.left) p.header) one.0 one.1)
 
   receives : (content : Option IncomingValue) (s s' : State D) → Receives moves content s s' → Leads s.device s'.device (Receives others content (on_state s) (on_state s'))
   receives content s s' one =
-      so s.device s'.device (Replied others one.0.reply (on_sender (sender_with moves s one.0)) (on_sender (sender_of moves s'))) (Receives others content (on_state s) (on_state s'))
-      (λ n. (one.0, one.1, one.2, n, one.4)) (replied one.0.reply (sender_with moves s one.0) (sender_of moves s') one.3)
+      so s.device s'.device (Replied others (is_awaited one.0) one.0.reply (on_sender (sender_with moves s one.0)) (on_sender (sender_of moves s'))) (Receives others content (on_state s) (on_state s'))
+      (λ n. (one.0, one.1, one.2, n, one.4)) (replied (is_awaited one.0) one.0.reply (sender_with moves s one.0) (sender_of moves s') one.3)
 
   takes : (s s' : State D) (answer : Option Bool) → Takes moves s answer s' → Leads s.device s'.device (Takes others (on_state s) answer (on_state s'))
   takes s s' None one =

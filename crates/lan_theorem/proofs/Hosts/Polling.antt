@@ -34,7 +34,7 @@ nothing t = record {
   maintenance = λ n s so. tt;
   arrivals = λ n s s' answer runs so takes. tt;
   pieces = λ n h ps x x' l gone runs is so leaves same. tt;
-  turns = λ n h before after p p' x x' turned runs so turns. tt;
+  turns = λ turn n h before after p p' x x' turned runs so turns. tt;
 }
 
 pub polled : (s s' : StationValue) (moment : ℤ) (budget : ℕ) (changed : Bool) → PollsAt s moment budget changed s' → IsPolled s moment s'

@@ -16,7 +16,7 @@ use Rattle.ip_wire.specs.Ipv4Address.{Ipv4Address}
 use Rattle.ip_wire.specs.Ipv4Repr.{Ipv4Repr}
 use Rattle.interface_tables.specs.Best.{at_place}
 use Rattle.interface_tables.specs.Inner.{InnerValue, is_local_broadcast, is_in_own_network, next_hop, link_by, link_of_hop, link_on, link_address, group_station, all_stations}
-use Rattle.interface_tables.specs.Neighbor.{CacheValue, lookup, missing, answer_by, place_of}
+use Rattle.interface_tables.specs.Neighbor.{CacheValue, lookup, missing, answer_by, place_of, unless_failed, has_failed}
 use Rattle.interface_tables.specs.Route.{best_route, router_of}
 use Rattle.interface_tables.specs.Source.{source_v4}
 use Rattle.interface_tables.specs.declared.link.LinkAddress.{LinkAddress}
@@ -39,11 +39,13 @@ abbrev AnswerKind : Answer → Type 0
 AnswerKind (Known.Found hardware) = IsStation hardware
 AnswerKind Known.RateLimited = Unit {0}
 AnswerKind Known.NotFound = Unit {0}
+AnswerKind Known.Unanswered = Unit {0}
 
 abbrev LinkKind : HardwareAddress → LinkAddress → Type 0
 LinkKind own (Link.Known to) = IsSameKind own to
 LinkKind own Link.NoRoute = Unit {0}
 LinkKind own Link.Silent = Unit {0}
+LinkKind own Link.Unanswered = Unit {0}
 LinkKind own (Link.Unknown hop) = IsIpAddress hop
 
 abbrev pub PlanKind : HardwareAddress → Plan → Type 0
@@ -73,6 +75,14 @@ answers : (o : Option Neighbor) (c : CacheValue) (moment : ℤ) → IfSome o IsN
 answers None c moment is = missing_by (int_lt moment c.silent)
 answers (Some entry) c moment is = found_by entry.hardware_addr c moment (int_lt moment entry.expires_at) is
 
+unless_kind : (failed : Bool) (a : Answer) → AnswerKind a → AnswerKind (unless_failed failed a)
+unless_kind failed (Known.Found hardware) is = is
+unless_kind true Known.RateLimited is = tt
+unless_kind false Known.RateLimited is = tt
+unless_kind true Known.NotFound is = tt
+unless_kind false Known.NotFound is = tt
+unless_kind failed Known.Unanswered is = tt
+
 station_kind : (own : EthernetAddress) (to : HardwareAddress) → IsStation to → IsSameKind (Hardware.Ethernet own) to
 station_kind own (Hardware.Ethernet to) is = tt
 station_kind own Hardware.Ip is = absurd is
@@ -81,11 +91,15 @@ links : (own : EthernetAddress) (a : Answer) (hop : IpAddress) → IsIpAddress h
 links own (Known.Found hardware) hop to is = station_kind own hardware is
 links own Known.RateLimited hop to is = tt
 links own Known.NotFound hop to is = to
+links own Known.Unanswered hop to is = tt
 
 hops : (own : EthernetAddress) (i : InnerValue) (o : Option IpAddress) → IsSound i → IfSome o IsIpAddress → LinkKind (Hardware.Ethernet own) (link_of_hop i o)
 hops own i None sound is = tt
 hops own i (Some hop) sound is =
-    links own (lookup i.neighbors hop i.moment) hop is (answers (at_place (place_of i.neighbors.entries hop) i.neighbors.entries) i.neighbors i.moment (at (place_of i.neighbors.entries hop) i.neighbors.entries sound.neighbors))
+    let entry : Option Neighbor = at_place (place_of i.neighbors.entries hop) i.neighbors.entries in
+    links own (lookup i.neighbors hop i.moment) hop is
+    (unless_kind (has_failed i.neighbors hop i.moment) (answer_by entry i.neighbors i.moment)
+    (answers entry i.neighbors i.moment (at (place_of i.neighbors.entries hop) i.neighbors.entries sound.neighbors)))
 
 next_is : (i : InnerValue) (address : IpAddress) → IsSound i → IsIpAddress address → IfSome (next_hop i address) IsIpAddress
 next_is i address sound is =
@@ -142,6 +156,7 @@ by_link : (own : HardwareAddress) (i : InnerValue) (busy : Bool) (h : IpRepr) (l
 by_link own i busy h (Link.Known to) is = to_by own to busy h (nat_le (total_len h) i.mtu) is
 by_link own i busy h Link.NoRoute is = tt
 by_link own i busy h Link.Silent is = tt
+by_link own i busy h Link.Unanswered is = tt
 by_link own i busy h (Link.Unknown hop) is = ask_if_by own i hop (may_ask i hop) is
 
 pub plan_kind : (i : InnerValue) (busy : Bool) (h : IpRepr) → IsSound i → IsIpAddress (destination_of h) → PlanKind i.hardware (plan_of i busy h)

@@ -13,8 +13,8 @@ use Rattle.ip_wire.specs.IpRepr.TheVariants as Ip
 use Rattle.ip_wire.specs.Ipv4Repr.{Ipv4Repr}
 use Rattle.ip_wire.specs.declared.arp.repr.ArpRepr.{ArpRepr}
 use Rattle.socket_base.specs.Packet.{PacketValue, PayloadValue, packet_of, payload_written}
-use Rattle.interface_tables.specs.Inner.{InnerValue, with_next_ident, with_silence}
-use Rattle.interface_egress.specs.Departure.{Asks, Tells, Whole, question_frame, arp_frame, packet_frame, packet_frame_len, piece_frame, piece_frame_len}
+use Rattle.interface_tables.specs.Inner.{InnerValue, with_next_ident, with_request}
+use Rattle.interface_egress.specs.Departure.{Asks, Tells, Whole, question_frame, arp_frame, packet_frame, packet_frame_len, piece_frame, piece_frame_len, target_of}
 use Rattle.interface_egress.specs.Fragments.{LeftValue, piece_room, next_piece, next_departure, left_after}
 use Rattle.interface_egress.specs.GoesOut.{GoesOut, Asked, Went, WasCut, PieceGoesOut, Departs, Stays, numbered_header, numbered, after_header, cut_of}
 use Rattle.interface_egress.specs.Emits.{Emits}
@@ -89,8 +89,8 @@ after_hardware : (i : InnerValue) (h : IpRepr) → (after_header h i).hardware �
 after_hardware i (Ip.Ipv4 v) = refl
 after_hardware i (Ip.Ipv6 v) = refl
 
-silent_sound : (i : InnerValue) → IsSound i → IsSound (with_silence i)
-silent_sound i s = record { own = s.own; neighbors = s.neighbors; routers = s.routers; widths = record { mtu = s.widths.mtu; ident = s.widths.ident }; checksums = s.checksums }
+silent_sound : (i : InnerValue) (q : Question) → IsSound i → IsSound (with_request i (target_of q))
+silent_sound i q s = record { own = s.own; neighbors = s.neighbors; routers = s.routers; widths = record { mtu = s.widths.mtu; ident = s.widths.ident }; checksums = s.checksums }
 
 -- WHAT A HOST IS AFTER SOMETHING WENT
 
@@ -267,21 +267,21 @@ module _ (made : PayloadValue → Type 0) (first : ℕ) (out : List PacketValue)
 
   -- QUESTIONS
 
-  asked_sender : (q : Question) (d' : PortValue) → AsksFrom i.hardware q → IsAsked q → Departs PortMove d i (Asks q) true d' → IsSender made first (with_silence i) l d'.link.sent out
+  asked_sender : (q : Question) (d' : PortValue) → AsksFrom i.hardware q → IsAsked q → Departs PortMove d i (Asks q) true d' → IsSender made first (with_request i (target_of q)) l d'.link.sent out
   asked_sender q d' from asked departs =
       let frame : IsHostFrame (medium_on i.hardware) out (question_frame i.checksums q) =
       inr (inr (subst (λ (k : ChecksumCapabilities). IsOther (medium_on i.hardware) (question_frame k q)) (sym s.sound.checksums) (question_is_other i.hardware q from s.sound.own asked))) in
       record {
-        sound = silent_sound i s.sound;
+        sound = silent_sound i q s.sound;
         are_sent = s.are_sent;
         left_is = s.left_is;
         frames = subst (λ (fs : List (List ℕ)). AllByRecursion (IsHostFrame (medium_on i.hardware) out) fs) (sym (ap (λ (x : PortValue). x.link.sent) departs.0)) (all_more (IsHostFrame (medium_on i.hardware) out) d.link.sent (question_frame i.checksums q) s.frames frame);
       }
 
-  asked_by : (q : Question) (sent : Sent) (d' : PortValue) (i' : InnerValue) (l' : Option LeftValue) → AsksFrom i.hardware q → IsAsked q → Asked PortMove d i (Asks q) sent d' i' → l' ≡ l → WentOut made first 1 out d.link.sent i' l' d'.link.sent
+  asked_by : (q : Question) (sent : Sent) (d' : PortValue) (i' : InnerValue) (l' : Option LeftValue) → AsksFrom i.hardware q → IsAsked q → Asked PortMove d i q sent d' i' → l' ≡ l → WentOut made first 1 out d.link.sent i' l' d'.link.sent
   asked_by q Outcome.Waits d' i' l' from asked goes same =
       one_frame made first 1 out i' l' d.link.sent d'.link.sent (question_frame i.checksums q) (ap (λ (x : PortValue). x.link.sent) goes.0.0)
-      (same_sender made first out (with_silence i) i' l l' d'.link.sent d'.link.sent goes.1 same refl (asked_sender q d' from asked goes.0))
+      (same_sender made first out (with_request i (target_of q)) i' l l' d'.link.sent d'.link.sent goes.1 same refl (asked_sender q d' from asked goes.0))
   asked_by q Outcome.Refused d' i' l' from asked goes same = unchanged made first 1 out i i' l l' d.link.sent d'.link.sent goes.1 same (ap (λ (x : PortValue). x.link.sent) goes.0.0) s
   asked_by q Outcome.Gone d' i' l' from asked goes same = absurd goes
   asked_by q Outcome.Dropped d' i' l' from asked goes same = absurd goes

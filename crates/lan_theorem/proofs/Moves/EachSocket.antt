@@ -33,6 +33,7 @@ use Rattle.interface.specs.Polls.{Polls}
 use Rattle.interface.specs.State.{State}
 use Rattle.interface.specs.Turn.{ItemTurns, TurnsIf, Answers, SendsBy, is_waiting, let_through, is_done}
 use Rattle.interface.specs.declared.turn.Turned.{Turned}
+use Rattle.ip_wire.specs.IpAddress.{IpAddress}
 use Rattle.interface.specs.Kept.{IsKept}
 use Rattle.interface.proofs.Keep.{polls_keep}
 use Rattle.lan_theorem.specs.Moves.Fit.{AreNamed}
@@ -156,32 +157,32 @@ module _ (W : Socket → Type 0) where
 
       -- TURNS
 
-      sends : (x x' : Sender D) (item item' : Item Socket) (changes : Bool) (turned : Turned) (packet : Option PacketValue) → W item.socket → SendsBy moves packet x item changes turned x' item' → W item'.socket
-      sends x x' item item' changes turned None holds is = absurd is
-      sends x x' item item' changes turned (Some packet) holds is =
+      sends : (turn : Option IpAddress) (x x' : Sender D) (item item' : Item Socket) (changes : Bool) (turned : Turned) (packet : Option PacketValue) → W item.socket → SendsBy moves turn packet x item changes turned x' item' → W item'.socket
+      sends turn x x' item item' changes turned None holds is = absurd is
+      sends turn x x' item item' changes turned (Some packet) holds is =
           subst (λ (i : Item Socket). W i.socket) (sym is.3) (law.settles (is_done is.0) item.socket holds)
 
-      answers : (x x' : Sender D) (item item' : Item Socket) (answer : Answer.Offer) (turned : Turned) → W item.socket → Answers moves answer x item turned x' item' → W item'.socket
-      answers x x' item item' (Offer.Silent changes) turned holds is = subst (λ (i : Item Socket). W i.socket) (sym is.2) holds
-      answers x x' item item' (Offer.Packet changes) turned holds is = sends x x' item item' changes turned (offered_by item.socket) holds is
+      answers : (turn : Option IpAddress) (x x' : Sender D) (item item' : Item Socket) (answer : Answer.Offer) (turned : Turned) → W item.socket → Answers moves turn answer x item turned x' item' → W item'.socket
+      answers turn x x' item item' (Offer.Silent changes) turned holds is = subst (λ (i : Item Socket). W i.socket) (sym is.2) holds
+      answers turn x x' item item' (Offer.Packet changes) turned holds is = sends turn x x' item item' changes turned (offered_by item.socket) holds is
 
-      turns : (waits : Bool) (x x' : Sender D) (item item' : Item Socket) (turned : Turned) → W item.socket → TurnsIf moves waits x (let_through x.inner item) turned x' item' → W item'.socket
-      turns true x x' item item' turned holds is = subst (λ (i : Item Socket). W i.socket) (sym is.2) holds
-      turns false x x' item item' turned holds (answer, offered, offers, is) =
-          answers x x' (record (let_through x.inner item) { socket = offered }) item' answer turned (law.offers (context_of x.inner) item.socket offered answer offers holds) is
+      turns : (turn : Option IpAddress) (waits : Bool) (x x' : Sender D) (item item' : Item Socket) (turned : Turned) → W item.socket → TurnsIf moves turn waits x (let_through x.inner item) turned x' item' → W item'.socket
+      turns turn true x x' item item' turned holds is = subst (λ (i : Item Socket). W i.socket) (sym is.2) holds
+      turns turn false x x' item item' turned holds (answer, offered, offers, is) =
+          answers turn x x' (record (let_through x.inner item) { socket = offered }) item' answer turned (law.offers (context_of x.inner) item.socket offered answer offers holds) is
 
-      items : (x x' : Sender D) (o o' : Option (Item Socket)) (turned : Turned) → OfItem W o → ItemTurns moves o x turned x' o' → OfItem W o'
-      items x x' None None turned holds is = tt
-      items x x' (Some item) (Some item') turned holds is = turns (is_waiting x.inner item.meta) x x' item item' turned holds is
-      items x x' None (Some item') turned holds is = absurd is
-      items x x' (Some item) None turned holds is = absurd is
+      items : (turn : Option IpAddress) (x x' : Sender D) (o o' : Option (Item Socket)) (turned : Turned) → OfItem W o → ItemTurns moves turn o x turned x' o' → OfItem W o'
+      items turn x x' None None turned holds is = tt
+      items turn x x' (Some item) (Some item') turned holds is = turns turn (is_waiting x.inner item.meta) x x' item item' turned holds is
+      items turn x x' None (Some item') turned holds is = absurd is
+      items turn x x' (Some item) None turned holds is = absurd is
 
       pub kept : IsKept moves t (λ s. OfEach W s.places)
       kept = record {
         maintenance = λ s all. all;
         arrivals = λ s s' answer runs all is. takes s s' answer all is;
         pieces = λ h ps x x' l gone runs is all leaves same. all;
-        turns = λ h before after p p' x x' turned runs all is. exchanged before after p p' (items x x' p.inner p'.inner turned (middle before after p all) is) all;
+        turns = λ turn h before after p p' x x' turned runs all is. exchanged before after p p' (items turn x x' p.inner p'.inner turned (middle before after p all) is) all;
       }
 
       pub polls_of_each : (budget : ℕ) (s s' : State D) (changes : Bool) → OfEach W s.places → Polls moves t budget s changes s' → OfEach W s'.places

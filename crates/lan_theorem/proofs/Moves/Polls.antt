@@ -11,7 +11,7 @@ use Rattle.lan_theorem.proofs.Moves.Nets.{grows_not}
 use Rattle.interface_ingress.specs.Arrives as Replies
 use Rattle.interface_ingress.specs.Arrives.{ReplyValue}
 use Rattle.interface.specs.Host.{HostValue, Sender, sender}
-use Rattle.interface.specs.Ingress.{is_read, Takes, Reads, Replied, sender_of}
+use Rattle.interface.specs.Ingress.{is_read, Takes, Reads, Replied, is_awaited, sender_of}
 use Rattle.interface.specs.Polls.{Polls, begun}
 use Rattle.interface.specs.State.{State, state, at_device}
 use Rattle.interface.specs.WayOut.{PieceLeaves}
@@ -75,15 +75,17 @@ module _ {D : Type 0} (moves : D → Move → D → Type 0) (t : ℤ) (names : L
   CanTell n g ps x p reply = (packet : ArpRepr) (gone : Bool) (d : D) → reply ≡ Some (Replies.Tells packet) → Departs moves x.device x.inner (Departures.Tells packet) gone d
       → L n (sending_as g x ps) p → L n (at_device (sending_as g x ps) d) p
 
-  replied : (n : ℕ) (g : HostValue) (ps : Places) (x x' : Sender D) (p : Party) (reply : Option ReplyValue) → CanTell n g ps x p reply → IfSome reply CanBeWide → IfSome reply (IsMadeReply p) → Replied moves reply x x'
+  replied : (n : ℕ) (g : HostValue) (ps : Places) (x x' : Sender D) (p : Party) (awaited : Bool) (reply : Option ReplyValue) → CanTell n g ps x p reply → IfSome reply CanBeWide → IfSome reply (IsMadeReply p) → Replied moves awaited reply x x'
       → L n (sending_as g x ps) p → L (n + 1) (sending_as g x' ps) p
-  replied n g ps x x' p None tell wide made is holds =
+  replied n g ps x x' p awaited None tell wide made is holds =
       link.more n (n + 1) (sending_as g x' ps) p (omega arith) (subst (λ (y : Sender D). L n (sending_as g y ps) p) (sym is) holds)
-  replied n g ps x x' p (Some (Replies.Tells packet)) tell wide made (gone, departs, inner, left) holds =
+  replied n g ps x x' p awaited (Some (Replies.Tells packet)) tell wide made (gone, departs, inner, left) holds =
       let there : state x'.device (record g { inner = x.inner; left = x.left }) ps ≡ sending_as g x' ps =
       λ k. state x'.device (record g { inner = sym inner k; left = sym left k }) ps in
       link.more n (n + 1) (sending_as g x' ps) p (omega arith) (subst (λ (s : State D). L n s p) there (tell packet gone x'.device refl departs holds))
-  replied n g ps x x' p (Some (Replies.Answers packet)) tell wide made (sent, goes, formed) holds =
+  replied n g ps x x' p awaited (Some (Replies.Answers packet)) tell wide made (inl held) holds =
+      link.more n (n + 1) (sending_as g x' ps) p (omega arith) (subst (λ (y : Sender D). L n (sending_as g y ps) p) (sym held.0) holds)
+  replied n g ps x x' p awaited (Some (Replies.Answers packet)) tell wide made (inr (sent, goes, formed, free)) holds =
       link.goes n (sending_as g x ps) p packet sent x'.device x'.inner x'.left (wide formed) (λ done. made) goes holds
 
   read : (n : ℕ) (s s' : State D) (frame : List ℕ) (mid : D) → moves s.device (Took frame) mid → is_read frame ≡ true → Reads moves frame (at_device s mid) s' → At n s → At (n + 1) s'
@@ -100,7 +102,7 @@ module _ {D : Type 0} (moves : D → Move → D → Type 0) (t : ℤ) (names : L
       let tell : CanTell n g s.places x p' a.reply =
       λ packet gone d so departs holds. link.tells n s p' frame mid content s'.host.slots a packet gone d took reads is receives.1 so departs holds in
       let told : L (n + 1) (sending_as g (sender_of moves s') s.places) p' =
-      replied n g s.places x (sender_of moves s') p' a.reply tell (brings_wide s.host.inner s.places (brought s content) a receives.1.1) end.made receives.3 given in
+      replied n g s.places x (sender_of moves s') p' (is_awaited a) a.reply tell (brings_wide s.host.inner s.places (brought s content) a receives.1.1) end.made receives.3 given in
       let placed : L (n + 1) (sending_as g (sender_of moves s') s'.places) p' =
       link.grown (n + 1) (sending_as g (sender_of moves s') s.places) s'.places p' p' (grows_not p') told in
       let there : sending_as g (sender_of moves s') s'.places ≡ s' =
@@ -147,9 +149,9 @@ module _ {D : Type 0} (moves : D → Move → D → Type 0) (t : ℤ) (names : L
       fit_kept.pieces h ps x x' l gone runs is both.0 leaves same,
       more n (n + 0) (sending_as h x' ps) (omega arith) (pieces n h ps x x' l gone is leaves same both.1),
     );
-    turns = λ n h before after p p' x x' turned used runs both turn. (
-      fit_kept.turns h before after p p' x x' turned runs both.0 turn,
-      turn_follows moves names side net (party net (other side)) L link n h before after p p' x x' turned turn (middle IsFit before after p both.0) both.1,
+    turns = λ turn n h before after p p' x x' turned used runs both took. (
+      fit_kept.turns turn h before after p p' x x' turned runs both.0 took,
+      turn_follows moves turn names side net (party net (other side)) L link n h before after p p' x x' turned took (middle IsFit before after p both.0) both.1,
     );
   }
 

@@ -2,6 +2,7 @@
 use Rattle.std.proofs.Common.{◌≡◌, ℕ, Bool, true, false, inl, inr, List, [], ◌∷◌, ◌++◌, length, Option, Some, None, IfSome, refl, sym, ap, ◌∙◌, subst, arith, append-nil, ◌+◌}
 use Rattle.std.specs.Prelude.{slice_set, slice_index_or}
 use Rattle.ip_wire.specs.Ip.{destination_of}
+use Rattle.ip_wire.specs.IpAddress.{IpAddress}
 use Rattle.net_base.specs.Device.{Move}
 use Rattle.socket_base.specs.Context.{ContextValue}
 use Rattle.socket_base.specs.Packet.{PacketValue}
@@ -26,13 +27,14 @@ use Rattle.sockets.specs.declared.socket.Socket.{Socket}
 use Rattle.sockets.specs.declared.socket.Socket.TheVariants as Is
 use Rattle.sockets.proofs.AnyKind.{has_packet}
 use Rattle.interface_tables.specs.Inner.{context_of}
+use Rattle.interface_egress.specs.Meta.{unmarked}
 use Rattle.interface_egress.specs.declared.socket_meta.Meta.{Meta}
 use Rattle.interface_egress.specs.declared.socket_set.Item.{Item}
 use Rattle.interface_egress.specs.declared.socket_set.SocketStorage.{SocketStorage}
 use Rattle.interface_egress.specs.declared.way_out.Sent.{Sent}
 use Rattle.interface.specs.Host.{HostValue, Sender}
 use Rattle.interface.specs.State.{State, state}
-use Rattle.interface.specs.Turn.{PlaceTurns, ItemTurns, TurnsIf, Answers, SendsBy, Leaves, is_waiting, let_through, is_done, marked}
+use Rattle.interface.specs.Turn.{PlaceTurns, ItemTurns, TurnsIf, Answers, SendsBy, Leaves, is_waiting, let_through, is_done, marked, plan_at, waits_until}
 use Rattle.interface.specs.declared.turn.Turned.{Turned}
 use Rattle.interface.specs.Kept.{sending_as}
 use Rattle.lan_history.specs.declared.event.Side.{Side}
@@ -169,7 +171,7 @@ unsettled (Is.Tcp v) none = let no_offer : v.offered ≡ None = none_open v.offe
 
 -- THE TURN
 
-module _ {D : Type 0} (moves : D → Move → D → Type 0) (names : List ℕ → Bool) (side : Side) (net : Net) (q : Party) (L : ℕ → State D → Party → Type 0) (link : IsLink moves q L) (n : ℕ) (h : HostValue) (before after : Places) where
+module _ {D : Type 0} (moves : D → Move → D → Type 0) (turn_of : Option IpAddress) (names : List ℕ → Bool) (side : Side) (net : Net) (q : Party) (L : ℕ → State D → Party → Type 0) (link : IsLink moves q L) (n : ℕ) (h : HostValue) (before after : Places) where
   abbrev At : Sender D → Option (Item Socket) → State D
   At x o = sending_as h x (before ++ record { inner = o } ∷ after)
 
@@ -184,13 +186,13 @@ module _ {D : Type 0} (moves : D → Move → D → Type 0) (names : List ℕ �
   uncounted s f = record { now = f.now; reaches = f.reaches; sockets = f.sockets; link = link.more n (n + 1) s (party f.now side) (omega arith) f.link }
 
   -- a packet goes its way, with its sockets told already
-  leaves : (x x' : Sender D) (places : Places) (party : Party) (packet : PacketValue) (sent : Sent) → IsWide packet → (is_done sent ≡ true → IsMade party packet) → Leaves moves x packet sent x'
+  leaves : (x x' : Sender D) (places : Places) (party : Party) (meta : Meta) (packet : PacketValue) (sent : Sent) → IsWide packet → (is_done sent ≡ true → IsMade party packet) → Leaves moves turn_of x meta packet sent x'
       → L n (sending_as h x places) party → L (n + 1) (sending_as h x' places) party
-  leaves x x' places party packet sent wide made (inl denied) holds =
+  leaves x x' places party meta packet sent wide made (inl rests) holds =
       let there : state x'.device (record h { inner = x.inner; left = x.left }) places ≡ sending_as h x' places =
-      λ k. state x'.device (record h { inner = sym denied.1 k; left = sym denied.2 k }) places in
-      link.more n (n + 1) (sending_as h x' places) party (omega arith) (subst (λ (s : State D). L n s party) there (link.leave n (sending_as h x places) party false x'.device denied.0 holds))
-  leaves x x' places party packet sent wide made (inr goes) holds =
+      λ k. state x'.device (record h { inner = sym rests.2 k; left = sym rests.3 k }) places in
+      link.more n (n + 1) (sending_as h x' places) party (omega arith) (subst (λ (s : State D). L n s party) there (link.leave n (sending_as h x places) party rests.0 x'.device rests.1 holds))
+  leaves x x' places party meta packet sent wide made (inr goes) holds =
       link.goes n (state goes.0 (record h { inner = x.inner; left = x.left }) places) party packet sent x'.device x'.inner x'.left wide made goes.2
       (link.leave n (sending_as h x places) party true goes.0 goes.1 holds)
 
@@ -213,23 +215,23 @@ module _ {D : Type 0} (moves : D → Move → D → Type 0) (names : List ℕ �
   }
 
   silent : (x x' : Sender D) (item item' : Item Socket) (offered : Socket) (changed : Bool) (turned : Turned) → Offers (context_of x.inner) item.socket (Offer.Silent changed) offered
-      → Answers moves (Offer.Silent changed) x (record item { socket = offered }) turned x' item' → Now (At x (Some item)) → Now (At x' (Some item'))
+      → Answers moves turn_of (Offer.Silent changed) x (record item { socket = offered }) turned x' item' → Now (At x (Some item)) → Now (At x' (Some item'))
   silent x x' item item' offered changed turned offers answers f =
-      let given = gives names side net f.now f.reaches before after item.meta item.meta (context_of x.inner) item.socket offered (Offer.Silent changed) false offers f.sockets in
+      let given = gives names side net f.now f.reaches before after item.meta unmarked (context_of x.inner) item.socket offered (Offer.Silent changed) false offers f.sockets in
       let same : settled false offered ≡ offered = unsettled offered (none_offered (offered_by offered) changed (has_packet item.socket offered (context_of x.inner) (Offer.Silent changed) offers)) in
-      let still : Now (At x (Some (record item { socket = offered }))) =
-      subst (λ (s : Socket). Now (At x (Some (record item { socket = s })))) same
-      (moved_on x (Some item) (before ++ holding item.meta (settled false offered) ∷ after) f given.moved) in
+      let still : Now (At x (Some (record { meta = unmarked; socket = offered }))) =
+      subst (λ (s : Socket). Now (At x (Some (record { meta = unmarked; socket = s })))) same
+      (moved_on x (Some item) (before ++ holding unmarked (settled false offered) ∷ after) f given.moved) in
       subst (λ (i : Item Socket). Now (At x' (Some i))) (sym answers.2)
-      (subst (λ (y : Sender D). Now (At y (Some (record item { socket = offered })))) (sym answers.1) still)
+      (subst (λ (y : Sender D). Now (At y (Some (record { meta = unmarked; socket = offered })))) (sym answers.1) still)
 
   sends : (x x' : Sender D) (item item' : Item Socket) (offered : Socket) (changed : Bool) (turned : Turned) (packet : Option PacketValue) → packet ≡ offered_by offered → IfSome packet CanBeWide
-      → Offers (context_of x.inner) item.socket (Offer.Packet changed) offered → SendsBy moves packet x (record item { socket = offered }) changed turned x' item'
+      → Offers (context_of x.inner) item.socket (Offer.Packet changed) offered → SendsBy moves turn_of packet x (record item { socket = offered }) changed turned x' item'
       → Now (At x (Some item)) → Next (At x' (Some item'))
   sends x x' item item' offered changed turned None is wide offers goes f = absurd goes
   sends x x' item item' offered changed turned (Some packet) is wide offers goes f =
       let sent = goes.0 in
-      let meta = marked sent x.inner.moment (destination_of packet.header) item.meta in
+      let meta = marked sent x.inner.moment (waits_until (plan_at x packet) x'.inner) (destination_of packet.header) item.meta in
       let places = before ++ holding meta (settled (is_done sent) offered) ∷ after in
       let given = gives names side net f.now f.reaches before after item.meta meta (context_of x.inner) item.socket offered (Offer.Packet changed) (is_done sent) offers f.sockets in
       let on = moved_on x (Some item) places f given.moved in
@@ -237,19 +239,19 @@ module _ {D : Type 0} (moves : D → Move → D → Type 0) (names : List ℕ �
         now = on.now;
         reaches = on.reaches;
         sockets = on.sockets;
-        link = leaves x x' places (party given.moved.next side) packet sent (wide goes.4)
+        link = leaves x x' places (party given.moved.next side) item.meta packet sent (wide goes.4)
             (λ done. some_so (offered_by offered) (IsMade (party given.moved.next side)) packet (sym is) (given.made done)) goes.1 on.link;
       } in
       subst (λ (i : Item Socket). Next (At x' (Some i))) (sym goes.3) told
 
   asks : (x x' : Sender D) (item item' : Item Socket) (answer : Answer.Offer) (offered : Socket) (turned : Turned) → IfSome (offered_by offered) CanBeWide
-      → Offers (context_of x.inner) item.socket answer offered → Answers moves answer x (record item { socket = offered }) turned x' item'
+      → Offers (context_of x.inner) item.socket answer offered → Answers moves turn_of answer x (record item { socket = offered }) turned x' item'
       → Now (At x (Some item)) → Next (At x' (Some item'))
   asks x x' item item' (Offer.Silent changed) offered turned wide offers answers f = uncounted (At x' (Some item')) (silent x x' item item' offered changed turned offers answers f)
   asks x x' item item' (Offer.Packet changed) offered turned wide offers answers f =
       sends x x' item item' offered changed turned (offered_by offered) refl wide offers answers f
 
-  turns : (waits : Bool) (x x' : Sender D) (item item' : Item Socket) (turned : Turned) → TurnsIf moves waits x (let_through x.inner item) turned x' item' → IsFit item.socket
+  turns : (waits : Bool) (x x' : Sender D) (item item' : Item Socket) (turned : Turned) → TurnsIf moves turn_of waits x (let_through x.inner item) turned x' item' → IsFit item.socket
       → Now (At x (Some item)) → Next (At x' (Some item'))
   turns true x x' item item' turned waits fit f =
       uncounted (At x' (Some item')) (stays_put x x' (Some item) (Some item') waits.1 (ap (λ (i : Item Socket). Some (seen i.socket)) waits.2) f)
@@ -259,12 +261,12 @@ module _ {D : Type 0} (moves : D → Move → D → Type 0) (names : List ℕ �
       (if_some (offered_by asked.1) CanBeWide (λ p is formed. offered_wide (context_of x.inner) item.socket asked.1 asked.0 p fit asked.2 is formed)) asked.2 asked.3
       (stays_put x x (Some item) (Some through) refl refl f)
 
-  items : (x x' : Sender D) (o o' : Option (Item Socket)) (turned : Turned) → ItemTurns moves o x turned x' o' → OfItem IsFit o → Now (At x o) → Next (At x' o')
+  items : (x x' : Sender D) (o o' : Option (Item Socket)) (turned : Turned) → ItemTurns moves turn_of o x turned x' o' → OfItem IsFit o → Now (At x o) → Next (At x' o')
   items x x' None None turned turn fit f = uncounted (At x' None) (stays_put x x' None None turn.1 refl f)
   items x x' (Some item) (Some item') turned turn fit f = turns (is_waiting x.inner item.meta) x x' item item' turned turn fit f
   items x x' None (Some item') turned turn fit f = absurd turn
   items x x' (Some item) None turned turn fit f = absurd turn
 
-  pub turn_follows : (p p' : SocketStorage Socket) (x x' : Sender D) (turned : Turned) → PlaceTurns moves x p turned x' p' → OfItem IsFit p.inner
+  pub turn_follows : (p p' : SocketStorage Socket) (x x' : Sender D) (turned : Turned) → PlaceTurns moves turn_of x p turned x' p' → OfItem IsFit p.inner
       → Now (sending_as h x (before ++ p ∷ after)) → Next (sending_as h x' (before ++ p' ∷ after))
   turn_follows p p' x x' turned turn fit f = items x x' p.inner p'.inner turned turn fit f

@@ -5,7 +5,7 @@ use Rattle.interface.proofs.passes.pass.Given as goal
 
 abbrev pub invariant-loop-at : goal.invariant-loop-at
 invariant-loop-at g l = record {
-  pass : (e : Passed _) → Pass g.D.Device.moves (sender l.device l.inner l.fragmenter) (take l.at l.places) l.changed (drop l.at l.places) e
-      → Pass g.D.Device.moves (sender l.initial.device l.initial.inner l.initial.fragmenter) [] false l.initial.places e;
+  pass : (e : Passed _) → Pass g.D.Device.moves l.turn (sender l.device l.inner l.fragmenter) (take l.at l.places) l.changed (drop l.at l.places) e
+      → Pass g.D.Device.moves l.turn (sender l.initial.device l.initial.inner l.initial.fragmenter) [] false l.initial.places e;
   capabilities : g.D.Device.described l.device ≡ g.D.Device.described l.initial.device;
 }

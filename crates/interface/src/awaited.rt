@@ -1,0 +1,100 @@
+//! Which neighbour is asked for next, of those that sockets wait for.
+ghost use Rattle.std.specs.Prelude.{◌≡◌, None};
+ghost use Rattle.std.specs.List.{fold};
+ghost use Rattle.interface_tables.specs.Best.{better_of};
+ghost use Rattle.interface.specs.Awaited.{awaited_by, awaited_in, comes_before, next_awaited, turn_of};
+
+use interface_egress::{InterfaceInner, SocketStorage, Waiting};
+use ip_wire::IpAddress;
+use net_base::Instant;
+use sockets::Socket;
+
+/// A neighbour that a socket waits for.
+#[derive(Clone, Copy, Debug)]
+pub struct Awaited {
+    pub hop: IpAddress,
+    /// Until when its last request is to be answered, if it was asked for.
+    pub last_request: Option<Instant>,
+    pub since: Instant,
+}
+
+/// Whose turn it is to be asked for, where a socket waits: an address that was never asked for, else the one that was asked for longest
+/// ago.
+pub fn turn_of(inner: &InterfaceInner, places: &[SocketStorage<Socket>]) -> Option<IpAddress>
+    ensures { result ≡ turn_of inner.now places.now }
+{
+    match next_awaited(inner, places) {
+        Some(awaited) => Some(awaited.hop),
+        None => None,
+    }
+}
+
+/// The neighbour that is asked for next.
+fn next_awaited(inner: &InterfaceInner, places: &[SocketStorage<Socket>]) -> Option<Awaited>
+    ensures { result ≡ next_awaited inner.now places.now }
+{
+    first_in_turn(inner, places)
+}
+
+/// The one that comes first, place by place.
+fn first_in_turn(inner: &InterfaceInner, places: &[SocketStorage<Socket>]) -> Option<Awaited>
+    ensures { result ≡ fold (λ best place. better_of comes_before best (awaited_in inner.now place)) None places.now }
+{
+    places.iter().fold(
+        None,
+        |best, place| better_of(best, awaited_in(inner, place)),
+    )
+}
+
+/// The neighbour that the socket at a place waits for.
+fn awaited_in(inner: &InterfaceInner, place: &SocketStorage<Socket>) -> Option<Awaited>
+    ensures { result ≡ awaited_in inner.now place.now }
+{
+    match &place.inner {
+        Some(item) => awaited_by(inner, &item.meta.waiting),
+        None => None,
+    }
+}
+
+/// The neighbour that a mark waits for.
+fn awaited_by(inner: &InterfaceInner, waiting: &Option<Waiting>) -> Option<Awaited>
+    ensures { result ≡ awaited_by inner.now waiting.now }
+{
+    let Some(waiting) = waiting else {
+        return None;
+    };
+    match inner.awaited_hop(&waiting.neighbor) {
+        Some(hop) => Some(Awaited {
+            hop,
+            last_request: inner.last_request(&hop),
+            since: waiting.since,
+        }),
+        None => None,
+    }
+}
+
+/// The one that comes first, where there may be none.
+fn better_of(best: Option<Awaited>, other: Option<Awaited>) -> Option<Awaited>
+    ensures { result ≡ better_of comes_before best other }
+{
+    match (best, other) {
+        (best, None) => best,
+        (None, Some(other)) => Some(other),
+        (Some(best), Some(other)) => Some(if comes_before(&other, &best) {
+            other
+        } else {
+            best
+        }),
+    }
+}
+
+fn comes_before(a: &Awaited, b: &Awaited) -> bool
+    ensures { result ≡ comes_before a.now b.now }
+{
+    match (a.last_request, b.last_request) {
+        (None, None) => a.since < b.since,
+        (None, Some(_)) => true,
+        (Some(_), None) => false,
+        (Some(last), Some(later)) => last < later,
+    }
+}

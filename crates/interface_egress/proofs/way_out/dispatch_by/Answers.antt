@@ -1,0 +1,14 @@
+use Rattle.std.proofs.Common.{ℕ, ◌≤◌, is_some, sym, subst}
+use Rattle.socket_base.specs.Packet.{packet_value}
+use Rattle.interface_egress.specs.Plan.{CanBeCarried}
+use Rattle.interface_egress.specs.declared.plan.Plan.{Plan}
+use Rattle.interface_egress.proofs.Planned.{planned_can_be_carried}
+use Rattle.interface_egress.proofs.way_out.dispatch_by.Goals as goal
+
+pub carry-requires-clause-fits : goal.carry-requires-clause-fits
+carry-requires-clause-fits g c =
+    let i = c.args.inner.now in
+    let left = c.args.fragmenter.now in
+    let p = packet_value c.args.packet.now in
+    let short : i.mtu ≤ 65535 = subst (λ (n : ℕ). n ≤ 65535) c.mtu-mtu.ensures.value c.mtu-mtu.ensures.high in
+    subst (λ (plan : Plan). CanBeCarried i.mtu left p plan) (sym c.requires.plan) (planned_can_be_carried i left p short c.requires.packet)
