@@ -17,6 +17,6 @@ fn queue<H: Drop>(alloc: Global, bytes: usize) -> Result<PacketBuffer<H>> {
 /// A UDP socket with room for some messages, bound to this port of every own address.
 pub fn datagrams(alloc: Global, port: u16) -> Result<udp::Socket> {
     let mut socket = udp::Socket::new(queue(alloc, 2048)?, queue(alloc, 2048)?);
-    socket.bind(port.into())?;
+    socket.bind(port)?;
     Ok(socket)
 }

@@ -28,7 +28,7 @@ fn is_at(port: u16, socket: &mut udp::Socket) -> bool {
         return true;
     }
     socket.close();
-    socket.bind(port.into()).is_ok()
+    socket.bind(port).is_ok()
 }
 
 /// The headers of a datagram that a socket at a port received.
