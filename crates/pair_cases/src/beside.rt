@@ -118,6 +118,7 @@ impl Beside {
                 self.socket.set_congestion_control(*control)
             }
             TcpSetting::Retries(limit) => self.socket.set_retries(*limit),
+            TcpSetting::MinRto(least) => self.socket.set_min_rto(*least),
             TcpSetting::PauseSynack(pause) => self.socket.pause_synack(*pause),
         }
     }

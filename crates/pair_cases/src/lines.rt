@@ -141,8 +141,16 @@ fn setting(words: &mut Words<'_>) -> Result<TcpSetting, Bad> {
         "tsval_generator" => tsval_generator(words),
         "congestion_control" => Ok(TcpSetting::CongestionControl(congestion_control(words)?)),
         "retries" => Ok(TcpSetting::Retries(words.byte_or_none()?)),
+        "min_rto" => min_rto(words),
         "pause_synack" => Ok(TcpSetting::PauseSynack(words.either("on", "off", Lack::On)?)),
         _ => Err(words.lacks(Lack::Setting)),
+    }
+}
+
+fn min_rto(words: &mut Words<'_>) -> Result<TcpSetting, Bad> {
+    match words.duration()? {
+        Some(least) => Ok(TcpSetting::MinRto(least)),
+        None => Err(words.lacks(Lack::Duration)),
     }
 }
 
