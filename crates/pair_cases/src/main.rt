@@ -51,7 +51,11 @@ fn play_case<W: Write>(alloc: Global, case: &Case, writer: &mut W) -> io::Result
     writer.write_all(b"== ")?;
     writer.write_all(case.name.as_slice())?;
     writer.write_all(b"\n")?;
-    let first = case.text.split(ends_line).next().unwrap_or(b"");
+    let first = case
+        .text
+        .split(|byte| ends_line(byte))
+        .next()
+        .unwrap_or(b"");
     match made(alloc, first) {
         Ok(mut played) => {
             writer.write_all(first)?;
@@ -82,7 +86,7 @@ fn play_events<W: Write>(
     script: &[u8],
     writer: &mut W,
 ) -> io::Result<bool> {
-    for (place, line) in script.split(ends_line).enumerate().skip(1) {
+    for (place, line) in script.split(|byte| ends_line(byte)).enumerate().skip(1) {
         if line.is_empty() {
             // Behind the last line feed.
             return Ok(true);
