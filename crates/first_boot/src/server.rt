@@ -1,4 +1,5 @@
 //! The server: it has one address to give, and one name to tell of.
+ghost use Rattle.dhcp_wire.specs.Written.{Fits};
 ghost use Rattle.net_base.specs.Time.{IsMoment};
 
 use crate::buffers::datagrams;
@@ -106,7 +107,9 @@ fn give(socket: &mut udp::Socket) {
 }
 
 /// What is answered to a client.
-fn answer_to<'a>(message: &DhcpRepr<'_>) -> DhcpRepr<'a> {
+fn answer_to<'a>(message: &DhcpRepr<'_>) -> DhcpRepr<'a>
+    ensures { Fits result }
+{
     DhcpRepr {
         message_type: match message.message_type {
             DhcpMessageType::Discover => DhcpMessageType::Offer,
