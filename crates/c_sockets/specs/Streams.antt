@@ -1,7 +1,8 @@
 -- The calls of TCP sockets that answer nothing but whether they were done.
 use Rattle.std.specs.Prelude.{ℕ, ◌-◌, ◌^◌, ◌==◌, if◌then◌else◌, List, ◌++◌, length, take, drop, min, Option, None, Some, Result, Ok, Err}
 use Rattle.sockets.specs.TcpCalls.{listen_answer, listen_after, close_after, abort_after, recv_refusal, recv_after}
-use Rattle.sockets.specs.TcpSettings.{set_timeout, set_keep_alive, set_ack_delay, set_nagle_enabled, set_hop_limit, set_tsval_generator, pause_synack, set_retries, set_congestion_control}
+use Rattle.sockets.specs.TcpSettings.{set_timeout, set_keep_alive, set_ack_delay, set_nagle_enabled, set_hop_limit, set_tsval_generator, pause_synack}
+use Rattle.sockets.specs.TcpSettings.{set_retries, set_congestion_control}
 use Rattle.sockets.specs.TcpReceive.{unbroken, lent}
 use Rattle.sockets.specs.TcpValue.{TcpValue, unoffered, queued_in}
 use Rattle.ip_wire.specs.IpEndpoint.{IpEndpoint}

@@ -26,5 +26,8 @@ module _ {D : Type 0} (moves : D → Move → D → Type 0) (t : ℤ) (Q : ℕ �
   polls_count budget n s s' changed holds polls =
       let cost = polls_cost moves t 1 Q all_priced budget n s s' changed holds polls in
       let few = count_by-le-length is_used s.places in
-      let most : budget * (1 + (1 + sockets_in s.places)) ≤ budget * (length s.places + 2) = mul-le-mul_left budget (omega (arith, few)) in
-      (kept.more (n + budget * (1 + (1 + sockets_in s.places))) (n + budget * (length s.places + 2)) s' (omega (arith, most)) cost.0, cost.1, same_length s.places s'.places cost.2)
+      let most : budget * (1 + (1 + sockets_in s.places)) ≤ budget * (length s.places + 2) = mul-le-mul_left budget (omega (arith, few)) in (
+        kept.more (n + budget * (1 + (1 + sockets_in s.places))) (n + budget * (length s.places + 2)) s' (omega (arith, most)) cost.0,
+        cost.1,
+        same_length s.places s'.places cost.2,
+      )

@@ -1,5 +1,6 @@
 -- When a socket is due, and all of them.
-use Rattle.std.proofs.Common.{◌≡◌, Bool, true, false, not, ◌&&◌, if◌then◌else◌, ℤ, pos, ◌≤ℤ◌, ◌<ℤ◌, int_lt, List, [], ◌∷◌, map, Option, Some, None, refl, sym, ap, ◌∙◌, subst, arith}
+use Rattle.std.proofs.Common.{◌≡◌, Bool, true, false, not, ◌&&◌, if◌then◌else◌, ℤ, pos, ◌≤ℤ◌, ◌<ℤ◌, int_lt, List, [], ◌∷◌, map, Option, Some, None, refl, sym}
+use Rattle.std.proofs.Common.{ap, ◌∙◌, subst, arith}
 use Rattle.std.specs.List.{fold}
 use Rattle.std.proofs.lemmas.List.Folds.{fold-map}
 use Rattle.socket_base.specs.Offers.{IsBefore}
@@ -39,7 +40,8 @@ module _ (t asked_at : ℤ) (p : PollAt) where
       unwaited (int_lt asked_at w.silent_until) w.silent_until
       (subst (λ (known : Bool). (not known && int_lt t w.silent_until) ≡ false) (stays refl) idle) early
 
-  unwaited_same : (test : Bool) (until : ℤ) → int_lt t until ≡ false → IsEarlier t (instant_of (if test then At.Time until else p)) → instant_of p ≡ instant_of (if test then At.Time until else p)
+  unwaited_same : (test : Bool) (until : ℤ) → int_lt t until ≡ false → IsEarlier t (instant_of (if test then At.Time until else p)) →
+      instant_of p ≡ instant_of (if test then At.Time until else p)
   unwaited_same true until late early = absurd (not_both t until early late)
   unwaited_same false until late early = refl
 
@@ -81,6 +83,7 @@ module _ (t : ℤ) (asked : InnerValue) where
   all_later ps early = (later_from None ps early).1
 
 -- the soonest is known by the instants of the places
-pub soonest_of : (asked : InnerValue) (ps qs : List (SocketStorage Socket)) → map (place_instant asked) ps ≡ map (place_instant asked) qs → soonest asked ps ≡ soonest asked qs
+pub soonest_of : (asked : InnerValue) (ps qs : List (SocketStorage Socket)) → map (place_instant asked) ps ≡ map (place_instant asked) qs →
+    soonest asked ps ≡ soonest asked qs
 soonest_of asked ps qs same =
     sym (fold-map earlier (place_instant asked) None ps) ∙ ap (fold earlier None) same ∙ fold-map earlier (place_instant asked) None qs

@@ -41,7 +41,8 @@ module _ {D : Type 0} (moves : D → Move → D → Type 0) (t : ℤ) (Q : ℕ �
   still : (i i' : InnerValue) → i' ≡ i → Q n i → Q (n + 1) i'
   still i i' is so = kept.more n (n + 1) i' (omega arith) (subst (Q n) (sym is) so)
 
-  out : (d d' : D) (i i' : InnerValue) (l l' : Option LeftValue) (p : PacketValue) (busy : Bool) (sent : Sent) → GoesOut moves d i l p (plan_of i busy p.header) sent d' i' l' → Q n i → Q (n + 1) i'
+  out : (d d' : D) (i i' : InnerValue) (l l' : Option LeftValue) (p : PacketValue) (busy : Bool) (sent : Sent) →
+      GoesOut moves d i l p (plan_of i busy p.header) sent d' i' l' → Q n i → Q (n + 1) i'
   out d d' i i' l l' p busy sent goes so = kept.goes n i i' (plan_of i busy p.header) sent p.header (changes moves d d' i i' l l' p busy sent goes).1 so
 
   -- ARRIVALS
@@ -50,7 +51,8 @@ module _ {D : Type 0} (moves : D → Move → D → Type 0) (t : ℤ) (Q : ℕ �
   replied awaited None x x' is so = still x.inner x'.inner (ap (λ (y : Sender D). y.inner) is) so
   replied awaited (Some (Replies.Tells packet)) x x' tells so = still x.inner x'.inner tells.2 so
   replied awaited (Some (Replies.Answers p)) x x' (inl held) so = still x.inner x'.inner (ap (λ (y : Sender D). y.inner) held.0) so
-  replied awaited (Some (Replies.Answers p)) x x' (inr answers) so = out x.device x'.device x.inner x'.inner x.left x'.left p (is_some x.left) answers.0 answers.1 so
+  replied awaited (Some (Replies.Answers p)) x x' (inr answers) so =
+      out x.device x'.device x.inner x'.inner x.left x'.left p (is_some x.left) answers.0 answers.1 so
 
   takes_count : (s s' : State D) (answer : Option Bool) → Q n s.host.inner → Takes moves s answer s' → Q (n + 1) s'.host.inner
   takes_count s s' None so takes = still s.host.inner s'.host.inner (ap (λ (x : State D). x.host.inner) takes.1) so
@@ -94,7 +96,8 @@ module _ {D : Type 0} (moves : D → Move → D → Type 0) (t : ℤ) (Q : ℕ �
     turns_count (Some item) None turned turns = absurd turns
 
 -- a piece has its number already
-pub hosts_priced : {D : Type 0} (moves : D → Move → D → Type 0) (t : ℤ) (Q : ℕ → InnerValue → Type 0) → IsHostCount t Q → IsPriced moves t 0 (λ (n : ℕ) (s : State D). Q n s.host.inner)
+pub hosts_priced : {D : Type 0} (moves : D → Move → D → Type 0) (t : ℤ) (Q : ℕ → InnerValue → Type 0) → IsHostCount t Q →
+    IsPriced moves t 0 (λ (n : ℕ) (s : State D). Q n s.host.inner)
 hosts_priced moves t Q kept = record {
   more = λ n m s up so. kept.more n m s.host.inner up so;
   maintenance = λ n s so. kept.begins n s.host.inner so;

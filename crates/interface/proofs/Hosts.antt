@@ -34,7 +34,15 @@ module _ {D : Type 0} (moves : D → Move → D → Type 0) (t : ℤ) (Q : Inner
 -- SETTINGS
 
 begins_so : (t : ℤ) (old i : InnerValue) → HasSettingsOf old i → HasSettingsOf old (at_moment t i)
-begins_so t old i has = record { hardware = has.hardware; mtu = has.mtu; checksums = has.checksums; addresses = has.addresses; any_ip = has.any_ip; routes = has.routes }
+begins_so t old i has = record {
+  hardware = has.hardware;
+  mtu = has.mtu;
+  checksums = has.checksums;
+  addresses = has.addresses;
+  any_ip = has.any_ip;
+  routes =
+      has.routes;
+}
 
 arrives_so : (old i i' : InnerValue) → HasSameSettings i i' → HasSettingsOf old i → HasSettingsOf old i'
 arrives_so old i i' same has = record {
@@ -56,7 +64,8 @@ sends_so old i i' same has = record {
   routes = ap (λ (x : InnerValue). x.routes) same ∙ has.routes;
 }
 
-pub settings_so : {D : Type 0} (moves : D → Move → D → Type 0) (t : ℤ) (budget : ℕ) (s s' : State D) (changed : Bool) → Polls moves t budget s changed s' → HasSettingsOf s.host.inner s'.host.inner
+pub settings_so : {D : Type 0} (moves : D → Move → D → Type 0) (t : ℤ) (budget : ℕ) (s s' : State D) (changed : Bool) → Polls moves t budget s changed s' →
+    HasSettingsOf s.host.inner s'.host.inner
 settings_so {D} moves t budget s s' changed polls =
     let old : InnerValue = s.host.inner in
     let kept = hosts_keep moves t (HasSettingsOf old) (arrives_so old) (sends_so old) (begins_so t old) in

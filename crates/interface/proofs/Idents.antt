@@ -58,4 +58,5 @@ polls_take {D} moves t budget s s' changed polls =
     let cost : ℕ = budget * (1 + (0 + sockets_in s.places)) in
     let most : cost ≤ budget * (1 + sockets_in s.places) = mul-le-mul_left budget (omega arith) in
     more i (0 + cost) (budget * (1 + sockets_in s.places)) s'.host.inner (omega (arith, most))
-    (polls_cost moves t 0 (λ (n : ℕ) (x : State D). TakesIdents n i x.host.inner) (hosts_priced moves t (λ (n : ℕ) (j : InnerValue). TakesIdents n i j) (counted i t)) budget 0 s s' changed start polls).0
+    (polls_cost moves t 0 (λ (n : ℕ) (x : State D). TakesIdents n i x.host.inner)
+    (hosts_priced moves t (λ (n : ℕ) (j : InnerValue). TakesIdents n i j) (counted i t)) budget 0 s s' changed start polls).0

@@ -1,5 +1,6 @@
 -- What maintenance, arrivals, pieces and turns keep is kept by a poll.
-use Rattle.std.proofs.Common.{◌≡◌, ℕ, zero, suc, ℤ, Bool, true, false, ◌||◌, inl, inr, List, [], ◌∷◌, ◌++◌, Option, Some, None, refl, sym, subst, append_assoc, append-nil}
+use Rattle.std.proofs.Common.{◌≡◌, ℕ, zero, suc, ℤ, Bool, true, false, ◌||◌, inl, inr, List, [], ◌∷◌, ◌++◌, Option, Some, None, refl, sym, subst, append_assoc}
+use Rattle.std.proofs.Common.{append-nil}
 use Rattle.net_base.specs.Device.{Move}
 use Rattle.ip_wire.specs.IpAddress.{IpAddress}
 use Rattle.sockets.specs.declared.socket.Socket.{Socket}
@@ -26,19 +27,23 @@ module _ {D : Type 0} (moves : D → Move → D → Type 0) (t : ℤ) (P : State
   -- THE WAY OUT
 
   module _ (h : HostValue) where
-    pass_keeps : (turn : Option IpAddress) (ps before : List (SocketStorage Socket)) (x : Sender D) (changed : Bool) (e : Passed D) → Holds (sending_as h x (before ++ ps)) → Pass moves turn x before changed ps e → Holds (behind h e)
+    pass_keeps : (turn : Option IpAddress) (ps before : List (SocketStorage Socket)) (x : Sender D) (changed : Bool) (e : Passed D) →
+        Holds (sending_as h x (before ++ ps)) → Pass moves turn x before changed ps e → Holds (behind h e)
     pass_keeps turn [] before x changed e holds ends =
-        subst (λ (y : Passed D). Holds (behind h y)) (sym ends) (subst (λ (qs : List (SocketStorage Socket)). Holds (sending_as h x qs)) (append-nil before) holds)
+        subst (λ (y : Passed D). Holds (behind h y)) (sym ends)
+        (subst (λ (qs : List (SocketStorage Socket)). Holds (sending_as h x qs)) (append-nil before) holds)
     pass_keeps turn (p ∷ ps) before x changed e holds (inl goes) =
         let next : P (sending_as h goes.1 (before ++ goes.2 ∷ ps)) = kept.turns turn h before ps p goes.2 x goes.1 (Turn.Next goes.0) holds.1 holds.0 goes.3 in
         let runs = turn_runs moves t turn x goes.1 p goes.2 (Turn.Next goes.0) goes.3 holds.1 in
         pass_keeps turn ps (before ++ goes.2 ∷ []) goes.1 (changed || goes.0) e
         (subst (λ (qs : List (SocketStorage Socket)). P (sending_as h goes.1 qs)) (sym (append_assoc before (goes.2 ∷ []) ps)) next, runs) goes.4
     pass_keeps turn (p ∷ ps) before x changed e holds (inr stops) =
-        let next : P (sending_as h stops.1 (before ++ stops.2 ∷ ps)) = kept.turns turn h before ps p stops.2 x stops.1 (Turn.Stop stops.0) holds.1 holds.0 stops.3 in
+        let next : P (sending_as h stops.1 (before ++ stops.2 ∷ ps)) =
+        kept.turns turn h before ps p stops.2 x stops.1 (Turn.Stop stops.0) holds.1 holds.0 stops.3 in
         subst (λ (y : Passed D). Holds (behind h y)) (sym stops.4) (next, turn_runs moves t turn x stops.1 p stops.2 (Turn.Stop stops.0) stops.3 holds.1)
 
-    clears_keeps : (ps : List (SocketStorage Socket)) (x x' : Sender D) (l : Option LeftValue) (clear : Bool) → x.left ≡ l → Holds (sending_as h x ps) → Clears moves l x clear x' → Holds (sending_as h x' ps)
+    clears_keeps : (ps : List (SocketStorage Socket)) (x x' : Sender D) (l : Option LeftValue) (clear : Bool) → x.left ≡ l → Holds (sending_as h x ps) →
+        Clears moves l x clear x' → Holds (sending_as h x' ps)
     clears_keeps ps x x' None clear is holds clears = subst (λ (y : Sender D). Holds (sending_as h y ps)) (sym clears.1) holds
     clears_keeps ps x x' (Some l) clear is holds clears =
         (kept.pieces h ps x x' l clear holds.1 is holds.0 clears.0 clears.1, runs_where t x.inner x'.inner clears.1 holds.1)
@@ -46,7 +51,8 @@ module _ {D : Type 0} (moves : D → Move → D → Type 0) (t : ℤ) (P : State
     egress_keeps : (x : Sender D) (ps : List (SocketStorage Socket)) (e : Passed D) → Holds (sending_as h x ps) → Egress moves x ps e → Holds (behind h e)
     egress_keeps x ps e holds (inl stays) =
         subst (λ (y : Passed D). Holds (behind h y)) (sym stays.2) (clears_keeps ps x stays.0 x.left false refl holds stays.1)
-    egress_keeps x ps e holds (inr goes) = pass_keeps (turn_of goes.0.inner ps) ps [] goes.0 false e (clears_keeps ps x goes.0 x.left true refl holds goes.1) goes.2
+    egress_keeps x ps e holds (inr goes) =
+        pass_keeps (turn_of goes.0.inner ps) ps [] goes.0 false e (clears_keeps ps x goes.0 x.left true refl holds goes.1) goes.2
 
   pub out_step_keeps : (s s' : State D) (answer : Option Bool) → Holds s → EgressStep moves t s answer s' → Holds s'
   out_step_keeps s s' answer holds step =
@@ -71,4 +77,5 @@ module _ {D : Type 0} (moves : D → Move → D → Type 0) (t : ℤ) (P : State
   pub polls_keep : (budget : ℕ) (s s' : State D) (changed : Bool) → P s → Polls moves t budget s changed s' → P s' × RunsAt t s'.host.inner
   polls_keep budget s s' changed holds polls =
       repeats_keep (EgressStep moves t) out_step_keeps budget polls.0 s' polls.1 changed
-      (repeats_keep (IngressStep moves t) (λ a b answer h step. in_step_keeps a b answer h.0 step) budget (begun t s) polls.0 false polls.1 (kept.maintenance s holds, (refl, refl)) polls.2) polls.3
+      (repeats_keep (IngressStep moves t) (λ a b answer h step. in_step_keeps a b answer h.0 step) budget (begun t s) polls.0 false polls.1
+      (kept.maintenance s holds, (refl, refl)) polls.2) polls.3

@@ -20,7 +20,8 @@ missing_unfound c moment = by (int_lt moment c.silent) where
   by true = refl
   by false = refl
 
-found_where : (test : Bool) (hardware : HardwareAddress) (c : CacheValue) (moment : ℤ) → is_found (if test then Known.Found hardware else missing c moment) ≡ test
+found_where : (test : Bool) (hardware : HardwareAddress) (c : CacheValue) (moment : ℤ) →
+    is_found (if test then Known.Found hardware else missing c moment) ≡ test
 found_where true hardware c moment = refl
 found_where false hardware c moment = missing_unfound c moment
 

@@ -1,5 +1,6 @@
 -- At a device whose moves are determined a poll has one end.
-use Rattle.std.proofs.Common.{◌≡◌, ◌≤◌, ℕ, zero, suc, ℤ, Bool, true, false, ◌||◌, ◌&&◌, inl, inr, List, [], ◌∷◌, ◌++◌, Option, Some, None, is_some, refl, sym, ap, ◌∙◌, subst}
+use Rattle.std.proofs.Common.{◌≡◌, ◌≤◌, ℕ, zero, suc, ℤ, Bool, true, false, ◌||◌, ◌&&◌, inl, inr, List, [], ◌∷◌, ◌++◌, Option, Some, None, is_some, refl, sym}
+use Rattle.std.proofs.Common.{ap, ◌∙◌, subst}
 use Rattle.net_base.specs.Device.{Move, Took, Empty, Allowed, Emitted, Denied}
 use Rattle.ip_wire.specs.Ip.{destination_of}
 use Rattle.ip_wire.specs.IpAddress.{IpAddress}
@@ -32,7 +33,8 @@ use Rattle.interface.specs.Awaited.{turn_of}
 use Rattle.interface.specs.Host.{Sender}
 use Rattle.interface.specs.Pass.{Pass, Passed, passed}
 use Rattle.interface.specs.WayOut.{Clears, Egress, PieceLeaves}
-use Rattle.interface.specs.Turn.{Leaves, SendsBy, Answers, TurnsIf, ItemTurns, PlaceTurns, is_waiting, let_through, turned_by, settled_by, plan_at, held_at, outcome_by, waits_until}
+use Rattle.interface.specs.Turn.{Leaves, SendsBy, Answers, TurnsIf, ItemTurns, PlaceTurns, is_waiting, let_through, turned_by, settled_by, plan_at, held_at}
+use Rattle.interface.specs.Turn.{outcome_by, waits_until}
 use Rattle.interface.specs.declared.turn.Turned.{Turned}
 use Rattle.interface.specs.declared.turn.Turned.TheVariants as Turn
 use Rattle.interface.specs.State.{State, at_device}
@@ -43,7 +45,8 @@ use Rattle.interface.specs.Steady.{IsSteady}
 
 -- what an offer answers and leaves is determined
 abbrev pub OneOffer : Type 0
-OneOffer = (cx : ContextValue) (s left right : Socket) (answer other : Answer.Offer) → Offers cx s answer left → Offers cx s other right → (answer ≡ other) × (left ≡ right)
+OneOffer = (cx : ContextValue) (s left right : Socket) (answer other : Answer.Offer) → Offers cx s answer left → Offers cx s other right → (answer ≡ other) ×
+    (left ≡ right)
 
 same_sender : {D : Type 0} (x y : Sender D) → x.device ≡ y.device → x.inner ≡ y.inner → x.left ≡ y.left → x ≡ y
 same_sender x y devices inners lefts = λ k. record { device = devices k; inner = inners k; left = lefts k }
@@ -79,15 +82,19 @@ module _ (one_offer : OneOffer) {D : Type 0} (moves : D → Move → D → Type 
   det_once old new i None taken once det = subst Det (sym once) det
   det_once old new i (Some d) taken once det = det_of old new i d taken once det
 
-  det_out : (old new : D) (i i' : InnerValue) (l l' : Option LeftValue) (p : PacketValue) (busy : Bool) (sent : Sent) → GoesOut moves old i l p (plan_of i busy p.header) sent new i' l' → Det old → Det new
+  det_out : (old new : D) (i i' : InnerValue) (l l' : Option LeftValue) (p : PacketValue) (busy : Bool) (sent : Sent) →
+      GoesOut moves old i l p (plan_of i busy p.header) sent new i' l' → Det old → Det new
   det_out old new i i' l l' p busy sent goes =
       det_once old new i (departure_by i p (plan_of i busy p.header)) (was_taken sent) (changes moves old new i i' l l' p busy sent goes).0
 
-  differ : (old new other : D) (i : InnerValue) (d : Departure) → frame_len_of i d ≤ longest → Det old → Departs moves old i d true new → Departs moves old i d false other → ⊥
+  differ : (old new other : D) (i : InnerValue) (d : Departure) → frame_len_of i d ≤ longest → Det old → Departs moves old i d true new →
+      Departs moves old i d false other → ⊥
   differ old new other i d low det went denied =
-      det.takes new other (frame_of i d) (subst (λ (n : ℕ). n ≤ longest) (sym went.1) low) went.0 (subst (λ (n : ℕ). moves old (Denied n) other) (sym went.1) denied)
+      det.takes new other (frame_of i d) (subst (λ (n : ℕ). n ≤ longest) (sym went.1) low) went.0
+      (subst (λ (n : ℕ). moves old (Denied n) other) (sym went.1) denied)
 
-  one_sent : (d : Departure) (old new other : D) (i : InnerValue) (a b : Bool) → frame_len_of i d ≤ longest → Det old → Departs moves old i d a new → Departs moves old i d b other → new ≡ other
+  one_sent : (d : Departure) (old new other : D) (i : InnerValue) (a b : Bool) → frame_len_of i d ≤ longest → Det old → Departs moves old i d a new →
+      Departs moves old i d b other → new ≡ other
   one_sent d old new other i true true low det one two = det.one_end new other (Emitted (frame_of i d)) one.0 two.0
   one_sent d old new other i false false low det one two = det.one_end new other (Denied (frame_len_of i d)) one two
   one_sent d old new other i true false low det one two = absurd (differ old new other i d low det one two)
@@ -97,11 +104,13 @@ module _ (one_offer : OneOffer) {D : Type 0} (moves : D → Move → D → Type 
   SameOut s new j k t other j' k' = (s ≡ t) × (new ≡ other) × (j ≡ j') × (k ≡ k')
 
   one_out : (old new other : D) (i j j' : InnerValue) (l k k' : Option LeftValue) (p : PacketValue) (busy : Bool) (s t : Sent) → Det old
-      → GoesOut moves old i l p (plan_of i busy p.header) s new j k → GoesOut moves old i l p (plan_of i busy p.header) t other j' k' → SameOut s new j k t other j' k'
+      → GoesOut moves old i l p (plan_of i busy p.header) s new j k → GoesOut moves old i l p (plan_of i busy p.header) t other j' k' →
+      SameOut s new j k t other j' k'
   one_out old new other i j j' l k k' p busy s t det one two =
       let once = (changes moves old new i j l k p busy s one).0 in
       one_way moves longest old det i l p (plan_of i busy p.header)
-      (λ d is. short_of old new i d (was_taken s) (subst (λ (o : Option Departure). SendsOnce moves old i o (was_taken s) new) is once)) s t new other j j' k k' one two
+      (λ d is. short_of old new i d (was_taken s) (subst (λ (o : Option Departure). SendsOnce moves old i o (was_taken s) new) is once)) s t new other j j'
+      k k' one two
 
   -- TURNS
 
@@ -115,11 +124,13 @@ module _ (one_offer : OneOffer) {D : Type 0} (moves : D → Move → D → Type 
     same_sent : (s t : Sent) → Some s ≡ Some t → s ≡ t
     same_sent s t is = cc
 
-    rests_or_goes : (g : Bool) (h : Option Sent) (s : Sent) (x y mid : D) → Det x → moves x (Allowed g) y → outcome_by g h ≡ Some s → moves x (Allowed true) mid → h ≡ None → ⊥
+    rests_or_goes : (g : Bool) (h : Option Sent) (s : Sent) (x y mid : D) → Det x → moves x (Allowed g) y → outcome_by g h ≡ Some s →
+        moves x (Allowed true) mid → h ≡ None → ⊥
     rests_or_goes false h s x y mid det rests is goes none = det.gives mid y goes rests
     rests_or_goes true h s x y mid det rests is goes none = let off = sym none ∙ is in cc
 
-    one_leaves : (x y z : Sender D) (m : Meta) (p : PacketValue) (s t : Sent) → Det x.device → Leaves moves turn x m p s y → Leaves moves turn x m p t z → (s ≡ t) × (y ≡ z)
+    one_leaves : (x y z : Sender D) (m : Meta) (p : PacketValue) (s t : Sent) → Det x.device → Leaves moves turn x m p s y → Leaves moves turn x m p t z →
+        (s ≡ t) × (y ≡ z)
     one_leaves x y z m p s t det (inl a) (inl b) =
         let given : a.0 ≡ b.0 = one_given a.0 b.0 x.device y.device z.device det a.1 b.1 in
         let again : moves x.device (Allowed a.0) z.device = subst (λ (g : Bool). moves x.device (Allowed g) z.device) (sym given) b.1 in (
@@ -132,12 +143,14 @@ module _ (one_offer : OneOffer) {D : Type 0} (moves : D → Move → D → Type 
         let mids : b.0 ≡ a.0 = det.one_end b.0 a.0 (Allowed true) b.1 a.1 in
         let two : GoesOut moves a.0 x.inner x.left p (plan_of x.inner (is_some x.left) p.header) t z.device z.inner z.left =
         subst (λ (d : D). GoesOut moves d x.inner x.left p (plan_of x.inner (is_some x.left) p.header) t z.device z.inner z.left) mids b.2 in
-        let same = one_out a.0 y.device z.device x.inner y.inner z.inner x.left y.left z.left p (is_some x.left) s t (steady.stays x.device a.0 (Allowed true) det a.1) a.2 two in
+        let same = one_out a.0 y.device z.device x.inner y.inner z.inner x.left y.left z.left p (is_some x.left) s t
+        (steady.stays x.device a.0 (Allowed true) det a.1) a.2 two in
         (same.0, same_sender y z same.1 same.2 same.3)
 
     det_leaves : (x y : Sender D) (m : Meta) (p : PacketValue) (s : Sent) → Leaves moves turn x m p s y → Det x.device → Det y.device
     det_leaves x y m p s (inl a) det = steady.stays x.device y.device (Allowed a.0) det a.1
-    det_leaves x y m p s (inr a) det = det_out a.0 y.device x.inner y.inner x.left y.left p (is_some x.left) s a.2 (steady.stays x.device a.0 (Allowed true) det a.1)
+    det_leaves x y m p s (inr a) det =
+        det_out a.0 y.device x.inner y.inner x.left y.left p (is_some x.left) s a.2 (steady.stays x.device a.0 (Allowed true) det a.1)
 
     abbrev SameTurn : {A : Type 0} → Turned → Sender D → A → Turned → Sender D → A → Type 0
     SameTurn a y p b z q = (a ≡ b) × (y ≡ z) × (p ≡ q)
@@ -153,7 +166,8 @@ module _ (one_offer : OneOffer) {D : Type 0} (moves : D → Move → D → Type 
               ∙ ap (λ (v : Sender D). settled_by two.0 x.inner.moment (waits_until (plan_at x p) v.inner) (destination_of p.header) item) same.1 ∙ sym two.3,
         )
 
-    det_sends : (o : Option PacketValue) (x y : Sender D) (item m : Item Socket) (changed : Bool) (a : Turned) → SendsBy moves turn o x item changed a y m → Det x.device → Det y.device
+    det_sends : (o : Option PacketValue) (x y : Sender D) (item m : Item Socket) (changed : Bool) (a : Turned) → SendsBy moves turn o x item changed a y m →
+        Det x.device → Det y.device
     det_sends None x y item m changed a one det = absurd one
     det_sends (Some p) x y item m changed a one det = det_leaves x y item.meta p one.0 one.1 det
 
@@ -165,7 +179,8 @@ module _ (one_offer : OneOffer) {D : Type 0} (moves : D → Move → D → Type 
     det_same : (x y : Sender D) → y ≡ x → Det x.device → Det y.device
     det_same x y is det = subst (λ (v : Sender D). Det v.device) (sym is) det
 
-    det_answers : (answer : Answer.Offer) (x y : Sender D) (item m : Item Socket) (a : Turned) → Answers moves turn answer x item a y m → Det x.device → Det y.device
+    det_answers : (answer : Answer.Offer) (x y : Sender D) (item m : Item Socket) (a : Turned) → Answers moves turn answer x item a y m → Det x.device →
+        Det y.device
     det_answers (Offer.Silent changed) x y item m a one det = det_same x y one.1 det
     det_answers (Offer.Packet changed) x y item m a one det = det_sends (offered_by item.socket) x y item m changed a one det
 
@@ -183,7 +198,8 @@ module _ (one_offer : OneOffer) {D : Type 0} (moves : D → Move → D → Type 
     det_turn true x y item m a one det = det_same x y one.1 det
     det_turn false x y item m a one det = det_answers one.0 x y (record item { socket = one.1 }) m a one.3 det
 
-    one_item : (o p q : Option (Item Socket)) (x y z : Sender D) (a b : Turned) → Det x.device → ItemTurns moves turn o x a y p → ItemTurns moves turn o x b z q → SameTurn a y p b z q
+    one_item : (o p q : Option (Item Socket)) (x y z : Sender D) (a b : Turned) → Det x.device → ItemTurns moves turn o x a y p →
+        ItemTurns moves turn o x b z q → SameTurn a y p b z q
     one_item None None None x y z a b det one two = (one.0 ∙ sym two.0, one.1 ∙ sym two.1, refl)
     one_item (Some item) (Some m) (Some n) x y z a b det one two =
         let same = one_turn (is_waiting x.inner item.meta) x y z (let_through x.inner item) m n a b det one two in
@@ -199,7 +215,8 @@ module _ (one_offer : OneOffer) {D : Type 0} (moves : D → Move → D → Type 
     det_item None (Some m) x y a one det = absurd one
     det_item (Some item) None x y a one det = absurd one
 
-    one_place : (o p q : SocketStorage Socket) (x y z : Sender D) (a b : Turned) → Det x.device → PlaceTurns moves turn x o a y p → PlaceTurns moves turn x o b z q → SameTurn a y p b z q
+    one_place : (o p q : SocketStorage Socket) (x y z : Sender D) (a b : Turned) → Det x.device → PlaceTurns moves turn x o a y p →
+        PlaceTurns moves turn x o b z q → SameTurn a y p b z q
     one_place o p q x y z a b det one two =
         let same = one_item o.inner p.inner q.inner x y z a b det one two in
         (same.0, same.1, λ k. record { inner = same.2 k })
@@ -212,7 +229,8 @@ module _ (one_offer : OneOffer) {D : Type 0} (moves : D → Move → D → Type 
   abbrev Places : Type 0
   Places = List (SocketStorage Socket)
 
-  one_pass : (turn : Option IpAddress) (ps before : Places) (x : Sender D) (changed : Bool) (e f : Passed D) → Det x.device → Pass moves turn x before changed ps e → Pass moves turn x before changed ps f → e ≡ f
+  one_pass : (turn : Option IpAddress) (ps before : Places) (x : Sender D) (changed : Bool) (e f : Passed D) → Det x.device →
+      Pass moves turn x before changed ps e → Pass moves turn x before changed ps f → e ≡ f
   one_pass turn [] before x changed e f det one two = one ∙ sym two
   one_pass turn (p ∷ ps) before x changed e f det (inl a) (inl b) =
       let same = one_place turn p b.2 a.2 x b.1 a.1 (Turn.Next b.0) (Turn.Next a.0) det b.3 a.3 in
@@ -231,14 +249,16 @@ module _ (one_offer : OneOffer) {D : Type 0} (moves : D → Move → D → Type 
       ∙ ap (λ (v : SocketStorage Socket). passed a.1 (before ++ v ∷ ps) (changed || b.0)) same.2
       ∙ ap (λ (v : Sender D). passed v (before ++ b.2 ∷ ps) (changed || b.0)) same.1 ∙ sym b.4
 
-  det_pass : (turn : Option IpAddress) (ps before : Places) (x : Sender D) (changed : Bool) (e : Passed D) → Pass moves turn x before changed ps e → Det x.device → Det e.sender.device
+  det_pass : (turn : Option IpAddress) (ps before : Places) (x : Sender D) (changed : Bool) (e : Passed D) → Pass moves turn x before changed ps e →
+      Det x.device → Det e.sender.device
   det_pass turn [] before x changed e one det = subst (λ (v : Passed D). Det v.sender.device) (sym one) det
   det_pass turn (p ∷ ps) before x changed e (inl a) det =
       det_pass turn ps (before ++ a.2 ∷ []) a.1 (changed || a.0) e a.4 (det_place turn p a.2 x a.1 (Turn.Next a.0) a.3 det)
   det_pass turn (p ∷ ps) before x changed e (inr a) det =
       subst (λ (v : Passed D). Det v.sender.device) (sym a.4) (det_place turn p a.2 x a.1 (Turn.Stop a.0) a.3 det)
 
-  one_piece_leaves : (l : LeftValue) (x y z : Sender D) (a b : Bool) → Det x.device → y.inner ≡ x.inner → z.inner ≡ x.inner → PieceLeaves moves l x a y → PieceLeaves moves l x b z → (a ≡ b) × (y ≡ z)
+  one_piece_leaves : (l : LeftValue) (x y z : Sender D) (a b : Bool) → Det x.device → y.inner ≡ x.inner → z.inner ≡ x.inner → PieceLeaves moves l x a y →
+      PieceLeaves moves l x b z → (a ≡ b) × (y ≡ z)
   one_piece_leaves l x y z a b det i j (inl one) (inl two) =
       (one.1 ∙ sym two.1, same_sender y z (det.one_end y.device z.device (Allowed false) one.0 two.0) (i ∙ sym j) (one.2 ∙ sym two.2))
   one_piece_leaves l x y z a b det i j (inl one) (inr two) = absurd (det.gives two.0 y.device two.1 one.0)
@@ -254,7 +274,8 @@ module _ (one_offer : OneOffer) {D : Type 0} (moves : D → Move → D → Type 
   det_piece_leaves : (l : LeftValue) (x y : Sender D) (a : Bool) → PieceLeaves moves l x a y → Det x.device → Det y.device
   det_piece_leaves l x y a (inl one) det = steady.stays x.device y.device (Allowed false) det one.0
   det_piece_leaves l x y a (inr one) det =
-      det_of one.0 y.device x.inner (next_departure x.inner.mtu l) a (piece_sends moves one.0 y.device x.inner l y.left a one.2) (steady.stays x.device one.0 (Allowed true) det one.1)
+      det_of one.0 y.device x.inner (next_departure x.inner.mtu l) a (piece_sends moves one.0 y.device x.inner l y.left a one.2)
+      (steady.stays x.device one.0 (Allowed true) det one.1)
 
   one_clears : (l : Option LeftValue) (x y z : Sender D) (a b : Bool) → Det x.device → Clears moves l x a y → Clears moves l x b z → (a ≡ b) × (y ≡ z)
   one_clears None x y z a b det one two = (one.0 ∙ sym two.0, one.1 ∙ sym two.1)
@@ -271,7 +292,8 @@ module _ (one_offer : OneOffer) {D : Type 0} (moves : D → Move → D → Type 
   one_egress x ps e f det (inr a) (inl b) = absurd (let same = (one_clears x.left x a.0 b.0 true false det a.1 b.1).0 in cc)
   one_egress x ps e f det (inr a) (inr b) =
       let same = one_clears x.left x b.0 a.0 true true det b.1 a.1 in
-      one_pass (turn_of a.0.inner ps) ps [] a.0 false e f (det_clears x.left x a.0 true a.1 det) a.2 (subst (λ (v : Sender D). Pass moves (turn_of v.inner ps) v [] false ps f) same.1 b.2)
+      one_pass (turn_of a.0.inner ps) ps [] a.0 false e f (det_clears x.left x a.0 true a.1 det) a.2
+      (subst (λ (v : Sender D). Pass moves (turn_of v.inner ps) v [] false ps f) same.1 b.2)
 
   det_egress : (x : Sender D) (ps : Places) (e : Passed D) → Egress moves x ps e → Det x.device → Det e.sender.device
   det_egress x ps e (inl a) det = subst (λ (v : Passed D). Det v.sender.device) (sym a.2) (det_clears x.left x a.0 false a.1 det)
@@ -291,11 +313,13 @@ module _ (one_offer : OneOffer) {D : Type 0} (moves : D → Move → D → Type 
 
   -- THE WAY IN
 
-  one_replied : (awaited : Bool) (reply : Option ReplyValue) (x y z : Sender D) → Det x.device → Replied moves awaited reply x y → Replied moves awaited reply x z → y ≡ z
+  one_replied : (awaited : Bool) (reply : Option ReplyValue) (x y z : Sender D) → Det x.device → Replied moves awaited reply x y →
+      Replied moves awaited reply x z → y ≡ z
   one_replied awaited None x y z det one two = one ∙ sym two
   one_replied awaited (Some (Replies.Tells packet)) x y z det one two =
       let low = short_of x.device y.device x.inner (Departures.Tells packet) one.0 one.1 in
-      same_sender y z (one_sent (Departures.Tells packet) x.device y.device z.device x.inner one.0 two.0 low det one.1 two.1) (one.2 ∙ sym two.2) (one.3 ∙ sym two.3)
+      same_sender y z (one_sent (Departures.Tells packet) x.device y.device z.device x.inner one.0 two.0 low det one.1 two.1) (one.2 ∙
+      sym two.2) (one.3 ∙ sym two.3)
   one_replied awaited (Some (Replies.Answers p)) x y z det (inl one) (inl two) = one.0 ∙ sym two.0
   one_replied awaited (Some (Replies.Answers p)) x y z det (inl one) (inr two) = absurd (both_read (awaited && would_ask x p) one.1 two.3)
   one_replied awaited (Some (Replies.Answers p)) x y z det (inr one) (inl two) = absurd (both_read (awaited && would_ask x p) two.1 one.3)
@@ -309,7 +333,8 @@ module _ (one_offer : OneOffer) {D : Type 0} (moves : D → Move → D → Type 
   det_replied awaited (Some (Replies.Answers p)) x y (inl one) det = det_same None x y one.0 det
   det_replied awaited (Some (Replies.Answers p)) x y (inr one) det = det_out x.device y.device x.inner y.inner x.left y.left p (is_some x.left) one.0 one.1 det
 
-  same_state : (s r : State D) → s.device ≡ r.device → s.host.inner ≡ r.host.inner → s.host.left ≡ r.host.left → s.host.slots ≡ r.host.slots → s.host.timeout ≡ r.host.timeout → s.places ≡ r.places → s ≡ r
+  same_state : (s r : State D) → s.device ≡ r.device → s.host.inner ≡ r.host.inner → s.host.left ≡ r.host.left → s.host.slots ≡ r.host.slots →
+      s.host.timeout ≡ r.host.timeout → s.places ≡ r.places → s ≡ r
   same_state s r devices inners lefts slots timeouts places =
       λ k. record { device = devices k; host = record { inner = inners k; left = lefts k; slots = slots k; timeout = timeouts k }; places = places k }
 
@@ -318,7 +343,8 @@ module _ (one_offer : OneOffer) {D : Type 0} (moves : D → Move → D → Type 
       let same = one_arrives_as o.host.inner o.host.timeout o.host.slots o.places content r.host.slots s.host.slots two.0 one.0 two.1 one.1 in
       let again : Replied moves (is_awaited one.0) one.0.reply (sender_with moves o one.0) (sender_of moves r) =
       subst (λ (a : Arrived). Replied moves (is_awaited a) a.reply (sender_with moves o a) (sender_of moves r)) same.1 two.3 in
-      let senders : sender_of moves s ≡ sender_of moves r = one_replied (is_awaited one.0) one.0.reply (sender_with moves o one.0) (sender_of moves s) (sender_of moves r) det one.3 again in
+      let senders : sender_of moves s ≡ sender_of moves r =
+      one_replied (is_awaited one.0) one.0.reply (sender_with moves o one.0) (sender_of moves s) (sender_of moves r) det one.3 again in
       same_state s r (ap (λ (x : Sender D). x.device) senders) (ap (λ (x : Sender D). x.inner) senders) (ap (λ (x : Sender D). x.left) senders)
       (sym same.0) (one.4 ∙ sym two.4) (one.2 ∙ ap (λ (a : Arrived). a.places) (sym same.1) ∙ sym two.2)
 
@@ -357,7 +383,8 @@ module _ (one_offer : OneOffer) {D : Type 0} (moves : D → Move → D → Type 
   det_takes o s (Some false) one det = steady.stays o.device s.device (Took one.0) det one.1
   det_takes o s (Some true) one det =
       let receives = one.4.2 in
-      det_replied (is_awaited receives.0) receives.0.reply (sender_with moves (at_device o one.1) receives.0) (sender_of moves s) receives.3 (steady.stays o.device one.1 (Took one.0) det one.2)
+      det_replied (is_awaited receives.0) receives.0.reply (sender_with moves (at_device o one.1) receives.0) (sender_of moves s) receives.3
+      (steady.stays o.device one.1 (Took one.0) det one.2)
 
   -- STEPS
 
@@ -387,7 +414,8 @@ module _ (one_offer : OneOffer) {D : Type 0} (moves : D → Move → D → Type 
     det_end (suc n) o s c x (inl a) det = det_step o s None a.0 det
     det_end (suc n) o s c x (inr a) det = det_end n a.1 s (c || a.0) x a.3 (det_step o a.1 (Some a.0) a.2 det)
 
-  pub one_poll : (t : ℤ) (budget : ℕ) (o s r : State D) (x y : Bool) → Det o.device → Polls moves t budget o x s → Polls moves t budget o y r → (s ≡ r) × (x ≡ y)
+  pub one_poll : (t : ℤ) (budget : ℕ) (o s r : State D) (x y : Bool) → Det o.device → Polls moves t budget o x s → Polls moves t budget o y r →
+      (s ≡ r) × (x ≡ y)
   one_poll t budget o s r x y det one two =
       let enters : (p q v : State D) (a b : Option Bool) → Det p.device → IngressStep moves t p a q → IngressStep moves t p b v → SameStep a q b v =
       λ p q v a b here here_one here_two. one_takes (begun t p) q v a b here here_one here_two in

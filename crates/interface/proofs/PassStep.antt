@@ -12,7 +12,9 @@ use Rattle.interface.specs.Pass.{Pass, Passed, passed}
 use Rattle.interface.specs.Turn.{PlaceTurns}
 use Rattle.interface.specs.declared.turn.Turned.TheVariants as Turn
 
-module _ {D : Type 0} (moves : D → Move → D → Type 0) (turn : Option IpAddress) (s mid : Sender D) (ps : List (SocketStorage Socket)) (at : ℕ) (p p' : SocketStorage Socket) (changed b : Bool) (within : at < length ps) (is : p ≡ get_or ps at p) where
+module _ {D : Type 0} (moves : D → Move → D →
+    Type 0) (turn : Option IpAddress) (s mid : Sender D) (ps : List (SocketStorage Socket)) (at : ℕ) (p p' : SocketStorage Socket) (changed b : Bool)
+    (within : at < length ps) (is : p ≡ get_or ps at p) where
   front : drop at ps ≡ p ∷ drop (suc at) ps
   front = drop-cons ps at p within ∙ ap (λ (x : SocketStorage Socket). x ∷ drop (suc at) ps) (sym is)
 
@@ -30,8 +32,16 @@ module _ {D : Type 0} (moves : D → Move → D → Type 0) (turn : Option IpAdd
       (subst (λ (xs : List (SocketStorage Socket)). Pass moves turn mid (take (suc at) (set ps at p')) (changed || b) xs e) old here) in
       subst (λ (xs : List (SocketStorage Socket)). Pass moves turn s (take at ps) changed xs e) (sym front) (inl (b, mid, p', took, next))
 
-  pub pass_stop : (flag : Bool) → flag ≡ (changed || b) → PlaceTurns moves turn s p (Turn.Stop b) mid p' → Pass moves turn s (take at ps) changed (drop at ps) (passed mid (set ps at p') flag)
+  pub pass_stop : (flag : Bool) → flag ≡ (changed || b) → PlaceTurns moves turn s p (Turn.Stop b) mid p' →
+      Pass moves turn s (take at ps) changed (drop at ps) (passed mid (set ps at p') flag)
   pass_stop flag is_flag took =
       let same : set ps at p' ≡ take at ps ++ p' ∷ drop (suc at) ps = set_split ps at p' within in
       subst (λ (xs : List (SocketStorage Socket)). Pass moves turn s (take at ps) changed xs (passed mid (set ps at p') flag)) (sym front)
-      (inr (b, mid, p', took, ap (λ (xs : List (SocketStorage Socket)). passed mid xs flag) same ∙ ap (λ (f : Bool). passed mid (take at ps ++ p' ∷ drop (suc at) ps) f) is_flag))
+      (inr (
+        b,
+        mid,
+        p',
+        took,
+        ap (λ (xs : List (SocketStorage Socket)). passed mid xs flag) same ∙
+            ap (λ (f : Bool). passed mid (take at ps ++ p' ∷ drop (suc at) ps) f) is_flag,
+      ))

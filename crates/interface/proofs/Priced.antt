@@ -1,5 +1,6 @@
 -- A poll raises a count by what its arrivals, its pieces and its sockets' turns cost, for each step of its budget.
-use Rattle.std.proofs.Common.{◌≡◌, ℕ, zero, suc, ◌+◌, ◌*◌, ◌≤◌, ℤ, Bool, true, false, cond, ◌||◌, inl, inr, List, [], ◌∷◌, ◌++◌, Option, Some, None, refl, sym, ◌∙◌, ap, subst, arith, append_assoc, append-nil, suc-mul, mul-add}
+use Rattle.std.proofs.Common.{◌≡◌, ℕ, zero, suc, ◌+◌, ◌*◌, ◌≤◌, ℤ, Bool, true, false, cond, ◌||◌, inl, inr, List, [], ◌∷◌, ◌++◌, Option, Some, None, refl, sym}
+use Rattle.std.proofs.Common.{◌∙◌, ap, subst, arith, append_assoc, append-nil, suc-mul, mul-add}
 use Rattle.net_base.specs.Device.{Move}
 use Rattle.ip_wire.specs.IpAddress.{IpAddress}
 use Rattle.sockets.specs.declared.socket.Socket.{Socket}
@@ -36,11 +37,13 @@ module _ {D : Type 0} (moves : D → Move → D → Type 0) (t : ℤ) (piece : �
   -- THE WAY OUT
 
   module _ (h : HostValue) where
-    item_counts : (turn : Option IpAddress) (before after : List (SocketStorage Socket)) (o o' : Option (Item Socket)) (n : ℕ) (x x' : Sender D) (turned : Turned) → Counts n (sending_as h x (before ++ record { inner = o } ∷ after)) → ItemTurns moves turn o x turned x' o'
+    item_counts : (turn : Option IpAddress) (before after : List (SocketStorage Socket)) (o o' : Option (Item Socket)) (n : ℕ) (x x' : Sender D)
+        (turned : Turned) → Counts n (sending_as h x (before ++ record { inner = o } ∷ after)) → ItemTurns moves turn o x turned x' o'
         → Counts (n + cond (is_used (record { inner = o })) 1 0) (sending_as h x' (before ++ record { inner = o' } ∷ after))
     item_counts turn before after None None n x x' turned holds turns =
         let free : SocketStorage Socket = record { inner = None } in
-        subst (λ (y : Sender D). Counts (n + 0) (sending_as h y (before ++ free ∷ after))) (sym turns.1) (more n (n + 0) (sending_as h x (before ++ free ∷ after)) (omega arith) holds)
+        subst (λ (y : Sender D). Counts (n + 0) (sending_as h y (before ++ free ∷ after))) (sym turns.1)
+        (more n (n + 0) (sending_as h x (before ++ free ∷ after)) (omega arith) holds)
     item_counts turn before after (Some item) (Some item') n x x' turned holds turns = record {
       so = kept.turns turn n h before after (record { inner = Some item }) (record { inner = Some item' }) x x' turned refl holds.runs holds.so turns;
       runs = turn_runs moves t turn x x' (record { inner = Some item }) (record { inner = Some item' }) turned turns holds.runs;
@@ -49,23 +52,28 @@ module _ {D : Type 0} (moves : D → Move → D → Type 0) (t : ℤ) (piece : �
     item_counts turn before after None (Some item') n x x' turned holds turns = absurd turns
     item_counts turn before after (Some item) None n x x' turned holds turns = absurd turns
 
-    pass_counts : (turn : Option IpAddress) (ps before : List (SocketStorage Socket)) (n : ℕ) (x : Sender D) (changed : Bool) (e : Passed D) → Counts n (sending_as h x (before ++ ps)) → Pass moves turn x before changed ps e → Counts (n + trues (shape ps)) (behind h e)
+    pass_counts : (turn : Option IpAddress) (ps before : List (SocketStorage Socket)) (n : ℕ) (x : Sender D) (changed : Bool) (e : Passed D) →
+        Counts n (sending_as h x (before ++ ps)) → Pass moves turn x before changed ps e → Counts (n + trues (shape ps)) (behind h e)
     pass_counts turn [] before n x changed e holds ends =
         more n (n + 0) (behind h e) (omega arith)
-        (subst (λ (y : Passed D). Counts n (behind h y)) (sym ends) (subst (λ (qs : List (SocketStorage Socket)). Counts n (sending_as h x qs)) (append-nil before) holds))
+        (subst (λ (y : Passed D). Counts n (behind h y)) (sym ends)
+        (subst (λ (qs : List (SocketStorage Socket)). Counts n (sending_as h x qs)) (append-nil before) holds))
     pass_counts turn (p ∷ ps) before n x changed e holds (inl goes) =
         let cost : ℕ = cond (is_used p) 1 0 in
-        let next : Counts (n + cost) (sending_as h goes.1 (before ++ goes.2 ∷ ps)) = item_counts turn before ps p.inner goes.2.inner n x goes.1 (Turn.Next goes.0) holds goes.3 in
+        let next : Counts (n + cost) (sending_as h goes.1 (before ++ goes.2 ∷ ps)) =
+        item_counts turn before ps p.inner goes.2.inner n x goes.1 (Turn.Next goes.0) holds goes.3 in
         more (n + cost + trues (shape ps)) (n + trues (shape (p ∷ ps))) (behind h e) (omega arith)
         (pass_counts turn ps (before ++ goes.2 ∷ []) (n + cost) goes.1 (changed || goes.0) e
         (subst (λ (qs : List (SocketStorage Socket)). Counts (n + cost) (sending_as h goes.1 qs)) (sym (append_assoc before (goes.2 ∷ []) ps)) next) goes.4)
     pass_counts turn (p ∷ ps) before n x changed e holds (inr stops) =
         let cost : ℕ = cond (is_used p) 1 0 in
-        let next : Counts (n + cost) (sending_as h stops.1 (before ++ stops.2 ∷ ps)) = item_counts turn before ps p.inner stops.2.inner n x stops.1 (Turn.Stop stops.0) holds stops.3 in
+        let next : Counts (n + cost) (sending_as h stops.1 (before ++ stops.2 ∷ ps)) =
+        item_counts turn before ps p.inner stops.2.inner n x stops.1 (Turn.Stop stops.0) holds stops.3 in
         more (n + cost) (n + trues (shape (p ∷ ps))) (behind h e) (omega arith)
         (subst (λ (y : Passed D). Counts (n + cost) (behind h y)) (sym stops.4) next)
 
-    clears_counts : (n : ℕ) (ps : List (SocketStorage Socket)) (x x' : Sender D) (l : Option LeftValue) (clear : Bool) → x.left ≡ l → Counts n (sending_as h x ps) → Clears moves l x clear x' → Counts (n + piece) (sending_as h x' ps)
+    clears_counts : (n : ℕ) (ps : List (SocketStorage Socket)) (x x' : Sender D) (l : Option LeftValue) (clear : Bool) → x.left ≡ l →
+        Counts n (sending_as h x ps) → Clears moves l x clear x' → Counts (n + piece) (sending_as h x' ps)
     clears_counts n ps x x' None clear is holds clears =
         more n (n + piece) (sending_as h x' ps) (omega arith) (subst (λ (y : Sender D). Counts n (sending_as h y ps)) (sym clears.1) holds)
     clears_counts n ps x x' (Some l) clear is holds clears = record {
@@ -74,11 +82,13 @@ module _ {D : Type 0} (moves : D → Move → D → Type 0) (t : ℤ) (piece : �
       places = holds.places;
     }
 
-    egress_counts : (n : ℕ) (x : Sender D) (ps : List (SocketStorage Socket)) (e : Passed D) → Counts n (sending_as h x ps) → Egress moves x ps e → Counts (n + piece + trues (shape ps)) (behind h e)
+    egress_counts : (n : ℕ) (x : Sender D) (ps : List (SocketStorage Socket)) (e : Passed D) → Counts n (sending_as h x ps) → Egress moves x ps e →
+        Counts (n + piece + trues (shape ps)) (behind h e)
     egress_counts n x ps e holds (inl stays) =
         more (n + piece) (n + piece + trues (shape ps)) (behind h e) (omega arith)
         (subst (λ (y : Passed D). Counts (n + piece) (behind h y)) (sym stays.2) (clears_counts n ps x stays.0 x.left false refl holds stays.1))
-    egress_counts n x ps e holds (inr goes) = pass_counts (turn_of goes.0.inner ps) ps [] (n + piece) goes.0 false e (clears_counts n ps x goes.0 x.left true refl holds goes.1) goes.2
+    egress_counts n x ps e holds (inr goes) =
+        pass_counts (turn_of goes.0.inner ps) ps [] (n + piece) goes.0 false e (clears_counts n ps x goes.0 x.left true refl holds goes.1) goes.2
 
   -- what a step of the way out costs
   abbrev out_cost : ℕ
@@ -88,8 +98,10 @@ module _ {D : Type 0} (moves : D → Move → D → Type 0) (t : ℤ) (piece : �
   out_step_counts n s s' answer holds step =
       let goes : Egress moves (sender s.device s.host.inner s.host.left) s.places step.0 =
       subst (λ (i : InnerValue). Egress moves (sender s.device i s.host.left) s.places step.0) (runs_so t s.host.inner holds.runs) step.1 in
-      let now : Counts (n + piece + trues (shape s.places)) (behind s.host step.0) = egress_counts s.host n (sender s.device s.host.inner s.host.left) s.places step.0 holds goes in
-      more (n + piece + trues (shape s.places)) (n + out_cost) s' (omega (arith, ap trues holds.places)) (subst (Counts (n + piece + trues (shape s.places))) (sym step.2) now)
+      let now : Counts (n + piece + trues (shape s.places)) (behind s.host step.0) =
+      egress_counts s.host n (sender s.device s.host.inner s.host.left) s.places step.0 holds goes in
+      more (n + piece + trues (shape s.places)) (n + out_cost) s' (omega (arith, ap trues holds.places))
+      (subst (Counts (n + piece + trues (shape s.places))) (sym step.2) now)
 
   -- THE WAY IN
 
@@ -102,7 +114,8 @@ module _ {D : Type 0} (moves : D → Move → D → Type 0) (t : ℤ) (piece : �
 
   -- STEPS
 
-  module _ (step : State D → Option Bool → State D → Type 0) (cost : ℕ) (costs : (n : ℕ) (s s' : State D) (answer : Option Bool) → Counts n s → step s answer s' → Counts (n + cost) s') where
+  module _ (step : State D → Option Bool → State D → Type 0) (cost : ℕ) (costs : (n : ℕ) (s s' : State D) (answer : Option Bool) → Counts n s →
+      step s answer s' → Counts (n + cost) s') where
     repeats_count : (k n : ℕ) (s s' : State D) (c c' : Bool) → Counts n s → Repeats step k s c s' c' → Counts (n + k * cost) s'
     repeats_count zero n s s' c c' holds steps = more n (n + zero * cost) s' (omega arith) (subst (Counts n) (sym steps.0) holds)
     repeats_count (suc k) n s s' c c' holds (inl ends) =
@@ -115,15 +128,19 @@ module _ {D : Type 0} (moves : D → Move → D → Type 0) (t : ℤ) (piece : �
       → Q (n + budget * (1 + out_cost)) s' × RunsAt t s'.host.inner × (shape s'.places ≡ first)
   counted budget n s s' changed places holds polls =
       let start : Counts n (begun t s) = record { so = kept.maintenance n s holds; runs = (refl, refl); places = places } in
-      let mid : Counts (n + budget * 1) polls.0 = repeats_count (IngressStep moves t) 1 in_step_counts budget n (begun t s) polls.0 false polls.1 start polls.2 in
-      let last : Counts (n + budget * 1 + budget * out_cost) s' = repeats_count (EgressStep moves t) out_cost out_step_counts budget (n + budget * 1) polls.0 s' polls.1 changed mid polls.3 in
+      let mid : Counts (n + budget * 1) polls.0 =
+      repeats_count (IngressStep moves t) 1 in_step_counts budget n (begun t s) polls.0 false polls.1 start polls.2 in
+      let last : Counts (n + budget * 1 + budget * out_cost) s' =
+      repeats_count (EgressStep moves t) out_cost out_step_counts budget (n + budget * 1) polls.0 s' polls.1 changed mid polls.3 in
       let all : Counts (n + budget * (1 + out_cost)) s' =
       more (n + budget * 1 + budget * out_cost) (n + budget * (1 + out_cost)) s' (omega (arith, mul-add budget 1 out_cost)) last in
       (all.so, all.runs, all.places)
 
 -- what a poll costs for each step of its budget, beside the pieces
-pub polls_cost : {D : Type 0} (moves : D → Move → D → Type 0) (t : ℤ) (piece : ℕ) (Q : ℕ → State D → Type 0) → IsPriced moves t piece Q → (budget n : ℕ) (s s' : State D) (changed : Bool)
-    → Q n s → Polls moves t budget s changed s' → Q (n + budget * (1 + (piece + sockets_in s.places))) s' × RunsAt t s'.host.inner × (shape s'.places ≡ shape s.places)
+pub polls_cost : {D : Type 0} (moves : D → Move → D → Type 0) (t : ℤ) (piece : ℕ) (Q : ℕ → State D → Type 0) → IsPriced moves t piece Q →
+    (budget n : ℕ) (s s' : State D) (changed : Bool)
+    → Q n s → Polls moves t budget s changed s' → Q (n + budget * (1 + (piece + sockets_in s.places))) s' × RunsAt t s'.host.inner ×
+    (shape s'.places ≡ shape s.places)
 polls_cost moves t piece Q kept budget n s s' changed holds polls =
     let all = counted moves t piece Q kept (shape s.places) budget n s s' changed refl holds polls in
     (subst (λ (k : ℕ). Q (n + budget * (1 + (piece + k))) s') (sym (sockets_so s.places)) all.0, all.1, all.2)

@@ -1,5 +1,6 @@
 -- A pass, and a step of the way out, of a host that isn't due yet.
-use Rattle.std.proofs.Common.{◌≡◌, Bool, true, false, ◌||◌, ℤ, pos, ◌≤ℤ◌, ◌<ℤ◌, ◌⊎◌, inl, inr, List, [], ◌∷◌, ◌++◌, map, Option, Some, None, refl, sym, ap, ◌∙◌, subst, arith, append_assoc, append-nil}
+use Rattle.std.proofs.Common.{◌≡◌, Bool, true, false, ◌||◌, ℤ, pos, ◌≤ℤ◌, ◌<ℤ◌, ◌⊎◌, inl, inr, List, [], ◌∷◌, ◌++◌, map, Option, Some, None, refl, sym, ap, ◌∙◌}
+use Rattle.std.proofs.Common.{subst, arith, append_assoc, append-nil}
 use Rattle.std.proofs.lemmas.List.{map-append}
 use Rattle.net_base.specs.Device.{Move}
 use Rattle.ip_wire.specs.IpAddress.{IpAddress}
@@ -32,14 +33,17 @@ module _ {A B : Type 0} (f : A → B) where
       ap (map f) (append_assoc before (p' ∷ []) ps) ∙ map-append f before (p' ∷ ps)
       ∙ ap (λ (y : B). map f before ++ y ∷ map f ps) same ∙ sym (map-append f before (p ∷ ps))
 
-module _ (due_as_before : DueAsBefore) {D : Type 0} (moves : D → Move → D → Type 0) (asked : InnerValue) (t : ℤ) (moment : pos 0 ≤ℤ t) (since : asked.moment ≤ℤ t) (routes : Rattle.interface.specs.QuietStep.RoutesStay asked t) (s : Sender D) (here : s.inner ≡ at_moment t asked) where
+module _ (due_as_before : DueAsBefore) {D : Type 0} (moves : D → Move → D →
+    Type 0) (asked : InnerValue) (t : ℤ) (moment : pos 0 ≤ℤ t) (since : asked.moment ≤ℤ t) (routes : Rattle.interface.specs.QuietStep.RoutesStay asked t)
+    (s : Sender D) (here : s.inner ≡ at_moment t asked) where
   -- nothing happened, and each place is due as before
   record IsIdle (ps : List (SocketStorage Socket)) (e : Passed D) : Type 0 where
     state : e.sender ≡ s
     changed : e.changed ≡ false
     instants : map (place_instant asked) e.places ≡ map (place_instant asked) ps
 
-  idle_pass : (turn : Option IpAddress) (ps before : List (SocketStorage Socket)) (e : Passed D) → AllLater t asked ps → Pass moves turn s before false ps e → IsIdle (before ++ ps) e
+  idle_pass : (turn : Option IpAddress) (ps before : List (SocketStorage Socket)) (e : Passed D) → AllLater t asked ps → Pass moves turn s before false ps e →
+      IsIdle (before ++ ps) e
   idle_pass turn [] before e later ends =
       record {
         state = ap (λ (x : Passed D). x.sender) ends;
@@ -54,19 +58,23 @@ module _ (due_as_before : DueAsBefore) {D : Type 0} (moves : D → Move → D �
       let idle = idle_pass turn ps (before ++ goes.2 ∷ []) e later.1 rest in
       record { state = idle.state; changed = idle.changed; instants = idle.instants ∙ same_places (place_instant asked) before ps p goes.2 took.2 }
   idle_pass turn (p ∷ ps) before e later (inr stops) =
-      absurd (never_stops stops.0 (quiet_place due_as_before moves turn asked t moment since routes s stops.1 here p stops.2 (Turn.Stop stops.0) later.0 stops.3).0)
+      absurd (never_stops stops.0
+      (quiet_place due_as_before moves turn asked t moment since routes s stops.1 here p stops.2 (Turn.Stop stops.0) later.0 stops.3).0)
 
   idle_egress : (ps : List (SocketStorage Socket)) (e : Passed D) (left : Option LeftValue) → s.left ≡ left → IsEarlier t (poll_instant asked left ps)
-      → ((mid : Sender D) × Clears moves left s false mid × (e ≡ passed mid ps false)) ⊎ ((mid : Sender D) × Clears moves left s true mid × Pass moves (turn_of mid.inner ps) mid [] false ps e)
+      → ((mid : Sender D) × Clears moves left s false mid × (e ≡ passed mid ps false)) ⊎
+      ((mid : Sender D) × Clears moves left s true mid × Pass moves (turn_of mid.inner ps) mid [] false ps e)
       → IsQuiet asked s ps e
   idle_egress ps e (Some l) is early goes = absurd (negative t moment early)
   idle_egress ps e None is early (inl stays) = absurd (let off = stays.1.0 in cc)
   idle_egress ps e None is early (inr goes) =
-      let idle = idle_pass (turn_of s.inner ps) ps [] e (all_later t asked ps early) (subst (λ (mid : Sender D). Pass moves (turn_of mid.inner ps) mid [] false ps e) goes.1.1 goes.2) in
+      let idle = idle_pass (turn_of s.inner ps) ps [] e (all_later t asked ps early)
+      (subst (λ (mid : Sender D). Pass moves (turn_of mid.inner ps) mid [] false ps e) goes.1.1 goes.2) in
       record {
         sender = idle.state;
         changed = idle.changed;
-        instant = subst (λ (l : Option LeftValue). poll_instant asked l e.places ≡ poll_instant asked l ps) (sym is) (soonest_of asked e.places ps idle.instants);
+        instant = subst (λ (l : Option LeftValue). poll_instant asked l e.places ≡ poll_instant asked l ps) (sym is)
+            (soonest_of asked e.places ps idle.instants);
       }
 
   pub quiet_egress : (ps : List (SocketStorage Socket)) (e : Passed D) → IsEarlier t (poll_instant asked s.left ps) → Egress moves s ps e → IsQuiet asked s ps e

@@ -36,7 +36,9 @@ same_due asked t (Kind.Tcp v) = refl
 abbrev pub DueAsBefore : Type 0
 DueAsBefore = (cx : ContextValue) (s : Socket) → poll_of cx (settled false s) ≡ poll_of cx s
 
-module _ (due_as_before : DueAsBefore) {D : Type 0} (moves : D → Move → D → Type 0) (turn : Option IpAddress) (asked : InnerValue) (t : ℤ) (moment : pos 0 ≤ℤ t) (since : asked.moment ≤ℤ t) (routes : RoutesStay asked t) (s s' : Sender D) (here : s.inner ≡ at_moment t asked) where
+module _ (due_as_before : DueAsBefore) {D : Type 0} (moves : D → Move → D →
+    Type 0) (turn : Option IpAddress) (asked : InnerValue) (t : ℤ) (moment : pos 0 ≤ℤ t) (since : asked.moment ≤ℤ t) (routes : RoutesStay asked t)
+    (s s' : Sender D) (here : s.inner ≡ at_moment t asked) where
   -- The socket was silent, and is due as before.
   record IsSilent (m : Meta) (socket : Socket) (turned : Turned) (item' : Item Socket) : Type 0 where
     next : turned ≡ Turn.Next false
@@ -53,7 +55,8 @@ module _ (due_as_before : DueAsBefore) {D : Type 0} (moves : D → Move → D �
       → Asks moves turn s item turned s' item' → IsSilent unmarked item.socket turned item'
   asks item item' turned early a =
       let cx = context_of (at_moment t asked) in
-      let due : IsEarlier t (instant_of (poll_of cx item.socket)) = subst (λ (p : PollAt). IsEarlier t (instant_of p)) (sym (same_due asked t item.socket)) early in
+      let due : IsEarlier t (instant_of (poll_of cx item.socket)) =
+      subst (λ (p : PollAt). IsEarlier t (instant_of p)) (sym (same_due asked t item.socket)) early in
       let offers = subst (λ (i : InnerValue). Rattle.sockets.specs.Socket.Offers (context_of i) item.socket a.0 a.1) here a.2 in
       let quiet = silent item.socket a.1 cx a.0 (before_due t moment (poll_of cx item.socket) due) offers in
       let ends = answered a.0 (record item { socket = a.1 }) item' turned quiet.0 a.3 in
@@ -61,7 +64,8 @@ module _ (due_as_before : DueAsBefore) {D : Type 0} (moves : D → Move → D �
         next = ends.0;
         state = ends.1;
         mark = ap (λ (x : Item Socket). x.meta) ends.2;
-        due = ap (λ (x : Item Socket). poll_of (context_of asked) x.socket) ends.2 ∙ ap (poll_of (context_of asked)) quiet.1 ∙ due_as_before (context_of asked) item.socket;
+        due = ap (λ (x : Item Socket). poll_of (context_of asked) x.socket) ends.2 ∙ ap (poll_of (context_of asked)) quiet.1 ∙
+            due_as_before (context_of asked) item.socket;
       }
 
   -- a mark that goes doesn't change when the socket is due
@@ -73,7 +77,8 @@ module _ (due_as_before : DueAsBefore) {D : Type 0} (moves : D → Move → D �
     freed_due None = refl
     freed_due (Some x) = refl
 
-    by : (before now : Bool) → (before ≡ false → now ≡ false) → (is_heard asked (record { waiting = w }) ≡ before) → item'.meta ≡ freed (record { waiting = w }) now
+    by : (before now : Bool) → (before ≡ false → now ≡ false) → (is_heard asked (record { waiting = w }) ≡ before) →
+        item'.meta ≡ freed (record { waiting = w }) now
         → item_instant asked item' ≡ instant_of (poll_by w p before asked.moment)
     by true true stays heard mark =
         ap (λ (m : Meta). instant_of (poll_by m.waiting (poll_of (context_of asked) item'.socket) (is_heard asked m) asked.moment)) mark
@@ -84,13 +89,16 @@ module _ (due_as_before : DueAsBefore) {D : Type 0} (moves : D → Move → D �
         ∙ ap (λ (q : PollAt). instant_of (poll_by w q (is_heard asked (record { waiting = w })) asked.moment)) due
         ∙ ap (λ (known : Bool). instant_of (poll_by w p known asked.moment)) heard
 
-  quiet_asked : (item item' : Item Socket) (turned : Turned) → IsEarlier t (item_instant asked item) → (waits : Bool) → is_waiting (at_moment t asked) item.meta ≡ waits
-      → TurnsIf moves turn waits s (let_through (at_moment t asked) item) turned s' item' → (turned ≡ Turn.Next false) × (s' ≡ s) × (item_instant asked item' ≡ item_instant asked item)
+  quiet_asked : (item item' : Item Socket) (turned : Turned) → IsEarlier t (item_instant asked item) → (waits : Bool) →
+      is_waiting (at_moment t asked) item.meta ≡ waits
+      → TurnsIf moves turn waits s (let_through (at_moment t asked) item) turned s' item' → (turned ≡ Turn.Next false) × (s' ≡ s) ×
+      (item_instant asked item' ≡ item_instant asked item)
   quiet_asked item item' turned early true is turns =
       let now = at_moment t asked in (
         turns.0,
         turns.1,
-        same_instant item.meta.waiting (is_heard asked item.meta) (is_heard now item.meta) (poll_of (context_of asked) item.socket) (stays_unknown asked t since routes item.meta) refl item'
+        same_instant item.meta.waiting (is_heard asked item.meta) (is_heard now item.meta) (poll_of (context_of asked) item.socket)
+            (stays_unknown asked t since routes item.meta) refl item'
             (ap (λ (x : Item Socket). x.meta) turns.2) (ap (λ (x : Item Socket). poll_of (context_of asked) x.socket) turns.2),
       )
   quiet_asked item item' turned early false is turns =
@@ -98,7 +106,8 @@ module _ (due_as_before : DueAsBefore) {D : Type 0} (moves : D → Move → D �
       let w = item.meta.waiting in
       let p = poll_of (context_of asked) item.socket in
       let stays = stays_unknown asked t since routes item.meta in
-      let silent_turn = asks (let_through now item) item' turned (due_itself t asked.moment p w (is_heard asked item.meta) (is_heard now item.meta) stays is early) turns in (
+      let silent_turn = asks (let_through now item) item' turned
+      (due_itself t asked.moment p w (is_heard asked item.meta) (is_heard now item.meta) stays is early) turns in (
         silent_turn.next,
         silent_turn.state,
         ap (λ (m : Meta). instant_of (poll_by m.waiting (poll_of (context_of asked) item'.socket) (is_heard asked m) asked.moment)) silent_turn.mark

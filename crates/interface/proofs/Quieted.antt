@@ -1,5 +1,6 @@
 -- A poll that comes too early does nothing.
-use Rattle.std.proofs.Common.{◌≡◌, ℕ, zero, suc, ℤ, Bool, true, false, ◌⊎◌, inl, inr, if◌then◌else◌, List, [], ◌∷◌, Option, Some, None, refl, sym, ap, ◌∙◌, subst}
+use Rattle.std.proofs.Common.{◌≡◌, ℕ, zero, suc, ℤ, Bool, true, false, ◌⊎◌, inl, inr, if◌then◌else◌, List, [], ◌∷◌, Option, Some, None, refl, sym, ap, ◌∙◌}
+use Rattle.std.proofs.Common.{subst}
 use Rattle.net_base.specs.Device.{Move, Empty}
 use Rattle.ip_wire.specs.Ipv4FragKey.{Ipv4FragKey}
 use Rattle.interface_tables.specs.Inner.{InnerValue, at_moment}
@@ -27,7 +28,8 @@ freed_once t s = by (is_expired t s) refl where
 freed_all : (t : ℤ) (slots : List (SlotValue Ipv4FragKey)) → without_expired (without_expired slots t) t ≡ without_expired slots t
 freed_all t [] = refl
 freed_all t (s ∷ slots) =
-    ap (λ (x : SlotValue Ipv4FragKey). x ∷ without_expired (without_expired slots t) t) (freed_once t s) ∙ ap (λ (xs : List (SlotValue Ipv4FragKey)). unless_expired t s ∷ xs) (freed_all t slots)
+    ap (λ (x : SlotValue Ipv4FragKey). x ∷ without_expired (without_expired slots t) t) (freed_once t s) ∙
+    ap (λ (xs : List (SlotValue Ipv4FragKey)). unless_expired t s ∷ xs) (freed_all t slots)
 
 pub maintained_once : (t : ℤ) (h : HostValue) → maintained t (maintained t h) ≡ maintained t h
 maintained_once t h = ap (λ (slots : List (SlotValue Ipv4FragKey)). record (maintained t h) { slots = slots }) (freed_all t h.slots)
@@ -61,7 +63,8 @@ module _ {D : Type 0} (moves : D → Move → D → Type 0) (t : ℤ) where
       same : s' ≡ state s.device (host_at t s.host) s'.places
       instant : poll_instant asked s.host.left s'.places ≡ poll_instant asked s.host.left s.places
 
-    quiet_step : (s s' : State D) (answer : Option Bool) → s.host.inner ≡ at_moment last asked → IsEarly asked s.host.left s.places t → EgressStep moves t s answer s' → IsStill s answer s'
+    quiet_step : (s s' : State D) (answer : Option Bool) → s.host.inner ≡ at_moment last asked → IsEarly asked s.host.left s.places t →
+        EgressStep moves t s answer s' → IsStill s answer s'
     quiet_step s s' answer is early step =
         let here : at_moment t s.host.inner ≡ at_moment t asked = ap (at_moment t) is in
         let quiet = quiet_egress due moves asked t early.moment early.since early.routes (sending t s) here s.places step.0 early.before step.1 in
@@ -74,7 +77,8 @@ module _ {D : Type 0} (moves : D → Move → D → Type 0) (t : ℤ) where
           instant = ap (poll_instant asked s.host.left) places ∙ quiet.instant;
         }
 
-    quiet_out : (n : ℕ) (s s' : State D) (c c' : Bool) → host_at t s.host ≡ s.host → s.host.inner ≡ at_moment last asked → IsEarly asked s.host.left s.places t → Repeats (EgressStep moves t) n s c s' c'
+    quiet_out : (n : ℕ) (s s' : State D) (c c' : Bool) → host_at t s.host ≡ s.host → s.host.inner ≡ at_moment last asked →
+        IsEarly asked s.host.left s.places t → Repeats (EgressStep moves t) n s c s' c'
         → (s' ≡ state s.device s.host s'.places) × (poll_instant asked s.host.left s'.places ≡ poll_instant asked s.host.left s.places) × (c' ≡ c)
     quiet_out zero s s' c c' kept is early steps =
         let places = ap (λ (x : State D). x.places) steps.0 in
@@ -85,7 +89,8 @@ module _ {D : Type 0} (moves : D → Move → D → Type 0) (t : ℤ) where
     quiet_out (suc n) s s' c c' kept is early (inr goes) =
         absurd (some_false goes.0 ((quiet_step s goes.1 (Some goes.0) is early goes.2).silent))
 
-pub quiet_poll : (due : DueAsBefore) {D : Type 0} (moves : D → Move → D → Type 0) (t : ℤ) (asked : InnerValue) (last : ℤ) (budget : ℕ) (s s' : State D) (changed : Bool)
+pub quiet_poll : (due : DueAsBefore) {D : Type 0} (moves : D → Move → D →
+    Type 0) (t : ℤ) (asked : InnerValue) (last : ℤ) (budget : ℕ) (s s' : State D) (changed : Bool)
     → s.host.inner ≡ at_moment last asked → IsEarly asked s.host.left s.places t → HasNoFrame moves s.device → Polls moves t budget s changed s'
     → IsQuietPoll moves asked t s changed s'
 quiet_poll due {D} moves t asked last budget s s' changed is early none polls =
@@ -93,7 +98,8 @@ quiet_poll due {D} moves t asked last budget s s' changed is early none polls =
     let mid : polls.0 ≡ state polls.0.device (maintained t s.host) s.places = entry.0.1 in
     let steps : Repeats (EgressStep moves t) budget (state polls.0.device (maintained t s.host) s.places) polls.1 s' changed =
     subst (λ (x : State D). Repeats (EgressStep moves t) budget x polls.1 s' changed) mid polls.3 in
-    let exit = quiet_out moves t due asked t budget (state polls.0.device (maintained t s.host) s.places) s' polls.1 changed refl (ap (at_moment t) is) early steps in
+    let exit = quiet_out moves t due asked t budget (state polls.0.device (maintained t s.host) s.places) s' polls.1 changed refl (ap (at_moment t) is)
+    early steps in
     record {
       device = subst (λ (d : D). (d ≡ s.device) ⊎ moves s.device Empty d) (sym (ap (λ (x : State D). x.device) exit.0)) entry.0.0;
       changed_none = exit.2 ∙ entry.1;

@@ -6,7 +6,8 @@ module _ {S : Type 0} (step : S → Option Bool → S → Type 0) (left : ℕ) (
   pred : suc (left - 1) ≡ left
   pred = omega arith
 
-  pub one_more : (b : Bool) (mid s' : S) (flag c' : Bool) → flag ≡ (c || b) → step s (Some b) mid → Repeats step (left - 1) mid flag s' c' → Repeats step left s c s' c'
+  pub one_more : (b : Bool) (mid s' : S) (flag c' : Bool) → flag ≡ (c || b) → step s (Some b) mid → Repeats step (left - 1) mid flag s' c' →
+      Repeats step left s c s' c'
   one_more b mid s' flag c' is first rest =
       subst (λ (n : ℕ). Repeats step n s c s' c') pred
       (inr (b, mid, first, subst (λ (f : Bool). Repeats step (left - 1) mid f s' c') is rest))

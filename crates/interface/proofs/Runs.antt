@@ -57,5 +57,6 @@ module _ {D : Type 0} (moves : D → Move → D → Type 0) where
         let same = receives_same reads.0 (record s { device = takes.1 }) s' reads.2 in
         runs_out t reads.2.0.inner s'.host.inner same.1 (runs_in t s.host.inner reads.2.0.inner same.0 runs)
 
-    pub turn_runs : (turn : Option IpAddress) (x x' : Sender D) (p p' : SocketStorage Socket) (turned : Turned) → PlaceTurns moves turn x p turned x' p' → RunsAt t x.inner → RunsAt t x'.inner
+    pub turn_runs : (turn : Option IpAddress) (x x' : Sender D) (p p' : SocketStorage Socket) (turned : Turned) → PlaceTurns moves turn x p turned x' p' →
+        RunsAt t x.inner → RunsAt t x'.inner
     turn_runs turn x x' p p' turned turns runs = runs_out t x.inner x'.inner (place_same moves turn x x' p p' turned turns) runs

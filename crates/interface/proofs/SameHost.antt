@@ -34,7 +34,11 @@ same_where i i' is = subst (λ (x : InnerValue). IsSameHost i x) (sym is) refl
 
 pub same_then : (a b c : InnerValue) → IsSameHost a b → IsSameHost b c → IsSameHost a c
 same_then a b c first second =
-    second ∙ ap (λ (x : InnerValue). record x { ident = c.ident; neighbors = record x.neighbors { silent = c.neighbors.silent; searches = c.neighbors.searches } }) first
+    second ∙ ap (λ (x : InnerValue). record x {
+      ident = c.ident;
+      neighbors =
+          record x.neighbors { silent = c.neighbors.silent; searches = c.neighbors.searches };
+    }) first
 
 after_same : (plan : Plan) (sent : Sent) (h : IpRepr) (i : InnerValue) → IsSameHost i (host_after plan sent h i)
 after_same (Way.Ask question) Outcome.Waits h i = refl
@@ -64,11 +68,13 @@ module _ {D : Type 0} (moves : D → Move → D → Type 0) where
     state_same : s' ≡ s → IsSameHost s.inner s'.inner
     state_same is = same_where s.inner s'.inner (ap (λ (x : Sender D). x.inner) is)
 
-    sends_same : (o : Option PacketValue) (item item' : Item Socket) (changed : Bool) (turned : Turned) → SendsBy moves turn o s item changed turned s' item' → IsSameHost s.inner s'.inner
+    sends_same : (o : Option PacketValue) (item item' : Item Socket) (changed : Bool) (turned : Turned) → SendsBy moves turn o s item changed turned s' item' →
+        IsSameHost s.inner s'.inner
     sends_same None item item' changed turned sends = absurd sends
     sends_same (Some p) item item' changed turned sends = leaves_same item.meta p sends.0 sends.1
 
-    answers_same : (answer : Answer.Offer) (item item' : Item Socket) (turned : Turned) → Answers moves turn answer s item turned s' item' → IsSameHost s.inner s'.inner
+    answers_same : (answer : Answer.Offer) (item item' : Item Socket) (turned : Turned) → Answers moves turn answer s item turned s' item' →
+        IsSameHost s.inner s'.inner
     answers_same (Offer.Silent changed) item item' turned answers = state_same answers.1
     answers_same (Offer.Packet changed) item item' turned answers = sends_same (offered_by item.socket) item item' changed turned answers
 
@@ -93,7 +99,8 @@ module _ {D : Type 0} (moves : D → Move → D → Type 0) where
       → Pass moves turn s before changed ps e → IsSameHost s.inner e.sender.inner
   pass_same turn [] s before changed e ends = same_where s.inner e.sender.inner (ap (λ (x : Passed D). x.sender.inner) ends)
   pass_same turn (p ∷ ps) s before changed e (inl goes) =
-      same_then s.inner goes.1.inner e.sender.inner (place_same turn s goes.1 p goes.2 _ goes.3) (pass_same turn ps goes.1 (before ++ goes.2 ∷ []) (changed || goes.0) e goes.4)
+      same_then s.inner goes.1.inner e.sender.inner (place_same turn s goes.1 p goes.2 _ goes.3)
+      (pass_same turn ps goes.1 (before ++ goes.2 ∷ []) (changed || goes.0) e goes.4)
   pass_same turn (p ∷ ps) s before changed e (inr stops) =
       same_then s.inner stops.1.inner e.sender.inner (place_same turn s stops.1 p stops.2 _ stops.3)
       (same_where stops.1.inner e.sender.inner (ap (λ (x : Passed D). x.sender.inner) stops.4))
@@ -103,4 +110,5 @@ module _ {D : Type 0} (moves : D → Move → D → Type 0) where
       same_then s.inner stays.0.inner e.sender.inner (clears_same None s stays.0 s.left false stays.1)
       (same_where stays.0.inner e.sender.inner (ap (λ (x : Passed D). x.sender.inner) stays.2))
   egress_same_host s ps e (inr goes) =
-      same_then s.inner goes.0.inner e.sender.inner (clears_same None s goes.0 s.left true goes.1) (pass_same (turn_of goes.0.inner ps) ps goes.0 [] false e goes.2)
+      same_then s.inner goes.0.inner e.sender.inner (clears_same None s goes.0 s.left true goes.1)
+      (pass_same (turn_of goes.0.inner ps) ps goes.0 [] false e goes.2)

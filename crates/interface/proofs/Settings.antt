@@ -28,8 +28,27 @@ keeps_in i i' same =
     ∙ ap (λ x. record i' { moment = i.moment; hardware = i.hardware; mtu = i.mtu; checksums = x }) same.checksums
     ∙ ap (λ x. record i' { moment = i.moment; hardware = i.hardware; mtu = i.mtu; checksums = i.checksums; addresses = x }) same.addresses
     ∙ ap (λ x. record i' { moment = i.moment; hardware = i.hardware; mtu = i.mtu; checksums = i.checksums; addresses = i.addresses; any_ip = x }) same.any_ip
-    ∙ ap (λ x. record i' { moment = i.moment; hardware = i.hardware; mtu = i.mtu; checksums = i.checksums; addresses = i.addresses; any_ip = i.any_ip; routes = x }) same.routes
-    ∙ ap (λ x. record i' { moment = i.moment; hardware = i.hardware; mtu = i.mtu; checksums = i.checksums; addresses = i.addresses; any_ip = i.any_ip; routes = i.routes; fresh = x }) same.fresh
+    ∙ ap (λ x. record i' {
+      moment = i.moment;
+      hardware = i.hardware;
+      mtu = i.mtu;
+      checksums = i.checksums;
+      addresses = i.addresses;
+      any_ip = i.any_ip;
+      routes =
+          x;
+    }) same.routes
+    ∙ ap (λ x. record i' {
+      moment = i.moment;
+      hardware = i.hardware;
+      mtu = i.mtu;
+      checksums = i.checksums;
+      addresses = i.addresses;
+      any_ip = i.any_ip;
+      routes =
+          i.routes;
+      fresh = x;
+    }) same.fresh
 
 pub settings_kept : (t : ℤ) (i i' : InnerValue) → KeepsSettings (at_moment t i) i' → HasSettingsOf i i'
 settings_kept t i i' keeps = record {

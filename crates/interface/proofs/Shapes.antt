@@ -1,5 +1,6 @@
 -- An arrival leaves each place with a socket, or free, as it was.
-use Rattle.std.proofs.Common.{◌≡◌, ℕ, zero, suc, ◌+◌, Bool, true, false, cond, if◌then◌else◌, List, [], ◌∷◌, ◌++◌, length, map, Option, Some, None, refl, ap, ◌∙◌, sym}
+use Rattle.std.proofs.Common.{◌≡◌, ℕ, zero, suc, ◌+◌, Bool, true, false, cond, if◌then◌else◌, List, [], ◌∷◌, ◌++◌, length, map, Option, Some, None, refl, ap}
+use Rattle.std.proofs.Common.{◌∙◌, sym}
 use Rattle.std.specs.Prelude.{not, is_none, slice_get, slice_set}
 use Rattle.std.proofs.lemmas.List.{length-map}
 use Rattle.std.proofs.lemmas.List.Sums.{sum_by-cons}
@@ -17,7 +18,8 @@ use Rattle.interface_egress.specs.declared.socket_set.Item.{Item}
 use Rattle.interface_egress.specs.declared.socket_set.SocketStorage.{SocketStorage}
 use Rattle.interface_tables.specs.Inner.{InnerValue, context_of}
 use Rattle.interface_ingress.specs.Arrives.{Arrived, ArrivesV4, ArrivesV6, Brings, Hands, renewed, whole_after}
-use Rattle.interface_ingress.specs.Delivered.{Places, with_change, changed_item, changed_in, changed_at, packet_delivered, is_taken_raw, datagram_place, with_datagram, segment_delivered, segment_place, with_segment}
+use Rattle.interface_ingress.specs.Delivered.{Places, with_change, changed_item, changed_in, changed_at, packet_delivered, is_taken_raw, datagram_place}
+use Rattle.interface_ingress.specs.Delivered.{with_datagram, segment_delivered, segment_place, with_segment}
 use Rattle.interface_ingress.specs.Handed.{handed_places, control_v4_places, control_v6_places, segment_places, names_nobody}
 use Rattle.interface_ingress.specs.Reassembled.{taken_in}
 use Rattle.interface.specs.State.{State}
@@ -54,12 +56,14 @@ all_shape : (change : Socket → Socket) (places : Places) → shape (map (with_
 all_shape change [] = refl
 all_shape change (p ∷ ps) = λ k. item_used change p.inner k ∷ all_shape change ps k
 
-set_shape : (places : Places) (at : ℕ) (p p' : SocketStorage Socket) → slice_get places at ≡ Some p → is_used p' ≡ is_used p → shape (slice_set places at p') ≡ shape places
+set_shape : (places : Places) (at : ℕ) (p p' : SocketStorage Socket) → slice_get places at ≡ Some p → is_used p' ≡ is_used p →
+    shape (slice_set places at p') ≡ shape places
 set_shape [] at p p' is same = refl
 set_shape (x ∷ xs) zero p p' is same = let e : p ≡ x = cc in ap (λ (b : Bool). b ∷ shape xs) (same ∙ ap is_used e)
 set_shape (x ∷ xs) (suc at) p p' is same = ap (λ (bs : List Bool). is_used x ∷ bs) (set_shape xs at p p' is same)
 
-changed_in_shape : (change : Socket → Socket) (at : ℕ) (o : Option (SocketStorage Socket)) (places : Places) → slice_get places at ≡ o → shape (changed_in change (Some at) o places) ≡ shape places
+changed_in_shape : (change : Socket → Socket) (at : ℕ) (o : Option (SocketStorage Socket)) (places : Places) → slice_get places at ≡ o →
+    shape (changed_in change (Some at) o places) ≡ shape places
 changed_in_shape change at (Some place) places is = set_shape places at place (with_change change place) is (item_used change place.inner)
 changed_in_shape change at None places is = refl
 
@@ -80,7 +84,8 @@ v6_shape : (ip : IpRepr) (message : MessageValue) (bytes : List ℕ) (places : P
 v6_shape (Ip.Ipv4 header) message bytes places = refl
 v6_shape (Ip.Ipv6 header) message bytes places = all_shape _ places
 
-segment_shape : (i : InnerValue) (places : Places) (ip : IpRepr) (header : TcpHeader) (bytes : List ℕ) → shape (segment_places i places ip header bytes) ≡ shape places
+segment_shape : (i : InnerValue) (places : Places) (ip : IpRepr) (header : TcpHeader) (bytes : List ℕ) →
+    shape (segment_places i places ip header bytes) ≡ shape places
 segment_shape i places ip header bytes =
     elim (names_nobody i ip) as (λ b. shape (if b then places else segment_delivered (context_of i) ip header bytes places) ≡ shape places) [
       | true ↦ refl
@@ -98,15 +103,18 @@ handed_shape i places ip None = refl
 abbrev HasShapeOf : Arrived → Places → Type 0
 HasShapeOf a places = shape a.places ≡ shape places
 
-hands_shape : (i : InnerValue) (places : Places) (ip : IpRepr) (payload : List ℕ) (taken : Bool) (a : Arrived) → Hands i places ip payload taken a → HasShapeOf a places
+hands_shape : (i : InnerValue) (places : Places) (ip : IpRepr) (payload : List ℕ) (taken : Bool) (a : Arrived) → Hands i places ip payload taken a →
+    HasShapeOf a places
 hands_shape i places ip payload taken a (carried, is, handed) = ap shape handed.places_are ∙ handed_shape i places ip carried
 
-of_v4_shape : (ours : Bool) (i : InnerValue) (places : Places) (link : Option EthernetRepr) (ip : IpRepr) (payload : List ℕ) (a : Arrived) → ArrivesV4 ours i places link ip payload a → HasShapeOf a places
+of_v4_shape : (ours : Bool) (i : InnerValue) (places : Places) (link : Option EthernetRepr) (ip : IpRepr) (payload : List ℕ) (a : Arrived) →
+    ArrivesV4 ours i places link ip payload a → HasShapeOf a places
 of_v4_shape true i places link ip payload a h =
     hands_shape (renewed i link ip) (packet_delivered ip payload places) ip payload (is_taken_raw ip places) a h ∙ packet_shape ip payload places
 of_v4_shape false i places link ip payload a h = ap shape h.places_are ∙ packet_shape ip payload places
 
-of_v6_shape : (ours : Bool) (i : InnerValue) (places : Places) (link : Option EthernetRepr) (ip : IpRepr) (payload : List ℕ) (a : Arrived) → ArrivesV6 ours i places link ip payload a → HasShapeOf a places
+of_v6_shape : (ours : Bool) (i : InnerValue) (places : Places) (link : Option EthernetRepr) (ip : IpRepr) (payload : List ℕ) (a : Arrived) →
+    ArrivesV6 ours i places link ip payload a → HasShapeOf a places
 of_v6_shape true i places link ip payload a h =
     hands_shape (renewed i link ip) (packet_delivered ip payload places) ip payload (is_taken_raw ip places) a h ∙ packet_shape ip payload places
 of_v6_shape false i places link ip payload a h = ap shape h.places_are
@@ -124,4 +132,5 @@ module _ {D : Type 0} (moves : D → Move → D → Type 0) where
   takes_shape s s' (Some true) takes =
       let reads = takes.4 in
       let arrives = reads.2 in
-      ap shape arrives.2 ∙ brings_shape s.host.inner s.places (whole_after s.host.inner s.host.timeout s.host.slots (taken_in s.host.inner reads.0)) arrives.0 arrives.1.1
+      ap shape arrives.2 ∙ brings_shape s.host.inner s.places (whole_after s.host.inner s.host.timeout s.host.slots (taken_in s.host.inner reads.0))
+      arrives.0 arrives.1.1

@@ -1,5 +1,6 @@
 -- A pass that says that nothing changed.
-use Rattle.std.proofs.Common.{◌≡◌, ℤ, Bool, true, false, ◌||◌, inl, inr, List, [], ◌∷◌, ◌++◌, Option, Some, None, refl, sym, ap, ◌∙◌, subst, append_assoc, append-nil}
+use Rattle.std.proofs.Common.{◌≡◌, ℤ, Bool, true, false, ◌||◌, inl, inr, List, [], ◌∷◌, ◌++◌, Option, Some, None, refl, sym, ap, ◌∙◌, subst, append_assoc}
+use Rattle.std.proofs.Common.{append-nil}
 use Rattle.net_base.specs.Device.{Move}
 use Rattle.socket_base.specs.Packet.{PacketValue}
 use Rattle.socket_base.specs.declared.offer.Offer as Answer
@@ -50,21 +51,25 @@ settled_once (Kind.Tcp v) = refl
 
 module _ {D : Type 0} (moves : D → Move → D → Type 0) (turn : Option IpAddress) (s s' : Sender D) where
   -- a packet that stays
-  kept : (until : ℤ) (sent : Sent) (changed : Bool) (before : Socket) (item item' : Item Socket) (turned : Turned) (p : PacketValue) → (changed ≡ false → IsUnchanged before item.socket)
-      → turned ≡ turned_by sent changed → item' ≡ settled_by sent s.inner.moment until (Rattle.ip_wire.specs.Ip.destination_of p.header) item → said turned ≡ false → IsUnchanged before item'.socket
+  kept : (until : ℤ) (sent : Sent) (changed : Bool) (before : Socket) (item item' : Item Socket) (turned : Turned) (p : PacketValue) →
+      (changed ≡ false → IsUnchanged before item.socket)
+      → turned ≡ turned_by sent changed → item' ≡ settled_by sent s.inner.moment until (Rattle.ip_wire.specs.Ip.destination_of p.header) item →
+      said turned ≡ false → IsUnchanged before item'.socket
   kept until sent changed before item item' turned p same_offered is settles quiet = by sent is settles where
     stays : changed ≡ false → item'.socket ≡ settled false item.socket → IsUnchanged before item'.socket
     stays off kept =
         subst (λ (x : Socket). IsSameButForPlaces before x) (sym (settled_once item.socket) ∙ sym (ap (settled false) kept)) (same_offered off)
 
-    by : (sent : Sent) → turned ≡ turned_by sent changed → item' ≡ settled_by sent s.inner.moment until (Rattle.ip_wire.specs.Ip.destination_of p.header) item → IsUnchanged before item'.socket
+    by : (sent : Sent) → turned ≡ turned_by sent changed → item' ≡ settled_by sent s.inner.moment until (Rattle.ip_wire.specs.Ip.destination_of p.header) item →
+        IsUnchanged before item'.socket
     by Outcome.Gone is settles = absurd (let off = ap said is in cc)
     by Outcome.Dropped is settles = absurd (let off = ap said is in cc)
     by Outcome.Waits is settles = stays (sym (ap said is) ∙ quiet) (ap (λ (x : Item Socket). x.socket) settles)
     by Outcome.Busy is settles = stays (sym (ap said is) ∙ quiet) (ap (λ (x : Item Socket). x.socket) settles)
     by Outcome.Refused is settles = stays (sym (ap said is) ∙ quiet) (ap (λ (x : Item Socket). x.socket) settles)
 
-  sends_same : (o : Option PacketValue) (changed : Bool) (before : Socket) (item item' : Item Socket) (turned : Turned) → (changed ≡ false → IsUnchanged before item.socket)
+  sends_same : (o : Option PacketValue) (changed : Bool) (before : Socket) (item item' : Item Socket) (turned : Turned) →
+      (changed ≡ false → IsUnchanged before item.socket)
       → SendsBy moves turn o s item changed turned s' item' → said turned ≡ false → IsUnchanged before item'.socket
   sends_same None changed before item item' turned same_offered sends quiet = absurd sends
   sends_same (Some p) changed before item item' turned same_offered sends quiet =
@@ -72,7 +77,8 @@ module _ {D : Type 0} (moves : D → Move → D → Type 0) (turn : Option IpAdd
 
   asks_same : (item item' : Item Socket) (turned : Turned) → Asks moves turn s item turned s' item' → said turned ≡ false → IsUnchanged item.socket item'.socket
   asks_same item item' turned a quiet = by a.0 a.2 a.3 where
-    by : (answer : Answer.Offer) → Offers (context_of s.inner) item.socket answer a.1 → Answers moves turn answer s (record item { socket = a.1 }) turned s' item' → IsUnchanged item.socket item'.socket
+    by : (answer : Answer.Offer) → Offers (context_of s.inner) item.socket answer a.1 →
+        Answers moves turn answer s (record item { socket = a.1 }) turned s' item' → IsUnchanged item.socket item'.socket
     by (Offer.Silent changed) offers answers =
         subst (λ (x : Item Socket). IsUnchanged item.socket x.socket) (sym answers.2)
         (same item.socket a.1 (context_of s.inner) (Offer.Silent changed) offers (sym (ap said answers.0) ∙ quiet))
@@ -80,7 +86,8 @@ module _ {D : Type 0} (moves : D → Move → D → Type 0) (turn : Option IpAdd
         sends_same (offered_by a.1) changed item.socket (record item { socket = a.1 }) item' turned
         (λ off. same item.socket a.1 (context_of s.inner) (Offer.Packet changed) offers off) answers quiet
 
-  turns_same : (waits : Bool) (item item' : Item Socket) (turned : Turned) → TurnsIf moves turn waits s item turned s' item' → said turned ≡ false → IsUnchanged item.socket item'.socket
+  turns_same : (waits : Bool) (item item' : Item Socket) (turned : Turned) → TurnsIf moves turn waits s item turned s' item' → said turned ≡ false →
+      IsUnchanged item.socket item'.socket
   turns_same true item item' turned turns quiet = subst (λ (x : Item Socket). IsUnchanged item.socket x.socket) (sym turns.2) (unchanged_self item.socket)
   turns_same false item item' turned turns quiet = asks_same item item' turned turns quiet
 
@@ -91,7 +98,8 @@ module _ {D : Type 0} (moves : D → Move → D → Type 0) (turn : Option IpAdd
   item_same None (Some item') turned turns quiet = absurd turns
   item_same (Some item) None turned turns quiet = absurd turns
 
-  pub place_same : (p p' : SocketStorage Socket) (turned : Turned) → PlaceTurns moves turn s p turned s' p' → said turned ≡ false → IsItemUnchanged p.inner p'.inner
+  pub place_same : (p p' : SocketStorage Socket) (turned : Turned) → PlaceTurns moves turn s p turned s' p' → said turned ≡ false →
+      IsItemUnchanged p.inner p'.inner
   place_same p p' turned turns quiet = item_same p.inner p'.inner turned turns quiet
 
 -- PLACES
@@ -111,14 +119,16 @@ unchanged_append [] (p' ∷ ps') qs qs' front back = absurd front
 unchanged_append (p ∷ ps) [] qs qs' front back = absurd front
 
 module _ {D : Type 0} (moves : D → Move → D → Type 0) where
-  pass_flag : (turn : Option IpAddress) (ps : List (SocketStorage Socket)) (s : Sender D) (before : List (SocketStorage Socket)) (changed : Bool) (e : Passed D) → Pass moves turn s before changed ps e → e.changed ≡ false → changed ≡ false
+  pass_flag : (turn : Option IpAddress) (ps : List (SocketStorage Socket)) (s : Sender D) (before : List (SocketStorage Socket)) (changed : Bool)
+      (e : Passed D) → Pass moves turn s before changed ps e → e.changed ≡ false → changed ≡ false
   pass_flag turn [] s before changed e ends quiet = sym (ap (λ (x : Passed D). x.changed) ends) ∙ quiet
   pass_flag turn (p ∷ ps) s before changed e (inl goes) quiet =
       (neither changed goes.0 (pass_flag turn ps goes.1 (before ++ goes.2 ∷ []) (changed || goes.0) e goes.4 quiet)).0
   pass_flag turn (p ∷ ps) s before changed e (inr stops) quiet =
       (neither changed stops.0 (sym (ap (λ (x : Passed D). x.changed) stops.4) ∙ quiet)).0
 
-  pass_same : (turn : Option IpAddress) (ps : List (SocketStorage Socket)) (s : Sender D) (old before : List (SocketStorage Socket)) (changed : Bool) (e : Passed D)
+  pass_same : (turn : Option IpAddress) (ps : List (SocketStorage Socket)) (s : Sender D) (old before : List (SocketStorage Socket)) (changed : Bool)
+      (e : Passed D)
       → AreUnchanged old before → Pass moves turn s before changed ps e → e.changed ≡ false → AreUnchanged (old ++ ps) e.places
   pass_same turn [] s old before changed e front ends quiet =
       subst (λ (xs : List (SocketStorage Socket)). AreUnchanged xs e.places) (sym (append-nil old))
@@ -127,7 +137,8 @@ module _ {D : Type 0} (moves : D → Move → D → Type 0) where
       let flag = neither changed goes.0 (pass_flag turn ps goes.1 (before ++ goes.2 ∷ []) (changed || goes.0) e goes.4 quiet) in
       let here = place_same moves turn s goes.1 p goes.2 (Turn.Next goes.0) goes.3 flag.1 in
       subst (λ (xs : List (SocketStorage Socket)). AreUnchanged xs e.places) (append_assoc old (p ∷ []) ps)
-      (pass_same turn ps goes.1 (old ++ p ∷ []) (before ++ goes.2 ∷ []) (changed || goes.0) e (unchanged_append old before (p ∷ []) (goes.2 ∷ []) front (here, tt)) goes.4 quiet)
+      (pass_same turn ps goes.1 (old ++ p ∷ []) (before ++
+      goes.2 ∷ []) (changed || goes.0) e (unchanged_append old before (p ∷ []) (goes.2 ∷ []) front (here, tt)) goes.4 quiet)
   pass_same turn (p ∷ ps) s old before changed e front (inr stops) quiet =
       let flag = neither changed stops.0 (sym (ap (λ (x : Passed D). x.changed) stops.4) ∙ quiet) in
       let here = place_same moves turn s stops.1 p stops.2 (Turn.Stop stops.0) stops.3 flag.1 in

@@ -11,7 +11,8 @@ use Rattle.interface.specs.WayOut.{Egress}
 use Rattle.interface.specs.State.{state}
 use Rattle.interface.specs.Egress.{sending}
 
-pub egress_at : {D : Type 0} (moves : D → Move → D → Type 0) (device : D) (h : HostValue) (i : InnerValue) (l : Option LeftValue) (ps qs : List (SocketStorage Socket)) (t : ℤ) (e : Passed D)
+pub egress_at : {D : Type 0} (moves : D → Move → D →
+    Type 0) (device : D) (h : HostValue) (i : InnerValue) (l : Option LeftValue) (ps qs : List (SocketStorage Socket)) (t : ℤ) (e : Passed D)
     → i ≡ at_moment t h.inner → l ≡ h.left → qs ≡ ps → Egress moves (sender device i l) qs e → Egress moves (sending t (state device h ps)) ps e
 egress_at moves device h i l ps qs t e inner left places goes =
     subst (λ (x : InnerValue). Egress moves (sender device x h.left) ps e) inner

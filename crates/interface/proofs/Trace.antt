@@ -1,5 +1,6 @@
 -- All that a poll asks of its device.
-use Rattle.std.proofs.Common.{◌≡◌, ℕ, ◌+◌, ◌*◌, ◌≤◌, length, arith, ℤ, Bool, true, false, int_lt, inl, inr, List, [], ◌∷◌, Option, Some, None, is_some, refl, sym, ap, ◌∙◌, subst}
+use Rattle.std.proofs.Common.{◌≡◌, ℕ, ◌+◌, ◌*◌, ◌≤◌, length, arith, ℤ, Bool, true, false, int_lt, inl, inr, List, [], ◌∷◌, Option, Some, None, is_some, refl}
+use Rattle.std.proofs.Common.{sym, ap, ◌∙◌, subst}
 use Rattle.net_base.specs.ChecksumCapabilities.{ChecksumCapabilities}
 use Rattle.net_base.specs.Device.{Move}
 use Rattle.ip_wire.specs.HardwareAddress.{HardwareAddress}
@@ -64,7 +65,8 @@ module _ {D : Type 0} (moves : D → Move → D → Type 0) (t : ℤ) (d0 : D) (
   so_where d d' i i' device inner so = to_where d d' i i' device inner (so_more n (n + 1) d i (omega arith) so)
 
   -- a host with the same hardware address, checksums and silence
-  pub so_host : (m : ℕ) (d : D) (i i' : InnerValue) → i'.hardware ≡ i.hardware → i'.checksums ≡ i.checksums → i'.neighbors.silent ≡ i.neighbors.silent → By m d i → By m d i'
+  pub so_host : (m : ℕ) (d : D) (i i' : InnerValue) → i'.hardware ≡ i.hardware → i'.checksums ≡ i.checksums → i'.neighbors.silent ≡ i.neighbors.silent →
+      By m d i → By m d i'
   so_host m d i i' hardware checksums silent so =
       record {
         touches = so.touches;
@@ -77,14 +79,31 @@ module _ {D : Type 0} (moves : D → Move → D → Type 0) (t : ℤ) (d0 : D) (
 
   so_looks : (found : Option (List ℕ)) (d d' : D) (i : InnerValue) → Does moves i0.hardware i0.checksums (Looks found) d d' → So d i → So d' i
   so_looks found d d' i does so =
-      record { touches = Looks found ∷ so.touches; path = (d, so.path, does); sends = so.sends; silence = so.silence; hardware = so.hardware; checksums = so.checksums }
+      record {
+        touches = Looks found ∷ so.touches;
+        path = (d, so.path, does);
+        sends = so.sends;
+        silence = so.silence;
+        hardware = so.hardware;
+        checksums =
+            so.checksums;
+      }
 
   so_leave : (given : Bool) (d d' : D) (i : InnerValue) → Does moves i0.hardware i0.checksums (Leave given) d d' → So d i → So d' i
   so_leave given d d' i does so =
-      record { touches = Leave given ∷ so.touches; path = (d, so.path, does); sends = so.sends; silence = so.silence; hardware = so.hardware; checksums = so.checksums }
+      record {
+        touches = Leave given ∷ so.touches;
+        path = (d, so.path, does);
+        sends = so.sends;
+        silence = so.silence;
+        hardware = so.hardware;
+        checksums =
+            so.checksums;
+      }
 
   -- what a host sends is what the one that began sends
-  as_begun : (x : Departure) (taken : Bool) (d d' : D) (i : InnerValue) → i.hardware ≡ i0.hardware → i.checksums ≡ i0.checksums → Departs moves d i x taken d' → Does moves i0.hardware i0.checksums (Sends x taken) d d'
+  as_begun : (x : Departure) (taken : Bool) (d d' : D) (i : InnerValue) → i.hardware ≡ i0.hardware → i.checksums ≡ i0.checksums → Departs moves d i x taken d' →
+      Does moves i0.hardware i0.checksums (Sends x taken) d d'
   as_begun x taken d d' i hardware checksums goes =
       subst (λ (own : HardwareAddress). Emits moves d (frame_from own i0.checksums x) (len_from own x) taken d') hardware
       (subst (λ (caps : ChecksumCapabilities). Emits moves d (frame_from i.hardware caps x) (len_from i.hardware x) taken d') checksums goes)
@@ -92,7 +111,8 @@ module _ {D : Type 0} (moves : D → Move → D → Type 0) (t : ℤ) (d0 : D) (
   abbrev SilencesBy : List Departure → ℤ → Type 0
   SilencesBy ds after = Silences t ds i0.neighbors.silent after
 
-  so_sends : (x : Departure) (taken : Bool) (d d' : D) (i i' : InnerValue) → Departs moves d i x taken d' → i'.hardware ≡ i.hardware → i'.checksums ≡ i.checksums
+  so_sends : (x : Departure) (taken : Bool) (d d' : D) (i i' : InnerValue) → Departs moves d i x taken d' → i'.hardware ≡ i.hardware →
+      i'.checksums ≡ i.checksums
       → ((ts : List Touch) → SilencesBy (departed ts) i.neighbors.silent → SilencesBy (departed (Sends x taken ∷ ts)) i'.neighbors.silent) → So d i → To d' i'
   so_sends x taken d d' i i' goes hardware checksums silence so =
       record {
@@ -132,7 +152,8 @@ module _ {D : Type 0} (moves : D → Move → D → Type 0) (t : ℤ) (d0 : D) (
   so_numbered (Ip.Ipv4 v) d i so = so_host (n + 1) d i (with_next_ident i) refl refl refl so
   so_numbered (Ip.Ipv6 v) d i so = so
 
-  so_went : (to : HardwareAddress) (p : PacketValue) (sent : Sent) (d d' : D) (i i' : InnerValue) → Went moves d i p.header (Departures.Whole to (numbered i p)) sent d' i' → So d i → To d' i'
+  so_went : (to : HardwareAddress) (p : PacketValue) (sent : Sent) (d d' : D) (i i' : InnerValue) →
+      Went moves d i p.header (Departures.Whole to (numbered i p)) sent d' i' → So d i → To d' i'
   so_went to p Outcome.Gone d d' i i' goes so =
       to_where d' d' (after_header p.header i) i' refl goes.1
       (so_numbered p.header d' i (so_sends (Departures.Whole to (numbered i p)) true d d' i i goes.0 refl refl (λ ts silence. silence) so))
@@ -150,7 +171,8 @@ module _ {D : Type 0} (moves : D → Move → D → Type 0) (t : ℤ) (d0 : D) (
   so_cut c Outcome.Dropped d d' i i' l l' goes so = absurd goes
   so_cut c Outcome.Busy d d' i i' l l' goes so = absurd goes
 
-  so_out : (d d' : D) (i i' : InnerValue) (l l' : Option LeftValue) (p : PacketValue) (busy : Bool) (sent : Sent) → i.moment ≡ t → GoesOut moves d i l p (plan_of i busy p.header) sent d' i' l' → So d i → To d' i'
+  so_out : (d d' : D) (i i' : InnerValue) (l l' : Option LeftValue) (p : PacketValue) (busy : Bool) (sent : Sent) → i.moment ≡ t →
+      GoesOut moves d i l p (plan_of i busy p.header) sent d' i' l' → So d i → To d' i'
   so_out d d' i i' l l' p busy sent now =
       plan_cases i busy p.header (λ plan. GoesOut moves d i l p plan sent d' i' l' → So d i → To d' i')
       (λ goes so. so_where d d' i i' goes.1.0 goes.1.1 so)
@@ -163,8 +185,10 @@ module _ {D : Type 0} (moves : D → Move → D → Type 0) (t : ℤ) (d0 : D) (
 
   -- ARRIVALS
 
-  so_replied : (awaited : Bool) (reply : Option ReplyValue) (x x' : Sender D) → x.inner.moment ≡ t → Replied moves awaited reply x x' → So x.device x.inner → To x'.device x'.inner
-  so_replied awaited None x x' now is so = so_where x.device x'.device x.inner x'.inner (ap (λ (y : Sender D). y.device) is) (ap (λ (y : Sender D). y.inner) is) so
+  so_replied : (awaited : Bool) (reply : Option ReplyValue) (x x' : Sender D) → x.inner.moment ≡ t → Replied moves awaited reply x x' → So x.device x.inner →
+      To x'.device x'.inner
+  so_replied awaited None x x' now is so =
+      so_where x.device x'.device x.inner x'.inner (ap (λ (y : Sender D). y.device) is) (ap (λ (y : Sender D). y.inner) is) so
   so_replied awaited (Some (Replies.Tells packet)) x x' now tells so =
       to_where x'.device x'.device x.inner x'.inner refl tells.2 (so_told packet tells.0 x.device x'.device x.inner tells.1 so)
   so_replied awaited (Some (Replies.Answers p)) x x' now (inl held) so =
@@ -180,24 +204,29 @@ module _ {D : Type 0} (moves : D → Move → D → Type 0) (t : ℤ) (d0 : D) (
 
   so_takes : (s s' : State D) (answer : Option Bool) → RunsAt t s.host.inner → SoAt s → Takes moves s answer s' → ToAt s'
   so_takes s s' None runs so takes =
-      so_where s'.device s'.device s.host.inner s'.host.inner refl (ap (λ (x : State D). x.host.inner) takes.1) (so_looks None s.device s'.device s.host.inner takes.0 so)
+      so_where s'.device s'.device s.host.inner s'.host.inner refl (ap (λ (x : State D). x.host.inner) takes.1)
+      (so_looks None s.device s'.device s.host.inner takes.0 so)
   so_takes s s' (Some false) runs so takes =
-      so_where s'.device s'.device s.host.inner s'.host.inner refl (ap (λ (x : State D). x.host.inner) takes.3) (so_looks (Some takes.0) s.device s'.device s.host.inner takes.1 so)
+      so_where s'.device s'.device s.host.inner s'.host.inner refl (ap (λ (x : State D). x.host.inner) takes.3)
+      (so_looks (Some takes.0) s.device s'.device s.host.inner takes.1 so)
   so_takes s s' (Some true) runs so takes =
       let reads = takes.4 in
       let i : InnerValue = s.host.inner in
       let j : InnerValue = reads.2.0.inner in
       let same : HasSameSettings i j = (receives_same moves reads.0 (record s { device = takes.1 }) s' reads.2).0 in
       let took : So takes.1 i = so_looks (Some takes.0) s.device takes.1 i takes.2 so in
-      so_replied (is_awaited reads.2.0) reads.2.0.reply (record { device = takes.1; inner = j; left = s.host.left }) (record { device = s'.device; inner = s'.host.inner; left = s'.host.left })
+      so_replied (is_awaited reads.2.0) reads.2.0.reply (record { device = takes.1; inner = j; left = s.host.left })
+      (record { device = s'.device; inner = s'.host.inner; left = s'.host.left })
       (same.moment ∙ runs.0) reads.2.3 (so_host n takes.1 i j same.hardware same.checksums same.silent took)
 
   -- THE WAY OUT
 
-  so_piece_leaves : (l : LeftValue) (x x' : Sender D) (gone : Bool) → PieceLeaves moves l x gone x' → x'.inner ≡ x.inner → So x.device x.inner → To x'.device x'.inner
+  so_piece_leaves : (l : LeftValue) (x x' : Sender D) (gone : Bool) → PieceLeaves moves l x gone x' → x'.inner ≡ x.inner → So x.device x.inner →
+      To x'.device x'.inner
   so_piece_leaves l x x' gone (inl stays) is so = so_where x'.device x'.device x.inner x'.inner refl is (so_leave false x.device x'.device x.inner stays.0 so)
   so_piece_leaves l x x' gone (inr goes) is so =
-      to_where x'.device x'.device x.inner x'.inner refl is (so_piece l gone goes.0 x'.device x.inner x'.left goes.2 (so_leave true x.device goes.0 x.inner goes.1 so))
+      to_where x'.device x'.device x.inner x'.inner refl is
+      (so_piece l gone goes.0 x'.device x.inner x'.left goes.2 (so_leave true x.device goes.0 x.inner goes.1 so))
 
   module _ (turn : Option IpAddress) (x x' : Sender D) (now : x.inner.moment ≡ t) (so : So x.device x.inner) where
     abbrev Next : Type 0
@@ -211,7 +240,8 @@ module _ {D : Type 0} (moves : D → Move → D → Type 0) (t : ℤ) (d0 : D) (
     so_leaves m p sent (inr goes) =
         so_out goes.0 x'.device x.inner x'.inner x.left x'.left p (is_some x.left) sent now goes.2 (so_leave true x.device goes.0 x.inner goes.1 so)
 
-    so_sent : (o : Option PacketValue) (item item' : Item Socket) (changed : Bool) (turned : Turned) → SendsBy moves turn o x item changed turned x' item' → Next
+    so_sent : (o : Option PacketValue) (item item' : Item Socket) (changed : Bool) (turned : Turned) →
+        SendsBy moves turn o x item changed turned x' item' → Next
     so_sent None item item' changed turned sends = absurd sends
     so_sent (Some p) item item' changed turned sends = so_leaves item.meta p sends.0 sends.1
 

@@ -43,7 +43,8 @@ IsStrictWeakOrder-comes_before = record {
 some_is : {X : Type 0} (x y : X) → (let o : Option X = Some x in o) ≡ Some y → x ≡ y
 some_is x y is = cc
 
-found_if : {X : Type 0} (test : X → Bool) (x y : X) (rest : Option X) (b : Bool) → test y ≡ b → (rest ≡ Some x → test x ≡ true) → cond b (Some y) rest ≡ Some x → test x ≡ true
+found_if : {X : Type 0} (test : X → Bool) (x y : X) (rest : Option X) (b : Bool) → test y ≡ b → (rest ≡ Some x → test x ≡ true) →
+    cond b (Some y) rest ≡ Some x → test x ≡ true
 found_if {X} test x y rest true e later is = subst (λ (z : X). test z ≡ true) (some_is y x is) e
 found_if test x y rest false e later is = later is
 
@@ -55,17 +56,22 @@ not_by : (b : Bool) → not b ≡ true → b ≡ false
 not_by true is = absurd cc
 not_by false is = refl
 
-pub none_before : (i : InnerValue) (ps : List (SocketStorage Socket)) (a : Awaited) → next_awaited i ps ≡ Some a → list_any (λ b. comes_before b a) (filter_map (awaited_in i) ps) ≡ false
+pub none_before : (i : InnerValue) (ps : List (SocketStorage Socket)) (a : Awaited) → next_awaited i ps ≡ Some a →
+    list_any (λ b. comes_before b a) (filter_map (awaited_in i) ps) ≡ false
 none_before i ps a is =
-    not_by (list_any (λ b. comes_before b a) (filter_map (awaited_in i) ps)) (found_by (is_unbeaten comes_before (filter_map (awaited_in i) ps)) (filter_map (awaited_in i) ps) a is)
+    not_by (list_any (λ b. comes_before b a) (filter_map (awaited_in i) ps))
+    (found_by (is_unbeaten comes_before (filter_map (awaited_in i) ps)) (filter_map (awaited_in i) ps) a is)
 
-in_turn_by : (given_up other : Bool) → (let o : Option Sent = (if given_up then Some Outcome.Dropped else if other then Some Outcome.Waits else None) in o) ≡ None → other ≡ false
+in_turn_by : (given_up other : Bool) → (let o : Option Sent = (if given_up then Some Outcome.Dropped else if other then Some Outcome.Waits else None) in o) ≡
+    None → other ≡ false
 in_turn_by true other is = absurd cc
 in_turn_by false true is = absurd cc
 in_turn_by false false is = refl
 
-pub asked_in_turn : (hop : IpAddress) (m : Meta) (i : InnerValue) (to : IpAddress) (q : Question) → held (Some hop) m i to (Way.Ask q) ≡ None → is_same_address hop (target_of q) ≡ true
-asked_in_turn hop m i to q is = not_not (is_same_address hop (target_of q)) (in_turn_by (is_given_up m i to (Way.Ask q)) (not (is_same_address hop (target_of q))) is) where
-  not_not : (b : Bool) → not b ≡ false → b ≡ true
-  not_not true e = refl
-  not_not false e = absurd cc
+pub asked_in_turn : (hop : IpAddress) (m : Meta) (i : InnerValue) (to : IpAddress) (q : Question) → held (Some hop) m i to (Way.Ask q) ≡ None →
+    is_same_address hop (target_of q) ≡ true
+asked_in_turn hop m i to q is =
+    not_not (is_same_address hop (target_of q)) (in_turn_by (is_given_up m i to (Way.Ask q)) (not (is_same_address hop (target_of q))) is) where
+      not_not : (b : Bool) → not b ≡ false → b ≡ true
+      not_not true e = refl
+      not_not false e = absurd cc

@@ -40,7 +40,8 @@ module _ {D : Type 0} (moves : D → Move → D → Type 0) (t : ℤ) (P : State
   -- a socket's turn at its place keeps it
   abbrev pub KeptByTurns : Type 0
   KeptByTurns =
-      (turn : Option IpAddress) (h : HostValue) (before after : List (SocketStorage Socket)) (p p' : SocketStorage Socket) (x x' : Sender D) (turned : Turned) → RunsAt t x.inner
+      (turn : Option IpAddress) (h : HostValue) (before after : List (SocketStorage Socket)) (p p' : SocketStorage Socket) (x x' : Sender D) (turned : Turned) →
+      RunsAt t x.inner
       → P (sending_as h x (before ++ p ∷ after)) → PlaceTurns moves turn x p turned x' p' → P (sending_as h x' (before ++ p' ∷ after))
 
   -- each of the four
@@ -61,5 +62,6 @@ module _ {D : Type 0} (moves : D → Move → D → Type 0) (t : ℤ) (Q : ℕ �
     pub arrivals : (n : ℕ) (s s' : State D) (answer : Option Bool) → RunsAt t s.host.inner → Q n s → Takes moves s answer s' → Q (n + 1) s'
     pub pieces : (n : ℕ) (h : HostValue) (ps : List (SocketStorage Socket)) (x x' : Sender D) (l : LeftValue) (gone : Bool) → RunsAt t x.inner → x.left ≡ Some l
         → Q n (sending_as h x ps) → PieceLeaves moves l x gone x' → x'.inner ≡ x.inner → Q (n + 1) (sending_as h x' ps)
-    pub turns : (turn : Option IpAddress) (n : ℕ) (h : HostValue) (before after : List (SocketStorage Socket)) (p p' : SocketStorage Socket) (x x' : Sender D) (turned : Turned) → RunsAt t x.inner
+    pub turns : (turn : Option IpAddress) (n : ℕ) (h : HostValue) (before after : List (SocketStorage Socket)) (p p' : SocketStorage Socket) (x x' : Sender D)
+        (turned : Turned) → RunsAt t x.inner
         → Q n (sending_as h x (before ++ p ∷ after)) → PlaceTurns moves turn x p turned x' p' → Q (n + 1) (sending_as h x' (before ++ p' ∷ after))

@@ -31,5 +31,7 @@ module _ {D : Type 0} (moves : D → Move → D → Type 0) (t : ℤ) (piece : �
     pub arrivals : (n : ℕ) (s s' : State D) (answer : Option Bool) → RunsAt t s.host.inner → Q n s → Takes moves s answer s' → Q (n + 1) s'
     pub pieces : (n : ℕ) (h : HostValue) (ps : List (SocketStorage Socket)) (x x' : Sender D) (l : LeftValue) (gone : Bool) → RunsAt t x.inner → x.left ≡ Some l
         → Q n (sending_as h x ps) → PieceLeaves moves l x gone x' → x'.inner ≡ x.inner → Q (n + piece) (sending_as h x' ps)
-    pub turns : (turn : Option IpAddress) (n : ℕ) (h : HostValue) (before after : List (SocketStorage Socket)) (p p' : SocketStorage Socket) (x x' : Sender D) (turned : Turned) → is_used p ≡ true
-        → RunsAt t x.inner → Q n (sending_as h x (before ++ p ∷ after)) → PlaceTurns moves turn x p turned x' p' → Q (n + 1) (sending_as h x' (before ++ p' ∷ after))
+    pub turns : (turn : Option IpAddress) (n : ℕ) (h : HostValue) (before after : List (SocketStorage Socket)) (p p' : SocketStorage Socket) (x x' : Sender D)
+        (turned : Turned) → is_used p ≡ true
+        → RunsAt t x.inner → Q n (sending_as h x (before ++ p ∷ after)) → PlaceTurns moves turn x p turned x' p' →
+        Q (n + 1) (sending_as h x' (before ++ p' ∷ after))

@@ -30,7 +30,8 @@ pub fn ingress<D: Device, const N: usize>(
     device: &mut D,
     places: &mut [SocketStorage<Socket>],
 ) -> Option<bool>
-    ensures takes { Takes D.moves (state device.old (host inner.old fragmenter.old slots.old timeout) places.old) result (state device.new (host inner.new fragmenter.new slots.new timeout) places.new) }
+    ensures takes { Takes D.moves (state device.old (host inner.old fragmenter.old slots.old timeout) places.old) result
+        (state device.new (host inner.new fragmenter.new slots.new timeout) places.new) }
     ensures settings { KeepsSettings inner.old inner.new }
     ensures capabilities { D.described device.new ≡ D.described device.old }
 {
@@ -72,7 +73,8 @@ fn read_frame<D: Device, const N: usize>(
     frame: &[u8],
 )
     requires room { D.refused device.old + 1 < 2 ^ 64 }
-    ensures reads { Reads D.moves frame.now (state device.old (host inner.old fragmenter.old slots.old timeout) places.old) (state device.new (host inner.new fragmenter.new slots.new timeout) places.new) }
+    ensures reads { Reads D.moves frame.now (state device.old (host inner.old fragmenter.old slots.old timeout) places.old)
+        (state device.new (host inner.new fragmenter.new slots.new timeout) places.new) }
     ensures settings { KeepsSettings inner.old inner.new }
     ensures capabilities { D.described device.new ≡ D.described device.old }
 {
@@ -101,7 +103,8 @@ fn receive<D: Device, const N: usize>(
 )
     requires room { D.refused device.old + 1 < 2 ^ 64 }
     requires measured { AreMeasured (content_of content.now) }
-    ensures receives { Receives D.moves (content_of content.now) (state device.old (host inner.old fragmenter.old slots.old timeout) places.old) (state device.new (host inner.new fragmenter.new slots.new timeout) places.new) }
+    ensures receives { Receives D.moves (content_of content.now) (state device.old (host inner.old fragmenter.old slots.old timeout) places.old)
+        (state device.new (host inner.new fragmenter.new slots.new timeout) places.new) }
     ensures settings { KeepsSettings inner.old inner.new }
     ensures capabilities { D.described device.new ≡ D.described device.old }
 {
@@ -125,7 +128,8 @@ fn answer<D: Device>(
 )
     requires room { D.refused device.old + 1 < 2 ^ 64 }
     requires fits { IfCanGo (reply_of reply.now) }
-    ensures replied { Replied D.moves (is_some (turn_of inner.old places.now)) (reply_of reply.now) (sender device.old inner.old fragmenter.old) (sender device.new inner.new fragmenter.new) }
+    ensures replied { Replied D.moves (is_some (turn_of inner.old places.now)) (reply_of reply.now) (sender device.old inner.old fragmenter.old)
+        (sender device.new inner.new fragmenter.new) }
     ensures settings { KeepsSettings inner.old inner.new }
     ensures capabilities { D.described device.new ≡ D.described device.old }
 {

@@ -18,7 +18,8 @@ pub fn pass<D: Device>(
     device: &mut D,
     places: &mut [SocketStorage<Socket>],
 ) -> bool
-    ensures pass { Pass D.moves turn (sender device.old inner.old fragmenter.old) [] false places.old (passed (sender device.new inner.new fragmenter.new) places.new result) }
+    ensures pass { Pass D.moves turn (sender device.old inner.old fragmenter.old) [] false places.old
+        (passed (sender device.new inner.new fragmenter.new) places.new result) }
     ensures capabilities { D.described device.new ≡ D.described device.old }
 {
     let mut changed = false;

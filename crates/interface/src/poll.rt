@@ -57,11 +57,13 @@ impl Interface {
         budget: u16,
     ) -> PollResult
         requires { IsMoment timestamp }
-        ensures steps { Polls D.moves timestamp budget (state device.old self.old (places sockets.old)) (is_change result) (state device.new self.new (places sockets.new)) }
+        ensures steps { Polls D.moves timestamp budget (state device.old self.old (places sockets.old)) (is_change result)
+            (state device.new self.new (places sockets.new)) }
         ensures unchanged { result ≡ PollResult.None → AreUnchanged (places sockets.old) (places sockets.new) }
         ensures quiet { (asked : InnerValue) → self.old.inner ≡ at_moment self.old.inner.moment asked
             → IsEarly asked self.old.left (places sockets.old) timestamp → HasNoFrame D.moves device.old
-            → IsQuietPoll D.moves asked timestamp (state device.old self.old (places sockets.old)) (is_change result) (state device.new self.new (places sockets.new)) }
+            → IsQuietPoll D.moves asked timestamp (state device.old self.old (places sockets.old)) (is_change result)
+            (state device.new self.new (places sockets.new)) }
         ensures settings { HasSettingsOf self.old.inner self.new.inner }
         ensures kind { is_fixed sockets.new ≡ is_fixed sockets.old }
         ensures capabilities { D.described device.new ≡ D.described device.old }
@@ -82,7 +84,8 @@ impl Interface {
         sockets: &mut SocketSet<Socket>,
     ) -> PollIngressSingleResult
         requires { IsMoment timestamp }
-        ensures step { IngressStep D.moves timestamp (state device.old self.old (places sockets.old)) (single_answer result) (state device.new self.new (places sockets.new)) }
+        ensures step { IngressStep D.moves timestamp (state device.old self.old (places sockets.old)) (single_answer result)
+            (state device.new self.new (places sockets.new)) }
         ensures none { result ≡ PollIngressSingleResult.None → places sockets.new ≡ places sockets.old }
         ensures processed { result ≡ PollIngressSingleResult.PacketProcessed → places sockets.new ≡ places sockets.old }
         ensures settings { HasSettingsOf self.old.inner self.new.inner }
@@ -104,7 +107,8 @@ impl Interface {
         sockets: &mut SocketSet<Socket>,
     ) -> PollResult
         requires { IsMoment timestamp }
-        ensures step { EgressStep D.moves timestamp (state device.old self.old (places sockets.old)) (answer_of result) (state device.new self.new (places sockets.new)) }
+        ensures step { EgressStep D.moves timestamp (state device.old self.old (places sockets.old)) (answer_of result)
+            (state device.new self.new (places sockets.new)) }
         ensures unchanged { result ≡ PollResult.None → AreUnchanged (places sockets.old) (places sockets.new) }
         ensures host { IsSameHost (at_moment timestamp self.old.inner) self.new.inner }
         ensures kind { is_fixed sockets.new ≡ is_fixed sockets.old }
@@ -164,7 +168,8 @@ impl Interface {
         budget: u16,
     ) -> bool
         requires { IsMoment timestamp }
-        ensures steps { Polls D.moves timestamp budget (state device.old self.old (places sockets.old)) result (state device.new self.new (places sockets.new)) }
+        ensures steps { Polls D.moves timestamp budget (state device.old self.old (places sockets.old)) result
+            (state device.new self.new (places sockets.new)) }
         ensures settings { HasSettingsOf self.old.inner self.new.inner }
         ensures kind { is_fixed sockets.new ≡ is_fixed sockets.old }
         ensures capabilities { D.described device.new ≡ D.described device.old }
@@ -183,7 +188,8 @@ impl Interface {
         budget: u16,
     ) -> bool
         requires { IsMoment timestamp }
-        ensures steps { Repeats (IngressStep D.moves timestamp) budget (state device.old self.old (places sockets.old)) false (state device.new self.new (places sockets.new)) result }
+        ensures steps { Repeats (IngressStep D.moves timestamp) budget (state device.old self.old (places sockets.old)) false
+            (state device.new self.new (places sockets.new)) result }
         ensures settings { HasSettingsOf self.old.inner self.new.inner }
         ensures kind { is_fixed sockets.new ≡ is_fixed sockets.old }
         ensures capabilities { D.described device.new ≡ D.described device.old }
@@ -210,7 +216,8 @@ impl Interface {
         changed: bool,
     ) -> bool
         requires { IsMoment timestamp }
-        ensures steps { Repeats (EgressStep D.moves timestamp) budget (state device.old self.old (places sockets.old)) changed (state device.new self.new (places sockets.new)) result }
+        ensures steps { Repeats (EgressStep D.moves timestamp) budget (state device.old self.old (places sockets.old)) changed
+            (state device.new self.new (places sockets.new)) result }
         ensures settings { HasSettingsOf self.old.inner self.new.inner }
         ensures kind { is_fixed sockets.new ≡ is_fixed sockets.old }
         ensures capabilities { D.described device.new ≡ D.described device.old }
@@ -270,7 +277,8 @@ impl Interface {
         sockets: &mut SocketSet<Socket>,
     ) -> bool
         requires { IsMoment timestamp }
-        ensures step { EgressStep D.moves timestamp (state device.old self.old (places sockets.old)) (if_changed result) (state device.new self.new (places sockets.new)) }
+        ensures step { EgressStep D.moves timestamp (state device.old self.old (places sockets.old)) (if_changed result)
+            (state device.new self.new (places sockets.new)) }
         ensures unchanged { result ≡ false → AreUnchanged (places sockets.old) (places sockets.new) }
         ensures host { IsSameHost (at_moment timestamp self.old.inner) self.new.inner }
         ensures kind { is_fixed sockets.new ≡ is_fixed sockets.old }
@@ -297,7 +305,8 @@ fn ingress_in<D: Device, const N: usize>(
     device: &mut D,
     places: &mut Vec<SocketStorage<Socket>>,
 ) -> Option<bool>
-    ensures takes { Takes D.moves (state device.old (host inner.old fragmenter.old slots.old timeout) places.old.items) result (state device.new (host inner.new fragmenter.new slots.new timeout) places.new.items) }
+    ensures takes { Takes D.moves (state device.old (host inner.old fragmenter.old slots.old timeout) places.old.items) result
+        (state device.new (host inner.new fragmenter.new slots.new timeout) places.new.items) }
     ensures settings { KeepsSettings inner.old inner.new }
     ensures capabilities { D.described device.new ≡ D.described device.old }
 {
@@ -325,12 +334,14 @@ fn egress_in<D: Device>(
     device: &mut D,
     places: &mut Vec<SocketStorage<Socket>>,
 ) -> bool
-    ensures egress { Egress D.moves (sender device.old inner.old fragmenter.old) places.old.items (passed (sender device.new inner.new fragmenter.new) places.new.items result) }
+    ensures egress { Egress D.moves (sender device.old inner.old fragmenter.old) places.old.items
+        (passed (sender device.new inner.new fragmenter.new) places.new.items result) }
     ensures host { IsSameHost inner.old inner.new }
     ensures unchanged { result ≡ false → AreUnchanged places.old.items places.new.items }
     ensures quiet { (asked : InnerValue) → inner.old ≡ at_moment inner.old.moment asked
         → IsEarly asked fragmenter.old places.old.items inner.old.moment
-        → IsQuiet asked (sender device.old inner.old fragmenter.old) places.old.items (passed (sender device.new inner.new fragmenter.new) places.new.items result) }
+        → IsQuiet asked (sender device.old inner.old fragmenter.old) places.old.items
+        (passed (sender device.new inner.new fragmenter.new) places.new.items result) }
     ensures capabilities { D.described device.new ≡ D.described device.old }
 {
     egress(inner, fragmenter, device, places.as_mut_slice())

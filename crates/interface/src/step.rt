@@ -21,7 +21,8 @@ pub fn egress<D: Device>(
     device: &mut D,
     places: &mut [SocketStorage<Socket>],
 ) -> bool
-    ensures egress { Egress D.moves (sender device.old inner.old fragmenter.old) places.old (passed (sender device.new inner.new fragmenter.new) places.new result) }
+    ensures egress { Egress D.moves (sender device.old inner.old fragmenter.old) places.old
+        (passed (sender device.new inner.new fragmenter.new) places.new result) }
     ensures host { IsSameHost inner.old inner.new }
     ensures unchanged { result ≡ false → AreUnchanged places.old places.new }
     ensures quiet { (asked : InnerValue) → inner.old ≡ at_moment inner.old.moment asked
@@ -40,7 +41,8 @@ fn send_all<D: Device>(
     device: &mut D,
     places: &mut [SocketStorage<Socket>],
 ) -> bool
-    ensures egress { Egress D.moves (sender device.old inner.old fragmenter.old) places.old (passed (sender device.new inner.new fragmenter.new) places.new result) }
+    ensures egress { Egress D.moves (sender device.old inner.old fragmenter.old) places.old
+        (passed (sender device.new inner.new fragmenter.new) places.new result) }
     ensures capabilities { D.described device.new ≡ D.described device.old }
 {
     if !send_waiting(inner, fragmenter, device) {

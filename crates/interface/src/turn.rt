@@ -8,7 +8,8 @@ ghost use Rattle.sockets.specs.Offers.{HasPacket};
 ghost use Rattle.sockets.specs.Socket.{offered_by, IfSendable};
 ghost use Rattle.interface_egress.specs.Plan.{IsPacket, plan_of};
 ghost use Rattle.interface.specs.Host.{sender};
-ghost use Rattle.interface.specs.Turn.{is_known, is_heard, is_waiting, is_given_up, is_other, is_out_of_turn, held, waits_until, is_done, marked, settled_by, turned_by, Leaves, Sends, Turns, PlaceTurns};
+ghost use Rattle.interface.specs.Turn.{is_known, is_heard, is_waiting, is_given_up, is_other, is_out_of_turn, held, waits_until, is_done, marked, settled_by};
+ghost use Rattle.interface.specs.Turn.{turned_by, Leaves, Sends, Turns, PlaceTurns};
 ghost use Rattle.interface_egress.specs.Meta.{freed};
 
 use interface_egress::{
@@ -44,7 +45,8 @@ pub fn take_place<D: Device>(
     device: &mut D,
     place: &mut SocketStorage<Socket>,
 ) -> Turned
-    ensures turn { PlaceTurns D.moves turn (sender device.old inner.old fragmenter.old) place.old result (sender device.new inner.new fragmenter.new) place.new }
+    ensures turn { PlaceTurns D.moves turn (sender device.old inner.old fragmenter.old) place.old result
+        (sender device.new inner.new fragmenter.new) place.new }
     ensures capabilities { D.described device.new ≡ D.described device.old }
 {
     match &mut place.inner {
@@ -108,7 +110,8 @@ fn send_offered<D: Device>(
 ) -> Turned
     requires offered { HasPacket (Answer.Packet changed) (offered_by item.old.socket) }
     requires sendable { IfSendable (offered_by item.old.socket) }
-    ensures sends { Sends D.moves turn (sender device.old inner.old fragmenter.old) item.old changed result (sender device.new inner.new fragmenter.new) item.new }
+    ensures sends { Sends D.moves turn (sender device.old inner.old fragmenter.old) item.old changed result
+        (sender device.new inner.new fragmenter.new) item.new }
     ensures capabilities { D.described device.new ≡ D.described device.old }
 {
     let now = inner.now();
@@ -142,7 +145,8 @@ fn send_packet<D: Device>(
     requires packet { IsPacket (packet_value packet.now) }
     requires plan { plan ≡ plan_of inner.old (is_some fragmenter.old) (packet_value packet.now).header }
     requires fate { fate ≡ held turn meta.now inner.old (destination_of (packet_value packet.now).header) plan }
-    ensures leaves { Leaves D.moves turn (sender device.old inner.old fragmenter.old) meta.now (packet_value packet.now) result (sender device.new inner.new fragmenter.new) }
+    ensures leaves { Leaves D.moves turn (sender device.old inner.old fragmenter.old) meta.now (packet_value packet.now) result
+        (sender device.new inner.new fragmenter.new) }
     ensures capabilities { D.described device.new ≡ D.described device.old }
 {
     let Some(token) = device.transmit(inner.now()) else {

@@ -1,5 +1,6 @@
 -- What left in a frame is read in it.
-use Rattle.std.proofs.Common.{◌≡◌, ℕ, zero, suc, ◌+◌, ◌<◌, List, [], ◌∷◌, ◌++◌, length, drop, replicate, None, refl, sym, ◌∙◌, length-append, length-drop, arith}
+use Rattle.std.proofs.Common.{◌≡◌, ℕ, zero, suc, ◌+◌, ◌<◌, List, [], ◌∷◌, ◌++◌, length, drop, replicate, None, refl, sym, ◌∙◌, length-append, length-drop}
+use Rattle.std.proofs.Common.{arith}
 use Rattle.std.proofs.lemmas.List.{get_or-drop}
 use Rattle.std.specs.List.{AllByRecursion}
 use Rattle.net_base.specs.ChecksumCapabilities.{ChecksumCapabilities}
@@ -33,16 +34,19 @@ use Rattle.interface_ingress.specs.Incoming as Heard
 use Rattle.interface_ingress.specs.Sent as Sent
 use Rattle.interface_ingress.specs.Sent.{CanFrame, AreSealed}
 use Rattle.interface_ingress.proofs.FramesArrive.{packet-arrives, piece-arrives, arp-arrives}
-use Rattle.interface_egress.specs.Departure.{Departure, Asks, Tells, Whole, Part, packet_frame, piece_frame, question_frame, arp_frame, arp_link, arp_request, every_station, solicited_node, solicited_station, solicitation}
+use Rattle.interface_egress.specs.Departure.{Departure, Asks, Tells, Whole, Part, packet_frame, piece_frame, question_frame, arp_frame, arp_link, arp_request}
+use Rattle.interface_egress.specs.Departure.{every_station, solicited_node, solicited_station, solicitation}
 use Rattle.interface_egress.specs.GoesOut.{frame_of}
 use Rattle.interface_egress.specs.declared.frame.Question.{Question}
 use Rattle.interface_egress.specs.declared.frame.Question.TheVariants as Query
-use Rattle.interface_delivery.specs.Delivered.{IsOfMedium, link_of, packet_read, piece_read, question_read, read_of, IsOnEthernet, IsWritable, IsWritablePiece, IsQuestion, CanArrive}
+use Rattle.interface_delivery.specs.Delivered.{IsOfMedium, link_of, packet_read, piece_read, question_read, read_of, IsOnEthernet, IsWritable, IsWritablePiece}
+use Rattle.interface_delivery.specs.Delivered.{IsQuestion, CanArrive}
 
 lengths : Lengths
 lengths = record { udp = length-datagram; tcp = length-segment; icmpv4 = Lengths4.length-message; icmpv6 = Lengths6.length-message }
 
-pub length-written : (caps : ChecksumCapabilities) (p : PacketValue) → IsWritable p → Ips.payload_len_of p.header ≡ length (payload_written caps p.header p.payload)
+pub length-written : (caps : ChecksumCapabilities) (p : PacketValue) → IsWritable p →
+    Ips.payload_len_of p.header ≡ length (payload_written caps p.header p.payload)
 length-written caps p writable =
     writable.sendable.len ∙ sym (length-payload lengths caps p.header p.payload writable.sendable.payload writable.payload)
 
@@ -57,22 +61,27 @@ can_frame own to other (Ip.Ipv6 v) from receives = (record { source = from; dest
 abbrev Reads : HardwareAddress → HardwareAddress → HardwareAddress → ChecksumCapabilities → ChecksumCapabilities → List ℕ → PacketValue → Type 0
 Reads own to other sender receiver padding p = IsIncoming other receiver (packet_frame sender own to p ++ padding) (packet_read sender own to p)
 
-on-ethernet : (own to other : EthernetAddress) (sender receiver : ChecksumCapabilities) (h : IpRepr) (x : PayloadValue) (padding : List ℕ) → AreSealed sender receiver
+on-ethernet : (own to other : EthernetAddress) (sender receiver : ChecksumCapabilities) (h : IpRepr) (x : PayloadValue) (padding : List ℕ) →
+    AreSealed sender receiver
     → IsEthernetAddress own → IsEthernetAddress to → IsWritable (packet_of h x)
     → Reads (Hardware.Ethernet own) (Hardware.Ethernet to) (Hardware.Ethernet other) sender receiver padding (packet_of h x)
 on-ethernet own to other sender receiver (Ip.Ipv4 v) x padding sealed from receives w =
-    packet-arrives (Hardware.Ethernet other) sender receiver (link_of (Hardware.Ethernet own) (Hardware.Ethernet to) Ether.Ipv4) (Ip.Ipv4 v) (payload_written sender (Ip.Ipv4 v) x) padding
+    packet-arrives (Hardware.Ethernet other) sender receiver (link_of (Hardware.Ethernet own) (Hardware.Ethernet to) Ether.Ipv4) (Ip.Ipv4 v)
+    (payload_written sender (Ip.Ipv4 v) x) padding
     (can_frame own to other (Ip.Ipv4 v) from receives) w.sendable.header w.header (length-written sender (packet_of (Ip.Ipv4 v) x) w) sealed
 on-ethernet own to other sender receiver (Ip.Ipv6 v) x padding sealed from receives w =
-    packet-arrives (Hardware.Ethernet other) sender receiver (link_of (Hardware.Ethernet own) (Hardware.Ethernet to) Ether.Ipv6) (Ip.Ipv6 v) (payload_written sender (Ip.Ipv6 v) x) padding
+    packet-arrives (Hardware.Ethernet other) sender receiver (link_of (Hardware.Ethernet own) (Hardware.Ethernet to) Ether.Ipv6) (Ip.Ipv6 v)
+    (payload_written sender (Ip.Ipv6 v) x) padding
     (can_frame own to other (Ip.Ipv6 v) from receives) w.sendable.header w.header (length-written sender (packet_of (Ip.Ipv6 v) x) w) sealed
 
 bare : (sender receiver : ChecksumCapabilities) (h : IpRepr) (x : PayloadValue) (padding : List ℕ) → AreSealed sender receiver → IsWritable (packet_of h x)
     → Reads Hardware.Ip Hardware.Ip Hardware.Ip sender receiver padding (packet_of h x)
 bare sender receiver (Ip.Ipv4 v) x padding sealed w =
-    packet-arrives Hardware.Ip sender receiver None (Ip.Ipv4 v) (payload_written sender (Ip.Ipv4 v) x) padding tt w.sendable.header w.header (length-written sender (packet_of (Ip.Ipv4 v) x) w) sealed
+    packet-arrives Hardware.Ip sender receiver None (Ip.Ipv4 v) (payload_written sender (Ip.Ipv4 v) x) padding tt w.sendable.header w.header
+    (length-written sender (packet_of (Ip.Ipv4 v) x) w) sealed
 bare sender receiver (Ip.Ipv6 v) x padding sealed w =
-    packet-arrives Hardware.Ip sender receiver None (Ip.Ipv6 v) (payload_written sender (Ip.Ipv6 v) x) padding tt w.sendable.header w.header (length-written sender (packet_of (Ip.Ipv6 v) x) w) sealed
+    packet-arrives Hardware.Ip sender receiver None (Ip.Ipv6 v) (payload_written sender (Ip.Ipv6 v) x) padding tt w.sendable.header w.header
+    (length-written sender (packet_of (Ip.Ipv6 v) x) w) sealed
 
 pub whole : (own to other : HardwareAddress) (sender receiver : ChecksumCapabilities) (p : PacketValue) (padding : List ℕ) → AreSealed sender receiver
     → IsOfMedium other own → IsOfMedium other to → IsWritable p → Reads own to other sender receiver padding p
@@ -90,23 +99,27 @@ abbrev cut_header : Ipv4Repr → Piece → Ipv4Repr
 cut_header header p = record header { payload_len = length p.bytes }
 
 cut_value : (header : Ipv4Repr) (p : Piece) → Ipv4.IsValue header → Ipv4.IsValue (cut_header header p)
-cut_value header p value = record { source = value.source; destination = value.destination; identification = value.identification; protocol = value.protocol; hops = value.hops }
+cut_value header p value =
+    record { source = value.source; destination = value.destination; identification = value.identification; protocol = value.protocol; hops = value.hops }
 
 abbrev place_of : Piece → Ipv4Piece
 place_of p = record { offset = p.offset; more = p.more }
 
-pub piece : (own to other : HardwareAddress) (sender receiver : ChecksumCapabilities) (header : Ipv4Repr) (p : Piece) (padding : List ℕ) → AreSealed sender receiver
+pub piece : (own to other : HardwareAddress) (sender receiver : ChecksumCapabilities) (header : Ipv4Repr) (p : Piece) (padding : List ℕ) →
+    AreSealed sender receiver
     → IsOfMedium other own → IsOfMedium other to → IsWritablePiece header p
     → IsIncoming other receiver (piece_frame sender own to header p ++ padding) (piece_read own to header p)
 piece (Hardware.Ethernet own) (Hardware.Ethernet to) (Hardware.Ethernet other) sender receiver header p padding sealed from receives w =
-    piece-arrives (Hardware.Ethernet other) sender receiver (link_of (Hardware.Ethernet own) (Hardware.Ethernet to) Ether.Ipv4) (cut_header header p) (place_of p) p.bytes padding
+    piece-arrives (Hardware.Ethernet other) sender receiver (link_of (Hardware.Ethernet own) (Hardware.Ethernet to) Ether.Ipv4) (cut_header header p)
+    (place_of p) p.bytes padding
     (can_frame own to other (Ip.Ipv4 header) from receives) w.short (cut_value header p w.header_is) refl w.within w.unit sealed
 piece (Hardware.Ethernet own) Hardware.Ip (Hardware.Ethernet other) sender receiver header p padding sealed from receives w = absurd receives
 piece Hardware.Ip to (Hardware.Ethernet other) sender receiver header p padding sealed from receives w = absurd from
 piece (Hardware.Ethernet own) to Hardware.Ip sender receiver header p padding sealed from receives w = absurd from
 piece Hardware.Ip (Hardware.Ethernet to) Hardware.Ip sender receiver header p padding sealed from receives w = absurd receives
 piece Hardware.Ip Hardware.Ip Hardware.Ip sender receiver header p padding sealed from receives w =
-    piece-arrives Hardware.Ip sender receiver None (cut_header header p) (place_of p) p.bytes padding tt w.short (cut_value header p w.header_is) refl w.within w.unit sealed
+    piece-arrives Hardware.Ip sender receiver None (cut_header header p) (place_of p) p.bytes padding tt w.short (cut_value header p w.header_is) refl w.within
+    w.unit sealed
 
 -- QUESTIONS AND ANSWERS
 
@@ -114,7 +127,15 @@ arp : (other : HardwareAddress) (receiver : ChecksumCapabilities) (packet : ArpR
     → IsIncoming other receiver (arp_frame packet ++ padding) (Heard.Arp (arp_link packet) (Arps.normal packet))
 arp (Hardware.Ethernet other) receiver (Arp.EthernetIpv4 operation source source_protocol target target_protocol) padding on value =
     let packet : ArpRepr = Arp.EthernetIpv4 operation source source_protocol target target_protocol in
-    arp-arrives (Hardware.Ethernet other) receiver (arp_link packet) packet padding (record { source = value.1; destination = value.3; carried = omega arith }, refl) value
+    arp-arrives (Hardware.Ethernet other) receiver (arp_link packet) packet padding (
+      record {
+        source = value.1;
+        destination = value.3;
+        carried =
+            omega arith;
+      },
+      refl,
+    ) value
 arp Hardware.Ip receiver packet padding on value = absurd on
 
 -- the bytes of an address that is made of others
@@ -139,11 +160,21 @@ repeated (suc n) b small (suc i) = repeated n b small i
 every_station_is : IsEthernetAddress every_station
 every_station_is = (refl, repeated 6 0xff (omega arith))
 
-request_is : (own : EthernetAddress) (source target : Ipv4Address) → IsEthernetAddress own → IsIpv4Address source → IsIpv4Address target → Arps.IsValue (arp_request own source target)
+request_is : (own : EthernetAddress) (source target : Ipv4Address) → IsEthernetAddress own → IsIpv4Address source → IsIpv4Address target →
+    Arps.IsValue (arp_request own source target)
 request_is own source target is_own is_source is_target = (omega arith, is_own, is_source, every_station_is, is_target)
 
 prefix_is : IsBytes solicited_prefix
-prefix_is = all-bytes solicited_prefix (omega arith, (omega arith, (omega arith, (omega arith, (omega arith, (omega arith, (omega arith, (omega arith, (omega arith, (omega arith, (omega arith, (omega arith, (omega arith, tt)))))))))))))
+prefix_is = all-bytes solicited_prefix (
+  omega arith,
+  (
+    omega arith,
+    (
+      omega arith,
+      (omega arith, (omega arith, (omega arith, (omega arith, (omega arith, (omega arith, (omega arith, (omega arith, (omega arith, (omega arith, tt)))))))))),
+    ),
+  ),
+)
 
 group_is : (target : Ipv6Address) → IsIpv6Address target → IsIpv6Address (solicited_node target)
 group_is target is = (
@@ -154,31 +185,37 @@ group_is target is = (
 station_is : (target : Ipv6Address) → IsIpv6Address target → IsEthernetAddress (solicited_station target)
 station_is target is = (
   omega (arith, (group_is target is).0, length-drop {A = ℕ} 12 (solicited_of target)),
-  joined (0x33 ∷ 0x33 ∷ []) (drop 12 (solicited_of target)) (all-bytes (0x33 ∷ 0x33 ∷ []) (omega arith, (omega arith, tt))) (behind 12 (solicited_of target) (group_is target is).1),
+  joined (0x33 ∷ 0x33 ∷ []) (drop 12 (solicited_of target)) (all-bytes (0x33 ∷ 0x33 ∷ []) (omega arith, (omega arith, tt)))
+      (behind 12 (solicited_of target) (group_is target is).1),
 )
 
 -- a solicitation can be written
-pub solicitation_is : (own : EthernetAddress) (source target : Ipv6Address) → IsEthernetAddress own → IsIpv6Address source → IsIpv6Address target → IsWritable (solicitation own source target)
+pub solicitation_is : (own : EthernetAddress) (source target : Ipv6Address) → IsEthernetAddress own → IsIpv6Address source → IsIpv6Address target →
+    IsWritable (solicitation own source target)
 solicitation_is own source target is_own is_source is_target = record {
   sendable = record { header = omega arith; payload = (tt, omega arith); len = refl };
   header = record { source = is_source; destination = group_is target is_target; protocol = omega arith; hops = omega arith };
   payload = ((is_target, (omega (arith, is_own.0), is_own.1)), refl);
 }
 
-question : (other : HardwareAddress) (sender receiver : ChecksumCapabilities) (q : Question) (padding : List ℕ) → AreSealed sender receiver → IsOnEthernet other → IsQuestion q
+question : (other : HardwareAddress) (sender receiver : ChecksumCapabilities) (q : Question) (padding : List ℕ) → AreSealed sender receiver →
+    IsOnEthernet other → IsQuestion q
     → IsIncoming other receiver (question_frame sender q ++ padding) (question_read sender q)
 question other sender receiver (Query.Arp own source target) padding sealed on is =
     arp other receiver (arp_request own source target) padding on (request_is own source target is.0 is.1 is.2)
 question (Hardware.Ethernet other) sender receiver (Query.Neighbor own source target) padding sealed on is =
-    whole (Hardware.Ethernet own) (Hardware.Ethernet (solicited_station target)) (Hardware.Ethernet other) sender receiver (solicitation own source target) padding sealed is.0 (station_is target is.2)
+    whole (Hardware.Ethernet own) (Hardware.Ethernet (solicited_station target)) (Hardware.Ethernet other) sender receiver (solicitation own source target)
+    padding sealed is.0 (station_is target is.2)
     (solicitation_is own source target is.0 is.1 is.2)
 question Hardware.Ip sender receiver (Query.Neighbor own source target) padding sealed on is = absurd on
 
 -- ALL FRAMES
 
-pub arrives : (i : InnerValue) (other : HardwareAddress) (receiver : ChecksumCapabilities) (d : Departure) (padding : List ℕ) → AreSealed i.checksums receiver → CanArrive i.hardware other d
+pub arrives : (i : InnerValue) (other : HardwareAddress) (receiver : ChecksumCapabilities) (d : Departure) (padding : List ℕ) → AreSealed i.checksums receiver →
+    CanArrive i.hardware other d
     → IsIncoming other receiver (frame_of i d ++ padding) (read_of i d)
 arrives i other receiver (Asks q) padding sealed can = question other i.checksums receiver q padding sealed can.0 can.1
 arrives i other receiver (Tells packet) padding sealed can = arp other receiver packet padding can.0 can.1
 arrives i other receiver (Whole to p) padding sealed can = whole i.hardware to other i.checksums receiver p padding sealed can.0.from can.0.receiver can.1
-arrives i other receiver (Part to header p) padding sealed can = piece i.hardware to other i.checksums receiver header p padding sealed can.0.from can.0.receiver can.1
+arrives i other receiver (Part to header p) padding sealed can =
+    piece i.hardware to other i.checksums receiver header p padding sealed can.0.from can.0.receiver can.1

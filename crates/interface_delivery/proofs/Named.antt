@@ -15,7 +15,8 @@ use Rattle.interface_egress.specs.declared.frame.Question.TheVariants as Query
 use Rattle.interface_delivery.specs.Delivered.{CanArrive, packet_read, read_from, read_of, protocol_read, protocol_sent, HasNoPorts, SendsNoPorts}
 use Rattle.interface_delivery.proofs.Arrives.{arrives}
 
-packet_names : (caps : ChecksumCapabilities) (own to : HardwareAddress) (h : IpRepr) (x : PayloadValue) → protocol_read (packet_read caps own to (packet_of h x)) ≡ protocol_sent (Whole to (packet_of h x))
+packet_names : (caps : ChecksumCapabilities) (own to : HardwareAddress) (h : IpRepr) (x : PayloadValue) →
+    protocol_read (packet_read caps own to (packet_of h x)) ≡ protocol_sent (Whole to (packet_of h x))
 packet_names caps own to (Ip.Ipv4 v) x = refl
 packet_names caps own to (Ip.Ipv6 v) x = refl
 
@@ -26,7 +27,8 @@ names own caps (Tells packet) = refl
 names own caps (Whole to p) = packet_names caps own to p.header p.payload
 names own caps (Part to header p) = refl
 
-packet_free : (caps : ChecksumCapabilities) (own to : HardwareAddress) (h : IpRepr) (x : PayloadValue) → SendsNoPorts (Whole to (packet_of h x)) → HasNoPorts (packet_read caps own to (packet_of h x))
+packet_free : (caps : ChecksumCapabilities) (own to : HardwareAddress) (h : IpRepr) (x : PayloadValue) → SendsNoPorts (Whole to (packet_of h x)) →
+    HasNoPorts (packet_read caps own to (packet_of h x))
 packet_free caps own to (Ip.Ipv4 v) x free = free
 packet_free caps own to (Ip.Ipv6 v) x free = free
 
@@ -41,17 +43,21 @@ some_is : (x y : IncomingValue) → (let o : Option IncomingValue = Some x in o)
 some_is x y is = cc
 
 -- what is read is what arrives
-is_that : (i : InnerValue) (other : HardwareAddress) (receiver : ChecksumCapabilities) (d : Departure) (padding : List ℕ) (v : IncomingValue) → AreSealed i.checksums receiver → CanArrive i.hardware other d
+is_that : (i : InnerValue) (other : HardwareAddress) (receiver : ChecksumCapabilities) (d : Departure) (padding : List ℕ) (v : IncomingValue) →
+    AreSealed i.checksums receiver → CanArrive i.hardware other d
     → IsContent other receiver (frame_of i d ++ padding) (Some v) → read_of i d ≡ v
 is_that i other receiver d padding v sealed can content =
-    some_is (read_of i d) v (one-content other receiver (frame_of i d ++ padding) (Some (read_of i d)) (Some v) (arrives i other receiver d padding sealed can) content)
+    some_is (read_of i d) v (one-content other receiver (frame_of i d ++
+    padding) (Some (read_of i d)) (Some v) (arrives i other receiver d padding sealed can) content)
 
-pub names-same : (i : InnerValue) (other : HardwareAddress) (receiver : ChecksumCapabilities) (d : Departure) (padding : List ℕ) (v : IncomingValue) → AreSealed i.checksums receiver → CanArrive i.hardware other d
+pub names-same : (i : InnerValue) (other : HardwareAddress) (receiver : ChecksumCapabilities) (d : Departure) (padding : List ℕ) (v : IncomingValue) →
+    AreSealed i.checksums receiver → CanArrive i.hardware other d
     → IsContent other receiver (frame_of i d ++ padding) (Some v) → protocol_read v ≡ protocol_sent d
 names-same i other receiver d padding v sealed can content =
     ap protocol_read (sym (is_that i other receiver d padding v sealed can content)) ∙ names i.hardware i.checksums d
 
-pub names-none : (i : InnerValue) (other : HardwareAddress) (receiver : ChecksumCapabilities) (d : Departure) (padding : List ℕ) (v : IncomingValue) → AreSealed i.checksums receiver → CanArrive i.hardware other d
+pub names-none : (i : InnerValue) (other : HardwareAddress) (receiver : ChecksumCapabilities) (d : Departure) (padding : List ℕ) (v : IncomingValue) →
+    AreSealed i.checksums receiver → CanArrive i.hardware other d
     → SendsNoPorts d → IsContent other receiver (frame_of i d ++ padding) (Some v) → HasNoPorts v
 names-none i other receiver d padding v sealed can free content =
     subst HasNoPorts (is_that i other receiver d padding v sealed can content) (is_free i.hardware i.checksums d free)

@@ -1,5 +1,6 @@
 -- An offered packet on its way to another host.
-use Rattle.std.proofs.Common.{◌≡◌, ℕ, ◌+◌, ◌^◌, ◌<◌, ◌≤◌, Bool, true, false, cond, length, drop, Option, Some, None, IfSome, refl, sym, subst, ap, length-take, length-drop, arith}
+use Rattle.std.proofs.Common.{◌≡◌, ℕ, ◌+◌, ◌^◌, ◌<◌, ◌≤◌, Bool, true, false, cond, length, drop, Option, Some, None, IfSome, refl, sym, subst, ap, length-take}
+use Rattle.std.proofs.Common.{length-drop, arith}
 use Rattle.std.specs.Prelude.{nat_lt}
 use Rattle.std.proofs.lemmas.Bool.Decides.{nat_tests}
 use Rattle.net_base.specs.Device.{Move}
@@ -8,7 +9,8 @@ use Rattle.ip_wire.specs.Ip as Ips
 use Rattle.ip_wire.specs.IpRepr.{IpRepr}
 use Rattle.ip_wire.specs.IpRepr.TheVariants as Ip
 use Rattle.ip_wire.specs.Ipv4Repr.{Ipv4Repr}
-use Rattle.socket_base.specs.Packet.{PacketValue, PayloadValue, ControlV4, ControlV6, Bytes, Datagram, Segment, packet_of, PayloadFits, IsSendable, payload_written}
+use Rattle.socket_base.specs.Packet.{PacketValue, PayloadValue, ControlV4, ControlV6, Bytes, Datagram, Segment, packet_of, PayloadFits, IsSendable}
+use Rattle.socket_base.specs.Packet.{payload_written}
 use Rattle.interface_tables.specs.Inner.{InnerValue}
 use Rattle.interface_ingress.specs.Sent.{CanBeRead, AreSealed}
 use Rattle.interface_ingress.proofs.FramesArrive.{payload-arrives}
@@ -59,7 +61,12 @@ sendable (Ip.Ipv6 v) x is short = record { header = omega arith; payload = is.pa
 -- what can be written where its length fits
 pub writes : (i : InnerValue) (p : PacketValue) → HasWidths i → IsOffered p → total_len p.header ≤ 65535 → IsWritable (numbered i p)
 writes i p wide offered short =
-    writable i p.header p.payload wide.ident (record { sendable = sendable p.header p.payload offered.packet short; header = offered.header; payload = offered.payload })
+    writable i p.header p.payload wide.ident (record {
+      sendable = sendable p.header p.payload offered.packet short;
+      header = offered.header;
+      payload =
+          offered.payload;
+    })
 
 pub go_short : (i : InnerValue) (busy : Bool) (h : IpRepr) (to : HardwareAddress) → plan_of i busy h ≡ Way.Go to → total_len h ≤ i.mtu
 go_short i busy h to =
@@ -72,28 +79,36 @@ go_short i busy h to =
 cut_is : (to other : HardwareAddress) (v w : Ipv4Repr) → Way.Cut other w ≡ Way.Cut to v → w ≡ v
 cut_is to other v w is = cc
 
-pub cut_short : (i : InnerValue) (busy : Bool) (h : IpRepr) (to : HardwareAddress) (v : Ipv4Repr) → plan_of i busy h ≡ Way.Cut to v → (h ≡ Ip.Ipv4 v) × (20 + v.payload_len ≤ longest_cut)
+pub cut_short : (i : InnerValue) (busy : Bool) (h : IpRepr) (to : HardwareAddress) (v : Ipv4Repr) → plan_of i busy h ≡ Way.Cut to v → (h ≡ Ip.Ipv4 v) ×
+    (20 + v.payload_len ≤ longest_cut)
 cut_short i busy h to v =
     plan_cases i busy h (λ plan. plan ≡ Way.Cut to v → (h ≡ Ip.Ipv4 v) × (20 + v.payload_len ≤ longest_cut))
     (λ is. absurd cc) (λ is. absurd cc) (λ is. absurd cc) (λ is. absurd cc)
     (λ q may from is. absurd cc)
     (λ other short is. absurd cc)
-    (λ other w header long short idle is. subst (λ (x : Ipv4Repr). (h ≡ Ip.Ipv4 x) × (20 + x.payload_len ≤ longest_cut)) (cut_is to other v w is) (header, short))
+    (λ other w header long short idle is. subst (λ (x : Ipv4Repr). (h ≡ Ip.Ipv4 x) ×
+    (20 + x.payload_len ≤ longest_cut)) (cut_is to other v w is) (header, short))
 
 -- THE DEVICE
 
-taken : {D : Type 0} (moves : D → Move → D → Type 0) (old new : D) (i : InnerValue) (d : Departure) (reader : Reader) → Departs moves old i d true new → AreSealed i.checksums reader.checksums → CanArrive i.hardware reader.hardware d
+taken : {D : Type 0} (moves : D → Move → D → Type 0) (old new : D) (i : InnerValue) (d : Departure) (reader : Reader) → Departs moves old i d true new →
+    AreSealed i.checksums reader.checksums → CanArrive i.hardware reader.hardware d
     → Arrives moves old i d reader new
-taken moves old new i d reader departs sealed can = record { taken = departs.0; read = λ padding. arrives i reader.hardware reader.checksums d padding sealed can }
+taken moves old new i d reader departs sealed can =
+    record { taken = departs.0; read = λ padding. arrives i reader.hardware reader.checksums d padding sealed can }
 
-pub whole : {D : Type 0} (moves : D → Move → D → Type 0) (old new : D) (i i' : InnerValue) (l l' : Option LeftValue) (busy : Bool) (p : PacketValue) (to : HardwareAddress) (reader : Reader) → HasWidths i → IsOffered p
-    → plan_of i busy p.header ≡ Way.Go to → GoesOut moves old i l p (plan_of i busy p.header) Outcome.Gone new i' l' → CanRead i to reader → Arrives moves old i (Whole to (numbered i p)) reader new
+pub whole : {D : Type 0} (moves : D → Move → D →
+    Type 0) (old new : D) (i i' : InnerValue) (l l' : Option LeftValue) (busy : Bool) (p : PacketValue) (to : HardwareAddress) (reader : Reader) →
+    HasWidths i → IsOffered p
+    → plan_of i busy p.header ≡ Way.Go to → GoesOut moves old i l p (plan_of i busy p.header) Outcome.Gone new i' l' → CanRead i to reader →
+    Arrives moves old i (Whole to (numbered i p)) reader new
 whole moves old new i i' l l' busy p to reader wide offered plan goes can =
     let went : GoesOut moves old i l p (Way.Go to) Outcome.Gone new i' l' = subst (λ (x : Plan). GoesOut moves old i l p x Outcome.Gone new i' l') plan goes in
     let short : total_len p.header ≤ i.mtu = go_short i busy p.header to plan in
     taken moves old new i (Whole to (numbered i p)) reader went.0.0 can.sealed (can.medium, writes i p wide offered (omega (arith, short, wide.mtu)))
 
-pub carried : (i : InnerValue) (busy : Bool) (p : PacketValue) (to : HardwareAddress) (reader : Reader) → HasWidths i → IsOffered p → plan_of i busy p.header ≡ Way.Go to → CanRead i to reader → CanBeRead p.header p.payload
+pub carried : (i : InnerValue) (busy : Bool) (p : PacketValue) (to : HardwareAddress) (reader : Reader) → HasWidths i → IsOffered p →
+    plan_of i busy p.header ≡ Way.Go to → CanRead i to reader → CanBeRead p.header p.payload
     → IsCarriedTo i (numbered i p) reader
 carried i busy p to reader wide offered plan can reads =
     let short : total_len p.header ≤ i.mtu = go_short i busy p.header to plan in
@@ -110,32 +125,49 @@ later_piece mtu l half = record {
   unit = half.unit;
 }
 
-pub later : {D : Type 0} (moves : D → Move → D → Type 0) (old new : D) (i : InnerValue) (l : LeftValue) (l' : Option LeftValue) (reader : Reader) → IsHalfSent l → PieceGoesOut moves old i l true new l' → CanRead i l.to reader
+pub later : {D : Type 0} (moves : D → Move → D → Type 0) (old new : D) (i : InnerValue) (l : LeftValue) (l' : Option LeftValue) (reader : Reader) →
+    IsHalfSent l → PieceGoesOut moves old i l true new l' → CanRead i l.to reader
     → Arrives moves old i (next_departure i.mtu l) reader new
 later moves old new i l l' reader half goes can = taken moves old new i (next_departure i.mtu l) reader goes.0 can.sealed (can.medium, later_piece i.mtu l half)
 
-pub begun_half : (i : InnerValue) (busy : Bool) (p : PacketValue) (to : HardwareAddress) (v : Ipv4Repr) → HasWidths i → IsOffered p → plan_of i busy p.header ≡ Way.Cut to v → IsHalfSent (cut_of i to v p)
+pub begun_half : (i : InnerValue) (busy : Bool) (p : PacketValue) (to : HardwareAddress) (v : Ipv4Repr) → HasWidths i → IsOffered p →
+    plan_of i busy p.header ≡ Way.Cut to v → IsHalfSent (cut_of i to v p)
 begun_half i busy p to v wide offered plan =
     let short = cut_short i busy p.header to v plan in
     let w : IsWritable (numbered i p) = writes i p wide offered (rw short.0 (omega (arith, short.1))) in
-    let len : Ips.payload_len_of (numbered_header i p.header) ≡ length (payload_written i.checksums (numbered_header i p.header) p.payload) = length-written i.checksums (numbered i p) w in
+    let len : Ips.payload_len_of (numbered_header i p.header) ≡ length (payload_written i.checksums (numbered_header i p.header) p.payload) =
+    length-written i.checksums (numbered i p) w in
     let header : Ips.IsValue (Ip.Ipv4 v) = subst Ips.IsValue short.0 offered.header in
     let size : v.payload_len ≡ Ips.payload_len_of (numbered_header i p.header) = ap (λ (h : IpRepr). Ips.payload_len_of (numbered_header i h)) (sym short.0) in
     record {
-      header_is = record { source = header.source; destination = header.destination; identification = wide.ident; protocol = header.protocol; hops = header.hops };
+      header_is = record {
+        source = header.source;
+        destination = header.destination;
+        identification = wide.ident;
+        protocol = header.protocol;
+        hops =
+            header.hops;
+      };
       short = omega (arith, len, size, short.1);
       within = omega arith;
       unit = refl;
     }
 
-pub first : {D : Type 0} (moves : D → Move → D → Type 0) (old new : D) (i i' : InnerValue) (l l' : Option LeftValue) (busy : Bool) (p : PacketValue) (to : HardwareAddress) (v : Ipv4Repr) (reader : Reader) → HasWidths i → IsOffered p
+pub first : {D : Type 0} (moves : D → Move → D →
+    Type 0) (old new : D) (i i' : InnerValue) (l l' : Option LeftValue) (busy : Bool) (p : PacketValue) (to : HardwareAddress) (v : Ipv4Repr)
+    (reader : Reader) → HasWidths i → IsOffered p
     → plan_of i busy p.header ≡ Way.Cut to v → GoesOut moves old i l p (plan_of i busy p.header) Outcome.Gone new i' l' → CanRead i to reader
     → Arrives moves old i (next_departure i.mtu (cut_of i to v p)) reader new
 first moves old new i i' l l' busy p to v reader wide offered plan goes can =
-    let went : GoesOut moves old i l p (Way.Cut to v) Outcome.Gone new i' l' = subst (λ (x : Plan). GoesOut moves old i l p x Outcome.Gone new i' l') plan goes in
-    taken moves old new i (next_departure i.mtu (cut_of i to v p)) reader went.0 can.sealed (can.medium, later_piece i.mtu (cut_of i to v p) (begun_half i busy p to v wide offered plan))
+    let went : GoesOut moves old i l p (Way.Cut to v) Outcome.Gone new i' l' =
+    subst (λ (x : Plan). GoesOut moves old i l p x Outcome.Gone new i' l') plan goes in
+    taken moves old new i (next_departure i.mtu (cut_of i to v p)) reader went.0 can.sealed (
+      can.medium,
+      later_piece i.mtu (cut_of i to v p) (begun_half i busy p to v wide offered plan),
+    )
 
-left_by : (mtu : ℕ) (l : LeftValue) (b : Bool) → nat_lt (l.at + piece_room mtu) (length l.payload) ≡ b → IsHalfSent l → IfSome (cond b (Some (record l { at = l.at + piece_room mtu })) None) IsHalfSent
+left_by : (mtu : ℕ) (l : LeftValue) (b : Bool) → nat_lt (l.at + piece_room mtu) (length l.payload) ≡ b → IsHalfSent l →
+    IfSome (cond b (Some (record l { at = l.at + piece_room mtu })) None) IsHalfSent
 left_by mtu l true is half =
     let more : l.at + piece_room mtu < length l.payload = grind (arith, nat_tests) in
     record { header_is = half.header_is; short = half.short; within = omega (arith, more); unit = omega (arith, half.unit) }
@@ -146,13 +178,17 @@ left_half mtu l half = left_by mtu l (nat_lt (l.at + piece_room mtu) (length l.p
 
 -- QUESTIONS
 
-pub asked : {D : Type 0} (moves : D → Move → D → Type 0) (old new : D) (i i' : InnerValue) (l l' : Option LeftValue) (busy : Bool) (p : PacketValue) (q : Question) (reader : Reader)
-    → plan_of i busy p.header ≡ Way.Ask q → GoesOut moves old i l p (plan_of i busy p.header) Outcome.Waits new i' l' → CanArrive i.hardware reader.hardware (Asks q) → AreSealed i.checksums reader.checksums
+pub asked : {D : Type 0} (moves : D → Move → D →
+    Type 0) (old new : D) (i i' : InnerValue) (l l' : Option LeftValue) (busy : Bool) (p : PacketValue) (q : Question) (reader : Reader)
+    → plan_of i busy p.header ≡ Way.Ask q → GoesOut moves old i l p (plan_of i busy p.header) Outcome.Waits new i' l' →
+    CanArrive i.hardware reader.hardware (Asks q) → AreSealed i.checksums reader.checksums
     → Arrives moves old i (Asks q) reader new
 asked moves old new i i' l l' busy p q reader plan goes can sealed =
-    let went : GoesOut moves old i l p (Way.Ask q) Outcome.Waits new i' l' = subst (λ (x : Plan). GoesOut moves old i l p x Outcome.Waits new i' l') plan goes in
+    let went : GoesOut moves old i l p (Way.Ask q) Outcome.Waits new i' l' =
+    subst (λ (x : Plan). GoesOut moves old i l p x Outcome.Waits new i' l') plan goes in
     taken moves old new i (Asks q) reader went.0.0 sealed can
 
-pub told : {D : Type 0} (moves : D → Move → D → Type 0) (old new : D) (i : InnerValue) (d : Departure) (reader : Reader) → Departs moves old i d true new → CanArrive i.hardware reader.hardware d → AreSealed i.checksums reader.checksums
+pub told : {D : Type 0} (moves : D → Move → D → Type 0) (old new : D) (i : InnerValue) (d : Departure) (reader : Reader) → Departs moves old i d true new →
+    CanArrive i.hardware reader.hardware d → AreSealed i.checksums reader.checksums
     → Arrives moves old i d reader new
 told moves old new i d reader departs can sealed = taken moves old new i d reader departs sealed can

@@ -1,5 +1,6 @@
 -- The receivers of a host's frames are on its medium.
-use Rattle.std.proofs.Common.{◌≡◌, ℕ, zero, suc, ◌+◌, ◌<◌, Bool, true, false, cond, List, [], ◌∷◌, drop, Option, Some, None, IfSome, refl, subst, arith, length-drop}
+use Rattle.std.proofs.Common.{◌≡◌, ℕ, zero, suc, ◌+◌, ◌<◌, Bool, true, false, cond, List, [], ◌∷◌, drop, Option, Some, None, IfSome, refl, subst, arith}
+use Rattle.std.proofs.Common.{length-drop}
 use Rattle.std.specs.Prelude.{ℤ, int_lt, nat_le, slice_index}
 use Rattle.std.specs.List.{AllByRecursion}
 use Rattle.ip_wire.specs.Address.{IsEthernetAddress, IsIpAddress}
@@ -67,7 +68,8 @@ missing_by : (own : HardwareAddress) (b : Bool) → AnswerStays own (cond b Know
 missing_by own true = tt
 missing_by own false = tt
 
-found_by : (own hardware : HardwareAddress) (c : CacheValue) (moment : ℤ) (b : Bool) → IsOfMedium own hardware → AnswerStays own (cond b (Known.Found hardware) (missing c moment))
+found_by : (own hardware : HardwareAddress) (c : CacheValue) (moment : ℤ) (b : Bool) → IsOfMedium own hardware →
+    AnswerStays own (cond b (Known.Found hardware) (missing c moment))
 found_by own hardware c moment true is = is
 found_by own hardware c moment false is = missing_by own (int_lt moment c.silent)
 
@@ -93,8 +95,10 @@ hops : (i : InnerValue) (o : Option IpAddress) → KnowsItsMedium i → LinkStay
 hops i None knows = tt
 hops i (Some hop) knows =
     links i.hardware (lookup i.neighbors hop i.moment) hop
-    (unless_stays i.hardware (has_failed i.neighbors hop i.moment) (answer_by (at_place (place_of i.neighbors.entries hop) i.neighbors.entries) i.neighbors i.moment)
-    (answers i.hardware (at_place (place_of i.neighbors.entries hop) i.neighbors.entries) i.neighbors i.moment (at i.hardware (place_of i.neighbors.entries hop) i.neighbors.entries knows)))
+    (unless_stays i.hardware (has_failed i.neighbors hop i.moment)
+    (answer_by (at_place (place_of i.neighbors.entries hop) i.neighbors.entries) i.neighbors i.moment)
+    (answers i.hardware (at_place (place_of i.neighbors.entries hop) i.neighbors.entries) i.neighbors i.moment
+    (at i.hardware (place_of i.neighbors.entries hop) i.neighbors.entries knows)))
 
 -- GROUPS
 
@@ -114,12 +118,14 @@ group_is (Address.Ipv6 a) is = (
 -- THE MEDIUM
 
 station_by : (own : EthernetAddress) (b c : Bool) (address : IpAddress) (l : LinkAddress) → IsIpAddress address → LinkStays (Hardware.Ethernet own) l
-    → LinkStays (Hardware.Ethernet own) (cond b (Link.Known (Hardware.Ethernet all_stations)) (cond c (Link.Known (Hardware.Ethernet (group_station address))) l))
+    → LinkStays (Hardware.Ethernet own)
+    (cond b (Link.Known (Hardware.Ethernet all_stations)) (cond c (Link.Known (Hardware.Ethernet (group_station address))) l))
 station_by own true c address l is stays = all_is
 station_by own false true address l is stays = group_is address is
 station_by own false false address l is stays = stays
 
-link_stays : (own : HardwareAddress) (i : InnerValue) (address : IpAddress) → IsIpAddress address → ((o : Option IpAddress) → LinkStays own (link_of_hop i o)) → LinkStays own (link_on own i address)
+link_stays : (own : HardwareAddress) (i : InnerValue) (address : IpAddress) → IsIpAddress address → ((o : Option IpAddress) → LinkStays own (link_of_hop i o)) →
+    LinkStays own (link_on own i address)
 link_stays Hardware.Ip i address is stays = tt
 link_stays (Hardware.Ethernet own) i address is stays =
     station_by own (is_local_broadcast i address) (is_multicast address) address (link_of_hop i (next_hop i address)) is (stays (next_hop i address))
@@ -168,10 +174,12 @@ plan_stays i busy h knows is = elim (never_leaves i h) as (λ b. PlanStays i.har
   | false ↦ by_link i.hardware i busy h (link_address i (destination_of h)) (link_stays i.hardware i (destination_of h) is (λ o. hops i o knows))
 ]
 
-pub go_stays : (i : InnerValue) (busy : Bool) (h : IpRepr) (to : HardwareAddress) → KnowsItsMedium i → IsIpAddress (destination_of h) → plan_of i busy h ≡ Way.Go to → IsOfMedium i.hardware to
+pub go_stays : (i : InnerValue) (busy : Bool) (h : IpRepr) (to : HardwareAddress) → KnowsItsMedium i → IsIpAddress (destination_of h) →
+    plan_of i busy h ≡ Way.Go to → IsOfMedium i.hardware to
 go_stays i busy h to knows is plan = subst (PlanStays i.hardware) plan (plan_stays i busy h knows is)
 
-pub cut_stays : (i : InnerValue) (busy : Bool) (h : IpRepr) (to : HardwareAddress) (v : Ipv4Repr) → KnowsItsMedium i → IsIpAddress (destination_of h) → plan_of i busy h ≡ Way.Cut to v → IsOfMedium i.hardware to
+pub cut_stays : (i : InnerValue) (busy : Bool) (h : IpRepr) (to : HardwareAddress) (v : Ipv4Repr) → KnowsItsMedium i → IsIpAddress (destination_of h) →
+    plan_of i busy h ≡ Way.Cut to v → IsOfMedium i.hardware to
 cut_stays i busy h to v knows is plan = subst (PlanStays i.hardware) plan (plan_stays i busy h knows is)
 
 -- TWO HOSTS

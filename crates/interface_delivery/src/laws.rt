@@ -18,7 +18,8 @@ ghost use Rattle.interface_egress.specs.declared.way_out.Sent.TheVariants as Out
 ghost use Rattle.interface_egress.specs.declared.plan.Plan.TheVariants as Way;
 ghost use Rattle.ip_wire.specs.declared.arp.repr.ArpRepr.{ArpRepr};
 ghost use Rattle.ip_wire.specs.Arp as Arps;
-ghost use Rattle.interface_delivery.specs.Delivered.{IsOfMedium, AreOfOneMedium, CanArrive, IsOnEthernet, IsQuestion, read_of, protocol_read, protocol_sent, HasNoPorts, SendsNoPorts};
+ghost use Rattle.interface_delivery.specs.Delivered.{IsOfMedium, AreOfOneMedium, CanArrive, IsOnEthernet, IsQuestion, read_of, protocol_read, protocol_sent};
+ghost use Rattle.interface_delivery.specs.Delivered.{HasNoPorts, SendsNoPorts};
 ghost use Rattle.interface_delivery.specs.Medium.{KnowsItsMedium};
 ghost use Rattle.interface_delivery.specs.Taken.{Reader, CanRead, Arrives, IsCarriedTo, HasWidths, IsOffered, IsHalfSent};
 
@@ -73,7 +74,8 @@ pub fn offered_packets_arrive<D: Device>()
 /// Law: the pieces of an offered packet that is too long arrive, the first one as it is cut and the others in turn, each at its
 /// place in the payload, with the datagram's identification, and whether more follow.
 pub fn pieces_arrive<D: Device>()
-    ensures first { (old new : D) (i i' : InnerValue) (l l' : Option LeftValue) (busy : Bool) (p : PacketValue) (to : HardwareAddress) (header : Ipv4Repr) (reader : Reader)
+    ensures first { (old new : D) (i i' : InnerValue) (l l' : Option LeftValue) (busy : Bool) (p : PacketValue) (to : HardwareAddress) (header : Ipv4Repr)
+        (reader : Reader)
         → HasWidths i
         → IsOffered p
         → plan_of i busy p.header ≡ Way.Cut to header

@@ -21,7 +21,8 @@ use Rattle.interface_egress.proofs.Planned.{plan_cases}
 
 module _ {D : Type 0} (moves : D → Move → D → Type 0) (old new : D) (i i' : InnerValue) (l l' : Option LeftValue) (p : PacketValue) where
   abbrev pub Changes : Plan → Sent → Type 0
-  Changes plan sent = SendsOnce moves old i (departure_by i p plan) (was_taken sent) new × (i' ≡ host_after plan sent p.header i) × (l' ≡ left_behind i p plan sent l)
+  Changes plan sent = SendsOnce moves old i (departure_by i p plan) (was_taken sent) new × (i' ≡ host_after plan sent p.header i) ×
+      (l' ≡ left_behind i p plan sent l)
 
   asked : (q : Question) (sent : Sent) → Asked moves old i q sent new i' → l' ≡ l → Changes (Way.Ask q) sent
   asked q Outcome.Waits goes same = (goes.0, goes.1, same)
@@ -41,7 +42,8 @@ module _ {D : Type 0} (moves : D → Move → D → Type 0) (old new : D) (i i' 
   went to Outcome.Dropped goes same = absurd goes
   went to Outcome.Busy goes same = absurd goes
 
-  was_cut : (to : HardwareAddress) (v : Ipv4Repr) (sent : Sent) → p.header ≡ Ip.Ipv4 v → WasCut moves old i l (cut_of i to v p) sent new i' l' → Changes (Way.Cut to v) sent
+  was_cut : (to : HardwareAddress) (v : Ipv4Repr) (sent : Sent) → p.header ≡ Ip.Ipv4 v → WasCut moves old i l (cut_of i to v p) sent new i' l' →
+      Changes (Way.Cut to v) sent
   was_cut to v Outcome.Gone is goes = (goes.0, goes.1 ∙ ap (λ (h : IpRepr). host_after (Way.Cut to v) Outcome.Gone h i) (sym is), goes.2)
   was_cut to v Outcome.Refused is goes = (goes.0, goes.1, goes.2)
   was_cut to v Outcome.Waits is goes = absurd goes
@@ -86,7 +88,8 @@ header_number i (Ip.Ipv6 v) = tt
 some_is : (x d : Departure) → (let o : Option Departure = Some x in o) ≡ Some d → x ≡ d
 some_is x d is = cc
 
-pub next_number : (i : InnerValue) (busy : Bool) (p : PacketValue) (d : Departure) → departure_by i p (plan_of i busy p.header) ≡ Some d → IfSome (number_in d) (λ n. n ≡ i.ident)
+pub next_number : (i : InnerValue) (busy : Bool) (p : PacketValue) (d : Departure) → departure_by i p (plan_of i busy p.header) ≡ Some d →
+    IfSome (number_in d) (λ n. n ≡ i.ident)
 next_number i busy p d =
     plan_cases i busy p.header (λ plan. departure_by i p plan ≡ Some d → HasNumber i d)
     (λ is. absurd cc) (λ is. absurd cc) (λ is. absurd cc) (λ is. absurd cc)

@@ -1,5 +1,6 @@
 -- The pieces that are left of a datagram, in turn.
-use Rattle.std.proofs.Common.{◌≡◌, ℕ, suc, zero, ◌+◌, ◌*◌, ◌%◌, ◌<◌, ◌≤◌, Bool, true, false, cond, List, [], ◌++◌, length, drop, Option, Some, None, refl, sym, subst, ap, ◌∙◌, arith}
+use Rattle.std.proofs.Common.{◌≡◌, ℕ, suc, zero, ◌+◌, ◌*◌, ◌%◌, ◌<◌, ◌≤◌, Bool, true, false, cond, List, [], ◌++◌, length, drop, Option, Some, None, refl, sym}
+use Rattle.std.proofs.Common.{subst, ap, ◌∙◌, arith}
 use Rattle.std.specs.Prelude.{nat_lt}
 use Rattle.std.specs.List.{AllByRecursion, flat_map}
 use Rattle.std.proofs.lemmas.List.{drop_all}
@@ -25,8 +26,10 @@ abbrev LiesIn : List ℕ → Option LeftValue → Type 0
 LiesIn payload None = Unit {0}
 LiesIn payload (Some l) = (l.payload ≡ payload) × (l.at ≤ length payload)
 
-lies-after : (mtu : ℕ) (payload : List ℕ) (l : LeftValue) (b : Bool) → l.payload ≡ payload → nat_lt (l.at + piece_room mtu) (length l.payload) ≡ b → LiesIn payload (left_by b (moved mtu l))
-lies-after mtu payload l true same is = (same, rw (sym same) (let h : l.at + piece_room mtu < length l.payload = lt_by (l.at + piece_room mtu) (length l.payload) is in omega arith))
+lies-after : (mtu : ℕ) (payload : List ℕ) (l : LeftValue) (b : Bool) → l.payload ≡ payload → nat_lt (l.at + piece_room mtu) (length l.payload) ≡ b →
+    LiesIn payload (left_by b (moved mtu l))
+lies-after mtu payload l true same is =
+    (same, rw (sym same) (let h : l.at + piece_room mtu < length l.payload = lt_by (l.at + piece_room mtu) (length l.payload) is in omega arith))
 lies-after mtu payload l false same is = tt
 
 slices-of : (mtu n : ℕ) (payload : List ℕ) (o : Option LeftValue) → LiesIn payload o → AllByRecursion (IsSliceOf payload) (pieces_from n mtu o)
@@ -71,7 +74,8 @@ holds-after : (mtu n : ℕ) (l : LeftValue) (b : Bool) → length l.payload ≤ 
 holds-after mtu n l true enough = omega arith
 holds-after mtu n l false enough = tt
 
-bytes-after : (mtu : ℕ) (l : LeftValue) (b : Bool) → nat_lt (l.at + piece_room mtu) (length l.payload) ≡ b → bytes_left (left_by b (moved mtu l)) ≡ drop (l.at + piece_room mtu) l.payload
+bytes-after : (mtu : ℕ) (l : LeftValue) (b : Bool) → nat_lt (l.at + piece_room mtu) (length l.payload) ≡ b →
+    bytes_left (left_by b (moved mtu l)) ≡ drop (l.at + piece_room mtu) l.payload
 bytes-after mtu l true is = refl
 bytes-after mtu l false is = sym (drop_all (l.at + piece_room mtu) l.payload (le_by (l.at + piece_room mtu) (length l.payload) is))
 
@@ -80,8 +84,10 @@ turn-of mtu n None enough = refl
 turn-of mtu zero (Some l) enough = sym (drop_all l.at l.payload (omega arith))
 turn-of mtu (suc n) (Some l) enough =
     let later : Bool = nat_lt (l.at + piece_room mtu) (length l.payload) in
-    ap (λ (rest : List ℕ). (next_piece mtu l).bytes ++ rest) (turn-of mtu n (left_after mtu l) (holds-after mtu n l later enough) ∙ bytes-after mtu l later refl)
+    ap (λ (rest : List ℕ). (next_piece mtu l).bytes ++ rest) (turn-of mtu n (left_after mtu l) (holds-after mtu n l later enough) ∙
+    bytes-after mtu l later refl)
     ∙ piece_at-then (piece_room mtu) l.payload l.at
 
-pub in_turn : (mtu n : ℕ) (l : LeftValue) → length l.payload ≤ l.at + n * piece_room mtu → flat_map (λ (p : Piece). p.bytes) (pieces_from n mtu (Some l)) ≡ drop l.at l.payload
+pub in_turn : (mtu n : ℕ) (l : LeftValue) → length l.payload ≤ l.at + n * piece_room mtu →
+    flat_map (λ (p : Piece). p.bytes) (pieces_from n mtu (Some l)) ≡ drop l.at l.payload
 in_turn mtu n l enough = turn-of mtu n (Some l) enough

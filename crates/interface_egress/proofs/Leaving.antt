@@ -13,5 +13,6 @@ by : (i : InnerValue) (p : PacketValue) (d : Departure) (b : Bool) (plan : Plan)
 by i p d true plan is = absurd (cc is)
 by i p d false plan is = refl
 
-pub leaves : (i : InnerValue) (busy : Bool) (p : PacketValue) (d : Departure) → departure_by i p (plan_of i busy p.header) ≡ Some d → never_leaves i p.header ≡ false
+pub leaves : (i : InnerValue) (busy : Bool) (p : PacketValue) (d : Departure) → departure_by i p (plan_of i busy p.header) ≡ Some d →
+    never_leaves i p.header ≡ false
 leaves i busy p d is = by i p d (never_leaves i p.header) (plan_by (link_address i (destination_of p.header)) i busy p.header) is

@@ -25,7 +25,8 @@ use Rattle.interface_tables.specs.declared.neighbor.Answer.{Answer}
 use Rattle.interface_tables.specs.declared.neighbor.Answer.TheVariants as Known
 use Rattle.interface_tables.specs.declared.neighbor.Neighbor.{Neighbor}
 use Rattle.interface_egress.specs.Fragments.{LeftValue}
-use Rattle.interface_egress.specs.Plan.{longest_cut, total_len, cut_if_idle, long_plan, ask_v4, ask_from, ask_on, may_ask, ask_if, plan_by, never_leaves, plan_of, IsPacket, CanBeCarried}
+use Rattle.interface_egress.specs.Plan.{longest_cut, total_len, cut_if_idle, long_plan, ask_v4, ask_from, ask_on, may_ask, ask_if, plan_by, never_leaves}
+use Rattle.interface_egress.specs.Plan.{plan_of, IsPacket, CanBeCarried}
 use Rattle.interface_egress.specs.declared.frame.Question.{Question}
 use Rattle.interface_egress.specs.declared.frame.Question.TheVariants as Query
 use Rattle.interface_egress.specs.declared.plan.Plan.{Plan}
@@ -73,7 +74,8 @@ of_hop_is i (Some next) hop is =
     answer_is entry i.neighbors i.moment
     (unless_is (has_failed i.neighbors next i.moment) (answer_by entry i.neighbors i.moment) (link_by_is (lookup i.neighbors next i.moment) next hop is))
 
-last_of : (b c : Bool) (x y : HardwareAddress) (z : LinkAddress) (hop : IpAddress) → cond b (Link.Known x) (cond c (Link.Known y) z) ≡ Link.Unknown hop → z ≡ Link.Unknown hop
+last_of : (b c : Bool) (x y : HardwareAddress) (z : LinkAddress) (hop : IpAddress) → cond b (Link.Known x) (cond c (Link.Known y) z) ≡ Link.Unknown hop →
+    z ≡ Link.Unknown hop
 last_of true c x y z hop is = absurd cc
 last_of false true x y z hop is = absurd cc
 last_of false false x y z hop is = is
@@ -82,7 +84,8 @@ on_is : (hardware : HardwareAddress) (i : InnerValue) (address hop : IpAddress) 
 on_is Hardware.Ip i address hop is = absurd cc
 on_is (Hardware.Ethernet own) i address hop is =
     of_hop_is i (next_hop i address) hop
-    (last_of (is_local_broadcast i address) (is_multicast address) (Hardware.Ethernet all_stations) (Hardware.Ethernet (group_station address)) (link_of_hop i (next_hop i address)) hop is)
+    (last_of (is_local_broadcast i address) (is_multicast address) (Hardware.Ethernet all_stations) (Hardware.Ethernet (group_station address))
+    (link_of_hop i (next_hop i address)) hop is)
 
 -- EACH PLAN
 
@@ -97,12 +100,17 @@ abbrev pub AsksFrom : HardwareAddress → Question → Type 0
 AsksFrom hardware (Query.Arp own source target) = hardware ≡ Hardware.Ethernet own
 AsksFrom hardware (Query.Neighbor own source target) = hardware ≡ Hardware.Ethernet own
 
-module _ (i : InnerValue) (busy : Bool) (h : IpRepr) (P : Plan → Type 0) (out : P Way.Drop) (none : P Way.NoRoute) (wait : P Way.Wait) (held : P Way.Busy) (ask : (q : Question) → MayAsk i → AsksFrom i.hardware q → P (Way.Ask q)) (go : (to : HardwareAddress) → total_len h ≤ i.mtu → P (Way.Go to)) (cut : (to : HardwareAddress) (v : Ipv4Repr) → h ≡ Ip.Ipv4 v → i.mtu < 20 + v.payload_len → 20 + v.payload_len ≤ longest_cut → busy ≡ false → P (Way.Cut to v)) where
-  cut_by : (to : HardwareAddress) (v : Ipv4Repr) → h ≡ Ip.Ipv4 v → i.mtu < 20 + v.payload_len → 20 + v.payload_len ≤ longest_cut → (b : Bool) → busy ≡ b → P (cut_if_idle b to v)
+module _ (i : InnerValue) (busy : Bool) (h : IpRepr) (P : Plan →
+    Type 0) (out : P Way.Drop) (none : P Way.NoRoute) (wait : P Way.Wait) (held : P Way.Busy) (ask : (q : Question) → MayAsk i → AsksFrom i.hardware q →
+    P (Way.Ask q)) (go : (to : HardwareAddress) → total_len h ≤ i.mtu → P (Way.Go to)) (cut : (to : HardwareAddress) (v : Ipv4Repr) → h ≡ Ip.Ipv4 v →
+    i.mtu < 20 + v.payload_len → 20 + v.payload_len ≤ longest_cut → busy ≡ false → P (Way.Cut to v)) where
+  cut_by : (to : HardwareAddress) (v : Ipv4Repr) → h ≡ Ip.Ipv4 v → i.mtu < 20 + v.payload_len → 20 + v.payload_len ≤ longest_cut → (b : Bool) → busy ≡ b →
+      P (cut_if_idle b to v)
   cut_by to v is long short true e = held
   cut_by to v is long short false e = cut to v is long short e
 
-  short_by : (to : HardwareAddress) (v : Ipv4Repr) → h ≡ Ip.Ipv4 v → i.mtu < 20 + v.payload_len → (b : Bool) → nat_le (20 + v.payload_len) longest_cut ≡ b → P (cond b (cut_if_idle busy to v) Way.Drop)
+  short_by : (to : HardwareAddress) (v : Ipv4Repr) → h ≡ Ip.Ipv4 v → i.mtu < 20 + v.payload_len → (b : Bool) → nat_le (20 + v.payload_len) longest_cut ≡ b →
+      P (cond b (cut_if_idle busy to v) Way.Drop)
   short_by to v is long true e = cut_by to v is long (le_by (20 + v.payload_len) longest_cut e) busy refl
   short_by to v is long false e = out
 
@@ -161,8 +169,16 @@ none_by (Some l) is = absurd cc
 len_of_v4 : (h : IpRepr) (v : Ipv4Repr) → h ≡ Ip.Ipv4 v → 20 + v.payload_len ≤ longest_cut → total_len h ≤ 65535
 len_of_v4 h v is short = rw is (omega arith)
 
-pub planned_can_be_carried : (i : InnerValue) (left : Option LeftValue) (p : PacketValue) → i.mtu ≤ 65535 → IsPacket p → CanBeCarried i.mtu left p (plan_of i (is_some left) p.header)
+pub planned_can_be_carried : (i : InnerValue) (left : Option LeftValue) (p : PacketValue) → i.mtu ≤ 65535 → IsPacket p →
+    CanBeCarried i.mtu left p (plan_of i (is_some left) p.header)
 planned_can_be_carried i left p high is =
     plan_cases i (is_some left) p.header (CanBeCarried i.mtu left p) tt tt tt tt (λ q may from. tt)
     (λ to short. sendable_by p is (omega (arith, high, short)))
-    (λ to v header long short idle. record { header = header; sendable = sendable_by p is (len_of_v4 p.header v header short); short = short; long = long; idle = none_by left idle })
+    (λ to v header long short idle. record {
+      header = header;
+      sendable = sendable_by p is (len_of_v4 p.header v header short);
+      short = short;
+      long =
+          long;
+      idle = none_by left idle;
+    })

@@ -1,5 +1,6 @@
 -- What was sent in a frame is read in it.
-use Rattle.std.proofs.Common.{◌≡◌, ℕ, ◌+◌, ◌-◌, ◌%◌, ◌^◌, ◌<◌, ◌≤◌, Bool, IsTrue, List, [], ◌++◌, length, drop, take, length-append, append_assoc, refl, sym, subst, ap, ◌∙◌, arith}
+use Rattle.std.proofs.Common.{◌≡◌, ℕ, ◌+◌, ◌-◌, ◌%◌, ◌^◌, ◌<◌, ◌≤◌, Bool, IsTrue, List, [], ◌++◌, length, drop, take, length-append, append_assoc, refl, sym}
+use Rattle.std.proofs.Common.{subst, ap, ◌∙◌, arith}
 use Rattle.std.proofs.lemmas.List.{take_at, drop_at}
 use Rattle.std.specs.Int.{w16, to_be_bytes}
 use Rattle.net_base.specs.Capabilities.{computes}
@@ -44,7 +45,8 @@ framed v rest padding value again =
     let joined : (Ethernet.written v ++ rest) ++ padding ≡ Ethernet.written v ++ (rest ++ padding) = append_assoc (Ethernet.written v) rest padding in
     let same : Ethernet.normal v ≡ v = ap (λ (p : EthernetProtocol). record v { ethertype = p }) again in
     let len : length (Ethernet.written v) ≡ 14 = length-link v value in (
-      subst (λ (frame : List ℕ). Ethernet.IsEthernet frame v) (sym joined) (subst (λ (w : EthernetRepr). Ethernet.IsEthernet (Ethernet.written v ++ (rest ++ padding)) w) same (IsEthernet-written v (rest ++ padding) value)),
+      subst (λ (frame : List ℕ). Ethernet.IsEthernet frame v) (sym joined)
+          (subst (λ (w : EthernetRepr). Ethernet.IsEthernet (Ethernet.written v ++ (rest ++ padding)) w) same (IsEthernet-written v (rest ++ padding) value)),
       ap (drop 14) joined ∙ drop_at (Ethernet.written v) (rest ++ padding) 14 len,
     )
 
@@ -61,47 +63,61 @@ again (Ip.Ipv6 v) = refl
 
 pub link-packet : (caps : ChecksumCapabilities) (own to : EthernetAddress) (p : PacketValue) (padding : List ℕ) → IsEthernetAddress own → IsEthernetAddress to
     → Ethernet.IsEthernet (packet_frame caps (Hardware.Ethernet own) (Hardware.Ethernet to) p ++ padding) (link_value own to (ether_for p.header))
-    × (Ethernet.payload_of (packet_frame caps (Hardware.Ethernet own) (Hardware.Ethernet to) p ++ padding) ≡ packet_frame caps Hardware.Ip Hardware.Ip p ++ padding)
+    × (Ethernet.payload_of (packet_frame caps (Hardware.Ethernet own) (Hardware.Ethernet to) p ++ padding) ≡
+    packet_frame caps Hardware.Ip Hardware.Ip p ++ padding)
 link-packet caps own to p padding is_own is_to =
     framed (link_value own to (ether_for p.header)) (Ips.written (computes caps.ipv4) p.header ++ payload_written caps p.header p.payload) padding
     (record { source = is_own; destination = is_to; carried = small p.header }) (again p.header)
 
-pub link-piece : (caps : ChecksumCapabilities) (own to : EthernetAddress) (header : Ipv4Repr) (p : Piece) (padding : List ℕ) → IsEthernetAddress own → IsEthernetAddress to
+pub link-piece : (caps : ChecksumCapabilities) (own to : EthernetAddress) (header : Ipv4Repr) (p : Piece) (padding : List ℕ) → IsEthernetAddress own →
+    IsEthernetAddress to
     → Ethernet.IsEthernet (piece_frame caps (Hardware.Ethernet own) (Hardware.Ethernet to) header p ++ padding) (link_value own to Ether.Ipv4)
-    × (Ethernet.payload_of (piece_frame caps (Hardware.Ethernet own) (Hardware.Ethernet to) header p ++ padding) ≡ piece_frame caps Hardware.Ip Hardware.Ip header p ++ padding)
+    × (Ethernet.payload_of (piece_frame caps (Hardware.Ethernet own) (Hardware.Ethernet to) header p ++ padding) ≡
+    piece_frame caps Hardware.Ip Hardware.Ip header p ++ padding)
 link-piece caps own to header p padding is_own is_to =
-    framed (link_value own to Ether.Ipv4) (Ipv4.written_piece (computes caps.ipv4) (record header { payload_len = length p.bytes }) p.offset p.more ++ p.bytes) padding
+    framed (link_value own to Ether.Ipv4) (Ipv4.written_piece (computes caps.ipv4) (record header { payload_len = length p.bytes }) p.offset p.more ++
+    p.bytes) padding
     (record { source = is_own; destination = is_to; carried = small (Ip.Ipv4 header) }) refl
 
 pub arp-read : (packet : ArpRepr) (padding : List ℕ) → Arps.IsValue packet
     → Ethernet.IsEthernet (arp_frame packet ++ padding) (arp_link packet) × Arps.IsArp (Ethernet.payload_of (arp_frame packet ++ padding)) (Arps.normal packet)
 arp-read (Arp.EthernetIpv4 operation source source_protocol target target_protocol) padding value =
     let packet : ArpRepr = Arp.EthernetIpv4 operation source source_protocol target target_protocol in
-    let read = framed (link_value source target Ether.Arp) (Arps.written packet) padding (record { source = value.1; destination = value.3; carried = omega arith }) refl in
+    let read = framed (link_value source target Ether.Arp) (Arps.written packet) padding (record {
+      source = value.1;
+      destination = value.3;
+      carried =
+          omega arith;
+    }) refl in
     (read.0, subst (λ (bytes : List ℕ). Arps.IsArp bytes (Arps.normal packet)) (sym read.1) (IsArp-written packet padding value))
 
 -- A PACKET
 
 header-len : (sealed : Bool) (h : IpRepr) → Ips.IsValue h → length (Ips.written sealed h) ≡ header_len_in h
-header-len sealed (Ip.Ipv4 v) value = omega (arith, value.source.0, value.destination.0, length-append v.src_addr.0 (v.dst_addr.0 ++ []), length-append v.dst_addr.0 [])
+header-len sealed (Ip.Ipv4 v) value =
+    omega (arith, value.source.0, value.destination.0, length-append v.src_addr.0 (v.dst_addr.0 ++ []), length-append v.dst_addr.0 [])
 header-len sealed (Ip.Ipv6 v) value = omega (arith, value.source.0, value.destination.0, length-append v.src_addr.0 v.dst_addr.0)
 
-pub packet-read : (caps : ChecksumCapabilities) (tested : Bool) (p : PacketValue) (padding : List ℕ) → IsSendable p → Ips.IsValue p.header → length (payload_written caps p.header p.payload) ≡ payload_len p.payload
+pub packet-read : (caps : ChecksumCapabilities) (tested : Bool) (p : PacketValue) (padding : List ℕ) → IsSendable p → Ips.IsValue p.header →
+    length (payload_written caps p.header p.payload) ≡ payload_len p.payload
     → (IsTrue tested → IsTrue (computes caps.ipv4))
     → Ips.IsIp tested (packet_frame caps Hardware.Ip Hardware.Ip p ++ padding) (Ips.normal p.header)
-    × (take (payload_len p.payload) (drop (header_len_in p.header) (packet_frame caps Hardware.Ip Hardware.Ip p ++ padding)) ≡ payload_written caps p.header p.payload)
+    × (take (payload_len p.payload) (drop (header_len_in p.header) (packet_frame caps Hardware.Ip Hardware.Ip p ++ padding)) ≡
+    payload_written caps p.header p.payload)
 packet-read caps tested p padding sendable value len both =
     let header : List ℕ = Ips.written (computes caps.ipv4) p.header in
     let bytes : List ℕ = payload_written caps p.header p.payload in
     let joined : (header ++ bytes) ++ padding ≡ header ++ (bytes ++ padding) = append_assoc header bytes padding in
     let within : payload_len_of p.header ≤ length (bytes ++ padding) = omega (arith, sendable.len, len, length-append bytes padding) in (
-      subst (λ (frame : List ℕ). Ips.IsIp tested frame (Ips.normal p.header)) (sym joined) (IsIp-written tested (computes caps.ipv4) p.header (bytes ++ padding) sendable.header value within both),
+      subst (λ (frame : List ℕ). Ips.IsIp tested frame (Ips.normal p.header)) (sym joined)
+          (IsIp-written tested (computes caps.ipv4) p.header (bytes ++ padding) sendable.header value within both),
       ap (λ (frame : List ℕ). take (payload_len p.payload) (drop (header_len_in p.header) frame)) joined
           ∙ ap (take (payload_len p.payload)) (drop_at header (bytes ++ padding) (header_len_in p.header) (header-len (computes caps.ipv4) p.header value))
           ∙ take_at bytes padding (payload_len p.payload) len,
     )
 
-pub piece-read : (caps : ChecksumCapabilities) (tested : Bool) (header : Ipv4Repr) (p : Piece) (padding : List ℕ) → Ipv4.IsValue header → 20 + length p.bytes < 2 ^ 16 → p.offset < 2 ^ 16 → p.offset % 8 ≡ 0
+pub piece-read : (caps : ChecksumCapabilities) (tested : Bool) (header : Ipv4Repr) (p : Piece) (padding : List ℕ) → Ipv4.IsValue header →
+    20 + length p.bytes < 2 ^ 16 → p.offset < 2 ^ 16 → p.offset % 8 ≡ 0
     → (IsTrue tested → IsTrue (computes caps.ipv4))
     → Ipv4.IsIpv4 tested (piece_frame caps Hardware.Ip Hardware.Ip header p ++ padding) (Ipv4.normal (record header { payload_len = length p.bytes }))
     × (Ipv4.piece_of (piece_frame caps Hardware.Ip Hardware.Ip header p ++ padding) ≡ record { offset = p.offset; more = p.more })
@@ -110,10 +126,20 @@ piece-read caps tested header p padding value fits short whole both =
     let v : Ipv4Repr = record header { payload_len = length p.bytes } in
     let w : List ℕ = Ipv4.written_piece (computes caps.ipv4) v p.offset p.more in
     let joined : (w ++ p.bytes) ++ padding ≡ w ++ (p.bytes ++ padding) = append_assoc w p.bytes padding in
-    let value_of_v : Ipv4.IsValue v = record { source = value.source; destination = value.destination; identification = value.identification; protocol = value.protocol; hops = value.hops } in
-    let read = reads-back tested (computes caps.ipv4) v (record { offset = p.offset; more = p.more }) (p.bytes ++ padding) fits value_of_v short whole (omega (arith, length-append p.bytes padding)) both in
+    let value_of_v : Ipv4.IsValue v =
+    record {
+      source = value.source;
+      destination = value.destination;
+      identification = value.identification;
+      protocol = value.protocol;
+      hops =
+          value.hops;
+    } in
+    let read = reads-back tested (computes caps.ipv4) v (record { offset = p.offset; more = p.more }) (p.bytes ++
+    padding) fits value_of_v short whole (omega (arith, length-append p.bytes padding)) both in
     let size : be16 (w ++ (p.bytes ++ padding)) 2 - 20 ≡ length p.bytes = omega (arith, read.0.payload) in
-    let len : length w ≡ 20 = omega (arith, value.source.0, value.destination.0, length-append header.src_addr.0 (header.dst_addr.0 ++ []), length-append header.dst_addr.0 []) in (
+    let len : length w ≡ 20 =
+    omega (arith, value.source.0, value.destination.0, length-append header.src_addr.0 (header.dst_addr.0 ++ []), length-append header.dst_addr.0 []) in (
       subst (λ (frame : List ℕ). Ipv4.IsIpv4 tested frame (Ipv4.normal v)) (sym joined) read.0,
       ap Ipv4.piece_of joined ∙ read.1,
       ap Ipv4.payload_of joined

@@ -42,7 +42,8 @@ asks_room hardware (Query.Neighbor own source target) is = room_of hardware own 
 pub piece_short : (i : InnerValue) (l : LeftValue) → 576 ≤ i.mtu → frame_len_of i (next_departure i.mtu l) ≤ link_room i.hardware + i.mtu
 piece_short i l low = omega (arith, link_short i.hardware l.to, length-take (piece_room i.mtu) (drop l.at l.payload))
 
-pub arp_short : (i : InnerValue) (own : EthernetAddress) (packet : ArpRepr) → 576 ≤ i.mtu → i.hardware ≡ Hardware.Ethernet own → frame_len_of i (Tells packet) ≤ link_room i.hardware + i.mtu
+pub arp_short : (i : InnerValue) (own : EthernetAddress) (packet : ArpRepr) → 576 ≤ i.mtu → i.hardware ≡ Hardware.Ethernet own →
+    frame_len_of i (Tells packet) ≤ link_room i.hardware + i.mtu
 arp_short i own packet low is = omega (arith, room_of i.hardware own is)
 
 IsShort : InnerValue → Departure → Type 0
@@ -56,6 +57,9 @@ pub planned_short : (i : InnerValue) (busy : Bool) (p : PacketValue) (d : Depart
 planned_short i busy p d low len =
     plan_cases i busy p.header (λ plan. departure_by i p plan ≡ Some d → frame_len_of i d ≤ link_room i.hardware + i.mtu)
     (λ is. absurd cc) (λ is. absurd cc) (λ is. absurd cc) (λ is. absurd cc)
-    (λ q may from is. subst (λ e. frame_len_of i e ≤ link_room i.hardware + i.mtu) (some_is (Asks q) d is) (omega (arith, low, question_short q, asks_room i.hardware q from)))
-    (λ to short is. subst (λ e. frame_len_of i e ≤ link_room i.hardware + i.mtu) (some_is (Whole to (numbered i p)) d is) (omega (arith, short, len, header_same i p.header, link_short i.hardware to)))
-    (λ to v header long short idle is. subst (λ e. frame_len_of i e ≤ link_room i.hardware + i.mtu) (some_is (next_departure i.mtu (cut_of i to v p)) d is) (piece_short i (cut_of i to v p) low))
+    (λ q may from is. subst (λ e. frame_len_of i e ≤ link_room i.hardware + i.mtu) (some_is (Asks q) d is)
+    (omega (arith, low, question_short q, asks_room i.hardware q from)))
+    (λ to short is. subst (λ e. frame_len_of i e ≤ link_room i.hardware + i.mtu) (some_is (Whole to (numbered i p)) d is)
+    (omega (arith, short, len, header_same i p.header, link_short i.hardware to)))
+    (λ to v header long short idle is. subst (λ e. frame_len_of i e ≤ link_room i.hardware + i.mtu) (some_is (next_departure i.mtu (cut_of i to v p)) d is)
+    (piece_short i (cut_of i to v p) low))

@@ -8,11 +8,13 @@ use Rattle.interface_egress.specs.declared.socket_set.SocketStorage.{SocketStora
 use Rattle.interface_egress.specs.Set.{with_socket, Updates, UpdatesItem}
 
 module _ {T R : Type 0} (Calls : T → R → T → Type 0) (ps : List (SocketStorage T)) (n : ℕ) (place : SocketStorage T) where
-  updates-by : (result : Option R) (new : List (SocketStorage T)) (item : Option (Item T)) → slice_get ps n ≡ Some place → place.inner ≡ item → UpdatesItem Calls item ps n result new → Updates Calls (slice_get ps n) ps n result new
+  updates-by : (result : Option R) (new : List (SocketStorage T)) (item : Option (Item T)) → slice_get ps n ≡ Some place → place.inner ≡ item →
+      UpdatesItem Calls item ps n result new → Updates Calls (slice_get ps n) ps n result new
   updates-by result new item got is done =
       subst (λ o. Updates Calls o ps n result new) (sym got) (subst (λ i. UpdatesItem Calls i ps n result new) (sym is) done)
 
-  pub updates-some : (item : Item T) (r : R) (socket : T) → slice_get ps n ≡ Some place → place.inner ≡ Some item → Calls item.socket r socket → Updates Calls (slice_get ps n) ps n (Some r) (slice_set ps n (with_socket item socket))
+  pub updates-some : (item : Item T) (r : R) (socket : T) → slice_get ps n ≡ Some place → place.inner ≡ Some item → Calls item.socket r socket →
+      Updates Calls (slice_get ps n) ps n (Some r) (slice_set ps n (with_socket item socket))
   updates-some item r socket got is called =
       updates-by (Some r) (slice_set ps n (with_socket item socket)) (Some item) got is (r, socket, refl, called, refl)
 

@@ -1,5 +1,6 @@
 -- The used places are those of the map, in rising order.
-use Rattle.std.proofs.Common.{◌≡◌, ℕ, zero, suc, ◌+◌, ◌<◌, ◌≤◌, ◌⊎◌, inl, inr, List, [], ◌∷◌, length, drop, Option, None, Some, refl, sym, ap, subst, ◌∙◌, arith}
+use Rattle.std.proofs.Common.{◌≡◌, ℕ, zero, suc, ◌+◌, ◌<◌, ◌≤◌, ◌⊎◌, inl, inr, List, [], ◌∷◌, length, drop, Option, None, Some, refl, sym, ap, subst, ◌∙◌}
+use Rattle.std.proofs.Common.{arith}
 use Rattle.std.proofs.lemmas.List.{drop_all}
 use Rattle.interface_egress.specs.declared.socket_set.SocketHandle.{SocketHandle}
 use Rattle.interface_egress.specs.declared.socket_set.SocketStorage.{SocketStorage}
@@ -15,7 +16,8 @@ module _ {T : Type 0} where
   used_from m (p ∷ ps) (suc n) within = used_from m ps n (omega arith)
 
   used_one : (n : ℕ) (ps : List (SocketStorage T)) → n < length ps → used n (drop n ps) ≡ with_used n (socket_at ps n) (used (n + 1) (drop (n + 1) ps))
-  used_one n ps within = let one : suc n ≡ n + 1 = omega arith in subst (λ k. used n (drop n ps) ≡ with_used n (socket_at ps n) (used (n + 1) (drop k ps))) one (used_from n ps n within)
+  used_one n ps within = let one : suc n ≡ n + 1 =
+      omega arith in subst (λ k. used n (drop n ps) ≡ with_used n (socket_at ps n) (used (n + 1) (drop k ps))) one (used_from n ps n within)
 
   pub used_skip : (n : ℕ) (ps : List (SocketStorage T)) → n < length ps → socket_at ps n ≡ None → used n (drop n ps) ≡ used (n + 1) (drop (n + 1) ps)
   used_skip n ps within none = used_one n ps within ∙ ap (λ o. with_used n o (used (n + 1) (drop (n + 1) ps))) none
@@ -52,7 +54,8 @@ module _ {T : Type 0} where
   lists-further : (k : ℕ) (p : SocketStorage T) (ps : List (SocketStorage T)) (m : ℕ) (x : T) → Found (k + 1) ps m x → Found k (p ∷ ps) m x
   lists-further k p ps m x f = record { place = suc f.place; number = omega (arith, f.number); holds = f.holds }
 
-  lists-with : (k : ℕ) (p : SocketStorage T) (ps : List (SocketStorage T)) (m : ℕ) (x : T) (o : Option T) → socket_of p.inner ≡ o → (Lists (used (k + 1) ps) m x → Found (k + 1) ps m x) → Lists (with_used k o (used (k + 1) ps)) m x → Found k (p ∷ ps) m x
+  lists-with : (k : ℕ) (p : SocketStorage T) (ps : List (SocketStorage T)) (m : ℕ) (x : T) (o : Option T) → socket_of p.inner ≡ o →
+      (Lists (used (k + 1) ps) m x → Found (k + 1) ps m x) → Lists (with_used k o (used (k + 1) ps)) m x → Found k (p ∷ ps) m x
   lists-with k p ps m x None is go l = lists-further k p ps m x (go l)
   lists-with k p ps m x (Some y) is go (inl here) = record { place = 0; number = omega (arith, here.0); holds = is ∙ ap Some here.1 }
   lists-with k p ps m x (Some y) is go (inr l) = lists-further k p ps m x (go l)

@@ -75,7 +75,8 @@ WasCut moves old i l c Outcome.Refused new i' l' = Departs moves old i (next_dep
 WasCut moves old i l c _ new i' l' = ⊥
 
 -- A refused frame changes nothing but the device. What is dropped, waits or finds the host busy asks nothing of the device.
-abbrev pub GoesOut : {D : Type 0} → (D → Move → D → Type 0) → D → InnerValue → Option LeftValue → PacketValue → Plan → Sent → D → InnerValue → Option LeftValue → Type 0
+abbrev pub GoesOut : {D : Type 0} → (D → Move → D → Type 0) → D → InnerValue → Option LeftValue → PacketValue → Plan → Sent → D → InnerValue →
+    Option LeftValue → Type 0
 GoesOut moves old i l p Way.Drop sent new i' l' = (sent ≡ Outcome.Dropped) × Stays old i l new i' l'
 GoesOut moves old i l p Way.NoRoute sent new i' l' = (sent ≡ Outcome.Waits) × Stays old i l new i' l'
 GoesOut moves old i l p Way.Wait sent new i' l' = (sent ≡ Outcome.Waits) × Stays old i l new i' l'

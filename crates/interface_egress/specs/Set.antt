@@ -1,5 +1,6 @@
 -- The sockets of a host: places, each with a socket or free.
-use Rattle.std.specs.Prelude.{◌≡◌, ℕ, Bool, true, false, Result, Ok, Err, MatchResult, List, [], ◌∷◌, ◌++◌, length, position, slice_get, slice_set, Option, None, Some, is_none}
+use Rattle.std.specs.Prelude.{◌≡◌, ℕ, Bool, true, false, Result, Ok, Err, MatchResult, List, [], ◌∷◌, ◌++◌, length, position, slice_get, slice_set, Option}
+use Rattle.std.specs.Prelude.{None, Some, is_none}
 use Rattle.net_containers.specs.ManagedSlice.{storage_items}
 use Rattle.net_containers.specs.declared.managed.ManagedSlice.{ManagedSlice}
 use Rattle.net_containers.specs.declared.managed.ManagedSlice.TheVariants.{Fixed, Owned}

@@ -3,7 +3,8 @@ ghost use Rattle.std.specs.Prelude.{◌≡◌, ◌+◌, ◌<◌, ◌^◌, length
 ghost use Rattle.ip_wire.specs.Address.{solicited_of};
 ghost use Rattle.socket_base.specs.Packet.{packet_value, packet_of, payload_value, IsSendable};
 ghost use Rattle.interface_egress.specs.Emits.{Emits};
-ghost use Rattle.interface_egress.specs.Departure.{link_header, link_len, ether_for, packet_frame, packet_frame_len, piece_frame, piece_frame_len, arp_frame, arp_request, solicited_node, solicited_station, solicitation, question_frame, question_len, target_of};
+ghost use Rattle.interface_egress.specs.Departure.{link_header, link_len, ether_for, packet_frame, packet_frame_len, piece_frame, piece_frame_len, arp_frame};
+ghost use Rattle.interface_egress.specs.Departure.{arp_request, solicited_node, solicited_station, solicitation, question_frame, question_len, target_of};
 
 use crate::fill::{Fill, send};
 use control_wire::{Icmpv6Repr, NdiscRepr};

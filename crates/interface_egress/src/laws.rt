@@ -22,7 +22,8 @@ ghost use Rattle.interface_egress.specs.Departure.{Departure, Tells, ether_for, 
 ghost use Rattle.interface_egress.specs.Fragments.{LeftValue, piece_room, next_departure, pieces_from};
 ghost use Rattle.interface_egress.specs.Plan.{never_leaves, plan_of};
 ghost use Rattle.interface_egress.specs.GoesOut.{GoesOut, PieceGoesOut, frame_len_of};
-ghost use Rattle.interface_egress.specs.Departing.{departure_by, link_room, ident_after, silent_after, SendsOnce, was_taken, host_after, left_behind, HasSettingsOf, number_in};
+ghost use Rattle.interface_egress.specs.Departing.{departure_by, link_room, ident_after, silent_after, SendsOnce, was_taken, host_after, left_behind};
+ghost use Rattle.interface_egress.specs.Departing.{HasSettingsOf, number_in};
 ghost use Rattle.interface_egress.specs.Determined.{IsDetermined};
 ghost use Rattle.interface_egress.specs.declared.way_out.Sent.{Sent};
 ghost use Rattle.interface_egress.specs.declared.frame.Question.{Question};

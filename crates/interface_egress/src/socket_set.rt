@@ -308,7 +308,9 @@ fn append<T: Drop>(
     places: &mut Vec<SocketStorage<T>>,
     item: Item<T>,
 ) -> Result<SocketHandle, AddError<T>>
-    ensures { MatchResult result (λ h. (h ≡ record { 0 = length places.old.items }) × (places.new.items ≡ places.old.items ++ record { inner = Some item } ∷ [])) (λ e. (e ≡ AddError.Memory item.socket) × (places.new.items ≡ places.old.items)) }
+    ensures { MatchResult result (λ h. (h ≡ record { 0 = length places.old.items }) ×
+        (places.new.items ≡ places.old.items ++ record { inner = Some item } ∷ [])) (λ e. (e ≡ AddError.Memory item.socket) ×
+        (places.new.items ≡ places.old.items)) }
 {
     let at = places.len();
     if places.reserve(1).is_err() {

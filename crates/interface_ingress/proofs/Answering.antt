@@ -20,7 +20,8 @@ use Rattle.interface_ingress.specs.Answering.{IsEchoV4, IsEchoV6, IsBetweenV4, I
 use Rattle.interface_ingress.specs.Delivered.{Places, first_place, is_connected, segment_place, segment_answer}
 use Rattle.sockets.specs.Socket.{accepts_segment}
 use Rattle.interface_ingress.specs.Handed.{names_nobody, segment_reply}
-use Rattle.interface_ingress.specs.Replies.{is_one_host, source_of_reply, sent_v4, reply_v4, reply_v6, echo_v4, echo_v6, quoted_v4, error_v4, error_v6, is_between_hosts}
+use Rattle.interface_ingress.specs.Replies.{is_one_host, source_of_reply, sent_v4, reply_v4, reply_v6, echo_v4, echo_v6, quoted_v4, error_v4, error_v6}
+use Rattle.interface_ingress.specs.Replies.{is_between_hosts}
 
 -- ECHO
 
@@ -31,17 +32,33 @@ echoed_v4 : (from : Option Ipv4Address) (header : Ipv4Repr) (ident number : ℕ)
     → sent_v4 from header.src_addr (ControlV4 (V4.EchoReply ident number) bytes) ≡ Some p → IsEchoV4 header (V4.EchoRequest ident number) bytes p
 echoed_v4 None header ident number bytes p is = absurd (cc is)
 echoed_v4 (Some from) header ident number bytes p is =
-    subst (IsEchoV4 header (V4.EchoRequest ident number) bytes) (one_packet _ p is) (record { ident = ident; number = number; asked = refl; reply = refl; to = refl })
+    subst (IsEchoV4 header (V4.EchoRequest ident number) bytes) (one_packet _ p is) (record {
+      ident = ident;
+      number = number;
+      asked = refl;
+      reply =
+          refl;
+      to = refl;
+    })
 
-pub echo_back_v4 : (i : InnerValue) (header : Ipv4Repr) (message : Icmpv4Header) (bytes : List ℕ) (p : PacketValue) → echo_v4 i header message bytes ≡ Some p → IsEchoV4 header message bytes p
+pub echo_back_v4 : (i : InnerValue) (header : Ipv4Repr) (message : Icmpv4Header) (bytes : List ℕ) (p : PacketValue) → echo_v4 i header message bytes ≡ Some p →
+    IsEchoV4 header message bytes p
 echo_back_v4 i header (V4.EchoRequest ident number) bytes p is = echoed_v4 (source_of_reply i header (V4.EchoReply ident number)) header ident number bytes p is
 echo_back_v4 i header (V4.EchoReply ident number) bytes p is = absurd (cc is)
 echo_back_v4 i header (V4.DstUnreachable reason quoted) bytes p is = absurd (cc is)
 echo_back_v4 i header (V4.TimeExceeded reason quoted) bytes p is = absurd (cc is)
 
-pub echo_back_v6 : (i : InnerValue) (header : Ipv6Repr) (message : Icmpv6.MessageValue) (bytes : List ℕ) (p : PacketValue) → echo_v6 i header message bytes ≡ Some p → IsEchoV6 header message bytes p
+pub echo_back_v6 : (i : InnerValue) (header : Ipv6Repr) (message : Icmpv6.MessageValue) (bytes : List ℕ) (p : PacketValue) →
+    echo_v6 i header message bytes ≡ Some p → IsEchoV6 header message bytes p
 echo_back_v6 i header (Icmpv6.EchoRequest ident number) bytes p is =
-    subst (IsEchoV6 header (Icmpv6.EchoRequest ident number) bytes) (one_packet _ p is) (record { ident = ident; number = number; asked = refl; reply = refl; to = refl })
+    subst (IsEchoV6 header (Icmpv6.EchoRequest ident number) bytes) (one_packet _ p is) (record {
+      ident = ident;
+      number = number;
+      asked = refl;
+      reply =
+          refl;
+      to = refl;
+    })
 echo_back_v6 i header (Icmpv6.EchoReply ident number) bytes p is = absurd (cc is)
 echo_back_v6 i header (Icmpv6.DstUnreachable reason quoted) bytes p is = absurd (cc is)
 echo_back_v6 i header (Icmpv6.PktTooBig mtu quoted) bytes p is = absurd (cc is)
@@ -57,17 +74,21 @@ between_v4 false b from to x p is = absurd (cc is)
 between_v4 true false from to x p is = absurd (cc is)
 between_v4 true true from to x p is = (refl, refl)
 
-pub error_between_v4 : (i : InnerValue) (header : Ipv4Repr) (reason : Icmpv4DstUnreachable) (payload : List ℕ) (p : PacketValue) → error_v4 i header reason payload ≡ Some p → IsBetweenV4 i header
+pub error_between_v4 : (i : InnerValue) (header : Ipv4Repr) (reason : Icmpv4DstUnreachable) (payload : List ℕ) (p : PacketValue) →
+    error_v4 i header reason payload ≡ Some p → IsBetweenV4 i header
 error_between_v4 i header reason payload p is =
-    between_v4 (is_one_host i header.src_addr) (is_one_host i header.dst_addr) header.dst_addr header.src_addr (ControlV4 (V4.DstUnreachable reason header) (quoted_v4 payload)) p is
+    between_v4 (is_one_host i header.src_addr) (is_one_host i header.dst_addr) header.dst_addr header.src_addr
+    (ControlV4 (V4.DstUnreachable reason header) (quoted_v4 payload)) p is
 
 between_v6 : (a b : Bool) (q p : PacketValue) → (if a && b then Some q else None) ≡ Some p → IsTrue a × IsTrue b
 between_v6 false b q p is = absurd (cc is)
 between_v6 true false q p is = absurd (cc is)
 between_v6 true true q p is = (refl, refl)
 
-pub error_between_v6 : (i : InnerValue) (header : Ipv6Repr) (message : Icmpv6.MessageValue) (quoted : List ℕ) (p : PacketValue) → error_v6 i header message quoted ≡ Some p → IsBetweenV6 header
-error_between_v6 i header message quoted p is = between_v6 (is_unicast_v6 header.src_addr) (is_unicast_v6 header.dst_addr) (reply_v6 i header message quoted) p is
+pub error_between_v6 : (i : InnerValue) (header : Ipv6Repr) (message : Icmpv6.MessageValue) (quoted : List ℕ) (p : PacketValue) →
+    error_v6 i header message quoted ≡ Some p → IsBetweenV6 header
+error_between_v6 i header message quoted p is =
+    between_v6 (is_unicast_v6 header.src_addr) (is_unicast_v6 header.dst_addr) (reply_v6 i header message quoted) p is
 
 -- SEGMENTS
 
@@ -75,8 +96,10 @@ named_if : (b : Bool) (o : Option PacketValue) (p : PacketValue) → (if b then 
 named_if true o p is = absurd (cc is)
 named_if false o p is = refl
 
-pub segment_named : (i : InnerValue) (places : Places) (ip : IpRepr) (taken : Bool) (header : TcpHeader) (bytes : List ℕ) (p : PacketValue) → segment_reply i places ip taken header bytes ≡ Some p → names_nobody i ip ≡ false
+pub segment_named : (i : InnerValue) (places : Places) (ip : IpRepr) (taken : Bool) (header : TcpHeader) (bytes : List ℕ) (p : PacketValue) →
+    segment_reply i places ip taken header bytes ≡ Some p → names_nobody i ip ≡ false
 segment_named i places ip taken header bytes p is = named_if (names_nobody i ip) (segment_answer (context_of i) ip header bytes taken places) p is
 
-pub connected_first : (ip : IpRepr) (header : TcpHeader) (places : Places) (at : ℕ) → first_place (λ s. is_connected s ip header) places ≡ Some at → segment_place ip header places ≡ Some at
+pub connected_first : (ip : IpRepr) (header : TcpHeader) (places : Places) (at : ℕ) → first_place (λ s. is_connected s ip header) places ≡ Some at →
+    segment_place ip header places ≡ Some at
 connected_first ip header places at found = ap (λ (o : Option ℕ). or_else o (first_place (λ s. accepts_segment s ip header) places)) found

@@ -7,11 +7,14 @@ use Rattle.sockets.specs.Packet.{PacketValue}
 use Rattle.interface_egress.specs.declared.socket_set.SocketStorage.{SocketStorage}
 use Rattle.interface_ingress.specs.Delivered.{Places, with_change, changed_in, changed_at, answer_in, answer_by, answer_at, passes, passes_by, passes_at}
 
-pub changed_here : (f : Socket → Socket) (places : Places) (at : ℕ) (d : SocketStorage Socket) → at < length places → changed_at f (Some at) places ≡ slice_set places at (with_change f (get_or places at d))
+pub changed_here : (f : Socket → Socket) (places : Places) (at : ℕ) (d : SocketStorage Socket) → at < length places →
+    changed_at f (Some at) places ≡ slice_set places at (with_change f (get_or places at d))
 changed_here f places at d within = ap (λ o. changed_in f (Some at) o places) (slice_get-get_or places at d within)
 
-pub answer_here : (f : Socket → Option PacketValue) (places : Places) (at : ℕ) (d : SocketStorage Socket) → at < length places → answer_at f (Some at) places ≡ answer_in f (get_or places at d).inner
+pub answer_here : (f : Socket → Option PacketValue) (places : Places) (at : ℕ) (d : SocketStorage Socket) → at < length places →
+    answer_at f (Some at) places ≡ answer_in f (get_or places at d).inner
 answer_here f places at d within = ap (λ o. answer_by f o) (slice_get-get_or places at d within)
 
-pub passes_here : (f : Socket → Bool) (places : Places) (at : ℕ) (d : SocketStorage Socket) → at < length places → passes_at f (Some at) places ≡ passes f (get_or places at d)
+pub passes_here : (f : Socket → Bool) (places : Places) (at : ℕ) (d : SocketStorage Socket) → at < length places →
+    passes_at f (Some at) places ≡ passes f (get_or places at d)
 passes_here f places at d within = ap (λ o. passes_by f o) (slice_get-get_or places at d within)

@@ -1,5 +1,6 @@
 -- What one host sent is what another reads.
-use Rattle.std.proofs.Common.{◌≡◌, ℕ, ◌-◌, ◌%◌, ◌^◌, ◌<◌, Bool, false, IsTrue, List, [], ◌++◌, length, drop, take, length-append, append_assoc, append-nil, refl, sym, subst, ap, ◌∙◌, arith}
+use Rattle.std.proofs.Common.{◌≡◌, ℕ, ◌-◌, ◌%◌, ◌^◌, ◌<◌, Bool, false, IsTrue, List, [], ◌++◌, length, drop, take, length-append, append_assoc, append-nil}
+use Rattle.std.proofs.Common.{refl, sym, subst, ap, ◌∙◌, arith}
 use Rattle.std.proofs.lemmas.List.{take_at, drop_at}
 use Rattle.std.specs.Int.{w16, to_be_bytes}
 use Rattle.std.specs.Prelude.{Option, Some, None}
@@ -55,18 +56,21 @@ length-link v value =
     omega (arith, value.destination.0, value.source.0, length-append v.dst_addr.0 (v.src_addr.0 ++ last), length-append v.src_addr.0 last)
 
 -- a link header that names a known protocol is read as itself, and behind it stands what was sent, with the padding
-linked : (v : EthernetRepr) (carried : EthernetProtocol) (rest padding : List ℕ) → Ethernet.IsValue v → v.ethertype ≡ carried → ether_of (ether_number carried) ≡ carried
+linked : (v : EthernetRepr) (carried : EthernetProtocol) (rest padding : List ℕ) → Ethernet.IsValue v → v.ethertype ≡ carried →
+    ether_of (ether_number carried) ≡ carried
     → Ethernet.IsEthernet ((Ethernet.written v ++ rest) ++ padding) v × (Ethernet.payload_of ((Ethernet.written v ++ rest) ++ padding) ≡ rest ++ padding)
 linked v carried rest padding value kind known =
     let again : ether_of (ether_number v.ethertype) ≡ v.ethertype = ap (λ (p : EthernetProtocol). ether_of (ether_number p)) kind ∙ known ∙ sym kind in
     let joined : (Ethernet.written v ++ rest) ++ padding ≡ Ethernet.written v ++ (rest ++ padding) = append_assoc (Ethernet.written v) rest padding in
     let same : Ethernet.normal v ≡ v = ap (λ (p : EthernetProtocol). record v { ethertype = p }) again in
     let len : length (Ethernet.written v) ≡ 14 = length-link v value in (
-      subst (λ (frame : List ℕ). Ethernet.IsEthernet frame v) (sym joined) (subst (λ (w : EthernetRepr). Ethernet.IsEthernet (Ethernet.written v ++ (rest ++ padding)) w) same (IsEthernet-written v (rest ++ padding) value)),
+      subst (λ (frame : List ℕ). Ethernet.IsEthernet frame v) (sym joined)
+          (subst (λ (w : EthernetRepr). Ethernet.IsEthernet (Ethernet.written v ++ (rest ++ padding)) w) same (IsEthernet-written v (rest ++ padding) value)),
       ap (drop 14) joined ∙ drop_at (Ethernet.written v) (rest ++ padding) 14 len,
     )
 
-behind-v4 : (hardware : HardwareAddress) (caps : ChecksumCapabilities) (link : Option EthernetRepr) (bytes padding : List ℕ) (h : Ipv4Repr) (p : Ipv4Piece) (x : List ℕ) → CanFrame hardware link Ether.Ipv4
+behind-v4 : (hardware : HardwareAddress) (caps : ChecksumCapabilities) (link : Option EthernetRepr) (bytes padding : List ℕ) (h : Ipv4Repr) (p : Ipv4Piece)
+    (x : List ℕ) → CanFrame hardware link Ether.Ipv4
     → IsPacketV4 caps (bytes ++ padding) h p x → IsIncoming hardware caps (framed link bytes ++ padding) (Ip4 link h p x)
 behind-v4 (Hardware.Ethernet own) caps (Some link) bytes padding h p x can is =
     let front = linked link Ether.Ipv4 bytes padding can.0 can.1 refl in
@@ -75,7 +79,8 @@ behind-v4 (Hardware.Ethernet own) caps None bytes padding h p x can is = absurd 
 behind-v4 Hardware.Ip caps (Some link) bytes padding h p x can is = absurd can
 behind-v4 Hardware.Ip caps None bytes padding h p x can is = is
 
-behind-v6 : (hardware : HardwareAddress) (caps : ChecksumCapabilities) (link : Option EthernetRepr) (bytes padding : List ℕ) (h : Ipv6Repr) (x : List ℕ) → CanFrame hardware link Ether.Ipv6
+behind-v6 : (hardware : HardwareAddress) (caps : ChecksumCapabilities) (link : Option EthernetRepr) (bytes padding : List ℕ) (h : Ipv6Repr) (x : List ℕ) →
+    CanFrame hardware link Ether.Ipv6
     → IsPacketV6 (bytes ++ padding) h x → IsIncoming hardware caps (framed link bytes ++ padding) (Ip6 link h x)
 behind-v6 (Hardware.Ethernet own) caps (Some link) bytes padding h x can is =
     let front = linked link Ether.Ipv6 bytes padding can.0 can.1 refl in
@@ -84,47 +89,60 @@ behind-v6 (Hardware.Ethernet own) caps None bytes padding h x can is = absurd ca
 behind-v6 Hardware.Ip caps (Some link) bytes padding h x can is = absurd can
 behind-v6 Hardware.Ip caps None bytes padding h x can is = is
 
-pub arp-arrives : (hardware : HardwareAddress) (caps : ChecksumCapabilities) (link : EthernetRepr) (packet : ArpRepr) (padding : List ℕ) → CanFrame hardware (Some link) Ether.Arp → Arps.IsValue packet
+pub arp-arrives : (hardware : HardwareAddress) (caps : ChecksumCapabilities) (link : EthernetRepr) (packet : ArpRepr) (padding : List ℕ) →
+    CanFrame hardware (Some link) Ether.Arp → Arps.IsValue packet
     → IsIncoming hardware caps (framed (Some link) (Arps.written packet) ++ padding) (Arp link (Arps.normal packet))
 arp-arrives (Hardware.Ethernet own) caps link packet padding can value =
-    let front = linked link Ether.Arp (Arps.written packet) padding can.0 can.1 refl in
-    (record { format = front.0; carried_is = can.1 }, subst (λ (b : List ℕ). Arps.IsArp b (Arps.normal packet)) (sym front.1) (IsArp-written packet padding value))
+    let front = linked link Ether.Arp (Arps.written packet) padding can.0 can.1 refl in (
+      record { format = front.0; carried_is = can.1 },
+      subst (λ (b : List ℕ). Arps.IsArp b (Arps.normal packet)) (sym front.1) (IsArp-written packet padding value),
+    )
 arp-arrives Hardware.Ip caps link packet padding can value = absurd can
 
 -- PACKETS
 
 length-v4 : (sealed : Bool) (v : Ipv4Repr) (offset : ℕ) (more : Bool) → Ipv4.IsValue v → length (Ipv4.written_piece sealed v offset more) ≡ 20
-length-v4 sealed v offset more value = omega (arith, value.source.0, value.destination.0, length-append v.src_addr.0 (v.dst_addr.0 ++ []), length-append v.dst_addr.0 [])
+length-v4 sealed v offset more value =
+    omega (arith, value.source.0, value.destination.0, length-append v.src_addr.0 (v.dst_addr.0 ++ []), length-append v.dst_addr.0 [])
 
-packet-v4 : (sealed : Bool) (caps : ChecksumCapabilities) (v : Ipv4Repr) (piece : Ipv4Piece) (payload padding : List ℕ) → Ipv4.Fits v → Ipv4.IsValue v → v.payload_len ≡ length payload → piece.offset < 2 ^ 16 → piece.offset % 8 ≡ 0
-    → (IsTrue (verifies caps.ipv4) → IsTrue sealed) → IsPacketV4 caps ((Ipv4.written_piece sealed v piece.offset piece.more ++ payload) ++ padding) (Ipv4.normal v) piece payload
+packet-v4 : (sealed : Bool) (caps : ChecksumCapabilities) (v : Ipv4Repr) (piece : Ipv4Piece) (payload padding : List ℕ) → Ipv4.Fits v → Ipv4.IsValue v →
+    v.payload_len ≡ length payload → piece.offset < 2 ^ 16 → piece.offset % 8 ≡ 0
+    → (IsTrue (verifies caps.ipv4) → IsTrue sealed) →
+    IsPacketV4 caps ((Ipv4.written_piece sealed v piece.offset piece.more ++ payload) ++ padding) (Ipv4.normal v) piece payload
 packet-v4 sealed caps v piece payload padding fits value len short whole both =
     let w : List ℕ = Ipv4.written_piece sealed v piece.offset piece.more in
     let joined : (w ++ payload) ++ padding ≡ w ++ (payload ++ padding) = append_assoc w payload padding in
-    let read = V4.reads-back (verifies caps.ipv4) sealed v piece (payload ++ padding) fits value short whole (omega (arith, len, length-append payload padding)) both in
+    let read = V4.reads-back (verifies caps.ipv4) sealed v piece (payload ++
+    padding) fits value short whole (omega (arith, len, length-append payload padding)) both in
     let size : be16 (w ++ (payload ++ padding)) 2 - 20 ≡ length payload = omega (arith, read.0.payload, len) in
     record {
       format = subst (λ (b : List ℕ). Ipv4.IsIpv4 (verifies caps.ipv4) b (Ipv4.normal v)) (sym joined) read.0;
       piece_is = sym (ap Ipv4.piece_of joined ∙ read.1);
       payload_is = sym (
-          ap Ipv4.payload_of joined ∙ ap (λ n. take n (drop 20 (w ++ (payload ++ padding)))) size ∙ ap (take (length payload)) (drop_at w (payload ++ padding) 20 (length-v4 sealed v piece.offset piece.more value))
+          ap Ipv4.payload_of joined ∙ ap (λ n. take n (drop 20 (w ++ (payload ++ padding)))) size ∙
+          ap (take (length payload)) (drop_at w (payload ++ padding) 20 (length-v4 sealed v piece.offset piece.more value))
           ∙ take_at payload padding (length payload) refl
           );
     }
 
-packet-v6 : (v : Ipv6Repr) (payload padding : List ℕ) → Ipv6.Fits v → Ipv6.IsValue v → v.payload_len ≡ length payload → IsPacketV6 ((Ipv6.written v ++ payload) ++ padding) (Ipv6.normal v) payload
+packet-v6 : (v : Ipv6Repr) (payload padding : List ℕ) → Ipv6.Fits v → Ipv6.IsValue v → v.payload_len ≡ length payload →
+    IsPacketV6 ((Ipv6.written v ++ payload) ++ padding) (Ipv6.normal v) payload
 packet-v6 v payload padding fits value len =
     let w : List ℕ = Ipv6.written v in
     let joined : (w ++ payload) ++ padding ≡ w ++ (payload ++ padding) = append_assoc w payload padding in
     record {
-      format = subst (λ (b : List ℕ). Ipv6.IsIpv6 b (Ipv6.normal v)) (sym joined) (V6.IsIpv6-written v (payload ++ padding) fits value (omega (arith, len, length-append payload padding)));
+      format = subst (λ (b : List ℕ). Ipv6.IsIpv6 b (Ipv6.normal v)) (sym joined)
+          (V6.IsIpv6-written v (payload ++ padding) fits value (omega (arith, len, length-append payload padding)));
       payload_is = sym (ap Ipv6.payload_of joined ∙ V6.payload_of-written v (payload ++ padding) fits value ∙ take_at payload padding v.payload_len (sym len));
     }
 
 pub piece-arrives :
-    (hardware : HardwareAddress) (sender receiver : ChecksumCapabilities) (link : Option EthernetRepr) (v : Ipv4Repr) (piece : Ipv4Piece) (payload padding : List ℕ) →
-    CanFrame hardware link Ether.Ipv4 → Ipv4.Fits v → Ipv4.IsValue v → v.payload_len ≡ length payload → piece.offset < 2 ^ 16 → piece.offset % 8 ≡ 0 → AreSealed sender receiver →
-    IsIncoming hardware receiver (framed link (Ipv4.written_piece (computes sender.ipv4) v piece.offset piece.more ++ payload) ++ padding) (Ip4 link (Ipv4.normal v) piece payload)
+    (hardware : HardwareAddress) (sender receiver : ChecksumCapabilities) (link : Option EthernetRepr) (v : Ipv4Repr) (piece : Ipv4Piece)
+    (payload padding : List ℕ) →
+    CanFrame hardware link Ether.Ipv4 → Ipv4.Fits v → Ipv4.IsValue v → v.payload_len ≡ length payload → piece.offset < 2 ^ 16 → piece.offset % 8 ≡ 0 →
+    AreSealed sender receiver →
+    IsIncoming hardware receiver (framed link (Ipv4.written_piece (computes sender.ipv4) v piece.offset piece.more ++ payload) ++
+    padding) (Ip4 link (Ipv4.normal v) piece payload)
 piece-arrives hardware sender receiver link v piece payload padding can fits value len short whole sealed =
     behind-v4 hardware receiver link (Ipv4.written_piece (computes sender.ipv4) v piece.offset piece.more ++ payload) padding (Ipv4.normal v) piece payload can
     (packet-v4 (computes sender.ipv4) receiver v piece payload padding fits value len short whole sealed.ipv4)
@@ -147,15 +165,19 @@ packet-arrives hardware sender receiver link (Ip.Ipv6 v) payload padding can fit
 named : (p q : IpProtocol) → p ≡ q → protocol_of (protocol_number q) ≡ q → protocol_of (protocol_number p) ≡ q
 named p q is known = ap (λ (x : IpProtocol). protocol_of (protocol_number x)) is ∙ known
 
-read-udp : (source destination : IpAddress) (tested sealed : Bool) (v : UdpRepr) (payload : List ℕ) → Udp.Fits source destination payload → Udp.IsAccepted v → (IsTrue tested → IsTrue sealed)
-    → Udp.IsUdp source destination tested (Udp.written source destination sealed v payload) v × (payload ≡ Udp.payload_of (Udp.written source destination sealed v payload))
+read-udp : (source destination : IpAddress) (tested sealed : Bool) (v : UdpRepr) (payload : List ℕ) → Udp.Fits source destination payload → Udp.IsAccepted v →
+    (IsTrue tested → IsTrue sealed)
+    → Udp.IsUdp source destination tested (Udp.written source destination sealed v payload) v ×
+    (payload ≡ Udp.payload_of (Udp.written source destination sealed v payload))
 read-udp source destination tested sealed v payload fits accepted both =
     let w : List ℕ = Udp.written source destination sealed v payload in (
-      subst (λ (b : List ℕ). Udp.IsUdp source destination tested b v) (append-nil w) (Udps.IsUdp-written source destination tested sealed v payload [] fits accepted both),
+      subst (λ (b : List ℕ). Udp.IsUdp source destination tested b v) (append-nil w)
+          (Udps.IsUdp-written source destination tested sealed v payload [] fits accepted both),
       sym (Udps.payload_of-written source destination sealed v payload [] fits) ∙ ap Udp.payload_of (append-nil w),
     )
 
-pub payload-arrives : (sender receiver : ChecksumCapabilities) (header : IpRepr) (v : PayloadValue) → PayloadFits header v → CanBeRead header v → AreSealed sender receiver
+pub payload-arrives : (sender receiver : ChecksumCapabilities) (header : IpRepr) (v : PayloadValue) → PayloadFits header v → CanBeRead header v →
+    AreSealed sender receiver
     → IsCarried receiver (Ips.normal header) (payload_written sender header v) (normal_payload v)
 payload-arrives sender receiver (Ip.Ipv4 h) (ControlV4 message bytes) fits can sealed = record {
   protocol = named _ _ can.0 refl;
@@ -198,5 +220,6 @@ widths header (Bytes bytes) can = absurd can
 widths header (Datagram udp bytes) can = tt
 widths header (Segment tcp bytes) can = tt
 
-pub length-carried : (sender : ChecksumCapabilities) (p : PacketValue) → IsSendable p → CanBeRead p.header p.payload → Ips.payload_len_of p.header ≡ length (payload_written sender p.header p.payload)
+pub length-carried : (sender : ChecksumCapabilities) (p : PacketValue) → IsSendable p → CanBeRead p.header p.payload →
+    Ips.payload_len_of p.header ≡ length (payload_written sender p.header p.payload)
 length-carried sender p sendable can = sendable.len ∙ sym (length-payload lengths sender p.header p.payload sendable.payload (widths p.header p.payload can))

@@ -13,10 +13,12 @@ same_item test change None never = refl
 same_item test change (Some item) never =
     ap (λ (b : Bool). Some (record item { socket = if b then change item.socket else item.socket })) never
 
-same_place : (test : Socket → Bool) (change : Socket → Socket) (place : SocketStorage Socket) → passes test place ≡ false → with_change (given test change) place ≡ place
+same_place : (test : Socket → Bool) (change : Socket → Socket) (place : SocketStorage Socket) → passes test place ≡ false →
+    with_change (given test change) place ≡ place
 same_place test change place never = ap (λ (o : Option (Item Socket)). record { inner = o }) (same_item test change place.inner never)
 
-pub none_given : (test : Socket → Bool) (change : Socket → Socket) (places : Places) → list_any (passes test) places ≡ false → all_given test change places ≡ places
+pub none_given : (test : Socket → Bool) (change : Socket → Socket) (places : Places) → list_any (passes test) places ≡ false →
+    all_given test change places ≡ places
 none_given test change [] none = refl
 none_given test change (place ∷ places) none =
     let parts = or_parts (passes test place) (list_any (passes test) places) none in

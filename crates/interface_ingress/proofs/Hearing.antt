@@ -15,7 +15,8 @@ use Rattle.ip_wire.specs.Ipv6Address.{Ipv6Address}
 use Rattle.ip_wire.specs.Ipv6Repr.{Ipv6Repr}
 use Rattle.socket_base.specs.Packet.{PacketValue}
 use Rattle.interface_tables.specs.Inner.{InnerValue, is_own, is_address_of, is_own_solicited_node, is_probed, solicits}
-use Rattle.interface_ingress.specs.Heard.{Heard, heard, counts, learned, advertised, replaces, is_asked, told_at, advertisement, answer, heard_at, heard_on, neighbor_heard, with_entries_of}
+use Rattle.interface_ingress.specs.Heard.{Heard, heard, counts, learned, advertised, replaces, is_asked, told_at, advertisement, answer, heard_at, heard_on}
+use Rattle.interface_ingress.specs.Heard.{neighbor_heard, with_entries_of}
 
 -- ENTRIES ALONE
 
@@ -35,7 +36,8 @@ Rest i h = KeepsRest i h.inner
 
 heard-rest : (own : EthernetAddress) (i : InnerValue) (header : Ipv6Repr) (message : NeighborMessage) → Rest i (heard_at own i header message)
 heard-rest own i header (Solicitation target link) =
-    elim (counts header target link) as (λ (b : Bool). Rest i (if b then heard (learned i header.src_addr link) (answer own i header target) else heard i None)) [
+    elim (counts header target link) as
+    (λ (b : Bool). Rest i (if b then heard (learned i header.src_addr link) (answer own i header target) else heard i None)) [
       | true ↦ learned-rest i header.src_addr link
       | false ↦ refl
     ]
@@ -57,13 +59,15 @@ entries-alone i header message = on-rest i.hardware i header message
 other-hops : (header : Ipv6Repr) (target : Ipv6Address) (link : Option (List ℕ)) → header.hop_limit ≢ 255 → counts header target link ≡ false
 other-hops header target link other = elim (eqb_tells header.hop_limit 255) [ inl hit ↦ absurd (other hit.1) | inr miss ↦ rw miss.0 refl ]
 
-passed-at : (own : EthernetAddress) (i : InnerValue) (header : Ipv6Repr) (message : NeighborMessage) → header.hop_limit ≢ 255 → heard_at own i header message ≡ heard i None
+passed-at : (own : EthernetAddress) (i : InnerValue) (header : Ipv6Repr) (message : NeighborMessage) → header.hop_limit ≢ 255 →
+    heard_at own i header message ≡ heard i None
 passed-at own i header (Solicitation target link) other =
     ap (λ (b : Bool). if b then heard (learned i header.src_addr link) (answer own i header target) else heard i None) (other-hops header target link other)
 passed-at own i header (Advertisement flags target link) other =
     ap (λ (b : Bool). if b then heard (advertised i flags header.src_addr link) None else heard i None) (other-hops header target link other)
 
-passed-on-medium : (hardware : HardwareAddress) (i : InnerValue) (header : Ipv6Repr) (message : NeighborMessage) → header.hop_limit ≢ 255 → heard_on hardware i header message ≡ heard i None
+passed-on-medium : (hardware : HardwareAddress) (i : InnerValue) (header : Ipv6Repr) (message : NeighborMessage) → header.hop_limit ≢ 255 →
+    heard_on hardware i header message ≡ heard i None
 passed-on-medium Hardware.Ip i header message other = refl
 passed-on-medium (Hardware.Ethernet own) i header message other = passed-at own i header message other
 
@@ -93,7 +97,8 @@ asked-own : (i : InnerValue) (header : Ipv6Repr) (target : Ipv6Address) (b : Boo
     → IsTrue (is_own i (Address.Ipv6 target))
 asked-own i header target true asked =
     either i.any_ip (list_any (is_address_of (Address.Ipv6 target)) i.addresses)
-    (second (is_unicast_v6 target && not (is_loopback_v6 target) && solicits header.dst_addr target) (list_any (is_address_of (Address.Ipv6 target)) i.addresses) asked)
+    (second (is_unicast_v6 target && not (is_loopback_v6 target) && solicits header.dst_addr target)
+    (list_any (is_address_of (Address.Ipv6 target)) i.addresses) asked)
 asked-own i header target false asked =
     second (is_own_solicited_node i header.dst_addr || is_own i (Address.Ipv6 header.dst_addr)) (is_own i (Address.Ipv6 target)) asked
 
@@ -114,13 +119,16 @@ advertised-by : (i : InnerValue) (flags : NdiscNeighborFlags) (header : Ipv6Repr
 advertised-by i flags header link p true is = absurd (cc is)
 advertised-by i flags header link p false is = absurd (cc is)
 
-answers-at : (own : EthernetAddress) (i : InnerValue) (header : Ipv6Repr) (message : NeighborMessage) (p : PacketValue) → (heard_at own i header message).reply ≡ Some p → IsAnswer i header p
+answers-at : (own : EthernetAddress) (i : InnerValue) (header : Ipv6Repr) (message : NeighborMessage) (p : PacketValue) →
+    (heard_at own i header message).reply ≡ Some p → IsAnswer i header p
 answers-at own i header (Solicitation target link) p is = solicited-by own i header target link p (counts header target link) is
 answers-at own i header (Advertisement flags target link) p is = advertised-by i flags header link p (counts header target link) is
 
-answers-on : (hardware : HardwareAddress) (i : InnerValue) (header : Ipv6Repr) (message : NeighborMessage) (p : PacketValue) → (heard_on hardware i header message).reply ≡ Some p → IsAnswer i header p
+answers-on : (hardware : HardwareAddress) (i : InnerValue) (header : Ipv6Repr) (message : NeighborMessage) (p : PacketValue) →
+    (heard_on hardware i header message).reply ≡ Some p → IsAnswer i header p
 answers-on Hardware.Ip i header message p is = absurd (cc is)
 answers-on (Hardware.Ethernet own) i header message p is = answers-at own i header message p is
 
-pub answers-the-sender : (i : InnerValue) (header : Ipv6Repr) (message : NeighborMessage) (p : PacketValue) → (neighbor_heard i header message).reply ≡ Some p → IsAnswer i header p
+pub answers-the-sender : (i : InnerValue) (header : Ipv6Repr) (message : NeighborMessage) (p : PacketValue) → (neighbor_heard i header message).reply ≡ Some p →
+    IsAnswer i header p
 answers-the-sender i header message p is = answers-on i.hardware i header message p is

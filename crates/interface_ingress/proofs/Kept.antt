@@ -22,7 +22,8 @@ use Rattle.interface_egress.specs.declared.socket_meta.Meta.{Meta}
 use Rattle.interface_egress.specs.declared.socket_set.Item.{Item}
 use Rattle.interface_tables.specs.Inner.{InnerValue}
 use Rattle.interface_ingress.specs.Arrives.{Arrived, ArrivesV4, ArrivesV6, ArrivesAs, Brings, Hands, is_direct, sender_of, renewed, renewed_by, answered}
-use Rattle.interface_ingress.specs.Delivered.{Places, given, changed_item, with_change, all_given, with_packet, packet_delivered, with_icmpv4, with_icmpv6, is_taken_raw}
+use Rattle.interface_ingress.specs.Delivered.{Places, given, changed_item, with_change, all_given, with_packet, packet_delivered, with_icmpv4, with_icmpv6}
+use Rattle.interface_ingress.specs.Delivered.{is_taken_raw}
 use Rattle.interface_ingress.specs.Handed.{handed_places, handed_reply, control_v4_places, control_v6_places, is_known, is_known_v4, is_known_v6}
 use Rattle.interface_ingress.specs.Replies.{protocol_unreachable}
 use Rattle.interface_ingress.specs.Kept.{kept_by_kind, ports_item, ports_in, with_ports, NamesNoPorts, HaveNoPorts, IsDamaged}
@@ -77,11 +78,13 @@ keeps_icmpv6 ip message bytes (Kind.Tcp v) m = refl
 pub packet_kept : (ip : IpRepr) (payload : List ℕ) (places : Places) → with_ports (packet_delivered ip payload places) ≡ with_ports places
 packet_kept ip payload places = all_kept _ (with_packet ip payload) (keeps_packet ip payload) places
 
-control_v4_kept : (ip : IpRepr) (message : Icmpv4Header) (bytes : List ℕ) (places : Places) → with_ports (control_v4_places ip message bytes places) ≡ with_ports places
+control_v4_kept : (ip : IpRepr) (message : Icmpv4Header) (bytes : List ℕ) (places : Places) →
+    with_ports (control_v4_places ip message bytes places) ≡ with_ports places
 control_v4_kept (Ip.Ipv4 header) message bytes places = all_kept _ (with_icmpv4 header message bytes) (keeps_icmpv4 header message bytes) places
 control_v4_kept (Ip.Ipv6 header) message bytes places = refl
 
-control_v6_kept : (ip : IpRepr) (message : MessageValue) (bytes : List ℕ) (places : Places) → with_ports (control_v6_places ip message bytes places) ≡ with_ports places
+control_v6_kept : (ip : IpRepr) (message : MessageValue) (bytes : List ℕ) (places : Places) →
+    with_ports (control_v6_places ip message bytes places) ≡ with_ports places
 control_v6_kept (Ip.Ipv4 header) message bytes places = refl
 control_v6_kept (Ip.Ipv6 header) message bytes places = all_kept _ (with_icmpv6 header message bytes) (keeps_icmpv6 header message bytes) places
 
@@ -92,7 +95,8 @@ HasNone (Some (Datagram udp bytes)) = ⊥
 HasNone (Some (Segment header bytes)) = ⊥
 HasNone carried = Unit {0}
 
-none_of : (caps : ChecksumCapabilities) (ip : IpRepr) (payload : List ℕ) (carried : Option PayloadValue) → IsCarriedContent caps ip payload carried → NamesNoPorts (carried_in ip) → HasNone carried
+none_of : (caps : ChecksumCapabilities) (ip : IpRepr) (payload : List ℕ) (carried : Option PayloadValue) → IsCarriedContent caps ip payload carried →
+    NamesNoPorts (carried_in ip) → HasNone carried
 none_of caps ip payload (Some (ControlV4 message bytes)) is bare = tt
 none_of caps ip payload (Some (ControlV6 message bytes)) is bare = tt
 none_of caps ip payload (Some (Bytes bytes)) is bare = tt
@@ -100,7 +104,8 @@ none_of caps ip payload (Some (Datagram udp bytes)) is bare = bare.1 is.protocol
 none_of caps ip payload (Some (Segment header bytes)) is bare = bare.0 is.protocol
 none_of caps ip payload None is bare = tt
 
-handed_kept : (i : InnerValue) (places : Places) (ip : IpRepr) (carried : Option PayloadValue) → HasNone carried → with_ports (handed_places i places ip carried) ≡ with_ports places
+handed_kept : (i : InnerValue) (places : Places) (ip : IpRepr) (carried : Option PayloadValue) → HasNone carried →
+    with_ports (handed_places i places ip carried) ≡ with_ports places
 handed_kept i places ip (Some (ControlV4 message bytes)) bare = control_v4_kept ip message bytes places
 handed_kept i places ip (Some (ControlV6 message bytes)) bare = control_v6_kept ip message bytes places
 handed_kept i places ip (Some (Bytes bytes)) bare = refl
@@ -108,21 +113,25 @@ handed_kept i places ip (Some (Datagram udp bytes)) bare = absurd bare
 handed_kept i places ip (Some (Segment header bytes)) bare = absurd bare
 handed_kept i places ip None bare = refl
 
-hands_kept : (i : InnerValue) (places : Places) (ip : IpRepr) (payload : List ℕ) (taken : Bool) (a : Arrived) → Hands i places ip payload taken a → NamesNoPorts (carried_in ip) → with_ports a.places ≡ with_ports places
+hands_kept : (i : InnerValue) (places : Places) (ip : IpRepr) (payload : List ℕ) (taken : Bool) (a : Arrived) → Hands i places ip payload taken a →
+    NamesNoPorts (carried_in ip) → with_ports a.places ≡ with_ports places
 hands_kept i places ip payload taken a (carried, is, handed) bare =
     ap with_ports handed.places_are ∙ handed_kept i places ip carried (none_of i.checksums ip payload carried is bare)
 
-v4_kept : (ours : Bool) (i : InnerValue) (places : Places) (link : Option EthernetRepr) (ip : IpRepr) (payload : List ℕ) (a : Arrived) → ArrivesV4 ours i places link ip payload a → NamesNoPorts (carried_in ip) → with_ports a.places ≡ with_ports places
+v4_kept : (ours : Bool) (i : InnerValue) (places : Places) (link : Option EthernetRepr) (ip : IpRepr) (payload : List ℕ) (a : Arrived) →
+    ArrivesV4 ours i places link ip payload a → NamesNoPorts (carried_in ip) → with_ports a.places ≡ with_ports places
 v4_kept true i places link ip payload a h bare =
     hands_kept (renewed i link ip) (packet_delivered ip payload places) ip payload (is_taken_raw ip places) a h bare ∙ packet_kept ip payload places
 v4_kept false i places link ip payload a h bare = ap with_ports h.places_are ∙ packet_kept ip payload places
 
-v6_kept : (ours : Bool) (i : InnerValue) (places : Places) (link : Option EthernetRepr) (ip : IpRepr) (payload : List ℕ) (a : Arrived) → ArrivesV6 ours i places link ip payload a → NamesNoPorts (carried_in ip) → with_ports a.places ≡ with_ports places
+v6_kept : (ours : Bool) (i : InnerValue) (places : Places) (link : Option EthernetRepr) (ip : IpRepr) (payload : List ℕ) (a : Arrived) →
+    ArrivesV6 ours i places link ip payload a → NamesNoPorts (carried_in ip) → with_ports a.places ≡ with_ports places
 v6_kept true i places link ip payload a h bare =
     hands_kept (renewed i link ip) (packet_delivered ip payload places) ip payload (is_taken_raw ip places) a h bare ∙ packet_kept ip payload places
 v6_kept false i places link ip payload a h bare = ap with_ports h.places_are
 
-pub brings_kept : (i : InnerValue) (places : Places) (content : Option IncomingValue) (a : Arrived) → Brings i places content a → HaveNoPorts content → with_ports a.places ≡ with_ports places
+pub brings_kept : (i : InnerValue) (places : Places) (content : Option IncomingValue) (a : Arrived) → Brings i places content a → HaveNoPorts content →
+    with_ports a.places ≡ with_ports places
 brings_kept i places None a h bare = ap with_ports h.places_are
 brings_kept i places (Some (Arp link packet)) a h bare = ap with_ports h.places_are
 brings_kept i places (Some (Ip4 link header piece payload)) a h bare = v4_kept _ i places link (Ip.Ipv4 header) payload a h bare
@@ -134,10 +143,12 @@ taken_in_kept : (i : InnerValue) (content : Option IncomingValue) → HaveNoPort
 taken_in_kept i None bare = tt
 taken_in_kept i (Some v) bare = elim (is_taken_in i v) as (λ b. HaveNoPorts (if b then Some v else None)) [ true ↦ bare | false ↦ tt ]
 
-rebuilt_kept : (link : Option EthernetRepr) (header : Ipv4Repr) (bytes : Option (List ℕ)) → NamesNoPorts header.next_header → HaveNoPorts (rebuilt link header bytes)
+rebuilt_kept : (link : Option EthernetRepr) (header : Ipv4Repr) (bytes : Option (List ℕ)) → NamesNoPorts header.next_header →
+    HaveNoPorts (rebuilt link header bytes)
 rebuilt_kept link header None bare = tt
 rebuilt_kept link header (Some bytes) bare =
-    elim (nat_lt (length bytes) (2 ^ 16 - 20)) as (λ b. HaveNoPorts (if b then Some (Ip4 link (record header { payload_len = length bytes }) uncut bytes) else None)) [ true ↦ bare | false ↦ tt ]
+    elim (nat_lt (length bytes) (2 ^ 16 - 20)) as
+    (λ b. HaveNoPorts (if b then Some (Ip4 link (record header { payload_len = length bytes }) uncut bytes) else None)) [ true ↦ bare | false ↦ tt ]
 
 whole_kept : (slots : Slots) (at : Option ℕ) (content : Option IncomingValue) → HaveNoPorts content → HaveNoPorts (whole_of slots at content)
 whole_kept slots at None bare = tt
@@ -149,13 +160,16 @@ whole_kept slots at (Some (Ip4 link header piece payload)) bare =
       | false ↦ bare
     ]
 
-pub arrives_kept : (i : InnerValue) (timeout : ℕ) (slots : Slots) (places : Places) (content : Option IncomingValue) (slots' : Slots) (a : Arrived) → ArrivesAs i timeout slots places content slots' a → HaveNoPorts content → with_ports a.places ≡ with_ports places
+pub arrives_kept : (i : InnerValue) (timeout : ℕ) (slots : Slots) (places : Places) (content : Option IncomingValue) (slots' : Slots) (a : Arrived) →
+    ArrivesAs i timeout slots places content slots' a → HaveNoPorts content → with_ports a.places ≡ with_ports places
 arrives_kept i timeout slots places content slots' a h bare =
-    brings_kept i places _ a h.1 (whole_kept (kept i timeout slots (taken_in i content)) (place_in slots (taken_in i content)) (taken_in i content) (taken_in_kept i content bare))
+    brings_kept i places _ a h.1
+    (whole_kept (kept i timeout slots (taken_in i content)) (place_in slots (taken_in i content)) (taken_in i content) (taken_in_kept i content bare))
 
 -- A SEGMENT THAT IS NONE
 
-nothing_of : (caps : ChecksumCapabilities) (ip : IpRepr) (payload : List ℕ) (carried : Option PayloadValue) → IsCarriedContent caps ip payload carried → IsDamaged caps ip payload → carried ≡ None
+nothing_of : (caps : ChecksumCapabilities) (ip : IpRepr) (payload : List ℕ) (carried : Option PayloadValue) → IsCarriedContent caps ip payload carried →
+    IsDamaged caps ip payload → carried ≡ None
 nothing_of caps (Ip.Ipv4 header) payload (Some (ControlV4 message bytes)) is bare = let e = sym is.protocol ∙ bare.0 in absurd (cc)
 nothing_of caps (Ip.Ipv6 header) payload (Some (ControlV4 message bytes)) is bare = absurd is
 nothing_of caps (Ip.Ipv4 header) payload (Some (ControlV6 message bytes)) is bare = absurd is
@@ -169,7 +183,8 @@ known : (ip : IpRepr) → carried_in ip ≡ Protocol.Tcp → is_known ip ≡ tru
 known (Ip.Ipv4 header) is = ap is_known_v4 is
 known (Ip.Ipv6 header) is = ap is_known_v6 is
 
-no_reply : (i : InnerValue) (places : Places) (ip : IpRepr) (payload : List ℕ) (taken : Bool) → carried_in ip ≡ Protocol.Tcp → handed_reply i places ip payload taken None ≡ None
+no_reply : (i : InnerValue) (places : Places) (ip : IpRepr) (payload : List ℕ) (taken : Bool) → carried_in ip ≡ Protocol.Tcp →
+    handed_reply i places ip payload taken None ≡ None
 no_reply i places ip payload taken is = ap (λ b. if b || taken then None else protocol_unreachable i ip payload) (known ip is)
 
 renewed_by_checksums : (i : InnerValue) (link : Option EthernetRepr) (sender : IpAddress) → (renewed_by i link sender).checksums ≡ i.checksums
@@ -186,29 +201,37 @@ renewed_checksums i link ip =
 abbrev pub LeavesPorts : Places → Arrived → Type 0
 LeavesPorts places a = (with_ports a.places ≡ with_ports places) × (a.reply ≡ None)
 
-hands_damaged : (i : InnerValue) (places : Places) (ip : IpRepr) (payload : List ℕ) (taken : Bool) (a : Arrived) → Hands i places ip payload taken a → IsDamaged i.checksums ip payload → LeavesPorts places a
+hands_damaged : (i : InnerValue) (places : Places) (ip : IpRepr) (payload : List ℕ) (taken : Bool) (a : Arrived) → Hands i places ip payload taken a →
+    IsDamaged i.checksums ip payload → LeavesPorts places a
 hands_damaged i places ip payload taken a (carried, is, handed) bare =
     let none = nothing_of i.checksums ip payload carried is bare in (
       ap with_ports handed.places_are ∙ ap (λ c. with_ports (handed_places i places ip c)) none,
       handed.reply ∙ ap (λ c. answered (handed_reply i places ip payload taken c)) none ∙ ap answered (no_reply i places ip payload taken bare.0),
     )
 
-damaged_in : (i : InnerValue) (places : Places) (link : Option EthernetRepr) (ip : IpRepr) (payload : List ℕ) (a : Arrived) → Hands (renewed i link ip) (packet_delivered ip payload places) ip payload (is_taken_raw ip places) a → IsDamaged i.checksums ip payload → LeavesPorts places a
+damaged_in : (i : InnerValue) (places : Places) (link : Option EthernetRepr) (ip : IpRepr) (payload : List ℕ) (a : Arrived) →
+    Hands (renewed i link ip) (packet_delivered ip payload places) ip payload (is_taken_raw ip places) a → IsDamaged i.checksums ip payload →
+    LeavesPorts places a
 damaged_in i places link ip payload a h bare =
     let P : ChecksumCapabilities → Type 0 = λ caps. IsDamaged caps ip payload in
-    let left = hands_damaged (renewed i link ip) (packet_delivered ip payload places) ip payload (is_taken_raw ip places) a h (subst P (sym (renewed_checksums i link ip)) bare) in
+    let left = hands_damaged (renewed i link ip) (packet_delivered ip payload places) ip payload (is_taken_raw ip places) a h
+    (subst P (sym (renewed_checksums i link ip)) bare) in
     (left.0 ∙ packet_kept ip payload places, left.1)
 
-damaged_v4 : (ours : Bool) (i : InnerValue) (places : Places) (link : Option EthernetRepr) (ip : IpRepr) (payload : List ℕ) (a : Arrived) → ArrivesV4 ours i places link ip payload a → IsDamaged i.checksums ip payload → LeavesPorts places a
+damaged_v4 : (ours : Bool) (i : InnerValue) (places : Places) (link : Option EthernetRepr) (ip : IpRepr) (payload : List ℕ) (a : Arrived) →
+    ArrivesV4 ours i places link ip payload a → IsDamaged i.checksums ip payload → LeavesPorts places a
 damaged_v4 true i places link ip payload a h bare = damaged_in i places link ip payload a h bare
 damaged_v4 false i places link ip payload a h bare = (ap with_ports h.places_are ∙ packet_kept ip payload places, h.reply)
 
-damaged_v6 : (ours : Bool) (i : InnerValue) (places : Places) (link : Option EthernetRepr) (ip : IpRepr) (payload : List ℕ) (a : Arrived) → ArrivesV6 ours i places link ip payload a → IsDamaged i.checksums ip payload → LeavesPorts places a
+damaged_v6 : (ours : Bool) (i : InnerValue) (places : Places) (link : Option EthernetRepr) (ip : IpRepr) (payload : List ℕ) (a : Arrived) →
+    ArrivesV6 ours i places link ip payload a → IsDamaged i.checksums ip payload → LeavesPorts places a
 damaged_v6 true i places link ip payload a h bare = damaged_in i places link ip payload a h bare
 damaged_v6 false i places link ip payload a h bare = (ap with_ports h.places_are, h.reply)
 
-pub brings_damaged_v4 : (i : InnerValue) (places : Places) (link : Option EthernetRepr) (header : Ipv4Repr) (piece : Ipv4Piece) (payload : List ℕ) (a : Arrived) → Brings i places (Some (Ip4 link header piece payload)) a → IsDamaged i.checksums (Ip.Ipv4 header) payload → LeavesPorts places a
+pub brings_damaged_v4 : (i : InnerValue) (places : Places) (link : Option EthernetRepr) (header : Ipv4Repr) (piece : Ipv4Piece) (payload : List ℕ)
+    (a : Arrived) → Brings i places (Some (Ip4 link header piece payload)) a → IsDamaged i.checksums (Ip.Ipv4 header) payload → LeavesPorts places a
 brings_damaged_v4 i places link header piece payload a h bare = damaged_v4 _ i places link (Ip.Ipv4 header) payload a h bare
 
-pub brings_damaged_v6 : (i : InnerValue) (places : Places) (link : Option EthernetRepr) (header : Ipv6Repr) (payload : List ℕ) (a : Arrived) → Brings i places (Some (Ip6 link header payload)) a → IsDamaged i.checksums (Ip.Ipv6 header) payload → LeavesPorts places a
+pub brings_damaged_v6 : (i : InnerValue) (places : Places) (link : Option EthernetRepr) (header : Ipv6Repr) (payload : List ℕ) (a : Arrived) →
+    Brings i places (Some (Ip6 link header payload)) a → IsDamaged i.checksums (Ip.Ipv6 header) payload → LeavesPorts places a
 brings_damaged_v6 i places link header payload a h bare = damaged_v6 _ i places link (Ip.Ipv6 header) payload a h bare

@@ -14,11 +14,14 @@ use Rattle.interface_ingress.proofs.Readers.{measured-v4, measured-v6}
 IsBytes-behind : (frame : List ℕ) → IsBytes frame → IsBytes (Ethernet.payload_of frame)
 IsBytes-behind frame small i = rw (get_or-drop 14 frame i 0) (small (14 + i))
 
-pub measured : (hardware : HardwareAddress) (caps : ChecksumCapabilities) (frame : List ℕ) (v : IncomingValue) → IsBytes frame → IsIncoming hardware caps frame v → IsMeasured v
+pub measured : (hardware : HardwareAddress) (caps : ChecksumCapabilities) (frame : List ℕ) (v : IncomingValue) → IsBytes frame →
+    IsIncoming hardware caps frame v → IsMeasured v
 measured hardware caps frame (Arp link packet) small is = tt
-measured (Hardware.Ethernet own) caps frame (Ip4 (Some link) h p x) small is = measured-v4 (verifies caps.ipv4) (Ethernet.payload_of frame) x h (IsBytes-behind frame small) is.1.format is.1.payload_is
+measured (Hardware.Ethernet own) caps frame (Ip4 (Some link) h p x) small is =
+    measured-v4 (verifies caps.ipv4) (Ethernet.payload_of frame) x h (IsBytes-behind frame small) is.1.format is.1.payload_is
 measured (Hardware.Ethernet own) caps frame (Ip4 None h p x) small is = absurd is
-measured (Hardware.Ethernet own) caps frame (Ip6 (Some link) h x) small is = measured-v6 (Ethernet.payload_of frame) x h (IsBytes-behind frame small) is.1.format is.1.payload_is
+measured (Hardware.Ethernet own) caps frame (Ip6 (Some link) h x) small is =
+    measured-v6 (Ethernet.payload_of frame) x h (IsBytes-behind frame small) is.1.format is.1.payload_is
 measured (Hardware.Ethernet own) caps frame (Ip6 None h x) small is = absurd is
 measured Hardware.Ip caps frame (Ip4 (Some link) h p x) small is = absurd is
 measured Hardware.Ip caps frame (Ip4 None h p x) small is = measured-v4 (verifies caps.ipv4) frame x h small is.format is.payload_is

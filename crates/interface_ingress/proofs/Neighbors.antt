@@ -26,7 +26,8 @@ drawn_neighbors : (draws : Bool) (i : InnerValue) → (drawn_if draws i).neighbo
 drawn_neighbors true i = refl
 drawn_neighbors false i = refl
 
-segment_neighbors : (i : InnerValue) (places : Places) (ip : IpRepr) (header : TcpHeader) (bytes : List ℕ) → (segment_host i places ip header bytes).neighbors ≡ i.neighbors
+segment_neighbors : (i : InnerValue) (places : Places) (ip : IpRepr) (header : TcpHeader) (bytes : List ℕ) →
+    (segment_host i places ip header bytes).neighbors ≡ i.neighbors
 segment_neighbors i places ip header bytes =
     elim (names_nobody i ip) as (λ b. (if b then i else drawn_if (segment_draws (context_of i) ip header bytes places) i).neighbors ≡ i.neighbors) [
       | true ↦ refl
@@ -37,7 +38,8 @@ segment_neighbors i places ip header bytes =
 abbrev IsOther : IpRepr → Type 0
 IsOther ip = carried_in ip ≡ Protocol.Icmpv6 → ⊥
 
-handed_v4 : (i : InnerValue) (places : Places) (header : Ipv4Repr) (carried : Option PayloadValue) → (handed_host i places (Ip.Ipv4 header) carried).neighbors ≡ i.neighbors
+handed_v4 : (i : InnerValue) (places : Places) (header : Ipv4Repr) (carried : Option PayloadValue) →
+    (handed_host i places (Ip.Ipv4 header) carried).neighbors ≡ i.neighbors
 handed_v4 i places header (Some (ControlV4 message bytes)) = refl
 handed_v4 i places header (Some (ControlV6 message bytes)) = refl
 handed_v4 i places header (Some (Bytes bytes)) = refl
@@ -45,7 +47,9 @@ handed_v4 i places header (Some (Datagram udp bytes)) = refl
 handed_v4 i places header (Some (Segment tcp bytes)) = segment_neighbors i places (Ip.Ipv4 header) tcp bytes
 handed_v4 i places header None = refl
 
-handed_v6 : (i : InnerValue) (places : Places) (header : Ipv6Repr) (payload : List ℕ) (carried : Option PayloadValue) → IsCarriedContent i.checksums (Ip.Ipv6 header) payload carried → IsOther (Ip.Ipv6 header) → (handed_host i places (Ip.Ipv6 header) carried).neighbors ≡ i.neighbors
+handed_v6 : (i : InnerValue) (places : Places) (header : Ipv6Repr) (payload : List ℕ) (carried : Option PayloadValue) →
+    IsCarriedContent i.checksums (Ip.Ipv6 header) payload carried → IsOther (Ip.Ipv6 header) →
+    (handed_host i places (Ip.Ipv6 header) carried).neighbors ≡ i.neighbors
 handed_v6 i places header payload (Some (ControlV4 message bytes)) is other = refl
 handed_v6 i places header payload (Some (ControlV6 message bytes)) is other = absurd (other is.protocol)
 handed_v6 i places header payload (Some (Bytes bytes)) is other = refl
@@ -68,32 +72,39 @@ renews i link ip =
       | false ↦ unrenewed i link ip i.neighbors refl
     ]
 
-renews_along : (i : InnerValue) (link : Option EthernetRepr) (ip : IpRepr) (n : CacheValue) → n ≡ (renewed i link ip).neighbors → RenewsOnly i link (sender_of ip) n
+renews_along : (i : InnerValue) (link : Option EthernetRepr) (ip : IpRepr) (n : CacheValue) → n ≡ (renewed i link ip).neighbors →
+    RenewsOnly i link (sender_of ip) n
 renews_along i link ip n same = let P : CacheValue → Type 0 = λ c. RenewsOnly i link (sender_of ip) c in subst P (sym same) (renews i link ip)
 
 abbrev neighbors_in : InnerValue → CacheValue
 neighbors_in i = i.neighbors
 
-v4_renews : (ours : Bool) (i : InnerValue) (places : Places) (link : Option EthernetRepr) (header : Ipv4Repr) (payload : List ℕ) (a : Arrived) → ArrivesV4 ours i places link (Ip.Ipv4 header) payload a → RenewsOnly i link (sender_of (Ip.Ipv4 header)) a.inner.neighbors
+v4_renews : (ours : Bool) (i : InnerValue) (places : Places) (link : Option EthernetRepr) (header : Ipv4Repr) (payload : List ℕ) (a : Arrived) →
+    ArrivesV4 ours i places link (Ip.Ipv4 header) payload a → RenewsOnly i link (sender_of (Ip.Ipv4 header)) a.inner.neighbors
 v4_renews true i places link header payload a (carried, is, handed) =
     renews_along i link (Ip.Ipv4 header) a.inner.neighbors
     (ap neighbors_in handed.inner ∙ handed_v4 (renewed i link (Ip.Ipv4 header)) (packet_delivered (Ip.Ipv4 header) payload places) header carried)
 v4_renews false i places link header payload a h = unrenewed i link (Ip.Ipv4 header) a.inner.neighbors (ap neighbors_in h.inner)
 
-v6_renews : (ours : Bool) (i : InnerValue) (places : Places) (link : Option EthernetRepr) (header : Ipv6Repr) (payload : List ℕ) (a : Arrived) → ArrivesV6 ours i places link (Ip.Ipv6 header) payload a → IsOther (Ip.Ipv6 header) → RenewsOnly i link (sender_of (Ip.Ipv6 header)) a.inner.neighbors
+v6_renews : (ours : Bool) (i : InnerValue) (places : Places) (link : Option EthernetRepr) (header : Ipv6Repr) (payload : List ℕ) (a : Arrived) →
+    ArrivesV6 ours i places link (Ip.Ipv6 header) payload a → IsOther (Ip.Ipv6 header) → RenewsOnly i link (sender_of (Ip.Ipv6 header)) a.inner.neighbors
 v6_renews true i places link header payload a (carried, is, handed) other =
     renews_along i link (Ip.Ipv6 header) a.inner.neighbors
-    (ap neighbors_in handed.inner ∙ handed_v6 (renewed i link (Ip.Ipv6 header)) (packet_delivered (Ip.Ipv6 header) payload places) header payload carried is other)
+    (ap neighbors_in handed.inner ∙
+    handed_v6 (renewed i link (Ip.Ipv6 header)) (packet_delivered (Ip.Ipv6 header) payload places) header payload carried is other)
 v6_renews false i places link header payload a h other = unrenewed i link (Ip.Ipv6 header) a.inner.neighbors (ap neighbors_in h.inner)
 
-pub renews_v4 : (i : InnerValue) (places : Places) (link : Option EthernetRepr) (header : Ipv4Repr) (piece : Ipv4Piece) (payload : List ℕ) (a : Arrived) → Brings i places (Some (Ip4 link header piece payload)) a → RenewsOnly i link (sender_of (Ip.Ipv4 header)) a.inner.neighbors
+pub renews_v4 : (i : InnerValue) (places : Places) (link : Option EthernetRepr) (header : Ipv4Repr) (piece : Ipv4Piece) (payload : List ℕ) (a : Arrived) →
+    Brings i places (Some (Ip4 link header piece payload)) a → RenewsOnly i link (sender_of (Ip.Ipv4 header)) a.inner.neighbors
 renews_v4 i places link header piece payload a h = v4_renews _ i places link header payload a h
 
-pub renews_v6 : (i : InnerValue) (places : Places) (link : Option EthernetRepr) (header : Ipv6Repr) (payload : List ℕ) (a : Arrived) → Brings i places (Some (Ip6 link header payload)) a → IsOther (Ip.Ipv6 header) → RenewsOnly i link (sender_of (Ip.Ipv6 header)) a.inner.neighbors
+pub renews_v6 : (i : InnerValue) (places : Places) (link : Option EthernetRepr) (header : Ipv6Repr) (payload : List ℕ) (a : Arrived) →
+    Brings i places (Some (Ip6 link header payload)) a → IsOther (Ip.Ipv6 header) → RenewsOnly i link (sender_of (Ip.Ipv6 header)) a.inner.neighbors
 renews_v6 i places link header payload a h other = v6_renews _ i places link header payload a h other
 
 learns_at : (i : InnerValue) (packet : ArpRepr) → LearnsOnly i packet (arp_arrived i packet)
 learns_at i packet = elim (counts i packet) as (λ b. LearnsOnly i packet (if b then learned i packet else i)) [ true ↦ inr refl | false ↦ inl refl ]
 
-pub learns : (i : InnerValue) (places : Places) (link : EthernetRepr) (packet : ArpRepr) (a : Arrived) → Brings i places (Some (Arp link packet)) a → LearnsOnly i packet a.inner
+pub learns : (i : InnerValue) (places : Places) (link : EthernetRepr) (packet : ArpRepr) (a : Arrived) → Brings i places (Some (Arp link packet)) a →
+    LearnsOnly i packet a.inner
 learns i places link packet a h = let P : InnerValue → Type 0 = λ v. LearnsOnly i packet v in subst P (sym h.inner) (learns_at i packet)

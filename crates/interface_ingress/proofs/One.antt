@@ -46,14 +46,24 @@ same-arp o o' a a' b b' c c' d d' operation sender source target destination = r
 
 pub one-arp : (bytes : List ℕ) (v w : ArpRepr) → Arps.IsArp bytes v → Arps.IsArp bytes w → v ≡ w
 one-arp bytes (Arp.EthernetIpv4 o a b c d) (Arp.EthernetIpv4 o' a' b' c' d') one other =
-    same-arp _ _ _ _ _ _ _ _ _ _ (one.operation_is ∙ sym other.operation_is) (one.source_hardware_is ∙ sym other.source_hardware_is) (one.source_protocol_is ∙ sym other.source_protocol_is)
+    same-arp _ _ _ _ _ _ _ _ _ _ (one.operation_is ∙ sym other.operation_is) (one.source_hardware_is ∙ sym other.source_hardware_is) (one.source_protocol_is ∙
+    sym other.source_protocol_is)
     (one.target_hardware_is ∙ sym other.target_hardware_is) (one.target_protocol_is ∙ sym other.target_protocol_is)
 
 -- IP HEADERS
 
 abbrev v4 : List ℕ → List ℕ → IpProtocol → ℕ → ℕ → ℕ → Bool → Ipv4Repr
 v4 source destination protocol len hops id dont =
-    record { src_addr = record { 0 = source }; dst_addr = record { 0 = destination }; next_header = protocol; payload_len = len; hop_limit = hops; ident = id; dont_frag = dont }
+    record {
+      src_addr = record { 0 = source };
+      dst_addr = record { 0 = destination };
+      next_header = protocol;
+      payload_len = len;
+      hop_limit = hops;
+      ident =
+          id;
+      dont_frag = dont;
+    }
 
 same-v4 :
     (s s' d d' : List ℕ) (p p' : IpProtocol) (n n' h h' i i' : ℕ) (f f' : Bool) → s ≡ s' → d ≡ d' → p ≡ p' → n ≡ n' → h ≡ h' → i ≡ i' → f ≡ f' →
@@ -64,15 +74,18 @@ same-v4 s s' d d' p p' n n' h h' i i' f f' source destination protocol len hops 
 -- the header that the bytes quote
 abbrev pub read_v4 : List ℕ → Ipv4Repr
 read_v4 bytes =
-    v4 (slice_range bytes 12 16) (slice_range bytes 16 20) (protocol_of (slice_index bytes 9)) (be16 bytes 2 - Ipv4.header_len_of bytes) (slice_index bytes 8) (be16 bytes 4) (has_flag (slice_index bytes 6) 64)
+    v4 (slice_range bytes 12 16) (slice_range bytes 16 20) (protocol_of (slice_index bytes 9)) (be16 bytes 2 - Ipv4.header_len_of bytes) (slice_index bytes 8)
+    (be16 bytes 4) (has_flag (slice_index bytes 6) 64)
 
 pub told-v4 : (bytes : List ℕ) (v : Ipv4Repr) (n : ℕ) → Ipv4.IsQuoted bytes v n → v ≡ read_v4 bytes
 told-v4 bytes v n is =
-    same-v4 _ _ _ _ _ _ _ _ _ _ _ _ _ _ is.source is.destination is.protocol (is.payload ∙ ap (λ k. be16 bytes 2 - k) is.header) is.hops is.identification is.dont_frag
+    same-v4 _ _ _ _ _ _ _ _ _ _ _ _ _ _ is.source is.destination is.protocol (is.payload ∙ ap (λ k. be16 bytes 2 - k) is.header) is.hops is.identification
+    is.dont_frag
 
 pub one-v4 : (tested : Bool) (bytes : List ℕ) (v w : Ipv4Repr) → Ipv4.IsIpv4 tested bytes v → Ipv4.IsIpv4 tested bytes w → v ≡ w
 one-v4 tested bytes v w one other =
-    told-v4 bytes v (Ipv4.header_len_of bytes) (V4.IsQuoted-whole tested bytes v one) ∙ sym (told-v4 bytes w (Ipv4.header_len_of bytes) (V4.IsQuoted-whole tested bytes w other))
+    told-v4 bytes v (Ipv4.header_len_of bytes) (V4.IsQuoted-whole tested bytes v one) ∙
+    sym (told-v4 bytes w (Ipv4.header_len_of bytes) (V4.IsQuoted-whole tested bytes w other))
 
 abbrev v6 : List ℕ → List ℕ → IpProtocol → ℕ → ℕ → Ipv6Repr
 v6 source destination protocol len hops =
@@ -95,7 +108,8 @@ one-v6 bytes v w one other = told-v6 bytes v 40 (V6.IsQuoted-whole bytes v one) 
 same-udp : (s s' d d' : ℕ) → s ≡ s' → d ≡ d' → record { src_port = s; dst_port = d } ≡ (let v : UdpRepr = record { src_port = s'; dst_port = d' } in v)
 same-udp s s' d d' source destination = rw (source, destination) refl
 
-pub one-udp : (source destination : IpAddress) (tested : Bool) (bytes : List ℕ) (v w : UdpRepr) → Udp.IsUdp source destination tested bytes v → Udp.IsUdp source destination tested bytes w → v ≡ w
+pub one-udp : (source destination : IpAddress) (tested : Bool) (bytes : List ℕ) (v w : UdpRepr) → Udp.IsUdp source destination tested bytes v →
+    Udp.IsUdp source destination tested bytes w → v ≡ w
 one-udp source destination tested bytes v w one other =
     same-udp _ _ _ _ (one.source_port ∙ sym other.source_port) (one.destination_port ∙ sym other.destination_port)
 
@@ -120,10 +134,12 @@ Told bytes v payload kind = (v ≡ said kind bytes) × (payload ≡ data_of kind
 
 told : (bytes : List ℕ) (v : Icmpv4Header) (payload : List ℕ) → Icmpv4.Says bytes v payload → Told bytes v payload (slice_index bytes 0)
 told bytes (Header.EchoRequest ident seq_no) payload says =
-    let e : Header.EchoRequest ident seq_no ≡ Header.EchoRequest (be16 bytes 4) (be16 bytes 6) = ap (λ n. Header.EchoRequest n seq_no) says.identifier ∙ ap (λ n. Header.EchoRequest (be16 bytes 4) n) says.sequence in
+    let e : Header.EchoRequest ident seq_no ≡ Header.EchoRequest (be16 bytes 4) (be16 bytes 6) = ap (λ n. Header.EchoRequest n seq_no) says.identifier ∙
+    ap (λ n. Header.EchoRequest (be16 bytes 4) n) says.sequence in
     subst (Told bytes (Header.EchoRequest ident seq_no) payload) (sym says.kind_is) (e, says.payload_is)
 told bytes (Header.EchoReply ident seq_no) payload says =
-    let e : Header.EchoReply ident seq_no ≡ Header.EchoReply (be16 bytes 4) (be16 bytes 6) = ap (λ n. Header.EchoReply n seq_no) says.identifier ∙ ap (λ n. Header.EchoReply (be16 bytes 4) n) says.sequence in
+    let e : Header.EchoReply ident seq_no ≡ Header.EchoReply (be16 bytes 4) (be16 bytes 6) = ap (λ n. Header.EchoReply n seq_no) says.identifier ∙
+    ap (λ n. Header.EchoReply (be16 bytes 4) n) says.sequence in
     subst (Told bytes (Header.EchoReply ident seq_no) payload) (sym says.kind_is) (e, says.payload_is)
 told bytes (Header.DstUnreachable reason header) payload says =
     let quoted : header ≡ read_v4 (Icmpv4.behind bytes) = told-v4 (Icmpv4.behind bytes) header (Icmpv4.quoted_len bytes) says.1.quoted in
@@ -138,7 +154,8 @@ told bytes (Header.TimeExceeded reason header) payload says =
     in
     subst (Told bytes (Header.TimeExceeded reason header) payload) (sym says.1.kind_is) (e, says.1.payload_is)
 
-pub one-icmpv4 : (tested : Bool) (bytes : List ℕ) (v w : Icmpv4Header) (x y : List ℕ) → Icmpv4.IsIcmpv4 tested bytes v x → Icmpv4.IsIcmpv4 tested bytes w y → (v ≡ w) × (x ≡ y)
+pub one-icmpv4 : (tested : Bool) (bytes : List ℕ) (v w : Icmpv4Header) (x y : List ℕ) → Icmpv4.IsIcmpv4 tested bytes v x → Icmpv4.IsIcmpv4 tested bytes w y →
+    (v ≡ w) × (x ≡ y)
 one-icmpv4 tested bytes v w x y one other =
     let a = told bytes v x one.says in
     let b = told bytes w y other.says in

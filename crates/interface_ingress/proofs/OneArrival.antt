@@ -8,7 +8,8 @@ use Rattle.socket_base.specs.Packet.{PayloadValue}
 use Rattle.interface_ingress.specs.Incoming.{IncomingValue, Arp, Ip4, Ip6}
 use Rattle.interface_ingress.proofs.OneContent.{one-content, one-carried-content}
 use Rattle.interface_tables.specs.Inner.{InnerValue}
-use Rattle.interface_ingress.specs.Arrives.{Arrived, Arrives, ArrivesAs, ArrivesV4, ArrivesV6, Brings, Hands, IsHanded, IsSilent, answered, renewed, whole_after}
+use Rattle.interface_ingress.specs.Arrives.{Arrived, Arrives, ArrivesAs, ArrivesV4, ArrivesV6, Brings, Hands, IsHanded, IsSilent, answered, renewed}
+use Rattle.interface_ingress.specs.Arrives.{whole_after}
 use Rattle.interface_ingress.specs.Delivered.{Places, packet_delivered, is_taken_raw}
 use Rattle.interface_ingress.specs.Handed.{handed_host, handed_places, handed_reply}
 use Rattle.interface_ingress.specs.Reassembled.{Slots, taken_in}
@@ -16,31 +17,36 @@ use Rattle.interface_ingress.specs.Reassembled.{Slots, taken_in}
 same_arrived : (a b : Arrived) → a.inner ≡ b.inner → a.places ≡ b.places → a.reply ≡ b.reply → a ≡ b
 same_arrived a b hosts sockets replies = λ k. record { inner = hosts k; places = sockets k; reply = replies k }
 
-one_handed : (i : InnerValue) (places : Places) (ip : IpRepr) (payload : List ℕ) (taken : Bool) (c d : Option PayloadValue) (a b : Arrived) → c ≡ d → IsHanded i places ip payload taken c a → IsHanded i places ip payload taken d b → a ≡ b
+one_handed : (i : InnerValue) (places : Places) (ip : IpRepr) (payload : List ℕ) (taken : Bool) (c d : Option PayloadValue) (a b : Arrived) → c ≡ d →
+    IsHanded i places ip payload taken c a → IsHanded i places ip payload taken d b → a ≡ b
 one_handed i places ip payload taken c d a b same one other =
     same_arrived a b
     (one.inner ∙ ap (λ x. handed_host i places ip x) same ∙ sym other.inner)
     (one.places_are ∙ ap (λ x. handed_places i places ip x) same ∙ sym other.places_are)
     (one.reply ∙ ap (λ x. answered (handed_reply i places ip payload taken x)) same ∙ sym other.reply)
 
-one_hands : (i : InnerValue) (places : Places) (ip : IpRepr) (payload : List ℕ) (taken : Bool) (a b : Arrived) → Hands i places ip payload taken a → Hands i places ip payload taken b → a ≡ b
+one_hands : (i : InnerValue) (places : Places) (ip : IpRepr) (payload : List ℕ) (taken : Bool) (a b : Arrived) → Hands i places ip payload taken a →
+    Hands i places ip payload taken b → a ≡ b
 one_hands i places ip payload taken a b (c, is, one) (d, is', other) =
     one_handed i places ip payload taken c d a b (one-carried-content i.checksums ip payload c d is is') one other
 
 one_silent : (i : InnerValue) (places : Places) (a b : Arrived) → IsSilent i places a → IsSilent i places b → a ≡ b
 one_silent i places a b one other = same_arrived a b (one.inner ∙ sym other.inner) (one.places_are ∙ sym other.places_are) (one.reply ∙ sym other.reply)
 
-one_v4 : (ours : Bool) (i : InnerValue) (places : Places) (link : Option EthernetRepr) (ip : IpRepr) (payload : List ℕ) (a b : Arrived) → ArrivesV4 ours i places link ip payload a → ArrivesV4 ours i places link ip payload b → a ≡ b
+one_v4 : (ours : Bool) (i : InnerValue) (places : Places) (link : Option EthernetRepr) (ip : IpRepr) (payload : List ℕ) (a b : Arrived) →
+    ArrivesV4 ours i places link ip payload a → ArrivesV4 ours i places link ip payload b → a ≡ b
 one_v4 true i places link ip payload a b one other =
     one_hands (renewed i link ip) (packet_delivered ip payload places) ip payload (is_taken_raw ip places) a b one other
 one_v4 false i places link ip payload a b one other = one_silent i (packet_delivered ip payload places) a b one other
 
-one_v6 : (ours : Bool) (i : InnerValue) (places : Places) (link : Option EthernetRepr) (ip : IpRepr) (payload : List ℕ) (a b : Arrived) → ArrivesV6 ours i places link ip payload a → ArrivesV6 ours i places link ip payload b → a ≡ b
+one_v6 : (ours : Bool) (i : InnerValue) (places : Places) (link : Option EthernetRepr) (ip : IpRepr) (payload : List ℕ) (a b : Arrived) →
+    ArrivesV6 ours i places link ip payload a → ArrivesV6 ours i places link ip payload b → a ≡ b
 one_v6 true i places link ip payload a b one other =
     one_hands (renewed i link ip) (packet_delivered ip payload places) ip payload (is_taken_raw ip places) a b one other
 one_v6 false i places link ip payload a b one other = one_silent i places a b one other
 
-pub one_brings : (i : InnerValue) (places : Places) (content : Option IncomingValue) (a b : Arrived) → Brings i places content a → Brings i places content b → a ≡ b
+pub one_brings : (i : InnerValue) (places : Places) (content : Option IncomingValue) (a b : Arrived) → Brings i places content a →
+    Brings i places content b → a ≡ b
 one_brings i places None a b one other = one_silent i places a b one other
 one_brings i places (Some (Arp link packet)) a b one other =
     same_arrived a b (one.inner ∙ sym other.inner) (one.places_are ∙ sym other.places_are) (one.reply ∙ sym other.reply)
@@ -50,11 +56,13 @@ one_brings i places (Some (Ip6 link header payload)) a b one other = one_v6 _ i 
 abbrev pub Same : Slots → Slots → Arrived → Arrived → Type 0
 Same s s' a a' = (s ≡ s') × (a ≡ a')
 
-pub one_arrives_as : (i : InnerValue) (timeout : ℕ) (slots : Slots) (places : Places) (content : Option IncomingValue) (s s' : Slots) (a a' : Arrived) → ArrivesAs i timeout slots places content s a → ArrivesAs i timeout slots places content s' a' → Same s s' a a'
+pub one_arrives_as : (i : InnerValue) (timeout : ℕ) (slots : Slots) (places : Places) (content : Option IncomingValue) (s s' : Slots) (a a' : Arrived) →
+    ArrivesAs i timeout slots places content s a → ArrivesAs i timeout slots places content s' a' → Same s s' a a'
 one_arrives_as i timeout slots places content s s' a a' one other =
     (one.0 ∙ sym other.0, one_brings i places (whole_after i timeout slots (taken_in i content)) a a' one.1 other.1)
 
-pub one_arrives : (i : InnerValue) (timeout : ℕ) (slots : Slots) (places : Places) (frame : List ℕ) (s s' : Slots) (a a' : Arrived) → Arrives i timeout slots places frame s a → Arrives i timeout slots places frame s' a' → Same s s' a a'
+pub one_arrives : (i : InnerValue) (timeout : ℕ) (slots : Slots) (places : Places) (frame : List ℕ) (s s' : Slots) (a a' : Arrived) →
+    Arrives i timeout slots places frame s a → Arrives i timeout slots places frame s' a' → Same s s' a a'
 one_arrives i timeout slots places frame s s' a a' (c, is, one) (d, is', other) =
     let same = one-content i.hardware i.checksums frame d c is' is in
     let P : Option IncomingValue → Type 0 = λ x. ArrivesAs i timeout slots places x s' a' in

@@ -43,12 +43,15 @@ same-v4 k l h i p q x y link header piece payload = rw (link, header, piece, pay
 same-v6 : (k l : Option EthernetRepr) (h i : Ipv6Repr) (x y : List ℕ) → k ≡ l → h ≡ i → x ≡ y → Ip6 k h x ≡ Ip6 l i y
 same-v6 k l h i x y link header payload = rw (link, header, payload) refl
 
-packet-v4 : (caps : ChecksumCapabilities) (bytes : List ℕ) (k l : Option EthernetRepr) (h i : Ipv4Repr) (p q : Ipv4Piece) (x y : List ℕ) → k ≡ l → IsPacketV4 caps bytes h p x → IsPacketV4 caps bytes i q y
+packet-v4 : (caps : ChecksumCapabilities) (bytes : List ℕ) (k l : Option EthernetRepr) (h i : Ipv4Repr) (p q : Ipv4Piece) (x y : List ℕ) → k ≡ l →
+    IsPacketV4 caps bytes h p x → IsPacketV4 caps bytes i q y
     → Ip4 k h p x ≡ Ip4 l i q y
 packet-v4 caps bytes k l h i p q x y link one other =
-    same-v4 k l h i p q x y link (one-v4 (verifies caps.ipv4) bytes h i one.format other.format) (one.piece_is ∙ sym other.piece_is) (one.payload_is ∙ sym other.payload_is)
+    same-v4 k l h i p q x y link (one-v4 (verifies caps.ipv4) bytes h i one.format other.format) (one.piece_is ∙ sym other.piece_is) (one.payload_is ∙
+    sym other.payload_is)
 
-packet-v6 : (bytes : List ℕ) (k l : Option EthernetRepr) (h i : Ipv6Repr) (x y : List ℕ) → k ≡ l → IsPacketV6 bytes h x → IsPacketV6 bytes i y → Ip6 k h x ≡ Ip6 l i y
+packet-v6 : (bytes : List ℕ) (k l : Option EthernetRepr) (h i : Ipv6Repr) (x y : List ℕ) → k ≡ l → IsPacketV6 bytes h x → IsPacketV6 bytes i y →
+    Ip6 k h x ≡ Ip6 l i y
 packet-v6 bytes k l h i x y link one other = same-v6 k l h i x y link (one-v6 bytes h i one.format other.format) (one.payload_is ∙ sym other.payload_is)
 
 some-link : (frame : List ℕ) (k l : EthernetRepr) (p q : EthernetProtocol) → IsFramed frame k p → IsFramed frame l q → Some k ≡ Some l
@@ -91,11 +94,13 @@ one-bare caps frame (Ip6 None h x) (Ip4 None i q y) one other = absurd (omega (a
 one-bare caps frame (Ip6 None h x) (Ip6 (Some l) i y) one other = absurd other
 one-bare caps frame (Ip6 None h x) (Ip6 None i y) one other = packet-v6 frame None None h i x y refl one other
 
-pub one-incoming : (hardware : HardwareAddress) (caps : ChecksumCapabilities) (frame : List ℕ) (v w : IncomingValue) → IsIncoming hardware caps frame v → IsIncoming hardware caps frame w → v ≡ w
+pub one-incoming : (hardware : HardwareAddress) (caps : ChecksumCapabilities) (frame : List ℕ) (v w : IncomingValue) → IsIncoming hardware caps frame v →
+    IsIncoming hardware caps frame w → v ≡ w
 one-incoming (Hardware.Ethernet own) caps frame v w one other = one-on-ethernet caps frame v w one other
 one-incoming Hardware.Ip caps frame v w one other = one-bare caps frame v w one other
 
-pub one-content : (hardware : HardwareAddress) (caps : ChecksumCapabilities) (frame : List ℕ) (one other : Option IncomingValue) → IsContent hardware caps frame one → IsContent hardware caps frame other → one ≡ other
+pub one-content : (hardware : HardwareAddress) (caps : ChecksumCapabilities) (frame : List ℕ) (one other : Option IncomingValue) →
+    IsContent hardware caps frame one → IsContent hardware caps frame other → one ≡ other
 one-content hardware caps frame one other = one-only (IsIncoming hardware caps frame) (one-incoming hardware caps frame) one other
 
 -- PAYLOADS
@@ -111,7 +116,8 @@ named (Segment tcp bytes) = Some Protocol.Tcp
 some-protocol : (p q : IpProtocol) → p ≡ q → Some p ≡ Some q
 some-protocol p q same = ap (λ (x : IpProtocol). Some x) same
 
-names : (caps : ChecksumCapabilities) (header : IpRepr) (payload : List ℕ) (v : PayloadValue) → IsCarried caps header payload v → named v ≡ Some (carried_in header)
+names : (caps : ChecksumCapabilities) (header : IpRepr) (payload : List ℕ) (v : PayloadValue) → IsCarried caps header payload v →
+    named v ≡ Some (carried_in header)
 names caps (Ip.Ipv4 h) payload (ControlV4 message bytes) is = some-protocol _ _ (sym is.protocol)
 names caps (Ip.Ipv6 h) payload (ControlV4 message bytes) is = absurd is
 names caps (Ip.Ipv4 h) payload (ControlV6 message bytes) is = absurd is
@@ -121,31 +127,38 @@ names caps header payload (Datagram udp bytes) is = some-protocol _ _ (sym is.pr
 names caps header payload (Segment tcp bytes) is = some-protocol _ _ (sym is.protocol)
 
 -- two payloads behind one header are of one protocol
-one-name : (caps : ChecksumCapabilities) (header : IpRepr) (payload : List ℕ) (v w : PayloadValue) → IsCarried caps header payload v → IsCarried caps header payload w → named v ≡ named w
+one-name : (caps : ChecksumCapabilities) (header : IpRepr) (payload : List ℕ) (v w : PayloadValue) → IsCarried caps header payload v →
+    IsCarried caps header payload w → named v ≡ named w
 one-name caps header payload v w one other = names caps header payload v one ∙ sym (names caps header payload w other)
 
-one-control-v4 : (caps : ChecksumCapabilities) (header : IpRepr) (payload : List ℕ) (m n : Icmpv4Header) (x y : List ℕ) → IsCarried caps header payload (ControlV4 m x) → IsCarried caps header payload (ControlV4 n y) → ControlV4 m x ≡ ControlV4 n y
+one-control-v4 : (caps : ChecksumCapabilities) (header : IpRepr) (payload : List ℕ) (m n : Icmpv4Header) (x y : List ℕ) →
+    IsCarried caps header payload (ControlV4 m x) → IsCarried caps header payload (ControlV4 n y) → ControlV4 m x ≡ ControlV4 n y
 one-control-v4 caps (Ip.Ipv6 h) payload m n x y one other = absurd one
 one-control-v4 caps (Ip.Ipv4 h) payload m n x y one other =
     let same = one-icmpv4 (verifies caps.icmpv4) payload m n x y one.format other.format in
     ap (λ (k : Icmpv4Header). ControlV4 k x) same.0 ∙ ap (ControlV4 n) same.1
 
-one-control-v6 : (caps : ChecksumCapabilities) (header : IpRepr) (payload : List ℕ) (m n : Icmpv6.MessageValue) (x y : List ℕ) → IsCarried caps header payload (ControlV6 m x) → IsCarried caps header payload (ControlV6 n y) → ControlV6 m x ≡ ControlV6 n y
+one-control-v6 : (caps : ChecksumCapabilities) (header : IpRepr) (payload : List ℕ) (m n : Icmpv6.MessageValue) (x y : List ℕ) →
+    IsCarried caps header payload (ControlV6 m x) → IsCarried caps header payload (ControlV6 n y) → ControlV6 m x ≡ ControlV6 n y
 one-control-v6 caps (Ip.Ipv4 h) payload m n x y one other = absurd one
 one-control-v6 caps (Ip.Ipv6 h) payload m n x y one other =
     let same : m ≡ n = one-icmpv6 h.src_addr h.dst_addr (verifies caps.icmpv6) payload m n one.format other.format in
     ap (λ (k : Icmpv6.MessageValue). ControlV6 k x) same ∙ ap (ControlV6 n) (one.bytes_are ∙ ap (Icmpv6.carried_in payload) same ∙ sym other.bytes_are)
 
-one-payload : (caps : ChecksumCapabilities) (header : IpRepr) (payload : List ℕ) (v w : PayloadValue) → IsCarried caps header payload v → IsCarried caps header payload w → v ≡ w
+one-payload : (caps : ChecksumCapabilities) (header : IpRepr) (payload : List ℕ) (v w : PayloadValue) → IsCarried caps header payload v →
+    IsCarried caps header payload w → v ≡ w
 one-payload caps header payload (ControlV4 m x) (ControlV4 n y) one other = one-control-v4 caps header payload m n x y one other
 one-payload caps header payload (ControlV6 m x) (ControlV6 n y) one other = one-control-v6 caps header payload m n x y one other
 one-payload caps header payload (Datagram m x) (Datagram n y) one other =
-    ap (λ (k : UdpRepr). Datagram k x) (one-udp (source_of header) (destination_of header) (verifies caps.udp) payload m n one.format other.format) ∙ ap (Datagram n) (one.bytes_are ∙ sym other.bytes_are)
+    ap (λ (k : UdpRepr). Datagram k x) (one-udp (source_of header) (destination_of header) (verifies caps.udp) payload m n one.format other.format) ∙
+    ap (Datagram n) (one.bytes_are ∙ sym other.bytes_are)
 one-payload caps header payload (Segment m x) (Segment n y) one other =
-    ap (λ (k : TcpHeader). Segment k x) (IsTcp-one (source_of header) (destination_of header) (verifies caps.tcp) payload m n one.format other.format) ∙ ap (Segment n) (one.bytes_are ∙ sym other.bytes_are)
+    ap (λ (k : TcpHeader). Segment k x) (IsTcp-one (source_of header) (destination_of header) (verifies caps.tcp) payload m n one.format other.format) ∙
+    ap (Segment n) (one.bytes_are ∙ sym other.bytes_are)
 one-payload caps header payload (Bytes x) w one other = absurd one
 one-payload caps header payload v (Bytes y) one other = absurd other
 one-payload caps header payload v w one other = absurd (let e = one-name caps header payload v w one other in cc e)
 
-pub one-carried-content : (caps : ChecksumCapabilities) (header : IpRepr) (payload : List ℕ) (one other : Option PayloadValue) → IsCarriedContent caps header payload one → IsCarriedContent caps header payload other → one ≡ other
+pub one-carried-content : (caps : ChecksumCapabilities) (header : IpRepr) (payload : List ℕ) (one other : Option PayloadValue) →
+    IsCarriedContent caps header payload one → IsCarriedContent caps header payload other → one ≡ other
 one-carried-content caps header payload one other = one-only (IsCarried caps header payload) (one-payload caps header payload) one other

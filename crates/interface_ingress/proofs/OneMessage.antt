@@ -17,7 +17,8 @@ use Rattle.interface_ingress.proofs.One.{read_v6, told-v6}
 -- NEIGHBOUR MESSAGES
 
 -- options of a neighbour message give one link address at most
-one-link-in : (kind : ℕ) (so_far : Option (List ℕ)) (bytes : List ℕ) (os : List OptionValue) (a b : Option (List ℕ)) → bytes ≡ options_bytes os → AreOptions kind os → HasLink kind so_far bytes a → HasLink kind so_far bytes b → a ≡ b
+one-link-in : (kind : ℕ) (so_far : Option (List ℕ)) (bytes : List ℕ) (os : List OptionValue) (a b : Option (List ℕ)) → bytes ≡ options_bytes os →
+    AreOptions kind os → HasLink kind so_far bytes a → HasLink kind so_far bytes b → a ≡ b
 one-link-in kind so_far bytes [] a b spelled are one other =
     sym (HasLink-empty kind so_far a bytes (ap length spelled) one) ∙ HasLink-empty kind so_far b bytes (ap length spelled) other
 one-link-in kind so_far bytes (o ∷ os) a b spelled are one other =
@@ -136,12 +137,17 @@ both-plain message v w one other = told message w other ∙ sym (told message v 
 
 one-said : (message : List ℕ) (v w : MessageValue) → Says message v → Says message w → v ≡ w
 one-said message (Ndisc m) w one other = one-with message m w (both-plain message (Ndisc m) w one other) one other
-one-said message (DstUnreachable reason header) w one other = sym (from-plain w (DstUnreachable reason header) (both-plain message (DstUnreachable reason header) w one other))
+one-said message (DstUnreachable reason header) w one other =
+    sym (from-plain w (DstUnreachable reason header) (both-plain message (DstUnreachable reason header) w one other))
 one-said message (PktTooBig mtu header) w one other = sym (from-plain w (PktTooBig mtu header) (both-plain message (PktTooBig mtu header) w one other))
-one-said message (TimeExceeded reason header) w one other = sym (from-plain w (TimeExceeded reason header) (both-plain message (TimeExceeded reason header) w one other))
-one-said message (ParamProblem reason pointer header) w one other = sym (from-plain w (ParamProblem reason pointer header) (both-plain message (ParamProblem reason pointer header) w one other))
-one-said message (EchoRequest ident seq_no) w one other = sym (from-plain w (EchoRequest ident seq_no) (both-plain message (EchoRequest ident seq_no) w one other))
+one-said message (TimeExceeded reason header) w one other =
+    sym (from-plain w (TimeExceeded reason header) (both-plain message (TimeExceeded reason header) w one other))
+one-said message (ParamProblem reason pointer header) w one other =
+    sym (from-plain w (ParamProblem reason pointer header) (both-plain message (ParamProblem reason pointer header) w one other))
+one-said message (EchoRequest ident seq_no) w one other =
+    sym (from-plain w (EchoRequest ident seq_no) (both-plain message (EchoRequest ident seq_no) w one other))
 one-said message (EchoReply ident seq_no) w one other = sym (from-plain w (EchoReply ident seq_no) (both-plain message (EchoReply ident seq_no) w one other))
 
-pub one-icmpv6 : (source destination : Ipv6Address) (tested : Bool) (message : List ℕ) (v w : MessageValue) → Icmpv6.IsIcmpv6 source destination tested message v → Icmpv6.IsIcmpv6 source destination tested message w → v ≡ w
+pub one-icmpv6 : (source destination : Ipv6Address) (tested : Bool) (message : List ℕ) (v w : MessageValue) →
+    Icmpv6.IsIcmpv6 source destination tested message v → Icmpv6.IsIcmpv6 source destination tested message w → v ≡ w
 one-icmpv6 source destination tested message v w one other = one-said message v w one.says other.says

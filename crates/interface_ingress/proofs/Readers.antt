@@ -28,7 +28,8 @@ use Rattle.interface_ingress.proofs.One.{one-link}
 
 -- PACKETS
 
-pub refused-v4 : (caps : ChecksumCapabilities) (link : Option EthernetRepr) (bytes : List ℕ) → ((h : Ipv4Repr) → Ipv4.IsIpv4 (verifies caps.ipv4) bytes h → ⊥) → (v : IncomingValue) → IsV4Behind caps link bytes v → ⊥
+pub refused-v4 : (caps : ChecksumCapabilities) (link : Option EthernetRepr) (bytes : List ℕ) → ((h : Ipv4Repr) → Ipv4.IsIpv4 (verifies caps.ipv4) bytes h → ⊥) →
+    (v : IncomingValue) → IsV4Behind caps link bytes v → ⊥
 refused-v4 caps link bytes none (Arp before packet) is = is
 refused-v4 caps link bytes none (Ip4 before header piece payload) is = none header is.1.format
 refused-v4 caps link bytes none (Ip6 before header payload) is = is
@@ -39,40 +40,47 @@ refused-v6 link bytes none (Ip4 before header piece payload) is = is
 refused-v6 link bytes none (Ip6 before header payload) is = none header is.1.format
 
 -- a payload is as long as its header says
-pub measured-v4 : (tested : Bool) (bytes payload : List ℕ) (h : Ipv4Repr) → IsBytes bytes → Ipv4.IsIpv4 tested bytes h → payload ≡ Ipv4.payload_of bytes → (length payload ≡ h.payload_len) × Ipv4.Fits h
+pub measured-v4 : (tested : Bool) (bytes payload : List ℕ) (h : Ipv4Repr) → IsBytes bytes → Ipv4.IsIpv4 tested bytes h → payload ≡ Ipv4.payload_of bytes →
+    (length payload ≡ h.payload_len) × Ipv4.Fits h
 measured-v4 tested bytes payload h small is same =
-    let len : Ipv4.header_len_of bytes + length (Ipv4.payload_of bytes) ≡ be16 bytes 2 = length-slice_range bytes (Ipv4.header_len_of bytes) (be16 bytes 2) is.whole.least is.whole.within in
+    let len : Ipv4.header_len_of bytes + length (Ipv4.payload_of bytes) ≡ be16 bytes 2 =
+    length-slice_range bytes (Ipv4.header_len_of bytes) (be16 bytes 2) is.whole.least is.whole.within in
     (omega (arith, len, ap length same, is.payload), (fits-v4 tested bytes h small is).0)
 
-pub measured-v6 : (bytes payload : List ℕ) (h : Ipv6Repr) → IsBytes bytes → Ipv6.IsIpv6 bytes h → payload ≡ Ipv6.payload_of bytes → (length payload ≡ h.payload_len) × Ipv6.Fits h
+pub measured-v6 : (bytes payload : List ℕ) (h : Ipv6Repr) → IsBytes bytes → Ipv6.IsIpv6 bytes h → payload ≡ Ipv6.payload_of bytes →
+    (length payload ≡ h.payload_len) × Ipv6.Fits h
 measured-v6 bytes payload h small is same =
     let len : 40 + length (Ipv6.payload_of bytes) ≡ 40 + be16 bytes 4 = length-slice_range bytes 40 (40 + be16 bytes 4) (omega arith) is.whole.within in
     (omega (arith, len, ap length same, is.payload), (fits-v6 bytes h small is).0)
 
 -- A MEDIUM OF BARE PACKETS
 
-none-bare-v4 : (caps : ChecksumCapabilities) (frame : List ℕ) → slice_index frame 0 / 16 ≡ 4 → ((v : IncomingValue) → IsV4Behind caps None frame v → ⊥) → (v : IncomingValue) → Bare caps frame v → ⊥
+none-bare-v4 : (caps : ChecksumCapabilities) (frame : List ℕ) → slice_index frame 0 / 16 ≡ 4 → ((v : IncomingValue) → IsV4Behind caps None frame v → ⊥) →
+    (v : IncomingValue) → Bare caps frame v → ⊥
 none-bare-v4 caps frame first none (Arp link packet) is = is
 none-bare-v4 caps frame first none (Ip4 (Some link) header piece payload) is = is
 none-bare-v4 caps frame first none (Ip4 None header piece payload) is = none (Ip4 None header piece payload) (refl, is)
 none-bare-v4 caps frame first none (Ip6 (Some link) header payload) is = is
 none-bare-v4 caps frame first none (Ip6 None header payload) is = omega (arith, first, is.format.version)
 
-pub bare-v4 : (caps : ChecksumCapabilities) (frame : List ℕ) (content : Option IncomingValue) → slice_index frame 0 / 16 ≡ 4 → IsOnly (IsV4Behind caps None frame) content → IsOnly (Bare caps frame) content
+pub bare-v4 : (caps : ChecksumCapabilities) (frame : List ℕ) (content : Option IncomingValue) → slice_index frame 0 / 16 ≡ 4 →
+    IsOnly (IsV4Behind caps None frame) content → IsOnly (Bare caps frame) content
 bare-v4 caps frame None first none = none-bare-v4 caps frame first none
 bare-v4 caps frame (Some (Arp link packet)) first is = absurd is
 bare-v4 caps frame (Some (Ip4 (Some link) header piece payload)) first is = absurd (let e = is.0 in cc e)
 bare-v4 caps frame (Some (Ip4 None header piece payload)) first is = is.1
 bare-v4 caps frame (Some (Ip6 link header payload)) first is = absurd is
 
-none-bare-v6 : (caps : ChecksumCapabilities) (frame : List ℕ) → slice_index frame 0 / 16 ≡ 6 → ((v : IncomingValue) → IsV6Behind None frame v → ⊥) → (v : IncomingValue) → Bare caps frame v → ⊥
+none-bare-v6 : (caps : ChecksumCapabilities) (frame : List ℕ) → slice_index frame 0 / 16 ≡ 6 → ((v : IncomingValue) → IsV6Behind None frame v → ⊥) →
+    (v : IncomingValue) → Bare caps frame v → ⊥
 none-bare-v6 caps frame first none (Arp link packet) is = is
 none-bare-v6 caps frame first none (Ip4 (Some link) header piece payload) is = is
 none-bare-v6 caps frame first none (Ip4 None header piece payload) is = omega (arith, first, is.format.version)
 none-bare-v6 caps frame first none (Ip6 (Some link) header payload) is = is
 none-bare-v6 caps frame first none (Ip6 None header payload) is = none (Ip6 None header payload) (refl, is)
 
-pub bare-v6 : (caps : ChecksumCapabilities) (frame : List ℕ) (content : Option IncomingValue) → slice_index frame 0 / 16 ≡ 6 → IsOnly (IsV6Behind None frame) content → IsOnly (Bare caps frame) content
+pub bare-v6 : (caps : ChecksumCapabilities) (frame : List ℕ) (content : Option IncomingValue) → slice_index frame 0 / 16 ≡ 6 →
+    IsOnly (IsV6Behind None frame) content → IsOnly (Bare caps frame) content
 bare-v6 caps frame None first none = none-bare-v6 caps frame first none
 bare-v6 caps frame (Some (Arp link packet)) first is = absurd is
 bare-v6 caps frame (Some (Ip4 link header piece payload)) first is = absurd is
@@ -81,7 +89,8 @@ bare-v6 caps frame (Some (Ip6 None header payload)) first is = is.1
 
 -- ETHERNET
 
-pub refused-link : (caps : ChecksumCapabilities) (frame : List ℕ) → ((l : EthernetRepr) → Ethernet.IsEthernet frame l → ⊥) → (v : IncomingValue) → OnEthernet caps frame v → ⊥
+pub refused-link : (caps : ChecksumCapabilities) (frame : List ℕ) → ((l : EthernetRepr) → Ethernet.IsEthernet frame l → ⊥) → (v : IncomingValue) →
+    OnEthernet caps frame v → ⊥
 refused-link caps frame none (Arp link packet) is = none link is.0.format
 refused-link caps frame none (Ip4 (Some link) header piece payload) is = none link is.0.format
 refused-link caps frame none (Ip4 None header piece payload) is = is
@@ -90,12 +99,14 @@ refused-link caps frame none (Ip6 None header payload) is = is
 
 -- a frame says of one protocol that it carries it
 pub one-carried : (frame : List ℕ) (l m : EthernetRepr) (p q : EthernetProtocol) → IsFramed frame l p → IsFramed frame m q → p ≡ q
-one-carried frame l m p q one other = sym one.carried_is ∙ ap (λ (h : EthernetRepr). h.ethertype) (one-link frame l m one.format other.format) ∙ other.carried_is
+one-carried frame l m p q one other = sym one.carried_is ∙ ap (λ (h : EthernetRepr). h.ethertype) (one-link frame l m one.format other.format) ∙
+    other.carried_is
 
 moved : (frame : List ℕ) (l m : EthernetRepr) (p : EthernetProtocol) → l ≡ m → IsFramed frame m p → IsFramed frame l p
 moved frame l m p same framed = subst (λ (h : EthernetRepr). IsFramed frame h p) (sym same) framed
 
-none-framed-arp : (caps : ChecksumCapabilities) (frame : List ℕ) (link : EthernetRepr) → IsFramed frame link Ether.Arp → ((v : IncomingValue) → IsArpBehind link (Ethernet.payload_of frame) v → ⊥)
+none-framed-arp : (caps : ChecksumCapabilities) (frame : List ℕ) (link : EthernetRepr) → IsFramed frame link Ether.Arp →
+    ((v : IncomingValue) → IsArpBehind link (Ethernet.payload_of frame) v → ⊥)
     → (v : IncomingValue) → OnEthernet caps frame v → ⊥
 none-framed-arp caps frame link framed none (Arp l packet) is = none (Arp l packet) (one-link frame l link is.0.format framed.format, is.1)
 none-framed-arp caps frame link framed none (Ip4 (Some l) header piece payload) is = absurd (let e = one-carried frame link l _ _ framed is.0 in cc e)
@@ -103,13 +114,15 @@ none-framed-arp caps frame link framed none (Ip4 None header piece payload) is =
 none-framed-arp caps frame link framed none (Ip6 (Some l) header payload) is = absurd (let e = one-carried frame link l _ _ framed is.0 in cc e)
 none-framed-arp caps frame link framed none (Ip6 None header payload) is = is
 
-pub framed-arp : (caps : ChecksumCapabilities) (frame : List ℕ) (link : EthernetRepr) (content : Option IncomingValue) → IsFramed frame link Ether.Arp → IsOnly (IsArpBehind link (Ethernet.payload_of frame)) content → IsOnly (OnEthernet caps frame) content
+pub framed-arp : (caps : ChecksumCapabilities) (frame : List ℕ) (link : EthernetRepr) (content : Option IncomingValue) → IsFramed frame link Ether.Arp →
+    IsOnly (IsArpBehind link (Ethernet.payload_of frame)) content → IsOnly (OnEthernet caps frame) content
 framed-arp caps frame link None framed none = none-framed-arp caps frame link framed none
 framed-arp caps frame link (Some (Arp l packet)) framed is = (moved frame l link Ether.Arp is.0 framed, is.1)
 framed-arp caps frame link (Some (Ip4 l header piece payload)) framed is = absurd is
 framed-arp caps frame link (Some (Ip6 l header payload)) framed is = absurd is
 
-none-framed-v4 : (caps : ChecksumCapabilities) (frame : List ℕ) (link : EthernetRepr) → IsFramed frame link Ether.Ipv4 → ((v : IncomingValue) → IsV4Behind caps (Some link) (Ethernet.payload_of frame) v → ⊥)
+none-framed-v4 : (caps : ChecksumCapabilities) (frame : List ℕ) (link : EthernetRepr) → IsFramed frame link Ether.Ipv4 →
+    ((v : IncomingValue) → IsV4Behind caps (Some link) (Ethernet.payload_of frame) v → ⊥)
     → (v : IncomingValue) → OnEthernet caps frame v → ⊥
 none-framed-v4 caps frame link framed none (Arp l packet) is = absurd (let e = one-carried frame link l _ _ framed is.0 in cc e)
 none-framed-v4 caps frame link framed none (Ip4 (Some l) header piece payload) is =
@@ -118,15 +131,18 @@ none-framed-v4 caps frame link framed none (Ip4 None header piece payload) is = 
 none-framed-v4 caps frame link framed none (Ip6 (Some l) header payload) is = absurd (let e = one-carried frame link l _ _ framed is.0 in cc e)
 none-framed-v4 caps frame link framed none (Ip6 None header payload) is = is
 
-pub framed-v4 : (caps : ChecksumCapabilities) (frame : List ℕ) (link : EthernetRepr) (content : Option IncomingValue) → IsFramed frame link Ether.Ipv4 → IsOnly (IsV4Behind caps (Some link) (Ethernet.payload_of frame)) content
+pub framed-v4 : (caps : ChecksumCapabilities) (frame : List ℕ) (link : EthernetRepr) (content : Option IncomingValue) → IsFramed frame link Ether.Ipv4 →
+    IsOnly (IsV4Behind caps (Some link) (Ethernet.payload_of frame)) content
     → IsOnly (OnEthernet caps frame) content
 framed-v4 caps frame link None framed none = none-framed-v4 caps frame link framed none
 framed-v4 caps frame link (Some (Arp l packet)) framed is = absurd is
-framed-v4 caps frame link (Some (Ip4 (Some l) header piece payload)) framed is = let same : l ≡ link = let e = is.0 in cc e in (moved frame l link Ether.Ipv4 same framed, is.1)
+framed-v4 caps frame link (Some (Ip4 (Some l) header piece payload)) framed is = let same : l ≡ link = let e =
+    is.0 in cc e in (moved frame l link Ether.Ipv4 same framed, is.1)
 framed-v4 caps frame link (Some (Ip4 None header piece payload)) framed is = absurd (let e = is.0 in cc e)
 framed-v4 caps frame link (Some (Ip6 l header payload)) framed is = absurd is
 
-none-framed-v6 : (caps : ChecksumCapabilities) (frame : List ℕ) (link : EthernetRepr) → IsFramed frame link Ether.Ipv6 → ((v : IncomingValue) → IsV6Behind (Some link) (Ethernet.payload_of frame) v → ⊥)
+none-framed-v6 : (caps : ChecksumCapabilities) (frame : List ℕ) (link : EthernetRepr) → IsFramed frame link Ether.Ipv6 →
+    ((v : IncomingValue) → IsV6Behind (Some link) (Ethernet.payload_of frame) v → ⊥)
     → (v : IncomingValue) → OnEthernet caps frame v → ⊥
 none-framed-v6 caps frame link framed none (Arp l packet) is = absurd (let e = one-carried frame link l _ _ framed is.0 in cc e)
 none-framed-v6 caps frame link framed none (Ip4 (Some l) header piece payload) is = absurd (let e = one-carried frame link l _ _ framed is.0 in cc e)
@@ -135,20 +151,24 @@ none-framed-v6 caps frame link framed none (Ip6 (Some l) header payload) is =
     none (Ip6 (Some l) header payload) (ap (λ (h : EthernetRepr). Some h) (one-link frame l link is.0.format framed.format), is.1)
 none-framed-v6 caps frame link framed none (Ip6 None header payload) is = is
 
-pub framed-v6 : (caps : ChecksumCapabilities) (frame : List ℕ) (link : EthernetRepr) (content : Option IncomingValue) → IsFramed frame link Ether.Ipv6 → IsOnly (IsV6Behind (Some link) (Ethernet.payload_of frame)) content
+pub framed-v6 : (caps : ChecksumCapabilities) (frame : List ℕ) (link : EthernetRepr) (content : Option IncomingValue) → IsFramed frame link Ether.Ipv6 →
+    IsOnly (IsV6Behind (Some link) (Ethernet.payload_of frame)) content
     → IsOnly (OnEthernet caps frame) content
 framed-v6 caps frame link None framed none = none-framed-v6 caps frame link framed none
 framed-v6 caps frame link (Some (Arp l packet)) framed is = absurd is
 framed-v6 caps frame link (Some (Ip4 l header piece payload)) framed is = absurd is
-framed-v6 caps frame link (Some (Ip6 (Some l) header payload)) framed is = let same : l ≡ link = let e = is.0 in cc e in (moved frame l link Ether.Ipv6 same framed, is.1)
+framed-v6 caps frame link (Some (Ip6 (Some l) header payload)) framed is = let same : l ≡ link = let e =
+    is.0 in cc e in (moved frame l link Ether.Ipv6 same framed, is.1)
 framed-v6 caps frame link (Some (Ip6 None header payload)) framed is = absurd (let e = is.0 in cc e)
 
 -- USER DATAGRAMS
 
-pub moved-udp : (tested : Bool) (s t d e : IpAddress) (xs ys : List ℕ) (v : UdpRepr) → s ≡ t → d ≡ e → xs ≡ ys → Udp.IsUdp t e tested ys v → Udp.IsUdp s d tested xs v
+pub moved-udp : (tested : Bool) (s t d e : IpAddress) (xs ys : List ℕ) (v : UdpRepr) → s ≡ t → d ≡ e → xs ≡ ys → Udp.IsUdp t e tested ys v →
+    Udp.IsUdp s d tested xs v
 moved-udp tested s t d e xs ys v source destination bytes is = rw (source, destination, bytes) is
 
-pub refused-udp : (caps : ChecksumCapabilities) (header : IpRepr) (payload : List ℕ) → carried_in header ≡ Protocol.Udp → ((u : UdpRepr) → Udp.IsUdp (source_of header) (destination_of header) (verifies caps.udp) payload u → ⊥)
+pub refused-udp : (caps : ChecksumCapabilities) (header : IpRepr) (payload : List ℕ) → carried_in header ≡ Protocol.Udp →
+    ((u : UdpRepr) → Udp.IsUdp (source_of header) (destination_of header) (verifies caps.udp) payload u → ⊥)
     → (v : PayloadValue) → IsCarried caps header payload v → ⊥
 refused-udp caps (Ip.Ipv4 h) payload protocol none (ControlV4 message bytes) is = absurd (let e = sym protocol ∙ is.protocol in cc e)
 refused-udp caps (Ip.Ipv6 h) payload protocol none (ControlV4 message bytes) is = is

@@ -15,7 +15,8 @@ second : (a b : Bool) → (a && b) ≡ true → b ≡ true
 second true b both = both
 second false b both = absurd (cc both)
 
-connected_accepts : (ip : IpRepr) (header : TcpHeader) (o : Option (Item Socket)) → passes_in (λ s. is_connected s ip header) o ≡ true → passes_in (λ s. accepts_segment s ip header) o ≡ true
+connected_accepts : (ip : IpRepr) (header : TcpHeader) (o : Option (Item Socket)) → passes_in (λ s. is_connected s ip header) o ≡ true →
+    passes_in (λ s. accepts_segment s ip header) o ≡ true
 connected_accepts ip header None is = absurd (cc is)
 connected_accepts ip header (Some item) is = second (not (is_listener item.socket)) (accepts_segment item.socket ip header) is
 

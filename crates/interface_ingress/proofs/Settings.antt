@@ -23,7 +23,19 @@ use Rattle.interface_ingress.specs.Handed.{handed_host, message_host, names_nobo
 use Rattle.interface_ingress.specs.Kept.{HasSameSettings}
 
 same_itself : (i : InnerValue) → HasSameSettings i i
-same_itself i = record { moment = refl; hardware = refl; mtu = refl; checksums = refl; addresses = refl; any_ip = refl; routes = refl; silent = refl; ident = refl; fresh = refl }
+same_itself i = record {
+  moment = refl;
+  hardware = refl;
+  mtu = refl;
+  checksums = refl;
+  addresses = refl;
+  any_ip = refl;
+  routes = refl;
+  silent = refl;
+  ident =
+      refl;
+  fresh = refl;
+}
 
 same_then : (i j k : InnerValue) → HasSameSettings i j → HasSameSettings j k → HasSameSettings i k
 same_then i j k first second = record {
@@ -44,7 +56,20 @@ same_at i j k is same = let P : InnerValue → Type 0 = λ v. HasSameSettings i 
 
 same_renewed_by : (i : InnerValue) (link : Option EthernetRepr) (sender : IpAddress) → HasSameSettings i (renewed_by i link sender)
 same_renewed_by i None sender = same_itself i
-same_renewed_by i (Some link) sender = record { moment = refl; hardware = refl; mtu = refl; checksums = refl; addresses = refl; any_ip = refl; routes = refl; silent = refl; ident = refl; fresh = refl }
+same_renewed_by i (Some link) sender =
+    record {
+      moment = refl;
+      hardware = refl;
+      mtu = refl;
+      checksums = refl;
+      addresses = refl;
+      any_ip = refl;
+      routes = refl;
+      silent = refl;
+      ident =
+          refl;
+      fresh = refl;
+    }
 
 same_renewed : (i : InnerValue) (link : Option EthernetRepr) (ip : IpRepr) → HasSameSettings i (renewed i link ip)
 same_renewed i link ip =
@@ -54,10 +79,23 @@ same_renewed i link ip =
     ]
 
 same_drawn : (draws : Bool) (i : InnerValue) → HasSameSettings i (drawn_if draws i)
-same_drawn true i = record { moment = refl; hardware = refl; mtu = refl; checksums = refl; addresses = refl; any_ip = refl; routes = refl; silent = refl; ident = refl; fresh = refl }
+same_drawn true i = record {
+  moment = refl;
+  hardware = refl;
+  mtu = refl;
+  checksums = refl;
+  addresses = refl;
+  any_ip = refl;
+  routes = refl;
+  silent =
+      refl;
+  ident = refl;
+  fresh = refl;
+}
 same_drawn false i = same_itself i
 
-same_segment : (i : InnerValue) (places : Places) (ip : IpRepr) (header : TcpHeader) (bytes : List ℕ) → HasSameSettings i (segment_host i places ip header bytes)
+same_segment : (i : InnerValue) (places : Places) (ip : IpRepr) (header : TcpHeader) (bytes : List ℕ) →
+    HasSameSettings i (segment_host i places ip header bytes)
 same_segment i places ip header bytes =
     elim (names_nobody i ip) as (λ b. HasSameSettings i (if b then i else drawn_if (segment_draws (context_of i) ip header bytes places) i)) [
       | true ↦ same_itself i
@@ -67,7 +105,19 @@ same_segment i places ip header bytes =
 same_heard : (i : InnerValue) (header : Ipv6Repr) (message : NeighborMessage) → HasSameSettings i (neighbor_heard i header message).inner
 same_heard i header message =
     same_at i (with_entries_of (neighbor_heard i header message).inner i) (neighbor_heard i header message).inner (entries-alone i header message)
-    (record { moment = refl; hardware = refl; mtu = refl; checksums = refl; addresses = refl; any_ip = refl; routes = refl; silent = refl; ident = refl; fresh = refl })
+    (record {
+      moment = refl;
+      hardware = refl;
+      mtu = refl;
+      checksums = refl;
+      addresses = refl;
+      any_ip = refl;
+      routes = refl;
+      silent = refl;
+      ident =
+          refl;
+      fresh = refl;
+    })
 
 same_message : (i : InnerValue) (header : Ipv6Repr) (message : Icmpv6.MessageValue) → HasSameSettings i (message_host i header message)
 same_message i header (Icmpv6.DstUnreachable reason about) = same_itself i
@@ -87,22 +137,38 @@ same_handed i places ip (Some (Datagram udp bytes)) = same_itself i
 same_handed i places ip (Some (Segment header bytes)) = same_segment i places ip header bytes
 same_handed i places ip None = same_itself i
 
-same_in : (i : InnerValue) (places : Places) (link : Option EthernetRepr) (ip : IpRepr) (payload : List ℕ) (taken : Bool) (a : Arrived) → Hands (renewed i link ip) places ip payload taken a → HasSameSettings i a.inner
+same_in : (i : InnerValue) (places : Places) (link : Option EthernetRepr) (ip : IpRepr) (payload : List ℕ) (taken : Bool) (a : Arrived) →
+    Hands (renewed i link ip) places ip payload taken a → HasSameSettings i a.inner
 same_in i places link ip payload taken a (carried, is, handed) =
     same_at i (handed_host (renewed i link ip) places ip carried) a.inner handed.inner
-    (same_then i (renewed i link ip) (handed_host (renewed i link ip) places ip carried) (same_renewed i link ip) (same_handed (renewed i link ip) places ip carried))
+    (same_then i (renewed i link ip) (handed_host (renewed i link ip) places ip carried) (same_renewed i link ip)
+    (same_handed (renewed i link ip) places ip carried))
 
-same_v4 : (ours : Bool) (i : InnerValue) (places : Places) (link : Option EthernetRepr) (ip : IpRepr) (payload : List ℕ) (a : Arrived) → ArrivesV4 ours i places link ip payload a → HasSameSettings i a.inner
+same_v4 : (ours : Bool) (i : InnerValue) (places : Places) (link : Option EthernetRepr) (ip : IpRepr) (payload : List ℕ) (a : Arrived) →
+    ArrivesV4 ours i places link ip payload a → HasSameSettings i a.inner
 same_v4 true i places link ip payload a h = same_in i (packet_delivered ip payload places) link ip payload (is_taken_raw ip places) a h
 same_v4 false i places link ip payload a h = same_at i i a.inner h.inner (same_itself i)
 
-same_v6 : (ours : Bool) (i : InnerValue) (places : Places) (link : Option EthernetRepr) (ip : IpRepr) (payload : List ℕ) (a : Arrived) → ArrivesV6 ours i places link ip payload a → HasSameSettings i a.inner
+same_v6 : (ours : Bool) (i : InnerValue) (places : Places) (link : Option EthernetRepr) (ip : IpRepr) (payload : List ℕ) (a : Arrived) →
+    ArrivesV6 ours i places link ip payload a → HasSameSettings i a.inner
 same_v6 true i places link ip payload a h = same_in i (packet_delivered ip payload places) link ip payload (is_taken_raw ip places) a h
 same_v6 false i places link ip payload a h = same_at i i a.inner h.inner (same_itself i)
 
 same_learned : (i : InnerValue) (packet : ArpRepr) → HasSameSettings i (learned i packet)
 same_learned i (Arps.EthernetIpv4 operation source_hardware source target_hardware target) =
-    record { moment = refl; hardware = refl; mtu = refl; checksums = refl; addresses = refl; any_ip = refl; routes = refl; silent = refl; ident = refl; fresh = refl }
+    record {
+      moment = refl;
+      hardware = refl;
+      mtu = refl;
+      checksums = refl;
+      addresses = refl;
+      any_ip = refl;
+      routes = refl;
+      silent = refl;
+      ident =
+          refl;
+      fresh = refl;
+    }
 
 same_arp : (i : InnerValue) (packet : ArpRepr) → HasSameSettings i (arp_arrived i packet)
 same_arp i packet =

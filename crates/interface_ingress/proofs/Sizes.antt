@@ -34,7 +34,8 @@ data_of_v6 payload bytes (Icmpv6.EchoRequest ident seq_no) is = omega (arith, ap
 data_of_v6 payload bytes (Icmpv6.EchoReply ident seq_no) is = omega (arith, ap length is, length-drop 8 payload)
 data_of_v6 payload bytes (Icmpv6.Ndisc message) is = omega (arith, ap length is)
 
-pub fits_back : (caps : ChecksumCapabilities) (ip : IpRepr) (payload : List ℕ) (carried : Option PayloadValue) → IsCarriedContent caps ip payload carried → Fits ip → length payload ≡ payload_len_of ip → FitsBack carried
+pub fits_back : (caps : ChecksumCapabilities) (ip : IpRepr) (payload : List ℕ) (carried : Option PayloadValue) → IsCarriedContent caps ip payload carried →
+    Fits ip → length payload ≡ payload_len_of ip → FitsBack carried
 fits_back caps (Ip.Ipv4 header) payload (Some (ControlV4 m bytes)) is fits len =
     let short = data_of_says payload bytes m is.format.says in omega (arith, is.format.whole, fits, len)
 fits_back caps (Ip.Ipv6 header) payload (Some (ControlV4 m bytes)) is fits len = absurd is
@@ -47,7 +48,8 @@ fits_back caps ip payload (Some (Segment header bytes)) is fits len = tt
 fits_back caps ip payload None is fits len = tt
 
 -- a header that names neither UDP nor TCP has no datagram and no segment behind it
-pub only_control : (caps : ChecksumCapabilities) (ip : IpRepr) (payload : List ℕ) (carried : Option PayloadValue) → IsCarriedContent caps ip payload carried → carried_in ip ≢ Protocol.Udp → carried_in ip ≢ Protocol.Tcp → IsControl carried
+pub only_control : (caps : ChecksumCapabilities) (ip : IpRepr) (payload : List ℕ) (carried : Option PayloadValue) → IsCarriedContent caps ip payload carried →
+    carried_in ip ≢ Protocol.Udp → carried_in ip ≢ Protocol.Tcp → IsControl carried
 only_control caps ip payload (Some (ControlV4 m bytes)) is udp tcp = tt
 only_control caps ip payload (Some (ControlV6 m bytes)) is udp tcp = tt
 only_control caps ip payload (Some (Bytes bytes)) is udp tcp = tt

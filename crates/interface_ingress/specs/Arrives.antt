@@ -59,7 +59,8 @@ IfCanGo reply = IfSome reply CanGo
 -- PAYLOADS
 
 -- the host, the sockets and the answer after a payload
-pub record IsHanded (i : InnerValue) (places : Places) (ip : IpRepr) (payload : List ℕ) (taken : Bool) (carried : Option PayloadValue) (a : Arrived) : Type 0 where
+pub record IsHanded (i : InnerValue) (places : Places) (ip : IpRepr) (payload : List ℕ) (taken : Bool) (carried : Option PayloadValue)
+    (a : Arrived) : Type 0 where
   pub inner : a.inner ≡ handed_host i places ip carried
   pub places_are : a.places ≡ handed_places i places ip carried
   pub reply : a.reply ≡ answered (handed_reply i places ip payload taken carried)

@@ -18,7 +18,8 @@ use Rattle.socket_base.specs.Packet.{PacketValue, PayloadValue, ControlV4, Contr
 use Rattle.interface_ingress.specs.Heard.{neighbor_heard}
 use Rattle.interface_ingress.specs.Replies.{echo_v4, echo_v6, port_unreachable, protocol_unreachable}
 use Rattle.interface_tables.specs.Inner.{InnerValue, context_of, is_local_broadcast}
-use Rattle.interface_ingress.specs.Delivered.{Places, icmpv4_delivered, icmpv6_delivered, datagram_place, datagram_delivered, segment_answer, segment_delivered, segment_draws, drawn_if}
+use Rattle.interface_ingress.specs.Delivered.{Places, icmpv4_delivered, icmpv6_delivered, datagram_place, datagram_delivered, segment_answer, segment_delivered}
+use Rattle.interface_ingress.specs.Delivered.{segment_draws, drawn_if}
 
 -- CONTROL MESSAGES
 

@@ -1,5 +1,6 @@
 -- A frame's content, of which a piece of an IPv4 datagram goes to a slot until the datagram is whole (RFC 791, section 3.2).
-use Rattle.std.specs.Prelude.{ℕ, ◌==◌, ◌&&◌, ◌||◌, not, ◌+◌, ◌-◌, ◌^◌, nat_le, nat_lt, min, Bool, true, false, if◌then◌else◌, ℤ, pos, ◌+ℤ◌, List, length, Option, None, Some, is_some}
+use Rattle.std.specs.Prelude.{ℕ, ◌==◌, ◌&&◌, ◌||◌, not, ◌+◌, ◌-◌, ◌^◌, nat_le, nat_lt, min, Bool, true, false, if◌then◌else◌, ℤ, pos, ◌+ℤ◌, List, length}
+use Rattle.std.specs.Prelude.{Option, None, Some, is_some}
 use Rattle.ip_address.specs.contracts.ipv4.Ipv4FragKeyPartialEq.TheImpl as Keys
 use Rattle.net_base.specs.Time.{last_moment}
 use Rattle.ip_wire.specs.AddressTests.{is_ethernet_broadcast, is_ethernet_multicast, is_same_hardware, is_unicast_v6, is_unspecified_v4, is_unspecified_v6}

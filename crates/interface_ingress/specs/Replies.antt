@@ -44,7 +44,16 @@ source_of_reply i header message =
 abbrev pub sent_v4 : Option Ipv4Address → Ipv4Address → PayloadValue → Option PacketValue
 sent_v4 None to message = None
 sent_v4 (Some from) to message =
-    Some (packet_of (Ip.Ipv4 (record { src_addr = from; dst_addr = to; next_header = Protocol.Icmp; payload_len = payload_len message; hop_limit = 64; ident = 0; dont_frag = false })) message)
+    Some (packet_of (Ip.Ipv4 (record {
+      src_addr = from;
+      dst_addr = to;
+      next_header = Protocol.Icmp;
+      payload_len = payload_len message;
+      hop_limit = 64;
+      ident =
+          0;
+      dont_frag = false;
+    })) message)
 
 -- the message that answers a packet with this header
 abbrev pub reply_v4 : InnerValue → Ipv4Repr → Icmpv4Header → List ℕ → Option PacketValue

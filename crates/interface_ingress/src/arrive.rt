@@ -63,7 +63,8 @@ fn accept<'a>(
     requires len { length payload.now ≡ payload_len_of header.now }
     requires short { length payload.now < 2 ^ 16 }
     requires none { reply.old ≡ None }
-    ensures hands { Hands (renewed inner.old link.now header.now) places.old header.now payload.now is_taken (arrived inner.new places.new (reply_of reply.new)) }
+    ensures hands { Hands (renewed inner.old link.now header.now) places.old header.now payload.now is_taken
+        (arrived inner.new places.new (reply_of reply.new)) }
     ensures sendable { IfCanGo (reply_of reply.new) }
 {
     renew(inner, link, header);
@@ -82,7 +83,8 @@ fn arrive_ipv4<'a>(
     requires fits { Ipv4.Fits header.now }
     requires len { length payload.now ≡ header.now.payload_len }
     requires none { reply.old ≡ None }
-    ensures arrives { ArrivesV4 (is_for_us inner.old (Address.Ipv4 header.now.dst_addr)) inner.old places.old link.now (Ip.Ipv4 header.now) payload.now (arrived inner.new places.new (reply_of reply.new)) }
+    ensures arrives { ArrivesV4 (is_for_us inner.old (Address.Ipv4 header.now.dst_addr)) inner.old places.old link.now (Ip.Ipv4 header.now) payload.now
+        (arrived inner.new places.new (reply_of reply.new)) }
     ensures sendable { IfCanGo (reply_of reply.new) }
 {
     let ip = IpRepr::Ipv4(*header);
@@ -104,7 +106,8 @@ fn arrive_ipv6<'a>(
     requires fits { Ipv6.Fits header.now }
     requires len { length payload.now ≡ header.now.payload_len }
     requires none { reply.old ≡ None }
-    ensures arrives { ArrivesV6 (is_for_us inner.old (Address.Ipv6 header.now.dst_addr)) inner.old places.old link.now (Ip.Ipv6 header.now) payload.now (arrived inner.new places.new (reply_of reply.new)) }
+    ensures arrives { ArrivesV6 (is_for_us inner.old (Address.Ipv6 header.now.dst_addr)) inner.old places.old link.now (Ip.Ipv6 header.now) payload.now
+        (arrived inner.new places.new (reply_of reply.new)) }
     ensures sendable { IfCanGo (reply_of reply.new) }
 {
     if !inner.is_for_us(&IpAddress::Ipv6(header.dst_addr)) {
@@ -172,7 +175,8 @@ pub fn bring<'a, const N: usize>(
 )
     requires measured { AreMeasured (content_of (option_copied content)) }
     requires none { reply.old ≡ None }
-    ensures brings { Brings inner.old places.old (whole_of slots.now place (content_of (option_copied content.entry))) (arrived inner.new places.new (reply_of reply.new)) }
+    ensures brings { Brings inner.old places.old (whole_of slots.now place (content_of (option_copied content.entry)))
+        (arrived inner.new places.new (reply_of reply.new)) }
     ensures sendable { IfCanGo (reply_of reply.new) }
 {
     match content {

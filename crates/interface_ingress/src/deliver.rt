@@ -8,7 +8,10 @@ ghost use Rattle.ip_wire.specs.Tcp as Tcp;
 ghost use Rattle.sockets.specs.Socket.{accepts_segment};
 ghost use Rattle.interface_egress.specs.Inner.{context_of};
 ghost use Rattle.interface_ingress.specs.Arrives.{IfCanGo, answered, reply_of};
-ghost use Rattle.interface_ingress.specs.Delivered.{is_taken_raw, packet_delivered, icmpv4_delivered, icmpv6_delivered, datagram_place, datagram_delivered, with_change, with_segment, answer_of, answer_in, answer_at, draws_of, drawn_if, passes, passes_at, changed_at, first_place, is_connected, segment_place, segment_delivered, segment_answer, segment_draws, reset_for};
+ghost use Rattle.interface_ingress.specs.Delivered.{is_taken_raw, packet_delivered, icmpv4_delivered, icmpv6_delivered, datagram_place, datagram_delivered};
+ghost use Rattle.interface_ingress.specs.Delivered.{with_change, with_segment, answer_of, answer_in, answer_at, draws_of, drawn_if, passes, passes_at};
+ghost use Rattle.interface_ingress.specs.Delivered.{changed_at, first_place, is_connected, segment_place, segment_delivered, segment_answer, segment_draws};
+ghost use Rattle.interface_ingress.specs.Delivered.{reset_for};
 
 use crate::places::{Arrival, first_place, give_all, give_at, is_for_any};
 use crate::reply::Reply;
@@ -116,7 +119,8 @@ impl<'a> Arrival for Icmpv6Arrival<'a> {
     ghost use Rattle.sockets.specs.Socket.{accepts_icmpv6};
     ghost use Rattle.interface_ingress.specs.Delivered.{with_icmpv6};
 
-    ghost accepted = { λ a s. accepts_icmpv6 s (Address.Ipv6 a.header.now.dst_addr) (Icmpv6.value_of (Icmpv6.header_of a.message.now)) (Icmpv6.carried_by a.message.now) };
+    ghost accepted = { λ a s. accepts_icmpv6 s (Address.Ipv6 a.header.now.dst_addr) (Icmpv6.value_of (Icmpv6.header_of a.message.now))
+        (Icmpv6.carried_by a.message.now) };
 
     ghost taken = { λ a. with_icmpv6 a.header.now (Icmpv6.value_of (Icmpv6.header_of a.message.now)) (Icmpv6.carried_by a.message.now) };
 
@@ -298,7 +302,8 @@ fn process_segment<'a>(
     reply: &mut Option<Reply<'a>>,
 )
     requires { reply.old ≡ None }
-    ensures answer { reply_of reply.new ≡ answered (answer_of (context_of inner.old) header.now (Tcp.header_of segment.now) segment.now.payload.now socket.old) }
+    ensures answer { reply_of reply.new ≡
+        answered (answer_of (context_of inner.old) header.now (Tcp.header_of segment.now) segment.now.payload.now socket.old) }
     ensures sendable { IfCanGo (reply_of reply.new) }
     ensures socket { socket.new ≡ with_segment (context_of inner.old) header.now (Tcp.header_of segment.now) segment.now.payload.now socket.old }
     ensures host { inner.new ≡ drawn_if (draws_of (context_of inner.old) header.now (Tcp.header_of segment.now) segment.now.payload.now socket.old) inner.old }
@@ -319,10 +324,12 @@ fn process_in<'a>(
     reply: &mut Option<Reply<'a>>,
 )
     requires { reply.old ≡ None }
-    ensures answer { reply_of reply.new ≡ answered (answer_in (answer_of (context_of inner.old) header.now (Tcp.header_of segment.now) segment.now.payload.now) place.old.inner) }
+    ensures answer { reply_of reply.new ≡
+        answered (answer_in (answer_of (context_of inner.old) header.now (Tcp.header_of segment.now) segment.now.payload.now) place.old.inner) }
     ensures sendable { IfCanGo (reply_of reply.new) }
     ensures place { place.new ≡ with_change (with_segment (context_of inner.old) header.now (Tcp.header_of segment.now) segment.now.payload.now) place.old }
-    ensures host { inner.new ≡ drawn_if (passes (draws_of (context_of inner.old) header.now (Tcp.header_of segment.now) segment.now.payload.now) place.old) inner.old }
+    ensures host { inner.new ≡
+        drawn_if (passes (draws_of (context_of inner.old) header.now (Tcp.header_of segment.now) segment.now.payload.now) place.old) inner.old }
 {
     if let Some(item) = &mut place.inner {
         process_segment(inner, &mut item.socket, header, segment, reply);
@@ -341,10 +348,13 @@ fn process_at<'a>(
 )
     requires in_range { at < length places.old }
     requires none { reply.old ≡ None }
-    ensures answer { reply_of reply.new ≡ answered (answer_at (answer_of (context_of inner.old) header.now (Tcp.header_of segment.now) segment.now.payload.now) (Some at) places.old) }
+    ensures answer { reply_of reply.new ≡
+        answered (answer_at (answer_of (context_of inner.old) header.now (Tcp.header_of segment.now) segment.now.payload.now) (Some at) places.old) }
     ensures sendable { IfCanGo (reply_of reply.new) }
-    ensures places { places.new ≡ changed_at (with_segment (context_of inner.old) header.now (Tcp.header_of segment.now) segment.now.payload.now) (Some at) places.old }
-    ensures host { inner.new ≡ drawn_if (passes_at (draws_of (context_of inner.old) header.now (Tcp.header_of segment.now) segment.now.payload.now) (Some at) places.old) inner.old }
+    ensures places { places.new ≡
+        changed_at (with_segment (context_of inner.old) header.now (Tcp.header_of segment.now) segment.now.payload.now) (Some at) places.old }
+    ensures host { inner.new ≡
+        drawn_if (passes_at (draws_of (context_of inner.old) header.now (Tcp.header_of segment.now) segment.now.payload.now) (Some at) places.old) inner.old }
 {
     process_in(inner, &mut places[at], header, segment, reply);
 }
@@ -373,10 +383,12 @@ pub fn deliver_segment<'a>(
     reply: &mut Option<Reply<'a>>,
 )
     requires { reply.old ≡ None }
-    ensures answer { reply_of reply.new ≡ answered (segment_answer (context_of inner.old) header.now (Tcp.header_of segment.now) segment.now.payload.now is_taken places.old) }
+    ensures answer { reply_of reply.new ≡
+        answered (segment_answer (context_of inner.old) header.now (Tcp.header_of segment.now) segment.now.payload.now is_taken places.old) }
     ensures sendable { IfCanGo (reply_of reply.new) }
     ensures places { places.new ≡ segment_delivered (context_of inner.old) header.now (Tcp.header_of segment.now) segment.now.payload.now places.old }
-    ensures host { inner.new ≡ drawn_if (segment_draws (context_of inner.old) header.now (Tcp.header_of segment.now) segment.now.payload.now places.old) inner.old }
+    ensures host { inner.new ≡
+        drawn_if (segment_draws (context_of inner.old) header.now (Tcp.header_of segment.now) segment.now.payload.now places.old) inner.old }
 {
     match segment_place(inner, places, header, segment) {
         Some(at) => process_at(inner, places, at, header, segment, reply),

@@ -45,14 +45,17 @@ pub fn measured()
 /// Law: a frame that was sent is read as what was sent in it, in its normal form and whatever
 /// padding follows, of which no byte is in the payload. A checksum that the receiver tests has to be written.
 pub fn frames_arrive()
-    ensures packet { (hardware : HardwareAddress) (sender receiver : ChecksumCapabilities) (link : Option EthernetRepr) (header : IpRepr) (payload padding : List ℕ)
+    ensures packet { (hardware : HardwareAddress) (sender receiver : ChecksumCapabilities) (link : Option EthernetRepr) (header : IpRepr)
+        (payload padding : List ℕ)
         → CanFrame hardware link (ether_for header)
         → Ips.Fits header
         → Ips.IsValue header
         → Ips.payload_len_of header ≡ length payload
         → AreSealed sender receiver
-        → IsContent hardware receiver (framed link (Ips.written (computes sender.ipv4) header ++ payload) ++ padding) (Some (uncut link (Ips.normal header) payload)) }
-    ensures piece { (hardware : HardwareAddress) (sender receiver : ChecksumCapabilities) (link : Option EthernetRepr) (header : Ipv4Repr) (piece : Ipv4Piece) (payload padding : List ℕ)
+        → IsContent hardware receiver (framed link (Ips.written (computes sender.ipv4) header ++ payload) ++
+        padding) (Some (uncut link (Ips.normal header) payload)) }
+    ensures piece { (hardware : HardwareAddress) (sender receiver : ChecksumCapabilities) (link : Option EthernetRepr) (header : Ipv4Repr) (piece : Ipv4Piece)
+        (payload padding : List ℕ)
         → CanFrame hardware link Ether.Ipv4
         → Ipv4.Fits header
         → Ipv4.IsValue header
@@ -60,7 +63,8 @@ pub fn frames_arrive()
         → piece.offset < 2 ^ 16
         → piece.offset % 8 ≡ 0
         → AreSealed sender receiver
-        → IsContent hardware receiver (framed link (Ipv4.written_piece (computes sender.ipv4) header piece.offset piece.more ++ payload) ++ padding) (Some (Ip4 link (Ipv4.normal header) piece payload)) }
+        → IsContent hardware receiver (framed link (Ipv4.written_piece (computes sender.ipv4) header piece.offset piece.more ++ payload) ++
+        padding) (Some (Ip4 link (Ipv4.normal header) piece payload)) }
     ensures arp { (hardware : HardwareAddress) (receiver : ChecksumCapabilities) (link : EthernetRepr) (packet : ArpRepr) (padding : List ℕ)
         → CanFrame hardware (Some link) Ether.Arp
         → Arps.IsValue packet

@@ -10,7 +10,9 @@ ghost use Rattle.interface_ingress.specs.Carried.{carried_of};
 ghost use Rattle.interface_ingress.specs.Read.{IsControl, datagram_of, segment_of};
 ghost use Rattle.interface_egress.specs.Inner.{context_of};
 ghost use Rattle.interface_ingress.specs.Delivered.{datagram_delivered};
-ghost use Rattle.interface_ingress.specs.Handed.{control_v4_places, control_v4_reply, message_host, message_reply, control_v6_host, control_v6_places, control_v6_reply, is_for_many, names_nobody, datagram_reply, segment_host, segment_places, segment_reply, is_known, unread_reply, handed_host, handed_places, handed_reply, FitsBack};
+ghost use Rattle.interface_ingress.specs.Handed.{control_v4_places, control_v4_reply, message_host, message_reply, control_v6_host, control_v6_places};
+ghost use Rattle.interface_ingress.specs.Handed.{control_v6_reply, is_for_many, names_nobody, datagram_reply, segment_host, segment_places, segment_reply};
+ghost use Rattle.interface_ingress.specs.Handed.{is_known, unread_reply, handed_host, handed_places, handed_reply, FitsBack};
 ghost use Rattle.interface_ingress.specs.Arrives.{Hands, IfCanGo, answered, arrived, reply_of};
 
 use crate::carried::{ReadDatagram, read_payload, read_tcp, read_udp};
@@ -70,7 +72,8 @@ fn hand_icmpv6<'a>(
     requires { 8 + length (Icmpv6.carried_by message.now) < 2 ^ 16 }
     ensures host { inner.new ≡ control_v6_host inner.old header.now (Icmpv6.value_of (Icmpv6.header_of message.now)) }
     ensures places { places.new ≡ control_v6_places header.now (Icmpv6.value_of (Icmpv6.header_of message.now)) (Icmpv6.carried_by message.now) places.old }
-    ensures reply { option_value result ≡ control_v6_reply inner.old header.now (Icmpv6.value_of (Icmpv6.header_of message.now)) (Icmpv6.carried_by message.now) }
+    ensures reply { option_value result ≡
+        control_v6_reply inner.old header.now (Icmpv6.value_of (Icmpv6.header_of message.now)) (Icmpv6.carried_by message.now) }
     ensures sendable { IfSome (option_value result) IsSendable }
 {
     let IpRepr::Ipv6(header) = header else {

@@ -3,7 +3,8 @@ ghost use Rattle.std.specs.Prelude.{◌≡◌, IsTrue, IfSome};
 ghost use Rattle.control_wire.specs.Ndisc.{neighbor_message};
 ghost use Rattle.control_wire.specs.NdiscOption.{link_bytes};
 ghost use Rattle.sockets.specs.Packet.{packet_value, option_value, IsSendable};
-ghost use Rattle.interface_ingress.specs.Heard.{neighbor_heard, is_one_station, is_target, is_sender_of, counts, learned, replaces, advertised, is_asked, told_at, flags_for, advertisement};
+ghost use Rattle.interface_ingress.specs.Heard.{neighbor_heard, is_one_station, is_target, is_sender_of, counts, learned, replaces, advertised, is_asked};
+ghost use Rattle.interface_ingress.specs.Heard.{told_at, flags_for, advertisement};
 
 use control_wire::{Icmpv6Repr, NdiscNeighborFlags, NdiscRepr};
 use interface_egress::InterfaceInner;

@@ -6,7 +6,8 @@ ghost use Rattle.ip_wire.specs.Ip.{Fits};
 ghost use Rattle.ip_wire.specs.Ipv4 as Ipv4;
 ghost use Rattle.ip_wire.specs.Ipv6 as Ipv6;
 ghost use Rattle.sockets.specs.Packet.{packet_value, option_value, IsSendable};
-ghost use Rattle.interface_ingress.specs.Replies.{is_one_host, is_echo_reply, source_of_reply, reply_v4, source_of_v6_reply, reply_v6, echo_v4, echo_v6, is_between_hosts, error_v4, error_v6, port_unreachable, protocol_unreachable};
+ghost use Rattle.interface_ingress.specs.Replies.{is_one_host, is_echo_reply, source_of_reply, reply_v4, source_of_v6_reply, reply_v6, echo_v4, echo_v6};
+ghost use Rattle.interface_ingress.specs.Replies.{is_between_hosts, error_v4, error_v6, port_unreachable, protocol_unreachable};
 
 use control_wire::{
     Icmpv4DstUnreachable, Icmpv4Repr, Icmpv6DstUnreachable, Icmpv6ParamProblem, Icmpv6Repr,

@@ -5,7 +5,8 @@ ghost use Rattle.net_base.specs.Time.{IsMoment};
 ghost use Rattle.ip_wire.specs.AddressTests.{is_same_hardware};
 ghost use Rattle.ip_wire.specs.HardwareAddress.TheVariants as Hardware;
 ghost use Rattle.interface_ingress.specs.Incoming.{AreMeasured, content_of, incoming_value};
-ghost use Rattle.interface_ingress.specs.Reassembled.{is_heard, is_sender, is_control_v6, is_probe, is_sender_v6, is_astray, is_taken_in, taken_in, is_piece, is_within, given_up_at, place_of, place_in, with_piece, kept, bytes_at, rebuilt, released};
+ghost use Rattle.interface_ingress.specs.Reassembled.{is_heard, is_sender, is_control_v6, is_probe, is_sender_v6, is_astray, is_taken_in, taken_in, is_piece};
+ghost use Rattle.interface_ingress.specs.Reassembled.{is_within, given_up_at, place_of, place_in, with_piece, kept, bytes_at, rebuilt, released};
 
 use crate::icmp_reply::is_one_host;
 use crate::incoming::Incoming;

@@ -12,7 +12,10 @@ use Rattle.interface_tables.specs.Best.{is_unbeaten, first_best, place_of_first_
 module _ {X : Type 0} where
   place_of_first_best-by : (beats : X → X → Bool) (xs : List X) (b : ℕ) (d : X) → IsFirstBest beats xs (length xs) b → place_of_first_best beats xs ≡ b
   place_of_first_best-by beats xs b d best =
-      position_or_len_is (is_unbeaten beats xs) xs b d (omega (arith, best.0)) (λ k before. ap not (list_any_at (λ y. beats y (get_or xs k d)) xs b d best.0 (best.2 k d before))) (λ _. ap not (list_any_none (λ y. beats y (get_or xs b d)) xs (All-from_get_or (λ y. beats y (get_or xs b d) ≡ false) xs d (λ k inside. best.1 k d inside))))
+      position_or_len_is (is_unbeaten beats xs) xs b d (omega (arith, best.0))
+      (λ k before. ap not (list_any_at (λ y. beats y (get_or xs k d)) xs b d best.0 (best.2 k d before)))
+      (λ _. ap not (list_any_none (λ y. beats y (get_or xs b d)) xs
+      (All-from_get_or (λ y. beats y (get_or xs b d) ≡ false) xs d (λ k inside. best.1 k d inside))))
 
   -- none beats the one at b, and it beats each before it
   pub place_of_first_best-is : (beats : X → X → Bool) (xs : List X) (b : ℕ) → IsFirstBest beats xs (length xs) b → place_of_first_best beats xs ≡ b
@@ -23,10 +26,12 @@ module _ {X : Type 0} where
 module _ {X Y : Type 0} (choose : X → Option Y) (beats : Y → Y → Bool) where
   from_one : (a : Y) (xs : List X) → fold (λ best x. better_of beats best (choose x)) (Some a) xs ≡ Some (best_of beats a (filter_map choose xs))
   from_one a [] = refl
-  from_one a (x ∷ xs) = elim (choose x) as (λ o. fold (λ best x. better_of beats best (choose x)) (better_of beats (Some a) o) xs ≡ Some (best_of beats a (cons_option o (filter_map choose xs)))) [
-    | None ↦ from_one a xs
-    | Some y ↦ elim (beats y a) as (λ b. fold (λ best x. better_of beats best (choose x)) (cond b (Some y) (Some a)) xs ≡ Some (best_of beats (cond b y a) (filter_map choose xs))) [ true ↦ from_one y xs | false ↦ from_one a xs ]
-  ]
+  from_one a (x ∷ xs) = elim (choose x) as (λ o. fold (λ best x. better_of beats best (choose x)) (better_of beats (Some a) o) xs ≡
+      Some (best_of beats a (cons_option o (filter_map choose xs)))) [
+        | None ↦ from_one a xs
+        | Some y ↦ elim (beats y a) as (λ b. fold (λ best x. better_of beats best (choose x)) (cond b (Some y) (Some a)) xs ≡
+            Some (best_of beats (cond b y a) (filter_map choose xs))) [ true ↦ from_one y xs | false ↦ from_one a xs ]
+      ]
 
   best_in : List Y → Option Y
   best_in [] = None
@@ -35,10 +40,11 @@ module _ {X Y : Type 0} (choose : X → Option Y) (beats : Y → Y → Bool) whe
   from_none : (xs : List X) → fold (λ best x. better_of beats best (choose x)) None xs ≡ best_in (filter_map choose xs)
   unfolding best_in
   from_none [] = refl
-  from_none (x ∷ xs) = elim (choose x) as (λ o. fold (λ best x. better_of beats best (choose x)) (better_of beats None o) xs ≡ best_in (cons_option o (filter_map choose xs))) [
-    | None ↦ from_none xs
-    | Some y ↦ from_one y xs
-  ]
+  from_none (x ∷ xs) = elim (choose x) as (λ o. fold (λ best x. better_of beats best (choose x)) (better_of beats None o) xs ≡
+      best_in (cons_option o (filter_map choose xs))) [
+        | None ↦ from_none xs
+        | Some y ↦ from_one y xs
+      ]
 
   in_order : IsStrictWeakOrder beats → (ys : List Y) → best_in ys ≡ first_best beats ys
   unfolding best_in
@@ -48,5 +54,6 @@ module _ {X Y : Type 0} (choose : X → Option Y) (beats : Y → Y → Bool) whe
       let place : place_of_first_best beats (y ∷ ys) ≡ best.0 = place_of_first_best-is beats (y ∷ ys) best.0 best.1 in
       sym (find_at (is_unbeaten beats (y ∷ ys)) (y ∷ ys) ∙ ap (slice_get (y ∷ ys)) place ∙ slice_get-get_or (y ∷ ys) best.0 y best.1.0 ∙ ap Some best.2)
 
-  pub fold_better_of : IsStrictWeakOrder beats → (xs : List X) → fold (λ best x. better_of beats best (choose x)) None xs ≡ first_best beats (filter_map choose xs)
+  pub fold_better_of : IsStrictWeakOrder beats → (xs : List X) →
+      fold (λ best x. better_of beats best (choose x)) None xs ≡ first_best beats (filter_map choose xs)
   fold_better_of o xs = from_none xs ∙ in_order o (filter_map choose xs)

@@ -22,8 +22,11 @@ module _ {X : Type 0} where
 
 pub IsStrictWeakOrder-better_for : (destination : Ipv6Address) → IsStrictWeakOrder (better_for destination)
 IsStrictWeakOrder-better_for destination =
-    IsStrictWeakOrder-by_least (differs destination) _ (IsStrictWeakOrder-by_least (falls_short destination) _ (IsStrictWeakOrder-by_least (distance destination) _ (IsStrictWeakOrder-by_least (uncommon destination) _ IsStrictWeakOrder-no_better)))
+    IsStrictWeakOrder-by_least (differs destination) _
+    (IsStrictWeakOrder-by_least (falls_short destination) _
+    (IsStrictWeakOrder-by_least (distance destination) _ (IsStrictWeakOrder-by_least (uncommon destination) _ IsStrictWeakOrder-no_better)))
 
 pub IsStrictWeakOrder-is_longer : IsStrictWeakOrder is_longer
 IsStrictWeakOrder-is_longer =
-    IsStrictWeakOrder-flip (λ (x y : Route). nat_lt (block_prefix_len x.cidr) (block_prefix_len y.cidr)) (IsStrictWeakOrder-by_number (λ (r : Route). block_prefix_len r.cidr))
+    IsStrictWeakOrder-flip (λ (x y : Route). nat_lt (block_prefix_len x.cidr) (block_prefix_len y.cidr))
+    (IsStrictWeakOrder-by_number (λ (r : Route). block_prefix_len r.cidr))

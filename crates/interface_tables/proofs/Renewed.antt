@@ -14,10 +14,16 @@ use Rattle.interface_tables.specs.Neighbor.{CacheValue, place_of, renewed, renew
 pub refill-same : {X : Type 0} (xs ws : List X) → length ws ≡ length xs → refill (length xs) xs ws ≡ ws
 refill-same xs ws same = rw (drop_all (length ws) xs (omega (arith, same)), append-nil) (take_all (length xs) ws (omega (arith, same)))
 
-pub renewed-at : (v : CacheValue) (address : IpAddress) (hardware : HardwareAddress) (moment : ℤ) (at : ℕ) (entry : Neighbor) → place_of v.entries address ≡ Some at → slice_get v.entries at ≡ Some entry
-    → renewed v address hardware moment ≡ record v { entries = slice_set v.entries at (renewed_entry entry hardware moment); searches = if is_same_hardware entry.hardware_addr hardware then ended v.searches address else v.searches }
+pub renewed-at : (v : CacheValue) (address : IpAddress) (hardware : HardwareAddress) (moment : ℤ) (at : ℕ) (entry : Neighbor) →
+    place_of v.entries address ≡ Some at → slice_get v.entries at ≡ Some entry
+    → renewed v address hardware moment ≡ record v {
+      entries = slice_set v.entries at (renewed_entry entry hardware moment);
+      searches =
+          if is_same_hardware entry.hardware_addr hardware then ended v.searches address else v.searches;
+    }
 renewed-at v address hardware moment at entry place got = rw (place, got) refl
 
-pub requested-at : (v : CacheValue) (address : IpAddress) (moment : ℤ) (at : ℕ) (s : Search) → search_place v.searches address ≡ Some at → slice_get v.searches at ≡ Some s
+pub requested-at : (v : CacheValue) (address : IpAddress) (moment : ℤ) (at : ℕ) (s : Search) → search_place v.searches address ≡ Some at →
+    slice_get v.searches at ≡ Some s
     → requested v address moment ≡ record (silenced v moment) { searches = slice_set v.searches at (one_more s moment) }
 requested-at v address moment at s place got = rw (place, got) refl

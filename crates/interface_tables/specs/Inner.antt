@@ -1,11 +1,13 @@
 -- A host beside its sockets and its slots, as a value: its addresses and tables, and where its packets go (RFC 1122, sections
 -- 3.2.1.3 and 3.3.1; RFC 4291, section 2.8).
-use Rattle.std.specs.Prelude.{ℕ, ◌+◌, ◌/◌, ◌%◌, ◌^◌, ◌==◌, ◌&&◌, ◌||◌, not, nat_lt, Bool, true, false, if◌then◌else◌, ℤ, pos, ◌+ℤ◌, int_lt, List, [], ◌∷◌, ◌++◌, length, drop, replicate, slice_index, Option, None, Some}
+use Rattle.std.specs.Prelude.{ℕ, ◌+◌, ◌/◌, ◌%◌, ◌^◌, ◌==◌, ◌&&◌, ◌||◌, not, nat_lt, Bool, true, false, if◌then◌else◌, ℤ, pos, ◌+ℤ◌, int_lt, List, [], ◌∷◌, ◌++◌}
+use Rattle.std.specs.Prelude.{length, drop, replicate, slice_index, Option, None, Some}
 use Rattle.std.specs.List.{list_any}
 use Rattle.std.specs.Str.{bytes_eq}
 use Rattle.net_base.specs.ChecksumCapabilities.{ChecksumCapabilities}
 use Rattle.net_base.specs.RandomWords.{next_state}
-use Rattle.ip_wire.specs.AddressTests.{is_same_address, is_in_block, is_broadcast_v4, is_multicast, is_unicast, is_unspecified, is_loopback, are_of_one_family, is_unicast_v6, is_loopback_v6, is_solicited_node, broadcast_in}
+use Rattle.ip_wire.specs.AddressTests.{is_same_address, is_in_block, is_broadcast_v4, is_multicast, is_unicast, is_unspecified, is_loopback, are_of_one_family}
+use Rattle.ip_wire.specs.AddressTests.{is_unicast_v6, is_loopback_v6, is_solicited_node, broadcast_in}
 use Rattle.ip_wire.specs.Block.{block_address}
 use Rattle.ip_wire.specs.EthernetAddress.{EthernetAddress}
 use Rattle.ip_wire.specs.HardwareAddress.{HardwareAddress}

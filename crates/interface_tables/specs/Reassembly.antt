@@ -1,6 +1,7 @@
 -- Datagrams that are put together from their pieces (RFC 791, section 3.2; RFC 815): what a slot holds of one datagram, and
 -- what a piece makes of it.
-use Rattle.std.specs.Prelude.{ℕ, ◌+◌, ◌==◌, nat_le, ◌&&◌, ◌||◌, Bool, true, false, if◌then◌else◌, ℤ, pos, List, [], ◌++◌, length, take, drop, position, replicate, Option, None, Some, is_none, refl}
+use Rattle.std.specs.Prelude.{ℕ, ◌+◌, ◌==◌, nat_le, ◌&&◌, ◌||◌, Bool, true, false, if◌then◌else◌, ℤ, pos, List, [], ◌++◌, length, take, drop, position}
+use Rattle.std.specs.Prelude.{replicate, Option, None, Some, is_none, refl}
 use Rattle.std.specs.Coded.{Coded, code_by, coded×, coded_list, coded_option, coded_ℕ, coded_ℤ}
 use Rattle.net_containers.specs.Assembler.{added, front}
 
@@ -44,7 +45,9 @@ module _ {K : Type 0} where
 
   abbrev pub slot_code : Coded K → Coded (SlotValue K)
   slot_code c =
-      code_by (Option K × (List ℕ × (List (ℕ × ℕ) × (Option ℕ × ℤ)))) (coded× (coded_option c) (coded× (coded_list coded_ℕ) (coded× (coded_list (coded× coded_ℕ coded_ℕ)) (coded× (coded_option coded_ℕ) coded_ℤ)))) (λ s. (s.key, (s.bytes, (s.runs, (s.total, s.expires))))) (λ p. slot p.0 p.1.0 p.1.1.0 p.1.1.1.0 p.1.1.1.1) (λ _. refl)
+      code_by (Option K × (List ℕ × (List (ℕ × ℕ) × (Option ℕ × ℤ))))
+      (coded× (coded_option c) (coded× (coded_list coded_ℕ) (coded× (coded_list (coded× coded_ℕ coded_ℕ)) (coded× (coded_option coded_ℕ) coded_ℤ))))
+      (λ s. (s.key, (s.bytes, (s.runs, (s.total, s.expires))))) (λ p. slot p.0 p.1.0 p.1.1.0 p.1.1.1.0 p.1.1.1.1) (λ _. refl)
 
   -- a slot that nothing came into
   abbrev pub empty : Option K → ℕ → SlotValue K

@@ -1,5 +1,6 @@
 -- Routes, and the one that a packet takes (RFC 1812, section 5.2.4.3).
-use Rattle.std.specs.Prelude.{◌≡◌, ℕ, ◌==◌, ◌||◌, nat_lt, not, ◌&&◌, Bool, true, false, if◌then◌else◌, ℤ, int_lt, List, [], ◌∷◌, ◌++◌, length, remove, reverse, position, replicate, Option, None, Some, is_some}
+use Rattle.std.specs.Prelude.{◌≡◌, ℕ, ◌==◌, ◌||◌, nat_lt, not, ◌&&◌, Bool, true, false, if◌then◌else◌, ℤ, int_lt, List, [], ◌∷◌, ◌++◌, length, remove, reverse}
+use Rattle.std.specs.Prelude.{position, replicate, Option, None, Some, is_some}
 use Rattle.std.specs.List.{filter_map}
 use Rattle.std.specs.Str.{bytes_eq}
 use Rattle.ip_wire.specs.AddressTests.{is_in_block, is_unicast, are_of_one_family}

@@ -2,7 +2,8 @@
 use Rattle.std.specs.Prelude.{ℕ, ◌+◌, ◌-◌, nat_lt, not, ◌&&◌, ◌||◌, Bool, true, false, if◌then◌else◌, min, List, [], ◌∷◌, replicate, ◌++◌, Option, None, Some}
 use Rattle.std.specs.List.{filter_map}
 use Rattle.ip_wire.specs.Address.{scope_of}
-use Rattle.ip_wire.specs.AddressTests.{is_in_block, is_unspecified, is_unspecified_v6, is_multicast_v6, is_loopback_v6, is_link_local, common_prefix_len, is_same_address}
+use Rattle.ip_wire.specs.AddressTests.{is_in_block, is_unspecified, is_unspecified_v6, is_multicast_v6, is_loopback_v6, is_link_local, common_prefix_len}
+use Rattle.ip_wire.specs.AddressTests.{is_same_address}
 use Rattle.ip_wire.specs.IpAddress.{IpAddress}
 use Rattle.ip_wire.specs.IpAddress.TheVariants as Ip
 use Rattle.ip_wire.specs.IpCidr.{IpCidr}

@@ -60,7 +60,8 @@ impl<K, const SIZE: usize, const HOLES: usize> Model for PacketAssembler<K, SIZE
 }
 
 impl<K: Drop, const SIZE: usize, const HOLES: usize> PacketAssembler<K, SIZE, HOLES> {
-    ghost use Rattle.interface_tables.specs.Reassembly.{empty, fresh, freed, taken, is_free, takes_total, with_total, takes_piece, with_piece, is_complete, completed, placed, is_placed};
+    ghost use Rattle.interface_tables.specs.Reassembly.{empty, fresh, freed, taken, is_free, takes_total, with_total, takes_piece, with_piece, is_complete};
+    ghost use Rattle.interface_tables.specs.Reassembly.{completed, placed, is_placed};
 
     /// A free slot.
     pub fn new() -> PacketAssembler<K, SIZE, HOLES>

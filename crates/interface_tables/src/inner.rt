@@ -9,8 +9,13 @@ ghost use Rattle.ip_wire.specs.AddressTests.{is_loopback};
 ghost use Rattle.interface_tables.specs.declared.route.Route.{Route};
 ghost use Rattle.interface_tables.specs.Source.{first_v4, first_v6, source_v4, source_v6};
 ghost use Rattle.interface_tables.specs.Neighbor as Neighbors;
-ghost use Rattle.interface_tables.specs.Inner.{is_own, is_address_of, is_in_own_network, is_this, is_broadcast_of, is_local_broadcast, is_all_systems, is_all_nodes, solicits, solicits_block, is_own_solicited_node, is_probed, is_member_of, is_loopback_in, is_for_us, is_loopback_of, is_foreign_loopback, may_come_from, next_hop, group_station, link_by, link_address, is_known_hop, has_neighbor, at_moment, with_next_ident, with_neighbor, with_renewal, with_request, awaited_hop, is_crowded, next_request};
-ghost use Rattle.interface_tables.specs.Settings.{refusal, made, unless, first_ident, hardware_refusal, with_hardware, is_stranger, with_addresses, with_any_ip, with_routes, used};
+ghost use Rattle.interface_tables.specs.Inner.{is_own, is_address_of, is_in_own_network, is_this, is_broadcast_of, is_local_broadcast, is_all_systems};
+ghost use Rattle.interface_tables.specs.Inner.{is_all_nodes, solicits, solicits_block, is_own_solicited_node, is_probed, is_member_of, is_loopback_in};
+ghost use Rattle.interface_tables.specs.Inner.{is_for_us, is_loopback_of, is_foreign_loopback, may_come_from, next_hop, group_station, link_by, link_address};
+ghost use Rattle.interface_tables.specs.Inner.{is_known_hop, has_neighbor, at_moment, with_next_ident, with_neighbor, with_renewal, with_request, awaited_hop};
+ghost use Rattle.interface_tables.specs.Inner.{is_crowded, next_request};
+ghost use Rattle.interface_tables.specs.Settings.{refusal, made, unless, first_ident, hardware_refusal, with_hardware, is_stranger, with_addresses};
+ghost use Rattle.interface_tables.specs.Settings.{with_any_ip, with_routes, used};
 
 use crate::config::{Config, HardwareAddrError, NewError, NotUnicast, refusal};
 use crate::link::LinkAddress;
@@ -53,7 +58,20 @@ impl Model for InterfaceInner {
 
     ghost Value = { InnerValue };
 
-    ghost view = { λ i. record { moment = i.moment; random = i.rand; hardware = i.hardware_addr; mtu = i.ip_mtu; checksums = i.checksum; addresses = i.ip_addrs.items; any_ip = i.any_ip; routes = i.routes; neighbors = i.neighbor_cache; ident = i.ipv4_id; fresh = i.is_fresh } };
+    ghost view = { λ i. record {
+      moment = i.moment;
+      random = i.rand;
+      hardware = i.hardware_addr;
+      mtu = i.ip_mtu;
+      checksums = i.checksum;
+      addresses =
+          i.ip_addrs.items;
+      any_ip = i.any_ip;
+      routes = i.routes;
+      neighbors = i.neighbor_cache;
+      ident = i.ipv4_id;
+      fresh = i.is_fresh;
+    } };
 
     ghost invariant = { λ i. IsMoment i.moment × (576 ≤ i.ip_mtu) × (i.ip_mtu ≤ 65535) };
 }

@@ -3,7 +3,9 @@ ghost use Rattle.std.specs.Prelude.{◌≡◌, ◌≤◌, ◌<◌, ◌+◌, if�
 ghost use Rattle.std.specs.Option.{ForSome};
 ghost use Rattle.net_base.specs.Time.{IsMoment};
 ghost use Rattle.ip_wire.specs.AddressTests.{is_same_hardware};
-ghost use Rattle.interface_tables.specs.Neighbor.{fresh, lookup, filled, renewed, renewed_entry, silenced, requested, searched_at, one_more, first_search, count_after, search_place, search_of, oldest_search, ended, is_failed, has_failed_by, has_failed, last_request, flushed, is_found, place_of, victim, search_room, entry_lifetime, silent_time};
+ghost use Rattle.interface_tables.specs.Neighbor.{fresh, lookup, filled, renewed, renewed_entry, silenced, requested, searched_at, one_more, first_search};
+ghost use Rattle.interface_tables.specs.Neighbor.{count_after, search_place, search_of, oldest_search, ended, is_failed, has_failed_by, has_failed};
+ghost use Rattle.interface_tables.specs.Neighbor.{last_request, flushed, is_found, place_of, victim, search_room, entry_lifetime, silent_time};
 
 use arrayvec::ArrayVec;
 use ip_wire::{HardwareAddress, IpAddress, Ipv4Address};
@@ -247,7 +249,12 @@ impl<const N: usize> Cache<N> {
         timestamp: Instant,
     )
         requires { IsMoment timestamp }
-        ensures { self.new ≡ filled N self.old (record { protocol_addr = protocol_addr; hardware_addr = hardware_addr; expires_at = timestamp +ℤ pos entry_lifetime }) }
+        ensures { self.new ≡ filled N self.old (record {
+          protocol_addr = protocol_addr;
+          hardware_addr = hardware_addr;
+          expires_at =
+              timestamp +ℤ pos entry_lifetime;
+        }) }
     {
         self.fill_with_expiration(
             protocol_addr,

@@ -1,10 +1,12 @@
 //! Routes: which router a packet goes to whose destination is in none of the own networks (RFC 1812, section 5.2.4.3).
-ghost use Rattle.std.specs.Prelude.{◌≡◌, ◌≤◌, ◌<◌, ◌↔◌, ◌||◌, nat_lt, [], ◌∷◌, ◌++◌, length, remove, reverse, position, slice_get, replicate, IsTrue, IsOk, IfOk, OnOk, OnErr, IsSome, IfNone, is_some, Some, None, codes};
+ghost use Rattle.std.specs.Prelude.{◌≡◌, ◌≤◌, ◌<◌, ◌↔◌, ◌||◌, nat_lt, [], ◌∷◌, ◌++◌, length, remove, reverse, position, slice_get, replicate, IsTrue, IsOk};
+ghost use Rattle.std.specs.Prelude.{IfOk, OnOk, OnErr, IsSome, IfNone, is_some, Some, None, codes};
 ghost use Rattle.std.specs.List.{fold};
 ghost use Rattle.std.specs.Option.{ForSome};
 ghost use Rattle.ip_wire.specs.IpAddress.TheVariants as Address;
 ghost use Rattle.interface_tables.specs.Best.{at_place, first_that, better_of};
-ghost use Rattle.interface_tables.specs.Route.{is_expired, serves, serving, is_longer, best_route, router_of, is_gateway_v4, is_gateway_v6, IsGateway, without_at, without, has_room, IsAdded};
+ghost use Rattle.interface_tables.specs.Route.{is_expired, serves, serving, is_longer, best_route, router_of, is_gateway_v4, is_gateway_v6, IsGateway};
+ghost use Rattle.interface_tables.specs.Route.{without_at, without, has_room, IsAdded};
 
 use arrayvec::ArrayVec;
 use ip_wire::{IpAddress, IpCidr, Ipv4Address, Ipv4Cidr, Ipv6Address, Ipv6Cidr};

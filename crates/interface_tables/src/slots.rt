@@ -3,7 +3,8 @@ ghost use Rattle.std.specs.Prelude.{◌≡◌, ◌↔◌, ◌≤◌, ◌<◌, le
 ghost use Rattle.interface_tables.specs.Best.{at_place};
 ghost use Rattle.std.specs.Option.{ForSome, option_copied};
 ghost use Rattle.interface_tables.specs.Reassembly.{placed, freed, is_free, is_key, is_of, place_for};
-ghost use Rattle.interface_tables.specs.Slots.{free_slots, opened, with_slot_for, changed_at, completed_at, is_expired, unless_expired, without_expired, with_piece_of, without_datagram};
+ghost use Rattle.interface_tables.specs.Slots.{free_slots, opened, with_slot_for, changed_at, completed_at, is_expired, unless_expired, without_expired};
+ghost use Rattle.interface_tables.specs.Slots.{with_piece_of, without_datagram};
 
 use crate::fragmentation::{AssemblerFullError, PacketAssembler};
 use ip_wire::Ipv4FragKey;
@@ -187,7 +188,8 @@ fn put_at(
     more_frags: bool,
 )
     requires { at < length slots.old }
-    ensures { slots.new ≡ changed_at (λ s. placed 4 (opened ⟦<Ipv4FragKey as PartialEq>⟧.eq key.now expires_at s) piece.now offset more_frags) (Some at) slots.old }
+    ensures { slots.new ≡ changed_at (λ s. placed 4 (opened ⟦<Ipv4FragKey as PartialEq>⟧.eq key.now expires_at s) piece.now offset more_frags)
+        (Some at) slots.old }
 {
     put(&mut slots[at], key, expires_at, piece, offset, more_frags);
 }

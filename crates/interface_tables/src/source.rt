@@ -5,7 +5,8 @@ ghost use Rattle.std.specs.Option.{ForSome};
 ghost use Rattle.ip_wire.specs.AddressTests.{is_in_block};
 ghost use Rattle.ip_wire.specs.IpAddress.TheVariants as Address;
 ghost use Rattle.interface_tables.specs.Best.{at_place, better_of};
-ghost use Rattle.interface_tables.specs.Source.{first_v4, source_v4, first_v6, may_send, candidate, differs, falls_short, distance, uncommon, better_for, best_source, source_v6, source_for, is_v4, is_v6};
+ghost use Rattle.interface_tables.specs.Source.{first_v4, source_v4, first_v6, may_send, candidate, differs, falls_short, distance, uncommon, better_for};
+ghost use Rattle.interface_tables.specs.Source.{best_source, source_v6, source_for, is_v4, is_v6};
 
 use ip_wire::{IpAddress, IpCidr, Ipv4Address, Ipv6Address, Ipv6Cidr};
 

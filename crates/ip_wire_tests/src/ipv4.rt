@@ -170,7 +170,8 @@ fn emit_datagram(frame: &mut [u8], ip: &Ipv4Repr, udp: &UdpRepr, payload: &[u8])
     requires fits { 28 + length payload.now < 2 ^ 16 }
     requires carried { ip.now.payload_len ≡ 8 + length payload.now }
     ensures { frame.new
-        ≡ take 14 frame.old ++ (Ipv4.written true ip.now ++ Udp.written (Address.Ipv4 ip.now.src_addr) (Address.Ipv4 ip.now.dst_addr) true udp.now payload.now) }
+        ≡ take 14 frame.old ++ (Ipv4.written true ip.now ++
+        Udp.written (Address.Ipv4 ip.now.src_addr) (Address.Ipv4 ip.now.dst_addr) true udp.now payload.now) }
 {
     let checksum_caps = ChecksumCapabilities {
         ipv4: Checksum::Both,

@@ -6,7 +6,8 @@ use Rattle.lan_history.specs.declared.event.Side.{Side}
 use Rattle.lan.specs.Answers.{sent_line, sent_lines}
 
 -- the frames from the k-th on are that frame, and those from the next on
-pub drop-frames_of : (frames : List (Vec ℕ)) (k : ℕ) (frame : Vec ℕ) → k < length frames → frame ≡ get_or frames k frame → drop k (frames_of frames) ≡ frame.items ∷ drop (k + 1) (frames_of frames)
+pub drop-frames_of : (frames : List (Vec ℕ)) (k : ℕ) (frame : Vec ℕ) → k < length frames → frame ≡ get_or frames k frame →
+    drop k (frames_of frames) ≡ frame.items ∷ drop (k + 1) (frames_of frames)
 drop-frames_of [] k frame h e = absurd (omega (arith, h))
 drop-frames_of (f ∷ fs) zero frame h e = ap (λ (v : Vec ℕ). v.items ∷ frames_of fs) (sym e)
 drop-frames_of (f ∷ fs) (suc k) frame h e = let in_range : k < length fs = omega (arith, h) in rw add-one (rw add-one at (drop-frames_of fs k frame in_range e))

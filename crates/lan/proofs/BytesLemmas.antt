@@ -4,7 +4,8 @@ use Rattle.std.specs.Prelude.{◌≢◌, option_map}
 use Rattle.lan_history.specs.declared.answer.Refused.{Refused}
 use Rattle.lan_history.specs.declared.event.Event.{Event}
 use Rattle.lan_script.specs.declared.line.Line.{Line}
-use Rattle.lan_script.specs.declared.line.Line.TheVariants.{World, Socket, Start, Listen, Connect, Send, Recv, Close, Abort, State, Bind, Ident, SendTo, SendIcmp, SendRaw, RecvFrom, Addrs, Hw, Route, Poll, PollAt, Deliver, Damage, Noise, Room, Cut}
+use Rattle.lan_script.specs.declared.line.Line.TheVariants.{World, Socket, Start, Listen, Connect, Send, Recv, Close, Abort, State, Bind, Ident, SendTo}
+use Rattle.lan_script.specs.declared.line.Line.TheVariants.{SendIcmp, SendRaw, RecvFrom, Addrs, Hw, Route, Poll, PollAt, Deliver, Damage, Noise, Room, Cut}
 use Rattle.lan_hosts.specs.Runs.{WorldValue, refusal_in}
 use Rattle.lan.specs.declared.end.End.{End}
 use Rattle.lan.specs.declared.end.End.TheVariants.{BadEvent, Refusal}

@@ -69,7 +69,8 @@ no_bad_both a b = no_bad_world (new_error a b)
 
 no_bad_start : (h : HeaderValue) → no_start h ≢ Some BadEvent
 no_bad_start h =
-    no_bad_five (no_interface h.medium h.mtu A) (no_interface h.medium h.mtu B) (no_sockets A h.sockets) (no_sockets B h.sockets) (no_world (host_of h A) (host_of h B))
+    no_bad_five (no_interface h.medium h.mtu A) (no_interface h.medium h.mtu B) (no_sockets A h.sockets) (no_sockets B h.sockets)
+    (no_world (host_of h A) (host_of h B))
     (no_bad_new h.medium h.mtu A) (no_bad_new h.medium h.mtu B) (no_bad_sockets (has_large A h.sockets)) (no_bad_sockets (has_large B h.sockets))
     (no_bad_both (host_of h A) (host_of h B))
 

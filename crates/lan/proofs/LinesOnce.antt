@@ -6,7 +6,8 @@ use Rattle.ip_wire.specs.Text.{IsEndpointText, IsIpText, IsEthernetText}
 use Rattle.ip_address.proofs.OneReading.{IsIpText-unique}
 use Rattle.lan_script.specs.Lines.{IsLine, IsSocket, IsStream, IsDatagram, IsHost, IsLink, Host, Size, Short, Hex, AreQueueSizes, Queues, SaysWords, SaysLine}
 use Rattle.lan_script.specs.Verbs.{verb_of}
-use Rattle.lan_script.specs.Words.{words_of, first_as, First, FirstIs, AreBlockTexts, AreBlocks, Reads, ReadsAll, Ends, side_of, medium_of, kind_of, version_of, protocol_of, size_of, short_of, four_digits_of, micros_of, hex_bytes_of}
+use Rattle.lan_script.specs.Words.{words_of, first_as, First, FirstIs, AreBlockTexts, AreBlocks, Reads, ReadsAll, Ends, side_of, medium_of, kind_of, version_of}
+use Rattle.lan_script.specs.Words.{protocol_of, size_of, short_of, four_digits_of, micros_of, hex_bytes_of}
 use Rattle.lan_script.specs.declared.kinds.Side.{Side}
 use Rattle.lan_script.specs.declared.kinds.SocketKind.{SocketKind}
 use Rattle.lan_script.specs.declared.kinds.SocketKind.TheVariants as kind
@@ -49,7 +50,8 @@ behind {X} {Y} Class next rest class_once next_once words y z h k =
     let there : next h.0 (rest words) z = subst (λ (x : X). next x (rest words) z) (sym same) k.2 in
     next_once h.0 (rest words) y z h.2 there
 
-reads : {X Y : Type 0} (Class : List (List ℕ) → X → Type 0) (next : X → List (List ℕ) → Y → Type 0) → Once Class → ((x : X) → Once (next x)) → Once (Reads Class next)
+reads : {X Y : Type 0} (Class : List (List ℕ) → X → Type 0) (next : X → List (List ℕ) → Y → Type 0) → Once Class → ((x : X) → Once (next x)) →
+    Once (Reads Class next)
 reads Class next class_once next_once = behind Class next (λ words. drop 1 words) class_once next_once
 
 reads_all : {X Y : Type 0} (Class : List (List ℕ) → X → Type 0) (make : X → Y) → Once Class → Once (ReadsAll Class make)

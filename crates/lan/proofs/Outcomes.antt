@@ -5,7 +5,8 @@ use Rattle.lan_history.specs.declared.answer.Answer.{Answer}
 use Rattle.lan_history.specs.declared.answer.Refused.TheVariants.{Memory}
 use Rattle.lan_history.specs.declared.event.Event.{Event}
 use Rattle.lan_script.specs.declared.line.Line.{Line}
-use Rattle.lan_script.specs.declared.line.Line.TheVariants.{World, Socket, Start, Listen, Connect, Send, Recv, Close, Abort, State, Bind, Ident, SendTo, SendIcmp, SendRaw, RecvFrom, Addrs, Hw, Route, Poll, PollAt, Deliver, Damage, Noise, Room, Cut}
+use Rattle.lan_script.specs.declared.line.Line.TheVariants.{World, Socket, Start, Listen, Connect, Send, Recv, Close, Abort, State, Bind, Ident, SendTo}
+use Rattle.lan_script.specs.declared.line.Line.TheVariants.{SendIcmp, SendRaw, RecvFrom, Addrs, Hw, Route, Poll, PollAt, Deliver, Damage, Noise, Room, Cut}
 use Rattle.lan_hosts.specs.Runs.{WorldValue, Step, Steps}
 use Rattle.lan.specs.declared.end.End.{End}
 use Rattle.lan.specs.declared.end.End.TheVariants.{Refusal}
@@ -55,7 +56,8 @@ ends_once session line other end last same (inr h) k = inr (inl h.0)
 ends_once session line other end last same (inl h) (inr k) = inr (inr k.0)
 
 -- a line that ends one run, and leads on in another
-memory_alone : (session : Session) (line other : Option Line) (end : End) → line ≡ other → Ends session line end → end_of session other ≡ None → end ≡ Refusal Memory
+memory_alone : (session : Session) (line other : Option Line) (end : End) → line ≡ other → Ends session line end → end_of session other ≡ None →
+    end ≡ Refusal Memory
 memory_alone session line other end same (inl h) allowed =
     let both : Some end ≡ None = sym h ∙ ap (end_of session) same ∙ allowed in
     absurd cc
@@ -68,7 +70,8 @@ later : (text rest output : List ℕ) → output ≡ text ++ rest → EndsForMem
 later text rest output is memory =
     (text ++ memory.0, memory.1, is ∙ ap (λ (r : List ℕ). text ++ r) memory.2 ∙ sym (append_assoc text memory.0 (end_line memory.1 (Refusal Memory))))
 
-joined : (text more rest left output other : List ℕ) (status last : ℕ) → text ≡ more → output ≡ text ++ rest → other ≡ more ++ left → IsSameReplay rest status left last → IsSameReplay output status other last
+joined : (text more rest left output other : List ℕ) (status last : ℕ) → text ≡ more → output ≡ text ++ rest → other ≡ more ++ left →
+    IsSameReplay rest status left last → IsSameReplay output status other last
 joined text more rest left output other status last same is also (inl both) =
     inl (is ∙ ap (λ (t : List ℕ). t ++ rest) same ∙ ap (λ (r : List ℕ). more ++ r) both.0 ∙ sym also, both.1)
 joined text more rest left output other status last same is also (inr (inl memory)) = inr (inl (later text rest output is memory))
@@ -83,7 +86,8 @@ ended n end last output other status final is also one again (inr (inr memory)) 
 -- RUNS
 
 module _ (once : OneWorld) where
-  takes_once : (old one other : WorldValue) (event : Event) (text more : List ℕ) → Takes old event text one → Takes old event more other → (text ≡ more) × (one ≡ other)
+  takes_once : (old one other : WorldValue) (event : Event) (text more : List ℕ) → Takes old event text one → Takes old event more other →
+      (text ≡ more) × (one ≡ other)
   takes_once old one other event text more h k =
       let left : Steps old (event ∷ []) one = (h.0, one, h.1, refl) in
       let right : Steps old (event ∷ []) other = (k.0, other, k.1, refl) in
@@ -91,7 +95,8 @@ module _ (once : OneWorld) where
       let answers = answer_once old one other event h.0 k.0 same h.1 k.1 in
       (h.2 ∙ same_text old one other h.0 k.0 answers same ∙ sym k.2, same)
 
-  event_once : (world : WorldValue) (event : Option Event) (text more : List ℕ) (one other : Session) → EventLeads world event text one → EventLeads world event more other → (text ≡ more) × (one ≡ other)
+  event_once : (world : WorldValue) (event : Option Event) (text more : List ℕ) (one other : Session) → EventLeads world event text one →
+      EventLeads world event more other → (text ≡ more) × (one ≡ other)
   event_once world None text more one other h k = absurd h
   event_once world (Some event) text more one other h k =
       let same = takes_once world h.0 k.0 event text more h.1 k.1 in
@@ -99,7 +104,8 @@ module _ (once : OneWorld) where
 
   -- LINES
 
-  begun_once : (line : Line) (text more : List ℕ) (one other : Session) → Leads Begun (Some line) text one → Leads Begun (Some line) more other → (text ≡ more) × (one ≡ other)
+  begun_once : (line : Line) (text more : List ℕ) (one other : Session) → Leads Begun (Some line) text one → Leads Begun (Some line) more other →
+      (text ≡ more) × (one ≡ other)
   begun_once (World p q) text more one other h k = (h.0 ∙ sym k.0, h.1 ∙ sym k.1)
   begun_once (Socket p q) text more one other h k = absurd h
   begun_once Start text more one other h k = absurd h
@@ -127,7 +133,8 @@ module _ (once : OneWorld) where
   begun_once (Room p q) text more one other h k = absurd h
   begun_once (Cut p q r) text more one other h k = absurd h
 
-  header_once : (header : HeaderValue) (line : Line) (text more : List ℕ) (one other : Session) → Leads (Header header) (Some line) text one → Leads (Header header) (Some line) more other → (text ≡ more) × (one ≡ other)
+  header_once : (header : HeaderValue) (line : Line) (text more : List ℕ) (one other : Session) → Leads (Header header) (Some line) text one →
+      Leads (Header header) (Some line) more other → (text ≡ more) × (one ≡ other)
   header_once header (World p q) text more one other h k = absurd h
   header_once header (Socket p q) text more one other h k = (h.0 ∙ sym k.0, h.1 ∙ sym k.1)
   header_once header Start text more one other h k = (h.0 ∙ sym k.0, h.1 ∙ sym k.1)
@@ -155,7 +162,8 @@ module _ (once : OneWorld) where
   header_once header (Room p q) text more one other h k = absurd h
   header_once header (Cut p q r) text more one other h k = absurd h
 
-  leads_once : (session : Session) (line : Option Line) (text more : List ℕ) (one other : Session) → Leads session line text one → Leads session line more other → (text ≡ more) × (one ≡ other)
+  leads_once : (session : Session) (line : Option Line) (text more : List ℕ) (one other : Session) → Leads session line text one →
+      Leads session line more other → (text ≡ more) × (one ≡ other)
   leads_once Begun None text more one other h k = absurd h
   leads_once Begun (Some line) text more one other h k = begun_once line text more one other h k
   leads_once (Header header) None text more one other h k = absurd h
@@ -163,7 +171,8 @@ module _ (once : OneWorld) where
   leads_once (Running world) None text more one other h k = absurd h
   leads_once (Running world) (Some line) text more one other h k = event_once world (event_of line) text more one other h k
 
-  pub replays_once : (n : ℕ) (session : Session) (lines : List (List ℕ)) (output other : List ℕ) (status last : ℕ) → Replays n session lines output status → Replays n session lines other last
+  pub replays_once : (n : ℕ) (session : Session) (lines : List (List ℕ)) (output other : List ℕ) (status last : ℕ) → Replays n session lines output status →
+      Replays n session lines other last
       → IsSameReplay output status other last
   replays_once n session [] output other status last h k = inl (h.0 ∙ sym k.0, h.1 ∙ sym k.1)
   replays_once n session (line ∷ lines) output other status last (inl h) (inl k) =

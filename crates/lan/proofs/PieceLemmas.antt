@@ -1,5 +1,6 @@
 -- Lemmas on a script whose text comes in pieces.
-use Rattle.std.proofs.Common.{◌≡◌, ℕ, zero, suc, ◌+◌, ◌-◌, ◌<◌, ◌≤◌, Bool, true, false, not, ◌&&◌, cond, eqb, ltb, List, [], ◌∷◌, ◌++◌, length, take, drop, get_or, refl, sym, ◌∙◌, ap, subst, append_assoc, append-nil, add-one, arith, Option, Some, None, inl, inr, ◌⊎◌, IfSome}
+use Rattle.std.proofs.Common.{◌≡◌, ℕ, zero, suc, ◌+◌, ◌-◌, ◌<◌, ◌≤◌, Bool, true, false, not, ◌&&◌, cond, eqb, ltb, List, [], ◌∷◌, ◌++◌, length, take, drop}
+use Rattle.std.proofs.Common.{get_or, refl, sym, ◌∙◌, ap, subst, append_assoc, append-nil, add-one, arith, Option, Some, None, inl, inr, ◌⊎◌, IfSome}
 use Rattle.std.specs.List.{position, position_or_len}
 use Rattle.std.specs.Io.KnownBytes.{Consumes}
 use Rattle.std.proofs.KnownBytes.{Consumes-nil, Consumes-trans}
@@ -159,11 +160,13 @@ pub line_goes_on : (n k j m : ℕ) (session mid at next : Session) (start piece 
     → line ≡ begun ++ take end rest → is_unbroken line ≡ true → at ≡ mid → j ≡ k → LineLeads at line text next → m ≡ j + 1 → left ≡ []
     → (piece ≡ (before ++ (take end rest ++ 10 ∷ [])) ++ drop (end + 1) rest)
     × RunsOn n session (start ++ (before ++ (take end rest ++ 10 ∷ []))) (output ++ text) m next left
-line_goes_on n k j m session mid at next start piece before rest output begun line text left end is runs found line_is unbroken same_session same_number leads number none =
+line_goes_on n k j m session mid at next start piece before rest output begun line text left end is runs found line_is unbroken same_session same_number leads
+    number none =
     let ended : List ℕ = take end rest ++ 10 ∷ [] in
     let whole : line ++ 10 ∷ [] ≡ begun ++ ended = ap (λ (l : List ℕ). l ++ 10 ∷ []) line_is ∙ append_assoc begun (take end rest) (10 ∷ []) in
     let from_mid : LineLeads mid line text next = subst (λ (s : Session). LineLeads s line text next) same_session leads in
-    let one : RunsOn k mid (begun ++ ended) text (k + 1) next [] = subst (λ (t : List ℕ). RunsOn k mid t text (k + 1) next []) whole (line_leads k mid next line text unbroken from_mid) in
+    let one : RunsOn k mid (begun ++ ended) text (k + 1) next [] =
+    subst (λ (t : List ℕ). RunsOn k mid t text (k + 1) next []) whole (line_leads k mid next line text unbroken from_mid) in
     let both : RunsOn n session ((start ++ before) ++ ended) (output ++ text) (k + 1) next [] =
     RunsOn-trans n k (k + 1) session mid next (start ++ before) begun ended [] output text runs one in
     (piece_parts piece before rest end is found, rw (number, same_number, none, ← append_assoc start before ended) both)
@@ -178,7 +181,8 @@ line_goes_out n k j session mid at start piece before rest output begun line tex
     let whole : line ++ 10 ∷ [] ≡ begun ++ ended = ap (λ (l : List ℕ). l ++ 10 ∷ []) line_is ∙ append_assoc begun (take end rest) (10 ∷ []) in
     let from_mid : LineEnds mid line why = subst (λ (s : Session). LineEnds s line why) same_session ends in
     let text_is : end_line k why ≡ text = sym (written ∙ ap (λ (i : ℕ). end_line i why) same_number) in
-    let ends_with : RunsOut k mid (line ++ 10 ∷ []) text = subst (λ (o : List ℕ). RunsOut k mid (line ++ 10 ∷ []) o) text_is (line_ends k mid line why unbroken from_mid) in
+    let ends_with : RunsOut k mid (line ++ 10 ∷ []) text =
+    subst (λ (o : List ℕ). RunsOut k mid (line ++ 10 ∷ []) o) text_is (line_ends k mid line why unbroken from_mid) in
     let one : RunsOut k mid (begun ++ ended) text = subst (λ (t : List ℕ). RunsOut k mid t text) whole ends_with in
     let both : RunsOut n session ((start ++ before) ++ ended) (output ++ text) =
     RunsOut-after n k session mid (start ++ before) begun ended output text runs one in
@@ -280,7 +284,8 @@ ends_known : (start now : Option (List ℕ)) (read output : List ℕ) → Consum
     → (script : List ℕ) × IfSome start (λ input. script ≡ input) × IsReplay script output 1
 ends_known None now read output taken ends = (read, tt, subst (λ (t : List ℕ). Replays 1 Begun (lines_of t) output 1) (append-nil read) (ends []))
 ends_known (Some input) None read output taken ends = absurd taken
-ends_known (Some input) (Some rest) read output taken ends = (input, refl, subst (λ (t : List ℕ). Replays 1 Begun (lines_of t) output 1) (sym taken) (ends rest))
+ends_known (Some input) (Some rest) read output taken ends =
+    (input, refl, subst (λ (t : List ℕ). Replays 1 Begun (lines_of t) output 1) (sym taken) (ends rest))
 
 -- a line ended the run: what the reader has left changes nothing
 pub script_ends_early : (start mid now : Option (List ℕ)) (read begun piece output more : List ℕ) (n : ℕ) (session : Session)

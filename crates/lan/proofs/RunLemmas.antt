@@ -17,6 +17,7 @@ status-le n session (line ∷ lines) output status (inr on) = status-le (n + 1) 
 -- READING
 
 -- a reader that is at its end gave all that it had
-pub all_read : (start now end : Option (List ℕ)) (bytes : List ℕ) → Consumes start now bytes → Consumes now end [] → IsAtEnd end → IfSome start (λ input. bytes ≡ input)
+pub all_read : (start now end : Option (List ℕ)) (bytes : List ℕ) → Consumes start now bytes → Consumes now end [] → IsAtEnd end →
+    IfSome start (λ input. bytes ≡ input)
 all_read start now end bytes taken none over =
     Consumes-whole start end (bytes ++ []) (λ input. bytes ≡ input) (Consumes-trans start now end bytes [] taken none) over (sym (append-nil bytes))

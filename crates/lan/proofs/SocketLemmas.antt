@@ -1,5 +1,6 @@
 -- Lemmas on the sockets of a host.
-use Rattle.std.proofs.Common.{◌≡◌, ℕ, suc, ◌+◌, ◌≤◌, ◌<◌, Bool, true, false, cond, ltb, List, [], ◌∷◌, ◌++◌, length, drop, Option, Some, None, refl, sym, ◌∙◌, ap, ap₂, arith}
+use Rattle.std.proofs.Common.{◌≡◌, ℕ, suc, ◌+◌, ◌≤◌, ◌<◌, Bool, true, false, cond, ltb, List, [], ◌∷◌, ◌++◌, length, drop, Option, Some, None, refl, sym, ◌∙◌}
+use Rattle.std.proofs.Common.{ap, ap₂, arith}
 use Rattle.std.specs.Prelude.{◌||◌, ◌&&◌, if◌then◌else◌}
 use Rattle.std.specs.List.{position_or_len}
 use Rattle.std.proofs.lemmas.Bool.Decides.{nat_tests}
@@ -19,7 +20,8 @@ none_free p n h = grind (arith, nat_tests)
 all_used : (p n : ℕ) → ◌≡◌ {A = Option ℕ} (cond (ltb p n) (Some p) None) None → n ≤ p
 all_used p n h = grind (arith, nat_tests)
 
-more_at : (p : SocketStorage Socket) (ps : List (SocketStorage Socket)) (s : Socket) (v : Bool) → is_free p ≡ v → length (p ∷ ps) ≤ position_or_len is_free (p ∷ ps)
+more_at : (p : SocketStorage Socket) (ps : List (SocketStorage Socket)) (s : Socket) (v : Bool) → is_free p ≡ v →
+    length (p ∷ ps) ≤ position_or_len is_free (p ∷ ps)
     → (length ps ≤ position_or_len is_free ps → length (ps ++ unmarked s ∷ []) ≤ position_or_len is_free (ps ++ unmarked s ∷ []))
     → length ((p ∷ ps) ++ unmarked s ∷ []) ≤ position_or_len is_free ((p ∷ ps) ++ unmarked s ∷ [])
 more_at p ps s true is h next = let k = rw is at h in absurd (omega (arith, k))
@@ -29,7 +31,8 @@ more_at p ps s false is h next =
     let more = next less in
     rw is (omega (arith, more))
 
-more_used : (ps : List (SocketStorage Socket)) (s : Socket) → length ps ≤ position_or_len is_free ps → length (ps ++ unmarked s ∷ []) ≤ position_or_len is_free (ps ++ unmarked s ∷ [])
+more_used : (ps : List (SocketStorage Socket)) (s : Socket) → length ps ≤ position_or_len is_free ps →
+    length (ps ++ unmarked s ∷ []) ≤ position_or_len is_free (ps ++ unmarked s ∷ [])
 more_used [] s h = omega arith
 more_used (p ∷ ps) s h = more_at p ps s (is_free p) refl h (more_used ps s)
 

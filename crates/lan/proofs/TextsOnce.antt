@@ -3,7 +3,8 @@ use Rattle.std.proofs.Common.{◌≡◌, ◌≤◌, ◌⊎◌, ℕ, suc, List, [
 use mathlib.Core.HLevel.{is_prop→PathP}
 use native.Mathlib.Bridge.{le_prop}
 use Rattle.std.specs.Char.{digit_value}
-use Rattle.ip_address.specs.Text.{Lacks, IsDecimal, IsIpv4Text, IsIpv6Text, IsIpText, IsIpv4EndpointText, IsIpv6EndpointText, IsAddressAndPort, IsEndpointText, IsHexPair, IsHexPairBefore, IsSixPairs, IsEthernetText, IsIpBlockText}
+use Rattle.ip_address.specs.Text.{Lacks, IsDecimal, IsIpv4Text, IsIpv6Text, IsIpText, IsIpv4EndpointText, IsIpv6EndpointText, IsAddressAndPort, IsEndpointText}
+use Rattle.ip_address.specs.Text.{IsHexPair, IsHexPairBefore, IsSixPairs, IsEthernetText, IsIpBlockText}
 use Rattle.ip_address.specs.Block.{block_address, block_prefix_len, width_of}
 use Rattle.ip_address.specs.declared.ethernet.EthernetAddress.{EthernetAddress}
 use Rattle.ip_address.specs.declared.ip.IpAddress.{IpAddress}
@@ -56,7 +57,8 @@ address_once text (Ip.Ipv4 a) (Ip.Ipv6 b) port again h k = absurd (IsEndpointTex
 address_once text (Ip.Ipv6 a) (Ip.Ipv4 b) port again h k = absurd (IsEndpointText-apart text b again a port k h)
 address_once text (Ip.Ipv6 a) (Ip.Ipv6 b) port again h k = let both = ipv6_once text a b port again h k in (ap Ip.Ipv6 both.0, both.1)
 
-same_endpoint : (a b : IpAddress) (port again : ℕ) → a ≡ b → port ≡ again → record { addr = a; port = port } ≡ (let e : IpEndpoint = record { addr = b; port = again } in e)
+same_endpoint : (a b : IpAddress) (port again : ℕ) → a ≡ b → port ≡ again →
+    record { addr = a; port = port } ≡ (let e : IpEndpoint = record { addr = b; port = again } in e)
 same_endpoint a b port again address number = rw (address, number) refl
 
 pub endpoint_once : (text : List ℕ) (a b : IpEndpoint) → IsEndpointText text a → IsEndpointText text b → a ≡ b
@@ -67,7 +69,8 @@ endpoint_once text a b h k =
 -- ETHERNET ADDRESSES
 
 -- the parts at the first place of a byte are determined
-cut_once : (byte : ℕ) (front back first second : List ℕ) → front ++ byte ∷ back ≡ first ++ byte ∷ second → Lacks front byte → Lacks first byte → (front ≡ first) × (back ≡ second)
+cut_once : (byte : ℕ) (front back first second : List ℕ) → front ++ byte ∷ back ≡ first ++ byte ∷ second → Lacks front byte → Lacks first byte →
+    (front ≡ first) × (back ≡ second)
 cut_once byte [] back [] second same lacks other = (refl, cc)
 cut_once byte [] back (b ∷ first) second same lacks other = let head : b ≡ byte = cc in absurd (other 0 (omega arith) head)
 cut_once byte (a ∷ front) back [] second same lacks other = let head : a ≡ byte = cc in absurd (lacks 0 (omega arith) head)
@@ -84,9 +87,11 @@ pair_once digits again m n h k same =
     cc
 
 module _ (separator : ℕ) (apart : 16 ≤ digit_value separator) where
-  before_once : (text : List ℕ) (m n : ℕ) (rest other : List ℕ) → IsHexPairBefore separator text m rest → IsHexPairBefore separator text n other → (m ≡ n) × (rest ≡ other)
+  before_once : (text : List ℕ) (m n : ℕ) (rest other : List ℕ) → IsHexPairBefore separator text m rest → IsHexPairBefore separator text n other →
+      (m ≡ n) × (rest ≡ other)
   before_once text m n rest other h k =
-      let both = cut_once separator h.0 rest k.0 other (sym h.1 ∙ k.1) (Lacks-digits 16 separator h.0 h.2.0.0.1 apart) (Lacks-digits 16 separator k.0 k.2.0.0.1 apart) in
+      let both = cut_once separator h.0 rest k.0 other (sym h.1 ∙ k.1) (Lacks-digits 16 separator h.0 h.2.0.0.1 apart)
+      (Lacks-digits 16 separator k.0 k.2.0.0.1 apart) in
       (pair_once h.0 k.0 m n h.2 k.2 both.0, both.1)
 
   six_once : (text octets others : List ℕ) → IsSixPairs separator text octets → IsSixPairs separator text others → octets ≡ others
@@ -114,7 +119,8 @@ two_separators text octets others h k =
     (Lacks-digits 16 58 h.first.0 h.first.2.0.0.1 (omega arith)) (Lacks-digits 16 45 k.first.0 k.first.2.0.0.1 (omega arith)) in
     absurd (omega (arith, same))
 
-octets_once : (text octets others : List ℕ) → IsSixPairs 45 text octets ⊎ IsSixPairs 58 text octets → IsSixPairs 45 text others ⊎ IsSixPairs 58 text others → octets ≡ others
+octets_once : (text octets others : List ℕ) → IsSixPairs 45 text octets ⊎ IsSixPairs 58 text octets → IsSixPairs 45 text others ⊎ IsSixPairs 58 text others →
+    octets ≡ others
 octets_once text octets others (inl h) (inl k) = six_once 45 (omega arith) text octets others h k
 octets_once text octets others (inr h) (inr k) = six_once 58 (omega arith) text octets others h k
 octets_once text octets others (inl h) (inr k) = absurd (two_separators text octets others h k)
@@ -153,7 +159,8 @@ block_parts_once text a b m n h k =
     let address : IsIpText h.address b = subst (λ (t : List ℕ). IsIpText t b) (sym parts.0) k.of_address in
     (IsIpText-unique h.address a b h.of_address address, number_once (width_of a) (width_of b) h.digits k.digits m n h.of_len k.of_len parts.1)
 
-pub block_once : (text : List ℕ) (a b : IpCidr) → IsIpBlockText text (block_address a) (block_prefix_len a) → IsIpBlockText text (block_address b) (block_prefix_len b) → a ≡ b
+pub block_once : (text : List ℕ) (a b : IpCidr) → IsIpBlockText text (block_address a) (block_prefix_len a) →
+    IsIpBlockText text (block_address b) (block_prefix_len b) → a ≡ b
 block_once text a b h k =
     let both = block_parts_once text (block_address a) (block_address b) (block_prefix_len a) (block_prefix_len b) h k in
     same_block a b both.0 both.1

@@ -7,7 +7,8 @@ use Rattle.lan_history.specs.declared.event.Side.TheVariants.{A, B}
 use Rattle.lan_history.specs.declared.answer.Answer.{Answer}
 use Rattle.lan_history.specs.declared.answer.Answer.TheVariants.{Done, Count, Bytes, State, FromEndpoint, FromAddr, Poll, At, Error}
 use Rattle.lan_history.specs.declared.answer.Fault.{Fault}
-use Rattle.lan_history.specs.declared.answer.Fault.TheVariants.{InvalidState, Unaddressable, BufferFull, Exhausted, Truncated, Finished, Medium, NotUnicast, RouteTableFull}
+use Rattle.lan_history.specs.declared.answer.Fault.TheVariants.{InvalidState, Unaddressable, BufferFull, Exhausted, Truncated, Finished, Medium, NotUnicast}
+use Rattle.lan_history.specs.declared.answer.Fault.TheVariants.{RouteTableFull}
 use Rattle.lan_script.specs.Text.{hex_word}
 use Rattle.tcp_control.specs.States.{text_of}
 

@@ -6,7 +6,8 @@ ghost use Rattle.lan_history.specs.declared.answer.Refused.TheVariants.{Memory};
 ghost use Rattle.lan_history.specs.declared.event.Side.TheVariants.{A, B};
 ghost use Rattle.lan_port.specs.Port.{unused_end};
 ghost use Rattle.lan.specs.declared.end.End.TheVariants.{Refusal};
-ghost use Rattle.lan.specs.Hosts.{number, hardware_of, block_v4, block_v6, config_of, device_of, interface_of, with_sockets, host_of, first_world, first_of, no_interface, no_sockets, no_world, no_start};
+ghost use Rattle.lan.specs.Hosts.{number, hardware_of, block_v4, block_v6, config_of, device_of, interface_of, with_sockets, host_of, first_world, first_of};
+ghost use Rattle.lan.specs.Hosts.{no_interface, no_sockets, no_world, no_start};
 
 use crate::end::End;
 use crate::own_sockets::own_sockets_of;
@@ -89,7 +90,9 @@ impl Header {
         ensures b { IfOk result (λ made. places made.1 ≡ with_sockets B [] self.now.sockets) }
         ensures a_allowed { OnOk result (no_sockets A self.now.sockets ≡ None) }
         ensures b_allowed { OnOk result (no_sockets B self.now.sockets ≡ None) }
-        ensures ends { IfErr result (λ end. (first_of (no_sockets A self.now.sockets ∷ no_sockets B self.now.sockets ∷ no_world (host_of self.now A) (host_of self.now B) ∷ []) ≡ Some end) ⊎ (end ≡ Refusal Memory)) }
+        ensures ends { IfErr result
+            (λ end. (first_of (no_sockets A self.now.sockets ∷ no_sockets B self.now.sockets ∷ no_world (host_of self.now A) (host_of self.now B) ∷ []) ≡
+            Some end) ⊎ (end ≡ Refusal Memory)) }
     {
         let a = own_sockets_of(alloc, Side::A, self.sockets.as_slice())?;
         let b = own_sockets_of(alloc, Side::B, self.sockets.as_slice())?;

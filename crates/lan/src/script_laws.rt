@@ -14,7 +14,8 @@ pub fn reads_have_a_bound()
 
 /// What a script writes, and its status, are determined, unless memory was wanting.
 pub fn scripts_have_one_outcome()
-    ensures { (script output other : List ℕ) (status last : ℕ) → IsReplay script output status → IsReplay script other last → IsSameReplay output status other last }
+    ensures { (script output other : List ℕ) (status last : ℕ) → IsReplay script output status → IsReplay script other last →
+        IsSameReplay output status other last }
 {
     one_outcome();
 }

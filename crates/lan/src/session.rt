@@ -112,7 +112,8 @@ fn go_on(alloc: Global, world: &mut World, line: &Line<'_>) -> Result<String, En
 fn take_event(alloc: Global, world: &mut World, event: Event) -> Result<String, End>
     ensures takes { IfOk result (λ text. Takes world.old event (string_bytes text) world.new) }
     ensures allowed { IfOk result (λ text. refusal_in world.old.history world.old.hosts event ≡ None) }
-    ensures ends { IfErr result (λ end. (option_map Refusal (refusal_in world.old.history world.old.hosts event) ≡ Some end) ⊎ ((refusal_in world.old.history world.old.hosts event ≡ None) × (end ≡ Refusal Memory))) }
+    ensures ends { IfErr result (λ end. (option_map Refusal (refusal_in world.old.history world.old.hosts event) ≡ Some end) ⊎
+        ((refusal_in world.old.history world.old.hosts event ≡ None) × (end ≡ Refusal Memory))) }
 {
     let sent_by_a = world.sent(Side::A).len();
     let sent_by_b = world.sent(Side::B).len();

@@ -54,4 +54,5 @@ whole_run =
 pub whole_leads : run start.net (steps_of start whole) ≡ closed.net
 whole_leads =
     net_played start whole
-    ∙ ap (λ (p : Play). p.net) (played_append start opening (telling ++ (ending ++ closing)) ∙ played_append opened telling (ending ++ closing) ∙ played_append told ending closing)
+    ∙ ap (λ (p : Play). p.net) (played_append start opening (telling ++ (ending ++ closing)) ∙ played_append opened telling (ending ++ closing) ∙
+    played_append told ending closing)

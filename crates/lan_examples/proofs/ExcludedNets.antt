@@ -1,5 +1,6 @@
 -- Why no two hosts come to these histories.
-use Rattle.std.proofs.Common.{◌≡◌, inl, inr, ℕ, ◌+◌, true, false, List, [], ◌∷◌, ◌++◌, length, get_or, length-append, Some, None, refl, sym, ap, ◌∙◌, subst, arith}
+use Rattle.std.proofs.Common.{◌≡◌, inl, inr, ℕ, ◌+◌, true, false, List, [], ◌∷◌, ◌++◌, length, get_or, length-append, Some, None, refl, sym, ap, ◌∙◌, subst}
+use Rattle.std.proofs.Common.{arith}
 use Rattle.std.specs.Prelude.{◌==◌, ◌||◌, Bool, if◌then◌else◌}
 use Rattle.lan_history.specs.declared.event.Side.{Side}
 use Rattle.lan_history.specs.declared.event.Side.TheVariants.{A, B}
@@ -72,7 +73,8 @@ queued_otherwise safe =
 -- nothing closes B's socket, whichever it is
 open_yet : (j : ℕ) → is_closed_by spoken B j ≡ false
 open_yet j = by (0 == j) where
-  by : (b : Bool) → (closes (if b then Some (Call.Connect (endpoint A 80) 49_500) else None) None || closes (if b then Some (Call.Send text) else None) None) ≡ false
+  by : (b : Bool) → (closes (if b then Some (Call.Connect (endpoint A 80) 49_500) else None) None || closes (if b then Some (Call.Send text) else None)
+      None) ≡ false
   by true = refl
   by false = refl
 
@@ -101,7 +103,8 @@ alone safe =
 -- DATAGRAMS
 
 -- binding a socket accepts no datagram
-no_bind : (past : List Entry) (side : Side) (i port source : ℕ) (bytes : List ℕ) → Accepts unbound past (had side i (Call.Bind port) To.Done) A source 53 bytes → ⊥
+no_bind : (past : List Entry) (side : Side) (i port source : ℕ) (bytes : List ℕ) →
+    Accepts unbound past (had side i (Call.Bind port) To.Done) A source 53 bytes → ⊥
 no_bind past A i port source bytes a = let clash = a.was_sent in absurd (cc)
 no_bind past B i port source bytes a = let clash = a.was_sent in absurd (cc)
 

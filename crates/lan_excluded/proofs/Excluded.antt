@@ -1,5 +1,6 @@
 -- Why no events lead to these worlds.
-use Rattle.std.proofs.Common.{◌≡◌, ◌≢◌, ℕ, ◌<◌, ◌≤◌, ℤ, pos, false, if◌then◌else◌, List, [], ◌∷◌, ◌++◌, length, map, take, drop, Some, None, inl, refl, sym, ◌∙◌, ap, subst, arith}
+use Rattle.std.proofs.Common.{◌≡◌, ◌≢◌, ℕ, ◌<◌, ◌≤◌, ℤ, pos, false, if◌then◌else◌, List, [], ◌∷◌, ◌++◌, length, map, take, drop, Some, None, inl, refl, sym}
+use Rattle.std.proofs.Common.{◌∙◌, ap, subst, arith}
 use Rattle.std.specs.Prelude.{slice_get, ◌≤ℤ◌, ◌<ℤ◌}
 use Rattle.std.proofs.lemmas.Int.{ints}
 use Rattle.ip_wire.specs.Ipv4.{key_of}
@@ -39,10 +40,12 @@ use Rattle.lan_excluded.specs.Worlds.{after, Delivers, Damages, IsAsked, GetsRoo
 
 -- RUNS
 
-pub run_unbidden : (starts : Starts) (hosts : Stations) (frame : List ℕ) (more : List (List ℕ)) → hosts.a.link.sent ≡ frame ∷ more → WorldRun [] (unused_both starts) hosts → ⊥
+pub run_unbidden : (starts : Starts) (hosts : Stations) (frame : List ℕ) (more : List (List ℕ)) → hosts.a.link.sent ≡ frame ∷ more →
+    WorldRun [] (unused_both starts) hosts → ⊥
 run_unbidden starts hosts frame more is ran = let e : frame ∷ more ≡ [] = sym is ∙ ap (λ (x : Stations). x.a.link.sent) ran in cc
 
-pub run_not_sent_yet : (starts : Starts) (hosts : Stations) (past : List Entry) (e : Entry) (k : ℕ) (padding : List ℕ) → Delivers k padding e → e.before.sent_a ≤ k → WorldRun (e ∷ past) (unused_both starts) hosts → ⊥
+pub run_not_sent_yet : (starts : Starts) (hosts : Stations) (past : List Entry) (e : Entry) (k : ℕ) (padding : List ℕ) → Delivers k padding e →
+    e.before.sent_a ≤ k → WorldRun (e ∷ past) (unused_both starts) hosts → ⊥
 run_not_sent_yet starts hosts past e k padding is few ran =
     let before : Stations = ran.0 in
     let allowed : refusal before (tables_in past before) (OfLink (Hands (Delivered A k padding))) ≡ None =
@@ -51,9 +54,11 @@ run_not_sent_yet starts hosts past e k padding is few ran =
     let counted : e.before.sent_a ≡ length before.a.link.sent = ap (λ (c : Counts). c.sent_a) ran.2.counted in
     absurd (omega (arith, there, counted, few))
 
-pub run_other_answer : (starts : Starts) (hosts : Stations) (past : List Entry) (e : Entry) (moment : ℤ) → IsAsked moment e → e.answer ≡ To.Done → WorldRun (e ∷ past) (unused_both starts) hosts → ⊥
+pub run_other_answer : (starts : Starts) (hosts : Stations) (past : List Entry) (e : Entry) (moment : ℤ) → IsAsked moment e → e.answer ≡ To.Done →
+    WorldRun (e ∷ past) (unused_both starts) hosts → ⊥
 run_other_answer starts hosts past e moment is done ran =
-    let happens : Happens ran.0 (OfHost A (Asks moment)) e.answer e.found hosts = subst (λ (x : Kind). Happens ran.0 x e.answer e.found hosts) is ran.2.happens in
+    let happens : Happens ran.0 (OfHost A (Asks moment)) e.answer e.found hosts =
+    subst (λ (x : Kind). Happens ran.0 x e.answer e.found hosts) is ran.2.happens in
     let clash = sym done ∙ happens.acts.0 in
     cc
 
@@ -92,14 +97,16 @@ room_sends m m' t room is step =
     subst (λ (act : Act). Acts (at_link m step.link) act t.answer t.found (at_link m' step.link_after)) is step.acts in
     nothing_more step.link.sent t.sent (sym step.joins ∙ ap (λ (s : StationValue). s.link.sent) acts.2)
 
-room_alone : (m m' : Machine) (first : ℕ) (turns : List Turn) (d : Deed) (room : ℕ) → d.act ≡ Opens room → map deed_of turns ≡ d ∷ [] → HostRun m first turns m' → frames_sent turns ≡ []
+room_alone : (m m' : Machine) (first : ℕ) (turns : List Turn) (d : Deed) (room : ℕ) → d.act ≡ Opens room → map deed_of turns ≡ d ∷ [] →
+    HostRun m first turns m' → frames_sent turns ≡ []
 room_alone m m' first [] d room is same run = refl
 room_alone m m' first (t ∷ []) d room is same run =
     let e : deed_of t ≡ d = cc in
     room_sends run.0 m' t room (ap (λ (x : Deed). x.act) e ∙ is) run.3
 room_alone m m' first (t ∷ u ∷ turns) d room is same run = absurd (let e : deed_of u ∷ map deed_of turns ≡ [] = cc in cc)
 
-pub host_without_poll : (starts : Starts) (hosts : Stations) (e : Entry) (room : ℕ) (frame : List ℕ) (more : List (List ℕ)) → GetsRoom room e → e.before.sent_a ≡ 0 → hosts.a.link.sent ≡ frame ∷ more → IsHostRun (after starts (e ∷ []) hosts) A → ⊥
+pub host_without_poll : (starts : Starts) (hosts : Stations) (e : Entry) (room : ℕ) (frame : List ℕ) (more : List (List ℕ)) → GetsRoom room e →
+    e.before.sent_a ≡ 0 → hosts.a.link.sent ≡ frame ∷ more → IsHostRun (after starts (e ∷ []) hosts) A → ⊥
 host_without_poll starts hosts e room frame more is zero sent h =
     let frames : List (List ℕ) = hosts.a.link.sent in
     let d : Deed = record { act = Opens room; answer = e.answer; found = e.found } in
@@ -107,7 +114,8 @@ host_without_poll starts hosts e room frame more is zero sent h =
     let own : own_frames A (e ∷ []) frames ≡ frames =
     ap (λ (n : ℕ). take n frames ++ (if is_cut_of A (kind_of e.event) then [] else drop n frames)) zero
     ∙ ap (λ (x : Kind). take 0 frames ++ (if is_cut_of A x then [] else drop 0 frames)) is in
-    let none : frames_sent h.turns ≡ [] = room_alone (machine_of (unused starts.a)) (machine_of hosts.a) (unused starts.a).link.room h.turns d room refl one h.run in
+    let none : frames_sent h.turns ≡ [] =
+    room_alone (machine_of (unused starts.a)) (machine_of hosts.a) (unused starts.a).link.room h.turns d room refl one h.run in
     let clash : frame ∷ more ≡ [] = sym sent ∙ sym own ∙ h.sent ∙ none in
     cc
 
@@ -121,12 +129,15 @@ sooner = omega (arith, ints)
 
 pub quiet_before : (starts : Starts) → starts.a.host.inner.routes ≡ [] → PollsWereQuiet starts (polled ∷ asked (Some (pos 10)) ∷ []) (sent_by_a 1) → ⊥
 quiet_before starts none quiet =
-    let same : ◌≡◌ {A = ℕ} 1 0 = quiet.0 (pos 0) (Some (pos 10)) (inl (record { event = refl; answered = refl; waiting = refl })) sooner (no_routes starts.a.host.inner.routes (pos 0) (pos 5) none) in
+    let same : ◌≡◌ {A = ℕ} 1 0 =
+    quiet.0 (pos 0) (Some (pos 10)) (inl (record { event = refl; answered = refl; waiting = refl })) sooner
+    (no_routes starts.a.host.inner.routes (pos 0) (pos 5) none) in
     absurd (omega (arith, same))
 
 pub quiet_never : (starts : Starts) → starts.a.host.inner.routes ≡ [] → PollsWereQuiet starts (polled ∷ asked None ∷ []) (sent_by_a 1) → ⊥
 quiet_never starts none quiet =
-    let same : ◌≡◌ {A = ℕ} 1 0 = quiet.0 (pos 0) None (inl (record { event = refl; answered = refl; waiting = refl })) tt (no_routes starts.a.host.inner.routes (pos 0) (pos 5) none) in
+    let same : ◌≡◌ {A = ℕ} 1 0 =
+    quiet.0 (pos 0) None (inl (record { event = refl; answered = refl; waiting = refl })) tt (no_routes starts.a.host.inner.routes (pos 0) (pos 5) none) in
     absurd (omega (arith, same))
 
 -- QUESTIONS
@@ -148,7 +159,8 @@ asks_too_early q r apart = not_before apart.0.0
 
 -- PAYLOADS
 
-module _ (w : WorldValue) (turns : Side → List Turn) (side : Side) (header : Ipv4Repr) (payload : List ℕ) (r : Rebuilds (station w.hosts side) header payload) (sent : RebuiltWasSent w turns) where
+module _ (w : WorldValue) (turns : Side → List Turn) (side : Side) (header : Ipv4Repr) (payload : List ℕ) (r : Rebuilds (station w.hosts side) header payload)
+    (sent : RebuiltWasSent w turns) where
   abbrev Said : Fact → Type 0
   Said fact = IsSaid (medium_of (station w.hosts (other side))) (frames_sent (turns (other side))) (key_of header) fact
 
@@ -173,8 +185,10 @@ module _ (w : WorldValue) (turns : Side → List Turn) (side : Side) (header : I
 
 -- DAMAGE
 
-module _ (hosts : Stations) (past : List Entry) (e : Entry) (k place word : ℕ) (padding : List ℕ) (i : InnerValue) (timeout : ℕ) (slots after_slots : Slots) (places : Places) (a : Arrived)
-    (is : Damages k place word padding e) (t : IsTaken hosts k place word padding i timeout slots after_slots places a) (harmless : DamageIsHarmless hosts (e ∷ past)) where
+module _ (hosts : Stations) (past : List Entry) (e : Entry) (k place word : ℕ) (padding : List ℕ) (i : InnerValue) (timeout : ℕ) (slots after_slots : Slots)
+    (places : Places) (a : Arrived)
+    (is : Damages k place word padding e) (t : IsTaken hosts k place word padding i timeout slots after_slots places a)
+    (harmless : DamageIsHarmless hosts (e ∷ past)) where
   harm : (with_ports a.places ≡ with_ports places) × (a.reply ≡ None)
   harm =
       let frame : IsHarmless (medium_of hosts.a) (frame_of_origin hosts (Damaged A k place word padding)) = subst (IsHarmlessBy hosts) is harmless.0 in

@@ -81,7 +81,8 @@ AreOfOther medium frames key =
     (k : ℕ) (frame : List ℕ) (other : Ipv4FragKey) (fact : Fact) → slice_get frames k ≡ Some frame → Carries medium frame other fact → other.id ≢ key.id
 
 -- a host of the medium that tests all checksums takes the damaged frame
-pub record IsTaken (hosts : Stations) (k place word : ℕ) (padding : List ℕ) (i : InnerValue) (timeout : ℕ) (slots after : Slots) (places : Places) (a : Arrived) : Type 0 where
+pub record IsTaken (hosts : Stations) (k place word : ℕ) (padding : List ℕ) (i : InnerValue) (timeout : ℕ) (slots after : Slots) (places : Places)
+    (a : Arrived) : Type 0 where
   pub medium : is_of_medium i.hardware (medium_of hosts.a) ≡ true
   pub checksums : i.checksums ≡ all_checksums Both
   pub arrives : Arrives i timeout slots places (frame_of_origin hosts (Damaged A k place word padding)) after a

@@ -107,12 +107,14 @@ pub fn bad_payloads_are_excluded()
 
 /// `damage`: a frame that the link damaged is answered by a host that takes it, or touches a TCP or UDP socket there.
 pub fn bad_damage_is_excluded()
-    ensures answered { (hosts : Stations) (past : List Entry) (e : Entry) (k place word : ℕ) (padding : List ℕ) (i : InnerValue) (timeout : ℕ) (slots after : Slots) (places : Places) (a : Arrived) (reply : ReplyValue)
+    ensures answered { (hosts : Stations) (past : List Entry) (e : Entry) (k place word : ℕ) (padding : List ℕ) (i : InnerValue) (timeout : ℕ)
+        (slots after : Slots) (places : Places) (a : Arrived) (reply : ReplyValue)
         → Damages k place word padding e
         → IsTaken hosts k place word padding i timeout slots after places a
         → a.reply ≡ Some reply
         → DamageIsHarmless hosts (e ∷ past) → ⊥ }
-    ensures heard { (hosts : Stations) (past : List Entry) (e : Entry) (k place word : ℕ) (padding : List ℕ) (i : InnerValue) (timeout : ℕ) (slots after : Slots) (places : Places) (a : Arrived)
+    ensures heard { (hosts : Stations) (past : List Entry) (e : Entry) (k place word : ℕ) (padding : List ℕ) (i : InnerValue) (timeout : ℕ)
+        (slots after : Slots) (places : Places) (a : Arrived)
         → Damages k place word padding e
         → IsTaken hosts k place word padding i timeout slots after places a
         → with_ports a.places ≢ with_ports places

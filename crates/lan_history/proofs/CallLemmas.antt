@@ -1,5 +1,6 @@
 -- Whose call an entry is.
-use Rattle.std.proofs.Common.{◌≡◌, ◌≢◌, ◌⊎◌, inl, inr, ℕ, ◌==◌, ◌&&◌, Bool, true, false, if◌then◌else◌, Option, Some, None, refl, sym, ap, ◌∙◌, subst, eq-eqb, arith}
+use Rattle.std.proofs.Common.{◌≡◌, ◌≢◌, ◌⊎◌, inl, inr, ℕ, ◌==◌, ◌&&◌, Bool, true, false, if◌then◌else◌, Option, Some, None, refl, sym, ap, ◌∙◌, subst, eq-eqb}
+use Rattle.std.proofs.Common.{arith}
 use Rattle.std.proofs.lemmas.Bool.{eqb-true}
 use Rattle.lan_history.specs.declared.event.Side.{Side}
 use Rattle.lan_history.specs.declared.event.Side.TheVariants.{A, B}
@@ -45,7 +46,8 @@ call_at_other_side e side i j call k =
     ap (λ (kind : Kind). call_in kind (other side) j) k
     ∙ ap (λ (t : Bool). if t && (i == j) then Some call else None) (same_side_other side)
 
-pub call_at_other_place : (e : Entry) (side : Side) (i j : ℕ) (call : SocketCall) → kind_of e.event ≡ calls side i call → (i == j) ≡ false → call_of e side j ≡ None
+pub call_at_other_place : (e : Entry) (side : Side) (i j : ℕ) (call : SocketCall) → kind_of e.event ≡ calls side i call → (i == j) ≡ false →
+    call_of e side j ≡ None
 call_at_other_place e side i j call k apart =
     ap (λ (kind : Kind). call_in kind side j) k
     ∙ ap (λ (t : Bool). if t && (i == j) then Some call else None) (same_side_refl side)

@@ -1,5 +1,6 @@
 -- A socket has at most one partner.
-use Rattle.std.proofs.Common.{◌≡◌, ◌≢◌, ◌⊎◌, inl, inr, ℕ, ◌<◌, ◌≤◌, ◌==◌, ◌&&◌, ◌||◌, not, Bool, true, false, if◌then◌else◌, List, [], ◌∷◌, length, Option, Some, None, is_some, refl, sym, ap, ◌∙◌, subst, eq-eqb, arith}
+use Rattle.std.proofs.Common.{◌≡◌, ◌≢◌, ◌⊎◌, inl, inr, ℕ, ◌<◌, ◌≤◌, ◌==◌, ◌&&◌, ◌||◌, not, Bool, true, false, if◌then◌else◌, List, [], ◌∷◌, length, Option}
+use Rattle.std.proofs.Common.{Some, None, is_some, refl, sym, ap, ◌∙◌, subst, eq-eqb, arith}
 use Rattle.std.proofs.lemmas.Bool.{eqb-true, and_parts, or_parts, cases_lt}
 use Rattle.std.proofs.lemmas.List.{get_or_past}
 use Rattle.std.specs.Prelude.{slice_index_or}
@@ -19,13 +20,15 @@ use Rattle.lan_history.specs.Call.{SocketCall}
 use Rattle.lan_history.specs.Call as Call
 use Rattle.lan_history.specs.History.{Entry, call_of, first_of, opening_by, opening}
 use Rattle.lan_history.specs.Partners.{names_port, are_paired, ArePartners}
-use Rattle.lan_history.specs.Tables.{no_record, record_at, table_of, record_of, names_same, takes_ports, is_port_taken, is_wrong_kind, first_refusal, call_refusal, own_tests, opening_tests, Places, kinds, kind_at, IsAllowed, AreAllowed}
+use Rattle.lan_history.specs.Tables.{no_record, record_at, table_of, record_of, names_same, takes_ports, is_port_taken, is_wrong_kind, first_refusal}
+use Rattle.lan_history.specs.Tables.{call_refusal, own_tests, opening_tests, Places, kinds, kind_at, IsAllowed, AreAllowed}
 use Rattle.lan_history.proofs.CallLemmas.{other_twice, call_found, call_in_here, call_or_none}
 use Rattle.lan_history.proofs.TableLemmas.{first_of-none, length_table, table_says}
 
 -- TESTS
 
-pub test_passed : (test : Bool) (why : Refused) (tests : List (Bool × Refused)) → first_refusal ((test, why) ∷ tests) ≡ None → (test ≡ false) × (first_refusal tests ≡ None)
+pub test_passed : (test : Bool) (why : Refused) (tests : List (Bool × Refused)) → first_refusal ((test, why) ∷ tests) ≡ None → (test ≡ false) ×
+    (first_refusal tests ≡ None)
 test_passed true why tests e = absurd (cc)
 test_passed false why tests e = (refl, e)
 
@@ -105,7 +108,8 @@ pub record OpensNow (past : List Entry) (e : Entry) (side : Side) (i : ℕ) (o :
   pub first : opening past side i ≡ None
   pub opened : opening_by (Some call) e.answer ≡ Some o
 
-pub opening_cases : (past : List Entry) (e : Entry) (side : Side) (i : ℕ) (o : Opening) → opening (e ∷ past) side i ≡ Some o → (opening past side i ≡ Some o) ⊎ OpensNow past e side i o
+pub opening_cases : (past : List Entry) (e : Entry) (side : Side) (i : ℕ) (o : Opening) → opening (e ∷ past) side i ≡ Some o → (opening past side i ≡ Some o) ⊎
+    OpensNow past e side i o
 opening_cases past e side i o h = by (opening past side i) (call_of e side i) refl refl h where
   by :
       (before : Option Opening) (call : Option SocketCall) → opening past side i ≡ before → call_of e side i ≡ call
@@ -119,10 +123,12 @@ pub opening_stays : (past : List Entry) (e : Entry) (side : Side) (i : ℕ) (o :
 opening_stays past e side i o h = ap (λ (before : Option Opening). first_of before (opening_by (call_of e side i) e.answer)) h
 
 -- an opened socket has a place
-pub opened_place : (places : Places) (history : List Entry) (side : Side) (i : ℕ) (o : Opening) → AreAllowed places history → opening history side i ≡ Some o → i < length (kinds places side)
+pub opened_place : (places : Places) (history : List Entry) (side : Side) (i : ℕ) (o : Opening) → AreAllowed places history → opening history side i ≡ Some o →
+    i < length (kinds places side)
 opened_place places [] side i o allowed h = absurd (cc)
 opened_place places (e ∷ past) side i o allowed h = by (opening_cases past e side i o h) (opened_place places past side i o allowed.1) where
-  by : (opening past side i ≡ Some o) ⊎ OpensNow past e side i o → (opening past side i ≡ Some o → i < length (kinds places side)) → i < length (kinds places side)
+  by : (opening past side i ≡ Some o) ⊎ OpensNow past e side i o → (opening past side i ≡ Some o → i < length (kinds places side)) →
+      i < length (kinds places side)
   by (inl was) before = before was
   by (inr now) before = (was_taken places past side i now.call (subst (λ (kind : Kind). IsAllowed places past kind) now.kind allowed.0)).place
 
@@ -143,13 +149,19 @@ apart_turned : (o p : Opening) → AreApart o p → AreApart p o
 apart_turned o p a = record { local = λ same. a.local (sym same); remote = names_same_turned o.remote p.remote a.remote }
 
 -- a port that isn't taken is no other opened socket's
-not_taken : (table : List SocketRecord) (o p : Opening) (j : ℕ) → is_port_taken table o ≡ false → j < length table → (record_at table j).opened ≡ Some p → AreApart o p
+not_taken : (table : List SocketRecord) (o p : Opening) (j : ℕ) → is_port_taken table o ≡ false → j < length table → (record_at table j).opened ≡ Some p →
+    AreApart o p
 not_taken table o p j free below h = by (takes_ports o (record_at table j).opened) refl where
   by : (t : Bool) → takes_ports o (record_at table j).opened ≡ t → AreApart o p
-  by true e = absurd (let taken = list_any_at (λ (r : SocketRecord). takes_ports o r.opened) table j no_record below e in let clash : false ≡ true = sym free ∙ taken in cc)
+  by true e = absurd (let taken = list_any_at (λ (r : SocketRecord). takes_ports o r.opened) table j no_record below e in let clash : false ≡ true =
+      sym free ∙ taken in cc)
   by false e =
       let parts = or_parts (p.local == o.local) (names_same p.remote o.remote) (ap (takes_ports o) (sym h) ∙ e) in
-      record { local = λ same. absurd (let clash : false ≡ true = sym parts.0 ∙ eq-eqb p.local o.local (sym same) in cc); remote = names_same_turned p.remote o.remote parts.1 }
+      record {
+        local = λ same. absurd (let clash : false ≡ true = sym parts.0 ∙ eq-eqb p.local o.local (sym same) in cc);
+        remote =
+            names_same_turned p.remote o.remote parts.1;
+      }
 
 pub apart_from_opened :
     (places : Places) (past : List Entry) (side : Side) (i j : ℕ) (o p : Opening) → AreAllowed places past → MayOpen places past side i o
@@ -160,7 +172,8 @@ apart_from_opened places past side i j o p allowed may h =
     let size = length_table past side count in
     not_taken (table_of past side count) o p j may.free (omega arith) (ap (λ (r : SocketRecord). r.opened) (table_says past side count j below) ∙ h)
 
-may_open_now : (places : Places) (past : List Entry) (e : Entry) (side : Side) (i : ℕ) (o : Opening) → IsAllowed places past (kind_of e.event) → OpensNow past e side i o → MayOpen places past side i o
+may_open_now : (places : Places) (past : List Entry) (e : Entry) (side : Side) (i : ℕ) (o : Opening) → IsAllowed places past (kind_of e.event) →
+    OpensNow past e side i o → MayOpen places past side i o
 may_open_now places past e side i o allowed now =
     opens places past side i now.call e.answer o
     (was_taken places past side i now.call (subst (λ (kind : Kind). IsAllowed places past kind) now.kind allowed)) now.opened
@@ -177,7 +190,8 @@ opened_apart places (e ∷ past) side i j o p allowed h k =
         (opening past side i ≡ Some o) ⊎ OpensNow past e side i o → (opening past side j ≡ Some p) ⊎ OpensNow past e side j p
         → (opening past side i ≡ Some o → opening past side j ≡ Some p → (i ≡ j) ⊎ AreApart o p) → (i ≡ j) ⊎ AreApart o p
     by (inl h) (inl k) before = before h k
-    by (inl h) (inr now) before = inr (apart_turned p o (apart_from_opened places past side j i p o allowed.1 (may_open_now places past e side j p allowed.0 now) h))
+    by (inl h) (inr now) before =
+        inr (apart_turned p o (apart_from_opened places past side j i p o allowed.1 (may_open_now places past e side j p allowed.0 now) h))
     by (inr now) (inl k) before = inr (apart_from_opened places past side i j o p allowed.1 (may_open_now places past e side i o allowed.0 now) k)
     by (inr now) (inr also) before = inl (let same : calls side i now.call ≡ calls side j also.call = sym now.kind ∙ also.kind in cc)
 
@@ -198,17 +212,20 @@ partners_meet o p q a b apart = by o.remote p.remote q.remote (names_port p.remo
   by None (Some s) (Some t) u v hr hs ht hu hv a b =
       let one : s ≡ o.local = eqb-true s o.local (ap (λ (r : Option ℕ). names_port r o.local) (sym hs) ∙ hu ∙ a) in
       let two : t ≡ o.local = eqb-true t o.local (ap (λ (r : Option ℕ). names_port r o.local) (sym ht) ∙ hv ∙ b) in
-      let differ : (s == t) ≡ false = ap (λ (r : Option ℕ). names_same r (Some t)) (sym hs) ∙ ap (λ (r : Option ℕ). names_same p.remote r) (sym ht) ∙ apart.remote in
+      let differ : (s == t) ≡ false = ap (λ (r : Option ℕ). names_same r (Some t)) (sym hs) ∙ ap (λ (r : Option ℕ). names_same p.remote r) (sym ht) ∙
+      apart.remote in
       absurd (let clash : false ≡ true = sym differ ∙ eq-eqb s t (one ∙ sym two) in cc)
 
-pub one_partner : (places : Places) (history : List Entry) (side : Side) (i j k : ℕ) → AreAllowed places history → ArePartners history side i j → ArePartners history side i k → j ≡ k
-one_partner places history side i j k allowed a b = by (opened_apart places history (other side) j k a.another b.another allowed a.partner_opened b.partner_opened) where
-  same : a.one ≡ b.one
-  same = let both : Some a.one ≡ Some b.one = sym a.opened ∙ b.opened in cc
+pub one_partner : (places : Places) (history : List Entry) (side : Side) (i j k : ℕ) → AreAllowed places history → ArePartners history side i j →
+    ArePartners history side i k → j ≡ k
+one_partner places history side i j k allowed a b =
+    by (opened_apart places history (other side) j k a.another b.another allowed a.partner_opened b.partner_opened) where
+      same : a.one ≡ b.one
+      same = let both : Some a.one ≡ Some b.one = sym a.opened ∙ b.opened in cc
 
-  by : (j ≡ k) ⊎ AreApart a.another b.another → j ≡ k
-  by (inl e) = e
-  by (inr apart) = absurd (partners_meet a.one a.another b.another a.paired (ap (λ (o : Opening). are_paired o b.another) same ∙ b.paired) apart)
+      by : (j ≡ k) ⊎ AreApart a.another b.another → j ≡ k
+      by (inl e) = e
+      by (inr apart) = absurd (partners_meet a.one a.another b.another a.paired (ap (λ (o : Opening). are_paired o b.another) same ∙ b.paired) apart)
 
 -- each is the other's
 pub paired_turned : (o p : Opening) → are_paired o p ≡ true → are_paired p o ≡ true

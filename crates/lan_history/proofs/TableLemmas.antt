@@ -1,5 +1,6 @@
 -- The tables are what the history says.
-use Rattle.std.proofs.Common.{◌≡◌, ◌≢◌, ℕ, ◌+◌, ◌<◌, ◌==◌, ◌&&◌, Bool, true, false, if◌then◌else◌, List, [], ◌∷◌, length, Option, Some, None, refl, sym, ap, ◌∙◌, subst, arith}
+use Rattle.std.proofs.Common.{◌≡◌, ◌≢◌, ℕ, ◌+◌, ◌<◌, ◌==◌, ◌&&◌, Bool, true, false, if◌then◌else◌, List, [], ◌∷◌, length, Option, Some, None, refl, sym, ap}
+use Rattle.std.proofs.Common.{◌∙◌, subst, arith}
 use Rattle.std.specs.Prelude.{slice_set, replicate}
 use Rattle.std.proofs.lemmas.List.{get_or-set_same, get_or-set_other, get_or-replicate, length-set, length-replicate, length-append}
 use Rattle.std.proofs.lemmas.Bool.{eqb-true, eqb-false}
@@ -38,7 +39,8 @@ recorded_none r answer =
     ap (λ (o : Option Opening). record r { opened = o }) (sym (first_of-none r.opened))
     ∙ ap (λ (n : ℕ). record { opened = first_of r.opened None; accepted = n }) (let more : r.accepted ≡ r.accepted + 0 = omega arith in more)
 
-record_after_is : (kind : Kind) (answer : Answer) (side : Side) (table : List SocketRecord) (i : ℕ) → i < length table → record_at (table_after kind answer side table) i ≡ recorded (record_at table i) (call_in kind side i) answer
+record_after_is : (kind : Kind) (answer : Answer) (side : Side) (table : List SocketRecord) (i : ℕ) → i < length table →
+    record_at (table_after kind answer side table) i ≡ recorded (record_at table i) (call_in kind side i) answer
 record_after_is (OfHost s (Calls j call)) answer side table i below = by (same_side s side) (j == i) refl where
   by :
       (t u : Bool) → (j == i) ≡ u
@@ -46,7 +48,8 @@ record_after_is (OfHost s (Calls j call)) answer side table i below = by (same_s
       ≡ recorded (record_at table i) (if t && u then Some call else None) answer
   by true true e =
       let same : j ≡ i = eqb-true j i e in
-      subst (λ (j : ℕ). record_at (slice_set table j (record_after (record_at table j) call answer)) i ≡ recorded (record_at table i) (Some call) answer) (sym same)
+      subst (λ (j : ℕ). record_at (slice_set table j (record_after (record_at table j) call answer)) i ≡
+      recorded (record_at table i) (Some call) answer) (sym same)
       (get_or-set_same table i (record_after (record_at table i) call answer) no_record below)
   by true false e =
       let apart : i ≢ j = λ same. eqb-false j i e (sym same) in
@@ -62,4 +65,5 @@ table_says (e ∷ past) side places i below =
     let size = length_table past side places in
     record_after_is (kind_of e.event) e.answer side (table_of past side places) i (omega arith)
     ∙ ap (λ (r : SocketRecord). recorded r (call_of e side i) e.answer) (table_says past side places i below)
-    ∙ ap (λ (n : ℕ). record { opened = opening (e ∷ past) side i; accepted = n }) (sym (length-append (written past side i) (bytes_written (call_of e side i) e.answer)))
+    ∙ ap (λ (n : ℕ). record { opened = opening (e ∷ past) side i; accepted = n })
+    (sym (length-append (written past side i) (bytes_written (call_of e side i) e.answer)))

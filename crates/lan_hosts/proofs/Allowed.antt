@@ -27,7 +27,8 @@ use Rattle.lan_hosts.specs.Calling.{is_called}
 use Rattle.lan_hosts.specs.Linking.{CanLink, CanLinkBy, HasSegment, HasPiece, linked_by}
 use Rattle.lan_hosts.specs.Origins.{medium_of, frame_sent}
 use Rattle.lan_hosts.specs.Records.{HasByteRoom}
-use Rattle.lan_hosts.specs.Refusals.{Table, Tables, table, act_tests, link_tests, segment_tests, cut_tests, is_too_early, is_no_frame, is_no_place, is_no_cut, refusal}
+use Rattle.lan_hosts.specs.Refusals.{Table, Tables, table, act_tests, link_tests, segment_tests, cut_tests, is_too_early, is_no_frame, is_no_place, is_no_cut}
+use Rattle.lan_hosts.specs.Refusals.{refusal}
 use Rattle.lan_hosts.specs.Station.{StationValue, Stations, station, kind_at}
 use Rattle.lan_hosts.specs.declared.answer.Taken.{Taken}
 
@@ -48,7 +49,8 @@ not_false false is = absurd cc
 
 -- A CALL
 
-called_by : (names : List ℕ → Bool) (kind : Option SocketKind) (records : List SocketRecord) (i : ℕ) (call : SocketCall) → first_refusal (call_tests names kind records i call) ≡ None
+called_by : (names : List ℕ → Bool) (kind : Option SocketKind) (records : List SocketRecord) (i : ℕ) (call : SocketCall) →
+    first_refusal (call_tests names kind records i call) ≡ None
     → (is_called kind call ≡ true) × (first_refusal (own_tests names records i call) ≡ None)
 called_by names None records i call is = absurd cc
 called_by names (Some kind) records i call is =
@@ -64,10 +66,12 @@ same_is B B is = refl
 same_is A B is = absurd cc
 same_is B A is = absurd cc
 
-room_of : (names : List ℕ → Bool) (tables : Tables) (side s : Side) (i : ℕ) (call : SocketCall) → first_refusal (own_tests names (table tables s).records i call) ≡ None → HasByteRoom side (table tables side).records (OfHost s (Calls i call))
+room_of : (names : List ℕ → Bool) (tables : Tables) (side s : Side) (i : ℕ) (call : SocketCall) →
+    first_refusal (own_tests names (table tables s).records i call) ≡ None → HasByteRoom side (table tables side).records (OfHost s (Calls i call))
 room_of names tables side s i (Call.Send bytes) is = λ same.
     subst (λ (x : Side). (record_at (table tables x).records i).accepted + length bytes < 2 ^ 29) (same_is s side same)
-    (few_bytes (record_at (table tables s).records i) (length bytes) (passed_by (is_too_many (record_at (table tables s).records i) (length bytes)) _ None is).0)
+    (few_bytes (record_at (table tables s).records i) (length bytes)
+    (passed_by (is_too_many (record_at (table tables s).records i) (length bytes)) _ None is).0)
 room_of names tables side s i (Call.Listen port) is = tt
 room_of names tables side s i (Call.Connect remote port) is = tt
 room_of names tables side s i (Call.Recv limit) is = tt
@@ -137,7 +141,8 @@ pub allowed_can : (hosts : Stations) (tables : Tables) (kind : Kind) → refusal
 allowed_can hosts tables (OfHost side act) is = can_call (station hosts side) (table tables side) act is
 allowed_can hosts tables (OfLink act) is = can_do hosts act is
 
-pub allowed_room : (hosts : Stations) (tables : Tables) (kind : Kind) (side : Side) → refusal hosts tables kind ≡ None → HasByteRoom side (table tables side).records kind
+pub allowed_room : (hosts : Stations) (tables : Tables) (kind : Kind) (side : Side) → refusal hosts tables kind ≡ None →
+    HasByteRoom side (table tables side).records kind
 allowed_room hosts tables (OfHost s (Calls i call)) side is =
     room_of (names_tcp_or_udp Medium.Ip) tables side s i call
     (called_by (names_tcp_or_udp Medium.Ip) (kind_at (station hosts s).places i) (table tables s).records i call is).1
@@ -160,7 +165,8 @@ pub can_link : (hosts : Stations) (kind : Kind) → actor kind ≡ None → CanH
 can_link hosts (OfHost s act) is can = tt
 can_link hosts (OfLink act) is can = can
 
-pub refused_host : (hosts : Stations) (tables : Tables) (kind : Kind) (side : Side) → actor kind ≡ Some side → refusal hosts tables kind ≡ act_refusal (station hosts side) (table tables side) kind
+pub refused_host : (hosts : Stations) (tables : Tables) (kind : Kind) (side : Side) → actor kind ≡ Some side →
+    refusal hosts tables kind ≡ act_refusal (station hosts side) (table tables side) kind
 refused_host hosts tables (OfHost s act) side is =
     ap (λ (x : Side). first_refusal (act_tests (station hosts x) (table tables x) act)) (some_side s side is)
 refused_host hosts tables (OfLink act) side is = absurd cc
@@ -169,16 +175,19 @@ pub refused_link : (hosts : Stations) (tables : Tables) (kind : Kind) → actor 
 refused_link hosts tables (OfHost s act) is = absurd cc
 refused_link hosts tables (OfLink act) is = refl
 
-pub acts_happen_a : (a b a' : StationValue) (kind : Kind) (t : Taken) → actor kind ≡ Some A → ActsBy a kind t a' → HappensBy (record { a = a; b = b }) kind t (record { a = a'; b = b })
+pub acts_happen_a : (a b a' : StationValue) (kind : Kind) (t : Taken) → actor kind ≡ Some A → ActsBy a kind t a' →
+    HappensBy (record { a = a; b = b }) kind t (record { a = a'; b = b })
 acts_happen_a a b a' (OfHost A act) t is acts = (record { acts = acts.0; rests = refl }, acts.1)
 acts_happen_a a b a' (OfHost B act) t is acts = absurd cc
 acts_happen_a a b a' (OfLink act) t is acts = absurd acts
 
-pub acts_happen_b : (a b b' : StationValue) (kind : Kind) (t : Taken) → actor kind ≡ Some B → ActsBy b kind t b' → HappensBy (record { a = a; b = b }) kind t (record { a = a; b = b' })
+pub acts_happen_b : (a b b' : StationValue) (kind : Kind) (t : Taken) → actor kind ≡ Some B → ActsBy b kind t b' →
+    HappensBy (record { a = a; b = b }) kind t (record { a = a; b = b' })
 acts_happen_b a b b' (OfHost B act) t is acts = (record { acts = acts.0; rests = refl }, acts.1)
 acts_happen_b a b b' (OfHost A act) t is acts = absurd cc
 acts_happen_b a b b' (OfLink act) t is acts = absurd acts
 
-pub links_happen : (hosts new : Stations) (kind : Kind) (t : Taken) → actor kind ≡ None → new ≡ linked_by hosts kind → t.answer ≡ To.Done → t.kept ≡ To.Done → t.found ≡ None → HappensBy hosts kind t new
+pub links_happen : (hosts new : Stations) (kind : Kind) (t : Taken) → actor kind ≡ None → new ≡ linked_by hosts kind → t.answer ≡ To.Done → t.kept ≡ To.Done →
+    t.found ≡ None → HappensBy hosts kind t new
 links_happen hosts new (OfHost s act) t is linked answer kept found = absurd cc
 links_happen hosts new (OfLink act) t is linked answer kept found = ((answer, found, linked), kept ∙ sym answer)

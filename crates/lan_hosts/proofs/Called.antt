@@ -105,11 +105,13 @@ module _ (s : StationValue) (i : ℕ) (side : Side) (call : SocketCall) (h' : Ho
       let set : ps' ≡ slice_set s.places i (with_socket item d.socket) = places ∙ ap (λ (x : Socket). slice_set s.places i (with_socket item x)) taken.1 in
       ((taken.0.0, taken.0.2, λ k. record s { host = host k; places = set k }), taken.0.1 ∙ sym taken.0.0)
 
-  item_acts : (t : Taken) (o : Option (Item Socket)) → ItemCalls s.host s.places i ByEvent o (Some t) h' ps' → ItemDoes s i o call t.answer t.found After × (t.kept ≡ t.answer)
+  item_acts : (t : Taken) (o : Option (Item Socket)) → ItemCalls s.host s.places i ByEvent o (Some t) h' ps' → ItemDoes s i o call t.answer t.found After ×
+      (t.kept ≡ t.answer)
   item_acts t None calls = absurd (some_taken t calls.0)
   item_acts t (Some item) calls = did_acts item calls.0 t (does (context_of s.host.inner) item.socket call) calls.1 calls.2 calls.3
 
-  place_acts : (t : Taken) (o : Option (SocketStorage Socket)) → PlaceCalls s.host s.places i ByEvent o (Some t) h' ps' → PlaceDoes s i o call t.answer t.found After × (t.kept ≡ t.answer)
+  place_acts : (t : Taken) (o : Option (SocketStorage Socket)) → PlaceCalls s.host s.places i ByEvent o (Some t) h' ps' →
+      PlaceDoes s i o call t.answer t.found After × (t.kept ≡ t.answer)
   place_acts t None calls = absurd (some_taken t calls.0)
   place_acts t (Some place) calls = item_acts t place.inner calls
 
@@ -127,9 +129,11 @@ module _ (s : StationValue) (i : ℕ) (side : Side) (call : SocketCall) (h' : Ho
   place_some (Some place) has calls = item_some place.inner has calls
 
 -- what a call of an event gave is what its act gives
-pub call_acts : (s : StationValue) (i : ℕ) (kind : Kind) (t : Taken) (h' : HostValue) (ps' : List (SocketStorage Socket)) → IsCall s.places i kind → PlaceCalls s.host s.places i kind (slice_get s.places i) (Some t) h' ps' → ActsBy s kind t (record s { host = h'; places = ps' })
+pub call_acts : (s : StationValue) (i : ℕ) (kind : Kind) (t : Taken) (h' : HostValue) (ps' : List (SocketStorage Socket)) → IsCall s.places i kind →
+    PlaceCalls s.host s.places i kind (slice_get s.places i) (Some t) h' ps' → ActsBy s kind t (record s { host = h'; places = ps' })
 call_acts s i (OfHost side (Calls j call)) t h' ps' is calls =
-    subst (λ (n : ℕ). PlaceCalls s.host s.places i (OfHost side (Calls n call)) (slice_get s.places i) (Some t) h' ps' → ActsSo s (Calls n call) t (record s { host = h'; places = ps' })) (sym is.0)
+    subst (λ (n : ℕ). PlaceCalls s.host s.places i (OfHost side (Calls n call)) (slice_get s.places i) (Some t) h' ps' →
+    ActsSo s (Calls n call) t (record s { host = h'; places = ps' })) (sym is.0)
     (λ at. place_acts s i side call h' ps' t (slice_get s.places i) at) calls
 call_acts s i (OfHost side (Sets setting)) t h' ps' is calls = absurd is
 call_acts s i (OfHost side (Opens room)) t h' ps' is calls = absurd is
@@ -138,7 +142,8 @@ call_acts s i (OfHost side (Polls moment budget)) t h' ps' is calls = absurd is
 call_acts s i (OfLink act) t h' ps' is calls = absurd is
 
 -- a call that the socket has gives something
-pub call_gives : (s : StationValue) (i : ℕ) (kind : Kind) (h' : HostValue) (ps' : List (SocketStorage Socket)) → IsCall s.places i kind → PlaceCalls s.host s.places i kind (slice_get s.places i) None h' ps' → ⊥
+pub call_gives : (s : StationValue) (i : ℕ) (kind : Kind) (h' : HostValue) (ps' : List (SocketStorage Socket)) → IsCall s.places i kind →
+    PlaceCalls s.host s.places i kind (slice_get s.places i) None h' ps' → ⊥
 call_gives s i (OfHost side (Calls j call)) h' ps' is calls =
     subst (λ (n : ℕ). PlaceCalls s.host s.places i (OfHost side (Calls n call)) (slice_get s.places i) None h' ps' → ⊥) (sym is.0)
     (λ at. place_some s i side call h' ps' (slice_get s.places i) is.1 at) calls
@@ -153,18 +158,21 @@ call_gives s i (OfLink act) h' ps' is calls = absurd is
 same_place : (ps : List (SocketStorage Socket)) (n : ℕ) (place : SocketStorage Socket) → slice_get ps n ≡ Some place → slice_set ps n place ≡ ps
 same_place ps n place got = ap (slice_set ps n) (sym (get_or_from_slice_get ps n place place got)) ∙ set-get_or ps n place
 
-none_by : (h : HostValue) (ps ps' : List (SocketStorage Socket)) (n : ℕ) (kind : Kind) (o : Option (Item Socket)) → o ≡ None → ps' ≡ ps → ItemCalls h ps n kind o None h ps'
+none_by : (h : HostValue) (ps ps' : List (SocketStorage Socket)) (n : ℕ) (kind : Kind) (o : Option (Item Socket)) → o ≡ None → ps' ≡ ps →
+    ItemCalls h ps n kind o None h ps'
 none_by h ps ps' n kind o is same = subst (λ (x : Option (Item Socket)). ItemCalls h ps n kind x None h ps') (sym is) (refl, refl, same)
 
 -- nothing is called at a free place
-pub calls_none : (h : HostValue) (ps : List (SocketStorage Socket)) (n : ℕ) (kind : Kind) (place : SocketStorage Socket) → slice_get ps n ≡ Some place → place.inner ≡ None → PlaceCalls h ps n kind (slice_get ps n) None h (slice_set ps n place)
+pub calls_none : (h : HostValue) (ps : List (SocketStorage Socket)) (n : ℕ) (kind : Kind) (place : SocketStorage Socket) → slice_get ps n ≡ Some place →
+    place.inner ≡ None → PlaceCalls h ps n kind (slice_get ps n) None h (slice_set ps n place)
 calls_none h ps n kind place got is =
     subst (λ (x : Option (SocketStorage Socket)). PlaceCalls h ps n kind x None h (slice_set ps n place)) (sym got)
     (none_by h ps (slice_set ps n place) n kind place.inner is (same_place ps n place got))
 
 -- FROM THE PARTS
 
-pub call_from : (s : StationValue) (h h' : HostValue) (ps ps' : List (SocketStorage Socket)) (link : LinkEnd) (i : ℕ) (kind : Kind) (said : Option Taken) (t : Taken) → of_parts h ps link ≡ s → said ≡ Some t → IsCall s.places i kind
+pub call_from : (s : StationValue) (h h' : HostValue) (ps ps' : List (SocketStorage Socket)) (link : LinkEnd) (i : ℕ) (kind : Kind) (said : Option Taken)
+    (t : Taken) → of_parts h ps link ≡ s → said ≡ Some t → IsCall s.places i kind
     → PlaceCalls h ps i kind (slice_get ps i) said h' ps' → ActsBy s kind t (of_parts h' ps' link)
 call_from s h h' ps ps' link i kind said t is some has calls =
     subst (λ (x : StationValue). ActsBy x kind t (of_parts h' ps' link)) is

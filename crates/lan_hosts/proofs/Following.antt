@@ -21,11 +21,13 @@ followed None kind answer table = table
 followed (Some i) kind answer table = slice_set table i (record_by (record_at table i) kind answer)
 
 by_side : (b : Bool) (s : Side) (i : ℕ) (call : SocketCall) (answer : Answer) (table : List SocketRecord)
-    → followed (if b then Some i else None) (OfHost s (Calls i call)) answer table ≡ (if b then slice_set table i (record_after (record_at table i) call answer) else table)
+    → followed (if b then Some i else None) (OfHost s (Calls i call)) answer table ≡
+    (if b then slice_set table i (record_after (record_at table i) call answer) else table)
 by_side true s i call answer table = refl
 by_side false s i call answer table = refl
 
-pub follows : (kind : Kind) (answer : Answer) (side : Side) (table : List SocketRecord) → followed (place_of side kind) kind answer table ≡ table_after kind answer side table
+pub follows : (kind : Kind) (answer : Answer) (side : Side) (table : List SocketRecord) →
+    followed (place_of side kind) kind answer table ≡ table_after kind answer side table
 follows (OfHost s (Calls i call)) answer side table = by_side (same_side s side) s i call answer table
 follows (OfHost s (Sets setting)) answer side table = refl
 follows (OfHost s (Opens room)) answer side table = refl
@@ -53,13 +55,16 @@ written_few bytes (To.Poll changed) = omega arith
 written_few bytes (To.At instant) = omega arith
 written_few bytes (To.Error fault) = omega arith
 
-sends_few : (bytes : List ℕ) (answer : Answer) (r : SocketRecord) → r.accepted + length bytes < 2 ^ 29 → CanRise r (length (bytes_written (Some (Call.Send bytes)) answer))
+sends_few : (bytes : List ℕ) (answer : Answer) (r : SocketRecord) → r.accepted + length bytes < 2 ^ 29 →
+    CanRise r (length (bytes_written (Some (Call.Send bytes)) answer))
 sends_few bytes answer r few some = omega (arith, few, written_few bytes answer)
 
-pub room_at : (side : Side) (kind : Kind) (answer : Answer) (table : List SocketRecord) (i : ℕ) → place_of side kind ≡ Some i → HasByteRoom side table kind → CanRise (record_at table i) (written_in kind answer)
+pub room_at : (side : Side) (kind : Kind) (answer : Answer) (table : List SocketRecord) (i : ℕ) → place_of side kind ≡ Some i → HasByteRoom side table kind →
+    CanRise (record_at table i) (written_in kind answer)
 room_at side (OfHost s (Calls j (Call.Send bytes))) answer table i is room =
     let at = placed (same_side s side) j i is in
-    subst (λ (n : ℕ). CanRise (record_at table n) (length (bytes_written (Some (Call.Send bytes)) answer))) at.1 (sends_few bytes answer (record_at table j) (room at.0))
+    subst (λ (n : ℕ). CanRise (record_at table n) (length (bytes_written (Some (Call.Send bytes)) answer))) at.1
+    (sends_few bytes answer (record_at table j) (room at.0))
 room_at side (OfHost s (Calls j (Call.Listen port))) answer table i is room = λ some. absurd (omega (arith, some))
 room_at side (OfHost s (Calls j (Call.Connect remote port))) answer table i is room = λ some. absurd (omega (arith, some))
 room_at side (OfHost s (Calls j (Call.Recv limit))) answer table i is room = λ some. absurd (omega (arith, some))

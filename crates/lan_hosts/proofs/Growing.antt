@@ -1,5 +1,6 @@
 -- What an event leaves of a host: its sent frames stay in front of those that it sends, its port stays what it is, and it has as many places.
-use Rattle.std.proofs.Common.{◌≡◌, ℕ, ◌+◌, ◌≤◌, ℤ, Bool, true, false, cond, List, [], ◌∷◌, ◌++◌, length, take, drop, Option, None, Some, refl, sym, ap, ◌∙◌, subst, append_assoc, append-nil, arith}
+use Rattle.std.proofs.Common.{◌≡◌, ℕ, ◌+◌, ◌≤◌, ℤ, Bool, true, false, cond, List, [], ◌∷◌, ◌++◌, length, take, drop, Option, None, Some, refl, sym, ap, ◌∙◌}
+use Rattle.std.proofs.Common.{subst, append_assoc, append-nil, arith}
 use Rattle.std.specs.Prelude.{slice_get, if◌then◌else◌}
 use Rattle.std.specs.List.{count_by}
 use Rattle.std.proofs.Math.Seq.{take-append_seam}
@@ -100,18 +101,21 @@ stays_same : (s s' : StationValue) → s' ≡ s → Stays s s'
 stays_same s s' is =
     record { link = follows_link s.link s'.link (ap (λ (x : StationValue). x.link) is); places = ap (λ (x : StationValue). length x.places) is }
 
-did_stays : (s s' : StationValue) (i : ℕ) (item : Item Socket) (call : SocketCall) (d : Option (Did Socket)) (answer : Answer) (found : Option States.State) → DidAt s i item call d answer found s' → Stays s s'
+did_stays : (s s' : StationValue) (i : ℕ) (item : Item Socket) (call : SocketCall) (d : Option (Did Socket)) (answer : Answer) (found : Option States.State) →
+    DidAt s i item call d answer found s' → Stays s s'
 did_stays s s' i item call None answer found did = absurd did
 did_stays s s' i item call (Some d) answer found did = record {
   link = follows_link s.link s'.link (ap (λ (x : StationValue). x.link) did.2);
   places = ap (λ (x : StationValue). length x.places) did.2 ∙ length-set s.places i (with_socket item d.socket);
 }
 
-item_stays : (s s' : StationValue) (i : ℕ) (o : Option (Item Socket)) (call : SocketCall) (answer : Answer) (found : Option States.State) → ItemDoes s i o call answer found s' → Stays s s'
+item_stays : (s s' : StationValue) (i : ℕ) (o : Option (Item Socket)) (call : SocketCall) (answer : Answer) (found : Option States.State) →
+    ItemDoes s i o call answer found s' → Stays s s'
 item_stays s s' i None call answer found did = absurd did
 item_stays s s' i (Some item) call answer found did = did_stays s s' i item call (does (context_of s.host.inner) item.socket call) answer found did
 
-place_stays : (s s' : StationValue) (i : ℕ) (o : Option (SocketStorage Socket)) (call : SocketCall) (answer : Answer) (found : Option States.State) → PlaceDoes s i o call answer found s' → Stays s s'
+place_stays : (s s' : StationValue) (i : ℕ) (o : Option (SocketStorage Socket)) (call : SocketCall) (answer : Answer) (found : Option States.State) →
+    PlaceDoes s i o call answer found s' → Stays s s'
 place_stays s s' i None call answer found did = absurd did
 place_stays s s' i (Some place) call answer found did = item_stays s s' i place.inner call answer found did
 
@@ -150,7 +154,8 @@ acts_stay s s' (Polls moment budget) answer found acts = polls_stay s s' moment 
 
 -- BOTH
 
-host_stays : (old new : Stations) (s side : Side) (act : Act) (answer : Answer) (found : Option States.State) → Happens old (OfHost s act) answer found new → Stays (station old side) (station new side)
+host_stays : (old new : Stations) (s side : Side) (act : Act) (answer : Answer) (found : Option States.State) → Happens old (OfHost s act) answer found new →
+    Stays (station old side) (station new side)
 host_stays old new A A act answer found happens = acts_stay old.a new.a act answer found happens.acts
 host_stays old new B B act answer found happens = acts_stay old.b new.b act answer found happens.acts
 host_stays old new A B act answer found happens = stays_same old.b new.b happens.rests
@@ -160,7 +165,8 @@ stays_linked : (s : StationValue) (link : LinkEnd) → Follows s.link link → S
 stays_linked s link follows = record { link = follows; places = refl }
 
 -- one host at another link's end, and the other as it was
-one_stays : (old : Stations) (at side : Side) (link : LinkEnd) → Follows (station old at).link link → Stays (station old side) (station (with_station old at (with_link (station old at) link)) side)
+one_stays : (old : Stations) (at side : Side) (link : LinkEnd) → Follows (station old at).link link →
+    Stays (station old side) (station (with_station old at (with_link (station old at) link)) side)
 one_stays old A A link follows = stays_linked old.a link follows
 one_stays old B B link follows = stays_linked old.b link follows
 one_stays old A B link follows = stays_same old.b old.b refl
@@ -173,13 +179,15 @@ link_stays : (old : Stations) (act : LinkAct) (side : Side) → Stays (station o
 link_stays old (Hands o) side = one_stays old (goes_to o) side _ (follows_none _ _ refl refl)
 link_stays old (Cuts from k at) side = one_stays old from side _ (two_added (station old from).link _ _)
 
-pub happens_stays : (old new : Stations) (kind : Kind) (answer : Answer) (found : Option States.State) (side : Side) → Happens old kind answer found new → Stays (station old side) (station new side)
+pub happens_stays : (old new : Stations) (kind : Kind) (answer : Answer) (found : Option States.State) (side : Side) → Happens old kind answer found new →
+    Stays (station old side) (station new side)
 happens_stays old new (OfHost s act) answer found side happens = host_stays old new s side act answer found happens
 happens_stays old new (OfLink act) answer found side happens =
     subst (λ (x : Stations). Stays (station old side) (station x side)) (sym happens.2) (link_stays old act side)
 
 -- as many frames were sent as before, or more
-pub sent_grows : (old new : Stations) (kind : Kind) (answer : Answer) (found : Option States.State) (side : Side) → Happens old kind answer found new → length (station old side).link.sent ≤ length (station new side).link.sent
+pub sent_grows : (old new : Stations) (kind : Kind) (answer : Answer) (found : Option States.State) (side : Side) → Happens old kind answer found new →
+    length (station old side).link.sent ≤ length (station new side).link.sent
 sent_grows old new kind answer found side happens =
     let link = (happens_stays old new kind answer found side happens).link in
     let all = ap length link.sent in
@@ -187,24 +195,31 @@ sent_grows old new kind answer found side happens =
 
 -- TABLES
 
-counted_if : (p : List ℕ → Bool) (b : Bool) (xs ys : List (List ℕ)) → count_by p (xs ++ (if b then [] else ys)) ≡ count_by p xs + (if b then 0 else count_by p ys)
+counted_if : (p : List ℕ → Bool) (b : Bool) (xs ys : List (List ℕ)) →
+    count_by p (xs ++ (if b then [] else ys)) ≡ count_by p xs + (if b then 0 else count_by p ys)
 counted_if p true xs ys = sum_by-append (λ x. cond (p x) 1 0) xs []
 counted_if p false xs ys = sum_by-append (λ x. cond (p x) 1 0) xs ys
 
-numbered_on : (medium : Medium) (side : Side) (past : List Entry) (e : Entry) (sent sent' added : List (List ℕ)) → sent' ≡ sent ++ added → sent_before e.before side ≡ length sent
-    → numbered medium side (e ∷ past) sent' ≡ numbered medium side past sent + (if is_cut_of side (kind_of e.event) then 0 else count_by (begins_datagram medium) (drop (length sent) sent'))
+numbered_on : (medium : Medium) (side : Side) (past : List Entry) (e : Entry) (sent sent' added : List (List ℕ)) → sent' ≡ sent ++ added →
+    sent_before e.before side ≡ length sent
+    → numbered medium side (e ∷ past) sent' ≡
+    numbered medium side past sent + (if is_cut_of side (kind_of e.event) then 0 else count_by (begins_datagram medium) (drop (length sent) sent'))
 numbered_on medium side past e sent sent' added is before =
     let front : take (length sent) sent' ≡ sent = ap (take (length sent)) is ∙ take-append_seam sent added in
-    ap (λ (n : ℕ). count_by (begins_datagram medium) (own_frames side past (take n sent') ++ (if is_cut_of side (kind_of e.event) then [] else drop n sent'))) before
+    ap (λ (n : ℕ). count_by (begins_datagram medium) (own_frames side past (take n sent') ++
+    (if is_cut_of side (kind_of e.event) then [] else drop n sent'))) before
     ∙ counted_if (begins_datagram medium) (is_cut_of side (kind_of e.event)) (own_frames side past (take (length sent) sent')) (drop (length sent) sent')
-    ∙ ap (λ (xs : List (List ℕ)). count_by (begins_datagram medium) (own_frames side past xs) + (if is_cut_of side (kind_of e.event) then 0 else count_by (begins_datagram medium) (drop (length sent) sent'))) front
+    ∙ ap (λ (xs : List (List ℕ)). count_by (begins_datagram medium) (own_frames side past xs) +
+    (if is_cut_of side (kind_of e.event) then 0 else count_by (begins_datagram medium) (drop (length sent) sent'))) front
 
 before_is : (old : Stations) (e : Entry) (side : Side) → e.before ≡ counts_of old → sent_before e.before side ≡ length (station old side).link.sent
 before_is old e A is = ap (λ c. sent_before c A) is
 before_is old e B is = ap (λ c. sent_before c B) is
 
-pub tables_go_on : (past : List Entry) (e : Entry) (old new : Stations) (side : Side) → e.before ≡ counts_of old → Happens old (kind_of e.event) e.answer e.found new
-    → table_in (e ∷ past) side (station new side) ≡ table_next side (kind_of e.event) e.answer (length (station old side).link.sent) (station new side) (table_in past side (station old side))
+pub tables_go_on : (past : List Entry) (e : Entry) (old new : Stations) (side : Side) → e.before ≡ counts_of old →
+    Happens old (kind_of e.event) e.answer e.found new
+    → table_in (e ∷ past) side (station new side) ≡
+    table_next side (kind_of e.event) e.answer (length (station old side).link.sent) (station new side) (table_in past side (station old side))
 tables_go_on past e old new side before happens =
     let stays = happens_stays old new (kind_of e.event) e.answer e.found side happens in
     let s : StationValue = station old side in
@@ -213,8 +228,10 @@ tables_go_on past e old new side before happens =
     let records : table_of (e ∷ past) side (length s'.places) ≡ table_after (kind_of e.event) e.answer side (table_of past side (length s.places)) =
     ap (λ (n : ℕ). table_after (kind_of e.event) e.answer side (table_of past side n)) stays.places in
     let count = numbered_on (medium_of s') side past e s.link.sent s'.link.sent stays.link.added stays.link.sent (before_is old e side before) in
-    let first : numbered (medium_of s') side past s.link.sent ≡ numbered (medium_of s) side past s.link.sent = ap (λ (m : Medium). numbered m side past s.link.sent) medium in
-    let all = count ∙ ap (λ (n : ℕ). n + (if is_cut_of side (kind_of e.event) then 0 else count_by (begins_datagram (medium_of s')) (drop (length s.link.sent) s'.link.sent))) first in
+    let first : numbered (medium_of s') side past s.link.sent ≡ numbered (medium_of s) side past s.link.sent =
+    ap (λ (m : Medium). numbered m side past s.link.sent) medium in
+    let all = count ∙ ap (λ (n : ℕ). n +
+    (if is_cut_of side (kind_of e.event) then 0 else count_by (begins_datagram (medium_of s')) (drop (length s.link.sent) s'.link.sent))) first in
     λ k. record { records = records k; numbered = all k }
 
 dropped_few : (b : Bool) (xs : List (List ℕ)) → length (if b then [] else xs) ≤ length xs
@@ -231,7 +248,13 @@ own_few side (e ∷ past) sent =
     let n : ℕ = sent_before e.before side in
     let front = own_few side past (take n sent) in
     let rest = dropped_few (is_cut_of side (kind_of e.event)) (drop n sent) in
-    omega (arith, front, rest, length-append (own_frames side past (take n sent)) (if is_cut_of side (kind_of e.event) then [] else drop n sent), split_length n sent)
+    omega (
+      arith,
+      front,
+      rest,
+      length-append (own_frames side past (take n sent)) (if is_cut_of side (kind_of e.event) then [] else drop n sent),
+      split_length n sent,
+    )
 
 pub numbers_few : (medium : Medium) (side : Side) (history : List Entry) (sent : List (List ℕ)) → numbered medium side history sent ≤ length sent
 numbers_few medium side history sent =

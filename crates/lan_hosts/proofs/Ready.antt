@@ -1,5 +1,6 @@
 -- A poll at a port with buffers for all that it may send: none is refused.
-use Rattle.std.proofs.Common.{◌≡◌, ℕ, ◌+◌, ◌-◌, ◌*◌, ◌≤◌, ℤ, Bool, true, false, List, length, Option, None, Some, IfSome, is_some, inl, inr, refl, sym, ap, ◌∙◌, subst, arith}
+use Rattle.std.proofs.Common.{◌≡◌, ℕ, ◌+◌, ◌-◌, ◌*◌, ◌≤◌, ℤ, Bool, true, false, List, length, Option, None, Some, IfSome, is_some, inl, inr, refl, sym, ap, ◌∙◌}
+use Rattle.std.proofs.Common.{subst, arith}
 use Rattle.std.specs.Prelude.{nat_le, if◌then◌else◌}
 use Rattle.net_base.specs.Device.{Took, Emitted, Denied}
 use Rattle.socket_base.specs.Context.{ContextValue}
@@ -130,7 +131,8 @@ module _ (most refusals : ℕ) where
 
   so_took : (n : ℕ) (d d' : PortValue) (i : InnerValue) (frame : List ℕ) → PortMove d (Took frame) d' → So n d i → So n d' i
   so_took n d d' i frame took so =
-      so_port n d d' i (ap (λ (x : PortValue). x.size) (sym took.1)) (ap (λ (x : PortValue). x.ready) (sym took.1)) (ap (λ (x : PortValue). x.link.refusals) (sym took.1)) so
+      so_port n d d' i (ap (λ (x : PortValue). x.size) (sym took.1)) (ap (λ (x : PortValue). x.ready) (sym took.1))
+      (ap (λ (x : PortValue). x.link.refusals) (sym took.1)) so
 
   so_emitted : (n : ℕ) (d d' : PortValue) (i : InnerValue) (frame : List ℕ) → PortMove d (Emitted frame) d' → So n d i → So (n + 1) d' i
   so_emitted n d d' i frame is so = record {
@@ -152,7 +154,8 @@ module _ (most refusals : ℕ) where
       let none = denied.1 (omega (arith, fits, short)) in
       omega (arith, few, none, within)
 
-  so_sends : (n : ℕ) (x : Departure) (taken : Bool) (d d' : PortValue) (i : InnerValue) → n + 1 ≤ most → frame_len_of i x ≤ link_room i.hardware + i.mtu → Departs PortMove d i x taken d' → So n d i → So (n + 1) d' i
+  so_sends : (n : ℕ) (x : Departure) (taken : Bool) (d d' : PortValue) (i : InnerValue) → n + 1 ≤ most → frame_len_of i x ≤ link_room i.hardware + i.mtu →
+      Departs PortMove d i x taken d' → So n d i → So (n + 1) d' i
   so_sends n x true d d' i within short goes so = so_emitted n d d' i (frame_of i x) goes.0 so
   so_sends n x false d d' i within short goes so = absurd (so_denied n (frame_len_of i x) d d' i within short goes so)
 
@@ -171,7 +174,8 @@ module _ (most refusals : ℕ) where
       so_host (n + 1) d' i i' settings.hardware settings.mtu
       (so_once n (departure_by i p (plan_of i busy p.header)) (was_taken sent) d d' i within (λ x is. planned_short i busy p x so.low len is) all.0 so)
 
-  so_piece : (n : ℕ) (l : LeftValue) (gone : Bool) (d d' : PortValue) (i : InnerValue) (l' : Option LeftValue) → n + 1 ≤ most → PieceGoesOut PortMove d i l gone d' l' → So n d i → So (n + 1) d' i
+  so_piece : (n : ℕ) (l : LeftValue) (gone : Bool) (d d' : PortValue) (i : InnerValue) (l' : Option LeftValue) → n + 1 ≤ most →
+      PieceGoesOut PortMove d i l gone d' l' → So n d i → So (n + 1) d' i
   so_piece n l gone d d' i l' within goes so =
       so_sends n (next_departure i.mtu l) gone d d' i within (piece_short i l so.low) (piece_sends PortMove d d' i l l' gone goes) so
 
@@ -180,7 +184,8 @@ module _ (most refusals : ℕ) where
   so_told : (n : ℕ) (i : InnerValue) → 576 ≤ i.mtu → 42 ≤ link_room i.hardware + i.mtu
   so_told n i low = omega (arith, low)
 
-  so_replied : (n : ℕ) (awaited : Bool) (reply : Option ReplyValue) (x x' : Sender PortValue) → n + 1 ≤ most → IfReplyMeasured reply → Replied PortMove awaited reply x x' → So n x.device x.inner → So (n + 1) x'.device x'.inner
+  so_replied : (n : ℕ) (awaited : Bool) (reply : Option ReplyValue) (x x' : Sender PortValue) → n + 1 ≤ most → IfReplyMeasured reply →
+      Replied PortMove awaited reply x x' → So n x.device x.inner → So (n + 1) x'.device x'.inner
   so_replied n awaited None x x' within so_long is so =
       so_more n (n + 1) x'.device x'.inner (omega arith) (subst (λ (y : Sender PortValue). So n y.device y.inner) (sym is) so)
   so_replied n awaited (Some (Replies.Tells packet)) x x' within so_long tells so =
@@ -191,32 +196,40 @@ module _ (most refusals : ℕ) where
   so_replied n awaited (Some (Replies.Answers p)) x x' within so_long (inr answers) so =
       so_out n x.device x'.device x.inner x'.inner x.left x'.left p (is_some x.left) answers.0 within so_long answers.1 so
 
-  so_takes : (n : ℕ) (s s' : State PortValue) (answer : Option Bool) → n + 1 ≤ most → So n s.device s.host.inner → Takes PortMove s answer s' → So (n + 1) s'.device s'.host.inner
+  so_takes : (n : ℕ) (s s' : State PortValue) (answer : Option Bool) → n + 1 ≤ most → So n s.device s.host.inner → Takes PortMove s answer s' →
+      So (n + 1) s'.device s'.host.inner
   so_takes n s s' None within so takes =
       so_more n (n + 1) s'.device s'.host.inner (omega arith)
-      (subst (λ (i : InnerValue). So n s'.device i) (sym (ap (λ (x : State PortValue). x.host.inner) takes.1)) (so_same n s.device s'.device s.host.inner takes.0.0 so))
+      (subst (λ (i : InnerValue). So n s'.device i) (sym (ap (λ (x : State PortValue). x.host.inner) takes.1))
+      (so_same n s.device s'.device s.host.inner takes.0.0 so))
   so_takes n s s' (Some false) within so takes =
       so_more n (n + 1) s'.device s'.host.inner (omega arith)
-      (subst (λ (i : InnerValue). So n s'.device i) (sym (ap (λ (x : State PortValue). x.host.inner) takes.3)) (so_took n s.device s'.device s.host.inner takes.0 takes.1 so))
+      (subst (λ (i : InnerValue). So n s'.device i) (sym (ap (λ (x : State PortValue). x.host.inner) takes.3))
+      (so_took n s.device s'.device s.host.inner takes.0 takes.1 so))
   so_takes n s s' (Some true) within so takes =
       let reads = takes.4 in
       let i : InnerValue = s.host.inner in
       let j : InnerValue = reads.2.0.inner in
       let same : HasSameSettings i j = (receives_same PortMove reads.0 (record s { device = takes.1 }) s' reads.2).0 in
       let took : So n takes.1 i = so_took n s.device takes.1 i takes.0 takes.2 so in
-      so_replied n (is_awaited reads.2.0) reads.2.0.reply (record { device = takes.1; inner = j; left = s.host.left }) (record { device = s'.device; inner = s'.host.inner; left = s'.host.left }) within
-      (brings_so i s.places (whole_after i s.host.timeout s.host.slots (taken_in i reads.0)) reads.2.0 reads.2.1.1) reads.2.3 (so_host n takes.1 i j same.hardware same.mtu took)
+      so_replied n (is_awaited reads.2.0) reads.2.0.reply (record { device = takes.1; inner = j; left = s.host.left })
+      (record { device = s'.device; inner = s'.host.inner; left = s'.host.left }) within
+      (brings_so i s.places (whole_after i s.host.timeout s.host.slots (taken_in i reads.0)) reads.2.0 reads.2.1.1) reads.2.3
+      (so_host n takes.1 i j same.hardware same.mtu took)
 
   -- PIECES AND TURNS
 
-  so_piece_leaves : (n : ℕ) (l : LeftValue) (x x' : Sender PortValue) (gone : Bool) → n + 1 ≤ most → PieceLeaves PortMove l x gone x' → x'.inner ≡ x.inner → So n x.device x.inner → So (n + 1) x'.device x'.inner
+  so_piece_leaves : (n : ℕ) (l : LeftValue) (x x' : Sender PortValue) (gone : Bool) → n + 1 ≤ most → PieceLeaves PortMove l x gone x' → x'.inner ≡ x.inner →
+      So n x.device x.inner → So (n + 1) x'.device x'.inner
   so_piece_leaves n l x x' gone within (inl stays) is so =
-      subst (λ (i : InnerValue). So (n + 1) x'.device i) (sym is) (so_more n (n + 1) x'.device x.inner (omega arith) (so_same n x.device x'.device x.inner stays.0.0 so))
+      subst (λ (i : InnerValue). So (n + 1) x'.device i) (sym is)
+      (so_more n (n + 1) x'.device x.inner (omega arith) (so_same n x.device x'.device x.inner stays.0.0 so))
   so_piece_leaves n l x x' gone within (inr goes) is so =
       subst (λ (i : InnerValue). So (n + 1) x'.device i) (sym is)
       (so_piece n l gone goes.0 x'.device x.inner x'.left within goes.2 (so_same n x.device goes.0 x.inner goes.1.0 so))
 
-  module _ (raw : FitsRaw) (icmp : FitsIcmp) (udp : FitsUdp) (turn : Option IpAddress) (n : ℕ) (within : n + 1 ≤ most) (x x' : Sender PortValue) (so : So n x.device x.inner) where
+  module _ (raw : FitsRaw) (icmp : FitsIcmp) (udp : FitsUdp) (turn : Option IpAddress) (n : ℕ) (within : n + 1 ≤ most) (x x' : Sender PortValue)
+      (so : So n x.device x.inner) where
     abbrev Next : Type 0
     Next = So (n + 1) x'.device x'.inner
 
@@ -230,15 +243,18 @@ module _ (most refusals : ℕ) where
     so_leaves m p sent len (inr goes) =
         so_out n goes.0 x'.device x.inner x'.inner x.left x'.left p (is_some x.left) sent within len goes.2 (so_same n x.device goes.0 x.inner goes.1.0 so)
 
-    so_sent : (o : Option PacketValue) (item item' : Item Socket) (changed : Bool) (turned : Turned) → ((p : PacketValue) → o ≡ Some p → IsMeasured p) → SendsBy PortMove turn o x item changed turned x' item' → Next
+    so_sent : (o : Option PacketValue) (item item' : Item Socket) (changed : Bool) (turned : Turned) → ((p : PacketValue) → o ≡ Some p → IsMeasured p) →
+        SendsBy PortMove turn o x item changed turned x' item' → Next
     so_sent None item item' changed turned len sends = absurd sends
     so_sent (Some p) item item' changed turned len sends = so_leaves item.meta p sends.0 (len p refl) sends.1
 
-    so_answers : (s s' : Socket) (answer : Answer.Offer) (item item' : Item Socket) (turned : Turned) → Offers (context_of x.inner) s answer s' → item.socket ≡ s' → Answers PortMove turn answer x item turned x' item' → Next
+    so_answers : (s s' : Socket) (answer : Answer.Offer) (item item' : Item Socket) (turned : Turned) → Offers (context_of x.inner) s answer s' →
+        item.socket ≡ s' → Answers PortMove turn answer x item turned x' item' → Next
     so_answers s s' (Offer.Silent changed) item item' turned offers is answers = so_stays answers.1
     so_answers s s' (Offer.Packet changed) item item' turned offers is answers =
         so_sent (offered_by item.socket) item item' changed turned
-        (λ p some. measured raw icmp udp (context_of x.inner) s s' (Offer.Packet changed) p offers (subst (λ (y : Socket). offered_by y ≡ Some p) is some)) answers
+        (λ p some. measured raw icmp udp (context_of x.inner) s s' (Offer.Packet changed) p offers
+        (subst (λ (y : Socket). offered_by y ≡ Some p) is some)) answers
 
     so_turns : (waits : Bool) (item item' : Item Socket) (turned : Turned) → TurnsIf PortMove turn waits x item turned x' item' → Next
     so_turns true item item' turned turns = so_stays turns.1
@@ -267,18 +283,23 @@ module _ (raw : FitsRaw) (icmp : FitsIcmp) (udp : FitsUdp) (t : ℤ) (most refus
     maintenance = λ n s so within. so_host most refusals n s.device s.host.inner (at_moment t s.host.inner) refl refl (so within);
     arrivals = λ n s s' answer runs so takes within. so_takes most refusals n s s' answer within (so (before n within)) takes;
     pieces = λ n h ps x x' l gone runs is so leaves same within. so_piece_leaves most refusals n l x x' gone within leaves same (so (before n within));
-    turns = λ turn n h earlier after p p' x x' turned runs so turns within. so_place most refusals raw icmp udp turn n within x x' (so (before n within)) p p' turned turns;
+    turns = λ turn n h earlier after p p' x x' turned runs so turns within. so_place most refusals raw icmp udp turn n within x x' (so (before n within)) p p'
+        turned turns;
   }
 
-  start : (d : PortValue) (i : InnerValue) → 576 ≤ i.mtu → link_room i.hardware + i.mtu ≤ d.size → most ≤ d.ready → d.link.refusals ≡ refusals → Stocked most refusals 0 d i
+  start : (d : PortValue) (i : InnerValue) → 576 ≤ i.mtu → link_room i.hardware + i.mtu ≤ d.size → most ≤ d.ready → d.link.refusals ≡ refusals →
+      Stocked most refusals 0 d i
   start d i low fits ready none = record { low = low; fits = fits; ready = omega (arith, ready); none_refused = none }
 
 -- a poll at a port with so many buffers that fit
-pub none_refused : FitsRaw → FitsIcmp → FitsUdp → (t : ℤ) (budget : ℕ) (s s' : State PortValue) (changed : Bool) → 576 ≤ s.host.inner.mtu → link_room s.host.inner.hardware + s.host.inner.mtu ≤ s.device.size
+pub none_refused : FitsRaw → FitsIcmp → FitsUdp → (t : ℤ) (budget : ℕ) (s s' : State PortValue) (changed : Bool) → 576 ≤ s.host.inner.mtu →
+    link_room s.host.inner.hardware + s.host.inner.mtu ≤ s.device.size
     → budget * (length s.places + 2) ≤ s.device.ready → Polls PortMove t budget s changed s' → s'.device.link.refusals ≡ s.device.link.refusals
 none_refused raw icmp udp t budget s s' changed low fits ready polls =
     let most : ℕ = budget * (length s.places + 2) in
-    let first : Within raw icmp udp t most s.device.link.refusals 0 s = λ within. start raw icmp udp t most s.device.link.refusals s.device s.host.inner low fits ready refl in
+    let first : Within raw icmp udp t most s.device.link.refusals 0 s =
+    λ within. start raw icmp udp t most s.device.link.refusals s.device s.host.inner low fits ready refl in
     let last : Stocked most s.device.link.refusals (0 + most) s'.device s'.host.inner =
-    (polls_count PortMove t (Within raw icmp udp t most s.device.link.refusals) (counted raw icmp udp t most s.device.link.refusals) budget 0 s s' changed first polls).0 (omega arith) in
+    (polls_count PortMove t (Within raw icmp udp t most s.device.link.refusals) (counted raw icmp udp t most s.device.link.refusals) budget 0 s s' changed first
+    polls).0 (omega arith) in
     last.none_refused

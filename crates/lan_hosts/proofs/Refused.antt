@@ -15,8 +15,10 @@ use Rattle.lan_hosts.specs.Acting.{act_refusal}
 use Rattle.lan_hosts.specs.Refusals.{Table}
 use Rattle.lan_hosts.specs.Station.{StationValue, kind_at}
 
-pub refused_call : (s : StationValue) (t : Table) (kind : Option SocketKind) (records : List SocketRecord) (side : Side) (i : ℕ) (call : SocketCall) (result : Option Refused) (k : Kind)
-    → k ≡ OfHost side (Calls i call) → kind ≡ kind_at s.places i → records ≡ t.records → result ≡ call_refusal (names_tcp_or_udp Medium.Ip) kind records i call → result ≡ act_refusal s t k
+pub refused_call : (s : StationValue) (t : Table) (kind : Option SocketKind) (records : List SocketRecord) (side : Side) (i : ℕ) (call : SocketCall)
+    (result : Option Refused) (k : Kind)
+    → k ≡ OfHost side (Calls i call) → kind ≡ kind_at s.places i → records ≡ t.records →
+    result ≡ call_refusal (names_tcp_or_udp Medium.Ip) kind records i call → result ≡ act_refusal s t k
 refused_call s t kind records side i call result k is kinds list refused =
     refused
     ∙ ap (λ (x : Option SocketKind). call_refusal (names_tcp_or_udp Medium.Ip) x records i call) kinds

@@ -30,11 +30,13 @@ use Rattle.interface_egress.specs.declared.socket_set.Item.{Item}
 use Rattle.interface_egress.specs.declared.socket_set.SocketStorage.{SocketStorage}
 use Rattle.interface_ingress.specs.Arrives as Replies
 use Rattle.interface_ingress.specs.Arrives.{ReplyValue, Arrived, Brings, ArrivesV4, ArrivesV6, Hands, answered, told, renewed}
-use Rattle.interface_ingress.specs.Delivered.{Places, packet_delivered, is_taken_raw, segment_place, segment_answer_at, answer_of, answer_in, answer_by, packet_by, datagram_place}
+use Rattle.interface_ingress.specs.Delivered.{Places, packet_delivered, is_taken_raw, segment_place, segment_answer_at, answer_of, answer_in, answer_by}
+use Rattle.interface_ingress.specs.Delivered.{packet_by, datagram_place}
 use Rattle.interface_ingress.specs.Handed.{handed_reply, control_v4_reply, control_v6_reply, message_reply, names_nobody, is_known}
 use Rattle.interface_ingress.specs.Heard.{Heard, heard, heard_on, counts, is_asked, learned, advertised, advertisement, answer}
 use Rattle.interface_ingress.specs.Incoming.{IncomingValue, Arp, Ip4, Ip6}
-use Rattle.interface_ingress.specs.Replies.{echo_v4, sent_v4, source_of_reply, port_unreachable, protocol_unreachable, reply_v4, reply_v6, error_v6, is_between_hosts, quoted_v4, quoted_v6}
+use Rattle.interface_ingress.specs.Replies.{echo_v4, sent_v4, source_of_reply, port_unreachable, protocol_unreachable, reply_v4, reply_v6, error_v6}
+use Rattle.interface_ingress.specs.Replies.{is_between_hosts, quoted_v4, quoted_v6}
 use Rattle.interface_tables.specs.Inner.{InnerValue, context_of}
 use Rattle.interface_tables.specs.Best.{at_place}
 use Rattle.sockets.specs.declared.socket.Socket.{Socket}
@@ -74,7 +76,8 @@ v4_so : (i : InnerValue) (ip : IpRepr) (message : Icmpv4Header) (bytes : List �
 v4_so i (Ip.Ipv4 header) message bytes = echo_v4_so i header message bytes
 v4_so i (Ip.Ipv6 header) message bytes = tt
 
-asked_so : (b : Bool) (own : EthernetAddress) (target : Ipv6Address) (header : Ipv6Repr) → IfMeasured (if b then Some (advertisement own target header.src_addr) else None)
+asked_so : (b : Bool) (own : EthernetAddress) (target : Ipv6Address) (header : Ipv6Repr) →
+    IfMeasured (if b then Some (advertisement own target header.src_addr) else None)
 asked_so true own target header = refl
 asked_so false own target header = tt
 
@@ -126,22 +129,26 @@ socket_so cx ip header bytes (Kind.Udp v) = tt
 socket_so cx ip header bytes (Kind.Icmp v) = tt
 socket_so cx ip header bytes (Kind.Raw v) = tt
 
-item_so : (cx : ContextValue) (ip : IpRepr) (header : TcpHeader) (bytes : List ℕ) (o : Option (Item Socket)) → IfMeasured (answer_in (answer_of cx ip header bytes) o)
+item_so : (cx : ContextValue) (ip : IpRepr) (header : TcpHeader) (bytes : List ℕ) (o : Option (Item Socket)) →
+    IfMeasured (answer_in (answer_of cx ip header bytes) o)
 item_so cx ip header bytes None = tt
 item_so cx ip header bytes (Some item) = socket_so cx ip header bytes item.socket
 
-place_so : (cx : ContextValue) (ip : IpRepr) (header : TcpHeader) (bytes : List ℕ) (o : Option (SocketStorage Socket)) → IfMeasured (answer_by (answer_of cx ip header bytes) o)
+place_so : (cx : ContextValue) (ip : IpRepr) (header : TcpHeader) (bytes : List ℕ) (o : Option (SocketStorage Socket)) →
+    IfMeasured (answer_by (answer_of cx ip header bytes) o)
 place_so cx ip header bytes None = tt
 place_so cx ip header bytes (Some place) = item_so cx ip header bytes place.inner
 
-segment_so : (at : Option ℕ) (cx : ContextValue) (ip : IpRepr) (header : TcpHeader) (bytes : List ℕ) (taken : Bool) (places : Places) → IfMeasured (segment_answer_at at cx ip header bytes taken places)
+segment_so : (at : Option ℕ) (cx : ContextValue) (ip : IpRepr) (header : TcpHeader) (bytes : List ℕ) (taken : Bool) (places : Places) →
+    IfMeasured (segment_answer_at at cx ip header bytes taken places)
 segment_so (Some at) cx ip header bytes taken places = place_so cx ip header bytes (at_place (Some at) places)
 segment_so None cx ip header bytes taken places =
     if_either (taken || is_rst header.control) None (packet_by (Some (rst_reply ip header (length bytes)))) tt (sendable_reset ip header (length bytes)).len
 
 -- ALL
 
-handed_so : (i : InnerValue) (places : Places) (ip : IpRepr) (payload : List ℕ) (taken : Bool) (carried : Option PayloadValue) → IfMeasured (handed_reply i places ip payload taken carried)
+handed_so : (i : InnerValue) (places : Places) (ip : IpRepr) (payload : List ℕ) (taken : Bool) (carried : Option PayloadValue) →
+    IfMeasured (handed_reply i places ip payload taken carried)
 handed_so i places ip payload taken (Some (ControlV4 message bytes)) = v4_so i ip message bytes
 handed_so i places ip payload taken (Some (ControlV6 message bytes)) = v6_so i ip message bytes
 handed_so i places ip payload taken (Some (Bytes bytes)) = tt
@@ -169,15 +176,18 @@ told_so (Some p) = tt
 silent_so : (a : Arrived) → a.reply ≡ None → IfReplyMeasured a.reply
 silent_so a none = subst IfReplyMeasured (sym none) tt
 
-hands_so : (i : InnerValue) (places : Places) (ip : IpRepr) (payload : List ℕ) (taken : Bool) (a : Arrived) → Hands i places ip payload taken a → IfReplyMeasured a.reply
+hands_so : (i : InnerValue) (places : Places) (ip : IpRepr) (payload : List ℕ) (taken : Bool) (a : Arrived) → Hands i places ip payload taken a →
+    IfReplyMeasured a.reply
 hands_so i places ip payload taken a hands =
     subst IfReplyMeasured (sym hands.2.reply) (answered_so (handed_reply i places ip payload taken hands.0) (handed_so i places ip payload taken hands.0))
 
-of_v4_so : (ours : Bool) (i : InnerValue) (places : Places) (link : Option EthernetRepr) (ip : IpRepr) (payload : List ℕ) (a : Arrived) → ArrivesV4 ours i places link ip payload a → IfReplyMeasured a.reply
+of_v4_so : (ours : Bool) (i : InnerValue) (places : Places) (link : Option EthernetRepr) (ip : IpRepr) (payload : List ℕ) (a : Arrived) →
+    ArrivesV4 ours i places link ip payload a → IfReplyMeasured a.reply
 of_v4_so true i places link ip payload a h = hands_so (renewed i link ip) (packet_delivered ip payload places) ip payload (is_taken_raw ip places) a h
 of_v4_so false i places link ip payload a h = silent_so a h.reply
 
-of_v6_so : (ours : Bool) (i : InnerValue) (places : Places) (link : Option EthernetRepr) (ip : IpRepr) (payload : List ℕ) (a : Arrived) → ArrivesV6 ours i places link ip payload a → IfReplyMeasured a.reply
+of_v6_so : (ours : Bool) (i : InnerValue) (places : Places) (link : Option EthernetRepr) (ip : IpRepr) (payload : List ℕ) (a : Arrived) →
+    ArrivesV6 ours i places link ip payload a → IfReplyMeasured a.reply
 of_v6_so true i places link ip payload a h = hands_so (renewed i link ip) (packet_delivered ip payload places) ip payload (is_taken_raw ip places) a h
 of_v6_so false i places link ip payload a h = silent_so a h.reply
 

@@ -37,7 +37,8 @@ abbrev pub is_called : Option SocketKind → SocketCall → Bool
 is_called None call = false
 is_called (Some kind) call = has_call kind call
 
-abbrev pub ItemCalls : HostValue → List (SocketStorage Socket) → ℕ → Kind → Option (Item Socket) → Option Taken → HostValue → List (SocketStorage Socket) → Type 0
+abbrev pub ItemCalls : HostValue → List (SocketStorage Socket) → ℕ → Kind → Option (Item Socket) → Option Taken → HostValue →
+    List (SocketStorage Socket) → Type 0
 ItemCalls h ps i kind None said h' ps' = (said ≡ None) × (h' ≡ h) × (ps' ≡ ps)
 ItemCalls h ps i kind (Some item) said h' ps' =
     (socket : Socket) × HasTaken (did_by (context_of h.inner) item.socket kind) item.socket said socket
@@ -45,7 +46,8 @@ ItemCalls h ps i kind (Some item) said h' ps' =
     × (ps' ≡ slice_set ps i (with_socket item socket))
 
 -- what an event does to the socket at a place; nothing where the place is free
-abbrev pub PlaceCalls : HostValue → List (SocketStorage Socket) → ℕ → Kind → Option (SocketStorage Socket) → Option Taken → HostValue → List (SocketStorage Socket) → Type 0
+abbrev pub PlaceCalls : HostValue → List (SocketStorage Socket) → ℕ → Kind → Option (SocketStorage Socket) → Option Taken → HostValue →
+    List (SocketStorage Socket) → Type 0
 PlaceCalls h ps i kind None said h' ps' = (said ≡ None) × (h' ≡ h) × (ps' ≡ ps)
 PlaceCalls h ps i kind (Some place) said h' ps' = ItemCalls h ps i kind place.inner said h' ps'
 

@@ -257,7 +257,8 @@ fn cut_of(
     at: usize,
 ) -> Result<(), AllocError>
     requires frame { frame < length (station (record { a = a.old; b = b.old }) from).link.sent }
-    requires piece { HasPiece (ipv4_part (medium_of (station (record { a = a.old; b = b.old }) from)) (frame_sent (record { a = a.old; b = b.old }) from frame)) at }
+    requires piece { HasPiece
+        (ipv4_part (medium_of (station (record { a = a.old; b = b.old }) from)) (frame_sent (record { a = a.old; b = b.old }) from frame)) at }
     ensures ok { OnOk result (record { a = a.new; b = b.new } ≡ cut_hosts (record { a = a.old; b = b.old }) from frame at) }
     ensures a { OnErr result (a.new ≡ a.old) }
     ensures b { OnErr result (b.new ≡ b.old) }

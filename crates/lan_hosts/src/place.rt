@@ -21,7 +21,8 @@ fn call_in(
     place: usize,
     event: &Event,
 ) -> Result<Option<Taken>, AllocError>
-    ensures done { IfOk result (λ said. PlaceCalls interface.old places.old.items place (kind_of event.now) (slice_get places.old.items place) said interface.new places.new.items) }
+    ensures done { IfOk result
+        (λ said. PlaceCalls interface.old places.old.items place (kind_of event.now) (slice_get places.old.items place) said interface.new places.new.items) }
     ensures interface { OnErr result (interface.new ≡ interface.old) }
     ensures places { OnErr result (places.new.items ≡ places.old.items) }
 {
@@ -42,7 +43,9 @@ fn call_at(
     place: usize,
     event: &Event,
 ) -> Result<Option<Taken>, AllocError>
-    ensures done { IfOk result (λ said. PlaceCalls interface.old (places sockets.old) place (kind_of event.now) (slice_get (places sockets.old) place) said interface.new (places sockets.new)) }
+    ensures done { IfOk result
+        (λ said. PlaceCalls interface.old (places sockets.old) place (kind_of event.now) (slice_get (places sockets.old) place) said interface.new
+        (places sockets.new)) }
     ensures interface { OnErr result (interface.new ≡ interface.old) }
     ensures places { OnErr result (places sockets.new ≡ places sockets.old) }
 {

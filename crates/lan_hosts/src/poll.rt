@@ -49,7 +49,8 @@ fn poll_ready(
     requires count { budget * (length (places sockets.old) + 2) ≤ port.old.ready }
     requires size { link_room interface.old.inner.hardware + interface.old.inner.mtu ≤ port.old.size }
     requires least { 576 ≤ interface.old.inner.mtu }
-    ensures polls { Polls PortMove moment budget (state port.old interface.old (places sockets.old)) result (state port.new interface.new (places sockets.new)) }
+    ensures polls { Polls PortMove moment budget (state port.old interface.old (places sockets.old)) result
+        (state port.new interface.new (places sockets.new)) }
     ensures none_denied { port.new.link.refusals ≡ port.old.link.refusals }
 {
     raw::offered_fits();

@@ -76,7 +76,8 @@ pub fn connect_refusal(
     remote_port: u16,
     port: u16,
 ) -> Option<Refused>
-    ensures { (names : List ℕ → Bool) (remote : IpEndpoint) → remote.port ≡ remote_port → result ≡ call_refusal names kind records.now place (calls.Connect remote port) }
+    ensures { (names : List ℕ → Bool) (remote : IpEndpoint) → remote.port ≡ remote_port →
+        result ≡ call_refusal names kind records.now place (calls.Connect remote port) }
 {
     let opening = Opening {
         local: port,
@@ -130,7 +131,8 @@ pub fn tcp_refusal(kind: Option<SocketKind>) -> Option<Refused>
     ensures recv { (names : List ℕ → Bool) (table : List SocketRecord) (i limit : ℕ) → result ≡ call_refusal names kind table i (calls.Recv limit) }
     ensures abort { (names : List ℕ → Bool) (table : List SocketRecord) (i : ℕ) → result ≡ call_refusal names kind table i calls.Abort }
     ensures state { (names : List ℕ → Bool) (table : List SocketRecord) (i : ℕ) → result ≡ call_refusal names kind table i calls.State }
-    ensures set { (names : List ℕ → Bool) (table : List SocketRecord) (i : ℕ) (setting : TcpSetting) → result ≡ call_refusal names kind table i (calls.Set setting) }
+    ensures set { (names : List ℕ → Bool) (table : List SocketRecord) (i : ℕ) (setting : TcpSetting) →
+        result ≡ call_refusal names kind table i (calls.Set setting) }
 {
     match kind {
         None => Some(Refused::NoSocket),
@@ -153,7 +155,8 @@ pub fn close_refusal(kind: Option<SocketKind>) -> Option<Refused>
 /// Why a call that UDP sockets alone have isn't taken.
 pub fn udp_refusal(kind: Option<SocketKind>) -> Option<Refused>
     ensures bind { (names : List ℕ → Bool) (table : List SocketRecord) (i port : ℕ) → result ≡ call_refusal names kind table i (calls.Bind port) }
-    ensures send { (names : List ℕ → Bool) (table : List SocketRecord) (i : ℕ) (remote : IpEndpoint) (bytes : List ℕ) → result ≡ call_refusal names kind table i (calls.SendTo remote bytes) }
+    ensures send { (names : List ℕ → Bool) (table : List SocketRecord) (i : ℕ) (remote : IpEndpoint) (bytes : List ℕ) →
+        result ≡ call_refusal names kind table i (calls.SendTo remote bytes) }
 {
     match kind {
         None => Some(Refused::NoSocket),
@@ -165,7 +168,8 @@ pub fn udp_refusal(kind: Option<SocketKind>) -> Option<Refused>
 /// Why a call that ICMP sockets alone have isn't taken.
 pub fn icmp_refusal(kind: Option<SocketKind>) -> Option<Refused>
     ensures ident { (names : List ℕ → Bool) (table : List SocketRecord) (i ident : ℕ) → result ≡ call_refusal names kind table i (calls.Ident ident) }
-    ensures send { (names : List ℕ → Bool) (table : List SocketRecord) (i : ℕ) (remote : IpAddress) (bytes : List ℕ) → result ≡ call_refusal names kind table i (calls.SendIcmp remote bytes) }
+    ensures send { (names : List ℕ → Bool) (table : List SocketRecord) (i : ℕ) (remote : IpAddress) (bytes : List ℕ) →
+        result ≡ call_refusal names kind table i (calls.SendIcmp remote bytes) }
 {
     match kind {
         None => Some(Refused::NoSocket),

@@ -1,5 +1,6 @@
 -- A call of one TCP socket: what it leaves, and the step of an opening.
-use Rattle.std.proofs.Common.{◌≡◌, ◌≢◌, ◌⊎◌, inl, inr, ℕ, ◌==◌, ◌||◌, Bool, true, false, List, [], ◌∷◌, ◌++◌, Option, Some, None, refl, sym, ap, ◌∙◌, subst, append-nil}
+use Rattle.std.proofs.Common.{◌≡◌, ◌≢◌, ◌⊎◌, inl, inr, ℕ, ◌==◌, ◌||◌, Bool, true, false, List, [], ◌∷◌, ◌++◌, Option, Some, None, refl, sym, ap, ◌∙◌, subst}
+use Rattle.std.proofs.Common.{append-nil}
 use Rattle.std.proofs.lemmas.Bool.{ne_eqb}
 use Rattle.std.specs.List.{AllByRecursion}
 use Rattle.tcp_law.specs.Alone.{AreResets}
@@ -52,18 +53,23 @@ or_true false = refl
 -- what a call adds to it
 pub told_parts :
     (h : List Entry) (side : Side) (i : ℕ) (call : SocketCall) (answer : Answer) (found : Option State) (w r : List ℕ) (c : Bool)
-    → first_of (opening h side i) (opening_by (Some call) answer) ≡ opening h side i → bytes_written (Some call) answer ≡ w → bytes_read (Some call) answer ≡ r → closes (Some call) found ≡ c
+    → first_of (opening h side i) (opening_by (Some call) answer) ≡ opening h side i → bytes_written (Some call) answer ≡ w →
+    bytes_read (Some call) answer ≡ r → closes (Some call) found ≡ c
     → told_with h side i call answer found ≡ past (way_by (opening h side i)) (written h side i ++ w) (read h side i ++ r) (is_closed_by h side i || c)
 told_parts h side i call answer found w r c is_o is_w is_r is_c =
-    ap (λ (x : Option Opening). past (way_by x) (written h side i ++ bytes_written (Some call) answer) (read h side i ++ bytes_read (Some call) answer) (is_closed_by h side i || closes (Some call) found)) is_o
-    ∙ ap (λ (x : List ℕ). past (way_by (opening h side i)) (written h side i ++ x) (read h side i ++ bytes_read (Some call) answer) (is_closed_by h side i || closes (Some call) found)) is_w
-    ∙ ap (λ (x : List ℕ). past (way_by (opening h side i)) (written h side i ++ w) (read h side i ++ x) (is_closed_by h side i || closes (Some call) found)) is_r
+    ap (λ (x : Option Opening). past (way_by x) (written h side i ++ bytes_written (Some call) answer) (read h side i ++
+    bytes_read (Some call) answer) (is_closed_by h side i || closes (Some call) found)) is_o
+    ∙ ap (λ (x : List ℕ). past (way_by (opening h side i)) (written h side i ++ x) (read h side i ++
+    bytes_read (Some call) answer) (is_closed_by h side i || closes (Some call) found)) is_w
+    ∙ ap (λ (x : List ℕ). past (way_by (opening h side i)) (written h side i ++ w) (read h side i ++
+    x) (is_closed_by h side i || closes (Some call) found)) is_r
     ∙ ap (λ (x : Bool). past (way_by (opening h side i)) (written h side i ++ w) (read h side i ++ r) (is_closed_by h side i || x)) is_c
 
 -- a call that adds nothing
 pub told_plain :
     (h : List Entry) (side : Side) (i : ℕ) (call : SocketCall) (answer : Answer) (found : Option State)
-    → first_of (opening h side i) (opening_by (Some call) answer) ≡ opening h side i → bytes_written (Some call) answer ≡ [] → bytes_read (Some call) answer ≡ [] → closes (Some call) found ≡ false
+    → first_of (opening h side i) (opening_by (Some call) answer) ≡ opening h side i → bytes_written (Some call) answer ≡ [] →
+    bytes_read (Some call) answer ≡ [] → closes (Some call) found ≡ false
     → told_with h side i call answer found ≡ told h side i
 told_plain h side i call answer found o w r c =
     told_parts h side i call answer found [] [] false o w r c
@@ -95,7 +101,8 @@ module _
 
   pub told_after : (answer : Answer) (found : Option State) → e.answer ≡ answer → e.found ≡ found → told (e ∷ h) side at ≡ told_with h side at call answer found
   told_after answer found answered found_is =
-      ap (λ (c : Option SocketCall). past (way_by (first_of (opening h side at) (opening_by c e.answer))) (written h side at ++ bytes_written c e.answer) (read h side at ++ bytes_read c e.answer) (is_closed_by h side at || closes c e.found)) (call_here e side at call kind)
+      ap (λ (c : Option SocketCall). past (way_by (first_of (opening h side at) (opening_by c e.answer))) (written h side at ++
+      bytes_written c e.answer) (read h side at ++ bytes_read c e.answer) (is_closed_by h side at || closes c e.found)) (call_here e side at call kind)
       ∙ ap (λ (a : Answer). told_with h side at call a e.found) answered
       ∙ ap (λ (f : Option State). told_with h side at call answer f) found_is
 
@@ -106,7 +113,8 @@ module _
   pub called_opened :
       (o : Opening) (new : TcpValue) → opening h side at ≡ Some o → HasPorts (ports_of o) new.block
       → ((pair : EndpointPair) → new.block.names.pair ≡ Some pair → v.block.names.pair ≡ Some pair)
-      → ((w : TcpValue) (b : Past) → Keeps v (past_at o.local p.segments (told h side at)) w b → Keeps new (past_at o.local p.segments (told (e ∷ h) side at)) w b)
+      → ((w : TcpValue) (b : Past) → Keeps v (past_at o.local p.segments (told h side at)) w b →
+      Keeps new (past_at o.local p.segments (told (e ∷ h) side at)) w b)
       → HostSteps h (e ∷ h) side p (with_socket p at (Tcp new)) q
   called_opened o new opened ports named keeps =
       exchange_opened h (e ∷ h) side p q at leaves made_after o p.segments new (opening_stays h e side at o opened) (inl refl) apart (record {
@@ -136,21 +144,25 @@ module _
             partner_opened = sym (leaves.far j).0 ∙ a.partner_opened;
             paired = a.paired;
           } in
-          subst (λ (o : Opening). Keeps v (past_at o.local p.segments (told h side at)) w (past_at a.another.local q.segments (told h (other side) j))) one (pairs at j v w b is is_w)
+          subst (λ (o : Opening). Keeps v (past_at o.local p.segments (told h side at)) w (past_at a.another.local q.segments (told h (other side) j))) one
+          (pairs at j v w b is is_w)
         where
           same : {x y : Opening} → Some x ≡ Some y → x ≡ y
           same e = cc
 
   -- a call that opens nothing, of a socket that wasn't opened
-  pub called_untouched : (new : TcpValue) → opening h side at ≡ None → opening_by (Some call) e.answer ≡ None → IsUntouched (e ∷ h) side at new → HostSteps h (e ∷ h) side p (with_socket p at (Tcp new)) q
+  pub called_untouched : (new : TcpValue) → opening h side at ≡ None → opening_by (Some call) e.answer ≡ None → IsUntouched (e ∷ h) side at new →
+      HostSteps h (e ∷ h) side p (with_socket p at (Tcp new)) q
   called_untouched new none opens_none u =
       exchange_untouched h (e ∷ h) side p q at leaves made_after new
-      (ap (λ (c : Option SocketCall). first_of (opening h side at) (opening_by c e.answer)) (call_here e side at call kind) ∙ ap (λ (x : Option Opening). first_of x (opening_by (Some call) e.answer)) none ∙ opens_none)
+      (ap (λ (c : Option SocketCall). first_of (opening h side at) (opening_by c e.answer)) (call_here e side at call kind) ∙
+      ap (λ (x : Option Opening). first_of x (opening_by (Some call) e.answer)) none ∙ opens_none)
       u
 
   -- THE OPENING
 
-  all_resets : (o : Opening) → MayOpen places h side at o → (xs : List Made) → Each (SegmentOk h side) xs → AllByRecursion (λ x. x.source ≡ o.local → x.segment.control ≡ Rst) xs
+  all_resets : (o : Opening) → MayOpen places h side at o → (xs : List Made) → Each (SegmentOk h side) xs →
+      AllByRecursion (λ x. x.source ≡ o.local → x.segment.control ≡ Rst) xs
   all_resets o may [] all = tt
   all_resets o may (x ∷ xs) all = (by all.0, all_resets o may xs all.1) where
     by : SegmentOk h side x → x.source ≡ o.local → x.segment.control ≡ Rst
@@ -180,9 +192,11 @@ module _
       told_now : told (e ∷ h) side at ≡ record (no_past []) { opening = way_of o.remote }
       told_now =
           told_after e.answer e.found refl refl
-          ∙ ap (λ (x : Option Opening). past (way_by x) (written h side at ++ bytes_written (Some call) e.answer) (read h side at ++ bytes_read (Some call) e.answer) (is_closed_by h side at || closes (Some call) e.found))
+          ∙ ap (λ (x : Option Opening). past (way_by x) (written h side at ++ bytes_written (Some call) e.answer) (read h side at ++
+          bytes_read (Some call) e.answer) (is_closed_by h side at || closes (Some call) e.found))
           (ap (λ (x : Option Opening). first_of x (opening_by (Some call) e.answer)) may.first ∙ opens)
-          ∙ ap (λ (x : List ℕ). past (way_of o.remote) x (read h side at ++ bytes_read (Some call) e.answer) (is_closed_by h side at || closes (Some call) e.found))
+          ∙ ap (λ (x : List ℕ). past (way_of o.remote) x (read h side at ++
+          bytes_read (Some call) e.answer) (is_closed_by h side at || closes (Some call) e.found))
           (ap (λ (b : List ℕ). written h side at ++ b) no_bytes ∙ append-nil (written h side at) ∙ ap (λ (t : Past). t.written) u.nothing)
           ∙ ap (λ (x : List ℕ). past (way_of o.remote) [] x (is_closed_by h side at || closes (Some call) e.found))
           (ap (λ (b : List ℕ). read h side at ++ b) no_read ∙ append-nil (read h side at) ∙ ap (λ (t : Past). t.read) u.nothing)

@@ -1,5 +1,6 @@
 -- The calls of a UDP socket.
-use Rattle.std.proofs.Common.{◌≡◌, ◌≢◌, ◌⊎◌, inl, inr, ℕ, ◌==◌, nat_lt, not, ◌||◌, Bool, true, false, if◌then◌else◌, List, [], ◌∷◌, length, Option, Some, None, Result, Ok, Err, is_ok, refl, sym, ap, ◌∙◌, subst, arith}
+use Rattle.std.proofs.Common.{◌≡◌, ◌≢◌, ◌⊎◌, inl, inr, ℕ, ◌==◌, nat_lt, not, ◌||◌, Bool, true, false, if◌then◌else◌, List, [], ◌∷◌, length, Option, Some, None}
+use Rattle.std.proofs.Common.{Result, Ok, Err, is_ok, refl, sym, ap, ◌∙◌, subst, arith}
 use Rattle.std.proofs.lemmas.Bool.{eqb-true, eqb-false}
 use Rattle.ip_wire.specs.IpEndpoint.{IpEndpoint}
 use Rattle.ip_wire.specs.IpListenEndpoint.{IpListenEndpoint}
@@ -41,11 +42,13 @@ module _ (starts : Side → ℕ → ℕ) (h : List Entry) (e : Entry) (side : Si
   port_before = bound_port starts h side i
 
   -- the port after a call
-  port_after : (call : SocketCall) (port : ℕ) → kind_of e.event ≡ calls side i call → port_by (Some call) e.answer port_before ≡ port → bound_port starts (e ∷ h) side i ≡ port
+  port_after : (call : SocketCall) (port : ℕ) → kind_of e.event ≡ calls side i call → port_by (Some call) e.answer port_before ≡ port →
+      bound_port starts (e ∷ h) side i ≡ port
   port_after call port kind is = ap (λ (call : Option SocketCall). port_by call e.answer port_before) (call_here e side i call kind) ∙ is
 
   -- the call leaves the port, and adds nothing to the queues
-  stays : (v new : UdpValue) (call : SocketCall) → kind_of e.event ≡ calls side i call → port_by (Some call) e.answer port_before ≡ port_before → IsFewer v new → UdpOk starts h side i v → UdpOk starts (e ∷ h) side i new
+  stays : (v new : UdpValue) (call : SocketCall) → kind_of e.event ≡ calls side i call → port_by (Some call) e.answer port_before ≡ port_before →
+      IsFewer v new → UdpOk starts h side i v → UdpOk starts (e ∷ h) side i new
   stays v new call kind same f k =
       udp_grown starts h e side i new (port_after call port_before kind same) (udp_fewer starts h side i v new f k)
 
@@ -60,7 +63,8 @@ module _ (starts : Side → ℕ → ℕ) (h : List Entry) (e : Entry) (side : Si
       let may = allowed refl in
       let unbound : v.settings.endpoint.port ≡ 0 = closed_port (v.settings.endpoint.port == 0) refl may.0 in
       let none = k.idle unbound in
-      let bound : bound_port starts (e ∷ h) side i ≡ port = port_after (Call.Bind port) port kind (ap (λ (a : Answer). port_by (Some (Call.Bind port)) a port_before) answered) in
+      let bound : bound_port starts (e ∷ h) side i ≡ port =
+      port_after (Call.Bind port) port kind (ap (λ (a : Answer). port_by (Some (Call.Bind port)) a port_before) answered) in
       subst (UdpOk starts (e ∷ h) side i) (sym becomes) (record {
         bound = sym bound;
         received = subst (Each (CameTo starts (e ∷ h) side (bound_port starts (e ∷ h) side i))) (sym none.0) tt;
@@ -80,7 +84,9 @@ module _ (starts : Side → ℕ → ℕ) (h : List Entry) (e : Entry) (side : Si
   binds v new port kind k answered becomes =
       binds_by v new port (Udps.bind_answer v (at_port port)) kind k answered becomes (tests (port == 0) (is_open v) refl)
     where
-      tests : (t u : Bool) → (port == 0) ≡ t → is_ok (let r : Result (Unit {0}) BindError = if t then Err Bind.Unaddressable else if u then Err Bind.InvalidState else Ok tt in r) ≡ true → (u ≡ false) × (port ≢ 0)
+      tests : (t u : Bool) → (port == 0) ≡ t →
+          is_ok (let r : Result (Unit {0}) BindError = if t then Err Bind.Unaddressable else if u then Err Bind.InvalidState else Ok tt in r) ≡ true →
+          (u ≡ false) × (port ≢ 0)
       tests true u e ok = absurd (cc)
       tests false true e ok = absurd (cc)
       tests false false e ok = (refl, eqb-false port 0 e)
@@ -95,8 +101,10 @@ module _ (starts : Side → ℕ → ℕ) (h : List Entry) (e : Entry) (side : Si
   -- SEND
 
   sends_by :
-      (v new : UdpValue) (remote : IpEndpoint) (bytes : List ℕ) (answer : Result (Unit {0}) SendError) → kind_of e.event ≡ calls side i (Call.SendTo remote bytes) → UdpOk starts h side i v
-      → e.answer ≡ done_or send_fault answer → new ≡ sent_after answer v (metadata_to remote) bytes → (is_ok answer ≡ true → v.settings.endpoint.port ≢ 0) → UdpOk starts (e ∷ h) side i new
+      (v new : UdpValue) (remote : IpEndpoint) (bytes : List ℕ) (answer : Result (Unit {0}) SendError) →
+      kind_of e.event ≡ calls side i (Call.SendTo remote bytes) → UdpOk starts h side i v
+      → e.answer ≡ done_or send_fault answer → new ≡ sent_after answer v (metadata_to remote) bytes → (is_ok answer ≡ true → v.settings.endpoint.port ≢ 0) →
+      UdpOk starts (e ∷ h) side i new
   sends_by v new remote bytes (Ok done) kind k answered becomes bound_now =
       let same = port_after (Call.SendTo remote bytes) port_before kind refl in
       let grown = udp_grown starts h e side i v same k in
@@ -105,35 +113,41 @@ module _ (starts : Side → ℕ → ℕ) (h : List Entry) (e : Entry) (side : Si
       subst (UdpOk starts (e ∷ h) side i) (sym becomes) (record {
         bound = grown.bound;
         received = grown.received;
-        queued = each_appended (GoesFrom starts (e ∷ h) side (bound_port starts (e ∷ h) side i)) v.queued (length bytes) (metadata_to remote) bytes grown.queued (inl now);
+        queued = each_appended (GoesFrom starts (e ∷ h) side (bound_port starts (e ∷ h) side i)) v.queued (length bytes) (metadata_to remote) bytes
+            grown.queued (inl now);
         idle = λ unbound. absurd (bound_now refl unbound);
       })
   sends_by v new remote bytes (Err why) kind k answered becomes bound_now =
       stays v new (Call.SendTo remote bytes) kind refl (subst (IsFewer v) (sym becomes) (record { port = refl; received = inl refl; queued = inl refl })) k
 
   sends : (v new : UdpValue) (remote : IpEndpoint) (bytes : List ℕ) → kind_of e.event ≡ calls side i (Call.SendTo remote bytes) → UdpOk starts h side i v
-      → e.answer ≡ done_or send_fault (Udps.send_answer v (metadata_to remote) (length bytes)) → new ≡ Udps.send_after v (metadata_to remote) bytes → UdpOk starts (e ∷ h) side i new
+      → e.answer ≡ done_or send_fault (Udps.send_answer v (metadata_to remote) (length bytes)) → new ≡ Udps.send_after v (metadata_to remote) bytes →
+      UdpOk starts (e ∷ h) side i new
   sends v new remote bytes kind k answered becomes =
       sends_by v new remote bytes (Udps.send_answer v (metadata_to remote) (length bytes)) kind k answered becomes
       (λ ok zero. tests (v.settings.endpoint.port == 0) ((remote.port == 0) || is_unspecified remote.addr) (is_full_for v.queued (length bytes)) refl ok zero)
     where
       tests : (t u w : Bool) → (v.settings.endpoint.port == 0) ≡ t
-          → is_ok (let r : Result (Unit {0}) SendError = if not (not t) || u then Err SendTo.Unaddressable else if w then Err SendTo.BufferFull else Ok tt in r) ≡ true → v.settings.endpoint.port ≢ 0
+          → is_ok (let r : Result (Unit {0}) SendError = if not (not t) || u then Err SendTo.Unaddressable else if w then Err SendTo.BufferFull else Ok tt in
+          r) ≡ true → v.settings.endpoint.port ≢ 0
       tests true u w e ok = absurd (cc)
       tests false u w e ok = eqb-false v.settings.endpoint.port 0 e
 
   -- RECEIVE
 
-  reads_by : (v : UdpValue) (d : Option Queued) (limit : ℕ) → first v.received ≡ d → UdpOk starts h side i v → e.answer ≡ datagram_or d limit → ReadWasAccepted starts h (calls side i (Call.RecvFrom limit)) e.answer
+  reads_by : (v : UdpValue) (d : Option Queued) (limit : ℕ) → first v.received ≡ d → UdpOk starts h side i v → e.answer ≡ datagram_or d limit →
+      ReadWasAccepted starts h (calls side i (Call.RecvFrom limit)) e.answer
   reads_by v None limit is k answered = subst (ReadWasAccepted starts h (calls side i (Call.RecvFrom limit))) (sym answered) tt
-  reads_by v (Some d) limit is k answered = subst (ReadWasAccepted starts h (calls side i (Call.RecvFrom limit))) (sym answered) (by (nat_lt limit (length d.1))) where
-    by : (t : Bool) → ReadWasAccepted starts h (calls side i (Call.RecvFrom limit)) (if t then To.Error Fault.Truncated else To.FromEndpoint d.0.endpoint d.1)
-    by true = tt
-    by false = each_first (CameTo starts h side (bound_port starts h side i)) v.received d is k.received
+  reads_by v (Some d) limit is k answered =
+      subst (ReadWasAccepted starts h (calls side i (Call.RecvFrom limit))) (sym answered) (by (nat_lt limit (length d.1))) where
+        by : (t : Bool) → ReadWasAccepted starts h (calls side i (Call.RecvFrom limit)) (if t then To.Error Fault.Truncated else To.FromEndpoint d.0.endpoint d.1)
+        by true = tt
+        by false = each_first (CameTo starts h side (bound_port starts h side i)) v.received d is k.received
 
   -- EACH CALL
 
-  pub udp_called : (v new : UdpValue) (call : SocketCall) → kind_of e.event ≡ calls side i call → DoneBy (udp_does v call) e.answer e.found new → UdpOk starts h side i v → UdpCalled starts h e side i call new
+  pub udp_called : (v new : UdpValue) (call : SocketCall) → kind_of e.event ≡ calls side i call → DoneBy (udp_does v call) e.answer e.found new →
+      UdpOk starts h side i v → UdpCalled starts h e side i call new
   udp_called v new (Call.Bind port) kind done k = record { ok = binds v new port kind k done.0 done.2; read = tt }
   udp_called v new Call.Close kind done k = record { ok = closes v new kind done.0 done.2; read = tt }
   udp_called v new (Call.SendTo remote bytes) kind done k = record { ok = sends v new remote bytes kind k done.0 done.2; read = tt }

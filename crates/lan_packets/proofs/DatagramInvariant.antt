@@ -47,17 +47,21 @@ udp_grown starts h e side i v same k = record {
   bound = k.bound ∙ sym same;
   received =
       subst (λ (port : ℕ). Each (CameTo starts (e ∷ h) side port) (contents v.received)) (sym same)
-      (each_of (CameTo starts h side (bound_port starts h side i)) (CameTo starts (e ∷ h) side (bound_port starts h side i)) (contents v.received) (λ d a. inr a) k.received);
+      (each_of (CameTo starts h side (bound_port starts h side i)) (CameTo starts (e ∷ h) side (bound_port starts h side i)) (contents v.received)
+      (λ d a. inr a) k.received);
   queued =
       subst (λ (port : ℕ). Each (GoesFrom starts (e ∷ h) side port) (contents v.queued)) (sym same)
-      (each_of (GoesFrom starts h side (bound_port starts h side i)) (GoesFrom starts (e ∷ h) side (bound_port starts h side i)) (contents v.queued) (λ d a. inr a) k.queued);
+      (each_of (GoesFrom starts h side (bound_port starts h side i)) (GoesFrom starts (e ∷ h) side (bound_port starts h side i)) (contents v.queued)
+      (λ d a. inr a) k.queued);
   idle = k.idle;
 }
 
-pub port_left : (starts : Side → ℕ → ℕ) (h : List Entry) (e : Entry) (side : Side) (i : ℕ) → call_of e side i ≡ None → bound_port starts (e ∷ h) side i ≡ bound_port starts h side i
+pub port_left : (starts : Side → ℕ → ℕ) (h : List Entry) (e : Entry) (side : Side) (i : ℕ) → call_of e side i ≡ None →
+    bound_port starts (e ∷ h) side i ≡ bound_port starts h side i
 port_left starts h e side i none = ap (λ (call : Option SocketCall). port_by call e.answer (bound_port starts h side i)) none
 
-pub made_grown : (starts : Side → ℕ → ℕ) (h : List Entry) (e : Entry) (side : Side) (xs : List Datagram) → Each (DatagramOk starts h side) xs → Each (DatagramOk starts (e ∷ h) side) xs
+pub made_grown : (starts : Side → ℕ → ℕ) (h : List Entry) (e : Entry) (side : Side) (xs : List Datagram) → Each (DatagramOk starts h side) xs →
+    Each (DatagramOk starts (e ∷ h) side) xs
 made_grown starts h e side xs all = each_of (DatagramOk starts h side) (DatagramOk starts (e ∷ h) side) xs (λ x a. inr a) all
 
 -- a socket at the same port, with the same datagrams or without the first ones
@@ -66,7 +70,8 @@ pub record IsFewer (v new : UdpValue) : Type 0 where
   pub received : IsLeft (contents v.received) (contents new.received)
   pub queued : IsLeft (contents v.queued) (contents new.queued)
 
-pub udp_fewer : (starts : Side → ℕ → ℕ) (h : List Entry) (side : Side) (i : ℕ) (v new : UdpValue) → IsFewer v new → UdpOk starts h side i v → UdpOk starts h side i new
+pub udp_fewer : (starts : Side → ℕ → ℕ) (h : List Entry) (side : Side) (i : ℕ) (v new : UdpValue) → IsFewer v new → UdpOk starts h side i v →
+    UdpOk starts h side i new
 udp_fewer starts h side i v new f k = record {
   bound = f.port ∙ k.bound;
   received = each_left (CameTo starts h side (bound_port starts h side i)) (contents v.received) (contents new.received) f.received k.received;

@@ -30,7 +30,8 @@ abbrev pub IsMore : List Entry → Side → Opening → List Made → List Made 
 IsMore h side o made made' =
     (made' ≡ made) ⊎ ((x : Made) × (made' ≡ made ++ x ∷ []) × (x.source ≡ o.local) × SpeaksWith h side o x.destination)
 
-more_made : (h : List Entry) (side : Side) (at : ℕ) (o : Opening) (made made' : List Made) → opening h side at ≡ Some o → IsMore h side o made made' → Each (SegmentOk h side) made → Each (SegmentOk h side) made'
+more_made : (h : List Entry) (side : Side) (at : ℕ) (o : Opening) (made made' : List Made) → opening h side at ≡ Some o → IsMore h side o made made' →
+    Each (SegmentOk h side) made → Each (SegmentOk h side) made'
 more_made h side at o made made' opened (inl same) all = subst (Each (SegmentOk h side)) (sym same) all
 more_made h side at o made made' opened (inr more) all =
     subst (Each (SegmentOk h side)) (sym more.1)
@@ -39,7 +40,8 @@ more_made h side at o made made' opened (inr more) all =
 pub keep_same : (made : List Made) (port : ℕ) → KeepAt made made port
 keep_same made port = λ v w p q k. k
 
-more_keeps : (h : List Entry) (side : Side) (o : Opening) (made made' : List Made) (port : ℕ) → IsMore h side o made made' → port ≢ o.local → KeepAt made made' port
+more_keeps : (h : List Entry) (side : Side) (o : Opening) (made made' : List Made) (port : ℕ) → IsMore h side o made made' → port ≢ o.local →
+    KeepAt made made' port
 more_keeps h side o made made' port (inl same) apart v w p q k = subst (λ (m : List Made). Keeps v (past_at port m p) w q) (sym same) k
 more_keeps h side o made made' port (inr more) apart v w p q k =
     subst (λ (m : List Made). Keeps v (past_at port m p) w q) (sym more.1)
@@ -82,8 +84,10 @@ module _ (h h' : List Entry) (side : Side) (p q : Party) (at : ℕ) (leaves : Le
     ok = record {
       untouched = λ none. absurd (let clash : None ≡ Some o = sym none ∙ opened in cc);
       ports = λ o' opened'. subst (λ (o : Opening). HasPorts (ports_of o) new.block) (same_opening o o' (sym opened ∙ opened')) x.ports;
-      heard = λ o' opened' pair named. subst (λ (o : Opening). SpeaksWith h' side o pair.remote_port) (same_opening o o' (sym opened ∙ opened')) (x.heard pair named);
-      alone = λ o' opened' lone. subst (λ (o : Opening). KeepsAlone new (past_at o.local made' (told h' side at))) (same_opening o o' (sym opened ∙ opened')) (x.alone lone);
+      heard = λ o' opened' pair named. subst (λ (o : Opening). SpeaksWith h' side o pair.remote_port) (same_opening o o' (sym opened ∙ opened'))
+          (x.heard pair named);
+      alone = λ o' opened' lone. subst (λ (o : Opening). KeepsAlone new (past_at o.local made' (told h' side at))) (same_opening o o' (sym opened ∙ opened'))
+          (x.alone lone);
     }
 
     exchanged : IsExchanged h h' side (after_with made' (Tcp new)) q at new
@@ -135,10 +139,17 @@ module _ (h h' : List Entry) (side : Side) (p q : Party) (at : ℕ) (leaves : Le
         inl (subst (λ (i : ℕ). IsExchanged h h' side (after_with p.segments (Tcp new)) q i v) (sym here.0)
         (subst (IsExchanged h h' side (after_with p.segments (Tcp new)) q at) (same_tcp new v here.1) exchanged))
     by i v (inr there) =
-        inr (record { was = there.1; same = (leaves.near i there.0).0; told_same = (leaves.near i there.0).1; keeps = λ one is. keep_same p.segments one.local })
+        inr (record {
+          was = there.1;
+          same = (leaves.near i there.0).0;
+          told_same = (leaves.near i there.0).1;
+          keeps =
+              λ one is. keep_same p.segments one.local;
+        })
 
   -- a socket that isn't of TCP is exchanged for another that isn't
-  pub exchange_other : (more : List Datagram) (new : Socket) → ((v : TcpValue) → new ≢ Tcp v) → HostSteps h h' side p (record (with_socket p at new) { datagrams = more }) q
+  pub exchange_other : (more : List Datagram) (new : Socket) → ((v : TcpValue) → new ≢ Tcp v) →
+      HostSteps h h' side p (record (with_socket p at new) { datagrams = more }) q
   exchange_other more new no_tcp = record {
     stay = leaves.stay;
     far = λ j. (leaves.far j).0;
@@ -147,10 +158,17 @@ module _ (h h' : List Entry) (side : Side) (p q : Party) (at : ℕ) (leaves : Le
     sockets = λ i v is. by i v (socket_cases p at new i (Tcp v) is);
   } where
     by : (i : ℕ) (v : TcpValue) → ((i ≡ at) × (new ≡ Tcp v)) ⊎ ((i ≢ at) × (socket_at p i ≡ Some (Tcp v)))
-        → IsExchanged h h' side (record (with_socket p at new) { datagrams = more }) q i v ⊎ IsKept h h' side p (record (with_socket p at new) { datagrams = more }) i v
+        → IsExchanged h h' side (record (with_socket p at new) { datagrams = more }) q i v ⊎
+        IsKept h h' side p (record (with_socket p at new) { datagrams = more }) i v
     by i v (inl here) = absurd (no_tcp v here.1)
     by i v (inr there) =
-        inr (record { was = there.1; same = (leaves.near i there.0).0; told_same = (leaves.near i there.0).1; keeps = λ one is. keep_same p.segments one.local })
+        inr (record {
+          was = there.1;
+          same = (leaves.near i there.0).0;
+          told_same = (leaves.near i there.0).1;
+          keeps =
+              λ one is. keep_same p.segments one.local;
+        })
 
 -- no socket changes: the history has more, or the host makes a reset
 pub all_kept :
@@ -165,7 +183,8 @@ all_kept h h' side p q made' stay same made keeps = record {
   sockets = λ i v is. inr (record { was = is; same = (same side i).0; told_same = (same side i).1; keeps = λ o opened. keeps o.local });
 }
 
-pub reset_made : (h : List Entry) (side : Side) (p q : Party) (x : Made) → x.segment.control ≡ Rst → Each (SegmentOk h side) p.segments → HostSteps h h side p (record p { segments = p.segments ++ x ∷ [] }) q
+pub reset_made : (h : List Entry) (side : Side) (p q : Party) (x : Made) → x.segment.control ≡ Rst → Each (SegmentOk h side) p.segments →
+    HostSteps h h side p (record p { segments = p.segments ++ x ∷ [] }) q
 reset_made h side p q x rst made =
     all_kept h h side p q (p.segments ++ x ∷ []) (λ s i o e. e) (λ s i. (refl, refl)) (each_append (SegmentOk h side) p.segments (x ∷ []) made (inl rst, tt))
     (λ port v w past other k. keeps_made_reset v w past other port p.segments x k rst)

@@ -1,5 +1,6 @@
 -- Whether an opened socket has a partner can be told.
-use Rattle.std.proofs.Common.{◌≡◌, ◌≢◌, ◌⊎◌, inl, inr, ℕ, zero, suc, ◌<◌, ◌==◌, Bool, true, false, List, [], ◌∷◌, length, Option, Some, None, refl, sym, ap, ◌∙◌, subst, arith}
+use Rattle.std.proofs.Common.{◌≡◌, ◌≢◌, ◌⊎◌, inl, inr, ℕ, zero, suc, ◌<◌, ◌==◌, Bool, true, false, List, [], ◌∷◌, length, Option, Some, None, refl, sym, ap}
+use Rattle.std.proofs.Common.{◌∙◌, subst, arith}
 use Rattle.std.proofs.lemmas.Bool.Decides.{eqb_tells}
 use Rattle.lan_history.specs.declared.event.Side.{Side}
 use Rattle.lan_history.specs.declared.record.Opening.{Opening}
@@ -30,7 +31,8 @@ pub record IsPairedAt (h : List Entry) (side : Side) (o : Opening) : Type 0 wher
 abbrev NoneBelow : List Entry → Side → Opening → ℕ → Type 0
 NoneBelow h side o n = (j : ℕ) (p : Opening) → j < n → opening h side j ≡ Some p → are_paired o p ≡ false
 
-one_more : (h : List Entry) (side : Side) (o : Opening) (n : ℕ) → NoneBelow h side o n → ((p : Opening) → opening h side n ≡ Some p → are_paired o p ≡ false) → NoneBelow h side o (suc n)
+one_more : (h : List Entry) (side : Side) (o : Opening) (n : ℕ) → NoneBelow h side o n → ((p : Opening) → opening h side n ≡ Some p → are_paired o p ≡ false) →
+    NoneBelow h side o (suc n)
 one_more h side o n below here = λ j p less is. by j p less is (eqb_tells j n) where
   by : (j : ℕ) (p : Opening) → j < suc n → opening h side j ≡ Some p → (((j == n) ≡ true) × (j ≡ n)) ⊎ (((j == n) ≡ false) × (j ≢ n)) → are_paired o p ≡ false
   by j p less is (inl same) = here p (ap (λ (j : ℕ). opening h side j) (sym same.1) ∙ is)
@@ -52,7 +54,8 @@ pub find_partner :
     (places : Places) (h : List Entry) (side : Side) (i : ℕ) (o : Opening) → AreAllowed places h → opening h side i ≡ Some o
     → ((j : ℕ) × ArePartners h side i j) ⊎ ((j : ℕ) → ¬ (ArePartners h side i j))
 find_partner places h side i o allowed opened = by (search_below h (other side) o (length (kinds places (other side)))) where
-  by : IsPairedAt h (other side) o ⊎ NoneBelow h (other side) o (length (kinds places (other side))) → ((j : ℕ) × ArePartners h side i j) ⊎ ((j : ℕ) → ¬ (ArePartners h side i j))
+  by : IsPairedAt h (other side) o ⊎ NoneBelow h (other side) o (length (kinds places (other side))) → ((j : ℕ) × ArePartners h side i j) ⊎
+      ((j : ℕ) → ¬ (ArePartners h side i j))
   by (inl found) = inl (found.place, record { one = o; another = found.by; opened = opened; partner_opened = found.opened; paired = found.paired })
   by (inr none) = inr (λ j a.
       let apart = none j a.another (opened_place places h (other side) j a.another allowed a.partner_opened) a.partner_opened in
@@ -61,16 +64,19 @@ find_partner places h side i o allowed opened = by (search_below h (other side) 
       cc)
 
 -- what is opened is a TCP socket
-tcp_opens : (kind : SocketKind) (call : SocketCall) (answer : Answer) (o : Opening) → opening_by (Some call) answer ≡ Some o → is_wrong_kind (Some kind) call ≡ false → kind ≡ Of.Tcp
+tcp_opens : (kind : SocketKind) (call : SocketCall) (answer : Answer) (o : Opening) → opening_by (Some call) answer ≡ Some o →
+    is_wrong_kind (Some kind) call ≡ false → kind ≡ Of.Tcp
 tcp_opens Of.Tcp call answer o e right = refl
 tcp_opens kind (Call.Listen port) answer o e right = absurd (cc)
 tcp_opens kind (Call.Connect remote port) answer o e right = absurd (cc)
 tcp_opens kind call answer o e right = absurd (cc)
 
-pub opened_tcp : (places : Places) (h : List Entry) (side : Side) (i : ℕ) (o : Opening) → AreAllowed places h → opening h side i ≡ Some o → kind_at places side i ≡ Some Of.Tcp
+pub opened_tcp : (places : Places) (h : List Entry) (side : Side) (i : ℕ) (o : Opening) → AreAllowed places h → opening h side i ≡ Some o →
+    kind_at places side i ≡ Some Of.Tcp
 opened_tcp places [] side i o allowed opened = absurd (cc)
 opened_tcp places (e ∷ past) side i o allowed opened = by (opening_cases past e side i o opened) (opened_tcp places past side i o allowed.1) where
-  by : (opening past side i ≡ Some o) ⊎ OpensNow past e side i o → (opening past side i ≡ Some o → kind_at places side i ≡ Some Of.Tcp) → kind_at places side i ≡ Some Of.Tcp
+  by : (opening past side i ≡ Some o) ⊎ OpensNow past e side i o → (opening past side i ≡ Some o → kind_at places side i ≡ Some Of.Tcp) →
+      kind_at places side i ≡ Some Of.Tcp
   by (inl was) before = before was
   by (inr now) before =
       let w = was_taken places past side i now.call (subst (λ (kind : Kind). IsAllowed places past kind) now.kind allowed.0) in

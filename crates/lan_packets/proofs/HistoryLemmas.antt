@@ -63,7 +63,14 @@ pub closed_end : EndsWereTrue (end_after_close In.Established)
 closed_end = (
   record {
     partner = 0;
-    partners = record { one = record { local = 49_500; remote = Some 80 }; another = record { local = 80; remote = None }; opened = refl; partner_opened = refl; paired = refl };
+    partners = record {
+      one = record { local = 49_500; remote = Some 80 };
+      another = record { local = 80; remote = None };
+      opened = refl;
+      partner_opened =
+          refl;
+      paired = refl;
+    };
     closed = refl;
     complete = refl;
   },

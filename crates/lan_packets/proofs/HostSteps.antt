@@ -1,5 +1,6 @@
 -- A step of one host keeps what is kept of both hosts' streams, where it keeps it of each socket.
-use Rattle.std.proofs.Common.{◌≡◌, ◌≢◌, ◌⊎◌, inl, inr, ℕ, ◌||◌, Bool, true, false, List, [], ◌∷◌, ◌++◌, Option, Some, None, refl, sym, ap, ◌∙◌, subst, append-nil}
+use Rattle.std.proofs.Common.{◌≡◌, ◌≢◌, ◌⊎◌, inl, inr, ℕ, ◌||◌, Bool, true, false, List, [], ◌∷◌, ◌++◌, Option, Some, None, refl, sym, ap, ◌∙◌, subst}
+use Rattle.std.proofs.Common.{append-nil}
 use Rattle.tcp_law.specs.Segment.Control.{Rst}
 use Rattle.tcp_law.specs.Side as Law
 use Rattle.tcp_tie.specs.Endpoints.{HasPorts}
@@ -33,8 +34,10 @@ or_false false = refl
 -- an entry that is no call of the socket adds nothing to its past
 pub told_left : (h : List Entry) (e : Entry) (side : Side) (i : ℕ) → call_of e side i ≡ None → told (e ∷ h) side i ≡ told h side i
 told_left h e side i none =
-    ap (λ (call : Option SocketCall). past (way_by (first_of (opening h side i) (opening_by call e.answer))) (written h side i ++ bytes_written call e.answer) (read h side i ++ bytes_read call e.answer) (is_closed_by h side i || closes call e.found)) none
-    ∙ ap (λ (o : Option Opening). past (way_by o) (written h side i ++ []) (read h side i ++ []) (is_closed_by h side i || false)) (first_of-none (opening h side i))
+    ap (λ (call : Option SocketCall). past (way_by (first_of (opening h side i) (opening_by call e.answer))) (written h side i ++
+    bytes_written call e.answer) (read h side i ++ bytes_read call e.answer) (is_closed_by h side i || closes call e.found)) none
+    ∙ ap (λ (o : Option Opening). past (way_by o) (written h side i ++ []) (read h side i ++ []) (is_closed_by h side i || false))
+    (first_of-none (opening h side i))
     ∙ ap (λ (w : List ℕ). past (way_by (opening h side i)) w (read h side i ++ []) (is_closed_by h side i || false)) (append-nil (written h side i))
     ∙ ap (λ (r : List ℕ). past (way_by (opening h side i)) (written h side i) r (is_closed_by h side i || false)) (append-nil (read h side i))
     ∙ ap (λ (c : Bool). past (way_by (opening h side i)) (written h side i) (read h side i) c) (or_false (is_closed_by h side i))
@@ -55,7 +58,15 @@ speaks_stay h h' side o port stay (inr calls) = inr (calls.0, calls_stay h h' (o
 
 pub segment_stays : (h h' : List Entry) (side : Side) → Stay h h' → (x : Made) → SegmentOk h side x → SegmentOk h' side x
 segment_stays h h' side stay x (inl rst) = inl rst
-segment_stays h h' side stay x (inr s) = inr (record { place = s.place; by = s.by; opened = stay side s.place s.by s.opened; from = s.from; to = speaks_stay h h' side s.by x.destination stay s.to })
+segment_stays h h' side stay x (inr s) =
+    inr (record {
+      place = s.place;
+      by = s.by;
+      opened = stay side s.place s.by s.opened;
+      from = s.from;
+      to =
+          speaks_stay h h' side s.by x.destination stay s.to;
+    })
 
 pub segments_stay : (h h' : List Entry) (side : Side) (xs : List Made) → Stay h h' → Each (SegmentOk h side) xs → Each (SegmentOk h' side) xs
 segments_stay h h' side xs stay all = each_of (SegmentOk h side) (SegmentOk h' side) xs (segment_stays h h' side stay) all
@@ -143,6 +154,8 @@ module _ (h h' : List Entry) (side : Side) (p p' q : Party) (steps : HostSteps h
       by i j v w a is_w (inl exchanged) = exchanged.pair j w a is_w
       by i j v w a is_w (inr kept) =
           let opened : opening h side i ≡ Some a.one = sym kept.same ∙ a.opened in
-          let b : ArePartners h side i j = record { one = a.one; another = a.another; opened = opened; partner_opened = sym (steps.far j) ∙ a.partner_opened; paired = a.paired } in
-          subst (λ (past : Past). Keeps v (past_at a.one.local p'.segments past) w (past_at a.another.local q.segments (told h (other side) j))) (sym kept.told_same)
+          let b : ArePartners h side i j =
+          record { one = a.one; another = a.another; opened = opened; partner_opened = sym (steps.far j) ∙ a.partner_opened; paired = a.paired } in
+          subst (λ (past : Past). Keeps v (past_at a.one.local p'.segments past) w (past_at a.another.local q.segments (told h (other side) j)))
+          (sym kept.told_same)
           (kept.keeps a.one opened v w (told h side i) (past_at a.another.local q.segments (told h (other side) j)) (k i j v w b kept.was is_w))

@@ -1,5 +1,6 @@
 -- What is kept of both hosts, and that each move keeps it.
-use Rattle.std.proofs.Common.{◌≡◌, ◌≢◌, ◌⊎◌, inl, inr, ℕ, ◌<◌, Bool, true, false, List, [], ◌∷◌, ◌++◌, length, map, Option, Some, None, Result, Ok, Err, refl, sym, ap, ◌∙◌, subst, arith}
+use Rattle.std.proofs.Common.{◌≡◌, ◌≢◌, ◌⊎◌, inl, inr, ℕ, ◌<◌, Bool, true, false, List, [], ◌∷◌, ◌++◌, length, map, Option, Some, None, Result, Ok, Err, refl}
+use Rattle.std.proofs.Common.{sym, ap, ◌∙◌, subst, arith}
 use Rattle.std.specs.Prelude.{slice_set, slice_index_or}
 use Rattle.std.proofs.lemmas.Bool.{ne_eqb}
 use Rattle.std.proofs.Math.Seq.{map-set_same}
@@ -66,21 +67,27 @@ pub record KeptFrom (starts : Side → ℕ → ℕ) (places : Places) (h : List 
 
 pairs_turned : (h : List Entry) (side : Side) (p q : Party) → PairsOk h side p q → PairsOk h (other side) q p
 pairs_turned h A p q k = λ j i w v a is_w is_v.
-    let b : ArePartners h A i j = record { one = a.another; another = a.one; opened = a.partner_opened; partner_opened = a.opened; paired = paired_turned a.one a.another a.paired } in
+    let b : ArePartners h A i j =
+    record { one = a.another; another = a.one; opened = a.partner_opened; partner_opened = a.opened; paired = paired_turned a.one a.another a.paired } in
     keeps_turned v w (past_at a.another.local p.segments (told h A i)) (past_at a.one.local q.segments (told h B j)) (k i j v w b is_v is_w)
 pairs_turned h B p q k = λ j i w v a is_w is_v.
-    let b : ArePartners h B i j = record { one = a.another; another = a.one; opened = a.partner_opened; partner_opened = a.opened; paired = paired_turned a.one a.another a.paired } in
+    let b : ArePartners h B i j =
+    record { one = a.another; another = a.one; opened = a.partner_opened; partner_opened = a.opened; paired = paired_turned a.one a.another a.paired } in
     keeps_turned v w (past_at a.another.local p.segments (told h B i)) (past_at a.one.local q.segments (told h A j)) (k i j v w b is_v is_w)
 
 -- and from the other
-pub kept_turned : (starts : Side → ℕ → ℕ) (places : Places) (h : List Entry) (side : Side) (p q : Party) → KeptFrom starts places h side p q → KeptFrom starts places h (other side) q p
-kept_turned starts places h A p q k = record { allowed = k.allowed; mine = k.theirs; theirs = k.mine; pairs = pairs_turned h A p q k.pairs; reads = k.reads; ends = k.ends }
-kept_turned starts places h B p q k = record { allowed = k.allowed; mine = k.theirs; theirs = k.mine; pairs = pairs_turned h B p q k.pairs; reads = k.reads; ends = k.ends }
+pub kept_turned : (starts : Side → ℕ → ℕ) (places : Places) (h : List Entry) (side : Side) (p q : Party) → KeptFrom starts places h side p q →
+    KeptFrom starts places h (other side) q p
+kept_turned starts places h A p q k =
+    record { allowed = k.allowed; mine = k.theirs; theirs = k.mine; pairs = pairs_turned h A p q k.pairs; reads = k.reads; ends = k.ends }
+kept_turned starts places h B p q k =
+    record { allowed = k.allowed; mine = k.theirs; theirs = k.mine; pairs = pairs_turned h B p q k.pairs; reads = k.reads; ends = k.ends }
 
 -- THE KINDS OF SOCKETS
 
 -- a socket is exchanged for one of its kind
-pub kinds_set : (p : Party) (at : ℕ) (old new : Socket) → socket_at p at ≡ Some old → kind_of_socket new ≡ kind_of_socket old → map kind_in (slice_set p.sockets at (Some new)) ≡ map kind_in p.sockets
+pub kinds_set : (p : Party) (at : ℕ) (old new : Socket) → socket_at p at ≡ Some old → kind_of_socket new ≡ kind_of_socket old →
+    map kind_in (slice_set p.sockets at (Some new)) ≡ map kind_in p.sockets
 kinds_set p at old new is same =
     map-set_same kind_in p.sockets at (Some new) None (ap (λ (k : SocketKind). Some k) same ∙ ap kind_in (sym is))
 
@@ -96,7 +103,8 @@ is_tcp (Some Raw) e = absurd (cc)
 
 -- at an opened place there is a TCP socket
 pub opened_there :
-    (starts : Side → ℕ → ℕ) (places : Places) (h : List Entry) (side : Side) (p : Party) (i : ℕ) (o : Opening) → AreAllowed places h → HostOk starts places h side p
+    (starts : Side → ℕ → ℕ) (places : Places) (h : List Entry) (side : Side) (p : Party) (i : ℕ) (o : Opening) → AreAllowed places h →
+    HostOk starts places h side p
     → opening h side i ≡ Some o → (v : TcpValue) × (socket_at p i ≡ Some (Tcp v))
 opened_there starts places h side p i o allowed k opened =
     is_tcp (socket_at p i)
@@ -106,7 +114,8 @@ opened_there starts places h side p i o allowed k opened =
 
 pub kept_step :
     (starts : Side → ℕ → ℕ) (places : Places) (h h' : List Entry) (side : Side) (p p' q : Party) → KeptFrom starts places h side p q
-    → AreAllowed places h' → map kind_in p'.sockets ≡ map kind_in p.sockets → DatagramsOk starts h' side p' → DatagramsOk starts h' (other side) q → HostSteps h h' side p p' q
+    → AreAllowed places h' → map kind_in p'.sockets ≡ map kind_in p.sockets → DatagramsOk starts h' side p' → DatagramsOk starts h' (other side) q →
+    HostSteps h h' side p p' q
     → ReadsWereAccepted starts h' → EndsWereTrue h' → KeptFrom starts places h' side p' q
 kept_step starts places h h' side p p' q k allowed same datagrams far steps reads ends = record {
   allowed = allowed;
@@ -127,14 +136,16 @@ kept_still starts places h side p p' q k same datagrams steps =
 -- THE END OF A STREAM
 
 pub finished :
-    (starts : Side → ℕ → ℕ) (places : Places) (h : List Entry) (side : Side) (p q : Party) (at : ℕ) (v : TcpValue) (limit : ℕ) → KeptFrom starts places h side p q
+    (starts : Side → ℕ → ℕ) (places : Places) (h : List Entry) (side : Side) (p q : Party) (at : ℕ) (v : TcpValue) (limit : ℕ) →
+    KeptFrom starts places h side p q
     → socket_at p at ≡ Some (Tcp v) → recv_answer v limit ≡ Err Recv.Finished → HasEnded h side at
 finished starts places h side p q at v limit k is end = by (opening h side at) refl where
   with_partner : (j : ℕ) → ArePartners h side at j → HasEnded h side at
   with_partner j a =
       let there = opened_there starts places h (other side) q j a.another k.allowed k.theirs a.partner_opened in
       let keeps = k.pairs at j v there.0 a is there.1 in
-      let all = read_to_the_end v there.0 (past_at a.one.local p.segments (told h side at)) (past_at a.another.local q.segments (told h (other side) j)) limit keeps end in
+      let all = read_to_the_end v there.0 (past_at a.one.local p.segments (told h side at)) (past_at a.another.local q.segments (told h (other side) j)) limit
+      keeps end in
       record { partner = j; partners = a; closed = all.0; complete = all.1 }
 
   found : (o : Opening) → opening h side at ≡ Some o → ((j : ℕ) × ArePartners h side at j) ⊎ ((j : ℕ) → ¬ (ArePartners h side at j)) → HasEnded h side at
@@ -151,7 +162,8 @@ finished starts places h side p q at v limit k is end = by (opening h side at) r
 
 -- CALLS
 
-module _ (starts : Side → ℕ → ℕ) (places : Places) (h : List Entry) (e : Entry) (side : Side) (p q : Party) (at : ℕ) (call : SocketCall) (kind : kind_of e.event ≡ calls side at call)
+module _ (starts : Side → ℕ → ℕ) (places : Places) (h : List Entry) (e : Entry) (side : Side) (p q : Party) (at : ℕ) (call : SocketCall)
+    (kind : kind_of e.event ≡ calls side at call)
     (k : KeptFrom starts places h side p q) (allowed : IsAllowed places h (kind_of e.event)) where
   others_none : (i : ℕ) → i ≢ at → call_of e side i ≡ None
   others_none i apart = call_at_other_place e side at i call kind (ne_eqb at i (λ same. apart (sym same)))
@@ -165,20 +177,25 @@ module _ (starts : Side → ℕ → ℕ) (places : Places) (h : List Entry) (e :
   ends_now : EndWasTrue h (calls side at call) e.answer → EndsWereTrue (e ∷ h)
   ends_now now = (subst (λ (kind : Kind). EndWasTrue h kind e.answer) (sym kind) now, k.ends)
 
-  tcp_reads : (cx : ContextValue) (v new : TcpValue) (c : SocketCall) → DoneBy (tcp_does cx v c) e.answer e.found new → ReadWasAccepted starts h (calls side at c) e.answer
+  tcp_reads : (cx : ContextValue) (v new : TcpValue) (c : SocketCall) → DoneBy (tcp_does cx v c) e.answer e.found new →
+      ReadWasAccepted starts h (calls side at c) e.answer
   tcp_reads cx v new (Call.RecvFrom limit) done = absurd (done)
   tcp_reads cx v new c done = tt
 
-  end_by : (v : TcpValue) (limit : ℕ) (r : Result ℕ RecvError) → socket_at p at ≡ Some (Tcp v) → recv_answer v limit ≡ r → EndWasTrue h (calls side at (Call.Recv limit)) (bytes_or v r)
+  end_by : (v : TcpValue) (limit : ℕ) (r : Result ℕ RecvError) → socket_at p at ≡ Some (Tcp v) → recv_answer v limit ≡ r →
+      EndWasTrue h (calls side at (Call.Recv limit)) (bytes_or v r)
   end_by v limit (Ok n) is e = tt
   end_by v limit (Err Recv.InvalidState) is e = tt
   end_by v limit (Err Recv.Finished) is e = finished starts places h side p q at v limit k is e
 
-  tcp_ends : (cx : ContextValue) (v new : TcpValue) (c : SocketCall) → socket_at p at ≡ Some (Tcp v) → DoneBy (tcp_does cx v c) e.answer e.found new → EndWasTrue h (calls side at c) e.answer
-  tcp_ends cx v new (Call.Recv limit) is done = subst (EndWasTrue h (calls side at (Call.Recv limit))) (sym done.0) (end_by v limit (recv_answer v limit) is refl)
+  tcp_ends : (cx : ContextValue) (v new : TcpValue) (c : SocketCall) → socket_at p at ≡ Some (Tcp v) → DoneBy (tcp_does cx v c) e.answer e.found new →
+      EndWasTrue h (calls side at c) e.answer
+  tcp_ends cx v new (Call.Recv limit) is done =
+      subst (EndWasTrue h (calls side at (Call.Recv limit))) (sym done.0) (end_by v limit (recv_answer v limit) is refl)
   tcp_ends cx v new c is done = tt
 
-  tcp_invoked : (cx : ContextValue) (v new : TcpValue) → socket_at p at ≡ Some (Tcp v) → DoneBy (tcp_does cx v call) e.answer e.found new → KeptFrom starts places (e ∷ h) side (with_socket p at (Tcp new)) q
+  tcp_invoked : (cx : ContextValue) (v new : TcpValue) → socket_at p at ≡ Some (Tcp v) → DoneBy (tcp_does cx v call) e.answer e.found new →
+      KeptFrom starts places (e ∷ h) side (with_socket p at (Tcp new)) q
   tcp_invoked cx v new is done =
       kept_step starts places h (e ∷ h) side p (with_socket p at (Tcp new)) q k (allowed, k.allowed) (kinds_set p at (Tcp v) (Tcp new) is refl)
       (datagrams_called starts h e side p at (Tcp new) others_none (λ v e. absurd (cc)) k.mine.datagrams) far_grown
@@ -194,11 +211,13 @@ module _ (starts : Side → ℕ → ℕ) (places : Places) (h : List Entry) (e :
   udp_ends v new (Call.Recv limit) done = absurd (done)
   udp_ends v new c done = tt
 
-  udp_invoked : (v new : UdpValue) → socket_at p at ≡ Some (Udp v) → DoneBy (udp_does v call) e.answer e.found new → KeptFrom starts places (e ∷ h) side (with_socket p at (Udp new)) q
+  udp_invoked : (v new : UdpValue) → socket_at p at ≡ Some (Udp v) → DoneBy (udp_does v call) e.answer e.found new →
+      KeptFrom starts places (e ∷ h) side (with_socket p at (Udp new)) q
   udp_invoked v new is done =
       let called = udp_called starts h e side at v new call kind done (k.mine.datagrams.sockets at v is) in
       kept_step starts places h (e ∷ h) side p (with_socket p at (Udp new)) q k (allowed, k.allowed) (kinds_set p at (Udp v) (Udp new) is refl)
-      (datagrams_called starts h e side p at (Udp new) others_none (λ v' same. subst (UdpOk starts (e ∷ h) side at) (same_udp new v' same) called.ok) k.mine.datagrams) far_grown
+      (datagrams_called starts h e side p at (Udp new) others_none (λ v' same. subst (UdpOk starts (e ∷ h) side at) (same_udp new v' same) called.ok)
+      k.mine.datagrams) far_grown
       (other_steps (Udp new) (λ v e. absurd (cc))) (reads_now called.read) (ends_now (udp_ends v new call done))
     where
       same_udp : (v w : UdpValue) → Udp v ≡ Udp w → v ≡ w
@@ -214,13 +233,15 @@ module _ (starts : Side → ℕ → ℕ) (places : Places) (h : List Entry) (e :
   others_ends c answer of = tt
 
   -- a socket of another kind
-  other_invoked : (new : Socket) → ((v : TcpValue) → new ≢ Tcp v) → ((v : UdpValue) → new ≢ Udp v) → socket_at p at ≡ Some new → IsOfOthers call e.answer → KeptFrom starts places (e ∷ h) side (with_socket p at new) q
+  other_invoked : (new : Socket) → ((v : TcpValue) → new ≢ Tcp v) → ((v : UdpValue) → new ≢ Udp v) → socket_at p at ≡ Some new → IsOfOthers call e.answer →
+      KeptFrom starts places (e ∷ h) side (with_socket p at new) q
   other_invoked new no_tcp no_udp is of =
       kept_step starts places h (e ∷ h) side p (with_socket p at new) q k (allowed, k.allowed) (kinds_set p at new new is refl)
       (datagrams_called starts h e side p at new others_none (λ v same. absurd (no_udp v same)) k.mine.datagrams) far_grown
       (other_steps new no_tcp) (reads_now (others_reads call e.answer of)) (ends_now (others_ends call e.answer of))
 
-  pub invoked : (cx : ContextValue) (old new : Socket) → socket_at p at ≡ Some old → Does cx old call e.answer e.found new → KeptFrom starts places (e ∷ h) side (with_socket p at new) q
+  pub invoked : (cx : ContextValue) (old new : Socket) → socket_at p at ≡ Some old → Does cx old call e.answer e.found new →
+      KeptFrom starts places (e ∷ h) side (with_socket p at new) q
   invoked cx (Tcp v) (Tcp new) is does = tcp_invoked cx v new is does
   invoked cx (Udp v) (Udp new) is does = udp_invoked v new is does
   invoked cx Icmp Icmp is does = other_invoked Icmp (λ v e. absurd (cc)) (λ v e. absurd (cc)) is does.0
@@ -245,7 +266,8 @@ no_refusal : (places : Places) (h : List Entry) (kind : Kind) → IsNoCall kind 
 no_refusal places h (OfHost s (Calls place call)) none = absurd (none)
 no_refusal places h kind none = tt
 
-pub passes : (starts : Side → ℕ → ℕ) (places : Places) (h : List Entry) (e : Entry) (side : Side) (p q : Party) → KeptFrom starts places h side p q → IsNoCall (kind_of e.event) → KeptFrom starts places (e ∷ h) side p q
+pub passes : (starts : Side → ℕ → ℕ) (places : Places) (h : List Entry) (e : Entry) (side : Side) (p q : Party) → KeptFrom starts places h side p q →
+    IsNoCall (kind_of e.event) → KeptFrom starts places (e ∷ h) side p q
 passes starts places h e side p q k none =
     let stay = λ (s : Side) (i : ℕ) (o : Opening) (opened : opening h s i ≡ Some o). opening_stays h e s i o opened in
     kept_step starts places h (e ∷ h) side p p q k (no_refusal places h (kind_of e.event) none, k.allowed) refl

@@ -11,7 +11,8 @@ pub some_is : {X : Type 0} (x y : X) → Some x ≡ Some y → x ≡ y
 some_is x y e = cc
 
 -- a socket of the new host: the new one, or one of another place
-pub socket_cases : (p : Party) (at : ℕ) (new : Socket) (i : ℕ) (s : Socket) → socket_at (with_socket p at new) i ≡ Some s → ((i ≡ at) × (new ≡ s)) ⊎ ((i ≢ at) × (socket_at p i ≡ Some s))
+pub socket_cases : (p : Party) (at : ℕ) (new : Socket) (i : ℕ) (s : Socket) → socket_at (with_socket p at new) i ≡ Some s → ((i ≡ at) × (new ≡ s)) ⊎
+    ((i ≢ at) × (socket_at p i ≡ Some s))
 socket_cases p at new i s h = by (eqb_tells i at) where
   here : (i ≡ at) → (at < length p.sockets) ⊎ (length p.sockets ≤ at) → new ≡ s
   here same (inl below) =

@@ -1,6 +1,8 @@
 -- The datagrams in a queue, wherever they lie.
-use Rattle.std.proofs.Common.{◌≡◌, ◌⊎◌, inl, inr, ℕ, ◌+◌, ◌%◌, ◌==◌, Bool, true, false, if◌then◌else◌, List, [], ◌∷◌, ◌++◌, map, drop, Option, Some, None, refl, sym, ap, ◌∙◌, subst}
-use Rattle.net_base.specs.Packets.{QueuedPacket, Packets, contents, packet, packets_in, unpadded, unpadded_by, first, first_by, without_first, without_first_by, appended, is_full_for, padding_for, start_of}
+use Rattle.std.proofs.Common.{◌≡◌, ◌⊎◌, inl, inr, ℕ, ◌+◌, ◌%◌, ◌==◌, Bool, true, false, if◌then◌else◌, List, [], ◌∷◌, ◌++◌, map, drop, Option, Some, None, refl}
+use Rattle.std.proofs.Common.{sym, ap, ◌∙◌, subst}
+use Rattle.net_base.specs.Packets.{QueuedPacket, Packets, contents, packet, packets_in, unpadded, unpadded_by, first, first_by, without_first, without_first_by}
+use Rattle.net_base.specs.Packets.{appended, is_full_for, padding_for, start_of}
 use Rattle.datagram_sockets.specs.SocketValue.{taken_in}
 use Rattle.lan_packets.proofs.Lists.{Each, each_append, each_dropped}
 
@@ -42,7 +44,8 @@ module _ {H : Type 0} where
   map_append [] qs = refl
   map_append (p ∷ ps) qs = ap (λ (more : List (H × List ℕ)). told p ∷ more) (map_append ps qs)
 
-  pub contents_appended : (q : Packets H) (size : ℕ) (header : H) (bytes : List ℕ) → contents (appended q size header bytes) ≡ contents q ++ (header, bytes) ∷ []
+  pub contents_appended : (q : Packets H) (size : ℕ) (header : H) (bytes : List ℕ) →
+      contents (appended q size header bytes) ≡ contents q ++ (header, bytes) ∷ []
   contents_appended q size header bytes = map_append q.packets (packet (padding_for q size) header bytes ∷ [])
 
   -- the first is one of them
@@ -53,12 +56,14 @@ module _ {H : Type 0} where
   pub each_first : (P : H × List ℕ → Type 0) (q : Packets H) (d : H × List ℕ) → first q ≡ Some d → Each P (contents q) → P d
   each_first P q d e all = first_told P q.packets d e all
 
-  pub each_appended : (P : H × List ℕ → Type 0) (q : Packets H) (size : ℕ) (header : H) (bytes : List ℕ) → Each P (contents q) → P (header, bytes) → Each P (contents (appended q size header bytes))
+  pub each_appended : (P : H × List ℕ → Type 0) (q : Packets H) (size : ℕ) (header : H) (bytes : List ℕ) → Each P (contents q) → P (header, bytes) →
+      Each P (contents (appended q size header bytes))
   each_appended P q size header bytes all one =
       subst (Each P) (sym (contents_appended q size header bytes)) (each_append P (contents q) ((header, bytes) ∷ []) all (one, tt))
 
   -- a datagram that arrives joins them or is dropped
-  pub each_taken_in : (P : H × List ℕ → Type 0) (q : Packets H) (size : ℕ) (header : H) (bytes : List ℕ) → Each P (contents q) → P (header, bytes) → Each P (contents (taken_in q size header bytes))
+  pub each_taken_in : (P : H × List ℕ → Type 0) (q : Packets H) (size : ℕ) (header : H) (bytes : List ℕ) → Each P (contents q) → P (header, bytes) →
+      Each P (contents (taken_in q size header bytes))
   each_taken_in P q size header bytes all one = by (is_full_for q size) where
     by : (full : Bool) → Each P (contents (if full then q else appended q size header bytes))
     by true = all

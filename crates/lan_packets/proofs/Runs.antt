@@ -1,5 +1,6 @@
 -- Each run is safe.
-use Rattle.std.proofs.Common.{◌≡◌, ◌≢◌, ◌⊎◌, inl, inr, ℕ, Bool, true, false, List, [], ◌∷◌, ◌++◌, length, map, Option, Some, None, refl, sym, ap, ◌∙◌, subst, arith}
+use Rattle.std.proofs.Common.{◌≡◌, ◌≢◌, ◌⊎◌, inl, inr, ℕ, Bool, true, false, List, [], ◌∷◌, ◌++◌, length, map, Option, Some, None, refl, sym, ap, ◌∙◌, subst}
+use Rattle.std.proofs.Common.{arith}
 use Rattle.ip_wire.specs.IpRepr.{IpRepr}
 use Rattle.ip_wire.specs.TcpHeader.{TcpHeader}
 use Rattle.ip_wire.specs.UdpRepr.{UdpRepr}
@@ -50,14 +51,16 @@ use Rattle.lan_packets.proofs.Found.{find_partner}
 
 abbrev MayFrom : Places → List Entry → Side → Party → Party → Move → Type 0
 MayFrom places h side p q (Invokes place cx old entry call new) =
-    (socket_at p place ≡ Some old) × (kind_of entry.event ≡ calls side place call) × IsAllowed places h (kind_of entry.event) × Does cx old call entry.answer entry.found new
+    (socket_at p place ≡ Some old) × (kind_of entry.event ≡ calls side place call) × IsAllowed places h (kind_of entry.event) ×
+    Does cx old call entry.answer entry.found new
 MayFrom places h side p q (Passes entry) = IsNoCall (kind_of entry.event)
 MayFrom places h side p q (Offers place cx v sent) = socket_at p place ≡ Some (Tcp v)
 MayFrom places h side p q (Gives place cx v answer v' sent) = (socket_at p place ≡ Some (Udp v)) × Udps.Offers cx v answer v'
 MayFrom places h side p q (Takes place cx v ip header bytes) =
     (socket_at p place ≡ Some (Tcp v)) × (accepts v.block ip header ≡ true) × IsAmong q.segments (made_of header bytes)
 MayFrom places h side p q (Receives place cx v ip udp bytes) =
-    (socket_at p place ≡ Some (Udp v)) × (Udps.accepts cx v ip udp ≡ true) × WasMade q (record { source = udp.src_port; destination = udp.dst_port; bytes = bytes })
+    (socket_at p place ≡ Some (Udp v)) × (Udps.accepts cx v ip udp ≡ true) ×
+    WasMade q (record { source = udp.src_port; destination = udp.dst_port; bytes = bytes })
 MayFrom places h side p q (Resets x) = x.segment.control ≡ Rst
 MayFrom places h side p q (Changes place old new) = (socket_at p place ≡ Some old) × LooksSame old new
 
@@ -66,7 +69,8 @@ same_udp v w e = cc
 
 module _ (starts : Side → ℕ → ℕ) (places : Places) (h : List Entry) (side : Side) (p q : Party) (k : KeptFrom starts places h side p q) where
   -- a TCP socket is exchanged, and perhaps a segment made
-  tcp_still : (at : ℕ) (v new : TcpValue) (made' : List Made) → socket_at p at ≡ Some (Tcp v) → HostSteps h h side p (record (with_socket p at (Tcp new)) { segments = made' }) q
+  tcp_still : (at : ℕ) (v new : TcpValue) (made' : List Made) → socket_at p at ≡ Some (Tcp v) →
+      HostSteps h h side p (record (with_socket p at (Tcp new)) { segments = made' }) q
       → KeptFrom starts places h side (record (with_socket p at (Tcp new)) { segments = made' }) q
   tcp_still at v new made' is steps =
       kept_still starts places h side p (record (with_socket p at (Tcp new)) { segments = made' }) q k (kinds_set p at (Tcp v) (Tcp new) is refl)
@@ -83,10 +87,12 @@ module _ (starts : Side → ℕ → ℕ) (places : Places) (h : List Entry) (sid
       → KeptFrom starts places h side (record (with_socket p at (Udp new)) { datagrams = p.datagrams ++ xs }) q
   udp_still at v new xs is ok all =
       kept_still starts places h side p (record (with_socket p at (Udp new)) { datagrams = p.datagrams ++ xs }) q k (kinds_set p at (Udp v) (Udp new) is refl)
-      (datagrams_made starts h side (with_socket p at (Udp new)) xs all (datagrams_set starts h side p at (Udp new) (λ v' same. subst (UdpOk starts h side at) (same_udp new v' same) ok) k.mine.datagrams))
+      (datagrams_made starts h side (with_socket p at (Udp new)) xs all
+      (datagrams_set starts h side p at (Udp new) (λ v' same. subst (UdpOk starts h side at) (same_udp new v' same) ok) k.mine.datagrams))
       (udp_steps at new (p.datagrams ++ xs))
 
-  udp_alone : (at : ℕ) (v new : UdpValue) → socket_at p at ≡ Some (Udp v) → UdpOk starts h side at new → KeptFrom starts places h side (with_socket p at (Udp new)) q
+  udp_alone : (at : ℕ) (v new : UdpValue) → socket_at p at ≡ Some (Udp v) → UdpOk starts h side at new →
+      KeptFrom starts places h side (with_socket p at (Udp new)) q
   udp_alone at v new is ok =
       kept_still starts places h side p (with_socket p at (Udp new)) q k (kinds_set p at (Udp v) (Udp new) is refl)
       (datagrams_set starts h side p at (Udp new) (λ v' same. subst (UdpOk starts h side at) (same_udp new v' same) ok) k.mine.datagrams)
@@ -133,30 +139,35 @@ same_places starts places net k =
     ap (λ (a : List (Option SocketKind)). record { a = a; b = map kind_in net.b.sockets; names = places.names }) k.mine.of_kinds
     ∙ ap (λ (b : List (Option SocketKind)). record { a = places.a; b = b; names = places.names }) k.theirs.of_kinds
 
-may_a : (starts : Side → ℕ → ℕ) (places : Places) (net : Net) (move : Move) → Kept starts places net → May places.names net A move → MayFrom places net.history A net.a net.b move
+may_a : (starts : Side → ℕ → ℕ) (places : Places) (net : Net) (move : Move) → Kept starts places net → May places.names net A move →
+    MayFrom places net.history A net.a net.b move
 may_a starts places net (Invokes place cx old entry call new) k may =
     (may.0, may.1, subst (λ (places : Places). IsAllowed places net.history (kind_of entry.event)) (same_places starts places net k) may.2, may.3)
 may_a starts places net move k may = may
 
-may_b : (starts : Side → ℕ → ℕ) (places : Places) (net : Net) (move : Move) → Kept starts places net → May places.names net B move → MayFrom places net.history B net.b net.a move
+may_b : (starts : Side → ℕ → ℕ) (places : Places) (net : Net) (move : Move) → Kept starts places net → May places.names net B move →
+    MayFrom places net.history B net.b net.a move
 may_b starts places net (Invokes place cx old entry call new) k may =
     (may.0, may.1, subst (λ (places : Places). IsAllowed places net.history (kind_of entry.event)) (same_places starts places net k) may.2, may.3)
 may_b starts places net move k may = may
 
-step_by : (starts : Side → ℕ → ℕ) (places : Places) (net : Net) (side : Side) (move : Move) → Kept starts places net → May places.names net side move → Kept starts places (after net (record { side = side; move = move }))
+step_by : (starts : Side → ℕ → ℕ) (places : Places) (net : Net) (side : Side) (move : Move) → Kept starts places net → May places.names net side move →
+    Kept starts places (after net (record { side = side; move = move }))
 step_by starts places net A move k may = moved starts places net.history A net.a net.b k move (may_a starts places net move k may)
 step_by starts places net B move k may =
     kept_turned starts places (history_after net.history move) B (party_after net.b move) net.a
     (moved starts places net.history B net.b net.a (kept_turned starts places net.history A net.a net.b k) move (may_b starts places net move k may))
 
-kept_run : (starts : Side → ℕ → ℕ) (places : Places) (net : Net) (steps : List Step) → Kept starts places net → IsRun places.names net steps → Kept starts places (run net steps)
+kept_run : (starts : Side → ℕ → ℕ) (places : Places) (net : Net) (steps : List Step) → Kept starts places net → IsRun places.names net steps →
+    Kept starts places (run net steps)
 kept_run starts places net [] k is_run = k
 kept_run starts places net (step ∷ steps) k is_run =
     kept_run starts places (after net step) steps (step_by starts places net step.side step.move k is_run.0) is_run.1
 
 -- AT FIRST
 
-fresh_host : (starts : Side → ℕ → ℕ) (places : Places) (side : Side) (p : Party) → map kind_in p.sockets ≡ kinds places side → IsFreshParty (starts side) p → HostOk starts places [] side p
+fresh_host : (starts : Side → ℕ → ℕ) (places : Places) (side : Side) (p : Party) → map kind_in p.sockets ≡ kinds places side → IsFreshParty (starts side) p →
+    HostOk starts places [] side p
 fresh_host starts places side p same f = record {
   of_kinds = same;
   datagrams = record {
@@ -221,17 +232,20 @@ nothing_alone starts places h side p q i v k lone is = by (opening h side i) ref
       let keeps = ok.alone o opened lone in
       ((alone_nothing v (past_at o.local p.segments (told h side i)) keeps).read, alone_queue v (past_at o.local p.segments (told h side i)) keeps)
 
-kept_at : (starts : Side → ℕ → ℕ) (places : Places) (net : Net) (side : Side) → Kept starts places net → KeptFrom starts places net.history side (party net side) (party net (other side))
+kept_at : (starts : Side → ℕ → ℕ) (places : Places) (net : Net) (side : Side) → Kept starts places net →
+    KeptFrom starts places net.history side (party net side) (party net (other side))
 kept_at starts places net A k = k
 kept_at starts places net B k = kept_turned starts places net.history A net.a net.b k
 
 -- what a socket took in begins what its partner wrote
 prefix_at :
-    (starts : Side → ℕ → ℕ) (places : Places) (net : Net) → Kept starts places net → (side : Side) (i j : ℕ) (v : TcpValue) → ArePartners net.history side i j → IsTcpAt net side i v
+    (starts : Side → ℕ → ℕ) (places : Places) (net : Net) → Kept starts places net → (side : Side) (i j : ℕ) (v : TcpValue) → ArePartners net.history side i j →
+    IsTcpAt net side i v
     → IsPrefixOf (taken_in net side i v) (written net.history (other side) j)
 prefix_at starts places net k A i j v a is =
     let there = opened_there starts places net.history B net.b j a.another k.allowed k.theirs a.partner_opened in
-    (safe_pair starts places net.history B net.b net.a j i there.0 v (kept_turned starts places net.history A net.a net.b k) (partners_turned net.history A i j a) there.1 is).prefix
+    (safe_pair starts places net.history B net.b net.a j i there.0 v (kept_turned starts places net.history A net.a net.b k)
+    (partners_turned net.history A i j a) there.1 is).prefix
 prefix_at starts places net k B i j v a is =
     let there = opened_there starts places net.history A net.a j a.another k.allowed k.mine a.partner_opened in
     (safe_pair starts places net.history A net.a net.b j i there.0 v k (partners_turned net.history B i j a) there.1 is).prefix
@@ -251,6 +265,7 @@ safe_kept starts places net k = record {
   reads = k.reads;
 }
 
-pub runs_safe : (starts : Side → ℕ → ℕ) (names : List ℕ → Bool) (net : Net) (steps : List Step) → IsFreshNet starts net → IsRun names net steps → IsSafe starts (run net steps)
+pub runs_safe : (starts : Side → ℕ → ℕ) (names : List ℕ → Bool) (net : Net) (steps : List Step) → IsFreshNet starts net → IsRun names net steps →
+    IsSafe starts (run net steps)
 runs_safe starts names net steps fresh is_run =
     safe_kept starts (places_of names net) (run net steps) (kept_run starts (places_of names net) net steps (fresh_kept starts names net fresh) is_run)

@@ -45,14 +45,21 @@ queue_by v s p is shown = (s.una - suc s.iss, shown.queue ∙ ap (λ (t : Past).
 pub alone_queue : (v : TcpValue) (p : Past) → KeepsAlone v p → v.queued.queue ≡ p.written
 alone_queue v p k =
     let q = queue_by v k.side p k.past (shows (core_of v) k.side (fresh 0) k.holds k.fits) in
-    let none : length p.written - length (drop q.0 p.written) ≡ 0 = ap (λ (xs : List ℕ). length p.written - length xs) (sym q.1) ∙ (alone_nothing v p k).freed in
+    let none : length p.written - length (drop q.0 p.written) ≡ 0 = ap (λ (xs : List ℕ). length p.written - length xs) (sym q.1) ∙
+    (alone_nothing v p k).freed in
     q.1 ∙ whole_left q.0 p.written none
 
-rest_by : (written taken more : List ℕ) (k : ℕ) → taken ++ more ≡ written → length written - length (drop k written) ≤ length taken → HoldsRest written (drop k written) taken
+rest_by : (written taken more : List ℕ) (k : ℕ) → taken ++ more ≡ written → length written - length (drop k written) ≤ length taken →
+    HoldsRest written (drop k written) taken
 rest_by written taken more k begins few =
     let whole : take k written ++ drop k written ≡ written = take-append-drop k written in
     let size : length (take k written) + length (drop k written) ≡ length written = sym (length-append (take k written) (drop k written)) ∙ ap length whole in
-    record { gone = take k written; rest = whole; was_taken = shorter (drop k written) (take k written) taken more (whole ∙ sym begins) (omega (arith, size, few)) }
+    record {
+      gone = take k written;
+      rest = whole;
+      was_taken =
+          shorter (drop k written) (take k written) taken more (whole ∙ sym begins) (omega (arith, size, few));
+    }
 
 pub pair_rest : (v w : TcpValue) (p q : Past) → Keeps v p w q → HoldsRest p.written v.queued.queue (read_or_waiting q w)
 pair_rest v w p q k =
@@ -72,5 +79,6 @@ counts_of_rest written queue taken h =
     let part : length h.gone + length h.was_taken.0 ≡ length taken = sym (length-append h.gone h.was_taken.0) ∙ ap length h.was_taken.1 in
     omega (arith, all, part)
 
-pub count_of_nothing : (net : Net) (side : Sides.Side) (i : ℕ) (v : TcpValue) → HasNothing net side i v → length (written net.history side i) - length v.queued.queue ≡ 0
+pub count_of_nothing : (net : Net) (side : Sides.Side) (i : ℕ) (v : TcpValue) → HasNothing net side i v →
+    length (written net.history side i) - length v.queued.queue ≡ 0
 count_of_nothing net side i v h = let same = ap length h.queued in omega (arith, same)

@@ -1,5 +1,6 @@
 -- A segment that a socket accepts comes from its partner, or it is a reset.
-use Rattle.std.proofs.Common.{◌≡◌, ◌≢◌, ◌⊎◌, inl, inr, ℕ, ◌==◌, ◌&&◌, ◌||◌, Bool, true, false, List, [], ◌∷◌, Option, Some, None, is_some, refl, sym, ap, ◌∙◌, subst, eq-eqb}
+use Rattle.std.proofs.Common.{◌≡◌, ◌≢◌, ◌⊎◌, inl, inr, ℕ, ◌==◌, ◌&&◌, ◌||◌, Bool, true, false, List, [], ◌∷◌, Option, Some, None, is_some, refl, sym, ap, ◌∙◌}
+use Rattle.std.proofs.Common.{subst, eq-eqb}
 use Rattle.std.proofs.lemmas.Bool.{eqb-true, and_parts}
 use Rattle.ip_wire.specs.IpRepr.{IpRepr}
 use Rattle.ip_wire.specs.TcpHeader.{TcpHeader}
@@ -30,7 +31,8 @@ same_port : (m n : ℕ) → Some m ≡ Some n → m ≡ n
 same_port m n e = cc
 
 -- a segment that isn't a reset
-not_rst : (control : TcpControl) (header : TcpHeader) (bytes : List ℕ) → header.control ≡ control → is_rst control ≡ false → (segment_of header bytes).control ≢ Rst
+not_rst : (control : TcpControl) (header : TcpHeader) (bytes : List ℕ) → header.control ≡ control → is_rst control ≡ false →
+    (segment_of header bytes).control ≢ Rst
 not_rst Bits.Rst header bytes e n rst = absurd (cc)
 not_rst control header bytes e n rst = absurd (let clash : control_of control ≡ Rst = sym (ap control_of e) ∙ rst in cc)
 
@@ -65,7 +67,8 @@ module _ (h : List Entry) (side : Side) (i : ℕ) (o : Opening) (opened : openin
       by : (r : Option ℕ) → are_paired a.one a.another ≡ true → a.another.local ≡ port
       by r paired =
           let flat : ((port == a.another.local) && names_port a.another.remote a.one.local) ≡ true =
-          sym (ap (λ (x : Option ℕ). (is_some x || is_some a.another.remote) && (names_port x a.another.local && names_port a.another.remote a.one.local)) remote) ∙ paired in
+          sym (ap (λ (x : Option ℕ). (is_some x || is_some a.another.remote) && (names_port x a.another.local && names_port a.another.remote a.one.local))
+          remote) ∙ paired in
           sym (eqb-true port a.another.local (and_parts (port == a.another.local) (names_port a.another.remote a.one.local) flat).0)
   partner_port places allowed j port a (inr calls) =
       let b = caller_is_partner port calls.0 calls.1 in
@@ -91,7 +94,8 @@ module _ (h : List Entry) (side : Side) (i : ℕ) (o : Opening) (opened : openin
   -- what an accepted segment tells
   pub accepted_speaks :
       (places : Places) → AreAllowed places h → (made : List Made) (v : TcpValue) (ip : IpRepr) (header : TcpHeader) (bytes : List ℕ)
-      → TcpOk h side made i v → IsFor v.block ip header → SegmentOk h (other side) (made_of header bytes) → (header.dst_port ≡ o.local) × SpeaksWith h side o header.src_port
+      → TcpOk h side made i v → IsFor v.block ip header → SegmentOk h (other side) (made_of header bytes) → (header.dst_port ≡ o.local) ×
+      SpeaksWith h side o header.src_port
   accepted_speaks places allowed made v ip header bytes k is_for ok = by (is_listening v.block.state) refl ok where
     has : HasPorts (ports_of o) v.block
     has = k.ports o opened
@@ -100,15 +104,19 @@ module _ (h : List Entry) (side : Side) (i : ℕ) (o : Opening) (opened : openin
     called none to s = by_sender s.to where
       by_sender : SpeaksWith h (other side) s.by header.dst_port → SpeaksWith h side o header.src_port
       by_sender (inl remote) = inr (none, record { place = s.place; by = s.by; opened = s.opened; from = s.from; to = remote ∙ ap (λ (n : ℕ). Some n) to })
-      by_sender (inr calls) = absurd (clash (opened_apart places h side calls.1.place i calls.1.by o allowed (subst (λ (t : Side). opening h t calls.1.place ≡ Some calls.1.by) (other_twice side) calls.1.opened) opened)) where
-        clash : (calls.1.place ≡ i) ⊎ AreApart calls.1.by o → ⊥
-        clash (inl same) =
-            let one = same_opening calls.1.by o (sym (subst (λ (t : Side). opening h t calls.1.place ≡ Some calls.1.by) (other_twice side) calls.1.opened) ∙ ap (λ (i : ℕ). opening h side i) same ∙ opened) in
-            let none' : Some s.by.local ≡ None = sym calls.1.to ∙ ap (λ (o : Opening). o.remote) one ∙ none in
-            cc
-        clash (inr apart) = apart.local (calls.1.from ∙ to)
+      by_sender (inr calls) = absurd
+          (clash (opened_apart places h side calls.1.place i calls.1.by o allowed
+          (subst (λ (t : Side). opening h t calls.1.place ≡ Some calls.1.by) (other_twice side) calls.1.opened) opened)) where
+            clash : (calls.1.place ≡ i) ⊎ AreApart calls.1.by o → ⊥
+            clash (inl same) =
+                let one = same_opening calls.1.by o (sym (subst (λ (t : Side). opening h t calls.1.place ≡ Some calls.1.by) (other_twice side) calls.1.opened) ∙
+                ap (λ (i : ℕ). opening h side i) same ∙ opened) in
+                let none' : Some s.by.local ≡ None = sym calls.1.to ∙ ap (λ (o : Opening). o.remote) one ∙ none in
+                cc
+            clash (inr apart) = apart.local (calls.1.from ∙ to)
 
-    by : (t : Bool) → is_listening v.block.state ≡ t → SegmentOk h (other side) (made_of header bytes) → (header.dst_port ≡ o.local) × SpeaksWith h side o header.src_port
+    by : (t : Bool) → is_listening v.block.state ≡ t → SegmentOk h (other side) (made_of header bytes) → (header.dst_port ≡ o.local) ×
+        SpeaksWith h side o header.src_port
     by true e (inl rst) = absurd (not_rst header.control header bytes refl (is_for.listening e).2 rst)
     by true e (inr s) =
         let to : header.dst_port ≡ o.local = (is_for.listening e).0 ∙ (has.listening e).0 in

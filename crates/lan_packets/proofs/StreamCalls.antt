@@ -1,5 +1,6 @@
 -- Each call of a TCP socket.
-use Rattle.std.proofs.Common.{◌≡◌, ◌≢◌, ◌⊎◌, inl, inr, ℕ, ◌+◌, ◌<◌, ◌≤◌, ◌^◌, ◌==◌, nat_le, not, ◌&&◌, ◌||◌, min, Bool, true, false, if◌then◌else◌, List, [], ◌∷◌, ◌++◌, length, take, Option, Some, None, is_some, Result, Ok, Err, is_ok, refl, sym, ap, ◌∙◌, subst, append-nil, arith}
+use Rattle.std.proofs.Common.{◌≡◌, ◌≢◌, ◌⊎◌, inl, inr, ℕ, ◌+◌, ◌<◌, ◌≤◌, ◌^◌, ◌==◌, nat_le, not, ◌&&◌, ◌||◌, min, Bool, true, false, if◌then◌else◌, List, []}
+use Rattle.std.proofs.Common.{◌∷◌, ◌++◌, length, take, Option, Some, None, is_some, Result, Ok, Err, is_ok, refl, sym, ap, ◌∙◌, subst, append-nil, arith}
 use Rattle.std.proofs.lemmas.Bool.Decides.{nat_tests}
 use Rattle.std.proofs.lemmas.List.{length-append, length-take}
 use Rattle.net_base.specs.RandomWords.{word}
@@ -29,7 +30,9 @@ use Rattle.tcp_model.specs.SendError as Writes
 use Rattle.tcp_model.specs.SendError.TheVariants as Send
 use Rattle.tcp_model.specs.State.{State}
 use Rattle.tcp_model.specs.State.TheVariants as In
-use Rattle.tcp_model.specs.Calls.{listening, listens_on, listen_answer, listen_after, connecting, connected_by, connect_answer, connect_after, found_answer, pair_for, pair_by, addresses_by, source_by, send_answer, sent_more, send_after, recv_answer, recv_refusal, or_count, nothing_left, recv_after, close_after, abort_after}
+use Rattle.tcp_model.specs.Calls.{listening, listens_on, listen_answer, listen_after, connecting, connected_by, connect_answer, connect_after, found_answer}
+use Rattle.tcp_model.specs.Calls.{pair_for, pair_by, addresses_by, source_by, send_answer, sent_more, send_after, recv_answer, recv_refusal, or_count}
+use Rattle.tcp_model.specs.Calls.{nothing_left, recv_after, close_after, abort_after}
 use Rattle.tcp_model.specs.States.{is_closed, is_time_wait, is_opening, takes_writes, takes_text, after_close}
 use Rattle.tcp_model.specs.Value.{TcpValue, unoffered, ended, with_block}
 use Rattle.lan_history.specs.declared.answer.Answer.{Answer}
@@ -47,7 +50,8 @@ use Rattle.lan_history.specs.History.{Entry, first_of, opening_by, bytes_written
 use Rattle.lan_history.specs.Tables.{Places, kinds, table_of, record_at, IsAllowed, AreAllowed}
 use Rattle.lan_history.proofs.PartnerLemmas.{WasTaken, was_taken, MayOpen, may_open, test_passed}
 use Rattle.lan_history.proofs.TableLemmas.{first_of-none, table_says}
-use Rattle.lan_packets.specs.Calls.{at_port, done_or, count_or, listen_fault, connect_fault, write_fault, recv_fault, bytes_or, read_by, hops_or_none, setting_after, tcp_does}
+use Rattle.lan_packets.specs.Calls.{at_port, done_or, count_or, listen_fault, connect_fault, write_fault, recv_fault, bytes_or, read_by, hops_or_none}
+use Rattle.lan_packets.specs.Calls.{setting_after, tcp_does}
 use Rattle.lan_packets.specs.Moves.{DoneBy, with_socket}
 use Rattle.lan_packets.specs.Parties.{Socket, Party, socket_at}
 use Rattle.lan_packets.specs.Parties.Socket.{Tcp}
@@ -89,22 +93,26 @@ record HasPair (remote : IpEndpoint) (port : ℕ) (pair : EndpointPair) : Type 0
   pub local : pair.local_port ≡ port
   pub remote_port : pair.remote_port ≡ remote.port
 
-pair_ports : (cx : ContextValue) (remote : IpEndpoint) (port : ℕ) (pair : EndpointPair) → pair_for cx remote (at_port port) ≡ Some pair → HasPair remote port pair
-pair_ports cx remote port pair e = by (remote.port == 0) (is_unspecified remote.addr) (port == 0) (addresses_by (source_by cx None remote.addr) remote.addr) e where
-  by : (a b c : Bool) (addresses : Option AddressPair) → (let r : Option EndpointPair = if a || (b || c) then None else pair_by addresses port remote.port in r) ≡ Some pair → HasPair remote port pair
-  by true b c addresses e = absurd (cc)
-  by false true c addresses e = absurd (cc)
-  by false false true addresses e = absurd (cc)
-  by false false false None e = absurd (cc)
-  by false false false (Some addresses) e =
-      let same : record { addresses = addresses; local_port = port; remote_port = remote.port } ≡ pair = cc in
-      record { local = sym (ap (λ (x : EndpointPair). x.local_port) same); remote_port = sym (ap (λ (x : EndpointPair). x.remote_port) same) }
+pair_ports : (cx : ContextValue) (remote : IpEndpoint) (port : ℕ) (pair : EndpointPair) → pair_for cx remote (at_port port) ≡ Some pair →
+    HasPair remote port pair
+pair_ports cx remote port pair e =
+    by (remote.port == 0) (is_unspecified remote.addr) (port == 0) (addresses_by (source_by cx None remote.addr) remote.addr) e where
+      by : (a b c : Bool) (addresses : Option AddressPair) →
+          (let r : Option EndpointPair = if a || (b || c) then None else pair_by addresses port remote.port in r) ≡ Some pair → HasPair remote port pair
+      by true b c addresses e = absurd (cc)
+      by false true c addresses e = absurd (cc)
+      by false false true addresses e = absurd (cc)
+      by false false false None e = absurd (cc)
+      by false false false (Some addresses) e =
+          let same : record { addresses = addresses; local_port = port; remote_port = remote.port } ≡ pair = cc in
+          record { local = sym (ap (λ (x : EndpointPair). x.local_port) same); remote_port = sym (ap (λ (x : EndpointPair). x.remote_port) same) }
 
 -- a socket that wasn't opened has nothing to read, nor an end
 pub nothing_to_read : (h : List Entry) (side : Side) (i : ℕ) (v : TcpValue) (limit : ℕ) → IsUntouched h side i v → recv_answer v limit ≡ Err Recv.InvalidState
 nothing_to_read h side i v limit u =
     let closed = closed_is v.block.state u.nameless.state in
-    by (takes_text v.block.state) (length v.received.waiting == 0) v.block.receiver.took_fin (ap takes_text closed) (ap (λ (b : List ℕ). length b == 0) u.fresh.waiting) u.fresh.unfinished
+    by (takes_text v.block.state) (length v.received.waiting == 0) v.block.receiver.took_fin (ap takes_text closed)
+    (ap (λ (b : List ℕ). length b == 0) u.fresh.waiting) u.fresh.unfinished
   where
     by :
         (t z f : Bool) → t ≡ false → z ≡ true → f ≡ false
@@ -138,7 +146,8 @@ module _
   -- a call that nothing is seen of, and that the tie doesn't read
   same_call :
       (call : SocketCall) (answer : Answer) → kind_of e.event ≡ calls side at call → e.answer ≡ answer → e.found ≡ None → core_of new ≡ core_of v
-      → opening_by (Some call) answer ≡ None → bytes_written (Some call) answer ≡ [] → bytes_read (Some call) answer ≡ [] → closes (Some call) None ≡ false → Steps
+      → opening_by (Some call) answer ≡ None → bytes_written (Some call) answer ≡ [] → bytes_read (Some call) answer ≡ [] →
+      closes (Some call) None ≡ false → Steps
   same_call call answer kind answered found same opens w r c = by (opening h side at) refl where
     plain : told (e ∷ h) side at ≡ told h side at
     plain =
@@ -159,7 +168,8 @@ module _
 
   -- OPEN
 
-  listens : (port : ℕ) → kind_of e.event ≡ calls side at (Call.Listen port) → e.answer ≡ done_or listen_fault (listen_answer v (at_port port)) → e.found ≡ None → new ≡ listen_after v (at_port port) → Steps
+  listens : (port : ℕ) → kind_of e.event ≡ calls side at (Call.Listen port) → e.answer ≡ done_or listen_fault (listen_answer v (at_port port)) →
+      e.found ≡ None → new ≡ listen_after v (at_port port) → Steps
   listens port kind answered found becomes = by (port == 0) refl where
     w : WasTaken places h side at (Call.Listen port)
     w = taken (Call.Listen port) kind
@@ -173,24 +183,32 @@ module _
     by : (zero : Bool) → (port == 0) ≡ zero → Steps
     by true e0 =
         same_call (Call.Listen port) (To.Error (listen_fault Listen.Unaddressable)) kind
-        (answered ∙ ap (λ (t : Bool). done_or listen_fault (if t then Err Listen.Unaddressable else if is_closed v.block.state || listens_on v.block (at_port port) then Ok tt else Err Listen.InvalidState)) e0)
+        (answered ∙ ap (λ (t : Bool).
+        done_or listen_fault (if t then Err Listen.Unaddressable else if is_closed v.block.state || listens_on v.block (at_port port) then Ok tt else Err
+        Listen.InvalidState)) e0)
         found
-        (ap core_of (becomes ∙ ap (λ (t : Bool). if is_closed v.block.state && not t then listening v (at_port port) else unoffered v) e0 ∙ ap (λ (t : Bool). if t && false then listening v (at_port port) else unoffered v) state))
+        (ap core_of (becomes ∙ ap (λ (t : Bool). if is_closed v.block.state && not t then listening v (at_port port) else unoffered v) e0 ∙
+        ap (λ (t : Bool). if t && false then listening v (at_port port) else unoffered v) state))
         refl refl refl refl
     by false e0 =
         let done : e.answer ≡ To.Done =
         answered
-        ∙ ap (λ (t : Bool). done_or listen_fault (if t then Err Listen.Unaddressable else if is_closed v.block.state || listens_on v.block (at_port port) then Ok tt else Err Listen.InvalidState)) e0
+        ∙ ap (λ (t : Bool). done_or listen_fault
+        (if t then Err Listen.Unaddressable else if is_closed v.block.state || listens_on v.block (at_port port) then Ok tt else Err
+        Listen.InvalidState)) e0
         ∙ ap (λ (t : Bool). done_or listen_fault (if t || listens_on v.block (at_port port) then Ok tt else Err Listen.InvalidState)) state in
         let opened : new ≡ listening v (at_port port) =
-        becomes ∙ ap (λ (t : Bool). if is_closed v.block.state && not t then listening v (at_port port) else unoffered v) e0 ∙ ap (λ (t : Bool). if t && true then listening v (at_port port) else unoffered v) state in
+        becomes ∙ ap (λ (t : Bool). if is_closed v.block.state && not t then listening v (at_port port) else unoffered v) e0 ∙
+        ap (λ (t : Bool). if t && true then listening v (at_port port) else unoffered v) state in
         subst (λ (new : TcpValue). HostSteps h (e ∷ h) side p (with_socket p at (Tcp new)) q) (sym opened)
-        (called_opens places h e side p q at v (Call.Listen port) kind allowed is k far pairs (listens_at port) (listening v (at_port port)) may (ap (opening_by (Some (Call.Listen port))) done) refl refl
+        (called_opens places h e side p q at v (Call.Listen port) kind allowed is k far pairs (listens_at port) (listening v (at_port port)) may
+        (ap (opening_by (Some (Call.Listen port))) done) refl refl
         refl
         (ports_listening v (at_port port)) (λ pair named. absurd (cc))
         (λ rs w b keeps. keeps_listening v w (no_past rs) b (at_port port) keeps state refl))
 
-  connects : (remote : IpEndpoint) (port : ℕ) (cx : ContextValue) → kind_of e.event ≡ calls side at (Call.Connect remote port) → e.answer ≡ done_or connect_fault (connect_answer cx v remote (at_port port)) → e.found ≡ None
+  connects : (remote : IpEndpoint) (port : ℕ) (cx : ContextValue) → kind_of e.event ≡ calls side at (Call.Connect remote port) →
+      e.answer ≡ done_or connect_fault (connect_answer cx v remote (at_port port)) → e.found ≡ None
       → new ≡ connect_after cx v remote (at_port port) → Steps
   connects remote port cx kind answered found becomes = by (pair_for cx remote (at_port port)) refl where
     w : WasTaken places h side at (Call.Connect remote port)
@@ -203,7 +221,8 @@ module _
     state = (ok.untouched may.first).nameless.state
 
     answer_is : e.answer ≡ done_or connect_fault (found_answer (pair_for cx remote (at_port port)))
-    answer_is = answered ∙ ap (λ (t : Bool). done_or connect_fault (if t then found_answer (pair_for cx remote (at_port port)) else Err Connect.InvalidState)) state
+    answer_is = answered ∙ ap
+        (λ (t : Bool). done_or connect_fault (if t then found_answer (pair_for cx remote (at_port port)) else Err Connect.InvalidState)) state
 
     new_is : new ≡ connected_by v (pair_for cx remote (at_port port)) (first_number cx)
     new_is = becomes ∙ ap (λ (t : Bool). if t then connected_by v (pair_for cx remote (at_port port)) (first_number cx) else unoffered v) state
@@ -218,10 +237,13 @@ module _
         let done : e.answer ≡ To.Done = answer_is ∙ ap (λ (x : Option EndpointPair). done_or connect_fault (found_answer x)) found_pair in
         let opened : new ≡ connecting v pair (first_number cx) = new_is ∙ ap (λ (x : Option EndpointPair). connected_by v x (first_number cx)) found_pair in
         subst (λ (new : TcpValue). HostSteps h (e ∷ h) side p (with_socket p at (Tcp new)) q) (sym opened)
-        (called_opens places h e side p q at v (Call.Connect remote port) kind allowed is k far pairs (connects_to port remote.port) (connecting v pair (first_number cx)) may (ap (opening_by (Some (Call.Connect remote port))) done) refl refl refl
+        (called_opens places h e side p q at v (Call.Connect remote port) kind allowed is k far pairs (connects_to port remote.port)
+        (connecting v pair (first_number cx)) may (ap (opening_by (Some (Call.Connect remote port))) done) refl refl refl
         (subst (λ (local : ℕ). HasPorts (record { local = local; remote = Some remote.port }) (connecting v pair (first_number cx)).block) ports.local
-        (subst (λ (far : ℕ). HasPorts (record { local = pair.local_port; remote = Some far }) (connecting v pair (first_number cx)).block) ports.remote_port (ports_connecting v pair (first_number cx))))
-        (λ other_pair named. let same : pair ≡ other_pair = cc in inl (ap (λ (n : ℕ). Some n) (sym ports.remote_port ∙ ap (λ (x : EndpointPair). x.remote_port) same)))
+        (subst (λ (far : ℕ). HasPorts (record { local = pair.local_port; remote = Some far }) (connecting v pair (first_number cx)).block) ports.remote_port
+        (ports_connecting v pair (first_number cx))))
+        (λ other_pair named. let same : pair ≡ other_pair =
+        cc in inl (ap (λ (n : ℕ). Some n) (sym ports.remote_port ∙ ap (λ (x : EndpointPair). x.remote_port) same)))
         (λ rs w b keeps. keeps_connecting v w (no_past rs) b pair (first_number cx) keeps state refl (word_small (next_random cx).random)))
 
   -- SEND
@@ -231,7 +253,8 @@ module _
   written_by bytes (Ok n) = refl
   written_by bytes (Err why) = refl
 
-  sends : (bytes : List ℕ) → kind_of e.event ≡ calls side at (Call.Send bytes) → e.answer ≡ count_or write_fault (send_answer v (length bytes)) → e.found ≡ None → new ≡ send_after v bytes → Steps
+  sends : (bytes : List ℕ) → kind_of e.event ≡ calls side at (Call.Send bytes) → e.answer ≡ count_or write_fault (send_answer v (length bytes)) →
+      e.found ≡ None → new ≡ send_after v bytes → Steps
   sends bytes kind answered found becomes = by (opening h side at) refl where
     w : WasTaken places h side at (Call.Send bytes)
     w = taken (Call.Send bytes) kind
@@ -239,7 +262,8 @@ module _
     -- fewer than 2^29 bytes in all
     few : length (written h side at) + length bytes < 2 ^ 29
     few =
-        let passed = (test_passed (nat_le (2 ^ 29) ((record_at (table_of h side (length (kinds places side))) at).accepted + length bytes)) For.TooManyBytes [] w.own).0 in
+        let passed = (test_passed (nat_le (2 ^ 29) ((record_at (table_of h side (length (kinds places side))) at).accepted + length bytes)) For.TooManyBytes
+        [] w.own).0 in
         let says = ap (λ (r : SocketRecord). r.accepted) (table_says h side (length (kinds places side)) at w.place) in
         not_many (ap (λ (n : ℕ). nat_le (2 ^ 29) (n + length bytes)) (sym says) ∙ passed)
       where
@@ -259,17 +283,22 @@ module _
 
     same_block : (send_after v bytes).block ≡ v.block
     same_block = by_test (takes_writes v.block.state) where
-      by_test : (t : Bool) → (if t then sent_more v (enqueued (anchored v.queued) (take (min (length bytes) (length v.queued.free)) bytes)) else unoffered v).block ≡ v.block
+      by_test : (t : Bool) → (if t then sent_more v (enqueued (anchored v.queued) (take (min (length bytes) (length v.queued.free)) bytes)) else unoffered
+          v).block ≡ v.block
       by_test true = refl
       by_test false = refl
 
     told_sent : told (e ∷ h) side at ≡ with_written (told h side at) (bytes_taken (send_answer v (length bytes)) bytes)
     told_sent =
-        told_after places h e side p q at v (Call.Send bytes) kind allowed is k far pairs (count_or write_fault (send_answer v (length bytes))) None answered found
-        ∙ told_parts h side at (Call.Send bytes) (count_or write_fault (send_answer v (length bytes))) None (bytes_taken (send_answer v (length bytes)) bytes) [] false
+        told_after places h e side p q at v (Call.Send bytes) kind allowed is k far pairs (count_or write_fault (send_answer v (length bytes))) None
+        answered found
+        ∙ told_parts h side at (Call.Send bytes) (count_or write_fault (send_answer v (length bytes))) None
+        (bytes_taken (send_answer v (length bytes)) bytes) [] false
         (first_of-none (opening h side at)) (written_by bytes (send_answer v (length bytes))) refl refl
-        ∙ ap (λ (r : List ℕ). past (way_by (opening h side at)) (written h side at ++ bytes_taken (send_answer v (length bytes)) bytes) r (is_closed_by h side at || false)) (append-nil (read h side at))
-        ∙ ap (λ (c : Bool). past (way_by (opening h side at)) (written h side at ++ bytes_taken (send_answer v (length bytes)) bytes) (read h side at) c) (or_false (is_closed_by h side at))
+        ∙ ap (λ (r : List ℕ). past (way_by (opening h side at)) (written h side at ++ bytes_taken (send_answer v (length bytes)) bytes) r
+        (is_closed_by h side at || false)) (append-nil (read h side at))
+        ∙ ap (λ (c : Bool). past (way_by (opening h side at)) (written h side at ++ bytes_taken (send_answer v (length bytes)) bytes) (read h side at) c)
+        (or_false (is_closed_by h side at))
 
     by : (o : Option Opening) → opening h side at ≡ o → Steps
     by None none =
@@ -291,18 +320,24 @@ module _
 
   -- RECEIVE
 
-  receives : (limit : ℕ) → kind_of e.event ≡ calls side at (Call.Recv limit) → e.answer ≡ bytes_or v (recv_answer v limit) → e.found ≡ None → new ≡ read_by v (recv_answer v limit) → Steps
+  receives : (limit : ℕ) → kind_of e.event ≡ calls side at (Call.Recv limit) → e.answer ≡ bytes_or v (recv_answer v limit) → e.found ≡ None →
+      new ≡ read_by v (recv_answer v limit) → Steps
   receives limit kind answered found becomes = by (recv_answer v limit) refl where
     by : (r : Result ℕ RecvError) → recv_answer v limit ≡ r → Steps
     by (Err why) is_r =
-        same_call (Call.Recv limit) (To.Error (recv_fault why)) kind (answered ∙ ap (bytes_or v) is_r) found (ap core_of (becomes ∙ ap (read_by v) is_r)) refl refl refl refl
+        same_call (Call.Recv limit) (To.Error (recv_fault why)) kind (answered ∙ ap (bytes_or v) is_r) found (ap core_of (becomes ∙ ap (read_by v) is_r)) refl
+        refl refl refl
     by (Ok count) is_r = at_opening (opening h side at) refl where
       told_read : told (e ∷ h) side at ≡ with_read (told h side at) (take count v.received.waiting)
       told_read =
-          told_after places h e side p q at v (Call.Recv limit) kind allowed is k far pairs (To.Bytes (take count v.received.waiting)) None (answered ∙ ap (bytes_or v) is_r) found
-          ∙ told_parts h side at (Call.Recv limit) (To.Bytes (take count v.received.waiting)) None [] (take count v.received.waiting) false (first_of-none (opening h side at)) refl refl refl
-          ∙ ap (λ (w : List ℕ). past (way_by (opening h side at)) w (read h side at ++ take count v.received.waiting) (is_closed_by h side at || false)) (append-nil (written h side at))
-          ∙ ap (λ (c : Bool). past (way_by (opening h side at)) (written h side at) (read h side at ++ take count v.received.waiting) c) (or_false (is_closed_by h side at))
+          told_after places h e side p q at v (Call.Recv limit) kind allowed is k far pairs (To.Bytes (take count v.received.waiting)) None (answered ∙
+          ap (bytes_or v) is_r) found
+          ∙ told_parts h side at (Call.Recv limit) (To.Bytes (take count v.received.waiting)) None [] (take count v.received.waiting) false
+          (first_of-none (opening h side at)) refl refl refl
+          ∙ ap (λ (w : List ℕ). past (way_by (opening h side at)) w (read h side at ++ take count v.received.waiting) (is_closed_by h side at || false))
+          (append-nil (written h side at))
+          ∙ ap (λ (c : Bool). past (way_by (opening h side at)) (written h side at) (read h side at ++ take count v.received.waiting) c)
+          (or_false (is_closed_by h side at))
 
       at_opening : (o : Option Opening) → opening h side at ≡ o → Steps
       at_opening None none = absurd (let clash : Ok count ≡ Err Recv.InvalidState = sym is_r ∙ nothing_to_read h side at v limit (ok.untouched none) in cc)
@@ -324,21 +359,26 @@ module _
       told_closed =
           told_after places h e side p q at v Call.Close kind allowed is k far pairs To.Done (Some v.block.state) answered found
           ∙ told_parts h side at Call.Close To.Done (Some v.block.state) [] [] (closes_in v.block.state) (first_of-none (opening h side at)) refl refl refl
-          ∙ ap (λ (w : List ℕ). past (way_by (opening h side at)) w (read h side at ++ []) (is_closed_by h side at || closes_in v.block.state)) (append-nil (written h side at))
-          ∙ ap (λ (r : List ℕ). past (way_by (opening h side at)) (written h side at) r (is_closed_by h side at || closes_in v.block.state)) (append-nil (read h side at))
+          ∙ ap (λ (w : List ℕ). past (way_by (opening h side at)) w (read h side at ++ []) (is_closed_by h side at || closes_in v.block.state))
+          (append-nil (written h side at))
+          ∙ ap (λ (r : List ℕ). past (way_by (opening h side at)) (written h side at) r (is_closed_by h side at || closes_in v.block.state))
+          (append-nil (read h side at))
           ∙ closed_past (closes_in v.block.state)
         where
-          closed_past : (t : Bool) → past (way_by (opening h side at)) (written h side at) (read h side at) (is_closed_by h side at || t) ≡ closed_by t (told h side at)
+          closed_past : (t : Bool) → past (way_by (opening h side at)) (written h side at) (read h side at) (is_closed_by h side at || t) ≡
+              closed_by t (told h side at)
           closed_past true = ap (λ (c : Bool). past (way_by (opening h side at)) (written h side at) (read h side at) c) (or_true (is_closed_by h side at))
           closed_past false = ap (λ (c : Bool). past (way_by (opening h side at)) (written h side at) (read h side at) c) (or_false (is_closed_by h side at))
 
-      at_port_closed : (o : Opening) (t : Bool) (new w : TcpValue) (b : Past) → Keeps new (closed_by t (past_at o.local p.segments (told h side at))) w b → Keeps new (past_at o.local p.segments (closed_by t (told h side at))) w b
+      at_port_closed : (o : Opening) (t : Bool) (new w : TcpValue) (b : Past) → Keeps new (closed_by t (past_at o.local p.segments (told h side at))) w b →
+          Keeps new (past_at o.local p.segments (closed_by t (told h side at))) w b
       at_port_closed o true new w b keeps = keeps
       at_port_closed o false new w b keeps = keeps
 
       close_same : v.block.state ≡ In.Closed → core_of (close_after v) ≡ core_of v
       close_same closed =
-          ap (λ (t : Bool). core_of (if t then ended (unoffered v) else with_block (unoffered v) (record v.block { state = after_close v.block.state }))) (ap is_opening closed)
+          ap (λ (t : Bool). core_of (if t then ended (unoffered v) else with_block (unoffered v) (record v.block { state = after_close v.block.state })))
+          (ap is_opening closed)
           ∙ ap (λ (state : State). record (core_of v) { state = state }) (ap after_close closed ∙ sym closed)
 
       by : (o : Option Opening) → opening h side at ≡ o → HostSteps h (e ∷ h) side p (with_socket p at (Tcp (close_after v))) q
@@ -348,7 +388,12 @@ module _
           let same : core_of (close_after v) ≡ core_of v = close_same closed in
           let u' = untouched_same h side at v (close_after v) same u in
           called_untouched places h e side p q at v Call.Close kind allowed is k far pairs (close_after v) none refl
-          (record { fresh = u'.fresh; nameless = u'.nameless; nothing = told_closed ∙ ap (λ (state : State). closed_by (closes_in state) (told h side at)) closed ∙ u.nothing })
+          (record {
+            fresh = u'.fresh;
+            nameless = u'.nameless;
+            nothing =
+                told_closed ∙ ap (λ (state : State). closed_by (closes_in state) (told h side at)) closed ∙ u.nothing;
+          })
       by (Some o) opened =
           called_opened places h e side p q at v Call.Close kind allowed is k far pairs o (close_after v) opened
           (ports_close v (ports_of o) (ok.ports o opened)) (λ pair named. pair_kept v.block (close_after v).block pair (close_names v) named)
@@ -397,5 +442,6 @@ module _
   tcp_called cx Call.Close kind done = closes_step kind done.0 done.1 done.2
   tcp_called cx Call.Abort kind done = aborts kind done.0 done.1 done.2
   tcp_called cx Call.State kind done = same_call Call.State (To.State v.block.state) kind done.0 done.1 (ap core_of done.2) refl refl refl refl
-  tcp_called cx (Call.Set setting) kind done = same_call (Call.Set setting) To.Done kind done.0 done.1 (ap core_of done.2 ∙ setting_same v setting) refl refl refl refl
+  tcp_called cx (Call.Set setting) kind done =
+      same_call (Call.Set setting) To.Done kind done.0 done.1 (ap core_of done.2 ∙ setting_same v setting) refl refl refl refl
   tcp_called cx call kind done = absurd (done)

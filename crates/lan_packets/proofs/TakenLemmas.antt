@@ -22,7 +22,8 @@ zero_is_no_suc j = grind (arith, nat_tests)
 no_partner : (j : ℕ) → ArePartners (taken_at 81 text) B 0 j → ⊥
 unfolding pairs
 no_partner zero p =
-    let clash : false ≡ true = ap (λ o. pairs o (Some (record { local = 49_500; remote = Some 80 }))) p.opened ∙ ap (pairs (Some p.one)) p.partner_opened ∙ p.paired in
+    let clash : false ≡ true = ap (λ o. pairs o (Some (record { local = 49_500; remote = Some 80 }))) p.opened ∙
+    ap (pairs (Some p.one)) p.partner_opened ∙ p.paired in
     cc
 no_partner (suc j) p =
     let none = rw (zero_is_no_suc j) at p.partner_opened in
@@ -41,7 +42,14 @@ pub another_number : (starts : Side → ℕ → ℕ) (a b : Party) (v : TcpValue
     → IsSafe starts (record { a = a; b = b; history = taken_at 80 (98 ∷ 99 ∷ []) }) → ⊥
 another_number starts a b v at safe =
     let front = safe.prefix B 0 0 v
-    (record { one = record { local = 80; remote = None }; another = record { local = 49_500; remote = Some 80 }; opened = refl; partner_opened = refl; paired = refl }) at
+    (record {
+      one = record { local = 80; remote = None };
+      another = record { local = 49_500; remote = Some 80 };
+      opened = refl;
+      partner_opened =
+          refl;
+      paired = refl;
+    }) at
     in
     let clash : 98 ≡ 97 = ap (λ (xs : List ℕ). slice_index xs 0) front.1 in
     omega (arith, clash)

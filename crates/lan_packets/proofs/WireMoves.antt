@@ -1,5 +1,6 @@
 -- Offers, arrivals and settings: each step of one TCP socket that no call of the history tells.
-use Rattle.std.proofs.Common.{◌≡◌, ◌≢◌, ◌⊎◌, inl, inr, ℕ, ◌==◌, Bool, true, false, List, [], ◌∷◌, ◌++◌, length, Option, Some, None, is_some, refl, sym, ap, ◌∙◌, subst}
+use Rattle.std.proofs.Common.{◌≡◌, ◌≢◌, ◌⊎◌, inl, inr, ℕ, ◌==◌, Bool, true, false, List, [], ◌∷◌, ◌++◌, length, Option, Some, None, is_some, refl, sym, ap, ◌∙◌}
+use Rattle.std.proofs.Common.{subst}
 use Rattle.std.specs.Prelude.{slice_get}
 use Rattle.ip_wire.specs.IpRepr.{IpRepr}
 use Rattle.ip_wire.specs.TcpHeader.{TcpHeader}
@@ -14,7 +15,8 @@ use Rattle.tcp_tie.proofs.AloneLaws.{stays_alone, reset_comes}
 use Rattle.tcp_tie.proofs.ArrivalLaws.{keeps_arrival}
 use Rattle.tcp_tie.proofs.CallLaws.{keeps_same}
 use Rattle.tcp_tie.proofs.HostLaws.{keeps_hosted_arrival, keeps_hosted_offer, past_of_answer}
-use Rattle.tcp_tie.proofs.NameLaws.{arrival_names, answer_back, offer_between_ends, sent_names, withheld_names, ports_same, ports_sent, ports_withheld, ports_arrival, nameless_refuses, nameless_silent, accepted as accepted_for}
+use Rattle.tcp_tie.proofs.NameLaws.{arrival_names, answer_back, offer_between_ends, sent_names, withheld_names, ports_same, ports_sent, ports_withheld}
+use Rattle.tcp_tie.proofs.NameLaws.{ports_arrival, nameless_refuses, nameless_silent, accepted as accepted_for}
 use Rattle.tcp_tie.proofs.OfferLaws.{keeps_unsent_offer}
 use Rattle.tcp_model.specs.declared.block.Block.{Block}
 use Rattle.tcp_model.specs.EndpointPair.{EndpointPair}
@@ -92,7 +94,8 @@ module _
 
   -- a step of an opened socket that keeps the invariant beside any partner
   abbrev KeepsAny : Opening → List Made → TcpValue → Type 0
-  KeepsAny o made' new = (w : TcpValue) (b : Past) → Keeps v (past_at o.local p.segments (told h side at)) w b → Keeps new (past_at o.local made' (told h side at)) w b
+  KeepsAny o made' new = (w : TcpValue) (b : Past) → Keeps v (past_at o.local p.segments (told h side at)) w b →
+      Keeps new (past_at o.local made' (told h side at)) w b
 
   opened_step :
       (o : Opening) (made' : List Made) (new : TcpValue) → opening h side at ≡ Some o → IsMore h side o p.segments made' → HasPorts (ports_of o) new.block
@@ -108,9 +111,11 @@ module _
 
   -- OFFERS
 
-  offer_more : (cx : ContextValue) (o : Opening) → opening h side at ≡ Some o → IsMore h side o p.segments (and_offer p.segments (offer_of cx v).socket.offered (offer_of cx v).socket.queued.queue)
+  offer_more : (cx : ContextValue) (o : Opening) → opening h side at ≡ Some o →
+      IsMore h side o p.segments (and_offer p.segments (offer_of cx v).socket.offered (offer_of cx v).socket.queued.queue)
   offer_more cx o opened = by (offer_of cx v).socket.offered refl where
-    by : (offered : Option OpenOffer) → (offer_of cx v).socket.offered ≡ offered → IsMore h side o p.segments (and_offer p.segments offered (offer_of cx v).socket.queued.queue)
+    by : (offered : Option OpenOffer) → (offer_of cx v).socket.offered ≡ offered →
+        IsMore h side o p.segments (and_offer p.segments offered (offer_of cx v).socket.queued.queue)
     by None e = inl refl
     by (Some x) e =
         let ends = offer_between_ends cx v x e in
@@ -123,32 +128,47 @@ module _
         )
 
   offers_opened : (cx : ContextValue) (sent : Bool) (o : Opening) → opening h side at ≡ Some o
-      → HostSteps h h side p (record (with_socket p at (Tcp (settled sent (offer_of cx v).socket))) { segments = offered_segments sent p (offer_of cx v).socket }) q
+      → HostSteps h h side p (record (with_socket p at (Tcp (settled sent (offer_of cx v).socket))) {
+        segments =
+            offered_segments sent p (offer_of cx v).socket;
+      }) q
   offers_opened cx true o opened =
       opened_step o (offered_segments true p (offer_of cx v).socket) (settled true (offer_of cx v).socket) opened (offer_more cx o opened)
       (ports_sent cx v (ports_of o) (ok.ports o opened)) (λ pair e. pair_left v.block (settled true (offer_of cx v).socket).block pair (sent_names cx v) e)
       (λ w b keeps. keeps_hosted_offer cx v w (told h side at) b (ports_of o) p.segments keeps (ok.ports o opened))
   offers_opened cx false o opened =
       opened_step o p.segments (settled false (offer_of cx v).socket) opened (inl refl)
-      (ports_withheld cx v (ports_of o) (ok.ports o opened)) (λ pair e. pair_left v.block (settled false (offer_of cx v).socket).block pair (withheld_names cx v) e)
+      (ports_withheld cx v (ports_of o) (ok.ports o opened))
+      (λ pair e. pair_left v.block (settled false (offer_of cx v).socket).block pair (withheld_names cx v) e)
       (λ w b keeps. keeps_unsent_offer cx v w (past_at o.local p.segments (told h side at)) b keeps)
 
   offers_untouched : (cx : ContextValue) (sent : Bool) → opening h side at ≡ None
-      → HostSteps h h side p (record (with_socket p at (Tcp (settled sent (offer_of cx v).socket))) { segments = offered_segments sent p (offer_of cx v).socket }) q
+      → HostSteps h h side p (record (with_socket p at (Tcp (settled sent (offer_of cx v).socket))) {
+        segments =
+            offered_segments sent p (offer_of cx v).socket;
+      }) q
   offers_untouched cx sent none =
       let u = ok.untouched none in
       let silent = nameless_silent cx v u.nameless in
       subst (λ (s : TcpValue). HostSteps h h side p (record (with_socket p at (Tcp (settled sent s))) { segments = offered_segments sent p s }) q)
       (sym (ap (λ (o : Offered TcpValue). o.socket) silent)) (by sent u)
     where
-      by : (sent : Bool) → IsUntouched h side at v → HostSteps h h side p (record (with_socket p at (Tcp (settled sent (unoffered v)))) { segments = offered_segments sent p (unoffered v) }) q
+      by : (sent : Bool) → IsUntouched h side at v →
+          HostSteps h h side p (record (with_socket p at (Tcp (settled sent (unoffered v)))) { segments = offered_segments sent p (unoffered v) }) q
       by true u = exchange_untouched h h side p q at (leaves_all h side at) k.made (unoffered v) none (untouched_same h side at v (unoffered v) refl u)
       by false u = exchange_untouched h h side p q at (leaves_all h side at) k.made (unoffered v) none (untouched_same h side at v (unoffered v) refl u)
 
   pub offers : (cx : ContextValue) (sent : Bool)
-      → HostSteps h h side p (record (with_socket p at (Tcp (settled sent (offer_of cx v).socket))) { segments = offered_segments sent p (offer_of cx v).socket }) q
+      → HostSteps h h side p (record (with_socket p at (Tcp (settled sent (offer_of cx v).socket))) {
+        segments =
+            offered_segments sent p (offer_of cx v).socket;
+      }) q
   offers cx sent = by (opening h side at) refl where
-    by : (o : Option Opening) → opening h side at ≡ o → HostSteps h h side p (record (with_socket p at (Tcp (settled sent (offer_of cx v).socket))) { segments = offered_segments sent p (offer_of cx v).socket }) q
+    by : (o : Option Opening) → opening h side at ≡ o →
+        HostSteps h h side p (record (with_socket p at (Tcp (settled sent (offer_of cx v).socket))) {
+          segments =
+              offered_segments sent p (offer_of cx v).socket;
+        }) q
     by None e = offers_untouched cx sent e
     by (Some o) e = offers_opened cx sent o e
 
@@ -207,7 +227,8 @@ module _
         by : SegmentOk h (other side) (made_of header bytes) → KeepsAlone new (past_at o.local made_after (told h side at))
         by (inl rst) =
             subst (KeepsAlone new)
-            (past_of_answer o.local p.segments (told h side at) (arrives cx v ip header bytes).answer (λ reply e. (answer_back cx v ip header bytes reply e).source_port ∙ speaks.0))
+            (past_of_answer o.local p.segments (told h side at) (arrives cx v ip header bytes).answer
+            (λ reply e. (answer_back cx v ip header bytes reply e).source_port ∙ speaks.0))
             (reset_comes cx v (past_at o.local p.segments (told h side at)) ip header bytes (ok.alone o opened lone) rst)
         by (inr s) = let partner = sender_is_partner h side at o opened (made_of header bytes) speaks.0 speaks.1 s in absurd (lone partner.0 partner.1)
 
@@ -218,9 +239,11 @@ module _
           let theirs_is = partner_port h side at o opened places allowed j header.src_port a speaks.1 in
           let at_ports : Keeps v (past_at header.dst_port p.segments (told h side at)) w (past_at header.src_port q.segments (told h (other side) j)) =
           subst (λ (port : ℕ). Keeps v (past_at port p.segments (told h side at)) w (past_at header.src_port q.segments (told h (other side) j))) (sym speaks.0)
-          (subst (λ (port : ℕ). Keeps v (past_at o.local p.segments (told h side at)) w (past_at port q.segments (told h (other side) j))) theirs_is (before o opened j w a is_w)) in
+          (subst (λ (port : ℕ). Keeps v (past_at o.local p.segments (told h side at)) w (past_at port q.segments (told h (other side) j))) theirs_is
+          (before o opened j w a is_w)) in
           subst (λ (port : ℕ). Keeps new (past_at port made_after (told h side at)) w (past_at a.another.local q.segments (told h (other side) j))) speaks.0
-          (subst (λ (port : ℕ). Keeps new (past_at header.dst_port made_after (told h side at)) w (past_at port q.segments (told h (other side) j))) (sym theirs_is)
+          (subst (λ (port : ℕ). Keeps new (past_at header.dst_port made_after (told h side at)) w (past_at port q.segments (told h (other side) j)))
+          (sym theirs_is)
           (keeps_hosted_arrival cx v w (told h side at) (told h (other side) j) ip header bytes p.segments q.segments at_ports among))
 
     pub takes : HostSteps h h side p (record (with_socket p at (Tcp new)) { segments = made_after }) q

@@ -20,8 +20,10 @@ use Rattle.tcp_model.specs.RecvError.TheVariants as Recv
 use Rattle.tcp_model.specs.SendError as Writes
 use Rattle.tcp_model.specs.SendError.TheVariants as Send
 use Rattle.tcp_model.specs.State.{State}
-use Rattle.tcp_model.specs.Calls.{listen_answer, listen_after, connect_answer, connect_after, send_answer, send_after, recv_answer, recv_after, close_after, abort_after}
-use Rattle.tcp_model.specs.Settings.{set_timeout, set_ack_delay, set_keep_alive, set_nagle_enabled, set_hop_limit, set_congestion_control, set_tsval_generator, pause_synack}
+use Rattle.tcp_model.specs.Calls.{listen_answer, listen_after, connect_answer, connect_after, send_answer, send_after, recv_answer, recv_after, close_after}
+use Rattle.tcp_model.specs.Calls.{abort_after}
+use Rattle.tcp_model.specs.Settings.{set_timeout, set_ack_delay, set_keep_alive, set_nagle_enabled, set_hop_limit, set_congestion_control, set_tsval_generator}
+use Rattle.tcp_model.specs.Settings.{pause_synack}
 use Rattle.tcp_model.specs.Value.{TcpValue, unoffered}
 use Rattle.lan_history.specs.declared.answer.Answer.{Answer}
 use Rattle.lan_history.specs.declared.answer.Answer.TheVariants as To

@@ -8,7 +8,8 @@ ghost use Rattle.lan_history.specs.History.{written};
 ghost use Rattle.tcp_model.specs.Value.{TcpValue};
 
 /// After each run of two fresh hosts, whatever their applications and the network do: what a socket took in begins what its partner
-/// wrote, only bytes that were taken in have left the send queue, which holds the rest, a socket without a partner has nothing, the end of a stream means closed and complete,
+/// wrote, only bytes that were taken in have left the send queue, which holds the rest, a socket without a partner has nothing, the end of a stream means
+/// closed and complete,
 /// and each datagram read was accepted with these bytes and ports.
 #[tactic(auto, using(crate::proofs::Runs::runs_safe))]
 pub fn runs_are_safe()

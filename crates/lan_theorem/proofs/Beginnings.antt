@@ -93,7 +93,8 @@ pub first_joined : (starts : Starts) → IsFreshWorld starts → AreJoined (firs
 first_joined starts fresh = record {
   out = λ side. [];
   medium = sym (on_medium starts.a fresh.a) ∙ fresh.medium ∙ on_medium starts.b fresh.b;
-  device = λ side. elim side as (λ x. (station (unused_both starts) x).link.capabilities.medium ≡ medium_on (station (unused_both starts) x).host.inner.hardware) [ A ↦ on_medium starts.a fresh.a | B ↦ on_medium starts.b fresh.b ];
+  device = λ side. elim side as (λ x. (station (unused_both starts) x).link.capabilities.medium ≡
+      medium_on (station (unused_both starts) x).host.inner.hardware) [ A ↦ on_medium starts.a fresh.a | B ↦ on_medium starts.b fresh.b ];
   sends = λ side. elim side as (λ x. Sends (party (first_net starts) x) (firsts starts x) (station (unused_both starts) x) []) [
     | A ↦ fresh_sends starts.a fresh.a (party (first_net starts) A)
     | B ↦ fresh_sends starts.b fresh.b (party (first_net starts) B)

@@ -47,15 +47,18 @@ module _ (firsts most : Side → ℕ) (hosts : Stations) (net : Net) (j : AreJoi
     frame = frame_sent hosts from k
 
     -- on the host's medium
-    bad_by : (hardware : HardwareAddress) (o : Option Part) → is_no_frame (station hosts from) k ≡ false → medium_on hardware ≡ medium_of (station hosts from) → tcp_part (medium_on hardware) frame ≡ o
+    bad_by : (hardware : HardwareAddress) (o : Option Part) → is_no_frame (station hosts from) k ≡ false → medium_on hardware ≡ medium_of (station hosts from) →
+        tcp_part (medium_on hardware) frame ≡ o
         → first_refusal (segment_tests frame o place word) ≡ None → BringsBad hardware (damaged_in o frame place word ++ padding)
     bad_by hardware None there same is allowed = absurd cc
     bad_by hardware (Some part) there same is allowed =
         let here : IsHostFrame (medium_on hardware) (j.out from) frame =
         subst (λ (m : Medium). IsHostFrame m (j.out from) frame) (sym (same ∙ j.device from)) (sent_frame firsts most hosts net j from k there) in
-        damaged_bad (MadeBy (party net from)) hardware (j.out from) (j.sends from).are_sent.packets frame part place word padding here is (damage_of frame part place word small allowed)
+        damaged_bad (MadeBy (party net from)) hardware (j.out from) (j.sends from).are_sent.packets frame part place word padding here is
+        (damage_of frame part place word small allowed)
 
-    pub brings_none : first_refusal (link_tests hosts (Hands (Damaged from k place word padding))) ≡ None → BringsNoSegment (medium_of (station hosts from)) (frame_of_origin hosts (Damaged from k place word padding))
+    pub brings_none : first_refusal (link_tests hosts (Hands (Damaged from k place word padding))) ≡ None →
+        BringsNoSegment (medium_of (station hosts from)) (frame_of_origin hosts (Damaged from k place word padding))
     brings_none allowed hardware v of is =
         let o : Option Part = tcp_part (medium_of (station hosts from)) frame in
         let tests = passed (is_no_frame (station hosts from) k) For.NoFrame (first_refusal (segment_tests frame o place word)) allowed in
@@ -67,7 +70,8 @@ module _ (firsts most : Side → ℕ) (hosts : Stations) (net : Net) (j : AreJoi
   origin_harmless (Delivered from k padding) word allowed = tt
   origin_harmless (Noisy to bytes) word allowed = tt
   origin_harmless (Damaged from k place word padding) small allowed =
-      harmless (medium_of (station hosts from)) (frame_of_origin hosts (Damaged from k place word padding)) (brings_none from k place word padding small allowed)
+      harmless (medium_of (station hosts from)) (frame_of_origin hosts (Damaged from k place word padding))
+      (brings_none from k place word padding small allowed)
 
   kind_harmless : (past : List Entry) (k : Kind) → IsTyped k → refusal hosts (tables_in past hosts) k ≡ None → IsHarmlessBy hosts k
   kind_harmless past (OfLink (Hands o)) typed allowed = origin_harmless o typed allowed
@@ -81,9 +85,11 @@ pub record Are (firsts : Side → ℕ) (hosts : Stations) : Type 0 where
   pub joined : AreJoined firsts most hosts net
 
 -- along a run in which the hosts are joined all the time
-pub damage_along : (firsts : Side → ℕ) (from : Stations) → ((past : List Entry) (hosts : Stations) → AreTyped past → WorldRun past from hosts → Are firsts hosts)
+pub damage_along : (firsts : Side → ℕ) (from : Stations) →
+    ((past : List Entry) (hosts : Stations) → AreTyped past → WorldRun past from hosts → Are firsts hosts)
     → (history : List Entry) (hosts : Stations) → AreTyped history → WorldRun history from hosts → DamageIsHarmless hosts history
 damage_along firsts from joined history hosts typed ran =
     damage_kept AreTyped (λ e past typed. typed.1) from
-    (λ past old new e typed ran leads. let are = joined past old typed.1 ran in kind_harmless firsts are.most old are.net are.joined past (kind_of e.event) typed.0 leads.allowed)
+    (λ past old new e typed ran leads. let are = joined past old typed.1 ran in
+    kind_harmless firsts are.most old are.net are.joined past (kind_of e.event) typed.0 leads.allowed)
     history hosts typed ran

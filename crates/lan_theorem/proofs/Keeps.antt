@@ -68,7 +68,8 @@ taken_sent d d' frame is = sym (ap (λ (p : PortValue). p.link.sent) is.1)
 -- WHAT WAS MADE
 
 -- what goes has the form that the link wants
-going_by : (p : Party) (h : IpRepr) (x : PayloadValue) → FitsBehind h x → MadeBy p x → NamesNoPorts (carried_in (Ips.normal h)) ⊎ (CanBeRead h x × MadeBy p (normal_payload x))
+going_by : (p : Party) (h : IpRepr) (x : PayloadValue) → FitsBehind h x → MadeBy p x → NamesNoPorts (carried_in (Ips.normal h)) ⊎
+    (CanBeRead h x × MadeBy p (normal_payload x))
 going_by p h (ControlV4 message bytes) fits made = inr (fits, tt)
 going_by p h (ControlV6 message bytes) fits made = inr (fits, tt)
 going_by p h (Bytes bytes) fits made = inl fits
@@ -85,18 +86,27 @@ more_made p p' grows (Bytes bytes) made = tt
 more_made p p' grows (Datagram udp bytes) made = grows.datagrams (datagram_of udp bytes) made
 more_made p p' grows (Segment header bytes) made = grows.segments (made_of header bytes) made
 
-pub sender_grows : (p p' : Party) (first : ℕ) (i : InnerValue) (l : Option LeftValue) (sent : List (List ℕ)) (out : List PacketValue) → Grows p p' → IsSender (MadeBy p) first i l sent out → IsSender (MadeBy p') first i l sent out
+pub sender_grows : (p p' : Party) (first : ℕ) (i : InnerValue) (l : Option LeftValue) (sent : List (List ℕ)) (out : List PacketValue) → Grows p p' →
+    IsSender (MadeBy p) first i l sent out → IsSender (MadeBy p') first i l sent out
 sender_grows p p' first i l sent out grows s =
-    record { sound = s.sound; are_sent = sent_grows (MadeBy p) (MadeBy p') (more_made p p' grows) first i.ident out s.are_sent; left_is = s.left_is; frames = s.frames }
+    record {
+      sound = s.sound;
+      are_sent = sent_grows (MadeBy p) (MadeBy p') (more_made p p' grows) first i.ident out s.are_sent;
+      left_is =
+          s.left_is;
+      frames = s.frames;
+    }
 
 -- what a content brings, in the words of the moves
-hands_so : (q : Party) (caps : ChecksumCapabilities) (ip : IpRepr) (payload : List ℕ) → caps ≡ sealed → Links.HandsMade (MadeBy q) ip payload → Moves.HandsMade q caps ip payload
+hands_so : (q : Party) (caps : ChecksumCapabilities) (ip : IpRepr) (payload : List ℕ) → caps ≡ sealed → Links.HandsMade (MadeBy q) ip payload →
+    Moves.HandsMade q caps ip payload
 hands_so q caps ip payload are hands = subst (λ (c : ChecksumCapabilities). Moves.HandsMade q c ip payload) (sym are) (record {
   segments = λ header bytes is. hands (Segment header bytes) is;
   datagrams = λ udp bytes is. hands (Datagram udp bytes) is;
 })
 
-brings_so : (q : Party) (caps : ChecksumCapabilities) (content : Option IncomingValue) → caps ≡ sealed → Links.BringsMade (MadeBy q) content → Moves.BringsMade q caps content
+brings_so : (q : Party) (caps : ChecksumCapabilities) (content : Option IncomingValue) → caps ≡ sealed → Links.BringsMade (MadeBy q) content →
+    Moves.BringsMade q caps content
 brings_so q caps None are brings = tt
 brings_so q caps (Some (Arp link packet)) are brings = tt
 brings_so q caps (Some (Ip4 link h piece x)) are brings = hands_so q caps (Ip.Ipv4 h) x are brings
@@ -105,7 +115,13 @@ brings_so q caps (Some (Ip6 link h x)) are brings = hands_so q caps (Ip.Ipv6 h) 
 -- A HOST WITH OTHER MOMENT
 
 pub moment_sound : (t : ℤ) (i : InnerValue) → IsSound i → IsSound (at_moment t i)
-moment_sound t i s = record { own = s.own; neighbors = s.neighbors; routers = s.routers; widths = record { mtu = s.widths.mtu; ident = s.widths.ident }; checksums = s.checksums }
+moment_sound t i s = record {
+  own = s.own;
+  neighbors = s.neighbors;
+  routers = s.routers;
+  widths = record { mtu = s.widths.mtu; ident = s.widths.ident };
+  checksums = s.checksums;
+}
 
 module _ (q : Party) (others base : List PacketValue) (first : ℕ) (before : List (List ℕ)) (n : ℕ) where
   abbrev L : ℕ → State PortValue → Party → Type 0
@@ -125,7 +141,8 @@ module _ (q : Party) (others base : List PacketValue) (first : ℕ) (before : Li
   maintenance t s p l = record {
     out = l.out;
     more = l.more;
-    sender = sender_settled (MadeBy p) first l.out s.host.inner (at_moment t s.host.inner) s.host.left s.device.link.sent refl refl (moment_sound t s.host.inner l.sender.sound) l.sender;
+    sender = sender_settled (MadeBy p) first l.out s.host.inner (at_moment t s.host.inner) s.host.left s.device.link.sent refl refl
+        (moment_sound t s.host.inner l.sender.sound) l.sender;
     receiver = receiver_same (MadeBy q) others s.host.inner (at_moment t s.host.inner) (without_expired s.host.slots t) s.device.link.waiting refl refl
         (expired_receiver (MadeBy q) others s.host.inner s.host.slots s.device.link.waiting t l.receiver);
     count = l.count;
@@ -144,8 +161,10 @@ module _ (q : Party) (others base : List PacketValue) (first : ℕ) (before : Li
 
   -- A FRAME IS TAKEN
 
-  waits_first : (s : State PortValue) (p : Party) (frame : List ℕ) (d : PortValue) → PortMove s.device (Took frame) d → L n s p → IsReceiver (MadeBy q) others s.host.inner s.host.slots (frame ∷ d.link.waiting)
-  waits_first s p frame d move l = subst (λ (w : List (List ℕ)). IsReceiver (MadeBy q) others s.host.inner s.host.slots w) (taken_frame s.device d frame move) l.receiver
+  waits_first : (s : State PortValue) (p : Party) (frame : List ℕ) (d : PortValue) → PortMove s.device (Took frame) d → L n s p →
+      IsReceiver (MadeBy q) others s.host.inner s.host.slots (frame ∷ d.link.waiting)
+  waits_first s p frame d move l =
+      subst (λ (w : List (List ℕ)). IsReceiver (MadeBy q) others s.host.inner s.host.slots w) (taken_frame s.device d frame move) l.receiver
 
   pub skips : (s : State PortValue) (p : Party) (frame : List ℕ) (d : PortValue) → PortMove s.device (Took frame) d → L n s p → L n (at_device s d) p
   skips s p frame d move l = record {
@@ -158,75 +177,104 @@ module _ (q : Party) (others base : List PacketValue) (first : ℕ) (before : Li
   }
 
   module _ (start next : ℕ) (other : IsOther q start next others) where
-    pub brings : (s : State PortValue) (p : Party) (frame : List ℕ) (d : PortValue) (content : Option IncomingValue) → PortMove s.device (Took frame) d → IsContent s.host.inner.hardware s.host.inner.checksums frame content → L n s p
+    pub brings : (s : State PortValue) (p : Party) (frame : List ℕ) (d : PortValue) (content : Option IncomingValue) → PortMove s.device (Took frame) d →
+        IsContent s.host.inner.hardware s.host.inner.checksums frame content → L n s p
         → Moves.BringsMade q s.host.inner.checksums (whole_after s.host.inner s.host.timeout s.host.slots (taken_in s.host.inner content))
     brings s p frame d content move is l =
         brings_so q s.host.inner.checksums (whole_after s.host.inner s.host.timeout s.host.slots (taken_in s.host.inner content)) l.receiver.checksums
-        (taken_was_made (MadeBy q) start others next other.sent other.few s.host.inner s.host.timeout s.host.slots frame d.link.waiting content (waits_first s p frame d move l) is)
+        (taken_was_made (MadeBy q) start others next other.sent other.few s.host.inner s.host.timeout s.host.slots frame d.link.waiting content
+        (waits_first s p frame d move l) is)
 
-    pub takes : (s : State PortValue) (p : Party) (frame : List ℕ) (d : PortValue) (content : Option IncomingValue) (slots : Slots) (a : Arrived) (places : Places) → PortMove s.device (Took frame) d
-        → IsContent s.host.inner.hardware s.host.inner.checksums frame content → ArrivesAs s.host.inner s.host.timeout s.host.slots s.places content slots a → L n s p
+    pub takes : (s : State PortValue) (p : Party) (frame : List ℕ) (d : PortValue) (content : Option IncomingValue) (slots : Slots) (a : Arrived)
+        (places : Places) → PortMove s.device (Took frame) d
+        → IsContent s.host.inner.hardware s.host.inner.checksums frame content →
+        ArrivesAs s.host.inner s.host.timeout s.host.slots s.places content slots a → L n s p
         → L n (state d (record s.host { inner = a.inner; slots = slots }) places) p
     takes s p frame d content slots a places move is arrives l = record {
       out = l.out;
       more = l.more;
       sender = subst (λ (w : List (List ℕ)). IsSender (MadeBy p) first a.inner s.host.left w l.out) (sym (taken_sent s.device d frame move))
-          (arrival_keeps_sender (MadeBy p) first l.out s.host.inner s.host.left s.device.link.sent s.places (whole_after s.host.inner s.host.timeout s.host.slots (taken_in s.host.inner content)) a arrives.1 l.sender);
-      receiver = taken_keeps (MadeBy q) start others next other.sent other.few s.host.inner s.host.timeout s.host.slots s.places frame d.link.waiting content slots a (waits_first s p frame d move l) is arrives;
+          (arrival_keeps_sender (MadeBy p) first l.out s.host.inner s.host.left s.device.link.sent s.places
+          (whole_after s.host.inner s.host.timeout s.host.slots (taken_in s.host.inner content)) a arrives.1 l.sender);
+      receiver = taken_keeps (MadeBy q) start others next other.sent other.few s.host.inner s.host.timeout s.host.slots s.places frame d.link.waiting content
+          slots a (waits_first s p frame d move l) is arrives;
       count = l.count;
-      tied = tied_on s.host.inner.hardware a.inner.hardware base l.out before d.link.sent (brings_same s.host.inner s.places (whole_after s.host.inner s.host.timeout s.host.slots (taken_in s.host.inner content)) a arrives.1).hardware
+      tied = tied_on s.host.inner.hardware a.inner.hardware base l.out before d.link.sent
+          (brings_same s.host.inner s.places (whole_after s.host.inner s.host.timeout s.host.slots (taken_in s.host.inner content)) a arrives.1).hardware
           (subst (λ (w : List (List ℕ)). IsTied (medium_on s.host.inner.hardware) base before l.out w) (sym (taken_sent s.device d frame move)) l.tied);
     }
 
   -- SOMETHING LEAVES
 
-  went_so : (k m : ℕ) (s : State PortValue) (p : Party) (d : PortValue) (i : InnerValue) (left : Option LeftValue) (places : Places) (l : L n s p) → n + k ≤ m → d.link.waiting ≡ s.device.link.waiting → i.checksums ≡ s.host.inner.checksums → i.hardware ≡ s.host.inner.hardware
+  went_so : (k m : ℕ) (s : State PortValue) (p : Party) (d : PortValue) (i : InnerValue) (left : Option LeftValue) (places : Places) (l : L n s p) → n + k ≤ m →
+      d.link.waiting ≡ s.device.link.waiting → i.checksums ≡ s.host.inner.checksums → i.hardware ≡ s.host.inner.hardware
       → WentOut (MadeBy p) first k l.out s.device.link.sent i left d.link.sent → L m (state d (record s.host { inner = i; left = left }) places) p
   went_so k m s p d i left places l room waits caps hardware went = record {
     out = went.out_after;
     more = λ x among. went.grows x (l.more x among);
     sender = went.sender;
-    receiver = subst (λ (w : List (List ℕ)). IsReceiver (MadeBy q) others i s.host.slots w) (sym waits) (receiver_same (MadeBy q) others s.host.inner i s.host.slots s.device.link.waiting caps hardware l.receiver);
+    receiver = subst (λ (w : List (List ℕ)). IsReceiver (MadeBy q) others i s.host.slots w) (sym waits)
+        (receiver_same (MadeBy q) others s.host.inner i s.host.slots s.device.link.waiting caps hardware l.receiver);
     count = let a = went.count in let b = l.count in omega (arith, a, b, room);
     tied = tied_trans (medium_on i.hardware) base l.out went.out_after before s.device.link.sent d.link.sent
         (tied_on s.host.inner.hardware i.hardware base l.out before s.device.link.sent hardware l.tied) went.tied;
   }
 
-  made_or_not : (s : State PortValue) (p : Party) (x : PacketValue) (sent : Sent) (d : PortValue) (inner : InnerValue) (left : Option LeftValue) (l : L n s p) → IsWide x → (is_done sent ≡ true → IsMade p x)
-      → GoesOut PortMove s.device s.host.inner s.host.left x (plan_of s.host.inner (is_some s.host.left) x.header) sent d inner left → WentOut (MadeBy p) first 1 l.out s.device.link.sent inner left d.link.sent
+  made_or_not : (s : State PortValue) (p : Party) (x : PacketValue) (sent : Sent) (d : PortValue) (inner : InnerValue) (left : Option LeftValue) (l : L n s p) →
+      IsWide x → (is_done sent ≡ true → IsMade p x)
+      → GoesOut PortMove s.device s.host.inner s.host.left x (plan_of s.host.inner (is_some s.host.left) x.header) sent d inner left →
+      WentOut (MadeBy p) first 1 l.out s.device.link.sent inner left d.link.sent
   made_or_not s p x Outcome.Gone d inner left l wide made out =
-      goes_keeps (MadeBy p) first l.out s.host.inner s.host.left s.device l.sender (is_some s.host.left) x (going p x wide (made refl)) Outcome.Gone d inner left out
+      goes_keeps (MadeBy p) first l.out s.host.inner s.host.left s.device l.sender (is_some s.host.left) x (going p x wide (made refl)) Outcome.Gone d
+      inner left out
   made_or_not s p x Outcome.Dropped d inner left l wide made out =
-      unsent_keeps (MadeBy p) first l.out s.host.inner s.host.left s.device l.sender (is_some s.host.left) x wide.offered.header Outcome.Dropped d inner left (λ e. cc) out
+      unsent_keeps (MadeBy p) first l.out s.host.inner s.host.left s.device l.sender (is_some s.host.left) x wide.offered.header Outcome.Dropped d inner left
+      (λ e. cc) out
   made_or_not s p x Outcome.Waits d inner left l wide made out =
-      unsent_keeps (MadeBy p) first l.out s.host.inner s.host.left s.device l.sender (is_some s.host.left) x wide.offered.header Outcome.Waits d inner left (λ e. cc) out
+      unsent_keeps (MadeBy p) first l.out s.host.inner s.host.left s.device l.sender (is_some s.host.left) x wide.offered.header Outcome.Waits d inner left
+      (λ e. cc) out
   made_or_not s p x Outcome.Busy d inner left l wide made out =
-      unsent_keeps (MadeBy p) first l.out s.host.inner s.host.left s.device l.sender (is_some s.host.left) x wide.offered.header Outcome.Busy d inner left (λ e. cc) out
+      unsent_keeps (MadeBy p) first l.out s.host.inner s.host.left s.device l.sender (is_some s.host.left) x wide.offered.header Outcome.Busy d inner left
+      (λ e. cc) out
   made_or_not s p x Outcome.Refused d inner left l wide made out =
-      unsent_keeps (MadeBy p) first l.out s.host.inner s.host.left s.device l.sender (is_some s.host.left) x wide.offered.header Outcome.Refused d inner left (λ e. cc) out
+      unsent_keeps (MadeBy p) first l.out s.host.inner s.host.left s.device l.sender (is_some s.host.left) x wide.offered.header Outcome.Refused d inner left
+      (λ e. cc) out
 
-  pub goes : (s : State PortValue) (p : Party) (x : PacketValue) (sent : Sent) (d : PortValue) (inner : InnerValue) (left : Option LeftValue) → IsWide x → (is_done sent ≡ true → IsMade p x)
-      → GoesOut PortMove s.device s.host.inner s.host.left x (plan_of s.host.inner (is_some s.host.left) x.header) sent d inner left → L n s p → L (n + 1) (state d (record s.host { inner = inner; left = left }) s.places) p
+  pub goes : (s : State PortValue) (p : Party) (x : PacketValue) (sent : Sent) (d : PortValue) (inner : InnerValue) (left : Option LeftValue) → IsWide x →
+      (is_done sent ≡ true → IsMade p x)
+      → GoesOut PortMove s.device s.host.inner s.host.left x (plan_of s.host.inner (is_some s.host.left) x.header) sent d inner left → L n s p →
+      L (n + 1) (state d (record s.host { inner = inner; left = left }) s.places) p
   goes s p x sent d inner left wide made out l =
       let change = changes PortMove s.device d s.host.inner inner s.host.left left x (is_some s.host.left) sent out in
-      let kept : HasSettingsOf s.host.inner inner = same_settings s.host.inner inner (plan_of s.host.inner (is_some s.host.left) x.header) sent x.header change.1 in
-      let waits : d.link.waiting ≡ s.device.link.waiting = once_waits s.device d s.host.inner (departure_by s.host.inner x (plan_of s.host.inner (is_some s.host.left) x.header)) (was_taken sent) change.0 in
+      let kept : HasSettingsOf s.host.inner inner =
+      same_settings s.host.inner inner (plan_of s.host.inner (is_some s.host.left) x.header) sent x.header change.1 in
+      let waits : d.link.waiting ≡ s.device.link.waiting =
+      once_waits s.device d s.host.inner (departure_by s.host.inner x (plan_of s.host.inner (is_some s.host.left) x.header)) (was_taken sent) change.0 in
       went_so 1 (n + 1) s p d inner left s.places l (omega arith) waits kept.checksums kept.hardware (made_or_not s p x sent d inner left l wide made out)
 
-  pub piece : (s : State PortValue) (p : Party) (c : LeftValue) (gone : Bool) (d : PortValue) (left : Option LeftValue) → s.host.left ≡ Some c → PieceGoesOut PortMove s.device s.host.inner c gone d left → L n s p
+  pub piece : (s : State PortValue) (p : Party) (c : LeftValue) (gone : Bool) (d : PortValue) (left : Option LeftValue) → s.host.left ≡ Some c →
+      PieceGoesOut PortMove s.device s.host.inner c gone d left → L n s p
       → L n (state d (record s.host { left = left }) s.places) p
   piece s p c gone d left is goes_out l =
-      let sender : IsSender (MadeBy p) first s.host.inner (Some c) s.device.link.sent l.out = subst (λ (o : Option LeftValue). IsSender (MadeBy p) first s.host.inner o s.device.link.sent l.out) is l.sender in
-      let waits : d.link.waiting ≡ s.device.link.waiting = once_waits s.device d s.host.inner (Some (next_departure s.host.inner.mtu c)) gone (piece_sends PortMove s.device d s.host.inner c left gone goes_out) in
-      went_so 0 n s p d s.host.inner left s.places l (omega arith) waits refl refl (piece_keeps (MadeBy p) first l.out s.host.inner c s.device sender gone d left goes_out)
+      let sender : IsSender (MadeBy p) first s.host.inner (Some c) s.device.link.sent l.out =
+      subst (λ (o : Option LeftValue). IsSender (MadeBy p) first s.host.inner o s.device.link.sent l.out) is l.sender in
+      let waits : d.link.waiting ≡ s.device.link.waiting =
+      once_waits s.device d s.host.inner (Some (next_departure s.host.inner.mtu c)) gone
+      (piece_sends PortMove s.device d s.host.inner c left gone goes_out) in
+      went_so 0 n s p d s.host.inner left s.places l (omega arith) waits refl refl
+      (piece_keeps (MadeBy p) first l.out s.host.inner c s.device sender gone d left goes_out)
 
   -- AN ANSWER IN ARP, from a host behind an arrival
 
-  pub tells : (s : State PortValue) (p : Party) (frame : List ℕ) (d0 : PortValue) (content : Option IncomingValue) (slots : Slots) (a : Arrived) (packet : ArpRepr) (gone : Bool) (d : PortValue) (places : Places)
-      → IsContent s.host.inner.hardware s.host.inner.checksums frame content → ArrivesAs s.host.inner s.host.timeout s.host.slots s.places content slots a → a.reply ≡ Some (Replies.Tells packet)
-      → Departs PortMove d0 a.inner (Tells packet) gone d → L n (state d0 (record s.host { inner = a.inner; slots = slots }) places) p → L n (state d (record s.host { inner = a.inner; slots = slots }) places) p
+  pub tells : (s : State PortValue) (p : Party) (frame : List ℕ) (d0 : PortValue) (content : Option IncomingValue) (slots : Slots) (a : Arrived)
+      (packet : ArpRepr) (gone : Bool) (d : PortValue) (places : Places)
+      → IsContent s.host.inner.hardware s.host.inner.checksums frame content → ArrivesAs s.host.inner s.host.timeout s.host.slots s.places content slots a →
+      a.reply ≡ Some (Replies.Tells packet)
+      → Departs PortMove d0 a.inner (Tells packet) gone d → L n (state d0 (record s.host { inner = a.inner; slots = slots }) places) p →
+      L n (state d (record s.host { inner = a.inner; slots = slots }) places) p
   tells s p frame d0 content slots a packet gone d places is arrives reply departs l =
-      let same : a.inner.hardware ≡ s.host.inner.hardware = (brings_same s.host.inner s.places (whole_after s.host.inner s.host.timeout s.host.slots (taken_in s.host.inner content)) a arrives.1).hardware in
+      let same : a.inner.hardware ≡ s.host.inner.hardware =
+      (brings_same s.host.inner s.places (whole_after s.host.inner s.host.timeout s.host.slots (taken_in s.host.inner content)) a arrives.1).hardware in
       let long : HasSixBytes s.host.inner.hardware = subst HasSixBytes same l.sender.sound.own in
       let between = told_between s.host.inner s.host.timeout s.host.slots s.places frame content a packet long is arrives.1 reply in
       let station : IsStation a.inner.hardware = subst IsStation (sym same) between.0 in
@@ -243,11 +291,13 @@ module _ (q : Party) (others base : List PacketValue) (first : ℕ) (before : Li
 
 -- ALL OF IT
 
-more_linked : (q : Party) (others base : List PacketValue) (first : ℕ) (before : List (List ℕ)) (n m : ℕ) (s : State PortValue) (p : Party) → n ≤ m → IsLinked q others base first before n s p → IsLinked q others base first before m s p
+more_linked : (q : Party) (others base : List PacketValue) (first : ℕ) (before : List (List ℕ)) (n m : ℕ) (s : State PortValue) (p : Party) → n ≤ m →
+    IsLinked q others base first before n s p → IsLinked q others base first before m s p
 more_linked q others base first before n m s p up l =
     record { out = l.out; more = l.more; sender = l.sender; receiver = l.receiver; count = (let c = l.count in omega (arith, c, up)); tied = l.tied }
 
-pub is_link : (q : Party) (others base : List PacketValue) (first : ℕ) (before : List (List ℕ)) (start next : ℕ) → IsOther q start next others → IsLink PortMove q (λ n s p. IsLinked q others base first before n s p)
+pub is_link : (q : Party) (others base : List PacketValue) (first : ℕ) (before : List (List ℕ)) (start next : ℕ) → IsOther q start next others →
+    IsLink PortMove q (λ n s p. IsLinked q others base first before n s p)
 is_link q others base first before start next other = record {
   more = more_linked q others base first before;
   grown = λ n. grown q others base first before n;
@@ -255,9 +305,11 @@ is_link q others base first before start next other = record {
   looks = λ n. looks q others base first before n;
   skips = λ n s p frame d move unread l. skips q others base first before n s p frame d move l;
   brings = λ n s p frame d content move read is l. brings q others base first before n start next other s p frame d content move is l;
-  takes = λ n s p frame d content slots a move read is arrives l. takes q others base first before n start next other s p frame d content slots a s.places move is arrives l;
+  takes = λ n s p frame d content slots a move read is arrives l. takes q others base first before n start next other s p frame d content slots a s.places move
+      is arrives l;
   leave = λ n. leave q others base first before n;
-  tells = λ n s p frame d0 content slots a packet gone d move read is arrives reply departs l. tells q others base first before n s p frame d0 content slots a packet gone d s.places is arrives reply departs l;
+  tells = λ n s p frame d0 content slots a packet gone d move read is arrives reply departs l.
+      tells q others base first before n s p frame d0 content slots a packet gone d s.places is arrives reply departs l;
   goes = λ n. goes q others base first before n;
   piece = λ n. piece q others base first before n;
 }

@@ -33,8 +33,10 @@ use Rattle.lan_theorem.specs.Linked.{IsLinked}
 use Rattle.lan_theorem.proofs.Acts.{joins_grow, acted_joins, polled_acts}
 use Rattle.lan_theorem.proofs.Keeps.{is_link}
 
-module _ (firsts most : Side → ℕ) (old new : Stations) (net : Net) (past : List Entry) (e : Entry) (j : AreJoined firsts most old net) (of : IsNetOf net old past)
-    (side : Side) (t : ℤ) (budget : ℕ) (is : kind_of e.event ≡ OfHost side (Polls t budget)) (few : AreFew (j.out (other side))) (acts : ActsAt old side (Polls t budget) e.answer e.found new) where
+module _ (firsts most : Side →
+    ℕ) (old new : Stations) (net : Net) (past : List Entry) (e : Entry) (j : AreJoined firsts most old net) (of : IsNetOf net old past)
+    (side : Side) (t : ℤ) (budget : ℕ) (is : kind_of e.event ≡ OfHost side (Polls t budget)) (few : AreFew (j.out (other side)))
+    (acts : ActsAt old side (Polls t budget) e.answer e.found new) where
   abbrev pub s : StationValue
   s = station old side
 
@@ -58,7 +60,8 @@ module _ (firsts most : Side → ℕ) (old new : Stations) (net : Net) (past : L
   then_most = so_far + budget * (1 + socket_count s.places)
 
   link : IsLink PortMove theirs L
-  link = is_link theirs (j.out (other side)) (j.out side) (firsts side) s.link.sent (firsts (other side)) (station old (other side)).host.inner.ident (record { sent = (j.sends (other side)).are_sent; few = few })
+  link = is_link theirs (j.out (other side)) (j.out side) (firsts side) s.link.sent (firsts (other side)) (station old (other side)).host.inner.ident
+      (record { sent = (j.sends (other side)).are_sent; few = few })
 
   -- before the poll, at whatever port
   linked : AtPorts (λ x. L so_far x mine) s
@@ -94,8 +97,10 @@ module _ (firsts most : Side → ℕ) (old new : Stations) (net : Net) (past : L
     abbrev grown : AreJoined firsts most old next
     grown = joins_grow firsts most old net next polled.comes.grows j
 
-    pub linked_after : IsLinked (party next (other side)) (j.out (other side)) (j.out side) (firsts side) s.link.sent then_most (at_port polled.port s') (party next side)
-    linked_after = subst (λ (q : Party). IsLinked q (j.out (other side)) (j.out side) (firsts side) s.link.sent then_most (at_port polled.port s') (party next side)) (sym polled.rests) polled.link
+    pub linked_after : IsLinked (party next (other side)) (j.out (other side)) (j.out side) (firsts side) s.link.sent then_most (at_port polled.port s')
+        (party next side)
+    linked_after = subst (λ (q : Party). IsLinked q (j.out (other side)) (j.out side) (firsts side) s.link.sent then_most (at_port polled.port s')
+        (party next side)) (sym polled.rests) polled.link
 
     -- each that was counted has its first frame
     pub tied_after : IsTied (medium_of s) (j.out side) s.link.sent linked_after.out s'.link.sent
@@ -107,4 +112,5 @@ module _ (firsts most : Side → ℕ) (old new : Stations) (net : Net) (past : L
     pub polled_joins : (most' : Side → ℕ) → most (other side) ≤ most' (other side) → count_v4 linked_after.out ≤ most' side → AreJoined firsts most' new next
     polled_joins most' up few_after =
         acted_joins firsts most most' old new next grown side acts.rests up
-        (polled_acts (party next side) (party next (other side)) (firsts side) (most' side) then_most (j.out side) (j.out (other side)) s.link.sent s s' polled.port polled.end (ap medium_on hardware) device linked_after few_after)
+        (polled_acts (party next side) (party next (other side)) (firsts side) (most' side) then_most (j.out side) (j.out (other side)) s.link.sent s s'
+        polled.port polled.end (ap medium_on hardware) device linked_after few_after)

@@ -1,5 +1,6 @@
 -- What a host rebuilds, the other host made and sent; and no damage did harm.
-use Rattle.std.proofs.Common.{◌≡◌, ◌⊎◌, inl, inr, ℕ, zero, suc, if◌then◌else◌, Bool, true, false, List, [], ◌∷◌, ◌++◌, length, take, drop, Option, Some, None, sym, ◌∙◌, ap, subst, arith}
+use Rattle.std.proofs.Common.{◌≡◌, ◌⊎◌, inl, inr, ℕ, zero, suc, if◌then◌else◌, Bool, true, false, List, [], ◌∷◌, ◌++◌, length, take, drop, Option, Some, None}
+use Rattle.std.proofs.Common.{sym, ◌∙◌, ap, subst, arith}
 use Rattle.std.specs.List.{AllByRecursion}
 use Rattle.net_base.specs.ChecksumCapabilities.{ChecksumCapabilities}
 use Rattle.net_base.specs.Medium.{Medium}
@@ -64,20 +65,35 @@ module _ (q : Party) (first next : ℕ) (out : List PacketValue) (sent : AreSent
 
   made_of_one : (h : Ipv4Repr) (payload : List ℕ) (o : IsPayloadOf out h payload) → NamesPorts h → MadeBy q (normal_payload o.sent.packet.payload)
   made_of_one h payload o ports = elim (sent.packets o.sent.packet o.sent.among).going.carries [
-    | inl none ↦ absurd (not_both (carried_in (Ips.normal o.sent.packet.header)) none (either_is (carried_in (Ips.normal o.sent.packet.header)) h.next_header (protocol_is h payload o) ports))
+    | inl none ↦ absurd (not_both (carried_in (Ips.normal o.sent.packet.header)) none
+        (either_is (carried_in (Ips.normal o.sent.packet.header)) h.next_header (protocol_is h payload o) ports))
     | inr reads ↦ reads.1
   ]
 
   of_made : (h : Ipv4Repr) (payload : List ℕ) → IsRebuiltOf out h payload → NamesPorts h → IsOfMade q h payload
   of_made h payload (inl none) ports = absurd (not_both h.next_header none ports)
   of_made h payload (inr o) ports =
-      record { packet = o.sent.packet; header = o.sent_header; header_is = o.sent.header; key_is = o.key_is; bytes_are = o.sent.bytes_are; made = made_of_one h payload o ports }
+      record {
+        packet = o.sent.packet;
+        header = o.sent_header;
+        header_is = o.sent.header;
+        key_is = o.key_is;
+        bytes_are = o.sent.bytes_are;
+        made =
+            made_of_one h payload o ports;
+      }
 
   -- it is the payload of one packet
   rebuilt_is : AreFew out → (s : StationValue) → Receives q out s → (h : Ipv4Repr) (payload : List ℕ) → Rebuilds s h payload → IsRebuiltOf out h payload
   rebuilt_is few s receives h payload r =
-      taken_rebuilds (MadeBy q) first out next sent few s.host.inner s.host.timeout s.host.slots r.frame [] r.link r.link h (record h { payload_len = length payload }) r.piece uncut r.slice payload
-      (record { checksums = receives.checksums; slots_are = receives.slots_are; waits = (all_at (BringsFrom (MadeBy q) out s.host.inner.hardware) s.link.waiting r.place r.frame receives.waits r.waits, tt) })
+      taken_rebuilds (MadeBy q) first out next sent few s.host.inner s.host.timeout s.host.slots r.frame [] r.link r.link h
+      (record h { payload_len = length payload }) r.piece uncut r.slice payload
+      (record {
+        checksums = receives.checksums;
+        slots_are = receives.slots_are;
+        waits =
+            (all_at (BringsFrom (MadeBy q) out s.host.inner.hardware) s.link.waiting r.place r.frame receives.waits r.waits, tt);
+      })
       r.read r.cut r.whole
 
   rebuilt_of : AreFew out → (s : StationValue) → Receives q out s → (h : Ipv4Repr) (payload : List ℕ) → Rebuilds s h payload → IsOfMade q h payload
@@ -88,7 +104,8 @@ module _ (q : Party) (first next : ℕ) (out : List PacketValue) (sent : AreSent
     same_bytes : (v : Ipv4Repr) (bytes : List ℕ) → IsSentV4 out v bytes → Ipv4.key_of (Ipv4.normal v) ≡ Ipv4.key_of h → bytes ≡ payload
     same_bytes v bytes f key =
         let ident : v.ident ≡ o.sent_header.ident = ap (λ (k : Ipv4FragKey). k.id) (key ∙ o.key_is) in
-        let packet : f.packet ≡ o.sent.packet = one_number first out next f.packet o.sent.packet v o.sent_header sent.numbered few f.among o.sent.among f.header o.sent.header ident in
+        let packet : f.packet ≡ o.sent.packet =
+        one_number first out next f.packet o.sent.packet v o.sent_header sent.numbered few f.among o.sent.among f.header o.sent.header ident in
         f.bytes_are ∙ ap bytes_of packet ∙ sym o.sent.bytes_are
 
     said_is : (m : Medium) (frame : List ℕ) (fact : Fact) → IsHostFrame m out frame → Carries m frame (Ipv4.key_of h) fact → IsOf payload fact
@@ -99,7 +116,8 @@ module _ (q : Party) (first next : ℕ) (out : List PacketValue) (sent : AreSent
     said_is m frame fact (inr (inl f)) c = absurd (let e : None ≡ Some c.part = sym (whole6_uncut out frame m f) ∙ c.there in cc)
     said_is m frame fact (inr (inr f)) c = absurd (let e : None ≡ Some c.part = sym f.uncut ∙ c.there in cc)
 
-pub rebuilt_made : (starts : Starts) → IsFreshWorld starts → (history : List Entry) (hosts : Stations) → AreTyped history → WorldRun history (unused_both starts) hosts
+pub rebuilt_made : (starts : Starts) → IsFreshWorld starts → (history : List Entry) (hosts : Stations) → AreTyped history →
+    WorldRun history (unused_both starts) hosts
     → RebuiltWasMade (record { hosts = hosts; starts = starts; history = history })
 rebuilt_made starts fresh history hosts typed ran =
     let came = has_come starts history hosts fresh typed ran in
@@ -112,7 +130,8 @@ rebuilt_made starts fresh history hosts typed ran =
       of = came.of;
       rebuilt = λ side h payload r.
           let few : AreFew (w.joined.out (other side)) = (let a = w.joined.counted (other side) in let b = w.few (other side) in omega (arith, a, b)) in
-          rebuilt_of (party came.net (other side)) _ _ (w.joined.out (other side)) (w.joined.sends (other side)).are_sent few (station hosts side) (w.joined.receives side) h payload r;
+          rebuilt_of (party came.net (other side)) _ _ (w.joined.out (other side)) (w.joined.sends (other side)).are_sent few (station hosts side)
+          (w.joined.receives side) h payload r;
     }
 
 -- IT WAS SENT
@@ -129,17 +148,20 @@ module _ {X : Type 0} (Q : X → Type 0) where
   all_back (suc n) (x ∷ xs) all = all_back n xs all.1
 
 -- what holds of all that were sent holds of a host's own
-all_own : (Q : List ℕ → Type 0) (side : Side) (history : List Entry) (frames : List (List ℕ)) → AllByRecursion Q frames → AllByRecursion Q (own_frames side history frames)
+all_own : (Q : List ℕ → Type 0) (side : Side) (history : List Entry) (frames : List (List ℕ)) → AllByRecursion Q frames →
+    AllByRecursion Q (own_frames side history frames)
 all_own Q side [] frames all = all
 all_own Q side (e ∷ past) frames all =
-    all_both Q (own_frames side past (take (sent_before e.before side) frames)) (if is_cut_of side (kind_of e.event) then [] else drop (sent_before e.before side) frames)
+    all_both Q (own_frames side past (take (sent_before e.before side) frames))
+    (if is_cut_of side (kind_of e.event) then [] else drop (sent_before e.before side) frames)
     (all_own Q side past (take (sent_before e.before side) frames) (all_front Q (sent_before e.before side) frames all))
     (by (is_cut_of side (kind_of e.event))) where
       by : (b : Bool) → AllByRecursion Q (if b then [] else drop (sent_before e.before side) frames)
       by true = tt
       by false = all_back Q (sent_before e.before side) frames all
 
-module _ (starts : Starts) (fresh : IsFreshWorld starts) (history : List Entry) (hosts : Stations) (typed : AreTyped history) (ran : WorldRun history (unused_both starts) hosts) (side : Side) (h : Ipv4Repr) (payload : List ℕ) (r : Rebuilds (station hosts side) h payload) where
+module _ (starts : Starts) (fresh : IsFreshWorld starts) (history : List Entry) (hosts : Stations) (typed : AreTyped history)
+    (ran : WorldRun history (unused_both starts) hosts) (side : Side) (h : Ipv4Repr) (payload : List ℕ) (r : Rebuilds (station hosts side) h payload) where
   abbrev m : Medium
   m = medium starts fresh
 
@@ -153,9 +175,14 @@ module _ (starts : Starts) (fresh : IsFreshWorld starts) (history : List Entry) 
       let S : Ipv4FragKey → Fact → Type 0 = said m history hosts (other side) in
       let receives = came.joined.receives side in
       let taken : TakenSo S m r.frame = all_at (TakenSo S m) (station hosts side).link.waiting r.place r.frame (has.says side).waits r.waits in
-      let read : IsIncoming (station hosts side).host.inner.hardware sealed r.frame (Ip4 r.link h r.piece r.slice) = subst (λ (c : ChecksumCapabilities). IsIncoming (station hosts side).host.inner.hardware c r.frame (Ip4 r.link h r.piece r.slice)) receives.checksums r.read in
-      let piece : PieceSo S h r.piece r.slice = taken (station hosts side).host.inner.hardware (Ip4 r.link h r.piece r.slice) (host_on m (firsts starts) came.most hosts _ came.joined has.port side) read in
-      elim (rebuilds_so S (station hosts side).host.inner (station hosts side).host.timeout (station hosts side).host.slots r.link r.link h (record h { payload_len = length payload }) r.piece uncut r.slice payload (has.says side).slots piece r.cut r.whole) [
+      let read : IsIncoming (station hosts side).host.inner.hardware sealed r.frame (Ip4 r.link h r.piece r.slice) =
+      subst (λ (c : ChecksumCapabilities). IsIncoming (station hosts side).host.inner.hardware c r.frame (Ip4 r.link h r.piece r.slice))
+      receives.checksums r.read in
+      let piece : PieceSo S h r.piece r.slice =
+      taken (station hosts side).host.inner.hardware (Ip4 r.link h r.piece r.slice)
+      (host_on m (firsts starts) came.most hosts _ came.joined has.port side) read in
+      elim (rebuilds_so S (station hosts side).host.inner (station hosts side).host.timeout (station hosts side).host.slots r.link r.link h
+      (record h { payload_len = length payload }) r.piece uncut r.slice payload (has.says side).slots piece r.cut r.whole) [
         | inl none ↦ absurd (not_both h.next_header none r.ports)
         | inr so ↦ so fact of
       ]
@@ -169,9 +196,12 @@ module _ (starts : Starts) (fresh : IsFreshWorld starts) (history : List Entry) 
       let sends = came.joined.sends (other side) in
       let frames : AllByRecursion (IsHostFrame m (came.joined.out (other side))) own =
       all_own (IsHostFrame m (came.joined.out (other side))) (other side) history (station hosts (other side)).link.sent
-      (subst (λ (x : Medium). AllByRecursion (IsHostFrame x (came.joined.out (other side))) (station hosts (other side)).link.sent) (host_on m (firsts starts) came.most hosts _ came.joined has.port (other side)) sends.frames) in
-      let frame : IsHostFrame m (came.joined.out (other side)) is.frame = all_at (IsHostFrame m (came.joined.out (other side))) own is.place is.frame frames is.frame_is in
-      elim (rebuilt_is (party all.net (other side)) _ _ (came.joined.out (other side)) sends.are_sent few (station hosts side) (came.joined.receives side) h payload r) [
+      (subst (λ (x : Medium). AllByRecursion (IsHostFrame x (came.joined.out (other side))) (station hosts (other side)).link.sent)
+      (host_on m (firsts starts) came.most hosts _ came.joined has.port (other side)) sends.frames) in
+      let frame : IsHostFrame m (came.joined.out (other side)) is.frame =
+      all_at (IsHostFrame m (came.joined.out (other side))) own is.place is.frame frames is.frame_is in
+      elim (rebuilt_is (party all.net (other side)) _ _ (came.joined.out (other side)) sends.are_sent few (station hosts side) (came.joined.receives side) h
+      payload r) [
         | inl none ↦ absurd (not_both h.next_header none r.ports)
         | inr o ↦ said_is (party all.net (other side)) _ _ (came.joined.out (other side)) sends.are_sent few h payload o m is.frame fact frame is.carries
       ]
@@ -179,27 +209,35 @@ module _ (starts : Starts) (fresh : IsFreshWorld starts) (history : List Entry) 
   frames_of_it : AreFramesOf m own h payload
   frames_of_it fact = (said_rebuilt fact, rebuilt_said fact)
 
-pub rebuilt_sent : (starts : Starts) → IsFreshWorld starts → (history : List Entry) (hosts : Stations) → AreTyped history → WorldRun history (unused_both starts) hosts
+pub rebuilt_sent : (starts : Starts) → IsFreshWorld starts → (history : List Entry) (hosts : Stations) → AreTyped history →
+    WorldRun history (unused_both starts) hosts
     → (turns : Side → List Turn) → ((side : Side) → own_frames side history (station hosts side).link.sent ≡ frames_sent (turns side))
     → RebuiltWasSent (record { hosts = hosts; starts = starts; history = history }) turns
 rebuilt_sent starts fresh history hosts typed ran turns are side h payload r =
     let came = (has_come starts history hosts fresh typed ran).joined in
     let has = has_said starts fresh history hosts typed ran in
-    let on : medium_of (station hosts (other side)) ≡ medium starts fresh = port_on (medium starts fresh) (firsts starts) came.most hosts _ came.joined has.port (other side) in
+    let on : medium_of (station hosts (other side)) ≡ medium starts fresh =
+    port_on (medium starts fresh) (firsts starts) came.most hosts _ came.joined has.port (other side) in
     subst (λ (x : Medium). AreFramesOf x (frames_sent (turns (other side))) h payload) (sym on)
-    (subst (λ (xs : List (List ℕ)). AreFramesOf (medium starts fresh) xs h payload) (are (other side)) (frames_of_it starts fresh history hosts typed ran side h payload r))
+    (subst (λ (xs : List (List ℕ)). AreFramesOf (medium starts fresh) xs h payload) (are (other side))
+    (frames_of_it starts fresh history hosts typed ran side h payload r))
 
 -- of two runs of the hosts
-pub rebuilt_by_turns : (starts : Starts) → IsFreshWorld starts → (history : List Entry) (hosts : Stations) → AreTyped history → WorldRun history (unused_both starts) hosts
-    → (a : IsHostRun (record { hosts = hosts; starts = starts; history = history }) A) (b : IsHostRun (record { hosts = hosts; starts = starts; history = history }) B)
+pub rebuilt_by_turns : (starts : Starts) → IsFreshWorld starts → (history : List Entry) (hosts : Stations) → AreTyped history →
+    WorldRun history (unused_both starts) hosts
+    → (a : IsHostRun (record { hosts = hosts; starts = starts; history = history }) A)
+    (b : IsHostRun (record { hosts = hosts; starts = starts; history = history }) B)
     → RebuiltWasSent (record { hosts = hosts; starts = starts; history = history }) (by_side a.turns b.turns)
 rebuilt_by_turns starts fresh history hosts typed ran a b =
-    rebuilt_sent starts fresh history hosts typed ran (by_side a.turns b.turns) (λ side. elim side as (λ x. own_frames x history (station hosts x).link.sent ≡ frames_sent (by_side a.turns b.turns x)) [ A ↦ a.sent | B ↦ b.sent ])
+    rebuilt_sent starts fresh history hosts typed ran (by_side a.turns b.turns)
+    (λ side. elim side as (λ x. own_frames x history (station hosts x).link.sent ≡ frames_sent (by_side a.turns b.turns x)) [ A ↦ a.sent | B ↦ b.sent ])
 
 -- DAMAGE
 
-pub damage_harmless : (starts : Starts) → IsFreshWorld starts → (history : List Entry) (hosts : Stations) → AreTyped history → WorldRun history (unused_both starts) hosts → DamageIsHarmless hosts history
+pub damage_harmless : (starts : Starts) → IsFreshWorld starts → (history : List Entry) (hosts : Stations) → AreTyped history →
+    WorldRun history (unused_both starts) hosts → DamageIsHarmless hosts history
 damage_harmless starts fresh history hosts typed ran =
     damage_along (firsts starts) (unused_both starts)
-    (λ past at events led. let came = has_come starts past at fresh events led in record { most = came.joined.most; net = came.net; joined = came.joined.joined })
+    (λ past at events led. let came = has_come starts past at fresh events led in
+    record { most = came.joined.most; net = came.net; joined = came.joined.joined })
     history hosts typed ran

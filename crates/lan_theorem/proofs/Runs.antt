@@ -62,7 +62,8 @@ exchanged_there : (most : Side → ℕ) (side : Side) (n : ℕ) → exchanged mo
 exchanged_there most A n = refl
 exchanged_there most B n = refl
 
-module _ (starts : Starts) (net : Net) (old new : Stations) (past : List Entry) (e : Entry) (w : AreWell starts past old net) (of : IsNetOf net old past) (leads : Leads past old e new) where
+module _ (starts : Starts) (net : Net) (old new : Stations) (past : List Entry) (e : Entry) (w : AreWell starts past old net) (of : IsNetOf net old past)
+    (leads : Leads past old e new) where
   abbrev Then : Type 0
   Then = (c : Comes names net new (e ∷ past)) × AreWell starts (e ∷ past) new c.next
 
@@ -81,7 +82,8 @@ module _ (starts : Starts) (net : Net) (old new : Stations) (past : List Entry) 
 
   -- A POLL
 
-  module _ (side : Side) (t : ℤ) (budget : ℕ) (is : kind_of e.event ≡ OfHost side (Polls t budget)) (acts : ActsAt old side (Polls t budget) e.answer e.found new) where
+  module _ (side : Side) (t : ℤ) (budget : ℕ) (is : kind_of e.event ≡
+      OfHost side (Polls t budget)) (acts : ActsAt old side (Polls t budget) e.answer e.found new) where
     few_out : AreFew (w.joined.out (other side))
     few_out = let a = w.joined.counted (other side) in let b = w.few (other side) in omega (arith, a, b)
 
@@ -103,8 +105,10 @@ module _ (starts : Starts) (net : Net) (old new : Stations) (past : List Entry) 
       suffice : AreFew out_after × (count_v4 out_after ≤ numbered_by (e ∷ past) new side)
       suffice =
           let linked = Polled.linked_after (firsts starts) w.most old new net past e w.joined of side t budget is few_out acts fit in
-          let up : count_v4 (w.joined.out side) ≤ numbered_by past old side = (let a = w.joined.counted side in let b = w.numbered side in omega (arith, a, b)) in
-          polled_few past e old new side leads t budget is (w.joined.out side) out_after up linked.count (Polled.tied_after (firsts starts) w.most old new net past e w.joined of side t budget is few_out acts fit)
+          let up : count_v4 (w.joined.out side) ≤ numbered_by past old side =
+          (let a = w.joined.counted side in let b = w.numbered side in omega (arith, a, b)) in
+          polled_few past e old new side leads t budget is (w.joined.out side) out_after up linked.count
+          (Polled.tied_after (firsts starts) w.most old new net past e w.joined of side t budget is few_out acts fit)
 
       polled : Then
       polled = (
@@ -121,7 +125,8 @@ module _ (starts : Starts) (net : Net) (old new : Stations) (past : List Entry) 
 -- ANY EVENT
 
 module _ (starts : Starts) where
-  by_kind : (net : Net) (old new : Stations) (past : List Entry) (e : Entry) (w : AreWell starts past old net) (of : IsNetOf net old past) (leads : Leads past old e new) → AreFit old
+  by_kind : (net : Net) (old new : Stations) (past : List Entry) (e : Entry) (w : AreWell starts past old net) (of : IsNetOf net old past)
+      (leads : Leads past old e new) → AreFit old
       → (k : Kind) → kind_of e.event ≡ k → IsTyped k → Happens old k e.answer e.found new → Then starts net old new past e w of leads
   by_kind net old new past e w of leads fit (OfHost side (Calls i call)) is typed happens =
       plain starts net old new past e w of leads (subst IsNoPoll (sym is) tt) (subst IsPlain (sym is) tt) (subst IsTyped (sym is) typed)
@@ -132,11 +137,13 @@ module _ (starts : Starts) where
   by_kind net old new past e w of leads fit (OfLink act) is typed happens =
       plain starts net old new past e w of leads (subst IsNoPoll (sym is) tt) (subst IsPlain (sym is) tt) (subst IsTyped (sym is) typed)
   by_kind net old new past e w of leads fit (OfHost side (Sets setting)) is typed happens =
-      rests starts net old new past e w of leads (subst IsNoPoll (sym is) tt) (setting_joins (firsts starts) w.most old new net side setting e.answer w.joined typed happens.acts.0 happens.rests)
+      rests starts net old new past e w of leads (subst IsNoPoll (sym is) tt)
+      (setting_joins (firsts starts) w.most old new net side setting e.answer w.joined typed happens.acts.0 happens.rests)
   by_kind net old new past e w of leads fit (OfHost side (Polls t budget)) is typed happens =
       polled starts net old new past e w of leads side t budget is happens (fit side)
 
-  pub has_come : (history : List Entry) (hosts : Stations) → IsFreshWorld starts → AreTyped history → WorldRun history (unused_both starts) hosts → HasCome starts (λ h n. AreWell starts history h n) history hosts
+  pub has_come : (history : List Entry) (hosts : Stations) → IsFreshWorld starts → AreTyped history → WorldRun history (unused_both starts) hosts →
+      HasCome starts (λ h n. AreWell starts history h n) history hosts
   has_come [] hosts fresh typed is = subst (λ (h : Stations). HasCome starts (λ x n. AreWell starts [] x n) [] h) (sym is) (record {
     net = first_net starts;
     steps = [];
@@ -147,7 +154,8 @@ module _ (starts : Starts) where
   })
   has_come (e ∷ past) hosts fresh typed (before, ran, leads) =
       let came = has_come past before fresh typed.1 ran in
-      let next = by_kind came.net before hosts past e came.joined came.of leads (worlds_fit starts fresh past before ran) (kind_of e.event) refl typed.0 leads.happens in
+      let next = by_kind came.net before hosts past e came.joined came.of leads (worlds_fit starts fresh past before ran) (kind_of e.event) refl typed.0
+      leads.happens in
       let c : Comes names came.net hosts (e ∷ past) = next.0 in
       record {
         net = c.next;

@@ -53,7 +53,8 @@ use Rattle.lan_theorem.proofs.Link.SaidFrames.{TakenSo}
 abbrev Waits : PortValue → List (List ℕ)
 Waits d = d.link.waiting
 
-goes_waits : (d d' : PortValue) (i i' : InnerValue) (l l' : Option LeftValue) (p : PacketValue) (sent : Sent) → GoesOut PortMove d i l p (plan_of i (is_some l) p.header) sent d' i' l' → Waits d' ≡ Waits d
+goes_waits : (d d' : PortValue) (i i' : InnerValue) (l l' : Option LeftValue) (p : PacketValue) (sent : Sent) →
+    GoesOut PortMove d i l p (plan_of i (is_some l) p.header) sent d' i' l' → Waits d' ≡ Waits d
 goes_waits d d' i i' l l' p sent goes =
     once_waits d d' i (departure_by i p (plan_of i (is_some l) p.header)) (was_taken sent) (changes PortMove d d' i i' l l' p (is_some l) sent goes).0
 
@@ -66,19 +67,23 @@ module _ (turn : Option IpAddress) where
   leaves_waits x x' m p sent (inr admits) =
       goes_waits admits.0 x'.device x.inner x'.inner x.left x'.left p sent admits.2 ∙ leave_waits x.device admits.0 true admits.1
 
-  offer_waits : (o : Option PacketValue) (x x' : Sender PortValue) (item item' : Item Socket) (changed : Bool) (turned : Turned) → SendsBy PortMove turn o x item changed turned x' item' → Waits x'.device ≡ Waits x.device
+  offer_waits : (o : Option PacketValue) (x x' : Sender PortValue) (item item' : Item Socket) (changed : Bool) (turned : Turned) →
+      SendsBy PortMove turn o x item changed turned x' item' → Waits x'.device ≡ Waits x.device
   offer_waits None x x' item item' changed turned sends = absurd sends
   offer_waits (Some p) x x' item item' changed turned sends = leaves_waits x x' item.meta p sends.0 sends.1
 
-  answer_waits : (answer : Answer.Offer) (x x' : Sender PortValue) (item item' : Item Socket) (turned : Turned) → Answers PortMove turn answer x item turned x' item' → Waits x'.device ≡ Waits x.device
+  answer_waits : (answer : Answer.Offer) (x x' : Sender PortValue) (item item' : Item Socket) (turned : Turned) →
+      Answers PortMove turn answer x item turned x' item' → Waits x'.device ≡ Waits x.device
   answer_waits (Offer.Silent changed) x x' item item' turned is = ap (λ (y : Sender PortValue). Waits y.device) is.1
   answer_waits (Offer.Packet changed) x x' item item' turned is = offer_waits (offered_by item.socket) x x' item item' changed turned is
 
-  if_waits : (waiting : Bool) (x x' : Sender PortValue) (item item' : Item Socket) (turned : Turned) → TurnsIf PortMove turn waiting x item turned x' item' → Waits x'.device ≡ Waits x.device
+  if_waits : (waiting : Bool) (x x' : Sender PortValue) (item item' : Item Socket) (turned : Turned) → TurnsIf PortMove turn waiting x item turned x' item' →
+      Waits x'.device ≡ Waits x.device
   if_waits true x x' item item' turned is = ap (λ (y : Sender PortValue). Waits y.device) is.1
   if_waits false x x' item item' turned is = answer_waits is.0 x x' (record item { socket = is.1 }) item' turned is.3
 
-  turn_waits : (o o' : Option (Item Socket)) (x x' : Sender PortValue) (turned : Turned) → ItemTurns PortMove turn o x turned x' o' → Waits x'.device ≡ Waits x.device
+  turn_waits : (o o' : Option (Item Socket)) (x x' : Sender PortValue) (turned : Turned) → ItemTurns PortMove turn o x turned x' o' →
+      Waits x'.device ≡ Waits x.device
   turn_waits None None x x' turned is = ap (λ (y : Sender PortValue). Waits y.device) is.1
   turn_waits None (Some item') x x' turned is = absurd is
   turn_waits (Some item) None x x' turned is = absurd is
@@ -110,9 +115,11 @@ module _ (S : Ipv4FragKey → Fact → Type 0) (medium : Medium) where
   abbrev P : State PortValue → Type 0
   P s = IsTaking s.host.inner s.host.slots (Waits s.device)
 
-  content_by : (i : InnerValue) (frame : List ℕ) (content : Option IncomingValue) → medium_on i.hardware ≡ medium → i.checksums ≡ sealed → TakenSo S medium frame → IsContent i.hardware i.checksums frame content → ContentSo S content
+  content_by : (i : InnerValue) (frame : List ℕ) (content : Option IncomingValue) → medium_on i.hardware ≡ medium → i.checksums ≡ sealed →
+      TakenSo S medium frame → IsContent i.hardware i.checksums frame content → ContentSo S content
   content_by i frame None same sealed_is taken is = tt
-  content_by i frame (Some v) same sealed_is taken is = taken i.hardware v same (subst (λ (c : ChecksumCapabilities). IsIncoming i.hardware c frame v) sealed_is is)
+  content_by i frame (Some v) same sealed_is taken is =
+      taken i.hardware v same (subst (λ (c : ChecksumCapabilities). IsIncoming i.hardware c frame v) sealed_is is)
 
   taken_by : (i : InnerValue) (content : Option IncomingValue) → ContentSo S content → ContentSo S (taken_in i content)
   taken_by i None so = tt
@@ -120,24 +127,35 @@ module _ (S : Ipv4FragKey → Fact → Type 0) (medium : Medium) where
 
   -- the same host at a device where the same frames wait
   at_same : (s : State PortValue) (d : PortValue) → Waits d ≡ Waits s.device → P s → P (at_device s d)
-  at_same s d same h = record { hardware = h.hardware; checksums = h.checksums; slots_are = h.slots_are; waits = subst (AllByRecursion (TakenSo S medium)) (sym same) h.waits }
+  at_same s d same h = record {
+    hardware = h.hardware;
+    checksums = h.checksums;
+    slots_are = h.slots_are;
+    waits =
+        subst (AllByRecursion (TakenSo S medium)) (sym same) h.waits;
+  }
 
   takes_keep : (s s' : State PortValue) (answer : Option Bool) → P s → Takes PortMove s answer s' → P s'
   takes_keep s s' None h takes = subst P (sym takes.1) (at_same s s'.device (ap Waits takes.0.0) h)
   takes_keep s s' (Some false) h takes =
-      let first : AllByRecursion (TakenSo S medium) (takes.0 ∷ Waits s'.device) = subst (AllByRecursion (TakenSo S medium)) (taken_frame s.device s'.device takes.0 takes.1) h.waits in
+      let first : AllByRecursion (TakenSo S medium) (takes.0 ∷ Waits s'.device) =
+      subst (AllByRecursion (TakenSo S medium)) (taken_frame s.device s'.device takes.0 takes.1) h.waits in
       subst P (sym takes.3) (record { hardware = h.hardware; checksums = h.checksums; slots_are = h.slots_are; waits = first.1 })
   takes_keep s s' (Some true) h takes =
       let mid : PortValue = takes.1 in
       let reads = takes.4 in
-      let first : AllByRecursion (TakenSo S medium) (takes.0 ∷ Waits mid) = subst (AllByRecursion (TakenSo S medium)) (taken_frame s.device mid takes.0 takes.2) h.waits in
+      let first : AllByRecursion (TakenSo S medium) (takes.0 ∷ Waits mid) =
+      subst (AllByRecursion (TakenSo S medium)) (taken_frame s.device mid takes.0 takes.2) h.waits in
       let same = receives_same PortMove reads.0 (at_device s mid) s' reads.2 in
-      let so : ContentSo S (taken_in s.host.inner reads.0) = taken_by s.host.inner reads.0 (content_by s.host.inner takes.0 reads.0 h.hardware h.checksums first.0 reads.1) in
+      let so : ContentSo S (taken_in s.host.inner reads.0) =
+      taken_by s.host.inner reads.0 (content_by s.host.inner takes.0 reads.0 h.hardware h.checksums first.0 reads.1) in
       record {
         hardware = ap (λ (x : InnerValue). medium_on x.hardware) same.1 ∙ ap medium_on same.0.hardware ∙ h.hardware;
         checksums = ap (λ (x : InnerValue). x.checksums) same.1 ∙ same.0.checksums ∙ h.checksums;
         slots_are = subst (SlotsSo S) (sym reads.2.1.0) (slots_so S s.host.inner s.host.timeout s.host.slots (taken_in s.host.inner reads.0) so h.slots_are);
-        waits = subst (AllByRecursion (TakenSo S medium)) (sym (replied_waits (is_awaited reads.2.0) reads.2.0.reply (sender_with PortMove (at_device s mid) reads.2.0) (sender_of PortMove s') reads.2.3)) first.1;
+        waits = subst (AllByRecursion (TakenSo S medium))
+            (sym (replied_waits (is_awaited reads.2.0) reads.2.0.reply (sender_with PortMove (at_device s mid) reads.2.0) (sender_of PortMove s')
+            reads.2.3)) first.1;
       }
 
   kept : (t : ℤ) → IsKept PortMove t P
@@ -160,8 +178,10 @@ module _ (S : Ipv4FragKey → Fact → Type 0) (medium : Medium) where
         };
   }
 
-  pub polled_takes : (s s' : StationValue) (t : ℤ) (budget : ℕ) (changed : Bool) → PollsAt s t budget changed s' → IsTaking s.host.inner s.host.slots s.link.waiting → IsTaking s'.host.inner s'.host.slots s'.link.waiting
+  pub polled_takes : (s s' : StationValue) (t : ℤ) (budget : ℕ) (changed : Bool) → PollsAt s t budget changed s' →
+      IsTaking s.host.inner s.host.slots s.link.waiting → IsTaking s'.host.inner s'.host.slots s'.link.waiting
   polled_takes s s' t budget changed at h =
       let before : P (at_port at.port s) = subst (λ (e : LinkEnd). IsTaking s.host.inner s.host.slots e.waiting) (sym at.before) h in
-      let after : P (at_port at.port_after s') = (polls_keep PortMove t P (kept t) budget (at_port at.port s) (at_port at.port_after s') changed before at.polls).0 in
+      let after : P (at_port at.port_after s') =
+      (polls_keep PortMove t P (kept t) budget (at_port at.port s) (at_port at.port_after s') changed before at.polls).0 in
       subst (λ (e : LinkEnd). IsTaking s'.host.inner s'.host.slots e.waiting) at.after after

@@ -1,5 +1,6 @@
 -- Wherever events led two hosts, what is held of pieces and what waits says what the other host's own frames say.
-use Rattle.std.proofs.Common.{◌≡◌, ◌⊎◌, inl, inr, ℕ, ◌^◌, ◌<◌, ◌≤◌, ◌%◌, ◌==◌, ◌||◌, not, if◌then◌else◌, Bool, true, false, List, [], ◌∷◌, ◌++◌, length, take, drop, Option, Some, None, refl, sym, ◌∙◌, ap, subst, append_assoc, append-nil, arith}
+use Rattle.std.proofs.Common.{◌≡◌, ◌⊎◌, inl, inr, ℕ, ◌^◌, ◌<◌, ◌≤◌, ◌%◌, ◌==◌, ◌||◌, not, if◌then◌else◌, Bool, true, false, List, [], ◌∷◌, ◌++◌, length, take}
+use Rattle.std.proofs.Common.{drop, Option, Some, None, refl, sym, ◌∙◌, ap, subst, append_assoc, append-nil, arith}
 use Rattle.std.specs.Prelude.{ℤ, nat_lt}
 use Rattle.std.specs.List.{AllByRecursion}
 use Rattle.std.proofs.lemmas.List.{take_at, drop_at}
@@ -98,10 +99,17 @@ module _ (m : Medium) (S : Side → Ipv4FragKey → Fact → Type 0) where
   set_slots h h' (Settings.ReassemblyTimeout timeout) is = ap (λ (x : HostValue). x.slots) is
 
   same_still : (s s' : StationValue) → s' ≡ s → IsStill s s'
-  same_still s s' is = record { sent = ap (λ (x : StationValue). x.link.sent) is; slots = ap (λ (x : StationValue). x.host.slots) is; waiting = ap (λ (x : StationValue). x.link.waiting) is }
+  same_still s s' is = record {
+    sent = ap (λ (x : StationValue). x.link.sent) is;
+    slots = ap (λ (x : StationValue). x.host.slots) is;
+    waiting =
+        ap (λ (x : StationValue). x.link.waiting) is;
+  }
 
-  called_still : (s s' : StationValue) (i : ℕ) (call : SocketCall) (answer : Answer) (found : Option State) → Acts s (Calls i call) answer found s' → IsStill s s'
-  called_still s s' i call answer found acts = let is = call_settled s s' i call answer found acts in record { sent = is.sent; slots = is.slots; waiting = is.waiting }
+  called_still : (s s' : StationValue) (i : ℕ) (call : SocketCall) (answer : Answer) (found : Option State) → Acts s (Calls i call) answer found s' →
+      IsStill s s'
+  called_still s s' i call answer found acts = let is = call_settled s s' i call answer found acts in
+      record { sent = is.sent; slots = is.slots; waiting = is.waiting }
 
   set_still : (s s' : StationValue) (setting : Setting) (answer : Answer) → Configures s setting answer s' → IsStill s s'
   set_still s s' setting answer is = record {
@@ -112,62 +120,93 @@ module _ (m : Medium) (S : Side → Ipv4FragKey → Fact → Type 0) where
 
   room_still : (s s' : StationValue) (n : ℕ) (answer : Answer) (found : Option State) → Acts s (Opens n) answer found s' → IsStill s s'
   room_still s s' n answer found is =
-      record { sent = ap (λ (x : StationValue). x.link.sent) is.2; slots = ap (λ (x : StationValue). x.host.slots) is.2; waiting = ap (λ (x : StationValue). x.link.waiting) is.2 }
+      record {
+        sent = ap (λ (x : StationValue). x.link.sent) is.2;
+        slots = ap (λ (x : StationValue). x.host.slots) is.2;
+        waiting =
+            ap (λ (x : StationValue). x.link.waiting) is.2;
+      }
 
   asked_still : (s s' : StationValue) (t : ℤ) (answer : Answer) (found : Option State) → Acts s (Asks t) answer found s' → IsStill s s'
   asked_still s s' t answer found is =
-      record { sent = ap (λ (x : StationValue). x.link.sent) is.2; slots = ap (λ (x : StationValue). x.host.slots) is.2; waiting = ap (λ (x : StationValue). x.link.waiting) is.2 }
+      record {
+        sent = ap (λ (x : StationValue). x.link.sent) is.2;
+        slots = ap (λ (x : StationValue). x.host.slots) is.2;
+        waiting =
+            ap (λ (x : StationValue). x.link.waiting) is.2;
+      }
 
   -- one host acted, and the other rested
-  acted_saying : (old new : Stations) (side : Side) → station new (other side) ≡ station old (other side) → AreSaying old → IsSaying side (station new side) → AreSaying new
+  acted_saying : (old new : Stations) (side : Side) → station new (other side) ≡ station old (other side) → AreSaying old → IsSaying side (station new side) →
+      AreSaying new
   acted_saying old new side rests says here =
       either_side side (λ x. IsSaying x (station new x)) here
-      (still_saying (other side) (station old (other side)) (station new (other side)) (same_still (station old (other side)) (station new (other side)) rests) (says (other side)))
+      (still_saying (other side) (station old (other side)) (station new (other side)) (same_still (station old (other side)) (station new (other side)) rests)
+      (says (other side)))
 
-  still_acted : (old new : Stations) (side : Side) → station new (other side) ≡ station old (other side) → IsStill (station old side) (station new side) → AreSaying old → AreSaying new
+  still_acted : (old new : Stations) (side : Side) → station new (other side) ≡ station old (other side) → IsStill (station old side) (station new side) →
+      AreSaying old → AreSaying new
   still_acted old new side rests is says = acted_saying old new side rests says (still_saying side (station old side) (station new side) is (says side))
 
   -- THE LINK
 
-  given_to : (side : Side) (s : StationValue) (frame : List ℕ) → TakenSo (S (other side)) m frame → IsSaying side s → IsSaying side (with_link s (arrived s.link frame))
-  given_to side s frame taken says = record { sent = says.sent; slots = says.slots; waits = all_more (TakenSo (S (other side)) m) s.link.waiting frame says.waits taken }
+  given_to : (side : Side) (s : StationValue) (frame : List ℕ) → TakenSo (S (other side)) m frame → IsSaying side s →
+      IsSaying side (with_link s (arrived s.link frame))
+  given_to side s frame taken says =
+      record { sent = says.sent; slots = says.slots; waits = all_more (TakenSo (S (other side)) m) s.link.waiting frame says.waits taken }
 
-  given_saying : (hosts : Stations) (g : Side) (frame : List ℕ) → TakenSo (S (other g)) m frame → AreSaying hosts → AreSaying (with_station hosts g (with_link (station hosts g) (arrived (station hosts g).link frame)))
+  given_saying : (hosts : Stations) (g : Side) (frame : List ℕ) → TakenSo (S (other g)) m frame → AreSaying hosts →
+      AreSaying (with_station hosts g (with_link (station hosts g) (arrived (station hosts g).link frame)))
   given_saying hosts A frame taken says A = given_to A hosts.a frame taken (says A)
   given_saying hosts A frame taken says B = says B
   given_saying hosts B frame taken says A = says A
   given_saying hosts B frame taken says B = given_to B hosts.b frame taken (says B)
 
-  cut_to : (side : Side) (s : StationValue) (one two : List ℕ) → FrameSo (S side) m one → FrameSo (S side) m two → IsSaying side s → IsSaying side (with_link s (added (added s.link one) two))
+  cut_to : (side : Side) (s : StationValue) (one two : List ℕ) → FrameSo (S side) m one → FrameSo (S side) m two → IsSaying side s →
+      IsSaying side (with_link s (added (added s.link one) two))
   cut_to side s one two first second says =
-      record { sent = all_more (FrameSo (S side) m) (s.link.sent ++ one ∷ []) two (all_more (FrameSo (S side) m) s.link.sent one says.sent first) second; slots = says.slots; waits = says.waits }
+      record {
+        sent = all_more (FrameSo (S side) m) (s.link.sent ++ one ∷ []) two (all_more (FrameSo (S side) m) s.link.sent one says.sent first) second;
+        slots = says.slots;
+        waits = says.waits;
+      }
 
-  cut_saying : (hosts : Stations) (g : Side) (one two : List ℕ) → FrameSo (S g) m one → FrameSo (S g) m two → AreSaying hosts → AreSaying (with_station hosts g (with_link (station hosts g) (added (added (station hosts g).link one) two)))
+  cut_saying : (hosts : Stations) (g : Side) (one two : List ℕ) → FrameSo (S g) m one → FrameSo (S g) m two → AreSaying hosts →
+      AreSaying (with_station hosts g (with_link (station hosts g) (added (added (station hosts g).link one) two)))
   cut_saying hosts A one two first second says A = cut_to A hosts.a one two first second (says A)
   cut_saying hosts A one two first second says B = says B
   cut_saying hosts B one two first second says A = says A
   cut_saying hosts B one two first second says B = cut_to B hosts.b one two first second (says B)
 
   -- a frame that a host sent
-  sent_so : (hosts : Stations) (from : Side) (k : ℕ) → AreSaying hosts → is_no_frame (station hosts from) k ≡ false → FrameSo (S from) m (frame_sent hosts from k)
-  sent_so hosts from k says there = all_get (FrameSo (S from) m) (station hosts from).link.sent k [] (says from).sent (below k (length (station hosts from).link.sent) there)
+  sent_so : (hosts : Stations) (from : Side) (k : ℕ) → AreSaying hosts → is_no_frame (station hosts from) k ≡ false →
+      FrameSo (S from) m (frame_sent hosts from k)
+  sent_so hosts from k says there =
+      all_get (FrameSo (S from) m) (station hosts from).link.sent k [] (says from).sent (below k (length (station hosts from).link.sent) there)
 
-  module _ (firsts most : Side → ℕ) (hosts : Stations) (net : Net) (j : AreJoined firsts most hosts net) (on_m : (side : Side) → medium_of (station hosts side) ≡ m) where
-    damage_so : (from : Side) (T : Ipv4FragKey → Fact → Type 0) (k place word : ℕ) (padding : List ℕ) → word < 2 ^ 16 → first_refusal (link_tests hosts (Hands (Damaged from k place word padding))) ≡ None
+  module _ (firsts most : Side → ℕ) (hosts : Stations) (net : Net) (j : AreJoined firsts most hosts net) (on_m : (side : Side) →
+      medium_of (station hosts side) ≡ m) where
+    damage_so : (from : Side) (T : Ipv4FragKey → Fact → Type 0) (k place word : ℕ) (padding : List ℕ) → word < 2 ^ 16 →
+        first_refusal (link_tests hosts (Hands (Damaged from k place word padding))) ≡ None
         → TakenSo T m (frame_of_origin hosts (Damaged from k place word padding))
     damage_so from T k place word padding small allowed =
         damaged_so T m (frame_of_origin hosts (Damaged from k place word padding))
-        (subst (λ (x : Medium). BringsNoSegment x (frame_of_origin hosts (Damaged from k place word padding))) (on_m from) (brings_none firsts most hosts net j from k place word padding small allowed))
+        (subst (λ (x : Medium). BringsNoSegment x (frame_of_origin hosts (Damaged from k place word padding))) (on_m from)
+        (brings_none firsts most hosts net j from k place word padding small allowed))
 
     -- whatever the link hands over
-    origin_so : (o : Origin) → HasWord o → first_refusal (link_tests hosts (Hands o)) ≡ None → AreSaying hosts → TakenSo (S (other (goes_to o))) m (frame_of_origin hosts o)
-    origin_so (Delivered A k padding) word allowed says = delivered_so (S A) m (frame_sent hosts A k) padding (sent_so hosts A k says (passed (is_no_frame hosts.a k) For.NoFrame None allowed).0)
-    origin_so (Delivered B k padding) word allowed says = delivered_so (S B) m (frame_sent hosts B k) padding (sent_so hosts B k says (passed (is_no_frame hosts.b k) For.NoFrame None allowed).0)
+    origin_so : (o : Origin) → HasWord o → first_refusal (link_tests hosts (Hands o)) ≡ None → AreSaying hosts →
+        TakenSo (S (other (goes_to o))) m (frame_of_origin hosts o)
+    origin_so (Delivered A k padding) word allowed says =
+        delivered_so (S A) m (frame_sent hosts A k) padding (sent_so hosts A k says (passed (is_no_frame hosts.a k) For.NoFrame None allowed).0)
+    origin_so (Delivered B k padding) word allowed says =
+        delivered_so (S B) m (frame_sent hosts B k) padding (sent_so hosts B k says (passed (is_no_frame hosts.b k) For.NoFrame None allowed).0)
     origin_so (Damaged A k place word padding) small allowed says = damage_so A (S A) k place word padding small allowed
     origin_so (Damaged B k place word padding) small allowed says = damage_so B (S B) k place word padding small allowed
     origin_so (Noisy to bytes) word allowed says =
         noise_so (S (other to)) m bytes
-        (ap (λ (x : Medium). names_tcp_or_udp x bytes) (sym (on_m to)) ∙ (passed (names_tcp_or_udp (medium_of (station hosts to)) bytes) For.NamesTcpOrUdp None allowed).0)
+        (ap (λ (x : Medium). names_tcp_or_udp x bytes) (sym (on_m to)) ∙
+        (passed (names_tcp_or_udp (medium_of (station hosts to)) bytes) For.NamesTcpOrUdp None allowed).0)
 
     -- both pieces of a cut
     abbrev Pieces : Side → ℕ → ℕ → Type 0
@@ -175,14 +214,16 @@ module _ (m : Medium) (S : Side → Ipv4FragKey → Fact → Type 0) where
         FrameSo (S from) m (first_piece (medium_of (station hosts from)) (frame_sent hosts from k) at)
         × FrameSo (S from) m (second_piece (medium_of (station hosts from)) (frame_sent hosts from k) at)
 
-    pieces_by : (from : Side) (k at : ℕ) (o : Option Part) → AreSaying hosts → is_no_frame (station hosts from) k ≡ false → ipv4_part (medium_of (station hosts from)) (frame_sent hosts from k) ≡ o → first_refusal (cut_tests o at) ≡ None → Pieces from k at
+    pieces_by : (from : Side) (k at : ℕ) (o : Option Part) → AreSaying hosts → is_no_frame (station hosts from) k ≡ false →
+        ipv4_part (medium_of (station hosts from)) (frame_sent hosts from k) ≡ o → first_refusal (cut_tests o at) ≡ None → Pieces from k at
     pieces_by from k at None says there is allowed = absurd cc
     pieces_by from k at (Some part) says there is allowed =
         let first = passed (is_no_cut part at) For.CutPlace None allowed in
         let rest = either_none (at == 0) (not (at % 8 == 0) || not (nat_lt at part.len)) first.0 in
         let two = either_none (not (at % 8 == 0)) (not (nat_lt at part.len)) rest.1 in
         let here : ipv4_part m (frame_sent hosts from k) ≡ Some part = ap (λ (x : Medium). ipv4_part x (frame_sent hosts from k)) (sym (on_m from)) ∙ is in
-        let pieces = cut_so (S from) m (frame_sent hosts from k) part at (sent_so hosts from k says there) here (inside_by at part.len two.1) (unit_by at two.0) in (
+        let pieces = cut_so (S from) m (frame_sent hosts from k) part at (sent_so hosts from k says there) here (inside_by at part.len two.1)
+        (unit_by at two.0) in (
           subst (λ (x : Medium). FrameSo (S from) m (first_piece x (frame_sent hosts from k) at)) (sym (on_m from)) pieces.0,
           subst (λ (x : Medium). FrameSo (S from) m (second_piece x (frame_sent hosts from k) at)) (sym (on_m from)) pieces.1,
         )
@@ -195,7 +236,8 @@ module _ (m : Medium) (S : Side → Ipv4FragKey → Fact → Type 0) where
 
 -- UP
 
-saying_up : (m : Medium) (S T : Side → Ipv4FragKey → Fact → Type 0) → ((side : Side) (key : Ipv4FragKey) (fact : Fact) → S side key fact → T side key fact) → (hosts : Stations) → AreSaying m S hosts → AreSaying m T hosts
+saying_up : (m : Medium) (S T : Side → Ipv4FragKey → Fact → Type 0) → ((side : Side) (key : Ipv4FragKey) (fact : Fact) → S side key fact → T side key fact) →
+    (hosts : Stations) → AreSaying m S hosts → AreSaying m T hosts
 saying_up m S T up hosts says side = record {
   sent = frames_up (S side) (T side) (up side) m (station hosts side).link.sent (says side).sent;
   slots = slots_up (S (other side)) (T (other side)) (up (other side)) (station hosts side).host.slots (says side).slots;
@@ -235,12 +277,17 @@ module _ (m : Medium) (firsts most most' : Side → ℕ) (net net' : Net) (past 
   abbrev S : Side → Ipv4FragKey → Fact → Type 0
   S = said m (e ∷ past) new
 
-  own_more : (side : Side) → own_frames side (e ∷ past) (station new side).link.sent ≡ own_frames side past (station old side).link.sent ++ (if is_cut_of side (kind_of e.event) then [] else more side)
+  own_more : (side : Side) → own_frames side (e ∷ past) (station new side).link.sent ≡ own_frames side past (station old side).link.sent ++
+      (if is_cut_of side (kind_of e.event) then [] else more side)
   own_more side =
       let s = (station old side).link.sent in
-      ap (λ (xs : List (List ℕ)). own_frames side past (take (sent_before e.before side) xs) ++ (if is_cut_of side (kind_of e.event) then [] else drop (sent_before e.before side) xs)) (on side).sent
-      ∙ ap (λ (xs : List (List ℕ)). own_frames side past xs ++ (if is_cut_of side (kind_of e.event) then [] else drop (sent_before e.before side) (s ++ more side))) (take_at s (more side) (sent_before e.before side) (counted side))
-      ∙ ap (λ (xs : List (List ℕ)). own_frames side past s ++ (if is_cut_of side (kind_of e.event) then [] else xs)) (drop_at s (more side) (sent_before e.before side) (counted side))
+      ap (λ (xs : List (List ℕ)). own_frames side past (take (sent_before e.before side) xs) ++
+      (if is_cut_of side (kind_of e.event) then [] else drop (sent_before e.before side) xs)) (on side).sent
+      ∙ ap (λ (xs : List (List ℕ)). own_frames side past xs ++
+      (if is_cut_of side (kind_of e.event) then [] else drop (sent_before e.before side) (s ++ more side)))
+      (take_at s (more side) (sent_before e.before side) (counted side))
+      ∙ ap (λ (xs : List (List ℕ)). own_frames side past s ++ (if is_cut_of side (kind_of e.event) then [] else xs))
+      (drop_at s (more side) (sent_before e.before side) (counted side))
 
   up : (side : Side) (key : Ipv4FragKey) (fact : Fact) → said m past old side key fact → S side key fact
   up side key fact s =
@@ -252,7 +299,8 @@ module _ (m : Medium) (firsts most most' : Side → ℕ) (net net' : Net) (past 
     raised = saying_up m (said m past old) S up old says
 
     -- a poll
-    module _ (side : Side) (t : ℤ) (budget : ℕ) (is : kind_of e.event ≡ OfHost side (Polls t budget)) (acts : ActsAt old side (Polls t budget) e.answer e.found new) where
+    module _ (side : Side) (t : ℤ) (budget : ℕ) (is : kind_of e.event ≡
+        OfHost side (Polls t budget)) (acts : ActsAt old side (Polls t budget) e.answer e.found new) where
       abbrev s : StationValue
       s = station old side
 
@@ -261,7 +309,8 @@ module _ (m : Medium) (firsts most most' : Side → ℕ) (net net' : Net) (past 
 
       all : AllByRecursion (IsHostFrame m (j'.out side)) (s.link.sent ++ more side)
       all = subst (AllByRecursion (IsHostFrame m (j'.out side))) (on side).sent
-          (subst (λ (x : Medium). AllByRecursion (IsHostFrame x (j'.out side)) s'.link.sent) (host_on m firsts most' new net' j' port' side) (j'.sends side).frames)
+          (subst (λ (x : Medium). AllByRecursion (IsHostFrame x (j'.out side)) s'.link.sent) (host_on m firsts most' new net' j' port' side)
+          (j'.sends side).frames)
 
       own : own_frames side (e ∷ past) s'.link.sent ≡ own_frames side past s.link.sent ++ more side
       own = own_more side ∙ ap (λ (k : Kind). own_frames side past s.link.sent ++ (if is_cut_of side k then [] else more side)) is
@@ -296,7 +345,8 @@ module _ (m : Medium) (firsts most most' : Side → ℕ) (net net' : Net) (past 
     by_kind (OfHost side (Polls t budget)) is typed allowed happens = polled side t budget is happens
     by_kind (OfLink (Hands o)) is typed allowed happens =
         subst (AreSaying m S) (sym happens.2)
-        (given_saying m S old (goes_to o) (frame_of_origin old o) (origin_so m S firsts most old net j (port_on m firsts most old net j port) o typed allowed raised) raised)
+        (given_saying m S old (goes_to o) (frame_of_origin old o)
+        (origin_so m S firsts most old net j (port_on m firsts most old net j port) o typed allowed raised) raised)
     by_kind (OfLink (Cuts from k at)) is typed allowed happens =
         let pieces = pieces_so m S firsts most old net j (port_on m firsts most old net j port) from k at raised allowed in
         subst (AreSaying m S) (sym happens.2) (cut_saying m S old from _ _ pieces.0 pieces.1 raised)
@@ -330,5 +380,6 @@ module _ (starts : Starts) (fresh : IsFreshWorld starts) where
       let port' : medium_of hosts.a ≡ medium = ap (λ (c : DeviceCapabilities). c.medium) (goes_on past ran.0 hosts e ran.2 A).capabilities ∙ old.port in
       record {
         port = port';
-        says = by_kind medium (firsts starts) before.most after.most _ _ past ran.0 hosts e ran.2 before.joined after.joined old.port port' old.says (kind_of e.event) refl typed.0 ran.2.allowed ran.2.happens;
+        says = by_kind medium (firsts starts) before.most after.most _ _ past ran.0 hosts e ran.2 before.joined after.joined old.port port' old.says
+            (kind_of e.event) refl typed.0 ran.2.allowed ran.2.happens;
       }

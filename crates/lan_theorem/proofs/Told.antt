@@ -1,5 +1,6 @@
 -- An ARP packet that a host answers with goes between two stations.
-use Rattle.std.proofs.Common.{◌≡◌, ℕ, ◌-◌, ◌^◌, ◌≤◌, Bool, true, false, cond, List, length, take, drop, Option, Some, None, refl, sym, ◌∙◌, ap, subst, arith, length-take, length-drop}
+use Rattle.std.proofs.Common.{◌≡◌, ℕ, ◌-◌, ◌^◌, ◌≤◌, Bool, true, false, cond, List, length, take, drop, Option, Some, None, refl, sym, ◌∙◌, ap, subst, arith}
+use Rattle.std.proofs.Common.{length-take, length-drop}
 use Rattle.std.specs.Prelude.{nat_lt}
 use Rattle.net_base.specs.ChecksumCapabilities.{ChecksumCapabilities}
 use Rattle.ip_wire.specs.Arp as Wire
@@ -43,23 +44,30 @@ told_is : (o : Option ArpRepr) (packet : ArpRepr) → told o ≡ Some (Replies.T
 told_is None packet is = absurd cc
 told_is (Some p) packet is = let e : p ≡ packet = cc in ap Some e
 
-not_v4 : (ours : Bool) (i : InnerValue) (places : Places) (link : Option EthernetRepr) (ip : IpRepr) (payload : List ℕ) (a : Arrived) (packet : ArpRepr) → ArrivesV4 ours i places link ip payload a → a.reply ≡ Some (Replies.Tells packet) → ⊥
+not_v4 : (ours : Bool) (i : InnerValue) (places : Places) (link : Option EthernetRepr) (ip : IpRepr) (payload : List ℕ) (a : Arrived) (packet : ArpRepr) →
+    ArrivesV4 ours i places link ip payload a → a.reply ≡ Some (Replies.Tells packet) → ⊥
 not_v4 true i places link ip payload a packet (carried, is, handed) reply = not_answered _ packet (sym handed.reply ∙ reply)
 not_v4 false i places link ip payload a packet is reply = let none = is.reply in cc
 
-not_v6 : (ours : Bool) (i : InnerValue) (places : Places) (link : Option EthernetRepr) (ip : IpRepr) (payload : List ℕ) (a : Arrived) (packet : ArpRepr) → ArrivesV6 ours i places link ip payload a → a.reply ≡ Some (Replies.Tells packet) → ⊥
+not_v6 : (ours : Bool) (i : InnerValue) (places : Places) (link : Option EthernetRepr) (ip : IpRepr) (payload : List ℕ) (a : Arrived) (packet : ArpRepr) →
+    ArrivesV6 ours i places link ip payload a → a.reply ≡ Some (Replies.Tells packet) → ⊥
 not_v6 true i places link ip payload a packet (carried, is, handed) reply = not_answered _ packet (sym handed.reply ∙ reply)
 not_v6 false i places link ip payload a packet is reply = let none = is.reply in cc
 
-told_by : (i : InnerValue) (places : Places) (whole : Option IncomingValue) (a : Arrived) (packet : ArpRepr) → Brings i places whole a → a.reply ≡ Some (Replies.Tells packet) → IsToldBy i whole packet
+told_by : (i : InnerValue) (places : Places) (whole : Option IncomingValue) (a : Arrived) (packet : ArpRepr) → Brings i places whole a →
+    a.reply ≡ Some (Replies.Tells packet) → IsToldBy i whole packet
 told_by i places None a packet is reply = absurd (let none = is.reply in cc)
-told_by i places (Some (Arp link question)) a packet is reply = record { link = link; question = question; whole_is = refl; answer = told_is (arp_answer i question) packet (sym is.reply ∙ reply) }
-told_by i places (Some (Ip4 link header piece payload)) a packet is reply = absurd (not_v4 (is_for_us i (Address.Ipv4 header.dst_addr)) i places link (Ip.Ipv4 header) payload a packet is reply)
-told_by i places (Some (Ip6 link header payload)) a packet is reply = absurd (not_v6 (is_for_us i (Address.Ipv6 header.dst_addr)) i places link (Ip.Ipv6 header) payload a packet is reply)
+told_by i places (Some (Arp link question)) a packet is reply =
+    record { link = link; question = question; whole_is = refl; answer = told_is (arp_answer i question) packet (sym is.reply ∙ reply) }
+told_by i places (Some (Ip4 link header piece payload)) a packet is reply =
+    absurd (not_v4 (is_for_us i (Address.Ipv4 header.dst_addr)) i places link (Ip.Ipv4 header) payload a packet is reply)
+told_by i places (Some (Ip6 link header payload)) a packet is reply =
+    absurd (not_v6 (is_for_us i (Address.Ipv6 header.dst_addr)) i places link (Ip.Ipv6 header) payload a packet is reply)
 
 -- WHICH FRAME BROUGHT IT
 
-short_arp : (link : Option EthernetRepr) (h : Ipv4Repr) (bytes : List ℕ) (b : Bool) (l : EthernetRepr) (q : ArpRepr) → cond b (Some (Ip4 link (record h { payload_len = length bytes }) uncut bytes)) None ≡ Some (Arp l q) → ⊥
+short_arp : (link : Option EthernetRepr) (h : Ipv4Repr) (bytes : List ℕ) (b : Bool) (l : EthernetRepr) (q : ArpRepr) →
+    cond b (Some (Ip4 link (record h { payload_len = length bytes }) uncut bytes)) None ≡ Some (Arp l q) → ⊥
 short_arp link h bytes true l q is = cc
 short_arp link h bytes false l q is = cc
 
@@ -67,14 +75,18 @@ never_arp : (link : Option EthernetRepr) (h : Ipv4Repr) (o : Option (List ℕ)) 
 never_arp link h None l q is = cc
 never_arp link h (Some bytes) l q is = short_arp link h bytes (nat_lt (length bytes) (2 ^ 16 - 20)) l q is
 
-piece_never : (slots : Slots) (at : Option ℕ) (link : Option EthernetRepr) (h : Ipv4Repr) (p : Ipv4Piece) (x : List ℕ) (l : EthernetRepr) (q : ArpRepr) → whole_of slots at (Some (Ip4 link h p x)) ≡ Some (Arp l q) → ⊥
+piece_never : (slots : Slots) (at : Option ℕ) (link : Option EthernetRepr) (h : Ipv4Repr) (p : Ipv4Piece) (x : List ℕ) (l : EthernetRepr) (q : ArpRepr) →
+    whole_of slots at (Some (Ip4 link h p x)) ≡ Some (Arp l q) → ⊥
 piece_never slots at link h p x l q =
-    elim (is_piece p) as (λ b. cond b (rebuilt link h (bytes_at at slots)) (Some (Ip4 link h p x)) ≡ Some (Arp l q) → ⊥) [ true ↦ λ is. never_arp link h (bytes_at at slots) l q is | false ↦ λ is. cc ]
+    elim (is_piece p) as (λ b. cond b (rebuilt link h (bytes_at at slots)) (Some (Ip4 link h p x)) ≡ Some (Arp l q) →
+    ⊥) [ true ↦ λ is. never_arp link h (bytes_at at slots) l q is | false ↦ λ is. cc ]
 
-whole_arp : (i : InnerValue) (timeout : ℕ) (slots : Slots) (content : Option IncomingValue) (l : EthernetRepr) (q : ArpRepr) → whole_after i timeout slots content ≡ Some (Arp l q) → content ≡ Some (Arp l q)
+whole_arp : (i : InnerValue) (timeout : ℕ) (slots : Slots) (content : Option IncomingValue) (l : EthernetRepr) (q : ArpRepr) →
+    whole_after i timeout slots content ≡ Some (Arp l q) → content ≡ Some (Arp l q)
 whole_arp i timeout slots None l q is = is
 whole_arp i timeout slots (Some (Arp link packet)) l q is = is
-whole_arp i timeout slots (Some (Ip4 link h p x)) l q is = absurd (piece_never (kept i timeout slots (Some (Ip4 link h p x))) (place_in slots (Some (Ip4 link h p x))) link h p x l q is)
+whole_arp i timeout slots (Some (Ip4 link h p x)) l q is =
+    absurd (piece_never (kept i timeout slots (Some (Ip4 link h p x))) (place_in slots (Some (Ip4 link h p x))) link h p x l q is)
 whole_arp i timeout slots (Some (Ip6 link h x)) l q is = is
 
 taken_if : (v : IncomingValue) (b : Bool) (l : EthernetRepr) (q : ArpRepr) → cond b (Some v) None ≡ Some (Arp l q) → Some v ≡ Some (Arp l q)
@@ -90,28 +102,36 @@ taken_arp i (Some v) l q is = taken_if v (is_taken_in i v) l q is
 six : (bytes s : List ℕ) → 28 ≤ length bytes → s ≡ take 6 (drop 8 bytes) → length s ≡ 6
 six bytes s room is = omega (arith, ap length is, length-take 6 (drop 8 bytes), length-drop 8 bytes)
 
-answer_between : (hardware : HardwareAddress) (question packet : ArpRepr) (bytes : List ℕ) → HasSixBytes hardware → Wire.IsArp bytes question → answer_at hardware question ≡ Some packet → IsStation hardware × IsBetweenStations packet
+answer_between : (hardware : HardwareAddress) (question packet : ArpRepr) (bytes : List ℕ) → HasSixBytes hardware → Wire.IsArp bytes question →
+    answer_at hardware question ≡ Some packet → IsStation hardware × IsBetweenStations packet
 answer_between (Hardware.Ethernet own) (ArpIs.EthernetIpv4 Operation.Request source source_protocol target target_protocol) packet bytes long is answer =
     let e : ArpIs.EthernetIpv4 Operation.Reply own target_protocol source source_protocol ≡ packet = cc in
     (tt, subst IsBetweenStations e (long, six bytes source.0 is.room is.source_hardware_is))
-answer_between (Hardware.Ethernet own) (ArpIs.EthernetIpv4 Operation.Reply source source_protocol target target_protocol) packet bytes long is answer = absurd cc
-answer_between (Hardware.Ethernet own) (ArpIs.EthernetIpv4 (Operation.Unknown n) source source_protocol target target_protocol) packet bytes long is answer = absurd cc
+answer_between (Hardware.Ethernet own) (ArpIs.EthernetIpv4 Operation.Reply source source_protocol target target_protocol) packet bytes long is
+    answer = absurd cc
+answer_between (Hardware.Ethernet own) (ArpIs.EthernetIpv4 (Operation.Unknown n) source source_protocol target target_protocol) packet bytes long is
+    answer = absurd cc
 answer_between Hardware.Ip (ArpIs.EthernetIpv4 operation source source_protocol target target_protocol) packet bytes long is answer = absurd cc
 
 counted_by : (b : Bool) (o : Option ArpRepr) (packet : ArpRepr) → cond b o None ≡ Some packet → o ≡ Some packet
 counted_by true o packet is = is
 counted_by false o packet is = absurd cc
 
-read_arp : (hardware : HardwareAddress) (caps : ChecksumCapabilities) (frame : List ℕ) (l : EthernetRepr) (q : ArpRepr) → IsIncoming hardware caps frame (Arp l q) → Wire.IsArp (Ethernet.payload_of frame) q
+read_arp : (hardware : HardwareAddress) (caps : ChecksumCapabilities) (frame : List ℕ) (l : EthernetRepr) (q : ArpRepr) →
+    IsIncoming hardware caps frame (Arp l q) → Wire.IsArp (Ethernet.payload_of frame) q
 read_arp (Hardware.Ethernet own) caps frame l q is = is.1
 read_arp Hardware.Ip caps frame l q is = absurd is
 
 -- what a host tells in answer to a frame goes between stations
-pub told_between : (i : InnerValue) (timeout : ℕ) (slots : Slots) (places : Places) (frame : List ℕ) (content : Option IncomingValue) (a : Arrived) (packet : ArpRepr) → HasSixBytes i.hardware → IsContent i.hardware i.checksums frame content
-    → Brings i places (whole_after i timeout slots (taken_in i content)) a → a.reply ≡ Some (Replies.Tells packet) → IsStation i.hardware × IsBetweenStations packet
+pub told_between : (i : InnerValue) (timeout : ℕ) (slots : Slots) (places : Places) (frame : List ℕ) (content : Option IncomingValue) (a : Arrived)
+    (packet : ArpRepr) → HasSixBytes i.hardware → IsContent i.hardware i.checksums frame content
+    → Brings i places (whole_after i timeout slots (taken_in i content)) a → a.reply ≡ Some (Replies.Tells packet) → IsStation i.hardware ×
+    IsBetweenStations packet
 told_between i timeout slots places frame content a packet long is brings reply =
     let by = told_by i places (whole_after i timeout slots (taken_in i content)) a packet brings reply in
-    let came : content ≡ Some (Arp by.link by.question) = taken_arp i content by.link by.question (whole_arp i timeout slots (taken_in i content) by.link by.question by.whole_is) in
-    let read : IsIncoming i.hardware i.checksums frame (Arp by.link by.question) = subst (λ (o : Option IncomingValue). IsContent i.hardware i.checksums frame o) came is in
+    let came : content ≡ Some (Arp by.link by.question) =
+    taken_arp i content by.link by.question (whole_arp i timeout slots (taken_in i content) by.link by.question by.whole_is) in
+    let read : IsIncoming i.hardware i.checksums frame (Arp by.link by.question) =
+    subst (λ (o : Option IncomingValue). IsContent i.hardware i.checksums frame o) came is in
     answer_between i.hardware by.question packet (Ethernet.payload_of frame) long (read_arp i.hardware i.checksums frame by.link by.question read)
     (counted_by (Arps.counts i by.question) (answer_at i.hardware by.question) packet by.answer)

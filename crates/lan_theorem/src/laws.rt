@@ -97,7 +97,8 @@ pub fn rebuilt_was_sent()
         → IsFreshWorld starts
         → AreTyped history
         → WorldRun history (unused_both starts) hosts
-        → (a : IsHostRun (record { hosts = hosts; starts = starts; history = history }) A) (b : IsHostRun (record { hosts = hosts; starts = starts; history = history }) B)
+        → (a : IsHostRun (record { hosts = hosts; starts = starts; history = history }) A)
+        (b : IsHostRun (record { hosts = hosts; starts = starts; history = history }) B)
         → RebuiltWasSent (record { hosts = hosts; starts = starts; history = history }) (by_side a.turns b.turns) }
 {}
 

@@ -65,13 +65,15 @@ pub fn frames_bring_what_was_made()
 /// rebuilt is one packet's payload, since the other host gave each IPv4 packet a number of its own. The host stays one of which this
 /// can be said.
 pub fn what_is_taken_was_made()
-    ensures brings { (made : List PayloadValue) (first next : ℕ) (out : List PacketValue) (i : InnerValue) (timeout : ℕ) (slots : Slots) (frame : List ℕ) (rest : List (List ℕ)) (content : Option IncomingValue)
+    ensures brings { (made : List PayloadValue) (first next : ℕ) (out : List PacketValue) (i : InnerValue) (timeout : ℕ) (slots : Slots) (frame : List ℕ)
+        (rest : List (List ℕ)) (content : Option IncomingValue)
         → AreSent (IsIn made) first next out
         → AreFew out
         → IsReceiver (IsIn made) out i slots (frame ∷ rest)
         → IsContent i.hardware i.checksums frame content
         → BringsMade (IsIn made) (whole_after i timeout slots (taken_in i content)) }
-    ensures keeps { (made : List PayloadValue) (first next : ℕ) (out : List PacketValue) (i : InnerValue) (timeout : ℕ) (slots slots' : Slots) (places : Places) (frame : List ℕ) (rest : List (List ℕ)) (content : Option IncomingValue) (a : Arrived)
+    ensures keeps { (made : List PayloadValue) (first next : ℕ) (out : List PacketValue) (i : InnerValue) (timeout : ℕ) (slots slots' : Slots) (places : Places)
+        (frame : List ℕ) (rest : List (List ℕ)) (content : Option IncomingValue) (a : Arrived)
         → AreSent (IsIn made) first next out
         → AreFew out
         → IsReceiver (IsIn made) out i slots (frame ∷ rest)
@@ -100,22 +102,26 @@ pub fn one_number()
 /// piece; an ARP packet. A packet takes one number at most, and then its frame begins a datagram; the others take none. What arrives
 /// keeps it too.
 pub fn what_leaves_was_made()
-    ensures packet { (made : List PayloadValue) (first : ℕ) (out : List PacketValue) (i i' : InnerValue) (l l' : Option LeftValue) (d d' : PortValue) (p : PacketValue) (busy : Bool) (sent : Sent)
+    ensures packet { (made : List PayloadValue) (first : ℕ) (out : List PacketValue) (i i' : InnerValue) (l l' : Option LeftValue) (d d' : PortValue)
+        (p : PacketValue) (busy : Bool) (sent : Sent)
         → IsSender (IsIn made) first i l d.link.sent out
         → IsGoing (IsIn made) p
         → GoesOut PortMove d i l p (plan_of i busy p.header) sent d' i' l'
         → WentOut (IsIn made) first 1 out d.link.sent i' l' d'.link.sent }
-    ensures piece { (made : List PayloadValue) (first : ℕ) (out : List PacketValue) (i : InnerValue) (l : LeftValue) (l' : Option LeftValue) (d d' : PortValue) (gone : Bool)
+    ensures piece { (made : List PayloadValue) (first : ℕ) (out : List PacketValue) (i : InnerValue) (l : LeftValue) (l' : Option LeftValue) (d d' : PortValue)
+        (gone : Bool)
         → IsSender (IsIn made) first i (Some l) d.link.sent out
         → PieceGoesOut PortMove d i l gone d' l'
         → WentOut (IsIn made) first 0 out d.link.sent i l' d'.link.sent }
-    ensures arp { (made : List PayloadValue) (first : ℕ) (out : List PacketValue) (i : InnerValue) (l : Option LeftValue) (d d' : PortValue) (packet : ArpRepr) (gone : Bool)
+    ensures arp { (made : List PayloadValue) (first : ℕ) (out : List PacketValue) (i : InnerValue) (l : Option LeftValue) (d d' : PortValue) (packet : ArpRepr)
+        (gone : Bool)
         → IsSender (IsIn made) first i l d.link.sent out
         → IsStation i.hardware
         → IsBetweenStations packet
         → Departs PortMove d i (Tells packet) gone d'
         → WentOut (IsIn made) first 0 out d.link.sent i l d'.link.sent }
-    ensures arrival { (made : List PayloadValue) (first : ℕ) (out : List PacketValue) (i : InnerValue) (l : Option LeftValue) (sent : List (List ℕ)) (places : Places) (content : Option IncomingValue) (a : Arrived)
+    ensures arrival { (made : List PayloadValue) (first : ℕ) (out : List PacketValue) (i : InnerValue) (l : Option LeftValue) (sent : List (List ℕ))
+        (places : Places) (content : Option IncomingValue) (a : Arrived)
         → IsSender (IsIn made) first i l sent out
         → Brings i places content a
         → IsSender (IsIn made) first a.inner l sent out }

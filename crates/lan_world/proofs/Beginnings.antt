@@ -62,13 +62,15 @@ module _ (s : StationValue) (fresh : is_fresh s ≡ true) where
   unused_is =
       let end : List (List ℕ) → List (List ℕ) → LinkEnd =
       λ waiting sent. record { waiting = waiting; sent = sent; room = s.link.room; refusals = s.link.refusals; capabilities = s.link.capabilities } in
-      let link : s.link ≡ end [] [] = ap (λ (frames : List (List ℕ)). end frames s.link.sent) parts.2 ∙ ap (λ (frames : List (List ℕ)). end [] frames) parts.1 in
+      let link : s.link ≡ end [] [] = ap (λ (frames : List (List ℕ)). end frames s.link.sent) parts.2 ∙
+      ap (λ (frames : List (List ℕ)). end [] frames) parts.1 in
       ap (λ (l : LinkEnd). let t : StationValue = record { host = s.host; places = s.places; link = l } in t) link
 
   pub table_is : (side : Side) → table_in [] side s ≡ record { records = replicate (length s.places) no_record; numbered = 0 }
   table_is side = rw parts.1 refl
 
-  pub start_is : is_of_medium s.host.inner.hardware s.link.capabilities.medium ≡ true → has_checksums s ≡ true → has_mtu s ≡ true → IsIdle s.host.left s.host.slots
+  pub start_is : is_of_medium s.host.inner.hardware s.link.capabilities.medium ≡ true → has_checksums s ≡ true → has_mtu s ≡ true →
+      IsIdle s.host.left s.host.slots
       → s.host.inner.neighbors.entries ≡ [] → IsTypedHost s.host.inner → IsFreshStart (start_of s)
   start_is medium checksums mtu idle unknown typed =
       let c = and_parts _ _ checksums in
@@ -90,7 +92,8 @@ module _ (s : StationValue) (fresh : is_fresh s ≡ true) where
 -- BOTH
 
 module _ (a b : StationValue) (none : new_error a b ≡ None) where
-  passes : Passes (has_one_medium a b) (has_checksums a && has_checksums b) (has_mtu a && has_mtu b) (of_each has_buffers a && of_each has_buffers b) (is_fresh a && is_fresh b)
+  passes : Passes (has_one_medium a b) (has_checksums a && has_checksums b) (has_mtu a && has_mtu b) (of_each has_buffers a && of_each has_buffers b)
+      (is_fresh a && is_fresh b)
   passes = five _ _ _ _ _ none
 
   fresh_a : is_fresh a ≡ true
@@ -99,8 +102,10 @@ module _ (a b : StationValue) (none : new_error a b ≡ None) where
   fresh_b : is_fresh b ≡ true
   fresh_b = (and_parts _ _ passes.fresh).1
 
-  pub begun : IsIdle a.host.left a.host.slots → IsIdle b.host.left b.host.slots → a.host.inner.neighbors.entries ≡ [] → b.host.inner.neighbors.entries ≡ [] → IsTypedHost a.host.inner → IsTypedHost b.host.inner
-      → HasCome a b a b (record { records = replicate (length a.places) no_record; numbered = 0 }) (record { records = replicate (length b.places) no_record; numbered = 0 }) []
+  pub begun : IsIdle a.host.left a.host.slots → IsIdle b.host.left b.host.slots → a.host.inner.neighbors.entries ≡ [] → b.host.inner.neighbors.entries ≡ [] →
+      IsTypedHost a.host.inner → IsTypedHost b.host.inner
+      → HasCome a b a b (record { records = replicate (length a.places) no_record; numbered = 0 })
+      (record { records = replicate (length b.places) no_record; numbered = 0 }) []
   begun idle_a idle_b unknown_a unknown_b typed_a typed_b =
       let m = and_parts _ _ passes.medium in
       let n = and_parts _ _ m.0 in
@@ -108,7 +113,8 @@ module _ (a b : StationValue) (none : new_error a b ≡ None) where
       let u = and_parts _ _ passes.mtus in
       let start_a : IsFreshStart (start_of a) = start_is a fresh_a n.0 c.0 u.0 idle_a unknown_a typed_a in
       let start_b : IsFreshStart (start_of b) = start_is b fresh_b m.1 c.1 u.1 idle_b unknown_b typed_b in
-      let of_both : (x y : StationValue) → x ≡ unused (start_of a) → y ≡ unused (start_of b) → both x y ≡ unused_both (starts_of a b) = λ x y p q. rw (p, q) refl in
+      let of_both : (x y : StationValue) → x ≡ unused (start_of a) → y ≡ unused (start_of b) → both x y ≡ unused_both (starts_of a b) =
+      λ x y p q. rw (p, q) refl in
       record {
         fresh = record { a = start_a; b = start_b; medium = same_medium a.host.inner.hardware a.link.capabilities.medium b.link.capabilities.medium n.0 n.1 };
         run = of_both a b (unused_is a fresh_a) (unused_is b fresh_b);

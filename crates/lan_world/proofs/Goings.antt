@@ -42,7 +42,8 @@ module _ (start_a start_b a b new_a new_b : StationValue) (of_a of_b next_a next
       → Leads past (both a b) e (both new_a new_b)
   leads come allowed counted happens = record { allowed = allowed_in come allowed; counted = counted; happens = happens }
 
-  pub goes_on : TablesGoOn → IsTyped (kind_of e.event) → HasCome start_a start_b a b of_a of_b past → refusal (both a b) (tables of_a of_b) (kind_of e.event) ≡ None
+  pub goes_on : TablesGoOn → IsTyped (kind_of e.event) → HasCome start_a start_b a b of_a of_b past →
+      refusal (both a b) (tables of_a of_b) (kind_of e.event) ≡ None
       → e.before ≡ counts_of (both a b) → Happens (both a b) (kind_of e.event) e.answer e.found (both new_a new_b)
       → next_a ≡ table_next A (kind_of e.event) e.answer (length a.link.sent) new_a of_a
       → next_b ≡ table_next B (kind_of e.event) e.answer (length b.link.sent) new_b of_b
@@ -51,9 +52,11 @@ module _ (start_a start_b a b new_a new_b : StationValue) (of_a of_b next_a next
       let of_a_is : of_a ≡ table_in past A a = ap (λ (t : Tables). t.a) come.tables in
       let of_b_is : of_b ≡ table_in past B b = ap (λ (t : Tables). t.b) come.tables in
       let a_is : next_a ≡ table_in (e ∷ past) A new_a =
-      is_a ∙ ap (λ (t : Table). table_next A (kind_of e.event) e.answer (length a.link.sent) new_a t) of_a_is ∙ sym (law past e (both a b) (both new_a new_b) A counted happens) in
+      is_a ∙ ap (λ (t : Table). table_next A (kind_of e.event) e.answer (length a.link.sent) new_a t) of_a_is ∙
+      sym (law past e (both a b) (both new_a new_b) A counted happens) in
       let b_is : next_b ≡ table_in (e ∷ past) B new_b =
-      is_b ∙ ap (λ (t : Table). table_next B (kind_of e.event) e.answer (length b.link.sent) new_b t) of_b_is ∙ sym (law past e (both a b) (both new_a new_b) B counted happens) in
+      is_b ∙ ap (λ (t : Table). table_next B (kind_of e.event) e.answer (length b.link.sent) new_b t) of_b_is ∙
+      sym (law past e (both a b) (both new_a new_b) B counted happens) in
       record {
         fresh = come.fresh;
         run = (both a b, come.run, leads come allowed counted happens);
@@ -75,7 +78,8 @@ module _ (start_a start_b a b new_a new_b : StationValue) (of_a of_b next_a next
   }
 
 -- what the tables say is what the history says
-pub agrees : (start_a start_b a b : StationValue) (of_a of_b : Table) (past : List Entry) (event : Event) (old : WorldValue) → HasCome start_a start_b a b of_a of_b past
+pub agrees : (start_a start_b a b : StationValue) (of_a of_b : Table) (past : List Entry) (event : Event) (old : WorldValue) →
+    HasCome start_a start_b a b of_a of_b past
     → world start_a start_b a b past ≡ old → refusal (both a b) (tables of_a of_b) (kind_of event) ≡ refusal_in old.history old.hosts event
 agrees start_a start_b a b of_a of_b past event old come is =
     ap (λ (t : Tables). refusal (both a b) t (kind_of event)) come.tables ∙ ap (λ (w : WorldValue). refusal_in w.history w.hosts event) is
@@ -89,17 +93,20 @@ few start_a start_b a b of_a of_b past law come =
     (rw of_a_is (law (medium_of a) A past a.link.sent), rw of_b_is (law (medium_of b) B past b.link.sent))
 
 -- an event that was taken is kept with its note and its answer
-module _ (start_a start_b a b new_a new_b : StationValue) (of_a of_b next_a next_b : Table) (past mid next : List Entry) (event : Event) (note : Note) (kept answer : Answer)
+module _ (start_a start_b a b new_a new_b : StationValue) (of_a of_b next_a next_b : Table) (past mid next : List Entry) (event : Event) (note : Note)
+    (kept answer : Answer)
     (come : HasCome start_a start_b a b of_a of_b past) (allowed : refusal (both a b) (tables of_a of_b) (kind_of event) ≡ None)
     (counted : counts_in note.before ≡ counts_of (both a b)) (happens : Happens (both a b) (kind_of event) answer note.found (both new_a new_b))
     (pushed : next ≡ entry event note kept ∷ mid) (same : mid ≡ past) (is : kept ≡ answer) where
   next_is : next ≡ entry event note answer ∷ past
   next_is = pushed ∙ ap (λ (es : List Entry). entry event note kept ∷ es) same ∙ ap (λ (x : Answer). entry event note x ∷ past) is
 
-  pub has_come : TablesGoOn → IsTyped (kind_of event) → next_a ≡ table_next A (kind_of event) answer (length a.link.sent) new_a of_a → next_b ≡ table_next B (kind_of event) answer (length b.link.sent) new_b of_b
+  pub has_come : TablesGoOn → IsTyped (kind_of event) → next_a ≡ table_next A (kind_of event) answer (length a.link.sent) new_a of_a →
+      next_b ≡ table_next B (kind_of event) answer (length b.link.sent) new_b of_b
       → HasCome start_a start_b new_a new_b next_a next_b next
   has_come law typed is_a is_b =
-      rw next_is (goes_on start_a start_b a b new_a new_b of_a of_b next_a next_b past (entry event note answer) law typed come allowed counted happens is_a is_b)
+      rw next_is (goes_on start_a start_b a b new_a new_b of_a of_b next_a next_b past (entry event note answer) law typed come allowed counted
+      happens is_a is_b)
 
   pub has_stepped : (old : WorldValue) → world start_a start_b a b past ≡ old → Step old event answer (world start_a start_b new_a new_b next)
   has_stepped old is_old =

@@ -10,8 +10,10 @@ use Rattle.lan_world.specs.Past.{entry, history_from, AreAsMany}
 use Rattle.lan_world.specs.declared.history.Note.{Note}
 
 module _ (event : Event) (note : Note) (answer : Answer) where
-  push_from : (past : List Entry) (events : List Event) (notes : List Note) (answers : List Answer) → length notes ≡ length events → length answers ≡ length events
-      → history_from past (events ++ event ∷ []) (notes ++ note ∷ []) (answers ++ answer ∷ []) ≡ entry event note answer ∷ history_from past events notes answers
+  push_from : (past : List Entry) (events : List Event) (notes : List Note) (answers : List Answer) → length notes ≡ length events →
+      length answers ≡ length events
+      → history_from past (events ++ event ∷ []) (notes ++ note ∷ []) (answers ++ answer ∷ []) ≡ entry event note answer ∷
+      history_from past events notes answers
   push_from past [] [] [] m n = refl
   push_from past [] [] (a ∷ answers) m n = absurd (omega arith)
   push_from past [] (x ∷ notes) answers m n = absurd (omega arith)
@@ -31,7 +33,8 @@ module _ (event : Event) (note : Note) (answer : Answer) where
     one_answer_each = omega (arith, length-append events (event ∷ []), length-append answers (answer ∷ []), many.one_answer_each);
   }
 
-answers_from : (past : List Entry) (events : List Event) (notes : List Note) (answers : List Answer) → length notes ≡ length events → length answers ≡ length events
+answers_from : (past : List Entry) (events : List Event) (notes : List Note) (answers : List Answer) → length notes ≡ length events →
+    length answers ≡ length events
     → answers_of (history_from past events notes answers) ≡ answers_of past ++ answers
 answers_from past [] notes [] m n = grind (arith, common_steps)
 answers_from past [] notes (a ∷ answers) m n = absurd (omega arith)

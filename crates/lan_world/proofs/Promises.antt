@@ -57,7 +57,8 @@ RebuiltWereSent =
     → IsFreshWorld starts
     → AreTyped history
     → WorldRun history (unused_both starts) hosts
-    → (a : IsHostRun (record { hosts = hosts; starts = starts; history = history }) A) (b : IsHostRun (record { hosts = hosts; starts = starts; history = history }) B)
+    → (a : IsHostRun (record { hosts = hosts; starts = starts; history = history }) A)
+    (b : IsHostRun (record { hosts = hosts; starts = starts; history = history }) B)
     → RebuiltWasSent (record { hosts = hosts; starts = starts; history = history }) (by_side a.turns b.turns)
 
 abbrev pub DamageWasHarmless : Type 0
@@ -72,7 +73,8 @@ apart : RequestsAreApart → (w : WorldValue) (side : Side) (r : IsHostRun w sid
 apart law w side r = law _ _ r.turns _ r.run
 
 pub well_run : (start_a start_b a b : StationValue) (of_a of_b : Table) (history : List Entry)
-    → HostsRun → RequestsAreApart → PollsAreQuiet → WorldsAreSafe → RebuiltWereMade → RebuiltWereSent → DamageWasHarmless → HasCome start_a start_b a b of_a of_b history
+    → HostsRun → RequestsAreApart → PollsAreQuiet → WorldsAreSafe → RebuiltWereMade → RebuiltWereSent → DamageWasHarmless →
+    HasCome start_a start_b a b of_a of_b history
     → IsSafeWorld (world start_a start_b a b history)
 well_run start_a start_b a b of_a of_b history hosts_run are_apart are_quiet are_safe were_made were_sent was_harmless come =
     let starts = starts_of start_a start_b in

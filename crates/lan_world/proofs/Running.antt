@@ -24,7 +24,8 @@ next_of_drop (suc n) (y ∷ ys) x rest is =
     let later : IsNext n ys x rest = next_of_drop n ys x rest is in
     record { below = omega arith; here = later.here; taken = ap (λ zs. y ∷ zs) later.taken; left = later.left }
 
-Steps-push : (old mid new : WorldValue) (events : List Event) (event : Event) (answer : Answer) → Steps old events mid → Step mid event answer new → Steps old (events ++ event ∷ []) new
+Steps-push : (old mid new : WorldValue) (events : List Event) (event : Event) (answer : Answer) → Steps old events mid → Step mid event answer new →
+    Steps old (events ++ event ∷ []) new
 Steps-push old mid new [] event answer is step = (answer, new, subst (λ (w : WorldValue). Step w event answer new) is step, refl)
 Steps-push old mid new (e ∷ events) event answer before step = (before.0, before.1, before.2, Steps-push before.1 mid new events event answer before.3 step)
 
@@ -33,7 +34,8 @@ pub starts_stay : (old new : WorldValue) (events : List Event) → Steps old eve
 starts_stay old new [] is = ap (λ (w : WorldValue). w.starts) is
 starts_stay old new (e ∷ events) steps = starts_stay steps.1 new events steps.3 ∙ steps.2.starts
 
-module _ (old : WorldValue) (events : List Event) (place : ℕ) (event : Event) (left : List Event) (now : WorldValue) (run : HasRun old events place (event ∷ left) now) where
+module _ (old : WorldValue) (events : List Event) (place : ℕ) (event : Event) (left : List Event) (now : WorldValue)
+    (run : HasRun old events place (event ∷ left) now) where
   pub next_is : slice_get events place ≡ Some event
   next_is = (next_of_drop place events event left run.left_over).here
 

@@ -1,5 +1,6 @@
 -- What the tests of a fresh host find.
-use Rattle.std.proofs.Common.{◌≡◌, ℕ, zero, suc, Bool, true, false, not, ◌||◌, if◌then◌else◌, List, [], ◌∷◌, length, Option, None, Some, refl, sym, subst, arith}
+use Rattle.std.proofs.Common.{◌≡◌, ℕ, zero, suc, Bool, true, false, not, ◌||◌, if◌then◌else◌, List, [], ◌∷◌, length, Option, None, Some, refl, sym, subst}
+use Rattle.std.proofs.Common.{arith}
 use Rattle.std.specs.Prelude.{◌==◌}
 use Rattle.std.specs.List.{list_all}
 use Rattle.std.proofs.lemmas.Bool.{false≢true, and_parts, not-true, eqb-true}
@@ -101,7 +102,12 @@ unopened_is v h =
     let r = and_parts _ _ q.0 in
     let s = and_parts _ _ r.0 in
     let w = nothing_waits (takes_text v.block.state) (length v.received.waiting == 0) v.block.receiver.took_fin p.1 in
-    let fresh : IsFresh v = record { state = closed_is v.block.state s.0; waiting = empty v.received.waiting w.0; queue = empty v.queued.queue q.1; unfinished = w.1 } in
+    let fresh : IsFresh v = record {
+      state = closed_is v.block.state s.0;
+      waiting = empty v.received.waiting w.0;
+      queue = empty v.queued.queue q.1;
+      unfinished = w.1;
+    } in
     let nameless : IsNameless v.block = record { state = s.0; pair = no_pair v.block.names.pair r.1 } in
     (fresh, nameless)
 
@@ -117,7 +123,8 @@ unused_item : (item : Option (Item Socket)) (socket : Socket) → of_item is_unu
 unused_item None socket h is = cc
 unused_item (Some item) socket h is = let same : item.socket ≡ socket = cc in subst IsUnused same (unused_is item.socket h)
 
-pub unused_at : (places : List (SocketStorage Socket)) (i : ℕ) (socket : Socket) → list_all (of_place is_unused) places ≡ true → socket_at places i ≡ Some socket → IsUnused socket
+pub unused_at : (places : List (SocketStorage Socket)) (i : ℕ) (socket : Socket) → list_all (of_place is_unused) places ≡ true →
+    socket_at places i ≡ Some socket → IsUnused socket
 unused_at [] i socket h is = cc
 unused_at (p ∷ ps) zero socket h is = unused_item p.inner socket (and_parts _ _ h).0 is
 unused_at (p ∷ ps) (suc i) socket h is = unused_at ps i socket (and_parts _ _ h).1 is

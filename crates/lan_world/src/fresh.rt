@@ -6,7 +6,8 @@ ghost use Rattle.std.specs.List.{list_all};
 ghost use Rattle.lan_theorem.specs.Set.{places};
 ghost use Rattle.sockets.specs.TcpStates.{is_closed};
 ghost use Rattle.sockets.specs.TcpCalls.{recv_refusal};
-ghost use Rattle.lan_world.specs.New.{new_error, has_one_medium, is_both, are_on, has_checksums, has_mtu, has_buffers, is_ingress, is_no_socket, is_unopened, is_unused, of_place, of_each, is_fresh};
+ghost use Rattle.lan_world.specs.New.{new_error, has_one_medium, is_both, are_on, has_checksums, has_mtu, has_buffers, is_ingress, is_no_socket, is_unopened};
+ghost use Rattle.lan_world.specs.New.{is_unused, of_place, of_each, is_fresh};
 
 use crate::error::WorldError;
 use ip_wire::HardwareAddress;

@@ -1,5 +1,6 @@
 -- What was read goes back whole.
-use Rattle.std.proofs.Common.{◌≡◌, ℕ, nat_lt, if◌then◌else◌, Bool, true, false, List, ◌++◌, length, take, drop, ◌≤◌, subst, arith, Option, None, Some, Result, Ok, Err, ap, sym}
+use Rattle.std.proofs.Common.{◌≡◌, ℕ, nat_lt, if◌then◌else◌, Bool, true, false, List, ◌++◌, length, take, drop, ◌≤◌, subst, arith, Option, None, Some, Result}
+use Rattle.std.proofs.Common.{Ok, Err, ap, sym}
 use Rattle.std.proofs.Math.Seq.{take-append_seam}
 use Rattle.datagram_sockets.specs.SocketValue.{read_answer_by, read_written_by}
 use Rattle.datagram_sockets.specs.Udp.{UdpValue, send_after}

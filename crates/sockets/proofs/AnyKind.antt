@@ -26,7 +26,8 @@ said_with (Some p) = tt
 
 module _ {H S : Type 0} where
   quiet_first : (Takes : S → H × List ℕ → PacketValue → Type 0) (now : ℤ) (v v' : SocketValue H S) (f : Option (H × List ℕ)) (answer : Answer.Offer)
-      → IsBefore now (if is_some f then At.Now else At.Ingress) → OffersFirst Takes v f answer v' → (answer ≡ Offer.Silent false) × (v' ≡ Datagrams.settled false v)
+      → IsBefore now (if is_some f then At.Now else At.Ingress) → OffersFirst Takes v f answer v' → (answer ≡ Offer.Silent false) ×
+      (v' ≡ Datagrams.settled false v)
   quiet_first Takes now v v' None answer before offers = offers
   quiet_first Takes now v v' (Some q) answer before offers = absurd before
 
@@ -34,14 +35,17 @@ module _ {H S : Type 0} where
       → IsBefore now (Datagrams.poll_of v) → OffersBy Takes v answer v' → (answer ≡ Offer.Silent false) × (v' ≡ Datagrams.settled false v)
   quiet Takes now v v' answer before offers = quiet_first Takes now v v' (first v.queued) answer before offers
 
-  has_first : (Takes : S → H × List ℕ → PacketValue → Type 0) (v v' : SocketValue H S) (f : Option (H × List ℕ)) (answer : Answer.Offer) → OffersFirst Takes v f answer v' → HasPacket answer v'.offered
+  has_first : (Takes : S → H × List ℕ → PacketValue → Type 0) (v v' : SocketValue H S) (f : Option (H × List ℕ)) (answer : Answer.Offer) →
+      OffersFirst Takes v f answer v' → HasPacket answer v'.offered
   has_first Takes v v' None answer offers = rw (offers.0, offers.1) tt
   has_first Takes v v' (Some q) answer offers = rw offers.1 (said_with v'.offered)
 
-  has : (Takes : S → H × List ℕ → PacketValue → Type 0) (v v' : SocketValue H S) (answer : Answer.Offer) → OffersBy Takes v answer v' → HasPacket answer v'.offered
+  has : (Takes : S → H × List ℕ → PacketValue → Type 0) (v v' : SocketValue H S) (answer : Answer.Offer) → OffersBy Takes v answer v' →
+      HasPacket answer v'.offered
   has Takes v v' answer offers = has_first Takes v v' (first v.queued) answer offers
 
-pub silent : (s s' : Socket) (cx : ContextValue) (answer : Answer.Offer) → IsBefore cx.moment (poll_of cx s) → Offers cx s answer s' → (answer ≡ Offer.Silent false) × (s' ≡ settled false s)
+pub silent : (s s' : Socket) (cx : ContextValue) (answer : Answer.Offer) → IsBefore cx.moment (poll_of cx s) → Offers cx s answer s' →
+    (answer ≡ Offer.Silent false) × (s' ≡ settled false s)
 silent (Kind.Raw v) (Kind.Raw v') cx answer before offers =
     let q = quiet Raws.TakesPacket cx.moment v v' answer before offers in (q.0, ap (λ (w : Raws.RawValue). Kind.Raw w) q.1)
 silent (Kind.Icmp v) (Kind.Icmp v') cx answer before offers =
@@ -59,7 +63,8 @@ has_packet (Kind.Udp v) (Kind.Udp v') cx answer offers = has (Udps.TakesDatagram
 has_packet (Kind.Tcp v) (Kind.Tcp v') cx answer offers = said_packet cx v v' answer offers.0 offers.1
 has_packet s s' cx answer offers = absurd offers
 
-pub same : (s s' : Socket) (cx : ContextValue) (answer : Answer.Offer) → Offers cx s answer s' → changed_by answer ≡ false → IsSameButForPlaces s (settled false s')
+pub same : (s s' : Socket) (cx : ContextValue) (answer : Answer.Offer) → Offers cx s answer s' → changed_by answer ≡ false →
+    IsSameButForPlaces s (settled false s')
 same (Kind.Raw v) (Kind.Raw v') cx answer offers is = datagrams.unchanged Raws.TakesPacket v v' answer offers is
 same (Kind.Icmp v) (Kind.Icmp v') cx answer offers is = datagrams.unchanged (Icmps.TakesMessage cx) v v' answer offers is
 same (Kind.Udp v) (Kind.Udp v') cx answer offers is = datagrams.unchanged (Udps.TakesDatagram cx) v v' answer offers is

@@ -15,10 +15,12 @@ use Rattle.tcp_model.specs.Calls.{listening}
 use Rattle.tcp_model.specs.Checks.{falls_back}
 use Rattle.tcp_model.specs.Due.{poll_of}
 use Rattle.tcp_model.specs.Moments.{is_due}
-use Rattle.tcp_model.specs.Offers.{offered_packet, offer_segment, number_at, offer_choice, offer_ack, offer_syn, offer_reset, offer_keep_alive, offer_held_back, silent, last_rules, first_rules, backed_off, offer_between, offer_with, offer_of}
+use Rattle.tcp_model.specs.Offers.{offered_packet, offer_segment, number_at, offer_choice, offer_ack, offer_syn, offer_reset, offer_keep_alive, offer_held_back}
+use Rattle.tcp_model.specs.Offers.{silent, last_rules, first_rules, backed_off, offer_between, offer_with, offer_of}
 use Rattle.tcp_model.specs.Probing.{probe_started, probe_moment}
 use Rattle.tcp_model.specs.Retries.{gives_up, given_up}
-use Rattle.tcp_model.specs.Rules.{Choice, time_wait_end, owes_syn, resends, ack_moment, has_text, text_choice, resend_choice, probe_choice, control_for, updates_window, keep_alive_moment, backed_off_now}
+use Rattle.tcp_model.specs.Rules.{Choice, time_wait_end, owes_syn, resends, ack_moment, has_text, text_choice, resend_choice, probe_choice, control_for}
+use Rattle.tcp_model.specs.Rules.{updates_window, keep_alive_moment, backed_off_now}
 use Rattle.tcp_model.specs.Segments.{segment, ack_segment, syn_segment, reset_segment, keep_alive_segment}
 use Rattle.tcp_model.specs.Settled.{settled}
 use Rattle.tcp_model.specs.States.{is_closed}
@@ -51,7 +53,8 @@ backed b true b' is = record { state = is.state; names = is.names; settings = is
 backed b false b' is = is
 
 module _ (cx : ContextValue) (v : TcpValue) (pair : EndpointPair) where
-  said : (b : Block) → IsSame v.block b → (kind : OfferKind) (header : TcpHeader) (place len : ℕ) → IsSaid v (offer_segment kind cx (plain v b) pair header place len)
+  said : (b : Block) → IsSame v.block b → (kind : OfferKind) (header : TcpHeader) (place len : ℕ) →
+      IsSaid v (offer_segment kind cx (plain v b) pair header place len)
   said b is kind header place len =
       record { packet = tt; same = λ _. record { state = is.state; names = is.names; settings = is.settings; received = refl; queued = refl } }
 
@@ -127,7 +130,8 @@ module _ (cx : ContextValue) (v : TcpValue) (pair : EndpointPair) where
       (either v (is_closed b.state) reset open_yet
       (either v b.sender.reset_due (offer_reset cx w pair) (silent false w)
       (said b same Kind.Reset (reset_segment b pair cx.moment (window_of w)) 0 0) (unsaid b same))
-      (either v (gives_up cx.moment b (queued_in v)) over first (gives (falls_back b)) (said_first going (backed b (is_due cx.moment started.timers.retransmit_at) started (record { state = refl; names = refl; settings = refl }))))))
+      (either v (gives_up cx.moment b (queued_in v)) over first (gives (falls_back b))
+      (said_first going (backed b (is_due cx.moment started.timers.retransmit_at) started (record { state = refl; names = refl; settings = refl }))))))
 
 said_with : (pair : Option EndpointPair) (cx : ContextValue) (v : TcpValue) → IsSaid v (offer_with pair cx (unoffered v))
 said_with None cx v =
@@ -139,14 +143,17 @@ is_said cx v = said_with v.block.names.pair cx v
 
 -- AS LAWS OF A SOCKET OF ANY KIND
 
-pub said_packet : (cx : ContextValue) (v v' : TcpValue) (answer : Offer) → answer ≡ (offer_of cx v).answer → v' ≡ (offer_of cx v).socket → HasPacket answer (offered_packet v')
+pub said_packet : (cx : ContextValue) (v v' : TcpValue) (answer : Offer) → answer ≡ (offer_of cx v).answer → v' ≡ (offer_of cx v).socket →
+    HasPacket answer (offered_packet v')
 said_packet cx v v' answer is socket = rw (is, socket) (is_said cx v).packet
 
-pub said_same : (cx : ContextValue) (v v' : TcpValue) (answer : Offer) → answer ≡ (offer_of cx v).answer → v' ≡ (offer_of cx v).socket → changed_by answer ≡ false → IsSameConnection v (settled false v')
+pub said_same : (cx : ContextValue) (v v' : TcpValue) (answer : Offer) → answer ≡ (offer_of cx v).answer → v' ≡ (offer_of cx v).socket →
+    changed_by answer ≡ false → IsSameConnection v (settled false v')
 said_same cx v v' answer is socket same =
     rw socket ((is_said cx v).same (ap changed_by (sym is) ∙ same))
 
-pub silent_before : (cx : ContextValue) (v v' : TcpValue) (answer : Offer) → IsBefore cx.moment (poll_of cx.ip_mtu v) → answer ≡ (offer_of cx v).answer → v' ≡ (offer_of cx v).socket → (answer ≡ Answer.Silent false) × (v' ≡ settled false v)
+pub silent_before : (cx : ContextValue) (v v' : TcpValue) (answer : Offer) → IsBefore cx.moment (poll_of cx.ip_mtu v) → answer ≡ (offer_of cx v).answer →
+    v' ≡ (offer_of cx v).socket → (answer ≡ Answer.Silent false) × (v' ≡ settled false v)
 silent_before cx v v' answer before is socket =
     let quiet = silence cx v before in
     (is ∙ ap (λ (o : Offered TcpValue). o.answer) quiet, socket ∙ ap (λ (o : Offered TcpValue). o.socket) quiet)

@@ -1,5 +1,6 @@
 -- The retransmission timeout (RFC 6298), in whole milliseconds: each division drops its rest.
-use Rattle.std.specs.Prelude.{ℕ, ◌+◌, ◌-◌, ◌*◌, ◌/◌, ◌^◌, ◌<◌, ◌≤◌, nat_le, min, max, ℤ, ◌-ℤ◌, unsigned_abs, int_lt, Option, Some, None, is_none, IfSome, if◌then◌else◌}
+use Rattle.std.specs.Prelude.{ℕ, ◌+◌, ◌-◌, ◌*◌, ◌/◌, ◌^◌, ◌<◌, ◌≤◌, nat_le, min, max, ℤ, ◌-ℤ◌, unsigned_abs, int_lt, Option, Some, None, is_none, IfSome}
+use Rattle.std.specs.Prelude.{if◌then◌else◌}
 use Rattle.net_base.specs.Time.{IsMoment}
 use Rattle.tcp_control.specs.declared.round_trip.Estimate.{Estimate}
 use Rattle.tcp_control.specs.declared.round_trip.Sample.{Sample}

@@ -1,6 +1,7 @@
 //! The two endpoints of a connection, and which endpoint a socket listens on.
 ghost use Rattle.std.specs.Prelude.{◌≡◌};
-ghost use Rattle.tcp_control.specs.Endpoints.{pair_of, local_of, remote_of, addresses_in, pair_in, header_for, ip_header_len, takes_address, is_same_choice, is_same_listener, is_between, is_bare};
+ghost use Rattle.tcp_control.specs.Endpoints.{pair_of, local_of, remote_of, addresses_in, pair_in, header_for, ip_header_len, takes_address, is_same_choice};
+ghost use Rattle.tcp_control.specs.Endpoints.{is_same_listener, is_between, is_bare};
 
 use ip_wire::{
     IpAddress, IpListenEndpoint, IpProtocol, IpRepr, Ipv4Address, Ipv4Repr, Ipv6Address, Ipv6Repr,

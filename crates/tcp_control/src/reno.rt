@@ -1,7 +1,8 @@
 //! Congestion control by slow start, congestion avoidance, fast retransmit and fast recovery (RFC 5681), which
 //! a partial acknowledgement doesn't end (RFC 6582).
 ghost use Rattle.std.specs.Prelude.{◌≡◌, ◌≤◌, ℕ, true, false};
-ghost use Rattle.tcp_control.specs.Reno.{RenoValue, IsBounded, fresh, with_mss, first_window, started, growth, halved, acknowledged, partly, recovered, lost, inflated, timed_out};
+ghost use Rattle.tcp_control.specs.Reno.{RenoValue, IsBounded, fresh, with_mss, first_window, started, growth, halved, acknowledged, partly, recovered, lost};
+ghost use Rattle.tcp_control.specs.Reno.{inflated, timed_out};
 
 use std::marker::Model;
 

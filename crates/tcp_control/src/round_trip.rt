@@ -1,7 +1,8 @@
 //! The retransmission timeout (RFC 6298), in whole milliseconds.
 ghost use Rattle.std.specs.Prelude.{◌≡◌, ◌<◌, ◌≤◌, ◌^◌, ◌*◌, pos, Some};
 ghost use Rattle.net_base.specs.Time.{IsMoment};
-ghost use Rattle.tcp_control.specs.RoundTrip.{IsTimed, shortest_timeout, most_timeout, fresh, least_of, with_least, smoothed, timeout_of, measured, millis_between, advanced, timing, untimed, begun_late, backed_off};
+ghost use Rattle.tcp_control.specs.RoundTrip.{IsTimed, shortest_timeout, most_timeout, fresh, least_of, with_least, smoothed, timeout_of, measured};
+ghost use Rattle.tcp_control.specs.RoundTrip.{millis_between, advanced, timing, untimed, begun_late, backed_off};
 
 use net_base::{Duration, Instant};
 use std::marker::Model;
@@ -215,7 +216,8 @@ pub fn timeouts()
 /// ms and a minute.
 pub fn least_timeouts()
     ensures first { (with_least 200_000 fresh).timeout ≡ 1000 }
-    ensures one { measured (with_least 200_000 fresh) 100 ≡ record fresh { estimate = Some (record { smoothed = 100; variation = 50 }); timeout = 300; least = 200 } }
+    ensures one { measured (with_least 200_000 fresh) 100 ≡
+        record fresh { estimate = Some (record { smoothed = 100; variation = 50 }); timeout = 300; least = 200 } }
     ensures two { (measured (measured (with_least 200_000 fresh) 100) 100).timeout ≡ 248 }
     ensures three { (measured (measured (measured (with_least 200_000 fresh) 100) 100) 100).timeout ≡ 208 }
     ensures four { (measured (measured (measured (measured (with_least 200_000 fresh) 100) 100) 100) 100).timeout ≡ 200 }

@@ -1,6 +1,7 @@
 //! Which states a rule is for, and how they follow one another.
 ghost use Rattle.std.specs.Prelude.{◌≡◌};
-ghost use Rattle.tcp_control.specs.States.{is_closed, is_listening, is_opening, is_answering, is_time_wait, takes_writes, takes_text, sends_text, owes_fin, sends_syn, keeps_alive, after_ack, after_ack_of_fin, after_fin, after_close};
+ghost use Rattle.tcp_control.specs.States.{is_closed, is_listening, is_opening, is_answering, is_time_wait, takes_writes, takes_text, sends_text, owes_fin};
+ghost use Rattle.tcp_control.specs.States.{sends_syn, keeps_alive, after_ack, after_ack_of_fin, after_fin, after_close};
 
 use crate::State;
 

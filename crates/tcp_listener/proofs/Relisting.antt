@@ -16,7 +16,8 @@ use Rattle.tcp_listener.specs.Stages.{stage_after}
 use Rattle.tcp_listener.specs.declared.stage.Stage.{Stage}
 
 module _ (endpoint : IpListenEndpoint) where
-  listened_by : (nowhere : Bool) → (v : TcpValue) → (endpoint.port == 0) ≡ nowhere → is_closed v.block.state ≡ true → relisted endpoint (relisted endpoint v) ≡ relisted endpoint v
+  listened_by : (nowhere : Bool) → (v : TcpValue) → (endpoint.port == 0) ≡ nowhere → is_closed v.block.state ≡ true →
+      relisted endpoint (relisted endpoint v) ≡ relisted endpoint v
   listened_by nowhere v e closed = grind arith
 
   again_by : (closed : Bool) → (v : TcpValue) → is_closed v.block.state ≡ closed → relisted endpoint (relisted endpoint v) ≡ relisted endpoint v
@@ -49,7 +50,8 @@ module _ (endpoint : IpListenEndpoint) (now : ℕ) (e e' : Entry) where
   stage_of nowhere v port closed =
       let is : v.block.state ≡ In.Closed = closed_is v.block.state closed in grind arith
 
-  stage_by : (closed : Bool) → (v : TcpValue) → is_closed v.block.state ≡ closed → stage_after e.stage (relisted endpoint v).block.state ≡ stage_after e.stage v.block.state
+  stage_by : (closed : Bool) → (v : TcpValue) → is_closed v.block.state ≡ closed →
+      stage_after e.stage (relisted endpoint v).block.state ≡ stage_after e.stage v.block.state
   stage_by true v closed = stage_of (endpoint.port == 0) v refl closed
   stage_by false v isnt = grind arith
 

@@ -23,7 +23,8 @@ abbrev pub IsTouched : ℕ → IpListenEndpoint → List (SocketStorage Socket) 
 IsTouched n endpoint ps es ps' m = ((i : ℕ) × (i < n) × IsWaitingAt es i m) × (place_at ps' m ≡ relisted_place endpoint (place_at ps m))
 
 -- the first n entries were seen
-pub record NotedTo (n : ℕ) (endpoint : IpListenEndpoint) (now : ℕ) (ps : List (SocketStorage Socket)) (es : List Entry) (ps' : List (SocketStorage Socket)) (es' : List Entry) : Type 0 where
+pub record NotedTo (n : ℕ) (endpoint : IpListenEndpoint) (now : ℕ) (ps : List (SocketStorage Socket)) (es : List Entry) (ps' : List (SocketStorage Socket))
+    (es' : List Entry) : Type 0 where
   pub places : length ps' ≡ length ps
   pub entries : length es' ≡ length es
   pub each : (m : ℕ) → IsUntouched n ps es ps' m ⊎ IsTouched n endpoint ps es ps' m
@@ -43,7 +44,8 @@ noted_none endpoint now ps es = record {
   later = λ i h. refl;
 }
 
-module _ (n : ℕ) (endpoint : IpListenEndpoint) (now : ℕ) (ps : List (SocketStorage Socket)) (es : List Entry) (mid : List (SocketStorage Socket)) (ms : List Entry)
+module _ (n : ℕ) (endpoint : IpListenEndpoint) (now : ℕ) (ps : List (SocketStorage Socket)) (es : List Entry) (mid : List (SocketStorage Socket))
+    (ms : List Entry)
     (so_far : NotedTo n endpoint now ps es mid ms) (within : n < length ms) (after : List (SocketStorage Socket)) (e' : Entry) where
   here : entry_at ms n ≡ entry_at es n
   here = so_far.later n (omega arith)
@@ -86,7 +88,8 @@ module _ (n : ℕ) (endpoint : IpListenEndpoint) (now : ℕ) (ps : List (SocketS
   later_by : (i : ℕ) → n + 1 ≤ i → entry_at fs i ≡ entry_at es i
   later_by i h = off_n i (above i (omega (arith, h))) ∙ so_far.later i (omega (arith, h))
 
-  accepted_by : (is_accepted (entry_at es n).stage ≡ true → e' ≡ entry_at es n) → (i : ℕ) → is_accepted (entry_at es i).stage ≡ true → (i ≡ n) ⊎ (i ≢ n) → entry_at fs i ≡ entry_at es i
+  accepted_by : (is_accepted (entry_at es n).stage ≡ true → e' ≡ entry_at es n) → (i : ℕ) → is_accepted (entry_at es i).stage ≡ true → (i ≡ n) ⊎ (i ≢ n) →
+      entry_at fs i ≡ entry_at es i
   accepted_by stays i h (inl is) =
       subst (λ (k : ℕ). entry_at fs k ≡ entry_at es k) (sym is) (at_n ∙ stays (subst (λ (k : ℕ). is_accepted (entry_at es k).stage ≡ true) is h))
   accepted_by stays i h (inr isnt) = off_n i isnt ∙ so_far.accepted i h
@@ -115,14 +118,16 @@ module _ (n : ℕ) (endpoint : IpListenEndpoint) (now : ℕ) (ps : List (SocketS
   }
 
   -- its user's
-  none_more : (m : ℕ) → is_accepted (entry_at es n).stage ≡ true → ((i : ℕ) → i < n → IsWaitingAt es i m → ⊥) → (i : ℕ) → IsWaitingAt es i m → (i < n) ⊎ (i ≡ n) → ⊥
+  none_more : (m : ℕ) → is_accepted (entry_at es n).stage ≡ true → ((i : ℕ) → i < n → IsWaitingAt es i m → ⊥) → (i : ℕ) → IsWaitingAt es i m →
+      (i < n) ⊎ (i ≡ n) → ⊥
   none_more m is none i w (inl less) = none i less w
   none_more m is none i w (inr at) =
       let there : IsWaitingAt es n m = subst (λ (k : ℕ). IsWaitingAt es k m) at w in grind (arith, is, there.1)
 
   same_each : is_accepted (entry_at es n).stage ≡ true → after ≡ mid → (m : ℕ) → IsUntouched n ps es mid m ⊎ IsTouched n endpoint ps es mid m
       → IsUntouched (n + 1) ps es after m ⊎ IsTouched (n + 1) endpoint ps es after m
-  same_each is same m (inl (none, e)) = inl (λ i h w. none_more m is none i w (less_or_is i h), ap (λ (qs : List (SocketStorage Socket)). place_at qs m) same ∙ e)
+  same_each is same m (inl (none, e)) =
+      inl (λ i h w. none_more m is none i w (less_or_is i h), ap (λ (qs : List (SocketStorage Socket)). place_at qs m) same ∙ e)
   same_each is same m (inr ((i, less, w), e)) = inr ((i, more i less, w), ap (λ (qs : List (SocketStorage Socket)). place_at qs m) same ∙ e)
 
   for_user : is_accepted (entry_at es n).stage ≡ true → e' ≡ entry_at es n → after ≡ mid → NotedTo (n + 1) endpoint now ps es after fs
@@ -133,27 +138,32 @@ module _ (n : ℕ) (endpoint : IpListenEndpoint) (now : ℕ) (ps : List (SocketS
   abbrev at_place : ℕ
   at_place = (entry_at es n).handle.0
 
-  set_here : (m : ℕ) → (m < length mid) ⊎ (length mid ≤ m) → place_at (slice_set mid m (relisted_place endpoint (place_at mid m))) m ≡ relisted_place endpoint (place_at mid m)
+  set_here : (m : ℕ) → (m < length mid) ⊎ (length mid ≤ m) → place_at (slice_set mid m (relisted_place endpoint (place_at mid m))) m ≡
+      relisted_place endpoint (place_at mid m)
   set_here m (inl less) = get_or-set_same mid m (relisted_place endpoint (place_at mid m)) free less
   set_here m (inr past) =
       let out : place_at mid m ≡ free = get_or_past mid m free past in
-      ap (λ (qs : List (SocketStorage Socket)). place_at qs m) (set_past mid m (relisted_place endpoint (place_at mid m)) past) ∙ (out ∙ ap (relisted_place endpoint) (sym out))
+      ap (λ (qs : List (SocketStorage Socket)). place_at qs m) (set_past mid m (relisted_place endpoint (place_at mid m)) past) ∙
+      (out ∙ ap (relisted_place endpoint) (sym out))
 
   in_or_past : (m : ℕ) → (m < length mid) ⊎ (length mid ≤ m)
   in_or_past m = grind arith
 
-  module _ (waits : is_accepted (entry_at es n).stage ≡ false) (relists : after ≡ slice_set mid at_place (relisted_place endpoint (place_at mid at_place))) where
+  module _ (waits : is_accepted (entry_at es n).stage ≡ false) (relists : after ≡
+      slice_set mid at_place (relisted_place endpoint (place_at mid at_place))) where
     there : place_at after at_place ≡ relisted_place endpoint (place_at mid at_place)
     there = ap (λ (qs : List (SocketStorage Socket)). place_at qs at_place) relists ∙ set_here at_place (in_or_past at_place)
 
     elsewhere : (m : ℕ) → m ≢ at_place → place_at after m ≡ place_at mid m
     elsewhere m other =
-        ap (λ (qs : List (SocketStorage Socket)). place_at qs m) relists ∙ get_or-set_other mid at_place m (relisted_place endpoint (place_at mid at_place)) free other
+        ap (λ (qs : List (SocketStorage Socket)). place_at qs m) relists ∙
+        get_or-set_other mid at_place m (relisted_place endpoint (place_at mid at_place)) free other
 
     is_waiting : IsWaitingAt es n at_place
     is_waiting = (within_es, waits, refl)
 
-    touched : IsUntouched n ps es mid at_place ⊎ IsTouched n endpoint ps es mid at_place → place_at after at_place ≡ relisted_place endpoint (place_at ps at_place)
+    touched : IsUntouched n ps es mid at_place ⊎ IsTouched n endpoint ps es mid at_place →
+        place_at after at_place ≡ relisted_place endpoint (place_at ps at_place)
     touched (inl (none, e)) = there ∙ ap (relisted_place endpoint) e
     touched (inr (w, e)) = there ∙ (ap (relisted_place endpoint) e ∙ relisted_once endpoint (place_at ps at_place))
 
@@ -162,33 +172,40 @@ module _ (n : ℕ) (endpoint : IpListenEndpoint) (now : ℕ) (ps : List (SocketS
     none_there m other none i w (inr at) =
         let here_too : IsWaitingAt es n m = subst (λ (k : ℕ). IsWaitingAt es k m) at w in other (sym here_too.2)
 
-    off_each : (m : ℕ) → m ≢ at_place → IsUntouched n ps es mid m ⊎ IsTouched n endpoint ps es mid m → IsUntouched (n + 1) ps es after m ⊎ IsTouched (n + 1) endpoint ps es after m
+    off_each : (m : ℕ) → m ≢ at_place → IsUntouched n ps es mid m ⊎ IsTouched n endpoint ps es mid m → IsUntouched (n + 1) ps es after m ⊎
+        IsTouched (n + 1) endpoint ps es after m
     off_each m other (inl (none, e)) = inl (λ i h w. none_there m other none i w (less_or_is i h), elsewhere m other ∙ e)
     off_each m other (inr ((i, less, w), e)) = inr ((i, more i less, w), elsewhere m other ∙ e)
 
     each_by : (m : ℕ) → (m ≡ at_place) ⊎ (m ≢ at_place) → IsUntouched (n + 1) ps es after m ⊎ IsTouched (n + 1) endpoint ps es after m
     each_by m (inl is) =
-        subst (λ (k : ℕ). IsUntouched (n + 1) ps es after k ⊎ IsTouched (n + 1) endpoint ps es after k) (sym is) (inr ((n, omega arith, is_waiting), touched (so_far.each at_place)))
+        subst (λ (k : ℕ). IsUntouched (n + 1) ps es after k ⊎
+        IsTouched (n + 1) endpoint ps es after k) (sym is) (inr ((n, omega arith, is_waiting), touched (so_far.each at_place)))
     each_by m (inr other) = off_each m other (so_far.each m)
 
     last_by : IsNoted now (state_at (place_at mid at_place)) (entry_at es n) e' → IsUntouched n ps es mid at_place ⊎ IsTouched n endpoint ps es mid at_place
         → IsNoted now (state_at (place_at ps at_place)) (entry_at es n) e'
     last_by noted (inl (none, e)) = subst (λ (p : SocketStorage Socket). IsNoted now (state_at p) (entry_at es n) e') e noted
     last_by noted (inr (w, e)) =
-        noted_before endpoint now (entry_at es n) e' (place_at ps at_place) (subst (λ (p : SocketStorage Socket). IsNoted now (state_at p) (entry_at es n) e') e noted)
+        noted_before endpoint now (entry_at es n) e' (place_at ps at_place)
+        (subst (λ (p : SocketStorage Socket). IsNoted now (state_at p) (entry_at es n) e') e noted)
 
-    last_at : IsNoted now (state_at (place_at mid at_place)) (entry_at es n) e' → (m : ℕ) → IsWaitingAt es n m → IsNoted now (state_at (place_at ps m)) (entry_at es n) e'
+    last_at : IsNoted now (state_at (place_at mid at_place)) (entry_at es n) e' → (m : ℕ) → IsWaitingAt es n m →
+        IsNoted now (state_at (place_at ps m)) (entry_at es n) e'
     last_at noted m w = subst (λ (k : ℕ). IsNoted now (state_at (place_at ps k)) (entry_at es n) e') w.2 (last_by noted (so_far.each at_place))
 
-    for_none : e'.handle ≡ (entry_at es n).handle → IsNoted now (state_at (place_at mid at_place)) (entry_at es n) e' → NotedTo (n + 1) endpoint now ps es after fs
+    for_none : e'.handle ≡ (entry_at es n).handle → IsNoted now (state_at (place_at mid at_place)) (entry_at es n) e' →
+        NotedTo (n + 1) endpoint now ps es after fs
     for_none kept noted =
-        whole (ap length relists ∙ length-set mid at_place (relisted_place endpoint (place_at mid at_place))) kept (λ h. grind (arith, h, waits)) (last_at noted) (λ m. each_by m (is_or_isnt m at_place))
+        whole (ap length relists ∙ length-set mid at_place (relisted_place endpoint (place_at mid at_place))) kept (λ h. grind (arith, h, waits))
+        (last_at noted) (λ m. each_by m (is_or_isnt m at_place))
 
   handle_of : (state : Option State) → IsNoted now state (entry_at es n) e' → e'.handle ≡ (entry_at es n).handle
   handle_of None noted = ap (λ (e : Entry). e.handle) noted
   handle_of (Some state) noted = noted.0
 
-  by_stage : (b : Bool) → is_accepted (entry_at es n).stage ≡ b → NotesBy b endpoint now mid (entry_at es n) after e' → NotedTo (n + 1) endpoint now ps es after fs
+  by_stage : (b : Bool) → is_accepted (entry_at es n).stage ≡ b → NotesBy b endpoint now mid (entry_at es n) after e' →
+      NotedTo (n + 1) endpoint now ps es after fs
   by_stage true is (stays, same) = for_user is stays same
   by_stage false is (noted, relists) = for_none is relists (handle_of (state_at (place_at mid at_place)) noted) noted
 
@@ -201,12 +218,14 @@ module _ (n : ℕ) (endpoint : IpListenEndpoint) (now : ℕ) (ps : List (SocketS
   noted_step x read one =
       noted_more (subst (λ (e : Entry). NotesOne endpoint now mid e after e') (read ∙ get_or_default ms n x no_entry within) one)
 
-module _ (n : ℕ) (endpoint : IpListenEndpoint) (now : ℕ) (ps : List (SocketStorage Socket)) (es : List Entry) (qs : List (SocketStorage Socket)) (fs : List Entry)
+module _ (n : ℕ) (endpoint : IpListenEndpoint) (now : ℕ) (ps : List (SocketStorage Socket)) (es : List Entry) (qs : List (SocketStorage Socket))
+    (fs : List Entry)
     (to : NotedTo n endpoint now ps es qs fs) (long : length es ≤ n) where
   in_all : (i m : ℕ) → IsWaitingAt es i m → i < n
   in_all i m w = omega (arith, w.0, long)
 
-  listens_by : (i m : ℕ) → IsWaitingAt es i m → IsUntouched n ps es qs m ⊎ IsTouched n endpoint ps es qs m → place_at qs m ≡ relisted_place endpoint (place_at ps m)
+  listens_by : (i m : ℕ) → IsWaitingAt es i m → IsUntouched n ps es qs m ⊎ IsTouched n endpoint ps es qs m →
+      place_at qs m ≡ relisted_place endpoint (place_at ps m)
   listens_by i m w (inl (none, e)) = absurd (none i (in_all i m w) w)
   listens_by i m w (inr (_, e)) = e
 

@@ -75,7 +75,8 @@ abbrev pub IsWaitingAt : List Entry → ℕ → ℕ → Type 0
 IsWaitingAt es i n = (i < length es) × (is_accepted (entry_at es i).stage ≡ false) × ((entry_at es i).handle.0 ≡ n)
 
 -- each closed socket that isn't its user's listens again; the others stay as they are. Each entry says how far its socket came.
-pub record AreNoted (endpoint : IpListenEndpoint) (now : ℕ) (ps : List (SocketStorage Socket)) (es : List Entry) (ps' : List (SocketStorage Socket)) (es' : List Entry) : Type 0 where
+pub record AreNoted (endpoint : IpListenEndpoint) (now : ℕ) (ps : List (SocketStorage Socket)) (es : List Entry) (ps' : List (SocketStorage Socket))
+    (es' : List Entry) : Type 0 where
   pub places : length ps' ≡ length ps
   pub entries : length es' ≡ length es
   pub listens : (i n : ℕ) → IsWaitingAt es i n → place_at ps' n ≡ relisted_place endpoint (place_at ps n)

@@ -88,7 +88,8 @@ impl Listener {
 
     /// Sees how far each socket came, to be called behind each poll, at its moment.
     pub fn refresh(&mut self, set: &mut SocketSet<Socket>, now: Instant)
-        ensures refreshed { Refreshes self.old.endpoint (micros_of now) self.old.keepers.items (places set.old) self.old.entries.items (places set.new) self.new.entries.items }
+        ensures refreshed { Refreshes self.old.endpoint (micros_of now) self.old.keepers.items (places set.old) self.old.entries.items (places set.new)
+            self.new.entries.items }
         ensures endpoint { self.new.endpoint ≡ self.old.endpoint }
         ensures keepers { self.new.keepers.items ≡ self.old.keepers.items }
     {

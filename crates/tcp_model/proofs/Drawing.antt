@@ -1,5 +1,6 @@
 -- Drawn answers lie a second apart.
-use Rattle.std.proofs.Common.{◌≡◌, ℕ, ◌≤◌, ◌&&◌, ◌||◌, not, Bool, true, false, if◌then◌else◌, List, [], ◌∷◌, ◌++◌, length, nat_le, ◌==◌, Option, Some, None, is_some, ℤ, pos, ◌+ℤ◌, ◌≤ℤ◌, int_le, refl, sym, ap, ◌∙◌, subst, arith}
+use Rattle.std.proofs.Common.{◌≡◌, ℕ, ◌≤◌, ◌&&◌, ◌||◌, not, Bool, true, false, if◌then◌else◌, List, [], ◌∷◌, ◌++◌, length, nat_le, ◌==◌, Option, Some, None}
+use Rattle.std.proofs.Common.{is_some, ℤ, pos, ◌+ℤ◌, ◌≤ℤ◌, int_le, refl, sym, ap, ◌∙◌, subst, arith}
 use Rattle.std.proofs.lemmas.Bool.{cond_both}
 use Rattle.std.proofs.lemmas.Bool.Decides.{nat_tests}
 use Rattle.held_bytes.specs.Held.{runs_of}
@@ -17,22 +18,27 @@ use Rattle.tcp_control.specs.declared.offer.OfferKind.TheVariants as Kind
 use Rattle.tcp_control.specs.declared.offer.OpenOffer.{OpenOffer}
 use Rattle.tcp_control.specs.declared.state.State.{State}
 use Rattle.tcp_control.specs.declared.state.State.TheVariants as In
-use Rattle.tcp_model.specs.Acknowledged.{acknowledged, block_acknowledged, acks_fin, in_state, una_moved, state_after_ack, ended_if, names_window, windowed, duplicates_after}
+use Rattle.tcp_model.specs.Acknowledged.{acknowledged, block_acknowledged, acks_fin, in_state, una_moved, state_after_ack, ended_if, names_window, windowed}
+use Rattle.tcp_model.specs.Acknowledged.{duplicates_after}
 use Rattle.tcp_model.specs.Answers.{may_draw, with_draw, drawn, acked, answer_for}
-use Rattle.tcp_model.specs.Arrival.{arrives, arrives_in, is_void_syn, outside, tells_news, passed_outside, waiting_anew, inside, taken, told, with_content, continued, finished, checked, reset_comes, takes_reset, challenges_reset, challenges_syn}
+use Rattle.tcp_model.specs.Arrival.{arrives, arrives_in, is_void_syn, outside, tells_news, passed_outside, waiting_anew, inside, taken, told, with_content}
+use Rattle.tcp_model.specs.Arrival.{continued, finished, checked, reset_comes, takes_reset, challenges_reset, challenges_syn}
 use Rattle.tcp_model.specs.Calls.{listening, send_after, close_after}
 use Rattle.tcp_model.specs.Checks.{Check, acknowledgement_check, is_in_window, falls_back, taken_down}
 use Rattle.tcp_model.specs.Checks.Check.{Passes, Old, Drops, Draws, Resets}
-use Rattle.tcp_model.specs.Offers.{silent, offer_of, offer_with, offer_between, offer_reset, first_rules, last_rules, backed_off, offer_syn, offer_choice, offer_ack, offer_keep_alive, offer_held_back}
+use Rattle.tcp_model.specs.Offers.{silent, offer_of, offer_with, offer_between, offer_reset, first_rules, last_rules, backed_off, offer_syn, offer_choice}
+use Rattle.tcp_model.specs.Offers.{offer_ack, offer_keep_alive, offer_held_back}
 use Rattle.tcp_model.specs.Opening.{opens, takes_answer, is_first_syn, acks_syn, connected, crossed}
 use Rattle.tcp_model.specs.Pauses.{Happening, Lasts, IsOneConnection, AreApart, after, drawn_moments, is_drawing, draws_in, draws_any, draws_by, pause_of}
 use Rattle.tcp_model.specs.Pauses.Happening.{Comes, Asked, Called}
 use Rattle.tcp_model.specs.Probing.{probe_moment, probe_started}
 use Rattle.tcp_model.specs.Retries.{heard, asked, gives_up, given_up}
-use Rattle.tcp_model.specs.Rules.{owes_syn, resends, resend_choice, has_text, text_choice, ack_moment, updates_window, keep_alive_moment, probe_choice, backed_off_now, time_wait_end}
+use Rattle.tcp_model.specs.Rules.{owes_syn, resends, resend_choice, has_text, text_choice, ack_moment, updates_window, keep_alive_moment, probe_choice}
+use Rattle.tcp_model.specs.Rules.{backed_off_now, time_wait_end}
 use Rattle.tcp_model.specs.Segments.{no_ranges, segment_len, rst_reply}
 use Rattle.tcp_model.specs.Settled.{settled, sent_as, recorded, probed, end_of}
-use Rattle.tcp_model.specs.Text.{Texted, texted, with_text, with_text_at, with_bytes_at, taken_in_order, held_early, has_new_text, laid, takes_fin, with_fin, fin_taken}
+use Rattle.tcp_model.specs.Text.{Texted, texted, with_text, with_text_at, with_bytes_at, taken_in_order, held_early, has_new_text, laid, takes_fin, with_fin}
+use Rattle.tcp_model.specs.Text.{fin_taken}
 use Rattle.tcp_model.specs.Timeout.{timeout_end, timeout_started, timed_out}
 use Rattle.tcp_model.specs.Value.{TcpValue, Arrived, with_block, dropped, answered_with, unoffered, ended, queued_in, free_in, room_of}
 use Rattle.tcp_model.specs.declared.block.Block.{Block}
@@ -83,8 +89,10 @@ last_pause cx v pair =
 first_pause : (cx : ContextValue) (v : TcpValue) (pair : EndpointPair) → Leaves v.block (first_rules cx v pair)
 first_pause cx v pair =
     cond_both (owes_syn v.block) (offer_syn cx v pair) _ (Leaves v.block) (λ _. refl)
-    (λ _. cond_both (resends v.block) (offer_choice Kind.FastRetransmission cx v pair (resend_choice v.block pair.addresses cx.ip_mtu v.queued)) _ (Leaves v.block) (λ _. refl)
-    (λ _. cond_both (has_text v.block pair.addresses cx.ip_mtu v.queued) (offer_choice Kind.Text cx v pair (text_choice v.block pair.addresses cx.ip_mtu v.queued)) _ (Leaves v.block) (λ _. refl)
+    (λ _. cond_both (resends v.block) (offer_choice Kind.FastRetransmission cx v pair (resend_choice v.block pair.addresses cx.ip_mtu v.queued)) _
+    (Leaves v.block) (λ _. refl)
+    (λ _. cond_both (has_text v.block pair.addresses cx.ip_mtu v.queued)
+    (offer_choice Kind.Text cx v pair (text_choice v.block pair.addresses cx.ip_mtu v.queued)) _ (Leaves v.block) (λ _. refl)
     (λ _. last_pause cx (with_block v (probe_started cx.moment (queued_in v) v.block)) pair)))
 
 backed_off_pause : (now : ℤ) (b : Block) → (backed_off now b).timers.draws_from ≡ b.timers.draws_from
@@ -153,7 +161,8 @@ text_pause v place bytes =
     held : Kept (held_early v place (laid v place bytes))
     held = cond_both (nat_le (length (runs_of (laid v place bytes))) 4) _ (texted v 0 false None) Kept (λ _. refl) (λ _. refl)
 
-answer_pause : (cx : ContextValue) (v : TcpValue) (ip : IpRepr) (header : TcpHeader) (size : ℕ) (fills : Bool) (early : Option ℕ) → Keeps (pause_of v) (answer_for cx v ip header size fills early)
+answer_pause : (cx : ContextValue) (v : TcpValue) (ip : IpRepr) (header : TcpHeader) (size : ℕ) (fills : Bool) (early : Option ℕ) →
+    Keeps (pause_of v) (answer_for cx v ip header size fills early)
 answer_pause cx v ip header size fills None = refl
 answer_pause cx v ip header size fills (Some place) = refl
 
@@ -161,13 +170,15 @@ fin_pause : (b old : Block) (header : TcpHeader) (size advance : ℕ) (now : ℤ
 fin_pause b old header size advance now =
     cond_both (takes_fin old header size advance) (fin_taken b now) b (λ (c : Block). c.timers.draws_from ≡ b.timers.draws_from) (λ _. refl) (λ _. refl)
 
-finished_pause : (cx : ContextValue) (old : Block) (t : Texted) (ip : IpRepr) (header : TcpHeader) (size : ℕ) → Keeps (pause_of t.socket) (finished cx old t ip header size)
+finished_pause : (cx : ContextValue) (old : Block) (t : Texted) (ip : IpRepr) (header : TcpHeader) (size : ℕ) →
+    Keeps (pause_of t.socket) (finished cx old t ip header size)
 finished_pause cx old t ip header size =
     answer_pause cx _ ip header size t.fills t.early ∙ fin_pause t.socket.block old header size t.advance cx.moment
 
 acknowledged_pause : (v : TcpValue) (by : ℕ) (now : ℤ) → pause_of (acknowledged v by now) ≡ pause_of v
 acknowledged_pause v by now = either (is_closed (state_after_ack v.block by (queued_in v))) where
-  either : (ends : Bool) → (ended_if ends (in_state (una_moved v.block by (queued_in v) now) (state_after_ack v.block by (queued_in v)) now)).timers.draws_from ≡ pause_of v
+  either : (ends : Bool) →
+      (ended_if ends (in_state (una_moved v.block by (queued_in v) now) (state_after_ack v.block by (queued_in v)) now)).timers.draws_from ≡ pause_of v
   either true = refl
   either false = refl
 
@@ -241,12 +252,14 @@ module _ (cx : ContextValue) (v : TcpValue) (ip : IpRepr) (header : TcpHeader) (
   passed_outside_moves by false = outside_moves v refl
 
   passed_moves : (by : ℕ) (meets : Bool)
-      → Moves cx v (if meets then is_syn header.control else Draws_outside by (tells_news v header (length bytes))) (if meets then inside cx v ip header bytes by else passed_outside cx v ip header (length bytes) by)
+      → Moves cx v (if meets then is_syn header.control else Draws_outside by (tells_news v header (length bytes)))
+      (if meets then inside cx v ip header bytes by else passed_outside cx v ip header (length bytes) by)
   passed_moves by true = inside_moves by
   passed_moves by false = passed_outside_moves by (tells_news v header (length bytes))
 
   old_moves : (meets : Bool)
-      → Moves cx v (not meets && not (is_closed v.block.state)) (if meets then with_content cx (with_block v (heard v.block)) ip header bytes else outside cx v ip header)
+      → Moves cx v (not meets && not (is_closed v.block.state))
+      (if meets then with_content cx (with_block v (heard v.block)) ip header bytes else outside cx v ip header)
   old_moves true = undrawn cx v _ (content_pause cx (with_block v (heard v.block)) ip header bytes)
   old_moves false = outside_moves v refl
 
@@ -264,8 +277,10 @@ module _ (cx : ContextValue) (v : TcpValue) (ip : IpRepr) (header : TcpHeader) (
   reset_moves false false = undrawn cx v (dropped v) refl
 
   received_moves : (rst syn : Bool)
-      → Moves cx v (if rst then not (takes_reset v.block header) && challenges_reset v header (length bytes) else if syn then true else draws_by (acknowledgement_check v.block header.ack_number) cx v header (length bytes))
-      (if rst then reset_comes cx v ip header (length bytes) else if syn then drawn cx v ip header else checked (acknowledgement_check v.block header.ack_number) cx v ip header bytes)
+      → Moves cx v (if rst then not (takes_reset v.block header) && challenges_reset v header (length bytes) else if syn then true else draws_by
+      (acknowledgement_check v.block header.ack_number) cx v header (length bytes))
+      (if rst then reset_comes cx v ip header (length bytes) else if syn then drawn cx v ip header else checked
+      (acknowledgement_check v.block header.ack_number) cx v ip header bytes)
   received_moves true syn = reset_moves (takes_reset v.block header) (challenges_reset v header (length bytes))
   received_moves false true = drawn_moves cx v v ip header refl
   received_moves false false = checked_moves (acknowledgement_check v.block header.ack_number)
@@ -281,7 +296,8 @@ module _ (cx : ContextValue) (v : TcpValue) (ip : IpRepr) (header : TcpHeader) (
   answer_taken_pause =
       cond_both (is_rst header.control) (if acks_syn v.block.sender.una header.ack_number then dropped (ended v) else dropped v) _ (Keeps (pause_of v))
       (λ _. cond_both (acks_syn v.block.sender.una header.ack_number) (dropped (ended v)) (dropped v) (Keeps (pause_of v)) (λ _. refl) (λ _. refl))
-      (λ _. cond_both (is_some header.ack_number && not (acks_syn v.block.sender.una header.ack_number)) (answered_with v (rst_reply ip header (length bytes))) _ (Keeps (pause_of v)) (λ _. refl)
+      (λ _. cond_both (is_some header.ack_number && not (acks_syn v.block.sender.una header.ack_number)) (answered_with v (rst_reply ip header (length bytes)))
+      _ (Keeps (pause_of v)) (λ _. refl)
       (λ _. cond_both (is_syn header.control) _ (dropped v) (Keeps (pause_of v)) (λ _. syn_pause (is_some header.ack_number)) (λ _. refl)))
 
   moves_in : (state : State) → Moves cx v (draws_in state cx v header (length bytes)) (arrives_in state cx v ip header bytes)
@@ -290,12 +306,14 @@ module _ (cx : ContextValue) (v : TcpValue) (ip : IpRepr) (header : TcpHeader) (
   moves_in In.SynSent = undrawn cx v (takes_answer cx v ip header bytes) answer_taken_pause
   moves_in other = received_moves (is_rst header.control) (challenges_syn v.block header)
 
-same_draws : (cx : ContextValue) (v : TcpValue) (header : TcpHeader) (size : ℕ) (state : State) → draws_in state cx (unoffered v) header size ≡ draws_in state cx v header size
+same_draws : (cx : ContextValue) (v : TcpValue) (header : TcpHeader) (size : ℕ) (state : State) →
+    draws_in state cx (unoffered v) header size ≡ draws_in state cx v header size
 same_draws cx v header size In.Closed = refl
 same_draws cx v header size In.Listen = refl
 same_draws cx v header size In.SynSent = refl
 same_draws cx v header size other =
-    ap (λ (t : Bool). if is_rst header.control then not (takes_reset v.block header) && challenges_reset v header size else if challenges_syn v.block header then true else t)
+    ap (λ (t : Bool). if is_rst header.control then not (takes_reset v.block header) && challenges_reset v header size else if challenges_syn v.block header
+    then true else t)
     (by (acknowledgement_check v.block header.ack_number))
   where
     by : (check : Check) → draws_by check cx (unoffered v) header size ≡ draws_by check cx v header size
@@ -306,10 +324,12 @@ same_draws cx v header size other =
     by Resets = refl
 
 moves_by : (cx : ContextValue) (v : TcpValue) (ip : IpRepr) (header : TcpHeader) (bytes : List ℕ) (void : Bool)
-    → Moves cx (unoffered v) (not void && draws_in v.block.state cx v header (length bytes)) (if void then dropped (unoffered v) else arrives_in v.block.state cx (unoffered v) ip header bytes)
+    → Moves cx (unoffered v) (not void && draws_in v.block.state cx v header (length bytes))
+    (if void then dropped (unoffered v) else arrives_in v.block.state cx (unoffered v) ip header bytes)
 moves_by cx v ip header bytes true = undrawn cx (unoffered v) (dropped (unoffered v)) refl
 moves_by cx v ip header bytes false =
-    subst (λ (draws : Bool). Moves cx (unoffered v) draws (arrives_in v.block.state cx (unoffered v) ip header bytes)) (same_draws cx v header (length bytes) v.block.state)
+    subst (λ (draws : Bool). Moves cx (unoffered v) draws (arrives_in v.block.state cx (unoffered v) ip header bytes))
+    (same_draws cx v header (length bytes) v.block.state)
     (moves_in cx (unoffered v) ip header bytes v.block.state)
 
 moves : (cx : ContextValue) (v : TcpValue) (ip : IpRepr) (header : TcpHeader) (bytes : List ℕ)
@@ -328,9 +348,10 @@ pause_begins cx v ip header bytes e answered = (moves cx v ip header bytes).paus
 
 -- nothing that has length meets it
 pub nothing_meets : (b : Block) (header : TcpHeader) (size : ℕ) → 1 ≤ segment_len header size → is_in_window b 0 header size ≡ false
-nothing_meets b header size long = closed_window (segment_len header size) (before_by b.receiver.next header.seq_number) (past_by b.receiver.next header.seq_number) long where
-  closed_window : (n before past : ℕ) → 1 ≤ n → meets_window before past n 0 ≡ false
-  closed_window n before past h = grind (arith, nat_tests, h)
+nothing_meets b header size long =
+    closed_window (segment_len header size) (before_by b.receiver.next header.seq_number) (past_by b.receiver.next header.seq_number) long where
+      closed_window : (n before past : ℕ) → 1 ≤ n → meets_window before past n 0 ≡ false
+      closed_window n before past h = grind (arith, nat_tests, h)
 
 -- text is taken before LAST-ACK
 stays_open : (state : State) (ends : Bool) → takes_text state ≡ true → is_closed (if ends then after_ack_of_fin state else after_ack state) ≡ false
@@ -366,7 +387,8 @@ closed_draws cx v header bytes by takes closed long no_reset sized passes =
     out : is_in_window v.block (free_in v) header (length bytes) ≡ false
     out = ap (λ (space : ℕ). is_in_window v.block space header (length bytes)) closed ∙ nothing_meets v.block header (length bytes) long
 
-    either : (tells : Bool) → (if tells then not (is_closed (block_acknowledged v.block by (queued_in v) cx.moment).state) else not (is_closed v.block.state)) ≡ true
+    either : (tells : Bool) →
+        (if tells then not (is_closed (block_acknowledged v.block by (queued_in v) cx.moment).state) else not (is_closed v.block.state)) ≡ true
     either true = ap not (acknowledged_open v.block by (queued_in v) cx.moment takes)
     either false = ap not (is_open v.block.state takes)
 

@@ -1,5 +1,6 @@
 -- An offer that does nothing comes before the due moment.
-use Rattle.std.proofs.Common.{◌≡◌, Bool, true, false, ◌||◌, ◌&&◌, ◌==◌, is_none, if◌then◌else◌, ℤ, ◌<ℤ◌, int_lt, int_le, Option, Some, None, List, [], ◌∷◌, refl, sym, ap, ◌∙◌, subst, arith}
+use Rattle.std.proofs.Common.{◌≡◌, Bool, true, false, ◌||◌, ◌&&◌, ◌==◌, is_none, if◌then◌else◌, ℤ, ◌<ℤ◌, int_lt, int_le, Option, Some, None, List, [], ◌∷◌}
+use Rattle.std.proofs.Common.{refl, sym, ap, ◌∙◌, subst, arith}
 use Rattle.std.proofs.lemmas.Bool.{cond_both}
 use Rattle.socket_base.specs.Offers.{IsBefore, Offered, offered_as}
 use Rattle.socket_base.specs.Context.{ContextValue}
@@ -11,11 +12,13 @@ use Rattle.tcp_control.specs.declared.endpoints.EndpointPair.{EndpointPair}
 use Rattle.tcp_control.specs.declared.offer.OfferKind.TheVariants as Kind
 use Rattle.tcp_model.specs.Due.{wishes, moments, any, earlier_of, earliest, at_moment, poll_open, poll_between, poll_with, poll_of}
 use Rattle.tcp_control.specs.Moments.{is_due, timeout_from}
-use Rattle.tcp_model.specs.Offers.{silent, offer_syn, offer_choice, offer_ack, offer_keep_alive, offer_held_back, offer_reset, first_rules, last_rules, backed_off, offer_between, offer_with, offer_of}
+use Rattle.tcp_model.specs.Offers.{silent, offer_syn, offer_choice, offer_ack, offer_keep_alive, offer_held_back, offer_reset, first_rules, last_rules}
+use Rattle.tcp_model.specs.Offers.{backed_off, offer_between, offer_with, offer_of}
 use Rattle.tcp_model.specs.Probing.{probe_started, probe_moment, is_probe_unset, is_probing}
 use Rattle.tcp_model.specs.Quiet.{IsQuiet, AreLater}
 use Rattle.tcp_model.specs.Retries.{gives_up, given_up}
-use Rattle.tcp_model.specs.Rules.{time_wait_end, owes_syn, resends, ack_moment, has_text, text_choice, resend_choice, probe_choice, updates_window, keep_alive_moment, backed_off_now}
+use Rattle.tcp_model.specs.Rules.{time_wait_end, owes_syn, resends, ack_moment, has_text, text_choice, resend_choice, probe_choice, updates_window}
+use Rattle.tcp_model.specs.Rules.{keep_alive_moment, backed_off_now}
 use Rattle.tcp_model.specs.Settled.{settled}
 use Rattle.tcp_control.specs.States.{is_closed}
 use Rattle.tcp_model.specs.Timeout.{timeout_end, timeout_started, timeout_runs, is_timeout_unset, with_timeout_since, timed_out}
@@ -130,7 +133,8 @@ module _ (cx : ContextValue) (pair : EndpointPair) (v : TcpValue) where
 
   since_kept : retried.timers.timeout_since ≡ started.timers.timeout_since
   since_kept =
-      cond_both (is_due cx.moment started.timers.retransmit_at) (backed_off_now started) started (λ (b : Block). b.timers.timeout_since ≡ started.timers.timeout_since)
+      cond_both (is_due cx.moment started.timers.retransmit_at) (backed_off_now started) started (λ (b : Block). b.timers.timeout_since ≡
+      started.timers.timeout_since)
       (λ _. refl)
       (λ _. refl)
 
@@ -192,7 +196,8 @@ neither : (a b : Bool) → a ≡ false → b ≡ false → (a || b) ≡ false
 neither true b e f = absurd (cc)
 neither false b e f = f
 
-both_before : (now : ℤ) (moment other : Option ℤ) → is_due now moment ≡ false → IsBefore now (at_moment other) → IsBefore now (at_moment (earlier_of moment other))
+both_before : (now : ℤ) (moment other : Option ℤ) → is_due now moment ≡ false → IsBefore now (at_moment other) →
+    IsBefore now (at_moment (earlier_of moment other))
 both_before now None other e h = h
 both_before now (Some m) None e h = later now m e where
   later : (now m : ℤ) → int_le m now ≡ false → now <ℤ m
@@ -212,19 +217,24 @@ all_before now (m ∷ ms) later = both_before now m (earliest ms) later.0 (all_b
 quiet_before : (cx : ContextValue) (v : TcpValue) (pair : EndpointPair) → IsQuiet cx v pair → IsBefore cx.moment (poll_open cx.ip_mtu v pair)
 quiet_before cx v pair q =
     let none : any (wishes v.block pair.addresses cx.ip_mtu v.queued (queued_in v) (room_of v.received) (free_in v)) ≡ false =
-    neither _ _ q.syn (neither _ _ q.third_duplicate (neither _ _ q.text (neither _ _ q.window_update (neither _ _ q.timeout_set (neither _ _ q.probe_set refl))))) in
+    neither _ _ q.syn (neither _ _ q.third_duplicate
+    (neither _ _ q.text (neither _ _ q.window_update (neither _ _ q.timeout_set (neither _ _ q.probe_set refl))))) in
     let later : AreLater cx.moment (moments v.block (queued_in v)) = (q.time_wait, (q.timeout, (q.retransmission, (q.probe, (q.ack, (q.keep_alive, tt)))))) in
     subst (λ (at : PollAt). IsBefore cx.moment at)
-    (sym (if_not (any (wishes v.block pair.addresses cx.ip_mtu v.queued (queued_in v) (room_of v.received) (free_in v))) At.Now (at_moment (earliest (moments v.block (queued_in v)))) none))
+    (sym (if_not (any (wishes v.block pair.addresses cx.ip_mtu v.queued (queued_in v) (room_of v.received) (free_in v))) At.Now
+    (at_moment (earliest (moments v.block (queued_in v)))) none))
     (all_before cx.moment (moments v.block (queued_in v)) later)
 
-idle_closed : (cx : ContextValue) (v : TcpValue) (pair : EndpointPair) → IsSilent (if v.block.sender.reset_due then offer_reset cx v pair else silent false v) v → IsBefore cx.moment (if v.block.sender.reset_due then At.Now else At.Ingress)
+idle_closed : (cx : ContextValue) (v : TcpValue) (pair : EndpointPair) →
+    IsSilent (if v.block.sender.reset_due then offer_reset cx v pair else silent false v) v →
+    IsBefore cx.moment (if v.block.sender.reset_due then At.Now else At.Ingress)
 idle_closed cx v pair = by v.block.sender.reset_due where
   by : (due : Bool) → IsSilent (if due then offer_reset cx v pair else silent false v) v → IsBefore cx.moment (if due then At.Now else At.Ingress)
   by true e = packet v (offer_reset cx v pair).socket e
   by false e = tt
 
-idle_between : (cx : ContextValue) (v : TcpValue) (pair : EndpointPair) → IsSilent (offer_between cx v pair) v → IsBefore cx.moment (poll_between cx.ip_mtu v pair)
+idle_between : (cx : ContextValue) (v : TcpValue) (pair : EndpointPair) → IsSilent (offer_between cx v pair) v →
+    IsBefore cx.moment (poll_between cx.ip_mtu v pair)
 idle_between cx v pair =
     cond_both (is_due cx.moment (time_wait_end v.block)) (silent true (ended v))
     (if is_due cx.moment (timeout_end v.block (queued_in v)) then silent true (with_block v (timed_out v.block))
@@ -244,16 +254,19 @@ idle_between cx v pair =
   where
     by :
         is_due cx.moment (time_wait_end v.block) ≡ false → is_due cx.moment (timeout_end v.block (queued_in v)) ≡ false → (closed : Bool)
-        → IsSilent (if closed then (if v.block.sender.reset_due then offer_reset cx v pair else silent false v) else if gives_up cx.moment v.block (queued_in v) then silent true (given_up v) else first_rules cx (with_block v (retried cx pair v)) pair) v
+        → IsSilent (if closed then (if v.block.sender.reset_due then offer_reset cx v pair else silent false v) else if gives_up cx.moment v.block (queued_in v)
+        then silent true (given_up v) else first_rules cx (with_block v (retried cx pair v)) pair) v
         → IsBefore cx.moment (if closed then (if v.block.sender.reset_due then At.Now else At.Ingress) else poll_open cx.ip_mtu v pair)
     by no_end no_timeout true e = idle_closed cx v pair e
     by no_end no_timeout false e = still (gives_up cx.moment v.block (queued_in v)) e where
-      still : (ends : Bool) → IsSilent (if ends then silent true (given_up v) else first_rules cx (with_block v (retried cx pair v)) pair) v → IsBefore cx.moment (poll_open cx.ip_mtu v pair)
+      still : (ends : Bool) → IsSilent (if ends then silent true (given_up v) else first_rules cx (with_block v (retried cx pair v)) pair) v →
+          IsBefore cx.moment (poll_open cx.ip_mtu v pair)
       still true told_so = absurd (told v (given_up v) told_so)
       still false silence =
           quiet_before cx v pair (quiet cx pair v no_end no_timeout (idle_first cx pair v (with_block v (retried cx pair v)) silence))
 
-idle_with : (names : Option EndpointPair) (cx : ContextValue) (v : TcpValue) → IsSilent (offer_with names cx v) v → IsBefore cx.moment (poll_with names cx.ip_mtu v)
+idle_with : (names : Option EndpointPair) (cx : ContextValue) (v : TcpValue) → IsSilent (offer_with names cx v) v →
+    IsBefore cx.moment (poll_with names cx.ip_mtu v)
 idle_with None cx v e = tt
 idle_with (Some pair) cx v e = idle_between cx v pair e
 

@@ -1,5 +1,6 @@
 -- The reset that a socket owes.
-use Rattle.std.proofs.Common.{◌≡◌, ℕ, ◌&&◌, ◌||◌, not, Bool, true, false, if◌then◌else◌, List, Option, Some, None, IfSome, is_some, ℤ, refl, sym, ap, ◌∙◌, subst}
+use Rattle.std.proofs.Common.{◌≡◌, ℕ, ◌&&◌, ◌||◌, not, Bool, true, false, if◌then◌else◌, List, Option, Some, None, IfSome, is_some, ℤ, refl, sym, ap, ◌∙◌}
+use Rattle.std.proofs.Common.{subst}
 use Rattle.std.proofs.lemmas.Bool.{cond_both}
 use Rattle.ip_wire.specs.IpRepr.{IpRepr}
 use Rattle.ip_wire.specs.TcpHeader.{TcpHeader}
@@ -133,7 +134,8 @@ arrival_waits cx v pair ip header bytes owes =
 
 pub close_waits : (v : TcpValue) (pair : EndpointPair) → OwesReset v pair → OwesReset (close_after v) pair
 close_waits v pair owes =
-    subst (λ (state : State). OwesReset (if is_opening state then ended (unoffered v) else with_block (unoffered v) (record v.block { state = after_close state })) pair)
+    subst (λ (state : State).
+    OwesReset (if is_opening state then ended (unoffered v) else with_block (unoffered v) (record v.block { state = after_close state })) pair)
     (sym owes.state)
     (record { state = refl; endpoints = owes.endpoints; due = owes.due })
 

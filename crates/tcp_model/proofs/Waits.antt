@@ -1,5 +1,6 @@
 -- Before the due moment no rule applies.
-use Rattle.std.proofs.Common.{◌≡◌, ℕ, ◌+◌, Bool, true, false, ◌||◌, ◌&&◌, not, is_some, if◌then◌else◌, ℤ, ◌<ℤ◌, int_lt, int_le, Option, Some, None, List, [], ◌∷◌, refl, sym, ap, ◌∙◌, subst, arith}
+use Rattle.std.proofs.Common.{◌≡◌, ℕ, ◌+◌, Bool, true, false, ◌||◌, ◌&&◌, not, is_some, if◌then◌else◌, ℤ, ◌<ℤ◌, int_lt, int_le, Option, Some, None, List, []}
+use Rattle.std.proofs.Common.{◌∷◌, refl, sym, ap, ◌∙◌, subst, arith}
 use Rattle.socket_base.specs.Offers.{IsBefore, Offered, offered_as}
 use Rattle.socket_base.specs.Context.{ContextValue}
 use Rattle.socket_base.specs.declared.offer.Offer.TheVariants as Answer
@@ -30,7 +31,8 @@ both_later now a b h = by (int_lt b a) refl where
   by true e = let below = subst (λ (t : Bool). now <ℤ (if t then b else a)) e h in (grind (arith), below)
   by false e = let below = subst (λ (t : Bool). now <ℤ (if t then b else a)) e h in (below, grind (arith))
 
-first_later : (now : ℤ) (moment other : Option ℤ) → IsBefore now (at_moment (earlier_of moment other)) → (is_due now moment ≡ false) × IsBefore now (at_moment other)
+first_later : (now : ℤ) (moment other : Option ℤ) → IsBefore now (at_moment (earlier_of moment other)) → (is_due now moment ≡ false) ×
+    IsBefore now (at_moment other)
 first_later now None other h = (refl, h)
 first_later now (Some m) None h = (not_due now m h, tt)
 first_later now (Some m) (Some o) h = let both = both_later now m o h in (not_due now m both.0, both.1)
@@ -43,14 +45,16 @@ no_first : (a b : Bool) → (a || b) ≡ false → (a ≡ false) × (b ≡ false
 no_first true b e = absurd (cc)
 no_first false b e = (refl, e)
 
-not_now : (now : ℤ) (wish : Bool) (moment : Option ℤ) → IsBefore now (if wish then At.Now else at_moment moment) → (wish ≡ false) × IsBefore now (at_moment moment)
+not_now : (now : ℤ) (wish : Bool) (moment : Option ℤ) → IsBefore now (if wish then At.Now else at_moment moment) → (wish ≡ false) ×
+    IsBefore now (at_moment moment)
 not_now now true moment h = absurd h
 not_now now false moment h = (refl, h)
 
 -- what the answer of an open socket says of each rule
 pub is_quiet : (cx : ContextValue) (v : TcpValue) (pair : EndpointPair) → IsBefore cx.moment (poll_open cx.ip_mtu v pair) → IsQuiet cx v pair
 is_quiet cx v pair h =
-    let waits = not_now cx.moment (any (wishes v.block pair.addresses cx.ip_mtu v.queued (queued_in v) (room_of v.received) (free_in v))) (earliest (moments v.block (queued_in v))) h in
+    let waits = not_now cx.moment (any (wishes v.block pair.addresses cx.ip_mtu v.queued (queued_in v) (room_of v.received) (free_in v)))
+    (earliest (moments v.block (queued_in v))) h in
     let w1 = no_first _ _ waits.0 in
     let w2 = no_first _ _ w1.1 in
     let w3 = no_first _ _ w2.1 in
@@ -89,8 +93,10 @@ quiet_first cx v pair q =
     if_not _ _ _ q.syn ∙ (if_not _ _ _ q.third_duplicate ∙ (if_not _ _ _ q.text
     ∙ (ap (λ (b : Block). last_rules cx (with_block v b) pair) (no_probe_set cx v pair q) ∙ quiet_last cx v pair q)))
 
-no_moment_set : (cx : ContextValue) (v : TcpValue) (pair : EndpointPair) → IsQuiet cx v pair → backed_off cx.moment (timeout_started cx.moment (queued_in v) v.block) ≡ v.block
-no_moment_set cx v pair q = ap (λ (unset : Bool). backed_off cx.moment (with_timeout_since v.block (if unset then Some cx.moment else v.block.timers.timeout_since))) q.timeout_set
+no_moment_set : (cx : ContextValue) (v : TcpValue) (pair : EndpointPair) → IsQuiet cx v pair →
+    backed_off cx.moment (timeout_started cx.moment (queued_in v) v.block) ≡ v.block
+no_moment_set cx v pair q =
+    ap (λ (unset : Bool). backed_off cx.moment (with_timeout_since v.block (if unset then Some cx.moment else v.block.timers.timeout_since))) q.timeout_set
     ∙ if_not _ _ _ q.retransmission
 
 neither : (a b : Bool) → a ≡ false → b ≡ false → (a || b) ≡ false
@@ -107,7 +113,8 @@ no_end cx v pair q =
     (not_both (is_due cx.moment v.block.timers.retransmit_at) (reaches (retries_of v.block) (v.block.sender.timeouts + 1)) q.retransmission)
     (not_both _ _ (neither (is_due cx.moment (probe_moment v.block (queued_in v))) (is_due cx.moment (keep_alive_moment v.block)) q.probe q.keep_alive))
 
-quiet_open : (cx : ContextValue) (v : TcpValue) (pair : EndpointPair) → is_closed v.block.state ≡ false → IsQuiet cx v pair → offer_between cx v pair ≡ silent false v
+quiet_open : (cx : ContextValue) (v : TcpValue) (pair : EndpointPair) → is_closed v.block.state ≡ false → IsQuiet cx v pair →
+    offer_between cx v pair ≡ silent false v
 quiet_open cx v pair e q =
     if_not _ _ _ q.time_wait ∙ (if_not _ _ _ q.timeout ∙ (if_not _ _ _ e ∙ (if_not _ _ _ (no_end cx v pair q)
     ∙ (ap (λ (b : Block). first_rules cx (with_block v b) pair) (no_moment_set cx v pair q) ∙ quiet_first cx v pair q))))
@@ -136,17 +143,22 @@ no_reset now false h = refl
 if_so : {A : Type 0} (t : Bool) (x y : A) → t ≡ true → (if t then x else y) ≡ x
 if_so t x y e = ap (λ (test : Bool). if test then x else y) e
 
-quiet_closed : (cx : ContextValue) (v : TcpValue) (pair : EndpointPair) → is_closed v.block.state ≡ true → v.block.sender.reset_due ≡ false → offer_between cx v pair ≡ silent false v
+quiet_closed : (cx : ContextValue) (v : TcpValue) (pair : EndpointPair) → is_closed v.block.state ≡ true → v.block.sender.reset_due ≡ false →
+    offer_between cx v pair ≡ silent false v
 quiet_closed cx v pair e none =
     if_not _ _ _ (no_time_wait cx.moment v.block e) ∙ (if_not _ _ _ (no_timeout cx.moment v.block (queued_in v) e) ∙ (if_so _ _ _ e ∙ if_not _ _ _ none))
 
-quiet_between : (cx : ContextValue) (v : TcpValue) (pair : EndpointPair) → IsBefore cx.moment (poll_between cx.ip_mtu v pair) → offer_between cx v pair ≡ silent false v
+quiet_between : (cx : ContextValue) (v : TcpValue) (pair : EndpointPair) → IsBefore cx.moment (poll_between cx.ip_mtu v pair) →
+    offer_between cx v pair ≡ silent false v
 quiet_between cx v pair h = by (is_closed v.block.state) refl h where
-  by : (closed : Bool) → is_closed v.block.state ≡ closed → IsBefore cx.moment (if closed then (if v.block.sender.reset_due then At.Now else At.Ingress) else poll_open cx.ip_mtu v pair) → offer_between cx v pair ≡ silent false v
+  by : (closed : Bool) → is_closed v.block.state ≡ closed →
+      IsBefore cx.moment (if closed then (if v.block.sender.reset_due then At.Now else At.Ingress) else poll_open cx.ip_mtu v pair) →
+      offer_between cx v pair ≡ silent false v
   by true e before = quiet_closed cx v pair e (no_reset cx.moment v.block.sender.reset_due before)
   by false e before = quiet_open cx v pair e (is_quiet cx v pair before)
 
-quiet_with : (pair : Option EndpointPair) (cx : ContextValue) (v : TcpValue) → IsBefore cx.moment (poll_with pair cx.ip_mtu v) → offer_with pair cx v ≡ silent false v
+quiet_with : (pair : Option EndpointPair) (cx : ContextValue) (v : TcpValue) → IsBefore cx.moment (poll_with pair cx.ip_mtu v) →
+    offer_with pair cx v ≡ silent false v
 quiet_with None cx v h = refl
 quiet_with (Some pair) cx v h = quiet_between cx v pair h
 
@@ -158,6 +170,7 @@ pub silence : (cx : ContextValue) (v : TcpValue) → IsBefore cx.moment (poll_of
 silence cx v h =
     quiet_with v.block.names.pair cx (unoffered v) (subst (λ (at : PollAt). IsBefore cx.moment at) (sym (same_poll v.block.names.pair cx.ip_mtu v)) h)
 
-pub silence_stays : (cx : ContextValue) (v : TcpValue) → IsBefore cx.moment (poll_of cx.ip_mtu v) → poll_of cx.ip_mtu (offer_of cx v).socket ≡ poll_of cx.ip_mtu v
+pub silence_stays : (cx : ContextValue) (v : TcpValue) → IsBefore cx.moment (poll_of cx.ip_mtu v) →
+    poll_of cx.ip_mtu (offer_of cx v).socket ≡ poll_of cx.ip_mtu v
 silence_stays cx v h =
     ap (λ (o : Offered TcpValue). poll_of cx.ip_mtu o.socket) (silence cx v h) ∙ same_poll v.block.names.pair cx.ip_mtu v

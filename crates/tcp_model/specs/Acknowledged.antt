@@ -1,6 +1,7 @@
 -- The acknowledgement and the window of an accepted segment (RFC 9293, 3.10.7.4, fifth): SND.UNA rises by so much, and so many
 -- bytes are queued before that.
-use Rattle.std.specs.Prelude.{ℕ, ◌+◌, ◌-◌, ◌*◌, ◌^◌, ◌==◌, nat_lt, not, ◌&&◌, ◌||◌, min, max, ℤ, Bool, true, false, if◌then◌else◌, List, [], ◌∷◌, Option, Some, None}
+use Rattle.std.specs.Prelude.{ℕ, ◌+◌, ◌-◌, ◌*◌, ◌^◌, ◌==◌, nat_lt, not, ◌&&◌, ◌||◌, min, max, ℤ, Bool, true, false, if◌then◌else◌, List, [], ◌∷◌, Option, Some}
+use Rattle.std.specs.Prelude.{None}
 use Rattle.ip_wire.specs.SeqNumber.{SeqNumber}
 use Rattle.ip_wire.specs.Options.{capped}
 use Rattle.ip_wire.specs.TcpHeader.{TcpHeader}
@@ -104,7 +105,10 @@ abbrev pub in_state : Block → State → ℤ → Block
 in_state b state now =
     record b {
       state = state;
-      timers = record b.timers { time_wait_ends = if is_time_wait state && not (is_time_wait b.state) then Some (time_wait_from now) else b.timers.time_wait_ends };
+      timers = record b.timers {
+        time_wait_ends =
+            if is_time_wait state && not (is_time_wait b.state) then Some (time_wait_from now) else b.timers.time_wait_ends;
+      };
     }
 
 -- the end of LAST-ACK

@@ -1,5 +1,6 @@
 -- What answers a segment, and which acknowledgement becomes due (RFC 9293, 3.8.6.3 and 3.10.7.4; RFC 5961, 5; RFC 2018).
-use Rattle.std.specs.Prelude.{ℕ, ◌*◌, ◌^◌, ◌==◌, nat_le, nat_lt, not, ◌&&◌, ◌||◌, ℤ, Bool, true, false, if◌then◌else◌, List, [], ◌∷◌, map, filter, reverse, Option, Some, None}
+use Rattle.std.specs.Prelude.{ℕ, ◌*◌, ◌^◌, ◌==◌, nat_le, nat_lt, not, ◌&&◌, ◌||◌, ℤ, Bool, true, false, if◌then◌else◌, List, [], ◌∷◌, map, filter, reverse}
+use Rattle.std.specs.Prelude.{Option, Some, None}
 use Rattle.held_bytes.specs.Held.{runs_of}
 use Rattle.ip_wire.specs.IpRepr.{IpRepr}
 use Rattle.ip_wire.specs.SeqNumber.{SeqNumber}

@@ -56,7 +56,18 @@ fresh_receiver = record { next = no_number; took_syn = false; took_fin = false; 
 
 -- the largest payload is 536 bytes where the remote names none (3.7.1)
 abbrev pub fresh_peer : Peer
-fresh_peer = record { window = 0; largest_window = 0; window_seq = no_number; window_ack = no_number; mss = 536; scale = None; sack = false; timestamps = false; recent = 0 }
+fresh_peer = record {
+  window = 0;
+  largest_window = 0;
+  window_seq = no_number;
+  window_ack = no_number;
+  mss = 536;
+  scale = None;
+  sack = false;
+  timestamps =
+      false;
+  recent = 0;
+}
 
 abbrev pub fresh_timers : Timers
 fresh_timers = record {

@@ -1,6 +1,7 @@
 -- The calls of a user (RFC 9293, 3.9.1 and 3.10.1 to 3.10.5): what each answers and leaves. Each of them first settles an open
 -- offer as not sent.
-use Rattle.std.specs.Prelude.{ℕ, ◌+◌, ◌%◌, ◌==◌, not, ◌&&◌, ◌||◌, min, Bool, true, false, if◌then◌else◌, List, ◌++◌, length, take, drop, Option, Some, None, is_some, Result, Ok, Err, is_ok}
+use Rattle.std.specs.Prelude.{ℕ, ◌+◌, ◌%◌, ◌==◌, not, ◌&&◌, ◌||◌, min, Bool, true, false, if◌then◌else◌, List, ◌++◌, length, take, drop, Option, Some, None}
+use Rattle.std.specs.Prelude.{is_some, Result, Ok, Err, is_ok}
 use Rattle.net_base.specs.RandomWords.{word}
 use Rattle.net_base.specs.Ring.{Ring, anchored, enqueued}
 use Rattle.ip_wire.specs.IpAddress.{IpAddress}

@@ -1,6 +1,7 @@
 -- What a socket offers: a test for each rule, and what the rules for text may send. `queued` is the length of the send queue,
 -- and `unbroken` says how many of its bytes from a place on lie before the end of the storage.
-use Rattle.std.specs.Prelude.{ℕ, ◌+◌, ◌-◌, ◌*◌, ◌/◌, ◌==◌, nat_lt, nat_le, not, ◌&&◌, ◌||◌, min, max, ℤ, Bool, false, if◌then◌else◌, length, Option, None, is_some}
+use Rattle.std.specs.Prelude.{ℕ, ◌+◌, ◌-◌, ◌*◌, ◌/◌, ◌==◌, nat_lt, nat_le, not, ◌&&◌, ◌||◌, min, max, ℤ, Bool, false, if◌then◌else◌, length, Option, None}
+use Rattle.std.specs.Prelude.{is_some}
 use Rattle.net_base.specs.Ring.{Ring, until_end}
 use Rattle.ip_wire.specs.TcpControl.{TcpControl}
 use Rattle.ip_wire.specs.TcpControl.TheVariants as Control
@@ -99,7 +100,8 @@ is_sendable b queued limit c =
 -- bytes or a FIN are to go from SND.NXT, and what may go is worth it
 abbrev pub sends_choice : Block → ℕ → ℕ → Choice → Bool
 sends_choice b queued limit c =
-    sends_text b.state && (nat_le (one_if b.sender.syn_unacked) b.sender.in_flight && (nat_lt b.sender.in_flight (unacked b queued) && is_sendable b queued limit c))
+    sends_text b.state && (nat_le (one_if b.sender.syn_unacked) b.sender.in_flight &&
+    (nat_lt b.sender.in_flight (unacked b queued) && is_sendable b queued limit c))
 
 abbrev pub has_text : Block → AddressPair → ℕ → Ring ℕ → Bool
 has_text b addresses ip_mtu queued =

@@ -46,7 +46,12 @@ nxt_moved b end now = record b {
 -- the retransmission timer runs from now, if it doesn't yet (RFC 6298, 5.1)
 abbrev pub timer_started : Block → ℤ → Block
 timer_started b now =
-    record b { timers = record b.timers { retransmit_at = if is_some b.timers.retransmit_at then b.timers.retransmit_at else Some (timeout_from now b.round_trip) } }
+    record b {
+      timers = record b.timers {
+        retransmit_at =
+            if is_some b.timers.retransmit_at then b.timers.retransmit_at else Some (timeout_from now b.round_trip);
+      };
+    }
 
 -- a segment from the send queue, or a SYN, went
 abbrev pub went : Block → OpenOffer → ℕ → Block

@@ -80,7 +80,10 @@ takes_fin old header size advance = is_fin header.control && (takes_text old.sta
 
 abbrev pub fin_taken : Block → ℤ → Block
 fin_taken b now =
-    record (in_state b (after_fin b.state) now) { receiver = record b.receiver { next = behind_by b.receiver.next 1; took_fin = true; edge = b.receiver.edge - 1 } }
+    record (in_state b (after_fin b.state) now) {
+      receiver =
+          record b.receiver { next = behind_by b.receiver.next 1; took_fin = true; edge = b.receiver.edge - 1 };
+    }
 
 -- `old` is the block before the segment's text was taken
 abbrev pub with_fin : Block → Block → TcpHeader → ℕ → ℕ → ℤ → Block

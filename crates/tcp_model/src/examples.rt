@@ -6,7 +6,8 @@ ghost use Rattle.tcp_control.specs.declared.offer.OfferKind.TheVariants as Kind;
 ghost use Rattle.tcp_control.specs.declared.state.State.TheVariants as In;
 ghost use Rattle.tcp_model.specs.Due.{poll_of};
 ghost use Rattle.tcp_model.specs.Examples.{caller_a, sends};
-ghost use Rattle.tcp_model.specs.Runs.{handshake, syns_crossed, crossed, early, three_early, repaired, kind_at, ranges_in, filled, blocked, waits_to_probe, probe_comes, probed, relieved, closed};
+ghost use Rattle.tcp_model.specs.Runs.{handshake, syns_crossed, crossed, early, three_early, repaired, kind_at, ranges_in, filled, blocked, waits_to_probe};
+ghost use Rattle.tcp_model.specs.Runs.{probe_comes, probed, relieved, closed};
 
 /// The three segments of a handshake, and two sockets that connect to each other at once.
 pub fn connections_open()

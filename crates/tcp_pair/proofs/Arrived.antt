@@ -27,7 +27,8 @@ drawn_if : (t : Bool) (k : PairContextValue) → (if t then drawn k else k) ≡ 
 drawn_if true k = refl
 drawn_if false k = refl
 
-module _ (k : PairContextValue) (v : TcpValue) (sent : List SentSegment) (opened : Bool) (accepted : ℕ) (x : SentSegment) (header : TcpHeader) (bytes : List ℕ) (same_header : header ≡ x.segment) (same_bytes : bytes ≡ x.bytes) where
+module _ (k : PairContextValue) (v : TcpValue) (sent : List SentSegment) (opened : Bool) (accepted : ℕ) (x : SentSegment) (header : TcpHeader) (bytes : List ℕ)
+    (same_header : header ≡ x.segment) (same_bytes : bytes ≡ x.bytes) where
   abbrev found : Arrived
   found = arrives (context_of k) v x.header header bytes
 
@@ -38,24 +39,32 @@ module _ (k : PairContextValue) (v : TcpValue) (sent : List SentSegment) (opened
   same = cc
 
   pub came :
-      (test : Bool) (v' : TcpValue) (k' : PairContextValue) (sent' : List SentSegment) → test ≡ accepts v.block x.header header → test ≡ true → v' ≡ found.socket
+      (test : Bool) (v' : TcpValue) (k' : PairContextValue) (sent' : List SentSegment) → test ≡ accepts v.block x.header header → test ≡ true →
+      v' ≡ found.socket
       → k' ≡ (if found.draws then drawn k else k) → sent' ≡ and_reply sent found.answer
       → end_of k' v' sent' opened accepted ≡ with_own (end_of k v sent opened accepted) (comes_to k.side (own_of k v sent) x)
   came test v' k' sent' tested passes socket context joined =
       let accepted_it : accepts v.block x.header x.segment ≡ true = cc in
       let random = ap (λ (a : Arrived). if a.draws then drawn k else k) same ∙ drawn_if wanted.draws k in
       ap (λ (k : PairContextValue). end_of k v' sent' opened accepted) (context ∙ random)
-      ∙ ap (λ (v : TcpValue). end_of (record k { random = if wanted.draws then next_state k.random else k.random }) v sent' opened accepted) (socket ∙ ap (λ (a : Arrived). a.socket) same)
-      ∙ ap (λ (sent : List SentSegment). end_of (record k { random = if wanted.draws then next_state k.random else k.random }) wanted.socket sent opened accepted) (joined ∙ ap (λ (a : Arrived). and_reply sent a.answer) same)
-      ∙ sym (ap (λ (own : PairSide). with_own (end_of k v sent opened accepted) own) (when (accepts v.block x.header x.segment) (taken_at (own_of k v sent) wanted) (own_of k v sent) accepted_it))
+      ∙ ap (λ (v : TcpValue). end_of (record k { random = if wanted.draws then next_state k.random else k.random }) v sent' opened accepted) (socket ∙
+      ap (λ (a : Arrived). a.socket) same)
+      ∙ ap (λ (sent : List SentSegment). end_of (record k { random = if wanted.draws then next_state k.random else k.random }) wanted.socket sent opened
+      accepted) (joined ∙ ap (λ (a : Arrived). and_reply sent a.answer) same)
+      ∙ sym (ap (λ (own : PairSide). with_own (end_of k v sent opened accepted) own)
+      (when (accepts v.block x.header x.segment) (taken_at (own_of k v sent) wanted) (own_of k v sent) accepted_it))
 
 -- an offer is made at a moment, joins what was sent, and is settled
 pub went :
-    (k k' : PairContextValue) (v w v' : TcpValue) (sent room sent' : List SentSegment) (opened : Bool) (accepted : ℕ) (moment : ℤ) → k' ≡ record k { moment = moment }
+    (k k' : PairContextValue) (v w v' : TcpValue) (sent room sent' : List SentSegment) (opened : Bool) (accepted : ℕ) (moment : ℤ) →
+    k' ≡ record k { moment = moment }
     → w ≡ (offer_of (context_of k') v).socket → room ≡ sent → sent' ≡ and_offer room w.offered w.queued.queue → v' ≡ settled true w
     → end_of k' v' sent' opened accepted ≡ with_own (end_of k v sent opened accepted) (offered_at k.side (record (own_of k v sent) { moment = moment }) true)
 went k k' v w v' sent room sent' opened accepted moment context offered same joined recorded =
     ap (λ (x : TcpValue). end_of k' x sent' opened accepted) recorded
-    ∙ ap (λ (xs : List SentSegment). end_of k' (settled true w) xs opened accepted) (joined ∙ ap (λ (xs : List SentSegment). and_offer xs w.offered w.queued.queue) same)
+    ∙ ap (λ (xs : List SentSegment). end_of k' (settled true w) xs opened accepted) (joined ∙
+    ap (λ (xs : List SentSegment). and_offer xs w.offered w.queued.queue) same)
     ∙ ap (λ (x : TcpValue). end_of k' (settled true x) (and_offer sent x.offered x.queued.queue) opened accepted) offered
-    ∙ ap (λ (c : PairContextValue). end_of c (settled true (offer_of (context_of c) v).socket) (and_offer sent (offer_of (context_of c) v).socket.offered (offer_of (context_of c) v).socket.queued.queue) opened accepted) context
+    ∙ ap (λ (c : PairContextValue).
+    end_of c (settled true (offer_of (context_of c) v).socket)
+    (and_offer sent (offer_of (context_of c) v).socket.offered (offer_of (context_of c) v).socket.queued.queue) opened accepted) context

@@ -10,7 +10,8 @@ use Rattle.tcp_pair.specs.declared.pair.Taken.{Taken}
 -- one more event and its answer come to the front
 pub history_from-push :
     (past : List Entry) (taken : List Taken) (answers : List PairAnswer) (t : Taken) (answer : PairAnswer) → length taken ≡ length answers
-    → history_from past (taken ++ t ∷ []) (answers ++ answer ∷ []) ≡ record { event = t.event; answer = answer; found = t.found } ∷ history_from past taken answers
+    → history_from past (taken ++ t ∷ []) (answers ++ answer ∷ []) ≡ record { event = t.event; answer = answer; found = t.found } ∷
+    history_from past taken answers
 history_from-push past [] [] t answer same = refl
 history_from-push past [] (a ∷ answers) t answer same = absurd (omega arith)
 history_from-push past (e ∷ taken) [] t answer same = absurd (omega arith)

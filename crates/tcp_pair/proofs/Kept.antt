@@ -35,7 +35,8 @@ owns_put : (ends : Both EndValue) (side : Side) (e : EndValue) → owns (put end
 owns_put ends A e = refl
 owns_put ends B e = refl
 
-sides_put : (ends : Both EndValue) (side : Side) (e : EndValue) → e.side ≡ side → ((s : Side) → (at ends s).side ≡ s) → (s : Side) → (at (put ends side e) s).side ≡ s
+sides_put : (ends : Both EndValue) (side : Side) (e : EndValue) → e.side ≡ side → ((s : Side) → (at ends s).side ≡ s) → (s : Side) →
+    (at (put ends side e) s).side ≡ s
 sides_put ends A e is all A = is
 sides_put ends A e is all B = all B
 sides_put ends B e is all A = all A
@@ -65,7 +66,8 @@ new_kept a b f g = record { as_many = refl; sides = sides; tallies = tallies; ke
   tallies B = record { opened = refl; accepted = refl }
 
 pub new_shown :
-    (a b : TcpValue) (e f : EndValue) (taken : List Taken) (answers : List PairAnswer) → e ≡ fresh_end A a → f ≡ fresh_end B b → taken ≡ [] → answers ≡ [] → IsFresh a → IsFresh b
+    (a b : TcpValue) (e f : EndValue) (taken : List Taken) (answers : List PairAnswer) → e ≡ fresh_end A a → f ≡ fresh_end B b → taken ≡ [] → answers ≡ [] →
+    IsFresh a → IsFresh b
     → IsPairOf (record { a = e; b = f }) taken answers
 new_shown a b e f taken answers first second none nothing fresh fresh_too = rw (first, second, none, nothing) (new_kept a b fresh fresh_too)
 
@@ -97,25 +99,52 @@ module _ (ends : Both EndValue) (taken : List Taken) (answers : List PairAnswer)
   history_is = history_from-push [] taken answers (record { event = event; found = found }) acted.answer k.as_many
 
   pub taken_is :
-      happens old event ≡ record { answer = acted.answer; pair = pair_of next (taken ++ record { event = event; found = found } ∷ []) (answers ++ acted.answer ∷ []) }
+      happens old event ≡ record {
+        answer = acted.answer;
+        pair =
+            pair_of next (taken ++ record { event = event; found = found } ∷ []) (answers ++ acted.answer ∷ []);
+      }
   taken_is =
-      let happened : Happened = record { answer = acted.answer; pair = record { sides = put (owns ends) side acted.side; history = last ∷ history_from [] taken answers } } in
+      let happened : Happened =
+      record { answer = acted.answer; pair = record { sides = put (owns ends) side acted.side; history = last ∷ history_from [] taken answers } } in
       let first : happens old event ≡ happened =
-      ap (λ (a : Acted). let h : Happened = record { answer = a.answer; pair = record { sides = put (owns ends) side a.side; history = record { event = event; answer = a.answer; found = (at (owns ends) side).socket.block.state } ∷ history_from [] taken answers } } in h) acted_is
-      ∙ ap (λ (s : State). let h : Happened = record { answer = acted.answer; pair = record { sides = put (owns ends) side acted.side; history = record { event = event; answer = acted.answer; found = s } ∷ history_from [] taken answers } } in h) (found_by ends side)
+      ap (λ (a : Acted). let h : Happened =
+      record {
+        answer = a.answer;
+        pair =
+            record {
+              sides = put (owns ends) side a.side;
+              history =
+                  record { event = event; answer = a.answer; found = (at (owns ends) side).socket.block.state } ∷ history_from [] taken answers;
+            };
+      } in h) acted_is
+      ∙ ap (λ (s : State). let h : Happened =
+      record {
+        answer = acted.answer;
+        pair =
+            record {
+              sides = put (owns ends) side acted.side;
+              history =
+                  record { event = event; answer = acted.answer; found = s } ∷ history_from [] taken answers;
+            };
+      } in h) (found_by ends side)
       in
       first
-      ∙ ap (λ (sides : Both PairSide). let h : Happened = record { answer = acted.answer; pair = record { sides = sides; history = last ∷ history_from [] taken answers } } in h)
+      ∙ ap (λ (sides : Both PairSide). let h : Happened =
+      record { answer = acted.answer; pair = record { sides = sides; history = last ∷ history_from [] taken answers } } in h)
       (sym (owns_put ends side (after_event (at ends side) (at ends (other side)).own.sent event acted.answer)))
-      ∙ ap (λ (history : List Entry). let h : Happened = record { answer = acted.answer; pair = record { sides = owns next; history = history } } in h) (sym history_is)
+      ∙ ap (λ (history : List Entry). let h : Happened = record { answer = acted.answer; pair = record { sides = owns next; history = history } } in
+      h) (sym history_is)
 
-  tallied_is : (s : Side) → Tallies (at next s) (at (pasts (history_from [] (taken ++ record { event = event; found = found } ∷ []) (answers ++ acted.answer ∷ []))) s)
+  tallied_is : (s : Side) →
+      Tallies (at next s) (at (pasts (history_from [] (taken ++ record { event = event; found = found } ∷ []) (answers ++ acted.answer ∷ []))) s)
   tallied_is s =
       let few = acts_few (at ends side).own (at ends (other side)).own.sent event in
       let ps = pasts (history_from [] taken answers) in
       let here = tallies_on (at ends side) (at ps side) acted.side (k.tallies side) event acted.answer found few in
       rw history_is (
-      tallies_put ends ps side (after_event (at ends side) (at ends (other side)).own.sent event acted.answer) (adds event acted.answer found (at ps side)) here k.tallies s
+      tallies_put ends ps side (after_event (at ends side) (at ends (other side)).own.sent event acted.answer) (adds event acted.answer found (at ps side))
+      here k.tallies s
       )
 
   pub step_kept :
@@ -128,10 +157,18 @@ module _ (ends : Both EndValue) (taken : List Taken) (answers : List PairAnswer)
   }
 
   -- the fields afterwards, as the calls leave them
-  module _ (now : PairValue) (is : old ≡ now) (next' : Both EndValue) (taken' : List Taken) (answers' : List PairAnswer) (ends_is : next' ≡ next) (taken_in : taken' ≡ taken ++ record { event = event; found = found } ∷ []) (answered : answers' ≡ answers ++ acted.answer ∷ []) where
+  module _ (now : PairValue) (is : old ≡ now) (next' : Both EndValue) (taken' : List Taken) (answers' : List PairAnswer) (ends_is : next' ≡
+      next) (taken_in : taken' ≡ taken ++ record { event = event; found = found } ∷ []) (answered : answers' ≡ answers ++ acted.answer ∷ []) where
     pub fields_kept : refusal now event ≡ None → IsPairOf next' taken' answers'
     fields_kept allowed = rw (ends_is, taken_in, answered) (step_kept (subst (λ (p : PairValue). refusal p event ≡ None) (sym is) allowed))
 
     pub step_taken : (answer : PairAnswer) → answer ≡ acted.answer → happens now event ≡ record { answer = answer; pair = pair_of next' taken' answers' }
     step_taken answer said =
-        rw (ends_is, taken_in, answered, said) (subst (λ (p : PairValue). happens p event ≡ record { answer = acted.answer; pair = pair_of next (taken ++ record { event = event; found = found } ∷ []) (answers ++ acted.answer ∷ []) }) is taken_is)
+        rw (
+          ends_is,
+          taken_in,
+          answered,
+          said,
+        ) (subst (λ (p : PairValue). happens p event ≡
+        record { answer = acted.answer; pair = pair_of next (taken ++ record { event = event; found = found } ∷ []) (answers ++ acted.answer ∷ []) })
+        is taken_is)

@@ -1,15 +1,18 @@
 -- The payload of an offer is part of the send queue and no longer than a packet, or one byte.
-use Rattle.std.proofs.Common.{◌≡◌, ℕ, ◌≤◌, ◌==◌, min, max, Bool, true, false, List, length, take, drop, Option, Some, None, if◌then◌else◌, refl, arith, length-drop}
+use Rattle.std.proofs.Common.{◌≡◌, ℕ, ◌≤◌, ◌==◌, min, max, Bool, true, false, List, length, take, drop, Option, Some, None, if◌then◌else◌, refl, arith}
+use Rattle.std.proofs.Common.{length-drop}
 use Rattle.std.proofs.lemmas.List.{length-take}
 use Rattle.socket_base.specs.Context.{ContextValue}
 use Rattle.socket_base.specs.Offers.{Offered}
 use Rattle.tcp_model.specs.Calls.{listening}
 use Rattle.tcp_model.specs.Checks.{falls_back}
 use Rattle.tcp_model.specs.Moments.{is_due}
-use Rattle.tcp_model.specs.Offers.{silent, offer_choice, offer_ack, offer_syn, offer_reset, offer_keep_alive, last_rules, first_rules, backed_off, offer_between, offer_with, offer_of}
+use Rattle.tcp_model.specs.Offers.{silent, offer_choice, offer_ack, offer_syn, offer_reset, offer_keep_alive, last_rules, first_rules, backed_off}
+use Rattle.tcp_model.specs.Offers.{offer_between, offer_with, offer_of}
 use Rattle.tcp_model.specs.Probing.{probe_started, probe_moment}
 use Rattle.tcp_model.specs.Retries.{gives_up, given_up}
-use Rattle.tcp_model.specs.Rules.{time_wait_end, owes_syn, resends, ack_moment, has_text, text_choice, resend_choice, probe_choice, updates_window, keep_alive_moment}
+use Rattle.tcp_model.specs.Rules.{time_wait_end, owes_syn, resends, ack_moment, has_text, text_choice, resend_choice, probe_choice, updates_window}
+use Rattle.tcp_model.specs.Rules.{keep_alive_moment}
 use Rattle.tcp_model.specs.States.{is_closed}
 use Rattle.tcp_model.specs.Timeout.{timeout_end, timeout_started, timed_out}
 use Rattle.tcp_model.specs.Value.{TcpValue, with_block, unoffered, ended, queued_in, free_in, room_of}
@@ -36,13 +39,15 @@ fits_when cx v false a b one other = other
 fits_part : (queue : List ℕ) (place len mtu : ℕ) → len ≤ max mtu 1 → length (take len (drop place queue)) ≤ max (min (length queue) mtu) 1
 fits_part queue place len mtu short = rw (length-take, length-drop) (omega (arith, short))
 
-fits_text : (cx : ContextValue) (v : TcpValue) (pair : EndpointPair) → Fits cx v (offer_choice Kind.Text cx v pair (text_choice v.block pair.addresses cx.ip_mtu v.queued))
+fits_text : (cx : ContextValue) (v : TcpValue) (pair : EndpointPair) →
+    Fits cx v (offer_choice Kind.Text cx v pair (text_choice v.block pair.addresses cx.ip_mtu v.queued))
 fits_text cx v pair =
     let c = text_choice v.block pair.addresses cx.ip_mtu v.queued in
     let short = text_in_packet v.block pair.addresses cx.ip_mtu v.queued in
     fits_part v.queued.queue c.place c.len cx.ip_mtu (omega (arith, short))
 
-fits_again : (cx : ContextValue) (v : TcpValue) (pair : EndpointPair) → Fits cx v (offer_choice Kind.FastRetransmission cx v pair (resend_choice v.block pair.addresses cx.ip_mtu v.queued))
+fits_again : (cx : ContextValue) (v : TcpValue) (pair : EndpointPair) →
+    Fits cx v (offer_choice Kind.FastRetransmission cx v pair (resend_choice v.block pair.addresses cx.ip_mtu v.queued))
 fits_again cx v pair =
     let c = resend_choice v.block pair.addresses cx.ip_mtu v.queued in
     let short = again_in_packet v.block pair.addresses cx.ip_mtu v.queued in
@@ -109,5 +114,6 @@ pub fits_offer : (cx : ContextValue) (v : TcpValue) → HasRoom (max (min (lengt
 fits_offer cx v = fits_with v.block.names.pair cx (unoffered v) refl
 
 -- of the socket that the offer left
-pub fits_offered : (cx : ContextValue) (v w : TcpValue) (room : ℕ) → w ≡ (offer_of cx v).socket → room ≡ max (min (length v.queued.queue) cx.ip_mtu) 1 → HasRoom room w
+pub fits_offered : (cx : ContextValue) (v w : TcpValue) (room : ℕ) → w ≡ (offer_of cx v).socket → room ≡ max (min (length v.queued.queue) cx.ip_mtu) 1 →
+    HasRoom room w
 fits_offered cx v w room left is = rw (left, is) (fits_offer cx v)

@@ -33,11 +33,13 @@ Steps-push old mid new [] event is allowed step =
     (subst (λ (p : PairValue). refusal p event ≡ None) is allowed, sym (sym (ap (λ (p : PairValue). (happens p event).pair) is) ∙ step))
 Steps-push old mid new (e ∷ events) event before allowed step = (before.0, Steps-push (happens old e).pair mid new events event before.1 allowed step)
 
-module _ (old : PairValue) (events : List PairEvent) (place : ℕ) (event : PairEvent) (left : List PairEvent) (now : PairValue) (run : HasRun old events place (event ∷ left) now) where
+module _ (old : PairValue) (events : List PairEvent) (place : ℕ) (event : PairEvent) (left : List PairEvent) (now : PairValue)
+    (run : HasRun old events place (event ∷ left) now) where
   pub next_is : slice_get events place ≡ Some event
   next_is = (next_of_drop place events event left run.left_over).here
 
-  pub one_more : (answer : PairAnswer) (new : PairValue) → refusal now event ≡ None → happens now event ≡ record { answer = answer; pair = new } → IsKept new → HasRun old events (place + 1) left new
+  pub one_more : (answer : PairAnswer) (new : PairValue) → refusal now event ≡ None → happens now event ≡ record { answer = answer; pair = new } → IsKept new →
+      HasRun old events (place + 1) left new
   one_more answer new allowed step kept =
       let next : IsNext place events event left = next_of_drop place events event left run.left_over in
       rw add-one (record {

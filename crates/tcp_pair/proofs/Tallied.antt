@@ -44,19 +44,22 @@ module _ (e : EndValue) (p : Past) (own : PairSide) (t : Tallies e p) where
   count_none : e.accepted + 0 ≡ length p.written
   count_none = omega (arith, t.accepted)
 
-  listened : (side : Side) (endpoint : IpListenEndpoint) (answer : PairAnswer) → Tallies (tallied (with_own e own) (Listen side endpoint) answer) (listen_adds answer p)
+  listened : (side : Side) (endpoint : IpListenEndpoint) (answer : PairAnswer) →
+      Tallies (tallied (with_own e own) (Listen side endpoint) answer) (listen_adds answer p)
   listened side endpoint Done = record { opened = refl; accepted = count_none }
   listened side endpoint (Count n) = record { opened = t.opened; accepted = count_none }
   listened side endpoint (Bytes bytes) = record { opened = t.opened; accepted = count_none }
   listened side endpoint (Error fault) = record { opened = t.opened; accepted = count_none }
 
-  connected : (side : Side) (remote : IpEndpoint) (local : IpListenEndpoint) (answer : PairAnswer) → Tallies (tallied (with_own e own) (Connect side remote local) answer) (connect_adds answer p)
+  connected : (side : Side) (remote : IpEndpoint) (local : IpListenEndpoint) (answer : PairAnswer) →
+      Tallies (tallied (with_own e own) (Connect side remote local) answer) (connect_adds answer p)
   connected side remote local Done = record { opened = refl; accepted = count_none }
   connected side remote local (Count n) = record { opened = t.opened; accepted = count_none }
   connected side remote local (Bytes bytes) = record { opened = t.opened; accepted = count_none }
   connected side remote local (Error fault) = record { opened = t.opened; accepted = count_none }
 
-  wrote : (side : Side) (bytes : List ℕ) (answer : PairAnswer) → count_in answer ≤ length bytes → Tallies (tallied (with_own e own) (Send side bytes) answer) (send_adds bytes answer p)
+  wrote : (side : Side) (bytes : List ℕ) (answer : PairAnswer) → count_in answer ≤ length bytes →
+      Tallies (tallied (with_own e own) (Send side bytes) answer) (send_adds bytes answer p)
   wrote side bytes Done few = record { opened = t.opened; accepted = count_none }
   wrote side bytes (Count n) few =
       let all = length-append p.written (take n bytes) in
@@ -75,7 +78,8 @@ module _ (e : EndValue) (p : Past) (own : PairSide) (t : Tallies e p) where
   closed true = record { opened = t.opened; accepted = t.accepted }
   closed false = t
 
-  pub tallies_on : (event : PairEvent) (answer : PairAnswer) (found : State) → IsFew event answer → Tallies (tallied (with_own e own) event answer) (adds event answer found p)
+  pub tallies_on : (event : PairEvent) (answer : PairAnswer) (found : State) → IsFew event answer →
+      Tallies (tallied (with_own e own) event answer) (adds event answer found p)
   tallies_on (Listen side endpoint) answer found few = listened side endpoint answer
   tallies_on (Connect side remote local) answer found few = connected side remote local answer
   tallies_on (Send side bytes) answer found few = wrote side bytes answer few

@@ -123,4 +123,5 @@ acted_at ends event = acts (at ends (side_of event)).own (at ends (other (side_o
 
 -- the other side is left as it was
 abbrev pub ends_after : Both EndValue → PairEvent → Both EndValue
-ends_after ends event = put ends (side_of event) (after_event (at ends (side_of event)) (at ends (other (side_of event))).own.sent event (acted_at ends event).answer)
+ends_after ends event = put ends (side_of event)
+    (after_event (at ends (side_of event)) (at ends (other (side_of event))).own.sent event (acted_at ends event).answer)

@@ -41,7 +41,13 @@ impl Model for End {
 
     ghost Value = { EndValue };
 
-    ghost view = { λ e. record { side = e.context.side; own = record { socket = e.socket; sent = e.sent.items; moment = e.context.moment; random = e.context.random }; opened = e.opened; accepted = e.accepted } };
+    ghost view = { λ e. record {
+      side = e.context.side;
+      own =
+          record { socket = e.socket; sent = e.sent.items; moment = e.context.moment; random = e.context.random };
+      opened = e.opened;
+      accepted = e.accepted;
+    } };
 }
 
 impl End {

@@ -1,5 +1,6 @@
 -- Each event keeps the invariant of a pair, and the invariant gives what is promised.
-use Rattle.std.proofs.Common.{◌≡◌, ℕ, ◌+◌, ◌^◌, ◌<◌, nat_le, Bool, true, false, if◌then◌else◌, List, [], ◌∷◌, length, Option, Some, None, refl, sym, subst, arith}
+use Rattle.std.proofs.Common.{◌≡◌, ℕ, ◌+◌, ◌^◌, ◌<◌, nat_le, Bool, true, false, if◌then◌else◌, List, [], ◌∷◌, length, Option, Some, None, refl, sym, subst}
+use Rattle.std.proofs.Common.{arith}
 use Rattle.std.proofs.lemmas.Bool.Decides.{nat_tests}
 use Rattle.tcp_law.specs.Side.{Opening}
 use Rattle.tcp_law.specs.Side.Opening.{NotYet, Passive, Active}
@@ -55,7 +56,8 @@ is_allowed p (Deliver from k) e = tt
 -- two sides with what was seen of them
 abbrev AreKept : Both PairSide → Both Past → Side → Type 0
 AreKept sides ps side =
-    Keeps (at sides side).socket (with_segments (at ps side) (at sides side).sent) (at sides (other side)).socket (with_segments (at ps (other side)) (at sides (other side)).sent)
+    Keeps (at sides side).socket (with_segments (at ps side) (at sides side).sent) (at sides (other side)).socket
+    (with_segments (at ps (other side)) (at sides (other side)).sent)
 
 seen_from : (side : Side) (sides : Both PairSide) (ps : Both Past) → AreKept sides ps A → AreKept sides ps side
 seen_from A sides ps k = k
@@ -69,7 +71,8 @@ put_kept A sides ps x p k = k
 put_kept B sides ps x p k = keeps_turned x.socket sides.a.socket (with_segments p x.sent) (with_segments ps.a sides.a.sent) k
 
 -- the end of a stream, at either side
-complete_by : (answer : PairAnswer) (side : Side) (count : ℕ) (before : Both Past) → Ends answer (EndIsComplete before side) → WasComplete (Recv side count) answer before
+complete_by : (answer : PairAnswer) (side : Side) (count : ℕ) (before : Both Past) → Ends answer (EndIsComplete before side) →
+    WasComplete (Recv side count) answer before
 complete_by Done side count before e = tt
 complete_by (Count n) side count before e = tt
 complete_by (Bytes bytes) side count before e = tt

@@ -1,5 +1,6 @@
 -- What each event does to a side keeps the invariant beside the other side.
-use Rattle.std.proofs.Common.{◌≡◌, ℕ, ◌+◌, ◌^◌, ◌<◌, ◌≤◌, ◌&&◌, ℤ, Bool, true, false, if◌then◌else◌, List, [], ◌∷◌, ◌++◌, map, length, take, Option, Some, None, Result, Ok, Err, is_ok, slice_get, refl, sym, ap, ◌∙◌, subst, arith, append-nil, length-append, length-take, option_map}
+use Rattle.std.proofs.Common.{◌≡◌, ℕ, ◌+◌, ◌^◌, ◌<◌, ◌≤◌, ◌&&◌, ℤ, Bool, true, false, if◌then◌else◌, List, [], ◌∷◌, ◌++◌, map, length, take, Option, Some, None}
+use Rattle.std.proofs.Common.{Result, Ok, Err, is_ok, slice_get, refl, sym, ap, ◌∙◌, subst, arith, append-nil, length-append, length-take, option_map}
 use Rattle.std.proofs.lemmas.Bool.{cond_both}
 use Rattle.std.proofs.lemmas.Option.{slice_get-map}
 use Rattle.std.proofs.lemmas.List.{map-append}
@@ -23,13 +24,15 @@ use Rattle.tcp_model.specs.Reply.{Reply}
 use Rattle.tcp_model.specs.State.{State}
 use Rattle.tcp_model.specs.State.TheVariants as In
 use Rattle.tcp_model.specs.Arrival.{arrives}
-use Rattle.tcp_model.specs.Calls.{listen_answer, listen_after, connect_answer, connect_after, send_answer, send_after, recv_answer, recv_after, close_after, abort_after}
+use Rattle.tcp_model.specs.Calls.{listen_answer, listen_after, connect_answer, connect_after, send_answer, send_after, recv_answer, recv_after, close_after}
+use Rattle.tcp_model.specs.Calls.{abort_after}
 use Rattle.tcp_model.specs.Names.{accepts}
 use Rattle.tcp_model.specs.Offers.{offer_of, payload_of}
 use Rattle.tcp_model.specs.Settled.{settled}
 use Rattle.tcp_model.specs.States.{is_closed}
 use Rattle.tcp_model.specs.Value.{TcpValue, unoffered}
-use Rattle.tcp_tie.specs.History.{listened, called, with_written, with_read, with_sent, with_answer, with_offer, closes_in, closed_by, listen_opens, connect_opens, opened_by, bytes_taken}
+use Rattle.tcp_tie.specs.History.{listened, called, with_written, with_read, with_sent, with_answer, with_offer, closes_in, closed_by, listen_opens}
+use Rattle.tcp_tie.specs.History.{connect_opens, opened_by, bytes_taken}
 use Rattle.tcp_tie.specs.Tie.{Core, Past, Keeps, FitsIn, core_of, past_of, unsent, segment_of}
 use Rattle.tcp_tie.proofs.AnsweredLaws.{keeps_listen, keeps_connect, keeps_send, read_to_the_end}
 use Rattle.tcp_tie.proofs.ArrivalLaws.{keeps_arrival}
@@ -77,7 +80,8 @@ with_offered p sent (Some o) queue =
 -- a socket that wasn't opened is CLOSED
 unopened_in : (state : State) (c : Core) (s t : Half) → HoldsBetween s t → s.opening ≡ NotYet → FitsIn state c (unsent s) → is_closed state ≡ true
 unopened_in In.Closed c s t holds first fits = refl
-unopened_in In.Listen c s t holds first fits = absurd (let passive : s.opening ≡ Passive = ap (λ (x : Half). x.opening) fits.side in let clash : NotYet ≡ Passive = sym first ∙ passive in cc)
+unopened_in In.Listen c s t holds first fits =
+    absurd (let passive : s.opening ≡ Passive = ap (λ (x : Half). x.opening) fits.side in let clash : NotYet ≡ Passive = sym first ∙ passive in cc)
 unopened_in In.SynSent c s t holds first fits =
     let asking : FitsPhase SynSent s.opening s.irs = subst (λ (phase : Phase). FitsPhase phase s.opening s.irs) fits.phase holds.0.well_formed.phase in
     absurd (let clash : NotYet ≡ Active = sym first ∙ asking.0 in cc)
@@ -131,10 +135,12 @@ module _ (s : PairSide) (w : TcpValue) (p q : Past) (others : List SentSegment) 
   led_listen : (side : Side) (endpoint : IpListenEndpoint) → p.opening ≡ NotYet → Led (Listen side endpoint) (acts s others (Listen side endpoint))
   led_listen side endpoint first =
       subst (λ (p : Past). Keeps (listen_after s.socket endpoint) p w (with_segments q others))
-      (listen_past (is_closed s.socket.block.state) (listen_answer s.socket endpoint) p s.sent (unopened_closed s.socket w (with_segments p s.sent) (with_segments q others) k first))
+      (listen_past (is_closed s.socket.block.state) (listen_answer s.socket endpoint) p s.sent
+      (unopened_closed s.socket w (with_segments p s.sent) (with_segments q others) k first))
       (keeps_listen s.socket w (with_segments p s.sent) (with_segments q others) endpoint k (λ _. first))
 
-  led_connect : (side : Side) (remote : IpEndpoint) (local : IpListenEndpoint) → p.opening ≡ NotYet → Led (Connect side remote local) (acts s others (Connect side remote local))
+  led_connect : (side : Side) (remote : IpEndpoint) (local : IpListenEndpoint) → p.opening ≡ NotYet →
+      Led (Connect side remote local) (acts s others (Connect side remote local))
   led_connect side remote local first =
       subst (λ (p : Past). Keeps (connect_after (context_at side s) s.socket remote local) p w (with_segments q others))
       (connect_past (connect_answer (context_at side s) s.socket remote local) p s.sent)
@@ -165,10 +171,13 @@ module _ (s : PairSide) (w : TcpValue) (p q : Past) (others : List SentSegment) 
   led_set (Set.Timeout duration) = keeps_same s.socket (set_by (Set.Timeout duration) s.socket) w (with_segments p s.sent) (with_segments q others) refl k
   led_set (Set.AckDelay duration) = keeps_same s.socket (set_by (Set.AckDelay duration) s.socket) w (with_segments p s.sent) (with_segments q others) refl k
   led_set (Set.KeepAlive interval) = keeps_same s.socket (set_by (Set.KeepAlive interval) s.socket) w (with_segments p s.sent) (with_segments q others) refl k
-  led_set (Set.NagleEnabled enabled) = keeps_same s.socket (set_by (Set.NagleEnabled enabled) s.socket) w (with_segments p s.sent) (with_segments q others) refl k
+  led_set (Set.NagleEnabled enabled) =
+      keeps_same s.socket (set_by (Set.NagleEnabled enabled) s.socket) w (with_segments p s.sent) (with_segments q others) refl k
   led_set (Set.HopLimit limit) = keeps_same s.socket (set_by (Set.HopLimit limit) s.socket) w (with_segments p s.sent) (with_segments q others) refl k
-  led_set (Set.TsvalGenerator generator) = keeps_same s.socket (set_by (Set.TsvalGenerator generator) s.socket) w (with_segments p s.sent) (with_segments q others) refl k
-  led_set (Set.CongestionControl control) = keeps_same s.socket (set_by (Set.CongestionControl control) s.socket) w (with_segments p s.sent) (with_segments q others) refl k
+  led_set (Set.TsvalGenerator generator) =
+      keeps_same s.socket (set_by (Set.TsvalGenerator generator) s.socket) w (with_segments p s.sent) (with_segments q others) refl k
+  led_set (Set.CongestionControl control) =
+      keeps_same s.socket (set_by (Set.CongestionControl control) s.socket) w (with_segments p s.sent) (with_segments q others) refl k
   led_set (Set.PauseSynack paused) = keeps_same s.socket (set_by (Set.PauseSynack paused) s.socket) w (with_segments p s.sent) (with_segments q others) refl k
   led_set (Set.Retries limit) = keeps_same s.socket (set_by (Set.Retries limit) s.socket) w (with_segments p s.sent) (with_segments q others) refl k
   led_set (Set.MinRto duration) = keeps_same s.socket (set_by (Set.MinRto duration) s.socket) w (with_segments p s.sent) (with_segments q others) refl k
@@ -179,7 +188,8 @@ module _ (s : PairSide) (w : TcpValue) (p q : Past) (others : List SentSegment) 
       subst (λ (p : Past). Keeps (settled true (offer_of cx s.socket).socket) p w (with_segments q others))
       (with_offered p s.sent (offer_of cx s.socket).socket.offered (offer_of cx s.socket).socket.queued.queue)
       (keeps_sent_offer cx s.socket w (with_segments p s.sent) (with_segments q others) k)
-  led_offer side moment false = keeps_unsent_offer (context_at side (record s { moment = moment })) s.socket w (with_segments p s.sent) (with_segments q others) k
+  led_offer side moment false =
+      keeps_unsent_offer (context_at side (record s { moment = moment })) s.socket w (with_segments p s.sent) (with_segments q others) k
 
   -- a segment of the other side comes
   led_comes :

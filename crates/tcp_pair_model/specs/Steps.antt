@@ -1,5 +1,6 @@
 -- What each event does and answers, and which are refused.
-use Rattle.std.specs.Prelude.{◌≡◌, ℕ, ◌+◌, ◌^◌, ◌==◌, nat_lt, nat_le, not, ◌&&◌, ℤ, pos, int_le, Bool, true, false, if◌then◌else◌, List, [], ◌∷◌, length, take, Option, Some, None, Result, Ok, Err, slice_get}
+use Rattle.std.specs.Prelude.{◌≡◌, ℕ, ◌+◌, ◌^◌, ◌==◌, nat_lt, nat_le, not, ◌&&◌, ℤ, pos, int_le, Bool, true, false, if◌then◌else◌, List, [], ◌∷◌, length, take}
+use Rattle.std.specs.Prelude.{Option, Some, None, Result, Ok, Err, slice_get}
 use Rattle.net_base.specs.RandomWords.{next_state}
 use Rattle.net_base.specs.Time.{last_moment}
 use Rattle.ip_wire.specs.IpEndpoint.{IpEndpoint}
@@ -14,10 +15,12 @@ use Rattle.tcp_model.specs.RecvError.{RecvError}
 use Rattle.tcp_model.specs.RecvError.TheVariants as Receiving
 use Rattle.tcp_model.specs.SendError.{SendError}
 use Rattle.tcp_model.specs.Arrival.{arrives}
-use Rattle.tcp_model.specs.Calls.{listen_answer, listen_after, connect_answer, connect_after, connect_draws, send_answer, send_after, recv_answer, recv_after, close_after, abort_after}
+use Rattle.tcp_model.specs.Calls.{listen_answer, listen_after, connect_answer, connect_after, connect_draws, send_answer, send_after, recv_answer, recv_after}
+use Rattle.tcp_model.specs.Calls.{close_after, abort_after}
 use Rattle.tcp_model.specs.Names.{accepts}
 use Rattle.tcp_model.specs.Offers.{offer_of}
-use Rattle.tcp_model.specs.Settings.{set_timeout, set_ack_delay, set_keep_alive, set_nagle_enabled, set_hop_limit, set_tsval_generator, set_congestion_control, pause_synack, set_retries, set_min_rto}
+use Rattle.tcp_model.specs.Settings.{set_timeout, set_ack_delay, set_keep_alive, set_nagle_enabled, set_hop_limit, set_tsval_generator, set_congestion_control}
+use Rattle.tcp_model.specs.Settings.{pause_synack, set_retries, set_min_rto}
 use Rattle.tcp_model.specs.Settled.{settled}
 use Rattle.tcp_model.specs.Value.{TcpValue, Arrived, unoffered}
 use Rattle.tcp_pair_model.specs.declared.event.Side.{Side}

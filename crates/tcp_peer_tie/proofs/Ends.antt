@@ -1,5 +1,6 @@
 -- The end that a socket is, as it is told by its numbers and its past, is that of the side behind it.
-use Rattle.std.proofs.Common.{◌≡◌, inl, inr, ℕ, ◌+◌, ◌-◌, ◌%◌, ◌^◌, ◌<◌, ◌≤◌, true, not, List, ◌++◌, length, Option, Some, None, is_some, refl, sym, ap, ◌∙◌, subst, arith}
+use Rattle.std.proofs.Common.{◌≡◌, inl, inr, ℕ, ◌+◌, ◌-◌, ◌%◌, ◌^◌, ◌<◌, ◌≤◌, true, not, List, ◌++◌, length, Option, Some, None, is_some, refl, sym, ap, ◌∙◌}
+use Rattle.std.proofs.Common.{subst, arith}
 use Rattle.std.proofs.lemmas.Bool.{and_parts}
 use Rattle.ip_wire.specs.SeqNumber.{SeqNumber}
 use Rattle.ip_wire.specs.TcpHeader.{TcpHeader}
@@ -90,7 +91,8 @@ module _ (v : TcpValue) (s t : Side) (holds : HoldsBetween s t) where
       let first = k.first in
       let number : first_of v (past_of s) ≡ s.iss =
       counted_first s.una v.block.sender.una.0 (one_if v.block.sender.syn_unacked + length v.queued.queue + one_if (owes_fin v.block.state))
-      (1 + length s.written + one_if s.closed) s.iss k.una (omega (arith, size, open_yet, unacked, queue, owes, first)) (omega (arith, size, open_yet)) well.iss.0 well.iss.1 well.una_low
+      (1 + length s.written + one_if s.closed) s.iss k.una (omega (arith, size, open_yet, unacked, queue, owes, first)) (omega (arith, size, open_yet))
+      well.iss.0 well.iss.1 well.una_low
       in
       ap (λ (n : ℕ). record { first = n; stream = s.written; ends = s.closed; heard = 0 }) number
       ∙ ap (λ (n : ℕ). record { first = s.iss; stream = s.written; ends = s.closed; heard = n }) (sym none)
@@ -112,7 +114,8 @@ no_ack : (ack : Option SeqNumber) → not (is_some ack) ≡ true → ack_of ack 
 no_ack None e = refl
 no_ack (Some n) e = absurd (cc)
 
-pub first_syn : (header : TcpHeader) (bytes : List ℕ) → is_first_syn header ≡ true → ((segment_of header bytes).control ≡ Syn) × ((segment_of header bytes).ack ≡ None)
+pub first_syn : (header : TcpHeader) (bytes : List ℕ) → is_first_syn header ≡ true → ((segment_of header bytes).control ≡ Syn) ×
+    ((segment_of header bytes).ack ≡ None)
 first_syn header bytes e =
     let parts = and_parts (is_syn header.control) (not (is_some header.ack_number)) e in
     (syn_control header.control parts.0, no_ack header.ack_number parts.1)

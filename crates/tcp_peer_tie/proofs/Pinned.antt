@@ -1,6 +1,7 @@
 -- Whatever keeps the invariant between two sockets keeps it between a socket and the peer: the peer stands for a socket that is CLOSED,
 -- and three segments that say where it counts from tell its positions afterwards.
-use Rattle.std.proofs.Common.{◌≡◌, ◌⊎◌, inl, inr, ℕ, suc, ◌+◌, ◌^◌, ◌<◌, Bool, false, List, [], ◌∷◌, ◌++◌, length, Some, None, slice_get, refl, sym, ap, ◌∙◌, subst, arith, le_refl}
+use Rattle.std.proofs.Common.{◌≡◌, ◌⊎◌, inl, inr, ℕ, suc, ◌+◌, ◌^◌, ◌<◌, Bool, false, List, [], ◌∷◌, ◌++◌, length, Some, None, slice_get, refl, sym, ap, ◌∙◌}
+use Rattle.std.proofs.Common.{subst, arith, le_refl}
 use Rattle.std.specs.List.{AllByRecursion}
 use Rattle.net_base.specs.Ring.{ring}
 use Rattle.tcp_law.specs.Invariant.{HoldsBetween}
@@ -199,7 +200,8 @@ module _ (peer : End) (written : List ℕ) (closed : Bool) (s : Side) (came : Li
             (subst (λ (q : Past). AllByRecursion P q.sent) past all)))
 
   -- so a step of a socket beside any partner is one beside the peer
-  pub beside_step : (v' : TcpValue) (p' : Past) → Keeps v' p' w (past_of (partner told)) → (new : Side) × (past_of new ≡ p') × IsSideOf v' new × IsBeside peer written closed new came
+  pub beside_step : (v' : TcpValue) (p' : Past) → Keeps v' p' w (past_of (partner told)) → (new : Side) × (past_of new ≡ p') × IsSideOf v' new ×
+      IsBeside peer written closed new came
   beside_step v' p' k = (k.side, k.past, k.fits, by k.partner_fits) where
     by : IsUnopened (core_of w) (unsent k.partner) ⊎ IsEnded (core_of w) (unsent k.partner) → IsBeside peer written closed k.side came
     by (inr ended) = beside_again k.side k.partner k.partner_past k.holds ended
@@ -208,11 +210,14 @@ module _ (peer : End) (written : List ℕ) (closed : Bool) (s : Side) (came : Li
 
 -- the step of a socket, of any partner that sent what came
 abbrev pub Steps : TcpValue → Past → TcpValue → Past → List Segment → Type 0
-Steps v p v' p' came = (w : TcpValue) (q : Past) → ((k : ℕ) (x : Segment) → slice_get came k ≡ Some x → slice_get q.sent k ≡ Some x) → Keeps v p w q → Keeps v' p' w q
+Steps v p v' p' came = (w : TcpValue) (q : Past) → ((k : ℕ) (x : Segment) → slice_get came k ≡ Some x → slice_get q.sent k ≡ Some x) → Keeps v p w q →
+    Keeps v' p' w q
 
-pub socket_step : (peer : End) (v v' : TcpValue) (p p' : Past) (came : List Segment) → IsEnd peer → Steps v p v' p' came → MeetsSocket peer v p came → MeetsSocket peer v' p' came
+pub socket_step : (peer : End) (v v' : TcpValue) (p p' : Past) (came : List Segment) → IsEnd peer → Steps v p v' p' came → MeetsSocket peer v p came →
+    MeetsSocket peer v' p' came
 socket_step peer v v' p p' came e step m = by m.meets where
-  beside : (written : List ℕ) (closed : Bool) → IsBeside peer written closed m.side came → (new : Side) × (past_of new ≡ p') × IsSideOf v' new × IsBeside peer written closed new came
+  beside : (written : List ℕ) (closed : Bool) → IsBeside peer written closed m.side came → (new : Side) × (past_of new ≡ p') × IsSideOf v' new ×
+      IsBeside peer written closed new came
   beside written closed b =
       beside_step peer written closed m.side came e b v' p'
       (step (w peer written closed m.side came e b) (past_of (partner peer written closed m.side came e b (told peer written closed m.side came e b)))

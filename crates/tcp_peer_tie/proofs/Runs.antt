@@ -1,5 +1,6 @@
 -- Each run of a socket beside the peer, and what it promises.
-use Rattle.std.proofs.Common.{◌≡◌, ◌⊎◌, inl, inr, ℕ, suc, ◌+◌, ◌-◌, ◌==◌, ◌||◌, not, min, Bool, true, false, if◌then◌else◌, List, [], ◌∷◌, ◌++◌, length, Some, None, Err, refl, sym, ap, ◌∙◌, subst, arith, append-nil}
+use Rattle.std.proofs.Common.{◌≡◌, ◌⊎◌, inl, inr, ℕ, suc, ◌+◌, ◌-◌, ◌==◌, ◌||◌, not, min, Bool, true, false, if◌then◌else◌, List, [], ◌∷◌, ◌++◌, length, Some}
+use Rattle.std.proofs.Common.{None, Err, refl, sym, ap, ◌∙◌, subst, arith, append-nil}
 use Rattle.std.proofs.lemmas.Bool.{eqb-true}
 use Rattle.tcp_law.specs.Alone.{AreResets}
 use Rattle.tcp_law.specs.Safe.{IsPrefixOf}
@@ -53,7 +54,8 @@ socket_safe peer v p came e m =
     shown (inl b) = shows (core_of v) m.side (shadow peer [] false b.una b.took b.fin came) b.holds m.fits
     shown (inr b) = shows (core_of v) m.side (shadow peer peer.stream peer.ends b.una b.took b.fin came) b.holds m.fits
 
-meets_event : (peer : End) (w : Meeting) (event : Event) → IsEnd peer → MayHappen peer w event → MeetsSocket peer w.here.socket w.here.past w.came → MeetsSocket peer (happens w event).here.socket (happens w event).here.past (happens w event).came
+meets_event : (peer : End) (w : Meeting) (event : Event) → IsEnd peer → MayHappen peer w event → MeetsSocket peer w.here.socket w.here.past w.came →
+    MeetsSocket peer (happens w event).here.socket (happens w event).here.past (happens w event).came
 meets_event peer w (Comes cx ip header bytes) e may m = socket_comes peer w.here w.came cx ip header bytes e may m
 meets_event peer w (Listens endpoint) e may m =
     socket_step peer w.here.socket _ w.here.past _ w.came e (λ v q still k. keeps_listen w.here.socket v w.here.past q endpoint k may) m
@@ -63,7 +65,8 @@ meets_event peer w (Sends bytes) e may m =
     socket_step peer w.here.socket _ w.here.past _ w.came e (λ v q still k. keeps_send w.here.socket v w.here.past q bytes k may) m
 meets_event peer w (Does event) e may m = socket_does peer w.here w.came event e may m
 
-meets_run : (peer : End) (w : Meeting) (events : List Event) → IsEnd peer → IsRun peer w events → MeetsSocket peer w.here.socket w.here.past w.came → MeetsSocket peer (run w events).here.socket (run w events).here.past (run w events).came
+meets_run : (peer : End) (w : Meeting) (events : List Event) → IsEnd peer → IsRun peer w events → MeetsSocket peer w.here.socket w.here.past w.came →
+    MeetsSocket peer (run w events).here.socket (run w events).here.past (run w events).came
 meets_run peer w [] e is_run m = m
 meets_run peer w (event ∷ events) e is_run m = meets_run peer (happens w event) events e is_run.1 (meets_event peer w event e is_run.0 m)
 
@@ -91,7 +94,8 @@ pub read_to_the_end :
 read_to_the_end peer v p came room safe = by (takes_text v.block.state) (length v.received.waiting == 0) refl where
   by :
       (open_yet none : Bool) → (length v.received.waiting == 0) ≡ none
-      → or_count (if open_yet || not none then None else Some (nothing_left v.block.receiver.took_fin)) (min room (length v.received.waiting)) ≡ Err Recv.Finished
+      → or_count (if open_yet || not none then None else Some (nothing_left v.block.receiver.took_fin)) (min room (length v.received.waiting)) ≡
+      Err Recv.Finished
       → (peer.ends ≡ true) × (p.read ≡ peer.stream)
   by true none empty e = absurd (cc)
   by false false empty e = absurd (cc)

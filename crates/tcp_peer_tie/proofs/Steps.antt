@@ -37,12 +37,19 @@ use Rattle.tcp_peer_tie.proofs.Ends.{end_connected, end_asking, syn_to_any, firs
 
 pub socket_start : (peer : End) (v : TcpValue) (resets : List Segment) → IsEnd peer → IsFresh v → AreResets resets → MeetsSocket peer v (no_past resets) []
 socket_start peer v resets e fresh are_resets =
-    record { side = unopened (length v.received.map) resets; past = refl; fits = fresh_fits v resets fresh; meets = meets_start peer (length v.received.map) resets e are_resets }
+    record {
+      side = unopened (length v.received.map) resets;
+      past = refl;
+      fits = fresh_fits v resets fresh;
+      meets =
+          meets_start peer (length v.received.map) resets e are_resets;
+    }
 
 -- CALLS, OFFERS, AND WHAT COMES AGAIN
 
 pub socket_does :
-    (peer : End) (s : Seen) (came : List Segment) (event : two.Event) → IsEnd peer → two.MayHappen s (sender_of came) event → MeetsSocket peer s.socket s.past came
+    (peer : End) (s : Seen) (came : List Segment) (event : two.Event) → IsEnd peer → two.MayHappen s (sender_of came) event →
+    MeetsSocket peer s.socket s.past came
     → MeetsSocket peer (two.happens s event).socket (two.happens s event).past came
 socket_does peer s came (Listens endpoint) e may =
     socket_step peer s.socket _ s.past _ came e (λ w q still k. keeps_listening s.socket w s.past q endpoint k may.0 may.1)
@@ -63,13 +70,15 @@ socket_does peer s came (HostResets x) e may = socket_step peer s.socket _ s.pas
 
 -- WHAT COMES
 
-module _ (peer : End) (v : TcpValue) (p : Past) (came : List Segment) (header : TcpHeader) (bytes : List ℕ) (e : IsEnd peer) (m : MeetsSocket peer v p came) where
+module _ (peer : End) (v : TcpValue) (p : Past) (came : List Segment) (header : TcpHeader) (bytes : List ℕ) (e : IsEnd peer)
+    (m : MeetsSocket peer v p came) where
   abbrev x : Segment
   x = segment_of header bytes
 
   -- honest to the socket, so to the side behind it
   to_side :
-      (state : State) → v.block.state ≡ state → counts_in state header ≡ true → IsHonest peer (end_in state v (past_of m.side)) m.side.sent x → (t : Side) → HoldsBetween m.side t
+      (state : State) → v.block.state ≡ state → counts_in state header ≡ true → IsHonest peer (end_in state v (past_of m.side)) m.side.sent x → (t : Side) →
+      HoldsBetween m.side t
       → IsHonest peer (as_end m.side) m.side.sent x
   to_side In.Closed at counts honest t holds = absurd (cc)
   to_side In.Listen at counts honest t holds =
@@ -83,7 +92,8 @@ module _ (peer : End) (v : TcpValue) (p : Past) (came : List Segment) (header : 
       let same = ap (λ (state : State). end_in state v (past_of m.side)) at in
       subst (λ (this : End). IsHonest peer this m.side.sent x) (sym same ∙ end_connected v m.side t holds connected m.fits) honest
 
-  of_side : counts_in v.block.state header ≡ true → IsHonest peer (end_in v.block.state v p) p.sent x → (t : Side) → HoldsBetween m.side t → IsHonest peer (as_end m.side) m.side.sent x
+  of_side : counts_in v.block.state header ≡ true → IsHonest peer (end_in v.block.state v p) p.sent x → (t : Side) → HoldsBetween m.side t →
+      IsHonest peer (as_end m.side) m.side.sent x
   of_side counts honest t holds =
       to_side v.block.state refl counts (subst (λ (q : Past). IsHonest peer (end_in v.block.state v q) q.sent x) (sym m.past) honest) t holds
 
@@ -107,7 +117,8 @@ module _ (peer : End) (v : TcpValue) (p : Past) (came : List Segment) (header : 
 
   pub comes_unread : (cx : ContextValue) (ip : IpRepr) → counts_in v.block.state header ≡ false → Stays (arrives cx v ip header bytes)
   comes_unread cx ip unread =
-      cond_both (is_void_syn header) (dropped (unoffered v)) (arrives_in v.block.state cx (unoffered v) ip header bytes) (λ (a : Arrived). Stays a) (λ _. stays) (λ _. by v.block.state unread)
+      cond_both (is_void_syn header) (dropped (unoffered v)) (arrives_in v.block.state cx (unoffered v) ip header bytes) (λ (a : Arrived). Stays a) (λ _. stays)
+      (λ _. by v.block.state unread)
     where
       by : (state : State) → counts_in state header ≡ false → Stays (arrives_in state cx (unoffered v) ip header bytes)
       by In.Closed none = stays
@@ -130,10 +141,13 @@ pub socket_comes :
     → MeetsSocket peer (arrives cx s.socket ip header bytes).socket (with_answer s.past (arrives cx s.socket ip header bytes).answer)
     (if counts_in s.socket.block.state header then came ++ segment_of header bytes ∷ [] else came)
 socket_comes peer s came cx ip header bytes e honest m = by (counts_in s.socket.block.state header) refl where
-  by : (test : Bool) → counts_in s.socket.block.state header ≡ test → MeetsSocket peer (arrives cx s.socket ip header bytes).socket (with_answer s.past (arrives cx s.socket ip header bytes).answer) (if test then came ++ segment_of header bytes ∷ [] else came)
+  by : (test : Bool) → counts_in s.socket.block.state header ≡ test →
+      MeetsSocket peer (arrives cx s.socket ip header bytes).socket (with_answer s.past (arrives cx s.socket ip header bytes).answer) (if test then came ++
+      segment_of header bytes ∷ [] else came)
   by false unread = comes_unread peer s.socket s.past came header bytes e m cx ip unread
   by true counts =
       let m' = comes_honest peer s.socket s.past came header bytes e m counts (honest counts) in
       socket_step peer s.socket _ s.past _ (came ++ segment_of header bytes ∷ []) e
-      (λ w q still k. keeps_arrival cx s.socket w s.past q ip header bytes (length came) k (still (length came) (segment_of header bytes) (slice_get-last came (segment_of header bytes))))
+      (λ w q still k. keeps_arrival cx s.socket w s.past q ip header bytes (length came) k
+      (still (length came) (segment_of header bytes) (slice_get-last came (segment_of header bytes))))
       m'

@@ -1,5 +1,6 @@
 -- An acknowledgement that comes raises SND.UNA to its number.
-use Rattle.std.proofs.Common.{◌≡◌, inl, inr, ℕ, ◌+◌, ◌-◌, ◌%◌, ◌^◌, ◌<◌, ◌≤◌, ◌==◌, ◌&&◌, nat_le, nat_lt, not, ℤ, Bool, true, false, if◌then◌else◌, List, length, drop, Option, Some, None, refl, sym, ap, ◌∙◌, subst, arith}
+use Rattle.std.proofs.Common.{◌≡◌, inl, inr, ℕ, ◌+◌, ◌-◌, ◌%◌, ◌^◌, ◌<◌, ◌≤◌, ◌==◌, ◌&&◌, nat_le, nat_lt, not, ℤ, Bool, true, false, if◌then◌else◌, List}
+use Rattle.std.proofs.Common.{length, drop, Option, Some, None, refl, sym, ap, ◌∙◌, subst, arith}
 use Rattle.std.proofs.lemmas.Bool.{cond_both, le-ltb, lt-ltb, lt-leb}
 use Rattle.ip_wire.specs.IpRepr.{IpRepr}
 use Rattle.ip_wire.specs.Seq.{distance_of}
@@ -13,7 +14,8 @@ use Rattle.tcp_control.specs.declared.state.State.{State}
 use Rattle.tcp_control.specs.declared.state.State.TheVariants as In
 use Rattle.tcp_model.specs.Acknowledged.{acknowledged, names_window, windowed, duplicates_after}
 use Rattle.tcp_model.specs.Answers.{drawn, may_draw, with_draw, acked, answer_for}
-use Rattle.tcp_model.specs.Arrival.{arrives, arrives_in, is_void_syn, received, reset_comes, challenges_syn, checked, inside, taken, told, with_content, passed_outside, outside, tells_news, waiting_anew}
+use Rattle.tcp_model.specs.Arrival.{arrives, arrives_in, is_void_syn, received, reset_comes, challenges_syn, checked, inside, taken, told, with_content}
+use Rattle.tcp_model.specs.Arrival.{passed_outside, outside, tells_news, waiting_anew}
 use Rattle.tcp_model.specs.Checks.{Check, acknowledgement_check, opening_check, synchronized_check, is_in_window, lies_before}
 use Rattle.tcp_model.specs.Checks.Check.{Passes, Drops, Draws}
 use Rattle.tcp_model.specs.Probing.{probe_kept}
@@ -67,7 +69,8 @@ module _ (b : Block) (header : TcpHeader) (number : SeqNumber) (c : Counts b hea
   on : synchronized_check b by 0 ≡ Passes by
   on =
       if_not (nat_lt b.sender.top by) Draws (if (by == 0) && nat_le b.sender.past_iss 0 then Drops else Passes by) (le-ltb b.sender.top by c.sent)
-      ∙ if_not ((by == 0) && nat_le b.sender.past_iss 0) Drops (Passes by) (second (by == 0) (nat_le b.sender.past_iss 0) (lt-leb b.sender.past_iss 0 (none_left b.sender.past_iss c.opened)))
+      ∙ if_not ((by == 0) && nat_le b.sender.past_iss 0) Drops (Passes by)
+      (second (by == 0) (nat_le b.sender.past_iss 0) (lt-leb b.sender.past_iss 0 (none_left b.sender.past_iss c.opened)))
     where
       second : (x y : Bool) → y ≡ false → (x && y) ≡ false
       second true y e = e
@@ -76,7 +79,8 @@ module _ (b : Block) (header : TcpHeader) (number : SeqNumber) (c : Counts b hea
   pub passes : acknowledgement_check b header.ack_number ≡ Passes by
   passes =
       ap (acknowledgement_check b) c.acknowledges
-      ∙ (if_not (is_answering b.state) (opening_check by) (synchronized_check b (past_by b.sender.una number) (before_by b.sender.una number)) (not_answering b.state c.synchronized)
+      ∙ (if_not (is_answering b.state) (opening_check by) (synchronized_check b (past_by b.sender.una number) (before_by b.sender.una number))
+      (not_answering b.state c.synchronized)
       ∙ (ap (λ (past : ℕ). synchronized_check b past (before_by b.sender.una number)) is_past_by ∙ (ap (synchronized_check b by) is_before_by ∙ on)))
 
 -- past SYN-RECEIVED, what is neither a SYN nor a reset is checked by its acknowledgement
@@ -91,11 +95,15 @@ pub comes_to :
     (cx : ContextValue) (v : TcpValue) (ip : IpRepr) (header : TcpHeader) (bytes : List ℕ) (number : SeqNumber) → Counts v.block header number
     → arrives cx v ip header bytes ≡ checked (Passes (distance_of v.block.sender.una number)) cx (unoffered v) ip header bytes
 comes_to cx v ip header bytes number c =
-    if_not (is_void_syn header) (dropped (unoffered v)) (arrives_in v.block.state cx (unoffered v) ip header bytes) (and_not (is_syn header.control) (is_zero header.options.max_seg_size) c.no_syn)
+    if_not (is_void_syn header) (dropped (unoffered v)) (arrives_in v.block.state cx (unoffered v) ip header bytes)
+    (and_not (is_syn header.control) (is_zero header.options.max_seg_size) c.no_syn)
     ∙ (reaches v.block.state cx (unoffered v) ip header bytes (parts (is_past v.block.state) (not (is_answering v.block.state)) c.synchronized).0
     ∙ (if_not (is_rst header.control) (reset_comes cx (unoffered v) ip header (length bytes))
-    (if challenges_syn v.block header then drawn cx (unoffered v) ip header else checked (acknowledgement_check v.block header.ack_number) cx (unoffered v) ip header bytes) c.no_reset
-    ∙ (if_not (challenges_syn v.block header) (drawn cx (unoffered v) ip header) (checked (acknowledgement_check v.block header.ack_number) cx (unoffered v) ip header bytes) (and_not (is_syn header.control) (not (is_answering v.block.state)) c.no_syn)
+    (if challenges_syn v.block header then drawn cx (unoffered v) ip header else checked (acknowledgement_check v.block header.ack_number) cx (unoffered v) ip
+    header bytes) c.no_reset
+    ∙ (if_not (challenges_syn v.block header) (drawn cx (unoffered v) ip header)
+    (checked (acknowledgement_check v.block header.ack_number) cx (unoffered v) ip header bytes)
+    (and_not (is_syn header.control) (not (is_answering v.block.state)) c.no_syn)
     ∙ ap (λ (check : Check). checked check cx (unoffered v) ip header bytes) (passes v.block header number c))))
 
 -- WHAT KEEPS SND.UNA
@@ -106,7 +114,8 @@ module _ (cx : ContextValue) (ip : IpRepr) (header : TcpHeader) where
   answer_keeps v size fills (Some place) = refl
 
   fin_keeps : (b old : Block) (size advance : ℕ) (now : ℤ) → (with_fin b old header size advance now).sender ≡ b.sender
-  fin_keeps b old size advance now = cond_both (takes_fin old header size advance) (fin_taken b now) b (λ (new : Block). new.sender ≡ b.sender) (λ _. refl) (λ _. refl)
+  fin_keeps b old size advance now =
+      cond_both (takes_fin old header size advance) (fin_taken b now) b (λ (new : Block). new.sender ≡ b.sender) (λ _. refl) (λ _. refl)
 
   abbrev Same : TcpValue → Texted → Type 0
   Same v t = t.socket.block.sender ≡ v.block.sender
@@ -117,7 +126,9 @@ module _ (cx : ContextValue) (ip : IpRepr) (header : TcpHeader) where
       (λ _.
       cond_both (place == 0) (taken_in_order v map) (held_early v place map) (Same v)
       (λ _. refl)
-      (λ _. cond_both (nat_le (length (runs_of map)) 4) (texted (record v { received = received_of v.received.waiting map v.received.start }) 0 false (Some place)) (texted v 0 false None) (Same v) (λ _. refl) (λ _. refl)))
+      (λ _. cond_both (nat_le (length (runs_of map)) 4)
+      (texted (record v { received = received_of v.received.waiting map v.received.start }) 0 false (Some place)) (texted v 0 false None) (Same v)
+      (λ _. refl) (λ _. refl)))
       (λ _. refl)
     where
       place : ℕ
@@ -132,15 +143,18 @@ module _ (cx : ContextValue) (ip : IpRepr) (header : TcpHeader) where
   pub content_keeps : (v : TcpValue) (bytes : List ℕ) → (with_content cx v ip header bytes).socket.block.sender ≡ v.block.sender
   content_keeps v bytes =
       let t = with_text v header bytes in
-      answer_keeps (with_block t.socket (probe_kept (with_fin t.socket.block v.block header (length bytes) t.advance cx.moment) (queued_in t.socket))) (length bytes) t.fills t.early
+      answer_keeps (with_block t.socket (probe_kept (with_fin t.socket.block v.block header (length bytes) t.advance cx.moment) (queued_in t.socket)))
+      (length bytes) t.fills t.early
       ∙ (fin_keeps t.socket.block v.block (length bytes) t.advance cx.moment ∙ text_keeps v bytes)
 
   told_keeps : (v : TcpValue) (duplicates : ℕ) (now : ℤ) → (told v header duplicates now).block.sender.una ≡ v.block.sender.una
-  told_keeps v duplicates now = cond_both (names_window v.block header) (windowed v.block header) v.block (λ (b : Block). b.sender.una ≡ v.block.sender.una) (λ _. refl) (λ _. refl)
+  told_keeps v duplicates now =
+      cond_both (names_window v.block header) (windowed v.block header) v.block (λ (b : Block). b.sender.una ≡ v.block.sender.una) (λ _. refl) (λ _. refl)
 
   drawn_keeps : (v : TcpValue) → (drawn cx v ip header).socket.block.sender ≡ v.block.sender
   drawn_keeps v =
-      cond_both (may_draw cx.moment v.block.timers.draws_from) (acked cx (with_draw v cx.moment) ip header no_ranges) (dropped v) (λ (a : Arrived). a.socket.block.sender ≡ v.block.sender)
+      cond_both (may_draw cx.moment v.block.timers.draws_from) (acked cx (with_draw v cx.moment) ip header no_ranges) (dropped v)
+      (λ (a : Arrived). a.socket.block.sender ≡ v.block.sender)
       (λ _. refl) (λ _. refl)
 
 -- IT IS TAKEN
@@ -158,7 +172,8 @@ module _ (cx : ContextValue) (u : TcpValue) (ip : IpRepr) (header : TcpHeader) (
   moved_taken : Moved (taken cx u ip header bytes by)
   moved_taken =
       let w = acknowledged u by cx.moment in
-      cond_both (is_closed w.block.state) (dropped w) (with_content cx (told w header (duplicates_after u.block header (length bytes) by) cx.moment) ip header bytes) Moved
+      cond_both (is_closed w.block.state) (dropped w)
+      (with_content cx (told w header (duplicates_after u.block header (length bytes) by) cx.moment) ip header bytes) Moved
       (λ _. moves_una u by cx.moment)
       (λ _.
       ap (λ (s : Sender). s.una) (content_keeps cx ip header (told w header (duplicates_after u.block header (length bytes) by) cx.moment) bytes)
@@ -171,13 +186,16 @@ module _ (cx : ContextValue) (u : TcpValue) (ip : IpRepr) (header : TcpHeader) (
       (λ _. moves_una u by cx.moment)
       (λ _. ap (λ (s : Sender). s.una) (drawn_keeps cx ip header (waiting_anew w header cx.moment)) ∙ moves_una u by cx.moment)
 
-  moved_checked : is_syn header.control ≡ false → is_answering u.block.state ≡ false → IsNearWindow u header (length bytes) → Moved (checked (Passes by) cx u ip header bytes)
+  moved_checked : is_syn header.control ≡ false → is_answering u.block.state ≡ false → IsNearWindow u header (length bytes) →
+      Moved (checked (Passes by) cx u ip header bytes)
   moved_checked no_syn past there =
-      cond_both (is_in_window u.block (free_in u) header (length bytes)) (inside cx u ip header bytes by) (passed_outside cx u ip header (length bytes) by) Moved
+      cond_both (is_in_window u.block (free_in u) header (length bytes)) (inside cx u ip header bytes by)
+      (passed_outside cx u ip header (length bytes) by) Moved
       (λ _. cond_both (is_syn header.control) (drawn cx u ip header) (taken cx u ip header bytes by) Moved (λ syn. clash (sym syn ∙ no_syn)) (λ _. moved_taken))
       (λ out. before out there)
     where
-      before : is_in_window u.block (free_in u) header (length bytes) ≡ false → IsNearWindow u header (length bytes) → Moved (passed_outside cx u ip header (length bytes) by)
+      before : is_in_window u.block (free_in u) header (length bytes) ≡ false → IsNearWindow u header (length bytes) →
+          Moved (passed_outside cx u ip header (length bytes) by)
       before out (inl in_window) = clash (sym in_window ∙ out)
       before out (inr old) =
           subst Moved
@@ -190,5 +208,6 @@ pub una_rises :
     → IsNearWindow v header (length bytes) → (arrives cx v ip header bytes).socket.block.sender.una.0 ≡ number.0
 una_rises cx v ip header bytes number c there =
     ap (λ (a : Arrived). a.socket.block.sender.una.0) (comes_to cx v ip header bytes number c)
-    ∙ (ap (λ (s : SeqNumber). s.0) (moved_checked cx (unoffered v) ip header bytes (distance_of v.block.sender.una number) c.no_syn (not_answering v.block.state c.synchronized) there)
+    ∙ (ap (λ (s : SeqNumber). s.0)
+    (moved_checked cx (unoffered v) ip header bytes (distance_of v.block.sender.una number) c.no_syn (not_answering v.block.state c.synchronized) there)
     ∙ back_again v.block.sender.una.0 number.0 c.una_small c.number_small)

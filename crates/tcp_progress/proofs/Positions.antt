@@ -37,8 +37,10 @@ ends s t o counts = by_fin t.took_fin refl where
   by_fin : (fin : Bool) → t.took_fin ≡ fin → rcv_next t ≤ send_end s
   by_fin true e =
       let whole = o.fin e in
-      with_fin t.irs s.iss (length (taken_in t)) (length s.written) (one_in t.took_fin) (one_in s.closed) counts (ap length whole.whole) (ap one_in e) (ap one_in whole.closed)
-  by_fin false e = without t.irs s.iss (length (taken_in t)) (length s.written) (one_in t.took_fin) (one_in s.closed) counts (Begins-length (taken_in t) s.written o.received) (ap one_in e)
+      with_fin t.irs s.iss (length (taken_in t)) (length s.written) (one_in t.took_fin) (one_in s.closed) counts (ap length whole.whole) (ap one_in e)
+      (ap one_in whole.closed)
+  by_fin false e = without t.irs s.iss (length (taken_in t)) (length s.written) (one_in t.took_fin) (one_in s.closed) counts
+      (Begins-length (taken_in t) s.written o.received) (ap one_in e)
 
 far : (una next all una_number next_number : ℕ) → una ≤ next → next ≤ una + all → all < 2 ^ 30 → una_number ≡ una % 2 ^ 32 → next_number ≡ next % 2 ^ 32
     → una + (next_number + (2 ^ 32 - una_number)) % 2 ^ 32 ≡ next
@@ -78,7 +80,8 @@ lies_within v w p q k mine theirs step = record { position = position; within = 
 
   same_all : one_in v.block.sender.syn_unacked + queued_in v + one_in (owes_fin v.block.state) ≡ all
   same_all =
-      sum (one_in v.block.sender.syn_unacked) (one_if v.block.sender.syn_unacked) (queued_in v) (one_in (owes_fin v.block.state)) (one_if (owes_fin v.block.state))
+      sum (one_in v.block.sender.syn_unacked) (one_if v.block.sender.syn_unacked) (queued_in v) (one_in (owes_fin v.block.state))
+      (one_if (owes_fin v.block.state))
       (same_one v.block.sender.syn_unacked) (same_one (owes_fin v.block.state))
 
   end : s.una + all ≡ send_end s
@@ -88,7 +91,8 @@ lies_within v w p q k mine theirs step = record { position = position; within = 
   upper = subst (λ (n : ℕ). rcv_next t ≤ n) (sym end) (ends s t k.holds.0 step.counts)
 
   few : all < 2 ^ 30
-  few = all_short s.iss s.una (length s.written) (one_in s.closed) all (send_end s) k.holds.0.well_formed.una_low k.holds.0.well_formed.short (at_most_one s.closed) end refl
+  few = all_short s.iss s.una (length s.written) (one_in s.closed) all (send_end s) k.holds.0.well_formed.una_low k.holds.0.well_formed.short
+      (at_most_one s.closed) end refl
 
   position : s.una + distance_of v.block.sender.una w.block.receiver.next ≡ rcv_next t
   position = far s.una (rcv_next t) all v.block.sender.una.0 w.block.receiver.next.0 step.reached upper few f.una g.next

@@ -82,13 +82,17 @@ event_armed v (Listens endpoint) a =
 event_armed v (Connects cx remote local) a =
     cond_both (is_closed v.block.state) (connected_by v (pair_for cx remote local) (word (next_random cx).random)) (unoffered v) Armed
     (λ _. connected_armed v (pair_for cx remote local) (word (next_random cx).random) a) (λ _. a)
-event_armed v (Sends bytes) a = cond_both (takes_writes v.block.state) (sent_more v (enqueued (anchored v.queued) (take (min (length bytes) (length v.queued.free)) bytes))) (unoffered v) Armed (λ _. a) (λ _. a)
+event_armed v (Sends bytes) a =
+    cond_both (takes_writes v.block.state) (sent_more v (enqueued (anchored v.queued) (take (min (length bytes) (length v.queued.free)) bytes))) (unoffered v)
+    Armed (λ _. a) (λ _. a)
 event_armed v (Reads count) a = a
 event_armed v Closes a =
-    cond_both (is_opening v.block.state) (ended (unoffered v)) (with_block (unoffered v) (record v.block { state = after_close v.block.state })) Armed (λ _. a) (λ _. a)
+    cond_both (is_opening v.block.state) (ended (unoffered v)) (with_block (unoffered v) (record v.block { state = after_close v.block.state })) Armed
+    (λ _. a) (λ _. a)
 event_armed v Aborts a =
     cond_both (is_time_wait v.block.state) (ended (unoffered v))
-    (with_block (unoffered v) (record v.block { state = In.Closed; sender = record v.block.sender { reset_due = is_some v.block.names.pair } })) Armed (λ _. a) (λ _. a)
+    (with_block (unoffered v) (record v.block { state = In.Closed; sender = record v.block.sender { reset_due = is_some v.block.names.pair } })) Armed
+    (λ _. a) (λ _. a)
 
 -- ENDPOINTS
 
@@ -173,7 +177,8 @@ module _ (cx : ContextValue) (v : TcpValue) (n : Named v) where
     len = len;
   }
 
-  named_first : (pair : EndpointPair) (b : Block) → b.state ≡ v.block.state → b.names ≡ v.block.names → FirstRules cx pair NamedBoth (with_block (unoffered v) b)
+  named_first : (pair : EndpointPair) (b : Block) → b.state ≡ v.block.state → b.names ≡ v.block.names →
+      FirstRules cx pair NamedBoth (with_block (unoffered v) b)
   named_first pair b state names = record {
     syn = λ _. (m, m);
     again = λ _ _. (m, m);
@@ -181,7 +186,8 @@ module _ (cx : ContextValue) (v : TcpValue) (n : Named v) where
     last = λ _.
         record {
           probe = λ _ _.
-              let o = opened_by Kind.Probe x pair (segment x.block pair cx.moment (window_of x) (control_for probe_choice (queued_in x)) (number_at x.block 0)) 0 1 in
+              let o = opened_by Kind.Probe x pair
+              (segment x.block pair cx.moment (window_of x) (control_for probe_choice (queued_in x)) (number_at x.block 0)) 0 1 in
               (asked_named (probed (recorded x.block o (room_of x.received)) (end_of (recorded x.block o (room_of x.received)) o) cx.moment) m, m);
           held_back = λ _ _. (m, m);
           ack = λ _. (m, m);
@@ -235,7 +241,8 @@ event_named v (Connects cx remote local) n =
     cond_both (is_closed v.block.state) (connected_by v (pair_for cx remote local) (word (next_random cx).random)) (unoffered v) Named
     (λ _. connected_named v (pair_for cx remote local) (word (next_random cx).random) n) (λ _. n)
 event_named v (Sends bytes) n =
-    cond_both (takes_writes v.block.state) (sent_more v (enqueued (anchored v.queued) (take (min (length bytes) (length v.queued.free)) bytes))) (unoffered v) Named (λ _. n) (λ _. n)
+    cond_both (takes_writes v.block.state) (sent_more v (enqueued (anchored v.queued) (take (min (length bytes) (length v.queued.free)) bytes))) (unoffered v)
+    Named (λ _. n) (λ _. n)
 event_named v (Reads count) n = n
 event_named v Closes n =
     cond_both (is_opening v.block.state) (ended (unoffered v)) (with_block (unoffered v) (record v.block { state = after_close v.block.state })) Named
@@ -287,7 +294,8 @@ waiting v r o =
     let it = some_pair v.block.names.pair (r.named o.alive o.connected) in
     (it.0, record { named = it.1; alive = o.alive; owes = o.owes; unpaused = o.unpaused; order = r.order; armed = r.armed })
 
-pub names_in : (p : PairValue) (side : Side) (cx : ContextValue) → IsReached p → Owes (at p.sides side).socket → poll_of cx.ip_mtu (at p.sides side).socket ≡ At.Ingress → ⊥
+pub names_in : (p : PairValue) (side : Side) (cx : ContextValue) → IsReached p → Owes (at p.sides side).socket →
+    poll_of cx.ip_mtu (at p.sides side).socket ≡ At.Ingress → ⊥
 names_in p side cx r o =
     let w = waiting (at p.sides side).socket (ready_side p side r) o in names_moment cx (at p.sides side).socket w.0 w.1
 

@@ -1,5 +1,6 @@
 -- Text and a FIN that come at RCV.NXT, or begin before it, raise it; what was taken already is answered.
-use Rattle.std.proofs.Common.{◌≡◌, ◌⊎◌, inl, inr, ℕ, ◌+◌, ◌-◌, ◌%◌, ◌^◌, ◌<◌, ◌≤◌, ◌==◌, ◌&&◌, ◌||◌, nat_le, nat_lt, not, min, ℤ, ◌≤ℤ◌, int_lt, pos, ◌+ℤ◌, Bool, true, false, if◌then◌else◌, List, [], ◌∷◌, length, drop, Option, Some, None, refl, sym, ap, ◌∙◌, subst, arith, length-drop}
+use Rattle.std.proofs.Common.{◌≡◌, ◌⊎◌, inl, inr, ℕ, ◌+◌, ◌-◌, ◌%◌, ◌^◌, ◌<◌, ◌≤◌, ◌==◌, ◌&&◌, ◌||◌, nat_le, nat_lt, not, min, ℤ, ◌≤ℤ◌, int_lt, pos, ◌+ℤ◌, Bool}
+use Rattle.std.proofs.Common.{true, false, if◌then◌else◌, List, [], ◌∷◌, length, drop, Option, Some, None, refl, sym, ap, ◌∙◌, subst, arith, length-drop}
 use Rattle.std.proofs.lemmas.Bool.{cond_both, le-ltb, lt-ltb, eq-eqb, ne_eqb, le-leb, ltb-true, ltb-false}
 use Rattle.std.proofs.lemmas.Int.{ints}
 use Rattle.ip_wire.specs.Control.{control_len}
@@ -90,7 +91,8 @@ new_is_inside v header size n =
 
 meets_not : (d size space : ℕ) → 1 ≤ size → size ≤ d → meets_window d 0 size space ≡ false
 meets_not d size space some e =
-    if_not (size == 0) ((d == 0) && true) (nat_lt 0 space && nat_lt d size) (ne_eqb size 0 (none size some)) ∙ second (nat_lt 0 space) (nat_lt d size) (le-ltb d size e)
+    if_not (size == 0) ((d == 0) && true) (nat_lt 0 space && nat_lt d size) (ne_eqb size 0 (none size some)) ∙
+    second (nat_lt 0 space) (nat_lt d size) (le-ltb d size e)
   where
     none : (n : ℕ) → 1 ≤ n → n ≡ 0 → ⊥
     none n e f = absurd (omega arith)
@@ -153,13 +155,16 @@ module _ (b : Block) (header : TcpHeader) (size : ℕ) (fills : Bool) (now : ℤ
   within : (is_fin header.control ≡ true) ⊎ ((size == 0) ≡ false) → Within (ack_moment_after b header size fills now)
   within (inl fin) =
       subst (λ (f : Bool). Within (if f || fills then Some now
-      else if size == 0 then b.timers.ack_at else if b.timers.text_unacked then Some now else Some (sooner b.timers.ack_at (delayed now b.settings.ack_delay)))) (sym fin) at_once
+      else if size == 0 then b.timers.ack_at else if b.timers.text_unacked then Some now else Some (sooner b.timers.ack_at (delayed now b.settings.ack_delay))))
+      (sym fin) at_once
   within (inr some) =
       cond_both (is_fin header.control || fills) (Some now)
-      (if size == 0 then b.timers.ack_at else if b.timers.text_unacked then Some now else Some (sooner b.timers.ack_at (delayed now b.settings.ack_delay))) Within
+      (if size == 0 then b.timers.ack_at else if b.timers.text_unacked then Some now else Some
+      (sooner b.timers.ack_at (delayed now b.settings.ack_delay))) Within
       (λ _. at_once)
       (λ _.
-      cond_both (size == 0) b.timers.ack_at (if b.timers.text_unacked then Some now else Some (sooner b.timers.ack_at (delayed now b.settings.ack_delay))) Within
+      cond_both (size == 0) b.timers.ack_at
+      (if b.timers.text_unacked then Some now else Some (sooner b.timers.ack_at (delayed now b.settings.ack_delay))) Within
       (λ none. clash (sym none ∙ some))
       (λ _.
       cond_both b.timers.text_unacked (Some now) (Some (sooner b.timers.ack_at (delayed now b.settings.ack_delay))) Within
@@ -198,7 +203,8 @@ fin_only Control.Syn d size no_syn e f = clash no_syn
 fin_only Control.Fin d size no_syn e f = (refl, omega arith)
 fin_only Control.Rst d size no_syn e f = absurd (omega arith)
 
-module _ (cx : ContextValue) (ip : IpRepr) (header : TcpHeader) (bytes : List ℕ) (x : TcpValue) (n : IsNew x header (length bytes)) (no_syn : is_syn header.control ≡ false) where
+module _ (cx : ContextValue) (ip : IpRepr) (header : TcpHeader) (bytes : List ℕ) (x : TcpValue) (n : IsNew x header (length bytes))
+    (no_syn : is_syn header.control ≡ false) where
   abbrev d : ℕ
   d = distance_of header.seq_number x.block.receiver.next
 
@@ -231,7 +237,8 @@ module _ (cx : ContextValue) (ip : IpRepr) (header : TcpHeader) (bytes : List �
     new : (takes_text x.block.state && has_new_text x 0 rest) ≡ true
     new =
         ap (λ (t : Bool). t && has_new_text x 0 rest) n.takes
-        ∙ (ap (λ (t : Bool). not t && nat_lt 0 (free_in x)) (ne_eqb (length rest) 0 (lots (length rest) (length bytes) long more)) ∙ lt-ltb 0 (free_in x) n.room)
+        ∙ (ap (λ (t : Bool). not t && nat_lt 0 (free_in x)) (ne_eqb (length rest) 0 (lots (length rest) (length bytes) long more)) ∙
+        lt-ltb 0 (free_in x) n.room)
 
     map : List (Option ℕ)
     map = laid x 0 rest
@@ -264,16 +271,20 @@ module _ (cx : ContextValue) (ip : IpRepr) (header : TcpHeader) (bytes : List �
       next = next;
       some = one;
       all = enough;
-      due = subst (λ (wait : Option ℕ). IsDueWithin (ack_moment_after (probe_kept b (queued_in x)) header (length bytes) (is_holding x) cx.moment) (delayed cx.moment wait)) delay
+      due = subst (λ (wait : Option ℕ). IsDueWithin (ack_moment_after (probe_kept b (queued_in x)) header (length bytes) (is_holding x) cx.moment)
+          (delayed cx.moment wait)) delay
           (within (probe_kept b (queued_in x)) header (length bytes) (is_holding x) cx.moment (inr not_empty));
     }
 
     taken_text : Risen (finished cx x.block (taken_in_order x map) ip header (length bytes))
     taken_text =
-        cond_both (takes_fin x.block header (length bytes) advance) (fin_taken (taken_in_order x map).socket.block cx.moment) (taken_in_order x map).socket.block
-        (λ (b : Block). Risen (answer_for cx (with_block (taken_in_order x map).socket (probe_kept b (queued_in x))) ip header (length bytes) (is_holding x) None))
+        cond_both (takes_fin x.block header (length bytes) advance) (fin_taken (taken_in_order x map).socket.block cx.moment)
+        (taken_in_order x map).socket.block
+        (λ (b : Block). Risen (answer_for cx (with_block (taken_in_order x map).socket (probe_kept b (queued_in x))) ip header (length bytes)
+        (is_holding x) None))
         (λ _.
-        with_fin_or_not (fin_taken (taken_in_order x map).socket.block cx.moment) (advance + 1) (ap number (twice x.block.receiver.next.0 advance)) (some_more advance some)
+        with_fin_or_not (fin_taken (taken_in_order x map).socket.block cx.moment) (advance + 1) (ap number (twice x.block.receiver.next.0 advance))
+        (some_more advance some)
         (one_more (min (length bytes - d) (free_in x)) advance all) refl)
         (λ _. with_fin_or_not (taken_in_order x map).socket.block advance refl some all refl)
 
@@ -300,8 +311,10 @@ module _ (cx : ContextValue) (ip : IpRepr) (header : TcpHeader) (bytes : List �
 
     takes : takes_fin x.block header (length bytes) 0 ≡ true
     takes =
-        ap (λ (t : Bool). t && (takes_text x.block.state && ((past_by x.block.receiver.next header.seq_number == 0) && (before_by x.block.receiver.next header.seq_number + 0 == length bytes)))) fin.0
-        ∙ (ap (λ (t : Bool). t && ((past_by x.block.receiver.next header.seq_number == 0) && (before_by x.block.receiver.next header.seq_number + 0 == length bytes))) n.takes
+        ap (λ (t : Bool). t && (takes_text x.block.state &&
+        ((past_by x.block.receiver.next header.seq_number == 0) && (before_by x.block.receiver.next header.seq_number + 0 == length bytes)))) fin.0
+        ∙ (ap (λ (t : Bool). t &&
+        ((past_by x.block.receiver.next header.seq_number == 0) && (before_by x.block.receiver.next header.seq_number + 0 == length bytes))) n.takes
         ∙ (ap (λ (p : ℕ). (p == 0) && (before_by x.block.receiver.next header.seq_number + 0 == length bytes)) at_next.past
         ∙ (ap (λ (k : ℕ). k + 0 == length bytes) at_next.before ∙ eq-eqb (d + 0) (length bytes) fin.1)))
 
@@ -344,7 +357,8 @@ open_on : (state : State) → takes_text state ≡ true → is_closed state ≡ 
 open_on In.Closed e = clash (sym e)
 open_on other e = refl
 
-module _ (cx : ContextValue) (u : TcpValue) (ip : IpRepr) (header : TcpHeader) (bytes : List ℕ) (by : ℕ) (n : IsNew u header (length bytes)) (no_syn : is_syn header.control ≡ false) where
+module _ (cx : ContextValue) (u : TcpValue) (ip : IpRepr) (header : TcpHeader) (bytes : List ℕ) (by : ℕ) (n : IsNew u header (length bytes))
+    (no_syn : is_syn header.control ≡ false) where
   abbrev TextRises : Arrived → Type 0
   TextRises a = Rises cx u header (length bytes) a
 
@@ -368,10 +382,12 @@ module _ (cx : ContextValue) (u : TcpValue) (ip : IpRepr) (header : TcpHeader) (
       (λ closed. clash (sym closed ∙ open_on (state_after_ack u.block by (queued_in u)) takes_after))
       (λ alive.
       let x = acked_open u by cx.moment in
-      cond_both (is_closed x.block.state) (dropped x) (with_content cx (told x header (duplicates_after u.block header (length bytes) by) cx.moment) ip header bytes) TextRises
+      cond_both (is_closed x.block.state) (dropped x)
+      (with_content cx (told x header (duplicates_after u.block header (length bytes) by) cx.moment) ip header bytes) TextRises
       (λ closed. clash (sym closed ∙ alive))
       (λ _.
-      cond_both (names_window x.block header) (windowed x.block header) x.block (λ (b : Block). TextRises (with_content cx (heeded cx.moment header (length bytes) u by b) ip header bytes))
+      cond_both (names_window x.block header) (windowed x.block header) x.block
+      (λ (b : Block). TextRises (with_content cx (heeded cx.moment header (length bytes) u by b) ip header bytes))
       (λ _.
       let y = heeded cx.moment header (length bytes) u by (windowed x.block header) in
       let r = content_rises cx ip header bytes y (new_of y takes_after refl refl) no_syn in
@@ -384,7 +400,8 @@ module _ (cx : ContextValue) (u : TcpValue) (ip : IpRepr) (header : TcpHeader) (
   rises_checked : TextRises (checked (Passes by) cx u ip header bytes)
   rises_checked =
       subst TextRises
-      (sym (if_so (is_in_window u.block (free_in u) header (length bytes)) (inside cx u ip header bytes by) (passed_outside cx u ip header (length bytes) by) (new_is_inside u header (length bytes) n)
+      (sym (if_so (is_in_window u.block (free_in u) header (length bytes)) (inside cx u ip header bytes by) (passed_outside cx u ip header (length bytes) by)
+      (new_is_inside u header (length bytes) n)
       ∙ if_not (is_syn header.control) (drawn cx u ip header) (taken cx u ip header bytes by) no_syn))
       rises_taken
 
@@ -392,7 +409,8 @@ module _ (cx : ContextValue) (u : TcpValue) (ip : IpRepr) (header : TcpHeader) (
 unoffered_new : (v : TcpValue) (header : TcpHeader) (size : ℕ) → IsNew v header size → IsNew (unoffered v) header size
 unoffered_new v header size n = record { takes = n.takes; room = n.room; begins = n.begins; ends = n.ends; seq_small = n.seq_small; next_small = n.next_small }
 
-offered_rises : (cx : ContextValue) (v : TcpValue) (header : TcpHeader) (size : ℕ) (a : Arrived) → Rises cx (unoffered v) header size a → Rises cx v header size a
+offered_rises : (cx : ContextValue) (v : TcpValue) (header : TcpHeader) (size : ℕ) (a : Arrived) → Rises cx (unoffered v) header size a →
+    Rises cx v header size a
 offered_rises cx v header size a r = record { by = r.by; next = r.next; some = r.some; all = r.all; due = r.due }
 
 pub next_rises :
@@ -406,7 +424,8 @@ next_rises cx v ip header bytes number c n =
 
 -- WHAT WAS TAKEN ALREADY
 
-module _ (cx : ContextValue) (u : TcpValue) (ip : IpRepr) (header : TcpHeader) (bytes : List ℕ) (by : ℕ) (may : may_draw cx.moment u.block.timers.draws_from ≡ true) where
+module _ (cx : ContextValue) (u : TcpValue) (ip : IpRepr) (header : TcpHeader) (bytes : List ℕ) (by : ℕ)
+    (may : may_draw cx.moment u.block.timers.draws_from ≡ true) where
   abbrev Answered : Arrived → Type 0
   Answered a = (is_closed a.socket.block.state ≡ true) ⊎ IsAnswered u a
 
@@ -423,14 +442,16 @@ module _ (cx : ContextValue) (u : TcpValue) (ip : IpRepr) (header : TcpHeader) (
       (λ _.
       inr
       (record {
-        reply = reply_to ip (hops_of u.block.settings.hop_limit) (sack_segment (with_draw y cx.moment).block (pair_in ip header) cx.moment (window_of (with_draw y cx.moment)) no_ranges);
+        reply = reply_to ip (hops_of u.block.settings.hop_limit)
+            (sack_segment (with_draw y cx.moment).block (pair_in ip header) cx.moment (window_of (with_draw y cx.moment)) no_ranges);
         answer = refl;
         acknowledges = refl;
         bare = refl;
       }))
       (λ no. clash (sym may ∙ no))))
 
-answered_too : (v : TcpValue) (a : Arrived) → (is_closed a.socket.block.state ≡ true) ⊎ IsAnswered (unoffered v) a → (is_closed a.socket.block.state ≡ true) ⊎ IsAnswered v a
+answered_too : (v : TcpValue) (a : Arrived) → (is_closed a.socket.block.state ≡ true) ⊎ IsAnswered (unoffered v) a → (is_closed a.socket.block.state ≡ true) ⊎
+    IsAnswered v a
 answered_too v a (inl closed) = inl closed
 answered_too v a (inr r) = inr (record { reply = r.reply; answer = r.answer; acknowledges = r.acknowledges; bare = r.bare })
 
@@ -443,7 +464,9 @@ again_answered cx v ip header bytes number c n may =
     let u = unoffered v in
     subst (λ (a : Arrived). (is_closed a.socket.block.state ≡ true) ⊎ IsAnswered v a)
     (sym (comes_to cx v ip header bytes number c
-    ∙ (if_not (is_in_window v.block (free_in v) header (length bytes)) (inside cx u ip header bytes by) (passed_outside cx u ip header (length bytes) by) (again_is_outside v header (length bytes) n)
+    ∙ (if_not (is_in_window v.block (free_in v) header (length bytes)) (inside cx u ip header bytes by) (passed_outside cx u ip header (length bytes) by)
+    (again_is_outside v header (length bytes) n)
     ∙ if_so (tells_news u header (length bytes)) (outside cx (acknowledged u by cx.moment) ip header) (outside cx u ip header)
-    (ap (λ (t : Bool). not t && lies_before v.block (room_of v.received) header (length bytes)) (not_answering v.block.state c.synchronized) ∙ again_lies_before v header (length bytes) n))))
+    (ap (λ (t : Bool). not t && lies_before v.block (room_of v.received) header (length bytes)) (not_answering v.block.state c.synchronized) ∙
+    again_lies_before v header (length bytes) n))))
     (answered_too v (outside cx (acknowledged u by cx.moment) ip header) (answered_outside cx u ip header bytes by may))

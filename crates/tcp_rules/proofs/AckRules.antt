@@ -1,5 +1,6 @@
 -- An acknowledgement that is due.
-use Rattle.std.proofs.Common.{◌≡◌, ◌⊎◌, inl, inr, ⊎_elim, take, ℕ, ◌==◌, ◌&&◌, ◌||◌, min, not, ℤ, ◌≤ℤ◌, int_le, int_lt, pos, ◌+ℤ◌, Bool, true, false, if◌then◌else◌, List, length, Option, Some, None, is_some, refl, sym, ap, ◌∙◌, subst, arith}
+use Rattle.std.proofs.Common.{◌≡◌, ◌⊎◌, inl, inr, ⊎_elim, take, ℕ, ◌==◌, ◌&&◌, ◌||◌, min, not, ℤ, ◌≤ℤ◌, int_le, int_lt, pos, ◌+ℤ◌, Bool, true, false}
+use Rattle.std.proofs.Common.{if◌then◌else◌, List, length, Option, Some, None, is_some, refl, sym, ap, ◌∙◌, subst, arith}
 use Rattle.std.proofs.lemmas.Bool.{cond_both}
 use Rattle.std.proofs.lemmas.Int.{ints}
 use Rattle.ip_wire.specs.IpRepr.{IpRepr}
@@ -74,10 +75,12 @@ module _ (b : Block) (header : TcpHeader) (size : ℕ) (fills : Bool) (now : ℤ
   within_text : (size == 0) ≡ false → Within (ack_moment_after b header size fills now)
   within_text some =
       cond_both (is_fin header.control || fills) (Some now)
-      (if size == 0 then b.timers.ack_at else if b.timers.text_unacked then Some now else Some (sooner b.timers.ack_at (delayed now b.settings.ack_delay))) Within
+      (if size == 0 then b.timers.ack_at else if b.timers.text_unacked then Some now else Some
+      (sooner b.timers.ack_at (delayed now b.settings.ack_delay))) Within
       (λ _. at_once)
       (λ _.
-      cond_both (size == 0) b.timers.ack_at (if b.timers.text_unacked then Some now else Some (sooner b.timers.ack_at (delayed now b.settings.ack_delay))) Within
+      cond_both (size == 0) b.timers.ack_at
+      (if b.timers.text_unacked then Some now else Some (sooner b.timers.ack_at (delayed now b.settings.ack_delay))) Within
       (λ none. absurd (let clash : true ≡ false = sym none ∙ some in cc))
       (λ _.
       cond_both b.timers.text_unacked (Some now) (Some (sooner b.timers.ack_at (delayed now b.settings.ack_delay))) Within
@@ -93,7 +96,8 @@ module _ (b : Block) (header : TcpHeader) (size : ℕ) (fills : Bool) (now : ℤ
   within_fin : is_fin header.control ≡ true → Within (ack_moment_after b header size fills now)
   within_fin fin =
       subst (λ (f : Bool). Within (if f || fills then Some now
-      else if size == 0 then b.timers.ack_at else if b.timers.text_unacked then Some now else Some (sooner b.timers.ack_at (delayed now b.settings.ack_delay)))) (sym fin) at_once
+      else if size == 0 then b.timers.ack_at else if b.timers.text_unacked then Some now else Some (sooner b.timers.ack_at (delayed now b.settings.ack_delay))))
+      (sym fin) at_once
 
   -- what is due by a moment is due by it still
   still_due : (t : ℤ) → int_le now t ≡ true → IsDueBy t b → is_due t (ack_moment_after b header size fills now) ≡ true
@@ -131,14 +135,16 @@ module _ (cx : ContextValue) (v : TcpValue) (ip : IpRepr) (header : TcpHeader) (
       is_past a.socket.block.state ≡ true → (a.socket.block.receiver.next ≡ v.block.receiver.next → ⊥)
       → IsDueWithin a.socket.block.timers.ack_at (delayed cx.moment v.block.settings.ack_delay)
 
-  due_content : (x : TcpValue) → x.block.receiver.next ≡ v.block.receiver.next → x.block.settings.ack_delay ≡ v.block.settings.ack_delay → Content cx ip header bytes Due x
+  due_content : (x : TcpValue) → x.block.receiver.next ≡ v.block.receiver.next → x.block.settings.ack_delay ≡ v.block.settings.ack_delay →
+      Content cx ip header bytes Due x
   due_content x next delay = record {
     plain = λ _ moved. absurd (moved next);
     fin = λ fin _ _ _. again _ (within_fin (kept x (fin_taken x.block cx.moment)).block header (length bytes) false cx.moment fin);
     ordered = λ map _ _ some _ _.
         let t = (taken_in_order x map).socket in again _ (within_text (kept t t.block).block header (length bytes) (is_holding x) cx.moment some);
     ordered_fin = λ map _ fin _ _ _.
-        let t = (taken_in_order x map).socket in again _ (within_fin (kept t (fin_taken t.block cx.moment)).block header (length bytes) (is_holding x) cx.moment fin);
+        let t = (taken_in_order x map).socket in
+        again _ (within_fin (kept t (fin_taken t.block cx.moment)).block header (length bytes) (is_holding x) cx.moment fin);
     early = λ map place _ _ _ moved. absurd (moved next);
   }
     where
@@ -236,7 +242,8 @@ module _ (cx : ContextValue) (v : TcpValue) (t : ℤ) (due : IsDueBy t v.block) 
 
   kept_silent : (changed : Bool) (w : TcpValue) → w.offered ≡ None → (is_past w.block.state ≡ false) ⊎ IsDueBy t w.block → Kept (silent changed w)
   kept_silent changed w none stays = (
-    subst (λ (x : Option OpenOffer). (is_past (sent_off x (unoffered w)).block.state ≡ false) ⊎ ((offer_acks w.offered ≡ true) ⊎ IsDueBy t (sent_off x (unoffered w)).block)) (sym none)
+    subst (λ (x : Option OpenOffer). (is_past (sent_off x (unoffered w)).block.state ≡ false) ⊎
+        ((offer_acks w.offered ≡ true) ⊎ IsDueBy t (sent_off x (unoffered w)).block)) (sym none)
         (⊎_elim (λ past. inl past) (λ e. inr (inr e)) stays),
     stays,
   )
@@ -258,7 +265,8 @@ module _ (cx : ContextValue) (v : TcpValue) (t : ℤ) (due : IsDueBy t v.block) 
         ⊎ ((offer_acks (offer_syn cx w pair).socket.offered ≡ true) ⊎ IsDueBy t (settled true (offer_syn cx w pair).socket).block)
     at true e = inr (inl (ap (λ (heard : Bool). is_some (if heard then Some w.block.receiver.next else None)) e))
     at false e =
-        inr (inr (subst (λ (heard : Bool). is_due t (if is_some (if heard then Some w.block.receiver.next else None) then None else w.block.timers.ack_at) ≡ true) (sym e) still))
+        inr (inr (subst (λ (heard : Bool). is_due t (if is_some (if heard then Some w.block.receiver.next else None) then None else w.block.timers.ack_at) ≡
+        true) (sym e) still))
 
   kept_first : (pair : EndpointPair) (w : TcpValue) → w.offered ≡ None → IsDueBy t w.block → FirstRules cx pair Kept w
   kept_first pair w none still = record {
@@ -299,7 +307,8 @@ stays_due v (Comes cx ip header bytes) t past by due = stays_arrival cx v ip hea
 stays_due v (Asked cx true) t past by due = (kept_offer cx v t due).0
 stays_due v (Asked cx false) t past by due = ⊎_elim (λ over. inl over) (λ still. inr (inr still)) (kept_offer cx v t due).1
 stays_due v (Listens endpoint) t past by due =
-    cond_both (is_closed v.block.state && not (endpoint.port == 0)) (listening v endpoint) (unoffered v) (λ (w : TcpValue). (is_past w.block.state ≡ false) ⊎ ((false ≡ true) ⊎ IsDueBy t w.block))
+    cond_both (is_closed v.block.state && not (endpoint.port == 0)) (listening v endpoint) (unoffered v) (λ (w : TcpValue). (is_past w.block.state ≡ false) ⊎
+    ((false ≡ true) ⊎ IsDueBy t w.block))
     (λ _. inl refl) (λ _. inr (inr due))
 stays_due v (Connects cx remote local) t past by due =
     cond_both (is_closed v.block.state) (connected_by v (pair_for cx remote local) (word (next_random cx).random)) (unoffered v)
@@ -343,7 +352,8 @@ module _ (cx : ContextValue) (v : TcpValue) (heard : v.block.receiver.took_syn �
   is_owed : is_due cx.moment (ack_moment v.block) ≡ true
   is_owed = subst (λ (took : Bool). is_due cx.moment (if took then v.block.timers.ack_at else None) ≡ true) (sym heard) due
 
-  goes_last : (pair : EndpointPair) (x : TcpValue) → x.block.receiver ≡ v.block.receiver → is_due cx.moment (ack_moment x.block) ≡ true → LastRules cx pair Offers x
+  goes_last : (pair : EndpointPair) (x : TcpValue) → x.block.receiver ≡ v.block.receiver → is_due cx.moment (ack_moment x.block) ≡ true →
+      LastRules cx pair Offers x
   goes_last pair x same owed = record {
     probe = λ _ _. record { offer = _; offered = refl; acknowledges = next };
     held_back = λ _ _. record { offer = _; offered = refl; acknowledges = next };
@@ -356,7 +366,8 @@ module _ (cx : ContextValue) (v : TcpValue) (heard : v.block.receiver.took_syn �
       next : Some x.block.receiver.next ≡ Some v.block.receiver.next
       next = ap (λ (r : Receiver). Some r.next) same
 
-  goes_first : (pair : EndpointPair) (w : TcpValue) → w.block.receiver ≡ v.block.receiver → is_due cx.moment (ack_moment w.block) ≡ true → FirstRules cx pair Offers w
+  goes_first : (pair : EndpointPair) (w : TcpValue) → w.block.receiver ≡ v.block.receiver → is_due cx.moment (ack_moment w.block) ≡ true →
+      FirstRules cx pair Offers w
   goes_first pair w same owed = record {
     syn = λ _. record { offer = _; offered = refl; acknowledges = acked };
     again = λ _ _. record { offer = _; offered = refl; acknowledges = next };
@@ -368,7 +379,8 @@ module _ (cx : ContextValue) (v : TcpValue) (heard : v.block.receiver.took_syn �
       next = ap (λ (r : Receiver). Some r.next) same
 
       acked : next_if_heard w.block ≡ Some v.block.receiver.next
-      acked = ap (λ (r : Receiver). if r.took_syn then Some r.next else None) same ∙ ap (λ (took : Bool). if took then Some v.block.receiver.next else None) heard
+      acked = ap (λ (r : Receiver). if r.took_syn then Some r.next else None) same ∙
+          ap (λ (took : Bool). if took then Some v.block.receiver.next else None) heard
 
   goes_rules : (pair : EndpointPair) → v.block.names.pair ≡ Some pair → GoesOn cx v → Rules cx v Offers
   goes_rules pair named on = record {

@@ -1,5 +1,6 @@
 -- A segment that comes, case by case: what holds of what each case leads to holds of the arrival.
-use Rattle.std.proofs.Common.{◌≡◌, ℕ, zero, suc, ◌+◌, ◌==◌, ◌&&◌, nat_le, nat_lt, not, ℤ, Bool, true, false, if◌then◌else◌, List, [], ◌∷◌, length, drop, Option, Some, None, is_some, refl, sym, ap, ◌∙◌, subst, arith}
+use Rattle.std.proofs.Common.{◌≡◌, ℕ, zero, suc, ◌+◌, ◌==◌, ◌&&◌, nat_le, nat_lt, not, ℤ, Bool, true, false, if◌then◌else◌, List, [], ◌∷◌, length, drop, Option}
+use Rattle.std.proofs.Common.{Some, None, is_some, refl, sym, ap, ◌∙◌, subst, arith}
 use Rattle.std.proofs.lemmas.Bool.{cond_both, eqb-true}
 use Rattle.held_bytes.specs.Held.{runs_of}
 use Rattle.ip_wire.specs.IpRepr.{IpRepr}
@@ -13,10 +14,12 @@ use Rattle.tcp_control.specs.declared.state.State.{State}
 use Rattle.tcp_control.specs.declared.state.State.TheVariants as In
 use Rattle.tcp_law.specs.ReceiveMap.{store, front}
 use Rattle.net_base.specs.Ring.{released}
-use Rattle.tcp_model.specs.Acknowledged.{acknowledged, duplicates_after, names_window, windowed, stamp_taken, ranges_taken, counted, ended_if, in_state, una_moved, state_after_ack, freed_by}
+use Rattle.tcp_model.specs.Acknowledged.{acknowledged, duplicates_after, names_window, windowed, stamp_taken, ranges_taken, counted, ended_if, in_state}
+use Rattle.tcp_model.specs.Acknowledged.{una_moved, state_after_ack, freed_by}
 use Rattle.tcp_model.specs.Blocks.{forgotten}
 use Rattle.tcp_model.specs.Answers.{drawn, may_draw, with_draw, acked, answer_for, ranges_held, ack_due}
-use Rattle.tcp_model.specs.Arrival.{waiting_anew, outside, passed_outside, tells_news, finished, with_content, told, taken, inside, checked, continued, takes_reset, challenges_reset, reset_comes, challenges_syn, received, arrives_in, arrives, is_void_syn}
+use Rattle.tcp_model.specs.Arrival.{waiting_anew, outside, passed_outside, tells_news, finished, with_content, told, taken, inside, checked, continued}
+use Rattle.tcp_model.specs.Arrival.{takes_reset, challenges_reset, reset_comes, challenges_syn, received, arrives_in, arrives, is_void_syn}
 use Rattle.tcp_model.specs.Calls.{listening}
 use Rattle.tcp_model.specs.Checks.{Check, acknowledgement_check, is_in_window, taken_down, falls_back}
 use Rattle.tcp_model.specs.Checks.Check.{Passes, Old, Drops, Draws, Resets}
@@ -24,7 +27,8 @@ use Rattle.tcp_model.specs.Opening.{is_first_syn, opens, takes_answer, acks_syn,
 use Rattle.tcp_model.specs.Probing.{probe_kept}
 use Rattle.tcp_model.specs.Retries.{heard}
 use Rattle.tcp_model.specs.Segments.{no_ranges, rst_reply}
-use Rattle.tcp_model.specs.Text.{Texted, texted, with_text, with_text_at, with_bytes_at, taken_in_order, held_early, is_holding, laid, has_new_text, with_fin, takes_fin, fin_taken, is_at_fin}
+use Rattle.tcp_model.specs.Text.{Texted, texted, with_text, with_text_at, with_bytes_at, taken_in_order, held_early, is_holding, laid, has_new_text, with_fin}
+use Rattle.tcp_model.specs.Text.{takes_fin, fin_taken, is_at_fin}
 use Rattle.tcp_model.specs.Timeout.{timeout_restarted}
 use Rattle.tcp_model.specs.Value.{TcpValue, Arrived, with_block, dropped, answered_with, unoffered, ended, queued_in, free_in, received_of}
 use Rattle.tcp_model.specs.declared.block.Block.{Block}
@@ -139,12 +143,14 @@ module _ (cx : ContextValue) (ip : IpRepr) (header : TcpHeader) (bytes : List �
   Finishing old t = Q (finished cx old t ip header (length bytes))
 
   by_fin :
-      (old : Block) (t : Texted) → t.early ≡ None → (takes_fin old header (length bytes) t.advance ≡ true → Q (dropped (due (kept t.socket (fin_taken t.socket.block cx.moment)) t.fills)))
+      (old : Block) (t : Texted) → t.early ≡ None →
+      (takes_fin old header (length bytes) t.advance ≡ true → Q (dropped (due (kept t.socket (fin_taken t.socket.block cx.moment)) t.fills)))
       → Q (dropped (due (kept t.socket t.socket.block) t.fills)) → Finishing old t
   by_fin old t none fin plain =
       cond_both (takes_fin old header (length bytes) t.advance) (fin_taken t.socket.block cx.moment) t.socket.block
       (λ (b : Block). Q (answer_for cx (kept t.socket b) ip header (length bytes) t.fills t.early))
-      (λ takes. subst (λ (e : Option ℕ). Q (answer_for cx (kept t.socket (fin_taken t.socket.block cx.moment)) ip header (length bytes) t.fills e)) (sym none) (fin takes))
+      (λ takes. subst (λ (e : Option ℕ). Q (answer_for cx (kept t.socket (fin_taken t.socket.block cx.moment)) ip header (length bytes) t.fills e)) (sym none)
+      (fin takes))
       (λ _. subst (λ (e : Option ℕ). Q (answer_for cx (kept t.socket t.socket.block) ip header (length bytes) t.fills e)) (sym none) plain)
 
   and_first : (a b : Bool) → (a && b) ≡ true → a ≡ true
@@ -169,14 +175,16 @@ module _ (cx : ContextValue) (ip : IpRepr) (header : TcpHeader) (bytes : List �
   -- a segment whose text begins past RCV.NXT has no FIN at RCV.NXT
   by_early :
       (x : TcpValue) (map : List (Option ℕ)) (place : ℕ) → (past_by x.block.receiver.next header.seq_number == 0) ≡ false
-      → Q (acked cx (kept (held x map) x.block) ip header (ranges_held (kept (held x map) x.block) place)) → Finishing x.block (texted (held x map) 0 false (Some place))
+      → Q (acked cx (kept (held x map) x.block) ip header (ranges_held (kept (held x map) x.block) place)) →
+      Finishing x.block (texted (held x map) 0 false (Some place))
   by_early x map place past q =
       cond_both (takes_fin x.block header (length bytes) 0) (fin_taken x.block cx.moment) x.block
       (λ (b : Block). Q (answer_for cx (kept (held x map) b) ip header (length bytes) false (Some place)))
       (λ takes.
       let rest = and_second (is_fin header.control) (takes_text x.block.state && is_at_fin x.block header (length bytes) 0) takes in
       let more = and_second (takes_text x.block.state) (is_at_fin x.block header (length bytes) 0) rest in
-      let at_next = and_first (past_by x.block.receiver.next header.seq_number == 0) (before_by x.block.receiver.next header.seq_number + 0 == length bytes) more in
+      let at_next = and_first (past_by x.block.receiver.next header.seq_number == 0) (before_by x.block.receiver.next header.seq_number +
+      0 == length bytes) more in
       absurd (let clash : true ≡ false = sym at_next ∙ past in cc))
       (λ _. q)
 
@@ -194,7 +202,8 @@ module _ (cx : ContextValue) (ip : IpRepr) (header : TcpHeader) (bytes : List �
       let some = not_true (length rest == 0) (and_first (not (length rest == 0)) (nat_lt place (free_in x)) more) in
       cond_both (place == 0) (taken_in_order x map) (held_early x place map) (Finishing x.block)
       (λ _.
-      by_fin x.block (taken_in_order x map) refl (λ f. c.ordered_fin map (store-length x.received.map place rest) (fin_parts x.block (length (front map)) f).0 takes)
+      by_fin x.block (taken_in_order x map) refl
+      (λ f. c.ordered_fin map (store-length x.received.map place rest) (fin_parts x.block (length (front map)) f).0 takes)
       (c.ordered map (store-length x.received.map place rest) takes (some_bytes (before_by x.block.receiver.next header.seq_number) bytes some)))
       (λ past.
       cond_both (nat_le (length (runs_of map)) 4) (texted (held x map) 0 false (Some place)) (texted x 0 false None) (Finishing x.block)
@@ -220,7 +229,8 @@ module _ (cx : ContextValue) (ip : IpRepr) (header : TcpHeader) (bytes : List �
       (λ _. stays)
       (λ _. by_drawn (waiting_anew x header cx.moment) d)
 
-  by_news : (u : TcpValue) (by : ℕ) → Received u → acknowledgement_check u.block header.ack_number ≡ Passes by → Q (outside cx (acknowledged u by cx.moment) ip header)
+  by_news : (u : TcpValue) (by : ℕ) → Received u → acknowledgement_check u.block header.ack_number ≡ Passes by →
+      Q (outside cx (acknowledged u by cx.moment) ip header)
   by_news u by r passes =
       acked_cases u by cx.moment (λ (w : TcpValue). Q (outside cx w ip header)) (r.closes by passes)
       (λ alive.
@@ -234,10 +244,12 @@ module _ (cx : ContextValue) (ip : IpRepr) (header : TcpHeader) (bytes : List �
       acked_cases u by cx.moment (λ (w : TcpValue). Q (continued cx u.block w ip header bytes by)) (r.closes by passes)
       (λ alive.
       let x = acked_open u by cx.moment in
-      cond_both (is_closed x.block.state) (dropped x) (with_content cx (told x header (duplicates_after u.block header (length bytes) by) cx.moment) ip header bytes) Q
+      cond_both (is_closed x.block.state) (dropped x)
+      (with_content cx (told x header (duplicates_after u.block header (length bytes) by) cx.moment) ip header bytes) Q
       (λ closed. absurd (let clash : true ≡ false = sym closed ∙ alive in cc))
       (λ _.
-      cond_both (names_window x.block header) (windowed x.block header) x.block (λ (b : Block). Q (with_content cx (heeded cx.moment header (length bytes) u by b) ip header bytes))
+      cond_both (names_window x.block header) (windowed x.block header) x.block
+      (λ (b : Block). Q (with_content cx (heeded cx.moment header (length bytes) u by b) ip header bytes))
       (λ _. by_content (heeded cx.moment header (length bytes) u by (windowed x.block header)) (r.taken_window by passes alive))
       (λ _. by_content (heeded cx.moment header (length bytes) u by x.block) (r.taken by passes alive))))
 
@@ -253,7 +265,8 @@ module _ (cx : ContextValue) (ip : IpRepr) (header : TcpHeader) (bytes : List �
       (λ _. by_news u by r passes)
       (λ _. by_outside u r.stays r.outside))
   by_checked Old u r old =
-      cond_both (is_in_window u.block (free_in u) header (length bytes)) (with_content cx (with_block u (heard u.block)) ip header bytes) (outside cx u ip header) Q
+      cond_both (is_in_window u.block (free_in u) header (length bytes)) (with_content cx (with_block u (heard u.block)) ip header bytes)
+      (outside cx u ip header) Q
       (λ _. by_content (with_block u (heard u.block)) (r.old old))
       (λ _. by_outside u r.stays r.outside)
   by_checked Drops u r e = r.stays
@@ -284,11 +297,18 @@ module _ (cx : ContextValue) (ip : IpRepr) (header : TcpHeader) (bytes : List �
   pub record Opening (u : TcpValue) : Type 0 where
     pub opens :
         u.block.state ≡ In.Listen → is_first_syn header ≡ true
-        → Q (record { socket = with_block u (timeout_restarted (answering u.block ip header (word (next_random cx).random)) cx.moment 0); answer = None; draws = true })
+        → Q (record {
+          socket = with_block u (timeout_restarted (answering u.block ip header (word (next_random cx).random)) cx.moment 0);
+          answer =
+              None;
+          draws = true;
+        })
     pub refuses : Q (answered_with u (rst_reply ip header (length bytes)))
     pub ends : u.block.state ≡ In.SynSent → Q (dropped (ended u))
-    pub connects : u.block.state ≡ In.SynSent → is_syn header.control ≡ true → Q (dropped (with_block u (timeout_restarted (connected u.block header cx.moment) cx.moment (queued_in u))))
-    pub crosses : u.block.state ≡ In.SynSent → is_syn header.control ≡ true → Q (dropped (with_block u (timeout_restarted (crossed u.block header) cx.moment (queued_in u))))
+    pub connects : u.block.state ≡ In.SynSent → is_syn header.control ≡ true →
+        Q (dropped (with_block u (timeout_restarted (connected u.block header cx.moment) cx.moment (queued_in u))))
+    pub crosses : u.block.state ≡ In.SynSent → is_syn header.control ≡ true →
+        Q (dropped (with_block u (timeout_restarted (crossed u.block header) cx.moment (queued_in u))))
 
   by_answer : (u : TcpValue) → u.block.state ≡ In.SynSent → Q (dropped u) → Opening u → Q (takes_answer cx u ip header bytes)
   by_answer u at stays o =
@@ -320,7 +340,12 @@ module _ (cx : ContextValue) (ip : IpRepr) (header : TcpHeader) (bytes : List �
   by_opens : (u : TcpValue) → u.block.state ≡ In.Listen → Q (dropped u) → Opening u → Q (opens cx u ip header)
   by_opens u at stays o =
       cond_both (is_first_syn header)
-      (record { socket = with_block u (timeout_restarted (answering u.block ip header (word (next_random cx).random)) cx.moment 0); answer = None; draws = true })
+      (record {
+        socket = with_block u (timeout_restarted (answering u.block ip header (word (next_random cx).random)) cx.moment 0);
+        answer =
+            None;
+        draws = true;
+      })
       (dropped u) Q
       (λ first. o.opens at first)
       (λ _. stays)
@@ -334,7 +359,8 @@ module _ (cx : ContextValue) (ip : IpRepr) (header : TcpHeader) (bytes : List �
   by_state other u at stays o r = by_received u (r (ap is_past at))
 
   pub by_arrival :
-      (v : TcpValue) → Q (dropped (unoffered v)) → (is_void_syn header ≡ false → Opening (unoffered v)) → (is_past v.block.state ≡ true → Received (unoffered v))
+      (v : TcpValue) → Q (dropped (unoffered v)) → (is_void_syn header ≡ false → Opening (unoffered v)) →
+      (is_past v.block.state ≡ true → Received (unoffered v))
       → Q (arrives cx v ip header bytes)
   by_arrival v stays o r =
       cond_both (is_void_syn header) (dropped (unoffered v)) (arrives_in v.block.state cx (unoffered v) ip header bytes) Q

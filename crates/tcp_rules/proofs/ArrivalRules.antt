@@ -1,5 +1,6 @@
 -- What a segment that comes does to what is in flight, and where its answer lies.
-use Rattle.std.proofs.Common.{◌≡◌, ◌⊎◌, inl, inr, ℕ, ◌==◌, ◌&&◌, nat_le, not, ℤ, Bool, true, false, if◌then◌else◌, List, Option, Some, None, is_some, length, drop, refl, sym, ap, ◌∙◌, subst}
+use Rattle.std.proofs.Common.{◌≡◌, ◌⊎◌, inl, inr, ℕ, ◌==◌, ◌&&◌, nat_le, not, ℤ, Bool, true, false, if◌then◌else◌, List, Option, Some, None, is_some, length}
+use Rattle.std.proofs.Common.{drop, refl, sym, ap, ◌∙◌, subst}
 use Rattle.std.proofs.lemmas.Bool.{cond_both}
 use Rattle.held_bytes.specs.Held.{runs_of}
 use Rattle.ip_wire.specs.IpRepr.{IpRepr}
@@ -15,7 +16,8 @@ use Rattle.tcp_control.specs.declared.state.State.TheVariants as In
 use Rattle.tcp_control.specs.Endpoints.{pair_in}
 use Rattle.tcp_model.specs.Acknowledged.{acknowledged, duplicates_after, names_window, windowed, stamp_taken, ranges_taken, counted, una_moved}
 use Rattle.tcp_model.specs.Answers.{drawn, may_draw, with_draw, acked, answer_for, ranges_held}
-use Rattle.tcp_model.specs.Arrival.{waiting_anew, outside, passed_outside, tells_news, finished, with_content, told, taken, inside, checked, takes_reset, challenges_reset, reset_comes, challenges_syn, received, arrives_in, arrives, is_void_syn}
+use Rattle.tcp_model.specs.Arrival.{waiting_anew, outside, passed_outside, tells_news, finished, with_content, told, taken, inside, checked, takes_reset}
+use Rattle.tcp_model.specs.Arrival.{challenges_reset, reset_comes, challenges_syn, received, arrives_in, arrives, is_void_syn}
 use Rattle.tcp_model.specs.Calls.{listening}
 use Rattle.tcp_model.specs.Checks.{Check, acknowledgement_check, is_in_window, taken_down, falls_back}
 use Rattle.tcp_model.specs.Checks.Check.{Passes, Old, Drops, Draws, Resets}
@@ -23,7 +25,8 @@ use Rattle.tcp_model.specs.Opening.{is_first_syn, opens, takes_answer, acks_syn,
 use Rattle.tcp_model.specs.Probing.{probe_kept}
 use Rattle.tcp_model.specs.Retries.{heard}
 use Rattle.tcp_model.specs.Segments.{no_ranges, rst_reply, reply_to, hops_of, sack_segment}
-use Rattle.tcp_model.specs.Text.{Texted, texted, with_text, with_text_at, with_bytes_at, taken_in_order, held_early, laid, has_new_text, with_fin, takes_fin, fin_taken}
+use Rattle.tcp_model.specs.Text.{Texted, texted, with_text, with_text_at, with_bytes_at, taken_in_order, held_early, laid, has_new_text, with_fin, takes_fin}
+use Rattle.tcp_model.specs.Text.{fin_taken}
 use Rattle.tcp_model.specs.Timeout.{timeout_restarted}
 use Rattle.tcp_model.specs.Value.{TcpValue, Arrived, with_block, dropped, answered_with, unoffered, ended, queued_in, free_in, received_of, window_of}
 use Rattle.tcp_model.specs.declared.block.Block.{Block}
@@ -72,7 +75,8 @@ module _ (cx : ContextValue) (ip : IpRepr) (header : TcpHeader) where
 
   text_leaves : (v : TcpValue) (place : ℕ) (bytes : List ℕ) → Leaves v.block (with_text_at v place bytes).socket.block
   text_leaves v place bytes =
-      cond_both (takes_text v.block.state && has_new_text v place bytes) (with_bytes_at v place bytes) (texted v 0 false None) (λ (t : Texted). Leaves v.block t.socket.block)
+      cond_both (takes_text v.block.state && has_new_text v place bytes) (with_bytes_at v place bytes) (texted v 0 false None)
+      (λ (t : Texted). Leaves v.block t.socket.block)
       (λ _.
       cond_both (place == 0) (taken_in_order v (laid v place bytes)) (held_early v place (laid v place bytes)) (λ (t : Texted). Leaves v.block t.socket.block)
       (λ _. (refl, refl))
@@ -90,10 +94,12 @@ module _ (cx : ContextValue) (ip : IpRepr) (header : TcpHeader) where
       (λ _. (refl, listening_after_fin b.state))
       (λ _. (refl, refl))
 
-  by_answer : (old : Block) (v : TcpValue) (size : ℕ) (fills : Bool) (early : Option ℕ) → Goes old v.block → Sound old (answer_for cx v ip header size fills early)
+  by_answer : (old : Block) (v : TcpValue) (size : ℕ) (fills : Bool) (early : Option ℕ) → Goes old v.block →
+      Sound old (answer_for cx v ip header size fills early)
   by_answer old v size fills (Some place) goes = by_acked old v (ranges_held v place) goes
   by_answer old v size fills None goes =
-      by_dropped old (answer_for cx v ip header size fills None).socket (goes_on old v.block (answer_for cx v ip header size fills None).socket.block goes refl refl)
+      by_dropped old (answer_for cx v ip header size fills None).socket
+      (goes_on old v.block (answer_for cx v ip header size fills None).socket.block goes refl refl)
 
   by_content : (old : Block) (v : TcpValue) (bytes : List ℕ) → Goes old v.block → Sound old (with_content cx v ip header bytes)
   by_content old v bytes goes =
@@ -130,7 +136,8 @@ module _ (cx : ContextValue) (ip : IpRepr) (header : TcpHeader) where
 
   by_checked : (check : Check) (v : TcpValue) (bytes : List ℕ) → Sound v.block (checked check cx v ip header bytes)
   by_checked (Passes by) v bytes =
-      cond_both (is_in_window v.block (free_in v) header (length bytes)) (inside cx v ip header bytes by) (passed_outside cx v ip header (length bytes) by) (Sound v.block)
+      cond_both (is_in_window v.block (free_in v) header (length bytes)) (inside cx v ip header bytes by) (passed_outside cx v ip header (length bytes) by)
+      (Sound v.block)
       (λ _.
       cond_both (is_syn header.control) (drawn cx v ip header) (taken cx v ip header bytes by) (Sound v.block)
       (λ _. draws v)
@@ -140,7 +147,8 @@ module _ (cx : ContextValue) (ip : IpRepr) (header : TcpHeader) where
       (λ _. by_outside v.block (acknowledged v by cx.moment) (acked_goes v.block by (queued_in v) cx.moment))
       (λ _. by_outside v.block v (same v.block v.block refl)))
   by_checked Old v bytes =
-      cond_both (is_in_window v.block (free_in v) header (length bytes)) (with_content cx (with_block v (heard v.block)) ip header bytes) (outside cx v ip header) (Sound v.block)
+      cond_both (is_in_window v.block (free_in v) header (length bytes)) (with_content cx (with_block v (heard v.block)) ip header bytes)
+      (outside cx v ip header) (Sound v.block)
       (λ _. by_content v.block (with_block v (heard v.block)) bytes (same v.block (heard v.block) refl))
       (λ _. by_outside v.block v (same v.block v.block refl))
   by_checked Drops v bytes = stays v
@@ -159,14 +167,16 @@ module _ (cx : ContextValue) (ip : IpRepr) (header : TcpHeader) where
       (if challenges_syn v.block header then drawn cx v ip header else checked (acknowledgement_check v.block header.ack_number) cx v ip header bytes)
       (Sound v.block)
       (λ _.
-      cond_both (takes_reset v.block header) (dropped (taken_down v)) (if challenges_reset v header (length bytes) then drawn cx v ip header else dropped v) (Sound v.block)
+      cond_both (takes_reset v.block header) (dropped (taken_down v)) (if challenges_reset v header (length bytes) then drawn cx v ip header else dropped v)
+      (Sound v.block)
       (λ _. by_down v)
       (λ _.
       cond_both (challenges_reset v header (length bytes)) (drawn cx v ip header) (dropped v) (Sound v.block)
       (λ _. draws v)
       (λ _. stays v)))
       (λ _.
-      cond_both (challenges_syn v.block header) (drawn cx v ip header) (checked (acknowledgement_check v.block header.ack_number) cx v ip header bytes) (Sound v.block)
+      cond_both (challenges_syn v.block header) (drawn cx v ip header) (checked (acknowledgement_check v.block header.ack_number) cx v ip header bytes)
+      (Sound v.block)
       (λ _. draws v)
       (λ _. by_checked (acknowledgement_check v.block header.ack_number) v bytes))
 
@@ -186,7 +196,8 @@ module _ (cx : ContextValue) (ip : IpRepr) (header : TcpHeader) where
 
   by_syn : (v : TcpValue) → Goes v.block (timeout_restarted (syn_answered v.block header cx.moment) cx.moment (queued_in v))
   by_syn v =
-      cond_both (is_some header.ack_number) (connected v.block header cx.moment) (crossed v.block header) (λ (b : Block). Goes v.block (timeout_restarted b cx.moment (queued_in v)))
+      cond_both (is_some header.ack_number) (connected v.block header cx.moment) (crossed v.block header)
+      (λ (b : Block). Goes v.block (timeout_restarted b cx.moment (queued_in v)))
       (λ _.
       let new = timeout_restarted (connected v.block header cx.moment) cx.moment (queued_in v) in
       let taken = una_goes (took_syn v.block header) 1 0 cx.moment new refl in
@@ -228,7 +239,8 @@ module _ (cx : ContextValue) (ip : IpRepr) (header : TcpHeader) where
       (λ _. stays (unoffered v))
       (λ _. by_state v.block.state (unoffered v) bytes refl)
 
-pub arrival_goes : (cx : ContextValue) (v : TcpValue) (ip : IpRepr) (header : TcpHeader) (bytes : List ℕ) → Goes v.block (arrives cx v ip header bytes).socket.block
+pub arrival_goes : (cx : ContextValue) (v : TcpValue) (ip : IpRepr) (header : TcpHeader) (bytes : List ℕ) →
+    Goes v.block (arrives cx v ip header bytes).socket.block
 arrival_goes cx v ip header bytes = (sound_arrival cx ip header v bytes).0
 
 pub answers_past_all :

@@ -1,5 +1,7 @@
 -- The congestion window after a timeout.
-use Rattle.std.proofs.Common.{◌≡◌, ◌⊎◌, inl, inr, ⊎_elim, ℕ, zero, suc, ◌+◌, ◌-◌, ◌*◌, ◌<◌, ◌≤◌, ◌==◌, nat_lt, ◌&&◌, ◌||◌, not, min, ℤ, Bool, true, false, if◌then◌else◌, List, [], ◌∷◌, ◌++◌, length, take, drop, Option, Some, None, is_some, refl, sym, ap, ◌∙◌, subst, arith, length-append}
+use Rattle.std.proofs.Common.{◌≡◌, ◌⊎◌, inl, inr, ⊎_elim, ℕ, zero, suc, ◌+◌, ◌-◌, ◌*◌, ◌<◌, ◌≤◌, ◌==◌, nat_lt, ◌&&◌, ◌||◌, not, min, ℤ, Bool, true, false}
+use Rattle.std.proofs.Common.{if◌then◌else◌, List, [], ◌∷◌, ◌++◌, length, take, drop, Option, Some, None, is_some, refl, sym, ap, ◌∙◌, subst, arith}
+use Rattle.std.proofs.Common.{length-append}
 use Rattle.std.proofs.lemmas.Bool.{cond_both, eqb-true, eq-eqb}
 use Rattle.std.proofs.lemmas.List.{length-drop}
 use Rattle.ip_wire.specs.IpListenEndpoint.{IpListenEndpoint}
@@ -13,7 +15,8 @@ use Rattle.tcp_control.specs.Controls.{or_mss}
 use Rattle.tcp_control.specs.Moments.{is_due, is_over, timeout_from}
 use Rattle.tcp_control.specs.Reno as reno
 use Rattle.tcp_control.specs.Reno.{RenoValue}
-use Rattle.tcp_control.specs.States.{is_closed, is_listening, is_opening, is_answering, is_time_wait, takes_text, takes_writes, after_ack, after_ack_of_fin, after_fin, after_close}
+use Rattle.tcp_control.specs.States.{is_closed, is_listening, is_opening, is_answering, is_time_wait, takes_text, takes_writes, after_ack, after_ack_of_fin}
+use Rattle.tcp_control.specs.States.{after_fin, after_close}
 use Rattle.tcp_control.specs.declared.endpoints.EndpointPair.{EndpointPair}
 use Rattle.tcp_control.specs.declared.offer.OfferKind.{OfferKind}
 use Rattle.tcp_control.specs.declared.offer.OfferKind.TheVariants as Kind
@@ -239,7 +242,8 @@ module _ (cx : ContextValue) (ip : IpRepr) (header : TcpHeader) (bytes : List �
         let quiet = no_timeout u h (is_syn_unacked u p (ap (λ (s : State). is_opening s || is_answering s) at)) in
         record {
           window = λ e.
-              clash (sym e ∙ quiet_acked (reno.with_mss u.block.reno (or_mss header.options.max_seg_size)) u.block.sender.syn_unacked u.block.sender.syn_lost 1 0 u.block.sender.recover quiet);
+              clash (sym e ∙ quiet_acked (reno.with_mss u.block.reno (or_mss header.options.max_seg_size)) u.block.sender.syn_unacked u.block.sender.syn_lost 1
+              0 u.block.sender.recover quiet);
           listens = λ e. clash (sym e);
         };
     crosses = λ at _.
@@ -293,7 +297,12 @@ module _ (cx : ContextValue) where
       at v.block.sender.syn_unacked refl
     where
       at : (syn : Bool) → v.block.sender.syn_unacked ≡ syn
-          → IsHeld (record { reno = if syn then v.block.reno else reno.timed_out v.block.reno v.block.sender.in_flight; syn_unacked = v.block.sender.syn_unacked; state = v.block.state })
+          → IsHeld (record {
+            reno = if syn then v.block.reno else reno.timed_out v.block.reno v.block.sender.in_flight;
+            syn_unacked =
+                v.block.sender.syn_unacked;
+            state = v.block.state;
+          })
       at true e = h
       at false e = record { window = λ _. (refl, refl, e); listens = λ f. clash (sym f ∙ not) }
 
@@ -327,7 +336,8 @@ module _ (cx : ContextValue) (v : TcpValue) where
   }
 
   counts_rules :
-      (pair : EndpointPair) → v.block.names.pair ≡ Some pair → GoesOn cx v → is_due cx.moment v.block.timers.retransmit_at ≡ true → v.block.sender.syn_unacked ≡ false
+      (pair : EndpointPair) → v.block.names.pair ≡ Some pair → GoesOn cx v → is_due cx.moment v.block.timers.retransmit_at ≡ true →
+      v.block.sender.syn_unacked ≡ false
       → Rules cx v Counts
   counts_rules pair named on due no_syn = record {
     nobody = λ none. absurd (let clash = sym none ∙ named in cc);
@@ -344,7 +354,8 @@ module _ (cx : ContextValue) (v : TcpValue) where
   }
 
 pub timeout_counts :
-    (cx : ContextValue) (v : TcpValue) (pair : EndpointPair) → v.block.names.pair ≡ Some pair → GoesOn cx v → is_due cx.moment v.block.timers.retransmit_at ≡ true
+    (cx : ContextValue) (v : TcpValue) (pair : EndpointPair) → v.block.names.pair ≡ Some pair → GoesOn cx v →
+    is_due cx.moment v.block.timers.retransmit_at ≡ true
     → v.block.sender.syn_unacked ≡ false → (offer_of cx v).socket.block.reno.timed_out ≡ true
 timeout_counts cx v pair named on due no_syn = by_rules cx v (Counts cx v) (counts_rules cx v pair named on due no_syn)
 
@@ -362,9 +373,11 @@ set_held v (Retries limit) h = h
 set_held v (MinRto duration) h = h
 set_held v (Congestion control) h = record { window = λ e. clash (sym e ∙ fresh); listens = λ _. fresh } where
   fresh : (if v.block.receiver.took_syn then reno.with_mss reno.fresh v.block.peer.mss else reno.fresh).timed_out ≡ false
-  fresh = cond_both v.block.receiver.took_syn (reno.with_mss reno.fresh v.block.peer.mss) reno.fresh (λ (r : RenoValue). r.timed_out ≡ false) (λ _. refl) (λ _. refl)
+  fresh = cond_both v.block.receiver.took_syn (reno.with_mss reno.fresh v.block.peer.mss) reno.fresh (λ (r : RenoValue). r.timed_out ≡
+      false) (λ _. refl) (λ _. refl)
 
-connected_held : (v : TcpValue) (names : Option EndpointPair) (number : ℕ) → IsHeld (control_of v.block) → IsHeld (control_of (connected_by v names number).block)
+connected_held : (v : TcpValue) (names : Option EndpointPair) (number : ℕ) → IsHeld (control_of v.block) →
+    IsHeld (control_of (connected_by v names number).block)
 connected_held v None number h = h
 connected_held v (Some pair) number h = record { window = λ e. clash (sym e); listens = λ e. clash (sym e) }
 
@@ -384,14 +397,16 @@ event_held v (Listens endpoint) p h =
     cond_both (is_closed v.block.state && not (endpoint.port == 0)) (listening v endpoint) (unoffered v) (λ (w : TcpValue). IsHeld (control_of w.block))
     (λ _. record { window = λ e. clash (sym e); listens = λ _. refl }) (λ _. h)
 event_held v (Connects cx remote local) p h =
-    cond_both (is_closed v.block.state) (connected_by v (pair_for cx remote local) (word (next_random cx).random)) (unoffered v) (λ (w : TcpValue). IsHeld (control_of w.block))
+    cond_both (is_closed v.block.state) (connected_by v (pair_for cx remote local) (word (next_random cx).random)) (unoffered v)
+    (λ (w : TcpValue). IsHeld (control_of w.block))
     (λ _. connected_held v (pair_for cx remote local) (word (next_random cx).random) h) (λ _. h)
 event_held v (Sends bytes) p h =
     cond_both (takes_writes v.block.state) (sent_more v (enqueued (anchored v.queued) (take (min (length bytes) (length v.queued.free)) bytes))) (unoffered v)
     (λ (w : TcpValue). IsHeld (control_of w.block)) (λ _. h) (λ _. h)
 event_held v (Reads count) p h = h
 event_held v Closes p h =
-    cond_both (is_opening v.block.state) (ended (unoffered v)) (with_block (unoffered v) (record v.block { state = after_close v.block.state })) (λ (w : TcpValue). IsHeld (control_of w.block))
+    cond_both (is_opening v.block.state) (ended (unoffered v)) (with_block (unoffered v) (record v.block { state = after_close v.block.state }))
+    (λ (w : TcpValue). IsHeld (control_of w.block))
     (λ _. held v.block.reno v.block.sender.syn_unacked In.Closed h.window refl)
     (λ _. held v.block.reno v.block.sender.syn_unacked (after_close v.block.state) h.window (close_on v.block.state))
 event_held v Aborts p h =
@@ -409,25 +424,28 @@ pub led_window :
     (capacity : ℕ) (queued : Ring ℕ) (events : List Event) → (led (new_socket capacity queued) events).block.reno.timed_out ≡ true
     → (led (new_socket capacity queued) events).block.reno.cwnd ≡ (led (new_socket capacity queued) events).block.reno.mss
 led_window capacity queued events out =
-    ((led_held (new_socket capacity queued) events (new_order capacity queued) (record { window = λ e. clash (sym e); listens = λ e. clash (sym e) })).window out).0
+    ((led_held (new_socket capacity queued) events (new_order capacity queued)
+    (record { window = λ e. clash (sym e); listens = λ e. clash (sym e) })).window out).0
 
 -- UNTIL SOMETHING NEW IS ACKNOWLEDGED
 
 -- so many bytes leave the queue
 shorter : (queue : List ℕ) (by syn : ℕ) → (min (by - syn) (length queue) == 0) ≡ false → length (drop (min (by - syn) (length queue)) queue) < length queue
-shorter queue by syn some = rw length-drop (less (min (by - syn) (length queue)) (length queue) (one_of (min (by - syn) (length queue)) some) (least by syn (length queue))) where
-  one_of : (n : ℕ) → (n == 0) ≡ false → 1 ≤ n
-  one_of zero e = clash e
-  one_of (suc n) e = omega arith
+shorter queue by syn some =
+    rw length-drop (less (min (by - syn) (length queue)) (length queue) (one_of (min (by - syn) (length queue)) some) (least by syn (length queue))) where
+      one_of : (n : ℕ) → (n == 0) ≡ false → 1 ≤ n
+      one_of zero e = clash e
+      one_of (suc n) e = omega arith
 
-  least : (by syn n : ℕ) → min (by - syn) n ≤ n
-  least by syn n = omega arith
+      least : (by syn n : ℕ) → min (by - syn) n ≤ n
+      least by syn n = omega arith
 
-  less : (a n : ℕ) → 1 ≤ a → a ≤ n → n - a < n
-  less a n e f = omega arith
+      less : (a n : ℕ) → 1 ≤ a → a ≤ n → n - a < n
+      less a n e f = omega arith
 
 -- what listened isn't there yet: no timeout counts
-never_falls : {A : Type 0} (v : TcpValue) → IsHeld (control_of v.block) → v.block.reno.timed_out ≡ true → IsInOrder (sending_of v) → falls_back v.block ≡ true → A
+never_falls : {A : Type 0} (v : TcpValue) → IsHeld (control_of v.block) → v.block.reno.timed_out ≡ true → IsInOrder (sending_of v) →
+    falls_back v.block ≡ true → A
 never_falls v h out p falls = at v.block.sender.syn_unacked refl where
   answers : (a b : Bool) → (a && b) ≡ true → a ≡ true
   answers true b e = refl
@@ -441,9 +459,11 @@ never_falls v h out p falls = at v.block.sender.syn_unacked refl where
   at true e = clash (sym e ∙ (h.window out).2)
   at false e =
       clash
-      (sym (or_right (is_opening v.block.state) (is_answering v.block.state) (answers (is_answering v.block.state) (not (v.block.names.listen.port == 0)) falls)) ∙ p.opened e)
+      (sym (or_right (is_opening v.block.state) (is_answering v.block.state)
+      (answers (is_answering v.block.state) (not (v.block.names.listen.port == 0)) falls)) ∙ p.opened e)
 
-module _ (cx : ContextValue) (ip : IpRepr) (header : TcpHeader) (bytes : List ℕ) (v : TcpValue) (h : IsHeld (control_of v.block)) (out : v.block.reno.timed_out ≡ true) where
+module _ (cx : ContextValue) (ip : IpRepr) (header : TcpHeader) (bytes : List ℕ) (v : TcpValue) (h : IsHeld (control_of v.block))
+    (out : v.block.reno.timed_out ≡ true) where
   abbrev StaysBy : Arrived → Type 0
   StaysBy a = (a.socket.block.reno.timed_out ≡ true) ⊎ (queued_in a.socket < queued_in v)
 
@@ -454,7 +474,8 @@ module _ (cx : ContextValue) (ip : IpRepr) (header : TcpHeader) (bytes : List �
   stays_drawing x s = record { answers = λ _. s; pauses = s }
 
   -- the acknowledgement frees nothing, or bytes
-  acked_stays : (by : ℕ) → ((reno_after v.block by (queued_in v)).timed_out ≡ true) ⊎ (length (drop (freed_by v.block by (queued_in v)) v.queued.queue) < queued_in v)
+  acked_stays : (by : ℕ) → ((reno_after v.block by (queued_in v)).timed_out ≡ true) ⊎
+      (length (drop (freed_by v.block by (queued_in v)) v.queued.queue) < queued_in v)
   acked_stays by =
       acked_both (λ (r : RenoValue). (r.timed_out ≡ true) ⊎ (length (drop (freed_by v.block by (queued_in v)) v.queued.queue) < queued_in v))
       v.block.reno v.block.sender.syn_unacked v.block.sender.syn_lost by (queued_in v) v.block.sender.recover
@@ -534,7 +555,8 @@ offers_on cx v h out p = record {
   where
     backed : (backed_off_now (begun cx v)).reno.timed_out ≡ true
     backed =
-        cond_both v.block.sender.syn_unacked v.block.reno (reno.timed_out v.block.reno v.block.sender.in_flight) (λ (r : RenoValue). r.timed_out ≡ true) (λ _. out) (λ _. refl)
+        cond_both v.block.sender.syn_unacked v.block.reno (reno.timed_out v.block.reno v.block.sender.in_flight) (λ (r : RenoValue). r.timed_out ≡
+        true) (λ _. out) (λ _. refl)
 
 asked_reno : (b : Block) (now : ℤ) → b.reno.timed_out ≡ true → (asked b now).reno.timed_out ≡ true
 asked_reno b now e =

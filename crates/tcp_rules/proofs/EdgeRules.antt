@@ -1,5 +1,7 @@
 -- What was announced of the window stays announced.
-use Rattle.std.proofs.Common.{◌≡◌, ◌⊎◌, ℕ, zero, suc, ◌+◌, ◌-◌, ◌*◌, ◌/◌, ◌%◌, ◌^◌, ◌<◌, ◌≤◌, ◌==◌, ◌&&◌, ◌||◌, nat_le, nat_lt, not, min, max, ℤ, Bool, true, false, if◌then◌else◌, List, [], ◌∷◌, ◌++◌, length, take, drop, Option, Some, None, is_some, inl, inr, ⊎_elim, refl, sym, ap, ◌∙◌, subst, arith, length-append, length-drop}
+use Rattle.std.proofs.Common.{◌≡◌, ◌⊎◌, ℕ, zero, suc, ◌+◌, ◌-◌, ◌*◌, ◌/◌, ◌%◌, ◌^◌, ◌<◌, ◌≤◌, ◌==◌, ◌&&◌, ◌||◌, nat_le, nat_lt, not, min, max, ℤ, Bool, true}
+use Rattle.std.proofs.Common.{false, if◌then◌else◌, List, [], ◌∷◌, ◌++◌, length, take, drop, Option, Some, None, is_some, inl, inr, ⊎_elim, refl, sym, ap, ◌∙◌}
+use Rattle.std.proofs.Common.{subst, arith, length-append, length-drop}
 use Rattle.std.proofs.lemmas.Bool.{cond_both, eqb-true, leb-true, leb-false}
 use Rattle.std.proofs.lemmas.List.{length-take}
 use Rattle.std.proofs.lemmas.Nat.{div-add-mod', pow_pos}
@@ -21,7 +23,8 @@ use Rattle.tcp_control.specs.Moments.{is_due, timeout_from}
 use Rattle.tcp_control.specs.Moments as moments
 use Rattle.tcp_control.specs.Endpoints.{pair_in}
 use Rattle.tcp_control.specs.Offsets.{behind_by}
-use Rattle.tcp_control.specs.States.{is_closed, is_listening, is_opening, is_time_wait, takes_text, takes_writes, is_answering, sends_syn, after_close, after_fin, after_ack, after_ack_of_fin}
+use Rattle.tcp_control.specs.States.{is_closed, is_listening, is_opening, is_time_wait, takes_text, takes_writes, is_answering, sends_syn, after_close}
+use Rattle.tcp_control.specs.States.{after_fin, after_ack, after_ack_of_fin}
 use Rattle.tcp_control.specs.declared.endpoints.EndpointPair.{EndpointPair}
 use Rattle.tcp_control.specs.declared.offer.OfferKind.{OfferKind}
 use Rattle.tcp_control.specs.declared.offer.OfferKind.TheVariants as Kind
@@ -104,7 +107,8 @@ less capacity f g e p small = record {
 }
 
 -- another state
-in_state : (capacity f : ℕ) (e : Edge) (state : State) → IsEdge capacity f e → (is_opening state ≡ true → is_opening e.state ≡ true) → IsEdge capacity f (record e { state = state })
+in_state : (capacity f : ℕ) (e : Edge) (state : State) → IsEdge capacity f e → (is_opening state ≡ true → is_opening e.state ≡ true) →
+    IsEdge capacity f (record e { state = state })
 in_state capacity f e state p opens = record {
   room = p.room;
   number = p.number;
@@ -162,8 +166,11 @@ told_near space u seen some below most = at (nat_le (space / u) 65_535) refl whe
       (near.0, mul-le-mul_right u small, near.1)
   at false e =
       let large = leb-false (space / u) 65_535 e in
-      subst (λ (d : ℕ). (d * u ≤ space) × (d * u ≤ 65_535 * u) × (seen < d * u + u)) (sym (high (space / u) large))
-      (shrinks (space / u * u) (space % u) space (65_535 * u) parts (mul-le-mul_right u (below_of (space / u) large)), omega arith, past (65_535 * u) seen u most some)
+      subst (λ (d : ℕ). (d * u ≤ space) × (d * u ≤ 65_535 * u) × (seen < d * u + u)) (sym (high (space / u) large)) (
+        shrinks (space / u * u) (space % u) space (65_535 * u) parts (mul-le-mul_right u (below_of (space / u) large)),
+        omega arith,
+        past (65_535 * u) seen u most some,
+      )
     where
       below_of : (d : ℕ) → 65_535 < d → 65_535 ≤ d
       below_of d e = omega arith
@@ -183,7 +190,8 @@ abbrev KeepsWith : ℕ → Bool → Bool → ℕ → ℕ → Type 0
 KeepsWith seen syn rst window u =
     (rst ≡ false → syn ≡ false → seen < (if syn then window else window * u) + u) × (syn ≡ true → min seen 65_535 ≤ (if syn then window else window * u))
 
-module _ (capacity seen : ℕ) (e : Edge) (p : IsEdge capacity seen e) (t : Bool) (state : State) (same : is_opening state ≡ true → is_opening e.state ≡ true) where
+module _ (capacity seen : ℕ) (e : Edge) (p : IsEdge capacity seen e) (t : Bool) (state : State) (same : is_opening state ≡ true →
+    is_opening e.state ≡ true) where
   abbrev space_told : ℕ
   space_told = if t then e.free else min e.edge e.free
 
@@ -219,7 +227,8 @@ module _ (capacity seen : ℕ) (e : Edge) (p : IsEdge capacity seen e) (t : Bool
         (lesser rst seen (field * unit e)),
   )
     where
-      kept : (max seen (field * unit e) ≤ max (field * unit e) (min e.edge (field * unit e + (unit e - 1)))) × (max (field * unit e) (min e.edge (field * unit e + (unit e - 1))) ≤ e.free)
+      kept : (max seen (field * unit e) ≤ max (field * unit e) (min e.edge (field * unit e + (unit e - 1)))) ×
+          (max (field * unit e) (min e.edge (field * unit e + (unit e - 1))) ≤ e.free)
       kept = kept_edge e.edge e.free (field * unit e) (unit e) seen p.below p.within (transitive (field * unit e) space_told e.free near.0 between.1) near.2
 
       lesser : (rst : Bool) (a b : ℕ) → (if rst then a else max a b) ≤ max a b
@@ -314,7 +323,8 @@ acked_out capacity f cx v x ip header ranges p =
     ((length x.received.waiting == 0) || is_worth_telling x.block (room_of x.received) (free_in x)) x.block.state (λ e. e) false false refl in
     some_out capacity f v (acked cx x ip header ranges).socket (sack_segment x.block (pair_in ip header) cx.moment (window_of x) ranges) goes.0 goes.1
 
-listens_edge : (capacity : ℕ) (v : TcpValue) (endpoint : IpListenEndpoint) (f : ℕ) → IsEdge capacity f (edge_of v) → IsEdge capacity 0 (edge_of (listening v endpoint))
+listens_edge : (capacity : ℕ) (v : TcpValue) (endpoint : IpListenEndpoint) (f : ℕ) → IsEdge capacity f (edge_of v) →
+    IsEdge capacity 0 (edge_of (listening v endpoint))
 listens_edge capacity v endpoint f p = record {
   room = none_waits (length (space (room_of v.received))) (room_of v.received) capacity (length-space (room_of v.received)) p.room;
   number = omega arith;
@@ -381,7 +391,8 @@ fin_edge capacity f e state p later = record {
     within : (edge free : ℕ) → edge ≤ free → edge - 1 ≤ free
     within edge free e = omega arith
 
-risen_is : (old new : Block) (n : ℕ) → old.receiver.took_syn ≡ true → old.receiver.next.0 < 2 ^ 32 → n < 2 ^ 32 → new.receiver.next ≡ behind_by old.receiver.next n → risen old new ≡ n
+risen_is : (old new : Block) (n : ℕ) → old.receiver.took_syn ≡ true → old.receiver.next.0 < 2 ^ 32 → n < 2 ^ 32 →
+    new.receiver.next ≡ behind_by old.receiver.next n → risen old new ≡ n
 risen_is old new n took small near is =
     ap (λ (t : Bool). if t then distance_of old.receiver.next new.receiver.next else 0) took
     ∙ ap (λ (m : SeqNumber). distance_of old.receiver.next m) is ∙ near_distance old.receiver.next n small near
@@ -425,21 +436,25 @@ module _ (capacity f : ℕ) (cx : ContextValue) (ip : IpRepr) (header : TcpHeade
   keeps w p = none_out capacity f v w (less capacity f (f - risen v.block w.block) (edge_of w) p (minus_least f (risen v.block w.block)))
 
   answers : (x : TcpValue) (ranges : List (Option (ℕ × ℕ))) → IsEdge capacity f (edge_of x) → Arrives (acked cx x ip header ranges)
-  answers x ranges p = acked_out capacity f cx v x ip header ranges (less capacity f (f - risen v.block x.block) (edge_of x) p (minus_least f (risen v.block x.block)))
+  answers x ranges p = acked_out capacity f cx v x ip header ranges
+      (less capacity f (f - risen v.block x.block) (edge_of x) p (minus_least f (risen v.block x.block)))
 
   edge_drawing : (x : TcpValue) → IsEdge capacity f (edge_of x) → Drawing cx ip header bytes Arrives x
   edge_drawing x p = record { answers = λ _. answers (with_draw x cx.moment) no_ranges p; pauses = keeps x p }
 
   -- so much is taken
-  rises : (w : TcpValue) (n : ℕ) → v.block.receiver.took_syn ≡ true → v.block.receiver.next.0 < 2 ^ 32 → n ≤ capacity + 1 → w.block.receiver.next ≡ behind_by v.block.receiver.next n
+  rises : (w : TcpValue) (n : ℕ) → v.block.receiver.took_syn ≡ true → v.block.receiver.next.0 < 2 ^ 32 → n ≤ capacity + 1 →
+      w.block.receiver.next ≡ behind_by v.block.receiver.next n
       → IsEdge capacity (f - n) (edge_of w) → Out capacity f v w None
   rises w n took small near is p =
-      none_out capacity f v w (subst (λ (k : ℕ). IsEdge capacity (f - k) (edge_of w)) (sym (risen_is v.block w.block n took small (below n capacity near few) is)) p)
+      none_out capacity f v w (subst (λ (k : ℕ). IsEdge capacity (f - k) (edge_of w))
+      (sym (risen_is v.block w.block n took small (below n capacity near few) is)) p)
     where
       below : (n capacity : ℕ) → n ≤ capacity + 1 → capacity ≤ 2 ^ 30 → n < 2 ^ 32
       below n capacity e f = omega arith
 
-  module _ (x : TcpValue) (p : IsEdge capacity f (edge_of x)) (same : x.block.receiver.next ≡ v.block.receiver.next) (took : v.block.receiver.took_syn ≡ true) where
+  module _ (x : TcpValue) (p : IsEdge capacity f (edge_of x)) (same : x.block.receiver.next ≡
+      v.block.receiver.next) (took : v.block.receiver.took_syn ≡ true) where
     small : v.block.receiver.next.0 < 2 ^ 32
     small = subst (λ (n : SeqNumber). n.0 < 2 ^ 32) same p.number
 
@@ -454,27 +469,33 @@ module _ (capacity f : ℕ) (cx : ContextValue) (ip : IpRepr) (header : TcpHeade
 
       texted : IsEdge capacity (f - count) (edge_of (taken_in_order x map).socket)
       texted =
-          text_edge capacity f (edge_of x) count (length (x.received.waiting ++ front map)) (length (behind map)) p (length-append x.received.waiting (front map))
+          text_edge capacity f (edge_of x) count (length (x.received.waiting ++ front map)) (length (behind map)) p
+          (length-append x.received.waiting (front map))
           (front_behind map ∙ size)
 
     edge_content : Content cx ip header bytes Arrives x
     edge_content = record {
       plain = keeps (due cx ip header bytes Arrives (kept x x.block) false) p;
       fin = λ _ takes.
-          rises (due cx ip header bytes Arrives (kept x (fin_taken x.block cx.moment)) false) 1 took small (one capacity) (ap (λ (n : SeqNumber). behind_by n 1) same)
+          rises (due cx ip header bytes Arrives (kept x (fin_taken x.block cx.moment)) false) 1 took small (one capacity)
+          (ap (λ (n : SeqNumber). behind_by n 1) same)
           (fin_edge capacity f (edge_of x) (after_fin x.block.state) p (fin_later x.block.state takes));
       ordered = λ map size takes _.
-          rises (due cx ip header bytes Arrives (kept (taken_in_order x map).socket (taken_in_order x map).socket.block) (is_holding x)) (count map size) took small (more (count map size) capacity (fits map size)) (ap (λ (n : SeqNumber). behind_by n (count map size)) same) (texted map size);
+          rises (due cx ip header bytes Arrives (kept (taken_in_order x map).socket (taken_in_order x map).socket.block) (is_holding x)) (count map size) took
+          small (more (count map size) capacity (fits map size)) (ap (λ (n : SeqNumber). behind_by n (count map size)) same) (texted map size);
       ordered_fin = λ map size _ takes.
-          rises (due cx ip header bytes Arrives (kept (taken_in_order x map).socket (fin_taken (taken_in_order x map).socket.block cx.moment)) (is_holding x)) (count map size + 1) took small (next (count map size) capacity (fits map size))
+          rises (due cx ip header bytes Arrives (kept (taken_in_order x map).socket (fin_taken (taken_in_order x map).socket.block cx.moment)) (is_holding x))
+          (count map size + 1) took small (next (count map size) capacity (fits map size))
           (behind_twice x.block.receiver.next (count map size) 1 ∙ ap (λ (n : SeqNumber). behind_by n (count map size + 1)) same)
           (subst (λ (k : ℕ). IsEdge capacity k (record (edge_of (taken_in_order x map).socket) {
             state = after_fin x.block.state;
             next = behind_by (behind_by x.block.receiver.next (count map size)) 1;
             edge = x.block.receiver.edge - count map size - 1;
           })) (twice f (count map size))
-          (fin_edge capacity (f - count map size) (edge_of (taken_in_order x map).socket) (after_fin x.block.state) (texted map size) (fin_later x.block.state takes)));
-      early = λ map place size _. answers (kept (held x map) x.block) (ranges_held (kept (held x map) x.block) place) (subst (λ (n : ℕ). IsEdge capacity f (record (edge_of x) { free = n })) (sym size) p);
+          (fin_edge capacity (f - count map size) (edge_of (taken_in_order x map).socket) (after_fin x.block.state) (texted map size)
+          (fin_later x.block.state takes)));
+      early = λ map place size _. answers (kept (held x map) x.block) (ranges_held (kept (held x map) x.block) place)
+          (subst (λ (n : ℕ). IsEdge capacity f (record (edge_of x) { free = n })) (sym size) p);
     }
       where
         one : (c : ℕ) → 1 ≤ c + 1
@@ -490,17 +511,21 @@ module _ (capacity f : ℕ) (cx : ContextValue) (ip : IpRepr) (header : TcpHeade
         twice f a = omega arith
 
   edge_received :
-      (u : TcpValue) → IsEdge capacity f (edge_of u) → u.block.receiver.next ≡ v.block.receiver.next → v.block.receiver.took_syn ≡ true → is_past u.block.state ≡ true
+      (u : TcpValue) → IsEdge capacity f (edge_of u) → u.block.receiver.next ≡ v.block.receiver.next → v.block.receiver.took_syn ≡ true →
+      is_past u.block.state ≡ true
       → Received cx ip header bytes Arrives u
   edge_received u p same took past = record {
     stays = keeps u p;
-    refuses = reset_out capacity f v u (reset_for header (length bytes)) refl (less capacity f (f - risen v.block u.block) (edge_of u) p (minus_least f (risen v.block u.block)));
+    refuses = reset_out capacity f v u (reset_for header (length bytes)) refl
+        (less capacity f (f - risen v.block u.block) (edge_of u) p (minus_least f (risen v.block u.block)));
     draws = edge_drawing u p;
     falls = λ _ _ _. over_out capacity f v (listening u u.block.names.listen) refl (listens_edge capacity u u.block.names.listen f p);
     ends = λ _ _ _. over_out capacity f v (ended u) refl (less capacity f 0 _ (in_state capacity f (edge_of u) In.Closed p (λ is. clash (sym is))) (least f));
-    closes = λ by _ _. over_out capacity f v (acked_last u by cx.moment) refl (less capacity f 0 _ (in_state capacity f (edge_of u) In.Closed p (λ is. clash (sym is))) (least f));
+    closes = λ by _ _. over_out capacity f v (acked_last u by cx.moment) refl
+        (less capacity f 0 _ (in_state capacity f (edge_of u) In.Closed p (λ is. clash (sym is))) (least f));
     taken = λ by _ _. edge_content (heeded cx.moment header (length bytes) u by (acked_open u by cx.moment).block) (acked_edge by) same took;
-    taken_window = λ by _ _. edge_content (heeded cx.moment header (length bytes) u by (windowed (acked_open u by cx.moment).block header)) (acked_edge by) same took;
+    taken_window = λ by _ _. edge_content (heeded cx.moment header (length bytes) u by (windowed (acked_open u by cx.moment).block header))
+        (acked_edge by) same took;
     news = λ by _ _. edge_drawing (waiting_anew (acked_open u by cx.moment) header cx.moment) (acked_edge by);
     outside = edge_drawing (waiting_anew u header cx.moment) p;
     old = λ _. edge_content (with_block u (heard u.block)) p same took;
@@ -511,11 +536,15 @@ module _ (capacity f : ℕ) (cx : ContextValue) (ip : IpRepr) (header : TcpHeade
 
   edge_opening : (u : TcpValue) → IsEdge capacity f (edge_of u) → (is_over u.block.state ≡ true → f ≡ 0) → Opening cx ip header bytes Arrives u
   edge_opening u p none = record {
-    opens = λ at _. none_out capacity f v (with_block u (timeout_restarted (answering u.block ip header (word (next_random cx).random)) cx.moment 0)) (less capacity 0 _ _ (begins header.options.window_scale In.SynReceived refl) (nothing _ (none (ap is_over at))));
-    refuses = reset_out capacity f v u (reset_for header (length bytes)) refl (less capacity f (f - risen v.block u.block) (edge_of u) p (minus_least f (risen v.block u.block)));
+    opens = λ at _. none_out capacity f v (with_block u (timeout_restarted (answering u.block ip header (word (next_random cx).random)) cx.moment 0))
+        (less capacity 0 _ _ (begins header.options.window_scale In.SynReceived refl) (nothing _ (none (ap is_over at))));
+    refuses = reset_out capacity f v u (reset_for header (length bytes)) refl
+        (less capacity f (f - risen v.block u.block) (edge_of u) p (minus_least f (risen v.block u.block)));
     ends = λ _. over_out capacity f v (ended u) refl (less capacity f 0 _ (in_state capacity f (edge_of u) In.Closed p (λ is. clash (sym is))) (least f));
-    connects = λ at _. none_out capacity f v (with_block u (timeout_restarted (connected u.block header cx.moment) cx.moment (queued_in u))) (less capacity f _ _ (takes header.options.window_scale In.Established refl at) (minus_least f _));
-    crosses = λ at _. none_out capacity f v (with_block u (timeout_restarted (crossed u.block header) cx.moment (queued_in u))) (less capacity f _ _ (takes header.options.window_scale In.SynReceived refl at) (minus_least f _));
+    connects = λ at _. none_out capacity f v (with_block u (timeout_restarted (connected u.block header cx.moment) cx.moment (queued_in u)))
+        (less capacity f _ _ (takes header.options.window_scale In.Established refl at) (minus_least f _));
+    crosses = λ at _. none_out capacity f v (with_block u (timeout_restarted (crossed u.block header) cx.moment (queued_in u)))
+        (less capacity f _ _ (takes header.options.window_scale In.SynReceived refl at) (minus_least f _));
   }
     where
       nothing : (k : ℕ) → f ≡ 0 → f - k ≤ 0
@@ -576,7 +605,10 @@ module _ (capacity f : ℕ) (cx : ContextValue) (v : TcpValue) where
   stays w p = none_out capacity f v w (less capacity f (f - risen v.block w.block) (edge_of w) p (minus_least f (risen v.block w.block)))
 
   none_offered : (x : TcpValue) → x.offered ≡ None → IsEdge capacity f (edge_of x) → Both (silent false x)
-  none_offered x none p = (subst (λ (o : Option OpenOffer). Out capacity f v (sent_off o (unoffered x)) (offer_in o)) (sym none) (stays (unoffered x) p), stays (unoffered x) p)
+  none_offered x none p = (
+    subst (λ (o : Option OpenOffer). Out capacity f v (sent_off o (unoffered x)) (offer_in o)) (sym none) (stays (unoffered x) p),
+    stays (unoffered x) p,
+  )
 
   -- whether its text is worth telling
   abbrev tells : TcpValue → Bool
@@ -587,38 +619,50 @@ module _ (capacity f : ℕ) (cx : ContextValue) (v : TcpValue) where
   text_out x pair c p =
       let w : TcpValue = settled true (offer_choice Kind.Text cx x pair c).socket in
       let goes =
-      plain_goes capacity (f - risen v.block w.block) (edge_of x) (less capacity f (f - risen v.block w.block) (edge_of x) p (minus_least f (risen v.block w.block))) (tells x)
-      x.block.state (λ e. e) (is_syn (control_for c (queued_in x))) (is_rst (control_for c (queued_in x))) (not_syn c (queued_in x)) in
-      (some_out capacity f v w (segment x.block pair cx.moment (window_of x) (control_for c (queued_in x)) (number_at x.block c.place)) goes.0 goes.1, stays (unoffered x) p)
+      plain_goes capacity (f - risen v.block w.block) (edge_of x)
+      (less capacity f (f - risen v.block w.block) (edge_of x) p (minus_least f (risen v.block w.block))) (tells x)
+      x.block.state (λ e. e) (is_syn (control_for c (queued_in x))) (is_rst (control_for c (queued_in x))) (not_syn c (queued_in x)) in (
+        some_out capacity f v w (segment x.block pair cx.moment (window_of x) (control_for c (queued_in x)) (number_at x.block c.place)) goes.0 goes.1,
+        stays (unoffered x) p,
+      )
 
   again_out : (x : TcpValue) (pair : EndpointPair) (c : Choice) → IsEdge capacity f (edge_of x) → Both (offer_choice Kind.FastRetransmission cx x pair c)
   again_out x pair c p =
       let w : TcpValue = settled true (offer_choice Kind.FastRetransmission cx x pair c).socket in
       let goes =
-      plain_goes capacity (f - risen v.block w.block) (edge_of x) (less capacity f (f - risen v.block w.block) (edge_of x) p (minus_least f (risen v.block w.block))) (tells x)
-      x.block.state (λ e. e) (is_syn (control_for c (queued_in x))) (is_rst (control_for c (queued_in x))) (not_syn c (queued_in x)) in
-      (some_out capacity f v w (segment x.block pair cx.moment (window_of x) (control_for c (queued_in x)) (number_at x.block c.place)) goes.0 goes.1, stays (unoffered x) p)
+      plain_goes capacity (f - risen v.block w.block) (edge_of x)
+      (less capacity f (f - risen v.block w.block) (edge_of x) p (minus_least f (risen v.block w.block))) (tells x)
+      x.block.state (λ e. e) (is_syn (control_for c (queued_in x))) (is_rst (control_for c (queued_in x))) (not_syn c (queued_in x)) in (
+        some_out capacity f v w (segment x.block pair cx.moment (window_of x) (control_for c (queued_in x)) (number_at x.block c.place)) goes.0 goes.1,
+        stays (unoffered x) p,
+      )
 
-  ack_out : (kind : OfferKind) (x : TcpValue) (pair : EndpointPair) → kind ≡ Kind.Ack ⊎ (kind ≡ Kind.WindowUpdate) → IsEdge capacity f (edge_of x) → Both (offer_ack kind cx x pair)
-  ack_out kind x pair which p = ⊎_elim (λ e. subst (λ (k : OfferKind). Both (offer_ack k cx x pair)) (sym e) ack) (λ e. subst (λ (k : OfferKind). Both (offer_ack k cx x pair)) (sym e) update) which where
-    ack : Both (offer_ack Kind.Ack cx x pair)
-    ack =
-        let w : TcpValue = settled true (offer_ack Kind.Ack cx x pair).socket in
-        let goes =
-        plain_goes capacity (f - risen v.block w.block) (edge_of x) (less capacity f (f - risen v.block w.block) (edge_of x) p (minus_least f (risen v.block w.block))) (tells x)
-        x.block.state (λ e. e) false false refl in
-        (some_out capacity f v w (ack_segment x.block pair cx.moment (window_of x)) goes.0 goes.1, stays (unoffered x) p)
+  ack_out : (kind : OfferKind) (x : TcpValue) (pair : EndpointPair) → kind ≡ Kind.Ack ⊎ (kind ≡ Kind.WindowUpdate) → IsEdge capacity f (edge_of x) →
+      Both (offer_ack kind cx x pair)
+  ack_out kind x pair which p =
+      ⊎_elim (λ e. subst (λ (k : OfferKind). Both (offer_ack k cx x pair)) (sym e) ack)
+      (λ e. subst (λ (k : OfferKind). Both (offer_ack k cx x pair)) (sym e) update) which where
+        ack : Both (offer_ack Kind.Ack cx x pair)
+        ack =
+            let w : TcpValue = settled true (offer_ack Kind.Ack cx x pair).socket in
+            let goes =
+            plain_goes capacity (f - risen v.block w.block) (edge_of x)
+            (less capacity f (f - risen v.block w.block) (edge_of x) p (minus_least f (risen v.block w.block))) (tells x)
+            x.block.state (λ e. e) false false refl in
+            (some_out capacity f v w (ack_segment x.block pair cx.moment (window_of x)) goes.0 goes.1, stays (unoffered x) p)
 
-    update : Both (offer_ack Kind.WindowUpdate cx x pair)
-    update =
-        let w : TcpValue = settled true (offer_ack Kind.WindowUpdate cx x pair).socket in
-        let goes =
-        plain_goes capacity (f - risen v.block w.block) (edge_of x) (less capacity f (f - risen v.block w.block) (edge_of x) p (minus_least f (risen v.block w.block))) (tells x)
-        x.block.state (λ e. e) false false refl in
-        (some_out capacity f v w (ack_segment x.block pair cx.moment (window_of x)) goes.0 goes.1, stays (unoffered x) p)
+        update : Both (offer_ack Kind.WindowUpdate cx x pair)
+        update =
+            let w : TcpValue = settled true (offer_ack Kind.WindowUpdate cx x pair).socket in
+            let goes =
+            plain_goes capacity (f - risen v.block w.block) (edge_of x)
+            (less capacity f (f - risen v.block w.block) (edge_of x) p (minus_least f (risen v.block w.block))) (tells x)
+            x.block.state (λ e. e) false false refl in
+            (some_out capacity f v w (ack_segment x.block pair cx.moment (window_of x)) goes.0 goes.1, stays (unoffered x) p)
 
   -- a question counts
-  asked_out : (x : TcpValue) (b : Block) (now : ℤ) (segment : TcpHeader) → Out capacity f v (with_block x b) (Some segment) → Out capacity f v (with_block x (asked b now)) (Some segment)
+  asked_out : (x : TcpValue) (b : Block) (now : ℤ) (segment : TcpHeader) → Out capacity f v (with_block x b) (Some segment) →
+      Out capacity f v (with_block x (asked b now)) (Some segment)
   asked_out x b now segment out =
       cond_both (moments.is_over now b.timers.counts_from)
       (record b {
@@ -631,15 +675,19 @@ module _ (capacity f : ℕ) (cx : ContextValue) (v : TcpValue) where
 
   probe_out : (x : TcpValue) (pair : EndpointPair) → IsEdge capacity f (edge_of x) → Both (offer_choice Kind.Probe cx x pair probe_choice)
   probe_out x pair p =
-      let o = opened_by cx pair Kind.Probe x (segment x.block pair cx.moment (window_of x) (control_for probe_choice (queued_in x)) (number_at x.block 0)) 0 1 in
+      let o = opened_by cx pair Kind.Probe x
+      (segment x.block pair cx.moment (window_of x) (control_for probe_choice (queued_in x)) (number_at x.block 0)) 0 1 in
       let b = recorded x.block o (room_of x.received) in
       let after_it = probed b (end_of b o) cx.moment in
       let w : TcpValue = with_block (unoffered x) after_it in
       let goes =
-      plain_goes capacity (f - risen v.block w.block) (edge_of x) (less capacity f (f - risen v.block w.block) (edge_of x) p (minus_least f (risen v.block w.block))) (tells x)
-      x.block.state (λ e. e) (is_syn (control_for probe_choice (queued_in x))) (is_rst (control_for probe_choice (queued_in x))) (not_syn probe_choice (queued_in x)) in (
+      plain_goes capacity (f - risen v.block w.block) (edge_of x)
+      (less capacity f (f - risen v.block w.block) (edge_of x) p (minus_least f (risen v.block w.block))) (tells x)
+      x.block.state (λ e. e) (is_syn (control_for probe_choice (queued_in x))) (is_rst (control_for probe_choice (queued_in x)))
+      (not_syn probe_choice (queued_in x)) in (
         asked_out (unoffered x) after_it cx.moment (segment x.block pair cx.moment (window_of x) (control_for probe_choice (queued_in x)) (number_at x.block 0))
-            (some_out capacity f v w (segment x.block pair cx.moment (window_of x) (control_for probe_choice (queued_in x)) (number_at x.block 0)) goes.0 goes.1),
+            (some_out capacity f v w (segment x.block pair cx.moment (window_of x) (control_for probe_choice (queued_in x)) (number_at x.block 0))
+            goes.0 goes.1),
         stays (unoffered x) p,
       )
 
@@ -649,7 +697,8 @@ module _ (capacity f : ℕ) (cx : ContextValue) (v : TcpValue) where
       let b = recorded x.block o (room_of x.received) in
       let w : TcpValue = with_block (unoffered x) b in
       let goes =
-      plain_goes capacity (f - risen v.block w.block) (edge_of x) (less capacity f (f - risen v.block w.block) (edge_of x) p (minus_least f (risen v.block w.block))) (tells x)
+      plain_goes capacity (f - risen v.block w.block) (edge_of x)
+      (less capacity f (f - risen v.block w.block) (edge_of x) p (minus_least f (risen v.block w.block))) (tells x)
       x.block.state (λ e. e) false false refl in (
         asked_out (unoffered x) b cx.moment (keep_alive_segment x.block pair cx.moment (window_of x))
             (some_out capacity f v w (keep_alive_segment x.block pair cx.moment (window_of x)) goes.0 goes.1),
@@ -659,7 +708,8 @@ module _ (capacity f : ℕ) (cx : ContextValue) (v : TcpValue) where
   syn_out : (x : TcpValue) (pair : EndpointPair) → IsEdge capacity f (edge_of x) → length x.received.waiting ≡ 0 → Both (offer_syn cx x pair)
   syn_out x pair p none =
       let w : TcpValue = settled true (offer_syn cx x pair).socket in
-      let goes = syn_goes capacity (f - risen v.block w.block) (edge_of x) (less capacity f (f - risen v.block w.block) (edge_of x) p (minus_least f (risen v.block w.block))) none in
+      let goes = syn_goes capacity (f - risen v.block w.block) (edge_of x)
+      (less capacity f (f - risen v.block w.block) (edge_of x) p (minus_least f (risen v.block w.block))) none in
       (some_out capacity f v w (syn_segment x.block pair cx.moment cx.ip_mtu (room_of x.received) (free_in x)) goes.0 goes.1, stays (unoffered x) p)
 
   edge_last : (x : TcpValue) (pair : EndpointPair) → x.offered ≡ None → IsEdge capacity f (edge_of x) → LastRules cx pair Both x
@@ -682,14 +732,17 @@ module _ (capacity f : ℕ) (cx : ContextValue) (v : TcpValue) where
     where
       owes_unacked : owes_syn w.block ≡ true → w.block.sender.syn_unacked ≡ true
       owes_unacked owes =
-          let parts = and_true (sends_syn w.block.state && not (is_answering w.block.state && w.block.settings.synack_paused)) (w.block.sender.syn_unacked && (w.block.sender.in_flight == 0)) owes in
+          let parts = and_true (sends_syn w.block.state && not (is_answering w.block.state && w.block.settings.synack_paused))
+          (w.block.sender.syn_unacked && (w.block.sender.in_flight == 0)) owes in
           (and_true w.block.sender.syn_unacked (w.block.sender.in_flight == 0) parts.1).0
 
-  closed_out : (b : Block) → IsEdge capacity f (edge_of v) → b.state ≡ In.Closed → edge_of (with_block (unoffered v) b) ≡ record (edge_of v) { state = In.Closed }
+  closed_out : (b : Block) → IsEdge capacity f (edge_of v) → b.state ≡ In.Closed →
+      edge_of (with_block (unoffered v) b) ≡ record (edge_of v) { state = In.Closed }
       → Out capacity f v (with_block (unoffered v) b) None
   closed_out b p closed same =
       over_out capacity f v (with_block (unoffered v) b) (ap is_over closed)
-      (subst (λ (e : Edge). IsEdge capacity 0 e) (sym same) (less capacity f 0 _ (in_state capacity f (edge_of v) In.Closed p (λ is. clash (sym is))) (least f)))
+      (subst (λ (e : Edge). IsEdge capacity 0 e) (sym same)
+      (less capacity f 0 _ (in_state capacity f (edge_of v) In.Closed p (λ is. clash (sym is))) (least f)))
 
   edge_rules : IsEdge capacity f (edge_of v) → IsInOrder (sending_of v) → Rules cx v Both
   edge_rules p order = record {
@@ -707,7 +760,8 @@ module _ (capacity f : ℕ) (cx : ContextValue) (v : TcpValue) where
       fallen : Out capacity f v (listening (unoffered v) v.block.names.listen) None
       fallen = over_out capacity f v (listening (unoffered v) v.block.names.listen) refl (listens_edge capacity (unoffered v) v.block.names.listen f p)
 
-      reset_goes : (pair : EndpointPair) → Out capacity f v (settled true (offer_reset cx (unoffered v) pair).socket) (Some (reset_segment v.block pair cx.moment (window_of v)))
+      reset_goes : (pair : EndpointPair) →
+          Out capacity f v (settled true (offer_reset cx (unoffered v) pair).socket) (Some (reset_segment v.block pair cx.moment (window_of v)))
       reset_goes pair = (
         ((λ no _. clash no), (λ syn. clash (sym syn))),
         less capacity 0 _ _ (record {
@@ -730,7 +784,8 @@ module _ (capacity f : ℕ) (cx : ContextValue) (v : TcpValue) where
           kept =
               let goes = plain_goes capacity f (edge_of v) p (tells v) v.block.state (λ e. e) false false refl in goes.1.within
 
-edge_offer : (capacity f : ℕ) (cx : ContextValue) (v : TcpValue) → IsEdge capacity f (edge_of v) → IsInOrder (sending_of v) → Both capacity f cx v (offer_of cx v)
+edge_offer : (capacity f : ℕ) (cx : ContextValue) (v : TcpValue) → IsEdge capacity f (edge_of v) → IsInOrder (sending_of v) →
+    Both capacity f cx v (offer_of cx v)
 edge_offer capacity f cx v p order = by_rules cx v (Both capacity f cx v) (edge_rules capacity f cx v p order)
 
 -- ITS USER CALLS
@@ -757,7 +812,9 @@ module _ (capacity f : ℕ) (v : TcpValue) (p : IsEdge capacity f (edge_of v)) w
 
   shut_out : (w : TcpValue) → is_over w.block.state ≡ true → edge_of w ≡ record (edge_of v) { state = In.Closed } → Out capacity f v w None
   shut_out w over same =
-      over_out capacity f v w over (subst (λ (e : Edge). IsEdge capacity 0 e) (sym same) (less capacity f 0 _ (in_state capacity f (edge_of v) In.Closed p (λ is. clash (sym is))) (least f)))
+      over_out capacity f v w over
+      (subst (λ (e : Edge). IsEdge capacity 0 e) (sym same)
+      (less capacity f 0 _ (in_state capacity f (edge_of v) In.Closed p (λ is. clash (sym is))) (least f)))
 
   connects_out : (names : Option EndpointPair) (number : ℕ) → f ≡ 0 → Out capacity f v (connected_by v names number) None
   connects_out None number none = same_out (unoffered v) p
@@ -778,7 +835,8 @@ module _ (capacity f : ℕ) (v : TcpValue) (p : IsEdge capacity f (edge_of v)) w
   reads_out count =
       same_out (recv_after v count)
       (read_edge capacity f (edge_of v) (length (drop count v.received.waiting)) (length (v.received.map ++ space (length (take count v.received.waiting)))) p
-      (sum (length (drop count v.received.waiting)) (length (v.received.map ++ space (length (take count v.received.waiting)))) (length v.received.map) (length v.received.waiting) count
+      (sum (length (drop count v.received.waiting)) (length (v.received.map ++ space (length (take count v.received.waiting)))) (length v.received.map)
+      (length v.received.waiting) count
       (length (take count v.received.waiting)) (length-drop count v.received.waiting) grows (length-take count v.received.waiting))
       (more (length (v.received.map ++ space (length (take count v.received.waiting)))) (length v.received.map) (length (take count v.received.waiting)) grows))
     where
@@ -787,7 +845,8 @@ module _ (capacity f : ℕ) (v : TcpValue) (p : IsEdge capacity f (edge_of v)) w
       spaces (suc n) = ap suc (spaces n)
 
       grows : length (v.received.map ++ space (length (take count v.received.waiting))) ≡ length v.received.map + length (take count v.received.waiting)
-      grows = length-append v.received.map (space (length (take count v.received.waiting))) ∙ ap (λ (n : ℕ). length v.received.map + n) (spaces (length (take count v.received.waiting)))
+      grows = length-append v.received.map (space (length (take count v.received.waiting))) ∙
+          ap (λ (n : ℕ). length v.received.map + n) (spaces (length (take count v.received.waiting)))
 
       sum : (left new free waiting count taken : ℕ) → left ≡ waiting - count → new ≡ free + taken → taken ≡ min count waiting → left + new ≡ waiting + free
       sum left new free waiting count taken e g h = omega arith
@@ -812,7 +871,8 @@ closed_over In.Closed e = refl
 closed_over other e = clash (sym e)
 
 event_edge :
-    (capacity f : ℕ) (v : TcpValue) (it : Event) → capacity ≤ 2 ^ 30 → IsInOrder (sending_of v) → IsEdge capacity f (edge_of v) → (is_over v.block.state ≡ true → f ≡ 0)
+    (capacity f : ℕ) (v : TcpValue) (it : Event) → capacity ≤ 2 ^ 30 → IsInOrder (sending_of v) → IsEdge capacity f (edge_of v) →
+    (is_over v.block.state ≡ true → f ≡ 0)
     → Out capacity f v (after v it) (goes v it)
 event_edge capacity f v (Comes cx ip header bytes) few order p none = edge_arrival capacity f cx ip header bytes v few order p none
 event_edge capacity f v (Asked cx true) few order p none = (edge_offer capacity f cx v p order).0
@@ -821,7 +881,8 @@ event_edge capacity f v (Listens endpoint) few order p none =
     cond_both (is_closed v.block.state && not (endpoint.port == 0)) (listening v endpoint) (unoffered v) (λ (w : TcpValue). Out capacity f v w None)
     (λ _. over_out capacity f v (listening v endpoint) refl (listens_edge capacity v endpoint f p)) (λ _. same_out capacity f v p (unoffered v) p)
 event_edge capacity f v (Connects cx remote local) few order p none =
-    cond_both (is_closed v.block.state) (connected_by v (pair_for cx remote local) (word (next_random cx).random)) (unoffered v) (λ (w : TcpValue). Out capacity f v w None)
+    cond_both (is_closed v.block.state) (connected_by v (pair_for cx remote local) (word (next_random cx).random)) (unoffered v)
+    (λ (w : TcpValue). Out capacity f v w None)
     (λ closed. connects_out capacity f v p (pair_for cx remote local) (word (next_random cx).random) (none (closed_over v.block.state closed)))
     (λ _. same_out capacity f v p (unoffered v) p)
 event_edge capacity f v (Sends bytes) few order p none =
@@ -830,13 +891,15 @@ event_edge capacity f v (Sends bytes) few order p none =
     (λ _. same_out capacity f v p (sent_more v (enqueued (anchored v.queued) some)) p) (λ _. same_out capacity f v p (unoffered v) p)
 event_edge capacity f v (Reads count) few order p none = reads_out capacity f v p count
 event_edge capacity f v Closes few order p none =
-    cond_both (is_opening v.block.state) (ended (unoffered v)) (with_block (unoffered v) (record v.block { state = after_close v.block.state })) (λ (w : TcpValue). Out capacity f v w None)
+    cond_both (is_opening v.block.state) (ended (unoffered v)) (with_block (unoffered v) (record v.block { state = after_close v.block.state }))
+    (λ (w : TcpValue). Out capacity f v w None)
     (λ _. shut_out capacity f v p (ended (unoffered v)) refl refl)
     (λ on.
     same_out capacity f v p (with_block (unoffered v) (record v.block { state = after_close v.block.state }))
     (in_state capacity f (edge_of v) (after_close v.block.state) p (λ is. clash (sym is ∙ close_opening v.block.state on))))
 event_edge capacity f v Aborts few order p none =
-    let aborted : TcpValue = with_block (unoffered v) (record v.block { state = In.Closed; sender = record v.block.sender { reset_due = is_some v.block.names.pair } }) in
+    let aborted : TcpValue =
+    with_block (unoffered v) (record v.block { state = In.Closed; sender = record v.block.sender { reset_due = is_some v.block.names.pair } }) in
     cond_both (is_time_wait v.block.state) (ended (unoffered v)) aborted (λ (w : TcpValue). Out capacity f v w None)
     (λ _. shut_out capacity f v p (ended (unoffered v)) refl refl) (λ _. shut_out capacity f v p aborted refl refl)
 event_edge capacity f v (Sets setting) few order p none = set_out capacity f v p setting
@@ -849,8 +912,11 @@ led_edges : (capacity f : ℕ) (v : TcpValue) (events : List Event) → capacity
     → (is_over v.block.state ≡ true → f ≡ 0) → KeepEdges v f events
 led_edges capacity f v [] few order p none = tt
 led_edges capacity f v (it ∷ more) few order p none =
-    let out = event_edge capacity f v it few order p none in
-    (out.0, led_edges capacity (furthest_after v it f) (after v it) more few (event_order v it order) out.1 (λ over. over_none (is_over (after v it).block.state) _ over))
+    let out = event_edge capacity f v it few order p none in (
+      out.0,
+      led_edges capacity (furthest_after v it f) (after v it) more few (event_order v it order) out.1
+          (λ over. over_none (is_over (after v it).block.state) _ over),
+    )
 
 pub new_edges : (capacity : ℕ) (queued : Ring ℕ) (events : List Event) → capacity ≤ 2 ^ 30 → KeepEdges (new_socket capacity queued) 0 events
 new_edges capacity queued events few = led_edges capacity 0 (new_socket capacity queued) events few (new_order capacity queued) begins (λ _. refl) where

@@ -84,7 +84,8 @@ module _ (cx : ContextValue) (ip : IpRepr) (header : TcpHeader) (bytes : List �
       (λ _.
       cond_both (challenges_reset (unoffered v) header (length bytes)) (drawn cx (unoffered v) ip header) (dropped (unoffered v)) (Left v)
       (λ _.
-      cond_both (may_draw cx.moment v.block.timers.draws_from) (acked cx (with_draw (unoffered v) cx.moment) ip header no_ranges) (dropped (unoffered v)) (Left v)
+      cond_both (may_draw cx.moment v.block.timers.draws_from) (acked cx (with_draw (unoffered v) cx.moment) ip header no_ranges)
+      (dropped (unoffered v)) (Left v)
       (λ _. answers)
       (λ _. stays))
       (λ _. stays)))
@@ -98,7 +99,8 @@ module _ (cx : ContextValue) (ip : IpRepr) (header : TcpHeader) (bytes : List �
   by_state In.SynSent past rst elsewhere = absurd (cc)
   by_state other past rst elsewhere = by_reset rst elsewhere
 
-  left : is_past v.block.state ≡ true → is_rst header.control ≡ true → (v.block.receiver.next.0 == header.seq_number.0) ≡ false → Left v (arrives cx v ip header bytes)
+  left : is_past v.block.state ≡ true → is_rst header.control ≡ true → (v.block.receiver.next.0 == header.seq_number.0) ≡ false →
+      Left v (arrives cx v ip header bytes)
   left past rst elsewhere =
       cond_both (is_void_syn header) (dropped (unoffered v)) (arrives_in v.block.state cx (unoffered v) ip header bytes) (Left v)
       (λ _. stays)

@@ -1,5 +1,6 @@
 -- A connection that nobody answers ends.
-use Rattle.std.proofs.Common.{◌≡◌, ◌⊎◌, inl, inr, ⊎_elim, ℕ, ◌+◌, ◌≤◌, ◌<◌, nat_le, min, ◌&&◌, ◌||◌, ℤ, Bool, true, false, if◌then◌else◌, List, [], ◌∷◌, Option, Some, None, refl, sym, ap, ◌∙◌, subst, arith}
+use Rattle.std.proofs.Common.{◌≡◌, ◌⊎◌, inl, inr, ⊎_elim, ℕ, ◌+◌, ◌≤◌, ◌<◌, nat_le, min, ◌&&◌, ◌||◌, ℤ, Bool, true, false, if◌then◌else◌, List, [], ◌∷◌, Option}
+use Rattle.std.proofs.Common.{Some, None, refl, sym, ap, ◌∙◌, subst, arith}
 use Rattle.std.proofs.lemmas.Bool.{cond_both, leb-false, le-leb}
 use Rattle.ip_wire.specs.TcpHeader.{TcpHeader}
 use Rattle.socket_base.specs.Context.{ContextValue}
@@ -114,7 +115,14 @@ module _ (cx : ContextValue) (v : TcpValue) where
     syn = λ _. inr (goes, tries);
     again = λ _ _. inr (goes, tries);
     text = λ _ _. inr (goes, tries);
-    last = λ _. steps_last pair (probing cx w) (record { state = goes.state; names = goes.names; opening = goes.opening; retries = goes.retries; timeouts = goes.timeouts }) tries;
+    last = λ _. steps_last pair (probing cx w) (record {
+      state = goes.state;
+      names = goes.names;
+      opening = goes.opening;
+      retries = goes.retries;
+      timeouts =
+          goes.timeouts;
+    }) tries;
   }
 
   -- the timer hasn't run out
@@ -151,7 +159,14 @@ module _ (cx : ContextValue) (v : TcpValue) where
         steps_first pair (with_block (unoffered v) (backed_off_now (begun cx v)))
         (record { state = refl; names = refl; opening = refl; retries = refl; timeouts = one_later due }) (tries_on on);
     goes = λ pair _ on not.
-        steps_first pair (with_block (unoffered v) (begun cx v)) (record { state = refl; names = refl; opening = refl; retries = refl; timeouts = unchanged not })
+        steps_first pair (with_block (unoffered v) (begun cx v)) (record {
+          state = refl;
+          names = refl;
+          opening = refl;
+          retries = refl;
+          timeouts =
+              unchanged not;
+        })
         (tries_on on);
   }
     where
@@ -255,10 +270,12 @@ left_of v p more limit by small some enough goes last = at (is_due p.cx.moment v
       → (1 ≤ timeouts_in (after_poll v p) more) × (limit ≤ (after_poll v p).block.sender.timeouts + timeouts_in (after_poll v p) more)
   at true e =
       let least : nat_le limit (v.block.sender.timeouts + 1) ≡ false = subst (λ (r : Option ℕ). reaches r (v.block.sender.timeouts + 1) ≡ false) by (last e) in
-      more_due v.block.sender.timeouts (timeouts_in (after_poll v p) more) limit (one_if (is_due p.cx.moment v.block.timers.retransmit_at)) (after_poll v p).block.sender.timeouts (ap one_if e)
+      more_due v.block.sender.timeouts (timeouts_in (after_poll v p) more) limit (one_if (is_due p.cx.moment v.block.timers.retransmit_at))
+      (after_poll v p).block.sender.timeouts (ap one_if e)
       (leb-false limit (v.block.sender.timeouts + 1) least) small enough (goes.timeouts ∙ sym (one_later p.cx v e))
   at false e =
-      more_not v.block.sender.timeouts (timeouts_in (after_poll v p) more) limit (one_if (is_due p.cx.moment v.block.timers.retransmit_at)) (after_poll v p).block.sender.timeouts (ap one_if e)
+      more_not v.block.sender.timeouts (timeouts_in (after_poll v p) more) limit (one_if (is_due p.cx.moment v.block.timers.retransmit_at))
+      (after_poll v p).block.sender.timeouts (ap one_if e)
       some enough (goes.timeouts ∙ sym (unchanged p.cx v e))
 
 pub ends_by_timeouts :
@@ -270,7 +287,8 @@ ends_by_timeouts v (p ∷ more) pair limit named by small some enough =
     (λ both.
     let goes = both.0 in
     let left = left_of v p more limit by small some enough goes both.1 in
-    ends_by_timeouts (after_poll v p) more pair limit (ap (λ (n : Names). n.pair) goes.names ∙ named) (same_limit v.block (after_poll v p).block (count p.cx v) goes ∙ by) small left.0
+    ends_by_timeouts (after_poll v p) more pair limit (ap (λ (n : Names). n.pair) goes.names ∙
+    named) (same_limit v.block (after_poll v p).block (count p.cx v) goes ∙ by) small left.0
     left.1)
     (poll_steps v p pair named)
 
@@ -296,7 +314,8 @@ module _ (cx : ContextValue) (v : TcpValue) (limit : ℕ) (by : v.block.settings
       (is_due cx.moment v.block.timers.counts_from && reaches v.block.settings.retries v.block.sender.unanswered) asks
       (both (is_due cx.moment v.block.timers.counts_from) (reaches v.block.settings.retries v.block.sender.unanswered) counts reached))
 
-  over_by_question : (pair : EndpointPair) → v.block.names.pair ≡ Some pair → gives_up cx.moment v.block (queued_in v) ≡ true → Rules cx v (λ (o : Offered TcpValue). is_over o.socket.block.state ≡ true)
+  over_by_question : (pair : EndpointPair) → v.block.names.pair ≡ Some pair → gives_up cx.moment v.block (queued_in v) ≡ true →
+      Rules cx v (λ (o : Offered TcpValue). is_over o.socket.block.state ≡ true)
   over_by_question pair named over = record {
     nobody = λ none. absurd (let clash = sym none ∙ named in cc);
     time_wait = λ _. refl;
@@ -315,4 +334,5 @@ pub ends_by_questions :
     → (is_due cx.moment (probe_moment v.block (queued_in v)) || is_due cx.moment (keep_alive_moment v.block)) ≡ true
     → is_due cx.moment v.block.timers.counts_from ≡ true → is_over (offer_of cx v).socket.block.state ≡ true
 ends_by_questions cx v pair limit named by enough asks counts =
-    by_rules cx v (λ (o : Offered TcpValue). is_over o.socket.block.state ≡ true) (over_by_question cx v limit by enough pair named (gives cx v limit by enough asks counts))
+    by_rules cx v (λ (o : Offered TcpValue). is_over o.socket.block.state ≡
+    true) (over_by_question cx v limit by enough pair named (gives cx v limit by enough asks counts))

@@ -9,10 +9,12 @@ use Rattle.tcp_control.specs.declared.endpoints.EndpointPair.{EndpointPair}
 use Rattle.tcp_control.specs.declared.offer.OfferKind.TheVariants as Kind
 use Rattle.tcp_model.specs.Calls.{listening}
 use Rattle.tcp_model.specs.Checks.{falls_back}
-use Rattle.tcp_model.specs.Offers.{offer_choice, offer_ack, offer_syn, offer_reset, offer_keep_alive, offer_held_back, silent, last_rules, first_rules, backed_off, offer_between, offer_with, offer_of}
+use Rattle.tcp_model.specs.Offers.{offer_choice, offer_ack, offer_syn, offer_reset, offer_keep_alive, offer_held_back, silent, last_rules, first_rules}
+use Rattle.tcp_model.specs.Offers.{backed_off, offer_between, offer_with, offer_of}
 use Rattle.tcp_model.specs.Probing.{probe_started, probe_moment}
 use Rattle.tcp_model.specs.Retries.{gives_up, given_up}
-use Rattle.tcp_model.specs.Rules.{time_wait_end, owes_syn, resends, ack_moment, has_text, text_choice, resend_choice, probe_choice, updates_window, keep_alive_moment, backed_off_now}
+use Rattle.tcp_model.specs.Rules.{time_wait_end, owes_syn, resends, ack_moment, has_text, text_choice, resend_choice, probe_choice, updates_window}
+use Rattle.tcp_model.specs.Rules.{keep_alive_moment, backed_off_now}
 use Rattle.tcp_model.specs.Timeout.{timeout_end, timeout_started, timed_out}
 use Rattle.tcp_model.specs.Value.{TcpValue, with_block, unoffered, ended, queued_in, free_in, room_of}
 use Rattle.tcp_model.specs.declared.block.Block.{Block}
@@ -43,7 +45,8 @@ module _ (cx : ContextValue) (pair : EndpointPair) (Q : Offered TcpValue → Typ
 
   pub record FirstRules (w : TcpValue) : Type 0 where
     pub syn : owes_syn w.block ≡ true → Q (offer_syn cx w pair)
-    pub again : owes_syn w.block ≡ false → resends w.block ≡ true → Q (offer_choice Kind.FastRetransmission cx w pair (resend_choice w.block pair.addresses cx.ip_mtu w.queued))
+    pub again : owes_syn w.block ≡ false → resends w.block ≡ true →
+        Q (offer_choice Kind.FastRetransmission cx w pair (resend_choice w.block pair.addresses cx.ip_mtu w.queued))
     pub text :
         owes_syn w.block ≡ false → has_text w.block pair.addresses cx.ip_mtu w.queued ≡ true
         → Q (offer_choice Kind.Text cx w pair (text_choice w.block pair.addresses cx.ip_mtu w.queued))
@@ -120,7 +123,8 @@ pub record Rules (cx : ContextValue) (v : TcpValue) (Q : Offered TcpValue → Ty
 module _ (cx : ContextValue) (v : TcpValue) (Q : Offered TcpValue → Type 0) (r : Rules cx v Q) where
   by_over : is_closed v.block.state ≡ false → gives_up cx.moment v.block (queued_in v) ≡ true → Q (silent true (given_up (unoffered v)))
   by_over alive over =
-      cond_both (falls_back v.block) (listening (unoffered v) v.block.names.listen) (with_block (unoffered v) (timed_out v.block)) (λ (w : TcpValue). Q (silent true w))
+      cond_both (falls_back v.block) (listening (unoffered v) v.block.names.listen) (with_block (unoffered v) (timed_out v.block))
+      (λ (w : TcpValue). Q (silent true w))
       (λ falls. r.falls alive over falls)
       (λ not. r.over alive over not)
 

@@ -15,10 +15,12 @@ use Rattle.tcp_control.specs.declared.offer.OpenOffer.{OpenOffer}
 use Rattle.tcp_model.specs.Blocks.{top}
 use Rattle.tcp_model.specs.Calls.{listening}
 use Rattle.tcp_model.specs.Checks.{falls_back}
-use Rattle.tcp_model.specs.Offers.{offer_segment, offer_choice, offer_ack, offer_syn, offer_reset, offer_keep_alive, offer_held_back, silent, last_rules, first_rules, backed_off, offer_between, offer_with, offer_of, number_at}
+use Rattle.tcp_model.specs.Offers.{offer_segment, offer_choice, offer_ack, offer_syn, offer_reset, offer_keep_alive, offer_held_back, silent, last_rules}
+use Rattle.tcp_model.specs.Offers.{first_rules, backed_off, offer_between, offer_with, offer_of, number_at}
 use Rattle.tcp_model.specs.Probing.{probe_started, probe_moment}
 use Rattle.tcp_model.specs.Retries.{asked, one_more, gives_up, given_up}
-use Rattle.tcp_model.specs.Rules.{control_for, time_wait_end, owes_syn, resends, ack_moment, has_text, text_choice, resend_choice, probe_choice, updates_window, keep_alive_moment, backed_off_now}
+use Rattle.tcp_model.specs.Rules.{control_for, time_wait_end, owes_syn, resends, ack_moment, has_text, text_choice, resend_choice, probe_choice, updates_window}
+use Rattle.tcp_model.specs.Rules.{keep_alive_moment, backed_off_now}
 use Rattle.tcp_model.specs.Segments.{hops_of, segment, ack_segment, syn_segment, reset_segment, keep_alive_segment}
 use Rattle.tcp_model.specs.Settled.{settled, sent_off, recorded, probed, end_of, sent_as}
 use Rattle.tcp_model.specs.Timeout.{timeout_end, timeout_started, timed_out}
@@ -44,7 +46,8 @@ sent_goes Kind.Reset b o queued = same b (sent_as Kind.Reset b o queued) refl
 sent_goes Kind.Syn b o queued = sends b (sent_as Kind.Syn b o queued) (end_of b o) refl refl (timer_runs b.timers.retransmit_at _)
 sent_goes Kind.FastRetransmission b o queued = sends b (sent_as Kind.FastRetransmission b o queued) (end_of b o) refl refl (timer_runs b.timers.retransmit_at _)
 sent_goes Kind.Text b o queued = sends b (sent_as Kind.Text b o queued) (end_of b o) refl refl (timer_runs b.timers.retransmit_at _)
-sent_goes Kind.Probe b o queued = asked_goes b (probed b (end_of b o) o.moment) o.moment (probes b (probed b (end_of b o) o.moment) (end_of b o) refl refl refl refl)
+sent_goes Kind.Probe b o queued =
+    asked_goes b (probed b (end_of b o) o.moment) o.moment (probes b (probed b (end_of b o) o.moment) (end_of b o) refl refl refl refl)
 sent_goes Kind.KeepAlive b o queued = asked_goes b b o.moment (same b b refl)
 sent_goes Kind.Ack b o queued = same b b refl
 sent_goes Kind.WindowUpdate b o queued = same b b refl
@@ -88,7 +91,8 @@ module _ (cx : ContextValue) (pair : EndpointPair) where
   )
 
   by_segment :
-      (old : Block) (v : TcpValue) (kind : OfferKind) (header : TcpHeader) (place len : ℕ) → Going old v → (is_bare kind ≡ true → header.seq_number ≡ top v.block)
+      (old : Block) (v : TcpValue) (kind : OfferKind) (header : TcpHeader) (place len : ℕ) → Going old v →
+      (is_bare kind ≡ true → header.seq_number ≡ top v.block)
       → Sound old (offer_segment kind cx v pair header place len)
   by_segment old v kind header place len going past = ((sent, going.goes), λ x e bare. at x e bare) where
     mine : OpenOffer
@@ -122,8 +126,10 @@ module _ (cx : ContextValue) (pair : EndpointPair) where
   by_held_back old v goes =
       let text = text_choice v.block pair.addresses cx.ip_mtu v.queued in
       cond_both (v.block.peer.window == 0) (offer_choice Kind.Probe cx v pair probe_choice) (offer_choice Kind.Text cx v pair text) (Sound old)
-      (λ _. by_segment old v Kind.Probe (segment v.block pair cx.moment (window_of v) (control_for probe_choice (queued_in v)) (number_at v.block 0)) 0 1 goes (λ e. no_bare e))
-      (λ _. by_segment old v Kind.Text (segment v.block pair cx.moment (window_of v) (control_for text (queued_in v)) (number_at v.block text.place)) text.place text.len goes (λ e. no_bare e))
+      (λ _. by_segment old v Kind.Probe (segment v.block pair cx.moment (window_of v) (control_for probe_choice (queued_in v)) (number_at v.block 0)) 0 1 goes
+      (λ e. no_bare e))
+      (λ _. by_segment old v Kind.Text (segment v.block pair cx.moment (window_of v) (control_for text (queued_in v)) (number_at v.block text.place)) text.place
+      text.len goes (λ e. no_bare e))
 
   by_last : (old : Block) (v : TcpValue) → Going old v → Sound old (last_rules cx v pair)
   by_last old v goes =
@@ -168,17 +174,21 @@ module _ (cx : ContextValue) (pair : EndpointPair) where
       (if has_text v.block pair.addresses cx.ip_mtu v.queued then offer_choice Kind.Text cx v pair text else last_rules cx probing pair)
       (Sound old)
       (λ _.
-      by_segment old v Kind.FastRetransmission (segment v.block pair cx.moment (window_of v) (control_for again (queued_in v)) (number_at v.block again.place)) again.place again.len goes
+      by_segment old v Kind.FastRetransmission (segment v.block pair cx.moment (window_of v) (control_for again (queued_in v)) (number_at v.block again.place))
+      again.place again.len goes
       (λ e. no_bare e))
       (λ _.
       cond_both (has_text v.block pair.addresses cx.ip_mtu v.queued) (offer_choice Kind.Text cx v pair text) (last_rules cx probing pair) (Sound old)
-      (λ _. by_segment old v Kind.Text (segment v.block pair cx.moment (window_of v) (control_for text (queued_in v)) (number_at v.block text.place)) text.place text.len goes (λ e. no_bare e))
+      (λ _. by_segment old v Kind.Text (segment v.block pair cx.moment (window_of v) (control_for text (queued_in v)) (number_at v.block text.place)) text.place
+      text.len goes (λ e. no_bare e))
       (λ _. by_last old probing (record { none = goes.none; goes = goes_on old v.block probing.block goes.goes refl refl; listens = goes.listens }))))
 
   by_end : (v : TcpValue) → Sound v.block (silent true (given_up (unoffered v)))
   by_end v =
-      cond_both (falls_back v.block) (listening (unoffered v) v.block.names.listen) (with_block (unoffered v) (timed_out v.block)) (λ (w : TcpValue). Sound v.block (silent true w))
-      (λ _. by_silent true v.block (listening (unoffered v) v.block.names.listen) refl (anew v.block (listening (unoffered v) v.block.names.listen).block refl refl))
+      cond_both (falls_back v.block) (listening (unoffered v) v.block.names.listen) (with_block (unoffered v) (timed_out v.block))
+      (λ (w : TcpValue). Sound v.block (silent true w))
+      (λ _. by_silent true v.block (listening (unoffered v) v.block.names.listen) refl
+      (anew v.block (listening (unoffered v) v.block.names.listen).block refl refl))
       (λ _. by_silent true v.block (with_block (unoffered v) (timed_out v.block)) refl (same v.block (timed_out v.block) refl))
 
   by_between : (v : TcpValue) → Sound v.block (offer_between cx (unoffered v) pair)
@@ -203,7 +213,8 @@ module _ (cx : ContextValue) (pair : EndpointPair) where
       (λ _.
       cond_both v.block.sender.reset_due (offer_reset cx (unoffered v) pair) (silent false (unoffered v)) (Sound v.block)
       (λ _.
-      by_segment v.block (unoffered v) Kind.Reset (reset_segment v.block pair cx.moment (window_of v)) 0 0 (record { none = refl; goes = unchanged; listens = refl }) (λ _. refl))
+      by_segment v.block (unoffered v) Kind.Reset (reset_segment v.block pair cx.moment (window_of v)) 0 0
+      (record { none = refl; goes = unchanged; listens = refl }) (λ _. refl))
       (λ _. by_silent false v.block (unoffered v) refl unchanged))
       (λ _.
       cond_both (gives_up cx.moment v.block (queued_in v)) gone going (Sound v.block)

@@ -1,5 +1,6 @@
 -- Each event keeps a socket in order.
-use Rattle.std.proofs.Common.{◌≡◌, ℕ, ◌+◌, ◌-◌, ◌^◌, ◌%◌, ◌<◌, ◌≤◌, ◌==◌, ◌&&◌, ◌||◌, nat_le, nat_lt, not, min, max, ℤ, Bool, true, false, if◌then◌else◌, List, [], ◌∷◌, length, take, drop, ◌++◌, Option, Some, None, is_some, is_none, refl, sym, ap, ◌∙◌, subst, arith, length-append}
+use Rattle.std.proofs.Common.{◌≡◌, ℕ, ◌+◌, ◌-◌, ◌^◌, ◌%◌, ◌<◌, ◌≤◌, ◌==◌, ◌&&◌, ◌||◌, nat_le, nat_lt, not, min, max, ℤ, Bool, true, false, if◌then◌else◌, List}
+use Rattle.std.proofs.Common.{[], ◌∷◌, length, take, drop, ◌++◌, Option, Some, None, is_some, is_none, refl, sym, ap, ◌∙◌, subst, arith, length-append}
 use Rattle.std.proofs.lemmas.Bool.{cond_both, eqb-true, eq-eqb}
 use Rattle.std.proofs.lemmas.List.{length-drop}
 use Rattle.ip_wire.specs.Control.{control_len}
@@ -19,7 +20,8 @@ use Rattle.socket_base.specs.Offers.{Offered}
 use Rattle.tcp_control.specs.Endpoints.{header_for}
 use Rattle.tcp_control.specs.Moments.{is_due, is_over, timeout_from}
 use Rattle.tcp_control.specs.Offsets.{behind_by}
-use Rattle.tcp_control.specs.States.{is_closed, is_listening, is_opening, is_answering, is_time_wait, sends_syn, sends_text, owes_fin, takes_writes, after_ack, after_ack_of_fin, after_close}
+use Rattle.tcp_control.specs.States.{is_closed, is_listening, is_opening, is_answering, is_time_wait, sends_syn, sends_text, owes_fin, takes_writes, after_ack}
+use Rattle.tcp_control.specs.States.{after_ack_of_fin, after_close}
 use Rattle.tcp_control.specs.declared.endpoints.EndpointPair.{EndpointPair}
 use Rattle.tcp_control.specs.declared.offer.OfferKind.{OfferKind}
 use Rattle.tcp_control.specs.declared.offer.OfferKind.TheVariants as Kind
@@ -36,7 +38,8 @@ use Rattle.tcp_model.specs.Offers.{offer_of, offer_choice, offer_syn, number_at}
 use Rattle.tcp_model.specs.Opening.{answering}
 use Rattle.tcp_model.specs.Probing.{probe_moment, is_probing}
 use Rattle.tcp_model.specs.Retries.{asked, one_more, heard}
-use Rattle.tcp_model.specs.Rules.{Choice, congestion_limit, window_limit, size_limit, unbroken, next_place, text_choice, resend_choice, probe_choice, control_for, owes_syn, resends, has_text, backed_off_now, beyond, sent_places}
+use Rattle.tcp_model.specs.Rules.{Choice, congestion_limit, window_limit, size_limit, unbroken, next_place, text_choice, resend_choice, probe_choice}
+use Rattle.tcp_model.specs.Rules.{control_for, owes_syn, resends, has_text, backed_off_now, beyond, sent_places}
 use Rattle.tcp_model.specs.Segments.{hops_of, segment, keep_alive_segment}
 use Rattle.tcp_model.specs.Settled.{settled, sent_off, recorded, probed, end_of}
 use Rattle.tcp_model.specs.Timeout.{timeout_restarted}
@@ -50,7 +53,9 @@ use Rattle.tcp_rules.specs.Events.Setting.{Timeout, KeepAlive, AckDelay, Nagle, 
 use Rattle.tcp_rules.specs.InOrder.{has_all, Sending, sending_of, all_of, IsInOrder}
 use Rattle.tcp_rules.proofs.ArrivalCases.{by_arrival, Received, Opening, Content, Drawing, acked_open, heeded}
 use Rattle.tcp_rules.proofs.OfferCases.{Rules, FirstRules, LastRules, by_rules, begun, probing}
-use Rattle.tcp_rules.proofs.OrderSteps.{clash, listens_not, passes_news, old_news, syn_gone, syn_gone_old, acked_sending, one_if_least, acked_on, acked_fin, with_waiting, with_fin_taken, closed_order, last_order, begins, went_order, backed_order, distance_at_most, own_distance}
+use Rattle.tcp_rules.proofs.OrderSteps.{clash, listens_not, passes_news, old_news, syn_gone, syn_gone_old, acked_sending, one_if_least, acked_on, acked_fin}
+use Rattle.tcp_rules.proofs.OrderSteps.{with_waiting, with_fin_taken, closed_order, last_order, begins, went_order, backed_order, distance_at_most}
+use Rattle.tcp_rules.proofs.OrderSteps.{own_distance}
 
 -- A SEGMENT COMES
 
@@ -132,16 +137,20 @@ module _ (cx : ContextValue) (ip : IpRepr) (header : TcpHeader) (bytes : List �
     ends = λ _ _ _. closed_order (sending_of u) false p;
     closes = λ by passes _.
         last_order (sending_of u) (behind_by u.block.sender.una by).0 by (length (drop (freed_by u.block by (queued_in u)) u.queued.queue))
-        (if u.block.sender.partial && is_partial u.block by then u.block.timers.retransmit_at else Some (timeout_from cx.moment (acked_open u by cx.moment).block.round_trip)) p (small_number u.block.sender.una by) (syn_gone (sending_of u) by p (passes_news u.block header.ack_number by passes));
+        (if u.block.sender.partial && is_partial u.block by then u.block.timers.retransmit_at else Some
+        (timeout_from cx.moment (acked_open u by cx.moment).block.round_trip)) p (small_number u.block.sender.una by)
+        (syn_gone (sending_of u) by p (passes_news u.block header.ack_number by passes));
     taken = λ by passes alive.
-        order_content (heeded cx.moment header (length bytes) u by (acked_open u by cx.moment).block) (acked_order u by cx.moment p past (passes_news u.block header.ack_number by passes) alive)
+        order_content (heeded cx.moment header (length bytes) u by (acked_open u by cx.moment).block)
+        (acked_order u by cx.moment p past (passes_news u.block header.ack_number by passes) alive)
         (syn_gone (sending_of u) by p (passes_news u.block header.ack_number by passes));
     taken_window = λ by passes alive.
         order_content (heeded cx.moment header (length bytes) u by (windowed (acked_open u by cx.moment).block header))
         (acked_order u by cx.moment p past (passes_news u.block header.ack_number by passes) alive)
         (syn_gone (sending_of u) by p (passes_news u.block header.ack_number by passes));
     news = λ by passes alive.
-        order_drawing (waiting_anew (acked_open u by cx.moment) header cx.moment) (acked_order u by cx.moment p past (passes_news u.block header.ack_number by passes) alive);
+        order_drawing (waiting_anew (acked_open u by cx.moment) header cx.moment)
+        (acked_order u by cx.moment p past (passes_news u.block header.ack_number by passes) alive);
     outside = order_drawing (waiting_anew u header cx.moment) p;
     old = λ old. order_content (with_block u (heard u.block)) p (syn_gone_old (sending_of u) p (old_news u.block header.ack_number old));
   }
@@ -156,14 +165,16 @@ module _ (cx : ContextValue) (ip : IpRepr) (header : TcpHeader) (bytes : List �
   order_opening : (u : TcpValue) → IsInOrder (sending_of u) → Opening cx ip header bytes Order u
   order_opening u p = record {
     opens = λ at _.
-        begins (sending_of (with_block u (timeout_restarted (answering u.block ip header (word (next_random cx).random)) cx.moment 0))) In.SynReceived refl refl (small_word (next_random cx).random) refl refl (p.listens (ap is_listening at)).1 refl (λ _. refl);
+        begins (sending_of (with_block u (timeout_restarted (answering u.block ip header (word (next_random cx).random)) cx.moment 0))) In.SynReceived refl refl
+        (small_word (next_random cx).random) refl refl (p.listens (ap is_listening at)).1 refl (λ _. refl);
     refuses = p;
     ends = λ _. closed_order (sending_of u) false p;
     connects = λ at _. record {
       number = small_number u.block.sender.una 1;
       within = λ _.
           less u.block.sender.in_flight (one_if u.block.sender.syn_unacked) (queued_in u) (one_if (u.block.sender.syn_unacked && (1 == 0)))
-          (subst (λ (s : State). u.block.sender.in_flight ≤ one_if u.block.sender.syn_unacked + queued_in u + one_if (owes_fin s)) at (p.within (ap is_closed at)))
+          (subst (λ (s : State). u.block.sender.in_flight ≤ one_if u.block.sender.syn_unacked + queued_in u + one_if (owes_fin s)) at
+          (p.within (ap is_closed at)))
           (one_if_least u.block.sender.syn_unacked);
       opening = λ syn. clash (sym syn ∙ none u.block.sender.syn_unacked);
       opened = λ _. refl;
@@ -175,7 +186,8 @@ module _ (cx : ContextValue) (ip : IpRepr) (header : TcpHeader) (bytes : List �
         let old = p.opening (opening_syn u p at) in
         record {
           number = p.number;
-          within = λ _. subst (λ (s : State). u.block.sender.in_flight ≤ one_if u.block.sender.syn_unacked + queued_in u + one_if (owes_fin s)) at (p.within (ap is_closed at));
+          within = λ _. subst (λ (s : State). u.block.sender.in_flight ≤ one_if u.block.sender.syn_unacked + queued_in u + one_if (owes_fin s)) at
+              (p.within (ap is_closed at));
           opening = λ _. (old.0, old.1, refl);
           opened = λ gone. clash (sym (opening_syn u p at) ∙ gone);
           acked = λ e. clash (sym e);
@@ -202,21 +214,24 @@ limit_least Avoids.Reno window size = omega arith
 
 window_least : (b : Block) (size : ℕ) → window_limit b size ≤ size
 window_least b size =
-    let limit = limit_least b.settings.congestion_control (b.reno.cwnd + beyond b - b.sender.in_flight) (min (b.peer.window - b.sender.in_flight) size) in omega (arith, limit)
+    let limit = limit_least b.settings.congestion_control (b.reno.cwnd + beyond b - b.sender.in_flight) (min (b.peer.window - b.sender.in_flight) size) in
+    omega (arith, limit)
 
 pub control_least : (c : Choice) (queued : ℕ) → control_len (control_for c queued) ≤ one_if c.fin
 control_least c queued = at c.fin where
   least : (m : ℕ) → 0 ≤ m
   least m = omega arith
 
-  at : (fin : Bool) → control_len (if fin then Control.Fin else if not (c.len == 0) && (c.place + c.len == queued) then Control.Psh else Control.None) ≤ one_if fin
+  at : (fin : Bool) → control_len
+      (if fin then Control.Fin else if not (c.len == 0) && (c.place + c.len == queued) then Control.Psh else Control.None) ≤ one_if fin
   at true = omega arith
   at false =
       cond_both (not (c.len == 0) && (c.place + c.len == queued)) Control.Psh Control.None (λ (k : TcpControl). control_len k ≤ 0) (λ _. least 0) (λ _. least 0)
 
 -- a part of the send queue ends at its end, or with the FIN behind it
 part_with_fin :
-    (syn queued owes place len far control : ℕ) → place + len ≡ queued → owes ≡ 1 → far ≤ syn + place → control ≤ 1 → far + (len + control) ≤ syn + queued + owes
+    (syn queued owes place len far control : ℕ) → place + len ≡ queued → owes ≡ 1 → far ≤ syn + place → control ≤ 1 →
+    far + (len + control) ≤ syn + queued + owes
 part_with_fin syn queued owes place len far control a b c d = omega arith
 
 part_within :
@@ -237,11 +252,13 @@ choice_within x c p place len fin = at c.fin refl where
       → distance_of x.block.sender.una (number_at x.block c.place) + (c.len + control_len (control_for c (queued_in x))) ≤ all_of (sending_of x)
   at true e =
       let parts = and_true (owes_fin x.block.state) (c.place + c.len == queued_in x) (fin e) in
-      part_with_fin (one_if x.block.sender.syn_unacked) (queued_in x) (one_if (owes_fin x.block.state)) c.place c.len (distance_of x.block.sender.una (number_at x.block c.place))
+      part_with_fin (one_if x.block.sender.syn_unacked) (queued_in x) (one_if (owes_fin x.block.state)) c.place c.len
+      (distance_of x.block.sender.una (number_at x.block c.place))
       (control_len (control_for c (queued_in x))) (eqb-true (c.place + c.len) (queued_in x) parts.1) (ap one_if parts.0) near
       (subst (λ (t : Bool). control_len (control_for c (queued_in x)) ≤ one_if t) e (control_least c (queued_in x)))
   at false e =
-      part_within (one_if x.block.sender.syn_unacked) (queued_in x) (one_if (owes_fin x.block.state)) c.place c.len (distance_of x.block.sender.una (number_at x.block c.place))
+      part_within (one_if x.block.sender.syn_unacked) (queued_in x) (one_if (owes_fin x.block.state)) c.place c.len
+      (distance_of x.block.sender.una (number_at x.block c.place))
       (control_len (control_for c (queued_in x))) (one_if c.fin) place len near (control_least c (queued_in x)) (ap one_if e)
 
 -- as it is offered, and settled as sent
@@ -263,15 +280,21 @@ module _ (cx : ContextValue) (pair : EndpointPair) where
       (x : TcpValue) (c : Choice) → IsInOrder (sending_of x) → has_all x.block.state ≡ false
       → distance_of x.block.sender.una (number_at x.block c.place) + (c.len + control_len (control_for c (queued_in x))) ≤ all_of (sending_of x)
       → Both (offer_choice Kind.Text cx x pair c)
-  by_text x c p not_all end =
-      (p, went_order (sending_of x) (distance_of x.block.sender.una (number_at x.block c.place) + (c.len + control_len (control_for c (queued_in x)))) _ p not_all end)
+  by_text x c p not_all end = (
+    p,
+    went_order (sending_of x) (distance_of x.block.sender.una (number_at x.block c.place) + (c.len + control_len (control_for c (queued_in x)))) _ p
+        not_all end,
+  )
 
   by_again :
       (x : TcpValue) (c : Choice) → IsInOrder (sending_of x) → has_all x.block.state ≡ false
       → distance_of x.block.sender.una (number_at x.block c.place) + (c.len + control_len (control_for c (queued_in x))) ≤ all_of (sending_of x)
       → Both (offer_choice Kind.FastRetransmission cx x pair c)
-  by_again x c p not_all end =
-      (p, went_order (sending_of x) (distance_of x.block.sender.una (number_at x.block c.place) + (c.len + control_len (control_for c (queued_in x)))) _ p not_all end)
+  by_again x c p not_all end = (
+    p,
+    went_order (sending_of x) (distance_of x.block.sender.una (number_at x.block c.place) + (c.len + control_len (control_for c (queued_in x)))) _ p
+        not_all end,
+  )
 
   -- a question counts
   asked_order : (x : TcpValue) (b : Block) → IsInOrder (sending_of (with_block x b)) → IsInOrder (sending_of (with_block x (asked b cx.moment)))
@@ -310,13 +333,16 @@ module _ (cx : ContextValue) (pair : EndpointPair) where
   text_within :
       (x : TcpValue) → IsInOrder (sending_of x) → is_closed x.block.state ≡ false
       → distance_of x.block.sender.una (number_at x.block (next_place x.block))
-      + ((text_choice x.block pair.addresses cx.ip_mtu x.queued).len + control_len (control_for (text_choice x.block pair.addresses cx.ip_mtu x.queued) (queued_in x)))
+      + ((text_choice x.block pair.addresses cx.ip_mtu x.queued).len +
+      control_len (control_for (text_choice x.block pair.addresses cx.ip_mtu x.queued) (queued_in x)))
       ≤ all_of (sending_of x)
   text_within x p alive =
       choice_within x (text_choice x.block pair.addresses cx.ip_mtu x.queued) p
-      (place_within x.block.sender.in_flight (one_if x.block.sender.syn_unacked) (queued_in x) (one_if (owes_fin x.block.state)) (p.within alive)) shorter (λ e. e)
+      (place_within x.block.sender.in_flight (one_if x.block.sender.syn_unacked) (queued_in x) (one_if (owes_fin x.block.state)) (p.within alive))
+      shorter (λ e. e)
     where
-      least : (text_choice x.block pair.addresses cx.ip_mtu x.queued).len ≤ min (size_limit x.block pair.addresses cx.ip_mtu) (unbroken x.queued (next_place x.block))
+      least : (text_choice x.block pair.addresses cx.ip_mtu x.queued).len ≤
+          min (size_limit x.block pair.addresses cx.ip_mtu) (unbroken x.queued (next_place x.block))
       least = window_least x.block (min (size_limit x.block pair.addresses cx.ip_mtu) (unbroken x.queued (next_place x.block)))
 
       twice : (a m k u : ℕ) → a ≤ min m (min k u) → a ≤ k
@@ -330,28 +356,30 @@ module _ (cx : ContextValue) (pair : EndpointPair) where
   again_within :
       (x : TcpValue) → IsInOrder (sending_of x)
       → distance_of x.block.sender.una (number_at x.block 0)
-      + ((resend_choice x.block pair.addresses cx.ip_mtu x.queued).len + control_len (control_for (resend_choice x.block pair.addresses cx.ip_mtu x.queued) (queued_in x)))
+      + ((resend_choice x.block pair.addresses cx.ip_mtu x.queued).len +
+      control_len (control_for (resend_choice x.block pair.addresses cx.ip_mtu x.queued) (queued_in x)))
       ≤ all_of (sending_of x)
-  again_within x p = choice_within x (resend_choice x.block pair.addresses cx.ip_mtu x.queued) p (least (queued_in x + one_if (owes_fin x.block.state))) shorter same where
-    least : (m : ℕ) → 0 ≤ m
-    least m = omega arith
+  again_within x p = choice_within x (resend_choice x.block pair.addresses cx.ip_mtu x.queued) p (least (queued_in x + one_if (owes_fin x.block.state)))
+      shorter same where
+        least : (m : ℕ) → 0 ≤ m
+        least m = omega arith
 
-    twice : (s m k u : ℕ) → min s (min m (min k u)) ≤ k
-    twice s m k u = omega arith
+        twice : (s m k u : ℕ) → min s (min m (min k u)) ≤ k
+        twice s m k u = omega arith
 
-    shorter : (resend_choice x.block pair.addresses cx.ip_mtu x.queued).len ≤ queued_in x - 0
-    shorter = twice (sent_places x.block) (size_limit x.block pair.addresses cx.ip_mtu) (queued_in x - 0) (until_end x.queued 0)
+        shorter : (resend_choice x.block pair.addresses cx.ip_mtu x.queued).len ≤ queued_in x - 0
+        shorter = twice (sent_places x.block) (size_limit x.block pair.addresses cx.ip_mtu) (queued_in x - 0) (until_end x.queued 0)
 
-    none_before : (n : ℕ) → n ≡ 0 + n
-    none_before n = omega arith
+        none_before : (n : ℕ) → n ≡ 0 + n
+        none_before n = omega arith
 
-    same :
-        (resend_choice x.block pair.addresses cx.ip_mtu x.queued).fin ≡ true
-        → (owes_fin x.block.state && (0 + (resend_choice x.block pair.addresses cx.ip_mtu x.queued).len == queued_in x)) ≡ true
-    same fin =
-        sym (ap (λ (n : ℕ). owes_fin x.block.state && (n == queued_in x)) (none_before (resend_choice x.block pair.addresses cx.ip_mtu x.queued).len))
-        ∙ (and_true (owes_fin x.block.state && ((resend_choice x.block pair.addresses cx.ip_mtu x.queued).len == queued_in x))
-        (nat_lt (resend_choice x.block pair.addresses cx.ip_mtu x.queued).len (sent_places x.block)) fin).0
+        same :
+            (resend_choice x.block pair.addresses cx.ip_mtu x.queued).fin ≡ true
+            → (owes_fin x.block.state && (0 + (resend_choice x.block pair.addresses cx.ip_mtu x.queued).len == queued_in x)) ≡ true
+        same fin =
+            sym (ap (λ (n : ℕ). owes_fin x.block.state && (n == queued_in x)) (none_before (resend_choice x.block pair.addresses cx.ip_mtu x.queued).len))
+            ∙ (and_true (owes_fin x.block.state && ((resend_choice x.block pair.addresses cx.ip_mtu x.queued).len == queued_in x))
+            (nat_lt (resend_choice x.block pair.addresses cx.ip_mtu x.queued).len (sent_places x.block)) fin).0
 
   order_last : (x : TcpValue) → x.offered ≡ None → IsInOrder (sending_of x) → LastRules cx pair Both x
   order_last x none p = record {
@@ -364,7 +392,11 @@ module _ (cx : ContextValue) (pair : EndpointPair) where
         by_text x (text_choice x.block pair.addresses cx.ip_mtu x.queued) p (sends_on x.block.state sends) (text_within x p (open_on x.block.state sends));
     ack = λ _. (p, p);
     update = λ _ _. (p, p);
-    keep_alive = λ _ _. (p, asked_order x (recorded x.block (opened_by Kind.KeepAlive x (keep_alive_segment x.block pair cx.moment (window_of x)) 0 1) (room_of x.received)) p);
+    keep_alive = λ _ _. (
+      p,
+      asked_order x
+          (recorded x.block (opened_by Kind.KeepAlive x (keep_alive_segment x.block pair cx.moment (window_of x)) 0 1) (room_of x.received)) p,
+    );
     quiet = λ _. (p, subst (λ (o : Option OpenOffer). IsInOrder (sending_of (sent_off o (unoffered x)))) (sym none) p);
   }
 
@@ -382,12 +414,14 @@ module _ (cx : ContextValue) (pair : EndpointPair) where
     where
       by_syn : owes_syn w.block ≡ true → Both (offer_syn cx w pair)
       by_syn owes =
-          let parts = and_true (sends_syn w.block.state && not (is_answering w.block.state && w.block.settings.synack_paused)) (w.block.sender.syn_unacked && (w.block.sender.in_flight == 0)) owes in
+          let parts = and_true (sends_syn w.block.state && not (is_answering w.block.state && w.block.settings.synack_paused))
+          (w.block.sender.syn_unacked && (w.block.sender.in_flight == 0)) owes in
           let state = (and_true (sends_syn w.block.state) (not (is_answering w.block.state && w.block.settings.synack_paused)) parts.0).0 in
           let syn = (and_true w.block.sender.syn_unacked (w.block.sender.in_flight == 0) parts.1).0 in (
             p,
             went_order (sending_of w) (distance_of w.block.sender.una w.block.sender.una + (0 + 1)) _ p (syn_on w.block.state state)
-                (one_at_most (distance_of w.block.sender.una w.block.sender.una) (one_if w.block.sender.syn_unacked) (queued_in w) (one_if (owes_fin w.block.state))
+                (one_at_most (distance_of w.block.sender.una w.block.sender.una) (one_if w.block.sender.syn_unacked) (queued_in w)
+                (one_if (owes_fin w.block.state))
                 (own_distance w.block.sender.una p.number) (ap one_if syn)),
           )
         where
@@ -444,7 +478,8 @@ less_waiting s waiting p less = record {
 
 anchored_least : (r : Ring ℕ) → length r.queue ≤ length (anchored r).queue
 anchored_least r =
-    cond_both (length r.queue == 0) (cleared r) r (λ (q : Ring ℕ). length r.queue ≤ length q.queue) (λ none. zero (length r.queue) 0 (eqb-true (length r.queue) 0 none)) (λ _. same)
+    cond_both (length r.queue == 0) (cleared r) r (λ (q : Ring ℕ). length r.queue ≤ length q.queue)
+    (λ none. zero (length r.queue) 0 (eqb-true (length r.queue) 0 none)) (λ _. same)
   where
     zero : (n m : ℕ) → n ≡ 0 → n ≤ m
     zero n m e = omega arith
@@ -462,12 +497,15 @@ writes_on other e = refl
 
 -- from a state that owes no FIN to one that does
 asks :
-    (s : Sending) (old : State) → s.state ≡ old → is_past old ≡ true → owes_fin old ≡ false → is_closed old ≡ false → IsInOrder s → (new : State) → is_past new ≡ true
-    → (is_opening new || is_answering new) ≡ false → has_all new ≡ false → owes_fin new ≡ true → (s.syn_unacked ≡ true → (is_closed new || sends_syn new) ≡ true)
+    (s : Sending) (old : State) → s.state ≡ old → is_past old ≡ true → owes_fin old ≡ false → is_closed old ≡ false → IsInOrder s → (new : State) →
+    is_past new ≡ true
+    → (is_opening new || is_answering new) ≡ false → has_all new ≡ false → owes_fin new ≡ true →
+    (s.syn_unacked ≡ true → (is_closed new || sends_syn new) ≡ true)
     → IsInOrder (record s { state = new })
 asks s old at past owes alive p new new_past opened not_all owing syn_goes = record {
   number = p.number;
-  within = λ _. more s.in_flight (one_if s.syn_unacked) s.queued (one_if (owes_fin s.state)) (one_if (owes_fin new)) (p.within (ap is_closed at ∙ alive)) (ap one_if (ap owes_fin at ∙ owes));
+  within = λ _. more s.in_flight (one_if s.syn_unacked) s.queued (one_if (owes_fin s.state)) (one_if (owes_fin new)) (p.within (ap is_closed at ∙ alive))
+      (ap one_if (ap owes_fin at ∙ owes));
   opening = λ syn. let before = p.opening syn in (before.0, before.1, syn_goes syn);
   opened = λ _. opened;
   acked = λ all. clash (sym all ∙ not_all);
@@ -485,12 +523,15 @@ closes_order In.SynSent s at p = closed_order s s.named p
 closes_order In.SynReceived s at p = asks s In.SynReceived at refl refl refl p In.FinWait1 refl refl refl refl (λ syn. refl)
 closes_order In.Established s at p = asks s In.Established at refl refl refl p In.FinWait1 refl refl refl refl (λ syn. refl)
 closes_order In.CloseWait s at p =
-    asks s In.CloseWait at refl refl refl p In.LastAck refl refl refl refl (λ syn. clash (sym (p.opening syn).2 ∙ ap (λ (x : State). is_closed x || sends_syn x) at))
+    asks s In.CloseWait at refl refl refl p In.LastAck refl refl refl refl
+    (λ syn. clash (sym (p.opening syn).2 ∙ ap (λ (x : State). is_closed x || sends_syn x) at))
 closes_order other s at p = subst (λ (x : State). IsInOrder (record s { state = x })) at p
 
-connected_order : (v : TcpValue) (names : Option EndpointPair) (number : ℕ) → IsInOrder (sending_of v) → number < 2 ^ 32 → IsInOrder (sending_of (connected_by v names number))
+connected_order : (v : TcpValue) (names : Option EndpointPair) (number : ℕ) → IsInOrder (sending_of v) → number < 2 ^ 32 →
+    IsInOrder (sending_of (connected_by v names number))
 connected_order v None number p small = p
-connected_order v (Some pair) number p small = begins (sending_of (connecting v pair number)) In.SynSent refl refl small refl refl refl refl (λ past. clash (sym past))
+connected_order v (Some pair) number p small =
+    begins (sending_of (connecting v pair number)) In.SynSent refl refl small refl refl refl refl (λ past. clash (sym past))
 
 set_order : (v : TcpValue) (setting : Setting) → IsInOrder (sending_of v) → IsInOrder (sending_of (set v setting))
 set_order v (Timeout duration) p = p
@@ -512,21 +553,27 @@ event_order v (Listens endpoint) p =
     cond_both (is_closed v.block.state && not (endpoint.port == 0)) (listening v endpoint) (unoffered v) (λ (w : TcpValue). IsInOrder (sending_of w))
     (λ _. order_listens v endpoint) (λ _. p)
 event_order v (Connects cx remote local) p =
-    cond_both (is_closed v.block.state) (connected_by v (pair_for cx remote local) (word (next_random cx).random)) (unoffered v) (λ (w : TcpValue). IsInOrder (sending_of w))
+    cond_both (is_closed v.block.state) (connected_by v (pair_for cx remote local) (word (next_random cx).random)) (unoffered v)
+    (λ (w : TcpValue). IsInOrder (sending_of w))
     (λ _. connected_order v (pair_for cx remote local) (word (next_random cx).random) p (small_word (next_random cx).random)) (λ _. p)
 event_order v (Sends bytes) p =
     let some = take (min (length bytes) (length v.queued.free)) bytes in
     cond_both (takes_writes v.block.state) (sent_more v (enqueued (anchored v.queued) some)) (unoffered v) (λ (w : TcpValue). IsInOrder (sending_of w))
-    (λ writes. grown (sending_of v) (length (enqueued (anchored v.queued) some).queue) p (writes_on v.block.state writes) (enqueued_least v.queued some)) (λ _. p)
-event_order v (Reads count) p = less_waiting (sending_of v) (length (drop count v.received.waiting)) p (shorter (length (drop count v.received.waiting)) (length v.received.waiting) count (length-drop count v.received.waiting)) where
-  shorter : (a b c : ℕ) → a ≡ b - c → a ≤ b
-  shorter a b c e = omega arith
+    (λ writes. grown (sending_of v) (length (enqueued (anchored v.queued) some).queue) p (writes_on v.block.state writes)
+    (enqueued_least v.queued some)) (λ _. p)
+event_order v (Reads count) p =
+    less_waiting (sending_of v) (length (drop count v.received.waiting)) p
+    (shorter (length (drop count v.received.waiting)) (length v.received.waiting) count (length-drop count v.received.waiting)) where
+      shorter : (a b c : ℕ) → a ≡ b - c → a ≤ b
+      shorter a b c e = omega arith
 event_order v Closes p =
-    cond_both (is_opening v.block.state) (ended (unoffered v)) (with_block (unoffered v) (record v.block { state = after_close v.block.state })) (λ (w : TcpValue). IsInOrder (sending_of w))
+    cond_both (is_opening v.block.state) (ended (unoffered v)) (with_block (unoffered v) (record v.block { state = after_close v.block.state }))
+    (λ (w : TcpValue). IsInOrder (sending_of w))
     (λ _. closed_order (sending_of v) false p) (λ _. closes_order v.block.state (sending_of v) refl p)
 event_order v Aborts p =
     cond_both (is_time_wait v.block.state) (ended (unoffered v))
-    (with_block (unoffered v) (record v.block { state = In.Closed; sender = record v.block.sender { reset_due = is_some v.block.names.pair } })) (λ (w : TcpValue). IsInOrder (sending_of w))
+    (with_block (unoffered v) (record v.block { state = In.Closed; sender = record v.block.sender { reset_due = is_some v.block.names.pair } }))
+    (λ (w : TcpValue). IsInOrder (sending_of w))
     (λ _. closed_order (sending_of v) false p) (λ _. closed_order (sending_of v) (is_some v.block.names.pair) p)
 event_order v (Sets setting) p = set_order v setting p
 

@@ -1,5 +1,6 @@
 -- How the steps of the rules keep a socket in order.
-use Rattle.std.proofs.Common.{◌≡◌, ℕ, zero, suc, ◌+◌, ◌-◌, ◌^◌, ◌%◌, ◌<◌, ◌≤◌, ◌==◌, ◌&&◌, ◌||◌, nat_le, nat_lt, min, max, ℤ, Bool, true, false, if◌then◌else◌, Option, Some, None, is_some, refl, sym, ap, ◌∙◌, subst, arith}
+use Rattle.std.proofs.Common.{◌≡◌, ℕ, zero, suc, ◌+◌, ◌-◌, ◌^◌, ◌%◌, ◌<◌, ◌≤◌, ◌==◌, ◌&&◌, ◌||◌, nat_le, nat_lt, min, max, ℤ, Bool, true, false, if◌then◌else◌}
+use Rattle.std.proofs.Common.{Option, Some, None, is_some, refl, sym, ap, ◌∙◌, subst, arith}
 use Rattle.std.proofs.lemmas.Bool.{cond_both, eqb-true, eq-eqb, ltb-true, ltb-false, le-leb}
 use Rattle.ip_wire.specs.SeqNumber.{SeqNumber}
 use Rattle.tcp_control.specs.Offsets.{behind_by, past_by, before_by}
@@ -77,7 +78,8 @@ passes_news b (Some n) by e none none_new = at e where
 
   at : acknowledgement_check b (Some n) ≡ Passes by → ⊥
   at =
-      cond_both (is_answering b.state) (opening_check far) (synchronized_check b (past_by b.sender.una n) (before_by b.sender.una n)) (λ (c : Check). c ≡ Passes by → ⊥)
+      cond_both (is_answering b.state) (opening_check far) (synchronized_check b (past_by b.sender.una n) (before_by b.sender.una n)) (λ (c : Check). c ≡
+      Passes by → ⊥)
       (λ _.
       cond_both (far == 1) (Passes 1) Resets (λ (c : Check). c ≡ Passes by → ⊥)
       (λ _ e. let one = passes_by 1 by e in absurd (omega arith))
@@ -92,7 +94,8 @@ old_news b (Some n) e none = at e where
 
   at : acknowledgement_check b (Some n) ≡ Old → ⊥
   at =
-      cond_both (is_answering b.state) (opening_check far) (synchronized_check b (past_by b.sender.una n) (before_by b.sender.una n)) (λ (c : Check). c ≡ Old → ⊥)
+      cond_both (is_answering b.state) (opening_check far) (synchronized_check b (past_by b.sender.una n) (before_by b.sender.una n))
+      (λ (c : Check). c ≡ Old → ⊥)
       (λ _. cond_both (far == 1) (Passes 1) Resets (λ (c : Check). c ≡ Old → ⊥) (λ _ e. absurd (cc)) (λ _ e. absurd (cc)))
       (λ _. nearer)
     where
@@ -184,7 +187,8 @@ module _ (s : Sending) (p : IsInOrder s) (una by queued : ℕ) (moment : Option 
   acked_on number rest gone = record {
     number = number;
     within = λ _.
-        left_within s.in_flight (one_if s.syn_unacked) s.queued (one_if (owes_fin s.state)) by queued (one_if (s.syn_unacked && (by == 0))) (one_if (owes_fin (after_ack s.state)))
+        left_within s.in_flight (one_if s.syn_unacked) s.queued (one_if (owes_fin s.state)) by queued (one_if (s.syn_unacked && (by == 0)))
+        (one_if (owes_fin (after_ack s.state)))
         (p.within (closed_not s.state past)) (one_if_least s.syn_unacked) rest no_syn (ap one_if (onward s.state past).owes);
     opening = λ syn. clash (sym syn ∙ gone);
     opened = λ _. (onward s.state past).opened;
@@ -240,7 +244,8 @@ acked_fin state s at p una by queued moment number owes alive rest gone fin = by
       open_of In.Closed e = absurd (cc)
       open_of other e = refl
 
-  done : (new : State) → is_past new ≡ true → (is_opening new || is_answering new) ≡ false → s.took_syn ≡ true → IsInOrder (acked_sending s new una by queued moment)
+  done : (new : State) → is_past new ≡ true → (is_opening new || is_answering new) ≡ false → s.took_syn ≡ true →
+      IsInOrder (acked_sending s new una by queued moment)
   done new past opened took = record {
     number = number;
     within = λ _. zero_least (s.in_flight - by) _ flies;
@@ -258,7 +263,8 @@ acked_fin state s at p una by queued moment number owes alive rest gone fin = by
       zero_least : (n m : ℕ) → n ≡ 0 → n ≤ m
       zero_least n m e = omega arith
 
-  by_state : (state : State) → s.state ≡ state → is_closed (after_ack_of_fin state) ≡ false → IsInOrder (acked_sending s (after_ack_of_fin state) una by queued moment)
+  by_state : (state : State) → s.state ≡ state → is_closed (after_ack_of_fin state) ≡ false →
+      IsInOrder (acked_sending s (after_ack_of_fin state) una by queued moment)
   by_state In.FinWait1 at alive = done In.FinWait2 refl refl (p.took (ap is_past at))
   by_state In.Closing at alive = done In.TimeWait refl refl (p.took (ap is_past at))
   by_state In.LastAck at alive = absurd (cc)
@@ -286,7 +292,8 @@ takes_in In.FinWait1 e = record { alive = refl; past = refl; new_past = refl; op
 takes_in In.FinWait2 e = record { alive = refl; past = refl; new_past = refl; opened = refl; owes = refl; all = λ f. f }
 takes_in other e = absurd (cc)
 
-content : (s : Sending) (new : State) (waiting : ℕ) → IsInOrder s → s.syn_unacked ≡ false → Takes s.state new → IsInOrder (record s { state = new; waiting = waiting })
+content : (s : Sending) (new : State) (waiting : ℕ) → IsInOrder s → s.syn_unacked ≡ false → Takes s.state new →
+    IsInOrder (record s { state = new; waiting = waiting })
 content s new waiting p gone t = record {
   number = p.number;
   within = λ _. subst (λ (o : Bool). s.in_flight ≤ one_if s.syn_unacked + s.queued + one_if o) (sym t.owes) (p.within t.alive);
@@ -301,7 +308,8 @@ pub with_waiting : (s : Sending) (waiting : ℕ) → IsInOrder s → s.syn_unack
 with_waiting s waiting p gone takes = content s s.state waiting p gone (takes_in s.state takes)
 
 pub with_fin_taken :
-    (s : Sending) (waiting : ℕ) → IsInOrder s → s.syn_unacked ≡ false → takes_text s.state ≡ true → IsInOrder (record s { state = after_fin s.state; waiting = waiting })
+    (s : Sending) (waiting : ℕ) → IsInOrder s → s.syn_unacked ≡ false → takes_text s.state ≡ true →
+    IsInOrder (record s { state = after_fin s.state; waiting = waiting })
 with_fin_taken s waiting p gone takes = content s (after_fin s.state) waiting p gone (takes_fin_in s.state takes)
 
 -- IT ENDS, OR BEGINS

@@ -1,5 +1,6 @@
 -- Fast recovery, what goes again, and the least retransmission timeout.
-use Rattle.std.proofs.Common.{◌≡◌, ◌⊎◌, inl, inr, ⊎_elim, ℕ, zero, suc, ◌+◌, ◌-◌, ◌*◌, ◌^◌, ◌<◌, ◌≤◌, ◌==◌, nat_le, nat_lt, ◌&&◌, not, min, max, ℤ, Bool, true, false, if◌then◌else◌, List, [], ◌∷◌, length, take, Option, Some, None, is_none, is_some, refl, sym, ap, ◌∙◌, subst, arith}
+use Rattle.std.proofs.Common.{◌≡◌, ◌⊎◌, inl, inr, ⊎_elim, ℕ, zero, suc, ◌+◌, ◌-◌, ◌*◌, ◌^◌, ◌<◌, ◌≤◌, ◌==◌, nat_le, nat_lt, ◌&&◌, not, min, max, ℤ, Bool, true}
+use Rattle.std.proofs.Common.{false, if◌then◌else◌, List, [], ◌∷◌, length, take, Option, Some, None, is_none, is_some, refl, sym, ap, ◌∙◌, subst, arith}
 use Rattle.std.proofs.lemmas.Bool.{cond_both, eqb-true, ltb-true}
 use Rattle.ip_wire.specs.Control.{control_len}
 use Rattle.ip_wire.specs.IpRepr.{IpRepr}
@@ -128,7 +129,8 @@ fine_advanced r by duration now f = at r.sample where
   at : (sample : Option Sample) → Fine (round_trip.advanced_with r by now sample) duration
   at None = f
   at (Some s) =
-      cond_both (nat_le s.ends by) (round_trip.measured r (round_trip.millis_between s.since now)) (record r { sample = Some (record s { ends = s.ends - by }) })
+      cond_both (nat_le s.ends by) (round_trip.measured r (round_trip.millis_between s.since now))
+      (record r { sample = Some (record s { ends = s.ends - by }) })
       (λ (x : RoundTripValue). Fine x duration)
       (λ _. fine_measured r (round_trip.millis_between s.since now) duration f) (λ _. record { least = f.least; timeout = f.timeout })
 
@@ -143,7 +145,8 @@ fine_late r duration f = record {
 
 fine_acked : (b : Block) (by : ℕ) (now : ℤ) → Fine b.round_trip b.settings.min_rto → Fine (round_trip_after b by now) b.settings.min_rto
 fine_acked b by now f =
-    cond_both (acks_own_syn b by && b.sender.syn_lost) (round_trip.begun_late (round_trip.advanced b.round_trip by now)) (round_trip.advanced b.round_trip by now)
+    cond_both (acks_own_syn b by && b.sender.syn_lost) (round_trip.begun_late (round_trip.advanced b.round_trip by now))
+    (round_trip.advanced b.round_trip by now)
     (λ (x : RoundTripValue). Fine x b.settings.min_rto)
     (λ _. fine_late (round_trip.advanced b.round_trip by now) b.settings.min_rto (fine_advanced b.round_trip by b.settings.min_rto now f))
     (λ _. fine_advanced b.round_trip by b.settings.min_rto now f)
@@ -157,7 +160,8 @@ fine_backed r duration f = record {
     doubled : (least timeout most : ℕ) → least ≤ timeout → least ≤ most → least ≤ min most (2 * timeout)
     doubled least timeout most e f = omega arith
 
-fine_timing : (r : RoundTripValue) (top end duration : ℕ) (now : ℤ) → Fine r duration → Fine (if nat_lt top end then round_trip.timing r end now else r) duration
+fine_timing : (r : RoundTripValue) (top end duration : ℕ) (now : ℤ) → Fine r duration →
+    Fine (if nat_lt top end then round_trip.timing r end now else r) duration
 fine_timing r top end duration now f =
     cond_both (nat_lt top end) (round_trip.timing r end now) r (λ (x : RoundTripValue). Fine x duration) (λ _. at r.sample) (λ _. f)
   where
@@ -179,7 +183,8 @@ paced : (r : Recovery) → Lasts r.reno r.recover → is_listening r.state ≡ f
 paced r lasts not f = record { lasts = lasts; listens = λ e. clash (sym e ∙ not); least = f.least; timeout = f.timeout }
 
 -- one that begins with nothing in recovery
-fresh_paced : (state : State) (recover duration : ℕ) → IsPaced (record { state = state; reno = reno.fresh; recover = recover; round_trip = round_trip.with_least duration round_trip.fresh; min_rto = duration })
+fresh_paced : (state : State) (recover duration : ℕ) →
+    IsPaced (record { state = state; reno = reno.fresh; recover = recover; round_trip = round_trip.with_least duration round_trip.fresh; min_rto = duration })
 fresh_paced state recover duration =
     let f = fine_set round_trip.fresh duration in record { lasts = λ e. clash (sym e); listens = λ _. refl; least = f.least; timeout = f.timeout }
 
@@ -196,7 +201,8 @@ went_paced : (r : Recovery) (top end : ℕ) (now : ℤ) → IsPaced r → is_lis
     → IsPaced (record r { round_trip = if nat_lt top end then round_trip.timing r.round_trip end now else r.round_trip })
 went_paced r top end now p not = paced _ p.lasts not (fine_timing r.round_trip top end r.min_rto now (fine_of r p))
 
-sent_paced : (kind : OfferKind) (b : Block) (o : OpenOffer) (queued : ℕ) → is_listening b.state ≡ false → IsPaced (recovery_of b) → IsPaced (recovery_of (sent_as kind b o queued))
+sent_paced : (kind : OfferKind) (b : Block) (o : OpenOffer) (queued : ℕ) → is_listening b.state ≡ false → IsPaced (recovery_of b) →
+    IsPaced (recovery_of (sent_as kind b o queued))
 sent_paced Kind.Reset b o queued not p = paced _ p.lasts refl (fine_of (recovery_of b) p)
 sent_paced Kind.Syn b o queued not p = went_paced (recovery_of b) b.sender.top (end_of b o) o.moment p not
 sent_paced Kind.FastRetransmission b o queued not p =
@@ -238,7 +244,8 @@ module _ (cx : ContextValue) (ip : IpRepr) (header : TcpHeader) (bytes : List �
         min_rto = b.settings.min_rto;
       })
   acked_paced b by queued state p not =
-      paced _ (lasts_acked b.reno b.sender.syn_unacked b.sender.syn_lost by queued b.sender.recover p.lasts) not (fine_acked b by cx.moment (fine_of (recovery_of b) p))
+      paced _ (lasts_acked b.reno b.sender.syn_unacked b.sender.syn_lost by queued b.sender.recover p.lasts) not
+      (fine_acked b by cx.moment (fine_of (recovery_of b) p))
 
   abbrev begins_now : TcpValue → ℕ → Bool
   begins_now u by = (duplicates_after u.block header (length bytes) by == 3) && (u.block.sender.recover - by == 0)
@@ -246,7 +253,8 @@ module _ (cx : ContextValue) (ip : IpRepr) (header : TcpHeader) (bytes : List �
   heeded_paced : (u : TcpValue) (by : ℕ) → IsPaced (recovery_of u.block) → is_past u.block.state ≡ true
       → IsPaced (record {
         state = state_after_ack u.block by (queued_in u);
-        reno = reno_counted (reno_after u.block by (queued_in u)) (duplicates_after u.block header (length bytes) by) (u.block.sender.in_flight - by) (begins_now u by);
+        reno = reno_counted (reno_after u.block by (queued_in u)) (duplicates_after u.block header (length bytes) by) (u.block.sender.in_flight - by)
+            (begins_now u by);
         recover = if begins_now u by then min (u.block.sender.top - by + 1) 4_294_967_295 else u.block.sender.recover - by;
         round_trip = round_trip_after u.block by cx.moment;
         min_rto = u.block.settings.min_rto;
@@ -302,7 +310,8 @@ module _ (cx : ContextValue) where
   }
 
   paced_first : (pair : EndpointPair) (w : TcpValue) → IsPaced (recovery_of w.block) → is_listening w.block.state ≡ false → FirstRules cx pair PacedOffer w
-  paced_first pair w p not = record { syn = λ _. (p, inl not); again = λ _ _. (p, inl not); text = λ _ _. (p, inl not); last = λ _. paced_last pair (probing cx w) p not }
+  paced_first pair w p not =
+      record { syn = λ _. (p, inl not); again = λ _ _. (p, inl not); text = λ _ _. (p, inl not); last = λ _. paced_last pair (probing cx w) p not }
 
   -- the timer runs out
   backed_paced : (v : TcpValue) → IsPaced (recovery_of v.block) → is_listening v.block.state ≡ false → IsPaced (recovery_of (backed_off_now (begun cx v)))
@@ -315,7 +324,8 @@ module _ (cx : ContextValue) where
           round_trip = round_trip.untimed (round_trip.backed_off v.block.round_trip);
           min_rto = v.block.settings.min_rto;
         })
-    at true = let f = fine_backed v.block.round_trip v.block.settings.min_rto (fine_of (recovery_of v.block) p) in paced _ p.lasts not (record { least = f.least; timeout = f.timeout })
+    at true = let f = fine_backed v.block.round_trip v.block.settings.min_rto (fine_of (recovery_of v.block) p) in
+        paced _ p.lasts not (record { least = f.least; timeout = f.timeout })
     at false =
         let f = fine_backed v.block.round_trip v.block.settings.min_rto (fine_of (recovery_of v.block) p) in
         paced _ (λ e. clash (sym e)) not (record { least = f.least; timeout = f.timeout })
@@ -364,9 +374,11 @@ set_paced v (MinRto duration) p =
     let f = fine_set v.block.round_trip duration in record { lasts = p.lasts; listens = p.listens; least = f.least; timeout = f.timeout }
 set_paced v (Congestion control) p = record { lasts = λ e. clash (sym e ∙ none); listens = λ _. none; least = p.least; timeout = p.timeout } where
   none : (if v.block.receiver.took_syn then reno.with_mss reno.fresh v.block.peer.mss else reno.fresh).recovers ≡ false
-  none = cond_both v.block.receiver.took_syn (reno.with_mss reno.fresh v.block.peer.mss) reno.fresh (λ (r : RenoValue). r.recovers ≡ false) (λ _. refl) (λ _. refl)
+  none = cond_both v.block.receiver.took_syn (reno.with_mss reno.fresh v.block.peer.mss) reno.fresh (λ (r : RenoValue). r.recovers ≡
+      false) (λ _. refl) (λ _. refl)
 
-connected_paced : (v : TcpValue) (names : Option EndpointPair) (number : ℕ) → IsPaced (recovery_of v.block) → IsPaced (recovery_of (connected_by v names number).block)
+connected_paced : (v : TcpValue) (names : Option EndpointPair) (number : ℕ) → IsPaced (recovery_of v.block) →
+    IsPaced (recovery_of (connected_by v names number).block)
 connected_paced v None number p = p
 connected_paced v (Some pair) number p = fresh_paced In.SynSent 0 v.block.settings.min_rto
 
@@ -379,14 +391,16 @@ event_paced v (Listens endpoint) p k =
     cond_both (is_closed v.block.state && not (endpoint.port == 0)) (listening v endpoint) (unoffered v) (λ (w : TcpValue). IsPaced (recovery_of w.block))
     (λ _. fresh_paced In.Listen 0 v.block.settings.min_rto) (λ _. k)
 event_paced v (Connects cx remote local) p k =
-    cond_both (is_closed v.block.state) (connected_by v (pair_for cx remote local) (word (next_random cx).random)) (unoffered v) (λ (w : TcpValue). IsPaced (recovery_of w.block))
+    cond_both (is_closed v.block.state) (connected_by v (pair_for cx remote local) (word (next_random cx).random)) (unoffered v)
+    (λ (w : TcpValue). IsPaced (recovery_of w.block))
     (λ _. connected_paced v (pair_for cx remote local) (word (next_random cx).random) k) (λ _. k)
 event_paced v (Sends bytes) p k =
     cond_both (takes_writes v.block.state) (sent_more v (enqueued (anchored v.queued) (take (min (length bytes) (length v.queued.free)) bytes))) (unoffered v)
     (λ (w : TcpValue). IsPaced (recovery_of w.block)) (λ _. k) (λ _. k)
 event_paced v (Reads count) p k = k
 event_paced v Closes p k =
-    cond_both (is_opening v.block.state) (ended (unoffered v)) (with_block (unoffered v) (record v.block { state = after_close v.block.state })) (λ (w : TcpValue). IsPaced (recovery_of w.block))
+    cond_both (is_opening v.block.state) (ended (unoffered v)) (with_block (unoffered v) (record v.block { state = after_close v.block.state }))
+    (λ (w : TcpValue). IsPaced (recovery_of w.block))
     (λ _. paced _ k.lasts refl (fine_of _ k)) (λ _. paced _ k.lasts (close_on v.block.state) (fine_of _ k))
 event_paced v Aborts p k =
     cond_both (is_time_wait v.block.state) (ended (unoffered v))
@@ -431,14 +445,17 @@ module _ (x : TcpValue) (addresses : AddressPair) (mtu : ℕ) where
     cut : (s m : ℕ) → min s m ≤ s
     cut s m = omega arith
 
-    at : (fin : Bool) → again.fin ≡ fin → distance_of x.block.sender.una (number_at x.block 0) + (again.len + control_len (control_for again (queued_in x))) ≤ x.block.sender.top
+    at : (fin : Bool) → again.fin ≡ fin → distance_of x.block.sender.una (number_at x.block 0) + (again.len + control_len (control_for again (queued_in x))) ≤
+        x.block.sender.top
     at true e =
-        with_fin (distance_of x.block.sender.una (number_at x.block 0)) (one_if x.block.sender.syn_unacked) again.len (control_len (control_for again (queued_in x))) x.block.sender.top near
+        with_fin (distance_of x.block.sender.una (number_at x.block 0)) (one_if x.block.sender.syn_unacked) again.len
+        (control_len (control_for again (queued_in x))) x.block.sender.top near
         (ap one_if no_syn)
         (ltb-true again.len (sent_places x.block) (right_true (fin_goes x.block (queued_in x) again.len) (nat_lt again.len (sent_places x.block)) e))
         (subst (λ (t : Bool). control_len (control_for again (queued_in x)) ≤ one_if t) e (control_least again (queued_in x)))
     at false e =
-        without (distance_of x.block.sender.una (number_at x.block 0)) (one_if x.block.sender.syn_unacked) again.len (control_len (control_for again (queued_in x))) x.block.sender.top near
+        without (distance_of x.block.sender.una (number_at x.block 0)) (one_if x.block.sender.syn_unacked) again.len
+        (control_len (control_for again (queued_in x))) x.block.sender.top near
         (ap one_if no_syn)
         (cut (sent_places x.block) (min (size_limit x.block addresses mtu) (unbroken x.queued 0)))
         (subst (λ (t : Bool). control_len (control_for again (queued_in x)) ≤ one_if t) e (control_least again (queued_in x)))
@@ -470,7 +487,8 @@ module _ (cx : ContextValue) (v : TcpValue) (p : IsInOrder (sending_of v)) (no_s
     quiet = λ _ k e is. nothing k (sym none ∙ e);
   }
 
-  ends_first : (pair : EndpointPair) (w : TcpValue) → w.offered ≡ None → w.block.sender.una ≡ v.block.sender.una → w.block.sender.syn_unacked ≡ v.block.sender.syn_unacked
+  ends_first : (pair : EndpointPair) (w : TcpValue) → w.offered ≡ None → w.block.sender.una ≡ v.block.sender.una →
+      w.block.sender.syn_unacked ≡ v.block.sender.syn_unacked
       → w.block.sender.top ≡ v.block.sender.top → FirstRules cx pair EndsSent w
   ends_first pair w none una syn top = record {
     syn = λ _ k e is. another _ k e refl is;

@@ -1,5 +1,6 @@
 -- What each step of a rule does to what is in flight.
-use Rattle.std.proofs.Common.{◌≡◌, ℕ, ◌+◌, ◌-◌, ◌<◌, ◌≤◌, ◌==◌, min, max, ℤ, Bool, true, false, if◌then◌else◌, Option, Some, None, is_some, refl, sym, ap, ◌∙◌, subst, arith}
+use Rattle.std.proofs.Common.{◌≡◌, ℕ, ◌+◌, ◌-◌, ◌<◌, ◌≤◌, ◌==◌, min, max, ℤ, Bool, true, false, if◌then◌else◌, Option, Some, None, is_some, refl, sym, ap, ◌∙◌}
+use Rattle.std.proofs.Common.{subst, arith}
 use Rattle.std.proofs.lemmas.Bool.{cond_both, eqb-true}
 use Rattle.tcp_control.specs.States.{is_closed, is_listening}
 use Rattle.tcp_model.specs.Acknowledged.{block_acknowledged, ended_if, in_state, una_moved, state_after_ack, retransmit_after}
@@ -58,7 +59,8 @@ acked_armed f by stays moment armed =
     (λ (at : Option ℤ). (f.in_flight - by == 0) ≡ false → is_some at ≡ true)
     (λ none some. armed (sym (ap (λ (n : ℕ). n == 0) (left f.in_flight by (eqb-true by 0 none))) ∙ some))
     (λ _.
-    cond_both (f.in_flight - by == 0) None (if stays then f.retransmit_at else Some moment) (λ (at : Option ℤ). (f.in_flight - by == 0) ≡ false → is_some at ≡ true)
+    cond_both (f.in_flight - by == 0) None (if stays then f.retransmit_at else Some moment) (λ (at : Option ℤ). (f.in_flight - by == 0) ≡ false →
+    is_some at ≡ true)
     (λ none some. absurd (let clash : true ≡ false = sym none ∙ some in cc))
     (λ _ some.
     cond_both stays f.retransmit_at (Some moment) (λ (at : Option ℤ). is_some at ≡ true)
@@ -98,7 +100,8 @@ backs_off old new iss none top = record {
 }
 
 -- a segment goes that ends there, and the timer runs
-pub sends : (old new : Block) (end : ℕ) → new.sender.past_iss ≡ old.sender.past_iss → new.sender.top ≡ max old.sender.top end → is_some new.timers.retransmit_at ≡ true → Goes old new
+pub sends : (old new : Block) (end : ℕ) → new.sender.past_iss ≡ old.sender.past_iss → new.sender.top ≡ max old.sender.top end →
+    is_some new.timers.retransmit_at ≡ true → Goes old new
 sends old new end iss top runs = record {
   armed = λ _ _. runs;
   rises = λ _ _ _. (omega arith, omega arith);
@@ -106,7 +109,8 @@ sends old new end iss top runs = record {
 
 -- a probe goes, and SND.NXT stays
 pub probes :
-    (old new : Block) (end : ℕ) → new.sender.past_iss ≡ old.sender.past_iss → new.sender.in_flight ≡ old.sender.in_flight → new.sender.top ≡ max old.sender.top end
+    (old new : Block) (end : ℕ) → new.sender.past_iss ≡ old.sender.past_iss → new.sender.in_flight ≡ old.sender.in_flight →
+    new.sender.top ≡ max old.sender.top end
     → new.timers.retransmit_at ≡ old.timers.retransmit_at → Goes old new
 probes old new end iss flight top timer = record {
   armed = λ armed some. ap is_some timer ∙ armed (sym (ap (λ (n : ℕ). n == 0) flight) ∙ some);

@@ -1,5 +1,6 @@
 -- How TIME-WAIT ends.
-use Rattle.std.proofs.Common.{◌≡◌, ℕ, ◌+◌, ◌==◌, ◌&&◌, ◌||◌, not, min, ℤ, Bool, true, false, if◌then◌else◌, List, length, take, Option, Some, None, is_some, is_none, refl, sym, ap, ◌∙◌, subst}
+use Rattle.std.proofs.Common.{◌≡◌, ℕ, ◌+◌, ◌==◌, ◌&&◌, ◌||◌, not, min, ℤ, Bool, true, false, if◌then◌else◌, List, length, take, Option, Some, None, is_some}
+use Rattle.std.proofs.Common.{is_none, refl, sym, ap, ◌∙◌, subst}
 use Rattle.std.proofs.lemmas.Bool.{cond_both}
 use Rattle.ip_wire.specs.IpRepr.{IpRepr}
 use Rattle.ip_wire.specs.TcpHeader.{TcpHeader}
@@ -9,7 +10,8 @@ use Rattle.socket_base.specs.Context.{ContextValue, next_random}
 use Rattle.socket_base.specs.Offers.{Offered, offered_as}
 use Rattle.socket_base.specs.declared.offer.Offer.TheVariants as Answer
 use Rattle.tcp_control.specs.Moments.{is_due, is_over, timeout_from}
-use Rattle.tcp_control.specs.States.{is_closed, is_listening, is_opening, is_answering, is_time_wait, sends_syn, sends_text, takes_text, takes_writes, keeps_alive, after_ack, after_ack_of_fin, after_close}
+use Rattle.tcp_control.specs.States.{is_closed, is_listening, is_opening, is_answering, is_time_wait, sends_syn, sends_text, takes_text, takes_writes}
+use Rattle.tcp_control.specs.States.{keeps_alive, after_ack, after_ack_of_fin, after_close}
 use Rattle.tcp_control.specs.declared.endpoints.EndpointPair.{EndpointPair}
 use Rattle.tcp_control.specs.declared.offer.OfferKind.{OfferKind}
 use Rattle.tcp_control.specs.declared.offer.OfferKind.TheVariants as Kind
@@ -64,7 +66,8 @@ module _ (cx : ContextValue) (ip : IpRepr) (header : TcpHeader) (bytes : List �
 
   state_waits : (u : TcpValue) (by : ℕ) → u.block.state ≡ In.TimeWait → state_after_ack u.block by (queued_in u) ≡ In.TimeWait
   state_waits u by at =
-      cond_both (acks_fin u.block by (queued_in u)) (after_ack_of_fin u.block.state) (after_ack u.block.state) (λ (s : State). s ≡ In.TimeWait) (λ _. ap after_ack_of_fin at) (λ _. ap after_ack at)
+      cond_both (acks_fin u.block by (queued_in u)) (after_ack_of_fin u.block.state) (after_ack u.block.state) (λ (s : State). s ≡
+      In.TimeWait) (λ _. ap after_ack_of_fin at) (λ _. ap after_ack at)
 
   not_reset : (state : State) (same : Bool) → state ≡ In.TimeWait → (not (is_time_wait state) && same) ≡ true → ⊥
   not_reset state same at e = elsewhere state (λ (s : State). not (is_time_wait s)) same at refl e
@@ -121,7 +124,8 @@ module _ (cx : ContextValue) where
     held_back = λ due _. elsewhere x.block.state sends_text _ at refl (unset (is_probing x.block (queued_in x)) x.block.timers.probe_at due);
     ack = λ _. (at, at);
     update = λ _ worth. elsewhere x.block.state takes_text _ at refl worth;
-    keep_alive = λ _ due. elsewhere x.block.state keeps_alive _ at refl (unset (keeps_alive x.block.state && (x.block.sender.in_flight == 0)) x.block.settings.keep_alive_at due);
+    keep_alive = λ _ due. elsewhere x.block.state keeps_alive _ at refl
+        (unset (keeps_alive x.block.state && (x.block.sender.in_flight == 0)) x.block.settings.keep_alive_at due);
     quiet = λ _. (at, subst (λ (o : Option OpenOffer). (sent_off o (unoffered x)).block.state ≡ In.TimeWait) (sym none) at);
   }
 
@@ -129,7 +133,8 @@ module _ (cx : ContextValue) where
   waits_first pair w none at = record {
     syn = λ owes.
         elsewhere w.block.state sends_syn (not (is_answering w.block.state && w.block.settings.synack_paused)) at refl
-        (first_of_both (sends_syn w.block.state && not (is_answering w.block.state && w.block.settings.synack_paused)) (w.block.sender.syn_unacked && (w.block.sender.in_flight == 0)) owes);
+        (first_of_both (sends_syn w.block.state && not (is_answering w.block.state && w.block.settings.synack_paused))
+        (w.block.sender.syn_unacked && (w.block.sender.in_flight == 0)) owes);
     again = λ _ again. elsewhere w.block.state sends_text w.block.sender.resend at refl again;
     text = λ _ text. elsewhere w.block.state sends_text _ at refl text;
     last = λ _. waits_last pair (probing cx w) none at;
@@ -139,21 +144,26 @@ module _ (cx : ContextValue) where
   no_timeout : {A : Type 0} (v : TcpValue) → v.block.state ≡ In.TimeWait → is_due cx.moment (timeout_end v.block (queued_in v)) ≡ true → A
   no_timeout v at due =
       let runs = unset (timeout_runs v.block (queued_in v)) (end_by v.block.timers.timeout_since v.block.settings.timeout) due in
-      let rest = second (is_some v.block.settings.timeout) (not (is_closed v.block.state || is_time_wait v.block.state) && waits_for_remote v.block (queued_in v)) runs in
+      let rest = second (is_some v.block.settings.timeout)
+      (not (is_closed v.block.state || is_time_wait v.block.state) && waits_for_remote v.block (queued_in v)) runs in
       elsewhere v.block.state (λ (s : State). not (is_closed s || is_time_wait s)) (waits_for_remote v.block (queued_in v)) at refl rest
     where
       second : (a b : Bool) → (a && b) ≡ true → b ≡ true
       second true b e = e
       second false b e = clash (sym e)
 
-  no_giving : {A : Type 0} (v : TcpValue) → v.block.state ≡ In.TimeWait → v.block.timers.retransmit_at ≡ None → gives_up cx.moment v.block (queued_in v) ≡ true → A
+  no_giving : {A : Type 0} (v : TcpValue) → v.block.state ≡ In.TimeWait → v.block.timers.retransmit_at ≡ None →
+      gives_up cx.moment v.block (queued_in v) ≡ true → A
   no_giving v at none gives = by_last (is_last_timeout cx.moment v.block) refl gives where
     no_timer : is_last_timeout cx.moment v.block ≡ true → true ≡ false
     no_timer last =
-        sym (first_of_both (is_due cx.moment v.block.timers.retransmit_at) (reaches (retries_of v.block) (v.block.sender.timeouts + 1)) last) ∙ ap (is_due cx.moment) none
+        sym (first_of_both (is_due cx.moment v.block.timers.retransmit_at) (reaches (retries_of v.block) (v.block.sender.timeouts + 1)) last) ∙
+        ap (is_due cx.moment) none
 
     no_probe : is_due cx.moment (probe_moment v.block (queued_in v)) ≡ false
-    no_probe = ap (λ (s : State). is_due cx.moment (if sends_text s && (is_window_small v.block (queued_in v) && (v.block.sender.in_flight == 0)) then v.block.timers.probe_at else None)) at
+    no_probe = ap (λ (s : State).
+        is_due cx.moment (if sends_text s && (is_window_small v.block (queued_in v) && (v.block.sender.in_flight == 0)) then v.block.timers.probe_at
+        else None)) at
 
     no_keep_alive : is_due cx.moment (keep_alive_moment v.block) ≡ false
     no_keep_alive = ap (λ (s : State). is_due cx.moment (if keeps_alive s && (v.block.sender.in_flight == 0) then v.block.settings.keep_alive_at else None)) at
@@ -170,7 +180,8 @@ module _ (cx : ContextValue) where
         (is_due cx.moment v.block.timers.counts_from && reaches v.block.settings.retries v.block.sender.unanswered) question)
         ∙ neither (is_due cx.moment (probe_moment v.block (queued_in v))) (is_due cx.moment (keep_alive_moment v.block)) no_probe no_keep_alive)
 
-  waits_rules : (v : TcpValue) → IsInOrder (sending_of v) → v.block.state ≡ In.TimeWait → is_due cx.moment v.block.timers.time_wait_ends ≡ false → Rules cx v WaitsOn
+  waits_rules : (v : TcpValue) → IsInOrder (sending_of v) → v.block.state ≡ In.TimeWait → is_due cx.moment v.block.timers.time_wait_ends ≡ false →
+      Rules cx v WaitsOn
   waits_rules v p at not = record {
     nobody = λ _. (at, at);
     time_wait = λ due. clash (sym due ∙ later);
@@ -189,7 +200,8 @@ module _ (cx : ContextValue) where
       later : is_due cx.moment (time_wait_end v.block) ≡ false
       later = ap (λ (s : State). is_due cx.moment (if is_time_wait s then v.block.timers.time_wait_ends else None)) at ∙ not
 
-  waits_offer : (v : TcpValue) → IsInOrder (sending_of v) → v.block.state ≡ In.TimeWait → is_due cx.moment v.block.timers.time_wait_ends ≡ false → WaitsOn (offer_of cx v)
+  waits_offer : (v : TcpValue) → IsInOrder (sending_of v) → v.block.state ≡ In.TimeWait → is_due cx.moment v.block.timers.time_wait_ends ≡ false →
+      WaitsOn (offer_of cx v)
   waits_offer v p at not = by_rules cx v WaitsOn (waits_rules v p at not)
 
 pub ends_by_moment :
@@ -233,14 +245,16 @@ stays_in_wait v (Listens endpoint) p at stays =
     cond_both (is_closed v.block.state && not (endpoint.port == 0)) (listening v endpoint) (unoffered v) (λ (w : TcpValue). w.block.state ≡ In.TimeWait)
     (λ closed. elsewhere v.block.state is_closed _ at refl closed) (λ _. at)
 stays_in_wait v (Connects cx remote local) p at stays =
-    cond_both (is_closed v.block.state) (connected_by v (pair_for cx remote local) (word (next_random cx).random)) (unoffered v) (λ (w : TcpValue). w.block.state ≡ In.TimeWait)
+    cond_both (is_closed v.block.state) (connected_by v (pair_for cx remote local) (word (next_random cx).random)) (unoffered v)
+    (λ (w : TcpValue). w.block.state ≡ In.TimeWait)
     (λ closed. clash (sym closed ∙ ap is_closed at)) (λ _. at)
 stays_in_wait v (Sends bytes) p at stays =
     cond_both (takes_writes v.block.state) (sent_more v (enqueued (anchored v.queued) (take (min (length bytes) (length v.queued.free)) bytes))) (unoffered v)
     (λ (w : TcpValue). w.block.state ≡ In.TimeWait) (λ _. at) (λ _. at)
 stays_in_wait v (Reads count) p at stays = at
 stays_in_wait v Closes p at stays =
-    cond_both (is_opening v.block.state) (ended (unoffered v)) (with_block (unoffered v) (record v.block { state = after_close v.block.state })) (λ (w : TcpValue). w.block.state ≡ In.TimeWait)
+    cond_both (is_opening v.block.state) (ended (unoffered v)) (with_block (unoffered v) (record v.block { state = after_close v.block.state }))
+    (λ (w : TcpValue). w.block.state ≡ In.TimeWait)
     (λ opening. clash (sym opening ∙ ap is_opening at)) (λ _. ap after_close at)
 stays_in_wait v Aborts p at stays = clash stays
 stays_in_wait v (Sets setting) p at stays = set_waits v setting at

@@ -1,5 +1,6 @@
 -- Which round trips are taken.
-use Rattle.std.proofs.Common.{◌≡◌, ◌⊎◌, inl, inr, ⊎_elim, ℕ, zero, suc, ◌+◌, ◌-◌, ◌<◌, ◌≤◌, ◌==◌, ◌&&◌, ◌||◌, nat_le, nat_lt, not, min, max, ℤ, Bool, true, false, if◌then◌else◌, List, [], ◌∷◌, length, take, Option, Some, None, is_some, refl, sym, ap, ◌∙◌, subst, arith}
+use Rattle.std.proofs.Common.{◌≡◌, ◌⊎◌, inl, inr, ⊎_elim, ℕ, zero, suc, ◌+◌, ◌-◌, ◌<◌, ◌≤◌, ◌==◌, ◌&&◌, ◌||◌, nat_le, nat_lt, not, min, max, ℤ, Bool, true}
+use Rattle.std.proofs.Common.{false, if◌then◌else◌, List, [], ◌∷◌, length, take, Option, Some, None, is_some, refl, sym, ap, ◌∙◌, subst, arith}
 use Rattle.std.proofs.lemmas.Bool.{cond_both, eqb-true, leb-false, ltb-true}
 use Rattle.std.specs.Prelude.{IfSome}
 use Rattle.ip_wire.specs.Control.{control_len}
@@ -13,7 +14,8 @@ use Rattle.socket_base.specs.Offers.{Offered}
 use Rattle.tcp_control.specs.Moments.{is_due, is_over, timeout_from}
 use Rattle.tcp_control.specs.RoundTrip as round_trip
 use Rattle.tcp_control.specs.RoundTrip.{RoundTripValue}
-use Rattle.tcp_control.specs.States.{is_closed, is_listening, is_opening, is_answering, is_time_wait, sends_syn, sends_text, takes_text, takes_writes, after_fin, after_close}
+use Rattle.tcp_control.specs.States.{is_closed, is_listening, is_opening, is_answering, is_time_wait, sends_syn, sends_text, takes_text, takes_writes}
+use Rattle.tcp_control.specs.States.{after_fin, after_close}
 use Rattle.tcp_control.specs.declared.endpoints.EndpointPair.{EndpointPair}
 use Rattle.tcp_control.specs.declared.offer.OfferKind.{OfferKind}
 use Rattle.tcp_control.specs.declared.offer.OfferKind.TheVariants as Kind
@@ -72,9 +74,11 @@ advanced_by r by flight now (Some s) e t =
 advanced_in : (r : RoundTripValue) (by flight : ℕ) (now : ℤ) → In_flight flight r.sample → In_flight (flight - by) (round_trip.advanced r by now).sample
 advanced_in r by flight now t = advanced_by r by flight now r.sample refl t
 
-acked_in : (b : Block) (by : ℕ) (now : ℤ) → In_flight b.sender.in_flight b.round_trip.sample → In_flight (b.sender.in_flight - by) (round_trip_after b by now).sample
+acked_in : (b : Block) (by : ℕ) (now : ℤ) → In_flight b.sender.in_flight b.round_trip.sample →
+    In_flight (b.sender.in_flight - by) (round_trip_after b by now).sample
 acked_in b by now t =
-    cond_both (acks_own_syn b by && b.sender.syn_lost) (round_trip.begun_late (round_trip.advanced b.round_trip by now)) (round_trip.advanced b.round_trip by now)
+    cond_both (acks_own_syn b by && b.sender.syn_lost) (round_trip.begun_late (round_trip.advanced b.round_trip by now))
+    (round_trip.advanced b.round_trip by now)
     (λ (x : RoundTripValue). In_flight (b.sender.in_flight - by) x.sample)
     (λ _. advanced_in b.round_trip by b.sender.in_flight now t) (λ _. advanced_in b.round_trip by b.sender.in_flight now t)
 
@@ -102,7 +106,8 @@ timing_in r flight top end now t =
       at_most : (a b c : ℕ) → a ≤ b → a ≤ max b c
       at_most a b c e = omega arith
 
-    begins : (sample : Option Sample) → r.sample ≡ sample → In_flight flight sample → top < end → In_flight (max flight end) (round_trip.timing_with r end now sample).sample
+    begins : (sample : Option Sample) → r.sample ≡ sample → In_flight flight sample → top < end →
+        In_flight (max flight end) (round_trip.timing_with r end now sample).sample
     begins None e t past = (some top end past, own flight end) where
       some : (a b : ℕ) → a < b → 1 ≤ b
       some a b e = omega arith
@@ -126,15 +131,24 @@ asked_right b now t =
     })
     b (λ (c : Block). IsTimedRight (timing_of c)) (λ _. t) (λ _. t)
 
-went_right : (r : RoundTripValue) (state : State) (flight top end : ℕ) (now : ℤ) → In_flight flight r.sample → flight ≤ top → (is_listening state ≡ true → r.sample ≡ None)
+went_right : (r : RoundTripValue) (state : State) (flight top end : ℕ) (now : ℤ) → In_flight flight r.sample → flight ≤ top →
+    (is_listening state ≡ true → r.sample ≡ None)
     → is_listening state ≡ false
-    → IsTimedRight (record { state = state; sample = (if nat_lt top end then round_trip.timing r end now else r).sample; in_flight = max flight end; top = max top end })
+    → IsTimedRight (record {
+      state = state;
+      sample = (if nat_lt top end then round_trip.timing r end now else r).sample;
+      in_flight = max flight end;
+      top =
+          max top end;
+    })
 went_right r state flight top end now t sent listens not = right _ (timing_in r flight top end now t) (larger_sent flight top end sent) not
 
-sent_right : (kind : OfferKind) (b : Block) (o : OpenOffer) (queued : ℕ) → is_listening b.state ≡ false → IsTimedRight (timing_of b) → IsTimedRight (timing_of (sent_as kind b o queued))
+sent_right : (kind : OfferKind) (b : Block) (o : OpenOffer) (queued : ℕ) → is_listening b.state ≡ false → IsTimedRight (timing_of b) →
+    IsTimedRight (timing_of (sent_as kind b o queued))
 sent_right Kind.Reset b o queued not t = right _ t.timed t.sent refl
 sent_right Kind.Syn b o queued not t = went_right b.round_trip b.state b.sender.in_flight b.sender.top (end_of b o) o.moment t.timed t.sent t.listens not
-sent_right Kind.FastRetransmission b o queued not t = went_right (round_trip.untimed b.round_trip) b.state b.sender.in_flight b.sender.top (end_of b o) o.moment tt t.sent (λ _. refl) not
+sent_right Kind.FastRetransmission b o queued not t =
+    went_right (round_trip.untimed b.round_trip) b.state b.sender.in_flight b.sender.top (end_of b o) o.moment tt t.sent (λ _. refl) not
 sent_right Kind.Text b o queued not t = went_right b.round_trip b.state b.sender.in_flight b.sender.top (end_of b o) o.moment t.timed t.sent t.listens not
 sent_right Kind.Probe b o queued not t =
     asked_right (probed b (end_of b o) o.moment) o.moment (right _ t.timed (raised b.sender.in_flight b.sender.top (end_of b o) t.sent) not)
@@ -203,7 +217,8 @@ module _ (cx : ContextValue) where
   }
 
   right_first : (pair : EndpointPair) (w : TcpValue) → IsTimedRight (timing_of w.block) → is_listening w.block.state ≡ false → FirstRules cx pair RightOffer w
-  right_first pair w t not = record { syn = λ _. (t, inl not); again = λ _ _. (t, inl not); text = λ _ _. (t, inl not); last = λ _. right_last pair (probing cx w) t not }
+  right_first pair w t not =
+      record { syn = λ _. (t, inl not); again = λ _ _. (t, inl not); text = λ _ _. (t, inl not); last = λ _. right_last pair (probing cx w) t not }
 
   -- one that is between its endpoints, or silent
   right_rules : (v : TcpValue) → IsInOrder (sending_of v) → IsTimedRight (timing_of v.block) → Rules cx v RightOffer
@@ -216,7 +231,12 @@ module _ (cx : ContextValue) where
     falls = λ _ _ _. (record { timed = tt; sent = nothing_sent _; listens = λ _. refl }, inr refl);
     over = λ _ _ _. (right _ t.timed t.sent refl, inr refl);
     backs = λ pair named _ _.
-        right_first pair (with_block (unoffered v) (backed_off_now (begun cx v))) (record { timed = tt; sent = nothing_sent v.block.sender.top; listens = λ _. refl })
+        right_first pair (with_block (unoffered v) (backed_off_now (begun cx v))) (record {
+          timed = tt;
+          sent = nothing_sent v.block.sender.top;
+          listens =
+              λ _. refl;
+        })
         (unnamed v pair p named);
     goes = λ pair named _ _. right_first pair (with_block (unoffered v) (begun cx v)) t (unnamed v pair p named);
   }
@@ -250,7 +270,8 @@ set_right v (Retries limit) t = t
 set_right v (MinRto duration) t = t
 set_right v (Congestion control) t = t
 
-connected_right : (v : TcpValue) (names : Option EndpointPair) (number : ℕ) → IsTimedRight (timing_of v.block) → IsTimedRight (timing_of (connected_by v names number).block)
+connected_right : (v : TcpValue) (names : Option EndpointPair) (number : ℕ) → IsTimedRight (timing_of v.block) →
+    IsTimedRight (timing_of (connected_by v names number).block)
 connected_right v None number t = t
 connected_right v (Some pair) number t = record { timed = tt; sent = nothing_sent _; listens = λ _. refl }
 
@@ -263,14 +284,16 @@ event_right v (Listens endpoint) p t =
     cond_both (is_closed v.block.state && not (endpoint.port == 0)) (listening v endpoint) (unoffered v) (λ (w : TcpValue). IsTimedRight (timing_of w.block))
     (λ _. record { timed = tt; sent = nothing_sent _; listens = λ _. refl }) (λ _. t)
 event_right v (Connects cx remote local) p t =
-    cond_both (is_closed v.block.state) (connected_by v (pair_for cx remote local) (word (next_random cx).random)) (unoffered v) (λ (w : TcpValue). IsTimedRight (timing_of w.block))
+    cond_both (is_closed v.block.state) (connected_by v (pair_for cx remote local) (word (next_random cx).random)) (unoffered v)
+    (λ (w : TcpValue). IsTimedRight (timing_of w.block))
     (λ _. connected_right v (pair_for cx remote local) (word (next_random cx).random) t) (λ _. t)
 event_right v (Sends bytes) p t =
     cond_both (takes_writes v.block.state) (sent_more v (enqueued (anchored v.queued) (take (min (length bytes) (length v.queued.free)) bytes))) (unoffered v)
     (λ (w : TcpValue). IsTimedRight (timing_of w.block)) (λ _. t) (λ _. t)
 event_right v (Reads count) p t = t
 event_right v Closes p t =
-    cond_both (is_opening v.block.state) (ended (unoffered v)) (with_block (unoffered v) (record v.block { state = after_close v.block.state })) (λ (w : TcpValue). IsTimedRight (timing_of w.block))
+    cond_both (is_opening v.block.state) (ended (unoffered v)) (with_block (unoffered v) (record v.block { state = after_close v.block.state }))
+    (λ (w : TcpValue). IsTimedRight (timing_of w.block))
     (λ _. right _ t.timed t.sent refl) (λ _. right _ t.timed t.sent (close_on v.block.state))
 event_right v Aborts p t =
     cond_both (is_time_wait v.block.state) (ended (unoffered v))
@@ -283,7 +306,8 @@ led_right v [] p t = t
 led_right v (it ∷ more) p t = led_right (after v it) more (event_order v it p) (event_right v it p t)
 
 pub led_timing : (capacity : ℕ) (queued : Ring ℕ) (events : List Event) → IsTimedRight (timing_of (led (new_socket capacity queued) events).block)
-led_timing capacity queued events = led_right (new_socket capacity queued) events (new_order capacity queued) (record { timed = tt; sent = nothing_sent _; listens = λ _. refl })
+led_timing capacity queued events =
+    led_right (new_socket capacity queued) events (new_order capacity queued) (record { timed = tt; sent = nothing_sent _; listens = λ _. refl })
 
 -- A TIMING BEGINS
 
@@ -291,7 +315,8 @@ no_sample : {A : Type 0} (s : Sample) → None ≡ Some s → A
 no_sample s e = absurd (cc)
 
 -- where none ran, one runs only if the segment reaches past all
-starts : (r : RoundTripValue) (top end : ℕ) (now : ℤ) (s : Sample) → r.sample ≡ None → (if nat_lt top end then round_trip.timing r end now else r).sample ≡ Some s → top < end
+starts : (r : RoundTripValue) (top end : ℕ) (now : ℤ) (s : Sample) → r.sample ≡ None →
+    (if nat_lt top end then round_trip.timing r end now else r).sample ≡ Some s → top < end
 starts r top end now s none =
     cond_both (nat_lt top end) (round_trip.timing r end now) r (λ (x : RoundTripValue). x.sample ≡ Some s → top < end)
     (λ past _. ltb-true top end past)
@@ -306,7 +331,8 @@ asked_sample b now =
     })
     b (λ (c : Block). c.round_trip.sample ≡ b.round_trip.sample) (λ _. refl) (λ _. refl)
 
-sent_starts : (kind : OfferKind) (b : Block) (o : OpenOffer) (queued : ℕ) (s : Sample) → b.round_trip.sample ≡ None → (sent_as kind b o queued).round_trip.sample ≡ Some s → b.sender.top < end_of b o
+sent_starts : (kind : OfferKind) (b : Block) (o : OpenOffer) (queued : ℕ) (s : Sample) → b.round_trip.sample ≡ None →
+    (sent_as kind b o queued).round_trip.sample ≡ Some s → b.sender.top < end_of b o
 sent_starts Kind.Reset b o queued s none e = no_sample s (sym none ∙ e)
 sent_starts Kind.Syn b o queued s none e = starts b.round_trip b.sender.top (end_of b o) o.moment s none e
 sent_starts Kind.FastRetransmission b o queued s none e = starts (round_trip.untimed b.round_trip) b.sender.top (end_of b o) o.moment s refl e
@@ -316,10 +342,12 @@ sent_starts Kind.KeepAlive b o queued s none e = no_sample s (sym none ∙ (sym 
 sent_starts other b o queued s none e = no_sample s (sym none ∙ e)
 
 pub begins_past_all :
-    (cx : ContextValue) (v : TcpValue) (o : OpenOffer) (s : Sample) → (offer_of cx v).socket.offered ≡ Some o → (offer_of cx v).socket.block.round_trip.sample ≡ None
+    (cx : ContextValue) (v : TcpValue) (o : OpenOffer) (s : Sample) → (offer_of cx v).socket.offered ≡ Some o →
+    (offer_of cx v).socket.block.round_trip.sample ≡ None
     → (settled true (offer_of cx v).socket).block.round_trip.sample ≡ Some s → (offer_of cx v).socket.block.sender.top < end_of (offer_of cx v).socket.block o
 begins_past_all cx v o s offered none =
-    subst (λ (x : Option OpenOffer). (sent_off x (unoffered (offer_of cx v).socket)).block.round_trip.sample ≡ Some s → (offer_of cx v).socket.block.sender.top < end_of (offer_of cx v).socket.block o)
+    subst (λ (x : Option OpenOffer). (sent_off x (unoffered (offer_of cx v).socket)).block.round_trip.sample ≡ Some s →
+    (offer_of cx v).socket.block.sender.top < end_of (offer_of cx v).socket.block o)
     (sym offered)
     (λ e. sent_starts o.kind (recorded (offer_of cx v).socket.block o (room_of (offer_of cx v).socket.received)) o (queued_in (offer_of cx v).socket) s none e)
 
@@ -342,7 +370,8 @@ module _ (cx : ContextValue) (pair : EndpointPair) where
   in_time flight sample s e t = subst (In_flight flight) e t
 
   -- nothing is in flight, so nothing is timed
-  none_timed : {A : Type 0} (x : TcpValue) (s : Sample) → IsTimedRight (timing_of x.block) → (x.block.sender.in_flight == 0) ≡ true → x.block.round_trip.sample ≡ Some s → A
+  none_timed : {A : Type 0} (x : TcpValue) (s : Sample) → IsTimedRight (timing_of x.block) → (x.block.sender.in_flight == 0) ≡ true →
+      x.block.round_trip.sample ≡ Some s → A
   none_timed x s t none e =
       let it = in_time x.block.sender.in_flight x.block.round_trip.sample s e t.timed in
       let idle = eqb-true x.block.sender.in_flight 0 none in absurd (nothing s.ends x.block.sender.in_flight it.0 it.1 idle)
@@ -365,18 +394,22 @@ module _ (cx : ContextValue) (pair : EndpointPair) where
   past_syn w t owes o s _ _ e _ =
       none_timed w s t
       (parts w.block.sender.syn_unacked (w.block.sender.in_flight == 0)
-      (parts (sends_syn w.block.state && not (is_answering w.block.state && w.block.settings.synack_paused)) (w.block.sender.syn_unacked && (w.block.sender.in_flight == 0)) owes).1).1
+      (parts (sends_syn w.block.state && not (is_answering w.block.state && w.block.settings.synack_paused))
+      (w.block.sender.syn_unacked && (w.block.sender.in_flight == 0)) owes).1).1
       e
 
-  past_probe : (x : TcpValue) → IsTimedRight (timing_of x.block) → is_due cx.moment (probe_moment x.block (queued_in x)) ≡ true → GoesPast (offer_choice Kind.Probe cx x pair probe_choice).socket
+  past_probe : (x : TcpValue) → IsTimedRight (timing_of x.block) → is_due cx.moment (probe_moment x.block (queued_in x)) ≡ true →
+      GoesPast (offer_choice Kind.Probe cx x pair probe_choice).socket
   past_probe x t due o s _ _ e _ =
       none_timed x s t
       (parts (is_window_small x.block (queued_in x)) (x.block.sender.in_flight == 0)
-      (parts (sends_text x.block.state) (is_window_small x.block (queued_in x) && (x.block.sender.in_flight == 0)) (unset (is_probing x.block (queued_in x)) x.block.timers.probe_at due)).1).1
+      (parts (sends_text x.block.state) (is_window_small x.block (queued_in x) && (x.block.sender.in_flight == 0))
+      (unset (is_probing x.block (queued_in x)) x.block.timers.probe_at due)).1).1
       e
 
   -- text goes from SND.NXT on
-  past_text : (x : TcpValue) → IsTimedRight (timing_of x.block) → GoesPast (offer_choice Kind.Text cx x pair (text_choice x.block pair.addresses cx.ip_mtu x.queued)).socket
+  past_text : (x : TcpValue) → IsTimedRight (timing_of x.block) →
+      GoesPast (offer_choice Kind.Text cx x pair (text_choice x.block pair.addresses cx.ip_mtu x.queued)).socket
   past_text x t o s offered _ e _ =
       let it = in_time x.block.sender.in_flight x.block.round_trip.sample s e t.timed in
       subst (λ (k : OpenOffer). s.ends ≤ one_if x.block.sender.syn_unacked + k.place) (same_offer _ o offered)
@@ -386,12 +419,14 @@ module _ (cx : ContextValue) (pair : EndpointPair) where
       behind a flight syn e = omega arith
 
   -- the segment at SND.UNA ends the timing
-  past_again : (x : TcpValue) → IsTimedRight (timing_of x.block) → GoesPast (offer_choice Kind.FastRetransmission cx x pair (resend_choice x.block pair.addresses cx.ip_mtu x.queued)).socket
+  past_again : (x : TcpValue) → IsTimedRight (timing_of x.block) →
+      GoesPast (offer_choice Kind.FastRetransmission cx x pair (resend_choice x.block pair.addresses cx.ip_mtu x.queued)).socket
   past_again x t o s offered _ e sent =
       let it = in_time x.block.sender.in_flight x.block.round_trip.sample s e t.timed in
       let c = resend_choice x.block pair.addresses cx.ip_mtu x.queued in
       let end = distance_of x.block.sender.una (number_at x.block c.place) + (c.len + control_len (control_for c (queued_in x))) in
-      absurd (again_ends (round_trip.untimed x.block.round_trip) x.block.sender.top end s refl sent (reached s.ends x.block.sender.in_flight x.block.sender.top it.1 t.sent))
+      absurd (again_ends (round_trip.untimed x.block.round_trip) x.block.sender.top end s refl sent
+      (reached s.ends x.block.sender.in_flight x.block.sender.top it.1 t.sent))
     where
       reached : (a flight top : ℕ) → a ≤ flight → flight ≤ top → a ≤ top
       reached a flight top e f = omega arith
@@ -403,14 +438,17 @@ module _ (cx : ContextValue) (pair : EndpointPair) where
       timed_end a b e = cc
 
       again_ends :
-          (r : RoundTripValue) (top end : ℕ) (s : Sample) → r.sample ≡ None → (if nat_lt top end then round_trip.timing r end cx.moment else r).sample ≡ Some s → s.ends ≤ top → ⊥
+          (r : RoundTripValue) (top end : ℕ) (s : Sample) → r.sample ≡ None → (if nat_lt top end then round_trip.timing r end cx.moment else r).sample ≡
+          Some s → s.ends ≤ top → ⊥
       again_ends r top end s none =
           cond_both (nat_lt top end) (round_trip.timing r end cx.moment) r (λ (x : RoundTripValue). x.sample ≡ Some s → s.ends ≤ top → ⊥)
           (λ past e small.
-          (too_far s.ends top end (sym (timed_end (record { ends = end; since = cx.moment }) s (sym (begun_by r.sample none) ∙ e))) small (ltb-true top end past)))
+          (too_far s.ends top end (sym (timed_end (record { ends = end; since = cx.moment }) s (sym (begun_by r.sample none) ∙ e))) small
+          (ltb-true top end past)))
           (λ _ e _. no_sample s (sym none ∙ e))
         where
-          begun_by : (sample : Option Sample) → sample ≡ None → (round_trip.timing_with r end cx.moment sample).sample ≡ Some (record { ends = end; since = cx.moment })
+          begun_by : (sample : Option Sample) → sample ≡ None →
+              (round_trip.timing_with r end cx.moment sample).sample ≡ Some (record { ends = end; since = cx.moment })
           begun_by None e = refl
           begun_by (Some s) e = absurd (cc)
 
@@ -442,7 +480,12 @@ past_rules cx v t = record {
   falls = λ _ _ _. silent_past_of (listening (unoffered v) v.block.names.listen) refl;
   over = λ _ _ _. silent_past_of (with_block (unoffered v) (timed_out v.block)) refl;
   backs = λ pair _ _ _.
-      past_first cx pair (with_block (unoffered v) (backed_off_now (begun cx v))) refl (record { timed = tt; sent = nothing_sent v.block.sender.top; listens = λ _. refl });
+      past_first cx pair (with_block (unoffered v) (backed_off_now (begun cx v))) refl (record {
+        timed = tt;
+        sent = nothing_sent v.block.sender.top;
+        listens =
+            λ _. refl;
+      });
   goes = λ pair _ _ _. past_first cx pair (with_block (unoffered v) (begun cx v)) refl t;
 }
   where
@@ -450,7 +493,8 @@ past_rules cx v t = record {
     silent_past_of x none o s e = absurd (let clash : None ≡ Some o = sym none ∙ e in cc)
 
 pub goes_past_timed :
-    (cx : ContextValue) (v : TcpValue) (o : OpenOffer) (s : Sample) → IsTimedRight (timing_of v.block) → (offer_of cx v).socket.offered ≡ Some o → carries o.kind ≡ true
+    (cx : ContextValue) (v : TcpValue) (o : OpenOffer) (s : Sample) → IsTimedRight (timing_of v.block) → (offer_of cx v).socket.offered ≡ Some o →
+    carries o.kind ≡ true
     → (offer_of cx v).socket.block.round_trip.sample ≡ Some s → (settled true (offer_of cx v).socket).block.round_trip.sample ≡ Some s
     → s.ends ≤ start_of (offer_of cx v).socket.block o
 goes_past_timed cx v o s t = by_rules cx v (λ (x : Offered TcpValue). GoesPast x.socket) (past_rules cx v t) o s

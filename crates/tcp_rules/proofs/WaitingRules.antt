@@ -1,5 +1,6 @@
 -- What waits names a moment.
-use Rattle.std.proofs.Common.{◌≡◌, ℕ, ◌+◌, ◌-◌, ◌%◌, ◌/◌, ◌<◌, ◌≤◌, zero, suc, ◌==◌, ◌&&◌, ◌||◌, nat_le, nat_lt, not, min, max, ℤ, int_le, Bool, true, false, if◌then◌else◌, length, Option, Some, None, is_some, is_none, refl, sym, ap, ◌∙◌, subst, arith}
+use Rattle.std.proofs.Common.{◌≡◌, ℕ, ◌+◌, ◌-◌, ◌%◌, ◌/◌, ◌<◌, ◌≤◌, zero, suc, ◌==◌, ◌&&◌, ◌||◌, nat_le, nat_lt, not, min, max, ℤ, int_le, Bool, true, false}
+use Rattle.std.proofs.Common.{if◌then◌else◌, length, Option, Some, None, is_some, is_none, refl, sym, ap, ◌∙◌, subst, arith}
 use Rattle.std.proofs.lemmas.Bool.{cond_both, eqb-true, eq-eqb, leb-false, le-leb, ltb-true, ltb-false, lt-ltb}
 use Rattle.net_base.specs.Ring.{Ring, until_end}
 use Rattle.socket_base.specs.Context.{ContextValue}
@@ -20,7 +21,8 @@ use Rattle.tcp_model.specs.Due.{poll_open, poll_between, poll_with, poll_of}
 use Rattle.tcp_model.specs.Offers.{offer_of}
 use Rattle.tcp_model.specs.Probing.{is_window_small, is_probing, probe_moment, is_probe_unset}
 use Rattle.tcp_model.specs.Quiet.{IsQuiet}
-use Rattle.tcp_model.specs.Rules.{congestion_limit, window_limit, size_limit, unbroken, next_place, ready, fills_enough, is_sendable, sends_choice, has_text, text_choice, owes_syn, beyond}
+use Rattle.tcp_model.specs.Rules.{congestion_limit, window_limit, size_limit, unbroken, next_place, ready, fills_enough, is_sendable, sends_choice, has_text}
+use Rattle.tcp_model.specs.Rules.{text_choice, owes_syn, beyond}
 use Rattle.tcp_model.specs.Value.{TcpValue, unoffered, queued_in}
 use Rattle.tcp_model.specs.declared.block.Block.{Block}
 use Rattle.tcp_model.specs.declared.block.CongestionControl.{CongestionControl}
@@ -44,7 +46,8 @@ leaves_with Congestion.Reno window room = (min window room, λ size. both window
 
 leaves : (b : Block) → Leaves b
 leaves b =
-    let it = leaves_with b.settings.congestion_control (b.reno.cwnd + beyond b - b.sender.in_flight) (b.peer.window - b.sender.in_flight) in record { bound = it.0; limits = it.1 }
+    let it = leaves_with b.settings.congestion_control (b.reno.cwnd + beyond b - b.sender.in_flight) (b.peer.window - b.sender.in_flight) in
+    record { bound = it.0; limits = it.1 }
 
 -- WHAT MAY GO
 
@@ -118,10 +121,12 @@ module _ (v : TcpValue) (addresses : AddressPair) (ip_mtu : ℕ) (none : v.block
       1 ≤ queued_in v → is_window_small v.block (queued_in v) ≡ false
       → (not ((text_choice v.block addresses ip_mtu v.queued).len == 0)
       && (nat_le (size_limit v.block addresses ip_mtu) (ready v.block (size_limit v.block addresses ip_mtu) (queued_in v))
-      || ((not v.block.settings.nagle || (v.block.sender.in_flight == 0)) && fills_enough v.block (queued_in v) (ready v.block (size_limit v.block addresses ip_mtu) (queued_in v)))))
+      || ((not v.block.settings.nagle || (v.block.sender.in_flight == 0)) && fills_enough v.block (queued_in v)
+      (ready v.block (size_limit v.block addresses ip_mtu) (queued_in v)))))
       ≡ true
   text_is_enough some large =
-      both_true (not ((text_choice v.block addresses ip_mtu v.queued).len == 0)) _ (not_none (text_choice v.block addresses ip_mtu v.queued).len has_len) full_or_enough
+      both_true (not ((text_choice v.block addresses ip_mtu v.queued).len == 0)) _ (not_none (text_choice v.block addresses ip_mtu v.queued).len has_len)
+      full_or_enough
     where
       l : Leaves v.block
       l = leaves v.block
@@ -134,9 +139,11 @@ module _ (v : TcpValue) (addresses : AddressPair) (ip_mtu : ℕ) (none : v.block
       has_len : 1 ≤ (text_choice v.block addresses ip_mtu v.queued).len
       has_len =
           subst (λ (m : ℕ). 1 ≤ m) (sym (l.limits (min (size_limit v.block addresses ip_mtu) (unbroken v.queued (next_place v.block)))))
-          (some_len l.bound (size_limit v.block addresses ip_mtu) (queued_in v) (next_place v.block) (until_end v.queued (next_place v.block)) (v.block.peer.largest_window / 2) first
+          (some_len l.bound (size_limit v.block addresses ip_mtu) (queued_in v) (next_place v.block) (until_end v.queued (next_place v.block))
+          (v.block.peer.largest_window / 2) first
           (least_limit _) some
-          (some_end v.queued.start (next_place v.block) (length v.queued.queue + length v.queued.free) (more_room (length v.queued.queue) (length v.queued.free) some)) window)
+          (some_end v.queued.start (next_place v.block) (length v.queued.queue + length v.queued.free)
+          (more_room (length v.queued.queue) (length v.queued.free) some)) window)
 
       go : ℕ
       go = min l.bound (min (size_limit v.block addresses ip_mtu) (queued_in v - next_place v.block))
@@ -162,26 +169,34 @@ module _ (v : TcpValue) (addresses : AddressPair) (ip_mtu : ℕ) (none : v.block
 
       full_or_enough :
           (nat_le (size_limit v.block addresses ip_mtu) (ready v.block (size_limit v.block addresses ip_mtu) (queued_in v))
-          || ((not v.block.settings.nagle || (v.block.sender.in_flight == 0)) && fills_enough v.block (queued_in v) (ready v.block (size_limit v.block addresses ip_mtu) (queued_in v))))
+          || ((not v.block.settings.nagle || (v.block.sender.in_flight == 0)) && fills_enough v.block (queued_in v)
+          (ready v.block (size_limit v.block addresses ip_mtu) (queued_in v))))
           ≡ true
       full_or_enough =
           subst
-          (λ (size : ℕ). (nat_le (size_limit v.block addresses ip_mtu) size || ((not v.block.settings.nagle || (v.block.sender.in_flight == 0)) && fills_enough v.block (queued_in v) size)) ≡ true)
+          (λ (size : ℕ). (nat_le (size_limit v.block addresses ip_mtu) size ||
+          ((not v.block.settings.nagle || (v.block.sender.in_flight == 0)) && fills_enough v.block (queued_in v) size)) ≡ true)
           (sym is_go) (at (nat_lt go (size_limit v.block addresses ip_mtu)) refl)
         where
           at :
               (part : Bool) → nat_lt go (size_limit v.block addresses ip_mtu) ≡ part
-              → (nat_le (size_limit v.block addresses ip_mtu) go || ((not v.block.settings.nagle || (v.block.sender.in_flight == 0)) && fills_enough v.block (queued_in v) go)) ≡ true
+              → (nat_le (size_limit v.block addresses ip_mtu) go ||
+              ((not v.block.settings.nagle || (v.block.sender.in_flight == 0)) && fills_enough v.block (queued_in v) go)) ≡ true
           at true e =
               or_right_true (nat_le (size_limit v.block addresses ip_mtu) go) _
               (both_true (not v.block.settings.nagle || (v.block.sender.in_flight == 0)) (fills_enough v.block (queued_in v) go) small_may (fills e))
-          at false e = or_left_true (nat_le (size_limit v.block addresses ip_mtu) go) _ (le-leb (size_limit v.block addresses ip_mtu) go (ltb-false go (size_limit v.block addresses ip_mtu) e))
+          at false e = or_left_true (nat_le (size_limit v.block addresses ip_mtu) go) _
+              (le-leb (size_limit v.block addresses ip_mtu) go (ltb-false go (size_limit v.block addresses ip_mtu) e))
 
-  text_goes : sends_text v.block.state ≡ true → 1 ≤ unacked v.block (queued_in v) → is_window_small v.block (queued_in v) ≡ false → has_text v.block addresses ip_mtu v.queued ≡ true
+  text_goes : sends_text v.block.state ≡ true → 1 ≤ unacked v.block (queued_in v) → is_window_small v.block (queued_in v) ≡ false →
+      has_text v.block addresses ip_mtu v.queued ≡ true
   text_goes sends some large =
       both_true (sends_text v.block.state) _ sends
-      (both_true (nat_le (one_if v.block.sender.syn_unacked) v.block.sender.in_flight) _ (le-leb (one_if v.block.sender.syn_unacked) v.block.sender.in_flight (least (one_if v.block.sender.syn_unacked) v.block.sender.in_flight (ap one_if no_syn)))
-      (both_true (nat_lt v.block.sender.in_flight (unacked v.block (queued_in v))) _ (lt-ltb v.block.sender.in_flight (unacked v.block (queued_in v)) (below (unacked v.block (queued_in v)) some))
+      (both_true (nat_le (one_if v.block.sender.syn_unacked) v.block.sender.in_flight) _
+      (le-leb (one_if v.block.sender.syn_unacked) v.block.sender.in_flight
+      (least (one_if v.block.sender.syn_unacked) v.block.sender.in_flight (ap one_if no_syn)))
+      (both_true (nat_lt v.block.sender.in_flight (unacked v.block (queued_in v))) _
+      (lt-ltb v.block.sender.in_flight (unacked v.block (queued_in v)) (below (unacked v.block (queued_in v)) some))
       (at (queued_in v == 0) refl)))
     where
       least : (syn m : ℕ) → syn ≡ 0 → syn ≤ m
@@ -197,10 +212,13 @@ module _ (v : TcpValue) (addresses : AddressPair) (ip_mtu : ℕ) (none : v.block
 
         by_fin : (owes : Bool) → owes_fin v.block.state ≡ owes → owes ≡ true
         by_fin true e = refl
-        by_fin false e = absurd (nothing (one_if v.block.sender.syn_unacked) (queued_in v) (one_if (owes_fin v.block.state)) some (ap one_if no_syn) empty (ap one_if e))
+        by_fin false e = absurd (nothing (one_if v.block.sender.syn_unacked) (queued_in v) (one_if (owes_fin v.block.state)) some (ap one_if no_syn) empty
+            (ap one_if e))
 
-      at : (empty : Bool) → (queued_in v == 0) ≡ empty → is_sendable v.block (queued_in v) (size_limit v.block addresses ip_mtu) (text_choice v.block addresses ip_mtu v.queued) ≡ true
-      at true e = or_left_true (text_choice v.block addresses ip_mtu v.queued).fin _ (fin_goes_alone (eqb-true (queued_in v) 0 e) (fin_alone (eqb-true (queued_in v) 0 e)))
+      at : (empty : Bool) → (queued_in v == 0) ≡ empty →
+          is_sendable v.block (queued_in v) (size_limit v.block addresses ip_mtu) (text_choice v.block addresses ip_mtu v.queued) ≡ true
+      at true e = or_left_true (text_choice v.block addresses ip_mtu v.queued).fin _
+          (fin_goes_alone (eqb-true (queued_in v) 0 e) (fin_alone (eqb-true (queued_in v) 0 e)))
       at false e = or_right_true (text_choice v.block addresses ip_mtu v.queued).fin _ (text_is_enough (one_of (queued_in v) e) large)
 
 -- THE MOMENT
@@ -215,11 +233,15 @@ module _ (cx : ContextValue) (v : TcpValue) (pair : EndpointPair) (w : IsWaiting
   sends_in gone In.Listen at = clash (sym (ap is_some w.named) ∙ (w.order.listens (ap is_listening at)).0)
   sends_in gone In.SynSent at = clash (sym (ap (λ (s : State). is_opening s || is_answering s) at) ∙ w.order.opened gone)
   sends_in gone In.SynReceived at = clash (sym (ap (λ (s : State). is_opening s || is_answering s) at) ∙ w.order.opened gone)
-  sends_in gone In.FinWait2 at = absurd (no_more (one_if v.block.sender.syn_unacked) (queued_in v) (one_if (owes_fin v.block.state)) w.owes (ap one_if gone) (w.order.acked (ap has_all at)).2 (ap one_if (ap owes_fin at)))
+  sends_in gone In.FinWait2 at =
+      absurd (no_more (one_if v.block.sender.syn_unacked) (queued_in v) (one_if (owes_fin v.block.state)) w.owes (ap one_if gone)
+      (w.order.acked (ap has_all at)).2 (ap one_if (ap owes_fin at)))
     where
       no_more : (syn queued fin : ℕ) → 1 ≤ syn + queued + fin → syn ≡ 0 → queued ≡ 0 → fin ≡ 0 → ⊥
       no_more syn queued fin e f g h = absurd (omega arith)
-  sends_in gone In.TimeWait at = absurd (no_more (one_if v.block.sender.syn_unacked) (queued_in v) (one_if (owes_fin v.block.state)) w.owes (ap one_if gone) (w.order.acked (ap has_all at)).2 (ap one_if (ap owes_fin at)))
+  sends_in gone In.TimeWait at =
+      absurd (no_more (one_if v.block.sender.syn_unacked) (queued_in v) (one_if (owes_fin v.block.state)) w.owes (ap one_if gone)
+      (w.order.acked (ap has_all at)).2 (ap one_if (ap owes_fin at)))
     where
       no_more : (syn queued fin : ℕ) → 1 ≤ syn + queued + fin → syn ≡ 0 → queued ≡ 0 → fin ≡ 0 → ⊥
       no_more syn queued fin e f g h = absurd (omega arith)
@@ -236,8 +258,10 @@ module _ (cx : ContextValue) (v : TcpValue) (pair : EndpointPair) (w : IsWaiting
     by_syn none syn =
         let goes = or_second (is_closed v.block.state) (sends_syn v.block.state) w.alive (w.order.opening syn).2 in
         let owes =
-        both_true (sends_syn v.block.state && not (is_answering v.block.state && v.block.settings.synack_paused)) (v.block.sender.syn_unacked && (v.block.sender.in_flight == 0))
-        (both_true (sends_syn v.block.state) (not (is_answering v.block.state && v.block.settings.synack_paused)) goes (not_paused (is_answering v.block.state) v.block.settings.synack_paused w.unpaused))
+        both_true (sends_syn v.block.state && not (is_answering v.block.state && v.block.settings.synack_paused))
+        (v.block.sender.syn_unacked && (v.block.sender.in_flight == 0))
+        (both_true (sends_syn v.block.state) (not (is_answering v.block.state && v.block.settings.synack_paused)) goes
+        (not_paused (is_answering v.block.state) v.block.settings.synack_paused w.unpaused))
         (both_true v.block.sender.syn_unacked (v.block.sender.in_flight == 0) syn (eq-eqb v.block.sender.in_flight 0 none)) in
         clash (sym owes ∙ (quiet cx.moment).syn)
       where
@@ -260,7 +284,8 @@ module _ (cx : ContextValue) (v : TcpValue) (pair : EndpointPair) (w : IsWaiting
           (both_true (is_window_small v.block (queued_in v)) (v.block.sender.in_flight == 0) e (eq-eqb v.block.sender.in_flight 0 none))
 
       by_probe : (at : Option ℤ) → v.block.timers.probe_at ≡ at → ⊥
-      by_probe None unset = clash (sym (both_true (is_probing v.block (queued_in v)) (is_none v.block.timers.probe_at) probing (ap is_none unset)) ∙ (quiet cx.moment).probe_set)
+      by_probe None unset = clash (sym (both_true (is_probing v.block (queued_in v)) (is_none v.block.timers.probe_at) probing (ap is_none unset)) ∙
+          (quiet cx.moment).probe_set)
       by_probe (Some m) set =
           clash
           (sym (ap (λ (p : Bool). is_due m (if p then v.block.timers.probe_at else None)) probing ∙ (ap (is_due m) set ∙ comes m))

@@ -11,7 +11,8 @@ use Rattle.tcp_control.specs.declared.state.State.{State}
 use Rattle.tcp_model.specs.Arrival.{arrives}
 use Rattle.tcp_model.specs.Calls.{listen_after, connect_after, send_after, recv_after, close_after, abort_after}
 use Rattle.tcp_model.specs.Offers.{offer_of}
-use Rattle.tcp_model.specs.Settings.{set_timeout, set_keep_alive, set_ack_delay, set_nagle_enabled, set_hop_limit, set_tsval_generator, pause_synack, set_retries, set_congestion_control, set_min_rto}
+use Rattle.tcp_model.specs.Settings.{set_timeout, set_keep_alive, set_ack_delay, set_nagle_enabled, set_hop_limit, set_tsval_generator, pause_synack}
+use Rattle.tcp_model.specs.Settings.{set_retries, set_congestion_control, set_min_rto}
 use Rattle.tcp_model.specs.Settled.{settled}
 use Rattle.tcp_model.specs.Value.{TcpValue}
 use Rattle.tcp_model.specs.declared.block.CongestionControl.{CongestionControl}

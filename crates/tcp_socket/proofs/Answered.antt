@@ -17,7 +17,8 @@ use Rattle.tcp_model.specs.State.{State}
 use Rattle.tcp_model.specs.State.TheVariants as In
 use Rattle.tcp_model.specs.Acknowledged.{acknowledged, duplicates_after}
 use Rattle.tcp_model.specs.Answers.{may_draw, with_draw, acked, drawn, answer_for, run_at, others, first_two, numbers_of, ranges_held}
-use Rattle.tcp_model.specs.Arrival.{waiting_anew, outside, tells_news, passed_outside, finished, with_content, told, continued, taken, inside, checked, takes_reset, challenges_reset, reset_comes, challenges_syn, received, arrives_in, is_void_syn, arrives}
+use Rattle.tcp_model.specs.Arrival.{waiting_anew, outside, tells_news, passed_outside, finished, with_content, told, continued, taken, inside, checked}
+use Rattle.tcp_model.specs.Arrival.{takes_reset, challenges_reset, reset_comes, challenges_syn, received, arrives_in, is_void_syn, arrives}
 use Rattle.tcp_model.specs.Checks.{Check, acknowledgement_check, is_in_window, taken_down}
 use Rattle.tcp_model.specs.Checks.Check.{Passes, Old, Drops, Draws, Resets}
 use Rattle.tcp_model.specs.Controls.{is_syn, is_rst}
@@ -89,10 +90,12 @@ quick_if : (t : Bool) (a b : Arrived) → IsQuick a → IsQuick b → IsQuick (i
 quick_if true a b one other = one
 quick_if false a b one other = other
 
-quick_acked : (cx : ContextValue) (v : TcpValue) (ip : IpRepr) (header : TcpHeader) (ranges : List (Option (ℕ × ℕ))) → FewRanges ranges → IsQuick (acked cx v ip header ranges)
+quick_acked : (cx : ContextValue) (v : TcpValue) (ip : IpRepr) (header : TcpHeader) (ranges : List (Option (ℕ × ℕ))) → FewRanges ranges →
+    IsQuick (acked cx v ip header ranges)
 quick_acked cx v ip header ranges few = record {
   draws = refl;
-  sendable = sendable_to ip (hops_of v.block.settings.hop_limit) (sack_segment v.block (pair_in ip header) cx.moment (window_of v) ranges) (sack_room v.block (pair_in ip header) cx.moment (window_of v) ranges few);
+  sendable = sendable_to ip (hops_of v.block.settings.hop_limit) (sack_segment v.block (pair_in ip header) cx.moment (window_of v) ranges)
+      (sack_room v.block (pair_in ip header) cx.moment (window_of v) ranges few);
 }
 
 quick_reset : (v : TcpValue) (ip : IpRepr) (header : TcpHeader) (size : ℕ) → IsQuick (answered_with v (rst_reply ip header size))
@@ -111,20 +114,24 @@ quick_outside cx v ip header =
 quick_passed_outside : (cx : ContextValue) (v : TcpValue) (ip : IpRepr) (header : TcpHeader) (size by : ℕ) → IsQuick (passed_outside cx v ip header size by)
 quick_passed_outside cx v ip header size by =
     let told_of = acknowledged v by cx.moment in
-    quick_if (tells_news v header size) (outside cx told_of ip header) (outside cx v ip header) (quick_outside cx told_of ip header) (quick_outside cx v ip header)
+    quick_if (tells_news v header size) (outside cx told_of ip header) (outside cx v ip header) (quick_outside cx told_of ip header)
+    (quick_outside cx v ip header)
 
-quick_answer : (cx : ContextValue) (v : TcpValue) (ip : IpRepr) (header : TcpHeader) (size : ℕ) (fills : Bool) (early : Option ℕ) → IsQuick (answer_for cx v ip header size fills early)
+quick_answer : (cx : ContextValue) (v : TcpValue) (ip : IpRepr) (header : TcpHeader) (size : ℕ) (fills : Bool) (early : Option ℕ) →
+    IsQuick (answer_for cx v ip header size fills early)
 quick_answer cx v ip header size fills (Some place) = quick_acked cx v ip header (ranges_held v place) (few_held v place)
 quick_answer cx v ip header size fills None = record { draws = refl; sendable = tt }
 
 quick_finished : (cx : ContextValue) (old : Block) (t : Texted) (ip : IpRepr) (header : TcpHeader) (size : ℕ) → IsQuick (finished cx old t ip header size)
 quick_finished cx old t ip header size =
-    quick_answer cx (with_block t.socket (probe_kept (with_fin t.socket.block old header size t.advance cx.moment) (queued_in t.socket))) ip header size t.fills t.early
+    quick_answer cx (with_block t.socket (probe_kept (with_fin t.socket.block old header size t.advance cx.moment) (queued_in t.socket))) ip header size
+    t.fills t.early
 
 quick_content : (cx : ContextValue) (v : TcpValue) (ip : IpRepr) (header : TcpHeader) (bytes : List ℕ) → IsQuick (with_content cx v ip header bytes)
 quick_content cx v ip header bytes = quick_finished cx v.block (with_text v header bytes) ip header (length bytes)
 
-quick_continued : (cx : ContextValue) (old : Block) (v : TcpValue) (ip : IpRepr) (header : TcpHeader) (bytes : List ℕ) (by : ℕ) → IsQuick (continued cx old v ip header bytes by)
+quick_continued : (cx : ContextValue) (old : Block) (v : TcpValue) (ip : IpRepr) (header : TcpHeader) (bytes : List ℕ) (by : ℕ) →
+    IsQuick (continued cx old v ip header bytes by)
 quick_continued cx old v ip header bytes by =
     let heard_of = told v header (duplicates_after old header (length bytes) by) cx.moment in
     quick_if (is_closed v.block.state) (dropped v) (with_content cx heard_of ip header bytes) (quick_dropped v) (quick_content cx heard_of ip header bytes)
@@ -157,7 +164,8 @@ quick_received cx v ip header bytes =
     let check = acknowledgement_check v.block header.ack_number in
     let rest : Arrived = if challenges_syn v.block header then drawn cx v ip header else checked check cx v ip header bytes in
     quick_if (is_rst header.control) (reset_comes cx v ip header (length bytes)) rest (quick_reset_comes cx v ip header (length bytes))
-    (quick_if (challenges_syn v.block header) (drawn cx v ip header) (checked check cx v ip header bytes) (quick_drawn cx v ip header) (quick_checked check cx v ip header bytes))
+    (quick_if (challenges_syn v.block header) (drawn cx v ip header) (checked check cx v ip header bytes) (quick_drawn cx v ip header)
+    (quick_checked check cx v ip header bytes))
 
 quick_takes_answer : (cx : ContextValue) (v : TcpValue) (ip : IpRepr) (header : TcpHeader) (bytes : List ℕ) → IsQuick (takes_answer cx v ip header bytes)
 quick_takes_answer cx v ip header bytes =
@@ -175,7 +183,8 @@ quick_takes_answer cx v ip header bytes =
 pub received_draws : (cx : ContextValue) (v : TcpValue) (ip : IpRepr) (header : TcpHeader) (bytes : List ℕ) → (received cx v ip header bytes).draws ≡ false
 received_draws cx v ip header bytes = (quick_received cx v ip header bytes).draws
 
-pub takes_answer_draws : (cx : ContextValue) (v : TcpValue) (ip : IpRepr) (header : TcpHeader) (bytes : List ℕ) → (takes_answer cx v ip header bytes).draws ≡ false
+pub takes_answer_draws : (cx : ContextValue) (v : TcpValue) (ip : IpRepr) (header : TcpHeader) (bytes : List ℕ) →
+    (takes_answer cx v ip header bytes).draws ≡ false
 takes_answer_draws cx v ip header bytes = (quick_takes_answer cx v ip header bytes).draws
 
 -- the states from SYN-RECEIVED on
@@ -188,18 +197,27 @@ later_arrives In.SynSent cx v ip header bytes closed listens opens = absurd (ope
 later_arrives other cx v ip header bytes closed listens opens = refl
 
 -- what answers a segment can be sent
-if_sendable : (t : Bool) (a b : Arrived) → IfSome a.answer (λ reply. IsSendable (packet_in reply)) → IfSome b.answer (λ reply. IsSendable (packet_in reply)) → IfSome (if t then a else b).answer (λ reply. IsSendable (packet_in reply))
+if_sendable : (t : Bool) (a b : Arrived) → IfSome a.answer (λ reply. IsSendable (packet_in reply)) → IfSome b.answer (λ reply. IsSendable (packet_in reply)) →
+    IfSome (if t then a else b).answer (λ reply. IsSendable (packet_in reply))
 if_sendable true a b one other = one
 if_sendable false a b one other = other
 
-sendable_in : (state : State) (cx : ContextValue) (v : TcpValue) (ip : IpRepr) (header : TcpHeader) (bytes : List ℕ) → IfSome (arrives_in state cx v ip header bytes).answer (λ reply. IsSendable (packet_in reply))
+sendable_in : (state : State) (cx : ContextValue) (v : TcpValue) (ip : IpRepr) (header : TcpHeader) (bytes : List ℕ) →
+    IfSome (arrives_in state cx v ip header bytes).answer (λ reply. IsSendable (packet_in reply))
 sendable_in In.Closed cx v ip header bytes = tt
 sendable_in In.Listen cx v ip header bytes =
-    let opened : Arrived = record { socket = with_block v (timeout_restarted (answering v.block ip header (word (next_random cx).random)) cx.moment 0); answer = None; draws = true } in
+    let opened : Arrived = record {
+      socket = with_block v (timeout_restarted (answering v.block ip header (word (next_random cx).random)) cx.moment 0);
+      answer =
+          None;
+      draws = true;
+    } in
     if_sendable (is_first_syn header) opened (dropped v) tt tt
 sendable_in In.SynSent cx v ip header bytes = (quick_takes_answer cx v ip header bytes).sendable
 sendable_in other cx v ip header bytes = (quick_received cx v ip header bytes).sendable
 
-pub sendable_answer : (cx : ContextValue) (v : TcpValue) (ip : IpRepr) (header : TcpHeader) (bytes : List ℕ) → IfSome (arrives cx v ip header bytes).answer (λ reply. IsSendable (packet_in reply))
+pub sendable_answer : (cx : ContextValue) (v : TcpValue) (ip : IpRepr) (header : TcpHeader) (bytes : List ℕ) →
+    IfSome (arrives cx v ip header bytes).answer (λ reply. IsSendable (packet_in reply))
 sendable_answer cx v ip header bytes =
-    if_sendable (is_void_syn header) (dropped (unoffered v)) (arrives_in v.block.state cx (unoffered v) ip header bytes) tt (sendable_in v.block.state cx (unoffered v) ip header bytes)
+    if_sendable (is_void_syn header) (dropped (unoffered v)) (arrives_in v.block.state cx (unoffered v) ip header bytes) tt
+    (sendable_in v.block.state cx (unoffered v) ip header bytes)

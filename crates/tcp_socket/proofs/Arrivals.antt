@@ -16,7 +16,8 @@ length-front (None ∷ map) = omega arith
 length-front (Some byte ∷ map) = let more = length-front map in omega arith
 
 -- what lies past the window may be cut off first
-pub stored_cut : (map : List (Option ℕ)) (place n : ℕ) (bytes : List ℕ) → n ≡ min (length bytes) (length map - place) → store map place (take n bytes) ≡ store map place bytes
+pub stored_cut : (map : List (Option ℕ)) (place n : ℕ) (bytes : List ℕ) → n ≡ min (length bytes) (length map - place) →
+    store map place (take n bytes) ≡ store map place bytes
 stored_cut map place n bytes is =
     let room = length map - place in
     let n_is : n ≡ min room (length bytes) = omega arith in

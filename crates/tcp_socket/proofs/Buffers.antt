@@ -1,5 +1,6 @@
 -- The steps of a receive buffer: what they do to its ring and its runs is what the receive map does.
-use Rattle.std.proofs.Common.{◌≡◌, ◌↔◌, ℕ, ◌+◌, ◌-◌, ◌%◌, ◌^◌, ◌<◌, ◌≤◌, min, not, ◌==◌, Bool, true, false, List, [], ◌∷◌, ◌++◌, length, take, drop, Result, Ok, Err, IsErr, is_ok, IfOk, refl, sym, ap, subst, ◌∙◌, inl, inr, arith, length-append, length-drop}
+use Rattle.std.proofs.Common.{◌≡◌, ◌↔◌, ℕ, ◌+◌, ◌-◌, ◌%◌, ◌^◌, ◌<◌, ◌≤◌, min, not, ◌==◌, Bool, true, false, List, [], ◌∷◌, ◌++◌, length, take, drop, Result, Ok}
+use Rattle.std.proofs.Common.{Err, IsErr, is_ok, IfOk, refl, sym, ap, subst, ◌∙◌, inl, inr, arith, length-append, length-drop}
 use Rattle.std.specs.Prelude.{IsTrue}
 use Rattle.std.specs.Result.{result_unwrap_or}
 use Rattle.std.proofs.lemmas.Bool.Decides.{nat_tests}
@@ -47,7 +48,8 @@ cleared-new r =
     map_from-nothing (storage_of r) ∙ ap space (length-rotated (capacity r - r.start) (r.queue ++ r.free) ∙ length-append r.queue r.free) in
     λ i. record { waiting = []; map = map i; start = 0 }
 
-pub released-received : (r : Ring ℕ) (held : List (ℕ × ℕ)) (n : ℕ) → IsHeldBy r held → n ≤ length r.queue → received (released r n) held ≡ read_from (received r held) n
+pub released-received : (r : Ring ℕ) (held : List (ℕ × ℕ)) (n : ℕ) → IsHeldBy r held → n ≤ length r.queue →
+    received (released r n) held ≡ read_from (received r held) n
 released-received r held n is fits =
     let map : map_from held 0 (r.free ++ take n r.queue) ≡ map_from held 0 r.free ++ space (length (take n r.queue)) =
     map_from-more held r.free (take n r.queue) is.ends in
@@ -74,7 +76,8 @@ pub record Stores (r : Ring ℕ) (held : List (ℕ × ℕ)) (bytes : List ℕ) (
   pub size : count ≡ length (receive.front (store (received r held).map 0 bytes))
   pub value : received new (without_front (added held 0 (length bytes))) ≡ buffer.in_order (received r held) bytes
 
-pub stores : (r : Ring ℕ) (held : List (ℕ × ℕ)) (bytes : List ℕ) → IsHeldBy r held → length bytes ≤ length r.free → Stores r held bytes (extended (overwritten r 0 bytes) (front (added held 0 (length bytes)))) (front (added held 0 (length bytes)))
+pub stores : (r : Ring ℕ) (held : List (ℕ × ℕ)) (bytes : List ℕ) → IsHeldBy r held → length bytes ≤ length r.free →
+    Stores r held bytes (extended (overwritten r 0 bytes) (front (added held 0 (length bytes)))) (front (added held 0 (length bytes)))
 stores r held bytes is short =
     let n = front (added held 0 (length bytes)) in
     let rest = without_front (added held 0 (length bytes)) in
@@ -86,7 +89,19 @@ stores r held bytes is short =
     ap (λ xs. map_from rest 0 (drop n xs)) laid ∙ sym t.left in
     record {
       fits = rw laid t.fits;
-      kept = record { runs = t.runs; gap = t.gap; ends = rw laid t.ends; small = rw (length-append, laid, length-drop, length-take-le n (overlay r.free 0 bytes) t.fits, t.same_length) (omega (arith, is.small, t.fits, t.same_length)) };
+      kept = record {
+        runs = t.runs;
+        gap = t.gap;
+        ends = rw laid t.ends;
+        small =
+            rw (
+              length-append,
+              laid,
+              length-drop,
+              length-take-le n (overlay r.free 0 bytes) t.fits,
+              t.same_length,
+            ) (omega (arith, is.small, t.fits, t.same_length));
+      };
       size = sym (ap length t.taken ∙ length-take-le n (overlay r.free 0 bytes) t.fits);
       value = λ i. record { waiting = waiting i; map = map i; start = r.start };
     }
@@ -97,12 +112,14 @@ pub record Holds_early (r : Ring ℕ) (held : List (ℕ × ℕ)) (past : ℕ) (b
   pub kept : IsHeldBy (overwritten r past bytes) (added held past (length bytes))
   pub map : map_from (added held past (length bytes)) 0 (overwritten r past bytes).free ≡ store (received r held).map past bytes
 
-pub holds_early : (r : Ring ℕ) (held : List (ℕ × ℕ)) (past : ℕ) (bytes : List ℕ) → IsHeldBy r held → 1 ≤ past → past + length bytes ≤ length r.free → IsUnion held past (length bytes) (added held past (length bytes)) → Holds_early r held past bytes
+pub holds_early : (r : Ring ℕ) (held : List (ℕ × ℕ)) (past : ℕ) (bytes : List ℕ) → IsHeldBy r held → 1 ≤ past → past + length bytes ≤ length r.free →
+    IsUnion held past (length bytes) (added held past (length bytes)) → Holds_early r held past bytes
 holds_early r held past bytes is far fits union =
     let new = added held past (length bytes) in
     let laid = overlay-overwritten r past bytes fits in
     let stored = held-store held past r.free bytes new union in
-    let ends : EndsBy new (length (overlay r.free past bytes)) = rw (length-overlay r.free past bytes) (EndsBy-union held past (length bytes) (length r.free) new union is.ends fits) in
+    let ends : EndsBy new (length (overlay r.free past bytes)) =
+    rw (length-overlay r.free past bytes) (EndsBy-union held past (length bytes) (length r.free) new union is.ends fits) in
     record {
       runs = ap runs_of stored ∙ runs_of-held new (overlay r.free past bytes) union.runs ends;
       kept = record {
@@ -128,7 +145,8 @@ room r held v n is fits =
 pub room_at : (r : Ring ℕ) (held : List (ℕ × ℕ)) (v : Received) (n : ℕ) → received r held ≡ v → IsHeldBy r held → n ≤ length v.map → n < 2 ^ 64
 room_at r held v n is by fits = omega (arith, room r held v n is fits, by.small)
 
-all_written : (r : Ring ℕ) (at n : ℕ) (bytes : List ℕ) → at + length bytes ≤ length r.free → n ≡ min (length bytes) (length r.free - at) → overwritten r at (take n bytes) ≡ overwritten r at bytes
+all_written : (r : Ring ℕ) (at n : ℕ) (bytes : List ℕ) → at + length bytes ≤ length r.free → n ≡ min (length bytes) (length r.free - at) →
+    overwritten r at (take n bytes) ≡ overwritten r at bytes
 all_written r at n bytes fits is = ap (overwritten r at) (take_all n bytes (omega arith))
 
 -- the calls that store bytes in order
@@ -138,11 +156,16 @@ pub record Does_store (v : Received) (bytes : List ℕ) (laid new : Ring ℕ) (r
   pub size : count ≡ length (receive.front (store v.map 0 bytes))
   pub value : new ≡ extended laid count → received new runs ≡ buffer.in_order v bytes
 
-pub does_store : {E : Type 0} (r : Ring ℕ) (held : List (ℕ × ℕ)) (v : Received) (bytes : List ℕ) (n : ℕ) (laid new : Ring ℕ) (answer : Result ℕ E) (runs : List (ℕ × ℕ)) (count : ℕ) → received r held ≡ v → IsHeldBy r held → length bytes ≤ length v.map → n ≡ min (length bytes) (length r.free - 0) → laid ≡ overwritten r 0 (take n bytes) → IsErr answer ↔ ((0 < 0) × (4 < length (added held 0 (length bytes)))) → IfOk answer (λ k. (k ≡ front (added held 0 (length bytes))) × (runs ≡ without_front (added held 0 (length bytes)))) → count ≡ result_unwrap_or answer 0 → Does_store v bytes laid new runs count
+pub does_store : {E : Type 0} (r : Ring ℕ) (held : List (ℕ × ℕ)) (v : Received) (bytes : List ℕ) (n : ℕ) (laid new : Ring ℕ) (answer : Result ℕ E)
+    (runs : List (ℕ × ℕ)) (count : ℕ) → received r held ≡ v → IsHeldBy r held → length bytes ≤ length v.map → n ≡ min (length bytes) (length r.free - 0) →
+    laid ≡ overwritten r 0 (take n bytes) → IsErr answer ↔ ((0 < 0) × (4 < length (added held 0 (length bytes)))) →
+    IfOk answer (λ k. (k ≡ front (added held 0 (length bytes))) × (runs ≡ without_front (added held 0 (length bytes)))) → count ≡ result_unwrap_or answer 0 →
+    Does_store v bytes laid new runs count
 does_store r held v bytes n laid new answer runs count is by fits n_is laid_is refused ok count_is =
     let short = room r held v (length bytes) is fits in
     let did = stores r held bytes by short in
-    let a = answered answer (front (added held 0 (length bytes))) (runs ≡ without_front (added held 0 (length bytes))) (λ h. absurd (omega (arith, (refused.0 h).0))) ok in
+    let a = answered answer (front (added held 0 (length bytes))) (runs ≡ without_front (added held 0 (length bytes)))
+    (λ h. absurd (omega (arith, (refused.0 h).0))) ok in
     let count_at : count ≡ front (added held 0 (length bytes)) = count_is ∙ a.0 in
     let laid_at : laid ≡ overwritten r 0 bytes = laid_is ∙ all_written r 0 n bytes (omega (arith, short)) n_is in
     record {
@@ -153,7 +176,9 @@ does_store r held v bytes n laid new answer runs count is by fits n_is laid_is r
     }
 
 -- the calls that hold bytes early, and where they are refused
-pub refused_early : (r : Ring ℕ) (held : List (ℕ × ℕ)) (v : Received) (past : ℕ) (bytes : List ℕ) → received r held ≡ v → IsHeldBy r held → 1 ≤ past → past + length bytes ≤ length v.map → IsUnion held past (length bytes) (added held past (length bytes)) → 4 < length (added held past (length bytes)) → buffer.can_hold v past bytes ≡ false
+pub refused_early : (r : Ring ℕ) (held : List (ℕ × ℕ)) (v : Received) (past : ℕ) (bytes : List ℕ) → received r held ≡ v → IsHeldBy r held → 1 ≤ past →
+    past + length bytes ≤ length v.map → IsUnion held past (length bytes) (added held past (length bytes)) → 4 < length (added held past (length bytes)) →
+    buffer.can_hold v past bytes ≡ false
 refused_early r held v past bytes is by far fits union many =
     rw (← is, (holds_early r held past bytes by far (room r held v (past + length bytes) is fits) union).runs) (grind (arith, nat_tests, many))
 
@@ -166,14 +191,18 @@ pub record Does_hold (v : Received) (past : ℕ) (bytes : List ℕ) (laid : Ring
   pub test : true ≡ buffer.can_hold v past bytes
   pub value : received laid runs ≡ buffer.early v past bytes
 
-pub does_hold : (r : Ring ℕ) (held : List (ℕ × ℕ)) (v : Received) (past : ℕ) (bytes : List ℕ) (n : ℕ) (laid : Ring ℕ) (runs : List (ℕ × ℕ)) → received r held ≡ v → IsHeldBy r held → 1 ≤ past → past + length bytes ≤ length v.map → IsUnion held past (length bytes) (added held past (length bytes)) → (4 < length (added held past (length bytes)) → ⊥) → n ≡ min (length bytes) (length r.free - past) → laid ≡ overwritten r past (take n bytes) → runs ≡ added held past (length bytes) → Does_hold v past bytes laid runs
+pub does_hold : (r : Ring ℕ) (held : List (ℕ × ℕ)) (v : Received) (past : ℕ) (bytes : List ℕ) (n : ℕ) (laid : Ring ℕ) (runs : List (ℕ × ℕ)) →
+    received r held ≡ v → IsHeldBy r held → 1 ≤ past → past + length bytes ≤ length v.map → IsUnion held past (length bytes) (added held past (length bytes)) →
+    (4 < length (added held past (length bytes)) → ⊥) → n ≡ min (length bytes) (length r.free - past) → laid ≡ overwritten r past (take n bytes) →
+    runs ≡ added held past (length bytes) → Does_hold v past bytes laid runs
 does_hold r held v past bytes n laid runs is by far fits union few n_is laid_is runs_is =
     let fits' = room r held v (past + length bytes) is fits in
     let h = holds_early r held past bytes by far fits' union in
     let laid_at : laid ≡ overwritten r past bytes = laid_is ∙ all_written r past n bytes fits' n_is in
     let short : length (added held past (length bytes)) ≤ 4 = omega (arith, few) in
     let test : buffer.can_hold (received r held) past bytes ≡ true = rw h.runs (grind (arith, nat_tests, short)) in
-    let value : received (overwritten r past bytes) (added held past (length bytes)) ≡ record (received r held) { map = store (received r held).map past bytes } =
+    let value : received (overwritten r past bytes) (added held past (length bytes)) ≡
+    record (received r held) { map = store (received r held).map past bytes } =
     λ i. record { waiting = r.queue; map = h.map i; start = r.start } in
     record {
       kept = rw (laid_at, runs_is) h.kept;
@@ -181,12 +210,14 @@ does_hold r held v past bytes n laid runs is by far fits union few n_is laid_is 
       value = rw (laid_at, runs_is, ← is, test) value;
     }
 
-pub run_held : (r : Ring ℕ) (held : List (ℕ × ℕ)) (v : Received) (place : ℕ) → received r held ≡ v → IsHeldBy r held → run_at held place ≡ run_at (runs_of v.map) place
+pub run_held : (r : Ring ℕ) (held : List (ℕ × ℕ)) (v : Received) (place : ℕ) → received r held ≡ v → IsHeldBy r held →
+    run_at held place ≡ run_at (runs_of v.map) place
 run_held r held v place is by =
     rw (← is) (ap (λ rs. run_at rs place) (sym (runs_of-held held r.free by.runs by.ends)))
 
 -- whether anything is held
-pub holds_held : (r : Ring ℕ) (held : List (ℕ × ℕ)) (v : Received) (empty : Bool) → received r held ≡ v → IsHeldBy r held → IsTrue empty ↔ (held ≡ []) → not empty ≡ not (length (runs_of v.map) == 0)
+pub holds_held : (r : Ring ℕ) (held : List (ℕ × ℕ)) (v : Received) (empty : Bool) → received r held ≡ v → IsHeldBy r held → IsTrue empty ↔ (held ≡ []) →
+    not empty ≡ not (length (runs_of v.map) == 0)
 holds_held r held v empty is by tells =
     rw (← is) (ap not (same held empty tells) ∙ ap (λ rs. not (length rs == 0)) (sym (runs_of-held held r.free by.runs by.ends)))
   where

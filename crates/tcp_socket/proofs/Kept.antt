@@ -5,7 +5,8 @@ use Rattle.std.proofs.lemmas.Bool.Decides.{nat_tests}
 use Rattle.net_base.specs.Ring.{Ring}
 use Rattle.net_base.specs.Time.{IsMoment}
 use Rattle.ip_wire.specs.TcpHeader.{TcpHeader}
-use Rattle.tcp_model.specs.Acknowledged.{una_moved, in_state, ended_if, block_acknowledged, state_after_ack, names_window, windowed, window_set, ranges_taken, counted}
+use Rattle.tcp_model.specs.Acknowledged.{una_moved, in_state, ended_if, block_acknowledged, state_after_ack, names_window, windowed, window_set, ranges_taken}
+use Rattle.tcp_model.specs.Acknowledged.{counted}
 use Rattle.tcp_model.specs.Controls.{is_zero, or_mss}
 use Rattle.tcp_model.specs.Opening.{connected, crossed, syn_answered}
 use Rattle.tcp_model.specs.States.{is_closed}
@@ -35,7 +36,8 @@ kept_ended false b is = is
 
 pub kept_acknowledged : (b : Block) (by queued : ℕ) (now : ℤ) → IsBlock b → IsBlock (block_acknowledged b by queued now)
 kept_acknowledged b by queued now is =
-    kept_ended (is_closed (state_after_ack b by queued)) (in_state (una_moved b by queued now) (state_after_ack b by queued) now) (record { start = is.start; mss = is.mss })
+    kept_ended (is_closed (state_after_ack b by queued)) (in_state (una_moved b by queued now) (state_after_ack b by queued) now)
+    (record { start = is.start; mss = is.mss })
 
 kept_if : (t : Bool) (a b : Block) → IsBlock a → IsBlock b → IsBlock (if t then a else b)
 kept_if true a b is other = is
@@ -70,14 +72,16 @@ pub sized_mss : (mss : Option ℕ) → is_zero mss ≡ false → 1 ≤ or_mss ms
 sized_mss None is = omega arith
 sized_mss (Some n) is = grind (arith, nat_tests, is)
 
-answered_mss : (t : Bool) (b : Block) (header : TcpHeader) (now : ℤ) → 1 ≤ or_mss header.options.max_seg_size → 1 ≤ (if t then connected b header now else crossed b header).peer.mss
+answered_mss : (t : Bool) (b : Block) (header : TcpHeader) (now : ℤ) → 1 ≤ or_mss header.options.max_seg_size →
+    1 ≤ (if t then connected b header now else crossed b header).peer.mss
 answered_mss true b header now some = some
 answered_mss false b header now some = some
 
 -- SYN-SENT takes a SYN
 pub kept_answer : (b : Block) (header : TcpHeader) (now : ℤ) (queued : ℕ) → IsMoment now → 1 ≤ or_mss header.options.max_seg_size
     → IsBlock (timeout_restarted (syn_answered b header now) now queued)
-kept_answer b header now queued moment some = kept_timeout (syn_answered b header now) now queued moment (answered_mss (is_some header.ack_number) b header now some)
+kept_answer b header now queued moment some =
+    kept_timeout (syn_answered b header now) now queued moment (answered_mss (is_some header.ack_number) b header now some)
 
 kept_asked : (b : Block) (now : ℤ) → IsBlock b → IsBlock (asked b now)
 kept_asked b now is =

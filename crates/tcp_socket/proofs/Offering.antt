@@ -1,5 +1,6 @@
 -- What is offered lies in the send ring, near SND.UNA.
-use Rattle.std.proofs.Common.{◌≡◌, ℕ, ◌+◌, ◌-◌, ◌%◌, ◌/◌, ◌==◌, ◌&&◌, ◌^◌, ◌<◌, ◌≤◌, nat_lt, nat_le, min, max, ℤ, Bool, true, false, length, Option, None, if◌then◌else◌, refl, arith}
+use Rattle.std.proofs.Common.{◌≡◌, ℕ, ◌+◌, ◌-◌, ◌%◌, ◌/◌, ◌==◌, ◌&&◌, ◌^◌, ◌<◌, ◌≤◌, nat_lt, nat_le, min, max, ℤ, Bool, true, false, length, Option, None}
+use Rattle.std.proofs.Common.{if◌then◌else◌, refl, arith}
 use Rattle.std.proofs.lemmas.Bool.Decides.{nat_tests}
 use Rattle.ip_wire.specs.Control.{control_len}
 use Rattle.ip_wire.specs.Seq.{distance_of}
@@ -15,7 +16,8 @@ use Rattle.tcp_model.specs.Moments.{is_due}
 use Rattle.tcp_model.specs.Offers.{number_at}
 use Rattle.tcp_model.specs.Offsets.{behind_by}
 use Rattle.tcp_model.specs.Probing.{is_window_small, is_probing, probe_moment}
-use Rattle.tcp_model.specs.Rules.{Choice, unbroken, size_limit, congestion_limit, window_limit, next_place, is_sendable, text_choice, has_text, resend_choice, probe_choice, control_for, beyond}
+use Rattle.tcp_model.specs.Rules.{Choice, unbroken, size_limit, congestion_limit, window_limit, next_place, is_sendable, text_choice, has_text, resend_choice}
+use Rattle.tcp_model.specs.Rules.{probe_choice, control_for, beyond}
 use Rattle.tcp_model.specs.Segments.{segment}
 use Rattle.tcp_model.specs.Settled.{end_of}
 use Rattle.tcp_model.specs.States.{owes_fin, sends_text}
@@ -58,7 +60,8 @@ window_small b size =
     omega arith
 
 -- what the rules choose is a part of the send queue
-pub part_of_text : (v : TcpValue) (addresses : AddressPair) (ip_mtu : ℕ) → FitsBuffer v.queued → has_text v.block addresses ip_mtu v.queued ≡ true → IsPartOf v (text_choice v.block addresses ip_mtu v.queued)
+pub part_of_text : (v : TcpValue) (addresses : AddressPair) (ip_mtu : ℕ) → FitsBuffer v.queued → has_text v.block addresses ip_mtu v.queued ≡ true →
+    IsPartOf v (text_choice v.block addresses ip_mtu v.queued)
 part_of_text v addresses ip_mtu fits has =
     let b = v.block in
     let sendable = is_sendable b (queued_in v) (size_limit b addresses ip_mtu) (text_choice b addresses ip_mtu v.queued) in
@@ -87,7 +90,8 @@ some_unbroken queued some =
     let place : at % room < room = omega (arith, within) in
     omega (arith, some, place)
 
-probing_small : (v : TcpValue) → is_probing v.block (queued_in v) ≡ true → (is_window_small v.block (queued_in v) ≡ true) × ((v.block.sender.in_flight == 0) ≡ true)
+probing_small : (v : TcpValue) → is_probing v.block (queued_in v) ≡ true → (is_window_small v.block (queued_in v) ≡ true) ×
+    ((v.block.sender.in_flight == 0) ≡ true)
 probing_small v probing =
     let sends = both (sends_text v.block.state) (is_window_small v.block (queued_in v) && (v.block.sender.in_flight == 0)) probing in
     both (is_window_small v.block (queued_in v)) (v.block.sender.in_flight == 0) sends.1
@@ -100,7 +104,11 @@ pub part_of_probe : (v : TcpValue) (now : ℤ) → is_due now (probe_moment v.bl
 part_of_probe v now due =
     let probing : is_probing v.block (queued_in v) ≡ true = unset (is_probing v.block (queued_in v)) now v.block.timers.probe_at due in
     let small = probing_small v probing in
-    record { near = omega arith; unbroken = some_unbroken v.queued (held_back (window_limit v.block (queued_in v)) (queued_in v) (max 1 (v.block.peer.largest_window / 2)) small.0) }
+    record {
+      near = omega arith;
+      unbroken =
+          some_unbroken v.queued (held_back (window_limit v.block (queued_in v)) (queued_in v) (max 1 (v.block.peer.largest_window / 2)) small.0);
+    }
 
 -- what a small window holds back is a part of the send queue
 pub part_of_held : (v : TcpValue) (addresses : AddressPair) (ip_mtu : ℕ) (now : ℤ) → is_due now (probe_moment v.block (queued_in v)) ≡ true
@@ -127,8 +135,10 @@ pub lies_in : (kind : OfferKind) (queued : Ring ℕ) (o : OpenOffer) → o.len �
 lies_in Kind.KeepAlive queued o is = tt
 lies_in other queued o is = is
 
-pub may_part : (kind : OfferKind) (cx : ContextValue) (v : TcpValue) (pair : EndpointPair) (c : Choice) → FitsBuffer v.queued → v.block.sender.una.0 < 2 ^ 32 → IsPartOf v c
-    → MayOpen v (open_offer kind cx v pair (segment v.block pair cx.moment (window_of v) (control_for c (queued_in v)) (number_at v.block c.place)) c.place c.len)
+pub may_part : (kind : OfferKind) (cx : ContextValue) (v : TcpValue) (pair : EndpointPair) (c : Choice) → FitsBuffer v.queued → v.block.sender.una.0 < 2 ^ 32 →
+    IsPartOf v c
+    → MayOpen v (open_offer kind cx v pair (segment v.block pair cx.moment (window_of v) (control_for c (queued_in v)) (number_at v.block c.place))
+    c.place c.len)
 may_part kind cx v pair c fits small part =
     let o = open_offer kind cx v pair (segment v.block pair cx.moment (window_of v) (control_for c (queued_in v)) (number_at v.block c.place)) c.place c.len in
     let syn = one_if_small v.block.sender.syn_unacked in
@@ -139,12 +149,14 @@ may_part kind cx v pair c fits small part =
     record { end = ends_near kind v.block o end; payload = lies_in kind v.queued o part.unbroken }
 
 -- a segment without payload may be, wherever it stands
-pub may_empty : (kind : OfferKind) (cx : ContextValue) (v : TcpValue) (pair : EndpointPair) (header : TcpHeader) → control_len header.control ≡ 0 → MayOpen v (open_offer kind cx v pair header 0 0)
+pub may_empty : (kind : OfferKind) (cx : ContextValue) (v : TcpValue) (pair : EndpointPair) (header : TcpHeader) → control_len header.control ≡ 0 →
+    MayOpen v (open_offer kind cx v pair header 0 0)
 may_empty kind cx v pair header none =
     let o = open_offer kind cx v pair header 0 0 in
     record { end = ends_near kind v.block o (omega (arith, none)); payload = lies_in kind v.queued o (omega arith) }
 
-pub may_syn : (cx : ContextValue) (v : TcpValue) (pair : EndpointPair) (header : TcpHeader) → v.block.sender.una.0 < 2 ^ 32 → header.seq_number ≡ v.block.sender.una → MayOpen v (open_offer Kind.Syn cx v pair header 0 0)
+pub may_syn : (cx : ContextValue) (v : TcpValue) (pair : EndpointPair) (header : TcpHeader) → v.block.sender.una.0 < 2 ^ 32 →
+    header.seq_number ≡ v.block.sender.una → MayOpen v (open_offer Kind.Syn cx v pair header 0 0)
 may_syn cx v pair header small at =
     let o = open_offer Kind.Syn cx v pair header 0 0 in
     let control = control_small header.control in

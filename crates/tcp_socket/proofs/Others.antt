@@ -1,5 +1,6 @@
 -- The two highest runs without a place, as they are found one by one.
-use Rattle.std.proofs.Common.{◌≡◌, ℕ, ◌&&◌, not, nat_le, nat_lt, Bool, true, false, if◌then◌else◌, List, [], ◌∷◌, ◌++◌, reverse, Option, Some, None, refl, sym, ap, ◌∙◌, arith}
+use Rattle.std.proofs.Common.{◌≡◌, ℕ, ◌&&◌, not, nat_le, nat_lt, Bool, true, false, if◌then◌else◌, List, [], ◌∷◌, ◌++◌, reverse, Option, Some, None, refl, sym}
+use Rattle.std.proofs.Common.{ap, ◌∙◌, arith}
 use Rattle.std.specs.Prelude.{filter}
 use Rattle.std.proofs.lemmas.List.{reverse-append}
 use Rattle.held_bytes.specs.Held.{runs_of}
@@ -30,7 +31,8 @@ top_none [] = refl
 top_none (a ∷ []) = refl
 top_none (a ∷ b ∷ runs) = refl
 
-told_top : (place : ℕ) (runs : List (ℕ × ℕ)) (highest second : Option (ℕ × ℕ)) → told_after place runs highest second ≡ top_two (others place runs) highest second
+told_top : (place : ℕ) (runs : List (ℕ × ℕ)) (highest second : Option (ℕ × ℕ)) →
+    told_after place runs highest second ≡ top_two (others place runs) highest second
 told_top place [] highest second = refl
 told_top place (run ∷ runs) highest second = by_run (lies_in place run) (told_top place runs highest second) (told_top place runs (Some run) highest) where
   rest : List (ℕ × ℕ)

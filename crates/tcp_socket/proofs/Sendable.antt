@@ -1,5 +1,6 @@
 -- What is offered can be sent: its lengths fit their fields.
-use Rattle.std.proofs.Common.{◌≡◌, ℕ, ◌+◌, ◌-◌, ◌==◌, ◌&&◌, ◌||◌, not, ◌^◌, ◌<◌, ◌≤◌, min, ℤ, Bool, true, false, List, [], ◌∷◌, length, take, drop, Option, Some, None, is_some, if◌then◌else◌, refl, ap, arith, length-drop}
+use Rattle.std.proofs.Common.{◌≡◌, ℕ, ◌+◌, ◌-◌, ◌==◌, ◌&&◌, ◌||◌, not, ◌^◌, ◌<◌, ◌≤◌, min, ℤ, Bool, true, false, List, [], ◌∷◌, length, take, drop, Option}
+use Rattle.std.proofs.Common.{Some, None, is_some, if◌then◌else◌, refl, ap, arith, length-drop}
 use Rattle.std.specs.Prelude.{IfSome}
 use Rattle.std.proofs.lemmas.List.{length-take}
 use Rattle.ip_wire.specs.Options.{padded, options_bytes, scale_options, permitted_options, stamp_options}
@@ -15,12 +16,14 @@ use Rattle.socket_base.specs.Packet as Carried
 use Rattle.tcp_model.specs.Blocks.{own_scale}
 use Rattle.tcp_model.specs.Moments.{is_due}
 use Rattle.tcp_model.specs.Endpoints.{header_for, ip_header_len}
-use Rattle.tcp_model.specs.Offers.{offer_segment, silent, number_at, offer_choice, offer_ack, offer_syn, offer_reset, offer_keep_alive, offer_held_back, last_rules, first_rules, backed_off, offer_between, offer_with, offer_of, payload_of, offered_packet}
+use Rattle.tcp_model.specs.Offers.{offer_segment, silent, number_at, offer_choice, offer_ack, offer_syn, offer_reset, offer_keep_alive, offer_held_back}
+use Rattle.tcp_model.specs.Offers.{last_rules, first_rules, backed_off, offer_between, offer_with, offer_of, payload_of, offered_packet}
 use Rattle.tcp_model.specs.Probing.{probe_started, probe_moment}
 use Rattle.tcp_model.specs.Calls.{listening}
 use Rattle.tcp_model.specs.Checks.{falls_back}
 use Rattle.tcp_model.specs.Retries.{gives_up, given_up}
-use Rattle.tcp_model.specs.Rules.{Choice, unbroken, stamp_len, size_limit, window_limit, next_place, time_wait_end, owes_syn, resends, ack_moment, has_text, text_choice, resend_choice, probe_choice, control_for, updates_window, keep_alive_moment, sent_places}
+use Rattle.tcp_model.specs.Rules.{Choice, unbroken, stamp_len, size_limit, window_limit, next_place, time_wait_end, owes_syn, resends, ack_moment, has_text}
+use Rattle.tcp_model.specs.Rules.{text_choice, resend_choice, probe_choice, control_for, updates_window, keep_alive_moment, sent_places}
 use Rattle.tcp_model.specs.Segments.{stamp_by, segment, ack_segment, syn_segment, reset_segment, keep_alive_segment, hops_of}
 use Rattle.tcp_model.specs.States.{is_closed}
 use Rattle.tcp_model.specs.Timeout.{timeout_end, timeout_started, timed_out}
@@ -46,7 +49,8 @@ fits_when true a b one other = one refl
 fits_when false a b one other = other refl
 
 -- a segment behind the header that is made for it
-sendable : (addresses : AddressPair) (hops n : ℕ) (header : TcpHeader) (bytes : List ℕ) → header_len header ≤ 60 → ip_header_len addresses + (header_len header + n) < 2 ^ 16 → length bytes ≡ n
+sendable : (addresses : AddressPair) (hops n : ℕ) (header : TcpHeader) (bytes : List ℕ) → header_len header ≤ 60 →
+    ip_header_len addresses + (header_len header + n) < 2 ^ 16 → length bytes ≡ n
     → IsSendable (packet_of (header_for addresses hops (header_len header + n)) (Carried.Segment header bytes))
 sendable (Pair.Ipv4 local remote) hops n header bytes short fits size = record {
   header = fits;
@@ -65,12 +69,14 @@ ip_header_small (Pair.Ipv6 local remote) = omega arith
 
 -- the length of a header with timestamps at most
 stamped_room : (on : Bool) (generator : Option TcpTimestampGenerator) (now : ℤ) (recent : ℕ)
-    → padded (0 + 0 + 0 + 0 + length (options_bytes (stamp_options (if on then stamp_by generator now recent else None)))) ≡ (if on && is_some generator then 12 else 0)
+    → padded (0 + 0 + 0 + 0 + length (options_bytes (stamp_options (if on then stamp_by generator now recent else None)))) ≡
+    (if on && is_some generator then 12 else 0)
 stamped_room true (Some generator) now recent = refl
 stamped_room true None now recent = refl
 stamped_room false generator now recent = refl
 
-segment_room : (b : Block) (pair : EndpointPair) (now : ℤ) (window : ℕ) (control : TcpControl) (seq : SeqNumber) → header_len (segment b pair now window control seq) ≡ 20 + stamp_len b
+segment_room : (b : Block) (pair : EndpointPair) (now : ℤ) (window : ℕ) (control : TcpControl) (seq : SeqNumber) →
+    header_len (segment b pair now window control seq) ≡ 20 + stamp_len b
 segment_room b pair now window control seq =
     ap (λ n. 20 + n) (stamped_room (b.peer.timestamps && b.sender.stamped) b.settings.timestamps now b.peer.recent)
 
@@ -90,7 +96,8 @@ permitted_room : (t : Bool) → length (options_bytes (permitted_options t)) ≤
 permitted_room true = omega arith
 permitted_room false = omega arith
 
-stamp_room : (t : Bool) (generator : Option TcpTimestampGenerator) (now : ℤ) (recent : ℕ) → length (options_bytes (stamp_options (if t then stamp_by generator now recent else None))) ≤ 10
+stamp_room : (t : Bool) (generator : Option TcpTimestampGenerator) (now : ℤ) (recent : ℕ) →
+    length (options_bytes (stamp_options (if t then stamp_by generator now recent else None))) ≤ 10
 stamp_room true (Some generator) now recent = omega arith
 stamp_room true None now recent = omega arith
 stamp_room false generator now recent = omega arith
@@ -109,7 +116,9 @@ fits_segment : (kind : OfferKind) (cx : ContextValue) (v : TcpValue) (pair : End
 fits_segment kind cx v pair header place len bytes is size short fits =
     rw is (sendable pair.addresses (hops_of v.block.settings.hop_limit) len header bytes short fits size)
 
-fits_ack : (kind : OfferKind) (cx : ContextValue) (v : TcpValue) (pair : EndpointPair) → payload_of (open_offer kind cx v pair (ack_segment v.block pair cx.moment (window_of v)) 0 0) kind v.queued.queue ≡ [] → Fits (offer_ack kind cx v pair).socket
+fits_ack : (kind : OfferKind) (cx : ContextValue) (v : TcpValue) (pair : EndpointPair) →
+    payload_of (open_offer kind cx v pair (ack_segment v.block pair cx.moment (window_of v)) 0 0) kind v.queued.queue ≡ [] →
+    Fits (offer_ack kind cx v pair).socket
 fits_ack kind cx v pair is =
     let header = ack_segment v.block pair cx.moment (window_of v) in
     let room = segment_room v.block pair cx.moment (window_of v) header.control header.seq_number in
@@ -145,7 +154,8 @@ length-part queue place len fits = rw (length-take, length-drop) (omega (arith, 
 
 -- a part of the send queue that is as long as the rules allow, or one byte
 fits_choice : (kind : OfferKind) (cx : ContextValue) (v : TcpValue) (pair : EndpointPair) (c : Choice)
-    → payload_of (open_offer kind cx v pair (segment v.block pair cx.moment (window_of v) (control_for c (queued_in v)) (number_at v.block c.place)) c.place c.len) kind v.queued.queue ≡ take c.len (drop c.place v.queued.queue)
+    → payload_of (open_offer kind cx v pair (segment v.block pair cx.moment (window_of v) (control_for c (queued_in v)) (number_at v.block c.place)) c.place
+    c.len) kind v.queued.queue ≡ take c.len (drop c.place v.queued.queue)
     → c.len ≤ unbroken v.queued c.place → ip_header_len pair.addresses + (20 + stamp_len v.block + c.len) < 2 ^ 16 → Fits (offer_choice kind cx v pair c).socket
 fits_choice kind cx v pair c is lies small =
     let header = segment v.block pair cx.moment (window_of v) (control_for c (queued_in v)) (number_at v.block c.place) in
@@ -155,33 +165,38 @@ fits_choice kind cx v pair c is lies small =
     (length-part v.queued.queue c.place c.len (omega (arith, lies))) (omega (arith, room, stamp)) (omega (arith, room, small))
 
 -- as many bytes as the size limit allows
-fits_limit : (b : Block) (addresses : AddressPair) (ip_mtu len : ℕ) → len ≤ size_limit b addresses ip_mtu → ip_header_len addresses + (20 + stamp_len b + len) < 2 ^ 16
+fits_limit : (b : Block) (addresses : AddressPair) (ip_mtu len : ℕ) → len ≤ size_limit b addresses ip_mtu →
+    ip_header_len addresses + (20 + stamp_len b + len) < 2 ^ 16
 fits_limit b addresses ip_mtu len fits =
     let stamp = stamp_len_small b in
     let ip = ip_header_small addresses in
     omega (arith, fits, stamp, ip)
 
-fits_text : (cx : ContextValue) (v : TcpValue) (pair : EndpointPair) → Fits (offer_choice Kind.Text cx v pair (text_choice v.block pair.addresses cx.ip_mtu v.queued)).socket
+fits_text : (cx : ContextValue) (v : TcpValue) (pair : EndpointPair) →
+    Fits (offer_choice Kind.Text cx v pair (text_choice v.block pair.addresses cx.ip_mtu v.queued)).socket
 fits_text cx v pair =
     let most = min (size_limit v.block pair.addresses cx.ip_mtu) (unbroken v.queued (next_place v.block)) in
     let least = window_small v.block most in
     fits_choice Kind.Text cx v pair (text_choice v.block pair.addresses cx.ip_mtu v.queued) refl (omega (arith, least))
     (fits_limit v.block pair.addresses cx.ip_mtu (window_limit v.block most) (omega (arith, least)))
 
-fits_resent : (cx : ContextValue) (v : TcpValue) (pair : EndpointPair) → Fits (offer_choice Kind.FastRetransmission cx v pair (resend_choice v.block pair.addresses cx.ip_mtu v.queued)).socket
+fits_resent : (cx : ContextValue) (v : TcpValue) (pair : EndpointPair) →
+    Fits (offer_choice Kind.FastRetransmission cx v pair (resend_choice v.block pair.addresses cx.ip_mtu v.queued)).socket
 fits_resent cx v pair =
     let len = min (sent_places v.block) (min (size_limit v.block pair.addresses cx.ip_mtu) (unbroken v.queued 0)) in
     fits_choice Kind.FastRetransmission cx v pair (resend_choice v.block pair.addresses cx.ip_mtu v.queued) refl (omega arith)
     (fits_limit v.block pair.addresses cx.ip_mtu len (omega arith))
 
-fits_probe : (cx : ContextValue) (v : TcpValue) (pair : EndpointPair) → is_due cx.moment (probe_moment v.block (queued_in v)) ≡ true → Fits (offer_choice Kind.Probe cx v pair probe_choice).socket
+fits_probe : (cx : ContextValue) (v : TcpValue) (pair : EndpointPair) → is_due cx.moment (probe_moment v.block (queued_in v)) ≡ true →
+    Fits (offer_choice Kind.Probe cx v pair probe_choice).socket
 fits_probe cx v pair due =
     let part = part_of_probe v cx.moment due in
     let stamp = stamp_len_small v.block in
     let ip = ip_header_small pair.addresses in
     fits_choice Kind.Probe cx v pair probe_choice refl part.unbroken (omega (arith, stamp, ip))
 
-fits_held : (cx : ContextValue) (v : TcpValue) (pair : EndpointPair) → is_due cx.moment (probe_moment v.block (queued_in v)) ≡ true → Fits (offer_held_back cx v pair).socket
+fits_held : (cx : ContextValue) (v : TcpValue) (pair : EndpointPair) → is_due cx.moment (probe_moment v.block (queued_in v)) ≡ true →
+    Fits (offer_held_back cx v pair).socket
 fits_held cx v pair due =
     fits_when (v.block.peer.window == 0) (offer_choice Kind.Probe cx v pair probe_choice)
     (offer_choice Kind.Text cx v pair (text_choice v.block pair.addresses cx.ip_mtu v.queued)) (λ _. fits_probe cx v pair due) (λ _. fits_text cx v pair)
@@ -214,7 +229,8 @@ fits_first cx v pair none =
     fits_last cx probing pair none)))
 
 none_up : (v : TcpValue) → v.offered ≡ None → (given_up v).offered ≡ None
-none_up v none = elim (falls_back v.block) as (λ t. (if t then listening v v.block.names.listen else with_block v (timed_out v.block)).offered ≡ None) [ true ↦ refl | false ↦ none ]
+none_up v none = elim (falls_back v.block) as (λ t. (if t then listening v v.block.names.listen else with_block v (timed_out v.block)).offered ≡
+    None) [ true ↦ refl | false ↦ none ]
 
 fits_between : (cx : ContextValue) (v : TcpValue) (pair : EndpointPair) → v.offered ≡ None → Fits (offer_between cx v pair).socket
 fits_between cx v pair none =

@@ -1,5 +1,6 @@
 -- What each step keeps of a socket's invariant.
-use Rattle.std.proofs.Common.{◌≡◌, ℕ, ◌-◌, ◌==◌, ◌≤◌, min, Bool, true, false, List, ◌++◌, length, take, Option, Some, None, Ok, if◌then◌else◌, refl, arith, length-append, length-drop}
+use Rattle.std.proofs.Common.{◌≡◌, ℕ, ◌-◌, ◌==◌, ◌≤◌, min, Bool, true, false, List, ◌++◌, length, take, Option, Some, None, Ok, if◌then◌else◌, refl, arith}
+use Rattle.std.proofs.Common.{length-append, length-drop}
 use Rattle.std.specs.Prelude.{IfSome, ℤ}
 use Rattle.std.proofs.lemmas.List.{length-take-le, length-take}
 use Rattle.net_base.specs.Ring.{Ring, capacity, rotated, cleared, anchored, overwritten, extended, enqueued, released, contiguous}
@@ -45,13 +46,15 @@ free_anchored r =
     ]
 
 -- as many bytes queued as there is room for
-pub fits_queued : (r : Ring ℕ) (n : ℕ) (bytes : List ℕ) → n ≡ min (length bytes) (length r.free) → FitsBuffer r → FitsBuffer (enqueued (anchored r) (take n bytes))
+pub fits_queued : (r : Ring ℕ) (n : ℕ) (bytes : List ℕ) → n ≡ min (length bytes) (length r.free) → FitsBuffer r →
+    FitsBuffer (enqueued (anchored r) (take n bytes))
 fits_queued r n bytes size fits =
     let room = free_anchored r in
     fits_enqueued (anchored r) (take n bytes) (rw length-take (omega (arith, size, room))) (fits_anchored r fits)
 
 -- bytes that were written to what `send` lends, of which so many are queued
-pub fits_sent : (r : Ring ℕ) (left : List ℕ) (n : ℕ) → length left ≡ contiguous (anchored r) → FitsBuffer r → FitsBuffer (extended (overwritten (anchored r) 0 left) n)
+pub fits_sent : (r : Ring ℕ) (left : List ℕ) (n : ℕ) → length left ≡ contiguous (anchored r) → FitsBuffer r →
+    FitsBuffer (extended (overwritten (anchored r) 0 left) n)
 fits_sent r left n size fits =
     let within : length left ≤ length (anchored r).free = omega (arith, size) in
     fits_extended (overwritten (anchored r) 0 left) n (fits_overwritten (anchored r) left within (fits_anchored r fits))
@@ -81,7 +84,8 @@ kept_if false a b is other = other
 -- the user timeout starts, and the retransmission timer may have run out
 pub kept_going : (b : Block) (now : ℤ) (queued : ℕ) → IsMoment now → IsBlock b → IsBlock (backed_off now (timeout_started now queued b))
 kept_going b now queued moment is =
-    let started : IsBlock (timeout_started now queued b) = record { start = start_made (is_timeout_unset b queued) now b.timers.timeout_since moment is.start; mss = is.mss } in
+    let started : IsBlock (timeout_started now queued b) =
+    record { start = start_made (is_timeout_unset b queued) now b.timers.timeout_since moment is.start; mss = is.mss } in
     let went : IsBlock (backed_off_now (timeout_started now queued b)) = record { start = started.start; mss = is.mss } in
     kept_if (is_due now b.timers.retransmit_at) (backed_off_now (timeout_started now queued b)) (timeout_started now queued b) went started
 

@@ -1,5 +1,6 @@
 -- The steps of an arrival, as its functions join them.
-use Rattle.std.proofs.Common.{◌≡◌, ℕ, ◌-◌, ◌==◌, ◌&&◌, not, nat_lt, ◌<◌, ◌≤◌, ◌^◌, min, nat_le, Bool, true, false, ℤ, List, [], length, take, drop, Option, Some, None, if◌then◌else◌, refl, sym, ap, subst, ◌∙◌, arith}
+use Rattle.std.proofs.Common.{◌≡◌, ℕ, ◌-◌, ◌==◌, ◌&&◌, not, nat_lt, ◌<◌, ◌≤◌, ◌^◌, min, nat_le, Bool, true, false, ℤ, List, [], length, take, drop, Option}
+use Rattle.std.proofs.Common.{Some, None, if◌then◌else◌, refl, sym, ap, subst, ◌∙◌, arith}
 use Rattle.std.specs.Prelude.{IfSome}
 use Rattle.std.proofs.lemmas.Bool.Decides.{nat_tests}
 use Rattle.net_base.specs.Ring.{Ring}
@@ -35,7 +36,8 @@ abbrev pub value_of : Block → Received → Ring ℕ → Option OpenOffer → T
 value_of b r q o = record { block = b; received = r; queued = q; offered = o }
 
 -- RCV.NXT rises by no more than there is room for
-pub advance_small : (v : TcpValue) (r : Received) (b : Block) (q : Ring ℕ) (o : Option OpenOffer) (bytes : List ℕ) (n : ℕ) → value_of b r q o ≡ v → length v.received.map ≤ 2 ^ 30 → n ≡ length (front (store r.map 0 bytes)) → n ≤ 2 ^ 30
+pub advance_small : (v : TcpValue) (r : Received) (b : Block) (q : Ring ℕ) (o : Option OpenOffer) (bytes : List ℕ) (n : ℕ) → value_of b r q o ≡ v →
+    length v.received.map ≤ 2 ^ 30 → n ≡ length (front (store r.map 0 bytes)) → n ≤ 2 ^ 30
 advance_small v r b q o bytes n is small count =
     let room : length r.map ≤ 2 ^ 30 = subst (λ (w : TcpValue). length w.received.map ≤ 2 ^ 30) (sym is) small in
     let laid = length-store r.map 0 bytes in
@@ -52,24 +54,30 @@ below : (place free : ℕ) → place < free → nat_lt place free ≡ true
 below place free h = grind (arith, nat_tests, h)
 
 -- bytes that are cut at the end of the window
-pub text_at : (v : TcpValue) (place n : ℕ) (bytes : List ℕ) (t : Texted) → takes_text v.block.state ≡ true → (length bytes == 0) ≡ false → place < free_in v → n ≡ min (length bytes) (free_in v - place) → t ≡ with_bytes_at v place (take n bytes) → t ≡ with_text_at v place bytes
+pub text_at : (v : TcpValue) (place n : ℕ) (bytes : List ℕ) (t : Texted) → takes_text v.block.state ≡ true → (length bytes == 0) ≡ false → place < free_in v →
+    n ≡ min (length bytes) (free_in v - place) → t ≡ with_bytes_at v place (take n bytes) → t ≡ with_text_at v place bytes
 text_at v place n bytes t takes some fits n_is is =
     is
     ∙ ap (λ (map : List (Option ℕ)). if place == 0 then taken_in_order v map else held_early v place map) (stored_cut v.received.map place n bytes n_is)
-    ∙ new_text (takes_text v.block.state) (length bytes == 0) (nat_lt place (free_in v)) (with_bytes_at v place bytes) (texted v 0 false None) takes some (below place (free_in v) fits)
+    ∙ new_text (takes_text v.block.state) (length bytes == 0) (nat_lt place (free_in v)) (with_bytes_at v place bytes) (texted v 0 false None) takes some
+    (below place (free_in v) fits)
 
 -- what a step answers and leaves
 pub record Leads (a : Arrived) (reply : Option Reply) (after : TcpValue) : Type 0 where
   pub answer : reply ≡ a.answer
   pub socket : after ≡ a.socket
 
-pub leads_to : (F : TcpValue → Arrived) (w w' : TcpValue) (answer : Option Reply) (socket : TcpValue) → w ≡ w' → answer ≡ (F w).answer → socket ≡ (F w).socket → Leads (F w') answer socket
+pub leads_to : (F : TcpValue → Arrived) (w w' : TcpValue) (answer : Option Reply) (socket : TcpValue) → w ≡ w' → answer ≡ (F w).answer → socket ≡ (F w).socket →
+    Leads (F w') answer socket
 leads_to F w w' answer socket is a s = subst (λ (x : TcpValue). Leads (F x) answer socket) is (record { answer = a; socket = s })
 
 -- the FIN is taken, and then the probe's moment may end
-pub finish_leads : (cx : ContextValue) (next : SeqNumber) (b b2 : Block) (r : Received) (q : Ring ℕ) (o : Option OpenOffer) (v w : TcpValue) (advance : ℕ) (fills : Bool) (early : Option ℕ) (ip : IpRepr) (header : TcpHeader) (size n : ℕ) (now : ℤ) (answer : Option Reply) (socket : TcpValue)
-    → value_of b r q o ≡ w → now ≡ cx.moment → n ≡ length q.queue → w ≡ with_block v (with_fin v.block (next_at v.block next) header size advance now) → b2 ≡ probe_kept b n
-    → answer ≡ (answer_for cx (value_of b2 r q o) ip header size fills early).answer → socket ≡ (answer_for cx (value_of b2 r q o) ip header size fills early).socket
+pub finish_leads : (cx : ContextValue) (next : SeqNumber) (b b2 : Block) (r : Received) (q : Ring ℕ) (o : Option OpenOffer) (v w : TcpValue) (advance : ℕ)
+    (fills : Bool) (early : Option ℕ) (ip : IpRepr) (header : TcpHeader) (size n : ℕ) (now : ℤ) (answer : Option Reply) (socket : TcpValue)
+    → value_of b r q o ≡ w → now ≡ cx.moment → n ≡ length q.queue → w ≡ with_block v (with_fin v.block (next_at v.block next) header size advance now) →
+    b2 ≡ probe_kept b n
+    → answer ≡ (answer_for cx (value_of b2 r q o) ip header size fills early).answer →
+    socket ≡ (answer_for cx (value_of b2 r q o) ip header size fills early).socket
     → Leads (finished cx (next_at v.block next) (texted v advance fills early) ip header size) answer socket
 finish_leads cx next b b2 r q o v w advance fills early ip header size n now answer socket is now_is n_is w_is b2_is a s =
     let moved : b2 ≡ probe_kept b (length q.queue) = rw (b2_is, n_is) refl in
@@ -86,16 +94,21 @@ finish_leads cx next b b2 r q o v w advance fills early ip header size n now ans
 
 state_held : (v : TcpValue) (place : ℕ) (map : List (Option ℕ)) → (held_early v place map).socket.block.state ≡ v.block.state
 state_held v place map =
-    elim (nat_le (length (runs_of map)) 4) as (λ t. (if t then texted (record v { received = received_of v.received.waiting map v.received.start }) 0 false (Some place) else texted v 0 false None).socket.block.state ≡ v.block.state) [ true ↦ refl | false ↦ refl ]
+    elim (nat_le (length (runs_of map)) 4) as
+    (λ t. (if t then texted (record v { received = received_of v.received.waiting map v.received.start }) 0 false (Some place) else texted v 0 false
+    None).socket.block.state ≡ v.block.state) [ true ↦ refl | false ↦ refl ]
 
 state_bytes : (v : TcpValue) (place : ℕ) (bytes : List ℕ) → (with_bytes_at v place bytes).socket.block.state ≡ v.block.state
 state_bytes v place bytes =
     let map = laid v place bytes in
-    elim (place == 0) as (λ t. (if t then taken_in_order v map else held_early v place map).socket.block.state ≡ v.block.state) [ true ↦ refl | false ↦ state_held v place map ]
+    elim (place == 0) as (λ t. (if t then taken_in_order v map else held_early v place map).socket.block.state ≡
+    v.block.state) [ true ↦ refl | false ↦ state_held v place map ]
 
 state_text : (v : TcpValue) (place : ℕ) (bytes : List ℕ) → (with_text_at v place bytes).socket.block.state ≡ v.block.state
 state_text v place bytes =
-    elim (takes_text v.block.state && has_new_text v place bytes) as (λ t. (if t then with_bytes_at v place bytes else texted v 0 false None).socket.block.state ≡ v.block.state) [ true ↦ state_bytes v place bytes | false ↦ refl ]
+    elim (takes_text v.block.state && has_new_text v place bytes) as
+    (λ t. (if t then with_bytes_at v place bytes else texted v 0 false None).socket.block.state ≡
+    v.block.state) [ true ↦ state_bytes v place bytes | false ↦ refl ]
 
 -- the FIN is taken by the state and RCV.NXT alone
 abbrev fin_by : ContextValue → State → SeqNumber → Texted → IpRepr → TcpHeader → ℕ → Arrived
@@ -103,9 +116,11 @@ fin_by cx state next t ip header size =
     finished cx (record (next_at t.socket.block next) { state = state }) t ip header size
 
 -- the text is taken, then the FIN
-pub content_leads : (cx : ContextValue) (next : SeqNumber) (v w : TcpValue) (advance : ℕ) (fills : Bool) (early : Option ℕ) (ip : IpRepr) (header : TcpHeader) (bytes : List ℕ) (answer : Option Reply) (socket : TcpValue)
+pub content_leads : (cx : ContextValue) (next : SeqNumber) (v w : TcpValue) (advance : ℕ) (fills : Bool) (early : Option ℕ) (ip : IpRepr) (header : TcpHeader)
+    (bytes : List ℕ) (answer : Option Reply) (socket : TcpValue)
     → next ≡ v.block.receiver.next → texted w advance fills early ≡ with_text v header bytes
-    → answer ≡ (finished cx (next_at w.block next) (texted w advance fills early) ip header (length bytes)).answer → socket ≡ (finished cx (next_at w.block next) (texted w advance fills early) ip header (length bytes)).socket
+    → answer ≡ (finished cx (next_at w.block next) (texted w advance fills early) ip header (length bytes)).answer →
+    socket ≡ (finished cx (next_at w.block next) (texted w advance fills early) ip header (length bytes)).socket
     → Leads (finished cx v.block (with_text v header bytes) ip header (length bytes)) answer socket
 content_leads cx next v w advance fills early ip header bytes answer socket next_is text a s =
     let size = length bytes in
@@ -119,14 +134,17 @@ content_leads cx next v w advance fills early ip header bytes answer socket next
     let state = state_text v (past_by v.block.receiver.next header.seq_number) (drop (before_by v.block.receiver.next header.seq_number) bytes) in
     subst (λ (x : State). Leads (fin_by cx x v.block.receiver.next t ip header size) answer socket) state second
 
-if_open : (closed : Bool) (a b : Arrived) (answer : Option Reply) (socket : TcpValue) → closed ≡ false → Leads b answer socket → Leads (if closed then a else b) answer socket
+if_open : (closed : Bool) (a b : Arrived) (answer : Option Reply) (socket : TcpValue) → closed ≡ false → Leads b answer socket →
+    Leads (if closed then a else b) answer socket
 if_open true a b answer socket is leads = absurd (cc)
 if_open false a b answer socket is leads = leads
 
 -- the window is taken, then text and FIN
-pub rest_leads : (cx : ContextValue) (duplicates : ℕ) (v w : TcpValue) (ip : IpRepr) (header : TcpHeader) (bytes : List ℕ) (answer : Option Reply) (socket : TcpValue)
+pub rest_leads : (cx : ContextValue) (duplicates : ℕ) (v w : TcpValue) (ip : IpRepr) (header : TcpHeader) (bytes : List ℕ) (answer : Option Reply)
+    (socket : TcpValue)
     → is_closed v.block.state ≡ false → w ≡ told v header duplicates cx.moment
-    → answer ≡ (finished cx w.block (with_text w header bytes) ip header (length bytes)).answer → socket ≡ (finished cx w.block (with_text w header bytes) ip header (length bytes)).socket
+    → answer ≡ (finished cx w.block (with_text w header bytes) ip header (length bytes)).answer →
+    socket ≡ (finished cx w.block (with_text w header bytes) ip header (length bytes)).socket
     → Leads (continued_by cx duplicates v ip header bytes) answer socket
 rest_leads cx duplicates v w ip header bytes answer socket opened w_is a s =
     let counts = told v header duplicates cx.moment in
@@ -134,7 +152,8 @@ rest_leads cx duplicates v w ip header bytes answer socket opened w_is a s =
     if_open (is_closed v.block.state) (dropped v) (finished cx counts.block (with_text counts header bytes) ip header (length bytes)) answer socket opened first
 
 -- the acknowledgement is taken, then the rest
-pub taken_leads : (cx : ContextValue) (duplicates : ℕ) (v w : TcpValue) (now : ℤ) (ip : IpRepr) (header : TcpHeader) (bytes : List ℕ) (by : ℕ) (answer : Option Reply) (socket : TcpValue)
+pub taken_leads : (cx : ContextValue) (duplicates : ℕ) (v w : TcpValue) (now : ℤ) (ip : IpRepr) (header : TcpHeader) (bytes : List ℕ) (by : ℕ)
+    (answer : Option Reply) (socket : TcpValue)
     → duplicates ≡ duplicates_after v.block header (length bytes) by → now ≡ cx.moment → w ≡ acknowledged v by now
     → answer ≡ (continued_by cx duplicates w ip header bytes).answer → socket ≡ (continued_by cx duplicates w ip header bytes).socket
     → Leads (taken cx v ip header bytes by) answer socket
@@ -143,10 +162,12 @@ taken_leads cx duplicates v w now ip header bytes by answer socket count now_is 
     let first : Leads (continued_by cx (duplicates_after v.block header (length bytes) by) w ip header bytes) answer socket =
     subst (λ (n : ℕ). Leads (continued_by cx n w ip header bytes) answer socket) count (record { answer = a; socket = s })
     in
-    leads_to (λ (x : TcpValue). continued_by cx (duplicates_after v.block header (length bytes) by) x ip header bytes) w (acknowledged v by cx.moment) answer socket acked first.answer first.socket
+    leads_to (λ (x : TcpValue). continued_by cx (duplicates_after v.block header (length bytes) by) x ip header bytes) w (acknowledged v by cx.moment) answer
+    socket acked first.answer first.socket
 
 -- no word is drawn but in LISTEN
-pub quiet_in : (state : State) (cx : ContextValue) (v : TcpValue) (ip : IpRepr) (header : TcpHeader) (bytes : List ℕ) → (state ≡ In.Listen → ⊥) → (arrives_in state cx v ip header bytes).draws ≡ false
+pub quiet_in : (state : State) (cx : ContextValue) (v : TcpValue) (ip : IpRepr) (header : TcpHeader) (bytes : List ℕ) → (state ≡ In.Listen → ⊥) →
+    (arrives_in state cx v ip header bytes).draws ≡ false
 quiet_in In.Closed cx v ip header bytes not_listen = refl
 quiet_in In.Listen cx v ip header bytes not_listen = absurd (not_listen refl)
 quiet_in In.SynSent cx v ip header bytes not_listen = takes_answer_draws cx v ip header bytes
@@ -162,13 +183,15 @@ pub later_leads : (cx : ContextValue) (v : TcpValue) (ip : IpRepr) (header : Tcp
     → answer ≡ (received cx v ip header bytes).answer → socket ≡ (received cx v ip header bytes).socket
     → Leads (arrives_in v.block.state cx v ip header bytes) answer socket
 later_leads cx v ip header bytes answer socket closed listens opens a s =
-    subst (λ (x : Arrived). Leads x answer socket) (sym (later_arrives v.block.state cx v ip header bytes closed listens opens)) (record { answer = a; socket = s })
+    subst (λ (x : Arrived). Leads x answer socket) (sym (later_arrives v.block.state cx v ip header bytes closed listens opens))
+    (record { answer = a; socket = s })
 
 -- an answer that is handed out
 some_reply : (x y : Reply) → Some x ≡ Some y → x ≡ y
 some_reply x y is = cc
 
-pub sent_out : (r : IpRepr × TcpRepr) (reply : Reply) (o : Option Reply) → replies_in (Some r) ≡ Some reply → r.1.payload.now ≡ [] → o ≡ Some reply → IfSome o (λ x. IsSendable (packet_in x)) → IsSendable (packet_with r)
+pub sent_out : (r : IpRepr × TcpRepr) (reply : Reply) (o : Option Reply) → replies_in (Some r) ≡ Some reply → r.1.payload.now ≡ [] → o ≡ Some reply →
+    IfSome o (λ x. IsSendable (packet_in x)) → IsSendable (packet_with r)
 sent_out r reply o is bare some sendable =
     let at : IsSendable (packet_in reply) = subst (λ (x : Option Reply). IfSome x (λ y. IsSendable (packet_in y))) some sendable in
     let same : record { header = r.0; segment = header_of r.1 } ≡ reply = some_reply (record { header = r.0; segment = header_of r.1 }) reply is in

@@ -6,7 +6,8 @@ ghost use Rattle.socket_base.specs.Packet.{IsSendable};
 ghost use Rattle.ip_wire.specs.Tcp.{header_of};
 ghost use Rattle.tcp_model.specs.Acknowledged.{acknowledged};
 ghost use Rattle.tcp_model.specs.Answers.{ack_recorded, drawn, ranges_held, answer_for};
-ghost use Rattle.tcp_model.specs.Arrival.{waiting_anew, outside, tells_news, passed_outside, finished, told, taken, inside, checked, challenges_reset, reset_comes, received, is_void_syn, arrives_in, arrives};
+ghost use Rattle.tcp_model.specs.Arrival.{waiting_anew, outside, tells_news, passed_outside, finished, told, taken, inside, checked, challenges_reset};
+ghost use Rattle.tcp_model.specs.Arrival.{reset_comes, received, is_void_syn, arrives_in, arrives};
 ghost use Rattle.tcp_model.specs.Checks.{acknowledgement_check, taken_down};
 ghost use Rattle.tcp_model.specs.Checks.Check.{Passes, Old};
 ghost use Rattle.tcp_model.specs.Names.{accepts};
@@ -63,7 +64,8 @@ impl Socket {
         ensures sendable { IfSome result (λ r. IsSendable (packet_with r)) }
         ensures answer { replies_in result ≡ (arrives (C.context cx.old) self.old ip_repr.now (header_of repr.now) repr.now.payload.now).answer }
         ensures socket { self.new ≡ (arrives (C.context cx.old) self.old ip_repr.now (header_of repr.now) repr.now.payload.now).socket }
-        ensures drawn { cx.new ≡ (if (arrives (C.context cx.old) self.old ip_repr.now (header_of repr.now) repr.now.payload.now).draws then C.drawn cx.old else cx.old) }
+        ensures drawn { cx.new ≡
+            (if (arrives (C.context cx.old) self.old ip_repr.now (header_of repr.now) repr.now.payload.now).draws then C.drawn cx.old else cx.old) }
     {
         let incoming = Incoming {
             ip_repr,
@@ -112,9 +114,12 @@ impl Socket {
     }
 
     fn arrive<C: Context>(&mut self, cx: &mut C, incoming: &Incoming<'_>) -> Option<Due>
-        ensures answer { answer_of result (C.context cx.old).moment self.new incoming.now.ip_repr.now incoming.now.header (length incoming.now.bytes.now) ≡ (arrives (C.context cx.old) self.old incoming.now.ip_repr.now incoming.now.header incoming.now.bytes.now).answer }
+        ensures answer { answer_of result (C.context cx.old).moment self.new incoming.now.ip_repr.now incoming.now.header (length incoming.now.bytes.now) ≡
+            (arrives (C.context cx.old) self.old incoming.now.ip_repr.now incoming.now.header incoming.now.bytes.now).answer }
         ensures socket { self.new ≡ (arrives (C.context cx.old) self.old incoming.now.ip_repr.now incoming.now.header incoming.now.bytes.now).socket }
-        ensures drawn { cx.new ≡ (if (arrives (C.context cx.old) self.old incoming.now.ip_repr.now incoming.now.header incoming.now.bytes.now).draws then C.drawn cx.old else cx.old) }
+        ensures drawn { cx.new ≡
+            (if (arrives (C.context cx.old) self.old incoming.now.ip_repr.now incoming.now.header incoming.now.bytes.now).draws then C.drawn cx.old
+            else cx.old) }
     {
         self.unoffer();
         if is_void_syn(&incoming.header) {
@@ -128,9 +133,13 @@ impl Socket {
     fn arrive_in_state<C: Context>(&mut self, cx: &mut C, incoming: &Incoming<'_>) -> Option<Due>
         requires unoffered { self.old.offered ≡ None }
         requires sized { is_void_syn incoming.now.header ≡ false }
-        ensures answer { answer_of result (C.context cx.old).moment self.new incoming.now.ip_repr.now incoming.now.header (length incoming.now.bytes.now) ≡ (arrives_in self.old.block.state (C.context cx.old) self.old incoming.now.ip_repr.now incoming.now.header incoming.now.bytes.now).answer }
-        ensures socket { self.new ≡ (arrives_in self.old.block.state (C.context cx.old) self.old incoming.now.ip_repr.now incoming.now.header incoming.now.bytes.now).socket }
-        ensures drawn { cx.new ≡ (if (arrives_in self.old.block.state (C.context cx.old) self.old incoming.now.ip_repr.now incoming.now.header incoming.now.bytes.now).draws then C.drawn cx.old else cx.old) }
+        ensures answer { answer_of result (C.context cx.old).moment self.new incoming.now.ip_repr.now incoming.now.header (length incoming.now.bytes.now) ≡
+            (arrives_in self.old.block.state (C.context cx.old) self.old incoming.now.ip_repr.now incoming.now.header incoming.now.bytes.now).answer }
+        ensures socket { self.new ≡
+            (arrives_in self.old.block.state (C.context cx.old) self.old incoming.now.ip_repr.now incoming.now.header incoming.now.bytes.now).socket }
+        ensures drawn { cx.new ≡
+            (if (arrives_in self.old.block.state (C.context cx.old) self.old incoming.now.ip_repr.now incoming.now.header incoming.now.bytes.now).draws
+            then C.drawn cx.old else cx.old) }
     {
         match self.block.state {
             State::Closed => None,
@@ -144,7 +153,8 @@ impl Socket {
     fn take_first<C: Context>(&mut self, cx: &mut C, incoming: &Incoming<'_>) -> Option<Due>
         requires unoffered { self.old.offered ≡ None }
         requires sized { is_void_syn incoming.now.header ≡ false }
-        ensures answer { answer_of result (C.context cx.old).moment self.new incoming.now.ip_repr.now incoming.now.header (length incoming.now.bytes.now) ≡ (opens (C.context cx.old) self.old incoming.now.ip_repr.now incoming.now.header).answer }
+        ensures answer { answer_of result (C.context cx.old).moment self.new incoming.now.ip_repr.now incoming.now.header (length incoming.now.bytes.now) ≡
+            (opens (C.context cx.old) self.old incoming.now.ip_repr.now incoming.now.header).answer }
         ensures socket { self.new ≡ (opens (C.context cx.old) self.old incoming.now.ip_repr.now incoming.now.header).socket }
         ensures drawn { cx.new ≡ (if (opens (C.context cx.old) self.old incoming.now.ip_repr.now incoming.now.header).draws then C.drawn cx.old else cx.old) }
     {
@@ -162,7 +172,8 @@ impl Socket {
     fn take_answer<C: Context>(&mut self, cx: &C, incoming: &Incoming<'_>) -> Option<Due>
         requires unoffered { self.old.offered ≡ None }
         requires sized { is_void_syn incoming.now.header ≡ false }
-        ensures answer { answer_of result (C.context cx.now).moment self.new incoming.now.ip_repr.now incoming.now.header (length incoming.now.bytes.now) ≡ (takes_answer (C.context cx.now) self.old incoming.now.ip_repr.now incoming.now.header incoming.now.bytes.now).answer }
+        ensures answer { answer_of result (C.context cx.now).moment self.new incoming.now.ip_repr.now incoming.now.header (length incoming.now.bytes.now) ≡
+            (takes_answer (C.context cx.now) self.old incoming.now.ip_repr.now incoming.now.header incoming.now.bytes.now).answer }
         ensures socket { self.new ≡ (takes_answer (C.context cx.now) self.old incoming.now.ip_repr.now incoming.now.header incoming.now.bytes.now).socket }
     {
         let (now, header) = (cx.now(), incoming.header);
@@ -186,7 +197,8 @@ impl Socket {
     /// From SYN-RECEIVED on.
     fn receive<C: Context>(&mut self, cx: &C, incoming: &Incoming<'_>) -> Option<Due>
         requires unoffered { self.old.offered ≡ None }
-        ensures answer { answer_of result (C.context cx.now).moment self.new incoming.now.ip_repr.now incoming.now.header (length incoming.now.bytes.now) ≡ (received (C.context cx.now) self.old incoming.now.ip_repr.now incoming.now.header incoming.now.bytes.now).answer }
+        ensures answer { answer_of result (C.context cx.now).moment self.new incoming.now.ip_repr.now incoming.now.header (length incoming.now.bytes.now) ≡
+            (received (C.context cx.now) self.old incoming.now.ip_repr.now incoming.now.header incoming.now.bytes.now).answer }
         ensures socket { self.new ≡ (received (C.context cx.now) self.old incoming.now.ip_repr.now incoming.now.header incoming.now.bytes.now).socket }
     {
         if is_rst(incoming.header.control) {
@@ -201,8 +213,10 @@ impl Socket {
     /// A reset counts at RCV.NXT alone. Elsewhere in the window it is challenged.
     fn take_reset<C: Context>(&mut self, cx: &C, incoming: &Incoming<'_>) -> Option<Due>
         requires unoffered { self.old.offered ≡ None }
-        ensures answer { answer_of result (C.context cx.now).moment self.new incoming.now.ip_repr.now incoming.now.header (length incoming.now.bytes.now) ≡ (reset_comes (C.context cx.now) self.old incoming.now.ip_repr.now incoming.now.header (length incoming.now.bytes.now)).answer }
-        ensures socket { self.new ≡ (reset_comes (C.context cx.now) self.old incoming.now.ip_repr.now incoming.now.header (length incoming.now.bytes.now)).socket }
+        ensures answer { answer_of result (C.context cx.now).moment self.new incoming.now.ip_repr.now incoming.now.header (length incoming.now.bytes.now) ≡
+            (reset_comes (C.context cx.now) self.old incoming.now.ip_repr.now incoming.now.header (length incoming.now.bytes.now)).answer }
+        ensures socket { self.new ≡
+            (reset_comes (C.context cx.now) self.old incoming.now.ip_repr.now incoming.now.header (length incoming.now.bytes.now)).socket }
     {
         if self.block.takes_reset(&incoming.header) {
             self.take_down();
@@ -228,8 +242,12 @@ impl Socket {
     /// What is no reset, by its acknowledgement.
     fn check<C: Context>(&mut self, cx: &C, incoming: &Incoming<'_>) -> Option<Due>
         requires unoffered { self.old.offered ≡ None }
-        ensures answer { answer_of result (C.context cx.now).moment self.new incoming.now.ip_repr.now incoming.now.header (length incoming.now.bytes.now) ≡ (checked (acknowledgement_check self.old.block incoming.now.header.ack_number) (C.context cx.now) self.old incoming.now.ip_repr.now incoming.now.header incoming.now.bytes.now).answer }
-        ensures socket { self.new ≡ (checked (acknowledgement_check self.old.block incoming.now.header.ack_number) (C.context cx.now) self.old incoming.now.ip_repr.now incoming.now.header incoming.now.bytes.now).socket }
+        ensures answer { answer_of result (C.context cx.now).moment self.new incoming.now.ip_repr.now incoming.now.header (length incoming.now.bytes.now) ≡
+            (checked (acknowledgement_check self.old.block incoming.now.header.ack_number) (C.context cx.now) self.old incoming.now.ip_repr.now
+            incoming.now.header incoming.now.bytes.now).answer }
+        ensures socket { self.new ≡
+            (checked (acknowledgement_check self.old.block incoming.now.header.ack_number) (C.context cx.now) self.old incoming.now.ip_repr.now
+            incoming.now.header incoming.now.bytes.now).socket }
     {
         match self.block.check_acknowledgement(incoming.header.ack_number) {
             Verdict::Passes(by) => self.take_passed(cx, incoming, by),
@@ -243,8 +261,10 @@ impl Socket {
     /// A segment whose acknowledgement passes, so far past SND.UNA.
     fn take_passed<C: Context>(&mut self, cx: &C, incoming: &Incoming<'_>, by: u32) -> Option<Due>
         requires unoffered { self.old.offered ≡ None }
-        ensures answer { answer_of result (C.context cx.now).moment self.new incoming.now.ip_repr.now incoming.now.header (length incoming.now.bytes.now) ≡ (checked (Passes by) (C.context cx.now) self.old incoming.now.ip_repr.now incoming.now.header incoming.now.bytes.now).answer }
-        ensures socket { self.new ≡ (checked (Passes by) (C.context cx.now) self.old incoming.now.ip_repr.now incoming.now.header incoming.now.bytes.now).socket }
+        ensures answer { answer_of result (C.context cx.now).moment self.new incoming.now.ip_repr.now incoming.now.header (length incoming.now.bytes.now) ≡
+            (checked (Passes by) (C.context cx.now) self.old incoming.now.ip_repr.now incoming.now.header incoming.now.bytes.now).answer }
+        ensures socket { self.new ≡
+            (checked (Passes by) (C.context cx.now) self.old incoming.now.ip_repr.now incoming.now.header incoming.now.bytes.now).socket }
     {
         let free = self.received.window();
         if self
@@ -260,7 +280,8 @@ impl Socket {
     /// A segment whose acknowledgement is old: its text and its FIN are taken.
     fn take_old<C: Context>(&mut self, cx: &C, incoming: &Incoming<'_>) -> Option<Due>
         requires unoffered { self.old.offered ≡ None }
-        ensures answer { answer_of result (C.context cx.now).moment self.new incoming.now.ip_repr.now incoming.now.header (length incoming.now.bytes.now) ≡ (checked Old (C.context cx.now) self.old incoming.now.ip_repr.now incoming.now.header incoming.now.bytes.now).answer }
+        ensures answer { answer_of result (C.context cx.now).moment self.new incoming.now.ip_repr.now incoming.now.header (length incoming.now.bytes.now) ≡
+            (checked Old (C.context cx.now) self.old incoming.now.ip_repr.now incoming.now.header incoming.now.bytes.now).answer }
         ensures socket { self.new ≡ (checked Old (C.context cx.now) self.old incoming.now.ip_repr.now incoming.now.header incoming.now.bytes.now).socket }
     {
         let free = self.received.window();
@@ -278,8 +299,10 @@ impl Socket {
     /// Outside the window. The acknowledgement of a segment that lies just before the window is taken.
     fn take_outside<C: Context>(&mut self, cx: &C, incoming: &Incoming<'_>, by: u32) -> Option<Due>
         requires unoffered { self.old.offered ≡ None }
-        ensures answer { answer_of result (C.context cx.now).moment self.new incoming.now.ip_repr.now incoming.now.header (length incoming.now.bytes.now) ≡ (passed_outside (C.context cx.now) self.old incoming.now.ip_repr.now incoming.now.header (length incoming.now.bytes.now) by).answer }
-        ensures socket { self.new ≡ (passed_outside (C.context cx.now) self.old incoming.now.ip_repr.now incoming.now.header (length incoming.now.bytes.now) by).socket }
+        ensures answer { answer_of result (C.context cx.now).moment self.new incoming.now.ip_repr.now incoming.now.header (length incoming.now.bytes.now) ≡
+            (passed_outside (C.context cx.now) self.old incoming.now.ip_repr.now incoming.now.header (length incoming.now.bytes.now) by).answer }
+        ensures socket { self.new ≡
+            (passed_outside (C.context cx.now) self.old incoming.now.ip_repr.now incoming.now.header (length incoming.now.bytes.now) by).socket }
     {
         if self.tells_news(&incoming.header, incoming.bytes.len()) {
             self.acknowledge(by, cx.now());
@@ -302,7 +325,8 @@ impl Socket {
     /// Outside the window an answer may be drawn.
     fn answer_outside<C: Context>(&mut self, cx: &C, incoming: &Incoming<'_>) -> Option<Due>
         requires unoffered { self.old.offered ≡ None }
-        ensures answer { answer_of result (C.context cx.now).moment self.new incoming.now.ip_repr.now incoming.now.header (length incoming.now.bytes.now) ≡ (outside (C.context cx.now) self.old incoming.now.ip_repr.now incoming.now.header).answer }
+        ensures answer { answer_of result (C.context cx.now).moment self.new incoming.now.ip_repr.now incoming.now.header (length incoming.now.bytes.now) ≡
+            (outside (C.context cx.now) self.old incoming.now.ip_repr.now incoming.now.header).answer }
         ensures socket { self.new ≡ (outside (C.context cx.now) self.old incoming.now.ip_repr.now incoming.now.header).socket }
     {
         if self.block.state.is_closed() {
@@ -326,7 +350,8 @@ impl Socket {
     /// Inside the window: a SYN, or a segment to take.
     fn take_inside<C: Context>(&mut self, cx: &C, incoming: &Incoming<'_>, by: u32) -> Option<Due>
         requires unoffered { self.old.offered ≡ None }
-        ensures answer { answer_of result (C.context cx.now).moment self.new incoming.now.ip_repr.now incoming.now.header (length incoming.now.bytes.now) ≡ (inside (C.context cx.now) self.old incoming.now.ip_repr.now incoming.now.header incoming.now.bytes.now by).answer }
+        ensures answer { answer_of result (C.context cx.now).moment self.new incoming.now.ip_repr.now incoming.now.header (length incoming.now.bytes.now) ≡
+            (inside (C.context cx.now) self.old incoming.now.ip_repr.now incoming.now.header incoming.now.bytes.now by).answer }
         ensures socket { self.new ≡ (inside (C.context cx.now) self.old incoming.now.ip_repr.now incoming.now.header incoming.now.bytes.now by).socket }
     {
         if is_syn(incoming.header.control) {
@@ -351,7 +376,8 @@ impl Socket {
     /// An accepted segment.
     fn take<C: Context>(&mut self, cx: &C, incoming: &Incoming<'_>, by: u32) -> Option<Due>
         requires unoffered { self.old.offered ≡ None }
-        ensures answer { answer_of result (C.context cx.now).moment self.new incoming.now.ip_repr.now incoming.now.header (length incoming.now.bytes.now) ≡ (taken (C.context cx.now) self.old incoming.now.ip_repr.now incoming.now.header incoming.now.bytes.now by).answer }
+        ensures answer { answer_of result (C.context cx.now).moment self.new incoming.now.ip_repr.now incoming.now.header (length incoming.now.bytes.now) ≡
+            (taken (C.context cx.now) self.old incoming.now.ip_repr.now incoming.now.header incoming.now.bytes.now by).answer }
         ensures socket { self.new ≡ (taken (C.context cx.now) self.old incoming.now.ip_repr.now incoming.now.header incoming.now.bytes.now by).socket }
     {
         let duplicates = self
@@ -370,8 +396,10 @@ impl Socket {
         incoming: &Incoming<'_>,
     ) -> Option<Due>
         requires unoffered { self.old.offered ≡ None }
-        ensures answer { answer_of result (C.context cx.now).moment self.new incoming.now.ip_repr.now incoming.now.header (length incoming.now.bytes.now) ≡ (continued_by (C.context cx.now) duplicates self.old incoming.now.ip_repr.now incoming.now.header incoming.now.bytes.now).answer }
-        ensures socket { self.new ≡ (continued_by (C.context cx.now) duplicates self.old incoming.now.ip_repr.now incoming.now.header incoming.now.bytes.now).socket }
+        ensures answer { answer_of result (C.context cx.now).moment self.new incoming.now.ip_repr.now incoming.now.header (length incoming.now.bytes.now) ≡
+            (continued_by (C.context cx.now) duplicates self.old incoming.now.ip_repr.now incoming.now.header incoming.now.bytes.now).answer }
+        ensures socket { self.new ≡
+            (continued_by (C.context cx.now) duplicates self.old incoming.now.ip_repr.now incoming.now.header incoming.now.bytes.now).socket }
     {
         if self.block.state.is_closed() {
             return None;
@@ -407,8 +435,12 @@ impl Socket {
     /// The text and the FIN of an accepted segment, and what answers it.
     fn take_content<C: Context>(&mut self, cx: &C, incoming: &Incoming<'_>) -> Option<Due>
         requires unoffered { self.old.offered ≡ None }
-        ensures answer { answer_of result (C.context cx.now).moment self.new incoming.now.ip_repr.now incoming.now.header (length incoming.now.bytes.now) ≡ (finished (C.context cx.now) self.old.block (with_text self.old incoming.now.header incoming.now.bytes.now) incoming.now.ip_repr.now incoming.now.header (length incoming.now.bytes.now)).answer }
-        ensures socket { self.new ≡ (finished (C.context cx.now) self.old.block (with_text self.old incoming.now.header incoming.now.bytes.now) incoming.now.ip_repr.now incoming.now.header (length incoming.now.bytes.now)).socket }
+        ensures answer { answer_of result (C.context cx.now).moment self.new incoming.now.ip_repr.now incoming.now.header (length incoming.now.bytes.now) ≡
+            (finished (C.context cx.now) self.old.block (with_text self.old incoming.now.header incoming.now.bytes.now) incoming.now.ip_repr.now
+            incoming.now.header (length incoming.now.bytes.now)).answer }
+        ensures socket { self.new ≡
+            (finished (C.context cx.now) self.old.block (with_text self.old incoming.now.header incoming.now.bytes.now) incoming.now.ip_repr.now
+            incoming.now.header (length incoming.now.bytes.now)).socket }
     {
         let next = self.block.receiver.next;
         let text = self.take_text(&incoming.header, incoming.bytes);
@@ -425,8 +457,12 @@ impl Socket {
     ) -> Option<Due>
         requires unoffered { self.old.offered ≡ None }
         requires small { text.now.advance ≤ 2 ^ 30 }
-        ensures answer { answer_of result (C.context cx.now).moment self.new incoming.now.ip_repr.now incoming.now.header (length incoming.now.bytes.now) ≡ (finished (C.context cx.now) (next_at self.old.block next) (texted self.old text.now.advance text.now.fills text.now.early) incoming.now.ip_repr.now incoming.now.header (length incoming.now.bytes.now)).answer }
-        ensures socket { self.new ≡ (finished (C.context cx.now) (next_at self.old.block next) (texted self.old text.now.advance text.now.fills text.now.early) incoming.now.ip_repr.now incoming.now.header (length incoming.now.bytes.now)).socket }
+        ensures answer { answer_of result (C.context cx.now).moment self.new incoming.now.ip_repr.now incoming.now.header (length incoming.now.bytes.now) ≡
+            (finished (C.context cx.now) (next_at self.old.block next) (texted self.old text.now.advance text.now.fills text.now.early) incoming.now.ip_repr.now
+            incoming.now.header (length incoming.now.bytes.now)).answer }
+        ensures socket { self.new ≡
+            (finished (C.context cx.now) (next_at self.old.block next) (texted self.old text.now.advance text.now.fills text.now.early) incoming.now.ip_repr.now
+            incoming.now.header (length incoming.now.bytes.now)).socket }
     {
         let (now, size) = (cx.now(), incoming.bytes.len());
         self.take_fin(next, &incoming.header, size, text.advance, now);
@@ -464,8 +500,10 @@ impl Socket {
         early: Option<usize>,
     ) -> Option<Due>
         requires unoffered { self.old.offered ≡ None }
-        ensures answer { answer_of result (C.context cx.now).moment self.new incoming.now.ip_repr.now incoming.now.header (length incoming.now.bytes.now) ≡ (answer_for (C.context cx.now) self.old incoming.now.ip_repr.now incoming.now.header (length incoming.now.bytes.now) fills early).answer }
-        ensures socket { self.new ≡ (answer_for (C.context cx.now) self.old incoming.now.ip_repr.now incoming.now.header (length incoming.now.bytes.now) fills early).socket }
+        ensures answer { answer_of result (C.context cx.now).moment self.new incoming.now.ip_repr.now incoming.now.header (length incoming.now.bytes.now) ≡
+            (answer_for (C.context cx.now) self.old incoming.now.ip_repr.now incoming.now.header (length incoming.now.bytes.now) fills early).answer }
+        ensures socket { self.new ≡
+            (answer_for (C.context cx.now) self.old incoming.now.ip_repr.now incoming.now.header (length incoming.now.bytes.now) fills early).socket }
     {
         match early {
             Some(place) => Some(Due::AckHeld(self.acknowledge_all(), place)),
@@ -552,7 +590,8 @@ impl Socket {
     /// An acknowledgement that answers a segment which isn't acceptable, at most one a second.
     fn draw<C: Context>(&mut self, cx: &C, incoming: &Incoming<'_>) -> Option<Due>
         requires unoffered { self.old.offered ≡ None }
-        ensures answer { answer_of result (C.context cx.now).moment self.new incoming.now.ip_repr.now incoming.now.header (length incoming.now.bytes.now) ≡ (drawn (C.context cx.now) self.old incoming.now.ip_repr.now incoming.now.header).answer }
+        ensures answer { answer_of result (C.context cx.now).moment self.new incoming.now.ip_repr.now incoming.now.header (length incoming.now.bytes.now) ≡
+            (drawn (C.context cx.now) self.old incoming.now.ip_repr.now incoming.now.header).answer }
         ensures socket { self.new ≡ (drawn (C.context cx.now) self.old incoming.now.ip_repr.now incoming.now.header).socket }
     {
         if self.block.may_draw(cx.now()) {

@@ -1,12 +1,14 @@
 //! The calls of a user. Each of them first settles an open offer as not sent.
-ghost use Rattle.std.specs.Prelude.{◌≡◌, ◌≤◌, ℕ, List, ◌++◌, length, take, drop, true, false, Ok, Err, IfOk, IfErr, OnErr, IsOk, is_ok, None, Some, if◌then◌else◌};
+ghost use Rattle.std.specs.Prelude.{◌≡◌, ◌≤◌, ℕ, List, ◌++◌, length, take, drop, true, false, Ok, Err, IfOk, IfErr, OnErr, IsOk, is_ok, None, Some};
+ghost use Rattle.std.specs.Prelude.{if◌then◌else◌};
 ghost use Rattle.std.specs.Fn.{FnOnceTakesAt, FnOnceReturnsAt, FnOnceTakesAtMut, FnOnceReturnsAtMut};
 ghost use Rattle.net_base.specs.Ring.{anchored, extended, overwritten, contiguous, offered};
 ghost use Rattle.socket_base.specs.Context.{ContextValue};
 ghost use Rattle.ip_wire.specs.IpEndpoint.{IpEndpoint};
 ghost use Rattle.ip_wire.specs.IpListenEndpoint.{IpListenEndpoint};
 ghost use Rattle.tcp_model.specs.Blocks.{fresh_block};
-ghost use Rattle.tcp_model.specs.Calls.{listening, listen_answer, listen_after, source_by, pair_for, connect_answer, connect_after, connect_draws, send_answer, sent_more, send_after, recv_refusal, recv_answer, recv_after, close_after, abort_after};
+ghost use Rattle.tcp_model.specs.Calls.{listening, listen_answer, listen_after, source_by, pair_for, connect_answer, connect_after, connect_draws, send_answer};
+ghost use Rattle.tcp_model.specs.Calls.{sent_more, send_after, recv_refusal, recv_answer, recv_after, close_after, abort_after};
 ghost use Rattle.tcp_model.specs.States.{takes_writes};
 ghost use Rattle.tcp_model.specs.Value.{opened, unoffered};
 ghost use Rattle.tcp_socket.specs.Receive.{unbroken, lent, or_done};

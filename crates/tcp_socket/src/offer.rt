@@ -3,7 +3,8 @@ ghost use Rattle.std.specs.Prelude.{◌≡◌, ◌≤◌, ◌<◌, ◌^◌, true
 ghost use Rattle.socket_base.specs.Context.{ContextValue};
 ghost use Rattle.tcp_model.specs.Choices.{choice_of};
 ghost use Rattle.tcp_model.specs.Due.{poll_open, poll_between, poll_of};
-ghost use Rattle.tcp_model.specs.Offers.{offer_segment, silent, offer_choice, offer_ack, offer_syn, offer_reset, offer_keep_alive, offer_held_back, last_rules, first_rules, offer_between, offer_of, payload_of, offered_packet};
+ghost use Rattle.tcp_model.specs.Offers.{offer_segment, silent, offer_choice, offer_ack, offer_syn, offer_reset, offer_keep_alive, offer_held_back, last_rules};
+ghost use Rattle.tcp_model.specs.Offers.{first_rules, offer_between, offer_of, payload_of, offered_packet};
 ghost use Rattle.tcp_model.specs.Moments.{is_due};
 ghost use Rattle.tcp_model.specs.Probing.{probe_moment};
 ghost use Rattle.tcp_model.specs.Retries.{given_up};
@@ -82,7 +83,8 @@ impl Socket {
 
     fn offer_reset<C: Context>(&mut self, cx: &C, pair: &EndpointPair) -> Offer
         ensures answer { result ≡ (if self.old.block.sender.reset_due then offer_reset (C.context cx.now) self.old pair.now else silent false self.old).answer }
-        ensures socket { self.new ≡ (if self.old.block.sender.reset_due then offer_reset (C.context cx.now) self.old pair.now else silent false self.old).socket }
+        ensures socket { self.new ≡
+            (if self.old.block.sender.reset_due then offer_reset (C.context cx.now) self.old pair.now else silent false self.old).socket }
     {
         if !self.block.sender.reset_due {
             return Offer::Silent { changed: false };

@@ -1,6 +1,7 @@
 //! What a user may set. Each setting first settles an open offer as not sent.
 ghost use Rattle.std.specs.Prelude.{◌≡◌, ◌≢◌, Some};
-ghost use Rattle.tcp_model.specs.Settings.{with_timeout_kept, set_timeout, set_keep_alive, set_ack_delay, set_nagle_enabled, set_hop_limit, set_tsval_generator, pause_synack, set_retries, set_min_rto, set_congestion_control};
+ghost use Rattle.tcp_model.specs.Settings.{with_timeout_kept, set_timeout, set_keep_alive, set_ack_delay, set_nagle_enabled, set_hop_limit};
+ghost use Rattle.tcp_model.specs.Settings.{set_tsval_generator, pause_synack, set_retries, set_min_rto, set_congestion_control};
 ghost use Rattle.tcp_model.specs.Value.{unoffered};
 
 use crate::Socket;

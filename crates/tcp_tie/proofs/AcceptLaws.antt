@@ -1,5 +1,6 @@
 -- Which segments are acceptable, and how much a socket sends at once.
-use Rattle.std.proofs.Common.{◌≡◌, ◌↔◌, ◌⊎◌, inl, inr, ℕ, zero, suc, ◌+◌, ◌-◌, ◌^◌, ◌<◌, ◌≤◌, ◌==◌, ◌&&◌, not, nat_lt, min, max, Bool, true, false, if◌then◌else◌, List, length, Option, Some, None, is_some, refl, sym, ap, ◌∙◌, subst, arith}
+use Rattle.std.proofs.Common.{◌≡◌, ◌↔◌, ◌⊎◌, inl, inr, ℕ, zero, suc, ◌+◌, ◌-◌, ◌^◌, ◌<◌, ◌≤◌, ◌==◌, ◌&&◌, not, nat_lt, min, max, Bool, true, false}
+use Rattle.std.proofs.Common.{if◌then◌else◌, List, length, Option, Some, None, is_some, refl, sym, ap, ◌∙◌, subst, arith}
 use Rattle.std.proofs.lemmas.Bool.{and_parts, cond_both}
 use Rattle.std.proofs.lemmas.Bool.Decides.{nat_tests}
 use Rattle.ip_wire.specs.IpRepr.{IpRepr}
@@ -49,7 +50,8 @@ one_way far = by (nat_lt far (2 ^ 31)) where
   by true = inr refl
   by false = inl refl
 
-stands : (next at : ℕ) (mine theirs : SeqNumber) → 2 ^ 31 ≤ next → mine.0 ≡ wire next → theirs.0 ≡ wire at → IsNear next at → Stands next at (before_by mine theirs) (past_by mine theirs)
+stands : (next at : ℕ) (mine theirs : SeqNumber) → 2 ^ 31 ≤ next → mine.0 ≡ wire next → theirs.0 ≡ wire at → IsNear next at →
+    Stands next at (before_by mine theirs) (past_by mine theirs)
 stands next at mine theirs low e f near = record {
   place = ap (λ (n : ℕ). n + before_by mine theirs) (sym (ap (nearest next) f ∙ nearest-wire next at low near)) ∙ offsets_nearest next mine theirs low e;
   one = one_way (distance_of mine theirs);
@@ -122,7 +124,8 @@ meets next at before past zero space s = (
 meets next at before past (suc more) space s = (
   λ e.
       let full : (nat_lt past space && nat_lt before (suc more)) ≡ true =
-      sym (if_not (suc more == 0) ((before == 0) && (if past == 0 then true else nat_lt past space)) (nat_lt past space && nat_lt before (suc more)) (has more)) ∙ e in
+      sym (if_not (suc more == 0) ((before == 0) && (if past == 0 then true else nat_lt past space)) (nat_lt past space && nat_lt before (suc more))
+      (has more)) ∙ e in
       let parts = and_parts (nat_lt past space) (nat_lt before (suc more)) full in
       full_to next at before past more space s (is_below past space parts.0) (is_below before (suc more) parts.1),
   λ m.
@@ -184,12 +187,18 @@ module _ (cx : ContextValue) (v : TcpValue) (ip : IpRepr) (header : TcpHeader) (
   and_false true = refl
   and_false false = refl
 
-  reset_in : (state : State) → v.block.state ≡ state → reset_counts_in state v.block header ≡ false → IsIgnored cx v ip header (arrives_in state cx (unoffered v) ip header bytes)
+  reset_in : (state : State) → v.block.state ≡ state → reset_counts_in state v.block header ≡ false →
+      IsIgnored cx v ip header (arrives_in state cx (unoffered v) ip header bytes)
   reset_in In.Closed at other_reset = silently
   reset_in In.Listen at other_reset =
       subst (IsIgnored cx v ip header)
       (sym (if_not (is_first_syn header)
-      (record { socket = with_block (unoffered v) (timeout_restarted (answering v.block ip header (word (next_random cx).random)) cx.moment 0); answer = None; draws = true }) (dropped (unoffered v)) no_first_syn))
+      (record {
+        socket = with_block (unoffered v) (timeout_restarted (answering v.block ip header (word (next_random cx).random)) cx.moment 0);
+        answer =
+            None;
+        draws = true;
+      }) (dropped (unoffered v)) no_first_syn))
       silently
   reset_in In.SynSent at other_reset =
       cond_both (is_rst header.control) (if acks_syn v.block.sender.una header.ack_number then dropped (ended (unoffered v)) else dropped (unoffered v))
@@ -242,8 +251,10 @@ module _ (b : Block) (addresses : AddressPair) (mtu : ℕ) (queued : Ring ℕ) w
       below_parts _ _ _ (lowered b.settings.congestion_control (b.reno.cwnd + beyond b - b.sender.in_flight) (min (b.peer.window - b.sender.in_flight) size))
       (min_both (b.peer.window - b.sender.in_flight) size).0
 
-  pub text_in_congestion : b.settings.congestion_control ≡ Congestion.Reno → (text_choice b addresses mtu queued).len ≤ b.reno.cwnd + beyond b - b.sender.in_flight
-  text_in_congestion e = reno_limit b.settings.congestion_control (b.reno.cwnd + beyond b - b.sender.in_flight) (min (b.peer.window - b.sender.in_flight) size) e
+  pub text_in_congestion : b.settings.congestion_control ≡ Congestion.Reno →
+      (text_choice b addresses mtu queued).len ≤ b.reno.cwnd + beyond b - b.sender.in_flight
+  text_in_congestion e = reno_limit b.settings.congestion_control (b.reno.cwnd + beyond b - b.sender.in_flight)
+      (min (b.peer.window - b.sender.in_flight) size) e
 
   text_in_size : (text_choice b addresses mtu queued).len ≤ size_limit b addresses mtu
   text_in_size =
@@ -252,7 +263,8 @@ module _ (b : Block) (addresses : AddressPair) (mtu : ℕ) (queued : Ring ℕ) w
 
   again_in_size : (resend_choice b addresses mtu queued).len ≤ size_limit b addresses mtu
   again_in_size =
-      below_parts _ _ _ (min_both (sent_places b) (min (size_limit b addresses mtu) (unbroken queued 0))).1 (min_both (size_limit b addresses mtu) (unbroken queued 0)).0
+      below_parts _ _ _ (min_both (sent_places b) (min (size_limit b addresses mtu) (unbroken queued 0))).1
+      (min_both (size_limit b addresses mtu) (unbroken queued 0)).0
 
   size_in_mss : size_limit b addresses mtu ≤ max 1 (b.peer.mss - stamp_len b)
   size_in_mss = omega arith

@@ -1,5 +1,6 @@
 -- The acknowledgement of an accepted segment, in the socket's own words.
-use Rattle.std.proofs.Common.{◌≡◌, ◌⊎◌, inl, inr, ℕ, ◌+◌, ◌^◌, ◌<◌, ◌≤◌, ◌==◌, ◌&&◌, ℤ, Bool, true, false, if◌then◌else◌, List, Some, length, refl, sym, ap, subst, arith}
+use Rattle.std.proofs.Common.{◌≡◌, ◌⊎◌, inl, inr, ℕ, ◌+◌, ◌^◌, ◌<◌, ◌≤◌, ◌==◌, ◌&&◌, ℤ, Bool, true, false, if◌then◌else◌, List, Some, length, refl, sym, ap}
+use Rattle.std.proofs.Common.{subst, arith}
 use Rattle.std.proofs.lemmas.Bool.{and_parts, and_cases, eqb-true, eqb-false}
 use Rattle.ip_wire.specs.Seq.{distance_of}
 use Rattle.ip_wire.specs.SeqNumber.{SeqNumber}
@@ -29,8 +30,10 @@ state_acked c by = if owes_fin c.state && (by == all_of c) then after_ack_of_fin
 leads_fin :
     (c : Core) (state : State) (by : ℕ) → c.state ≡ state → owes_fin state ≡ true → is_closed (after_ack_of_fin state) ≡ false → by ≡ all_of c
     → LeadsTo c (after_ack_of_fin state) by
-leads_fin c In.FinWait1 by e owes open_yet all = record { connected = refl; phase = refl; closed = ap is_closed_in (sym e); finished = ap is_finished_in (sym e); fin = inl (all, refl) }
-leads_fin c In.Closing by e owes open_yet all = record { connected = refl; phase = refl; closed = ap is_closed_in (sym e); finished = ap is_finished_in (sym e); fin = inl (all, refl) }
+leads_fin c In.FinWait1 by e owes open_yet all =
+    record { connected = refl; phase = refl; closed = ap is_closed_in (sym e); finished = ap is_finished_in (sym e); fin = inl (all, refl) }
+leads_fin c In.Closing by e owes open_yet all =
+    record { connected = refl; phase = refl; closed = ap is_closed_in (sym e); finished = ap is_finished_in (sym e); fin = inl (all, refl) }
 leads_fin c In.LastAck by e owes open_yet all = absurd (cc)
 leads_fin c other by e owes open_yet all = absurd (cc)
 
@@ -38,7 +41,8 @@ leads_fin c other by e owes open_yet all = absurd (cc)
 leads_last :
     (c : Core) (state : State) (by : ℕ) → c.state ≡ state → owes_fin state ≡ true → is_closed (after_ack_of_fin state) ≡ true → by ≡ all_of c
     → LeadsTo c In.TimeWait by
-leads_last c In.LastAck by e owes ended all = record { connected = refl; phase = refl; closed = ap is_closed_in (sym e); finished = ap is_finished_in (sym e); fin = inl (all, refl) }
+leads_last c In.LastAck by e owes ended all =
+    record { connected = refl; phase = refl; closed = ap is_closed_in (sym e); finished = ap is_finished_in (sym e); fin = inl (all, refl) }
 leads_last c other by e owes ended all = absurd (cc)
 
 leads_plain :
@@ -48,7 +52,14 @@ leads_plain c In.Closed by e connected some = absurd (cc)
 leads_plain c In.Listen by e connected some = absurd (cc)
 leads_plain c In.SynSent by e connected some = absurd (cc)
 leads_plain c other by e connected some =
-    record { connected = refl; phase = refl; closed = ap is_closed_in (sym e); finished = ap is_finished_in (sym e); fin = inr (some, ap (λ (state : State). one_if (owes_fin state)) (sym e)) }
+    record {
+      connected = refl;
+      phase = refl;
+      closed = ap is_closed_in (sym e);
+      finished = ap is_finished_in (sym e);
+      fin =
+          inr (some, ap (λ (state : State). one_if (owes_fin state)) (sym e));
+    }
 
 still_open : (state : State) → is_connected state ≡ true → is_closed (after_ack state) ≡ false
 still_open In.Closed e = absurd (cc)
@@ -73,12 +84,14 @@ pub leads :
     → ((is_closed (state_acked c by) ≡ false) × LeadsTo c (state_acked c by) by) ⊎ ((is_closed (state_acked c by) ≡ true) × LeadsTo c In.TimeWait by)
 leads c by connected within = from (owes_fin c.state && (by == all_of c)) refl where
   whole : (test : Bool) → is_closed (after_ack_of_fin c.state) ≡ test → owes_fin c.state ≡ true → by ≡ all_of c
-      → ((is_closed (after_ack_of_fin c.state) ≡ false) × LeadsTo c (after_ack_of_fin c.state) by) ⊎ ((is_closed (after_ack_of_fin c.state) ≡ true) × LeadsTo c In.TimeWait by)
+      → ((is_closed (after_ack_of_fin c.state) ≡ false) × LeadsTo c (after_ack_of_fin c.state) by) ⊎
+      ((is_closed (after_ack_of_fin c.state) ≡ true) × LeadsTo c In.TimeWait by)
   whole true e owes all = inr (e, leads_last c c.state by refl owes e all)
   whole false e owes all = inl (e, leads_fin c c.state by refl owes e all)
 
   from : (test : Bool) → (owes_fin c.state && (by == all_of c)) ≡ test
-      → ((is_closed (if test then after_ack_of_fin c.state else after_ack c.state) ≡ false) × LeadsTo c (if test then after_ack_of_fin c.state else after_ack c.state) by)
+      → ((is_closed (if test then after_ack_of_fin c.state else after_ack c.state) ≡ false) ×
+      LeadsTo c (if test then after_ack_of_fin c.state else after_ack c.state) by)
       ⊎ ((is_closed (if test then after_ack_of_fin c.state else after_ack c.state) ≡ true) × LeadsTo c In.TimeWait by)
   from true e =
       let both = and_parts (owes_fin c.state) (by == all_of c) e in
@@ -106,15 +119,18 @@ acks v p t header bytes n by now comes control e distance ok connected r =
     from (leads (core_of v) by connected ok.within)
   where
     small : n.0 < 2 ^ 32
-    small = let reached = (acked t r.side (segment_of header bytes) n.0 control (ap ack_of e) (honest t r.side (segment_of header bytes) r.holds.1 comes)).same in omega arith
+    small = let reached = (acked t r.side (segment_of header bytes) n.0 control (ap ack_of e)
+        (honest t r.side (segment_of header bytes) r.holds.1 comes)).same in omega arith
 
     moved : (state : State) → LeadsTo (core_of v) state by → Tied (acked_core (core_of v) state by) p t
     moved state led =
         subst (λ (p : Past). Tied (acked_core (core_of v) state by) p t) r.past
-        (takes_ack (core_of v) r.side t (segment_of header bytes) n.0 by state comes control (ap ack_of e) small distance ok led (fits_connected v.block.state (core_of v) (unsent r.side) connected r.fits) r.holds)
+        (takes_ack (core_of v) r.side t (segment_of header bytes) n.0 by state comes control (ap ack_of e) small distance ok led
+        (fits_connected v.block.state (core_of v) (unsent r.side) connected r.fits) r.holds)
 
     from :
-        ((is_closed (state_acked (core_of v) by) ≡ false) × LeadsTo (core_of v) (state_acked (core_of v) by) by) ⊎ ((is_closed (state_acked (core_of v) by) ≡ true) × LeadsTo (core_of v) In.TimeWait by)
+        ((is_closed (state_acked (core_of v) by) ≡ false) × LeadsTo (core_of v) (state_acked (core_of v) by) by) ⊎
+        ((is_closed (state_acked (core_of v) by) ≡ true) × LeadsTo (core_of v) In.TimeWait by)
         → IsAcked p t (acknowledged v by now)
     from (inl led) =
         subst (λ (test : Bool). IsAcked p t (acked_as v by now test)) (sym led.0)

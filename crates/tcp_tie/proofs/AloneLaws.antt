@@ -20,8 +20,10 @@ unopened = new_socket 0 (ring [] [] 0)
 is_unopened : IsFresh unopened
 is_unopened = record { state = refl; waiting = refl; queue = refl; unfinished = refl }
 
-pub stays_alone : (v new : TcpValue) (p after : Past) → KeepsAlone v p → ((w : TcpValue) (q : Past) → Keeps v p w q → Keeps new after w q) → KeepsAlone new after
-stays_alone v new p after k step = partner_goes new unopened after (no_past []) (step unopened (no_past []) (partner_comes v unopened p [] k is_unopened tt)) refl refl
+pub stays_alone : (v new : TcpValue) (p after : Past) → KeepsAlone v p → ((w : TcpValue) (q : Past) → Keeps v p w q → Keeps new after w q) →
+    KeepsAlone new after
+stays_alone v new p after k step =
+    partner_goes new unopened after (no_past []) (step unopened (no_past []) (partner_comes v unopened p [] k is_unopened tt)) refl refl
 
 pub reset_comes :
     (cx : ContextValue) (v : TcpValue) (p : Past) (ip : IpRepr) (header : TcpHeader) (bytes : List ℕ) → KeepsAlone v p → (segment_of header bytes).control ≡ Rst

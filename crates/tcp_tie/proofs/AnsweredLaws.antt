@@ -1,5 +1,6 @@
 -- Each call of a user, by its answer, keeps the invariant.
-use Rattle.std.proofs.Common.{◌≡◌, ◌≢◌, ℕ, zero, suc, ◌+◌, ◌%◌, ◌^◌, ◌<◌, ◌==◌, ◌&&◌, ◌||◌, not, min, Bool, true, false, if◌then◌else◌, List, [], ◌∷◌, ◌++◌, length, take, Option, Some, None, Result, Ok, Err, is_ok, refl, sym, ap, ◌∙◌, subst, arith, append-nil}
+use Rattle.std.proofs.Common.{◌≡◌, ◌≢◌, ℕ, zero, suc, ◌+◌, ◌%◌, ◌^◌, ◌<◌, ◌==◌, ◌&&◌, ◌||◌, not, min, Bool, true, false, if◌then◌else◌, List, [], ◌∷◌, ◌++◌}
+use Rattle.std.proofs.Common.{length, take, Option, Some, None, Result, Ok, Err, is_ok, refl, sym, ap, ◌∙◌, subst, arith, append-nil}
 use Rattle.std.proofs.lemmas.Bool.{cond_both, eqb-true}
 use Rattle.ip_wire.specs.IpEndpoint.{IpEndpoint}
 use Rattle.ip_wire.specs.IpListenEndpoint.{IpListenEndpoint}
@@ -17,7 +18,8 @@ use Rattle.tcp_model.specs.RecvError.TheVariants as Recv
 use Rattle.tcp_model.specs.SendError.{SendError}
 use Rattle.tcp_model.specs.SendError.TheVariants as Send
 use Rattle.tcp_model.specs.OpenOffer.{OpenOffer}
-use Rattle.tcp_model.specs.Calls.{listening, connecting, listens_on, found_answer, pair_for, connected_by, sent_more, listen_after, connect_after, send_answer, send_after, recv_answer, recv_refusal, nothing_left, or_count}
+use Rattle.tcp_model.specs.Calls.{listening, connecting, listens_on, found_answer, pair_for, connected_by, sent_more, listen_after, connect_after, send_answer}
+use Rattle.tcp_model.specs.Calls.{send_after, recv_answer, recv_refusal, nothing_left, or_count}
 use Rattle.tcp_model.specs.Offers.{offered_packet, packet_with}
 use Rattle.tcp_model.specs.States.{is_closed, takes_writes, takes_text}
 use Rattle.tcp_model.specs.Value.{TcpValue, unoffered}
@@ -99,10 +101,12 @@ keeps_send v w p q bytes k = by (takes_writes v.block.state) refl where
       → Keeps (if writes then sent_more v (enqueued (anchored v.queued) (take (min (length bytes) (length v.queued.free)) bytes)) else unoffered v)
       (with_written p (bytes_taken (if writes then Ok (min (length bytes) (length v.queued.free)) else Err Send.InvalidState) bytes)) w q
   by true at short =
-      keeps_writes v w p q (enqueued (anchored v.queued) (take (min (length bytes) (length v.queued.free)) bytes)) (take (min (length bytes) (length v.queued.free)) bytes) k at
+      keeps_writes v w p q (enqueued (anchored v.queued) (take (min (length bytes) (length v.queued.free)) bytes))
+      (take (min (length bytes) (length v.queued.free)) bytes) k at
       (ap (λ (queue : List ℕ). queue ++ take (min (length bytes) (length v.queued.free)) bytes) (anchored_queue v.queued)) short
   by false at short =
-      subst (λ (written : List ℕ). Keeps (unoffered v) (record p { written = written }) w q) (sym (append-nil p.written)) (keeps_same v (unoffered v) w p q refl k)
+      subst (λ (written : List ℕ). Keeps (unoffered v) (record p { written = written }) w q) (sym (append-nil p.written))
+      (keeps_same v (unoffered v) w p q refl k)
 
 -- THE END OF THE STREAM
 
@@ -116,7 +120,8 @@ pub read_to_the_end :
 read_to_the_end v w p q room k = by (takes_text v.block.state) (length v.received.waiting == 0) refl where
   by :
       (open_yet none : Bool) → (length v.received.waiting == 0) ≡ none
-      → or_count (if open_yet || not none then None else Some (nothing_left v.block.receiver.took_fin)) (min room (length v.received.waiting)) ≡ Err Recv.Finished
+      → or_count (if open_yet || not none then None else Some (nothing_left v.block.receiver.took_fin)) (min room (length v.received.waiting)) ≡
+      Err Recv.Finished
       → (q.closed ≡ true) × (p.read ≡ q.written)
   by true none empty e = absurd (cc)
   by false false empty e = absurd (cc)
@@ -132,7 +137,8 @@ pub alone_reads_on : (v : TcpValue) (p : Past) (room : ℕ) → KeepsAlone v p �
 alone_reads_on v p room k = by (takes_text v.block.state) (length v.received.waiting == 0) where
   by :
       (open_yet none : Bool)
-      → or_count (if open_yet || not none then None else Some (nothing_left v.block.receiver.took_fin)) (min room (length v.received.waiting)) ≡ Err Recv.Finished → ⊥
+      → or_count (if open_yet || not none then None else Some (nothing_left v.block.receiver.took_fin)) (min room (length v.received.waiting)) ≡
+      Err Recv.Finished → ⊥
   by true none e = absurd (cc)
   by false false e = absurd (cc)
   by false true e =

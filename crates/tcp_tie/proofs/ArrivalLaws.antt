@@ -1,5 +1,6 @@
 -- Each segment that the partner sent, when it comes, keeps the invariant.
-use Rattle.std.proofs.Common.{◌≡◌, ◌⊎◌, inl, inr, ℕ, zero, suc, ◌-◌, ◌^◌, ◌<◌, ◌≤◌, nat_lt, nat_le, not, ◌==◌, ◌&&◌, ℤ, Bool, true, false, if◌then◌else◌, List, Option, Some, None, slice_get, length, refl, sym, ap, ◌∙◌, subst, arith}
+use Rattle.std.proofs.Common.{◌≡◌, ◌⊎◌, inl, inr, ℕ, zero, suc, ◌-◌, ◌^◌, ◌<◌, ◌≤◌, nat_lt, nat_le, not, ◌==◌, ◌&&◌, ℤ, Bool, true, false, if◌then◌else◌, List}
+use Rattle.std.proofs.Common.{Option, Some, None, slice_get, length, refl, sym, ap, ◌∙◌, subst, arith}
 use Rattle.std.proofs.lemmas.Bool.{and_cases, cond_both, eqb-true, not-false}
 use Rattle.std.proofs.lemmas.Bool.Decides.{nat_tests}
 use Rattle.ip_wire.specs.IpRepr.{IpRepr}
@@ -15,7 +16,8 @@ use Rattle.tcp_model.specs.State.TheVariants as In
 use Rattle.tcp_model.specs.declared.block.Block.{Block}
 use Rattle.tcp_model.specs.Acknowledged.{acknowledged, duplicates_after, names_window, windowed, stamp_taken, ranges_taken, counted}
 use Rattle.tcp_model.specs.Answers.{drawn}
-use Rattle.tcp_model.specs.Arrival.{waiting_anew, outside, passed_outside, tells_news, with_content, told, taken, inside, checked, takes_reset, challenges_reset, reset_comes, challenges_syn, received, arrives_in, arrives, is_void_syn}
+use Rattle.tcp_model.specs.Arrival.{waiting_anew, outside, passed_outside, tells_news, with_content, told, taken, inside, checked, takes_reset}
+use Rattle.tcp_model.specs.Arrival.{challenges_reset, reset_comes, challenges_syn, received, arrives_in, arrives, is_void_syn}
 use Rattle.tcp_model.specs.Checks.{Check, opening_check, synchronized_check, acknowledgement_check, is_in_window, taken_down}
 use Rattle.tcp_model.specs.Checks.Check.{Passes, Old, Drops, Draws, Resets}
 use Rattle.tcp_model.specs.Controls.{is_syn, is_rst}
@@ -74,7 +76,8 @@ syn_gone :
     (syn : Bool) (past_iss past before : ℕ) → (syn ≡ true → past_iss ≡ 0) → ((past == 0) && nat_le past_iss before) ≡ false → (past == 0) ≡ true → syn ≡ false
 syn_gone false past_iss past before first e none = refl
 syn_gone true past_iss past before first e none =
-    absurd (let reaches = at_least past_iss before (first refl) in let all = ap (λ (t : Bool). t && nat_le past_iss before) none ∙ reaches in let clash : true ≡ false = sym all ∙ e in cc)
+    absurd (let reaches = at_least past_iss before (first refl) in let all = ap (λ (t : Bool). t && nat_le past_iss before) none ∙ reaches in
+    let clash : true ≡ false = sym all ∙ e in cc)
 
 -- the window and the duplicates change nothing that the tie reads
 told_core : (v : TcpValue) (header : TcpHeader) (duplicates : ℕ) (now : ℤ) → core_of (told v header duplicates now) ≡ core_of v
@@ -91,7 +94,8 @@ module _ (cx : ContextValue) (v : TcpValue) (ip : IpRepr) (header : TcpHeader) (
     tied_as = fits_connected v.block.state (core_of v) (unsent r.side) connected r.fits
 
     -- outside the window
-    led_outside : (w : TcpValue) → Tied (core_of w) p t → (is_closed w.block.state ≡ false → is_connected w.block.state ≡ true) → Led p t (outside cx w ip header)
+    led_outside : (w : TcpValue) → Tied (core_of w) p t → (is_closed w.block.state ≡ false → is_connected w.block.state ≡ true) →
+        Led p t (outside cx w ip header)
     led_outside w tied on =
         cond_both (is_closed w.block.state) (dropped w) (drawn cx (waiting_anew w header cx.moment) ip header) (λ (a : Arrived). Led p t a)
         (λ _. tied)
@@ -124,14 +128,16 @@ module _ (cx : ContextValue) (v : TcpValue) (ip : IpRepr) (header : TcpHeader) (
           (λ _. led_drawn cx v ip header p t connected r)
           led_taken)
           (λ _.
-          cond_both (tells_news v header (length bytes)) (outside cx (acknowledged v by cx.moment) ip header) (outside cx v ip header) (λ (a : Arrived). Led p t a)
+          cond_both (tells_news v header (length bytes)) (outside cx (acknowledged v by cx.moment) ip header) (outside cx v ip header)
+          (λ (a : Arrived). Led p t a)
           (λ _. led_outside (acknowledged v by cx.moment) acked_now.tied (λ open_yet. (acked_now.running open_yet).0))
           (λ _. led_outside v r (λ _. connected)))
 
     -- its acknowledgement is old
     led_old : is_rst header.control ≡ false → is_syn header.control ≡ false → v.block.sender.syn_unacked ≡ false → Led p t (checked Old cx v ip header bytes)
     led_old no_rst no_syn acked =
-        cond_both (is_in_window v.block (free_in v) header (length bytes)) (with_content cx (with_block v (heard v.block)) ip header bytes) (outside cx v ip header)
+        cond_both (is_in_window v.block (free_in v) header (length bytes)) (with_content cx (with_block v (heard v.block)) ip header bytes)
+        (outside cx v ip header)
         (λ (a : Arrived). Led p t a)
         (λ _. led_content cx (with_block v (heard v.block)) ip header bytes p t comes (data_control header.control no_rst no_syn) connected acked r)
         (λ _. led_outside v r (λ _. connected))
@@ -157,7 +163,8 @@ module _ (cx : ContextValue) (v : TcpValue) (ip : IpRepr) (header : TcpHeader) (
       abbrev before : ℕ
       before = before_by v.block.sender.una n
 
-      led_past : (before == 0) ≡ true → nat_lt v.block.sender.top past ≡ false → ((past == 0) && nat_le v.block.sender.past_iss before) ≡ false → Led p t (checked (Passes past) cx v ip header bytes)
+      led_past : (before == 0) ≡ true → nat_lt v.block.sender.top past ≡ false → ((past == 0) && nat_le v.block.sender.past_iss before) ≡ false →
+          Led p t (checked (Passes past) cx v ip header bytes)
       led_past none low reaches =
           let top = tied_as.top in
           let below = not_above v.block.sender.top past low in
@@ -183,14 +190,16 @@ module _ (cx : ContextValue) (v : TcpValue) (ip : IpRepr) (header : TcpHeader) (
           (λ (c : Check). Led p t (checked c cx v ip header bytes))
           (λ _. r)
           (λ reaches.
-          cond_both (before == 0) (Passes past) (if nat_lt v.block.peer.largest_window before then Draws else Old) (λ (c : Check). Led p t (checked c cx v ip header bytes))
+          cond_both (before == 0) (Passes past) (if nat_lt v.block.peer.largest_window before then Draws else Old)
+          (λ (c : Check). Led p t (checked c cx v ip header bytes))
           (λ none. led_past none low reaches)
           (λ some.
           cond_both (nat_lt v.block.peer.largest_window before) Draws Old (λ (c : Check). Led p t (checked c cx v ip header bytes))
           (λ _. led_drawn cx v ip header p t connected r)
           (λ _.
           led_old no_rst no_syn
-          (syn_gone v.block.sender.syn_unacked v.block.sender.past_iss past before tied_as.past_iss reaches (nothing_past (distance_of v.block.sender.una n) some))))))
+          (syn_gone v.block.sender.syn_unacked v.block.sender.past_iss past before tied_as.past_iss reaches
+          (nothing_past (distance_of v.block.sender.una n) some))))))
 
     led_ack :
         (ack : Option SeqNumber) → header.ack_number ≡ ack → is_rst header.control ≡ false → challenges_syn v.block header ≡ false

@@ -1,5 +1,6 @@
 -- What a segment of the partner does, step by step: each step is a move.
-use Rattle.std.proofs.Common.{◌≡◌, ◌⊎◌, inl, inr, ℕ, zero, suc, ◌+◌, ◌-◌, ◌%◌, ◌^◌, ◌<◌, ◌≤◌, ◌==◌, ◌&&◌, min, Bool, true, false, List, [], ◌∷◌, Some, length, drop, refl, sym, ap, ◌∙◌, arith, length-drop}
+use Rattle.std.proofs.Common.{◌≡◌, ◌⊎◌, inl, inr, ℕ, zero, suc, ◌+◌, ◌-◌, ◌%◌, ◌^◌, ◌<◌, ◌≤◌, ◌==◌, ◌&&◌, min, Bool, true, false, List, [], ◌∷◌, Some, length}
+use Rattle.std.proofs.Common.{drop, refl, sym, ap, ◌∙◌, arith, length-drop}
 use Rattle.std.proofs.lemmas.Bool.Decides.{nat_tests}
 use native.Mathlib.Numerals.{unary_clauses}
 use Rattle.tcp_law.specs.Invariant.{HoldsBetween}
@@ -123,7 +124,8 @@ takes_ack c s t x n by state comes control number small distance ok leads k hold
         ((by ≡ one_if c.syn_unacked + length c.queue + one_if (owes_fin c.state)) × (one_if (owes_fin state) ≡ 0))
         ⊎ ((by ≤ one_if c.syn_unacked + length c.queue) × (one_if (owes_fin state) ≡ one_if (owes_fin c.state)))
         → one_if (c.syn_unacked && (by == 0)) ≡ 0
-        → s.una + by + (one_if (c.syn_unacked && (by == 0)) + length (drop (min (by - one_if c.syn_unacked) (length c.queue)) c.queue) + one_if (owes_fin state)) ≡ send_end s
+        → s.una + by + (one_if (c.syn_unacked && (by == 0)) + length (drop (min (by - one_if c.syn_unacked) (length c.queue)) c.queue) +
+        one_if (owes_fin state)) ≡ send_end s
     end_after (inl f) none =
         let all = f.0 in
         let gone = f.1 in

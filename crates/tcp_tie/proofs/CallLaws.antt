@@ -1,5 +1,6 @@
 -- The invariant between two sockets after each call of a user.
-use Rattle.std.proofs.Common.{◌≡◌, ◌⊎◌, inl, inr, ℕ, zero, suc, ◌^◌, ◌<◌, Bool, true, false, if◌then◌else◌, List, [], ◌∷◌, ◌++◌, Option, is_some, length, take, drop, refl, sym, ap, ◌∙◌, subst, arith, append-nil}
+use Rattle.std.proofs.Common.{◌≡◌, ◌⊎◌, inl, inr, ℕ, zero, suc, ◌^◌, ◌<◌, Bool, true, false, if◌then◌else◌, List, [], ◌∷◌, ◌++◌, Option, is_some, length, take}
+use Rattle.std.proofs.Common.{drop, refl, sym, ap, ◌∙◌, subst, arith, append-nil}
 use Rattle.std.proofs.lemmas.Bool.{cond_both}
 use Rattle.ip_wire.specs.IpListenEndpoint.{IpListenEndpoint}
 use Rattle.tcp_law.specs.Invariant.{HoldsBetween}
@@ -17,7 +18,8 @@ use Rattle.tcp_model.specs.Value.{TcpValue, room_of, unoffered, ended, with_bloc
 use Rattle.tcp_tie.specs.Tie.{Core, Past, past_of, unsent, FitsIn, IsUnopened, IsEnded, Keeps, IsSideOf, core_of, is_closed_in, is_finished_in}
 use Rattle.tcp_tie.specs.History.{listened, called, with_read, closes_in, closed_by}
 use Rattle.tcp_tie.proofs.Tied.{Tied, stays, is_connected, no_stream, keeps_by}
-use Rattle.tcp_tie.proofs.CallMoves.{with_taken_out, reads_connected, reads_ended, in_core_state, closes_with, connects, listens, Kept, kept_connected, kept_listening, kept_asking, ends}
+use Rattle.tcp_tie.proofs.CallMoves.{with_taken_out, reads_connected, reads_ended, in_core_state, closes_with, connects, listens, Kept, kept_connected}
+use Rattle.tcp_tie.proofs.CallMoves.{kept_listening, kept_asking, ends}
 
 pub closed_state : (state : State) → is_closed state ≡ true → state ≡ In.Closed
 closed_state In.Closed e = refl
@@ -84,10 +86,12 @@ pub reads_none :
     → Tied (with_taken_out c count) (with_read (past_of s) (take count c.waiting)) t
 reads_none c s t count e fits holds =
     stays _ _ s t holds
-    (ap (λ (bytes : List ℕ). record (past_of s) { read = bytes }) (sym (append-nil s.read) ∙ ap (λ (bytes : List ℕ). s.read ++ bytes) (sym (take-empty count c.waiting e))))
+    (ap (λ (bytes : List ℕ). record (past_of s) { read = bytes }) (sym (append-nil s.read) ∙
+    ap (λ (bytes : List ℕ). s.read ++ bytes) (sym (take-empty count c.waiting e))))
     (subst (λ (c : Core). FitsIn c.state c (unsent s)) (nothing_taken_out c count e) fits)
 
-pub same_read : (c : Core) (s t : Side) (count : ℕ) → c.waiting ≡ s.waiting → Tied (with_taken_out c count) (with_read (past_of s) (take count s.waiting)) t → Tied (with_taken_out c count) (with_read (past_of s) (take count c.waiting)) t
+pub same_read : (c : Core) (s t : Side) (count : ℕ) → c.waiting ≡ s.waiting → Tied (with_taken_out c count) (with_read (past_of s) (take count s.waiting)) t →
+    Tied (with_taken_out c count) (with_read (past_of s) (take count c.waiting)) t
 same_read c s t count e led = subst (λ (bytes : List ℕ). Tied (with_taken_out c count) (with_read (past_of s) (take count bytes)) t) (sym e) led
 
 pub reads_in :
@@ -123,7 +127,8 @@ kept_in In.SynSent c s t e holds f = kept_asking c s t holds f
 kept_in other c s t e holds f = kept_connected c s f
 
 -- CLOSED stays, whatever names it has
-pub closed_still : (c new : Core) (s t : Side) (p : Past) → IsUnopened c (unsent s) ⊎ IsEnded c (unsent s) → new.state ≡ In.Closed → new.took_fin ≡ c.took_fin → new.queue ≡ c.queue → new.waiting ≡ c.waiting → new.map ≡ c.map
+pub closed_still : (c new : Core) (s t : Side) (p : Past) → IsUnopened c (unsent s) ⊎ IsEnded c (unsent s) → new.state ≡ In.Closed → new.took_fin ≡ c.took_fin →
+    new.queue ≡ c.queue → new.waiting ≡ c.waiting → new.map ≡ c.map
     → past_of s ≡ p → HoldsBetween s t → Tied new p t
 closed_still c new s t p (inl u) closed took_fin queue waiting map past holds =
     let u' : IsUnopened new (unsent s) = record {
@@ -150,7 +155,8 @@ pub to_closed :
     → FitsIn c.state c (unsent s) → HoldsBetween s t → Tied new (past_of s) t
 to_closed c new s t closed took_fin queue waiting map fits holds = by (is_closed c.state) refl where
   by : (test : Bool) → is_closed c.state ≡ test → Tied new (past_of s) t
-  by true e = closed_still c new s t (past_of s) (subst (λ (state : State). FitsIn state c (unsent s)) (closed_state c.state e) fits) closed took_fin queue waiting map refl holds
+  by true e = closed_still c new s t (past_of s) (subst (λ (state : State). FitsIn state c (unsent s)) (closed_state c.state e) fits) closed took_fin queue
+      waiting map refl holds
   by false e = ends c new s t (kept_in c.state c s t e holds fits) closed took_fin queue waiting map holds
 
 pub keeps_abort : (v w : TcpValue) (p q : Past) → Keeps v p w q → Keeps (abort_after v) p w q
@@ -178,11 +184,14 @@ closes_in_state In.Closed c s t e other_state f holds = stays _ _ s t holds refl
 closes_in_state In.Listen c s t e other_state f holds = ends c (in_core_state c In.Closed) s t (kept_listening c s f) refl refl refl refl refl holds
 closes_in_state In.SynSent c s t e other_state f holds = absurd (cc)
 closes_in_state In.SynReceived c s t e other_state f holds =
-    closes_with c s t In.FinWait1 (ap is_connected e) refl refl (ap is_closed_in e) refl (sym (ap is_finished_in e)) refl (ap (λ (state : State). one_if (owes_fin state)) e) (inr refl) f holds
+    closes_with c s t In.FinWait1 (ap is_connected e) refl refl (ap is_closed_in e) refl (sym (ap is_finished_in e)) refl
+    (ap (λ (state : State). one_if (owes_fin state)) e) (inr refl) f holds
 closes_in_state In.Established c s t e other_state f holds =
-    closes_with c s t In.FinWait1 (ap is_connected e) refl refl (ap is_closed_in e) refl (sym (ap is_finished_in e)) refl (ap (λ (state : State). one_if (owes_fin state)) e) (inr refl) f holds
+    closes_with c s t In.FinWait1 (ap is_connected e) refl refl (ap is_closed_in e) refl (sym (ap is_finished_in e)) refl
+    (ap (λ (state : State). one_if (owes_fin state)) e) (inr refl) f holds
 closes_in_state In.CloseWait c s t e other_state f holds =
-    closes_with c s t In.LastAck (ap is_connected e) refl refl (ap is_closed_in e) refl (sym (ap is_finished_in e)) refl (ap (λ (state : State). one_if (owes_fin state)) e) (acked f.opened) f holds
+    closes_with c s t In.LastAck (ap is_connected e) refl refl (ap is_closed_in e) refl (sym (ap is_finished_in e)) refl
+    (ap (λ (state : State). one_if (owes_fin state)) e) (acked f.opened) f holds
   where
     acked : (c.syn_unacked ≡ false) ⊎ (sends_syn c.state ≡ true) → (c.syn_unacked ≡ false) ⊎ (sends_syn In.LastAck ≡ true)
     acked (inl none) = inl none

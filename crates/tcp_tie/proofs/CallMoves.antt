@@ -1,5 +1,6 @@
 -- Each call of a user is a move, or none.
-use Rattle.std.proofs.Common.{◌≡◌, ◌⊎◌, inr, ℕ, suc, ◌+◌, ◌-◌, ◌^◌, ◌<◌, ◌≤◌, true, false, List, [], ◌∷◌, ◌++◌, Option, Some, None, ◌≢◌, length, take, drop, zero, refl, sym, ap, ◌∙◌, subst, arith, length-append, append_assoc, take-append-drop}
+use Rattle.std.proofs.Common.{◌≡◌, ◌⊎◌, inr, ℕ, suc, ◌+◌, ◌-◌, ◌^◌, ◌<◌, ◌≤◌, true, false, List, [], ◌∷◌, ◌++◌, Option, Some, None, ◌≢◌, length, take, drop}
+use Rattle.std.proofs.Common.{zero, refl, sym, ap, ◌∙◌, subst, arith, length-append, append_assoc, take-append-drop}
 use Rattle.std.proofs.lemmas.List.{drop-append-le}
 use Rattle.tcp_law.specs.Invariant.{HoldsBetween}
 use Rattle.tcp_law.specs.Move.{after, MayWrite, listening}
@@ -18,7 +19,8 @@ use Rattle.tcp_model.specs.EndpointPair.{EndpointPair}
 use Rattle.tcp_model.specs.State.{State}
 use Rattle.tcp_model.specs.State.TheVariants as In
 use Rattle.tcp_model.specs.States.{takes_writes, owes_fin, sends_syn}
-use Rattle.tcp_tie.specs.Tie.{Core, Past, past_of, unsent, FitsIn, IsConnectedAs, IsUnopened, IsEnded, IsListening, IsAsking, phase_of, is_closed_in, is_finished_in, IsBlank, Keeps, core_of}
+use Rattle.tcp_tie.specs.Tie.{Core, Past, past_of, unsent, FitsIn, IsConnectedAs, IsUnopened, IsEnded, IsListening, IsAsking, phase_of, is_closed_in}
+use Rattle.tcp_tie.specs.Tie.{is_finished_in, IsBlank, Keeps, core_of}
 use Rattle.tcp_tie.specs.History.{listened, called, with_written, with_read, closed_by}
 use Rattle.tcp_tie.proofs.Tied.{Tied, tied_by, fits_connected, connected_fits, writes_in, is_connected, is_connected_side, no_stream, keeps_by}
 
@@ -74,7 +76,8 @@ pub read_waiting : (w xs : List ℕ) (count : ℕ) → w ≡ xs → drop count w
 read_waiting w xs count e = ap (λ (bytes : List ℕ). drop count bytes) e
 
 pub read_map : (m n : List (Option ℕ)) (w xs : List ℕ) (count : ℕ) → m ≡ n → w ≡ xs → m ++ space (length (take count w)) ≡ n ++ space (length (take count xs))
-read_map m n w xs count e f = ap (λ (map : List (Option ℕ)). map ++ space (length (take count w))) e ∙ ap (λ (bytes : List ℕ). n ++ space (length (take count bytes))) f
+read_map m n w xs count e f = ap (λ (map : List (Option ℕ)). map ++ space (length (take count w))) e ∙
+    ap (λ (bytes : List ℕ). n ++ space (length (take count bytes))) f
 
 pub front-space : (n : ℕ) → front (space n) ≡ []
 front-space zero = refl
@@ -92,7 +95,8 @@ pub reads_connected :
     → Tied (with_taken_out c count) (with_read (past_of s) (take count s.waiting)) t
 reads_connected c s t count e fits holds =
     let k = fits_connected c.state c (unsent s) e fits in
-    let same = append_assoc s.read (take count s.waiting) (drop count s.waiting) ∙ ap (λ (bytes : List ℕ). s.read ++ bytes) (take-append-drop count s.waiting) in
+    let same = append_assoc s.read (take count s.waiting) (drop count s.waiting) ∙
+    ap (λ (bytes : List ℕ). s.read ++ bytes) (take-append-drop count s.waiting) in
     let k' : IsConnectedAs (with_taken_out c count) (unsent (after s (Reads count))) = record {
       once = k.once;
       phase = k.phase;
@@ -129,7 +133,8 @@ reads_ended c s t count e k holds =
       waiting = read_waiting c.waiting s.waiting count k.waiting;
       map = read_map c.map s.window c.waiting s.waiting count k.map k.waiting;
     } in
-    tied_by _ _ s t (Reads count) holds tt refl (subst (λ (state : State). FitsIn state (with_taken_out c count) (unsent (after s (Reads count)))) (sym e) (inr k'))
+    tied_by _ _ s t (Reads count) holds tt refl
+    (subst (λ (state : State). FitsIn state (with_taken_out c count) (unsent (after s (Reads count)))) (sym e) (inr k'))
 
 -- CLOSE
 
@@ -138,8 +143,10 @@ in_core_state c state = record c { state = state }
 
 -- a FIN is asked for
 pub closes_with :
-    (c : Core) (s t : Side) (state : State) → is_connected c.state ≡ true → is_connected state ≡ true → phase_of state ≡ Synchronized → is_closed_in c.state ≡ false → is_closed_in state ≡ true
-    → is_finished_in state ≡ is_finished_in c.state → one_if (owes_fin state) ≡ 1 → one_if (owes_fin c.state) ≡ 0 → ((c.syn_unacked ≡ false) ⊎ (sends_syn state ≡ true))
+    (c : Core) (s t : Side) (state : State) → is_connected c.state ≡ true → is_connected state ≡ true → phase_of state ≡ Synchronized →
+    is_closed_in c.state ≡ false → is_closed_in state ≡ true
+    → is_finished_in state ≡ is_finished_in c.state → one_if (owes_fin state) ≡ 1 → one_if (owes_fin c.state) ≡ 0 →
+    ((c.syn_unacked ≡ false) ⊎ (sends_syn state ≡ true))
     → IsConnectedAs c (unsent s) → HoldsBetween s t
     → Tied (in_core_state c state) (closed_by true (past_of s)) t
 closes_with c s t state e e' phase was closes same owes owed opened k holds =

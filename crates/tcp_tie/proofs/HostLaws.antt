@@ -1,5 +1,6 @@
 -- The invariant between two sockets, where what each of them sent is told by the segments of its host.
-use Rattle.std.proofs.Common.{◌≡◌, ◌≢◌, ℕ, zero, suc, ◌==◌, Bool, true, false, if◌then◌else◌, List, [], ◌∷◌, ◌++◌, Option, Some, None, slice_get, refl, sym, ap, ◌∙◌, subst, arith}
+use Rattle.std.proofs.Common.{◌≡◌, ◌≢◌, ℕ, zero, suc, ◌==◌, Bool, true, false, if◌then◌else◌, List, [], ◌∷◌, ◌++◌, Option, Some, None, slice_get, refl, sym, ap}
+use Rattle.std.proofs.Common.{◌∙◌, subst, arith}
 use Rattle.std.proofs.lemmas.Bool.{cond_both, eqb-true}
 use Rattle.std.proofs.lemmas.Bool.Decides.{nat_tests}
 use Rattle.std.specs.List.{AllByRecursion}
@@ -29,13 +30,15 @@ use Rattle.tcp_tie.proofs.PromiseLemmas.{keeps_reset}
 
 -- SEGMENTS FROM ONE PORT
 
-pub one_more : (port : ℕ) (made : List Made) (x : Made) → sent_from port (made ++ x ∷ []) ≡ (if x.source == port then sent_from port made ++ x.segment ∷ [] else sent_from port made)
+pub one_more : (port : ℕ) (made : List Made) (x : Made) →
+    sent_from port (made ++ x ∷ []) ≡ (if x.source == port then sent_from port made ++ x.segment ∷ [] else sent_from port made)
 one_more port [] x = refl
 one_more port (y ∷ made) x = by (y.source == port) (x.source == port) (one_more port made x) where
   by :
       (here there : Bool) → sent_from port (made ++ x ∷ []) ≡ (if there then sent_from port made ++ x.segment ∷ [] else sent_from port made)
       → (if here then y.segment ∷ sent_from port (made ++ x ∷ []) else sent_from port (made ++ x ∷ []))
-      ≡ (if there then (if here then y.segment ∷ sent_from port made else sent_from port made) ++ x.segment ∷ [] else (if here then y.segment ∷ sent_from port made else sent_from port made))
+      ≡ (if there then (if here then y.segment ∷ sent_from port made else sent_from port made) ++
+      x.segment ∷ [] else (if here then y.segment ∷ sent_from port made else sent_from port made))
   by true true e = ap (λ (more : List Segment). y.segment ∷ more) e
   by true false e = ap (λ (more : List Segment). y.segment ∷ more) e
   by false true e = e
@@ -58,7 +61,8 @@ none_from : (port : ℕ) (made : List Made) (x : Made) → x.source ≢ port →
 none_from port made x e =
     one_more port made x ∙ ap (λ (test : Bool). if test then sent_from port made ++ x.segment ∷ [] else sent_from port made) (test_other x.source port e)
 
-among_at : (port : ℕ) (made : List Made) (x : Made) (k : ℕ) → slice_get made k ≡ Some x → x.source ≡ port → (j : ℕ) × (slice_get (sent_from port made) j ≡ Some x.segment)
+among_at : (port : ℕ) (made : List Made) (x : Made) (k : ℕ) → slice_get made k ≡ Some x → x.source ≡ port →
+    (j : ℕ) × (slice_get (sent_from port made) j ≡ Some x.segment)
 among_at port [] x k e source = absurd (nothing k e) where
   nothing : (k : ℕ) → slice_get {X = Made} [] k ≡ Some x → ⊥
   nothing zero e = absurd (cc)
@@ -66,7 +70,8 @@ among_at port [] x k e source = absurd (nothing k e) where
 among_at port (y ∷ made) x zero e source =
     let same : y ≡ x = cc in
     let here : (y.source == port) ≡ true = test_same y.source port (ap (λ (m : Made). m.source) same ∙ source) in
-    let first : sent_from port (y ∷ made) ≡ y.segment ∷ sent_from port made = ap (λ (test : Bool). if test then y.segment ∷ sent_from port made else sent_from port made) here in
+    let first : sent_from port (y ∷ made) ≡ y.segment ∷ sent_from port made =
+    ap (λ (test : Bool). if test then y.segment ∷ sent_from port made else sent_from port made) here in
     (zero, ap (λ (sent : List Segment). slice_get sent zero) first ∙ ap (λ (m : Made). Some m.segment) same)
 among_at port (y ∷ made) x (suc k) e source = by (y.source == port) (among_at port made x k e source) where
   by :
@@ -87,7 +92,8 @@ resets_from port (y ∷ made) all =
 
 -- THE INVARIANT
 
-pub past_of_sent : (port : ℕ) (made : List Made) (p : Past) (x : Made) → x.source ≡ port → with_sent (past_at port made p) x.segment ≡ past_at port (made ++ x ∷ []) p
+pub past_of_sent : (port : ℕ) (made : List Made) (p : Past) (x : Made) → x.source ≡ port →
+    with_sent (past_at port made p) x.segment ≡ past_at port (made ++ x ∷ []) p
 past_of_sent port made p x source = ap (λ (sent : List Segment). record p { sent = sent }) (sym (more_from port made x source))
 
 pub past_of_answer :
@@ -105,7 +111,8 @@ past_of_offer port made p (Some o) queue from = past_of_sent port made p (made_o
 pub keeps_hosted_arrival :
     (cx : ContextValue) (v w : TcpValue) (p q : Past) (ip : IpRepr) (header : TcpHeader) (bytes : List ℕ) (made theirs : List Made)
     → Keeps v (past_at header.dst_port made p) w (past_at header.src_port theirs q) → IsAmong theirs (made_of header bytes)
-    → Keeps (arrives cx v ip header bytes).socket (past_at header.dst_port (and_answer made (arrives cx v ip header bytes).answer) p) w (past_at header.src_port theirs q)
+    → Keeps (arrives cx v ip header bytes).socket (past_at header.dst_port (and_answer made (arrives cx v ip header bytes).answer) p) w
+    (past_at header.src_port theirs q)
 keeps_hosted_arrival cx v w p q ip header bytes made theirs k among =
     let at = among_sent header.src_port theirs (made_of header bytes) among refl in
     subst (λ (p : Past). Keeps (arrives cx v ip header bytes).socket p w (past_at header.src_port theirs q))
@@ -123,14 +130,17 @@ keeps_hosted_offer cx v w p q o made k has =
     from : (x : OpenOffer) → (offer_of cx v).socket.offered ≡ Some x → x.segment.src_port ≡ o.local
     from x e = let ends = offer_between_ends cx v x e in ends.2.source_port ∙ (has.pair ends.0 ends.1).0
 
-pub keeps_made_elsewhere : (v w : TcpValue) (p q : Past) (port : ℕ) (made : List Made) (x : Made) → Keeps v (past_at port made p) w q → x.source ≢ port → Keeps v (past_at port (made ++ x ∷ []) p) w q
+pub keeps_made_elsewhere : (v w : TcpValue) (p q : Past) (port : ℕ) (made : List Made) (x : Made) → Keeps v (past_at port made p) w q → x.source ≢ port →
+    Keeps v (past_at port (made ++ x ∷ []) p) w q
 keeps_made_elsewhere v w p q port made x k other =
     subst (λ (sent : List Segment). Keeps v (record p { sent = sent }) w q) (sym (none_from port made x other)) k
 
-pub keeps_made_reset : (v w : TcpValue) (p q : Past) (port : ℕ) (made : List Made) (x : Made) → Keeps v (past_at port made p) w q → x.segment.control ≡ Rst → Keeps v (past_at port (made ++ x ∷ []) p) w q
+pub keeps_made_reset : (v w : TcpValue) (p q : Past) (port : ℕ) (made : List Made) (x : Made) → Keeps v (past_at port made p) w q → x.segment.control ≡ Rst →
+    Keeps v (past_at port (made ++ x ∷ []) p) w q
 keeps_made_reset v w p q port made x k reset = by (x.source == port) refl where
   by : (test : Bool) → (x.source == port) ≡ test → Keeps v (past_at port (made ++ x ∷ []) p) w q
-  by true here = subst (λ (p : Past). Keeps v p w q) (past_of_sent port made p x (eqb-true x.source port here)) (keeps_reset v w (past_at port made p) q x.segment reset k)
+  by true here = subst (λ (p : Past). Keeps v p w q) (past_of_sent port made p x (eqb-true x.source port here))
+      (keeps_reset v w (past_at port made p) q x.segment reset k)
   by false there = keeps_made_elsewhere v w p q port made x k (λ same. let clash : true ≡ false = sym (test_same x.source port same) ∙ there in absurd (cc))
 
 -- WITHOUT A PARTNER

@@ -1,5 +1,6 @@
 -- Which segments a socket takes, where its own segments go, and what becomes of its endpoints.
-use Rattle.std.proofs.Common.{◌≡◌, ◌≢◌, ◌⊎◌, inl, inr, ℕ, ◌+◌, ◌==◌, ◌&&◌, nat_lt, nat_le, not, ℤ, Bool, true, false, if◌then◌else◌, List, [], ◌∷◌, Option, Some, None, is_some, length, drop, refl, sym, ap, ◌∙◌, subst}
+use Rattle.std.proofs.Common.{◌≡◌, ◌≢◌, ◌⊎◌, inl, inr, ℕ, ◌+◌, ◌==◌, ◌&&◌, nat_lt, nat_le, not, ℤ, Bool, true, false, if◌then◌else◌, List, [], ◌∷◌, Option}
+use Rattle.std.proofs.Common.{Some, None, is_some, length, drop, refl, sym, ap, ◌∙◌, subst}
 use Rattle.std.proofs.lemmas.Bool.{and_parts, cond_both, eqb-true}
 use Rattle.std.proofs.lemmas.Slice.Eq.{bytes_eq-Decides}
 use Rattle.ip_wire.specs.AddressTests.{is_same_address}
@@ -30,9 +31,11 @@ use Rattle.tcp_model.specs.OpenOffer.{OpenOffer}
 use Rattle.tcp_model.specs.Reply.{Reply}
 use Rattle.tcp_model.specs.State.{State}
 use Rattle.tcp_model.specs.State.TheVariants as In
-use Rattle.tcp_model.specs.Acknowledged.{acknowledged, block_acknowledged, state_after_ack, acks_fin, una_moved, in_state, ended_if, duplicates_after, names_window, windowed, stamp_taken, ranges_taken, counted}
+use Rattle.tcp_model.specs.Acknowledged.{acknowledged, block_acknowledged, state_after_ack, acks_fin, una_moved, in_state, ended_if, duplicates_after}
+use Rattle.tcp_model.specs.Acknowledged.{names_window, windowed, stamp_taken, ranges_taken, counted}
 use Rattle.tcp_model.specs.Answers.{drawn, may_draw, with_draw, acked, answer_for, ranges_held}
-use Rattle.tcp_model.specs.Arrival.{waiting_anew, outside, passed_outside, tells_news, finished, with_content, told, taken, inside, checked, takes_reset, challenges_reset, reset_comes, challenges_syn, received, arrives_in, arrives, is_void_syn}
+use Rattle.tcp_model.specs.Arrival.{waiting_anew, outside, passed_outside, tells_news, finished, with_content, told, taken, inside, checked, takes_reset}
+use Rattle.tcp_model.specs.Arrival.{challenges_reset, reset_comes, challenges_syn, received, arrives_in, arrives, is_void_syn}
 use Rattle.tcp_model.specs.Blocks.{unacked, no_names}
 use Rattle.tcp_model.specs.Calls.{listening, connecting, close_after, abort_after}
 use Rattle.tcp_model.specs.Checks.{Check, acknowledgement_check, is_in_window, taken_down, falls_back}
@@ -41,20 +44,26 @@ use Rattle.tcp_model.specs.Controls.{is_syn, is_fin, is_rst}
 use Rattle.tcp_model.specs.Moments.{is_due, is_over, timeout_from}
 use Rattle.tcp_model.specs.Endpoints.{local_of, remote_of, pair_in, addresses_in, header_for, is_between, is_connected_by, is_bare, takes_address}
 use Rattle.tcp_model.specs.Names.{accepts_in, accepts}
-use Rattle.tcp_model.specs.Offers.{offer_segment, offer_choice, offer_ack, offer_syn, offer_reset, offer_keep_alive, offer_held_back, silent, last_rules, first_rules, backed_off, offer_between, offer_with, offer_of, number_at}
+use Rattle.tcp_model.specs.Offers.{offer_segment, offer_choice, offer_ack, offer_syn, offer_reset, offer_keep_alive, offer_held_back, silent, last_rules}
+use Rattle.tcp_model.specs.Offers.{first_rules, backed_off, offer_between, offer_with, offer_of, number_at}
 use Rattle.tcp_model.specs.Opening.{is_first_syn, opens, takes_answer, acks_syn, syn_answered, connected, crossed, answering}
 use Rattle.tcp_model.specs.Probing.{probe_started, probe_moment, probe_kept}
 use Rattle.tcp_model.specs.Offsets.{past_by, before_by}
-use Rattle.tcp_model.specs.Rules.{control_for, time_wait_end, owes_syn, resends, ack_moment, has_text, text_choice, resend_choice, probe_choice, updates_window, keep_alive_moment, backed_off_now}
-use Rattle.tcp_model.specs.Segments.{no_ranges, rst_reply, reset_for, reply_to, hops_of, segment, sack_segment, ack_segment, syn_segment, reset_segment, keep_alive_segment}
+use Rattle.tcp_model.specs.Rules.{control_for, time_wait_end, owes_syn, resends, ack_moment, has_text, text_choice, resend_choice, probe_choice, updates_window}
+use Rattle.tcp_model.specs.Rules.{keep_alive_moment, backed_off_now}
+use Rattle.tcp_model.specs.Segments.{no_ranges, rst_reply, reset_for, reply_to, hops_of, segment, sack_segment, ack_segment, syn_segment, reset_segment}
+use Rattle.tcp_model.specs.Segments.{keep_alive_segment}
 use Rattle.tcp_model.specs.Retries.{heard, asked, one_more, gives_up, given_up}
 use Rattle.tcp_model.specs.Settled.{settled, recorded, probed, end_of}
-use Rattle.tcp_model.specs.States.{is_closed, is_time_wait, is_listening, is_answering, is_opening, after_ack, after_ack_of_fin, after_fin, after_close, takes_text}
-use Rattle.tcp_model.specs.Text.{Texted, texted, with_text, with_text_at, with_bytes_at, taken_in_order, held_early, laid, has_new_text, with_fin, takes_fin, fin_taken}
+use Rattle.tcp_model.specs.States.{is_closed, is_time_wait, is_listening, is_answering, is_opening, after_ack, after_ack_of_fin, after_fin, after_close}
+use Rattle.tcp_model.specs.States.{takes_text}
+use Rattle.tcp_model.specs.Text.{Texted, texted, with_text, with_text_at, with_bytes_at, taken_in_order, held_early, laid, has_new_text, with_fin, takes_fin}
+use Rattle.tcp_model.specs.Text.{fin_taken}
 use Rattle.tcp_model.specs.Timeout.{timeout_end, timeout_started, timeout_restarted, timed_out}
 use Rattle.tcp_model.specs.Value.{TcpValue, Arrived, with_block, dropped, answered_with, unoffered, ended, queued_in, free_in, room_of, received_of, window_of}
 use Rattle.tcp_tie.specs.Tie.{Core, core_of}
-use Rattle.tcp_tie.specs.Endpoints.{GoesBetween, GoesBack, CameBetween, IsFor, KeepsNames, Forgets, IsOpenedBy, FallsBack, KeepsOrForgets, IsLeftBy, IsRenamed, Ports, IsToward, HasPorts, IsNameless}
+use Rattle.tcp_tie.specs.Endpoints.{GoesBetween, GoesBack, CameBetween, IsFor, KeepsNames, Forgets, IsOpenedBy, FallsBack, KeepsOrForgets, IsLeftBy, IsRenamed}
+use Rattle.tcp_tie.specs.Endpoints.{Ports, IsToward, HasPorts, IsNameless}
 use Rattle.tcp_tie.proofs.CallLaws.{closed_state}
 
 -- WHICH SEGMENTS IT TAKES
@@ -79,7 +88,8 @@ module _ (b : Block) (ip : IpRepr) (header : TcpHeader) where
       let one =
       and_parts (is_same_address (local_of pair.addresses) (destination_of ip))
       (is_same_address (remote_of pair.addresses) (source_of ip) && ((pair.local_port == header.dst_port) && (pair.remote_port == header.src_port))) e in
-      let two = and_parts (is_same_address (remote_of pair.addresses) (source_of ip)) ((pair.local_port == header.dst_port) && (pair.remote_port == header.src_port)) one.1 in
+      let two = and_parts (is_same_address (remote_of pair.addresses) (source_of ip))
+      ((pair.local_port == header.dst_port) && (pair.remote_port == header.src_port)) one.1 in
       let ports = and_parts (pair.local_port == header.dst_port) (pair.remote_port == header.src_port) two.1 in
       record {
         source = sym (same_address (remote_of pair.addresses) (source_of ip) two.0);
@@ -88,7 +98,8 @@ module _ (b : Block) (ip : IpRepr) (header : TcpHeader) where
         destination_port = sym (eqb-true pair.local_port header.dst_port ports.0);
       }
 
-  connected_for : (names : Option EndpointPair) → b.names.pair ≡ names → is_connected_by names ip header ≡ true → (pair : EndpointPair) × (b.names.pair ≡ Some pair) × CameBetween pair ip header
+  connected_for : (names : Option EndpointPair) → b.names.pair ≡ names → is_connected_by names ip header ≡ true → (pair : EndpointPair) ×
+      (b.names.pair ≡ Some pair) × CameBetween pair ip header
   connected_for None named e = absurd (cc)
   connected_for (Some pair) named e = (pair, named, came_between pair e)
 
@@ -104,7 +115,8 @@ module _ (b : Block) (ip : IpRepr) (header : TcpHeader) where
       → ((b.names.listen.port == header.dst_port) && (takes_address b.names.listen.addr (destination_of ip) && is_bare header.ack_number header.control)) ≡ true
       → IsFor b ip header
   listening_for at e =
-      let parts = and_parts (b.names.listen.port == header.dst_port) (takes_address b.names.listen.addr (destination_of ip) && is_bare header.ack_number header.control) e in
+      let parts = and_parts (b.names.listen.port == header.dst_port)
+      (takes_address b.names.listen.addr (destination_of ip) && is_bare header.ack_number header.control) e in
       let rest = and_parts (takes_address b.names.listen.addr (destination_of ip)) (is_bare header.ack_number header.control) parts.1 in
       let bare = bare_of header.ack_number header.control rest.1 in
       record {
@@ -170,7 +182,8 @@ abort_names v =
 
 -- WHEN A SEGMENT COMES
 
-header_back : (ip : IpRepr) (hops len : ℕ) → (source_of (header_for (addresses_in ip) hops len) ≡ destination_of ip) × (destination_of (header_for (addresses_in ip) hops len) ≡ source_of ip)
+header_back : (ip : IpRepr) (hops len : ℕ) → (source_of (header_for (addresses_in ip) hops len) ≡ destination_of ip) ×
+    (destination_of (header_for (addresses_in ip) hops len) ≡ source_of ip)
 header_back (Ip.Ipv4 v) hops len = (refl, refl)
 header_back (Ip.Ipv6 v) hops len = (refl, refl)
 
@@ -211,7 +224,10 @@ module _ (cx : ContextValue) (ip : IpRepr) (header : TcpHeader) where
       (λ _. named_dropped old v (inl names))
 
   named_reset : (v : TcpValue) (size : ℕ) → Named v.block (answered_with v (rst_reply ip header size))
-  named_reset v size = (inl (keeps v.block v.block refl refl), λ reply e. answered_back ip header (rst_reply ip header size) reply (reset_back ip header size) e)
+  named_reset v size = (
+    inl (keeps v.block v.block refl refl),
+    λ reply e. answered_back ip header (rst_reply ip header size) reply (reset_back ip header size) e,
+  )
 
   -- the text and the FIN leave the endpoints
   abbrev Stays : Block → Block → Type 0
@@ -219,7 +235,8 @@ module _ (cx : ContextValue) (ip : IpRepr) (header : TcpHeader) where
 
   text_stays : (v : TcpValue) (place : ℕ) (bytes : List ℕ) → Stays v.block (with_text_at v place bytes).socket.block
   text_stays v place bytes =
-      cond_both (takes_text v.block.state && has_new_text v place bytes) (with_bytes_at v place bytes) (texted v 0 false None) (λ (t : Texted). Stays v.block t.socket.block)
+      cond_both (takes_text v.block.state && has_new_text v place bytes) (with_bytes_at v place bytes) (texted v 0 false None)
+      (λ (t : Texted). Stays v.block t.socket.block)
       (λ _.
       cond_both (place == 0) (taken_in_order v (laid v place bytes)) (held_early v place (laid v place bytes)) (λ (t : Texted). Stays v.block t.socket.block)
       (λ _. (refl, refl))
@@ -237,9 +254,11 @@ module _ (cx : ContextValue) (ip : IpRepr) (header : TcpHeader) where
       (λ _. (refl, listening_after_fin b.state))
       (λ _. (refl, refl))
 
-  named_answer : (old : Block) (v : TcpValue) (size : ℕ) (fills : Bool) (early : Option ℕ) → KeepsNames old v.block → Named old (answer_for cx v ip header size fills early)
+  named_answer : (old : Block) (v : TcpValue) (size : ℕ) (fills : Bool) (early : Option ℕ) → KeepsNames old v.block →
+      Named old (answer_for cx v ip header size fills early)
   named_answer old v size fills (Some place) names = named_acked old v (ranges_held v place) names
-  named_answer old v size fills None names = named_dropped old (answer_for cx v ip header size fills None).socket (inl (record { names = names.names; listening = names.listening }))
+  named_answer old v size fills None names =
+      named_dropped old (answer_for cx v ip header size fills None).socket (inl (record { names = names.names; listening = names.listening }))
 
   named_finished : (old before : Block) (t : Texted) (size : ℕ) → KeepsNames old t.socket.block → Named old (finished cx before t ip header size)
   named_finished old before t size names =
@@ -308,8 +327,10 @@ module _ (cx : ContextValue) (ip : IpRepr) (header : TcpHeader) where
   renamed_down v =
       cond_both (falls_back v.block) (listening v v.block.names.listen) (ended v) (λ (w : TcpValue). Renamed v.block (dropped w))
       (λ e.
-      let parts = and_parts (is_answering v.block.state) (not (v.block.names.listen.port == 0)) e in
-      (inr (inl (record { answering = parts.0; listened = not_true (v.block.names.listen.port == 0) parts.1; state = refl; names = refl })), λ reply none. absurd (cc)))
+      let parts = and_parts (is_answering v.block.state) (not (v.block.names.listen.port == 0)) e in (
+        inr (inl (record { answering = parts.0; listened = not_true (v.block.names.listen.port == 0) parts.1; state = refl; names = refl })),
+        λ reply none. absurd (cc),
+      ))
       (λ _. renamed_by v.block (dropped (ended v)) (named_dropped v.block (ended v) (inr (record { state = refl; names = refl }))))
 
   stays_named : (v : TcpValue) → Named v.block (dropped v)
@@ -327,11 +348,13 @@ module _ (cx : ContextValue) (ip : IpRepr) (header : TcpHeader) where
       (λ _. draws_named v)
       (λ _. named_taken v bytes by))
       (λ _.
-      cond_both (tells_news v header (length bytes)) (outside cx (acknowledged v by cx.moment) ip header) (outside cx v ip header) (λ (a : Arrived). Named v.block a)
+      cond_both (tells_news v header (length bytes)) (outside cx (acknowledged v by cx.moment) ip header) (outside cx v ip header)
+      (λ (a : Arrived). Named v.block a)
       (λ _. named_outside v.block (acknowledged v by cx.moment) (acked_names v.block by (queued_in v)))
       (λ _. named_outside v.block v (inl (keeps v.block v.block refl refl))))
   named_checked Old v bytes =
-      cond_both (is_in_window v.block (free_in v) header (length bytes)) (with_content cx (with_block v (heard v.block)) ip header bytes) (outside cx v ip header)
+      cond_both (is_in_window v.block (free_in v) header (length bytes)) (with_content cx (with_block v (heard v.block)) ip header bytes)
+      (outside cx v ip header)
       (λ (a : Arrived). Named v.block a)
       (λ _. named_content v.block (with_block v (heard v.block)) bytes (keeps v.block (heard v.block) refl refl))
       (λ _. named_outside v.block v (inl (keeps v.block v.block refl refl)))
@@ -369,7 +392,8 @@ module _ (cx : ContextValue) (ip : IpRepr) (header : TcpHeader) where
 
   syn_answer_off : (b : Block) → (((syn_answered b header cx.moment).names ≡ b.names) × (is_listening (syn_answered b header cx.moment).state ≡ false))
   syn_answer_off b =
-      cond_both (is_some header.ack_number) (connected b header cx.moment) (crossed b header) (λ (new : Block). (new.names ≡ b.names) × (is_listening new.state ≡ false))
+      cond_both (is_some header.ack_number) (connected b header cx.moment) (crossed b header) (λ (new : Block). (new.names ≡ b.names) ×
+      (is_listening new.state ≡ false))
       (λ _. (refl, refl))
       (λ _. (refl, refl))
 
@@ -411,7 +435,8 @@ module _ (cx : ContextValue) (ip : IpRepr) (header : TcpHeader) where
       (λ _. renamed_by v.block (dropped (unoffered v)) (named_dropped v.block (unoffered v) (inl (keeps v.block v.block refl refl))))
       (λ _. renamed_in v.block.state (unoffered v) bytes refl)
 
-pub arrival_names : (cx : ContextValue) (v : TcpValue) (ip : IpRepr) (header : TcpHeader) (bytes : List ℕ) → IsRenamed ip header v.block (arrives cx v ip header bytes).socket.block
+pub arrival_names : (cx : ContextValue) (v : TcpValue) (ip : IpRepr) (header : TcpHeader) (bytes : List ℕ) →
+    IsRenamed ip header v.block (arrives cx v ip header bytes).socket.block
 arrival_names cx v ip header bytes = (arrival_renamed cx ip header v bytes).0
 
 pub answer_back :
@@ -421,7 +446,8 @@ answer_back cx v ip header bytes = (arrival_renamed cx ip header v bytes).1
 
 -- WHEN IT IS ASKED FOR A SEGMENT
 
-header_between : (pair : AddressPair) (hops len : ℕ) → (source_of (header_for pair hops len) ≡ local_of pair) × (destination_of (header_for pair hops len) ≡ remote_of pair)
+header_between : (pair : AddressPair) (hops len : ℕ) → (source_of (header_for pair hops len) ≡ local_of pair) ×
+    (destination_of (header_for pair hops len) ≡ remote_of pair)
 header_between (Pair.Ipv4 local remote) hops len = (refl, refl)
 header_between (Pair.Ipv6 local remote) hops len = (refl, refl)
 
@@ -441,7 +467,8 @@ module _ (cx : ContextValue) (pair : EndpointPair) where
   Directed old o =
       ((x : OpenOffer) → o.socket.offered ≡ Some x → GoesBetween pair x) × (IsLeftBy old (settled true o.socket).block × IsLeftBy old o.socket.block)
 
-  between : (x : OpenOffer) (hops len : ℕ) → x.header ≡ header_for pair.addresses hops len → x.segment.src_port ≡ pair.local_port → x.segment.dst_port ≡ pair.remote_port → GoesBetween pair x
+  between : (x : OpenOffer) (hops len : ℕ) → x.header ≡ header_for pair.addresses hops len → x.segment.src_port ≡ pair.local_port →
+      x.segment.dst_port ≡ pair.remote_port → GoesBetween pair x
   between x hops len header source destination =
       let ends = header_between pair.addresses hops len in
       record {
@@ -497,9 +524,12 @@ module _ (cx : ContextValue) (pair : EndpointPair) where
         (λ (o : Offered TcpValue). Directed old o)
         (λ _.
         directed_segment Kind.Probe probe 0 1 refl refl
-        (inr (inl (asked_names old (probed (recorded b (offer_with_header Kind.Probe probe) (room_of v.received)) (end_of b (offer_with_header Kind.Probe probe)) cx.moment) cx.moment (record { names = names.names; listening = names.listening })))))
+        (inr (inl (asked_names old
+        (probed (recorded b (offer_with_header Kind.Probe probe) (room_of v.received)) (end_of b (offer_with_header Kind.Probe probe)) cx.moment) cx.moment
+        (record { names = names.names; listening = names.listening })))))
         (λ _.
-        directed_segment Kind.Text (segment b pair cx.moment (window_of (plain v b)) (control_for text (queued_in v)) (number_at b text.place)) text.place text.len refl refl
+        directed_segment Kind.Text (segment b pair cx.moment (window_of (plain v b)) (control_for text (queued_in v)) (number_at b text.place)) text.place
+        text.len refl refl
         (inr (inl (record { names = names.names; listening = names.listening }))))
 
     directed_last : Directed old (last_rules cx (plain v b) pair)
@@ -526,10 +556,12 @@ module _ (cx : ContextValue) (pair : EndpointPair) where
         (λ (o : Offered TcpValue). Directed old o)
         (λ _. directed_segment Kind.WindowUpdate ack 0 0 refl refl (inr (inl (record { names = names.names; listening = names.listening }))))
         (λ _.
-        cond_both (is_due cx.moment (keep_alive_moment b)) (offer_keep_alive cx (plain v b) pair) (silent false (plain v b)) (λ (o : Offered TcpValue). Directed old o)
+        cond_both (is_due cx.moment (keep_alive_moment b)) (offer_keep_alive cx (plain v b) pair) (silent false (plain v b))
+        (λ (o : Offered TcpValue). Directed old o)
         (λ _.
         directed_segment Kind.KeepAlive alive 0 1 refl refl
-        (inr (inl (asked_names old (recorded b (offer_with_header Kind.KeepAlive alive) (room_of v.received)) cx.moment (record { names = names.names; listening = names.listening })))))
+        (inr (inl (asked_names old (recorded b (offer_with_header Kind.KeepAlive alive) (room_of v.received)) cx.moment
+        (record { names = names.names; listening = names.listening })))))
         (λ _. directed_silent false))))
 
   directed_first : (v : TcpValue) (old b : Block) → KeepsNames old b → Directed old (first_rules cx (plain v b) pair)
@@ -551,14 +583,16 @@ module _ (cx : ContextValue) (pair : EndpointPair) where
       else last_rules cx (with_block (plain v b) probing) pair)
       (λ (o : Offered TcpValue). Directed old o)
       (λ _.
-      directed_segment v old b names Kind.FastRetransmission (segment b pair cx.moment window (control_for again (queued_in v)) (number_at b again.place)) again.place again.len refl refl
+      directed_segment v old b names Kind.FastRetransmission (segment b pair cx.moment window (control_for again (queued_in v)) (number_at b again.place))
+      again.place again.len refl refl
       (inr (inl (record { names = names.names; listening = names.listening }))))
       (λ _.
       cond_both (has_text b pair.addresses cx.ip_mtu v.queued) (offer_choice Kind.Text cx (plain v b) pair text)
       (last_rules cx (with_block (plain v b) probing) pair)
       (λ (o : Offered TcpValue). Directed old o)
       (λ _.
-      directed_segment v old b names Kind.Text (segment b pair cx.moment window (control_for text (queued_in v)) (number_at b text.place)) text.place text.len refl refl
+      directed_segment v old b names Kind.Text (segment b pair cx.moment window (control_for text (queued_in v)) (number_at b text.place)) text.place
+      text.len refl refl
       (inr (inl (record { names = names.names; listening = names.listening }))))
       (λ _. directed_last v old probing (record { names = names.names; listening = names.listening }))))
 
@@ -601,7 +635,8 @@ module _ (cx : ContextValue) (pair : EndpointPair) where
       (λ (o : Offered TcpValue). Directed v.block o)
       (λ _.
       cond_both v.block.sender.reset_due (offer_reset cx (unoffered v) pair) (silent false (unoffered v)) (λ (o : Offered TcpValue). Directed v.block o)
-      (λ _. directed_segment v v.block v.block same Kind.Reset (reset_segment v.block pair cx.moment (window_of v)) 0 0 refl refl (inr (inr (record { state = refl; names = refl }))))
+      (λ _. directed_segment v v.block v.block same Kind.Reset (reset_segment v.block pair cx.moment (window_of v)) 0 0 refl refl
+      (inr (inr (record { state = refl; names = refl }))))
       (λ _. directed_silent v v.block v.block same false))
       (λ _.
       cond_both (gives_up cx.moment v.block (queued_in v)) (silent true (given_up (unoffered v)))
@@ -609,7 +644,8 @@ module _ (cx : ContextValue) (pair : EndpointPair) where
       (λ (o : Offered TcpValue). Directed v.block o)
       (λ _. directed_end v)
       (λ _.
-      cond_both (is_due cx.moment v.block.timers.retransmit_at) (backed_off_now started) started (λ (b : Block). Directed v.block (first_rules cx (with_block (unoffered v) b) pair))
+      cond_both (is_due cx.moment v.block.timers.retransmit_at) (backed_off_now started) started
+      (λ (b : Block). Directed v.block (first_rules cx (with_block (unoffered v) b) pair))
       (λ _. directed_first v v.block (backed_off_now started) (keeps v.block (backed_off_now started) refl refl))
       (λ _. directed_first v v.block started (keeps v.block started refl refl))))))
 
@@ -648,7 +684,8 @@ closed_off other e f = absurd (cc)
 ports_kept : (o : Ports) (old new : Block) → KeepsNames old new → HasPorts o old → HasPorts o new
 ports_kept o old new k has = record {
   listening = λ e. let port = has.listening (k.listening e) in (ap (λ (n : Names). n.listen.port) k.names ∙ port.0, port.1);
-  listened = λ e. let port = has.listened (sym (ap (λ (n : Names). n.listen.port == 0) k.names) ∙ e) in (ap (λ (n : Names). n.listen.port) k.names ∙ port.0, port.1);
+  listened = λ e. let port = has.listened (sym (ap (λ (n : Names). n.listen.port == 0) k.names) ∙ e) in
+      (ap (λ (n : Names). n.listen.port) k.names ∙ port.0, port.1);
   pair = λ pair e. has.pair pair (sym (ap (λ (n : Names). n.pair) k.names) ∙ e);
 }
 
@@ -680,7 +717,8 @@ ports_left o old new (inr kept) has = ports_after o old new kept has
 pub ports_listening : (v : TcpValue) (endpoint : IpListenEndpoint) → HasPorts (record { local = endpoint.port; remote = None }) (listening v endpoint).block
 ports_listening v endpoint = record { listening = λ _. (refl, refl); listened = λ _. (refl, refl); pair = λ pair e. absurd (cc) }
 
-pub ports_connecting : (v : TcpValue) (pair : EndpointPair) (number : ℕ) → HasPorts (record { local = pair.local_port; remote = Some pair.remote_port }) (connecting v pair number).block
+pub ports_connecting : (v : TcpValue) (pair : EndpointPair) (number : ℕ) →
+    HasPorts (record { local = pair.local_port; remote = Some pair.remote_port }) (connecting v pair number).block
 ports_connecting v pair number = record {
   listening = λ e. absurd (cc);
   listened = λ e. absurd (cc);
@@ -689,7 +727,8 @@ ports_connecting v pair number = record {
 
 pub ports_same : (v new : TcpValue) (o : Ports) → core_of new ≡ core_of v → HasPorts o v.block → HasPorts o new.block
 ports_same v new o e has = record {
-  listening = λ listens. let port = has.listening (sym (ap (λ (c : Core). is_listening c.state) e) ∙ listens) in (ap (λ (c : Core). c.listen_port) e ∙ port.0, port.1);
+  listening = λ listens. let port = has.listening (sym (ap (λ (c : Core). is_listening c.state) e) ∙ listens) in
+      (ap (λ (c : Core). c.listen_port) e ∙ port.0, port.1);
   listened = λ named. let port = has.listened (sym (ap (λ (c : Core). c.listen_port == 0) e) ∙ named) in (ap (λ (c : Core). c.listen_port) e ∙ port.0, port.1);
   pair = λ pair named. has.pair pair (sym (ap (λ (c : Core). c.pair) e) ∙ named);
 }
@@ -709,7 +748,8 @@ ports_withheld cx v o has = ports_left o v.block (settled false (offer_of cx v).
 open_toward : (remote : Option ℕ) (port : ℕ) → remote ≡ None → IsToward remote port
 open_toward remote port e = subst (λ (remote : Option ℕ). IsToward remote port) (sym e) tt
 
-ports_opened : (o : Ports) (old new : Block) (ip : IpRepr) (header : TcpHeader) → header.dst_port ≡ old.names.listen.port → IsOpenedBy ip header old new → HasPorts o old → HasPorts o new
+ports_opened : (o : Ports) (old new : Block) (ip : IpRepr) (header : TcpHeader) → header.dst_port ≡ old.names.listen.port → IsOpenedBy ip header old new →
+    HasPorts o old → HasPorts o new
 ports_opened o old new ip header port opened has =
     let mine = has.listening opened.listening in
     record {
@@ -725,7 +765,8 @@ ports_opened o old new ip header port opened has =
     off In.SynReceived e f = absurd (cc)
     off other e f = absurd (cc)
 
-ports_renamed : (o : Ports) (old new : Block) (ip : IpRepr) (header : TcpHeader) → IsFor old ip header → IsRenamed ip header old new → HasPorts o old → HasPorts o new
+ports_renamed : (o : Ports) (old new : Block) (ip : IpRepr) (header : TcpHeader) → IsFor old ip header → IsRenamed ip header old new → HasPorts o old →
+    HasPorts o new
 ports_renamed o old new ip header mine (inl opened) has = ports_opened o old new ip header (mine.listening opened.listening).0 opened has
 ports_renamed o old new ip header mine (inr (inl fallen)) has = ports_fallen o old new fallen has
 ports_renamed o old new ip header mine (inr (inr kept)) has = ports_after o old new kept has
@@ -745,7 +786,8 @@ pub nameless_drops :
     (cx : ContextValue) (v : TcpValue) (ip : IpRepr) (header : TcpHeader) (bytes : List ℕ) → IsNameless v.block
     → arrives cx v ip header bytes ≡ dropped (unoffered v)
 nameless_drops cx v ip header bytes n =
-    cond_both (is_void_syn header) (dropped (unoffered v)) (arrives_in v.block.state cx (unoffered v) ip header bytes) (λ (a : Arrived). a ≡ dropped (unoffered v))
+    cond_both (is_void_syn header) (dropped (unoffered v)) (arrives_in v.block.state cx (unoffered v) ip header bytes) (λ (a : Arrived). a ≡
+    dropped (unoffered v))
     (λ _. refl)
     (λ _. ap (λ (state : State). arrives_in state cx (unoffered v) ip header bytes) (closed_state v.block.state n.state))
 

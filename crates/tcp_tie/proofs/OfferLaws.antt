@@ -1,5 +1,6 @@
 -- Each offer, with its settling, keeps the invariant.
-use Rattle.std.proofs.Common.{◌≡◌, ◌⊎◌, inl, inr, ℕ, zero, suc, ◌+◌, ◌-◌, ◌/◌, ◌%◌, ◌^◌, ◌<◌, ◌≤◌, nat_lt, nat_le, min, max, not, ◌==◌, ◌&&◌, ℤ, Bool, true, false, if◌then◌else◌, [], Option, Some, None, length, take, drop, refl, sym, ap, ◌∙◌, subst, arith}
+use Rattle.std.proofs.Common.{◌≡◌, ◌⊎◌, inl, inr, ℕ, zero, suc, ◌+◌, ◌-◌, ◌/◌, ◌%◌, ◌^◌, ◌<◌, ◌≤◌, nat_lt, nat_le, min, max, not, ◌==◌, ◌&&◌, ℤ, Bool, true}
+use Rattle.std.proofs.Common.{false, if◌then◌else◌, [], Option, Some, None, length, take, drop, refl, sym, ap, ◌∙◌, subst, arith}
 use Rattle.std.proofs.lemmas.Bool.{and_parts, cond_both, eqb-true}
 use Rattle.std.proofs.lemmas.Bool.Decides.{nat_tests}
 use Rattle.ip_wire.specs.Control.{control_len}
@@ -27,10 +28,13 @@ use Rattle.tcp_model.specs.Calls.{listening}
 use Rattle.tcp_model.specs.Checks.{falls_back}
 use Rattle.tcp_model.specs.Endpoints.{header_for}
 use Rattle.tcp_model.specs.Moments.{is_due, is_over, timeout_from}
-use Rattle.tcp_model.specs.Offers.{offer_choice, offer_ack, offer_syn, offer_reset, offer_keep_alive, offer_held_back, silent, last_rules, first_rules, backed_off, offer_between, offer_with, offer_of, number_at}
+use Rattle.tcp_model.specs.Offers.{offer_choice, offer_ack, offer_syn, offer_reset, offer_keep_alive, offer_held_back, silent, last_rules, first_rules}
+use Rattle.tcp_model.specs.Offers.{backed_off, offer_between, offer_with, offer_of, number_at}
 use Rattle.tcp_model.specs.Probing.{probe_started, probe_moment, is_probing, is_window_small}
 use Rattle.tcp_model.specs.Retries.{asked, one_more, gives_up, given_up}
-use Rattle.tcp_model.specs.Rules.{Choice, time_wait_end, owes_syn, resends, ack_moment, has_text, text_choice, resend_choice, probe_choice, control_for, updates_window, keep_alive_moment, backed_off_now, fin_goes, next_place, size_limit, window_limit, congestion_limit, unbroken, is_sendable, beyond, sent_places}
+use Rattle.tcp_model.specs.Rules.{Choice, time_wait_end, owes_syn, resends, ack_moment, has_text, text_choice, resend_choice, probe_choice, control_for}
+use Rattle.tcp_model.specs.Rules.{updates_window, keep_alive_moment, backed_off_now, fin_goes, next_place, size_limit, window_limit, congestion_limit, unbroken}
+use Rattle.tcp_model.specs.Rules.{is_sendable, beyond, sent_places}
 use Rattle.tcp_model.specs.Segments.{segment, reset_segment, keep_alive_segment, hops_of}
 use Rattle.tcp_model.specs.Settled.{settled, recorded, probed, end_of}
 use Rattle.tcp_model.specs.States.{is_closed, is_answering, owes_fin, sends_syn, sends_text, takes_text, keeps_alive}
@@ -40,7 +44,8 @@ use Rattle.tcp_tie.specs.Tie.{Core, Past, unsent, FitsIn, IsAsking, Keeps, core_
 use Rattle.tcp_tie.specs.History.{with_sent, with_offer}
 use Rattle.tcp_tie.proofs.Tied.{Tied, is_connected, keeps_by, takes_in}
 use Rattle.tcp_tie.proofs.CallLaws.{to_closed}
-use Rattle.tcp_tie.proofs.OfferMoves.{with_top, raised, raised_asking, una_small, syn_of, sends_in, sends_data, sends_keep_alive, sends_syn_first, sends_syn_ack}
+use Rattle.tcp_tie.proofs.OfferMoves.{with_top, raised, raised_asking, una_small, syn_of, sends_in, sends_data, sends_keep_alive, sends_syn_first}
+use Rattle.tcp_tie.proofs.OfferMoves.{sends_syn_ack}
 use Rattle.tcp_tie.proofs.OpeningLaws.{tied_back}
 use Rattle.tcp_tie.proofs.TextMoves.{sends_ack, sends_reset}
 
@@ -53,7 +58,8 @@ abbrev pub plain : TcpValue → Block → TcpValue
 plain v b = record v { block = b; offered = None }
 
 -- which states offer: those with a remote endpoint
-offering : (state : State) (c : Core) (s : Side) (pair : EndpointPair) → c.pair ≡ Some pair → is_closed state ≡ false → FitsIn state c (unsent s) → (state ≡ In.SynSent) ⊎ (is_connected state ≡ true)
+offering : (state : State) (c : Core) (s : Side) (pair : EndpointPair) → c.pair ≡ Some pair → is_closed state ≡ false → FitsIn state c (unsent s) →
+    (state ≡ In.SynSent) ⊎ (is_connected state ≡ true)
 offering In.Closed c s pair e open_yet fits = absurd (cc)
 offering In.Listen c s pair e open_yet fits = absurd (let clash : None ≡ Some pair = sym fits.unnamed ∙ e in cc)
 offering In.SynSent c s pair e open_yet fits = inl refl
@@ -74,12 +80,20 @@ record IsPart (b : Block) (queued : ℕ) (c : Choice) : Type 0 where
   last : c.fin ≡ true → (owes_fin b.state ≡ true) × (c.place + c.len ≡ queued)
 
 part_sent :
-    (cx : ContextValue) (v : TcpValue) (b : Block) (pair : EndpointPair) (c : Choice) (p : Past) (t : Side) → IsPart b (queued_in v) c → Tied (core_of (plain v b)) p t
+    (cx : ContextValue) (v : TcpValue) (b : Block) (pair : EndpointPair) (c : Choice) (p : Past) (t : Side) → IsPart b (queued_in v) c →
+    Tied (core_of (plain v b)) p t
     → Tied (core_of (plain v b))
-    (with_sent p (segment_of (segment b pair cx.moment (window_of (plain v b)) (control_for c (queued_in v)) (number_at b c.place)) (take c.len (drop c.place v.queued.queue)))) t
+    (with_sent p (segment_of (segment b pair cx.moment (window_of (plain v b)) (control_for c (queued_in v)) (number_at b c.place))
+    (take c.len (drop c.place v.queued.queue)))) t
 part_sent cx v b pair c p t part r =
     subst (λ (x : Segment). Tied (core_of (plain v b)) (with_sent p x) t)
-    (ap (λ control. record { control = control; seq = (b.sender.una.0 + (one_if b.sender.syn_unacked + c.place)) % 2 ^ 32; ack = Some b.receiver.next.0; bytes = take c.len (drop c.place v.queued.queue) })
+    (ap (λ control. record {
+      control = control;
+      seq = (b.sender.una.0 + (one_if b.sender.syn_unacked + c.place)) % 2 ^ 32;
+      ack = Some b.receiver.next.0;
+      bytes =
+          take c.len (drop c.place v.queued.queue);
+    })
     (sym (control_part c.fin (not (c.len == 0) && (c.place + c.len == queued_in v)))))
     (sends_data (core_of (plain v b)) p t c.place c.len c.fin part.sends part.within part.last r)
 
@@ -99,7 +113,8 @@ fin_owed false owes last = omega arith
 
 part_end :
     (b : Block) (c : Choice) (queued : ℕ) → b.sender.una.0 < 2 ^ 32 → IsPart b queued c
-    → distance_of b.sender.una (number_at b c.place) + (c.len + control_len (control_for c queued)) ≤ one_if b.sender.syn_unacked + queued + one_if (owes_fin b.state)
+    → distance_of b.sender.una (number_at b c.place) + (c.len + control_len (control_for c queued)) ≤ one_if b.sender.syn_unacked + queued +
+    one_if (owes_fin b.state)
 part_end b c queued small part =
     let back = number_back b.sender.una.0 (one_if b.sender.syn_unacked + c.place) small in
     let size = control_size c.fin (not (c.len == 0) && (c.place + c.len == queued)) in
@@ -109,9 +124,11 @@ part_end b c queued small part =
 
 -- the part goes, and SND.NXT and the highest position move past it
 part_goes :
-    (cx : ContextValue) (v : TcpValue) (b : Block) (pair : EndpointPair) (c : Choice) (p : Past) (t : Side) → IsPart b (queued_in v) c → Tied (core_of (plain v b)) p t
+    (cx : ContextValue) (v : TcpValue) (b : Block) (pair : EndpointPair) (c : Choice) (p : Past) (t : Side) → IsPart b (queued_in v) c →
+    Tied (core_of (plain v b)) p t
     → Tied (with_top (core_of (plain v b)) (distance_of b.sender.una (number_at b c.place) + (c.len + control_len (control_for c (queued_in v)))))
-    (with_sent p (segment_of (segment b pair cx.moment (window_of (plain v b)) (control_for c (queued_in v)) (number_at b c.place)) (take c.len (drop c.place v.queued.queue)))) t
+    (with_sent p (segment_of (segment b pair cx.moment (window_of (plain v b)) (control_for c (queued_in v)) (number_at b c.place))
+    (take c.len (drop c.place v.queued.queue)))) t
 part_goes cx v b pair c p t part r =
     let connected = (sends_in b.state part.sends).connected in
     raised (core_of (plain v b)) _ t (distance_of b.sender.una (number_at b c.place) + (c.len + control_len (control_for c (queued_in v)))) connected
@@ -142,19 +159,22 @@ next_part :
 next_part b pair mtu queued sends inside = record {
   sends = sends;
   within = inside;
-  fits = left_over (next_place b) (text_choice b pair.addresses mtu queued).len (length queued.queue) (size_limit b pair.addresses mtu) (until_end queued (next_place b)) inside
+  fits = left_over (next_place b) (text_choice b pair.addresses mtu queued).len (length queued.queue) (size_limit b pair.addresses mtu)
+      (until_end queued (next_place b)) inside
       (limited b (min (size_limit b pair.addresses mtu) (unbroken queued (next_place b))));
   last = fin_place b (length queued.queue) (next_place b + (text_choice b pair.addresses mtu queued).len);
 }
 
-text_part : (b : Block) (pair : EndpointPair) (mtu : ℕ) (queued : Ring ℕ) → has_text b pair.addresses mtu queued ≡ true → IsPart b (length queued.queue) (text_choice b pair.addresses mtu queued)
+text_part : (b : Block) (pair : EndpointPair) (mtu : ℕ) (queued : Ring ℕ) → has_text b pair.addresses mtu queued ≡ true →
+    IsPart b (length queued.queue) (text_choice b pair.addresses mtu queued)
 text_part b pair mtu queued e =
     let sendable = is_sendable b (length queued.queue) (size_limit b pair.addresses mtu) (text_choice b pair.addresses mtu queued) in
     let tests =
     and_parts (sends_text b.state)
     (nat_le (one_if b.sender.syn_unacked) b.sender.in_flight && (nat_lt b.sender.in_flight (unacked b (length queued.queue)) && sendable))
     e in
-    let more = and_parts (nat_le (one_if b.sender.syn_unacked) b.sender.in_flight) (nat_lt b.sender.in_flight (unacked b (length queued.queue)) && sendable) tests.1 in
+    let more = and_parts (nat_le (one_if b.sender.syn_unacked) b.sender.in_flight)
+    (nat_lt b.sender.in_flight (unacked b (length queued.queue)) && sendable) tests.1 in
     let below = and_parts (nat_lt b.sender.in_flight (unacked b (length queued.queue))) sendable more.1 in
     let flight = test_below b.sender.in_flight (unacked b (length queued.queue)) below.0 in
     let one = small (owes_fin b.state) in
@@ -167,7 +187,8 @@ text_part b pair mtu queued e =
     within : (flight syn queue owes : ℕ) → flight < syn + queue + owes → owes ≤ 1 → flight - syn ≤ queue
     within flight syn queue owes e one = omega arith
 
-resend_part : (b : Block) (pair : EndpointPair) (mtu : ℕ) (queued : Ring ℕ) → resends b ≡ true → IsPart b (length queued.queue) (resend_choice b pair.addresses mtu queued)
+resend_part : (b : Block) (pair : EndpointPair) (mtu : ℕ) (queued : Ring ℕ) → resends b ≡ true →
+    IsPart b (length queued.queue) (resend_choice b pair.addresses mtu queued)
 resend_part b pair mtu queued e = record {
   sends = (and_parts (sends_text b.state) b.sender.resend e).0;
   within = omega arith;
@@ -199,7 +220,8 @@ held_back b queued now e =
     let more = and_parts (is_window_small b queued) (b.sender.in_flight == 0) tests.1 in
     record {
       sends = tests.0;
-      some = some (window_limit b queued) queued (max 1 (b.peer.largest_window / 2)) (test_below (window_limit b queued) (min queued (max 1 (b.peer.largest_window / 2))) more.0);
+      some = some (window_limit b queued) queued (max 1 (b.peer.largest_window / 2))
+          (test_below (window_limit b queued) (min queued (max 1 (b.peer.largest_window / 2))) more.0);
       idle = eqb-true b.sender.in_flight 0 more.1;
     }
   where
@@ -209,10 +231,12 @@ held_back b queued now e =
 probe_part : (b : Block) (queued : ℕ) → IsHeldBack b queued → IsPart b queued probe_choice
 probe_part b queued k = record { sends = k.sends; within = omega arith; fits = k.some; last = λ (fin : false ≡ true). absurd (cc) }
 
-held_part : (b : Block) (pair : EndpointPair) (mtu : ℕ) (queued : Ring ℕ) → IsHeldBack b (length queued.queue) → IsPart b (length queued.queue) (text_choice b pair.addresses mtu queued)
-held_part b pair mtu queued k = next_part b pair mtu queued k.sends (from_start b.sender.in_flight (one_if b.sender.syn_unacked) (length queued.queue) k.idle) where
-  from_start : (flight syn queue : ℕ) → flight ≡ 0 → flight - syn ≤ queue
-  from_start flight syn queue e = omega arith
+held_part : (b : Block) (pair : EndpointPair) (mtu : ℕ) (queued : Ring ℕ) → IsHeldBack b (length queued.queue) →
+    IsPart b (length queued.queue) (text_choice b pair.addresses mtu queued)
+held_part b pair mtu queued k =
+    next_part b pair mtu queued k.sends (from_start b.sender.in_flight (one_if b.sender.syn_unacked) (length queued.queue) k.idle) where
+      from_start : (flight syn queue : ℕ) → flight ≡ 0 → flight - syn ≤ queue
+      from_start flight syn queue e = omega arith
 
 -- WITHOUT A PAYLOAD
 
@@ -246,12 +270,14 @@ takes_connected : (state : State) → takes_text state ≡ true → is_connected
 takes_connected state e = (takes_in state e).connected
 
 module _ (cx : ContextValue) (v : TcpValue) (pair : EndpointPair) (p : Past) (t : Side) where
-  led_ack : (b : Block) → is_connected b.state ≡ true → Tied (core_of (plain v b)) p t → LedOffer p t (offer_ack Kind.Ack cx (plain v b) pair) × LedOffer p t (offer_ack Kind.WindowUpdate cx (plain v b) pair)
+  led_ack : (b : Block) → is_connected b.state ≡ true → Tied (core_of (plain v b)) p t → LedOffer p t (offer_ack Kind.Ack cx (plain v b) pair) ×
+      LedOffer p t (offer_ack Kind.WindowUpdate cx (plain v b) pair)
   led_ack b connected r =
       let gone = sends_ack (core_of (plain v b)) p t b.sender.top connected r in
       ((gone, r), (gone, r))
 
-  led_due_ack : (b : Block) → b.names.pair ≡ Some pair → is_closed b.state ≡ false → is_due cx.moment (ack_moment b) ≡ true → Tied (core_of (plain v b)) p t → LedOffer p t (offer_ack Kind.Ack cx (plain v b) pair)
+  led_due_ack : (b : Block) → b.names.pair ≡ Some pair → is_closed b.state ≡ false → is_due cx.moment (ack_moment b) ≡ true → Tied (core_of (plain v b)) p t →
+      LedOffer p t (offer_ack Kind.Ack cx (plain v b) pair)
   led_due_ack b named open_yet due r = by (offering b.state (core_of (plain v b)) r.side pair named open_yet r.fits) where
     silent_yet : (test : Bool) → is_due cx.moment (if test then b.timers.ack_at else None) ≡ true → test ≡ false → ⊥
     silent_yet true e f = absurd (cc)
@@ -263,11 +289,13 @@ module _ (cx : ContextValue) (v : TcpValue) (pair : EndpointPair) (p : Past) (t 
         absurd (silent_yet b.receiver.took_syn due k.alone)
     by (inr connected) = (led_ack b connected r).0
 
-  led_syn : (b : Block) → b.names.pair ≡ Some pair → is_closed b.state ≡ false → owes_syn b ≡ true → Tied (core_of (plain v b)) p t → LedOffer p t (offer_syn cx (plain v b) pair)
+  led_syn : (b : Block) → b.names.pair ≡ Some pair → is_closed b.state ≡ false → owes_syn b ≡ true → Tied (core_of (plain v b)) p t →
+      LedOffer p t (offer_syn cx (plain v b) pair)
   led_syn b named open_yet owes r = (by (offering b.state (core_of (plain v b)) r.side pair named open_yet r.fits), r) where
     unacked_syn : b.sender.syn_unacked ≡ true
     unacked_syn =
-        let tests = and_parts (sends_syn b.state && not (is_answering b.state && b.settings.synack_paused)) (b.sender.syn_unacked && (b.sender.in_flight == 0)) owes in
+        let tests = and_parts (sends_syn b.state && not (is_answering b.state && b.settings.synack_paused))
+        (b.sender.syn_unacked && (b.sender.in_flight == 0)) owes in
         (and_parts b.sender.syn_unacked (b.sender.in_flight == 0) tests.1).0
 
     -- one position is sent
@@ -279,28 +307,35 @@ module _ (cx : ContextValue) (v : TcpValue) (pair : EndpointPair) (p : Past) (t 
 
     by :
         (b.state ≡ In.SynSent) ⊎ (is_connected b.state ≡ true)
-        → Tied (with_top (core_of (plain v b)) size) (with_sent p (syn_of (core_of (plain v b)) (ack_of (if b.receiver.took_syn then Some b.receiver.next else None)))) t
+        → Tied (with_top (core_of (plain v b)) size)
+        (with_sent p (syn_of (core_of (plain v b)) (ack_of (if b.receiver.took_syn then Some b.receiver.next else None)))) t
     by (inl asking) =
         let k : IsAsking (core_of (plain v b)) (unsent r.side) = subst (λ (state : State). FitsIn state (core_of (plain v b)) (unsent r.side)) asking r.fits in
         let una = k.una in
         let small : b.sender.una.0 < 2 ^ 32 = omega arith in
         raised_asking (core_of (plain v b)) _ t size asking (one_position b.sender.una.0 small)
-        (sends_syn_first (core_of (plain v b)) p t (ack_of (if b.receiver.took_syn then Some b.receiver.next else None)) (unheard_of b.receiver.took_syn b.receiver.next) r
+        (sends_syn_first (core_of (plain v b)) p t (ack_of (if b.receiver.took_syn then Some b.receiver.next else None))
+        (unheard_of b.receiver.took_syn b.receiver.next) r
         k)
     by (inr connected) =
         let one = one_position b.sender.una.0 (una_small (core_of (plain v b)) p t connected r) in
         let unacked = ap one_if unacked_syn in
         raised (core_of (plain v b)) _ t size connected (omega (arith, one, unacked))
-        (sends_syn_ack (core_of (plain v b)) p t (ack_of (if b.receiver.took_syn then Some b.receiver.next else None)) connected unacked_syn (heard_of b.receiver.took_syn b.receiver.next) r)
+        (sends_syn_ack (core_of (plain v b)) p t (ack_of (if b.receiver.took_syn then Some b.receiver.next else None)) connected unacked_syn
+        (heard_of b.receiver.took_syn b.receiver.next) r)
 
-  led_keep_alive : (b : Block) → is_due cx.moment (keep_alive_moment b) ≡ true → Tied (core_of (plain v b)) p t → LedOffer p t (offer_keep_alive cx (plain v b) pair)
+  led_keep_alive : (b : Block) → is_due cx.moment (keep_alive_moment b) ≡ true → Tied (core_of (plain v b)) p t →
+      LedOffer p t (offer_keep_alive cx (plain v b) pair)
   led_keep_alive b due r = (
-    asked_tied (plain v b) (recorded b (open_of Kind.KeepAlive cx (plain v b) pair (keep_alive_segment b pair cx.moment (window_of (plain v b))) 0 1) (room_of v.received)) cx.moment _ t
-        (sends_keep_alive (core_of (plain v b)) p t (and_parts (keeps_alive b.state) (b.sender.in_flight == 0) (by (keeps_alive b.state && (b.sender.in_flight == 0)) refl due)).0 r),
+    asked_tied (plain v b) (recorded b (open_of Kind.KeepAlive cx (plain v b) pair (keep_alive_segment b pair cx.moment (window_of (plain v b))) 0 1)
+        (room_of v.received)) cx.moment _ t
+        (sends_keep_alive (core_of (plain v b)) p t
+        (and_parts (keeps_alive b.state) (b.sender.in_flight == 0) (by (keeps_alive b.state && (b.sender.in_flight == 0)) refl due)).0 r),
     r,
   )
     where
-      by : (test : Bool) → (keeps_alive b.state && (b.sender.in_flight == 0)) ≡ test → is_due cx.moment (if test then b.settings.keep_alive_at else None) ≡ true → (keeps_alive b.state && (b.sender.in_flight == 0)) ≡ true
+      by : (test : Bool) → (keeps_alive b.state && (b.sender.in_flight == 0)) ≡ test →
+          is_due cx.moment (if test then b.settings.keep_alive_at else None) ≡ true → (keeps_alive b.state && (b.sender.in_flight == 0)) ≡ true
       by true is_so e = is_so
       by false is_so e = absurd (cc)
 
@@ -310,7 +345,8 @@ module _ (cx : ContextValue) (v : TcpValue) (pair : EndpointPair) (p : Past) (t 
       (offer_choice Kind.Text cx (plain v b) pair (text_choice b pair.addresses cx.ip_mtu v.queued))
       (λ (o : Offered TcpValue). LedOffer p t o)
       (λ _.
-      let o = open_of Kind.Probe cx (plain v b) pair (segment b pair cx.moment (window_of (plain v b)) (control_for probe_choice (queued_in v)) (number_at b 0)) 0 1 in (
+      let o = open_of Kind.Probe cx (plain v b) pair
+      (segment b pair cx.moment (window_of (plain v b)) (control_for probe_choice (queued_in v)) (number_at b 0)) 0 1 in (
         asked_tied (plain v b) (probed (recorded b o (room_of v.received)) (end_of (recorded b o (room_of v.received)) o) cx.moment) cx.moment _ t
             (part_goes cx v b pair probe_choice p t (probe_part b (queued_in v) k) r),
         r,
@@ -341,11 +377,13 @@ module _ (cx : ContextValue) (v : TcpValue) (pair : EndpointPair) (p : Past) (t 
       (λ (o : Offered TcpValue). LedOffer p t o)
       (λ e. (led_ack b (takes_connected b.state (and_parts (takes_text b.state) (is_worth_telling b (room_of v.received) (free_in v)) e).0) r).1)
       (λ _.
-      cond_both (is_due cx.moment (keep_alive_moment b)) (offer_keep_alive cx (plain v b) pair) (silent false (plain v b)) (λ (o : Offered TcpValue). LedOffer p t o)
+      cond_both (is_due cx.moment (keep_alive_moment b)) (offer_keep_alive cx (plain v b) pair) (silent false (plain v b))
+      (λ (o : Offered TcpValue). LedOffer p t o)
       (λ due. led_keep_alive b due r)
       (λ _. (r, r)))))
 
-  led_first : (b : Block) → b.names.pair ≡ Some pair → is_closed b.state ≡ false → Tied (core_of (plain v b)) p t → LedOffer p t (first_rules cx (plain v b) pair)
+  led_first : (b : Block) → b.names.pair ≡ Some pair → is_closed b.state ≡ false → Tied (core_of (plain v b)) p t →
+      LedOffer p t (first_rules cx (plain v b) pair)
   led_first b named open_yet r =
       cond_both (owes_syn b) (offer_syn cx (plain v b) pair)
       (if resends b then offer_choice Kind.FastRetransmission cx (plain v b) pair (resend_choice b pair.addresses cx.ip_mtu v.queued)
@@ -367,9 +405,11 @@ module _ (cx : ContextValue) (v : TcpValue) (pair : EndpointPair) (p : Past) (t 
       (λ _. led_last (probe_started cx.moment (queued_in v) b) named open_yet r)))
 
   -- to CLOSED
-  tied_closed : (b : Block) (p : Past) → b.state ≡ In.Closed → b.receiver.took_fin ≡ v.block.receiver.took_fin → Tied (core_of v) p t → Tied (core_of (plain v b)) p t
+  tied_closed : (b : Block) (p : Past) → b.state ≡ In.Closed → b.receiver.took_fin ≡ v.block.receiver.took_fin → Tied (core_of v) p t →
+      Tied (core_of (plain v b)) p t
   tied_closed b p closed took r =
-      subst (λ (p : Past). Tied (core_of (plain v b)) p t) r.past (to_closed (core_of v) (core_of (plain v b)) r.side t closed took refl refl refl r.fits r.holds)
+      subst (λ (p : Past). Tied (core_of (plain v b)) p t) r.past
+      (to_closed (core_of v) (core_of (plain v b)) r.side t closed took refl refl refl r.fits r.holds)
 
   -- it gives up
   led_given_up : Tied (core_of v) p t → LedOffer p t (silent true (given_up (unoffered v)))
@@ -384,7 +424,8 @@ module _ (cx : ContextValue) (v : TcpValue) (pair : EndpointPair) (p : Past) (t 
   led_reset r =
       let gone = sends_reset (core_of v) p t (segment_of (reset_segment v.block pair cx.moment (window_of v)) []) refl r in (
         subst (λ (p : Past). Tied (core_of (settled true (offer_reset cx (unoffered v) pair).socket)) p t) gone.past
-            (to_closed (core_of v) (core_of (settled true (offer_reset cx (unoffered v) pair).socket)) gone.side t refl refl refl refl refl gone.fits gone.holds),
+            (to_closed (core_of v) (core_of (settled true (offer_reset cx (unoffered v) pair).socket)) gone.side t refl refl refl refl refl gone.fits
+            gone.holds),
         r,
       )
 
@@ -429,7 +470,8 @@ module _ (cx : ContextValue) (v : TcpValue) (pair : EndpointPair) (p : Past) (t 
       let k = backs_off (timeout_started cx.moment (queued_in v) v.block) (named, open_yet, r) in
       led_first (backed_off cx.moment (timeout_started cx.moment (queued_in v) v.block)) k.0 k.1 k.2))))
 
-led_with : (cx : ContextValue) (v : TcpValue) (p : Past) (t : Side) (names : Option EndpointPair) → v.block.names.pair ≡ names → Tied (core_of v) p t → LedOffer p t (offer_with names cx (unoffered v))
+led_with : (cx : ContextValue) (v : TcpValue) (p : Past) (t : Side) (names : Option EndpointPair) → v.block.names.pair ≡ names → Tied (core_of v) p t →
+    LedOffer p t (offer_with names cx (unoffered v))
 led_with cx v p t None e r = (r, r)
 led_with cx v p t (Some pair) e r = led_between cx v pair p t e r
 
@@ -437,7 +479,8 @@ pub keeps_sent_offer :
     (cx : ContextValue) (v w : TcpValue) (p q : Past) → Keeps v p w q
     → Keeps (settled true (offer_of cx v).socket) (with_offer p (offer_of cx v).socket.offered (offer_of cx v).socket.queued.queue) w q
 keeps_sent_offer cx v w p q k =
-    keeps_by v (settled true (offer_of cx v).socket) w p (with_offer p (offer_of cx v).socket.offered (offer_of cx v).socket.queued.queue) q k (λ s t past _ fits holds.
+    keeps_by v (settled true (offer_of cx v).socket) w p (with_offer p (offer_of cx v).socket.offered (offer_of cx v).socket.queued.queue) q k
+    (λ s t past _ fits holds.
     (led_with cx v p t v.block.names.pair refl (record { side = s; past = past; fits = fits; holds = holds })).0)
 
 pub keeps_unsent_offer : (cx : ContextValue) (v w : TcpValue) (p q : Past) → Keeps v p w q → Keeps (settled false (offer_of cx v).socket) p w q

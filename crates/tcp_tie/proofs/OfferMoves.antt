@@ -1,5 +1,6 @@
 -- Each segment that a socket sends by itself is a move.
-use Rattle.std.proofs.Common.{◌≡◌, ◌⊎◌, inl, inr, ℕ, suc, ◌+◌, ◌-◌, ◌%◌, ◌^◌, ◌<◌, ◌≤◌, max, Bool, true, false, List, [], ◌∷◌, Option, Some, None, length, take, drop, refl, sym, ap, ◌∙◌, subst, arith, length-drop, length-take}
+use Rattle.std.proofs.Common.{◌≡◌, ◌⊎◌, inl, inr, ℕ, suc, ◌+◌, ◌-◌, ◌%◌, ◌^◌, ◌<◌, ◌≤◌, max, Bool, true, false, List, [], ◌∷◌, Option, Some, None, length, take}
+use Rattle.std.proofs.Common.{drop, refl, sym, ap, ◌∙◌, subst, arith, length-drop, length-take}
 use Rattle.tcp_law.specs.Move.{syn, syn_ack, data_segment, bytes_from, keep_alive, MaySendData}
 use Rattle.tcp_law.specs.Move.Move.{SendsSyn, SendsSynAck, SendsData, SendsKeepAlive}
 use Rattle.tcp_law.specs.Numbers.{wire}
@@ -16,7 +17,8 @@ use Rattle.tcp_tie.specs.History.{with_sent}
 use Rattle.tcp_tie.proofs.Tied.{Tied, tied_by, stays, fits_connected, connected_fits, is_connected, is_connected_side}
 
 -- a move that sends a segment
-sent_by : (c : Core) (p : Past) (t : Side) (x y : Segment) (r : Tied c p t) → x ≡ y → record (past_of r.side) { sent = (with_sent (past_of r.side) x).sent } ≡ with_sent p y
+sent_by : (c : Core) (p : Past) (t : Side) (x y : Segment) (r : Tied c p t) → x ≡ y → record (past_of r.side) { sent = (with_sent (past_of r.side) x).sent } ≡
+    with_sent p y
 sent_by c p t x y r same = ap (λ (p : Past). with_sent p x) r.past ∙ ap (λ (x : Segment). with_sent p x) same
 
 -- THE HIGHEST POSITION THAT WAS SENT
@@ -114,13 +116,16 @@ sends_data c p t place len fin test within last r =
     let owes = ap one_if state.owes in
     let closed = ap one_if k.closed in
     let size = ap length k.queue in
-    let moved : drop place (drop (r.side.una - suc r.side.iss) r.side.written) ≡ drop 0 (drop (r.side.una + (one_if c.syn_unacked + place) - suc r.side.iss) r.side.written) =
+    let moved : drop place (drop (r.side.una - suc r.side.iss) r.side.written) ≡
+    drop 0 (drop (r.side.una + (one_if c.syn_unacked + place) - suc r.side.iss) r.side.written) =
     lists.drop-twice place (r.side.una - suc r.side.iss) 0 (r.side.una + (one_if c.syn_unacked + place) - suc r.side.iss) r.side.written (omega arith) in
     let bytes : bytes_from r.side (r.side.una + (one_if c.syn_unacked + place)) len ≡ take len (drop place c.queue) =
     ap (λ (xs : List ℕ). take len xs) (sym (ap (λ (xs : List ℕ). drop place xs) k.queue ∙ moved)) in
     let ends :
     fin ≡ true
-    → (r.side.closed ≡ true) × (r.side.una + (one_if c.syn_unacked + place) + length (bytes_from r.side (r.side.una + (one_if c.syn_unacked + place)) len) ≡ suc r.side.iss + length r.side.written)
+    → (r.side.closed ≡ true) ×
+    (r.side.una + (one_if c.syn_unacked + place) + length (bytes_from r.side (r.side.una + (one_if c.syn_unacked + place)) len) ≡
+    suc r.side.iss + length r.side.written)
     = λ e.
     let whole = last e in
     let asked = whole.0 in
@@ -138,9 +143,21 @@ sends_data c p t place len fin test within last r =
       last = ends;
     } in
     let same : data_segment r.side (r.side.una + (one_if c.syn_unacked + place)) len fin ≡ part_at c place len fin =
-    ap (λ (n : ℕ). record { control = fin_if fin; seq = n; ack = Some (wire (rcv_next r.side)); bytes = bytes_from r.side (r.side.una + (one_if c.syn_unacked + place)) len })
+    ap (λ (n : ℕ). record {
+      control = fin_if fin;
+      seq = n;
+      ack = Some (wire (rcv_next r.side));
+      bytes =
+          bytes_from r.side (r.side.una + (one_if c.syn_unacked + place)) len;
+    })
     (number_past r.side.una (one_if c.syn_unacked + place) c.una k.una)
-    ∙ (ap (λ (n : ℕ). record { control = fin_if fin; seq = (c.una + (one_if c.syn_unacked + place)) % 2 ^ 32; ack = Some n; bytes = bytes_from r.side (r.side.una + (one_if c.syn_unacked + place)) len })
+    ∙ (ap (λ (n : ℕ). record {
+      control = fin_if fin;
+      seq = (c.una + (one_if c.syn_unacked + place)) % 2 ^ 32;
+      ack = Some n;
+      bytes =
+          bytes_from r.side (r.side.una + (one_if c.syn_unacked + place)) len;
+    })
     (sym k.next)
     ∙ ap (λ (xs : List ℕ). record { control = fin_if fin; seq = (c.una + (one_if c.syn_unacked + place)) % 2 ^ 32; ack = Some c.next; bytes = xs }) bytes) in
     tied_by c (with_sent p (part_at c place len fin)) r.side t (SendsData (r.side.una + (one_if c.syn_unacked + place)) len fin) r.holds may
@@ -208,4 +225,5 @@ sends_syn_ack c p t ack connected unacked heard r =
     let same : syn_ack r.side ≡ syn_of c ack =
     ap (λ (n : ℕ). record { control = Syn; seq = n; ack = Some (wire (rcv_next r.side)); bytes = [] }) (sym (k.una ∙ ap wire first))
     ∙ ap (λ (a : Option ℕ). record { control = Syn; seq = c.una; ack = a; bytes = [] }) (ap Some (sym k.next) ∙ sym (heard k.heard)) in
-    tied_by c (with_sent p (syn_of c ack)) r.side t SendsSynAck r.holds (is_connected_side c r.side k) (sent_by c p t (syn_ack r.side) (syn_of c ack) r same) r.fits
+    tied_by c (with_sent p (syn_of c ack)) r.side t SendsSynAck r.holds (is_connected_side c r.side k)
+    (sent_by c p t (syn_ack r.side) (syn_of c ack) r same) r.fits

@@ -1,5 +1,6 @@
 -- A segment comes in LISTEN or SYN-SENT, and a reset comes later.
-use Rattle.std.proofs.Common.{◌≡◌, ◌⊎◌, inl, inr, ℕ, suc, ◌+◌, ◌-◌, ◌%◌, ◌^◌, ◌<◌, not, ◌==◌, ◌&&◌, min, ℤ, Bool, true, false, if◌then◌else◌, List, [], ◌∷◌, ◌++◌, Option, Some, None, is_some, length, drop, refl, sym, ap, ◌∙◌, subst, arith}
+use Rattle.std.proofs.Common.{◌≡◌, ◌⊎◌, inl, inr, ℕ, suc, ◌+◌, ◌-◌, ◌%◌, ◌^◌, ◌<◌, not, ◌==◌, ◌&&◌, min, ℤ, Bool, true, false, if◌then◌else◌, List, [], ◌∷◌}
+use Rattle.std.proofs.Common.{◌++◌, Option, Some, None, is_some, length, drop, refl, sym, ap, ◌∙◌, subst, arith}
 use Rattle.std.proofs.lemmas.Bool.{and_parts, and_cases, cond_both, not-true, not-false, eqb-true}
 use Rattle.ip_wire.specs.IpRepr.{IpRepr}
 use Rattle.ip_wire.specs.Seq.{distance_of}
@@ -82,7 +83,8 @@ takes_syn c s t x number pair comes syn bare small l holds =
       top = omega arith;
       end = omega arith;
       next = omega arith;
-      queue = l.blank.queue ∙ sym (ap (λ (bytes : List ℕ). drop (2 ^ 32 + number - suc (2 ^ 32 + number)) bytes) unwritten ∙ lists.drop-nothing (2 ^ 32 + number - suc (2 ^ 32 + number)));
+      queue = l.blank.queue ∙ sym (ap (λ (bytes : List ℕ). drop (2 ^ 32 + number - suc (2 ^ 32 + number)) bytes) unwritten ∙
+          lists.drop-nothing (2 ^ 32 + number - suc (2 ^ 32 + number)));
       waiting = l.blank.waiting ∙ sym (ap (λ (x : Side). x.waiting) l.side);
       map = l.blank.map ∙ sym (ap (λ (x : Side). x.window) l.side);
       gap = ap front l.blank.map ∙ front-space (length c.map);
@@ -129,7 +131,8 @@ no_listener : {A : Type 0} (port : ℕ) → port ≡ 0 → (port == 0) ≡ false
 no_listener port e f = absurd (let clash : (port == 0) ≡ true = ap (λ (n : ℕ). n == 0) e in let both : true ≡ false = sym clash ∙ f in cc)
 
 takes_syn_ack :
-    (c : Core) (s t : Side) (x : Segment) (n past_iss : ℕ) (syn : Bool) → Comes t x → x.control ≡ Syn → x.ack ≡ Some n → (n + (2 ^ 32 - c.una)) % 2 ^ 32 ≡ 1 → syn ≡ false
+    (c : Core) (s t : Side) (x : Segment) (n past_iss : ℕ) (syn : Bool) → Comes t x → x.control ≡ Syn → x.ack ≡ Some n →
+    (n + (2 ^ 32 - c.una)) % 2 ^ 32 ≡ 1 → syn ≡ false
     → IsAsking c (unsent s) → HoldsBetween s t → Tied (asked_core c In.Established ((c.una + 1) % 2 ^ 32) syn past_iss (c.top - 1) x.seq) (past_of s) t
 takes_syn_ack c s t x n past_iss syn comes control number distance no_syn k holds =
     let nothing = no_stream s t SynSent holds k.phase tt in
@@ -218,9 +221,12 @@ led_syn_ack v header bytes now p t None comes e syn number some acks r = absurd 
 led_syn_ack v header bytes now p t (Some n) comes e syn number some acks r =
     let k = asking_state v p t e r in
     let no_syn = and_zero v.block.sender.syn_unacked in
-    subst (λ (p : Past). Tied (asked_core (core_of v) In.Established ((v.block.sender.una.0 + 1) % 2 ^ 32) (v.block.sender.syn_unacked && (1 == 0)) (min (v.block.sender.past_iss + 1) 4_294_967_295)
+    subst (λ (p : Past). Tied
+    (asked_core (core_of v) In.Established ((v.block.sender.una.0 + 1) % 2 ^ 32) (v.block.sender.syn_unacked && (1 == 0))
+    (min (v.block.sender.past_iss + 1) 4_294_967_295)
     (v.block.sender.top - 1) header.seq_number.0) p t) r.past
-    (takes_syn_ack (core_of v) r.side t (segment_of header bytes) n.0 (min (v.block.sender.past_iss + 1) 4_294_967_295) (v.block.sender.syn_unacked && (1 == 0)) comes (syn_control header.control syn) (ap ack_of number)
+    (takes_syn_ack (core_of v) r.side t (segment_of header bytes) n.0 (min (v.block.sender.past_iss + 1) 4_294_967_295) (v.block.sender.syn_unacked && (1 == 0))
+    comes (syn_control header.control syn) (ap ack_of number)
     (eqb-true (distance_of v.block.sender.una n) 1 acks) no_syn k r.holds)
   where
     and_zero : (test : Bool) → (test && (1 == 0)) ≡ false
@@ -233,10 +239,14 @@ led_syn :
     → Tied (core_of v) p t → Tied (core_of (with_block v (syn_answered v.block header cx.moment))) p t
 led_syn cx v header bytes p t comes e syn good r =
     cond_both (is_some header.ack_number) (connected v.block header cx.moment) (crossed v.block header) (λ (b : Block). Tied (core_of (with_block v b)) p t)
-    (λ some. led_syn_ack v header bytes cx.moment p t header.ack_number comes e syn refl some (acknowledges some (and_cases (is_some header.ack_number) (not (acks_syn v.block.sender.una header.ack_number)) good)) r)
+    (λ some. led_syn_ack v header bytes cx.moment p t header.ack_number comes e syn refl some
+    (acknowledges some (and_cases (is_some header.ack_number) (not (acks_syn v.block.sender.una header.ack_number)) good)) r)
     (λ none.
-    subst (λ (p : Past). Tied (asked_core (core_of v) In.SynReceived v.block.sender.una.0 v.block.sender.syn_unacked v.block.sender.past_iss v.block.sender.top header.seq_number.0) p t) r.past
-    (takes_crossed_syn (core_of v) r.side t (segment_of header bytes) comes (syn_control header.control syn) (no_number_of header.ack_number none) (asking_state v p t e r) r.holds))
+    subst (λ (p : Past). Tied
+    (asked_core (core_of v) In.SynReceived v.block.sender.una.0 v.block.sender.syn_unacked v.block.sender.past_iss v.block.sender.top
+    header.seq_number.0) p t) r.past
+    (takes_crossed_syn (core_of v) r.side t (segment_of header bytes) comes (syn_control header.control syn) (no_number_of header.ack_number none)
+    (asking_state v p t e r) r.holds))
   where
     acknowledges :
         is_some header.ack_number ≡ true → (is_some header.ack_number ≡ false) ⊎ (not (acks_syn v.block.sender.una header.ack_number) ≡ false)
@@ -249,7 +259,8 @@ tied_ended : (v : TcpValue) (p : Past) (t : Side) → Tied (core_of v) p t → T
 tied_ended v p t r =
     subst (λ (p : Past). Tied (core_of (ended v)) p t) r.past (to_closed (core_of v) (core_of (ended v)) r.side t refl refl refl refl refl r.fits r.holds)
 
-pub led_reset : (v : TcpValue) (ip : IpRepr) (header : TcpHeader) (size : ℕ) (p : Past) (t : Side) → Tied (core_of v) p t → Led p t (answered_with v (rst_reply ip header size))
+pub led_reset : (v : TcpValue) (ip : IpRepr) (header : TcpHeader) (size : ℕ) (p : Past) (t : Side) → Tied (core_of v) p t →
+    Led p t (answered_with v (rst_reply ip header size))
 led_reset v ip header size p t r = sends_reset (core_of v) p t (segment_of (rst_reply ip header size).segment []) refl r
 
 pub led_takes_answer :
@@ -264,7 +275,8 @@ led_takes_answer cx v ip header bytes p t comes e r =
     then dropped (with_block v (timeout_restarted (syn_answered v.block header cx.moment) cx.moment (queued_in v)))
     else dropped v)
     (λ (a : Arrived). Led p t a)
-    (λ _. cond_both (acks_syn v.block.sender.una header.ack_number) (dropped (ended v)) (dropped v) (λ (a : Arrived). Led p t a) (λ _. tied_ended v p t r) (λ _. r))
+    (λ _. cond_both (acks_syn v.block.sender.una header.ack_number) (dropped (ended v)) (dropped v) (λ (a : Arrived). Led p t a)
+    (λ _. tied_ended v p t r) (λ _. r))
     (λ _.
     cond_both (is_some header.ack_number && not (acks_syn v.block.sender.una header.ack_number))
     (answered_with v (rst_reply ip header (length bytes)))
@@ -290,7 +302,8 @@ no_front [] ys e = refl
 no_front (x ∷ xs) ys e = absurd (cc)
 
 falls_back_to :
-    (v : TcpValue) (s t : Side) → is_answering v.block.state ≡ true → (v.block.names.listen.port == 0) ≡ false → IsConnectedAs (core_of v) (unsent s) → HoldsBetween s t
+    (v : TcpValue) (s t : Side) → is_answering v.block.state ≡ true → (v.block.names.listen.port == 0) ≡ false → IsConnectedAs (core_of v) (unsent s) →
+    HoldsBetween s t
     → Tied (listening_core (core_of v) v.block.names.listen.port (room_of v.received)) (past_of s) t
 falls_back_to v s t answers listens k holds =
     let phase : s.phase ≡ SynReceived = k.phase ∙ state_phase v.block.state answers in
@@ -320,7 +333,8 @@ answering_connected In.SynReceived e = refl
 answering_connected other e = absurd (cc)
 
 -- a listener whose connection isn't there yet listens again
-pub tied_back : (v : TcpValue) (p : Past) (t : Side) → falls_back v.block ≡ true → Tied (core_of v) p t → Tied (core_of (calls.listening v v.block.names.listen)) p t
+pub tied_back : (v : TcpValue) (p : Past) (t : Side) → falls_back v.block ≡ true → Tied (core_of v) p t →
+    Tied (core_of (calls.listening v v.block.names.listen)) p t
 tied_back v p t e r =
     let tests = and_parts (is_answering v.block.state) (not (v.block.names.listen.port == 0)) e in
     subst (λ (p : Past). Tied (core_of (calls.listening v v.block.names.listen)) p t) r.past

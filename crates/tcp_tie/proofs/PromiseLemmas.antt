@@ -39,7 +39,8 @@ fresh_fits v resets f =
     } in
     subst (λ (state : State). FitsIn state (core_of v) (unsent (unopened (length v.received.map) resets))) (sym f.state) (inl u)
 
-pub keeps_fresh : (v w : TcpValue) (resets others : List Segment) → IsFresh v → IsFresh w → AreResets resets → AreResets others → Keeps v (no_past resets) w (no_past others)
+pub keeps_fresh : (v w : TcpValue) (resets others : List Segment) → IsFresh v → IsFresh w → AreResets resets → AreResets others →
+    Keeps v (no_past resets) w (no_past others)
 keeps_fresh v w resets others f g a b = record {
   side = unopened (length v.received.map) resets;
   partner = unopened (length w.received.map) others;
@@ -110,7 +111,8 @@ keeps_reset v w p q x e k =
 -- WITHOUT A PARTNER
 
 -- a partner that isn't opened may be exchanged
-pub exchanged : (s t : Side) (space : ℕ) (resets : List Segment) → HoldsBetween s t → t.phase ≡ Unopened → AreResets resets → HoldsBetween s (unopened space resets)
+pub exchanged : (s t : Side) (space : ℕ) (resets : List Segment) → HoldsBetween s t → t.phase ≡ Unopened → AreResets resets →
+    HoldsBetween s (unopened space resets)
 exchanged s t space resets holds phase a = (
   alone.OneWay-to_unopened s t holds.0 holds.1 phase space resets a,
   alone.OneWay-unopened_to s t holds.0 holds.1 phase space resets a,

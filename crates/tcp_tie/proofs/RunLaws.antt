@@ -14,7 +14,8 @@ use Rattle.tcp_tie.proofs.CallMoves.{keeps_writes}
 use Rattle.tcp_tie.proofs.OfferLaws.{keeps_sent_offer, keeps_unsent_offer}
 use Rattle.tcp_tie.proofs.PromiseLemmas.{keeps_fresh, keeps_turned, safe_sockets, keeps_reset}
 
-keeps_event : (s t : Seen) (event : Event) → Keeps s.socket s.past t.socket t.past → MayHappen s t event → Keeps (happens s event).socket (happens s event).past t.socket t.past
+keeps_event : (s t : Seen) (event : Event) → Keeps s.socket s.past t.socket t.past → MayHappen s t event →
+    Keeps (happens s event).socket (happens s event).past t.socket t.past
 keeps_event s t (Listens endpoint) k may = keeps_listening s.socket t.socket s.past t.past endpoint k may.0 may.1
 keeps_event s t (Connects pair number) k may = keeps_connecting s.socket t.socket s.past t.past pair number k may.0.0 may.0.1 may.1
 keeps_event s t (Sends queued bytes) k may = keeps_writes s.socket t.socket s.past t.past queued bytes k may.0 may.1 may.2

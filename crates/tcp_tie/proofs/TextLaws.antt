@@ -1,5 +1,6 @@
 -- The text, the FIN and the answer of an accepted segment, in the socket's own words.
-use Rattle.std.proofs.Common.{◌≡◌, ℕ, zero, suc, ◌+◌, ◌-◌, ◌%◌, ◌^◌, ◌<◌, ◌≤◌, nat_lt, nat_le, not, ◌==◌, ◌&&◌, ℤ, Bool, true, false, if◌then◌else◌, List, [], ◌∷◌, ◌++◌, Option, Some, None, length, drop, refl, sym, ap, ◌∙◌, subst, arith, length-drop, append-nil}
+use Rattle.std.proofs.Common.{◌≡◌, ℕ, zero, suc, ◌+◌, ◌-◌, ◌%◌, ◌^◌, ◌<◌, ◌≤◌, nat_lt, nat_le, not, ◌==◌, ◌&&◌, ℤ, Bool, true, false, if◌then◌else◌, List, []}
+use Rattle.std.proofs.Common.{◌∷◌, ◌++◌, Option, Some, None, length, drop, refl, sym, ap, ◌∙◌, subst, arith, length-drop, append-nil}
 use Rattle.std.proofs.lemmas.Bool.{and_parts, cond_both, not-true, eqb-true, eqb-false}
 use Rattle.held_bytes.specs.Held.{runs_of}
 use Rattle.ip_wire.specs.IpRepr.{IpRepr}
@@ -22,7 +23,8 @@ use Rattle.tcp_model.specs.Controls.{is_syn, is_fin, is_rst}
 use Rattle.tcp_model.specs.Offsets.{past_by, before_by}
 use Rattle.tcp_model.specs.Probing.{probe_kept}
 use Rattle.tcp_model.specs.States.{takes_text, after_fin}
-use Rattle.tcp_model.specs.Text.{Texted, texted, laid, held_early, taken_in_order, with_bytes_at, has_new_text, with_text, is_at_fin, takes_fin, fin_taken, with_fin}
+use Rattle.tcp_model.specs.Text.{Texted, texted, laid, held_early, taken_in_order, with_bytes_at, has_new_text, with_text, is_at_fin, takes_fin, fin_taken}
+use Rattle.tcp_model.specs.Text.{with_fin}
 use Rattle.tcp_model.specs.Value.{TcpValue, Arrived, with_block, dropped, queued_in, free_in, received_of}
 use Rattle.tcp_model.specs.Segments.{no_ranges}
 use Rattle.tcp_tie.specs.Tie.{Core, Past, unsent, core_of, segment_of, control_of}
@@ -58,7 +60,8 @@ fin_control other e = absurd (cc)
 -- ANSWERS
 
 pub led_acked :
-    (cx : ContextValue) (v : TcpValue) (ip : IpRepr) (header : TcpHeader) (ranges : List (Option (ℕ × ℕ))) (p : Past) (t : Side) → is_connected v.block.state ≡ true
+    (cx : ContextValue) (v : TcpValue) (ip : IpRepr) (header : TcpHeader) (ranges : List (Option (ℕ × ℕ))) (p : Past) (t : Side) →
+    is_connected v.block.state ≡ true
     → Tied (core_of v) p t → Led p t (acked cx v ip header ranges)
 led_acked cx v ip header ranges p t connected r = sends_ack (core_of v) p t v.block.sender.top connected r
 
@@ -70,7 +73,8 @@ led_drawn cx v ip header p t connected r =
     (λ _. led_acked cx (with_draw v cx.moment) ip header no_ranges p t connected r) (λ _. r)
 
 led_answer :
-    (cx : ContextValue) (v : TcpValue) (ip : IpRepr) (header : TcpHeader) (size : ℕ) (fills : Bool) (early : Option ℕ) (p : Past) (t : Side) → is_connected v.block.state ≡ true
+    (cx : ContextValue) (v : TcpValue) (ip : IpRepr) (header : TcpHeader) (size : ℕ) (fills : Bool) (early : Option ℕ) (p : Past) (t : Side) →
+    is_connected v.block.state ≡ true
     → Tied (core_of v) p t → Led p t (answer_for cx v ip header size fills early)
 led_answer cx v ip header size fills (Some place) p t connected r = led_acked cx v ip header (ranges_held v place) p t connected r
 led_answer cx v ip header size fills None p t connected r = r
@@ -92,7 +96,8 @@ same_next : (n : ℕ) → n < 2 ^ 32 → n ≡ (n + 0) % 2 ^ 32
 same_next n small = omega arith
 
 texted_none :
-    (v : TcpValue) (early : Option ℕ) (p : Past) (t : Side) → is_connected v.block.state ≡ true → Tied (core_of v) p t → IsTexted (core_of v) p t (texted v 0 false early)
+    (v : TcpValue) (early : Option ℕ) (p : Past) (t : Side) → is_connected v.block.state ≡ true → Tied (core_of v) p t →
+    IsTexted (core_of v) p t (texted v 0 false early)
 texted_none v early p t connected r =
     let small = next_small (core_of v) p t connected r in
     record { tied = r; state = refl; syn = refl; small = small; next = same_next v.block.receiver.next.0 small }
@@ -136,9 +141,11 @@ module _ (v : TcpValue) (header : TcpHeader) (bytes : List ℕ) (p : Past) (t : 
       let low : 2 ^ 32 ≤ r.side.irs = law.fits_at r.side Synchronized r.holds.0.well_formed (k.phase ∙ (takes_in v.block.state takes).phase) in
       let small = seq_small r.side t (segment_of header bytes) r.holds comes kind (some_bytes some) in
       let place : IsPlaced (rcv_next r.side) header.seq_number.0 past before =
-      placed (rcv_next r.side) v.block.receiver.next.0 header.seq_number.0 ((header.seq_number.0 + (2 ^ 32 - v.block.receiver.next.0)) % 2 ^ 32) (omega arith) k.next small refl in
+      placed (rcv_next r.side) v.block.receiver.next.0 header.seq_number.0 ((header.seq_number.0 + (2 ^ 32 - v.block.receiver.next.0)) % 2 ^ 32) (omega arith)
+      k.next small refl in
       subst (λ (p : Past). Tied (with_received (core_of v) next waiting map) p t) r.past
-      (moves.takes_bytes (core_of v) r.side t (segment_of header bytes) past before next waiting map_with map comes kind takes place refl is_next is_waiting is_map r.fits r.holds)
+      (moves.takes_bytes (core_of v) r.side t (segment_of header bytes) past before next waiting map_with map comes kind takes place refl is_next is_waiting
+      is_map r.fits r.holds)
 
   in_order : takes_text v.block.state ≡ true → has_new_text v past (drop before bytes) ≡ true → IsTexted (core_of v) p t (taken_in_order v map_with)
   in_order takes some = record {
@@ -149,7 +156,8 @@ module _ (v : TcpValue) (header : TcpHeader) (bytes : List ℕ) (p : Past) (t : 
     next = refl;
   }
 
-  early : takes_text v.block.state ≡ true → has_new_text v past (drop before bytes) ≡ true → (past == 0) ≡ false → IsTexted (core_of v) p t (held_early v past map_with)
+  early : takes_text v.block.state ≡ true → has_new_text v past (drop before bytes) ≡ true → (past == 0) ≡ false →
+      IsTexted (core_of v) p t (held_early v past map_with)
   early takes some e =
       let k = fits_connected v.block.state (core_of v) (unsent r.side) connected r.fits in
       let gap = front-store v.received.map past (drop before bytes) e k.gap in
@@ -205,7 +213,8 @@ fins old x header bytes now p t comes connected acked texted =
     let tests = and_parts (is_fin header.control) (takes_text old.block.state && is_at_fin old.block header (length bytes) x.advance) e in
     let more = and_parts (takes_text old.block.state) (is_at_fin old.block header (length bytes) x.advance) tests.1 in
     let places =
-    and_parts (past_by old.block.receiver.next header.seq_number == 0) (before_by old.block.receiver.next header.seq_number + x.advance == length bytes) more.1 in
+    and_parts (past_by old.block.receiver.next header.seq_number == 0) (before_by old.block.receiver.next header.seq_number +
+    x.advance == length bytes) more.1 in
     let takes : takes_text x.socket.block.state ≡ true = ap takes_text texted.state ∙ more.0 in
     let r = texted.tied in
     let place : (header.seq_number.0 + length bytes) % 2 ^ 32 ≡ x.socket.block.receiver.next.0 =
@@ -213,7 +222,8 @@ fins old x header bytes now p t comes connected acked texted =
     texted.small refl (eqb-true (past_by old.block.receiver.next header.seq_number) 0 places.0)
     (eqb-true (before_by old.block.receiver.next header.seq_number + x.advance) (length bytes) places.1) ∙ sym texted.next in (
       subst (λ (p : Past). Tied (core_of (with_block x.socket (fin_taken x.socket.block now))) p t) r.past
-          (moves.takes_fin (core_of x.socket) r.side t (segment_of header bytes) comes (fin_control header.control tests.0) takes (texted.syn ∙ acked) place r.fits r.holds),
+          (moves.takes_fin (core_of x.socket) r.side t (segment_of header bytes) comes (fin_control header.control tests.0) takes (texted.syn ∙
+          acked) place r.fits r.holds),
       after_fin_connected x.socket.block.state takes,
     ))
     (λ _. (texted.tied, ap is_connected texted.state ∙ connected))
@@ -227,5 +237,6 @@ led_content cx v ip header bytes p t comes kind connected acked r =
     let done = fins v (with_text v header bytes) header bytes cx.moment p t comes connected acked (texts v header bytes p t comes kind connected r) in
     led_answer cx
     (with_block (with_text v header bytes).socket
-    (probe_kept (with_fin (with_text v header bytes).socket.block v.block header (length bytes) (with_text v header bytes).advance cx.moment) (queued_in (with_text v header bytes).socket)))
+    (probe_kept (with_fin (with_text v header bytes).socket.block v.block header (length bytes) (with_text v header bytes).advance cx.moment)
+    (queued_in (with_text v header bytes).socket)))
     ip header (length bytes) (with_text v header bytes).fills (with_text v header bytes).early p t done.1 done.0

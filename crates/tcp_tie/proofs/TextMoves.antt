@@ -1,5 +1,6 @@
 -- Bytes and a FIN that come are moves, and so are the segments that answer.
-use Rattle.std.proofs.Common.{◌≡◌, ◌⊎◌, inl, inr, ℕ, ◌+◌, ◌-◌, ◌%◌, ◌^◌, ◌<◌, ◌≤◌, nat_lt, Bool, true, false, if◌then◌else◌, List, [], ◌∷◌, ◌++◌, Option, Some, None, length, drop, refl, sym, ap, ◌∙◌, subst, arith, length-append}
+use Rattle.std.proofs.Common.{◌≡◌, ◌⊎◌, inl, inr, ℕ, ◌+◌, ◌-◌, ◌%◌, ◌^◌, ◌<◌, ◌≤◌, nat_lt, Bool, true, false, if◌then◌else◌, List, [], ◌∷◌, ◌++◌, Option, Some}
+use Rattle.std.proofs.Common.{None, length, drop, refl, sym, ap, ◌∙◌, subst, arith, length-append}
 use Rattle.std.proofs.lemmas.Bool.Decides.{nat_tests}
 use Rattle.tcp_law.specs.Invariant.{HoldsBetween, IsHonest, IsPiece, IsPlain, IsSyn, IsBelow}
 use Rattle.tcp_law.specs.Move.{after, Comes, laid, bare_ack, MayTakeBytes, MayTakeFin}
@@ -84,7 +85,8 @@ takes_bytes c s t x past before next waiting laid_map map comes kind test place 
     let k = fits_connected c.state c (unsent s) state.connected fits in
     let same : laid_map ≡ laid s place.at x.bytes =
     is_laid ∙ (ap (λ (m : List (Option ℕ)). store m past (drop before x.bytes)) k.map
-    ∙ (ap (λ (n : ℕ). store s.window n (drop before x.bytes)) (sym place.past_it) ∙ ap (λ (n : ℕ). store s.window (place.at - rcv_next s) (drop n x.bytes)) (sym place.before_it))) in
+    ∙ (ap (λ (n : ℕ). store s.window n (drop before x.bytes)) (sym place.past_it) ∙
+    ap (λ (n : ℕ). store s.window (place.at - rcv_next s) (drop n x.bytes)) (sym place.before_it))) in
     let may : MayTakeBytes s t x place.at = record {
       running = k.phase ∙ state.phase;
       unfinished = k.side_finished ∙ state.finished;

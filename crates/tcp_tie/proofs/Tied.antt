@@ -19,7 +19,8 @@ pub record Tied (c : Core) (p : Past) (t : Side) : Type 0 where
   pub holds : HoldsBetween side t
 
 -- a move of the side leads there
-pub tied_by : (c : Core) (p : Past) (s t : Side) (move : Move) → HoldsBetween s t → May s t move → past_of (after s move) ≡ p → FitsIn c.state c (unsent (after s move)) → Tied c p t
+pub tied_by : (c : Core) (p : Past) (s t : Side) (move : Move) → HoldsBetween s t → May s t move → past_of (after s move) ≡ p →
+    FitsIn c.state c (unsent (after s move)) → Tied c p t
 tied_by c p s t move holds may past fits = record { side = after s move; past = past; fits = fits; holds = HoldsBetween-after s t move holds may }
 
 pub stays : (c : Core) (p : Past) (s t : Side) → HoldsBetween s t → past_of s ≡ p → FitsIn c.state c (unsent s) → Tied c p t

@@ -35,7 +35,8 @@ pub fn other_resets_are_ignored()
         → IsIgnored cx v ip header (arrives cx v ip header bytes) }
 {}
 
-/// Text keeps to the remote's window and to the congestion window, with what limited transmit adds to it; it and what goes again keep to the remote's largest payload less the
+/// Text keeps to the remote's window and to the congestion window, with what limited transmit adds to it; it and what goes again keep to the remote's largest
+/// payload less the
 /// options that the segment carries, and to the longest packet where that holds the headers, but a byte always fits.
 #[tactic(auto, using(crate::proofs::AcceptLaws::text_in_window, crate::proofs::AcceptLaws::text_in_congestion, crate::proofs::AcceptLaws::text_in_mss, crate::proofs::AcceptLaws::text_in_packet, crate::proofs::AcceptLaws::again_in_mss, crate::proofs::AcceptLaws::again_in_packet))]
 pub fn text_keeps_to_the_limits()

@@ -10,7 +10,8 @@ ghost use Rattle.tcp_model.specs.declared.block.CongestionControl.{CongestionCon
 ghost use Rattle.tcp_model.specs.RecvError.TheVariants as Recv;
 ghost use Rattle.tcp_model.specs.Calls.{listen_after, connect_after, send_answer, send_after, recv_answer};
 ghost use Rattle.tcp_model.specs.Offers.{offered_packet};
-ghost use Rattle.tcp_model.specs.Settings.{set_timeout, set_keep_alive, set_ack_delay, set_nagle_enabled, set_hop_limit, set_tsval_generator, pause_synack, set_retries, set_min_rto, set_congestion_control};
+ghost use Rattle.tcp_model.specs.Settings.{set_timeout, set_keep_alive, set_ack_delay, set_nagle_enabled, set_hop_limit, set_tsval_generator, pause_synack};
+ghost use Rattle.tcp_model.specs.Settings.{set_retries, set_min_rto, set_congestion_control};
 ghost use Rattle.tcp_model.specs.Value.{TcpValue, unoffered};
 ghost use Rattle.tcp_tie.specs.History.{listen_opens, connect_opens, opened_by, bytes_taken, with_written, with_offer, with_packet};
 ghost use Rattle.tcp_tie.specs.Promises.{KeepsAlone};

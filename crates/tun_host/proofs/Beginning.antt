@@ -1,5 +1,7 @@
 -- A host that begins.
-use Rattle.std.proofs.Common.{◌≡◌, ℕ, zero, suc, get_or, ◌+◌, ◌-◌, not, ◌||◌, ◌&&◌, if◌then◌else◌, sym, ap, ap₂, ◌∙◌, ◌++◌, ◌∷◌, take, drop, length-append, length-drop, length-take, ℤ, pos, ◌≤ℤ◌, Bool, true, false, List, [], length, Result, Ok, Err, Option, None, Some, IsOk, OnOk, IsTrue, ◌↔◌, refl, subst, arith}
+use Rattle.std.proofs.Common.{◌≡◌, ℕ, zero, suc, get_or, ◌+◌, ◌-◌, not, ◌||◌, ◌&&◌, if◌then◌else◌, sym, ap, ap₂, ◌∙◌, ◌++◌, ◌∷◌, take, drop, length-append}
+use Rattle.std.proofs.Common.{length-drop, length-take, ℤ, pos, ◌≤ℤ◌, Bool, true, false, List, [], length, Result, Ok, Err, Option, None, Some, IsOk, OnOk}
+use Rattle.std.proofs.Common.{IsTrue, ◌↔◌, refl, subst, arith}
 use Rattle.std.specs.Prelude.{int_lt, position, is_some}
 use Rattle.std.proofs.lemmas.Bool.{false≢true}
 use Rattle.std.proofs.lemmas.List.Quantifiers.{position-Some}
@@ -37,7 +39,8 @@ not_below a b is = grind (arith)
 
 -- at a moment of the stack an interface is refused for a hardware address that is no station's alone
 pub refusal_is : (hardware : HardwareAddress) (seed : ℕ) (moment : ℤ) → IsMoment moment
-    → refusal (record { random_seed = seed; hardware_addr = hardware }) (capabilities_of hardware) moment ≡ (if is_station hardware then None else Some New.NotUnicast)
+    → refusal (record { random_seed = seed; hardware_addr = hardware }) (capabilities_of hardware) moment ≡
+    (if is_station hardware then None else Some New.NotUnicast)
 refusal_is Hardware.Ip seed moment is = rw (not_below moment (pos 0) is.0, not_below (pos last_moment) moment is.1) refl
 refusal_is (Hardware.Ethernet a) seed moment is = rw (not_below moment (pos 0) is.0, not_below (pos last_moment) moment is.1) refl
 
@@ -50,7 +53,8 @@ not_made_by true h is = absurd (cc)
 not_made_by false h is = refl
 
 module _ (s : Settings) (moment : ℤ) (is : IsMoment moment) where
-  pub made_is : (made : HostValue) → Makes (config_of s) (capabilities_of s.hardware) moment (Ok made) → made ≡ new_host (config_of s) (capabilities_of s.hardware) moment
+  pub made_is : (made : HostValue) → Makes (config_of s) (capabilities_of s.hardware) moment (Ok made) →
+      made ≡ new_host (config_of s) (capabilities_of s.hardware) moment
   made_is made makes =
       let h = new_host (config_of s) (capabilities_of s.hardware) moment in
       made_by (is_station s.hardware) h made (subst (λ (o : Option NewError). MadeUnless o h (Ok made)) (refusal_is s.hardware s.seed moment is) makes)
@@ -58,7 +62,8 @@ module _ (s : Settings) (moment : ℤ) (is : IsMoment moment) where
   pub no_station : Makes (config_of s) (capabilities_of s.hardware) moment (Err New.NotUnicast) → is_station s.hardware ≡ false
   no_station makes =
       let h = new_host (config_of s) (capabilities_of s.hardware) moment in
-      not_made_by (is_station s.hardware) h (subst (λ (o : Option NewError). MadeUnless o h (Err New.NotUnicast)) (refusal_is s.hardware s.seed moment is) makes)
+      not_made_by (is_station s.hardware) h
+      (subst (λ (o : Option NewError). MadeUnless o h (Err New.NotUnicast)) (refusal_is s.hardware s.seed moment is) makes)
 
 -- ROUTES
 
@@ -110,16 +115,19 @@ module _ (ipv4 : Ipv4Address) (ipv6 : Ipv6Address) where
   defaults_of one two old mid new ok added ok2 added2 none =
       let room : IsOk one ↔ IsTrue (has_room 4 is_gateway_v4 []) = subst (λ (o : List Route). IsOk one ↔ IsTrue (has_room 4 is_gateway_v4 o)) none ok in
       let first : (r : Route) × IsGateway r (replicate 4 0) (Ip.Ipv4 ipv4) × (mid ≡ r ∷ []) =
-      first_v4 one mid ipv4 (room.1 refl) (subst (λ (o : List Route). OnOk one (IsAdded is_gateway_v4 (λ r. IsGateway r (replicate 4 0) (Ip.Ipv4 ipv4)) o mid)) none added) in
+      first_v4 one mid ipv4 (room.1 refl)
+      (subst (λ (o : List Route). OnOk one (IsAdded is_gateway_v4 (λ r. IsGateway r (replicate 4 0) (Ip.Ipv4 ipv4)) o mid)) none added) in
       let r : Route = first.0 in
-      let room2 : IsOk two ↔ IsTrue (has_room 4 is_gateway_v6 (r ∷ [])) = subst (λ (o : List Route). IsOk two ↔ IsTrue (has_room 4 is_gateway_v6 o)) first.2 ok2 in
+      let room2 : IsOk two ↔ IsTrue (has_room 4 is_gateway_v6 (r ∷ [])) =
+      subst (λ (o : List Route). IsOk two ↔ IsTrue (has_room 4 is_gateway_v6 o)) first.2 ok2 in
       second_v6 two r new ipv4 ipv6 first.1 (room2.1 (room_of_one r))
       (subst (λ (o : List Route). OnOk two (IsAdded is_gateway_v6 (λ r. IsGateway r (replicate 16 0) (Ip.Ipv6 ipv6)) o new)) first.2 added2)
 
 -- THE INTERFACE
 
 -- the routes of a host, set where there were none
-pub routed : (h h' : HostValue) (ipv4 : Ipv4Address) (ipv6 : Ipv6Address) (before after : List Route) → before ≡ h.inner.routes → AddsRouters ipv4 ipv6 before after
+pub routed : (h h' : HostValue) (ipv4 : Ipv4Address) (ipv6 : Ipv6Address) (before after : List Route) → before ≡ h.inner.routes →
+    AddsRouters ipv4 ipv6 before after
     → h' ≡ with_inner h (with_routes h.inner after) → h.inner.routes ≡ []
     → (routes : List Route) × AreDefaults ipv4 ipv6 routes × (h' ≡ with_inner h (with_routes h.inner routes))
 routed h h' ipv4 ipv6 before after is adds set none = (after, adds.first (is ∙ none), set)
@@ -138,7 +146,8 @@ not_both true true is = absurd (cc)
 not_both true false is = refl
 not_both false b is = refl
 
-module _ (s : Settings) (moment : ℤ) (ipv4 ipv6 : IpCidr) (own_ipv4 : IsBlockOf (Ip.Ipv4 s.ipv4) s.ipv4_prefix_len ipv4) (own_ipv6 : IsBlockOf (Ip.Ipv6 s.ipv6) s.ipv6_prefix_len ipv6) where
+module _ (s : Settings) (moment : ℤ) (ipv4 ipv6 : IpCidr) (own_ipv4 : IsBlockOf (Ip.Ipv4 s.ipv4) s.ipv4_prefix_len ipv4)
+    (own_ipv6 : IsBlockOf (Ip.Ipv6 s.ipv6) s.ipv6_prefix_len ipv6) where
   are_hosts : true ≡ not (list_any is_stranger (ipv4 ∷ ipv6 ∷ [])) → (is_host_address (Ip.Ipv4 s.ipv4) ≡ true) × (is_host_address (Ip.Ipv6 s.ipv6) ≡ true)
   are_hosts known =
       let both = both_known (is_host_address (block_address ipv4)) (is_host_address (block_address ipv6)) known in
@@ -150,7 +159,8 @@ module _ (s : Settings) (moment : ℤ) (ipv4 ipv6 : IpCidr) (own_ipv4 : IsBlockO
       ∙ not_both (is_host_address (block_address ipv4)) (is_host_address (block_address ipv6)) unknown
 
   fresh_with : HostValue
-  fresh_with = with_inner (new_host (config_of s) (capabilities_of s.hardware) moment) (with_addresses (made (config_of s) (capabilities_of s.hardware) moment) (ipv4 ∷ ipv6 ∷ []))
+  fresh_with = with_inner (new_host (config_of s) (capabilities_of s.hardware) moment)
+      (with_addresses (made (config_of s) (capabilities_of s.hardware) moment) (ipv4 ∷ ipv6 ∷ []))
 
   no_routes : fresh_with.inner.routes ≡ []
   unfolding fresh_with
@@ -160,7 +170,8 @@ module _ (s : Settings) (moment : ℤ) (ipv4 ipv6 : IpCidr) (own_ipv4 : IsBlockO
 
   pub interface_begun : (first addressed last : HostValue) → first ≡ new_host (config_of s) (capabilities_of s.hardware) moment
       → addressed ≡ with_inner first (with_addresses first.inner (ipv4 ∷ ipv6 ∷ [])) → true ≡ not (list_any is_stranger (ipv4 ∷ ipv6 ∷ []))
-      → (addressed.inner.routes ≡ [] → (routes : List Route) × AreDefaults s.ipv4_router s.ipv6_router routes × (last ≡ with_inner addressed (with_routes addressed.inner routes)))
+      → (addressed.inner.routes ≡ [] → (routes : List Route) × AreDefaults s.ipv4_router s.ipv6_router routes ×
+      (last ≡ with_inner addressed (with_routes addressed.inner routes)))
       → IsInterface s moment last
   unfolding fresh_with
   interface_begun first addressed last first_is addressed_is known set =

@@ -1,8 +1,10 @@
 -- The connections of a service, made and served one after the other.
-use Rattle.std.proofs.Common.{◌≡◌, ◌≢◌, ℕ, ◌+◌, ◌<◌, ◌≤◌, ◌==◌, Bool, true, false, List, [], ◌∷◌, ◌++◌, length, map, length-append, if◌then◌else◌, ◌&&◌, arith, refl, sym, ap, ◌∙◌, subst, ◌⊎◌, inl, inr, Option, None, Some}
+use Rattle.std.proofs.Common.{◌≡◌, ◌≢◌, ℕ, ◌+◌, ◌<◌, ◌≤◌, ◌==◌, Bool, true, false, List, [], ◌∷◌, ◌++◌, length, map, length-append, if◌then◌else◌, ◌&&◌, arith}
+use Rattle.std.proofs.Common.{refl, sym, ap, ◌∙◌, subst, ◌⊎◌, inl, inr, Option, None, Some}
 use Rattle.std.specs.Prelude.{slice_index_or, slice_set}
 use Rattle.std.proofs.lemmas.Bool.{false≢true}
-use Rattle.std.proofs.lemmas.List.{length-map, get_or-map, get_or-set_same, get_or-set_other, get_or_past, get_or_append_left, get_or_push, get_or_default, set-get_or, set_past}
+use Rattle.std.proofs.lemmas.List.{length-map, get_or-map, get_or-set_same, get_or-set_other, get_or_past, get_or_append_left, get_or_push, get_or_default}
+use Rattle.std.proofs.lemmas.List.{set-get_or, set_past}
 use Rattle.std.proofs.Math.ListN.{length-set}
 use Rattle.interface_egress.specs.Set.{free}
 use Rattle.interface_egress.specs.declared.socket_set.Item.{Item}
@@ -18,7 +20,8 @@ use Rattle.tcp_listener.specs.Stages.{is_accepted, is_open}
 use Rattle.tcp_listener.specs.declared.entry.Entry.{Entry}
 use Rattle.tcp_listener.specs.declared.listener.Listener.{Listener}
 use Rattle.tcp_listener.specs.declared.stage.Stage.TheVariants as Stage
-use Rattle.tun_host.specs.Backlogs.{on_port, handle, keepers_of, IsListener, StandsFrom, AreFreshEntries, ended_if, EntryServesBy, EntryServes, BacklogServes, back_if, ServesAt, OneServesBy, OneServes}
+use Rattle.tun_host.specs.Backlogs.{on_port, handle, keepers_of, IsListener, StandsFrom, AreFreshEntries, ended_if, EntryServesBy, EntryServes, BacklogServes}
+use Rattle.tun_host.specs.Backlogs.{back_if, ServesAt, OneServesBy, OneServes}
 use Rattle.tun_host.specs.Services.{first_place, socket_count, port_of, PlaceServes, is_over}
 use Rattle.tun_host.specs.declared.place.Service.{Service}
 
@@ -74,11 +77,13 @@ module _ (first count : ℕ) (es : List Entry) (stands : StandsFrom first count 
   pub accepted_stand : StandsFrom first count (map accepted es)
   accepted_stand = record {
     long = length-map es accepted ∙ stands.long;
-    handles = λ i h. ap (λ (e : Entry). e.handle.0) (entry_map accepted es i (omega (arith, stands.long, h))) ∙ (ap (λ (x : SocketHandle). x.0) (accepted_keeps (entry_at es i)) ∙ stands.handles i h);
+    handles = λ i h. ap (λ (e : Entry). e.handle.0) (entry_map accepted es i (omega (arith, stands.long, h))) ∙
+        (ap (λ (x : SocketHandle). x.0) (accepted_keeps (entry_at es i)) ∙ stands.handles i h);
   }
 
   -- entries of the same handles stand at the same places
-  pub kept_stand : (es' : List Entry) → length es' ≡ length es → ((i : ℕ) → i < length es → (entry_at es' i).handle ≡ (entry_at es i).handle) → StandsFrom first count es'
+  pub kept_stand : (es' : List Entry) → length es' ≡ length es → ((i : ℕ) → i < length es → (entry_at es' i).handle ≡ (entry_at es i).handle) →
+      StandsFrom first count es'
   kept_stand es' long same = record {
     long = long ∙ stands.long;
     handles = λ i h. ap (λ (x : SocketHandle). x.0) (same i (omega (arith, stands.long, h))) ∙ stands.handles i h;
@@ -106,7 +111,8 @@ module _ (endpoint : IpListenEndpoint) (now first count : ℕ) where
   way_stand ps es ps' es' (inl (one, places, same)) stands = subst (StandsFrom first count) (sym same) stands
   way_stand ps es ps' es' (inr (none, (next, is, freed))) stands = freed_stand next ps es ps' es' freed stands
 
-  pub refreshed_stand : (keepers : List SocketHandle) (ps : List (SocketStorage Socket)) (es : List Entry) (ps' : List (SocketStorage Socket)) (es' : List Entry)
+  pub refreshed_stand : (keepers : List SocketHandle) (ps : List (SocketStorage Socket)) (es : List Entry) (ps' : List (SocketStorage Socket))
+      (es' : List Entry)
       → Refreshes endpoint now keepers ps es ps' es' → StandsFrom first count es → StandsFrom first count es'
   refreshed_stand keepers ps es ps' es' (seen, (noted, (freed, notes, way, kept))) stands =
       way_stand seen noted freed es' way (kept_stand first count es stands noted notes.entries (λ i h. notes.handles i))
@@ -121,14 +127,17 @@ entry_keeps : (b : Bool) (service : Service) (e e' : Entry) (p p' : SocketStorag
 entry_keeps true service e e' p p' (serves, is) = ap (λ (x : Entry). x.handle) is ∙ ended_keeps (is_over p') e
 entry_keeps false service e e' p p' (place, is) = ap (λ (x : Entry). x.handle) is
 
-pub served_stand : (first count : ℕ) (service : Service) (ps : List (SocketStorage Socket)) (es : List Entry) (ps' : List (SocketStorage Socket)) (es' : List Entry)
+pub served_stand : (first count : ℕ) (service : Service) (ps : List (SocketStorage Socket)) (es : List Entry) (ps' : List (SocketStorage Socket))
+    (es' : List Entry)
     → BacklogServes first service ps es ps' es' → StandsFrom first count es → StandsFrom first count es'
 served_stand first count service ps es ps' es' serves stands =
     kept_stand first count es stands es' serves.entries
-    (λ i h. entry_keeps (is_accepted (entry_at es i).stage) service (entry_at es i) (entry_at es' i) (place_at ps (first + i)) (place_at ps' (first + i)) (serves.each i h))
+    (λ i h. entry_keeps (is_accepted (entry_at es i).stage) service (entry_at es i) (entry_at es' i) (place_at ps (first + i)) (place_at ps' (first + i))
+    (serves.each i h))
 
 -- the first n entries were served, and the others and their places are as they were
-pub record ServedTo (n first : ℕ) (service : Service) (ps : List (SocketStorage Socket)) (es : List Entry) (ps' : List (SocketStorage Socket)) (es' : List Entry) : Type 0 where
+pub record ServedTo (n first : ℕ) (service : Service) (ps : List (SocketStorage Socket)) (es : List Entry) (ps' : List (SocketStorage Socket))
+    (es' : List Entry) : Type 0 where
   pub places : length ps' ≡ length ps
   pub entries : length es' ≡ length es
   pub below : (i : ℕ) → i < n → EntryServes service (entry_at es i) (place_at ps (first + i)) (entry_at es' i) (place_at ps' (first + i))
@@ -137,7 +146,8 @@ pub record ServedTo (n first : ℕ) (service : Service) (ps : List (SocketStorag
   pub before : (m : ℕ) → m < first → place_at ps' m ≡ place_at ps m
   pub behind : (m : ℕ) → first + n ≤ m → place_at ps' m ≡ place_at ps m
 
-pub served_none : (first count : ℕ) (service : Service) (ps : List (SocketStorage Socket)) (es : List Entry) → StandsFrom first count es → ServedTo 0 first service ps es ps es
+pub served_none : (first count : ℕ) (service : Service) (ps : List (SocketStorage Socket)) (es : List Entry) → StandsFrom first count es →
+    ServedTo 0 first service ps es ps es
 served_none first count service ps es stands = record {
   places = refl;
   entries = refl;
@@ -190,7 +200,8 @@ back_here : (b : Bool) (x : SocketHandle) (es : List Entry) (i : ℕ) → i < le
 back_here true x es i h is accepted = entry_map (given_back x) es i h ∙ given_same x (entry_at es i) is accepted
 back_here false x es i h is accepted = refl
 
-back_other : (b : Bool) (x : SocketHandle) (es : List Entry) (i : ℕ) → i < length es → (entry_at es i).handle.0 ≢ x.0 → entry_at (back_if b x es) i ≡ entry_at es i
+back_other : (b : Bool) (x : SocketHandle) (es : List Entry) (i : ℕ) → i < length es → (entry_at es i).handle.0 ≢ x.0 →
+    entry_at (back_if b x es) i ≡ entry_at es i
 back_other true x es i h isnt = entry_map (given_back x) es i h ∙ given_other x (entry_at es i) isnt
 back_other false x es i h isnt = refl
 
@@ -227,13 +238,15 @@ module _ (n first : ℕ) (service : Service) (ps : List (SocketStorage Socket)) 
       (served : EntryServes service (entry_at es n) (place_at ps (first + n)) (entry_at fs n) (place_at after (first + n)))
       (others : (i : ℕ) → i ≢ n → entry_at fs i ≡ entry_at ms i) (same_handle : (entry_at fs n).handle.0 ≡ first + n)
       (elsewhere : (m : ℕ) → m ≢ first + n → place_at after m ≡ place_at mid m) where
-    below_at : (i : ℕ) → i < n + 1 → (i ≡ n) ⊎ (i ≢ n) → EntryServes service (entry_at es i) (place_at ps (first + i)) (entry_at fs i) (place_at after (first + i))
+    below_at : (i : ℕ) → i < n + 1 → (i ≡ n) ⊎ (i ≢ n) →
+        EntryServes service (entry_at es i) (place_at ps (first + i)) (entry_at fs i) (place_at after (first + i))
     below_at i h (inl is) =
         subst (λ (k : ℕ). EntryServes service (entry_at es k) (place_at ps (first + k)) (entry_at fs k) (place_at after (first + k))) (sym is) served
     below_at i h (inr isnt) =
         let less : i < n = omega (arith, h, isnt) in
         let there : EntryServes service (entry_at es i) (place_at ps (first + i)) (entry_at ms i) (place_at mid (first + i)) = to.below i less in
-        subst (λ (p : SocketStorage Socket). EntryServes service (entry_at es i) (place_at ps (first + i)) (entry_at fs i) p) (sym (elsewhere (first + i) (λ q. absurd (omega (arith, q, less)))))
+        subst (λ (p : SocketStorage Socket). EntryServes service (entry_at es i) (place_at ps (first + i)) (entry_at fs i) p)
+        (sym (elsewhere (first + i) (λ q. absurd (omega (arith, q, less)))))
         (subst (λ (x : Entry). EntryServes service (entry_at es i) (place_at ps (first + i)) x (place_at mid (first + i))) (sym (others i isnt)) there)
 
     handle_at : (i : ℕ) → i < length es → (i ≡ n) ⊎ (i ≢ n) → (entry_at fs i).handle.0 ≡ first + i
@@ -255,10 +268,12 @@ module _ (n first : ℕ) (service : Service) (ps : List (SocketStorage Socket)) 
   left_alone : is_accepted (entry_at ms n).stage ≡ false → after ≡ mid → fs ≡ ms → ServedTo (n + 1) first service ps es after fs
   left_alone off places entries =
       let off_here : is_accepted (entry_at es n).stage ≡ false = ap (λ (x : Entry). is_accepted x.stage) (sym here) ∙ off in
-      let place : place_at after (first + n) ≡ place_at ps (first + n) = ap (λ (qs : List (SocketStorage Socket)). place_at qs (first + n)) places ∙ to.behind (first + n) (omega arith) in
+      let place : place_at after (first + n) ≡ place_at ps (first + n) = ap (λ (qs : List (SocketStorage Socket)). place_at qs (first + n)) places ∙
+      to.behind (first + n) (omega arith) in
       let entry : entry_at fs n ≡ entry_at es n = ap (λ (xs : List Entry). entry_at xs n) entries ∙ here in
       step (ap length places ∙ to.places) (ap length entries ∙ to.entries)
-      (subst (λ (b : Bool). EntryServesBy b service (entry_at es n) (place_at ps (first + n)) (entry_at fs n) (place_at after (first + n))) (sym off_here) (place, entry))
+      (subst (λ (b : Bool). EntryServesBy b service (entry_at es n) (place_at ps (first + n)) (entry_at fs n) (place_at after (first + n))) (sym off_here)
+      (place, entry))
       (λ i isnt. ap (λ (xs : List Entry). entry_at xs i) entries) (ap (λ (xs : List Entry). (entry_at xs n).handle.0) entries ∙ at_place)
       (λ m isnt. ap (λ (qs : List (SocketStorage Socket)). place_at qs m) places)
 
@@ -272,7 +287,8 @@ module _ (n first : ℕ) (service : Service) (ps : List (SocketStorage Socket)) 
       (places : after ≡ slice_set mid (entry_at ms n).handle.0 p') (entries : fs ≡ back_if (is_over p') (entry_at ms n).handle ms) where
     other_entry : (i : ℕ) → i ≢ n → (i < length ms) ⊎ (length ms ≤ i) → entry_at fs i ≡ entry_at ms i
     other_entry i isnt (inl less) =
-        let differs : (entry_at ms i).handle.0 ≢ (entry_at ms n).handle.0 = λ q. absurd (omega (arith, q, isnt, to.handles i (omega (arith, less, to.entries)), at_place)) in
+        let differs : (entry_at ms i).handle.0 ≢ (entry_at ms n).handle.0 =
+        λ q. absurd (omega (arith, q, isnt, to.handles i (omega (arith, less, to.entries)), at_place)) in
         ap (λ (xs : List Entry). entry_at xs i) entries ∙ back_other (is_over p') (entry_at ms n).handle ms i less differs
     other_entry i isnt (inr past) = ap (λ (xs : List Entry). entry_at xs i) entries ∙ back_past (is_over p') (entry_at ms n).handle ms i past
 
@@ -282,7 +298,8 @@ module _ (n first : ℕ) (service : Service) (ps : List (SocketStorage Socket)) 
     this_place : place_at after (first + n) ≡ p'
     this_place =
         let there : place_at after (entry_at ms n).handle.0 ≡ p' =
-        ap (λ (qs : List (SocketStorage Socket)). place_at qs (entry_at ms n).handle.0) places ∙ set_here service mid (entry_at ms n).handle.0 p' serves (in_or_past (entry_at ms n).handle.0) in
+        ap (λ (qs : List (SocketStorage Socket)). place_at qs (entry_at ms n).handle.0) places ∙
+        set_here service mid (entry_at ms n).handle.0 p' serves (in_or_past (entry_at ms n).handle.0) in
         subst (λ (m : ℕ). place_at after m ≡ p') at_place there
 
     old_place : place_at mid (entry_at ms n).handle.0 ≡ place_at ps (first + n)
@@ -299,16 +316,20 @@ module _ (n first : ℕ) (service : Service) (ps : List (SocketStorage Socket)) 
         subst (λ (q : SocketStorage Socket). PlaceServes service (place_at ps (first + n)) q) (sym this_place)
         (subst (λ (q : SocketStorage Socket). PlaceServes service q p') old_place serves) in
         let entry : entry_at fs n ≡ ended_if (is_over (place_at after (first + n))) (entry_at es n) =
-        subst (λ (q : SocketStorage Socket). entry_at fs n ≡ ended_if (is_over q) (entry_at es n)) (sym this_place) (subst (λ (x : Entry). entry_at fs n ≡ ended_if (is_over p') x) here this_entry) in
-        subst (λ (b : Bool). EntryServesBy b service (entry_at es n) (place_at ps (first + n)) (entry_at fs n) (place_at after (first + n))) (sym on_here) (place, entry)
+        subst (λ (q : SocketStorage Socket). entry_at fs n ≡ ended_if (is_over q) (entry_at es n)) (sym this_place)
+        (subst (λ (x : Entry). entry_at fs n ≡ ended_if (is_over p') x) here this_entry) in
+        subst (λ (b : Bool). EntryServesBy b service (entry_at es n) (place_at ps (first + n)) (entry_at fs n) (place_at after (first + n))) (sym on_here)
+        (place, entry)
 
     served_one : ServedTo (n + 1) first service ps es after fs
     served_one =
-        step (ap length places ∙ (length-set mid (entry_at ms n).handle.0 p' ∙ to.places)) (ap length entries ∙ (back_long (is_over p') (entry_at ms n).handle ms ∙ to.entries)) served_here
+        step (ap length places ∙ (length-set mid (entry_at ms n).handle.0 p' ∙ to.places)) (ap length entries ∙
+        (back_long (is_over p') (entry_at ms n).handle ms ∙ to.entries)) served_here
         (λ i isnt. other_entry i isnt (in_or_past_ms i))
         (ap (λ (x : Entry). x.handle.0) this_entry ∙ (ap (λ (x : SocketHandle). x.0) (ended_keeps (is_over p') (entry_at ms n)) ∙ at_place)) other_place
 
-  by_stage : (b : Bool) → is_accepted (entry_at ms n).stage ≡ b → OneServesBy b service (entry_at ms n) mid ms after fs → ServedTo (n + 1) first service ps es after fs
+  by_stage : (b : Bool) → is_accepted (entry_at ms n).stage ≡ b → OneServesBy b service (entry_at ms n) mid ms after fs →
+      ServedTo (n + 1) first service ps es after fs
   by_stage true is (over, (p', serves, places, over_is), entries) =
       served_one is p' serves places (subst (λ (b : Bool). fs ≡ back_if b (entry_at ms n).handle ms) over_is entries)
   by_stage false is (places, entries) = left_alone is places entries
@@ -332,7 +353,8 @@ pub served_somewhere : (service : Service) (ps : List (SocketStorage Socket)) (a
 served_somewhere service ps at x p' over within serves over_is =
     (p', subst (λ (q : SocketStorage Socket). PlaceServes service q p') (get_or_default ps at x free within) serves, refl, over_is)
 
-module _ (service : Service) (at : ℕ) (ps : List (SocketStorage Socket)) (es : List Entry) (e : Entry) (within : at < length es) (read : e ≡ slice_index_or es at e) where
+module _ (service : Service) (at : ℕ) (ps : List (SocketStorage Socket)) (es : List Entry) (e : Entry) (within : at < length es) (read : e ≡
+    slice_index_or es at e) where
   entry_is : e ≡ entry_at es at
   entry_is = read ∙ get_or_default es at e no_entry within
 
@@ -341,7 +363,8 @@ module _ (service : Service) (at : ℕ) (ps : List (SocketStorage Socket)) (es :
       subst (λ (x : Entry). OneServesBy (is_accepted x.stage) service x ps es ps es) entry_is
       (subst (λ (b : Bool). OneServesBy b service e ps es ps es) (sym off) (refl, refl))
 
-  pub one_served : (ps' : List (SocketStorage Socket)) (es' : List Entry) → is_accepted e.stage ≡ true → OneServesBy true service e ps es ps' es' → OneServes service at ps es ps' es'
+  pub one_served : (ps' : List (SocketStorage Socket)) (es' : List Entry) → is_accepted e.stage ≡ true → OneServesBy true service e ps es ps' es' →
+      OneServes service at ps es ps' es'
   one_served ps' es' on served =
       subst (λ (x : Entry). OneServesBy (is_accepted x.stage) service x ps es ps' es') entry_is
       (subst (λ (b : Bool). OneServesBy b service e ps es ps' es') (sym on) served)
@@ -349,8 +372,10 @@ module _ (service : Service) (at : ℕ) (ps : List (SocketStorage Socket)) (es :
 -- LISTENERS
 
 -- what a refresh of a listener says of its service's port and keeper
-pub seen_as : (service : Service) (l : Listener) (now : ℕ) (ps : List (SocketStorage Socket)) (es : List Entry) (ps' : List (SocketStorage Socket)) (es' : List Entry)
-    → IsListener service l → Refreshes l.endpoint now l.keepers.items ps es ps' es' → Refreshes (on_port (port_of service)) now (keepers_of service) ps es ps' es'
+pub seen_as : (service : Service) (l : Listener) (now : ℕ) (ps : List (SocketStorage Socket)) (es : List Entry) (ps' : List (SocketStorage Socket))
+    (es' : List Entry)
+    → IsListener service l → Refreshes l.endpoint now l.keepers.items ps es ps' es' →
+    Refreshes (on_port (port_of service)) now (keepers_of service) ps es ps' es'
 seen_as service l now ps es ps' es' is refreshes =
     subst (λ (ks : List SocketHandle). Refreshes (on_port (port_of service)) now ks ps es ps' es') is.keepers
     (subst (λ (e : IpListenEndpoint). Refreshes e now l.keepers.items ps es ps' es') is.endpoint refreshes)
@@ -358,7 +383,8 @@ seen_as service l now ps es ps' es' is refreshes =
 -- a listener whose sockets are seen and served stays one
 pub still_listener : (service : Service) (l m n : Listener) (now : ℕ) (ps ps' qs qs' : List (SocketStorage Socket)) → IsListener service l
     → Refreshes l.endpoint now l.keepers.items ps l.entries.items ps' m.entries.items → m.endpoint ≡ l.endpoint → m.keepers.items ≡ l.keepers.items
-    → BacklogServes (first_place service) service qs (map accepted m.entries.items) qs' n.entries.items → n ≡ record m { entries = n.entries } → IsListener service n
+    → BacklogServes (first_place service) service qs (map accepted m.entries.items) qs' n.entries.items → n ≡ record m { entries = n.entries } →
+    IsListener service n
 still_listener service l m n now ps ps' qs qs' is refreshes endpoint keepers serves rest =
     let seen : StandsFrom (first_place service) (socket_count service) m.entries.items =
     refreshed_stand l.endpoint now (first_place service) (socket_count service) l.keepers.items ps l.entries.items ps' m.entries.items refreshes is.stands in

@@ -19,7 +19,8 @@ fresh_none = record { count = refl; each = λ i h. absurd (omega arith) }
 module _ (n : ℕ) (ps : List (SocketStorage Socket)) (place : SocketStorage Socket) (so_far : FreshTo n ps) (is_fresh : IsFreshPlace (service_at n) place) where
   each_at : (i : ℕ) → (i < n) ⊎ (i ≡ n) → IsFreshPlace (service_at i) (slice_index_or (ps ++ place ∷ []) i free)
   each_at i (inl less) =
-      subst (λ (p : SocketStorage Socket). IsFreshPlace (service_at i) p) (sym (get_or_append_left ps (place ∷ []) free i (omega (arith, so_far.count, less)))) (so_far.each i less)
+      subst (λ (p : SocketStorage Socket). IsFreshPlace (service_at i) p) (sym (get_or_append_left ps (place ∷ []) free i (omega (arith, so_far.count, less))))
+      (so_far.each i less)
   each_at i (inr is) =
       subst (λ (k : ℕ). IsFreshPlace (service_at k) (slice_index_or (ps ++ place ∷ []) k free)) (sym is)
       (subst (λ (p : SocketStorage Socket). IsFreshPlace (service_at n) p) (sym (get_or_push ps place free n so_far.count)) is_fresh)

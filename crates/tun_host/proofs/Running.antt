@@ -1,5 +1,6 @@
 -- A run of turns, as far as it has come, and its end.
-use Rattle.std.proofs.Common.{◌≡◌, ◌∙◌, ℕ, ◌+◌, ◌-◌, ◌^◌, arith, length, ℤ, pos, List, [], ◌∷◌, ◌++◌, Option, None, Some, Result, Ok, Err, IfSome, refl, sym, subst}
+use Rattle.std.proofs.Common.{◌≡◌, ◌∙◌, ℕ, ◌+◌, ◌-◌, ◌^◌, arith, length, ℤ, pos, List, [], ◌∷◌, ◌++◌, Option, None, Some, Result, Ok, Err, IfSome, refl, sym}
+use Rattle.std.proofs.Common.{subst}
 use Rattle.std.specs.Prelude.{⊤}
 use Rattle.std.specs.Io.KnownBytes.{Appends}
 use Rattle.std.proofs.KnownBytes.{Appends-nil, Appends-trans}
@@ -43,7 +44,8 @@ reads_more (Some bytes) (Some left) None past last moment packet reads comes = a
 reads_more (Some bytes) (Some left) (Some rest) past last moment packet reads comes = (last, left, reads, comes, refl)
 
 -- one turn more
-pub running_more : (n : ℕ) (input now next before after written : Option (List ℕ)) (last moment : ℤ) (old : Option HostState) (packet taken said : List ℕ) (host new : HostState)
+pub running_more : (n : ℕ) (input now next before after written : Option (List ℕ)) (last moment : ℤ) (old : Option HostState) (packet taken said : List ℕ)
+    (host new : HostState)
     → IsRunning n input now before after last old
     → IfSome now (λ bytes. Next LONGEST last bytes (Some moment) packet next)
     → Arrives old (record { moment = moment; packet = packet }) host taken
@@ -103,7 +105,8 @@ no_count : (host : Option HostState) (packet : List ℕ) → ArrivesNot host pac
 no_count None packet not = no_count_settings (settings_in packet) not
 no_count (Some h) packet not = not
 
-ends_not : (e : ServeError) (past : List Turn) (host : Option HostState) (last : ℤ) (left : List ℕ) (t : Turn) (rest : List ℕ) → Takes LONGEST last left t.moment t.packet rest
+ends_not : (e : ServeError) (past : List Turn) (host : Option HostState) (last : ℤ) (left : List ℕ) (t : Turn) (rest : List ℕ) →
+    Takes LONGEST last left t.moment t.packet rest
     → ArrivesNot host t.packet e → Ends (Err e) past host last left
 ends_not (NoTurn why) past host last left t rest takes not = absurd (no_turn why host t.packet not)
 ends_not NoSettings past host last left t rest takes not = (t, rest, takes, not)
@@ -118,7 +121,8 @@ pub refused_at : (now next : Option (List ℕ)) (past : List Turn) (last moment 
     → IfSome now (λ bytes. Next LONGEST last bytes (Some moment) packet next) → ArrivesNot host packet e → IfSome now (λ left. Ends (Err e) past host last left)
 refused_at None next past last moment host packet e comes not = tt
 refused_at (Some left) None past last moment host packet e comes not = absurd comes
-refused_at (Some left) (Some rest) past last moment host packet e comes not = ends_not e past host last left (record { moment = moment; packet = packet }) rest comes not
+refused_at (Some left) (Some rest) past last moment host packet e comes not =
+    ends_not e past host last left (record { moment = moment; packet = packet }) rest comes not
 
 -- a turn that can't be read
 pub unread_at : (now : Option (List ℕ)) (past : List Turn) (last : ℤ) (host : Option HostState) (e : ServeError) (why : TurnError) → e ≡ NoTurn why

@@ -73,7 +73,8 @@ abbrev pub EntryServes : Service → Entry → SocketStorage Socket → Entry �
 EntryServes service e p e' p' = EntryServesBy (is_accepted e.stage) service e p e' p'
 
 -- each connection that was accepted is served, and nothing else changes
-pub record BacklogServes (first : ℕ) (service : Service) (ps : List (SocketStorage Socket)) (es : List Entry) (ps' : List (SocketStorage Socket)) (es' : List Entry) : Type 0 where
+pub record BacklogServes (first : ℕ) (service : Service) (ps : List (SocketStorage Socket)) (es : List Entry) (ps' : List (SocketStorage Socket))
+    (es' : List Entry) : Type 0 where
   pub places : length ps' ≡ length ps
   pub entries : length es' ≡ length es
   pub each : (i : ℕ) → i < length es → EntryServes service (entry_at es i) (place_at ps (first + i)) (entry_at es' i) (place_at ps' (first + i))

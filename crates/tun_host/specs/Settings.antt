@@ -1,5 +1,6 @@
 -- What a host begins with, as the first turn brings it.
-use Rattle.std.specs.Prelude.{ℕ, ◌+◌, ◌==◌, ◌≤◌, ◌&&◌, nat_le, if◌then◌else◌, Bool, List, length, drop, slice_index, slice_range, Option, None, Some, option_map}
+use Rattle.std.specs.Prelude.{ℕ, ◌+◌, ◌==◌, ◌≤◌, ◌&&◌, nat_le, if◌then◌else◌, Bool, List, length, drop, slice_index, slice_range, Option, None, Some}
+use Rattle.std.specs.Prelude.{option_map}
 use Rattle.byteorder.specs.Endian.{little_number}
 use Rattle.ip_wire.specs.EthernetAddress.{EthernetAddress}
 use Rattle.ip_wire.specs.HardwareAddress.{HardwareAddress}

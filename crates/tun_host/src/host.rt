@@ -59,7 +59,8 @@ fn poll(
     now: Instant,
 ) -> PollResult
     requires { IsMoment now }
-    ensures { Polls DrainMove now budget (state drain.old interface.old (places sockets.old)) (is_change result) (state drain.new interface.new (places sockets.new)) }
+    ensures { Polls DrainMove now budget (state drain.old interface.old (places sockets.old)) (is_change result)
+        (state drain.new interface.new (places sockets.new)) }
 {
     interface.poll(now, drain, sockets, budget())
 }
@@ -76,7 +77,8 @@ fn serve_places(
     requires request { length request.old ≡ most_request }
     requires echoes { StandAt Service.Streams echoes.old.entries.items }
     requires pages { StandAt Service.Page pages.old.entries.items }
-    ensures serve { ServicesServe (served_of places.old echoes.old.entries.items pages.old.entries.items) (served_of places.new echoes.new.entries.items pages.new.entries.items) }
+    ensures serve { ServicesServe (served_of places.old echoes.old.entries.items pages.old.entries.items)
+        (served_of places.new echoes.new.entries.items pages.new.entries.items) }
     ensures echoes { echoes.new ≡ record echoes.old { entries = echoes.new.entries } }
     ensures pages { pages.new ≡ record pages.old { entries = pages.new.entries } }
 {
@@ -97,7 +99,8 @@ fn serve_set(
     requires request { length request.old ≡ most_request }
     requires echoes { StandAt Service.Streams echoes.old.entries.items }
     requires pages { StandAt Service.Page pages.old.entries.items }
-    ensures serve { ServicesServe (served_of (places sockets.old) echoes.old.entries.items pages.old.entries.items) (served_of (places sockets.new) echoes.new.entries.items pages.new.entries.items) }
+    ensures serve { ServicesServe (served_of (places sockets.old) echoes.old.entries.items pages.old.entries.items)
+        (served_of (places sockets.new) echoes.new.entries.items pages.new.entries.items) }
     ensures echoes { echoes.new ≡ record echoes.old { entries = echoes.new.entries } }
     ensures pages { pages.new ≡ record pages.old { entries = pages.new.entries } }
 {
@@ -124,7 +127,8 @@ fn serve(
     requires request { length request.old ≡ most_request }
     requires echoes { IsListener Service.Streams echoes.old }
     requires pages { IsListener Service.Page pages.old }
-    ensures serve { AreServed now (served_of (places sockets.old) echoes.old.entries.items pages.old.entries.items) (served_of (places sockets.new) echoes.new.entries.items pages.new.entries.items) }
+    ensures serve { AreServed now (served_of (places sockets.old) echoes.old.entries.items pages.old.entries.items)
+        (served_of (places sockets.new) echoes.new.entries.items pages.new.entries.items) }
     ensures echoes { IsListener Service.Streams echoes.new }
     ensures pages { IsListener Service.Page pages.new }
 {
@@ -193,7 +197,8 @@ impl Host {
     ) -> Result<(), ServeError>
         requires moment { IsMoment now }
         requires set_up { IsSetUp self.old }
-        ensures answers { OnOk result ((said : List ℕ) × Answers (state_of self.old) now packet.items said (state_of self.new) × Appends (W.contents writer.old) (W.contents writer.new) said) }
+        ensures answers { OnOk result ((said : List ℕ) × Answers (state_of self.old) now packet.items said (state_of self.new) ×
+            Appends (W.contents writer.old) (W.contents writer.new) said) }
         ensures set_up { IsSetUp self.new }
         ensures error { IfErr result (λ e. e ≡ ServeError.Writer) }
     {

@@ -72,7 +72,8 @@ fn set_addresses(interface: &mut Interface, ipv4: IpCidr, ipv6: IpCidr) -> bool
 
 /// Sets the routers, where there was no route.
 fn set_routers(interface: &mut Interface, ipv4: Ipv4Address, ipv6: Ipv6Address)
-    ensures { interface.old.inner.routes ≡ [] → (routes : List Route) × AreDefaults ipv4 ipv6 routes × (interface.new ≡ with_inner interface.old (with_routes interface.old.inner routes)) }
+    ensures { interface.old.inner.routes ≡ [] → (routes : List Route) × AreDefaults ipv4 ipv6 routes ×
+        (interface.new ≡ with_inner interface.old (with_routes interface.old.inner routes)) }
 {
     interface.update_routes(|routes| add_routers(routes, ipv4, ipv6));
 }

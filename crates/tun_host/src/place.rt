@@ -1,7 +1,8 @@
 //! The services, each at its places among a host's sockets.
 ghost use Rattle.std.specs.Prelude.{◌≡◌, ◌≤◌, length};
 ghost use Rattle.services.specs.Echo.{datagram_echoed};
-ghost use Rattle.tun_host.specs.Services.{service_at, first_place, socket_count, keeper_place, port_of, echo_room, most_request, datagram_count, page, refusal, times, datagrams_served, stream_served, PageServed, ServesAs, PlaceServes, is_over};
+ghost use Rattle.tun_host.specs.Services.{service_at, first_place, socket_count, keeper_place, port_of, echo_room, most_request, datagram_count, page, refusal};
+ghost use Rattle.tun_host.specs.Services.{times, datagrams_served, stream_served, PageServed, ServesAs, PlaceServes, is_over};
 
 use interface::{Item, SocketStorage};
 use services::{Site, echo_datagram, echo_stream, serve_page};

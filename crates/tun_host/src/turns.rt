@@ -55,7 +55,8 @@ fn next_turn<R: Read>(
     requires { IsMoment last }
     ensures turn { IfOk result (λ moment. IfSome (R.remaining reader.old) (λ bytes. Next LONGEST last bytes moment packet.new.items (R.remaining reader.new))) }
     ensures moment { IfOk result (λ moment. IfSome moment IsMoment) }
-    ensures refused { IfErr result (λ error. (why : TurnError) × (error ≡ ServeError.Turn why) × IfSome (R.remaining reader.old) (λ bytes. Refuses LONGEST last bytes why)) }
+    ensures refused { IfErr result (λ error. (why : TurnError) × (error ≡ ServeError.Turn why) ×
+        IfSome (R.remaining reader.old) (λ bytes. Refuses LONGEST last bytes why)) }
 {
     match read_turn(reader, packet, LONGEST, last) {
         Ok(moment) => Ok(moment),

@@ -1,5 +1,6 @@
 -- What two reads, of a turn's head and of its packet, say of the bytes that they come from.
-use Rattle.std.proofs.Common.{◌≡◌, ◌≢◌, ℕ, ◌+◌, ◌<◌, ◌≤◌, ℤ, pos, List, [], ◌++◌, length, take, drop, Option, None, Some, IfSome, sym, ap, ◌∙◌, subst, arith, take_at, drop_at, append_assoc}
+use Rattle.std.proofs.Common.{◌≡◌, ◌≢◌, ℕ, ◌+◌, ◌<◌, ◌≤◌, ℤ, pos, List, [], ◌++◌, length, take, drop, Option, None, Some, IfSome, sym, ap, ◌∙◌, subst, arith}
+use Rattle.std.proofs.Common.{take_at, drop_at, append_assoc}
 use Rattle.std.proofs.lemmas.List.{length-append, drop-append-le}
 use Rattle.std.specs.Io.KnownBytes.{Consumes, IsAtEnd}
 use Rattle.byteorder.specs.Endian.{little_number}
@@ -27,7 +28,8 @@ module _ (most : ℕ) (last : ℤ) where
   taken bytes left head packet moment e ten size fits at follows =
       let said = size_behind bytes head (packet ++ left) e ten in
       let when = micros_behind bytes head (packet ++ left) e ten in
-      let all : length bytes ≡ length head + (length packet + length left) = ap length e ∙ length-append head (packet ++ left) ∙ ap (λ n. length head + n) (length-append packet left) in
+      let all : length bytes ≡ length head + (length packet + length left) = ap length e ∙ length-append head (packet ++ left) ∙
+      ap (λ n. length head + n) (length-append packet left) in
       let same : moment ≡ pos (micros_in bytes) = at ∙ ap pos (sym when) in
       let behind : drop 10 bytes ≡ packet ++ left = ap (drop 10) e ∙ drop_at head (packet ++ left) 10 ten in
       let len : length packet ≡ size_in bytes = size ∙ sym said in
@@ -39,7 +41,8 @@ module _ (most : ℕ) (last : ℤ) where
         };
         at = same;
         brings = sym (ap (take (size_in bytes)) behind ∙ take_at packet left (size_in bytes) len);
-        leaves = sym (ap (λ it. drop (10 + size_in bytes) it) (e ∙ sym (append_assoc head packet left)) ∙ drop_at (head ++ packet) left (10 + size_in bytes) (length-append head packet ∙ omega (arith, ten, len)));
+        leaves = sym (ap (λ it. drop (10 + size_in bytes) it) (e ∙ sym (append_assoc head packet left)) ∙
+            drop_at (head ++ packet) left (10 + size_in bytes) (length-append head packet ∙ omega (arith, ten, len)));
       }
 
   -- a head and then its packet are a turn

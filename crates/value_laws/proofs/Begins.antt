@@ -1,5 +1,6 @@
 -- What holds of an interface that was made, and where none is.
-use Rattle.std.proofs.Common.{rules, ◌≡◌, ℕ, ℤ, ◌<◌, Bool, true, false, if◌then◌else◌, is_some, Option, Some, None, Result, Ok, Err, IfOk, IsErr, refl, sym, subst}
+use Rattle.std.proofs.Common.{rules, ◌≡◌, ℕ, ℤ, ◌<◌, Bool, true, false, if◌then◌else◌, is_some, Option, Some, None, Result, Ok, Err, IfOk, IsErr, refl, sym}
+use Rattle.std.proofs.Common.{subst}
 use Rattle.net_base.specs.Capabilities.{ip_mtu}
 use Rattle.net_base.specs.DeviceCapabilities.{DeviceCapabilities}
 use Rattle.interface_tables.specs.Settings.{is_of_medium, is_station, is_mtu, is_moment, refusal}
@@ -24,7 +25,8 @@ refused None h r some is = absurd (cc)
 
 -- where one test fails, there is a reason
 tested : (medium station mtu moment : Bool) → mtu ≡ false
-    → is_some (if medium then (if station then (if mtu then (if moment then None else Some New.Moment) else Some New.Mtu) else Some New.NotUnicast) else Some New.Medium) ≡ true
+    → is_some (if medium then (if station then (if mtu then (if moment then None else Some New.Moment) else Some New.Mtu) else Some New.NotUnicast) else Some
+    New.Medium) ≡ true
 tested false station mtu moment e = refl
 tested true false mtu moment e = refl
 tested true true false moment e = refl
@@ -39,9 +41,13 @@ long n more = search rules
 pub refused-short : (config : Config) (device : DeviceCapabilities) (moment : ℤ) (r : Result HostValue NewError)
     → Makes config device moment r → ip_mtu device < 576 → IsErr r
 refused-short config device moment r makes less =
-    refused (refusal config device moment) (new_host config device moment) r (tested (is_of_medium config.hardware_addr device.medium) (is_station config.hardware_addr) (is_mtu (ip_mtu device)) (is_moment moment) (short (ip_mtu device) less)) makes
+    refused (refusal config device moment) (new_host config device moment) r
+    (tested (is_of_medium config.hardware_addr device.medium) (is_station config.hardware_addr) (is_mtu (ip_mtu device)) (is_moment moment)
+    (short (ip_mtu device) less)) makes
 
 pub refused-long : (config : Config) (device : DeviceCapabilities) (moment : ℤ) (r : Result HostValue NewError)
     → Makes config device moment r → 65535 < ip_mtu device → IsErr r
 refused-long config device moment r makes more =
-    refused (refusal config device moment) (new_host config device moment) r (tested (is_of_medium config.hardware_addr device.medium) (is_station config.hardware_addr) (is_mtu (ip_mtu device)) (is_moment moment) (long (ip_mtu device) more)) makes
+    refused (refusal config device moment) (new_host config device moment) r
+    (tested (is_of_medium config.hardware_addr device.medium) (is_station config.hardware_addr) (is_mtu (ip_mtu device)) (is_moment moment)
+    (long (ip_mtu device) more)) makes

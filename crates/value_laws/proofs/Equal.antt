@@ -104,7 +104,8 @@ Decides-pair a b =
       λ yes.
           let parts = all.0 yes in
           λ i. record { addresses = parts.0 i; local_port = parts.1.0 i; remote_port = parts.1.1 i },
-      λ e. all.1 (both (ap (λ (v : EndpointPair). v.addresses) e) (both (ap (λ (v : EndpointPair). v.local_port) e) (ap (λ (v : EndpointPair). v.remote_port) e))),
+      λ e. all.1 (both (ap (λ (v : EndpointPair). v.addresses) e)
+          (both (ap (λ (v : EndpointPair). v.local_port) e) (ap (λ (v : EndpointPair). v.remote_port) e))),
     )
 
 pub Decides-open_offer : (a b : OpenOffer) → Decides (Opened.ghosts.eq a b) (a ≡ b)
@@ -116,8 +117,19 @@ Decides-open_offer a b =
     let all = Decides-and _ _ (Decides-kind a.kind b.kind) (from_moment) in (
       λ yes.
           let parts = all.0 yes in
-          λ i. record { kind = parts.0 i; moment = parts.1.0 i; header = parts.1.1.0 i; segment = parts.1.1.1.0 i; place = parts.1.1.1.1.0 i; len = parts.1.1.1.1.1 i },
-      λ e. all.1 (both (ap (λ (v : OpenOffer). v.kind) e) (both (ap (λ (v : OpenOffer). v.moment) e) (both (ap (λ (v : OpenOffer). v.header) e) (both (ap (λ (v : OpenOffer). v.segment) e) (both (ap (λ (v : OpenOffer). v.place) e) (ap (λ (v : OpenOffer). v.len) e)))))),
+          λ i. record {
+            kind = parts.0 i;
+            moment = parts.1.0 i;
+            header = parts.1.1.0 i;
+            segment = parts.1.1.1.0 i;
+            place = parts.1.1.1.1.0 i;
+            len =
+                parts.1.1.1.1.1 i;
+          },
+      λ e. all.1 (both (ap (λ (v : OpenOffer). v.kind) e)
+          (both (ap (λ (v : OpenOffer). v.moment) e)
+          (both (ap (λ (v : OpenOffer). v.header) e)
+          (both (ap (λ (v : OpenOffer). v.segment) e) (both (ap (λ (v : OpenOffer). v.place) e) (ap (λ (v : OpenOffer). v.len) e)))))),
     )
 
 pub Decides-reply : (a b : Reply) → Decides (Replied.ghosts.eq a b) (a ≡ b)
@@ -138,7 +150,9 @@ Decides-reno a b =
       λ yes.
           let parts = all.0 yes in
           λ i. record { mss = parts.0 i; cwnd = parts.1.0 i; ssthresh = parts.1.1.0 i; recovers = parts.1.1.1.0 i; timed_out = parts.1.1.1.1 i },
-      λ e. all.1 (both (ap (λ (v : RenoValue). v.mss) e) (both (ap (λ (v : RenoValue). v.cwnd) e) (both (ap (λ (v : RenoValue). v.ssthresh) e) (both (ap (λ (v : RenoValue). v.recovers) e) (ap (λ (v : RenoValue). v.timed_out) e))))),
+      λ e. all.1 (both (ap (λ (v : RenoValue). v.mss) e)
+          (both (ap (λ (v : RenoValue). v.cwnd) e)
+          (both (ap (λ (v : RenoValue). v.ssthresh) e) (both (ap (λ (v : RenoValue). v.recovers) e) (ap (λ (v : RenoValue). v.timed_out) e))))),
     )
 
 Decides-estimate : (a b : Estimate) → Decides (Estimated.ghosts.eq a b) (a ≡ b)
@@ -167,7 +181,8 @@ Decides-round_trip a b =
       λ yes.
           let parts = all.0 yes in
           λ i. record { estimate = parts.0 i; timeout = parts.1.0 i; least = parts.1.1.0 i; sample = parts.1.1.1 i },
-      λ e. all.1 (both (ap (λ (v : RoundTripValue). v.estimate) e) (both (ap (λ (v : RoundTripValue). v.timeout) e) (both (ap (λ (v : RoundTripValue). v.least) e) (ap (λ (v : RoundTripValue). v.sample) e)))),
+      λ e. all.1 (both (ap (λ (v : RoundTripValue). v.estimate) e)
+          (both (ap (λ (v : RoundTripValue). v.timeout) e) (both (ap (λ (v : RoundTripValue). v.least) e) (ap (λ (v : RoundTripValue). v.sample) e)))),
     )
 
 pub Decides-names : (a b : Names) → Decides (Named.ghosts.eq a b) (a ≡ b)
@@ -197,8 +212,39 @@ Decides-sender a b =
     let all = Decides-and _ _ (Decides-number a.una b.una) (from_past_iss) in (
       λ yes.
           let parts = all.0 yes in
-          λ i. record { una = parts.0 i; past_iss = parts.1.0 i; syn_unacked = parts.1.1.0 i; in_flight = parts.1.1.1.0 i; top = parts.1.1.1.1.0 i; duplicates = parts.1.1.1.1.1.0 i; sacked = parts.1.1.1.1.1.1.0 i; resend = parts.1.1.1.1.1.1.1.0 i; recover = parts.1.1.1.1.1.1.1.1.0 i; partial = parts.1.1.1.1.1.1.1.1.1.0 i; syn_lost = parts.1.1.1.1.1.1.1.1.1.1.0 i; timeouts = parts.1.1.1.1.1.1.1.1.1.1.1.0 i; unanswered = parts.1.1.1.1.1.1.1.1.1.1.1.1.0 i; stamped = parts.1.1.1.1.1.1.1.1.1.1.1.1.1.0 i; reset_due = parts.1.1.1.1.1.1.1.1.1.1.1.1.1.1 i },
-      λ e. all.1 (both (ap (λ (v : Sender). v.una) e) (both (ap (λ (v : Sender). v.past_iss) e) (both (ap (λ (v : Sender). v.syn_unacked) e) (both (ap (λ (v : Sender). v.in_flight) e) (both (ap (λ (v : Sender). v.top) e) (both (ap (λ (v : Sender). v.duplicates) e) (both (ap (λ (v : Sender). v.sacked) e) (both (ap (λ (v : Sender). v.resend) e) (both (ap (λ (v : Sender). v.recover) e) (both (ap (λ (v : Sender). v.partial) e) (both (ap (λ (v : Sender). v.syn_lost) e) (both (ap (λ (v : Sender). v.timeouts) e) (both (ap (λ (v : Sender). v.unanswered) e) (both (ap (λ (v : Sender). v.stamped) e) (ap (λ (v : Sender). v.reset_due) e))))))))))))))),
+          λ i. record {
+            una = parts.0 i;
+            past_iss = parts.1.0 i;
+            syn_unacked = parts.1.1.0 i;
+            in_flight = parts.1.1.1.0 i;
+            top = parts.1.1.1.1.0 i;
+            duplicates =
+                parts.1.1.1.1.1.0 i;
+            sacked = parts.1.1.1.1.1.1.0 i;
+            resend = parts.1.1.1.1.1.1.1.0 i;
+            recover = parts.1.1.1.1.1.1.1.1.0 i;
+            partial =
+                parts.1.1.1.1.1.1.1.1.1.0 i;
+            syn_lost = parts.1.1.1.1.1.1.1.1.1.1.0 i;
+            timeouts = parts.1.1.1.1.1.1.1.1.1.1.1.0 i;
+            unanswered =
+                parts.1.1.1.1.1.1.1.1.1.1.1.1.0 i;
+            stamped = parts.1.1.1.1.1.1.1.1.1.1.1.1.1.0 i;
+            reset_due = parts.1.1.1.1.1.1.1.1.1.1.1.1.1.1 i;
+          },
+      λ e. all.1 (both (ap (λ (v : Sender). v.una) e)
+          (both (ap (λ (v : Sender). v.past_iss) e)
+          (both (ap (λ (v : Sender). v.syn_unacked) e)
+          (both (ap (λ (v : Sender). v.in_flight) e)
+          (both (ap (λ (v : Sender). v.top) e)
+          (both (ap (λ (v : Sender). v.duplicates) e)
+          (both (ap (λ (v : Sender). v.sacked) e)
+          (both (ap (λ (v : Sender). v.resend) e)
+          (both (ap (λ (v : Sender). v.recover) e)
+          (both (ap (λ (v : Sender). v.partial) e)
+          (both (ap (λ (v : Sender). v.syn_lost) e)
+          (both (ap (λ (v : Sender). v.timeouts) e)
+          (both (ap (λ (v : Sender). v.unanswered) e) (both (ap (λ (v : Sender). v.stamped) e) (ap (λ (v : Sender). v.reset_due) e))))))))))))))),
     )
 
 pub Decides-receiver : (a b : Receiver) → Decides (Receiving.ghosts.eq a b) (a ≡ b)
@@ -210,7 +256,9 @@ Decides-receiver a b =
       λ yes.
           let parts = all.0 yes in
           λ i. record { next = parts.0 i; took_syn = parts.1.0 i; took_fin = parts.1.1.0 i; edge = parts.1.1.1.0 i; mss = parts.1.1.1.1 i },
-      λ e. all.1 (both (ap (λ (v : Receiver). v.next) e) (both (ap (λ (v : Receiver). v.took_syn) e) (both (ap (λ (v : Receiver). v.took_fin) e) (both (ap (λ (v : Receiver). v.edge) e) (ap (λ (v : Receiver). v.mss) e))))),
+      λ e. all.1 (both (ap (λ (v : Receiver). v.next) e)
+          (both (ap (λ (v : Receiver). v.took_syn) e)
+          (both (ap (λ (v : Receiver). v.took_fin) e) (both (ap (λ (v : Receiver). v.edge) e) (ap (λ (v : Receiver). v.mss) e))))),
     )
 
 pub Decides-peer : (a b : Peer) → Decides (Remote.ghosts.eq a b) (a ≡ b)
@@ -225,13 +273,33 @@ Decides-peer a b =
     let all = Decides-and _ _ (Decides-eqb a.window b.window) (from_largest_window) in (
       λ yes.
           let parts = all.0 yes in
-          λ i. record { window = parts.0 i; largest_window = parts.1.0 i; window_seq = parts.1.1.0 i; window_ack = parts.1.1.1.0 i; mss = parts.1.1.1.1.0 i; scale = parts.1.1.1.1.1.0 i; sack = parts.1.1.1.1.1.1.0 i; timestamps = parts.1.1.1.1.1.1.1.0 i; recent = parts.1.1.1.1.1.1.1.1 i },
-      λ e. all.1 (both (ap (λ (v : Peer). v.window) e) (both (ap (λ (v : Peer). v.largest_window) e) (both (ap (λ (v : Peer). v.window_seq) e) (both (ap (λ (v : Peer). v.window_ack) e) (both (ap (λ (v : Peer). v.mss) e) (both (ap (λ (v : Peer). v.scale) e) (both (ap (λ (v : Peer). v.sack) e) (both (ap (λ (v : Peer). v.timestamps) e) (ap (λ (v : Peer). v.recent) e))))))))),
+          λ i. record {
+            window = parts.0 i;
+            largest_window = parts.1.0 i;
+            window_seq = parts.1.1.0 i;
+            window_ack = parts.1.1.1.0 i;
+            mss =
+                parts.1.1.1.1.0 i;
+            scale = parts.1.1.1.1.1.0 i;
+            sack = parts.1.1.1.1.1.1.0 i;
+            timestamps = parts.1.1.1.1.1.1.1.0 i;
+            recent =
+                parts.1.1.1.1.1.1.1.1 i;
+          },
+      λ e. all.1 (both (ap (λ (v : Peer). v.window) e)
+          (both (ap (λ (v : Peer). v.largest_window) e)
+          (both (ap (λ (v : Peer). v.window_seq) e)
+          (both (ap (λ (v : Peer). v.window_ack) e)
+          (both (ap (λ (v : Peer). v.mss) e)
+          (both (ap (λ (v : Peer). v.scale) e)
+          (both (ap (λ (v : Peer). v.sack) e) (both (ap (λ (v : Peer). v.timestamps) e) (ap (λ (v : Peer). v.recent) e))))))))),
     )
 
 pub Decides-timers : (a b : Timers) → Decides (Timed.ghosts.eq a b) (a ≡ b)
 Decides-timers a b =
-    let from_time_wait_ends = Decides-and _ _ (Decides-option (λ (x y : ℤ). int_eq x y) Decides-int_eq a.time_wait_ends b.time_wait_ends) (Decides-option (λ (x y : ℤ). int_eq x y) Decides-int_eq a.timeout_since b.timeout_since) in
+    let from_time_wait_ends =
+    Decides-and _ _ (Decides-option (λ (x y : ℤ). int_eq x y) Decides-int_eq a.time_wait_ends b.time_wait_ends)
+    (Decides-option (λ (x y : ℤ). int_eq x y) Decides-int_eq a.timeout_since b.timeout_since) in
     let from_counts_from = Decides-and _ _ (Decides-option (λ (x y : ℤ). int_eq x y) Decides-int_eq a.counts_from b.counts_from) (from_time_wait_ends) in
     let from_draws_from = Decides-and _ _ (Decides-option (λ (x y : ℤ). int_eq x y) Decides-int_eq a.draws_from b.draws_from) (from_counts_from) in
     let from_text_unacked = Decides-and _ _ (booleans_Decides a.text_unacked b.text_unacked) (from_draws_from) in
@@ -240,8 +308,23 @@ Decides-timers a b =
     let all = Decides-and _ _ (Decides-option (λ (x y : ℤ). int_eq x y) Decides-int_eq a.retransmit_at b.retransmit_at) (from_probe_at) in (
       λ yes.
           let parts = all.0 yes in
-          λ i. record { retransmit_at = parts.0 i; probe_at = parts.1.0 i; ack_at = parts.1.1.0 i; text_unacked = parts.1.1.1.0 i; draws_from = parts.1.1.1.1.0 i; counts_from = parts.1.1.1.1.1.0 i; time_wait_ends = parts.1.1.1.1.1.1.0 i; timeout_since = parts.1.1.1.1.1.1.1 i },
-      λ e. all.1 (both (ap (λ (v : Timers). v.retransmit_at) e) (both (ap (λ (v : Timers). v.probe_at) e) (both (ap (λ (v : Timers). v.ack_at) e) (both (ap (λ (v : Timers). v.text_unacked) e) (both (ap (λ (v : Timers). v.draws_from) e) (both (ap (λ (v : Timers). v.counts_from) e) (both (ap (λ (v : Timers). v.time_wait_ends) e) (ap (λ (v : Timers). v.timeout_since) e)))))))),
+          λ i. record {
+            retransmit_at = parts.0 i;
+            probe_at = parts.1.0 i;
+            ack_at = parts.1.1.0 i;
+            text_unacked = parts.1.1.1.0 i;
+            draws_from =
+                parts.1.1.1.1.0 i;
+            counts_from = parts.1.1.1.1.1.0 i;
+            time_wait_ends = parts.1.1.1.1.1.1.0 i;
+            timeout_since = parts.1.1.1.1.1.1.1 i;
+          },
+      λ e. all.1 (both (ap (λ (v : Timers). v.retransmit_at) e)
+          (both (ap (λ (v : Timers). v.probe_at) e)
+          (both (ap (λ (v : Timers). v.ack_at) e)
+          (both (ap (λ (v : Timers). v.text_unacked) e)
+          (both (ap (λ (v : Timers). v.draws_from) e)
+          (both (ap (λ (v : Timers). v.counts_from) e) (both (ap (λ (v : Timers). v.time_wait_ends) e) (ap (λ (v : Timers). v.timeout_since) e)))))))),
     )
 
 pub Decides-congestion : (a b : CongestionControl) → Decides (Congestion.ghosts.eq a b) (a ≡ b)
@@ -253,7 +336,8 @@ Decides-settings a b =
     let from_opening_retries = Decides-and _ _ (Decides-option (λ (x y : ℕ). x == y) Decides-eqb a.opening_retries b.opening_retries) (from_retries) in
     let from_synack_paused = Decides-and _ _ (booleans_Decides a.synack_paused b.synack_paused) (from_opening_retries) in
     let from_congestion_control = Decides-and _ _ (Decides-congestion a.congestion_control b.congestion_control) (from_synack_paused) in
-    let from_timestamps = Decides-and _ _ (Decides-option (λ x y. Generator.ghosts.eq x y) Decides-generator a.timestamps b.timestamps) (from_congestion_control) in
+    let from_timestamps = Decides-and _ _ (Decides-option (λ x y. Generator.ghosts.eq x y) Decides-generator a.timestamps b.timestamps)
+    (from_congestion_control) in
     let from_hop_limit = Decides-and _ _ (Decides-option (λ (x y : ℕ). x == y) Decides-eqb a.hop_limit b.hop_limit) (from_timestamps) in
     let from_nagle = Decides-and _ _ (booleans_Decides a.nagle b.nagle) (from_hop_limit) in
     let from_keep_alive_at = Decides-and _ _ (Decides-option (λ (x y : ℤ). int_eq x y) Decides-int_eq a.keep_alive_at b.keep_alive_at) (from_nagle) in
@@ -262,8 +346,32 @@ Decides-settings a b =
     let all = Decides-and _ _ (Decides-option (λ (x y : ℕ). x == y) Decides-eqb a.timeout b.timeout) (from_ack_delay) in (
       λ yes.
           let parts = all.0 yes in
-          λ i. record { timeout = parts.0 i; ack_delay = parts.1.0 i; keep_alive = parts.1.1.0 i; keep_alive_at = parts.1.1.1.0 i; nagle = parts.1.1.1.1.0 i; hop_limit = parts.1.1.1.1.1.0 i; timestamps = parts.1.1.1.1.1.1.0 i; congestion_control = parts.1.1.1.1.1.1.1.0 i; synack_paused = parts.1.1.1.1.1.1.1.1.0 i; opening_retries = parts.1.1.1.1.1.1.1.1.1.0 i; retries = parts.1.1.1.1.1.1.1.1.1.1.0 i; min_rto = parts.1.1.1.1.1.1.1.1.1.1.1 i },
-      λ e. all.1 (both (ap (λ (v : Settings). v.timeout) e) (both (ap (λ (v : Settings). v.ack_delay) e) (both (ap (λ (v : Settings). v.keep_alive) e) (both (ap (λ (v : Settings). v.keep_alive_at) e) (both (ap (λ (v : Settings). v.nagle) e) (both (ap (λ (v : Settings). v.hop_limit) e) (both (ap (λ (v : Settings). v.timestamps) e) (both (ap (λ (v : Settings). v.congestion_control) e) (both (ap (λ (v : Settings). v.synack_paused) e) (both (ap (λ (v : Settings). v.opening_retries) e) (both (ap (λ (v : Settings). v.retries) e) (ap (λ (v : Settings). v.min_rto) e)))))))))))),
+          λ i. record {
+            timeout = parts.0 i;
+            ack_delay = parts.1.0 i;
+            keep_alive = parts.1.1.0 i;
+            keep_alive_at = parts.1.1.1.0 i;
+            nagle =
+                parts.1.1.1.1.0 i;
+            hop_limit = parts.1.1.1.1.1.0 i;
+            timestamps = parts.1.1.1.1.1.1.0 i;
+            congestion_control = parts.1.1.1.1.1.1.1.0 i;
+            synack_paused = parts.1.1.1.1.1.1.1.1.0 i;
+            opening_retries = parts.1.1.1.1.1.1.1.1.1.0 i;
+            retries = parts.1.1.1.1.1.1.1.1.1.1.0 i;
+            min_rto =
+                parts.1.1.1.1.1.1.1.1.1.1.1 i;
+          },
+      λ e. all.1 (both (ap (λ (v : Settings). v.timeout) e)
+          (both (ap (λ (v : Settings). v.ack_delay) e)
+          (both (ap (λ (v : Settings). v.keep_alive) e)
+          (both (ap (λ (v : Settings). v.keep_alive_at) e)
+          (both (ap (λ (v : Settings). v.nagle) e)
+          (both (ap (λ (v : Settings). v.hop_limit) e)
+          (both (ap (λ (v : Settings). v.timestamps) e)
+          (both (ap (λ (v : Settings). v.congestion_control) e)
+          (both (ap (λ (v : Settings). v.synack_paused) e)
+          (both (ap (λ (v : Settings). v.opening_retries) e) (both (ap (λ (v : Settings). v.retries) e) (ap (λ (v : Settings). v.min_rto) e)))))))))))),
     )
 
 -- the control block is compared whole
@@ -279,8 +387,25 @@ Decides-block a b =
     let all = Decides-and _ _ (Decides-state a.state b.state) (from_names) in (
       λ yes.
           let parts = all.0 yes in
-          λ i. record { state = parts.0 i; names = parts.1.0 i; sender = parts.1.1.0 i; receiver = parts.1.1.1.0 i; peer = parts.1.1.1.1.0 i; timers = parts.1.1.1.1.1.0 i; round_trip = parts.1.1.1.1.1.1.0 i; reno = parts.1.1.1.1.1.1.1.0 i; settings = parts.1.1.1.1.1.1.1.1 i },
-      λ e. all.1 (both (ap (λ (v : Block). v.state) e) (both (ap (λ (v : Block). v.names) e) (both (ap (λ (v : Block). v.sender) e) (both (ap (λ (v : Block). v.receiver) e) (both (ap (λ (v : Block). v.peer) e) (both (ap (λ (v : Block). v.timers) e) (both (ap (λ (v : Block). v.round_trip) e) (both (ap (λ (v : Block). v.reno) e) (ap (λ (v : Block). v.settings) e))))))))),
+          λ i. record {
+            state = parts.0 i;
+            names = parts.1.0 i;
+            sender = parts.1.1.0 i;
+            receiver = parts.1.1.1.0 i;
+            peer = parts.1.1.1.1.0 i;
+            timers =
+                parts.1.1.1.1.1.0 i;
+            round_trip = parts.1.1.1.1.1.1.0 i;
+            reno = parts.1.1.1.1.1.1.1.0 i;
+            settings = parts.1.1.1.1.1.1.1.1 i;
+          },
+      λ e. all.1 (both (ap (λ (v : Block). v.state) e)
+          (both (ap (λ (v : Block). v.names) e)
+          (both (ap (λ (v : Block). v.sender) e)
+          (both (ap (λ (v : Block). v.receiver) e)
+          (both (ap (λ (v : Block). v.peer) e)
+          (both (ap (λ (v : Block). v.timers) e)
+          (both (ap (λ (v : Block). v.round_trip) e) (both (ap (λ (v : Block). v.reno) e) (ap (λ (v : Block). v.settings) e))))))))),
     )
 
 pub Decides-verdict : (a b : Verdict) → Decides (Judged.ghosts.eq a b) (a ≡ b)

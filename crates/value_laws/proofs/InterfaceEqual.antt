@@ -65,7 +65,8 @@ Decides-question (Asks.Arp o s t) (Asks.Arp p u v) =
     )
 Decides-question (Asks.Neighbor o s t) (Asks.Neighbor p u v) =
     let same = Decides-and _ _ (bytes_eq-Decides o.0 p.0) (Decides-and _ _ (bytes_eq-Decides s.0 u.0) (bytes_eq-Decides t.0 v.0)) in (
-      λ yes. λ i. Asks.Neighbor (record { 0 = (front (same.0 yes)) i }) (record { 0 = (front (back (same.0 yes))) i }) (record { 0 = (back (back (same.0 yes))) i }),
+      λ yes. λ i. Asks.Neighbor (record { 0 = (front (same.0 yes)) i }) (record { 0 = (front (back (same.0 yes))) i })
+          (record { 0 = (back (back (same.0 yes))) i }),
       λ e.
           let first : o ≡ p = cc in
           let second : s ≡ u = cc in

@@ -27,7 +27,8 @@ pub fn take_one<D: Device>(
     sockets: &mut SocketSet<Socket>,
 ) -> PollIngressSingleResult
     requires { IsMoment timestamp }
-    ensures step { IngressStep D.moves timestamp (state device.old interface.old (places sockets.old)) (single_answer result) (state device.new interface.new (places sockets.new)) }
+    ensures step { IngressStep D.moves timestamp (state device.old interface.old (places sockets.old)) (single_answer result)
+        (state device.new interface.new (places sockets.new)) }
     ensures none { result ≡ PollIngressSingleResult.None → places sockets.new ≡ places sockets.old }
     ensures processed { result ≡ PollIngressSingleResult.PacketProcessed → places sockets.new ≡ places sockets.old }
     ensures settings { HasSettingsOf interface.old.inner interface.new.inner }
@@ -45,7 +46,8 @@ pub fn send_once<D: Device>(
     sockets: &mut SocketSet<Socket>,
 ) -> PollResult
     requires { IsMoment timestamp }
-    ensures step { EgressStep D.moves timestamp (state device.old interface.old (places sockets.old)) (answer_of result) (state device.new interface.new (places sockets.new)) }
+    ensures step { EgressStep D.moves timestamp (state device.old interface.old (places sockets.old)) (answer_of result)
+        (state device.new interface.new (places sockets.new)) }
     ensures unchanged { result ≡ PollResult.None → AreUnchanged (places sockets.old) (places sockets.new) }
     ensures host { IsSameHost (at_moment timestamp interface.old.inner) interface.new.inner }
     ensures kind { is_fixed sockets.new ≡ is_fixed sockets.old }

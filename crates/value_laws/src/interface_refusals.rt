@@ -1,6 +1,7 @@
 //! When calls of an interface refuse, and what a refusal leaves as it was: each function makes one call, and says again what the
 //! call promises.
-ghost use Rattle.std.specs.Prelude.{◌≡◌, ◌↔◌, ◌<◌, ◌∷◌, ◌++◌, [], length, remove, replicate, slice_get, slice_set, IsTrue, IsOk, IfOk, OnOk, OnErr, IsSome, IfNone};
+ghost use Rattle.std.specs.Prelude.{◌≡◌, ◌↔◌, ◌<◌, ◌∷◌, ◌++◌, [], length, remove, replicate, slice_get, slice_set, IsTrue, IsOk, IfOk, OnOk, OnErr, IsSome};
+ghost use Rattle.std.specs.Prelude.{IfNone};
 ghost use Rattle.ip_wire.specs.IpAddress.TheVariants as Address;
 ghost use Rattle.interface_tables.specs.Best.{first_that};
 ghost use Rattle.interface_tables.specs.Route.{is_gateway_v4, is_gateway_v6, IsGateway, has_room, IsAdded};

@@ -1,5 +1,6 @@
 -- What a host does is a turn of its machine, and goes on from what it was.
-use Rattle.std.proofs.Common.{◌≡◌, ◌≤ℤ◌, ℕ, ◌-◌, ℤ, pos, Bool, true, false, not, ◌||◌, ◌&&◌, int_lt, List, [], ◌∷◌, ◌++◌, length, Option, Some, None, refl, sym, ap, ◌∙◌, subst, append-nil, arith}
+use Rattle.std.proofs.Common.{◌≡◌, ◌≤ℤ◌, ℕ, ◌-◌, ℤ, pos, Bool, true, false, not, ◌||◌, ◌&&◌, int_lt, List, [], ◌∷◌, ◌++◌, length, Option, Some, None, refl, sym}
+use Rattle.std.proofs.Common.{ap, ◌∙◌, subst, append-nil, arith}
 use Rattle.interface_egress.specs.Departure.{Departure}
 use Rattle.interface.specs.Touches.{departed, Silences}
 use Rattle.interface_tables.specs.Settings.{is_moment}
@@ -48,7 +49,16 @@ quiet_turn s s' act room quiet = record {
 
 polled_turn : (s s' : StationValue) (moment : ℤ) (budget : ℕ) → IsPolled s moment s' → IsTurn s (Polls moment budget) s'
 polled_turn s s' moment budget p =
-    record { taken = looked p.touches; departures = departed p.touches; waiting = p.waiting; sent = p.sent; room = p.room; silent = p.silent; device = p.capabilities }
+    record {
+      taken = looked p.touches;
+      departures = departed p.touches;
+      waiting = p.waiting;
+      sent = p.sent;
+      room = p.room;
+      silent = p.silent;
+      device =
+          p.capabilities;
+    }
 
 pub is_turn : (s s' : StationValue) (act : Act) (answer : Answer) (found : Option State) → Acts s act answer found s' → IsTurn s act s'
 is_turn s s' (Calls i call) answer found acts = quiet_turn s s' (Calls i call) (λ n. refl) (call_quiet s s' i call answer found acts)
@@ -147,7 +157,8 @@ act_in_time : (s : StationValue) (t : Table) (act : Act) → first_refusal (act_
 act_in_time s t (Calls i call) is = tt
 act_in_time s t (Sets setting) is = tt
 act_in_time s t (Opens n) is = tt
-act_in_time s t (Asks moment) is = not_early s moment (not_refused (is_too_early s moment) Rattle.lan_history.specs.declared.answer.Refused.TheVariants.Moment [] is).0
+act_in_time s t (Asks moment) is =
+    not_early s moment (not_refused (is_too_early s moment) Rattle.lan_history.specs.declared.answer.Refused.TheVariants.Moment [] is).0
 act_in_time s t (Polls moment budget) is =
     let first = not_refused (may_run_out s t budget) Rattle.lan_history.specs.declared.answer.Refused.TheVariants.TooManyCut
     ((is_too_early s moment, Rattle.lan_history.specs.declared.answer.Refused.TheVariants.Moment) ∷ []) is in

@@ -30,7 +30,8 @@ record AreSilent (ts : List ℤ) (until : ℤ) : Type 0 where
   apart : AreApart ts
   over : AreOver ts until
 
-asked_apart : (t : ℤ) (ds : List Departure) (rest : List ℤ) (before after : ℤ) → AreSilent rest before → Silences t ds before after → AreSilent (requests_in t ds ++ rest) after
+asked_apart : (t : ℤ) (ds : List Departure) (rest : List ℤ) (before after : ℤ) → AreSilent rest before → Silences t ds before after →
+    AreSilent (requests_in t ds ++ rest) after
 asked_apart t [] rest before after silent is = subst (AreSilent rest) (sym is) silent
 asked_apart t (Asks question ∷ ds) rest before after silent is =
     let mid = asked_apart t ds rest before is.0 silent is.1 in
@@ -44,10 +45,12 @@ asked_apart t (Tells packet ∷ ds) rest before after silent is = asked_apart t 
 asked_apart t (Whole to p ∷ ds) rest before after silent is = asked_apart t ds rest before after silent is
 asked_apart t (Part to header piece ∷ ds) rest before after silent is = asked_apart t ds rest before after silent is
 
-run_silent : (start : Machine) (room : ℕ) (turns : List Turn) (now : Machine) → HostRun start room turns now → AreSilent (requests turns) now.host.inner.neighbors.silent
+run_silent : (start : Machine) (room : ℕ) (turns : List Turn) (now : Machine) → HostRun start room turns now →
+    AreSilent (requests turns) now.host.inner.neighbors.silent
 run_silent start room [] now run = record { apart = tt; over = tt }
 run_silent start room (turn ∷ past) now run =
-    asked_apart (moment_of turn.act) turn.departures (requests past) run.0.host.inner.neighbors.silent now.host.inner.neighbors.silent (run_silent start room past run.0 run.1) run.3.asks
+    asked_apart (moment_of turn.act) turn.departures (requests past) run.0.host.inner.neighbors.silent now.host.inner.neighbors.silent
+    (run_silent start room past run.0 run.1) run.3.asks
 
 pub run_apart : (start : Machine) (room : ℕ) (turns : List Turn) (now : Machine) → HostRun start room turns now → AreApart (requests turns)
 run_apart start room turns now run = (run_silent start room turns now run).apart

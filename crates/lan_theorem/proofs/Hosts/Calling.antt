@@ -95,7 +95,8 @@ pub setting_same : (h h' : HostValue) (setting : Setting) → SetsTo h setting h
 setting_same h h' (Sets.HardwareAddr address) is =
     clock_where h.inner (with_hardware h.inner (Hardware.Ethernet address)) h'.inner (ap (λ (x : HostValue). x.inner) is) (hardware_same h.inner address)
 setting_same h h' (Sets.Addrs blocks) is =
-    clock_where h.inner (with_addresses h.inner blocks) h'.inner (ap (λ (x : HostValue). x.inner) is) (addresses_by (list_any is_stranger blocks) h.inner blocks)
+    clock_where h.inner (with_addresses h.inner blocks) h'.inner (ap (λ (x : HostValue). x.inner) is)
+    (addresses_by (list_any is_stranger blocks) h.inner blocks)
 setting_same h h' (Sets.Route router) is =
     let same : h'.inner ≡ record h.inner { routes = is.0 } = ap (λ (x : HostValue). x.inner) is.2 in
     clock_where h.inner (record h.inner { routes = is.0 }) h'.inner same (record { moment = refl; mtu = refl; checksums = refl; medium = refl; silent = refl })

@@ -39,7 +39,8 @@ module _ (i : InnerValue) (timeout : ℕ) (slots : Slots) (places : Places) (a :
   abbrev Brought : Option IncomingValue → Type 0
   Brought content = Brings i places (whole_of (kept i timeout slots content) (place_in slots content) content) a
 
-  whole_v4 : (link : Option EthernetRepr) (header : Ipv4Repr) (piece : Ipv4Piece) (payload : List ℕ) → piece ≡ uncut → Brought (Some (Ip4 link header piece payload))
+  whole_v4 : (link : Option EthernetRepr) (header : Ipv4Repr) (piece : Ipv4Piece) (payload : List ℕ) → piece ≡ uncut →
+      Brought (Some (Ip4 link header piece payload))
       → Brings i places (Some (Ip4 link header uncut payload)) a
   whole_v4 link header piece payload is brings = subst (λ (p : Ipv4Piece). Brought (Some (Ip4 link header p payload))) is brings
 
@@ -50,7 +51,8 @@ module _ (i : InnerValue) (timeout : ℕ) (slots : Slots) (places : Places) (a :
       brings_damaged_v4 i places link header uncut payload a (whole_v4 link header piece payload bad.0 brings) bad.1
   taken true (Ip6 link header payload) bad brings = brings_damaged_v6 i places link header payload a brings bad
 
-  content_harmless : (content : Option IncomingValue) → ((v : IncomingValue) → content ≡ Some v → IsNoSegment i.checksums v) → Brought (taken_in i content) → Harmless
+  content_harmless : (content : Option IncomingValue) → ((v : IncomingValue) → content ≡ Some v → IsNoSegment i.checksums v) →
+      Brought (taken_in i content) → Harmless
   content_harmless None bad brings = silent brings
   content_harmless (Some v) bad brings = taken (is_taken_in i v) v (bad v refl) brings
 
@@ -114,7 +116,8 @@ allowed_by hosts tables (OfHost side act) is = tt
 
 -- of a history that is such, and whose rest then is such
 module _ (Such : List Entry → Type 0) (rest : (e : Entry) (past : List Entry) → Such (e ∷ past) → Such past) (from : Stations)
-    (was : (past : List Entry) (old new : Stations) (e : Entry) → Such (e ∷ past) → WorldRun past from old → Leads past old e new → IsHarmlessBy old (kind_of e.event)) where
+    (was : (past : List Entry) (old new : Stations) (e : Entry) → Such (e ∷ past) → WorldRun past from old → Leads past old e new →
+    IsHarmlessBy old (kind_of e.event)) where
   both_stay : (history : List Entry) (to : Stations) → Such history → WorldRun history from to → DamageIsHarmless to history × AllAreThere to history
   both_stay [] to such run = (tt, tt)
   both_stay (e ∷ past) to such run =
@@ -126,6 +129,7 @@ module _ (Such : List Entry → Type 0) (rest : (e : Entry) (past : List Entry) 
   pub damage_kept : (history : List Entry) (to : Stations) → Such history → WorldRun history from to → DamageIsHarmless to history
   damage_kept history to such run = (both_stay history to such run).0
 
-pub damage_stays : (from : Stations) → WasHarmless from → (history : List Entry) (to : Stations) → HaveWords history → WorldRun history from to → DamageIsHarmless to history
+pub damage_stays : (from : Stations) → WasHarmless from → (history : List Entry) (to : Stations) → HaveWords history → WorldRun history from to →
+    DamageIsHarmless to history
 damage_stays from was history to words run =
     damage_kept HaveWords (λ e past words. words.1) from (λ past old new e words ran leads. was past old new e words.1 words.0 ran leads) history to words run

@@ -1,5 +1,6 @@
 -- What an event is to one of the hosts: its own act, or something that leaves it alone.
-use Rattle.std.proofs.Common.{◌≡◌, ℕ, ◌⊎◌, inl, inr, Bool, true, false, if◌then◌else◌, List, [], ◌∷◌, ◌++◌, length, map, None, refl, sym, ap, ◌∙◌, subst, append_assoc, append-nil, ◌≤ℤ◌, ℤ, arith}
+use Rattle.std.proofs.Common.{◌≡◌, ℕ, ◌⊎◌, inl, inr, Bool, true, false, if◌then◌else◌, List, [], ◌∷◌, ◌++◌, length, map, None, refl, sym, ap, ◌∙◌, subst}
+use Rattle.std.proofs.Common.{append_assoc, append-nil, ◌≤ℤ◌, ℤ, arith}
 use Rattle.lan_history.specs.History.{Entry}
 use Rattle.lan_history.specs.Kinds.{Act, Kind, Origin, same_side, kind_of}
 use Rattle.lan_history.specs.Kinds.Kind.{OfHost, OfLink}
@@ -34,7 +35,8 @@ pub record HasRested (old new : Stations) (side : Side) (k : Kind) (e : Entry) :
   pub waiting : (station new side).link.waiting ≡ (station old side).link.waiting ++ map (frame_of_origin old) (origins_of side k)
 
 module _ (old : Stations) (e : Entry) where
-  rests : (new : Stations) (side : Side) (k : Kind) → station new side ≡ station old side → deed_in side k e ≡ [] → origins_of side k ≡ [] → HasRested old new side k e
+  rests : (new : Stations) (side : Side) (k : Kind) → station new side ≡ station old side → deed_in side k e ≡ [] → origins_of side k ≡ [] →
+      HasRested old new side k e
   rests new side k is deeds none = record {
     deeds = deeds;
     machine = ap machine_of is;
@@ -56,7 +58,8 @@ module _ (old : Stations) (e : Entry) where
   given g frame = with_station old g (with_link (station old g) (arrived (station old g).link frame))
 
   waits_at : (o : Origin) (g side : Side) → goes_to o ≡ g → same_side g side ≡ true
-      → (station old side).link.waiting ++ frame_of_origin old o ∷ [] ≡ (station old side).link.waiting ++ map (frame_of_origin old) (origins_of side (OfLink (Hands o)))
+      → (station old side).link.waiting ++ frame_of_origin old o ∷ [] ≡ (station old side).link.waiting ++
+      map (frame_of_origin old) (origins_of side (OfLink (Hands o)))
   waits_at o g side is same =
       ap (λ (b : Bool). (station old side).link.waiting ++ map (frame_of_origin old) (if b then o ∷ [] else []))
       (sym (ap (λ (x : Side). same_side x side) is ∙ same))
@@ -126,7 +129,8 @@ module _ (old : Stations) (e : Entry) where
       inr (subst (λ (x : Stations). HasRested old x side (OfLink (Hands o)) e) (sym happens.2) (hand_rests o (goes_to o) side refl))
   moved new (OfLink (Cuts from k at)) happens side =
       inr (subst (λ (x : Stations). HasRested old x side (OfLink (Cuts from k at)) e) (sym happens.2)
-      (cut_rests from side k at (first_piece (medium_of (station old from)) (frame_sent old from k) at) (second_piece (medium_of (station old from)) (frame_sent old from k) at)))
+      (cut_rests from side k at (first_piece (medium_of (station old from)) (frame_sent old from k) at)
+      (second_piece (medium_of (station old from)) (frame_sent old from k) at)))
 
 -- GOING ON
 

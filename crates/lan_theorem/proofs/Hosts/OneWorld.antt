@@ -63,7 +63,8 @@ setting_once h one other (Set.Route router) first second =
 setting_once h one other (Set.AnyIp any) first second = first ∙ sym second
 setting_once h one other (Set.ReassemblyTimeout timeout) first second = first ∙ sym second
 
-configured_once : (s one other : StationValue) (setting : Setting) (a b : Answer) → Configures s setting a one → Configures s setting b other → (a ≡ b) × (one ≡ other)
+configured_once : (s one other : StationValue) (setting : Setting) (a b : Answer) → Configures s setting a one → Configures s setting b other →
+    (a ≡ b) × (one ≡ other)
 configured_once s one other setting a b first second =
     let hosts = setting_once s.host first.0 second.0 setting first.1 second.1 in
     (first.2 ∙ sym second.2, first.3 ∙ ap (λ (h : HostValue). record s { host = h }) hosts ∙ sym second.3)
@@ -86,7 +87,8 @@ module _ (one_offer : OneOffer) where
   same_stations : (one other : Stations) → one.a ≡ other.a → one.b ≡ other.b → one ≡ other
   same_stations one other first second = λ k. record { a = first k; b = second k }
 
-  acts_at_once : (old one other : Stations) (act : Act) (side : Side) (a b : Answer) (f g : Option State) → ActsAt old side act a f one → ActsAt old side act b g other
+  acts_at_once : (old one other : Stations) (act : Act) (side : Side) (a b : Answer) (f g : Option State) → ActsAt old side act a f one →
+      ActsAt old side act b g other
       → Same a f one b g other
   acts_at_once old one other act A a b f g first second =
       let same = acts_once old.a one.a other.a act a b f g first.acts second.acts in
@@ -95,7 +97,8 @@ module _ (one_offer : OneOffer) where
       let same = acts_once old.b one.b other.b act a b f g first.acts second.acts in
       (same.0, same.1, same_stations one other (first.rests ∙ sym second.rests) same.2)
 
-  happens_once : (old one other : Stations) (k : Kind) (a b : Answer) (f g : Option State) → Happens old k a f one → Happens old k b g other → Same a f one b g other
+  happens_once : (old one other : Stations) (k : Kind) (a b : Answer) (f g : Option State) → Happens old k a f one → Happens old k b g other →
+      Same a f one b g other
   happens_once old one other (OfHost side act) a b f g first second = acts_at_once old one other act side a b f g first second
   happens_once old one other (OfLink act) a b f g first second = (first.0 ∙ sym second.0, first.1 ∙ sym second.1, first.2 ∙ sym second.2)
 

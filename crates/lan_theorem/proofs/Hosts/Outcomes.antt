@@ -92,8 +92,10 @@ module _ (refusals longest : ℕ) where
 
   down : (old new : PortValue) (m : Move) → PortMove old m new → After new → After old
   down old new (Took frame) goes after = after_same old new (ap (λ (x : PortValue). x.link.refusals) goes.1) (ap (λ (x : PortValue). x.link.sent) goes.1) after
-  down old new Empty goes after = after_same old new (sym (ap (λ (x : PortValue). x.link.refusals) goes.0)) (sym (ap (λ (x : PortValue). x.link.sent) goes.0)) after
-  down old new (Allowed leave) goes after = after_same old new (sym (ap (λ (x : PortValue). x.link.refusals) goes.0)) (sym (ap (λ (x : PortValue). x.link.sent) goes.0)) after
+  down old new Empty goes after =
+      after_same old new (sym (ap (λ (x : PortValue). x.link.refusals) goes.0)) (sym (ap (λ (x : PortValue). x.link.sent) goes.0)) after
+  down old new (Allowed leave) goes after =
+      after_same old new (sym (ap (λ (x : PortValue). x.link.refusals) goes.0)) (sym (ap (λ (x : PortValue). x.link.sent) goes.0)) after
   down old new (Emitted frame) goes after =
       let sent : total new.link.sent ≡ total old.link.sent + length frame = ap (λ (x : PortValue). total x.link.sent) goes ∙ total_more old.link.sent frame in
       let low = after.1 in
@@ -119,7 +121,8 @@ module _ (refusals longest : ℕ) where
   mapped : IsMapped (λ (p : PortValue). p.link) PortMove (LinkMove longest) Before After
   mapped = record { up = up; down = down; there = there }
 
-  link_polls : (s s' : StationValue) (t : ℤ) (budget : ℕ) (changed : Bool) → refusals ≡ s.link.refusals → total s'.link.sent ≤ longest → PollsAt s t budget changed s'
+  link_polls : (s s' : StationValue) (t : ℤ) (budget : ℕ) (changed : Bool) → refusals ≡ s.link.refusals → total s'.link.sent ≤ longest →
+      PollsAt s t budget changed s'
       → Polls (LinkMove longest) t budget (state s.link s.host s.places) changed (state s'.link s'.host s'.places)
   link_polls s s' t budget changed is short at =
       let before : Before at.port = subst (λ (l : LinkEnd). refusals ≤ l.refusals) (sym at.before) (omega (arith, is)) in
@@ -130,12 +133,14 @@ module _ (refusals longest : ℕ) where
       ) in
       subst (λ (l : LinkEnd). Polls (LinkMove longest) t budget (state l s.host s.places) changed (state s'.link s'.host s'.places)) at.before
       (subst (λ (l : LinkEnd). Polls (LinkMove longest) t budget (state at.port.link s.host s.places) changed (state l s'.host s'.places)) at.after
-      (polls_there (λ (p : PortValue). p.link) PortMove (LinkMove longest) Before After mapped t budget (at_port at.port s) (at_port at.port_after s') changed at.polls before after))
+      (polls_there (λ (p : PortValue). p.link) PortMove (LinkMove longest) Before After mapped t budget (at_port at.port s) (at_port at.port_after s') changed
+      at.polls before after))
 
 abbrev station_of : State LinkEnd → StationValue
 station_of s = record { host = s.host; places = s.places; link = s.device }
 
-pub polls_once : OneOffer → (s one other : StationValue) (t : ℤ) (budget : ℕ) (a b : Bool) → PollsAt s t budget a one → PollsAt s t budget b other → (a ≡ b) × (one ≡ other)
+pub polls_once : OneOffer → (s one other : StationValue) (t : ℤ) (budget : ℕ) (a b : Bool) → PollsAt s t budget a one → PollsAt s t budget b other →
+    (a ≡ b) × (one ≡ other)
 polls_once one_offer s one other t budget a b first second =
     let longest : ℕ = total one.link.sent + total other.link.sent in
     let left = link_polls s.link.refusals longest s one t budget a refl (omega arith) first in

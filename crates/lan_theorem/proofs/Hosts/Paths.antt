@@ -35,7 +35,8 @@ module _ (i : InnerValue) where
   }
 
   -- a touch that finds and sends nothing
-  still : (ts us : List Touch) (p q r : PortValue) → r.link.waiting ≡ q.link.waiting → r.link.sent ≡ q.link.sent → r.link.room ≡ q.link.room → r.link.capabilities ≡ q.link.capabilities
+  still : (ts us : List Touch) (p q r : PortValue) → r.link.waiting ≡ q.link.waiting → r.link.sent ≡ q.link.sent → r.link.room ≡ q.link.room →
+      r.link.capabilities ≡ q.link.capabilities
       → looked us ≡ looked ts → departed us ≡ departed ts → IsPath ts p q → IsPath us p r
   still ts us p q r waiting sent room capabilities looks departs path = record {
     waiting = path.waiting ∙ ap (λ (xs : List (List ℕ)). xs ++ q.link.waiting) (sym looks) ∙ ap (λ (xs : List (List ℕ)). looked us ++ xs) (sym waiting);
@@ -53,7 +54,8 @@ module _ (i : InnerValue) where
   further : (x : Touch) (ts : List Touch) (p q r : PortValue) → IsPath ts p q → By x q r → IsPath (x ∷ ts) p r
   further (Looks None) ts p q r path step =
       let same = step.0 in
-      still ts (Looks None ∷ ts) p q r (ap (λ (x : PortValue). x.link.waiting) same) (ap (λ (x : PortValue). x.link.sent) same) (ap (λ (x : PortValue). x.link.room) same)
+      still ts (Looks None ∷ ts) p q r (ap (λ (x : PortValue). x.link.waiting) same) (ap (λ (x : PortValue). x.link.sent) same)
+      (ap (λ (x : PortValue). x.link.room) same)
       (ap (λ (x : PortValue). x.link.capabilities) same) refl refl path
   further (Looks (Some frame)) ts p q r path step =
       let same = step.1 in
@@ -66,7 +68,8 @@ module _ (i : InnerValue) where
       }
   further (Leave given) ts p q r path step =
       let same = step.0 in
-      still ts (Leave given ∷ ts) p q r (ap (λ (x : PortValue). x.link.waiting) same) (ap (λ (x : PortValue). x.link.sent) same) (ap (λ (x : PortValue). x.link.room) same)
+      still ts (Leave given ∷ ts) p q r (ap (λ (x : PortValue). x.link.waiting) same) (ap (λ (x : PortValue). x.link.sent) same)
+      (ap (λ (x : PortValue). x.link.room) same)
       (ap (λ (x : PortValue). x.link.capabilities) same) refl refl path
   further (Sends d true) ts p q r path step =
       let same = step.0 in
@@ -82,7 +85,8 @@ module _ (i : InnerValue) where
       }
   further (Sends d false) ts p q r path step =
       let same = step.0 in
-      still ts (Sends d false ∷ ts) p q r (ap (λ (x : PortValue). x.link.waiting) same) (ap (λ (x : PortValue). x.link.sent) same) (ap (λ (x : PortValue). x.link.room) same)
+      still ts (Sends d false ∷ ts) p q r (ap (λ (x : PortValue). x.link.waiting) same) (ap (λ (x : PortValue). x.link.sent) same)
+      (ap (λ (x : PortValue). x.link.room) same)
       (ap (λ (x : PortValue). x.link.capabilities) same) refl refl path
 
   no_less : (a : ℕ) → a ≡ a - 0

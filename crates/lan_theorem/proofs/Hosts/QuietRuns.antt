@@ -1,5 +1,6 @@
 -- Along a run: the routes of a host, the host as it was asked, and its polls.
-use Rattle.std.proofs.Common.{◌≡◌, ◌≤ℤ◌, ◌⊎◌, inl, inr, ℕ, ℤ, Bool, true, false, not, ◌||◌, if◌then◌else◌, List, [], ◌∷◌, ◌++◌, length, map, Option, None, Some, refl, sym, ap, ◌∙◌, subst, append_assoc, append-nil, arith}
+use Rattle.std.proofs.Common.{◌≡◌, ◌≤ℤ◌, ◌⊎◌, inl, inr, ℕ, ℤ, Bool, true, false, not, ◌||◌, if◌then◌else◌, List, [], ◌∷◌, ◌++◌, length, map, Option, None, Some}
+use Rattle.std.proofs.Common.{refl, sym, ap, ◌∙◌, subst, append_assoc, append-nil, arith}
 use Rattle.std.specs.Prelude.{slice_get}
 use Rattle.std.specs.List.{list_any}
 use Rattle.ip_wire.specs.EthernetAddress.{EthernetAddress}
@@ -44,7 +45,8 @@ use Rattle.sockets.specs.declared.socket.Socket.{Socket}
 use Rattle.tcp_model.specs.State.{State}
 use Rattle.lan_theorem.specs.Hosts.HostRuns.{Deed, deed_in}
 use Rattle.lan_theorem.specs.Hosts.Machine.{Machine}
-use Rattle.lan_theorem.specs.Hosts.Quiet.{is_idle, leaves_alone, WasAsked, Undisturbed, routes_by, routes_after, routes_left, IsOutside, NoneExpires, PollWasQuiet, PollsWereQuiet}
+use Rattle.lan_theorem.specs.Hosts.Quiet.{is_idle, leaves_alone, WasAsked, Undisturbed, routes_by, routes_after, routes_left, IsOutside, NoneExpires}
+use Rattle.lan_theorem.specs.Hosts.Quiet.{PollWasQuiet, PollsWereQuiet}
 use Rattle.lan_theorem.proofs.Hosts.Acting.{in_time}
 use Rattle.lan_theorem.proofs.Hosts.Moving.{HasActed, HasRested, moved}
 use Rattle.lan_theorem.proofs.Hosts.Polling.{polled}
@@ -62,7 +64,8 @@ pub record RoutesAre (kept routes : List Route) : Type 0 where
 same_routes : (kept old new : List Route) → new ≡ old → RoutesAre kept old → RoutesAre kept new
 same_routes kept old new is are = record { added = are.added; is = is ∙ are.is; forever = are.forever }
 
-added_route : (test : Route → Bool) (any : List ℕ) (router : IpAddress) (kept old new : List Route) → RoutesAre kept old → IsAdded test (λ r. IsGateway r any router) old new → RoutesAre (without test kept) new
+added_route : (test : Route → Bool) (any : List ℕ) (router : IpAddress) (kept old new : List Route) → RoutesAre kept old →
+    IsAdded test (λ r. IsGateway r any router) old new → RoutesAre (without test kept) new
 added_route test any router kept old new are is =
     let both = without_both test kept are.added are.forever in
     record {
@@ -73,38 +76,46 @@ added_route test any router kept old new are is =
       forever = all_append (λ r. r.expires_at ≡ None) both.0 (is.0 ∷ []) both.2 (is.1.expires, tt);
     }
 
-routed : (b : Bool) (router : IpAddress) (answer : Answer) (kept old new : List Route) → answer ≡ (if b then To.Done else To.Error For.RouteTableFull) → RoutedIf b router old new → RoutesAre kept old
+routed : (b : Bool) (router : IpAddress) (answer : Answer) (kept old new : List Route) → answer ≡ (if b then To.Done else To.Error For.RouteTableFull) →
+    RoutedIf b router old new → RoutesAre kept old
     → RoutesAre (routes_by (Set.Route router) answer kept) new
 routed true (Address.Ipv4 router) answer kept old new said is are =
-    subst (λ (a : Answer). RoutesAre (routes_by (Set.Route (Address.Ipv4 router)) a kept) new) (sym said) (added_route is_gateway_v4 _ (Address.Ipv4 router) kept old new are is)
+    subst (λ (a : Answer). RoutesAre (routes_by (Set.Route (Address.Ipv4 router)) a kept) new) (sym said)
+    (added_route is_gateway_v4 _ (Address.Ipv4 router) kept old new are is)
 routed true (Address.Ipv6 router) answer kept old new said is are =
-    subst (λ (a : Answer). RoutesAre (routes_by (Set.Route (Address.Ipv6 router)) a kept) new) (sym said) (added_route is_gateway_v6 _ (Address.Ipv6 router) kept old new are is)
+    subst (λ (a : Answer). RoutesAre (routes_by (Set.Route (Address.Ipv6 router)) a kept) new) (sym said)
+    (added_route is_gateway_v6 _ (Address.Ipv6 router) kept old new are is)
 routed false (Address.Ipv4 router) answer kept old new said is are =
     subst (λ (a : Answer). RoutesAre (routes_by (Set.Route (Address.Ipv4 router)) a kept) new) (sym said) (same_routes kept old new is are)
 routed false (Address.Ipv6 router) answer kept old new said is are =
     subst (λ (a : Answer). RoutesAre (routes_by (Set.Route (Address.Ipv6 router)) a kept) new) (sym said) (same_routes kept old new is are)
 
-refused_routes : (i : InnerValue) (a : EthernetAddress) (refusal : Option HardwareAddrError) → (if_none refusal (record i { hardware = Hardware.Ethernet a }) i).routes ≡ i.routes
+refused_routes : (i : InnerValue) (a : EthernetAddress) (refusal : Option HardwareAddrError) →
+    (if_none refusal (record i { hardware = Hardware.Ethernet a }) i).routes ≡ i.routes
 refused_routes i a None = refl
 refused_routes i a (Some e) = refl
 
-strange_routes : (i : InnerValue) (blocks : List IpCidr) (b : Bool) → (if b then i else record i { addresses = blocks; neighbors = flushed i.neighbors }).routes ≡ i.routes
+strange_routes : (i : InnerValue) (blocks : List IpCidr) (b : Bool) →
+    (if b then i else record i { addresses = blocks; neighbors = flushed i.neighbors }).routes ≡ i.routes
 strange_routes i blocks true = refl
 strange_routes i blocks false = refl
 
-setting_routes : (h h' : HostValue) (setting : Setting) (answer : Answer) (kept : List Route) → SetsTo h setting h' → answer ≡ setting_answer h setting → RoutesAre kept h.inner.routes
+setting_routes : (h h' : HostValue) (setting : Setting) (answer : Answer) (kept : List Route) → SetsTo h setting h' → answer ≡ setting_answer h setting →
+    RoutesAre kept h.inner.routes
     → RoutesAre (routes_by setting answer kept) h'.inner.routes
 setting_routes h h' (Set.HardwareAddr address) answer kept is said are =
     same_routes kept h.inner.routes h'.inner.routes
     (ap (λ (x : HostValue). x.inner.routes) is ∙ refused_routes h.inner address (hardware_refusal h.inner.hardware (Hardware.Ethernet address))) are
 setting_routes h h' (Set.Addrs blocks) answer kept is said are =
-    same_routes kept h.inner.routes h'.inner.routes (ap (λ (x : HostValue). x.inner.routes) is ∙ strange_routes h.inner blocks (list_any is_stranger blocks)) are
+    same_routes kept h.inner.routes h'.inner.routes (ap (λ (x : HostValue). x.inner.routes) is ∙
+    strange_routes h.inner blocks (list_any is_stranger blocks)) are
 setting_routes h h' (Set.Route router) answer kept is said are =
     let new : h'.inner.routes ≡ is.0 = ap (λ (x : HostValue). x.inner.routes) is.2 in
     subst (RoutesAre (routes_by (Set.Route router) answer kept)) (sym new)
     (routed (has_route_room router h.inner.routes) router answer kept h.inner.routes is.0 said is.1 are)
 setting_routes h h' (Set.AnyIp any) answer kept is said are = same_routes kept h.inner.routes h'.inner.routes (ap (λ (x : HostValue). x.inner.routes) is) are
-setting_routes h h' (Set.ReassemblyTimeout timeout) answer kept is said are = same_routes kept h.inner.routes h'.inner.routes (ap (λ (x : HostValue). x.inner.routes) is) are
+setting_routes h h' (Set.ReassemblyTimeout timeout) answer kept is said are =
+    same_routes kept h.inner.routes h'.inner.routes (ap (λ (x : HostValue). x.inner.routes) is) are
 
 drawn_routes : (draw : Bool) (h : HostValue) → (if draw then record h { inner = drawn h.inner } else h).inner.routes ≡ h.inner.routes
 drawn_routes true h = refl
@@ -126,20 +137,25 @@ module _ (s s' : StationValue) (i : ℕ) (call : SocketCall) (answer : Answer) (
   call_routes : Does s i call answer found s' → s'.host.inner.routes ≡ s.host.inner.routes
   call_routes at = place_routes (slice_get s.places i) at
 
-own_setting : (side : Side) (setting : Setting) (answer : Answer) (kept : List Route) → routes_after side (OfHost side (Sets setting)) answer kept ≡ routes_by setting answer kept
+own_setting : (side : Side) (setting : Setting) (answer : Answer) (kept : List Route) →
+    routes_after side (OfHost side (Sets setting)) answer kept ≡ routes_by setting answer kept
 own_setting A setting answer kept = refl
 own_setting B setting answer kept = refl
 
-acts_routes : (side : Side) (s s' : StationValue) (act : Act) (answer : Answer) (found : Option State) (kept : List Route) → Acts s act answer found s' → RoutesAre kept s.host.inner.routes
+acts_routes : (side : Side) (s s' : StationValue) (act : Act) (answer : Answer) (found : Option State) (kept : List Route) → Acts s act answer found s' →
+    RoutesAre kept s.host.inner.routes
     → RoutesAre (routes_after side (OfHost side act) answer kept) s'.host.inner.routes
-acts_routes side s s' (Calls i call) answer found kept acts are = same_routes kept s.host.inner.routes s'.host.inner.routes (call_routes s s' i call answer found acts) are
+acts_routes side s s' (Calls i call) answer found kept acts are =
+    same_routes kept s.host.inner.routes s'.host.inner.routes (call_routes s s' i call answer found acts) are
 acts_routes side s s' (Sets setting) answer found kept acts are =
     let c = acts.0 in
     let same : s'.host.inner.routes ≡ c.0.inner.routes = ap (λ (x : StationValue). x.host.inner.routes) c.3 in
     subst (λ (rs : List Route). RoutesAre rs s'.host.inner.routes) (sym (own_setting side setting answer kept))
     (subst (RoutesAre (routes_by setting answer kept)) (sym same) (setting_routes s.host c.0 setting answer kept c.1 c.2 are))
-acts_routes side s s' (Opens n) answer found kept acts are = same_routes kept s.host.inner.routes s'.host.inner.routes (ap (λ (x : StationValue). x.host.inner.routes) acts.2) are
-acts_routes side s s' (Asks moment) answer found kept acts are = same_routes kept s.host.inner.routes s'.host.inner.routes (ap (λ (x : StationValue). x.host.inner.routes) acts.2) are
+acts_routes side s s' (Opens n) answer found kept acts are =
+    same_routes kept s.host.inner.routes s'.host.inner.routes (ap (λ (x : StationValue). x.host.inner.routes) acts.2) are
+acts_routes side s s' (Asks moment) answer found kept acts are =
+    same_routes kept s.host.inner.routes s'.host.inner.routes (ap (λ (x : StationValue). x.host.inner.routes) acts.2) are
 acts_routes side s s' (Polls moment budget) answer found kept acts are =
     same_routes kept s.host.inner.routes s'.host.inner.routes (polled s s' moment budget acts.0 acts.1).settings.routes are
 
@@ -149,7 +165,8 @@ module _ (side : Side) (answer : Answer) (kept : List Route) where
   apart_routes setting false d is = refl
 
   rested_routes : (k : Kind) (e : Entry) → deed_in side k e ≡ [] → routes_after side k answer kept ≡ kept
-  rested_routes (OfHost s (Sets setting)) e none = apart_routes setting (same_side s side) (record { act = Sets setting; answer = e.answer; found = e.found }) none
+  rested_routes (OfHost s (Sets setting)) e none =
+      apart_routes setting (same_side s side) (record { act = Sets setting; answer = e.answer; found = e.found }) none
   rested_routes (OfHost s (Calls i call)) e none = refl
   rested_routes (OfHost s (Opens n)) e none = refl
   rested_routes (OfHost s (Asks moment)) e none = refl
@@ -172,13 +189,16 @@ first_routes : (starts : Starts) (side : Side) → RoutesAre (routes_left starts
 first_routes starts A = record { added = []; is = sym (append-nil starts.a.host.inner.routes); forever = tt }
 first_routes starts B = record { added = []; is = sym (append-nil starts.b.host.inner.routes); forever = tt }
 
-routes_next : (starts : Starts) (past : List Entry) (e : Entry) (old new : Stations) (side : Side) → HasActed old new side (kind_of e.event) e ⊎ HasRested old new side (kind_of e.event) e
-    → RoutesAre (routes_left starts side past) (station old side).host.inner.routes → RoutesAre (routes_left starts side (e ∷ past)) (station new side).host.inner.routes
+routes_next : (starts : Starts) (past : List Entry) (e : Entry) (old new : Stations) (side : Side) → HasActed old new side (kind_of e.event) e ⊎
+    HasRested old new side (kind_of e.event) e
+    → RoutesAre (routes_left starts side past) (station old side).host.inner.routes →
+    RoutesAre (routes_left starts side (e ∷ past)) (station new side).host.inner.routes
 routes_next starts past e old new side (inl acted) before =
     subst (λ (k : Kind). RoutesAre (routes_after side k e.answer (routes_left starts side past)) (station new side).host.inner.routes) (sym acted.is)
     (acts_routes side (station old side) (station new side) acted.act e.answer e.found (routes_left starts side past) acted.acts before)
 routes_next starts past e old new side (inr rested) before =
-    subst (λ (rs : List Route). RoutesAre rs (station new side).host.inner.routes) (sym (rested_routes side e.answer (routes_left starts side past) (kind_of e.event) e rested.deeds))
+    subst (λ (rs : List Route). RoutesAre rs (station new side).host.inner.routes)
+    (sym (rested_routes side e.answer (routes_left starts side past) (kind_of e.event) e rested.deeds))
     (same_routes (routes_left starts side past) (station old side).host.inner.routes (station new side).host.inner.routes
     (ap (λ (m : Machine). m.host.inner.routes) rested.machine) before)
 
@@ -250,7 +270,8 @@ module _ (side : Side) (t : ℤ) where
           },
         )
 
-    rested_as_it : (asked : InnerValue) (old new : Stations) (k : Kind) (e : Entry) → leaves_alone side t k ≡ true → HasRested old new side k e → IsAsIt asked asked_at answer (station old side)
+    rested_as_it : (asked : InnerValue) (old new : Stations) (k : Kind) (e : Entry) → leaves_alone side t k ≡ true → HasRested old new side k e →
+        IsAsIt asked asked_at answer (station old side)
         → IsAsIt asked asked_at answer (station new side)
     rested_as_it asked old new k e alone rested held =
         let m = rested.machine in
@@ -265,8 +286,10 @@ module _ (side : Side) (t : ℤ) where
         }
 
     module _ (due : DueAsBefore) (starts : Starts) (early : IsEarlier t answer) where
-      asked_next : (past : List Entry) (e : Entry) (old new : Stations) → WorldRun past (unused_both starts) old → Leads past old e new → leaves_alone side t (kind_of e.event) ≡ true
-          → NoneExpires asked_at t (routes_left starts side past) → HasActed old new side (kind_of e.event) e ⊎ HasRested old new side (kind_of e.event) e → AsAsked (station old side) → AsAsked (station new side)
+      asked_next : (past : List Entry) (e : Entry) (old new : Stations) → WorldRun past (unused_both starts) old → Leads past old e new →
+          leaves_alone side t (kind_of e.event) ≡ true
+          → NoneExpires asked_at t (routes_left starts side past) → HasActed old new side (kind_of e.event) e ⊎ HasRested old new side (kind_of e.event) e →
+          AsAsked (station old side) → AsAsked (station new side)
       asked_next past e old new run leads alone out (inr rested) before = (before.0, rested_as_it before.0 old new (kind_of e.event) e alone rested before.1)
       asked_next past e old new run leads alone out (inl acted) before = (
         before.0,
@@ -283,17 +306,20 @@ module _ (side : Side) (t : ℤ) where
       as_asked (e ∷ past) hosts run (inl was) out = just_asked past run.0 hosts e run.2 was
       as_asked (e ∷ past) hosts run (inr still) out =
           let out_before = subst (NoneExpires asked_at t) (alone_routes side e.answer (routes_left starts side past) t (kind_of e.event) still.0) out in
-          asked_next past e run.0 hosts run.1 run.2 still.0 out_before (moved run.0 e hosts (kind_of e.event) run.2.happens side) (as_asked past run.0 run.1 still.1 out_before)
+          asked_next past e run.0 hosts run.1 run.2 still.0 out_before (moved run.0 e hosts (kind_of e.event) run.2.happens side)
+          (as_asked past run.0 run.1 still.1 out_before)
 
 -- POLLS
 
 module _ (due : DueAsBefore) (starts : Starts) where
-  poll_quiet : (past : List Entry) (old new : Stations) (e : Entry) (now : Counts) → WorldRun past (unused_both starts) old → e.before ≡ counts_of old → now ≡ counts_of new
+  poll_quiet : (past : List Entry) (old new : Stations) (e : Entry) (now : Counts) → WorldRun past (unused_both starts) old → e.before ≡ counts_of old →
+      now ≡ counts_of new
       → (k : Kind) → refusal old (tables_in past old) k ≡ None → Happens old k e.answer e.found new → PollWasQuiet starts past e.before now k
   poll_quiet past old new e now run counted is (OfHost side (Polls t budget)) allowed happens = λ asked_at answer undisturbed early out.
       let held = as_asked side t asked_at answer due starts early past old run undisturbed out in
       let routes = none_expires asked_at t (routes_left starts side past) (station old side).host.inner.routes (routes_are starts past old side run) out in
-      let link = same_link due held.0 asked_at answer (station old side) (station new side) held.1 t early routes (in_time old (tables_in past old) side (Polls t budget) allowed) budget happens.acts.0 happens.acts.1 in
+      let link = same_link due held.0 asked_at answer (station old side) (station new side) held.1 t early routes
+      (in_time old (tables_in past old) side (Polls t budget) allowed) budget happens.acts.0 happens.acts.1 in
       ap (λ (c : Counts). sent_before c side) is ∙ sent_count new side ∙ ap (λ (x : LinkEnd). length x.sent) link
       ∙ sym (sent_count old side) ∙ sym (ap (λ (c : Counts). sent_before c side) counted)
   poll_quiet past old new e now run counted is (OfHost side (Calls i call)) allowed happens = tt
@@ -302,7 +328,10 @@ module _ (due : DueAsBefore) (starts : Starts) where
   poll_quiet past old new e now run counted is (OfHost side (Asks moment)) allowed happens = tt
   poll_quiet past old new e now run counted is (OfLink act) allowed happens = tt
 
-  pub polls_quiet : (history : List Entry) (hosts : Stations) (now : Counts) → now ≡ counts_of hosts → WorldRun history (unused_both starts) hosts → PollsWereQuiet starts history now
+  pub polls_quiet : (history : List Entry) (hosts : Stations) (now : Counts) → now ≡ counts_of hosts → WorldRun history (unused_both starts) hosts →
+      PollsWereQuiet starts history now
   polls_quiet [] hosts now is run = tt
-  polls_quiet (e ∷ past) hosts now is run =
-      (poll_quiet past run.0 hosts e now run.1 run.2.counted is (kind_of e.event) run.2.allowed run.2.happens, polls_quiet past run.0 e.before run.2.counted run.1)
+  polls_quiet (e ∷ past) hosts now is run = (
+    poll_quiet past run.0 hosts e now run.1 run.2.counted is (kind_of e.event) run.2.allowed run.2.happens,
+    polls_quiet past run.0 e.before run.2.counted run.1,
+  )

@@ -1,5 +1,6 @@
 -- A host that was asked when to poll, and left alone since, is as it was asked.
-use Rattle.std.proofs.Common.{◌≡◌, ◌≤ℤ◌, ◌⊎◌, inl, inr, ℕ, zero, suc, ℤ, pos, int_lt, Bool, true, List, [], ◌∷◌, Option, None, Some, refl, sym, ap, ◌∙◌, subst, arith}
+use Rattle.std.proofs.Common.{◌≡◌, ◌≤ℤ◌, ◌⊎◌, inl, inr, ℕ, zero, suc, ℤ, pos, int_lt, Bool, true, List, [], ◌∷◌, Option, None, Some, refl, sym, ap, ◌∙◌, subst}
+use Rattle.std.proofs.Common.{arith}
 use Rattle.std.specs.Prelude.{slice_get, slice_set}
 use Rattle.interface.specs.Host.{HostValue, maintained}
 use Rattle.interface.specs.Instant.{poll_instant}
@@ -35,24 +36,28 @@ set_same {X} (y ∷ ys) zero x is = ap (λ (z : X). z ∷ ys) (let same : Some y
 set_same {X} (y ∷ ys) (suc i) x is = ap (λ (zs : List X). y ∷ zs) (set_same ys i x is)
 
 module _ (s s' : StationValue) (i : ℕ) (answer : Answer) (found : Option States.State) where
-  looked_tcp : (place : SocketStorage Socket) (item : Item Socket) (socket : Socket) → slice_get s.places i ≡ Some place → place.inner ≡ Some item → item.socket ≡ socket
+  looked_tcp : (place : SocketStorage Socket) (item : Item Socket) (socket : Socket) → slice_get s.places i ≡ Some place → place.inner ≡ Some item →
+      item.socket ≡ socket
       → (host : HostValue) → host ≡ s.host → s' ≡ record s { host = host; places = slice_set s.places i (with_socket item socket) } → s' ≡ s
   looked_tcp place item socket at here is host same did =
       let item_is : with_socket item socket ≡ place =
-      ap (λ (x : Socket). with_socket item x) (sym is) ∙ ap (λ (o : Option (Item Socket)). let p : SocketStorage Socket = record { inner = o } in p) (sym here) in
+      ap (λ (x : Socket). with_socket item x) (sym is) ∙
+      ap (λ (o : Option (Item Socket)). let p : SocketStorage Socket = record { inner = o } in p) (sym here) in
       let places : slice_set s.places i (with_socket item socket) ≡ s.places =
       ap (slice_set s.places i) item_is ∙ set_same s.places i place at in
       did ∙ ap (λ (h : HostValue). record s { host = h; places = slice_set s.places i (with_socket item socket) }) same
       ∙ ap (λ (ps : List (SocketStorage Socket)). record s { places = ps }) places
 
-  looked_at : (place : SocketStorage Socket) (item : Item Socket) (socket : Socket) → slice_get s.places i ≡ Some place → place.inner ≡ Some item → item.socket ≡ socket
+  looked_at : (place : SocketStorage Socket) (item : Item Socket) (socket : Socket) → slice_get s.places i ≡ Some place → place.inner ≡ Some item →
+      item.socket ≡ socket
       → DidAt s i (record item { socket = socket }) Call.State (does (context_of s.host.inner) socket Call.State) answer found s' → s' ≡ s
   looked_at place item (Is.Raw v) at here is did = absurd did
   looked_at place item (Is.Icmp v) at here is did = absurd did
   looked_at place item (Is.Udp v) at here is did = absurd did
   looked_at place item (Is.Tcp v) at here is did = looked_tcp place item (Is.Tcp v) at here is s.host refl did.2
 
-  looked_item : (place : SocketStorage Socket) (o : Option (Item Socket)) → slice_get s.places i ≡ Some place → place.inner ≡ o → ItemDoes s i o Call.State answer found s' → s' ≡ s
+  looked_item : (place : SocketStorage Socket) (o : Option (Item Socket)) → slice_get s.places i ≡ Some place → place.inner ≡ o →
+      ItemDoes s i o Call.State answer found s' → s' ≡ s
   looked_item place None at here did = absurd did
   looked_item place (Some item) at here did = looked_at place item item.socket at here refl did
 
@@ -85,7 +90,8 @@ outside_still from until m None up out = tt
 outside_still from until m (Some end) up (inl before) = inl before
 outside_still from until m (Some end) up (inr after) = inr (up_to m until end up after)
 
-pub none_still : (from until m : ℤ) (rs : List Rattle.interface_tables.specs.declared.route.Route.Route) → m ≤ℤ until → NoneExpires from until rs → NoneExpires from m rs
+pub none_still : (from until m : ℤ) (rs : List Rattle.interface_tables.specs.declared.route.Route.Route) → m ≤ℤ until → NoneExpires from until rs →
+    NoneExpires from m rs
 none_still from until m [] up out = tt
 none_still from until m (r ∷ rs) up out = (outside_still from until m r.expires_at up out.0, none_still from until m rs up out.1)
 
@@ -152,7 +158,8 @@ module _ (due : DueAsBefore) (asked : InnerValue) (asked_at : ℤ) (answer : Opt
   is_state t i Call.State idle = refl
   is_state t i call idle = absurd (cc)
 
-  pub idle_as_it : (t : ℤ) (act : Act) (said : Answer) (found : Option States.State) → is_idle t act ≡ true → IsEarlier t answer → NoneExpires asked_at t s.host.inner.routes → IsInTime s act
+  pub idle_as_it : (t : ℤ) (act : Act) (said : Answer) (found : Option States.State) → is_idle t act ≡ true → IsEarlier t answer →
+      NoneExpires asked_at t s.host.inner.routes → IsInTime s act
       → Acts s act said found s' → IsAsIt asked asked_at answer s'
   idle_as_it t (Calls i call) said found idle early out time acts =
       as_it_where s (state_same s s' i said found (subst (λ (c : SocketCall). Does s i c said found s') (is_state t i call idle) acts)) held

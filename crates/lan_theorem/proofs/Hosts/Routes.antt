@@ -1,5 +1,6 @@
 -- The routes of a host: those left that it came with, and some that never expire.
-use Rattle.std.proofs.Common.{◌≡◌, ◌≤ℤ◌, inl, inr, ℕ, suc, ◌+◌, ℤ, int_lt, Bool, true, false, cond, not, ◌&&◌, nat_lt, if◌then◌else◌, List, [], ◌∷◌, ◌++◌, length, reverse, Option, None, Some, refl, sym, ap, ◌∙◌, subst, arith}
+use Rattle.std.proofs.Common.{◌≡◌, ◌≤ℤ◌, inl, inr, ℕ, suc, ◌+◌, ℤ, int_lt, Bool, true, false, cond, not, ◌&&◌, nat_lt, if◌then◌else◌, List, [], ◌∷◌, ◌++◌}
+use Rattle.std.proofs.Common.{length, reverse, Option, None, Some, refl, sym, ap, ◌∙◌, subst, arith}
 use Rattle.std.specs.List.{AllByRecursion, filter_map, prefix_len, cons_option}
 use Rattle.std.proofs.lemmas.Bool.Decides.{nat_tests}
 use Rattle.std.proofs.lemmas.List.{reverse-append}
@@ -41,12 +42,14 @@ same_expiry from until (Some end) up (inr after) =
     let two : int_lt end from ≡ false = grind (arith) in
     one ∙ sym two
 
-same_serving : (address : IpAddress) (from until : ℤ) (r : Route) → from ≤ℤ until → IsOutside from until r.expires_at → serving address until r ≡ serving address from r
+same_serving : (address : IpAddress) (from until : ℤ) (r : Route) → from ≤ℤ until → IsOutside from until r.expires_at →
+    serving address until r ≡ serving address from r
 same_serving address from until r up out =
     ap (λ (b : Bool). if is_in_block r.cidr address && not b && is_unicast r.via_router && are_of_one_family r.via_router address then Some r else None)
     (same_expiry from until r.expires_at up out)
 
-all_serve : (address : IpAddress) (from until : ℤ) (rs : List Route) → from ≤ℤ until → NoneExpires from until rs → AllByRecursion (λ r. serving address until r ≡ serving address from r) rs
+all_serve : (address : IpAddress) (from until : ℤ) (rs : List Route) → from ≤ℤ until → NoneExpires from until rs →
+    AllByRecursion (λ r. serving address until r ≡ serving address from r) rs
 all_serve address from until [] up out = tt
 all_serve address from until (r ∷ rs) up out = (same_serving address from until r up out.0, all_serve address from until rs up out.1)
 
@@ -80,7 +83,9 @@ AreForever rs = AllByRecursion (λ r. r.expires_at ≡ None) rs
 module _ (test : Route → Bool) where
   without_here : (x : Route) (xs : List Route) → test x ≡ true → without test (x ∷ xs) ≡ xs
   without_here x xs is =
-      ap (λ (b : Bool). without_at (cond (nat_lt (cond (not b) (1 + prefix_len (λ r. not (test r)) xs) 0) (suc (length xs))) (Some (cond (not b) (1 + prefix_len (λ r. not (test r)) xs) 0)) None) (x ∷ xs)) is
+      ap (λ (b : Bool). without_at
+      (cond (nat_lt (cond (not b) (1 + prefix_len (λ r. not (test r)) xs) 0) (suc (length xs)))
+      (Some (cond (not b) (1 + prefix_len (λ r. not (test r)) xs) 0)) None) (x ∷ xs)) is
       ∙ ap (λ (b : Bool). without_at (cond b (Some 0) None) (x ∷ xs)) (some_first (length xs))
 
   without_later : (x : Route) (xs : List Route) → test x ≡ false → without test (x ∷ xs) ≡ x ∷ without test xs

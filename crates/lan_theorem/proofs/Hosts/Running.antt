@@ -1,5 +1,6 @@
 -- Each host of a world is a run of its machine: by recursion on the history.
-use Rattle.std.proofs.Common.{◌≡◌, ℕ, ◌⊎◌, inl, inr, if◌then◌else◌, List, [], ◌∷◌, ◌++◌, length, map, take, drop, refl, sym, ap, ◌∙◌, subst, append_assoc, append-nil}
+use Rattle.std.proofs.Common.{◌≡◌, ℕ, ◌⊎◌, inl, inr, if◌then◌else◌, List, [], ◌∷◌, ◌++◌, length, map, take, drop, refl, sym, ap, ◌∙◌, subst, append_assoc}
+use Rattle.std.proofs.Common.{append-nil}
 use Rattle.std.proofs.lemmas.List.{map-append, take_at, drop_at}
 use Rattle.lan_history.specs.History.{Entry, Counts}
 use Rattle.lan_history.specs.Kinds.{Act, Kind, kind_of}
@@ -33,11 +34,13 @@ sent_count : (hosts : Stations) (side : Side) → sent_before (counts_of hosts) 
 sent_count hosts A = refl
 sent_count hosts B = refl
 
-acted_deed : (side : Side) (act : Act) (e : Entry) → deed_in side (OfHost side act) e ≡ (let d : Deed = record { act = act; answer = e.answer; found = e.found } in d ∷ [])
+acted_deed : (side : Side) (act : Act) (e : Entry) →
+    deed_in side (OfHost side act) e ≡ (let d : Deed = record { act = act; answer = e.answer; found = e.found } in d ∷ [])
 acted_deed A act e = refl
 acted_deed B act e = refl
 
-module _ (starts : Starts) (past : List Entry) (old new : Stations) (e : Entry) (side : Side) (leads : Leads past old e new) (now : IsNow (world starts past old) side) where
+module _ (starts : Starts) (past : List Entry) (old new : Stations) (e : Entry) (side : Side) (leads : Leads past old e new)
+    (now : IsNow (world starts past old) side) where
   abbrev s : StationValue
   s = station old side
 
@@ -54,15 +57,19 @@ module _ (starts : Starts) (past : List Entry) (old new : Stations) (e : Entry) 
   counted = sym (ap (λ (c : Counts). sent_before c side) leads.counted ∙ sent_count old side)
 
   -- its own frames among the sent ones
-  own_more : (more : List (List ℕ)) → s'.link.sent ≡ s.link.sent ++ more → own_frames side (e ∷ past) s'.link.sent ≡ own_frames side past s.link.sent ++ (if is_cut_of side k then [] else more)
+  own_more : (more : List (List ℕ)) → s'.link.sent ≡ s.link.sent ++ more → own_frames side (e ∷ past) s'.link.sent ≡ own_frames side past s.link.sent ++
+      (if is_cut_of side k then [] else more)
   own_more more is =
-      ap (λ (xs : List (List ℕ)). own_frames side past (take (sent_before e.before side) xs) ++ (if is_cut_of side k then [] else drop (sent_before e.before side) xs)) is
+      ap (λ (xs : List (List ℕ)). own_frames side past (take (sent_before e.before side) xs) ++
+      (if is_cut_of side k then [] else drop (sent_before e.before side) xs)) is
       ∙ ap (λ (xs : List (List ℕ)). own_frames side past xs ++ (if is_cut_of side k then [] else drop (sent_before e.before side) (s.link.sent ++ more)))
       (take_at s.link.sent more (sent_before e.before side) counted)
-      ∙ ap (λ (xs : List (List ℕ)). own_frames side past s.link.sent ++ (if is_cut_of side k then [] else xs)) (drop_at s.link.sent more (sent_before e.before side) counted)
+      ∙ ap (λ (xs : List (List ℕ)). own_frames side past s.link.sent ++
+      (if is_cut_of side k then [] else xs)) (drop_at s.link.sent more (sent_before e.before side) counted)
 
   -- what was handed to it, before and now
-  handed_more : map (frame_of_origin new) (origins side (e ∷ past)) ≡ map (frame_of_origin old) (origins side past) ++ map (frame_of_origin old) (origins_of side k)
+  handed_more : map (frame_of_origin new) (origins side (e ∷ past)) ≡ map (frame_of_origin old) (origins side past) ++
+      map (frame_of_origin old) (origins_of side k)
   handed_more =
       map-append (frame_of_origin new) (origins side past) (origins_of side k)
       ∙ ap (λ (fs : List (List ℕ)). fs ++ map (frame_of_origin new) (origins_of side k)) (origins_stay old new on side past now.there)
@@ -152,9 +159,11 @@ module _ (starts : Starts) (past : List Entry) (old new : Stations) (e : Entry) 
     by (inl acted) = acted_now acted
     by (inr rested) = rested_now rested
 
-pub nows : (starts : Starts) (history : List Entry) (hosts : Stations) → WorldRun history (unused_both starts) hosts → (side : Side) → IsNow (world starts history hosts) side
+pub nows : (starts : Starts) (history : List Entry) (hosts : Stations) → WorldRun history (unused_both starts) hosts → (side : Side) →
+    IsNow (world starts history hosts) side
 nows starts [] hosts run side = subst (λ (x : Stations). IsNow (world starts [] x) side) (sym run) (first starts side)
 nows starts (e ∷ past) hosts run side = next starts past run.0 hosts e side run.2 (nows starts past run.0 run.1 side)
 
-pub host_runs : (starts : Starts) (history : List Entry) (hosts : Stations) (side : Side) → WorldRun history (unused_both starts) hosts → IsHostRun (world starts history hosts) side
+pub host_runs : (starts : Starts) (history : List Entry) (hosts : Stations) (side : Side) → WorldRun history (unused_both starts) hosts →
+    IsHostRun (world starts history hosts) side
 host_runs starts history hosts side run = (nows starts history hosts run side).run

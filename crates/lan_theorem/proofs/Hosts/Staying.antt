@@ -1,5 +1,6 @@
 -- A frame that the link handed over is the same ever after: sent lists only grow.
-use Rattle.std.proofs.Common.{◌≡◌, ℕ, ◌<◌, ◌+◌, Bool, true, false, not, nat_lt, if◌then◌else◌, List, [], ◌∷◌, ◌++◌, length, map, None, refl, sym, ap, ◌∙◌, arith}
+use Rattle.std.proofs.Common.{◌≡◌, ℕ, ◌<◌, ◌+◌, Bool, true, false, not, nat_lt, if◌then◌else◌, List, [], ◌∷◌, ◌++◌, length, map, None, refl, sym, ap, ◌∙◌}
+use Rattle.std.proofs.Common.{arith}
 use Rattle.std.specs.Prelude.{slice_index_or}
 use Rattle.std.specs.List.{AllByRecursion}
 use Rattle.std.proofs.lemmas.Bool.Decides.{nat_tests}
@@ -37,7 +38,8 @@ if_there : (hosts : Stations) (o : Origin) (b : Bool) → IsThere hosts o → Al
 if_there hosts o true there = (there, tt)
 if_there hosts o false there = tt
 
-pub allowed_there : (hosts : Stations) (tables : Tables) (side : Side) (k : Kind) → refusal hosts tables k ≡ None → AllByRecursion (IsThere hosts) (origins_of side k)
+pub allowed_there : (hosts : Stations) (tables : Tables) (side : Side) (k : Kind) → refusal hosts tables k ≡ None →
+    AllByRecursion (IsThere hosts) (origins_of side k)
 allowed_there hosts tables side (OfHost s act) is = tt
 allowed_there hosts tables side (OfLink (Cuts from k at)) is = tt
 allowed_there hosts tables side (OfLink (Hands o)) is = if_there hosts o (same_side (goes_to o) side) (origin_there hosts tables o is)
@@ -73,7 +75,8 @@ module _ (old new : Stations) (on : (side : Side) → GoesOn (station old side) 
   pub all_same : (os : List Origin) → AllByRecursion (IsThere old) os → map (frame_of_origin new) os ≡ map (frame_of_origin old) os
   all_same [] there = refl
   all_same (o ∷ os) there =
-      ap (λ (f : List ℕ). f ∷ map (frame_of_origin new) os) (origin_same o there.0) ∙ ap (λ (fs : List (List ℕ)). frame_of_origin old o ∷ fs) (all_same os there.1)
+      ap (λ (f : List ℕ). f ∷ map (frame_of_origin new) os) (origin_same o there.0) ∙
+      ap (λ (fs : List (List ℕ)). frame_of_origin old o ∷ fs) (all_same os there.1)
 
   all_still : (os : List Origin) → AllByRecursion (IsThere old) os → AllByRecursion (IsThere new) os
   all_still [] there = tt
@@ -84,7 +87,8 @@ module _ (old new : Stations) (on : (side : Side) → GoesOn (station old side) 
   still_there side (e ∷ past) there = (all_still (origins_of side (kind_of e.event)) there.0, still_there side past there.1)
 
   -- what the link handed over is what it was
-  pub origins_stay : (side : Side) (past : List Entry) → AreThere old side past → map (frame_of_origin new) (origins side past) ≡ map (frame_of_origin old) (origins side past)
+  pub origins_stay : (side : Side) (past : List Entry) → AreThere old side past →
+      map (frame_of_origin new) (origins side past) ≡ map (frame_of_origin old) (origins side past)
   origins_stay side [] there = refl
   origins_stay side (e ∷ past) there =
       let os = origins_of side (kind_of e.event) in

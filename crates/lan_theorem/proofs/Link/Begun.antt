@@ -54,18 +54,21 @@ abbrev pub worth : Bool → ℕ
 worth b = cond b 1 0
 
 -- a packet that goes whole
-pub whole_begins : (own to : HardwareAddress) (h : IpRepr) (x : PayloadValue) (n : ℕ) → IsSameKind own to → IsWritable (packet_of h x) → length (packet_frame sealed own to (packet_of h x)) ≡ packet_frame_len own to (packet_of h x)
+pub whole_begins : (own to : HardwareAddress) (h : IpRepr) (x : PayloadValue) (n : ℕ) → IsSameKind own to → IsWritable (packet_of h x) →
+    length (packet_frame sealed own to (packet_of h x)) ≡ packet_frame_len own to (packet_of h x)
     → and_v4 h n ≤ n + worth (begins_datagram (medium_on own) (packet_frame sealed own to (packet_of h x)))
 whole_begins own to (Ip.Ipv4 v) x n same w len =
     let p : PacketValue = packet_of (Ip.Ipv4 v) x in
     let f = whole4 own to same [] v x w len in
-    let begins : begins_datagram (medium_on own) (packet_frame sealed own to p) ≡ true = slice_begins (medium_on own) (p ∷ []) (packet_frame sealed own to p) f.0 f.1 in
+    let begins : begins_datagram (medium_on own) (packet_frame sealed own to p) ≡ true =
+    slice_begins (medium_on own) (p ∷ []) (packet_frame sealed own to p) f.0 f.1 in
     let one : worth (begins_datagram (medium_on own) (packet_frame sealed own to p)) ≡ 1 = ap worth begins in
     omega (arith, one)
 whole_begins own to (Ip.Ipv6 v) x n same w len = omega arith
 
 -- the first piece of one that is cut
-pub piece_begins : (own : HardwareAddress) (out : List PacketValue) (mtu : ℕ) (l : LeftValue) → IsLeft own out l → length (piece_frame sealed own l.to l.header (next_piece mtu l)) ≡ piece_frame_len own l.to (next_piece mtu l)
+pub piece_begins : (own : HardwareAddress) (out : List PacketValue) (mtu : ℕ) (l : LeftValue) → IsLeft own out l →
+    length (piece_frame sealed own l.to l.header (next_piece mtu l)) ≡ piece_frame_len own l.to (next_piece mtu l)
     → l.at ≡ 0 → begins_datagram (medium_on own) (piece_frame sealed own l.to l.header (next_piece mtu l)) ≡ true
 piece_begins own out mtu l left len first =
     let f = piece_slice own out mtu l left len in
@@ -84,8 +87,10 @@ tied_frame medium out out' sent sent' frame is few =
     ap (count_by (begins_datagram medium)) is ∙ sum_by_push (λ (x : List ℕ). worth (begins_datagram medium x)) sent frame in
     omega (arith, more, few)
 
-pub tied_trans : (medium : Medium) (out mid out' : List PacketValue) (sent between sent' : List (List ℕ)) → IsTied medium out sent mid between → IsTied medium mid between out' sent' → IsTied medium out sent out' sent'
+pub tied_trans : (medium : Medium) (out mid out' : List PacketValue) (sent between sent' : List (List ℕ)) → IsTied medium out sent mid between →
+    IsTied medium mid between out' sent' → IsTied medium out sent out' sent'
 tied_trans medium out mid out' sent between sent' one two = omega (arith, one, two)
 
-pub tied_on : (own own' : HardwareAddress) (out out' : List PacketValue) (sent sent' : List (List ℕ)) → own' ≡ own → IsTied (medium_on own) out sent out' sent' → IsTied (medium_on own') out sent out' sent'
+pub tied_on : (own own' : HardwareAddress) (out out' : List PacketValue) (sent sent' : List (List ℕ)) → own' ≡ own →
+    IsTied (medium_on own) out sent out' sent' → IsTied (medium_on own') out sent out' sent'
 tied_on own own' out out' sent sent' same tied = subst (λ (h : HardwareAddress). IsTied (medium_on h) out sent out' sent') (sym same) tied

@@ -1,5 +1,6 @@
 -- What is read behind a link header.
-use Rattle.std.proofs.Common.{◌≡◌, ℕ, ◌+◌, ◌%◌, ◌^◌, ◌<◌, ◌==◌, true, List, [], ◌∷◌, ◌++◌, length, drop, slice_index, Option, Some, None, refl, sym, ◌∙◌, ap, subst, arith, length-drop}
+use Rattle.std.proofs.Common.{◌≡◌, ℕ, ◌+◌, ◌%◌, ◌^◌, ◌<◌, ◌==◌, true, List, [], ◌∷◌, ◌++◌, length, drop, slice_index, Option, Some, None, refl, sym, ◌∙◌, ap}
+use Rattle.std.proofs.Common.{subst, arith, length-drop}
 use Rattle.std.proofs.lemmas.List.{drop_at, get_or_append_left, length-take-le}
 use Rattle.std.proofs.lemmas.Bool.Decides.{nat_tests}
 use Rattle.net_base.specs.Medium.TheVariants as Medium
@@ -46,7 +47,8 @@ pub said : (n m : ℕ) → n == m ≡ true → n ≡ m
 said n m same = grind (arith, nat_tests, same)
 
 -- a frame whose EtherType is this carries that
-pub carries : (link rest : List ℕ) (number : ℕ) (l : EthernetRepr) (p : EthernetProtocol) → length link ≡ 14 → be16 link 12 == number ≡ true → IsFramed (link ++ rest) l p → p ≡ ether_of number
+pub carries : (link rest : List ℕ) (number : ℕ) (l : EthernetRepr) (p : EthernetProtocol) → length link ≡ 14 → be16 link 12 == number ≡ true →
+    IsFramed (link ++ rest) l p → p ≡ ether_of number
 carries link rest number l p len is framed =
     sym framed.carried_is ∙ framed.format.carried ∙ ap ether_of (ether_front link rest len ∙ said (be16 link 12) number is)
 
@@ -69,7 +71,8 @@ module _ (packet : List ℕ) (h : Ipv4Repr) (p : Ipv4Piece) (x : List ℕ) (know
   abbrev Is4 : IncomingValue → Type 0
   Is4 v = (l : Option EthernetRepr) × (v ≡ Ip4 l h p x)
 
-  on_ethernet4 : (own : EthernetAddress) (link : List ℕ) (v : IncomingValue) → IsLinkHeader Medium.Ethernet link → IsIncoming (Hardware.Ethernet own) sealed (link ++ packet) v → Is4 v
+  on_ethernet4 : (own : EthernetAddress) (link : List ℕ) (v : IncomingValue) → IsLinkHeader Medium.Ethernet link →
+      IsIncoming (Hardware.Ethernet own) sealed (link ++ packet) v → Is4 v
   on_ethernet4 own link (Arp l a) is_link is = absurd (let e = carries link packet 0x0800 l Ether.Arp is_link.len is_link.carries is.0 in cc)
   on_ethernet4 own link (Ip4 None h' p' x') is_link is = absurd is
   on_ethernet4 own link (Ip4 (Some l) h' p' x') is_link is =
@@ -78,17 +81,20 @@ module _ (packet : List ℕ) (h : Ipv4Repr) (p : Ipv4Piece) (x : List ℕ) (know
   on_ethernet4 own link (Ip6 None h' x') is_link is = absurd is
   on_ethernet4 own link (Ip6 (Some l) h' x') is_link is = absurd (let e = carries link packet 0x0800 l Ether.Ipv6 is_link.len is_link.carries is.0 in cc)
 
-  pub read_behind4 : (hardware : HardwareAddress) (link : List ℕ) (v : IncomingValue) → IsLinkHeader (medium_on hardware) link → IsIncoming hardware sealed (link ++ packet) v → Is4 v
+  pub read_behind4 : (hardware : HardwareAddress) (link : List ℕ) (v : IncomingValue) → IsLinkHeader (medium_on hardware) link →
+      IsIncoming hardware sealed (link ++ packet) v → Is4 v
   read_behind4 (Hardware.Ethernet own) link v is_link is = on_ethernet4 own link v is_link is
   read_behind4 Hardware.Ip link v is_link is =
-      let bare : IsIncoming Hardware.Ip sealed packet v = subst (λ (l : List ℕ). IsIncoming Hardware.Ip sealed (l ++ packet) v) (none_left link is_link.len) is in
+      let bare : IsIncoming Hardware.Ip sealed packet v =
+      subst (λ (l : List ℕ). IsIncoming Hardware.Ip sealed (l ++ packet) v) (none_left link is_link.len) is in
       (None, one-incoming Hardware.Ip sealed packet v (Ip4 None h p x) bare known)
 
 module _ (packet : List ℕ) (h : Ipv6Repr) (x : List ℕ) (known : IsPacketV6 packet h x) where
   abbrev Is6 : IncomingValue → Type 0
   Is6 v = (l : Option EthernetRepr) × (v ≡ Ip6 l h x)
 
-  on_ethernet6 : (own : EthernetAddress) (link : List ℕ) (v : IncomingValue) → IsLinkHeader6 Medium.Ethernet link → IsIncoming (Hardware.Ethernet own) sealed (link ++ packet) v → Is6 v
+  on_ethernet6 : (own : EthernetAddress) (link : List ℕ) (v : IncomingValue) → IsLinkHeader6 Medium.Ethernet link →
+      IsIncoming (Hardware.Ethernet own) sealed (link ++ packet) v → Is6 v
   on_ethernet6 own link (Arp l a) is_link is = absurd (let e = carries link packet 0x86dd l Ether.Arp is_link.len is_link.carries is.0 in cc)
   on_ethernet6 own link (Ip4 None h' p' x') is_link is = absurd is
   on_ethernet6 own link (Ip4 (Some l) h' p' x') is_link is = absurd (let e = carries link packet 0x86dd l Ether.Ipv4 is_link.len is_link.carries is.0 in cc)
@@ -97,10 +103,12 @@ module _ (packet : List ℕ) (h : Ipv6Repr) (x : List ℕ) (known : IsPacketV6 p
       let bare : IsPacketV6 packet h' x' = subst (λ (b : List ℕ). IsPacketV6 b h' x') (drop_at link packet 14 is_link.len) is.1 in
       (Some l, same_v6 (Some l) h' h x' x (one-incoming Hardware.Ip sealed packet (Ip6 None h' x') (Ip6 None h x) bare known))
 
-  pub read_behind6 : (hardware : HardwareAddress) (link : List ℕ) (v : IncomingValue) → IsLinkHeader6 (medium_on hardware) link → IsIncoming hardware sealed (link ++ packet) v → Is6 v
+  pub read_behind6 : (hardware : HardwareAddress) (link : List ℕ) (v : IncomingValue) → IsLinkHeader6 (medium_on hardware) link →
+      IsIncoming hardware sealed (link ++ packet) v → Is6 v
   read_behind6 (Hardware.Ethernet own) link v is_link is = on_ethernet6 own link v is_link is
   read_behind6 Hardware.Ip link v is_link is =
-      let bare : IsIncoming Hardware.Ip sealed packet v = subst (λ (l : List ℕ). IsIncoming Hardware.Ip sealed (l ++ packet) v) (none_left link is_link.len) is in
+      let bare : IsIncoming Hardware.Ip sealed packet v =
+      subst (λ (l : List ℕ). IsIncoming Hardware.Ip sealed (l ++ packet) v) (none_left link is_link.len) is in
       (None, one-incoming Hardware.Ip sealed packet v (Ip6 None h x) bare known)
 
 -- PACKETS THAT WERE SENT
@@ -130,8 +138,10 @@ count_of_slice bytes s within = length-take-le s.count (drop s.at bytes) (omega 
 pub read_slice : (v : Ipv4Repr) (bytes padding : List ℕ) (s : Slice) → Ipv4.IsValue v → 20 + length bytes < 2 ^ 16 → IsSliceOf bytes s → s.at % 8 ≡ 0
     → IsPacketV4 sealed (packet_of_slice v bytes s padding) (Ipv4.normal (with_len v s.count)) (piece_of_slice s) (bytes_of_slice bytes s)
 read_slice v bytes padding s value short within unit =
-    piece-arrives Hardware.Ip sealed sealed None (with_len v s.count) (piece_of_slice s) (bytes_of_slice bytes s) padding tt (omega (arith, within.within, short)) (value_with v s.count value)
+    piece-arrives Hardware.Ip sealed sealed None (with_len v s.count) (piece_of_slice s) (bytes_of_slice bytes s) padding tt
+    (omega (arith, within.within, short)) (value_with v s.count value)
     (sym (count_of_slice bytes s within)) (omega (arith, within.within, short)) unit sealed_both
 
-pub read_v6 : (v : Ipv6Repr) (bytes padding : List ℕ) → Ipv6.IsValue v → Ipv6.Fits v → v.payload_len ≡ length bytes → IsPacketV6 ((Ipv6.written v ++ bytes) ++ padding) (Ipv6.normal v) bytes
+pub read_v6 : (v : Ipv6Repr) (bytes padding : List ℕ) → Ipv6.IsValue v → Ipv6.Fits v → v.payload_len ≡ length bytes →
+    IsPacketV6 ((Ipv6.written v ++ bytes) ++ padding) (Ipv6.normal v) bytes
 read_v6 v bytes padding value fits len = packet-arrives Hardware.Ip sealed sealed None (Ip.Ipv6 v) bytes padding tt fits value len sealed_both

@@ -29,10 +29,14 @@ module _ (made : PayloadValue → Type 0) (hardware : HardwareAddress) (out : Li
   pub slice_brings : (frame padding : List ℕ) → IsSlice (medium_on hardware) out frame → BringsFrom made out hardware (frame ++ padding)
   slice_brings frame padding f v is =
       let w : List ℕ = Ipv4.written_piece true (with_len f.header f.slice.count) f.slice.at f.slice.more ++ bytes_of_slice f.bytes f.slice in
-      let joined : frame ++ padding ≡ f.link ++ packet_of_slice f.header f.bytes f.slice padding = ap (λ (b : List ℕ). b ++ padding) f.frame_is ∙ append_assoc f.link w padding in
-      let found = read_behind4 (packet_of_slice f.header f.bytes f.slice padding) (Ipv4.normal (with_len f.header f.slice.count)) (piece_of_slice f.slice) (bytes_of_slice f.bytes f.slice)
-      (read_slice f.header f.bytes padding f.slice f.sent.value f.sent.short f.within f.unit) hardware f.link v f.is_link (subst (λ (b : List ℕ). IsIncoming hardware sealed b v) joined is) in
-      subst (IsFrom made out) (sym found.1) (inr (record { sent_header = f.header; bytes = f.bytes; sent = f.sent; key = refl; slice = slice_of f.bytes f.slice f.within }))
+      let joined : frame ++ padding ≡ f.link ++ packet_of_slice f.header f.bytes f.slice padding = ap (λ (b : List ℕ). b ++ padding) f.frame_is ∙
+      append_assoc f.link w padding in
+      let found = read_behind4 (packet_of_slice f.header f.bytes f.slice padding) (Ipv4.normal (with_len f.header f.slice.count)) (piece_of_slice f.slice)
+      (bytes_of_slice f.bytes f.slice)
+      (read_slice f.header f.bytes padding f.slice f.sent.value f.sent.short f.within f.unit) hardware f.link v f.is_link
+      (subst (λ (b : List ℕ). IsIncoming hardware sealed b v) joined is) in
+      subst (IsFrom made out) (sym found.1)
+      (inr (record { sent_header = f.header; bytes = f.bytes; sent = f.sent; key = refl; slice = slice_of f.bytes f.slice f.within }))
 
   -- the frame of an IPv6 packet, with padding, carries that packet
   pub whole6_brings : (frame padding : List ℕ) → AreOut made out → IsWhole6 (medium_on hardware) out frame → BringsFrom made out hardware (frame ++ padding)
@@ -41,7 +45,8 @@ module _ (made : PayloadValue → Type 0) (hardware : HardwareAddress) (out : Li
       let joined : frame ++ padding ≡ f.link ++ (w ++ padding) = ap (λ (b : List ℕ). b ++ padding) f.frame_is ∙ append_assoc f.link w padding in
       let found = read_behind6 (w ++ padding) (Ipv6.normal f.header) f.bytes (read_v6 f.header f.bytes padding f.sent.value f.sent.fits f.sent.len)
       hardware f.link v f.is_link (subst (λ (b : List ℕ). IsIncoming hardware sealed b v) joined is) in
-      let of_packet : HandsMade made (Ips.normal f.sent.packet.header) (bytes_of f.sent.packet) = hands_sent made f.sent.packet (all f.sent.packet f.sent.among) in
+      let of_packet : HandsMade made (Ips.normal f.sent.packet.header) (bytes_of f.sent.packet) =
+      hands_sent made f.sent.packet (all f.sent.packet f.sent.among) in
       let of_header : HandsMade made (Ip.Ipv6 (Ipv6.normal f.header)) (bytes_of f.sent.packet) =
       subst (λ (ip : IpRepr). HandsMade made (Ips.normal ip) (bytes_of f.sent.packet)) f.sent.header of_packet in
       subst (IsFrom made out) (sym found.1) (inl (subst (λ (b : List ℕ). HandsMade made (Ip.Ipv6 (Ipv6.normal f.header)) b) (sym f.sent.bytes_are) of_header))

@@ -29,7 +29,8 @@ module _ (medium : Medium) (out : List PacketValue) (frame : List ℕ) (f : IsSl
     is_link = f.is_link;
     within = IsSliceOf-front f.bytes f.slice at f.within within;
     unit = f.unit;
-    frame_is = ap (λ (b : List ℕ). first_piece medium b at) spelled_is ∙ first-slice f.header f.bytes [] f.slice f.sent.value f.sent.short f.within f.unit medium f.link f.is_link at within;
+    frame_is = ap (λ (b : List ℕ). first_piece medium b at) spelled_is ∙
+        first-slice f.header f.bytes [] f.slice f.sent.value f.sent.short f.within f.unit medium f.link f.is_link at within;
   }
 
   pub back_is : (at : ℕ) → at ≤ f.slice.count → at % 8 ≡ 0 → IsSlice medium out (second_piece medium frame at)
@@ -42,5 +43,6 @@ module _ (medium : Medium) (out : List PacketValue) (frame : List ℕ) (f : IsSl
     is_link = f.is_link;
     within = IsSliceOf-back f.bytes f.slice at f.within within;
     unit = let u = f.unit in omega (arith, u, unit);
-    frame_is = ap (λ (b : List ℕ). second_piece medium b at) spelled_is ∙ second-slice f.header f.bytes [] f.slice f.sent.value f.sent.short f.within f.unit medium f.link f.is_link at within;
+    frame_is = ap (λ (b : List ℕ). second_piece medium b at) spelled_is ∙
+        second-slice f.header f.bytes [] f.slice f.sent.value f.sent.short f.within f.unit medium f.link f.is_link at within;
   }

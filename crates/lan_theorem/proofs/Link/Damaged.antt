@@ -42,7 +42,8 @@ put_len xs k word = set_len (set xs k (word / 256 % 256)) (k + 1) (word % 256) �
 -- THE CHECKSUM
 
 module _ (made : PayloadValue → Type 0) where
-  checked_by : (h : IpRepr) (x : PayloadValue) (bytes : List ℕ) → carried_in (Ips.normal h) ≡ Protocol.Tcp → IsCarried sealed (Ips.normal h) bytes x → Tcp.IsChecked (source_of (Ips.normal h)) (destination_of (Ips.normal h)) bytes
+  checked_by : (h : IpRepr) (x : PayloadValue) (bytes : List ℕ) → carried_in (Ips.normal h) ≡ Protocol.Tcp → IsCarried sealed (Ips.normal h) bytes x →
+      Tcp.IsChecked (source_of (Ips.normal h)) (destination_of (Ips.normal h)) bytes
   checked_by h (Segment header carried_bytes) bytes is carried = carried.format.checked refl
   checked_by h (Datagram udp carried_bytes) bytes is carried = absurd (let p = carried.protocol in cc)
   checked_by (Ip.Ipv4 v) (ControlV4 message carried_bytes) bytes is carried = absurd (let p = carried.protocol in cc)
@@ -52,10 +53,12 @@ module _ (made : PayloadValue → Type 0) where
   checked_by h (Bytes carried_bytes) bytes is carried = absurd carried
 
   -- the checksum of a segment that a host sent holds
-  pub segment_checked : (p : PacketValue) → IsOut made p → carried_in (Ips.normal p.header) ≡ Protocol.Tcp → Tcp.IsChecked (source_of (Ips.normal p.header)) (destination_of (Ips.normal p.header)) (bytes_of p)
+  pub segment_checked : (p : PacketValue) → IsOut made p → carried_in (Ips.normal p.header) ≡ Protocol.Tcp →
+      Tcp.IsChecked (source_of (Ips.normal p.header)) (destination_of (Ips.normal p.header)) (bytes_of p)
   segment_checked p is tcp = elim is.going.carries [
     | inl none ↦ absurd (none.0 tcp)
-    | inr reads ↦ checked_by p.header (normal_payload p.payload) (bytes_of p) tcp (payload-arrives sealed sealed p.header p.payload (is.going.offered.packet.payload is.fits) reads.0 sealed_both)
+    | inr reads ↦ checked_by p.header (normal_payload p.payload) (bytes_of p) tcp
+        (payload-arrives sealed sealed p.header p.payload (is.going.offered.packet.payload is.fits) reads.0 sealed_both)
   ]
 
   -- what is no segment brings nothing that was not made
@@ -67,7 +70,8 @@ module _ (made : PayloadValue → Type 0) where
   hands_damaged ip payload bad (Bytes bytes) is = tt
 
 -- a segment whose checksum holds, with a word exchanged, is none
-pub no_segment : (ip : IpRepr) (bytes : List ℕ) (place word : ℕ) → carried_in ip ≡ Protocol.Tcp → Tcp.IsChecked (source_of ip) (destination_of ip) bytes → place % 2 ≡ 0 → place + 2 ≤ length bytes → word < 2 ^ 16
+pub no_segment : (ip : IpRepr) (bytes : List ℕ) (place word : ℕ) → carried_in ip ≡ Protocol.Tcp → Tcp.IsChecked (source_of ip) (destination_of ip) bytes →
+    place % 2 ≡ 0 → place + 2 ≤ length bytes → word < 2 ^ 16
     → be16 bytes place % 65535 ≢ word % 65535 → IsDamaged sealed ip (put16 bytes place word)
 no_segment ip bytes place word tcp checked even within small other =
     (tcp, λ header carried_bytes is. IsTcp-put16 (source_of ip) (destination_of ip) bytes place word header checked even within small other is.format)

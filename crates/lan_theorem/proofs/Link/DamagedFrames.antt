@@ -1,5 +1,6 @@
 -- The link exchanges a word in a frame's TCP segment.
-use Rattle.std.proofs.Common.{◌≡◌, ◌≢◌, ◌⊎◌, inl, inr, ℕ, ◌+◌, ◌-◌, ◌*◌, ◌/◌, ◌%◌, ◌^◌, ◌<◌, ◌≤◌, ◌==◌, ◌&&◌, Bool, true, false, cond, List, [], ◌++◌, length, take, drop, slice_index, Option, Some, None, refl, sym, ◌∙◌, ap, subst, arith, length-append, append_assoc, append-nil}
+use Rattle.std.proofs.Common.{◌≡◌, ◌≢◌, ◌⊎◌, inl, inr, ℕ, ◌+◌, ◌-◌, ◌*◌, ◌/◌, ◌%◌, ◌^◌, ◌<◌, ◌≤◌, ◌==◌, ◌&&◌, Bool, true, false, cond, List, [], ◌++◌, length}
+use Rattle.std.proofs.Common.{take, drop, slice_index, Option, Some, None, refl, sym, ◌∙◌, ap, subst, arith, length-append, append_assoc, append-nil}
 use Rattle.std.specs.Prelude.{nat_le, slice_range}
 use Rattle.std.proofs.lemmas.List.{drop_at, take_at}
 use Rattle.std.proofs.lemmas.Bool.Decides.{nat_tests}
@@ -35,7 +36,8 @@ use Rattle.lan_frames.specs.Slices.{IsLinkHeader, bytes_of_slice}
 use Rattle.lan_theorem.specs.Link.Made.{sealed, bytes_of}
 use Rattle.lan_theorem.specs.Link.Frames.{medium_on, IsSlice, IsWhole6, IsLinkHeader6, IsFrom, BringsFrom, AreOut}
 use Rattle.lan_theorem.specs.Link.Sides.{IsHostFrame, IsDamage}
-use Rattle.lan_theorem.proofs.Link.Behind.{sealed_both, with_len, value_with, count_of_slice, piece_of_slice, read_slice, read_v6, read_behind4, read_behind6, ether_front, said, none_left}
+use Rattle.lan_theorem.proofs.Link.Behind.{sealed_both, with_len, value_with, count_of_slice, piece_of_slice, read_slice, read_v6, read_behind4, read_behind6}
+use Rattle.lan_theorem.proofs.Link.Behind.{ether_front, said, none_left}
 use Rattle.lan_theorem.proofs.Link.Damaged.{put_behind, put_len, segment_checked, hands_damaged, no_segment}
 use Rattle.lan_theorem.proofs.Link.HostFrames.{other_version}
 use Rattle.lan_theorem.proofs.Link.Spelled.{length_v4, length_v6}
@@ -87,7 +89,8 @@ number_of n m is = grind (arith, nat_tests, is)
 -- THE WORD
 
 -- behind two headers
-put_behind_both : (link w x : List ℕ) (n place word : ℕ) → n ≡ length link + (length w + place) → put16 (link ++ (w ++ x)) n word ≡ link ++ (w ++ put16 x place word)
+put_behind_both : (link w x : List ℕ) (n place word : ℕ) → n ≡ length link + (length w + place) →
+    put16 (link ++ (w ++ x)) n word ≡ link ++ (w ++ put16 x place word)
 put_behind_both link w x n place word is =
     put_behind link (w ++ x) n (length w + place) word is ∙ ap (λ (l : List ℕ). link ++ l) (put_behind w x (length w + place) place word refl)
 
@@ -103,11 +106,13 @@ bytes_behind link w x n m at len =
 -- IPV4
 
 version_no6 : (medium : Medium) (link packet : List ℕ) → IsLinkHeader medium link → slice_index packet 0 / 16 ≡ 4
-    → may_carry medium 0x86dd (link ++ packet) && is_ipv6 (packet_in medium (link ++ packet)) && (slice_index (packet_in medium (link ++ packet)) 6 == 6) ≡ false
+    → may_carry medium 0x86dd (link ++ packet) && is_ipv6 (packet_in medium (link ++ packet)) &&
+    (slice_index (packet_in medium (link ++ packet)) 6 == 6) ≡ false
 version_no6 Medium.Ethernet link packet is_link version =
     let q : List ℕ = packet_in Medium.Ethernet (link ++ packet) in
     let number : be16 (link ++ packet) 12 ≡ 0x0800 = ether_front link packet is_link.len ∙ said (be16 link 12) 0x0800 is_link.carries in
-    first_no (may_carry Medium.Ethernet 0x86dd (link ++ packet)) (is_ipv6 q) (slice_index q 6 == 6) (not_equal (be16 (link ++ packet) 12) 0x86dd 0x0800 number refl)
+    first_no (may_carry Medium.Ethernet 0x86dd (link ++ packet)) (is_ipv6 q) (slice_index q 6 == 6)
+    (not_equal (be16 (link ++ packet) 12) 0x86dd 0x0800 number refl)
 version_no6 Medium.Ip link packet is_link version =
     let q : List ℕ = link ++ packet in
     let same : q ≡ packet = ap (λ (l : List ℕ). l ++ packet) (none_left link is_link.len) in
@@ -119,7 +124,8 @@ version_no4 : (medium : Medium) (link : List ℕ) (h : Ipv6Repr) (bytes : List �
 version_no4 Medium.Ethernet link h bytes b c is_link =
     let packet : List ℕ = Ipv6.written h ++ bytes in
     let number : be16 (link ++ packet) 12 ≡ 0x86dd = ether_front link packet is_link.len ∙ said (be16 link 12) 0x86dd is_link.carries in
-    first_no4 (may_carry Medium.Ethernet 0x0800 (link ++ packet)) (is_ipv4 (packet_in Medium.Ethernet (link ++ packet))) b c (not_equal (be16 (link ++ packet) 12) 0x0800 0x86dd number refl)
+    first_no4 (may_carry Medium.Ethernet 0x0800 (link ++ packet)) (is_ipv4 (packet_in Medium.Ethernet (link ++ packet))) b c
+    (not_equal (be16 (link ++ packet) 12) 0x0800 0x86dd number refl)
 version_no4 Medium.Ip link h bytes b c is_link =
     let packet : List ℕ = Ipv6.written h ++ bytes in
     let same : link ++ packet ≡ packet = ap (λ (l : List ℕ). l ++ packet) (none_left link is_link.len) in
@@ -159,10 +165,12 @@ BringsBad hardware frame = (v : IncomingValue) → IsIncoming hardware sealed fr
 
 bad_from : (made : PayloadValue → Type 0) (out : List PacketValue) (v : IncomingValue) → IsBad v → IsFrom made out v
 bad_from made out v (inl b) =
-    subst (IsFrom made out) (sym b.value_is) (inl (λ cut. absurd (let e : true ≡ false = sym cut ∙ refl in cc), hands_damaged made (Ip.Ipv4 b.header) b.payload b.bad))
+    subst (IsFrom made out) (sym b.value_is)
+    (inl (λ cut. absurd (let e : true ≡ false = sym cut ∙ refl in cc), hands_damaged made (Ip.Ipv4 b.header) b.payload b.bad))
 bad_from made out v (inr b) = subst (IsFrom made out) (sym b.value_is) (inl (hands_damaged made (Ip.Ipv6 b.header) b.payload b.bad))
 
-module _ (made : PayloadValue → Type 0) (hardware : HardwareAddress) (out : List PacketValue) (all : AreOut made out) (frame : List ℕ) (part : Part) (place word : ℕ) where
+module _ (made : PayloadValue → Type 0) (hardware : HardwareAddress) (out : List PacketValue) (all : AreOut made out) (frame : List ℕ) (part : Part)
+    (place word : ℕ) where
   module _ (f : IsSlice (medium_on hardware) out frame) (is_part : tcp_part (medium_on hardware) frame ≡ Some part) where
     abbrev w : List ℕ
     w = Ipv4.written_piece true (with_len f.header f.slice.count) f.slice.at f.slice.more
@@ -177,7 +185,8 @@ module _ (made : PayloadValue → Type 0) (hardware : HardwareAddress) (out : Li
     header = Ipv4.normal (with_len f.header f.slice.count)
 
     known : IsPacketV4 sealed packet header (piece_of_slice f.slice) x
-    known = subst (λ (b : List ℕ). IsPacketV4 sealed b header (piece_of_slice f.slice) x) (append-nil packet) (read_slice f.header f.bytes [] f.slice f.sent.value f.sent.short f.within f.unit)
+    known = subst (λ (b : List ℕ). IsPacketV4 sealed b header (piece_of_slice f.slice) x) (append-nil packet)
+        (read_slice f.header f.bytes [] f.slice f.sent.value f.sent.short f.within f.unit)
 
     inside : packet_in (medium_on hardware) (f.link ++ packet) ≡ packet
     inside = drop_at f.link packet (frame_header (medium_on hardware)) f.is_link.len
@@ -185,9 +194,11 @@ module _ (made : PayloadValue → Type 0) (hardware : HardwareAddress) (out : Li
     abbrev q : List ℕ
     q = packet_in (medium_on hardware) (f.link ++ packet)
 
-    told : (may_carry (medium_on hardware) 0x0800 (f.link ++ packet) && is_ipv4 q && is_uncut q && (slice_index q 9 == 6) ≡ true) × (part ≡ payload_v4 (medium_on hardware) q)
+    told : (may_carry (medium_on hardware) 0x0800 (f.link ++ packet) && is_ipv4 q && is_uncut q && (slice_index q 9 == 6) ≡ true) ×
+        (part ≡ payload_v4 (medium_on hardware) q)
     told = first_or (may_carry (medium_on hardware) 0x0800 (f.link ++ packet) && is_ipv4 q && is_uncut q && (slice_index q 9 == 6))
-        (may_carry (medium_on hardware) 0x86dd (f.link ++ packet) && is_ipv6 q && (slice_index q 6 == 6)) (payload_v4 (medium_on hardware) q) (payload_v6 (medium_on hardware) q) part
+        (may_carry (medium_on hardware) 0x86dd (f.link ++ packet) && is_ipv6 q && (slice_index q 6 == 6)) (payload_v4 (medium_on hardware) q)
+        (payload_v6 (medium_on hardware) q) part
         (version_no6 (medium_on hardware) f.link packet f.is_link known.format.version) (sym (ap (tcp_part (medium_on hardware)) f.frame_is) ∙ is_part)
 
     tests : (is_uncut q ≡ true) × (slice_index q 9 == 6 ≡ true)
@@ -251,12 +262,15 @@ module _ (made : PayloadValue → Type 0) (hardware : HardwareAddress) (out : Li
     slice_bad : (padding : List ℕ) → IsDamage frame part place word → BringsBad hardware (damaged frame part place word ++ padding)
     slice_bad padding damage v is =
         let x' : List ℕ = put16 x place word in
-        let joined : damaged frame part place word ++ padding ≡ f.link ++ ((w ++ x') ++ padding) = ap (λ (b : List ℕ). b ++ padding) damaged_is ∙ append_assoc f.link (w ++ x') padding in
+        let joined : damaged frame part place word ++ padding ≡ f.link ++ ((w ++ x') ++ padding) = ap (λ (b : List ℕ). b ++ padding) damaged_is ∙
+        append_assoc f.link (w ++ x') padding in
         let len : f.slice.count ≡ length x' = sym (put_len x place word ∙ long_x) in
         let read : IsPacketV4 sealed ((w ++ x') ++ padding) header (piece_of_slice f.slice) x' =
         piece-arrives Hardware.Ip sealed sealed None (with_len f.header f.slice.count) (piece_of_slice f.slice) x' padding tt
-        (let a = f.within.within in let b = f.sent.short in omega (arith, a, b)) (value_with f.header f.slice.count f.sent.value) len (let a = f.within.within in let b = f.sent.short in omega (arith, a, b)) f.unit sealed_both in
-        let found = read_behind4 ((w ++ x') ++ padding) header (piece_of_slice f.slice) x' read hardware f.link v f.is_link (subst (λ (b : List ℕ). IsIncoming hardware sealed b v) joined is) in
+        (let a = f.within.within in let b = f.sent.short in omega (arith, a, b)) (value_with f.header f.slice.count f.sent.value) len (let a =
+        f.within.within in let b = f.sent.short in omega (arith, a, b)) f.unit sealed_both in
+        let found = read_behind4 ((w ++ x') ++ padding) header (piece_of_slice f.slice) x' read hardware f.link v f.is_link
+        (subst (λ (b : List ℕ). IsIncoming hardware sealed b v) joined is) in
         let whole : piece_of_slice f.slice ≡ uncut = λ k. record { offset = start k; more = ended k } in
         let other : be16 x place % 65535 ≢ word % 65535 = subst (λ (b : List ℕ). be16 b place % 65535 ≢ word % 65535) segment_is damage.other in
         let room : place + 2 ≤ length x = let a = damage.within in omega (arith, a, part_len, long_x) in
@@ -289,14 +303,18 @@ module _ (made : PayloadValue → Type 0) (hardware : HardwareAddress) (out : Li
     abbrev q6 : List ℕ
     q6 = packet_in (medium_on hardware) (f.link ++ packet6)
 
-    told6 : (may_carry (medium_on hardware) 0x86dd (f.link ++ packet6) && is_ipv6 q6 && (slice_index q6 6 == 6) ≡ true) × (part ≡ payload_v6 (medium_on hardware) q6)
+    told6 : (may_carry (medium_on hardware) 0x86dd (f.link ++ packet6) && is_ipv6 q6 && (slice_index q6 6 == 6) ≡ true) ×
+        (part ≡ payload_v6 (medium_on hardware) q6)
     told6 = second_or (may_carry (medium_on hardware) 0x0800 (f.link ++ packet6) && is_ipv4 q6 && is_uncut q6 && (slice_index q6 9 == 6))
-        (may_carry (medium_on hardware) 0x86dd (f.link ++ packet6) && is_ipv6 q6 && (slice_index q6 6 == 6)) (payload_v4 (medium_on hardware) q6) (payload_v6 (medium_on hardware) q6) part
-        (version_no4 (medium_on hardware) f.link f.header f.bytes (is_uncut q6) (slice_index q6 9 == 6) f.is_link) (sym (ap (tcp_part (medium_on hardware)) f.frame_is) ∙ is_part)
+        (may_carry (medium_on hardware) 0x86dd (f.link ++ packet6) && is_ipv6 q6 && (slice_index q6 6 == 6)) (payload_v4 (medium_on hardware) q6)
+        (payload_v6 (medium_on hardware) q6) part
+        (version_no4 (medium_on hardware) f.link f.header f.bytes (is_uncut q6) (slice_index q6 9 == 6) f.is_link)
+        (sym (ap (tcp_part (medium_on hardware)) f.frame_is) ∙ is_part)
 
     protocol6 : header6.next_header ≡ Protocol.Tcp
     protocol6 = known6.format.protocol
-        ∙ ap protocol_of (ap (λ (l : List ℕ). slice_index l 6) (sym inside6) ∙ number_of (slice_index q6 6) 6 (last_of (may_carry (medium_on hardware) 0x86dd (f.link ++ packet6)) (is_ipv6 q6) (slice_index q6 6 == 6) told6.0))
+        ∙ ap protocol_of (ap (λ (l : List ℕ). slice_index l 6) (sym inside6) ∙
+        number_of (slice_index q6 6) 6 (last_of (may_carry (medium_on hardware) 0x86dd (f.link ++ packet6)) (is_ipv6 q6) (slice_index q6 6 == 6) told6.0))
 
     part_at6 : part.at ≡ frame_header (medium_on hardware) + 40
     part_at6 = ap (λ (p : Part). p.at) told6.1
@@ -328,9 +346,11 @@ module _ (made : PayloadValue → Type 0) (hardware : HardwareAddress) (out : Li
     whole6_bad : (padding : List ℕ) → IsDamage frame part place word → BringsBad hardware (damaged frame part place word ++ padding)
     whole6_bad padding damage v is =
         let x' : List ℕ = put16 f.bytes place word in
-        let joined : damaged frame part place word ++ padding ≡ f.link ++ ((w6 ++ x') ++ padding) = ap (λ (b : List ℕ). b ++ padding) damaged_is6 ∙ append_assoc f.link (w6 ++ x') padding in
+        let joined : damaged frame part place word ++ padding ≡ f.link ++ ((w6 ++ x') ++ padding) = ap (λ (b : List ℕ). b ++ padding) damaged_is6 ∙
+        append_assoc f.link (w6 ++ x') padding in
         let len : f.header.payload_len ≡ length x' = f.sent.len ∙ sym (put_len f.bytes place word) in
-        let found = read_behind6 ((w6 ++ x') ++ padding) header6 x' (read_v6 f.header x' padding f.sent.value f.sent.fits len) hardware f.link v f.is_link (subst (λ (b : List ℕ). IsIncoming hardware sealed b v) joined is) in
+        let found = read_behind6 ((w6 ++ x') ++ padding) header6 x' (read_v6 f.header x' padding f.sent.value f.sent.fits len) hardware f.link v f.is_link
+        (subst (λ (b : List ℕ). IsIncoming hardware sealed b v) joined is) in
         let other : be16 f.bytes place % 65535 ≢ word % 65535 = subst (λ (b : List ℕ). be16 b place % 65535 ≢ word % 65535) segment_is6 damage.other in
         let room : place + 2 ≤ length f.bytes = let a = damage.within in omega (arith, a, part_len6) in
         inr (record {
@@ -347,12 +367,14 @@ module _ (made : PayloadValue → Type 0) (hardware : HardwareAddress) (out : Li
   none_there o none some = cc
 
   -- a host's frame with a word of its TCP segment exchanged, and any padding
-  pub damaged_bad : (padding : List ℕ) → IsHostFrame (medium_on hardware) out frame → tcp_part (medium_on hardware) frame ≡ Some part → IsDamage frame part place word
+  pub damaged_bad : (padding : List ℕ) → IsHostFrame (medium_on hardware) out frame → tcp_part (medium_on hardware) frame ≡ Some part →
+      IsDamage frame part place word
       → BringsBad hardware (damaged frame part place word ++ padding)
   damaged_bad padding (inl f) is damage = slice_bad f is padding damage
   damaged_bad padding (inr (inl f)) is damage = whole6_bad f is padding damage
   damaged_bad padding (inr (inr f)) is damage = absurd (none_there (tcp_part (medium_on hardware) frame) f.no_segment is)
 
-  pub damaged_brings : (padding : List ℕ) → IsHostFrame (medium_on hardware) out frame → tcp_part (medium_on hardware) frame ≡ Some part → IsDamage frame part place word
+  pub damaged_brings : (padding : List ℕ) → IsHostFrame (medium_on hardware) out frame → tcp_part (medium_on hardware) frame ≡ Some part →
+      IsDamage frame part place word
       → BringsFrom made out hardware (damaged frame part place word ++ padding)
   damaged_brings padding f is damage v read = bad_from made out v (damaged_bad padding f is damage v read)

@@ -28,24 +28,77 @@ module _ {X : Type 0} (P Q : X → Type 0) (grows : (x : X) → P x → Q x) whe
 
 module _ (out out' : List PacketValue) (grows : Grows out out') where
   pub sent4_grows : (v : Ipv4Repr) (bytes : List ℕ) → IsSentV4 out v bytes → IsSentV4 out' v bytes
-  sent4_grows v bytes s = record { packet = s.packet; among = grows s.packet s.among; header = s.header; bytes_are = s.bytes_are; value = s.value; short = s.short }
+  sent4_grows v bytes s = record {
+    packet = s.packet;
+    among = grows s.packet s.among;
+    header = s.header;
+    bytes_are = s.bytes_are;
+    value =
+        s.value;
+    short = s.short;
+  }
 
   pub sent6_grows : (v : Ipv6Repr) (bytes : List ℕ) → IsSentV6 out v bytes → IsSentV6 out' v bytes
-  sent6_grows v bytes s = record { packet = s.packet; among = grows s.packet s.among; header = s.header; bytes_are = s.bytes_are; value = s.value; len = s.len; fits = s.fits }
+  sent6_grows v bytes s = record {
+    packet = s.packet;
+    among = grows s.packet s.among;
+    header = s.header;
+    bytes_are = s.bytes_are;
+    value = s.value;
+    len =
+        s.len;
+    fits = s.fits;
+  }
 
   pub frame_grows : (medium : Medium) (frame : List ℕ) → IsHostFrame medium out frame → IsHostFrame medium out' frame
-  frame_grows medium frame (inl f) = inl (record { link = f.link; header = f.header; bytes = f.bytes; slice = f.slice; sent = sent4_grows f.header f.bytes f.sent; is_link = f.is_link; within = f.within; unit = f.unit; frame_is = f.frame_is })
-  frame_grows medium frame (inr (inl f)) = inr (inl (record { link = f.link; header = f.header; bytes = f.bytes; sent = sent6_grows f.header f.bytes f.sent; is_link = f.is_link; frame_is = f.frame_is }))
+  frame_grows medium frame (inl f) =
+      inl (record {
+        link = f.link;
+        header = f.header;
+        bytes = f.bytes;
+        slice = f.slice;
+        sent = sent4_grows f.header f.bytes f.sent;
+        is_link =
+            f.is_link;
+        within = f.within;
+        unit = f.unit;
+        frame_is = f.frame_is;
+      })
+  frame_grows medium frame (inr (inl f)) =
+      inr (inl (record {
+        link = f.link;
+        header = f.header;
+        bytes = f.bytes;
+        sent = sent6_grows f.header f.bytes f.sent;
+        is_link = f.is_link;
+        frame_is =
+            f.frame_is;
+      }))
   frame_grows medium frame (inr (inr f)) = inr (inr f)
 
   slot_grows : (s : SlotValue Ipv4FragKey) → IsSlotOf out s → IsSlotOf out' s
   slot_grows s is key key_is = elim (is key key_is) [
     | inl none ↦ inl none
-    | inr held ↦ inr (record { sent_header = held.sent_header; bytes = held.bytes; sent = sent4_grows held.sent_header held.bytes held.sent; key_is = held.key_is; holds = held.holds })
+    | inr held ↦ inr (record {
+      sent_header = held.sent_header;
+      bytes = held.bytes;
+      sent = sent4_grows held.sent_header held.bytes held.sent;
+      key_is =
+          held.key_is;
+      holds = held.holds;
+    })
   ]
 
   piece_grows : (h : Ipv4Repr) (p : Ipv4Piece) (x : List ℕ) → IsPieceOf out h p x → IsPieceOf out' h p x
-  piece_grows h p x piece = record { sent_header = piece.sent_header; bytes = piece.bytes; sent = sent4_grows piece.sent_header piece.bytes piece.sent; key = piece.key; slice = piece.slice }
+  piece_grows h p x piece =
+      record {
+        sent_header = piece.sent_header;
+        bytes = piece.bytes;
+        sent = sent4_grows piece.sent_header piece.bytes piece.sent;
+        key = piece.key;
+        slice =
+            piece.slice;
+      }
 
   -- WHAT WAS MADE
 
@@ -70,7 +123,8 @@ module _ (out out' : List PacketValue) (grows : Grows out out') where
     brings_grow : (hardware : HardwareAddress) (frame : List ℕ) → BringsFrom made out hardware frame → BringsFrom made' out' hardware frame
     brings_grow hardware frame brings v is = from_grows v (brings v is)
 
-    pub receiver_grows : (i : InnerValue) (slots : Slots) (waiting : List (List ℕ)) → IsReceiver made out i slots waiting → IsReceiver made' out' i slots waiting
+    pub receiver_grows : (i : InnerValue) (slots : Slots) (waiting : List (List ℕ)) → IsReceiver made out i slots waiting →
+        IsReceiver made' out' i slots waiting
     receiver_grows i slots waiting r = record {
       checksums = r.checksums;
       slots_are = all_grow (IsSlotOf out) (IsSlotOf out') slot_grows slots r.slots_are;

@@ -1,5 +1,6 @@
 -- What a packet that was sent is read as behind its header.
-use Rattle.std.proofs.Common.{◌≡◌, ◌⊎◌, inl, inr, ℕ, ◌+◌, Bool, true, false, not, ◌||◌, ◌==◌, List, length, drop, Option, Some, refl, sym, ◌∙◌, ap, subst, arith}
+use Rattle.std.proofs.Common.{◌≡◌, ◌⊎◌, inl, inr, ℕ, ◌+◌, Bool, true, false, not, ◌||◌, ◌==◌, List, length, drop, Option, Some, refl, sym, ◌∙◌, ap, subst}
+use Rattle.std.proofs.Common.{arith}
 use Rattle.std.proofs.lemmas.Bool.Decides.{nat_tests}
 use Rattle.tcp_law.specs.ReceiveMap.{Begins}
 use Rattle.tcp_law.proofs.Lists.{Begins-whole}
@@ -52,13 +53,15 @@ module _ (made : PayloadValue → Type 0) where
   same_some : {A : Type 0} (x y : A) → Some x ≡ Some y → x ≡ y
   same_some x y same = cc
 
-  hands_by : (p : PacketValue) → IsOut made p → (NamesNoPorts (carried_in (Ips.normal p.header))) ⊎ (CanBeRead p.header p.payload × made (normal_payload p.payload)) → HandsMade made (Ips.normal p.header) (bytes_of p)
+  hands_by : (p : PacketValue) → IsOut made p → (NamesNoPorts (carried_in (Ips.normal p.header))) ⊎
+      (CanBeRead p.header p.payload × made (normal_payload p.payload)) → HandsMade made (Ips.normal p.header) (bytes_of p)
   hands_by p is (inl none) = hands_none (Ips.normal p.header) (bytes_of p) none
   hands_by p is (inr reads) = λ x carried.
       let read : IsCarried sealed (Ips.normal p.header) (bytes_of p) (normal_payload p.payload) =
       payload-arrives sealed sealed p.header p.payload (is.going.offered.packet.payload is.fits) reads.0 sealed_both in
       let same : normal_payload p.payload ≡ x =
-      same_some (normal_payload p.payload) x (one-carried-content sealed (Ips.normal p.header) (bytes_of p) (Some (normal_payload p.payload)) (Some x) read carried) in
+      same_some (normal_payload p.payload) x
+      (one-carried-content sealed (Ips.normal p.header) (bytes_of p) (Some (normal_payload p.payload)) (Some x) read carried) in
       was_made x (subst made same reads.1)
 
   -- what is read behind the header of a packet that was sent was made
@@ -96,7 +99,8 @@ module _ (made : PayloadValue → Type 0) where
     hands_by_key hands (Bytes bytes) is = tt
 
   -- what a host sent as IPv4, behind a header of its key
-  pub hands_v4 : (out : List PacketValue) (v h : Ipv4Repr) (bytes : List ℕ) → AreOut made out → IsSentV4 out v bytes → Ipv4.key_of h ≡ Ipv4.key_of (Ipv4.normal v) → HandsMade made (Ip.Ipv4 h) bytes
+  pub hands_v4 : (out : List PacketValue) (v h : Ipv4Repr) (bytes : List ℕ) → AreOut made out → IsSentV4 out v bytes →
+      Ipv4.key_of h ≡ Ipv4.key_of (Ipv4.normal v) → HandsMade made (Ip.Ipv4 h) bytes
   hands_v4 out v h bytes all sent same =
       let of_packet : HandsMade made (Ips.normal sent.packet.header) (bytes_of sent.packet) = hands_sent sent.packet (all sent.packet sent.among) in
       let of_header : HandsMade made (Ip.Ipv4 (Ipv4.normal v)) (bytes_of sent.packet) =
@@ -115,7 +119,8 @@ module _ (made : PayloadValue → Type 0) where
   second_none true other none = cc
 
   -- a slice that is no piece is the whole
-  all_of_it : (bytes payload : List ℕ) (piece : Ipv4Piece) → is_piece piece ≡ false → Pieces.IsSliceOf bytes (record { offset = piece.offset; more = piece.more; bytes = payload }) → payload ≡ bytes
+  all_of_it : (bytes payload : List ℕ) (piece : Ipv4Piece) → is_piece piece ≡ false →
+      Pieces.IsSliceOf bytes (record { offset = piece.offset; more = piece.more; bytes = payload }) → payload ≡ bytes
   all_of_it bytes payload piece none slice =
       let more : piece.more ≡ false = first_none piece.more (not (piece.offset == 0)) none in
       let first : piece.offset == 0 ≡ true = second_none piece.more (piece.offset == 0) none in
@@ -124,11 +129,13 @@ module _ (made : PayloadValue → Type 0) where
       Begins-whole payload bytes (subst (λ (n : ℕ). Begins payload (drop n bytes)) zero slice.slice) (omega (arith, count, zero))
 
   -- a content that is no piece brings what was made
-  pub brings_whole : (out : List PacketValue) (v : IncomingValue) → AreOut made out → IsFrom made out v → ((link : Option EthernetRepr) (h : Ipv4Repr) (p : Ipv4Piece) (x : List ℕ) → v ≡ Ip4 link h p x → is_piece p ≡ false) → BringsMade made (Some v)
+  pub brings_whole : (out : List PacketValue) (v : IncomingValue) → AreOut made out → IsFrom made out v →
+      ((link : Option EthernetRepr) (h : Ipv4Repr) (p : Ipv4Piece) (x : List ℕ) → v ≡ Ip4 link h p x → is_piece p ≡ false) → BringsMade made (Some v)
   brings_whole out (Arp link packet) all from whole = tt
   brings_whole out (Ip4 link h p x) all (inl made_whole) whole = made_whole.1
   brings_whole out (Ip4 link h p x) all (inr piece) whole =
       let none = whole link h p x refl in
-      subst (λ (b : List ℕ). HandsMade made (Ip.Ipv4 h) b) (sym (all_of_it piece.bytes x p none piece.slice)) (hands_v4 out piece.sent_header h piece.bytes all piece.sent piece.key)
+      subst (λ (b : List ℕ). HandsMade made (Ip.Ipv4 h) b) (sym (all_of_it piece.bytes x p none piece.slice))
+      (hands_v4 out piece.sent_header h piece.bytes all piece.sent piece.key)
   brings_whole out (Ip6 link h x) all (inl made_whole) whole = made_whole
   brings_whole out (Ip6 link h x) all (inr piece) whole = absurd piece

@@ -1,5 +1,6 @@
 -- The frames that a host sent, as the link hands them over and cuts them.
-use Rattle.std.proofs.Common.{◌≡◌, inl, inr, ℕ, ◌+◌, ◌%◌, ◌≤◌, ◌/◌, ◌==◌, ◌&&◌, Bool, true, false, cond, List, ◌++◌, length, slice_index, Option, Some, None, refl, sym, ◌∙◌, ap, subst}
+use Rattle.std.proofs.Common.{◌≡◌, inl, inr, ℕ, ◌+◌, ◌%◌, ◌≤◌, ◌/◌, ◌==◌, ◌&&◌, Bool, true, false, cond, List, ◌++◌, length, slice_index, Option, Some, None}
+use Rattle.std.proofs.Common.{refl, sym, ◌∙◌, ap, subst}
 use Rattle.std.specs.Prelude.{nat_le}
 use Rattle.net_base.specs.Medium.{Medium}
 use Rattle.net_devices.specs.Capabilities.{frame_header}
@@ -24,7 +25,8 @@ use Rattle.lan_theorem.proofs.Link.Noise.{noise_names_neither, whole_where_none}
 
 module _ (made : PayloadValue → Type 0) (hardware : HardwareAddress) (out : List PacketValue) where
   -- a host's frame, or a piece that the link made, with any padding
-  pub host_frame_brings : (frame padding : List ℕ) → AreOut made out → IsHostFrame (medium_on hardware) out frame → BringsFrom made out hardware (frame ++ padding)
+  pub host_frame_brings : (frame padding : List ℕ) → AreOut made out → IsHostFrame (medium_on hardware) out frame →
+      BringsFrom made out hardware (frame ++ padding)
   host_frame_brings frame padding all (inl f) = slice_brings made hardware out frame padding f
   host_frame_brings frame padding all (inr (inl f)) = whole6_brings made hardware out frame padding all f
   host_frame_brings frame padding all (inr (inr f)) = λ v is. inl (whole_where_none made v (f.brings hardware padding v refl is))
@@ -50,7 +52,8 @@ right_fails false b part none = refl
 pub other_version : (v : Ipv6Repr) (rest : List ℕ) → is_ipv4 (Ipv6.written v ++ rest) ≡ false
 other_version v rest =
     let packet : List ℕ = Ipv6.written v ++ rest in
-    test_fails (nat_le 20 (length packet)) (slice_index packet 0 / 16 == 4) (nat_le 20 (header_len_of packet)) (nat_le (header_len_of packet) (be16 packet 2)) (nat_le (be16 packet 2) (length packet)) refl
+    test_fails (nat_le 20 (length packet)) (slice_index packet 0 / 16 == 4) (nat_le 20 (header_len_of packet)) (nat_le (header_len_of packet) (be16 packet 2))
+    (nat_le (be16 packet 2) (length packet)) refl
 
 number_other : (n : ℕ) → n ≡ 0x86dd → n == 0x0800 ≡ false
 number_other n is = rw is refl
@@ -61,7 +64,8 @@ module _ (out : List PacketValue) (frame : List ℕ) where
       let packet : List ℕ = Ipv6.written f.header ++ f.bytes in
       let number : be16 (f.link ++ packet) 12 ≡ 0x86dd = ether_front f.link packet f.is_link.len ∙ said (be16 f.link 12) 0x86dd f.is_link.carries in
       ap (ipv4_part Medium.Ethernet) f.frame_is
-      ∙ left_fails (may_carry Medium.Ethernet 0x0800 (f.link ++ packet)) (is_ipv4 (packet_in Medium.Ethernet (f.link ++ packet))) (payload_v4 Medium.Ethernet (packet_in Medium.Ethernet (f.link ++ packet))) (number_other (be16 (f.link ++ packet) 12) number)
+      ∙ left_fails (may_carry Medium.Ethernet 0x0800 (f.link ++ packet)) (is_ipv4 (packet_in Medium.Ethernet (f.link ++ packet)))
+      (payload_v4 Medium.Ethernet (packet_in Medium.Ethernet (f.link ++ packet))) (number_other (be16 (f.link ++ packet) 12) number)
   whole6_uncut Medium.Ip f =
       let packet : List ℕ = Ipv6.written f.header ++ f.bytes in
       let bare : frame ≡ packet = f.frame_is ∙ ap (λ (l : List ℕ). l ++ packet) (none_left f.link f.is_link.len) in
@@ -71,7 +75,8 @@ no_part : (o : Option Part) (part : Part) → o ≡ None → o ≡ Some part →
 no_part o part none some = cc
 
 -- both pieces of a frame that can be cut are frames of its host's packets
-pub cut_is_host : (medium : Medium) (out : List PacketValue) (frame : List ℕ) (part : Part) (at : ℕ) → IsHostFrame medium out frame → ipv4_part medium frame ≡ Some part → at ≤ part.len → at % 8 ≡ 0
+pub cut_is_host : (medium : Medium) (out : List PacketValue) (frame : List ℕ) (part : Part) (at : ℕ) → IsHostFrame medium out frame →
+    ipv4_part medium frame ≡ Some part → at ≤ part.len → at % 8 ≡ 0
     → IsHostFrame medium out (first_piece medium frame at) × IsHostFrame medium out (second_piece medium frame at)
 cut_is_host medium out frame part at (inl f) is within unit =
     let same : Some part ≡ Some (record { at = frame_header medium + 20; len = f.slice.count }) = sym is ∙ part_is medium out frame f in

@@ -25,20 +25,26 @@ number_behind a b tail len =
     rw (high, low) refl
 
 -- an address of each side before the EtherType
-pub addresses : (from to : EthernetAddress) (p : EthernetProtocol) → length (link_header (Hardware.Ethernet from) (Hardware.Ethernet to) p) ≡ 14 → length to.0 + length from.0 ≡ 12
-addresses from to p len = omega (arith, len, length-append to.0 (from.0 ++ to_be_bytes w16 (ether_number p)), length-append from.0 (to_be_bytes w16 (ether_number p)))
+pub addresses : (from to : EthernetAddress) (p : EthernetProtocol) → length (link_header (Hardware.Ethernet from) (Hardware.Ethernet to) p) ≡ 14 →
+    length to.0 + length from.0 ≡ 12
+addresses from to p len =
+    omega (arith, len, length-append to.0 (from.0 ++ to_be_bytes w16 (ether_number p)), length-append from.0 (to_be_bytes w16 (ether_number p)))
 
-pub link4 : (own to : HardwareAddress) → IsSameKind own to → length (link_header own to Ether.Ipv4) ≡ link_len own to → IsLinkHeader (medium_on own) (link_header own to Ether.Ipv4)
+pub link4 : (own to : HardwareAddress) → IsSameKind own to → length (link_header own to Ether.Ipv4) ≡ link_len own to →
+    IsLinkHeader (medium_on own) (link_header own to Ether.Ipv4)
 link4 (Hardware.Ethernet own) (Hardware.Ethernet to) same len =
-    let number : be16 (link_header (Hardware.Ethernet own) (Hardware.Ethernet to) Ether.Ipv4) 12 ≡ 0x0800 = number_behind to.0 own.0 (to_be_bytes w16 (ether_number Ether.Ipv4)) (addresses own to Ether.Ipv4 len) in
+    let number : be16 (link_header (Hardware.Ethernet own) (Hardware.Ethernet to) Ether.Ipv4) 12 ≡ 0x0800 =
+    number_behind to.0 own.0 (to_be_bytes w16 (ether_number Ether.Ipv4)) (addresses own to Ether.Ipv4 len) in
     record { len = len; carries = ap (λ (n : ℕ). n == 0x0800) number }
 link4 (Hardware.Ethernet own) Hardware.Ip same len = absurd same
 link4 Hardware.Ip (Hardware.Ethernet to) same len = absurd same
 link4 Hardware.Ip Hardware.Ip same len = record { len = refl; carries = refl }
 
-pub link6 : (own to : HardwareAddress) → IsSameKind own to → length (link_header own to Ether.Ipv6) ≡ link_len own to → IsLinkHeader6 (medium_on own) (link_header own to Ether.Ipv6)
+pub link6 : (own to : HardwareAddress) → IsSameKind own to → length (link_header own to Ether.Ipv6) ≡ link_len own to →
+    IsLinkHeader6 (medium_on own) (link_header own to Ether.Ipv6)
 link6 (Hardware.Ethernet own) (Hardware.Ethernet to) same len =
-    let number : be16 (link_header (Hardware.Ethernet own) (Hardware.Ethernet to) Ether.Ipv6) 12 ≡ 0x86dd = number_behind to.0 own.0 (to_be_bytes w16 (ether_number Ether.Ipv6)) (addresses own to Ether.Ipv6 len) in
+    let number : be16 (link_header (Hardware.Ethernet own) (Hardware.Ethernet to) Ether.Ipv6) 12 ≡ 0x86dd =
+    number_behind to.0 own.0 (to_be_bytes w16 (ether_number Ether.Ipv6)) (addresses own to Ether.Ipv6 len) in
     record { len = len; carries = ap (λ (n : ℕ). n == 0x86dd) number }
 link6 (Hardware.Ethernet own) Hardware.Ip same len = absurd same
 link6 Hardware.Ip (Hardware.Ethernet to) same len = absurd same

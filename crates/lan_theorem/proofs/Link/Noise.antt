@@ -16,7 +16,8 @@ use Rattle.lan_theorem.specs.Link.Made.{sealed, IsWholeMade}
 use Rattle.lan_theorem.specs.Link.Frames.{medium_on}
 use Rattle.lan_theorem.proofs.Link.Hands.{hands_none}
 
-on_ethernet : (own : EthernetAddress) (bytes : List ℕ) (v : IncomingValue) → names_tcp_or_udp Medium.Ethernet bytes ≡ false → IsIncoming (Hardware.Ethernet own) sealed bytes v → HasNoPorts v
+on_ethernet : (own : EthernetAddress) (bytes : List ℕ) (v : IncomingValue) → names_tcp_or_udp Medium.Ethernet bytes ≡ false →
+    IsIncoming (Hardware.Ethernet own) sealed bytes v → HasNoPorts v
 on_ethernet own bytes (Arp link packet) none is = tt
 on_ethernet own bytes (Ip4 None h p x) none is = absurd is
 on_ethernet own bytes (Ip4 (Some link) h p x) none is =
@@ -39,7 +40,8 @@ bare bytes (Ip6 None h x) none is =
     is.format.version none is.format.protocol
 
 -- no content of TCP or UDP, whatever medium and version
-pub noise_names_neither : (hardware : HardwareAddress) (bytes : List ℕ) (v : IncomingValue) → names_tcp_or_udp (medium_on hardware) bytes ≡ false → IsIncoming hardware sealed bytes v → HasNoPorts v
+pub noise_names_neither : (hardware : HardwareAddress) (bytes : List ℕ) (v : IncomingValue) → names_tcp_or_udp (medium_on hardware) bytes ≡ false →
+    IsIncoming hardware sealed bytes v → HasNoPorts v
 noise_names_neither (Hardware.Ethernet own) bytes v none is = on_ethernet own bytes v none is
 noise_names_neither Hardware.Ip bytes v none is = bare bytes v none is
 

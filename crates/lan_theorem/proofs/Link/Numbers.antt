@@ -22,7 +22,8 @@ next_is first (p ∷ out) next are = elim p.header as (λ h. TakesNext (AreNumbe
 abbrev Before : ℕ → List PacketValue → ℕ → Type 0
 Before first out next = (before : ℕ) × AreNumbered first out before
 
-takes_v4 : (first : ℕ) (out : List PacketValue) (next : ℕ) (h : IpRepr) (v : Ipv4Repr) → h ≡ Ip.Ipv4 v → TakesNext (AreNumbered first out) h next → AreNumbered first out v.ident
+takes_v4 : (first : ℕ) (out : List PacketValue) (next : ℕ) (h : IpRepr) (v : Ipv4Repr) → h ≡ Ip.Ipv4 v → TakesNext (AreNumbered first out) h next →
+    AreNumbered first out v.ident
 takes_v4 first out next (Ip.Ipv4 w) v is takes = let e : w ≡ v = cc in subst (λ (x : Ipv4Repr). AreNumbered first out x.ident) e takes.0
 takes_v4 first out next (Ip.Ipv6 w) v is takes = absurd cc
 
@@ -44,7 +45,8 @@ pub record HasNumber (first : ℕ) (out : List PacketValue) (v : Ipv4Repr) : Typ
   pub below : place < count_v4 out
   pub number : v.ident ≡ (first + place) % 2 ^ 16
 
-number_of : (first : ℕ) (out : List PacketValue) (next : ℕ) (p : PacketValue) (v : Ipv4Repr) → AreNumbered first out next → IsAmong p out → p.header ≡ Ip.Ipv4 v → HasNumber first out v
+number_of : (first : ℕ) (out : List PacketValue) (next : ℕ) (p : PacketValue) (v : Ipv4Repr) → AreNumbered first out next → IsAmong p out →
+    p.header ≡ Ip.Ipv4 v → HasNumber first out v
 number_of first [] next p v are among is = absurd among
 number_of first (q ∷ out) next p v are (inl same) is =
     let header : q.header ≡ Ip.Ipv4 v = sym (ap (λ (x : PacketValue). x.header) same) ∙ is in
@@ -56,7 +58,8 @@ number_of first (q ∷ out) next p v are (inr older) is =
     record { place = has.place; below = omega (arith, has.below, more_v4 q.header (count_v4 out)); number = has.number }
 
 -- the newest packet's number isn't that of an older one
-newest : (first : ℕ) (out : List PacketValue) (next : ℕ) (q p : PacketValue) (v w : Ipv4Repr) → AreNumbered first (q ∷ out) next → AreFew (q ∷ out) → q.header ≡ Ip.Ipv4 v → IsAmong p out → p.header ≡ Ip.Ipv4 w → v.ident ≡ w.ident → ⊥
+newest : (first : ℕ) (out : List PacketValue) (next : ℕ) (q p : PacketValue) (v w : Ipv4Repr) → AreNumbered first (q ∷ out) next → AreFew (q ∷ out) →
+    q.header ≡ Ip.Ipv4 v → IsAmong p out → p.header ≡ Ip.Ipv4 w → v.ident ≡ w.ident → ⊥
 newest first out next q p v w are few is older other same =
     let before : AreNumbered first out v.ident = takes_v4 first out next q.header v is are in
     let has = number_of first out v.ident p w before older other in
@@ -64,7 +67,8 @@ newest first out next q p v w are few is older other same =
     omega (arith, has.below, has.number, number, same, few, one_more q.header v (count_v4 out) is)
 
 -- packets of one number are one packet
-pub one_number : (first : ℕ) (out : List PacketValue) (next : ℕ) (p q : PacketValue) (v w : Ipv4Repr) → AreNumbered first out next → AreFew out → IsAmong p out → IsAmong q out → p.header ≡ Ip.Ipv4 v → q.header ≡ Ip.Ipv4 w → v.ident ≡ w.ident → p ≡ q
+pub one_number : (first : ℕ) (out : List PacketValue) (next : ℕ) (p q : PacketValue) (v w : Ipv4Repr) → AreNumbered first out next → AreFew out →
+    IsAmong p out → IsAmong q out → p.header ≡ Ip.Ipv4 v → q.header ≡ Ip.Ipv4 w → v.ident ≡ w.ident → p ≡ q
 one_number first [] next p q v w are few one other is_p is_q same = absurd one
 one_number first (x ∷ out) next p q v w are few (inl one) (inl other) is_p is_q same = one ∙ sym other
 one_number first (x ∷ out) next p q v w are few (inl one) (inr other) is_p is_q same =

@@ -15,7 +15,8 @@ use Rattle.ip_wire.specs.IpRepr.TheVariants as Ip
 use Rattle.ip_wire.specs.Ipv4Address.{Ipv4Address}
 use Rattle.ip_wire.specs.Ipv4Repr.{Ipv4Repr}
 use Rattle.interface_tables.specs.Best.{at_place}
-use Rattle.interface_tables.specs.Inner.{InnerValue, is_local_broadcast, is_in_own_network, next_hop, link_by, link_of_hop, link_on, link_address, group_station, all_stations}
+use Rattle.interface_tables.specs.Inner.{InnerValue, is_local_broadcast, is_in_own_network, next_hop, link_by, link_of_hop, link_on, link_address}
+use Rattle.interface_tables.specs.Inner.{group_station, all_stations}
 use Rattle.interface_tables.specs.Neighbor.{CacheValue, lookup, missing, answer_by, place_of, unless_failed, has_failed}
 use Rattle.interface_tables.specs.Route.{best_route, router_of}
 use Rattle.interface_tables.specs.Source.{source_v4}
@@ -67,7 +68,8 @@ missing_by : (b : Bool) → AnswerKind (cond b Known.RateLimited Known.NotFound)
 missing_by true = tt
 missing_by false = tt
 
-found_by : (hardware : HardwareAddress) (c : CacheValue) (moment : ℤ) (b : Bool) → IsStation hardware → AnswerKind (cond b (Known.Found hardware) (missing c moment))
+found_by : (hardware : HardwareAddress) (c : CacheValue) (moment : ℤ) (b : Bool) → IsStation hardware →
+    AnswerKind (cond b (Known.Found hardware) (missing c moment))
 found_by hardware c moment true is = is
 found_by hardware c moment false is = missing_by (int_lt moment c.silent)
 
@@ -111,7 +113,8 @@ next_is i address sound is =
 -- THE MEDIUM
 
 station_by : (own : EthernetAddress) (b c : Bool) (address : IpAddress) (l : LinkAddress) → LinkKind (Hardware.Ethernet own) l
-    → LinkKind (Hardware.Ethernet own) (cond b (Link.Known (Hardware.Ethernet all_stations)) (cond c (Link.Known (Hardware.Ethernet (group_station address))) l))
+    → LinkKind (Hardware.Ethernet own)
+    (cond b (Link.Known (Hardware.Ethernet all_stations)) (cond c (Link.Known (Hardware.Ethernet (group_station address))) l))
 station_by own true c address l is = tt
 station_by own false true address l is = tt
 station_by own false false address l is = is
@@ -119,7 +122,8 @@ station_by own false false address l is = is
 link_kind : (own : HardwareAddress) (i : InnerValue) (address : IpAddress) → IsSound i → IsIpAddress address → LinkKind own (link_on own i address)
 link_kind Hardware.Ip i address sound is = tt
 link_kind (Hardware.Ethernet own) i address sound is =
-    station_by own (is_local_broadcast i address) (is_multicast address) address (link_of_hop i (next_hop i address)) (hops own i (next_hop i address) sound (next_is i address sound is))
+    station_by own (is_local_broadcast i address) (is_multicast address) address (link_of_hop i (next_hop i address))
+    (hops own i (next_hop i address) sound (next_is i address sound is))
 
 -- EACH PLAN
 

@@ -19,27 +19,33 @@ module _ {X : Type 0} (P : X → Type 0) where
   find_is test [] all = tt
   find_is test (x ∷ xs) all = elim (test x) as (λ b. IfSome (cond b (Some x) (find test xs)) P) [ true ↦ all.0 | false ↦ find_is test xs all.1 ]
 
-one_serving : (address : IpAddress) (moment : ℤ) (r : Route) (rest : List Route) → IsVia r → AllByRecursion IsVia rest → AllByRecursion IsVia (cons_option (serving address moment r) rest)
+one_serving : (address : IpAddress) (moment : ℤ) (r : Route) (rest : List Route) → IsVia r → AllByRecursion IsVia rest →
+    AllByRecursion IsVia (cons_option (serving address moment r) rest)
 one_serving address moment r rest is all =
     elim (serves address moment r) as (λ b. AllByRecursion IsVia (cons_option (cond b (Some r) None) rest)) [ true ↦ (is, all) | false ↦ all ]
 
-serving_are : (address : IpAddress) (moment : ℤ) (routes : List Route) → AllByRecursion IsVia routes → AllByRecursion IsVia (filter_map (serving address moment) routes)
+serving_are : (address : IpAddress) (moment : ℤ) (routes : List Route) → AllByRecursion IsVia routes →
+    AllByRecursion IsVia (filter_map (serving address moment) routes)
 serving_are address moment [] all = tt
-serving_are address moment (r ∷ routes) all = one_serving address moment r (filter_map (serving address moment) routes) all.0 (serving_are address moment routes all.1)
+serving_are address moment (r ∷ routes) all =
+    one_serving address moment r (filter_map (serving address moment) routes) all.0 (serving_are address moment routes all.1)
 
 all_reverse : (routes : List Route) → AllByRecursion IsVia routes → AllByRecursion IsVia (reverse routes)
 all_reverse [] all = tt
-all_reverse (r ∷ routes) all = subst (AllByRecursion IsVia) (sym (reverse-append (r ∷ []) routes)) (all_more IsVia (reverse routes) r (all_reverse routes all.1) all.0)
+all_reverse (r ∷ routes) all =
+    subst (AllByRecursion IsVia) (sym (reverse-append (r ∷ []) routes)) (all_more IsVia (reverse routes) r (all_reverse routes all.1) all.0)
 
 via_is : (o : Option Route) → IfSome o IsVia → IfSome (router_of o) IsIpAddress
 via_is None is = tt
 via_is (Some r) is = is
 
 -- whichever route a packet takes, its router is an address
-pub routers_are : (routes : List Route) → RoutersAre routes → (address : IpAddress) (moment : ℤ) → IfSome (router_of (best_route routes address moment)) IsIpAddress
+pub routers_are : (routes : List Route) → RoutersAre routes → (address : IpAddress) (moment : ℤ) →
+    IfSome (router_of (best_route routes address moment)) IsIpAddress
 routers_are routes all address moment =
     let candidates : List Route = filter_map (serving address moment) (reverse routes) in
-    via_is (best_route routes address moment) (find_is IsVia (is_unbeaten is_longer candidates) candidates (serving_are address moment (reverse routes) (all_reverse routes all)))
+    via_is (best_route routes address moment)
+    (find_is IsVia (is_unbeaten is_longer candidates) candidates (serving_are address moment (reverse routes) (all_reverse routes all)))
 
 -- WITHOUT ONE
 
@@ -62,5 +68,6 @@ without_is None routes all = all
 without_is (Some at) routes all = all_join (take at routes) (drop (suc at) routes) (all_take at routes all) (all_drop (suc at) routes all)
 
 -- a route that is added, in the place of another or not
-pub added_routers : (test : Route → Bool) (routes : List Route) (r : Route) → RoutersAre routes → IsIpAddress r.via_router → RoutersAre (without test routes ++ r ∷ [])
+pub added_routers : (test : Route → Bool) (routes : List Route) (r : Route) → RoutersAre routes → IsIpAddress r.via_router →
+    RoutersAre (without test routes ++ r ∷ [])
 added_routers test routes r all is = all_more IsVia (without test routes) r (without_is (position test routes) routes all) is

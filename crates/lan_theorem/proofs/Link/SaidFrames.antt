@@ -1,5 +1,6 @@
 -- Frames of slices say of a payload what the slices say, cut and padded too.
-use Rattle.std.proofs.Common.{◌≡◌, ◌⊎◌, inl, inr, ℕ, zero, suc, ◌+◌, ◌-◌, ◌%◌, ◌^◌, ◌<◌, ◌≤◌, true, false, List, [], ◌∷◌, ◌++◌, length, take, drop, Option, Some, None, refl, sym, ◌∙◌, ap, subst, append_assoc, append-nil, arith}
+use Rattle.std.proofs.Common.{◌≡◌, ◌⊎◌, inl, inr, ℕ, zero, suc, ◌+◌, ◌-◌, ◌%◌, ◌^◌, ◌<◌, ◌≤◌, true, false, List, [], ◌∷◌, ◌++◌, length, take, drop, Option}
+use Rattle.std.proofs.Common.{Some, None, refl, sym, ◌∙◌, ap, subst, append_assoc, append-nil, arith}
 use Rattle.std.specs.Prelude.{slice_get}
 use Rattle.std.specs.List.{AllByRecursion}
 use Rattle.std.proofs.lemmas.List.{drop_at, length-drop}
@@ -60,30 +61,35 @@ drop_get (suc n) [] j b is = absurd cc
 drop_get (suc n) (x ∷ xs) j b is = let e : suc n + j ≡ suc (n + j) = omega arith in drop_get n xs j b (subst (λ (k : ℕ). slice_get (x ∷ xs) k ≡ Some b) e is)
 
 -- what a slice of a payload says is the payload's
-pub slice_is_of : (payload : List ℕ) (s : Slice) → IsSliceOf payload s → (fact : Fact) → Says (piece_of_slice s) (bytes_of_slice payload s) fact → IsOf payload fact
+pub slice_is_of : (payload : List ℕ) (s : Slice) → IsSliceOf payload s → (fact : Fact) → Says (piece_of_slice s) (bytes_of_slice payload s) fact →
+    IsOf payload fact
 slice_is_of payload s within (ByteAt k b) says =
     subst (λ (n : ℕ). slice_get payload n ≡ Some b) says.1 (get_drop s.at payload says.0 b (get_take s.count (drop s.at payload) says.0 b says.2).1)
 slice_is_of payload s within (EndsAt n) says = says.1 ∙ ap (λ (c : ℕ). s.at + c) (count_of_slice payload s within) ∙ within.last says.0
 
 -- A SLICE CUT IN TWO
 
-front_says : (payload : List ℕ) (s : Slice) (cut : ℕ) → cut ≤ s.count → (fact : Fact) → Says (piece_of_slice (front_of s cut)) (bytes_of_slice payload (front_of s cut)) fact → Says (piece_of_slice s) (bytes_of_slice payload s) fact
+front_says : (payload : List ℕ) (s : Slice) (cut : ℕ) → cut ≤ s.count → (fact : Fact) →
+    Says (piece_of_slice (front_of s cut)) (bytes_of_slice payload (front_of s cut)) fact → Says (piece_of_slice s) (bytes_of_slice payload s) fact
 front_says payload s cut within (ByteAt k b) says =
     let got = get_take cut (drop s.at payload) says.0 b says.2 in
     let small : says.0 < s.count = (let g = got.0 in omega (arith, g, within)) in
     (says.0, says.1, take_get s.count (drop s.at payload) says.0 b small got.1)
 front_says payload s cut within (EndsAt n) says = absurd (let e = says.0 in cc)
 
-back_says : (payload : List ℕ) (s : Slice) (cut : ℕ) → IsSliceOf payload s → cut ≤ s.count → (fact : Fact) → Says (piece_of_slice (back_of s cut)) (bytes_of_slice payload (back_of s cut)) fact → Says (piece_of_slice s) (bytes_of_slice payload s) fact
+back_says : (payload : List ℕ) (s : Slice) (cut : ℕ) → IsSliceOf payload s → cut ≤ s.count → (fact : Fact) →
+    Says (piece_of_slice (back_of s cut)) (bytes_of_slice payload (back_of s cut)) fact → Says (piece_of_slice s) (bytes_of_slice payload s) fact
 back_says payload s cut slice within (ByteAt k b) says =
     let got = get_take (s.count - cut) (drop (s.at + cut) payload) says.0 b says.2 in
     let there : slice_get payload (s.at + cut + says.0) ≡ Some b = get_drop (s.at + cut) payload says.0 b got.1 in
-    let moved : slice_get payload (s.at + (cut + says.0)) ≡ Some b = (let e : s.at + cut + says.0 ≡ s.at + (cut + says.0) = omega arith in subst (λ (n : ℕ). slice_get payload n ≡ Some b) e there) in
+    let moved : slice_get payload (s.at + (cut + says.0)) ≡ Some b =
+    (let e : s.at + cut + says.0 ≡ s.at + (cut + says.0) = omega arith in subst (λ (n : ℕ). slice_get payload n ≡ Some b) e there) in
     let small : cut + says.0 < s.count = (let g = got.0 in omega (arith, g, within)) in
     let place : s.at + (cut + says.0) ≡ k = (let e = says.1 in omega (arith, e)) in
     (cut + says.0, place, take_get s.count (drop s.at payload) (cut + says.0) b small (drop_get s.at payload (cut + says.0) b moved))
 back_says payload s cut slice within (EndsAt n) says =
-    let short : length (bytes_of_slice payload (back_of s cut)) ≡ s.count - cut = count_of_slice payload (back_of s cut) (IsSliceOf-back payload s cut slice within) in
+    let short : length (bytes_of_slice payload (back_of s cut)) ≡ s.count - cut =
+    count_of_slice payload (back_of s cut) (IsSliceOf-back payload s cut slice within) in
     let long : length (bytes_of_slice payload s) ≡ s.count = count_of_slice payload s slice in
     let end : n ≡ s.at + length (bytes_of_slice payload s) = (let e = says.1 in omega (arith, e, short, long, within)) in
     (says.0, end)
@@ -111,29 +117,48 @@ IsNoPiece (Ip6 link h x) = Unit {0}
 -- a frame that can't be cut, and brings no piece of TCP or UDP, whatever padding follows
 pub record IsForeign (medium : Medium) (frame : List ℕ) : Type 0 where
   pub uncut : ipv4_part medium frame ≡ None
-  pub brings : (hardware : HardwareAddress) (padding : List ℕ) (v : IncomingValue) → medium_on hardware ≡ medium → IsIncoming hardware sealed (frame ++ padding) v → IsNoPiece v
+  pub brings : (hardware : HardwareAddress) (padding : List ℕ) (v : IncomingValue) → medium_on hardware ≡ medium →
+      IsIncoming hardware sealed (frame ++ padding) v → IsNoPiece v
 
 no_ports : (v : IncomingValue) → HasNoPorts v → IsNoPiece v
 no_ports (Arp link packet) none = tt
 no_ports (Ip4 link h p x) none = inr none
 no_ports (Ip6 link h x) none = tt
 
-whole6_none : (out : List PacketValue) (medium : Medium) (frame : List ℕ) → IsWhole6 medium out frame → (hardware : HardwareAddress) (padding : List ℕ) (v : IncomingValue) → medium_on hardware ≡ medium → IsIncoming hardware sealed (frame ++ padding) v → IsNoPiece v
+whole6_none : (out : List PacketValue) (medium : Medium) (frame : List ℕ) → IsWhole6 medium out frame →
+    (hardware : HardwareAddress) (padding : List ℕ) (v : IncomingValue) → medium_on hardware ≡ medium →
+    IsIncoming hardware sealed (frame ++ padding) v → IsNoPiece v
 whole6_none out medium frame f hardware padding v same is =
     let w : List ℕ = Ipv6.written f.header ++ f.bytes in
     let joined : frame ++ padding ≡ f.link ++ (w ++ padding) = ap (λ (b : List ℕ). b ++ padding) f.frame_is ∙ append_assoc f.link w padding in
     let found = read_behind6 (w ++ padding) (Ipv6.normal f.header) f.bytes (read_v6 f.header f.bytes padding f.sent.value f.sent.fits f.sent.len)
-    hardware f.link v (subst (λ (m : Medium). IsLinkHeader6 m f.link) (sym same) f.is_link) (subst (λ (b : List ℕ). IsIncoming hardware sealed b v) joined is) in
+    hardware f.link v (subst (λ (m : Medium). IsLinkHeader6 m f.link) (sym same) f.is_link)
+    (subst (λ (b : List ℕ). IsIncoming hardware sealed b v) joined is) in
     subst IsNoPiece (sym found.1) tt
 
 abbrev pub slice_frame : (out : List PacketValue) (medium : Medium) (frame : List ℕ) → IsSlice medium out frame → IsSliceFrame medium frame
-slice_frame out medium frame f = record { link = f.link; header = f.header; bytes = f.bytes; slice = f.slice; is_link = f.is_link; value = f.sent.value; short = f.sent.short; within = f.within; unit = f.unit; frame_is = f.frame_is }
+slice_frame out medium frame f =
+    record {
+      link = f.link;
+      header = f.header;
+      bytes = f.bytes;
+      slice = f.slice;
+      is_link = f.is_link;
+      value = f.sent.value;
+      short = f.sent.short;
+      within =
+          f.within;
+      unit = f.unit;
+      frame_is = f.frame_is;
+    }
 
 -- a host's frame is one of these two
-pub either_frame : (out : List PacketValue) (medium : Medium) (frame : List ℕ) → IsHostFrame medium out frame → IsSliceFrame medium frame ⊎ IsForeign medium frame
+pub either_frame : (out : List PacketValue) (medium : Medium) (frame : List ℕ) → IsHostFrame medium out frame → IsSliceFrame medium frame ⊎
+    IsForeign medium frame
 either_frame out medium frame (inl f) = inl (slice_frame out medium frame f)
 either_frame out medium frame (inr (inl f)) = inr (record { uncut = whole6_uncut out frame medium f; brings = whole6_none out medium frame f })
-either_frame out medium frame (inr (inr f)) = inr (record { uncut = f.uncut; brings = λ hardware padding v same is. no_ports v (f.brings hardware padding v same is) })
+either_frame out medium frame (inr (inr f)) =
+    inr (record { uncut = f.uncut; brings = λ hardware padding v same is. no_ports v (f.brings hardware padding v same is) })
 
 module _ (medium : Medium) (frame : List ℕ) (f : IsSliceFrame medium frame) where
   abbrev key : Ipv4FragKey
@@ -147,12 +172,15 @@ module _ (medium : Medium) (frame : List ℕ) (f : IsSliceFrame medium frame) wh
       let w : List ℕ = Ipv4.written_piece true (with_len f.header f.slice.count) f.slice.at f.slice.more ++ bytes_of_slice f.bytes f.slice in
       ap (λ (b : List ℕ). b ++ padding) f.frame_is ∙ append_assoc f.link w padding
 
-  read_is : (padding : List ℕ) → IsPacketV4 sealed (packet_of_slice f.header f.bytes f.slice padding) (Ipv4.normal (with_len f.header f.slice.count)) (piece_of_slice f.slice) (bytes_of_slice f.bytes f.slice)
+  read_is : (padding : List ℕ) →
+      IsPacketV4 sealed (packet_of_slice f.header f.bytes f.slice padding) (Ipv4.normal (with_len f.header f.slice.count)) (piece_of_slice f.slice)
+      (bytes_of_slice f.bytes f.slice)
   read_is padding = read_slice f.header f.bytes padding f.slice f.value f.short f.within f.unit
 
   packet_is : packet_in medium frame ≡ packet_of_slice f.header f.bytes f.slice []
   packet_is =
-      ap (drop (frame_header medium)) (sym (append-nil frame) ∙ joined_is []) ∙ drop_at f.link (packet_of_slice f.header f.bytes f.slice []) (frame_header medium) f.is_link.len
+      ap (drop (frame_header medium)) (sym (append-nil frame) ∙ joined_is []) ∙
+      drop_at f.link (packet_of_slice f.header f.bytes f.slice []) (frame_header medium) f.is_link.len
 
   pub part_is : ipv4_part medium frame ≡ Some (record { at = frame_header medium + 20; len = f.slice.count })
   part_is =
@@ -167,7 +195,8 @@ module _ (medium : Medium) (frame : List ℕ) (f : IsSliceFrame medium frame) wh
     header = Ipv4.normal (with_len f.header f.slice.count);
     piece = piece_of_slice f.slice;
     bytes = bytes_of_slice f.bytes f.slice;
-    read = subst (λ (b : List ℕ). IsPacketV4 sealed b (Ipv4.normal (with_len f.header f.slice.count)) (piece_of_slice f.slice) (bytes_of_slice f.bytes f.slice)) (sym packet_is) (read_is []);
+    read = subst (λ (b : List ℕ). IsPacketV4 sealed b (Ipv4.normal (with_len f.header f.slice.count)) (piece_of_slice f.slice) (bytes_of_slice f.bytes f.slice))
+        (sym packet_is) (read_is []);
     key_is = refl;
     says = says;
   }
@@ -175,19 +204,26 @@ module _ (medium : Medium) (frame : List ℕ) (f : IsSliceFrame medium frame) wh
   -- and nothing else
   pub carries_slice : (k : Ipv4FragKey) (fact : Fact) → Carries medium frame k fact → (key ≡ k) × SliceSays fact
   carries_slice k fact c =
-      let read : IsPacketV4 sealed (packet_of_slice f.header f.bytes f.slice []) c.header c.piece c.bytes = subst (λ (b : List ℕ). IsPacketV4 sealed b c.header c.piece c.bytes) packet_is c.read in
-      let same : Ip4 None c.header c.piece c.bytes ≡ Ip4 None (Ipv4.normal (with_len f.header f.slice.count)) (piece_of_slice f.slice) (bytes_of_slice f.bytes f.slice) =
-      one-incoming Hardware.Ip sealed (packet_of_slice f.header f.bytes f.slice []) (Ip4 None c.header c.piece c.bytes) (Ip4 None (Ipv4.normal (with_len f.header f.slice.count)) (piece_of_slice f.slice) (bytes_of_slice f.bytes f.slice)) read (read_is []) in
+      let read : IsPacketV4 sealed (packet_of_slice f.header f.bytes f.slice []) c.header c.piece c.bytes =
+      subst (λ (b : List ℕ). IsPacketV4 sealed b c.header c.piece c.bytes) packet_is c.read in
+      let same : Ip4 None c.header c.piece c.bytes ≡
+      Ip4 None (Ipv4.normal (with_len f.header f.slice.count)) (piece_of_slice f.slice) (bytes_of_slice f.bytes f.slice) =
+      one-incoming Hardware.Ip sealed (packet_of_slice f.header f.bytes f.slice []) (Ip4 None c.header c.piece c.bytes)
+      (Ip4 None (Ipv4.normal (with_len f.header f.slice.count)) (piece_of_slice f.slice) (bytes_of_slice f.bytes f.slice)) read (read_is []) in
       let header : c.header ≡ Ipv4.normal (with_len f.header f.slice.count) = cc in
       let piece : c.piece ≡ piece_of_slice f.slice = cc in
-      let bytes : c.bytes ≡ bytes_of_slice f.bytes f.slice = cc in
-      (sym (ap Ipv4.key_of header) ∙ c.key_is, subst (λ (x : List ℕ). Says (piece_of_slice f.slice) x fact) bytes (subst (λ (p : Ipv4Piece). Says p c.bytes fact) piece c.says))
+      let bytes : c.bytes ≡ bytes_of_slice f.bytes f.slice = cc in (
+        sym (ap Ipv4.key_of header) ∙ c.key_is,
+        subst (λ (x : List ℕ). Says (piece_of_slice f.slice) x fact) bytes (subst (λ (p : Ipv4Piece). Says p c.bytes fact) piece c.says),
+      )
 
   -- whoever takes it, with padding, reads the slice
-  slice_read : (hardware : HardwareAddress) (padding : List ℕ) (v : IncomingValue) → medium_on hardware ≡ medium → IsIncoming hardware sealed (frame ++ padding) v
+  slice_read : (hardware : HardwareAddress) (padding : List ℕ) (v : IncomingValue) → medium_on hardware ≡ medium →
+      IsIncoming hardware sealed (frame ++ padding) v
       → (l : Option EthernetRepr) × (v ≡ Ip4 l (Ipv4.normal (with_len f.header f.slice.count)) (piece_of_slice f.slice) (bytes_of_slice f.bytes f.slice))
   slice_read hardware padding v same is =
-      read_behind4 (packet_of_slice f.header f.bytes f.slice padding) (Ipv4.normal (with_len f.header f.slice.count)) (piece_of_slice f.slice) (bytes_of_slice f.bytes f.slice) (read_is padding) hardware f.link v
+      read_behind4 (packet_of_slice f.header f.bytes f.slice padding) (Ipv4.normal (with_len f.header f.slice.count)) (piece_of_slice f.slice)
+      (bytes_of_slice f.bytes f.slice) (read_is padding) hardware f.link v
       (subst (λ (m : Medium). IsLinkHeader m f.link) (sym same) f.is_link) (subst (λ (b : List ℕ). IsIncoming hardware sealed b v) (joined_is padding) is)
 
   module _ (at : ℕ) (less : at ≤ f.slice.count) where
@@ -205,7 +241,8 @@ module _ (medium : Medium) (frame : List ℕ) (f : IsSliceFrame medium frame) wh
       short = f.short;
       within = IsSliceOf-front f.bytes f.slice at f.within less;
       unit = f.unit;
-      frame_is = ap (λ (b : List ℕ). first_piece medium b at) spelled_is ∙ first-slice f.header f.bytes [] f.slice f.value f.short f.within f.unit medium f.link f.is_link at less;
+      frame_is = ap (λ (b : List ℕ). first_piece medium b at) spelled_is ∙
+          first-slice f.header f.bytes [] f.slice f.value f.short f.within f.unit medium f.link f.is_link at less;
     }
 
     abbrev pub back_frame : at % 8 ≡ 0 → IsSliceFrame medium (second_piece medium frame at)
@@ -219,7 +256,8 @@ module _ (medium : Medium) (frame : List ℕ) (f : IsSliceFrame medium frame) wh
       short = f.short;
       within = IsSliceOf-back f.bytes f.slice at f.within less;
       unit = let u = f.unit in omega (arith, u, unit);
-      frame_is = ap (λ (b : List ℕ). second_piece medium b at) spelled_is ∙ second-slice f.header f.bytes [] f.slice f.value f.short f.within f.unit medium f.link f.is_link at less;
+      frame_is = ap (λ (b : List ℕ). second_piece medium b at) spelled_is ∙
+          second-slice f.header f.bytes [] f.slice f.value f.short f.within f.unit medium f.link f.is_link at less;
     }
 
 -- WHAT IS SO: S says it of the datagram with a key
@@ -234,7 +272,8 @@ FrameSo S medium frame = SaysSo S medium frame ⊎ IsForeign medium frame
 
 -- whoever takes a frame reads what is so in it
 abbrev pub TakenSo : (Ipv4FragKey → Fact → Type 0) → Medium → List ℕ → Type 0
-TakenSo S medium frame = (hardware : HardwareAddress) (v : IncomingValue) → medium_on hardware ≡ medium → IsIncoming hardware sealed frame v → ContentSo S (Some v)
+TakenSo S medium frame = (hardware : HardwareAddress) (v : IncomingValue) → medium_on hardware ≡ medium → IsIncoming hardware sealed frame v →
+    ContentSo S (Some v)
 
 no_piece_so : (S : Ipv4FragKey → Fact → Type 0) (v : IncomingValue) → IsNoPiece v → ContentSo S (Some v)
 no_piece_so S (Arp link packet) none = tt
@@ -298,20 +337,30 @@ get_more (y ∷ xs) rest zero x is = is
 get_more (y ∷ xs) rest (suc k) x is = get_more xs rest k x is
 
 -- what was said is said by more frames
-pub more_said : (medium : Medium) (frames rest : List (List ℕ)) (of : Ipv4FragKey) (fact : Fact) → IsSaid medium frames of fact → IsSaid medium (frames ++ rest) of fact
-more_said medium frames rest of fact s = record { place = s.place; frame = s.frame; frame_is = get_more frames rest s.place s.frame s.frame_is; carries = s.carries }
+pub more_said : (medium : Medium) (frames rest : List (List ℕ)) (of : Ipv4FragKey) (fact : Fact) → IsSaid medium frames of fact →
+    IsSaid medium (frames ++ rest) of fact
+more_said medium frames rest of fact s =
+    record { place = s.place; frame = s.frame; frame_is = get_more frames rest s.place s.frame s.frame_is; carries = s.carries }
 
 -- each frame of a host says what its own frames say
-pub own_so : (out : List PacketValue) (medium : Medium) (before frames : List (List ℕ)) → AllByRecursion (IsHostFrame medium out) frames → AllByRecursion (FrameSo (IsSaid medium (before ++ frames)) medium) frames
+pub own_so : (out : List PacketValue) (medium : Medium) (before frames : List (List ℕ)) → AllByRecursion (IsHostFrame medium out) frames →
+    AllByRecursion (FrameSo (IsSaid medium (before ++ frames)) medium) frames
 own_so out medium before [] all = tt
 own_so out medium before (frame ∷ frames) all = (
   by (either_frame out medium frame all.0),
-  subst (λ (xs : List (List ℕ)). AllByRecursion (FrameSo (IsSaid medium xs) medium) frames) (append_assoc before (frame ∷ []) frames) (own_so out medium (before ++ frame ∷ []) frames all.1),
+  subst (λ (xs : List (List ℕ)). AllByRecursion (FrameSo (IsSaid medium xs) medium) frames) (append_assoc before (frame ∷ []) frames)
+      (own_so out medium (before ++ frame ∷ []) frames all.1),
 ) where
   by : IsSliceFrame medium frame ⊎ IsForeign medium frame → FrameSo (IsSaid medium (before ++ frame ∷ frames)) medium frame
   by (inl f) = inl (record {
     is_slice = f;
-    so = λ fact says. record { place = length before; frame = frame; frame_is = get_behind before frame frames; carries = slice_carries medium frame f fact says };
+    so = λ fact says. record {
+      place = length before;
+      frame = frame;
+      frame_is = get_behind before frame frames;
+      carries =
+          slice_carries medium frame f fact says;
+    };
   })
   by (inr f) = inr f
 

@@ -1,5 +1,6 @@
 -- What leaves a host keeps what is said of its frames.
-use Rattle.std.proofs.Common.{◌≡◌, ◌⊎◌, inl, inr, ℕ, ◌+◌, ◌≤◌, Bool, true, false, cond, List, [], ◌∷◌, ◌++◌, length, Option, Some, None, IfSome, refl, sym, ◌∙◌, ap, subst, arith}
+use Rattle.std.proofs.Common.{◌≡◌, ◌⊎◌, inl, inr, ℕ, ◌+◌, ◌≤◌, Bool, true, false, cond, List, [], ◌∷◌, ◌++◌, length, Option, Some, None, IfSome, refl, sym, ◌∙◌}
+use Rattle.std.proofs.Common.{ap, subst, arith}
 use Rattle.std.specs.Prelude.{nat_lt}
 use Rattle.std.specs.List.{AllByRecursion}
 use Rattle.net_base.specs.ChecksumCapabilities.{ChecksumCapabilities}
@@ -14,7 +15,8 @@ use Rattle.ip_wire.specs.Ipv4Repr.{Ipv4Repr}
 use Rattle.ip_wire.specs.declared.arp.repr.ArpRepr.{ArpRepr}
 use Rattle.socket_base.specs.Packet.{PacketValue, PayloadValue, packet_of, payload_written}
 use Rattle.interface_tables.specs.Inner.{InnerValue, with_next_ident, with_request}
-use Rattle.interface_egress.specs.Departure.{Asks, Tells, Whole, question_frame, arp_frame, packet_frame, packet_frame_len, piece_frame, piece_frame_len, target_of}
+use Rattle.interface_egress.specs.Departure.{Asks, Tells, Whole, question_frame, arp_frame, packet_frame, packet_frame_len, piece_frame, piece_frame_len}
+use Rattle.interface_egress.specs.Departure.{target_of}
 use Rattle.interface_egress.specs.Fragments.{LeftValue, piece_room, next_piece, next_departure, left_after}
 use Rattle.interface_egress.specs.GoesOut.{GoesOut, Asked, Went, WasCut, PieceGoesOut, Departs, Stays, numbered_header, numbered, after_header, cut_of}
 use Rattle.interface_egress.specs.Emits.{Emits}
@@ -33,7 +35,8 @@ use Rattle.lan_port.specs.Port.{PortValue, PortMove}
 use Rattle.lan_theorem.specs.Link.Made.{sealed, IsGoing}
 use Rattle.lan_theorem.specs.Link.Frames.{medium_on, IsOut}
 use Rattle.lan_theorem.specs.Link.Numbers.{and_v4, count_v4, AreNumbered, IsTied}
-use Rattle.lan_theorem.specs.Link.Sides.{Grows, WentOut, AreSent, IsHostFrame, IsOther, IsSound, IsSameKind, IsStation, IsLeft, IsSender, IsAsked, IsBetweenStations}
+use Rattle.lan_theorem.specs.Link.Sides.{Grows, WentOut, AreSent, IsHostFrame, IsOther, IsSound, IsSameKind, IsStation, IsLeft, IsSender, IsAsked}
+use Rattle.lan_theorem.specs.Link.Sides.{IsBetweenStations}
 use Rattle.lan_theorem.proofs.Link.Grown.{all_grow, sent4_grows, frame_grows}
 use Rattle.lan_theorem.proofs.Link.PlanKinds.{PlanKind, plan_kind}
 use Rattle.lan_theorem.proofs.Link.Begun.{worth, whole_begins, piece_begins, tied_same, tied_frame, tied_on}
@@ -70,7 +73,8 @@ module _ (made : PayloadValue → Type 0) (i : InnerValue) where
         fits = w.sendable.header;
       }
 
-numbers_after : (first : ℕ) (out : List PacketValue) (i : InnerValue) (h : IpRepr) (x : PayloadValue) → AreNumbered first out i.ident → AreNumbered first (packet_of (numbered_header i h) x ∷ out) (after_header h i).ident
+numbers_after : (first : ℕ) (out : List PacketValue) (i : InnerValue) (h : IpRepr) (x : PayloadValue) → AreNumbered first out i.ident →
+    AreNumbered first (packet_of (numbered_header i h) x ∷ out) (after_header h i).ident
 numbers_after first out i (Ip.Ipv4 v) x are = (are, refl)
 numbers_after first out i (Ip.Ipv6 v) x are = are
 
@@ -79,7 +83,14 @@ one_more i (Ip.Ipv4 v) n = omega arith
 one_more i (Ip.Ipv6 v) n = omega arith
 
 next_sound : (i : InnerValue) → IsSound i → IsSound (with_next_ident i)
-next_sound i s = record { own = s.own; neighbors = s.neighbors; routers = s.routers; widths = record { mtu = s.widths.mtu; ident = omega arith }; checksums = s.checksums }
+next_sound i s = record {
+  own = s.own;
+  neighbors = s.neighbors;
+  routers = s.routers;
+  widths = record { mtu = s.widths.mtu; ident = omega arith };
+  checksums =
+      s.checksums;
+}
 
 after_sound : (i : InnerValue) (h : IpRepr) → IsSound i → IsSound (after_header h i)
 after_sound i (Ip.Ipv4 v) s = next_sound i s
@@ -90,7 +101,13 @@ after_hardware i (Ip.Ipv4 v) = refl
 after_hardware i (Ip.Ipv6 v) = refl
 
 silent_sound : (i : InnerValue) (q : Question) → IsSound i → IsSound (with_request i (target_of q))
-silent_sound i q s = record { own = s.own; neighbors = s.neighbors; routers = s.routers; widths = record { mtu = s.widths.mtu; ident = s.widths.ident }; checksums = s.checksums }
+silent_sound i q s = record {
+  own = s.own;
+  neighbors = s.neighbors;
+  routers = s.routers;
+  widths = record { mtu = s.widths.mtu; ident = s.widths.ident };
+  checksums = s.checksums;
+}
 
 -- WHAT A HOST IS AFTER SOMETHING WENT
 
@@ -98,11 +115,15 @@ to_address : (h : IpRepr) → Ips.IsValue h → IsIpAddress (destination_of h)
 to_address (Ip.Ipv4 v) is = is.destination
 to_address (Ip.Ipv6 v) is = is.destination
 
-same_sender : (made : PayloadValue → Type 0) (first : ℕ) (out : List PacketValue) (i i' : InnerValue) (l l' : Option LeftValue) (sent sent' : List (List ℕ)) → i' ≡ i → l' ≡ l → sent' ≡ sent → IsSender made first i l sent out → IsSender made first i' l' sent' out
+same_sender : (made : PayloadValue → Type 0) (first : ℕ) (out : List PacketValue) (i i' : InnerValue) (l l' : Option LeftValue) (sent sent' : List (List ℕ)) →
+    i' ≡ i → l' ≡ l → sent' ≡ sent → IsSender made first i l sent out → IsSender made first i' l' sent' out
 same_sender made first out i i' l l' sent sent' a b c s =
-    subst (λ (x : InnerValue). IsSender made first x l' sent' out) (sym a) (subst (λ (x : Option LeftValue). IsSender made first i x sent' out) (sym b) (subst (λ (x : List (List ℕ)). IsSender made first i l x out) (sym c) s))
+    subst (λ (x : InnerValue). IsSender made first x l' sent' out) (sym a)
+    (subst (λ (x : Option LeftValue). IsSender made first i x sent' out) (sym b) (subst (λ (x : List (List ℕ)). IsSender made first i l x out) (sym c) s))
 
-unchanged : (made : PayloadValue → Type 0) (first most : ℕ) (out : List PacketValue) (i i' : InnerValue) (l l' : Option LeftValue) (sent sent' : List (List ℕ)) → i' ≡ i → l' ≡ l → sent' ≡ sent → IsSender made first i l sent out → WentOut made first most out sent i' l' sent'
+unchanged : (made : PayloadValue →
+    Type 0) (first most : ℕ) (out : List PacketValue) (i i' : InnerValue) (l l' : Option LeftValue) (sent sent' : List (List ℕ)) → i' ≡ i → l' ≡ l →
+    sent' ≡ sent → IsSender made first i l sent out → WentOut made first most out sent i' l' sent'
 unchanged made first most out i i' l l' sent sent' a b c s = record {
   out_after = out;
   grows = λ p among. among;
@@ -112,7 +133,8 @@ unchanged made first most out i i' l l' sent sent' a b c s = record {
 }
 
 -- one more frame, of no packet that is new
-one_frame : (made : PayloadValue → Type 0) (first most : ℕ) (out : List PacketValue) (i' : InnerValue) (l' : Option LeftValue) (sent sent' : List (List ℕ)) (frame : List ℕ) → sent' ≡ sent ++ frame ∷ [] → IsSender made first i' l' sent' out → WentOut made first most out sent i' l' sent'
+one_frame : (made : PayloadValue → Type 0) (first most : ℕ) (out : List PacketValue) (i' : InnerValue) (l' : Option LeftValue) (sent sent' : List (List ℕ))
+    (frame : List ℕ) → sent' ≡ sent ++ frame ∷ [] → IsSender made first i' l' sent' out → WentOut made first most out sent i' l' sent'
 one_frame made first most out i' l' sent sent' frame is s = record {
   out_after = out;
   grows = λ p among. among;
@@ -121,14 +143,17 @@ one_frame made first most out i' l' sent sent' frame is s = record {
   sender = s;
 }
 
-left_grows : (hardware : HardwareAddress) (out out' : List PacketValue) (l : Option LeftValue) → Grows out out' → IfSome l (IsLeft hardware out) → IfSome l (IsLeft hardware out')
+left_grows : (hardware : HardwareAddress) (out out' : List PacketValue) (l : Option LeftValue) → Grows out out' → IfSome l (IsLeft hardware out) →
+    IfSome l (IsLeft hardware out')
 left_grows hardware out out' None grows is = tt
 left_grows hardware out out' (Some l) grows is = record { sent = sent4_grows out out' grows l.header l.payload is.sent; half = is.half; to = is.to }
 
-pub left_to : (out : List PacketValue) (hardware hardware' : HardwareAddress) (l : Option LeftValue) → hardware' ≡ hardware → IfSome l (IsLeft hardware out) → IfSome l (IsLeft hardware' out)
+pub left_to : (out : List PacketValue) (hardware hardware' : HardwareAddress) (l : Option LeftValue) → hardware' ≡ hardware → IfSome l (IsLeft hardware out) →
+    IfSome l (IsLeft hardware' out)
 left_to out hardware hardware' l same is = subst (λ (h : HardwareAddress). IfSome l (IsLeft h out)) (sym same) is
 
-module _ (made : PayloadValue → Type 0) (first : ℕ) (out : List PacketValue) (i : InnerValue) (l : Option LeftValue) (d : PortValue) (s : IsSender made first i l d.link.sent out) where
+module _ (made : PayloadValue →
+    Type 0) (first : ℕ) (out : List PacketValue) (i : InnerValue) (l : Option LeftValue) (d : PortValue) (s : IsSender made first i l d.link.sent out) where
   -- the packet is of `out` from now on
   module _ (p : PacketValue) (going : IsGoing made p) where
     abbrev more : List PacketValue
@@ -149,59 +174,72 @@ module _ (made : PayloadValue → Type 0) (first : ℕ) (out : List PacketValue)
       numbered = numbers_after first out i p.header p.payload s.are_sent.numbered;
     }
 
-    frames_more : (frame : List ℕ) → IsHostFrame (medium_on i.hardware) more frame → AllByRecursion (IsHostFrame (medium_on i.hardware) more) (d.link.sent ++ frame ∷ [])
+    frames_more : (frame : List ℕ) → IsHostFrame (medium_on i.hardware) more frame →
+        AllByRecursion (IsHostFrame (medium_on i.hardware) more) (d.link.sent ++ frame ∷ [])
     frames_more frame is =
         all_more (IsHostFrame (medium_on i.hardware) more) d.link.sent frame
-        (all_grow (IsHostFrame (medium_on i.hardware) out) (IsHostFrame (medium_on i.hardware) more) (frame_grows out more grows_more (medium_on i.hardware)) d.link.sent s.frames) is
+        (all_grow (IsHostFrame (medium_on i.hardware) out) (IsHostFrame (medium_on i.hardware) more) (frame_grows out more grows_more (medium_on i.hardware))
+        d.link.sent s.frames) is
 
     -- WHOLE
 
-    whole_sender : (to : HardwareAddress) (d' : PortValue) → total_len p.header ≤ 65535 → IsSameKind i.hardware to → Departs PortMove d i (Whole to (numbered i p)) true d' → IsSender made first (after_header p.header i) l d'.link.sent more
+    whole_sender : (to : HardwareAddress) (d' : PortValue) → total_len p.header ≤ 65535 → IsSameKind i.hardware to →
+        Departs PortMove d i (Whole to (numbered i p)) true d' → IsSender made first (after_header p.header i) l d'.link.sent more
     whole_sender to d' short kind departs =
         let w : IsWritable (numbered i p) = writes i p s.sound.widths going.offered short in
         let caps : i.checksums ≡ sealed = s.sound.checksums in
         let len : length (packet_frame sealed i.hardware to (numbered i p)) ≡ packet_frame_len i.hardware to (numbered i p) =
-        subst (λ (c : ChecksumCapabilities). length (packet_frame c i.hardware to (numbered i p)) ≡ packet_frame_len i.hardware to (numbered i p)) caps departs.1 in
+        subst (λ (c : ChecksumCapabilities). length (packet_frame c i.hardware to (numbered i p)) ≡ packet_frame_len i.hardware to (numbered i p)) caps
+        departs.1 in
         let frame : IsHostFrame (medium_on i.hardware) more (packet_frame i.checksums i.hardware to (numbered i p)) =
-        subst (λ (c : ChecksumCapabilities). IsHostFrame (medium_on i.hardware) more (packet_frame c i.hardware to (numbered i p))) (sym caps) (whole_frame i.hardware to kind out (numbered i p) w len) in
+        subst (λ (c : ChecksumCapabilities). IsHostFrame (medium_on i.hardware) more (packet_frame c i.hardware to (numbered i p))) (sym caps)
+        (whole_frame i.hardware to kind out (numbered i p) w len) in
         let all : AllByRecursion (IsHostFrame (medium_on i.hardware) more) d'.link.sent =
-        subst (λ (fs : List (List ℕ)). AllByRecursion (IsHostFrame (medium_on i.hardware) more) fs) (sym (emitted d d' (packet_frame i.checksums i.hardware to (numbered i p)) (packet_frame_len i.hardware to (numbered i p)) departs))
+        subst (λ (fs : List (List ℕ)). AllByRecursion (IsHostFrame (medium_on i.hardware) more) fs)
+        (sym (emitted d d' (packet_frame i.checksums i.hardware to (numbered i p)) (packet_frame_len i.hardware to (numbered i p)) departs))
         (frames_more (packet_frame i.checksums i.hardware to (numbered i p)) frame) in
         record {
           sound = after_sound i p.header s.sound;
           are_sent = are_more short;
-          left_is = left_to more i.hardware (after_header p.header i).hardware l (after_hardware i p.header) (left_grows i.hardware out more l grows_more s.left_is);
+          left_is = left_to more i.hardware (after_header p.header i).hardware l (after_hardware i p.header)
+              (left_grows i.hardware out more l grows_more s.left_is);
           frames = subst (λ (h : HardwareAddress). AllByRecursion (IsHostFrame (medium_on h) more) d'.link.sent) (sym (after_hardware i p.header)) all;
         }
 
-    whole_tied : (to : HardwareAddress) (d' : PortValue) → total_len p.header ≤ 65535 → IsSameKind i.hardware to → Departs PortMove d i (Whole to (numbered i p)) true d' → IsTied (medium_on i.hardware) out d.link.sent more d'.link.sent
+    whole_tied : (to : HardwareAddress) (d' : PortValue) → total_len p.header ≤ 65535 → IsSameKind i.hardware to →
+        Departs PortMove d i (Whole to (numbered i p)) true d' → IsTied (medium_on i.hardware) out d.link.sent more d'.link.sent
     whole_tied to d' short kind departs =
         let w : IsWritable (numbered i p) = writes i p s.sound.widths going.offered short in
         let caps : i.checksums ≡ sealed = s.sound.checksums in
         let len : length (packet_frame sealed i.hardware to (numbered i p)) ≡ packet_frame_len i.hardware to (numbered i p) =
-        subst (λ (c : ChecksumCapabilities). length (packet_frame c i.hardware to (numbered i p)) ≡ packet_frame_len i.hardware to (numbered i p)) caps departs.1 in
+        subst (λ (c : ChecksumCapabilities). length (packet_frame c i.hardware to (numbered i p)) ≡ packet_frame_len i.hardware to (numbered i p)) caps
+        departs.1 in
         tied_frame (medium_on i.hardware) out more d.link.sent d'.link.sent (packet_frame sealed i.hardware to (numbered i p))
         (emitted d d' (packet_frame i.checksums i.hardware to (numbered i p)) (packet_frame_len i.hardware to (numbered i p)) departs
         ∙ ap (λ (c : ChecksumCapabilities). d.link.sent ++ packet_frame c i.hardware to (numbered i p) ∷ []) caps)
         (whole_begins i.hardware to (numbered_header i p.header) p.payload (count_v4 out) kind w len)
 
-    went : (to : HardwareAddress) (sent : Sent) (d' : PortValue) (i' : InnerValue) (l' : Option LeftValue) → total_len p.header ≤ 65535 → IsSameKind i.hardware to
+    went : (to : HardwareAddress) (sent : Sent) (d' : PortValue) (i' : InnerValue) (l' : Option LeftValue) → total_len p.header ≤ 65535 →
+        IsSameKind i.hardware to
         → Went PortMove d i p.header (Whole to (numbered i p)) sent d' i' → l' ≡ l → WentOut made first 1 out d.link.sent i' l' d'.link.sent
     went to Outcome.Gone d' i' l' short kind goes same = record {
       out_after = more;
       grows = grows_more;
       count = one_at_most;
-      tied = tied_on i.hardware i'.hardware out more d.link.sent d'.link.sent (ap (λ (x : InnerValue). x.hardware) goes.1 ∙ after_hardware i p.header) (whole_tied to d' short kind goes.0);
+      tied = tied_on i.hardware i'.hardware out more d.link.sent d'.link.sent (ap (λ (x : InnerValue). x.hardware) goes.1 ∙
+          after_hardware i p.header) (whole_tied to d' short kind goes.0);
       sender = same_sender made first more (after_header p.header i) i' l l' d'.link.sent d'.link.sent goes.1 same refl (whole_sender to d' short kind goes.0);
     }
-    went to Outcome.Refused d' i' l' short kind goes same = unchanged made first 1 out i i' l l' d.link.sent d'.link.sent goes.1 same (denied d d' [] (packet_frame_len i.hardware to (numbered i p)) goes.0) s
+    went to Outcome.Refused d' i' l' short kind goes same =
+        unchanged made first 1 out i i' l l' d.link.sent d'.link.sent goes.1 same (denied d d' [] (packet_frame_len i.hardware to (numbered i p)) goes.0) s
     went to Outcome.Dropped d' i' l' short kind goes same = absurd goes
     went to Outcome.Waits d' i' l' short kind goes same = absurd goes
     went to Outcome.Busy d' i' l' short kind goes same = absurd goes
 
     -- CUT
 
-    module _ (to : HardwareAddress) (v : Ipv4Repr) (header : p.header ≡ Ip.Ipv4 v) (short : 20 + v.payload_len ≤ longest_cut) (half : IsHalfSent (cut_of i to v p)) (kind : IsSameKind i.hardware to) where
+    module _ (to : HardwareAddress) (v : Ipv4Repr) (header : p.header ≡ Ip.Ipv4 v) (short : 20 + v.payload_len ≤ longest_cut)
+        (half : IsHalfSent (cut_of i to v p)) (kind : IsSameKind i.hardware to) where
       abbrev c : LeftValue
       c = cut_of i to v p
 
@@ -219,24 +257,30 @@ module _ (made : PayloadValue → Type 0) (first : ℕ) (out : List PacketValue)
         to = kind;
       }
 
-      cut_rest : (b : Bool) → IfSome (cond b (Some (record c { at = c.at + piece_room i.mtu })) None) IsHalfSent → IfSome (cond b (Some (record c { at = c.at + piece_room i.mtu })) None) (IsLeft i.hardware more)
+      cut_rest : (b : Bool) → IfSome (cond b (Some (record c { at = c.at + piece_room i.mtu })) None) IsHalfSent →
+          IfSome (cond b (Some (record c { at = c.at + piece_room i.mtu })) None) (IsLeft i.hardware more)
       cut_rest true is = record { sent = cut_left.sent; half = is; to = kind }
       cut_rest false is = tt
 
-      cut_sender : (d' : PortValue) → Departs PortMove d i (next_departure i.mtu c) true d' → IsSender made first (with_next_ident i) (left_after i.mtu c) d'.link.sent more
+      cut_sender : (d' : PortValue) → Departs PortMove d i (next_departure i.mtu c) true d' →
+          IsSender made first (with_next_ident i) (left_after i.mtu c) d'.link.sent more
       cut_sender d' departs =
           let caps : i.checksums ≡ sealed = s.sound.checksums in
           let all_len : total_len p.header ≤ 65535 = subst (λ (h : IpRepr). total_len h ≤ 65535) (sym header) (omega (arith, short)) in
           let are = are_more all_len in
           let len : length (piece_frame sealed i.hardware to c.header (next_piece i.mtu c)) ≡ piece_frame_len i.hardware to (next_piece i.mtu c) =
-          subst (λ (k : ChecksumCapabilities). length (piece_frame k i.hardware to c.header (next_piece i.mtu c)) ≡ piece_frame_len i.hardware to (next_piece i.mtu c)) caps departs.1 in
+          subst (λ (k : ChecksumCapabilities). length (piece_frame k i.hardware to c.header (next_piece i.mtu c)) ≡
+          piece_frame_len i.hardware to (next_piece i.mtu c)) caps departs.1 in
           let frame : IsHostFrame (medium_on i.hardware) more (piece_frame i.checksums i.hardware to c.header (next_piece i.mtu c)) =
-          subst (λ (k : ChecksumCapabilities). IsHostFrame (medium_on i.hardware) more (piece_frame k i.hardware to c.header (next_piece i.mtu c))) (sym caps) (piece_frame_is i.hardware more i.mtu c cut_left len) in
+          subst (λ (k : ChecksumCapabilities). IsHostFrame (medium_on i.hardware) more (piece_frame k i.hardware to c.header (next_piece i.mtu c))) (sym caps)
+          (piece_frame_is i.hardware more i.mtu c cut_left len) in
           record {
             sound = next_sound i s.sound;
             are_sent = record { packets = are.packets; numbered = subst (λ (h : IpRepr). AreNumbered first more (after_header h i).ident) header are.numbered };
             left_is = cut_rest (nat_lt (c.at + piece_room i.mtu) (length c.payload)) (left_half i.mtu c half);
-            frames = subst (λ (fs : List (List ℕ)). AllByRecursion (IsHostFrame (medium_on i.hardware) more) fs) (sym (emitted d d' (piece_frame i.checksums i.hardware to c.header (next_piece i.mtu c)) (piece_frame_len i.hardware to (next_piece i.mtu c)) departs))
+            frames = subst (λ (fs : List (List ℕ)). AllByRecursion (IsHostFrame (medium_on i.hardware) more) fs)
+                (sym (emitted d d' (piece_frame i.checksums i.hardware to c.header (next_piece i.mtu c))
+                (piece_frame_len i.hardware to (next_piece i.mtu c)) departs))
                 (frames_more (piece_frame i.checksums i.hardware to c.header (next_piece i.mtu c)) frame);
           }
 
@@ -245,14 +289,16 @@ module _ (made : PayloadValue → Type 0) (first : ℕ) (out : List PacketValue)
           let caps : i.checksums ≡ sealed = s.sound.checksums in
           let frame : List ℕ = piece_frame sealed i.hardware to c.header (next_piece i.mtu c) in
           let len : length frame ≡ piece_frame_len i.hardware to (next_piece i.mtu c) =
-          subst (λ (k : ChecksumCapabilities). length (piece_frame k i.hardware to c.header (next_piece i.mtu c)) ≡ piece_frame_len i.hardware to (next_piece i.mtu c)) caps departs.1 in
+          subst (λ (k : ChecksumCapabilities). length (piece_frame k i.hardware to c.header (next_piece i.mtu c)) ≡
+          piece_frame_len i.hardware to (next_piece i.mtu c)) caps departs.1 in
           let one : worth (begins_datagram (medium_on i.hardware) frame) ≡ 1 = ap worth (piece_begins i.hardware more i.mtu c cut_left len refl) in
           tied_frame (medium_on i.hardware) out more d.link.sent d'.link.sent frame
           (emitted d d' (piece_frame i.checksums i.hardware to c.header (next_piece i.mtu c)) (piece_frame_len i.hardware to (next_piece i.mtu c)) departs
           ∙ ap (λ (k : ChecksumCapabilities). d.link.sent ++ piece_frame k i.hardware to c.header (next_piece i.mtu c) ∷ []) caps)
           (omega (arith, one, one_at_most))
 
-      was_cut : (sent : Sent) (d' : PortValue) (i' : InnerValue) (l' : Option LeftValue) → WasCut PortMove d i l c sent d' i' l' → WentOut made first 1 out d.link.sent i' l' d'.link.sent
+      was_cut : (sent : Sent) (d' : PortValue) (i' : InnerValue) (l' : Option LeftValue) → WasCut PortMove d i l c sent d' i' l' →
+          WentOut made first 1 out d.link.sent i' l' d'.link.sent
       was_cut Outcome.Gone d' i' l' goes = record {
         out_after = more;
         grows = grows_more;
@@ -260,29 +306,37 @@ module _ (made : PayloadValue → Type 0) (first : ℕ) (out : List PacketValue)
         tied = tied_on i.hardware i'.hardware out more d.link.sent d'.link.sent (ap (λ (x : InnerValue). x.hardware) goes.1) (cut_tied d' goes.0);
         sender = same_sender made first more (with_next_ident i) i' (left_after i.mtu c) l' d'.link.sent d'.link.sent goes.1 goes.2 refl (cut_sender d' goes.0);
       }
-      was_cut Outcome.Refused d' i' l' goes = unchanged made first 1 out i i' l l' d.link.sent d'.link.sent goes.1 goes.2 (denied d d' [] (piece_frame_len i.hardware to (next_piece i.mtu c)) goes.0) s
+      was_cut Outcome.Refused d' i' l' goes =
+          unchanged made first 1 out i i' l l' d.link.sent d'.link.sent goes.1 goes.2
+          (denied d d' [] (piece_frame_len i.hardware to (next_piece i.mtu c)) goes.0) s
       was_cut Outcome.Dropped d' i' l' goes = absurd goes
       was_cut Outcome.Waits d' i' l' goes = absurd goes
       was_cut Outcome.Busy d' i' l' goes = absurd goes
 
   -- QUESTIONS
 
-  asked_sender : (q : Question) (d' : PortValue) → AsksFrom i.hardware q → IsAsked q → Departs PortMove d i (Asks q) true d' → IsSender made first (with_request i (target_of q)) l d'.link.sent out
+  asked_sender : (q : Question) (d' : PortValue) → AsksFrom i.hardware q → IsAsked q → Departs PortMove d i (Asks q) true d' →
+      IsSender made first (with_request i (target_of q)) l d'.link.sent out
   asked_sender q d' from asked departs =
       let frame : IsHostFrame (medium_on i.hardware) out (question_frame i.checksums q) =
-      inr (inr (subst (λ (k : ChecksumCapabilities). IsOther (medium_on i.hardware) (question_frame k q)) (sym s.sound.checksums) (question_is_other i.hardware q from s.sound.own asked))) in
+      inr (inr (subst (λ (k : ChecksumCapabilities). IsOther (medium_on i.hardware) (question_frame k q)) (sym s.sound.checksums)
+      (question_is_other i.hardware q from s.sound.own asked))) in
       record {
         sound = silent_sound i q s.sound;
         are_sent = s.are_sent;
         left_is = s.left_is;
-        frames = subst (λ (fs : List (List ℕ)). AllByRecursion (IsHostFrame (medium_on i.hardware) out) fs) (sym (ap (λ (x : PortValue). x.link.sent) departs.0)) (all_more (IsHostFrame (medium_on i.hardware) out) d.link.sent (question_frame i.checksums q) s.frames frame);
+        frames = subst (λ (fs : List (List ℕ)). AllByRecursion (IsHostFrame (medium_on i.hardware) out) fs)
+            (sym (ap (λ (x : PortValue). x.link.sent) departs.0))
+            (all_more (IsHostFrame (medium_on i.hardware) out) d.link.sent (question_frame i.checksums q) s.frames frame);
       }
 
-  asked_by : (q : Question) (sent : Sent) (d' : PortValue) (i' : InnerValue) (l' : Option LeftValue) → AsksFrom i.hardware q → IsAsked q → Asked PortMove d i q sent d' i' → l' ≡ l → WentOut made first 1 out d.link.sent i' l' d'.link.sent
+  asked_by : (q : Question) (sent : Sent) (d' : PortValue) (i' : InnerValue) (l' : Option LeftValue) → AsksFrom i.hardware q → IsAsked q →
+      Asked PortMove d i q sent d' i' → l' ≡ l → WentOut made first 1 out d.link.sent i' l' d'.link.sent
   asked_by q Outcome.Waits d' i' l' from asked goes same =
       one_frame made first 1 out i' l' d.link.sent d'.link.sent (question_frame i.checksums q) (ap (λ (x : PortValue). x.link.sent) goes.0.0)
       (same_sender made first out (with_request i (target_of q)) i' l l' d'.link.sent d'.link.sent goes.1 same refl (asked_sender q d' from asked goes.0))
-  asked_by q Outcome.Refused d' i' l' from asked goes same = unchanged made first 1 out i i' l l' d.link.sent d'.link.sent goes.1 same (ap (λ (x : PortValue). x.link.sent) goes.0.0) s
+  asked_by q Outcome.Refused d' i' l' from asked goes same =
+      unchanged made first 1 out i i' l l' d.link.sent d'.link.sent goes.1 same (ap (λ (x : PortValue). x.link.sent) goes.0.0) s
   asked_by q Outcome.Gone d' i' l' from asked goes same = absurd goes
   asked_by q Outcome.Dropped d' i' l' from asked goes same = absurd goes
   asked_by q Outcome.Busy d' i' l' from asked goes same = absurd goes
@@ -292,16 +346,19 @@ module _ (made : PayloadValue → Type 0) (first : ℕ) (out : List PacketValue)
   went_not : (p : PacketValue) (to : HardwareAddress) (sent : Sent) (d' : PortValue) (i' : InnerValue) (l' : Option LeftValue) → (sent ≡ Outcome.Gone → ⊥)
       → Went PortMove d i p.header (Whole to (numbered i p)) sent d' i' → l' ≡ l → WentOut made first 1 out d.link.sent i' l' d'.link.sent
   went_not p to Outcome.Gone d' i' l' unsent goes same = absurd (unsent refl)
-  went_not p to Outcome.Refused d' i' l' unsent goes same = unchanged made first 1 out i i' l l' d.link.sent d'.link.sent goes.1 same (denied d d' [] (packet_frame_len i.hardware to (numbered i p)) goes.0) s
+  went_not p to Outcome.Refused d' i' l' unsent goes same =
+      unchanged made first 1 out i i' l l' d.link.sent d'.link.sent goes.1 same (denied d d' [] (packet_frame_len i.hardware to (numbered i p)) goes.0) s
   went_not p to Outcome.Dropped d' i' l' unsent goes same = absurd goes
   went_not p to Outcome.Waits d' i' l' unsent goes same = absurd goes
   went_not p to Outcome.Busy d' i' l' unsent goes same = absurd goes
 
-  cut_not : (p : PacketValue) (to : HardwareAddress) (v : Ipv4Repr) (sent : Sent) (d' : PortValue) (i' : InnerValue) (l' : Option LeftValue) → (sent ≡ Outcome.Gone → ⊥)
+  cut_not : (p : PacketValue) (to : HardwareAddress) (v : Ipv4Repr) (sent : Sent) (d' : PortValue) (i' : InnerValue) (l' : Option LeftValue) →
+      (sent ≡ Outcome.Gone → ⊥)
       → WasCut PortMove d i l (cut_of i to v p) sent d' i' l' → WentOut made first 1 out d.link.sent i' l' d'.link.sent
   cut_not p to v Outcome.Gone d' i' l' unsent goes = absurd (unsent refl)
   cut_not p to v Outcome.Refused d' i' l' unsent goes =
-      unchanged made first 1 out i i' l l' d.link.sent d'.link.sent goes.1 goes.2 (denied d d' [] (piece_frame_len i.hardware to (next_piece i.mtu (cut_of i to v p))) goes.0) s
+      unchanged made first 1 out i i' l l' d.link.sent d'.link.sent goes.1 goes.2
+      (denied d d' [] (piece_frame_len i.hardware to (next_piece i.mtu (cut_of i to v p))) goes.0) s
   cut_not p to v Outcome.Dropped d' i' l' unsent goes = absurd goes
   cut_not p to v Outcome.Waits d' i' l' unsent goes = absurd goes
   cut_not p to v Outcome.Busy d' i' l' unsent goes = absurd goes
@@ -312,23 +369,28 @@ module _ (made : PayloadValue → Type 0) (first : ℕ) (out : List PacketValue)
   stays d' i' l' is = unchanged made first 1 out i i' l l' d.link.sent d'.link.sent is.1 is.2 (ap (λ (x : PortValue). x.link.sent) is.0) s
 
   abbrev Leads : PacketValue → Plan → Type 0
-  Leads p plan = (sent : Sent) (d' : PortValue) (i' : InnerValue) (l' : Option LeftValue) → GoesOut PortMove d i l p plan sent d' i' l' → WentOut made first 1 out d.link.sent i' l' d'.link.sent
+  Leads p plan = (sent : Sent) (d' : PortValue) (i' : InnerValue) (l' : Option LeftValue) → GoesOut PortMove d i l p plan sent d' i' l' →
+      WentOut made first 1 out d.link.sent i' l' d'.link.sent
 
   -- a packet's way out, whatever becomes of it
   pub goes_keeps : (busy : Bool) (p : PacketValue) → IsGoing made p → Leads p (plan_of i busy p.header)
   goes_keeps busy p going =
       plan_cases i busy p.header (λ plan. plan_of i busy p.header ≡ plan → PlanKind i.hardware plan → Leads p plan)
-      (λ is kind sent d' i' l' goes. stays d' i' l' goes.1) (λ is kind sent d' i' l' goes. stays d' i' l' goes.1) (λ is kind sent d' i' l' goes. stays d' i' l' goes.1) (λ is kind sent d' i' l' goes. stays d' i' l' goes.1)
+      (λ is kind sent d' i' l' goes. stays d' i' l' goes.1) (λ is kind sent d' i' l' goes. stays d' i' l' goes.1)
+      (λ is kind sent d' i' l' goes. stays d' i' l' goes.1) (λ is kind sent d' i' l' goes. stays d' i' l' goes.1)
       (λ q may from is kind sent d' i' l' goes. asked_by q sent d' i' l' from kind goes.0 goes.1)
       (λ to short is kind sent d' i' l' goes. let most = s.sound.widths.mtu in went p going to sent d' i' l' (omega (arith, short, most)) kind goes.0 goes.1)
-      (λ to v header long short idle is kind sent d' i' l' goes. was_cut p going to v header short (begun_half i busy p to v s.sound.widths going.offered is) kind sent d' i' l' goes)
+      (λ to v header long short idle is kind sent d' i' l' goes. was_cut p going to v header short (begun_half i busy p to v s.sound.widths going.offered is)
+      kind sent d' i' l' goes)
       refl (plan_kind i busy p.header s.sound (to_address p.header going.offered.header))
 
   -- what doesn't go leaves no more packets, whoever made it
-  pub unsent_keeps : (busy : Bool) (p : PacketValue) → Ips.IsValue p.header → (sent : Sent) (d' : PortValue) (i' : InnerValue) (l' : Option LeftValue) → (sent ≡ Outcome.Gone → ⊥)
+  pub unsent_keeps : (busy : Bool) (p : PacketValue) → Ips.IsValue p.header → (sent : Sent) (d' : PortValue) (i' : InnerValue) (l' : Option LeftValue) →
+      (sent ≡ Outcome.Gone → ⊥)
       → GoesOut PortMove d i l p (plan_of i busy p.header) sent d' i' l' → WentOut made first 1 out d.link.sent i' l' d'.link.sent
   unsent_keeps busy p value sent d' i' l' unsent =
-      plan_cases i busy p.header (λ plan. PlanKind i.hardware plan → GoesOut PortMove d i l p plan sent d' i' l' → WentOut made first 1 out d.link.sent i' l' d'.link.sent)
+      plan_cases i busy p.header (λ plan. PlanKind i.hardware plan → GoesOut PortMove d i l p plan sent d' i' l' →
+      WentOut made first 1 out d.link.sent i' l' d'.link.sent)
       (λ kind goes. stays d' i' l' goes.1) (λ kind goes. stays d' i' l' goes.1) (λ kind goes. stays d' i' l' goes.1) (λ kind goes. stays d' i' l' goes.1)
       (λ q may from kind goes. asked_by q sent d' i' l' from kind goes.0 goes.1)
       (λ to short kind goes. went_not p to sent d' i' l' unsent goes.0 goes.1)
@@ -337,49 +399,62 @@ module _ (made : PayloadValue → Type 0) (first : ℕ) (out : List PacketValue)
 
   -- ANSWERS TO QUESTIONS
 
-  told_frame : (hardware : HardwareAddress) (packet : ArpRepr) → IsStation hardware → IsBetweenStations packet → IsHostFrame (medium_on hardware) out (arp_frame packet)
+  told_frame : (hardware : HardwareAddress) (packet : ArpRepr) → IsStation hardware → IsBetweenStations packet →
+      IsHostFrame (medium_on hardware) out (arp_frame packet)
   told_frame (Hardware.Ethernet own) packet station between = inr (inr (arp_is_other packet between))
   told_frame Hardware.Ip packet station between = absurd station
 
   -- an ARP packet's way out
-  pub tells_keeps : (packet : ArpRepr) (gone : Bool) (d' : PortValue) → IsStation i.hardware → IsBetweenStations packet → Departs PortMove d i (Tells packet) gone d' → WentOut made first 0 out d.link.sent i l d'.link.sent
+  pub tells_keeps : (packet : ArpRepr) (gone : Bool) (d' : PortValue) → IsStation i.hardware → IsBetweenStations packet →
+      Departs PortMove d i (Tells packet) gone d' → WentOut made first 0 out d.link.sent i l d'.link.sent
   tells_keeps packet true d' station between departs =
       one_frame made first 0 out i l d.link.sent d'.link.sent (arp_frame packet) (ap (λ (x : PortValue). x.link.sent) departs.0) (record {
         sound = s.sound;
         are_sent = s.are_sent;
         left_is = s.left_is;
-        frames = subst (λ (fs : List (List ℕ)). AllByRecursion (IsHostFrame (medium_on i.hardware) out) fs) (sym (ap (λ (x : PortValue). x.link.sent) departs.0))
+        frames = subst (λ (fs : List (List ℕ)). AllByRecursion (IsHostFrame (medium_on i.hardware) out) fs)
+            (sym (ap (λ (x : PortValue). x.link.sent) departs.0))
             (all_more (IsHostFrame (medium_on i.hardware) out) d.link.sent (arp_frame packet) s.frames (told_frame i.hardware packet station between));
       })
-  tells_keeps packet false d' station between departs = unchanged made first 0 out i i l l d.link.sent d'.link.sent refl refl (ap (λ (x : PortValue). x.link.sent) departs.0) s
+  tells_keeps packet false d' station between departs =
+      unchanged made first 0 out i i l l d.link.sent d'.link.sent refl refl (ap (λ (x : PortValue). x.link.sent) departs.0) s
 
 -- PIECES
 
 rest_by : (hardware : HardwareAddress) (out : List PacketValue) (mtu : ℕ) (c : LeftValue) (b : Bool) → IsLeft hardware out c
-    → IfSome (cond b (Some (record c { at = c.at + piece_room mtu })) None) IsHalfSent → IfSome (cond b (Some (record c { at = c.at + piece_room mtu })) None) (IsLeft hardware out)
+    → IfSome (cond b (Some (record c { at = c.at + piece_room mtu })) None) IsHalfSent →
+    IfSome (cond b (Some (record c { at = c.at + piece_room mtu })) None) (IsLeft hardware out)
 rest_by hardware out mtu c true left is = record { sent = left.sent; half = is; to = left.to }
 rest_by hardware out mtu c false left is = tt
 
-module _ (made : PayloadValue → Type 0) (first : ℕ) (out : List PacketValue) (i : InnerValue) (c : LeftValue) (d : PortValue) (s : IsSender made first i (Some c) d.link.sent out) where
+module _ (made : PayloadValue →
+    Type 0) (first : ℕ) (out : List PacketValue) (i : InnerValue) (c : LeftValue) (d : PortValue) (s : IsSender made first i (Some c) d.link.sent out) where
   piece_sender : (d' : PortValue) → Departs PortMove d i (next_departure i.mtu c) true d' → IsSender made first i (left_after i.mtu c) d'.link.sent out
   piece_sender d' departs =
       let caps : i.checksums ≡ sealed = s.sound.checksums in
       let left : IsLeft i.hardware out c = s.left_is in
       let len : length (piece_frame sealed i.hardware c.to c.header (next_piece i.mtu c)) ≡ piece_frame_len i.hardware c.to (next_piece i.mtu c) =
-      subst (λ (k : ChecksumCapabilities). length (piece_frame k i.hardware c.to c.header (next_piece i.mtu c)) ≡ piece_frame_len i.hardware c.to (next_piece i.mtu c)) caps departs.1 in
+      subst (λ (k : ChecksumCapabilities). length (piece_frame k i.hardware c.to c.header (next_piece i.mtu c)) ≡
+      piece_frame_len i.hardware c.to (next_piece i.mtu c)) caps departs.1 in
       let frame : IsHostFrame (medium_on i.hardware) out (piece_frame i.checksums i.hardware c.to c.header (next_piece i.mtu c)) =
-      subst (λ (k : ChecksumCapabilities). IsHostFrame (medium_on i.hardware) out (piece_frame k i.hardware c.to c.header (next_piece i.mtu c))) (sym caps) (piece_frame_is i.hardware out i.mtu c left len) in
+      subst (λ (k : ChecksumCapabilities). IsHostFrame (medium_on i.hardware) out (piece_frame k i.hardware c.to c.header (next_piece i.mtu c))) (sym caps)
+      (piece_frame_is i.hardware out i.mtu c left len) in
       record {
         sound = s.sound;
         are_sent = s.are_sent;
         left_is = rest_by i.hardware out i.mtu c (nat_lt (c.at + piece_room i.mtu) (length c.payload)) left (left_half i.mtu c left.half);
-        frames = subst (λ (fs : List (List ℕ)). AllByRecursion (IsHostFrame (medium_on i.hardware) out) fs) (sym (ap (λ (x : PortValue). x.link.sent) departs.0))
-            (all_more (IsHostFrame (medium_on i.hardware) out) d.link.sent (piece_frame i.checksums i.hardware c.to c.header (next_piece i.mtu c)) s.frames frame);
+        frames = subst (λ (fs : List (List ℕ)). AllByRecursion (IsHostFrame (medium_on i.hardware) out) fs)
+            (sym (ap (λ (x : PortValue). x.link.sent) departs.0))
+            (all_more (IsHostFrame (medium_on i.hardware) out) d.link.sent (piece_frame i.checksums i.hardware c.to c.header (next_piece i.mtu c))
+            s.frames frame);
       }
 
   -- a later piece's way out
-  pub piece_keeps : (gone : Bool) (d' : PortValue) (l' : Option LeftValue) → PieceGoesOut PortMove d i c gone d' l' → WentOut made first 0 out d.link.sent i l' d'.link.sent
+  pub piece_keeps : (gone : Bool) (d' : PortValue) (l' : Option LeftValue) → PieceGoesOut PortMove d i c gone d' l' →
+      WentOut made first 0 out d.link.sent i l' d'.link.sent
   piece_keeps true d' l' goes =
-      one_frame made first 0 out i l' d.link.sent d'.link.sent (piece_frame i.checksums i.hardware c.to c.header (next_piece i.mtu c)) (ap (λ (x : PortValue). x.link.sent) goes.0.0)
+      one_frame made first 0 out i l' d.link.sent d'.link.sent (piece_frame i.checksums i.hardware c.to c.header (next_piece i.mtu c))
+      (ap (λ (x : PortValue). x.link.sent) goes.0.0)
       (same_sender made first out i i (left_after i.mtu c) l' d'.link.sent d'.link.sent refl goes.1 refl (piece_sender d' goes.0))
-  piece_keeps false d' l' goes = unchanged made first 0 out i i (Some c) l' d.link.sent d'.link.sent refl goes.1 (ap (λ (x : PortValue). x.link.sent) goes.0.0) s
+  piece_keeps false d' l' goes =
+      unchanged made first 0 out i i (Some c) l' d.link.sent d'.link.sent refl goes.1 (ap (λ (x : PortValue). x.link.sent) goes.0.0) s

@@ -1,5 +1,6 @@
 -- A slot holds of a datagram what the pieces that came said of it, and nothing else.
-use Rattle.std.proofs.Common.{◌≡◌, ◌⊎◌, inl, inr, ℕ, zero, suc, ◌+◌, ◌-◌, ◌<◌, ◌≤◌, ◌^◌, Bool, true, false, cond, List, [], ◌∷◌, ◌++◌, length, take, drop, Option, Some, None, refl, sym, ◌∙◌, ap, subst, append_assoc, arith}
+use Rattle.std.proofs.Common.{◌≡◌, ◌⊎◌, inl, inr, ℕ, zero, suc, ◌+◌, ◌-◌, ◌<◌, ◌≤◌, ◌^◌, Bool, true, false, cond, List, [], ◌∷◌, ◌++◌, length, take, drop}
+use Rattle.std.proofs.Common.{Option, Some, None, refl, sym, ◌∙◌, ap, subst, append_assoc, arith}
 use Rattle.std.specs.Prelude.{ℤ, slice_get, nat_le, nat_lt, is_some, position, ◌&&◌}
 use Rattle.std.specs.List.{AllByRecursion}
 use Rattle.std.proofs.lemmas.List.{length-take-le}
@@ -18,12 +19,15 @@ use Rattle.ip_wire.specs.Ipv4Repr.{Ipv4Repr}
 use Rattle.ip_wire.specs.declared.ethernet.repr.EthernetRepr.{EthernetRepr}
 use Rattle.interface_tables.specs.Best.{at_place}
 use Rattle.interface_tables.specs.Inner.{InnerValue}
-use Rattle.interface_tables.specs.Reassembly.{SlotValue, freed, taken, placed, overwritten, marked, completed, with_piece, with_total, takes_total, is_complete, ends_at, is_free, is_of, place_for}
-use Rattle.interface_tables.specs.Slots.{changed, changed_at, completed_in, opened, is_expired, unless_expired, without_expired, with_piece_of, without_datagram}
+use Rattle.interface_tables.specs.Reassembly.{SlotValue, freed, taken, placed, overwritten, marked, completed, with_piece, with_total, takes_total, is_complete}
+use Rattle.interface_tables.specs.Reassembly.{ends_at, is_free, is_of, place_for}
+use Rattle.interface_tables.specs.Slots.{changed, changed_at, completed_in, opened, is_expired, unless_expired, without_expired, with_piece_of}
+use Rattle.interface_tables.specs.Slots.{without_datagram}
 use Rattle.interface_tables.proofs.Apart.{placed-key, opened-key}
 use Rattle.interface_ingress.specs.Arrives.{slots_after, whole_after}
 use Rattle.interface_ingress.specs.Incoming.{IncomingValue, Arp, Ip4, Ip6}
-use Rattle.interface_ingress.specs.Reassembled.{Slots, is_piece, is_within, is_same_datagram, runs_kept, given_up_at, place_in, kept, bytes_at, rebuilt, released, uncut}
+use Rattle.interface_ingress.specs.Reassembled.{Slots, is_piece, is_within, is_same_datagram, runs_kept, given_up_at, place_in, kept, bytes_at, rebuilt}
+use Rattle.interface_ingress.specs.Reassembled.{released, uncut}
 use Rattle.interface_delivery.specs.Delivered.{NamesNoPorts}
 use Rattle.lan_theorem.specs.Said.{Fact, ByteAt, EndsAt, IsOf, Says}
 use Rattle.lan_theorem.proofs.Link.Slots.{all_at, all_map, changed_keeps, changed_there, key_test}
@@ -40,10 +44,12 @@ stored : (map : List (Option ℕ)) (at : ℕ) (piece : List ℕ) (k b : ℕ) →
     → (slice_get map k ≡ Some (Some b)) ⊎ ((j : ℕ) × (at + j ≡ k) × (slice_get piece j ≡ Some b))
 stored [] at piece k b is = inl is
 stored (e ∷ map) (suc at) piece zero b is = inl is
-stored (e ∷ map) (suc at) piece (suc k) b is = elim (stored map at piece k b is) [ inl old ↦ inl old | inr new ↦ inr (new.0, (let n = new.1 in omega (arith, n)), new.2) ]
+stored (e ∷ map) (suc at) piece (suc k) b is =
+    elim (stored map at piece k b is) [ inl old ↦ inl old | inr new ↦ inr (new.0, (let n = new.1 in omega (arith, n)), new.2) ]
 stored (e ∷ map) zero [] k b is = inl is
 stored (e ∷ map) zero (x ∷ piece) zero b is = inr (zero, omega arith, (let same : x ≡ b = cc in ap Some same))
-stored (e ∷ map) zero (x ∷ piece) (suc k) b is = elim (stored map zero piece k b is) [ inl old ↦ inl old | inr new ↦ inr (suc new.0, (let n = new.1 in omega (arith, n)), new.2) ]
+stored (e ∷ map) zero (x ∷ piece) (suc k) b is =
+    elim (stored map zero piece k b is) [ inl old ↦ inl old | inr new ↦ inr (suc new.0, (let n = new.1 in omega (arith, n)), new.2) ]
 
 front_byte : (map : List (Option ℕ)) (k b : ℕ) → slice_get (receive.front map) k ≡ Some b → slice_get map k ≡ Some (Some b)
 front_byte [] k b is = absurd cc
@@ -51,8 +57,10 @@ front_byte (None ∷ map) k b is = absurd cc
 front_byte (Some x ∷ map) zero b is = let same : x ≡ b = cc in ap (λ (y : ℕ). Some (Some y)) same
 front_byte (Some x ∷ map) (suc k) b is = front_byte map k b is
 
-overwritten_overlay : (bytes : List ℕ) (offset : ℕ) (piece : List ℕ) → offset + length piece ≤ length bytes → overwritten bytes offset piece ≡ overlay bytes offset piece
-overwritten_overlay bytes offset piece fits = append_assoc (take offset bytes) piece (drop (offset + length piece) bytes) ∙ sym (overlay-spliced bytes offset piece fits)
+overwritten_overlay : (bytes : List ℕ) (offset : ℕ) (piece : List ℕ) → offset + length piece ≤ length bytes →
+    overwritten bytes offset piece ≡ overlay bytes offset piece
+overwritten_overlay bytes offset piece fits = append_assoc (take offset bytes) piece (drop (offset + length piece) bytes) ∙
+    sym (overlay-spliced bytes offset piece fits)
 
 -- ONE SLOT
 
@@ -76,12 +84,21 @@ module _ {K : Type 0} (Q : Fact → Type 0) where
 
   with_total_only : (s : SlotValue K) (size : ℕ) → HoldsOnly Q s → Q (EndsAt size) → HoldsOnly Q (with_total s size)
   with_total_only s size h so = elim (takes_total s size) as (λ b. HoldsOnly Q (cond b (record s { total = Some size }) s)) [
-    | true ↦ record { runs = h.runs; few = h.few; ends = h.ends; bytes = h.bytes; total = λ n is. let same : size ≡ n = cc in subst (λ (m : ℕ). Q (EndsAt m)) same so }
+    | true ↦ record {
+      runs = h.runs;
+      few = h.few;
+      ends = h.ends;
+      bytes = h.bytes;
+      total = λ n is. let same : size ≡ n =
+          cc in subst (λ (m : ℕ). Q (EndsAt m)) same so;
+    }
     | false ↦ h
   ]
 
-  module _ (s : SlotValue K) (piece : List ℕ) (offset : ℕ) (h : HoldsOnly Q s) (so : (k b j : ℕ) → offset + j ≡ k → slice_get piece j ≡ Some b → Q (ByteAt k b)) where
-    by_store : (k b : ℕ) → (slice_get (map_from s.runs 0 s.bytes) k ≡ Some (Some b)) ⊎ ((j : ℕ) × (offset + j ≡ k) × (slice_get piece j ≡ Some b)) → Q (ByteAt k b)
+  module _ (s : SlotValue K) (piece : List ℕ) (offset : ℕ) (h : HoldsOnly Q s) (so : (k b j : ℕ) → offset + j ≡ k → slice_get piece j ≡ Some b →
+      Q (ByteAt k b)) where
+    by_store : (k b : ℕ) → (slice_get (map_from s.runs 0 s.bytes) k ≡ Some (Some b)) ⊎ ((j : ℕ) × (offset + j ≡ k) × (slice_get piece j ≡ Some b)) →
+        Q (ByteAt k b)
     by_store k b (inl old) = h.bytes k b old
     by_store k b (inr new) = so k b new.0 new.1 new.2
 
@@ -96,15 +113,18 @@ module _ {K : Type 0} (Q : Fact → Type 0) where
         record {
           runs = union.runs;
           few = grind (arith, nat_tests, e);
-          ends = EndsBy-union s.runs offset (length piece) (length (overwritten s.bytes offset piece)) (added s.runs offset (length piece)) union (subst (EndsBy s.runs) (sym same) h.ends) (omega (arith, same, fits));
-          bytes = λ k b is. by_store k b (stored (map_from s.runs 0 s.bytes) offset piece k b (subst (λ (m : List (Option ℕ)). slice_get m k ≡ Some (Some b)) (sym laid) is));
+          ends = EndsBy-union s.runs offset (length piece) (length (overwritten s.bytes offset piece)) (added s.runs offset (length piece)) union
+              (subst (EndsBy s.runs) (sym same) h.ends) (omega (arith, same, fits));
+          bytes = λ k b is. by_store k b
+              (stored (map_from s.runs 0 s.bytes) offset piece k b (subst (λ (m : List (Option ℕ)). slice_get m k ≡ Some (Some b)) (sym laid) is));
           total = h.total;
         }
     marked_by false e fits =
         let over = overwritten_overlay s.bytes offset piece fits in
         let same : length (overwritten s.bytes offset piece) ≡ length s.bytes = ap length over ∙ length-overlay s.bytes offset piece in
         let many : length s.runs < length (added s.runs offset (length piece)) = let f = h.few in grind (arith, nat_tests, e, f) in
-        let left : map_from s.runs 0 (overwritten s.bytes offset piece) ≡ map_from s.runs 0 s.bytes = ap (map_from s.runs 0) over ∙ map_from-refused s.runs s.bytes offset piece h.runs many in
+        let left : map_from s.runs 0 (overwritten s.bytes offset piece) ≡ map_from s.runs 0 s.bytes =
+        ap (map_from s.runs 0) over ∙ map_from-refused s.runs s.bytes offset piece h.runs many in
         record {
           runs = h.runs;
           few = h.few;
@@ -113,14 +133,16 @@ module _ {K : Type 0} (Q : Fact → Type 0) where
           total = h.total;
         }
 
-    placed_by_fit : (fits : Bool) → nat_le (offset + length piece) (length s.bytes) ≡ fits → HoldsOnly Q (cond fits (record s { bytes = overwritten s.bytes offset piece; runs = marked runs_kept s.runs offset (length piece) }) s)
+    placed_by_fit : (fits : Bool) → nat_le (offset + length piece) (length s.bytes) ≡ fits →
+        HoldsOnly Q (cond fits (record s { bytes = overwritten s.bytes offset piece; runs = marked runs_kept s.runs offset (length piece) }) s)
     placed_by_fit true e = marked_by (nat_le (length (added s.runs offset (length piece))) runs_kept) refl (grind (arith, nat_tests, e))
     placed_by_fit false e = h
 
     with_piece_only : HoldsOnly Q (with_piece runs_kept s piece offset)
     with_piece_only = placed_by_fit (nat_le (offset + length piece) (length s.bytes)) refl
 
-  placed_by : (s : SlotValue K) (piece : List ℕ) (offset : ℕ) (more : Bool) → HoldsOnly Q s → ((k b j : ℕ) → offset + j ≡ k → slice_get piece j ≡ Some b → Q (ByteAt k b)) → (more ≡ false → Q (EndsAt (offset + length piece)))
+  placed_by : (s : SlotValue K) (piece : List ℕ) (offset : ℕ) (more : Bool) → HoldsOnly Q s →
+      ((k b j : ℕ) → offset + j ≡ k → slice_get piece j ≡ Some b → Q (ByteAt k b)) → (more ≡ false → Q (EndsAt (offset + length piece)))
       → HoldsOnly Q (placed runs_kept s piece offset more)
   placed_by s piece offset true h so last = with_piece_only s piece offset h so
   placed_by s piece offset false h so last =
@@ -131,7 +153,8 @@ module _ {K : Type 0} (Q : Fact → Type 0) where
       ]
 
   -- a piece that says what is so
-  pub placed_only : (s : SlotValue K) (p : Ipv4Piece) (x : List ℕ) → HoldsOnly Q s → ((fact : Fact) → Says p x fact → Q fact) → HoldsOnly Q (placed runs_kept s x p.offset p.more)
+  pub placed_only : (s : SlotValue K) (p : Ipv4Piece) (x : List ℕ) → HoldsOnly Q s → ((fact : Fact) → Says p x fact → Q fact) →
+      HoldsOnly Q (placed runs_kept s x p.offset p.more)
   placed_only s p x h so = placed_by s x p.offset p.more h (λ k b j at is. so (ByteAt k b) (j, at, is)) (λ none. so (EndsAt (p.offset + length x)) (none, refl))
 
   -- WHAT IS COMPLETE
@@ -140,7 +163,8 @@ module _ {K : Type 0} (Q : Fact → Type 0) where
   ended_by s None is done = absurd cc
   ended_by s (Some n) is done = let same : n ≡ front s.runs = grind (arith, nat_tests, done) in is ∙ ap Some same
 
-  completed_by : (s : SlotValue K) (bytes : List ℕ) (whole : Bool) → HoldsOnly Q s → is_complete s ≡ whole → cond whole (Some (take (front s.runs) s.bytes)) None ≡ Some bytes → (fact : Fact) → IsOf bytes fact → Q fact
+  completed_by : (s : SlotValue K) (bytes : List ℕ) (whole : Bool) → HoldsOnly Q s → is_complete s ≡ whole →
+      cond whole (Some (take (front s.runs) s.bytes)) None ≡ Some bytes → (fact : Fact) → IsOf bytes fact → Q fact
   completed_by s bytes false h is done fact of = absurd cc
   completed_by s bytes true h is done (ByteAt k b) of =
       let given : take (front s.runs) s.bytes ≡ bytes = cc in
@@ -148,7 +172,8 @@ module _ {K : Type 0} (Q : Fact → Type 0) where
       h.bytes k b (front_byte (map_from s.runs 0 s.bytes) k b (subst (λ (xs : List ℕ). slice_get xs k ≡ Some b) (sym held) of))
   completed_by s bytes true h is done (EndsAt n) of =
       let given : take (front s.runs) s.bytes ≡ bytes = cc in
-      let size : length (take (front s.runs) s.bytes) ≡ front s.runs = length-take-le (front s.runs) s.bytes (front-EndsBy s.runs (length s.bytes) h.runs h.ends) in
+      let size : length (take (front s.runs) s.bytes) ≡ front s.runs =
+      length-take-le (front s.runs) s.bytes (front-EndsBy s.runs (length s.bytes) h.runs h.ends) in
       let end : front s.runs ≡ n = sym size ∙ ap length given ∙ sym of in
       subst (λ (m : ℕ). Q (EndsAt m)) end (h.total (front s.runs) (ended_by s s.total refl is))
 
@@ -188,13 +213,15 @@ module _ (S : Ipv4FragKey → Fact → Type 0) where
 
   -- A PIECE
 
-  module _ (h : Ipv4Repr) (p : Ipv4Piece) (x : List ℕ) (expires : ℤ) (from : NamesNoPorts h.next_header ⊎ ((fact : Fact) → Says p x fact → S (Ipv4.key_of h) fact)) where
+  module _ (h : Ipv4Repr) (p : Ipv4Piece) (x : List ℕ) (expires : ℤ) (from : NamesNoPorts h.next_header ⊎
+      ((fact : Fact) → Says p x fact → S (Ipv4.key_of h) fact)) where
     abbrev Holding : Slot → Type 0
     Holding s = NamesNoPorts h.next_header ⊎ HoldsOnly (S (Ipv4.key_of h)) s
 
     opened_so : (s : Slot) → SlotSo S s → Holding (opened is_same_datagram (Ipv4.key_of h) expires s)
     opened_so s is =
-        elim (is_of is_same_datagram (Ipv4.key_of h) s) as (λ b. (cond b s (taken (Ipv4.key_of h) expires s)).key ≡ Some (Ipv4.key_of h) → Holding (cond b s (taken (Ipv4.key_of h) expires s))) [
+        elim (is_of is_same_datagram (Ipv4.key_of h) s) as (λ b. (cond b s (taken (Ipv4.key_of h) expires s)).key ≡ Some (Ipv4.key_of h) →
+        Holding (cond b s (taken (Ipv4.key_of h) expires s))) [
           | true ↦ λ key. is (Ipv4.key_of h) key
           | false ↦ λ key. inr (taken_only (S (Ipv4.key_of h)) (Ipv4.key_of h) expires s)
         ] (opened-key is_same_datagram key_test (Ipv4.key_of h) expires s)
@@ -203,9 +230,11 @@ module _ (S : Ipv4FragKey → Fact → Type 0) where
     put s = placed runs_kept (opened is_same_datagram (Ipv4.key_of h) expires s) x p.offset p.more
 
     put_key : (s : Slot) → (put s).key ≡ Some (Ipv4.key_of h)
-    put_key s = placed-key runs_kept (opened is_same_datagram (Ipv4.key_of h) expires s) x p.offset p.more ∙ opened-key is_same_datagram key_test (Ipv4.key_of h) expires s
+    put_key s = placed-key runs_kept (opened is_same_datagram (Ipv4.key_of h) expires s) x p.offset p.more ∙
+        opened-key is_same_datagram key_test (Ipv4.key_of h) expires s
 
-    put_by : (s : Slot) → NamesNoPorts h.next_header ⊎ ((fact : Fact) → Says p x fact → S (Ipv4.key_of h) fact) → Holding (opened is_same_datagram (Ipv4.key_of h) expires s) → Holding (put s)
+    put_by : (s : Slot) → NamesNoPorts h.next_header ⊎ ((fact : Fact) → Says p x fact → S (Ipv4.key_of h) fact) →
+        Holding (opened is_same_datagram (Ipv4.key_of h) expires s) → Holding (put s)
     put_by s (inl none) holds = inl none
     put_by s (inr so) (inl none) = inl none
     put_by s (inr so) (inr holds) = inr (placed_only (S (Ipv4.key_of h)) (opened is_same_datagram (Ipv4.key_of h) expires s) p x holds so)
@@ -227,7 +256,8 @@ module _ (S : Ipv4FragKey → Fact → Type 0) where
     complete_by s bytes (inl none) done = inl none
     complete_by s bytes (inr holds) done = inr (completed_only (S (Ipv4.key_of h)) s bytes holds done)
 
-    complete_at : (slots : Slots) (at : ℕ) (o : Option Slot) (bytes : List ℕ) → SlotsSo S slots → at_place (Some at) (changed_at put (Some at) slots) ≡ o → completed_in o ≡ Some bytes → Complete bytes
+    complete_at : (slots : Slots) (at : ℕ) (o : Option Slot) (bytes : List ℕ) → SlotsSo S slots → at_place (Some at) (changed_at put (Some at) slots) ≡ o →
+        completed_in o ≡ Some bytes → Complete bytes
     complete_at slots at None bytes are is done = absurd cc
     complete_at slots at (Some s) bytes are is done =
         let there = changed_there put at (at_place (Some at) slots) slots s refl is in
@@ -241,13 +271,17 @@ module _ (S : Ipv4FragKey → Fact → Type 0) where
 
   -- A CONTENT
 
-  kept_piece : (i : InnerValue) (timeout : ℕ) (slots : Slots) (h : Ipv4Repr) (p : Ipv4Piece) (x : List ℕ) (cut within : Bool) → is_piece p ≡ cut → PieceSo S h p x → SlotsSo S slots
-      → SlotsSo S (cond cut (cond within (with_piece_of runs_kept is_same_datagram slots (Ipv4.key_of h) (given_up_at i timeout) x p.offset p.more) (without_datagram is_same_datagram slots (Ipv4.key_of h))) slots)
+  kept_piece : (i : InnerValue) (timeout : ℕ) (slots : Slots) (h : Ipv4Repr) (p : Ipv4Piece) (x : List ℕ) (cut within : Bool) → is_piece p ≡ cut →
+      PieceSo S h p x → SlotsSo S slots
+      → SlotsSo S (cond cut (cond within (with_piece_of runs_kept is_same_datagram slots (Ipv4.key_of h) (given_up_at i timeout) x p.offset p.more)
+      (without_datagram is_same_datagram slots (Ipv4.key_of h))) slots)
   kept_piece i timeout slots h p x true true is from are = piece_keeps h p x (given_up_at i timeout) (from is) slots are
-  kept_piece i timeout slots h p x true false is from are = changed_keeps (SlotSo S) freed (position (is_of is_same_datagram (Ipv4.key_of h)) slots) slots (λ s is. freed_so s) are
+  kept_piece i timeout slots h p x true false is from are =
+      changed_keeps (SlotSo S) freed (position (is_of is_same_datagram (Ipv4.key_of h)) slots) slots (λ s is. freed_so s) are
   kept_piece i timeout slots h p x false within is from are = are
 
-  kept_so : (i : InnerValue) (timeout : ℕ) (slots : Slots) (content : Option IncomingValue) → ContentSo S content → SlotsSo S slots → SlotsSo S (kept i timeout slots content)
+  kept_so : (i : InnerValue) (timeout : ℕ) (slots : Slots) (content : Option IncomingValue) → ContentSo S content → SlotsSo S slots →
+      SlotsSo S (kept i timeout slots content)
   kept_so i timeout slots None from are = are
   kept_so i timeout slots (Some (Arp link packet)) from are = are
   kept_so i timeout slots (Some (Ip4 link h p x)) from are = kept_piece i timeout slots h p x (is_piece p) (is_within p x) refl from are
@@ -261,33 +295,43 @@ module _ (S : Ipv4FragKey → Fact → Type 0) where
       ]
 
   -- the slots after a content that says what is so
-  pub slots_so : (i : InnerValue) (timeout : ℕ) (slots : Slots) (content : Option IncomingValue) → ContentSo S content → SlotsSo S slots → SlotsSo S (slots_after i timeout slots content)
+  pub slots_so : (i : InnerValue) (timeout : ℕ) (slots : Slots) (content : Option IncomingValue) → ContentSo S content → SlotsSo S slots →
+      SlotsSo S (slots_after i timeout slots content)
   slots_so i timeout slots content from are = released_so (place_in slots content) (kept i timeout slots content) (kept_so i timeout slots content from are)
 
   -- WHAT IS REBUILT
 
-  rebuilds_by : (i : InnerValue) (timeout : ℕ) (slots : Slots) (h : Ipv4Repr) (p : Ipv4Piece) (x bytes : List ℕ) (cut within : Bool) → is_piece p ≡ cut → cut ≡ true → PieceSo S h p x → SlotsSo S slots
-      → bytes_at (cond (cut && within) (place_for is_same_datagram slots (Ipv4.key_of h)) None) (cond cut (cond within (with_piece_of runs_kept is_same_datagram slots (Ipv4.key_of h) (given_up_at i timeout) x p.offset p.more) (without_datagram is_same_datagram slots (Ipv4.key_of h))) slots) ≡ Some bytes
+  rebuilds_by : (i : InnerValue) (timeout : ℕ) (slots : Slots) (h : Ipv4Repr) (p : Ipv4Piece) (x bytes : List ℕ) (cut within : Bool) → is_piece p ≡ cut →
+      cut ≡ true → PieceSo S h p x → SlotsSo S slots
+      → bytes_at (cond (cut && within) (place_for is_same_datagram slots (Ipv4.key_of h)) None)
+      (cond cut (cond within (with_piece_of runs_kept is_same_datagram slots (Ipv4.key_of h) (given_up_at i timeout) x p.offset p.more)
+      (without_datagram is_same_datagram slots (Ipv4.key_of h))) slots) ≡ Some bytes
       → NamesNoPorts h.next_header ⊎ ((fact : Fact) → IsOf bytes fact → S (Ipv4.key_of h) fact)
   rebuilds_by i timeout slots h p x bytes true false is cut from are done = absurd cc
-  rebuilds_by i timeout slots h p x bytes true true is cut from are done = complete h p x (given_up_at i timeout) (from is) slots (place_for is_same_datagram slots (Ipv4.key_of h)) bytes are done
+  rebuilds_by i timeout slots h p x bytes true true is cut from are done =
+      complete h p x (given_up_at i timeout) (from is) slots (place_for is_same_datagram slots (Ipv4.key_of h)) bytes are done
   rebuilds_by i timeout slots h p x bytes false within is cut from are done = absurd cc
 
-  short_bytes : (link l : Option EthernetRepr) (h g : Ipv4Repr) (p : Ipv4Piece) (found bytes : List ℕ) (b : Bool) → cond b (Some (Ip4 link (record h { payload_len = length found }) uncut found)) None ≡ Some (Ip4 l g p bytes) → Some found ≡ Some bytes
+  short_bytes : (link l : Option EthernetRepr) (h g : Ipv4Repr) (p : Ipv4Piece) (found bytes : List ℕ) (b : Bool) →
+      cond b (Some (Ip4 link (record h { payload_len = length found }) uncut found)) None ≡ Some (Ip4 l g p bytes) → Some found ≡ Some bytes
   short_bytes link l h g p found bytes true is = let e : found ≡ bytes = cc in ap Some e
   short_bytes link l h g p found bytes false is = absurd cc
 
-  rebuilt_bytes : (link l : Option EthernetRepr) (h g : Ipv4Repr) (p : Ipv4Piece) (o : Option (List ℕ)) (bytes : List ℕ) → rebuilt link h o ≡ Some (Ip4 l g p bytes) → o ≡ Some bytes
+  rebuilt_bytes : (link l : Option EthernetRepr) (h g : Ipv4Repr) (p : Ipv4Piece) (o : Option (List ℕ)) (bytes : List ℕ) →
+      rebuilt link h o ≡ Some (Ip4 l g p bytes) → o ≡ Some bytes
   rebuilt_bytes link l h g p None bytes is = absurd cc
   rebuilt_bytes link l h g p (Some found) bytes is = short_bytes link l h g p found bytes (nat_lt (length found) (2 ^ 16 - 20)) is
 
-  whole_bytes : (slots : Slots) (at : Option ℕ) (link l : Option EthernetRepr) (h g : Ipv4Repr) (p r : Ipv4Piece) (x bytes : List ℕ) (cut : Bool) → cut ≡ true → cond cut (rebuilt link h (bytes_at at slots)) (Some (Ip4 link h p x)) ≡ Some (Ip4 l g r bytes) → bytes_at at slots ≡ Some bytes
+  whole_bytes : (slots : Slots) (at : Option ℕ) (link l : Option EthernetRepr) (h g : Ipv4Repr) (p r : Ipv4Piece) (x bytes : List ℕ) (cut : Bool) → cut ≡ true →
+      cond cut (rebuilt link h (bytes_at at slots)) (Some (Ip4 link h p x)) ≡ Some (Ip4 l g r bytes) → bytes_at at slots ≡ Some bytes
   whole_bytes slots at link l h g p r x bytes true cut is = rebuilt_bytes link l h g r (bytes_at at slots) bytes is
   whole_bytes slots at link l h g p r x bytes false cut is = absurd cc
 
   -- whatever is whole once a piece was taken in says what is so
-  pub rebuilds_so : (i : InnerValue) (timeout : ℕ) (slots : Slots) (link l : Option EthernetRepr) (h g : Ipv4Repr) (p r : Ipv4Piece) (x bytes : List ℕ) → SlotsSo S slots → PieceSo S h p x → is_piece p ≡ true
-      → whole_after i timeout slots (Some (Ip4 link h p x)) ≡ Some (Ip4 l g r bytes) → NamesNoPorts h.next_header ⊎ ((fact : Fact) → IsOf bytes fact → S (Ipv4.key_of h) fact)
+  pub rebuilds_so : (i : InnerValue) (timeout : ℕ) (slots : Slots) (link l : Option EthernetRepr) (h g : Ipv4Repr) (p r : Ipv4Piece) (x bytes : List ℕ) →
+      SlotsSo S slots → PieceSo S h p x → is_piece p ≡ true
+      → whole_after i timeout slots (Some (Ip4 link h p x)) ≡ Some (Ip4 l g r bytes) → NamesNoPorts h.next_header ⊎
+      ((fact : Fact) → IsOf bytes fact → S (Ipv4.key_of h) fact)
   rebuilds_so i timeout slots link l h g p r x bytes are from cut whole =
       rebuilds_by i timeout slots h p x bytes (is_piece p) (is_within p x) refl cut from are
       (whole_bytes (kept i timeout slots (Some (Ip4 link h p x))) (place_in slots (Some (Ip4 link h p x))) link l h g p r x bytes (is_piece p) cut whole)
@@ -295,12 +339,20 @@ module _ (S : Ipv4FragKey → Fact → Type 0) where
 -- LESS AND MORE
 
 only_up : (Q R : Fact → Type 0) → ((fact : Fact) → Q fact → R fact) → (s : Slot) → HoldsOnly Q s → HoldsOnly R s
-only_up Q R up s h = record { runs = h.runs; few = h.few; ends = h.ends; bytes = λ k b is. up (ByteAt k b) (h.bytes k b is); total = λ n is. up (EndsAt n) (h.total n is) }
+only_up Q R up s h = record {
+  runs = h.runs;
+  few = h.few;
+  ends = h.ends;
+  bytes = λ k b is. up (ByteAt k b) (h.bytes k b is);
+  total =
+      λ n is. up (EndsAt n) (h.total n is);
+}
 
 module _ (S T : Ipv4FragKey → Fact → Type 0) (up : (key : Ipv4FragKey) (fact : Fact) → S key fact → T key fact) where
   pub slots_up : (slots : Slots) → SlotsSo S slots → SlotsSo T slots
   slots_up [] all = tt
-  slots_up (s ∷ slots) all = (λ key is. elim (all.0 key is) [ inl none ↦ inl none | inr holds ↦ inr (only_up (S key) (T key) (up key) s holds) ], slots_up slots all.1)
+  slots_up (s ∷ slots) all =
+      (λ key is. elim (all.0 key is) [ inl none ↦ inl none | inr holds ↦ inr (only_up (S key) (T key) (up key) s holds) ], slots_up slots all.1)
 
 -- a slot that is free
 free_so : (S : Ipv4FragKey → Fact → Type 0) (s : Slot) (key : Option Ipv4FragKey) → s.key ≡ key → is_free s ≡ true → SlotSo S s

@@ -1,5 +1,6 @@
 -- A slot of TCP or UDP holds slices of one packet that the other host sent, so what is rebuilt in it is that packet's payload.
-use Rattle.std.proofs.Common.{◌≡◌, ◌⊎◌, inl, inr, ℕ, zero, suc, ◌-◌, ◌^◌, true, false, cond, List, [], ◌∷◌, ◌++◌, length, Option, Some, None, refl, sym, ◌∙◌, ap, subst}
+use Rattle.std.proofs.Common.{◌≡◌, ◌⊎◌, inl, inr, ℕ, zero, suc, ◌-◌, ◌^◌, true, false, cond, List, [], ◌∷◌, ◌++◌, length, Option, Some, None, refl, sym, ◌∙◌}
+use Rattle.std.proofs.Common.{ap, subst}
 use Rattle.std.specs.Prelude.{ℤ, map, slice_get, slice_set, nat_lt}
 use Rattle.std.specs.List.{AllByRecursion}
 use Rattle.ip_address.proofs.Keys.{Decides-key}
@@ -63,7 +64,8 @@ abbrev Slot : Type 0
 Slot = SlotValue Ipv4FragKey
 
 module _ (P : Slot → Type 0) (f : Slot → Slot) where
-  changed_by : (place : Option ℕ) (o : Option Slot) (slots : Slots) → at_place place slots ≡ o → ((s : Slot) → P s → P (f s)) → AllByRecursion P slots → AllByRecursion P (changed f place o slots)
+  changed_by : (place : Option ℕ) (o : Option Slot) (slots : Slots) → at_place place slots ≡ o → ((s : Slot) → P s → P (f s)) → AllByRecursion P slots →
+      AllByRecursion P (changed f place o slots)
   changed_by None o slots is keeps all = all
   changed_by (Some at) None slots is keeps all = all
   changed_by (Some at) (Some s) slots is keeps all = all_set P slots at (f s) all (keeps s (all_at P slots at s all is))
@@ -72,7 +74,8 @@ module _ (P : Slot → Type 0) (f : Slot → Slot) where
   changed_keeps place slots keeps all = changed_by place (at_place place slots) slots refl keeps all
 
 -- what stands at the place after a change
-pub changed_there : (f : Slot → Slot) (at : ℕ) (o : Option Slot) (slots : Slots) (s' : Slot) → at_place (Some at) slots ≡ o → at_place (Some at) (changed f (Some at) o slots) ≡ Some s' → (s : Slot) × (s' ≡ f s)
+pub changed_there : (f : Slot → Slot) (at : ℕ) (o : Option Slot) (slots : Slots) (s' : Slot) → at_place (Some at) slots ≡ o →
+    at_place (Some at) (changed f (Some at) o slots) ≡ Some s' → (s : Slot) × (s' ≡ f s)
 changed_there f at None slots s' is there = absurd (let e : at_place (Some at) slots ≡ Some s' = there in cc)
 changed_there f at (Some s) slots s' is there =
     let e : at_place (Some at) (slice_set slots at (f s)) ≡ Some (f s) = set_at slots at s (f s) is in
@@ -90,38 +93,60 @@ expired_keep out slots moment all =
 
 -- PIECES
 
-module _ (made : PayloadValue → Type 0) (first : ℕ) (out : List PacketValue) (next : ℕ) (are : AreNumbered first out next) (few : AreFew out) (all : AreOut made out) where
+module _ (made : PayloadValue → Type 0) (first : ℕ) (out : List PacketValue) (next : ℕ) (are : AreNumbered first out next) (few : AreFew out)
+    (all : AreOut made out) where
   -- one key is of one packet
   one_key : (v w : Ipv4Repr) (b c : List ℕ) → IsSentV4 out v b → IsSentV4 out w c → Ipv4.key_of (Ipv4.normal v) ≡ Ipv4.key_of (Ipv4.normal w) → b ≡ c
   one_key v w b c one other same =
       let ident : v.ident ≡ w.ident = ap (λ (k : Ipv4FragKey). k.id) same in
-      let packet : one.packet ≡ other.packet = one_number first out next one.packet other.packet v w are few one.among other.among one.header other.header ident in
+      let packet : one.packet ≡ other.packet =
+      one_number first out next one.packet other.packet v w are few one.among other.among one.header other.header ident in
       one.bytes_are ∙ ap bytes_of packet ∙ sym other.bytes_are
 
-  module _ (link : Option EthernetRepr) (h : Ipv4Repr) (p : Ipv4Piece) (x : List ℕ) (expires : ℤ) (cut : is_piece p ≡ true) (from : IsFrom made out (Ip4 link h p x)) where
-    opened_holds : (s : Slot) → IsSlotOf out s → IsPieceOf out h p x → NamesNoPorts h.next_header ⊎ HoldsSent out (Ipv4.key_of h) (opened is_same_datagram (Ipv4.key_of h) expires s)
+  module _ (link : Option EthernetRepr) (h : Ipv4Repr) (p : Ipv4Piece) (x : List ℕ) (expires : ℤ) (cut : is_piece p ≡
+      true) (from : IsFrom made out (Ip4 link h p x)) where
+    opened_holds : (s : Slot) → IsSlotOf out s → IsPieceOf out h p x → NamesNoPorts h.next_header ⊎
+        HoldsSent out (Ipv4.key_of h) (opened is_same_datagram (Ipv4.key_of h) expires s)
     opened_holds s is piece =
-        elim (is_of is_same_datagram (Ipv4.key_of h) s) as (λ b. (cond b s (taken (Ipv4.key_of h) expires s)).key ≡ Some (Ipv4.key_of h) → NamesNoPorts h.next_header ⊎ HoldsSent out (Ipv4.key_of h) (cond b s (taken (Ipv4.key_of h) expires s))) [
+        elim (is_of is_same_datagram (Ipv4.key_of h) s) as (λ b. (cond b s (taken (Ipv4.key_of h) expires s)).key ≡ Some (Ipv4.key_of h) →
+        NamesNoPorts h.next_header ⊎ HoldsSent out (Ipv4.key_of h) (cond b s (taken (Ipv4.key_of h) expires s))) [
           | true ↦ λ key. is (Ipv4.key_of h) key
-          | false ↦ λ key. inr (record { sent_header = piece.sent_header; bytes = piece.bytes; sent = piece.sent; key_is = piece.key; holds = HoldsSlicesOf-taken runs_kept piece.bytes (Ipv4.key_of h) expires s })
+          | false ↦ λ key. inr (record {
+            sent_header = piece.sent_header;
+            bytes = piece.bytes;
+            sent = piece.sent;
+            key_is = piece.key;
+            holds =
+                HoldsSlicesOf-taken runs_kept piece.bytes (Ipv4.key_of h) expires s;
+          })
         ] (opened-key is_same_datagram key_test (Ipv4.key_of h) expires s)
 
     placed_holds : (o : Slot) → IsPieceOf out h p x → HoldsSent out (Ipv4.key_of h) o → HoldsSent out (Ipv4.key_of h) (placed runs_kept o x p.offset p.more)
     placed_holds o piece held =
-        let same : piece.bytes ≡ held.bytes = one_key piece.sent_header held.sent_header piece.bytes held.bytes piece.sent held.sent (sym piece.key ∙ held.key_is) in
+        let same : piece.bytes ≡ held.bytes =
+        one_key piece.sent_header held.sent_header piece.bytes held.bytes piece.sent held.sent (sym piece.key ∙ held.key_is) in
         let slice : Pieces.IsSliceOf held.bytes (record { offset = p.offset; more = p.more; bytes = x }) =
         subst (λ (b : List ℕ). Pieces.IsSliceOf b (record { offset = p.offset; more = p.more; bytes = x })) same piece.slice in
-        record { sent_header = held.sent_header; bytes = held.bytes; sent = held.sent; key_is = held.key_is; holds = HoldsSlicesOf-placed runs_kept held.bytes o (record { offset = p.offset; more = p.more; bytes = x }) held.holds slice }
+        record {
+          sent_header = held.sent_header;
+          bytes = held.bytes;
+          sent = held.sent;
+          key_is = held.key_is;
+          holds =
+              HoldsSlicesOf-placed runs_kept held.bytes o (record { offset = p.offset; more = p.more; bytes = x }) held.holds slice;
+        }
 
     abbrev put : Slot → Slot
     put s = placed runs_kept (opened is_same_datagram (Ipv4.key_of h) expires s) x p.offset p.more
 
     put_key : (s : Slot) → (put s).key ≡ Some (Ipv4.key_of h)
-    put_key s = placed-key runs_kept (opened is_same_datagram (Ipv4.key_of h) expires s) x p.offset p.more ∙ opened-key is_same_datagram key_test (Ipv4.key_of h) expires s
+    put_key s = placed-key runs_kept (opened is_same_datagram (Ipv4.key_of h) expires s) x p.offset p.more ∙
+        opened-key is_same_datagram key_test (Ipv4.key_of h) expires s
 
     put_by : (s : Slot) → IsFrom made out (Ip4 link h p x) → IsSlotOf out s → NamesNoPorts h.next_header ⊎ HoldsSent out (Ipv4.key_of h) (put s)
     put_by s (inl made_whole) is = inl (made_whole.0 cut)
-    put_by s (inr piece) is = elim (opened_holds s is piece) [ inl none ↦ inl none | inr held ↦ inr (placed_holds (opened is_same_datagram (Ipv4.key_of h) expires s) piece held) ]
+    put_by s (inr piece) is =
+        elim (opened_holds s is piece) [ inl none ↦ inl none | inr held ↦ inr (placed_holds (opened is_same_datagram (Ipv4.key_of h) expires s) piece held) ]
 
     -- a slot that the piece comes to is one still
     put_is : (s : Slot) → IsSlotOf out s → IsSlotOf out (put s)
@@ -131,13 +156,15 @@ module _ (made : PayloadValue → Type 0) (first : ℕ) (out : List PacketValue)
         subst (λ (k : Ipv4FragKey). NamesNoPorts k.protocol ⊎ HoldsSent out k (put s)) same (put_by s from is)
 
     -- what is complete at the place of the piece is the payload of one packet
-    complete_by : (s : Slot) (bytes : List ℕ) → NamesNoPorts h.next_header ⊎ HoldsSent out (Ipv4.key_of h) s → completed s ≡ Some bytes → IsRebuiltOf out h bytes
+    complete_by : (s : Slot) (bytes : List ℕ) → NamesNoPorts h.next_header ⊎ HoldsSent out (Ipv4.key_of h) s → completed s ≡ Some bytes →
+        IsRebuiltOf out h bytes
     complete_by s bytes (inl none) done = inl none
     complete_by s bytes (inr held) done =
         let is : bytes ≡ held.bytes = completed-payload runs_kept held.bytes s bytes held.holds done in
         inr (record { sent_header = held.sent_header; sent = subst (IsSentV4 out held.sent_header) (sym is) held.sent; key_is = held.key_is })
 
-    complete_at : (slots : Slots) (at : ℕ) (o : Option Slot) (bytes : List ℕ) → AreSlotsOf out slots → at_place (Some at) (changed_at put (Some at) slots) ≡ o → completed_in o ≡ Some bytes → IsRebuiltOf out h bytes
+    complete_at : (slots : Slots) (at : ℕ) (o : Option Slot) (bytes : List ℕ) → AreSlotsOf out slots → at_place (Some at) (changed_at put (Some at) slots) ≡ o →
+        completed_in o ≡ Some bytes → IsRebuiltOf out h bytes
     complete_at slots at None bytes are_slots is done = absurd cc
     complete_at slots at (Some s) bytes are_slots is done =
         let there = changed_there put at (at_place (Some at) slots) slots s refl is in
@@ -145,7 +172,8 @@ module _ (made : PayloadValue → Type 0) (first : ℕ) (out : List PacketValue)
         let now : AreSlotsOf out (changed_at put (Some at) slots) = changed_keeps (IsSlotOf out) put (Some at) slots put_is are_slots in
         complete_by s bytes (all_at (IsSlotOf out) (changed_at put (Some at) slots) at s now is (Ipv4.key_of h) key) done
 
-    complete : (slots : Slots) (place : Option ℕ) (bytes : List ℕ) → AreSlotsOf out slots → bytes_at place (changed_at put place slots) ≡ Some bytes → IsRebuiltOf out h bytes
+    complete : (slots : Slots) (place : Option ℕ) (bytes : List ℕ) → AreSlotsOf out slots → bytes_at place (changed_at put place slots) ≡ Some bytes →
+        IsRebuiltOf out h bytes
     complete slots None bytes are_slots done = absurd cc
     complete slots (Some at) bytes are_slots done = complete_at slots at (at_place (Some at) (changed_at put (Some at) slots)) bytes are_slots refl done
 
@@ -154,21 +182,26 @@ module _ (made : PayloadValue → Type 0) (first : ℕ) (out : List PacketValue)
     hands_by bytes (inl none) = hands_none made (Ip.Ipv4 (record h { payload_len = length bytes })) bytes none
     hands_by bytes (inr of) = hands_v4 made out of.sent_header (record h { payload_len = length bytes }) bytes all of.sent of.key_is
 
-    rebuilt_made : (o : Option (List ℕ)) → ((bytes : List ℕ) → o ≡ Some bytes → HandsMade made (Ip.Ipv4 (record h { payload_len = length bytes })) bytes) → BringsMade made (rebuilt link h o)
+    rebuilt_made : (o : Option (List ℕ)) → ((bytes : List ℕ) → o ≡ Some bytes → HandsMade made (Ip.Ipv4 (record h { payload_len = length bytes })) bytes) →
+        BringsMade made (rebuilt link h o)
     rebuilt_made None hands = tt
     rebuilt_made (Some bytes) hands =
-        elim (nat_lt (length bytes) (2 ^ 16 - 20)) as (λ b. BringsMade made (cond b (Some (Ip4 link (record h { payload_len = length bytes }) uncut bytes)) None)) [ true ↦ hands bytes refl | false ↦ tt ]
+        elim (nat_lt (length bytes) (2 ^ 16 - 20)) as
+        (λ b. BringsMade made (cond b (Some (Ip4 link (record h { payload_len = length bytes }) uncut bytes)) None))
+        [ true ↦ hands bytes refl | false ↦ tt ]
 
     pub piece_keeps : (slots : Slots) → AreSlotsOf out slots → AreSlotsOf out (changed_at put (place_for is_same_datagram slots (Ipv4.key_of h)) slots)
     piece_keeps slots are_slots = changed_keeps (IsSlotOf out) put (place_for is_same_datagram slots (Ipv4.key_of h)) slots put_is are_slots
 
     pub piece_brings : (slots : Slots) → AreSlotsOf out slots
-        → BringsMade made (rebuilt link h (bytes_at (place_for is_same_datagram slots (Ipv4.key_of h)) (changed_at put (place_for is_same_datagram slots (Ipv4.key_of h)) slots)))
+        → BringsMade made (rebuilt link h
+        (bytes_at (place_for is_same_datagram slots (Ipv4.key_of h)) (changed_at put (place_for is_same_datagram slots (Ipv4.key_of h)) slots)))
     piece_brings slots are_slots =
         let place = place_for is_same_datagram slots (Ipv4.key_of h) in
         rebuilt_made (bytes_at place (changed_at put place slots)) (λ bytes done. hands_by bytes (complete slots place bytes are_slots done))
 
     -- the payload that is rebuilt when the piece comes
     pub piece_rebuilds : (slots : Slots) (bytes : List ℕ) → AreSlotsOf out slots
-        → bytes_at (place_for is_same_datagram slots (Ipv4.key_of h)) (changed_at put (place_for is_same_datagram slots (Ipv4.key_of h)) slots) ≡ Some bytes → IsRebuiltOf out h bytes
+        → bytes_at (place_for is_same_datagram slots (Ipv4.key_of h)) (changed_at put (place_for is_same_datagram slots (Ipv4.key_of h)) slots) ≡ Some bytes →
+        IsRebuiltOf out h bytes
     piece_rebuilds slots bytes are_slots done = complete slots (place_for is_same_datagram slots (Ipv4.key_of h)) bytes are_slots done

@@ -1,5 +1,6 @@
 -- The frames of packets and pieces that left are slices, or whole packets of IPv6.
-use Rattle.std.proofs.Common.{◌≡◌, inl, inr, ℕ, zero, suc, ◌+◌, ◌^◌, ◌<◌, ◌≤◌, Bool, true, false, List, [], ◌∷◌, ◌++◌, length, take, drop, refl, sym, ◌∙◌, ap, arith, length-append, length-take, length-drop, append-nil}
+use Rattle.std.proofs.Common.{◌≡◌, inl, inr, ℕ, zero, suc, ◌+◌, ◌^◌, ◌<◌, ◌≤◌, Bool, true, false, List, [], ◌∷◌, ◌++◌, length, take, drop, refl, sym, ◌∙◌, ap}
+use Rattle.std.proofs.Common.{arith, length-append, length-take, length-drop, append-nil}
 use Rattle.std.specs.Prelude.{nat_lt}
 use Rattle.std.proofs.lemmas.List.{take_at}
 use Rattle.std.proofs.lemmas.Bool.Decides.{nat_tests}
@@ -25,7 +26,8 @@ use Rattle.lan_theorem.proofs.Link.Links.{link4, link6}
 -- LENGTHS
 
 pub length_v4 : (v : Ipv4Repr) (offset : ℕ) (more : Bool) → Ipv4.IsValue v → length (Ipv4.written_piece true v offset more) ≡ 20
-length_v4 v offset more value = omega (arith, value.source.0, value.destination.0, length-append v.src_addr.0 (v.dst_addr.0 ++ []), length-append v.dst_addr.0 [])
+length_v4 v offset more value =
+    omega (arith, value.source.0, value.destination.0, length-append v.src_addr.0 (v.dst_addr.0 ++ []), length-append v.dst_addr.0 [])
 
 pub length_v6 : (v : Ipv6Repr) → Ipv6.IsValue v → length (Ipv6.written v) ≡ 40
 length_v6 v value = omega (arith, value.source.0, value.destination.0, length-append v.src_addr.0 v.dst_addr.0)
@@ -41,7 +43,8 @@ sent_len p w = sym (length-written sealed p w) ∙ w.sendable.len
 
 module _ (own to : HardwareAddress) (same : IsSameKind own to) (out : List PacketValue) where
   -- the slice that begins the packet
-  pub whole4 : (v : Ipv4Repr) (x : PayloadValue) → IsWritable (packet_of (Ip.Ipv4 v) x) → length (packet_frame sealed own to (packet_of (Ip.Ipv4 v) x)) ≡ packet_frame_len own to (packet_of (Ip.Ipv4 v) x)
+  pub whole4 : (v : Ipv4Repr) (x : PayloadValue) → IsWritable (packet_of (Ip.Ipv4 v) x) →
+      length (packet_frame sealed own to (packet_of (Ip.Ipv4 v) x)) ≡ packet_frame_len own to (packet_of (Ip.Ipv4 v) x)
       → (f : IsSlice (medium_on own) (packet_of (Ip.Ipv4 v) x ∷ out) (packet_frame sealed own to (packet_of (Ip.Ipv4 v) x))) × (f.slice.at ≡ 0)
   whole4 v x w len =
       let p : PacketValue = packet_of (Ip.Ipv4 v) x in
@@ -56,15 +59,18 @@ module _ (own to : HardwareAddress) (same : IsSameKind own to) (out : List Packe
           bytes = bytes;
           slice = record { at = 0; count = length bytes; more = false };
           sent = record { packet = p; among = inl refl; header = refl; bytes_are = refl; value = w.header; short = omega (arith, count, fits) };
-          is_link = link4 own to same (front link (Ipv4.written true v) bytes (link_len own to) 20 (payload_len x) len (length_v4 v 0 false w.header) (sent_len p w));
+          is_link = link4 own to same
+              (front link (Ipv4.written true v) bytes (link_len own to) 20 (payload_len x) len (length_v4 v 0 false w.header) (sent_len p w));
           within = record { within = omega arith; last = λ none. omega arith };
           unit = refl;
-          frame_is = ap (λ (n : ℕ). link ++ (Ipv4.written_piece true (with_len v n) 0 false ++ bytes)) count ∙ ap (λ (b : List ℕ). link ++ (Ipv4.written_piece true (with_len v (length bytes)) 0 false ++ b)) (sym all);
+          frame_is = ap (λ (n : ℕ). link ++ (Ipv4.written_piece true (with_len v n) 0 false ++ bytes)) count ∙
+              ap (λ (b : List ℕ). link ++ (Ipv4.written_piece true (with_len v (length bytes)) 0 false ++ b)) (sym all);
         },
         refl,
       )
 
-  whole6 : (v : Ipv6Repr) (x : PayloadValue) → IsWritable (packet_of (Ip.Ipv6 v) x) → length (packet_frame sealed own to (packet_of (Ip.Ipv6 v) x)) ≡ packet_frame_len own to (packet_of (Ip.Ipv6 v) x)
+  whole6 : (v : Ipv6Repr) (x : PayloadValue) → IsWritable (packet_of (Ip.Ipv6 v) x) →
+      length (packet_frame sealed own to (packet_of (Ip.Ipv6 v) x)) ≡ packet_frame_len own to (packet_of (Ip.Ipv6 v) x)
       → IsWhole6 (medium_on own) (packet_of (Ip.Ipv6 v) x ∷ out) (packet_frame sealed own to (packet_of (Ip.Ipv6 v) x))
   whole6 v x w len =
       let p : PacketValue = packet_of (Ip.Ipv6 v) x in
@@ -73,18 +79,29 @@ module _ (own to : HardwareAddress) (same : IsSameKind own to) (out : List Packe
         link = link;
         header = v;
         bytes = bytes_of p;
-        sent = record { packet = p; among = inl refl; header = refl; bytes_are = refl; value = w.header; len = length-written sealed p w; fits = w.sendable.header };
+        sent = record {
+          packet = p;
+          among = inl refl;
+          header = refl;
+          bytes_are = refl;
+          value = w.header;
+          len = length-written sealed p w;
+          fits =
+              w.sendable.header;
+        };
         is_link = link6 own to same (front link (Ipv6.written v) (bytes_of p) (link_len own to) 40 (payload_len x) len (length_v6 v w.header) (sent_len p w));
         frame_is = refl;
       }
 
-  whole_by : (h : IpRepr) (x : PayloadValue) → IsWritable (packet_of h x) → length (packet_frame sealed own to (packet_of h x)) ≡ packet_frame_len own to (packet_of h x)
+  whole_by : (h : IpRepr) (x : PayloadValue) → IsWritable (packet_of h x) →
+      length (packet_frame sealed own to (packet_of h x)) ≡ packet_frame_len own to (packet_of h x)
       → IsHostFrame (medium_on own) (packet_of h x ∷ out) (packet_frame sealed own to (packet_of h x))
   whole_by (Ip.Ipv4 v) x w len = inl (whole4 v x w len).0
   whole_by (Ip.Ipv6 v) x w len = inr (inl (whole6 v x w len))
 
   -- the frame of a packet that goes whole
-  pub whole_frame : (p : PacketValue) → IsWritable p → length (packet_frame sealed own to p) ≡ packet_frame_len own to p → IsHostFrame (medium_on own) (p ∷ out) (packet_frame sealed own to p)
+  pub whole_frame : (p : PacketValue) → IsWritable p → length (packet_frame sealed own to p) ≡ packet_frame_len own to p →
+      IsHostFrame (medium_on own) (p ∷ out) (packet_frame sealed own to p)
   whole_frame p w len = whole_by p.header p.payload w len
 
 -- PIECES
@@ -98,7 +115,8 @@ ended : (a b : ℕ) → nat_lt a b ≡ false → b ≤ a
 ended a b none = grind (arith, nat_tests)
 
 -- the next piece of what is left, from where that begins
-pub piece_slice : (own : HardwareAddress) (out : List PacketValue) (mtu : ℕ) (l : LeftValue) → IsLeft own out l → length (piece_frame sealed own l.to l.header (next_piece mtu l)) ≡ piece_frame_len own l.to (next_piece mtu l)
+pub piece_slice : (own : HardwareAddress) (out : List PacketValue) (mtu : ℕ) (l : LeftValue) → IsLeft own out l →
+    length (piece_frame sealed own l.to l.header (next_piece mtu l)) ≡ piece_frame_len own l.to (next_piece mtu l)
     → (f : IsSlice (medium_on own) out (piece_frame sealed own l.to l.header (next_piece mtu l))) × (f.slice.at ≡ l.at)
 piece_slice own out mtu l left len =
     let room : ℕ = piece_room mtu in
@@ -107,7 +125,16 @@ piece_slice own out mtu l left len =
     let w : List ℕ = Ipv4.written_piece true (with_len l.header (length part)) l.at (nat_lt (l.at + room) (length l.payload)) in
     let half = left.half in
     let most : l.at ≤ length l.payload = half.within in
-    let long : length w ≡ 20 = length_v4 (with_len l.header (length part)) l.at (nat_lt (l.at + room) (length l.payload)) (record { source = half.header_is.source; destination = half.header_is.destination; identification = half.header_is.identification; protocol = half.header_is.protocol; hops = half.header_is.hops }) in (
+    let long : length w ≡ 20 =
+    length_v4 (with_len l.header (length part)) l.at (nat_lt (l.at + room) (length l.payload))
+    (record {
+      source = half.header_is.source;
+      destination = half.header_is.destination;
+      identification = half.header_is.identification;
+      protocol =
+          half.header_is.protocol;
+      hops = half.header_is.hops;
+    }) in (
       record {
         link = link;
         header = l.header;
@@ -117,7 +144,8 @@ piece_slice own out mtu l left len =
         is_link = link4 own l.to left.to (front link w part (link_len own l.to) 20 (length part) len long refl);
         within = record {
           within = omega (arith, most, length-take room (drop l.at l.payload), length-drop l.at l.payload);
-          last = λ none. let most_of : length l.payload ≤ l.at + room = ended (l.at + room) (length l.payload) none in omega (arith, most, most_of, length-take room (drop l.at l.payload), length-drop l.at l.payload);
+          last = λ none. let most_of : length l.payload ≤ l.at + room = ended (l.at + room) (length l.payload) none in
+              omega (arith, most, most_of, length-take room (drop l.at l.payload), length-drop l.at l.payload);
         };
         unit = half.unit;
         frame_is = ap (λ (b : List ℕ). link ++ (w ++ b)) (sym (take_count room (drop l.at l.payload)));
@@ -125,6 +153,7 @@ piece_slice own out mtu l left len =
       refl,
     )
 
-pub piece_frame_is : (own : HardwareAddress) (out : List PacketValue) (mtu : ℕ) (l : LeftValue) → IsLeft own out l → length (piece_frame sealed own l.to l.header (next_piece mtu l)) ≡ piece_frame_len own l.to (next_piece mtu l)
+pub piece_frame_is : (own : HardwareAddress) (out : List PacketValue) (mtu : ℕ) (l : LeftValue) → IsLeft own out l →
+    length (piece_frame sealed own l.to l.header (next_piece mtu l)) ≡ piece_frame_len own l.to (next_piece mtu l)
     → IsHostFrame (medium_on own) out (piece_frame sealed own l.to l.header (next_piece mtu l))
 piece_frame_is own out mtu l left len = inl (piece_slice own out mtu l left len).0

@@ -1,5 +1,6 @@
 -- The neighbours that a host knows are stations, whatever arrives.
-use Rattle.std.proofs.Common.{◌≡◌, ℕ, zero, suc, ◌^◌, ◌<◌, ◌≤◌, Bool, true, false, cond, List, [], ◌∷◌, ◌++◌, length, take, drop, Option, Some, None, refl, sym, ◌∙◌, subst}
+use Rattle.std.proofs.Common.{◌≡◌, ℕ, zero, suc, ◌^◌, ◌<◌, ◌≤◌, Bool, true, false, cond, List, [], ◌∷◌, ◌++◌, length, take, drop, Option, Some, None, refl, sym}
+use Rattle.std.proofs.Common.{◌∙◌, subst}
 use Rattle.std.specs.Prelude.{ℤ, pos, ◌+ℤ◌, nat_lt, remove}
 use Rattle.std.specs.List.{AllByRecursion}
 use Rattle.control_wire.specs.Icmpv6 as Icmpv6
@@ -60,32 +61,41 @@ all_join : (xs ys : List Neighbor) → AllByRecursion IsNear xs → AllByRecursi
 all_join [] ys all more = more
 all_join (x ∷ xs) ys all more = (all.0, all_join xs ys all.1 more)
 
-filled_near : (place : Option ℕ) (room : ℕ) (entries : List Neighbor) (new : Neighbor) → AllByRecursion IsNear entries → IsNear new → AllByRecursion IsNear (filled_at place room entries new)
+filled_near : (place : Option ℕ) (room : ℕ) (entries : List Neighbor) (new : Neighbor) → AllByRecursion IsNear entries → IsNear new →
+    AllByRecursion IsNear (filled_at place room entries new)
 filled_near (Some at) room entries new all near = all_set IsNear entries at new all near
 filled_near None room entries new all near =
     elim (nat_lt (length entries) room) as (λ b. AllByRecursion IsNear (cond b (entries ++ new ∷ []) (remove entries (victim entries) ++ new ∷ []))) [
       | true ↦ all_more IsNear entries new all near
-      | false ↦ all_more IsNear (remove entries (victim entries)) new (all_join (take (victim entries) entries) (drop (suc (victim entries)) entries) (all_take (victim entries) entries all) (all_drop (suc (victim entries)) entries all)) near
+      | false ↦ all_more IsNear (remove entries (victim entries)) new
+          (all_join (take (victim entries) entries) (drop (suc (victim entries)) entries) (all_take (victim entries) entries all)
+          (all_drop (suc (victim entries)) entries all)) near
     ]
 
 renewed_near : (entry : Neighbor) (hardware : HardwareAddress) (moment : ℤ) → IsNear entry → IsNear (renewed_entry entry hardware moment)
 renewed_near entry hardware moment near =
-    elim (is_same_hardware entry.hardware_addr hardware) as (λ b. IsNear (cond b (record entry { expires_at = moment +ℤ pos entry_lifetime }) entry)) [ true ↦ near | false ↦ near ]
+    elim (is_same_hardware entry.hardware_addr hardware) as (λ b. IsNear (cond b (record entry { expires_at = moment +ℤ pos entry_lifetime }) entry))
+    [ true ↦ near | false ↦ near ]
 
-renewed_all : (place : Option ℕ) (o : Option Neighbor) (entries : List Neighbor) (hardware : HardwareAddress) (moment : ℤ) → at_place place entries ≡ o → AllByRecursion IsNear entries → AllByRecursion IsNear (renewed_at place o entries hardware moment)
+renewed_all : (place : Option ℕ) (o : Option Neighbor) (entries : List Neighbor) (hardware : HardwareAddress) (moment : ℤ) → at_place place entries ≡ o →
+    AllByRecursion IsNear entries → AllByRecursion IsNear (renewed_at place o entries hardware moment)
 renewed_all None o entries hardware moment is all = all
 renewed_all (Some at) None entries hardware moment is all = all
-renewed_all (Some at) (Some entry) entries hardware moment is all = all_set IsNear entries at (renewed_entry entry hardware moment) all (renewed_near entry hardware moment (all_at IsNear entries at entry all is))
+renewed_all (Some at) (Some entry) entries hardware moment is all =
+    all_set IsNear entries at (renewed_entry entry hardware moment) all (renewed_near entry hardware moment (all_at IsNear entries at entry all is))
 
 -- HOSTS
 
 near_neighbor : (i : InnerValue) (address : IpAddress) (station : EthernetAddress) → AreNear i → AreNear (with_neighbor i address (Hardware.Ethernet station))
-near_neighbor i address station near = filled_near (place_of i.neighbors.entries address) table_room i.neighbors.entries (record { protocol_addr = address; hardware_addr = Hardware.Ethernet station; expires_at = i.moment +ℤ pos entry_lifetime }) near tt
+near_neighbor i address station near =
+    filled_near (place_of i.neighbors.entries address) table_room i.neighbors.entries
+    (record { protocol_addr = address; hardware_addr = Hardware.Ethernet station; expires_at = i.moment +ℤ pos entry_lifetime }) near tt
 
 near_renewed_by : (i : InnerValue) (link : Option EthernetRepr) (sender : IpAddress) → AreNear i → AreNear (renewed_by i link sender)
 near_renewed_by i None sender near = near
 near_renewed_by i (Some link) sender near =
-    renewed_all (place_of i.neighbors.entries sender) (at_place (place_of i.neighbors.entries sender) i.neighbors.entries) i.neighbors.entries (Hardware.Ethernet link.src_addr) i.moment refl near
+    renewed_all (place_of i.neighbors.entries sender) (at_place (place_of i.neighbors.entries sender) i.neighbors.entries) i.neighbors.entries
+    (Hardware.Ethernet link.src_addr) i.moment refl near
 
 near_renewed : (i : InnerValue) (link : Option EthernetRepr) (ip : IpRepr) → AreNear i → AreNear (renewed i link ip)
 near_renewed i link ip near =
@@ -95,16 +105,20 @@ near_learned : (i : InnerValue) (source : Ipv6Address) (link : Option (List ℕ)
 near_learned i source None near = near
 near_learned i source (Some link) near = near_neighbor i (Address.Ipv6 source) (station link) near
 
-near_advertised : (i : InnerValue) (flags : NdiscNeighborFlags) (source : Ipv6Address) (link : Option (List ℕ)) → AreNear i → AreNear (advertised i flags source link)
+near_advertised : (i : InnerValue) (flags : NdiscNeighborFlags) (source : Ipv6Address) (link : Option (List ℕ)) → AreNear i →
+    AreNear (advertised i flags source link)
 near_advertised i flags source link near =
     elim (replaces i flags source) as (λ b. AreNear (cond b (learned i source link) i)) [ true ↦ near_learned i source link near | false ↦ near ]
 
-near_heard : (hardware : HardwareAddress) (i : InnerValue) (header : Ipv6Repr) (message : NeighborMessage) → AreNear i → AreNear (heard_on hardware i header message).inner
+near_heard : (hardware : HardwareAddress) (i : InnerValue) (header : Ipv6Repr) (message : NeighborMessage) → AreNear i →
+    AreNear (heard_on hardware i header message).inner
 near_heard Hardware.Ip i header message near = near
 near_heard (Hardware.Ethernet own) i header (Solicitation target link) near =
-    elim (counts header target link) as (λ b. AreNear (cond b (heard (learned i header.src_addr link) (answer own i header target)) (heard i None)).inner) [ true ↦ near_learned i header.src_addr link near | false ↦ near ]
+    elim (counts header target link) as (λ b. AreNear (cond b (heard (learned i header.src_addr link) (answer own i header target)) (heard i None)).inner)
+    [ true ↦ near_learned i header.src_addr link near | false ↦ near ]
 near_heard (Hardware.Ethernet own) i header (Advertisement flags target link) near =
-    elim (counts header target link) as (λ b. AreNear (cond b (heard (advertised i flags header.src_addr link) None) (heard i None)).inner) [ true ↦ near_advertised i flags header.src_addr link near | false ↦ near ]
+    elim (counts header target link) as (λ b. AreNear (cond b (heard (advertised i flags header.src_addr link) None) (heard i None)).inner)
+    [ true ↦ near_advertised i flags header.src_addr link near | false ↦ near ]
 
 near_message : (i : InnerValue) (header : Ipv6Repr) (message : MessageValue) → AreNear i → AreNear (message_host i header message)
 near_message i header (Icmpv6.Ndisc message) near = near_heard i.hardware i header message near
@@ -137,17 +151,22 @@ near_handed i places ip (Some (Segment header bytes)) near =
 
 -- ARRIVALS
 
-near_v4 : (ours : Bool) (i : InnerValue) (places : Places) (link : Option EthernetRepr) (ip : IpRepr) (payload : List ℕ) (a : Arrived) → AreNear i → ArrivesV4 ours i places link ip payload a → AreNear a.inner
-near_v4 true i places link ip payload a near (carried, is, handed) = subst AreNear (sym handed.inner) (near_handed (renewed i link ip) (packet_delivered ip payload places) ip carried (near_renewed i link ip near))
+near_v4 : (ours : Bool) (i : InnerValue) (places : Places) (link : Option EthernetRepr) (ip : IpRepr) (payload : List ℕ) (a : Arrived) → AreNear i →
+    ArrivesV4 ours i places link ip payload a → AreNear a.inner
+near_v4 true i places link ip payload a near (carried, is, handed) =
+    subst AreNear (sym handed.inner) (near_handed (renewed i link ip) (packet_delivered ip payload places) ip carried (near_renewed i link ip near))
 near_v4 false i places link ip payload a near is = subst AreNear (sym is.inner) near
 
-near_v6 : (ours : Bool) (i : InnerValue) (places : Places) (link : Option EthernetRepr) (ip : IpRepr) (payload : List ℕ) (a : Arrived) → AreNear i → ArrivesV6 ours i places link ip payload a → AreNear a.inner
-near_v6 true i places link ip payload a near (carried, is, handed) = subst AreNear (sym handed.inner) (near_handed (renewed i link ip) (packet_delivered ip payload places) ip carried (near_renewed i link ip near))
+near_v6 : (ours : Bool) (i : InnerValue) (places : Places) (link : Option EthernetRepr) (ip : IpRepr) (payload : List ℕ) (a : Arrived) → AreNear i →
+    ArrivesV6 ours i places link ip payload a → AreNear a.inner
+near_v6 true i places link ip payload a near (carried, is, handed) =
+    subst AreNear (sym handed.inner) (near_handed (renewed i link ip) (packet_delivered ip payload places) ip carried (near_renewed i link ip near))
 near_v6 false i places link ip payload a near is = subst AreNear (sym is.inner) near
 
 near_arp : (i : InnerValue) (packet : ArpRepr) → AreNear i → AreNear (arp_arrived i packet)
 near_arp i (ArpIs.EthernetIpv4 operation source source_protocol target target_protocol) near =
-    elim (Arps.counts i (ArpIs.EthernetIpv4 operation source source_protocol target target_protocol)) as (λ b. AreNear (cond b (with_neighbor i (Address.Ipv4 source_protocol) (Hardware.Ethernet source)) i)) [
+    elim (Arps.counts i (ArpIs.EthernetIpv4 operation source source_protocol target target_protocol)) as
+    (λ b. AreNear (cond b (with_neighbor i (Address.Ipv4 source_protocol) (Hardware.Ethernet source)) i)) [
       | true ↦ near_neighbor i (Address.Ipv4 source_protocol) source near
       | false ↦ near
     ]
@@ -155,13 +174,16 @@ near_arp i (ArpIs.EthernetIpv4 operation source source_protocol target target_pr
 near_brings : (i : InnerValue) (places : Places) (content : Option IncomingValue) (a : Arrived) → AreNear i → Brings i places content a → AreNear a.inner
 near_brings i places None a near is = subst AreNear (sym is.inner) near
 near_brings i places (Some (Arp link packet)) a near is = subst AreNear (sym is.inner) (near_arp i packet near)
-near_brings i places (Some (Ip4 link header piece payload)) a near is = near_v4 (is_for_us i (Address.Ipv4 header.dst_addr)) i places link (Ip.Ipv4 header) payload a near is
-near_brings i places (Some (Ip6 link header payload)) a near is = near_v6 (is_for_us i (Address.Ipv6 header.dst_addr)) i places link (Ip.Ipv6 header) payload a near is
+near_brings i places (Some (Ip4 link header piece payload)) a near is =
+    near_v4 (is_for_us i (Address.Ipv4 header.dst_addr)) i places link (Ip.Ipv4 header) payload a near is
+near_brings i places (Some (Ip6 link header payload)) a near is =
+    near_v6 (is_for_us i (Address.Ipv6 header.dst_addr)) i places link (Ip.Ipv6 header) payload a near is
 
 -- THE SENDER
 
 -- a host of which nothing that a sender is read by has changed
-pub sender_settled : (made : PayloadValue → Type 0) (first : ℕ) (out : List PacketValue) (i i' : InnerValue) (l : Option LeftValue) (sent : List (List ℕ)) → i'.hardware ≡ i.hardware → i'.ident ≡ i.ident → IsSound i'
+pub sender_settled : (made : PayloadValue → Type 0) (first : ℕ) (out : List PacketValue) (i i' : InnerValue) (l : Option LeftValue) (sent : List (List ℕ)) →
+    i'.hardware ≡ i.hardware → i'.ident ≡ i.ident → IsSound i'
     → IsSender made first i l sent out → IsSender made first i' l sent out
 sender_settled made first out i i' l sent hardware ident sound s = record {
   sound = sound;
@@ -171,7 +193,8 @@ sender_settled made first out i i' l sent hardware ident sound s = record {
 }
 
 -- what arrives leaves a sender one
-pub arrival_keeps_sender : (made : PayloadValue → Type 0) (first : ℕ) (out : List PacketValue) (i : InnerValue) (l : Option LeftValue) (sent : List (List ℕ)) (places : Places) (content : Option IncomingValue) (a : Arrived)
+pub arrival_keeps_sender : (made : PayloadValue → Type 0) (first : ℕ) (out : List PacketValue) (i : InnerValue) (l : Option LeftValue) (sent : List (List ℕ))
+    (places : Places) (content : Option IncomingValue) (a : Arrived)
     → Brings i places content a → IsSender made first i l sent out → IsSender made first a.inner l sent out
 arrival_keeps_sender made first out i l sent places content a brings s =
     let same = brings_same i places content a brings in
@@ -180,6 +203,10 @@ arrival_keeps_sender made first out i l sent places content a brings s =
       own = subst HasSixBytes (sym same.hardware) s.sound.own;
       neighbors = near_brings i places content a s.sound.neighbors brings;
       routers = subst RoutersAre (sym same.routes) s.sound.routers;
-      widths = record { mtu = subst (λ (n : ℕ). n ≤ 65535) (sym same.mtu) s.sound.widths.mtu; ident = subst (λ (n : ℕ). n < 2 ^ 16) (sym same.ident) s.sound.widths.ident };
+      widths = record {
+        mtu = subst (λ (n : ℕ). n ≤ 65535) (sym same.mtu) s.sound.widths.mtu;
+        ident =
+            subst (λ (n : ℕ). n < 2 ^ 16) (sym same.ident) s.sound.widths.ident;
+      };
       checksums = same.checksums ∙ s.sound.checksums;
     }) s

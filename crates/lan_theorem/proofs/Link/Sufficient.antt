@@ -1,5 +1,6 @@
 -- A poll that isn't refused takes fewer numbers than there are.
-use Rattle.std.proofs.Common.{◌≡◌, ℕ, ◌+◌, ◌*◌, ◌^◌, ◌<◌, ◌≤◌, Bool, true, false, cond, List, ◌∷◌, length, drop, Option, Some, None, refl, sym, ◌∙◌, ap, subst, arith}
+use Rattle.std.proofs.Common.{◌≡◌, ℕ, ◌+◌, ◌*◌, ◌^◌, ◌<◌, ◌≤◌, Bool, true, false, cond, List, ◌∷◌, length, drop, Option, Some, None, refl, sym, ◌∙◌, ap, subst}
+use Rattle.std.proofs.Common.{arith}
 use Rattle.std.specs.Prelude.{ℤ, nat_le}
 use Rattle.std.specs.List.{count_by}
 use Rattle.std.proofs.Math.Seq.{drop-append_seam}
@@ -44,7 +45,8 @@ module _ (past : List Entry) (e : Entry) (old new : Stations) (side : Side) (lea
   abbrev behind : ℕ
   behind = (table_in (e ∷ past) side (station new side)).numbered
 
-  behind_is : behind ≡ before + datagrams_added side (kind_of e.event) (medium_of (station new side)) (length (station old side).link.sent) (station new side).link.sent
+  behind_is : behind ≡ before +
+      datagrams_added side (kind_of e.event) (medium_of (station new side)) (length (station old side).link.sent) (station new side).link.sent
   behind_is = ap (λ (t : Table). t.numbered) (tables_go_on past e old new side leads.counted leads.happens)
 
   pub numbers_grow : before ≤ behind
@@ -62,10 +64,12 @@ module _ (past : List Entry) (e : Entry) (old new : Stations) (side : Side) (lea
         enough (2 ^ 16) (before + budget * (1 + socket_count (station old side).places)) not_out
 
     -- what a poll sends is its host's own
-    polled_is : behind ≡ before + count_by (begins_datagram (medium_of (station new side))) (drop (length (station old side).link.sent) (station new side).link.sent)
+    polled_is : behind ≡ before +
+        count_by (begins_datagram (medium_of (station new side))) (drop (length (station old side).link.sent) (station new side).link.sent)
     polled_is =
         behind_is
-        ∙ ap (λ (k : Kind). before + datagrams_added side k (medium_of (station new side)) (length (station old side).link.sent) (station new side).link.sent) is
+        ∙ ap (λ (k : Kind). before +
+        datagrams_added side k (medium_of (station new side)) (length (station old side).link.sent) (station new side).link.sent) is
 
     -- so many frames more begin a datagram
     more_frames : count_by (begins_datagram (medium_of (station old side))) (station new side).link.sent + before
@@ -76,7 +80,8 @@ module _ (past : List Entry) (e : Entry) (old new : Stations) (side : Side) (lea
         let begins : List ℕ → Bool = begins_datagram (medium_of (station old side)) in
         let all : count_by begins (station new side).link.sent ≡ count_by begins sent + count_by begins follows.added =
         ap (count_by begins) follows.sent ∙ sum_by-append (λ (x : List ℕ). worth (begins x)) sent follows.added in
-        let rest : drop (length sent) (station new side).link.sent ≡ follows.added = ap (drop (length sent)) follows.sent ∙ drop-append_seam sent follows.added in
+        let rest : drop (length sent) (station new side).link.sent ≡ follows.added = ap (drop (length sent)) follows.sent ∙
+        drop-append_seam sent follows.added in
         let medium : medium_of (station new side) ≡ medium_of (station old side) = ap (λ (c : DeviceCapabilities). c.medium) follows.capabilities in
         let now : behind ≡ before + count_by begins follows.added =
         polled_is
@@ -84,6 +89,7 @@ module _ (past : List Entry) (e : Entry) (old new : Stations) (side : Side) (lea
         ∙ ap (λ (fs : List (List ℕ)). before + count_by begins fs) rest in
         omega (arith, all, now)
 
-    pub polled_few : (out out' : List PacketValue) → count_v4 out ≤ before → count_v4 out' ≤ count_v4 out + budget * (1 + socket_count (station old side).places)
+    pub polled_few : (out out' : List PacketValue) → count_v4 out ≤ before →
+        count_v4 out' ≤ count_v4 out + budget * (1 + socket_count (station old side).places)
         → IsTied (medium_of (station old side)) out (station old side).link.sent out' (station new side).link.sent → AreFew out' × (count_v4 out' ≤ behind)
     polled_few out out' few most tied = (omega (arith, few, most, room), omega (arith, few, tied, more_frames))

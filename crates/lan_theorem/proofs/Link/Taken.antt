@@ -15,7 +15,8 @@ use Rattle.interface_tables.specs.Slots.{changed_at, with_piece_of, without_data
 use Rattle.interface_ingress.specs.Arrives.{Arrived, ArrivesAs, slots_after, whole_after}
 use Rattle.interface_ingress.specs.Delivered.{Places}
 use Rattle.interface_ingress.specs.Incoming.{IncomingValue, Arp, Ip4, Ip6, IsIncoming, IsContent}
-use Rattle.interface_ingress.specs.Reassembled.{Slots, is_piece, is_within, is_same_datagram, runs_kept, is_taken_in, taken_in, given_up_at, place_in, kept, bytes_at, rebuilt, released, uncut}
+use Rattle.interface_ingress.specs.Reassembled.{Slots, is_piece, is_within, is_same_datagram, runs_kept, is_taken_in, taken_in, given_up_at, place_in, kept}
+use Rattle.interface_ingress.specs.Reassembled.{bytes_at, rebuilt, released, uncut}
 use Rattle.interface_ingress.proofs.Settings.{brings_same}
 use Rattle.lan_theorem.specs.Link.Made.{sealed, BringsMade}
 use Rattle.lan_theorem.specs.Link.Frames.{IsFrom, BringsFrom}
@@ -28,26 +29,34 @@ use Rattle.lan_theorem.proofs.Link.Slots.{all_more, changed_keeps, freed_is, exp
 -- WHAT IS READ
 
 -- the content of a frame is what the frame brings
-pub content_from : (made : PayloadValue → Type 0) (out : List PacketValue) (hardware : HardwareAddress) (caps : ChecksumCapabilities) (frame : List ℕ) (content : Option IncomingValue)
+pub content_from : (made : PayloadValue → Type 0) (out : List PacketValue) (hardware : HardwareAddress) (caps : ChecksumCapabilities) (frame : List ℕ)
+    (content : Option IncomingValue)
     → caps ≡ sealed → BringsFrom made out hardware frame → IsContent hardware caps frame content → AreFrom made out content
 content_from made out hardware caps frame None are brings is = tt
 content_from made out hardware caps frame (Some v) are brings is = brings v (subst (λ (c : ChecksumCapabilities). IsIncoming hardware c frame v) are is)
 
 -- what a host takes in of it is so too
-pub taken_from : (made : PayloadValue → Type 0) (out : List PacketValue) (i : InnerValue) (content : Option IncomingValue) → AreFrom made out content → AreFrom made out (taken_in i content)
+pub taken_from : (made : PayloadValue → Type 0) (out : List PacketValue) (i : InnerValue) (content : Option IncomingValue) → AreFrom made out content →
+    AreFrom made out (taken_in i content)
 taken_from made out i None from = tt
 taken_from made out i (Some v) from = elim (is_taken_in i v) as (λ b. AreFrom made out (cond b (Some v) None)) [ true ↦ from | false ↦ tt ]
 
 module _ (made : PayloadValue → Type 0) (first : ℕ) (out : List PacketValue) (next : ℕ) (sent : AreSent made first next out) (few : AreFew out) where
   -- SLOTS
 
-  kept_piece : (i : InnerValue) (timeout : ℕ) (slots : Slots) (link : Option EthernetRepr) (h : Ipv4Repr) (p : Ipv4Piece) (x : List ℕ) (cut within : Bool) → is_piece p ≡ cut → IsFrom made out (Ip4 link h p x) → AreSlotsOf out slots
-      → AreSlotsOf out (cond cut (cond within (with_piece_of runs_kept is_same_datagram slots (Ipv4.key_of h) (given_up_at i timeout) x p.offset p.more) (without_datagram is_same_datagram slots (Ipv4.key_of h))) slots)
-  kept_piece i timeout slots link h p x true true is from are = piece_keeps made first out next sent.numbered few sent.packets link h p x (given_up_at i timeout) is from slots are
-  kept_piece i timeout slots link h p x true false is from are = changed_keeps (IsSlotOf out) freed (position (is_of is_same_datagram (Ipv4.key_of h)) slots) slots (λ s is. freed_is out s) are
+  kept_piece : (i : InnerValue) (timeout : ℕ) (slots : Slots) (link : Option EthernetRepr) (h : Ipv4Repr) (p : Ipv4Piece) (x : List ℕ) (cut within : Bool) →
+      is_piece p ≡ cut → IsFrom made out (Ip4 link h p x) → AreSlotsOf out slots
+      → AreSlotsOf out (cond cut
+      (cond within (with_piece_of runs_kept is_same_datagram slots (Ipv4.key_of h) (given_up_at i timeout) x p.offset p.more)
+      (without_datagram is_same_datagram slots (Ipv4.key_of h))) slots)
+  kept_piece i timeout slots link h p x true true is from are =
+      piece_keeps made first out next sent.numbered few sent.packets link h p x (given_up_at i timeout) is from slots are
+  kept_piece i timeout slots link h p x true false is from are =
+      changed_keeps (IsSlotOf out) freed (position (is_of is_same_datagram (Ipv4.key_of h)) slots) slots (λ s is. freed_is out s) are
   kept_piece i timeout slots link h p x false within is from are = are
 
-  kept_keeps : (i : InnerValue) (timeout : ℕ) (slots : Slots) (content : Option IncomingValue) → AreFrom made out content → AreSlotsOf out slots → AreSlotsOf out (kept i timeout slots content)
+  kept_keeps : (i : InnerValue) (timeout : ℕ) (slots : Slots) (content : Option IncomingValue) → AreFrom made out content → AreSlotsOf out slots →
+      AreSlotsOf out (kept i timeout slots content)
   kept_keeps i timeout slots None from are = are
   kept_keeps i timeout slots (Some (Arp link packet)) from are = are
   kept_keeps i timeout slots (Some (Ip4 link h p x)) from are = kept_piece i timeout slots link h p x (is_piece p) (is_within p x) refl from are
@@ -61,22 +70,29 @@ module _ (made : PayloadValue → Type 0) (first : ℕ) (out : List PacketValue)
       ]
 
   -- the slots after a frame
-  pub slots_keep : (i : InnerValue) (timeout : ℕ) (slots : Slots) (content : Option IncomingValue) → AreFrom made out content → AreSlotsOf out slots → AreSlotsOf out (slots_after i timeout slots content)
-  slots_keep i timeout slots content from are = released_keeps (place_in slots content) (kept i timeout slots content) (kept_keeps i timeout slots content from are)
+  pub slots_keep : (i : InnerValue) (timeout : ℕ) (slots : Slots) (content : Option IncomingValue) → AreFrom made out content → AreSlotsOf out slots →
+      AreSlotsOf out (slots_after i timeout slots content)
+  slots_keep i timeout slots content from are =
+      released_keeps (place_in slots content) (kept i timeout slots content) (kept_keeps i timeout slots content from are)
 
   -- WHAT IS WHOLE
 
-  whole_piece : (i : InnerValue) (timeout : ℕ) (slots : Slots) (link : Option EthernetRepr) (h : Ipv4Repr) (p : Ipv4Piece) (x : List ℕ) (cut within : Bool) → is_piece p ≡ cut → IsFrom made out (Ip4 link h p x) → AreSlotsOf out slots
+  whole_piece : (i : InnerValue) (timeout : ℕ) (slots : Slots) (link : Option EthernetRepr) (h : Ipv4Repr) (p : Ipv4Piece) (x : List ℕ) (cut within : Bool) →
+      is_piece p ≡ cut → IsFrom made out (Ip4 link h p x) → AreSlotsOf out slots
       → BringsMade made (cond cut
-      (rebuilt link h (bytes_at (cond (cut && within) (place_for is_same_datagram slots (Ipv4.key_of h)) None) (cond cut (cond within (with_piece_of runs_kept is_same_datagram slots (Ipv4.key_of h) (given_up_at i timeout) x p.offset p.more) (without_datagram is_same_datagram slots (Ipv4.key_of h))) slots)))
+      (rebuilt link h (bytes_at (cond (cut && within) (place_for is_same_datagram slots (Ipv4.key_of h)) None)
+      (cond cut (cond within (with_piece_of runs_kept is_same_datagram slots (Ipv4.key_of h) (given_up_at i timeout) x p.offset p.more)
+      (without_datagram is_same_datagram slots (Ipv4.key_of h))) slots)))
       (Some (Ip4 link h p x)))
   whole_piece i timeout slots link h p x true false is from are = tt
-  whole_piece i timeout slots link h p x true true is from are = piece_brings made first out next sent.numbered few sent.packets link h p x (given_up_at i timeout) is from slots are
+  whole_piece i timeout slots link h p x true true is from are =
+      piece_brings made first out next sent.numbered few sent.packets link h p x (given_up_at i timeout) is from slots are
   whole_piece i timeout slots link h p x false within is from are =
       brings_whole made out (Ip4 link h p x) sent.packets from (λ l g q y same. let e : p ≡ q = cc in subst (λ (r : Ipv4Piece). is_piece r ≡ false) e is)
 
   -- what is whole after a frame brings what was made
-  pub whole_made : (i : InnerValue) (timeout : ℕ) (slots : Slots) (content : Option IncomingValue) → AreFrom made out content → AreSlotsOf out slots → BringsMade made (whole_after i timeout slots content)
+  pub whole_made : (i : InnerValue) (timeout : ℕ) (slots : Slots) (content : Option IncomingValue) → AreFrom made out content → AreSlotsOf out slots →
+      BringsMade made (whole_after i timeout slots content)
   whole_made i timeout slots None from are = tt
   whole_made i timeout slots (Some (Arp link packet)) from are = tt
   whole_made i timeout slots (Some (Ip4 link h p x)) from are = whole_piece i timeout slots link h p x (is_piece p) (is_within p x) refl from are
@@ -85,18 +101,23 @@ module _ (made : PayloadValue → Type 0) (first : ℕ) (out : List PacketValue)
   -- A FRAME IS TAKEN
 
   -- the receiver of the same medium and the same checksums
-  same_waits : (i i' : InnerValue) (waiting : List (List ℕ)) → i'.hardware ≡ i.hardware → AllByRecursion (BringsFrom made out i.hardware) waiting → AllByRecursion (BringsFrom made out i'.hardware) waiting
+  same_waits : (i i' : InnerValue) (waiting : List (List ℕ)) → i'.hardware ≡ i.hardware → AllByRecursion (BringsFrom made out i.hardware) waiting →
+      AllByRecursion (BringsFrom made out i'.hardware) waiting
   same_waits i i' waiting same waits = subst (λ (h : HardwareAddress). AllByRecursion (BringsFrom made out h) waiting) (sym same) waits
 
   -- what a taken frame brings, whole or rebuilt, was made
   pub taken_was_made : (i : InnerValue) (timeout : ℕ) (slots : Slots) (frame : List ℕ) (rest : List (List ℕ)) (content : Option IncomingValue)
-      → IsReceiver made out i slots (frame ∷ rest) → IsContent i.hardware i.checksums frame content → BringsMade made (whole_after i timeout slots (taken_in i content))
+      → IsReceiver made out i slots (frame ∷ rest) → IsContent i.hardware i.checksums frame content →
+      BringsMade made (whole_after i timeout slots (taken_in i content))
   taken_was_made i timeout slots frame rest content r is =
-      whole_made i timeout slots (taken_in i content) (taken_from made out i content (content_from made out i.hardware i.checksums frame content r.checksums r.waits.0 is)) r.slots_are
+      whole_made i timeout slots (taken_in i content)
+      (taken_from made out i content (content_from made out i.hardware i.checksums frame content r.checksums r.waits.0 is)) r.slots_are
 
   -- and the host is a receiver still
-  pub taken_keeps : (i : InnerValue) (timeout : ℕ) (slots : Slots) (places : Places) (frame : List ℕ) (rest : List (List ℕ)) (content : Option IncomingValue) (slots' : Slots) (a : Arrived)
-      → IsReceiver made out i slots (frame ∷ rest) → IsContent i.hardware i.checksums frame content → ArrivesAs i timeout slots places content slots' a → IsReceiver made out a.inner slots' rest
+  pub taken_keeps : (i : InnerValue) (timeout : ℕ) (slots : Slots) (places : Places) (frame : List ℕ) (rest : List (List ℕ)) (content : Option IncomingValue)
+      (slots' : Slots) (a : Arrived)
+      → IsReceiver made out i slots (frame ∷ rest) → IsContent i.hardware i.checksums frame content → ArrivesAs i timeout slots places content slots' a →
+      IsReceiver made out a.inner slots' rest
   taken_keeps i timeout slots places frame rest content slots' a r is arrives =
       let same = brings_same i places (whole_after i timeout slots (taken_in i content)) a arrives.1 in
       let from = taken_from made out i content (content_from made out i.hardware i.checksums frame content r.checksums r.waits.0 is) in
@@ -108,27 +129,36 @@ module _ (made : PayloadValue → Type 0) (first : ℕ) (out : List PacketValue)
 
   -- WHAT IS REBUILT
 
-  rebuilds_by : (i : InnerValue) (timeout : ℕ) (slots : Slots) (link : Option EthernetRepr) (h : Ipv4Repr) (p : Ipv4Piece) (x bytes : List ℕ) (cut within : Bool) → is_piece p ≡ cut → cut ≡ true → IsFrom made out (Ip4 link h p x) → AreSlotsOf out slots
-      → bytes_at (cond (cut && within) (place_for is_same_datagram slots (Ipv4.key_of h)) None) (cond cut (cond within (with_piece_of runs_kept is_same_datagram slots (Ipv4.key_of h) (given_up_at i timeout) x p.offset p.more) (without_datagram is_same_datagram slots (Ipv4.key_of h))) slots) ≡ Some bytes → IsRebuiltOf out h bytes
+  rebuilds_by : (i : InnerValue) (timeout : ℕ) (slots : Slots) (link : Option EthernetRepr) (h : Ipv4Repr) (p : Ipv4Piece) (x bytes : List ℕ)
+      (cut within : Bool) → is_piece p ≡ cut → cut ≡ true → IsFrom made out (Ip4 link h p x) → AreSlotsOf out slots
+      → bytes_at (cond (cut && within) (place_for is_same_datagram slots (Ipv4.key_of h)) None)
+      (cond cut (cond within (with_piece_of runs_kept is_same_datagram slots (Ipv4.key_of h) (given_up_at i timeout) x p.offset p.more)
+      (without_datagram is_same_datagram slots (Ipv4.key_of h))) slots) ≡ Some bytes → IsRebuiltOf out h bytes
   rebuilds_by i timeout slots link h p x bytes true false is cut from are done = absurd cc
-  rebuilds_by i timeout slots link h p x bytes true true is cut from are done = piece_rebuilds made first out next sent.numbered few sent.packets link h p x (given_up_at i timeout) is from slots bytes are done
+  rebuilds_by i timeout slots link h p x bytes true true is cut from are done =
+      piece_rebuilds made first out next sent.numbered few sent.packets link h p x (given_up_at i timeout) is from slots bytes are done
   rebuilds_by i timeout slots link h p x bytes false within is cut from are done = absurd cc
 
-  short_bytes : (link l : Option EthernetRepr) (h g : Ipv4Repr) (p : Ipv4Piece) (found bytes : List ℕ) (b : Bool) → cond b (Some (Ip4 link (record h { payload_len = length found }) uncut found)) None ≡ Some (Ip4 l g p bytes) → Some found ≡ Some bytes
+  short_bytes : (link l : Option EthernetRepr) (h g : Ipv4Repr) (p : Ipv4Piece) (found bytes : List ℕ) (b : Bool) →
+      cond b (Some (Ip4 link (record h { payload_len = length found }) uncut found)) None ≡ Some (Ip4 l g p bytes) → Some found ≡ Some bytes
   short_bytes link l h g p found bytes true is = let e : found ≡ bytes = cc in ap Some e
   short_bytes link l h g p found bytes false is = absurd cc
 
-  rebuilt_bytes : (link l : Option EthernetRepr) (h g : Ipv4Repr) (p : Ipv4Piece) (o : Option (List ℕ)) (bytes : List ℕ) → rebuilt link h o ≡ Some (Ip4 l g p bytes) → o ≡ Some bytes
+  rebuilt_bytes : (link l : Option EthernetRepr) (h g : Ipv4Repr) (p : Ipv4Piece) (o : Option (List ℕ)) (bytes : List ℕ) →
+      rebuilt link h o ≡ Some (Ip4 l g p bytes) → o ≡ Some bytes
   rebuilt_bytes link l h g p None bytes is = absurd cc
   rebuilt_bytes link l h g p (Some found) bytes is = short_bytes link l h g p found bytes (nat_lt (length found) (2 ^ 16 - 20)) is
 
-  whole_bytes : (slots : Slots) (at : Option ℕ) (link l : Option EthernetRepr) (h g : Ipv4Repr) (p r : Ipv4Piece) (x bytes : List ℕ) (cut : Bool) → cut ≡ true → cond cut (rebuilt link h (bytes_at at slots)) (Some (Ip4 link h p x)) ≡ Some (Ip4 l g r bytes) → bytes_at at slots ≡ Some bytes
+  whole_bytes : (slots : Slots) (at : Option ℕ) (link l : Option EthernetRepr) (h g : Ipv4Repr) (p r : Ipv4Piece) (x bytes : List ℕ) (cut : Bool) → cut ≡ true →
+      cond cut (rebuilt link h (bytes_at at slots)) (Some (Ip4 link h p x)) ≡ Some (Ip4 l g r bytes) → bytes_at at slots ≡ Some bytes
   whole_bytes slots at link l h g p r x bytes true cut is = rebuilt_bytes link l h g r (bytes_at at slots) bytes is
   whole_bytes slots at link l h g p r x bytes false cut is = absurd cc
 
   -- what is whole once a piece was taken in is the payload of one packet
-  pub taken_rebuilds : (i : InnerValue) (timeout : ℕ) (slots : Slots) (frame : List ℕ) (rest : List (List ℕ)) (link l : Option EthernetRepr) (h g : Ipv4Repr) (p r : Ipv4Piece) (x bytes : List ℕ) → IsReceiver made out i slots (frame ∷ rest)
-      → IsContent i.hardware i.checksums frame (Some (Ip4 link h p x)) → is_piece p ≡ true → whole_after i timeout slots (Some (Ip4 link h p x)) ≡ Some (Ip4 l g r bytes) → IsRebuiltOf out h bytes
+  pub taken_rebuilds : (i : InnerValue) (timeout : ℕ) (slots : Slots) (frame : List ℕ) (rest : List (List ℕ)) (link l : Option EthernetRepr) (h g : Ipv4Repr)
+      (p r : Ipv4Piece) (x bytes : List ℕ) → IsReceiver made out i slots (frame ∷ rest)
+      → IsContent i.hardware i.checksums frame (Some (Ip4 link h p x)) → is_piece p ≡ true →
+      whole_after i timeout slots (Some (Ip4 link h p x)) ≡ Some (Ip4 l g r bytes) → IsRebuiltOf out h bytes
   taken_rebuilds i timeout slots frame rest link l h g p r x bytes receiver is cut whole =
       let from = content_from made out i.hardware i.checksums frame (Some (Ip4 link h p x)) receiver.checksums receiver.waits.0 is in
       rebuilds_by i timeout slots link h p x bytes (is_piece p) (is_within p x) refl cut from receiver.slots_are
@@ -138,15 +168,18 @@ module _ (made : PayloadValue → Type 0) (first : ℕ) (out : List PacketValue)
 
 module _ (made : PayloadValue → Type 0) (out : List PacketValue) where
   -- a frame that isn't read
-  pub skipped_keeps : (i : InnerValue) (slots : Slots) (frame : List ℕ) (rest : List (List ℕ)) → IsReceiver made out i slots (frame ∷ rest) → IsReceiver made out i slots rest
+  pub skipped_keeps : (i : InnerValue) (slots : Slots) (frame : List ℕ) (rest : List (List ℕ)) → IsReceiver made out i slots (frame ∷ rest) →
+      IsReceiver made out i slots rest
   skipped_keeps i slots frame rest r = record { checksums = r.checksums; slots_are = r.slots_are; waits = r.waits.1 }
 
   -- slots that are given up
-  pub expired_receiver : (i : InnerValue) (slots : Slots) (waiting : List (List ℕ)) (moment : ℤ) → IsReceiver made out i slots waiting → IsReceiver made out i (without_expired slots moment) waiting
+  pub expired_receiver : (i : InnerValue) (slots : Slots) (waiting : List (List ℕ)) (moment : ℤ) → IsReceiver made out i slots waiting →
+      IsReceiver made out i (without_expired slots moment) waiting
   expired_receiver i slots waiting moment r = record { checksums = r.checksums; slots_are = expired_keep out slots moment r.slots_are; waits = r.waits }
 
   -- a host with the same checksums, on the same medium
-  pub receiver_same : (i i' : InnerValue) (slots : Slots) (waiting : List (List ℕ)) → i'.checksums ≡ i.checksums → i'.hardware ≡ i.hardware → IsReceiver made out i slots waiting → IsReceiver made out i' slots waiting
+  pub receiver_same : (i i' : InnerValue) (slots : Slots) (waiting : List (List ℕ)) → i'.checksums ≡ i.checksums → i'.hardware ≡ i.hardware →
+      IsReceiver made out i slots waiting → IsReceiver made out i' slots waiting
   receiver_same i i' slots waiting caps hardware r = record {
     checksums = caps ∙ r.checksums;
     slots_are = r.slots_are;
@@ -154,5 +187,7 @@ module _ (made : PayloadValue → Type 0) (out : List PacketValue) where
   }
 
   -- one more frame waits
-  pub handed_receiver : (i : InnerValue) (slots : Slots) (waiting : List (List ℕ)) (frame : List ℕ) → BringsFrom made out i.hardware frame → IsReceiver made out i slots waiting → IsReceiver made out i slots (waiting ++ frame ∷ [])
-  handed_receiver i slots waiting frame brings r = record { checksums = r.checksums; slots_are = r.slots_are; waits = all_more (BringsFrom made out i.hardware) waiting frame r.waits brings }
+  pub handed_receiver : (i : InnerValue) (slots : Slots) (waiting : List (List ℕ)) (frame : List ℕ) → BringsFrom made out i.hardware frame →
+      IsReceiver made out i slots waiting → IsReceiver made out i slots (waiting ++ frame ∷ [])
+  handed_receiver i slots waiting frame brings r =
+      record { checksums = r.checksums; slots_are = r.slots_are; waits = all_more (BringsFrom made out i.hardware) waiting frame r.waits brings }

@@ -60,8 +60,10 @@ module _ (Q : PacketValue → Type 0) where
     unless_nobody false reply holds = holds
 
   module _
-      (four : (header : Ipv4Repr) (message : Icmpv4Header) (bytes : List ℕ) → header.next_header ≡ Protocol.Icmp → Q (packet_of (Ip.Ipv4 header) (ControlV4 message bytes)))
-      (six : (header : Ipv6Repr) (message : MessageValue) (bytes : List ℕ) → header.next_header ≡ Protocol.Icmpv6 → Q (packet_of (Ip.Ipv6 header) (ControlV6 message bytes))) where
+      (four : (header : Ipv4Repr) (message : Icmpv4Header) (bytes : List ℕ) → header.next_header ≡ Protocol.Icmp →
+      Q (packet_of (Ip.Ipv4 header) (ControlV4 message bytes)))
+      (six : (header : Ipv6Repr) (message : MessageValue) (bytes : List ℕ) → header.next_header ≡ Protocol.Icmpv6 →
+      Q (packet_of (Ip.Ipv6 header) (ControlV6 message bytes))) where
     pub replied_all : (i : InnerValue) (places : Places) (ip : IpRepr) (payload : List ℕ) (taken : Bool) (carried : Option PayloadValue)
         → ((header : TcpHeader) (bytes : List ℕ) → carried ≡ Some (Segment header bytes) → AnswersSegments Q (context_of i) ip header bytes)
         → IfSome (handed_reply i places ip payload taken carried) Q

@@ -1,5 +1,6 @@
 -- What arrives at the sockets is a move, or none.
-use Rattle.std.proofs.Common.{◌≡◌, ℕ, ◌<◌, Bool, true, false, if◌then◌else◌, List, [], ◌∷◌, length, get_or, Option, Some, None, IfSome, refl, sym, ap, ◌∙◌, subst, append-nil}
+use Rattle.std.proofs.Common.{◌≡◌, ℕ, ◌<◌, Bool, true, false, if◌then◌else◌, List, [], ◌∷◌, length, get_or, Option, Some, None, IfSome, refl, sym, ap, ◌∙◌}
+use Rattle.std.proofs.Common.{subst, append-nil}
 use Rattle.std.specs.Prelude.{◌||◌, slice_get, slice_set, slice_index_or}
 use Rattle.std.proofs.lemmas.List.Quantifiers.{position-Some}
 use Rattle.control_wire.specs.Icmpv4Header.{Icmpv4Header}
@@ -22,7 +23,9 @@ use Rattle.sockets.specs.declared.socket.Socket.{Socket}
 use Rattle.sockets.specs.declared.socket.Socket.TheVariants as Is
 use Rattle.interface_egress.specs.declared.socket_set.Item.{Item}
 use Rattle.interface_egress.specs.declared.socket_set.SocketStorage.{SocketStorage}
-use Rattle.interface_ingress.specs.Delivered.{with_change, passes, given, all_given, changed_at, with_packet, packet_delivered, with_icmpv4, icmpv4_delivered, with_icmpv6, icmpv6_delivered, with_datagram, datagram_place, datagram_delivered, with_segment, packet_by, answer_of, segment_place, segment_delivered, answer_in, segment_answer_at, segment_answer}
+use Rattle.interface_ingress.specs.Delivered.{with_change, passes, given, all_given, changed_at, with_packet, packet_delivered, with_icmpv4, icmpv4_delivered}
+use Rattle.interface_ingress.specs.Delivered.{with_icmpv6, icmpv6_delivered, with_datagram, datagram_place, datagram_delivered, with_segment, packet_by}
+use Rattle.interface_ingress.specs.Delivered.{answer_of, segment_place, segment_delivered, answer_in, segment_answer_at, segment_answer}
 use Rattle.interface_ingress.proofs.AtPlace.{changed_here, answer_here}
 use Rattle.interface_ingress.proofs.Segments.{accepted_there}
 use Rattle.lan_history.specs.declared.event.Side.{Side}
@@ -67,7 +70,8 @@ icmpv4_same ip message bytes (Is.Icmp v) = refl
 icmpv4_same ip message bytes (Is.Udp v) = refl
 icmpv4_same ip message bytes (Is.Tcp v) = refl
 
-pub icmpv4_delivered_same : (ip : Ipv4Repr) (message : Icmpv4Header) (bytes : List ℕ) (places : Places) → sockets_of (icmpv4_delivered ip message bytes places) ≡ sockets_of places
+pub icmpv4_delivered_same : (ip : Ipv4Repr) (message : Icmpv4Header) (bytes : List ℕ) (places : Places) →
+    sockets_of (icmpv4_delivered ip message bytes places) ≡ sockets_of places
 icmpv4_delivered_same ip message bytes places =
     all_same (λ s. accepts_icmpv4 s (Address.Ipv4 ip.dst_addr) message bytes) (with_icmpv4 ip message bytes) (icmpv4_same ip message bytes) places
 
@@ -77,7 +81,8 @@ icmpv6_same ip message bytes (Is.Icmp v) = refl
 icmpv6_same ip message bytes (Is.Udp v) = refl
 icmpv6_same ip message bytes (Is.Tcp v) = refl
 
-pub icmpv6_delivered_same : (ip : Ipv6Repr) (message : MessageValue) (bytes : List ℕ) (places : Places) → sockets_of (icmpv6_delivered ip message bytes places) ≡ sockets_of places
+pub icmpv6_delivered_same : (ip : Ipv6Repr) (message : MessageValue) (bytes : List ℕ) (places : Places) →
+    sockets_of (icmpv6_delivered ip message bytes places) ≡ sockets_of places
 icmpv6_delivered_same ip message bytes places =
     all_same (λ s. accepts_icmpv6 s (Address.Ipv6 ip.dst_addr) message bytes) (with_icmpv6 ip message bytes) (icmpv6_same ip message bytes) places
 
@@ -97,7 +102,8 @@ reply_made p before (Some reply) is =
     let last = get_last before (made_of reply.segment []) [] in
     (last.0, ap (λ (xs : List Made). slice_get xs last.0) is ∙ last.1)
 
-module _ (names : List ℕ → Bool) (side : Side) (net now : Net) (r : Reaches names side net now) (places : Places) (has : (party now side).sockets ≡ sockets_of places) where
+module _ (names : List ℕ → Bool) (side : Side) (net now : Net) (r : Reaches names side net now) (places : Places) (has : (party now side).sockets ≡
+    sockets_of places) where
   abbrev Ends : List (Option Parties.Socket) → Option PacketValue → Type 0
   Ends sockets reply = Answered names side net now sockets reply
 
@@ -120,7 +126,8 @@ module _ (names : List ℕ → Bool) (side : Side) (net now : Net) (r : Reaches 
     abbrev Given : ℕ → SocketStorage Socket → Type 0
     Given at place = Moved names side net now (sockets_of (slice_set places at (with_change (with_datagram ip udp bytes) place)))
 
-    socket_given : (at : ℕ) (item : Item Socket) (s : Socket) → s ≡ item.socket → holds_at at (Some (record item { socket = s })) → accepts_datagram cx s ip udp ≡ true → Given at (record { inner = Some (record item { socket = s }) })
+    socket_given : (at : ℕ) (item : Item Socket) (s : Socket) → s ≡ item.socket → holds_at at (Some (record item { socket = s })) →
+        accepts_datagram cx s ip udp ≡ true → Given at (record { inner = Some (record item { socket = s }) })
     socket_given at item (Is.Udp v) is here accepts =
         moves_by names side net now r move _ (found at (record item { socket = Is.Udp v }) here, accepts, made) refl
         (set_there at (with_change (with_datagram ip udp bytes) (record { inner = Some (record item { socket = Is.Udp v }) })))
@@ -132,11 +139,13 @@ module _ (names : List ℕ → Bool) (side : Side) (net now : Net) (r : Reaches 
     socket_given at item (Is.Icmp v) is here accepts = absurd (cc)
     socket_given at item (Is.Tcp v) is here accepts = absurd (cc)
 
-    place_given : (at : ℕ) (o : Option (Item Socket)) → holds_at at o → passes (λ s. accepts_datagram cx s ip udp) (record { inner = o }) ≡ true → Given at (record { inner = o })
+    place_given : (at : ℕ) (o : Option (Item Socket)) → holds_at at o → passes (λ s. accepts_datagram cx s ip udp) (record { inner = o }) ≡ true →
+        Given at (record { inner = o })
     place_given at None here passing = absurd (cc)
     place_given at (Some item) here passing = socket_given at item item.socket refl here passing
 
-    first_given : (o : Option ℕ) → datagram_place cx ip udp places ≡ o → Moved names side net now (sockets_of (changed_at (with_datagram ip udp bytes) o places))
+    first_given : (o : Option ℕ) → datagram_place cx ip udp places ≡ o →
+        Moved names side net now (sockets_of (changed_at (with_datagram ip udp bytes) o places))
     first_given None is = stays names side net now r (sockets_of places) has
     first_given (Some at) is =
         let first = position-Some (passes (λ s. accepts_datagram cx s ip udp)) places at free is in
@@ -149,16 +158,20 @@ module _ (names : List ℕ → Bool) (side : Side) (net now : Net) (r : Reaches 
 
   -- A SEGMENT
 
-  module _ (cx : ContextValue) (ip : IpRepr) (header : TcpHeader) (bytes : List ℕ) (made : IsAmong (party now (other side)).segments (made_of header bytes)) where
+  module _ (cx : ContextValue) (ip : IpRepr) (header : TcpHeader) (bytes : List ℕ)
+      (made : IsAmong (party now (other side)).segments (made_of header bytes)) where
     abbrev Taken : ℕ → SocketStorage Socket → Type 0
-    Taken at place = Ends (sockets_of (slice_set places at (with_change (with_segment cx ip header bytes) place))) (answer_in (answer_of cx ip header bytes) place.inner)
+    Taken at place = Ends (sockets_of (slice_set places at (with_change (with_segment cx ip header bytes) place)))
+        (answer_in (answer_of cx ip header bytes) place.inner)
 
-    grown : (v : Party) (a : Option Reply) → v.segments ≡ and_answer (party now side).segments a → v.datagrams ≡ (party now side).datagrams → Grows (party now side) v
+    grown : (v : Party) (a : Option Reply) → v.segments ≡ and_answer (party now side).segments a → v.datagrams ≡ (party now side).datagrams →
+        Grows (party now side) v
     grown v None s d = grows_to (party now side) v s d
     grown v (Some reply) s d =
         grows_by (party now side) v (made_of reply.segment [] ∷ []) [] s (d ∙ sym (append-nil (party now side).datagrams))
 
-    socket_takes : (at : ℕ) (item : Item Socket) (s : Socket) → holds_at at (Some (record item { socket = s })) → accepts_segment s ip header ≡ true → Taken at (record { inner = Some (record item { socket = s }) })
+    socket_takes : (at : ℕ) (item : Item Socket) (s : Socket) → holds_at at (Some (record item { socket = s })) → accepts_segment s ip header ≡ true →
+        Taken at (record { inner = Some (record item { socket = s }) })
     socket_takes at item (Is.Tcp v) here accepts = record {
       moved =
           moves_by names side net now r move _ (found at (record item { socket = Is.Tcp v }) here, accepts, made) refl
@@ -173,7 +186,8 @@ module _ (names : List ℕ → Bool) (side : Side) (net now : Net) (r : Reaches 
     socket_takes at item (Is.Icmp v) here accepts = absurd (cc)
     socket_takes at item (Is.Udp v) here accepts = absurd (cc)
 
-    place_takes : (at : ℕ) (o : Option (Item Socket)) → holds_at at o → passes (λ s. accepts_segment s ip header) (record { inner = o }) ≡ true → Taken at (record { inner = o })
+    place_takes : (at : ℕ) (o : Option (Item Socket)) → holds_at at o → passes (λ s. accepts_segment s ip header) (record { inner = o }) ≡ true →
+        Taken at (record { inner = o })
     place_takes at None here passing = absurd (cc)
     place_takes at (Some item) here passing = socket_takes at item item.socket here passing
 
@@ -199,8 +213,10 @@ module _ (names : List ℕ → Bool) (side : Side) (net now : Net) (r : Reaches 
     first_takes taken (Some at) is =
         let first = accepted_there ip header places at free is in
         let place = get_or places at free in
-        subst (λ (o : Option PacketValue). Ends (sockets_of (changed_at (with_segment cx ip header bytes) (Some at) places)) o) (sym (answer_here (answer_of cx ip header bytes) places at free first.0))
-        (subst (λ (qs : Places). Ends (sockets_of qs) (answer_in (answer_of cx ip header bytes) place.inner)) (sym (changed_here (with_segment cx ip header bytes) places at free first.0))
+        subst (λ (o : Option PacketValue). Ends (sockets_of (changed_at (with_segment cx ip header bytes) (Some at) places)) o)
+        (sym (answer_here (answer_of cx ip header bytes) places at free first.0))
+        (subst (λ (qs : Places). Ends (sockets_of qs) (answer_in (answer_of cx ip header bytes) place.inner))
+        (sym (changed_here (with_segment cx ip header bytes) places at free first.0))
         (place_takes at place.inner (first.0, refl) first.1))
 
     pub segment_taken : (taken : Bool) → Ends (sockets_of (segment_delivered cx ip header bytes places)) (segment_answer cx ip header bytes taken places)

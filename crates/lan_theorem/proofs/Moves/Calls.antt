@@ -44,7 +44,8 @@ use Rattle.lan_theorem.proofs.Moves.Places.{Places, seen_set}
 
 -- WHICH SOCKETS THERE ARE
 
-seen_get : (places : Places) (i : ℕ) (place : SocketStorage Socket) → slice_get places i ≡ Some place → slice_index_or (sockets_of places) i None ≡ seen_place place
+seen_get : (places : Places) (i : ℕ) (place : SocketStorage Socket) → slice_get places i ≡ Some place →
+    slice_index_or (sockets_of places) i None ≡ seen_place place
 seen_get [] zero place e = absurd (cc)
 seen_get [] (suc i) place e = absurd (cc)
 seen_get (p ∷ ps) zero place e = let same : p ≡ place = cc in ap seen_place same
@@ -110,20 +111,24 @@ icmp_own v (Call.SendIcmp remote bytes) = (tt, refl)
 icmp_own v (Call.RecvFrom limit) = (icmp_answer (first v.received) limit, refl)
 icmp_own v call = tt
 
-module _ (p : Party) (s s' : StationValue) (has : p.sockets ≡ sockets_of s.places) (i : ℕ) (call : SocketCall) (answer : Answer) (found : Option States.State) where
+module _ (p : Party) (s s' : StationValue) (has : p.sockets ≡ sockets_of s.places) (i : ℕ) (call : SocketCall) (answer : Answer)
+    (found : Option States.State) where
   abbrev Called : Type 0
   Called = IsCalled p s'.places i call answer found
 
-  behind : (item : Item Socket) (old new : Socket) → slice_get s.places i ≡ Some (record { inner = Some (record item { socket = old }) }) → s'.places ≡ slice_set s.places i (with_socket item new)
+  behind : (item : Item Socket) (old new : Socket) → slice_get s.places i ≡ Some (record { inner = Some (record item { socket = old }) }) →
+      s'.places ≡ slice_set s.places i (with_socket item new)
       → Moves.Does (context_of s.host.inner) (seen old) call answer found (seen new) → Called
   behind item old new there is does = record {
     cx = context_of s.host.inner;
     old = seen old;
     new = seen new;
-    there = ap (λ (xs : List (Option Parties.Socket)). slice_index_or xs i None) has ∙ seen_get s.places i (record { inner = Some (record item { socket = old }) }) there;
+    there = ap (λ (xs : List (Option Parties.Socket)). slice_index_or xs i None) has ∙
+        seen_get s.places i (record { inner = Some (record item { socket = old }) }) there;
     does = does;
     sockets =
-        ap (λ (xs : List (Option Parties.Socket)). slice_set xs i (Some (seen new))) has ∙ sym (seen_set s.places i (with_socket item new)) ∙ ap (λ (ps : Places). sockets_of ps) (sym is);
+        ap (λ (xs : List (Option Parties.Socket)). slice_set xs i (Some (seen new))) has ∙ sym (seen_set s.places i (with_socket item new)) ∙
+        ap (λ (ps : Places). sockets_of ps) (sym is);
   }
 
   abbrev At : Item Socket → Socket → Type 0
@@ -134,14 +139,16 @@ module _ (p : Party) (s s' : StationValue) (has : p.sockets ≡ sockets_of s.pla
   tcp item v None is there did = absurd did
   tcp item v (Some d) is there did =
       let done : DoneBy (Some d) answer found d.socket = (did.0, did.1, refl) in
-      behind item (Is.Tcp v) (Is.Tcp d.socket) there (ap (λ (x : StationValue). x.places) did.2) (subst (λ (o : Option (Did TcpValue)). DoneBy o answer found d.socket) is done)
+      behind item (Is.Tcp v) (Is.Tcp d.socket) there (ap (λ (x : StationValue). x.places) did.2)
+      (subst (λ (o : Option (Did TcpValue)). DoneBy o answer found d.socket) is done)
 
   udp : (item : Item Socket) (v : UdpValue) (o : Option (Did UdpValue)) → o ≡ udp_does v call → At item (Is.Udp v)
       → DidAt s i (record item { socket = Is.Udp v }) call (did_as Is.Udp o) answer found s' → Called
   udp item v None is there did = absurd did
   udp item v (Some d) is there did =
       let done : DoneBy (Some d) answer found d.socket = (did.0, did.1, refl) in
-      behind item (Is.Udp v) (Is.Udp d.socket) there (ap (λ (x : StationValue). x.places) did.2) (subst (λ (o : Option (Did UdpValue)). DoneBy o answer found d.socket) is done)
+      behind item (Is.Udp v) (Is.Udp d.socket) there (ap (λ (x : StationValue). x.places) did.2)
+      (subst (λ (o : Option (Did UdpValue)). DoneBy o answer found d.socket) is done)
 
   icmp : (item : Item Socket) (v : IcmpValue) (o : Option (Did IcmpValue)) → OfOthers call o → At item (Is.Icmp v)
       → DidAt s i (record item { socket = Is.Icmp v }) call (did_as Is.Icmp o) answer found s' → Called
@@ -157,7 +164,8 @@ module _ (p : Party) (s s' : StationValue) (has : p.sockets ≡ sockets_of s.pla
       behind item (Is.Raw v) (Is.Raw d.socket) there (ap (λ (x : StationValue). x.places) did.2)
       (subst (λ (a : Answer). IsOfOthers call a) (sym did.0) own.0, did.1 ∙ own.1)
 
-  socket : (item : Item Socket) (old : Socket) → At item old → DidAt s i (record item { socket = old }) call (does (context_of s.host.inner) old call) answer found s' → Called
+  socket : (item : Item Socket) (old : Socket) → At item old →
+      DidAt s i (record item { socket = old }) call (does (context_of s.host.inner) old call) answer found s' → Called
   socket item (Is.Raw v) there did = raw item v (raw_does v call) (raw_own v call) there did
   socket item (Is.Icmp v) there did = icmp item v (icmp_does v call) (icmp_own v call) there did
   socket item (Is.Udp v) there did = udp item v (udp_does v call) refl there did
@@ -184,20 +192,26 @@ allowed_so : (k k' : Option SocketKind) (n n' : ℕ) (past past' : List Entry) (
 allowed_so k k' n n' past past' side i call kinds len history is =
     (λ j. call_refusal names (kinds j) (table_of (history j) side (len j)) i call) ∙ is
 
-kind_in_net : (sockets : List (Option Parties.Socket)) (places : Places) (i : ℕ) → sockets ≡ sockets_of places → slice_index_or (map Parties.kind_in sockets) i None ≡ kind_at places i
+kind_in_net : (sockets : List (Option Parties.Socket)) (places : Places) (i : ℕ) → sockets ≡ sockets_of places →
+    slice_index_or (map Parties.kind_in sockets) i None ≡ kind_at places i
 kind_in_net sockets places i has = ap (λ (xs : List (Option Parties.Socket)). slice_index_or (map Parties.kind_in xs) i None) has ∙ kinds_same places i
 
 len_in_net : (sockets : List (Option Parties.Socket)) (places : Places) → sockets ≡ sockets_of places → length (map Parties.kind_in sockets) ≡ length places
 len_in_net sockets places has = ap (λ (xs : List (Option Parties.Socket)). length (map Parties.kind_in xs)) has ∙ kinds_len places
 
-pub call_allowed : (net : Net) (hosts : Stations.Stations) (past : List Entry) (side : Side) (i : ℕ) (call : SocketCall) (k : Kind) → IsNetOf net hosts past → k ≡ calls side i call
+pub call_allowed : (net : Net) (hosts : Stations.Stations) (past : List Entry) (side : Side) (i : ℕ) (call : SocketCall) (k : Kind) → IsNetOf net hosts past →
+    k ≡ calls side i call
     → refusal hosts (tables_in past hosts) k ≡ None → IsAllowed (places_of names net) net.history k
 call_allowed net hosts past side i call k of is none =
-    let allowed : refusal hosts (tables_in past hosts) (calls side i call) ≡ None = subst (λ (x : Kind). refusal hosts (tables_in past hosts) x ≡ None) is none in
+    let allowed : refusal hosts (tables_in past hosts) (calls side i call) ≡ None =
+    subst (λ (x : Kind). refusal hosts (tables_in past hosts) x ≡ None) is none in
     subst (λ (x : Kind). IsAllowed (places_of names net) net.history x) (sym is) (by side (of.sockets side) allowed)
   where
-    by : (side : Side) → (party net side).sockets ≡ sockets_of (station hosts side).places → refusal hosts (tables_in past hosts) (calls side i call) ≡ None → IsAllowed (places_of names net) net.history (calls side i call)
+    by : (side : Side) → (party net side).sockets ≡ sockets_of (station hosts side).places → refusal hosts (tables_in past hosts) (calls side i call) ≡ None →
+        IsAllowed (places_of names net) net.history (calls side i call)
     by A has allowed =
-        allowed_so (kind_at hosts.a.places i) _ (length hosts.a.places) _ past net.history A i call (kind_in_net net.a.sockets hosts.a.places i has) (len_in_net net.a.sockets hosts.a.places has) of.history allowed
+        allowed_so (kind_at hosts.a.places i) _ (length hosts.a.places) _ past net.history A i call (kind_in_net net.a.sockets hosts.a.places i has)
+        (len_in_net net.a.sockets hosts.a.places has) of.history allowed
     by B has allowed =
-        allowed_so (kind_at hosts.b.places i) _ (length hosts.b.places) _ past net.history B i call (kind_in_net net.b.sockets hosts.b.places i has) (len_in_net net.b.sockets hosts.b.places has) of.history allowed
+        allowed_so (kind_at hosts.b.places i) _ (length hosts.b.places) _ past net.history B i call (kind_in_net net.b.sockets hosts.b.places i has)
+        (len_in_net net.b.sockets hosts.b.places has) of.history allowed

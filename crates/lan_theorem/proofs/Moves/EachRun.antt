@@ -48,7 +48,8 @@ pub none_if : (test : Bool) (why : Refused) (rest : Option Refused) → (if test
 none_if true why rest is = absurd (cc)
 none_if false why rest is = (refl, is)
 
-sends_foreign : (hosts : Stations) (tables : Tables) (side : Side) (i : ℕ) (call : SocketCall) → refusal hosts tables (calls side i call) ≡ None → SendsForeign call
+sends_foreign : (hosts : Stations) (tables : Tables) (side : Side) (i : ℕ) (call : SocketCall) → refusal hosts tables (calls side i call) ≡ None →
+    SendsForeign call
 sends_foreign hosts tables side i (Call.SendRaw bytes) none =
     let kind = kind_at (station hosts side).places i in
     let third : Option Refused = if names_tcp_or_udp Medium.Ip bytes then Some For.RawProtocol else None in
@@ -77,7 +78,8 @@ pub record IsOfRuns (W : Socket → Type 0) : Type 0 where
   pub unused : (s : Socket) → IsUnused s → W s
 
 module _ (W : Socket → Type 0) (law : IsOfRuns W) where
-  module _ (s s' : StationValue) (i : ℕ) (call : SocketCall) (answer : Answer) (found_so : Option States.State) (foreign : SendsForeign call) (all : OfEach W s.places) where
+  module _ (s s' : StationValue) (i : ℕ) (call : SocketCall) (answer : Answer) (found_so : Option States.State) (foreign : SendsForeign call)
+      (all : OfEach W s.places) where
     by_did : (item : Item Socket) (o : Option (Did Socket)) → Keeps W o → DidAt s i item call o answer found_so s' → OfEach W s'.places
     by_did item None keeps did = absurd did
     by_did item (Some d) keeps did =
@@ -97,7 +99,8 @@ module _ (W : Socket → Type 0) (law : IsOfRuns W) where
   abbrev At : Stations → Side → Type 0
   At hosts side = OfEach W (station hosts side).places
 
-  at_end : (hosts : Stations) (side : Side) (end : LinkEnd) → ((s : Side) → At hosts s) → (s : Side) → At (with_station hosts side (with_link (station hosts side) end)) s
+  at_end : (hosts : Stations) (side : Side) (end : LinkEnd) → ((s : Side) → At hosts s) → (s : Side) →
+      At (with_station hosts side (with_link (station hosts side) end)) s
   at_end hosts A end all A = all A
   at_end hosts A end all B = all B
   at_end hosts B end all A = all A
@@ -111,20 +114,23 @@ module _ (W : Socket → Type 0) (law : IsOfRuns W) where
     one_side : (side : Side) → station new (other side) ≡ station old (other side) → At new side → (s : Side) → At new s
     one_side side rests this = either_side side (At new) this (subst (λ (x : StationValue). OfEach W x.places) (sym rests) (all (other side)))
 
-    same_places : (side : Side) → station new (other side) ≡ station old (other side) → (station new side).places ≡ (station old side).places → (s : Side) → At new s
+    same_places : (side : Side) → station new (other side) ≡ station old (other side) → (station new side).places ≡ (station old side).places →
+        (s : Side) → At new s
     same_places side rests same = one_side side rests (subst (OfEach W) (sym same) (all side))
 
     by_kind : (k : Kind) → refusal old (tables_in past old) k ≡ None → Happens old k e.answer e.found new → (s : Side) → At new s
     by_kind (OfHost side (Calls i call)) none acts =
         one_side side acts.rests
-        (by_place (station old side) (station new side) i call e.answer e.found (sends_foreign old (tables_in past old) side i call none) (all side) (slice_get (station old side).places i) refl acts.acts)
+        (by_place (station old side) (station new side) i call e.answer e.found (sends_foreign old (tables_in past old) side i call none) (all side)
+        (slice_get (station old side).places i) refl acts.acts)
     by_kind (OfHost side (Sets setting)) none acts = same_places side acts.rests (ap (λ (x : StationValue). x.places) acts.acts.0.3)
     by_kind (OfHost side (Opens n)) none acts = same_places side acts.rests (ap (λ (x : StationValue). x.places) acts.acts.2)
     by_kind (OfHost side (Asks t)) none acts = same_places side acts.rests (ap (λ (x : StationValue). x.places) acts.acts.2)
     by_kind (OfHost side (Polls t budget)) none acts =
         let polls = acts.acts.1 in
         one_side side acts.rests
-        (polls_of_each W law.polls PortMove t budget (at_port polls.port (station old side)) (at_port polls.port_after (station new side)) acts.acts.0 (all side) polls.polls)
+        (polls_of_each W law.polls PortMove t budget (at_port polls.port (station old side)) (at_port polls.port_after (station new side)) acts.acts.0
+        (all side) polls.polls)
     by_kind (OfLink act) none acts = λ s. subst (λ (h : Stations). At h s) (sym acts.2) (at_linked old act all s)
 
   -- FROM THE START
@@ -141,7 +147,8 @@ module _ (W : Socket → Type 0) (law : IsOfRuns W) where
   at_first starts fresh A = unused_places starts.a.places fresh.a.sockets
   at_first starts fresh B = unused_places starts.b.places fresh.b.sockets
 
-  pub runs_of_each : (starts : Starts) → IsFreshWorld starts → (history : List Entry) (hosts : Stations) → WorldRun history (unused_both starts) hosts → (side : Side) → OfEach W (station hosts side).places
+  pub runs_of_each : (starts : Starts) → IsFreshWorld starts → (history : List Entry) (hosts : Stations) → WorldRun history (unused_both starts) hosts →
+      (side : Side) → OfEach W (station hosts side).places
   runs_of_each starts fresh [] hosts is side = subst (λ (h : Stations). At h side) (sym is) (at_first starts fresh side)
   runs_of_each starts fresh (e ∷ past) hosts (before, ran, leads) side =
       by_kind before hosts past e (runs_of_each starts fresh past before ran) (kind_of e.event) leads.allowed leads.happens side

@@ -24,7 +24,8 @@ use Rattle.interface_egress.specs.declared.socket_set.Item.{Item}
 use Rattle.interface_egress.specs.declared.socket_set.SocketStorage.{SocketStorage}
 use Rattle.interface_ingress.specs.Arrives.{Arrived, ArrivesV4, ArrivesV6, Brings, Hands, renewed}
 use Rattle.interface_ingress.specs.Carried.{IsSegment, IsCarriedContent}
-use Rattle.interface_ingress.specs.Delivered.{with_change, given, all_given, changed_in, changed_at, with_packet, packet_delivered, is_taken_raw, with_icmpv4, with_icmpv6, with_datagram, datagram_place, with_segment, segment_place, segment_delivered}
+use Rattle.interface_ingress.specs.Delivered.{with_change, given, all_given, changed_in, changed_at, with_packet, packet_delivered, is_taken_raw, with_icmpv4}
+use Rattle.interface_ingress.specs.Delivered.{with_icmpv6, with_datagram, datagram_place, with_segment, segment_place, segment_delivered}
 use Rattle.interface_ingress.specs.Handed.{control_v4_places, control_v6_places, names_nobody, handed_places}
 use Rattle.interface_ingress.specs.Incoming.{IncomingValue, Arp, Ip4, Ip6}
 use Rattle.interface.specs.Host.{Sender}
@@ -48,10 +49,12 @@ pub record IsOfSockets (W : Socket → Type 0) : Type 0 where
   pub icmpv4 : (ip : Ipv4Repr) (message : Icmpv4Header) (bytes : List ℕ) (s : Socket) → W s → W (with_icmpv4 ip message bytes s)
   pub icmpv6 : (ip : Ipv6Repr) (message : MessageValue) (bytes : List ℕ) (s : Socket) → W s → W (with_icmpv6 ip message bytes s)
   pub datagram : (ip : IpRepr) (udp : UdpRepr) (bytes : List ℕ) (s : Socket) → W s → W (with_datagram ip udp bytes s)
-  pub segment : (cx : ContextValue) (ip : IpRepr) (header : TcpHeader) (bytes : List ℕ) (s : Socket) → AreNamed header.src_port header.dst_port → W s → W (with_segment cx ip header bytes s)
+  pub segment : (cx : ContextValue) (ip : IpRepr) (header : TcpHeader) (bytes : List ℕ) (s : Socket) → AreNamed header.src_port header.dst_port → W s →
+      W (with_segment cx ip header bytes s)
 
 -- a segment that is read names both ports
-pub segment_named : (caps : ChecksumCapabilities) (ip : IpRepr) (payload : List ℕ) (header : TcpHeader) (bytes : List ℕ) → IsSegment caps ip payload header bytes → AreNamed header.src_port header.dst_port
+pub segment_named : (caps : ChecksumCapabilities) (ip : IpRepr) (payload : List ℕ) (header : TcpHeader) (bytes : List ℕ) →
+    IsSegment caps ip payload header bytes → AreNamed header.src_port header.dst_port
 segment_named caps ip payload header bytes is =
     (λ zero. is.format.source_accepted (sym is.format.source_port ∙ zero), λ zero. is.format.destination_accepted (sym is.format.destination_port ∙ zero))
 
@@ -81,7 +84,8 @@ module _ (W : Socket → Type 0) where
     item_changed None holds = tt
     item_changed (Some item) holds = keeps item.socket holds
 
-    changed_by : (at : ℕ) (o : Option (SocketStorage Socket)) (places : Places) → slice_get places at ≡ o → OfEach W places → OfEach W (changed_in change (Some at) o places)
+    changed_by : (at : ℕ) (o : Option (SocketStorage Socket)) (places : Places) → slice_get places at ≡ o → OfEach W places →
+        OfEach W (changed_in change (Some at) o places)
     changed_by at None places is all = all
     changed_by at (Some place) places is all = with_set places at (with_change change place) (item_changed place.inner (found places at place is all)) all
 
@@ -104,40 +108,50 @@ module _ (W : Socket → Type 0) where
     packets : (ip : IpRepr) (payload : List ℕ) (places : Places) → OfEach W places → OfEach W (packet_delivered ip payload places)
     packets ip payload places all = all_so (λ s. accepts_packet s ip) (with_packet ip payload) (law.packet ip payload) places all
 
-    messages : (ip : IpRepr) (message : Icmpv4Header) (bytes : List ℕ) (places : Places) → OfEach W places → OfEach W (control_v4_places ip message bytes places)
+    messages : (ip : IpRepr) (message : Icmpv4Header) (bytes : List ℕ) (places : Places) → OfEach W places →
+        OfEach W (control_v4_places ip message bytes places)
     messages (Ip.Ipv4 header) message bytes places all =
-        all_so (λ s. accepts_icmpv4 s (Address.Ipv4 header.dst_addr) message bytes) (with_icmpv4 header message bytes) (law.icmpv4 header message bytes) places all
+        all_so (λ s. accepts_icmpv4 s (Address.Ipv4 header.dst_addr) message bytes) (with_icmpv4 header message bytes)
+        (law.icmpv4 header message bytes) places all
     messages (Ip.Ipv6 header) message bytes places all = all
 
-    messages_v6 : (ip : IpRepr) (message : MessageValue) (bytes : List ℕ) (places : Places) → OfEach W places → OfEach W (control_v6_places ip message bytes places)
+    messages_v6 : (ip : IpRepr) (message : MessageValue) (bytes : List ℕ) (places : Places) → OfEach W places →
+        OfEach W (control_v6_places ip message bytes places)
     messages_v6 (Ip.Ipv4 header) message bytes places all = all
     messages_v6 (Ip.Ipv6 header) message bytes places all =
-        all_so (λ s. accepts_icmpv6 s (Address.Ipv6 header.dst_addr) message bytes) (with_icmpv6 header message bytes) (law.icmpv6 header message bytes) places all
+        all_so (λ s. accepts_icmpv6 s (Address.Ipv6 header.dst_addr) message bytes) (with_icmpv6 header message bytes)
+        (law.icmpv6 header message bytes) places all
 
-    segments : (nobody : Bool) (cx : ContextValue) (ip : IpRepr) (header : TcpHeader) (bytes : List ℕ) (places : Places) → AreNamed header.src_port header.dst_port → OfEach W places
+    segments : (nobody : Bool) (cx : ContextValue) (ip : IpRepr) (header : TcpHeader) (bytes : List ℕ) (places : Places) →
+        AreNamed header.src_port header.dst_port → OfEach W places
         → OfEach W (if nobody then places else segment_delivered cx ip header bytes places)
     segments true cx ip header bytes places named all = all
     segments false cx ip header bytes places named all =
         changed (with_segment cx ip header bytes) (λ s holds. law.segment cx ip header bytes s named holds) (segment_place ip header places) places all
 
-    handed : (caps : ChecksumCapabilities) (i : InnerValue) (places : Places) (ip : IpRepr) (payload : List ℕ) (carried : Option PayloadValue) → IsCarriedContent caps ip payload carried → OfEach W places → OfEach W (handed_places i places ip carried)
+    handed : (caps : ChecksumCapabilities) (i : InnerValue) (places : Places) (ip : IpRepr) (payload : List ℕ) (carried : Option PayloadValue) →
+        IsCarriedContent caps ip payload carried → OfEach W places → OfEach W (handed_places i places ip carried)
     handed caps i places ip payload None is all = all
     handed caps i places ip payload (Some (ControlV4 message bytes)) is all = messages ip message bytes places all
     handed caps i places ip payload (Some (ControlV6 message bytes)) is all = messages_v6 ip message bytes places all
     handed caps i places ip payload (Some (Bytes bytes)) is all = all
-    handed caps i places ip payload (Some (Datagram udp bytes)) is all = changed (with_datagram ip udp bytes) (law.datagram ip udp bytes) (datagram_place (context_of i) ip udp places) places all
+    handed caps i places ip payload (Some (Datagram udp bytes)) is all =
+        changed (with_datagram ip udp bytes) (law.datagram ip udp bytes) (datagram_place (context_of i) ip udp places) places all
     handed caps i places ip payload (Some (Segment header bytes)) is all =
         segments (names_nobody i ip) (context_of i) ip header bytes places (segment_named caps ip payload header bytes is) all
 
-    hands : (i : InnerValue) (places : Places) (ip : IpRepr) (payload : List ℕ) (taken : Bool) (a : Arrived) → Hands i places ip payload taken a → OfEach W places → OfEach W a.places
+    hands : (i : InnerValue) (places : Places) (ip : IpRepr) (payload : List ℕ) (taken : Bool) (a : Arrived) → Hands i places ip payload taken a →
+        OfEach W places → OfEach W a.places
     hands i places ip payload taken a (carried, is, so) all = subst (OfEach W) (sym so.places_are) (handed i.checksums i places ip payload carried is all)
 
-    v4 : (ours : Bool) (i : InnerValue) (places : Places) (link : Option EthernetRepr) (ip : IpRepr) (payload : List ℕ) (a : Arrived) → ArrivesV4 ours i places link ip payload a → OfEach W places → OfEach W a.places
+    v4 : (ours : Bool) (i : InnerValue) (places : Places) (link : Option EthernetRepr) (ip : IpRepr) (payload : List ℕ) (a : Arrived) →
+        ArrivesV4 ours i places link ip payload a → OfEach W places → OfEach W a.places
     v4 true i places link ip payload a is all =
         hands (renewed i link ip) (packet_delivered ip payload places) ip payload (is_taken_raw ip places) a is (packets ip payload places all)
     v4 false i places link ip payload a is all = subst (OfEach W) (sym is.places_are) (packets ip payload places all)
 
-    v6 : (ours : Bool) (i : InnerValue) (places : Places) (link : Option EthernetRepr) (ip : IpRepr) (payload : List ℕ) (a : Arrived) → ArrivesV6 ours i places link ip payload a → OfEach W places → OfEach W a.places
+    v6 : (ours : Bool) (i : InnerValue) (places : Places) (link : Option EthernetRepr) (ip : IpRepr) (payload : List ℕ) (a : Arrived) →
+        ArrivesV6 ours i places link ip payload a → OfEach W places → OfEach W a.places
     v6 true i places link ip payload a is all =
         hands (renewed i link ip) (packet_delivered ip payload places) ip payload (is_taken_raw ip places) a is (packets ip payload places all)
     v6 false i places link ip payload a is all = subst (OfEach W) (sym is.places_are) all
@@ -145,7 +159,8 @@ module _ (W : Socket → Type 0) where
     brings : (i : InnerValue) (places : Places) (content : Option IncomingValue) (a : Arrived) → Brings i places content a → OfEach W places → OfEach W a.places
     brings i places None a is all = subst (OfEach W) (sym is.places_are) all
     brings i places (Some (Arp link packet)) a is all = subst (OfEach W) (sym is.places_are) all
-    brings i places (Some (Ip4 link header piece payload)) a is all = v4 (is_for_us i (Address.Ipv4 header.dst_addr)) i places link (Ip.Ipv4 header) payload a is all
+    brings i places (Some (Ip4 link header piece payload)) a is all =
+        v4 (is_for_us i (Address.Ipv4 header.dst_addr)) i places link (Ip.Ipv4 header) payload a is all
     brings i places (Some (Ip6 link header payload)) a is all = v6 (is_for_us i (Address.Ipv6 header.dst_addr)) i places link (Ip.Ipv6 header) payload a is all
 
     module _ {D : Type 0} (moves : D → Move → D → Type 0) (t : ℤ) where
@@ -157,21 +172,26 @@ module _ (W : Socket → Type 0) where
 
       -- TURNS
 
-      sends : (turn : Option IpAddress) (x x' : Sender D) (item item' : Item Socket) (changes : Bool) (turned : Turned) (packet : Option PacketValue) → W item.socket → SendsBy moves turn packet x item changes turned x' item' → W item'.socket
+      sends : (turn : Option IpAddress) (x x' : Sender D) (item item' : Item Socket) (changes : Bool) (turned : Turned) (packet : Option PacketValue) →
+          W item.socket → SendsBy moves turn packet x item changes turned x' item' → W item'.socket
       sends turn x x' item item' changes turned None holds is = absurd is
       sends turn x x' item item' changes turned (Some packet) holds is =
           subst (λ (i : Item Socket). W i.socket) (sym is.3) (law.settles (is_done is.0) item.socket holds)
 
-      answers : (turn : Option IpAddress) (x x' : Sender D) (item item' : Item Socket) (answer : Answer.Offer) (turned : Turned) → W item.socket → Answers moves turn answer x item turned x' item' → W item'.socket
+      answers : (turn : Option IpAddress) (x x' : Sender D) (item item' : Item Socket) (answer : Answer.Offer) (turned : Turned) → W item.socket →
+          Answers moves turn answer x item turned x' item' → W item'.socket
       answers turn x x' item item' (Offer.Silent changes) turned holds is = subst (λ (i : Item Socket). W i.socket) (sym is.2) holds
       answers turn x x' item item' (Offer.Packet changes) turned holds is = sends turn x x' item item' changes turned (offered_by item.socket) holds is
 
-      turns : (turn : Option IpAddress) (waits : Bool) (x x' : Sender D) (item item' : Item Socket) (turned : Turned) → W item.socket → TurnsIf moves turn waits x (let_through x.inner item) turned x' item' → W item'.socket
+      turns : (turn : Option IpAddress) (waits : Bool) (x x' : Sender D) (item item' : Item Socket) (turned : Turned) → W item.socket →
+          TurnsIf moves turn waits x (let_through x.inner item) turned x' item' → W item'.socket
       turns turn true x x' item item' turned holds is = subst (λ (i : Item Socket). W i.socket) (sym is.2) holds
       turns turn false x x' item item' turned holds (answer, offered, offers, is) =
-          answers turn x x' (record (let_through x.inner item) { socket = offered }) item' answer turned (law.offers (context_of x.inner) item.socket offered answer offers holds) is
+          answers turn x x' (record (let_through x.inner item) { socket = offered }) item' answer turned
+          (law.offers (context_of x.inner) item.socket offered answer offers holds) is
 
-      items : (turn : Option IpAddress) (x x' : Sender D) (o o' : Option (Item Socket)) (turned : Turned) → OfItem W o → ItemTurns moves turn o x turned x' o' → OfItem W o'
+      items : (turn : Option IpAddress) (x x' : Sender D) (o o' : Option (Item Socket)) (turned : Turned) → OfItem W o →
+          ItemTurns moves turn o x turned x' o' → OfItem W o'
       items turn x x' None None turned holds is = tt
       items turn x x' (Some item) (Some item') turned holds is = turns turn (is_waiting x.inner item.meta) x x' item item' turned holds is
       items turn x x' None (Some item') turned holds is = absurd is
@@ -182,7 +202,8 @@ module _ (W : Socket → Type 0) where
         maintenance = λ s all. all;
         arrivals = λ s s' answer runs all is. takes s s' answer all is;
         pieces = λ h ps x x' l gone runs is all leaves same. all;
-        turns = λ turn h before after p p' x x' turned runs all is. exchanged before after p p' (items turn x x' p.inner p'.inner turned (middle before after p all) is) all;
+        turns = λ turn h before after p p' x x' turned runs all is.
+            exchanged before after p p' (items turn x x' p.inner p'.inner turned (middle before after p all) is) all;
       }
 
       pub polls_of_each : (budget : ℕ) (s s' : State D) (changes : Bool) → OfEach W s.places → Polls moves t budget s changes s' → OfEach W s'.places

@@ -20,8 +20,10 @@ use Rattle.lan_theorem.proofs.Moves.Nets.{step_of, mine, theirs, either_side, th
 
 -- A CALL
 
-module _ (net : Net) (old new : Stations) (past : List Entry) (e : Entry) (side : Side) (i : ℕ) (call : SocketCall) (of : IsNetOf net old past) (rests : station new (other side) ≡ station old (other side)) where
-  called : kind_of e.event ≡ calls side i call → refusal_in past old e.event ≡ None → IsCalled (party net side) (station new side).places i call e.answer e.found → Comes names net new (e ∷ past)
+module _ (net : Net) (old new : Stations) (past : List Entry) (e : Entry) (side : Side) (i : ℕ) (call : SocketCall) (of : IsNetOf net old past)
+    (rests : station new (other side) ≡ station old (other side)) where
+  called : kind_of e.event ≡ calls side i call → refusal_in past old e.event ≡ None →
+      IsCalled (party net side) (station new side).places i call e.answer e.found → Comes names net new (e ∷ past)
   called is none c = record {
     next = after net (step_of side move);
     steps = step_of side move ∷ [];
@@ -40,7 +42,8 @@ module _ (net : Net) (old new : Stations) (past : List Entry) (e : Entry) (side 
     move : Moves.Move
     move = Moves.Invokes i c.cx c.old e call c.new
 
-pub call_comes : (net : Net) (old new : Stations) (past : List Entry) (e : Entry) (side : Side) (i : ℕ) (call : SocketCall) → IsNetOf net old past → kind_of e.event ≡ calls side i call
+pub call_comes : (net : Net) (old new : Stations) (past : List Entry) (e : Entry) (side : Side) (i : ℕ) (call : SocketCall) → IsNetOf net old past →
+    kind_of e.event ≡ calls side i call
     → refusal_in past old e.event ≡ None → ActsAt old side (Calls i call) e.answer e.found new → Comes names net new (e ∷ past)
 call_comes net old new past e side i call of is none acts =
     called net old new past e side i call of acts.rests is none
@@ -55,7 +58,8 @@ passed net B e A = refl
 passed net B e B = refl
 
 -- moves of a host, and then an event that is no call
-abbrev pub reached_comes : (net now : Net) (new : Stations) (past : List Entry) (e : Entry) (side : Side) → Reaches names side net now → net.history ≡ past → IsNoCall (kind_of e.event)
+abbrev pub reached_comes : (net now : Net) (new : Stations) (past : List Entry) (e : Entry) (side : Side) → Reaches names side net now → net.history ≡ past →
+    IsNoCall (kind_of e.event)
     → ((s : Side) → (party now s).sockets ≡ sockets_of (station new s).places) → Comes names net new (e ∷ past)
 reached_comes net now new past e side r was none sockets = record {
   next = after now passes;

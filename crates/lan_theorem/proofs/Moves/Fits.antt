@@ -43,5 +43,6 @@ module _ (V W : Socket → Type 0) where
 pub fit_runs : IsOfRuns IsFit
 fit_runs = both_runs QueuesForeign NamesPorts foreign_runs named_runs
 
-pub worlds_fit : (starts : Starts) → IsFreshWorld starts → (history : List Entry) (hosts : Stations) → WorldRun history (unused_both starts) hosts → AreFit hosts
+pub worlds_fit : (starts : Starts) → IsFreshWorld starts → (history : List Entry) (hosts : Stations) → WorldRun history (unused_both starts) hosts →
+    AreFit hosts
 worlds_fit starts fresh history hosts ran = runs_of_each IsFit fit_runs starts fresh history hosts ran

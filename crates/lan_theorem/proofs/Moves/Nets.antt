@@ -31,7 +31,8 @@ either_side B Q this that A = that
 either_side B Q this that B = this
 
 -- what holds of the party behind a move
-pub there : (net : Net) (side : Side) (move : Move) (Q : Party → Type 0) → Q (party_after (party net side) move) → Q (party (after net (step_of side move)) side)
+pub there : (net : Net) (side : Side) (move : Move) (Q : Party → Type 0) → Q (party_after (party net side) move) →
+    Q (party (after net (step_of side move)) side)
 there net side move Q holds = subst Q (sym (mine net side move)) holds
 
 -- MORE WAS MADE
@@ -51,7 +52,8 @@ grows_to p p' segments datagrams = record {
   datagrams = λ x is. (is.0, ap (λ (xs : List Datagram). slice_get xs is.0) datagrams ∙ is.1);
 }
 
-pub grows_by : (p p' : Party) (segments : List Made) (datagrams : List Datagram) → p'.segments ≡ p.segments ++ segments → p'.datagrams ≡ p.datagrams ++ datagrams → Grows p p'
+pub grows_by : (p p' : Party) (segments : List Made) (datagrams : List Datagram) → p'.segments ≡ p.segments ++ segments →
+    p'.datagrams ≡ p.datagrams ++ datagrams → Grows p p'
 grows_by p p' segments datagrams s d = record {
   segments = λ x is. (is.0, ap (λ (xs : List Made). slice_get xs is.0) s ∙ get_more p.segments segments is.0 x is.1);
   datagrams = λ x is. (is.0, ap (λ (xs : List Datagram). slice_get xs is.0) d ∙ get_more p.datagrams datagrams is.0 x is.1);
@@ -69,7 +71,8 @@ module _ (names : List ℕ → Bool) (side : Side) where
     ends = run-append net r.steps (step_of side move ∷ []) ∙ ap (λ n. after n (step_of side move)) r.ends;
     rests = theirs now side move ∙ r.rests;
     history = same ∙ r.history;
-    grows = grows_then (party net side) (party now side) (party (after now (step_of side move)) side) r.grows (there now side move (Grows (party now side)) grows);
+    grows = grows_then (party net side) (party now side) (party (after now (step_of side move)) side) r.grows
+        (there now side move (Grows (party now side)) grows);
   }
 
 -- ONE MOVE

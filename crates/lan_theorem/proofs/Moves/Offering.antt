@@ -29,7 +29,8 @@ pub some_so : {X : Type 0} (o : Option X) (Q : X → Type 0) (x : X) → o ≡ S
 some_so {X} o Q x is holds = let P : Option X → Type 0 = λ y. IfSome y Q in subst P is holds
 
 -- an offered packet takes a datagram of the queue
-pub takes_one : {H S : Type 0} (Takes : S → H × List ℕ → PacketValue → Type 0) (v : SocketValue H S) (o : Option (H × List ℕ)) (answer : Answer.Offer) (v' : SocketValue H S) (p : PacketValue)
+pub takes_one : {H S : Type 0} (Takes : S → H × List ℕ → PacketValue →
+    Type 0) (v : SocketValue H S) (o : Option (H × List ℕ)) (answer : Answer.Offer) (v' : SocketValue H S) (p : PacketValue)
     → OffersFirst Takes v o answer v' → v'.offered ≡ Some p → (q : H × List ℕ) × Takes v.settings q p
 takes_one {H} {S} Takes v None answer v' p offers is =
     let none : v'.offered ≡ None = ap (λ (w : SocketValue H S). w.offered) offers.1 in
@@ -52,7 +53,8 @@ control_made party (Address.Ipv4 source) (Address.Ipv6 remote) bytes (Segment he
 control_made party (Address.Ipv6 source) (Address.Ipv4 remote) bytes (Segment header more) is = absurd is
 control_made party (Address.Ipv6 source) (Address.Ipv6 remote) bytes (Segment header more) is = absurd is
 
-pub message_made : (party : Party) (source : Option IpAddress) (remote : IpAddress) (bytes : List ℕ) (limit : ℕ) (p : PacketValue) → IsPacketFrom source remote bytes limit p → IsMade party p
+pub message_made : (party : Party) (source : Option IpAddress) (remote : IpAddress) (bytes : List ℕ) (limit : ℕ) (p : PacketValue) →
+    IsPacketFrom source remote bytes limit p → IsMade party p
 message_made party None remote bytes limit p is = absurd is
 message_made party (Some source) remote bytes limit p is = control_made party source remote bytes p.payload is.0
 
@@ -77,6 +79,7 @@ segment_made party before (Some o) queue p made is =
     subst (IsMade party) same (last.0, ap (λ (xs : List Made). slice_get xs last.0) made ∙ last.1)
 
 pub tcp_made : (party : Party) (before : List Made) (cx : ContextValue) (v : TcpValue) (p : PacketValue)
-    → party.segments ≡ and_offer before (offer_of cx v).socket.offered (offer_of cx v).socket.queued.queue → offered_packet (offer_of cx v).socket ≡ Some p → IsMade party p
+    → party.segments ≡ and_offer before (offer_of cx v).socket.offered (offer_of cx v).socket.queued.queue → offered_packet (offer_of cx v).socket ≡ Some p →
+    IsMade party p
 tcp_made party before cx v p made is =
     segment_made party before (offer_of cx v).socket.offered (offer_of cx v).socket.queued.queue p made is

@@ -33,10 +33,12 @@ module _ {X Y : Type 0} (f : X → Y) where
   same-middle (y ∷ before) x x' after same = ap (λ ys. f y ∷ ys) (same-middle before x x' after same)
 
 -- the socket at a place within
-pub seen_at : (places : Places) (at : ℕ) (d : SocketStorage Sockets.Socket) → at < length places → slice_index_or (sockets_of places) at None ≡ seen_place (get_or places at d)
+pub seen_at : (places : Places) (at : ℕ) (d : SocketStorage Sockets.Socket) → at < length places →
+    slice_index_or (sockets_of places) at None ≡ seen_place (get_or places at d)
 seen_at places at d within = get_or-map seen_place places at d None within
 
-pub seen_set : (places : Places) (at : ℕ) (place : SocketStorage Sockets.Socket) → sockets_of (slice_set places at place) ≡ slice_set (sockets_of places) at (seen_place place)
+pub seen_set : (places : Places) (at : ℕ) (place : SocketStorage Sockets.Socket) →
+    sockets_of (slice_set places at place) ≡ slice_set (sockets_of places) at (seen_place place)
 seen_set places at place = map-set seen_place places at place
 
 -- WHAT IS AMONG MORE

@@ -34,7 +34,8 @@ pub record Polled (net : Net) (new : Stations) (past : List Entry) (side : Side)
   pub link : L (at_port port (station new side)) (party comes.next side)
   pub rests : party comes.next (other side) ≡ party net (other side)
 
-module _ (net : Net) (old new : Stations) (past : List Entry) (e : Entry) (side : Side) (t : ℤ) (budget n : ℕ) (L : ℕ → State PortValue → Party → Type 0) (link : IsLink PortMove (party net (other side)) L) (of : IsNetOf net old past) (is : kind_of e.event ≡ OfHost side (Polls t budget)) where
+module _ (net : Net) (old new : Stations) (past : List Entry) (e : Entry) (side : Side) (t : ℤ) (budget n : ℕ) (L : ℕ → State PortValue → Party →
+    Type 0) (link : IsLink PortMove (party net (other side)) L) (of : IsNetOf net old past) (is : kind_of e.event ≡ OfHost side (Polls t budget)) where
   -- how many packets are counted behind it
   abbrev most : ℕ
   most = n + budget * (1 + socket_count (station old side).places)
@@ -51,10 +52,12 @@ module _ (net : Net) (old new : Stations) (past : List Entry) (e : Entry) (side 
     rests = passed f.now side e (other side) ∙ f.reaches.rests;
   }
 
-  pub poll_comes : ActsAt old side (Polls t budget) e.answer e.found new → AtPorts (λ s. L n s (party net side)) (station old side) → OfEach IsFit (station old side).places → Polled net new (e ∷ past) side (L most)
+  pub poll_comes : ActsAt old side (Polls t budget) e.answer e.found new → AtPorts (λ s. L n s (party net side)) (station old side) →
+      OfEach IsFit (station old side).places → Polled net new (e ∷ past) side (L most)
   poll_comes acts holds fit =
       let polls = acts.acts.1 in
       let start : Follows names side (L n) net (at_port polls.port (station old side)) =
       record { now = net; reaches = here names side net; sockets = of.sockets side; link = holds polls.port polls.before } in
       ended polls.port_after polls.after acts.rests
-      (polls_follow PortMove t names side net L link budget n (at_port polls.port (station old side)) (at_port polls.port_after (station new side)) acts.acts.0 fit start polls.polls).1
+      (polls_follow PortMove t names side net L link budget n (at_port polls.port (station old side)) (at_port polls.port_after (station new side)) acts.acts.0
+      fit start polls.polls).1

@@ -33,7 +33,8 @@ use Rattle.lan_theorem.proofs.Moves.Takings.{brings_moves}
 use Rattle.lan_theorem.proofs.Moves.Turns.{turn_follows}
 use Rattle.lan_theorem.proofs.Moves.Wide.{CanBeWide, brings_wide}
 
-module _ {D : Type 0} (moves : D → Move → D → Type 0) (t : ℤ) (names : List ℕ → Bool) (side : Side) (net : Net) (L : ℕ → State D → Party → Type 0) (link : IsLink moves (party net (other side)) L) where
+module _ {D : Type 0} (moves : D → Move → D → Type 0) (t : ℤ) (names : List ℕ → Bool) (side : Side) (net : Net) (L : ℕ → State D → Party →
+    Type 0) (link : IsLink moves (party net (other side)) L) where
   abbrev At : ℕ → State D → Type 0
   At n s = Follows names side (L n) net s
 
@@ -47,7 +48,8 @@ module _ {D : Type 0} (moves : D → Move → D → Type 0) (t : ℤ) (names : L
 
   -- THE PIECE THAT WAITS
 
-  left_link : (n : ℕ) (h : HostValue) (ps : Places) (x x' : Sender D) (l : LeftValue) (gone : Bool) (p : Party) → x.left ≡ Some l → PieceLeaves moves l x gone x' → x'.inner ≡ x.inner
+  left_link : (n : ℕ) (h : HostValue) (ps : Places) (x x' : Sender D) (l : LeftValue) (gone : Bool) (p : Party) → x.left ≡ Some l →
+      PieceLeaves moves l x gone x' → x'.inner ≡ x.inner
       → L n (sending_as h x ps) p → L n (sending_as h x' ps) p
   left_link n h ps x x' l gone p is (inl denied) same holds =
       let there : state x'.device (record h { inner = x.inner; left = x.left }) ps ≡ sending_as h x' ps =
@@ -60,7 +62,8 @@ module _ {D : Type 0} (moves : D → Move → D → Type 0) (t : ℤ) (names : L
       subst (λ (s : State D). L n s p) there
       (link.piece n at p l gone x'.device x'.left is goes.2 (link.leave n (sending_as h x ps) p true goes.0 goes.1 holds))
 
-  pieces : (n : ℕ) (h : HostValue) (ps : Places) (x x' : Sender D) (l : LeftValue) (gone : Bool) → x.left ≡ Some l → PieceLeaves moves l x gone x' → x'.inner ≡ x.inner → At n (sending_as h x ps) → At n (sending_as h x' ps)
+  pieces : (n : ℕ) (h : HostValue) (ps : Places) (x x' : Sender D) (l : LeftValue) (gone : Bool) → x.left ≡ Some l → PieceLeaves moves l x gone x' →
+      x'.inner ≡ x.inner → At n (sending_as h x ps) → At n (sending_as h x' ps)
   pieces n h ps x x' l gone is leaves same f = record {
     now = f.now;
     reaches = f.reaches;
@@ -72,10 +75,12 @@ module _ {D : Type 0} (moves : D → Move → D → Type 0) (t : ℤ) (names : L
 
   -- what is asked of an answer that is an ARP packet
   abbrev CanTell : ℕ → HostValue → Places → Sender D → Party → Option ReplyValue → Type 0
-  CanTell n g ps x p reply = (packet : ArpRepr) (gone : Bool) (d : D) → reply ≡ Some (Replies.Tells packet) → Departs moves x.device x.inner (Departures.Tells packet) gone d
+  CanTell n g ps x p reply = (packet : ArpRepr) (gone : Bool) (d : D) → reply ≡ Some (Replies.Tells packet) →
+      Departs moves x.device x.inner (Departures.Tells packet) gone d
       → L n (sending_as g x ps) p → L n (at_device (sending_as g x ps) d) p
 
-  replied : (n : ℕ) (g : HostValue) (ps : Places) (x x' : Sender D) (p : Party) (awaited : Bool) (reply : Option ReplyValue) → CanTell n g ps x p reply → IfSome reply CanBeWide → IfSome reply (IsMadeReply p) → Replied moves awaited reply x x'
+  replied : (n : ℕ) (g : HostValue) (ps : Places) (x x' : Sender D) (p : Party) (awaited : Bool) (reply : Option ReplyValue) → CanTell n g ps x p reply →
+      IfSome reply CanBeWide → IfSome reply (IsMadeReply p) → Replied moves awaited reply x x'
       → L n (sending_as g x ps) p → L (n + 1) (sending_as g x' ps) p
   replied n g ps x x' p awaited None tell wide made is holds =
       link.more n (n + 1) (sending_as g x' ps) p (omega arith) (subst (λ (y : Sender D). L n (sending_as g y ps) p) (sym is) holds)
@@ -88,7 +93,8 @@ module _ {D : Type 0} (moves : D → Move → D → Type 0) (t : ℤ) (names : L
   replied n g ps x x' p awaited (Some (Replies.Answers packet)) tell wide made (inr (sent, goes, formed, free)) holds =
       link.goes n (sending_as g x ps) p packet sent x'.device x'.inner x'.left (wide formed) (λ done. made) goes holds
 
-  read : (n : ℕ) (s s' : State D) (frame : List ℕ) (mid : D) → moves s.device (Took frame) mid → is_read frame ≡ true → Reads moves frame (at_device s mid) s' → At n s → At (n + 1) s'
+  read : (n : ℕ) (s s' : State D) (frame : List ℕ) (mid : D) → moves s.device (Took frame) mid → is_read frame ≡ true → Reads moves frame (at_device s mid) s' →
+      At n s → At (n + 1) s'
   read n s s' frame mid took reads (content, is, receives) f =
       let a = receives.0 in
       let p = party f.now side in
@@ -102,7 +108,8 @@ module _ {D : Type 0} (moves : D → Move → D → Type 0) (t : ℤ) (names : L
       let tell : CanTell n g s.places x p' a.reply =
       λ packet gone d so departs holds. link.tells n s p' frame mid content s'.host.slots a packet gone d took reads is receives.1 so departs holds in
       let told : L (n + 1) (sending_as g (sender_of moves s') s.places) p' =
-      replied n g s.places x (sender_of moves s') p' (is_awaited a) a.reply tell (brings_wide s.host.inner s.places (brought s content) a receives.1.1) end.made receives.3 given in
+      replied n g s.places x (sender_of moves s') p' (is_awaited a) a.reply tell (brings_wide s.host.inner s.places (brought s content) a receives.1.1) end.made
+      receives.3 given in
       let placed : L (n + 1) (sending_as g (sender_of moves s') s'.places) p' =
       link.grown (n + 1) (sending_as g (sender_of moves s') s.places) s'.places p' p' (grows_not p') told in
       let there : sending_as g (sender_of moves s') s'.places ≡ s' =
@@ -157,7 +164,8 @@ module _ {D : Type 0} (moves : D → Move → D → Type 0) (t : ℤ) (names : L
 
   -- What holds before a poll holds behind it, where moves of this host have led to its sockets. It counted no more packets than one for
   -- each frame that it took and each socket's turn.
-  pub polls_follow : (budget n : ℕ) (s s' : State D) (changed : Bool) → OfEach IsFit s.places → Follows names side (L n) net s → Polls moves t budget s changed s'
+  pub polls_follow : (budget n : ℕ) (s s' : State D) (changed : Bool) → OfEach IsFit s.places → Follows names side (L n) net s →
+      Polls moves t budget s changed s'
       → OfEach IsFit s'.places × Follows names side (L (n + budget * (1 + sockets_in s.places))) net s'
   polls_follow budget n s s' changed fit f polls =
       let both = (polls_cost moves t 0 Both all_priced budget n s s' changed (fit, f) polls).0 in

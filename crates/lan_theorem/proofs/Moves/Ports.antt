@@ -1,5 +1,6 @@
 -- No UDP socket ever queues a datagram to port 0, and no TCP socket has an end of a connection there.
-use Rattle.std.proofs.Common.{◌≡◌, ◌≢◌, inl, inr, ℕ, ℤ, Bool, true, false, if◌then◌else◌, List, length, take, min, Option, Some, None, Result, Ok, Err, refl, sym, ap, ◌∙◌, subst}
+use Rattle.std.proofs.Common.{◌≡◌, ◌≢◌, inl, inr, ℕ, ℤ, Bool, true, false, if◌then◌else◌, List, length, take, min, Option, Some, None, Result, Ok, Err, refl}
+use Rattle.std.proofs.Common.{sym, ap, ◌∙◌, subst}
 use Rattle.std.specs.Prelude.{◌&&◌, ◌||◌, ◌==◌, not}
 use Rattle.std.proofs.lemmas.Bool.{eqb-false}
 use Rattle.std.specs.List.{AllByRecursion}
@@ -30,7 +31,8 @@ use Rattle.tcp_tie.specs.Endpoints.{KeepsOrForgets, IsLeftBy, IsRenamed}
 use Rattle.tcp_tie.proofs.NameLaws.{arrival_names, withheld_names, close_names, abort_names}
 use Rattle.tcp_model.specs.AddressPair.{AddressPair}
 use Rattle.tcp_model.specs.Arrival.{arrives}
-use Rattle.tcp_model.specs.Calls.{listening, connected_by, pair_by, pair_for, addresses_by, source_by, sent_more, send_after, recv_answer, close_after, abort_after}
+use Rattle.tcp_model.specs.Calls.{listening, connected_by, pair_by, pair_for, addresses_by, source_by, sent_more, send_after, recv_answer, close_after}
+use Rattle.tcp_model.specs.Calls.{abort_after}
 use Rattle.tcp_model.specs.EndpointPair.{EndpointPair}
 use Rattle.tcp_model.specs.Endpoints.{pair_in}
 use Rattle.tcp_model.specs.declared.block.Names.{Names}
@@ -83,7 +85,8 @@ none_named o none pair is = absurd (let clash : None ≡ Some pair = sym none �
 kept_named : (old new : Block) → KeepsOrForgets old new → PairNamed old.names.pair → PairNamed new.names.pair
 kept_named old new keeps holds pair is = holds pair (pair_kept old new pair keeps is)
 
-renamed_named : (ip : IpRepr) (header : TcpHeader) (old new : Block) → IsRenamed ip header old new → AreNamed header.src_port header.dst_port → PairNamed old.names.pair → PairNamed new.names.pair
+renamed_named : (ip : IpRepr) (header : TcpHeader) (old new : Block) → IsRenamed ip header old new → AreNamed header.src_port header.dst_port →
+    PairNamed old.names.pair → PairNamed new.names.pair
 renamed_named ip header old new (inl opened) named holds = λ pair is.
     let some : Some (pair_in ip header) ≡ Some pair = sym (ap (λ (n : Names). n.pair) opened.names) ∙ is in
     let same : pair_in ip header ≡ pair = cc in
@@ -136,7 +139,8 @@ settles_named sent (Is.Udp v) holds = each_left IsNamed (contents v.queued) (con
 settles_named true (Is.Tcp v) holds = off_named v.offered (unoffered v) holds
 settles_named false (Is.Tcp v) holds = holds
 
-segment_named : (cx : ContextValue) (ip : IpRepr) (header : TcpHeader) (bytes : List ℕ) (s : Socket) → AreNamed header.src_port header.dst_port → NamesPorts s → NamesPorts (with_segment cx ip header bytes s)
+segment_named : (cx : ContextValue) (ip : IpRepr) (header : TcpHeader) (bytes : List ℕ) (s : Socket) → AreNamed header.src_port header.dst_port → NamesPorts s →
+    NamesPorts (with_segment cx ip header bytes s)
 segment_named cx ip header bytes (Is.Raw v) named holds = tt
 segment_named cx ip header bytes (Is.Icmp v) named holds = tt
 segment_named cx ip header bytes (Is.Udp v) named holds = holds
@@ -181,17 +185,19 @@ named_sockets = record {
 
 abbrev after_tests : UdpValue → IpEndpoint → List ℕ → Bool → Bool → Bool → Bool → UdpValue
 after_tests v remote bytes closed zero nowhere full =
-    let answer : Result (Unit {0}) SendError = if closed || (zero || nowhere) then Err SendTo.Unaddressable else if full then Err SendTo.BufferFull else Ok tt in
+    let answer : Result (Unit {0}) SendError =
+    if closed || (zero || nowhere) then Err SendTo.Unaddressable else if full then Err SendTo.BufferFull else Ok tt in
     sent_after answer v (metadata_to remote) bytes
 
 sends_named : (v : UdpValue) (remote : IpEndpoint) (bytes : List ℕ) → UdpNames v → UdpNames (Udps.send_after v (metadata_to remote) bytes)
-sends_named v remote bytes holds = by (not (Udps.is_open v)) (remote.port == 0) (Addresses.is_unspecified remote.addr) (is_full_for v.queued (length bytes)) refl where
-  by : (closed zero nowhere full : Bool) → (remote.port == 0) ≡ zero → UdpNames (after_tests v remote bytes closed zero nowhere full)
-  by true zero nowhere full is = holds
-  by false true nowhere full is = holds
-  by false false true full is = holds
-  by false false false true is = holds
-  by false false false false is = each_appended IsNamed v.queued (length bytes) (metadata_to remote) bytes holds (eqb-false remote.port 0 is)
+sends_named v remote bytes holds =
+    by (not (Udps.is_open v)) (remote.port == 0) (Addresses.is_unspecified remote.addr) (is_full_for v.queued (length bytes)) refl where
+      by : (closed zero nowhere full : Bool) → (remote.port == 0) ≡ zero → UdpNames (after_tests v remote bytes closed zero nowhere full)
+      by true zero nowhere full is = holds
+      by false true nowhere full is = holds
+      by false false true full is = holds
+      by false false false true is = holds
+      by false false false false is = each_appended IsNamed v.queued (length bytes) (metadata_to remote) bytes holds (eqb-false remote.port 0 is)
 
 udp_keeps : (v : UdpValue) (call : SocketCall) → UdpNames v → Keeps UdpNames (udp_does v call)
 udp_keeps v (Call.Bind port) holds = holds
@@ -207,16 +213,17 @@ listens_named true v endpoint holds = none_named None refl
 listens_named false v endpoint holds = holds
 
 found_named : (cx : ContextValue) (remote : IpEndpoint) (port : ℕ) → PairNamed (pair_for cx remote (at_port port))
-found_named cx remote port = by (remote.port == 0) (is_unspecified remote.addr) (port == 0) (addresses_by (source_by cx None remote.addr) remote.addr) refl refl where
-  by : (a b c : Bool) (addresses : Option AddressPair) → (remote.port == 0) ≡ a → (port == 0) ≡ c
-      → PairNamed (let r : Option EndpointPair = if a || (b || c) then None else pair_by addresses port remote.port in r)
-  by true b c addresses zero here = none_named None refl
-  by false true c addresses zero here = none_named None refl
-  by false false true addresses zero here = none_named None refl
-  by false false false None zero here = none_named None refl
-  by false false false (Some addresses) zero here = λ pair is.
-      let same : record { addresses = addresses; local_port = port; remote_port = remote.port } ≡ pair = cc in
-      subst (λ (x : EndpointPair). AreNamed x.local_port x.remote_port) same (eqb-false port 0 here, eqb-false remote.port 0 zero)
+found_named cx remote port =
+    by (remote.port == 0) (is_unspecified remote.addr) (port == 0) (addresses_by (source_by cx None remote.addr) remote.addr) refl refl where
+      by : (a b c : Bool) (addresses : Option AddressPair) → (remote.port == 0) ≡ a → (port == 0) ≡ c
+          → PairNamed (let r : Option EndpointPair = if a || (b || c) then None else pair_by addresses port remote.port in r)
+      by true b c addresses zero here = none_named None refl
+      by false true c addresses zero here = none_named None refl
+      by false false true addresses zero here = none_named None refl
+      by false false false None zero here = none_named None refl
+      by false false false (Some addresses) zero here = λ pair is.
+          let same : record { addresses = addresses; local_port = port; remote_port = remote.port } ≡ pair = cc in
+          subst (λ (x : EndpointPair). AreNamed x.local_port x.remote_port) same (eqb-false port 0 here, eqb-false remote.port 0 zero)
 
 connected_named : (v : TcpValue) (o : Option EndpointPair) (number : ℕ) → PairNamed o → TcpNames v → TcpNames (connected_by v o number)
 connected_named v None number new holds = holds
@@ -224,12 +231,14 @@ connected_named v (Some pair) number new holds = new
 
 connects_named : (closed : Bool) (cx : ContextValue) (v : TcpValue) (remote : IpEndpoint) (port : ℕ) → TcpNames v
     → TcpNames (if closed then connected_by v (pair_for cx remote (at_port port)) (word (next_random cx).random) else unoffered v)
-connects_named true cx v remote port holds = connected_named v (pair_for cx remote (at_port port)) (word (next_random cx).random) (found_named cx remote port) holds
+connects_named true cx v remote port holds =
+    connected_named v (pair_for cx remote (at_port port)) (word (next_random cx).random) (found_named cx remote port) holds
 connects_named false cx v remote port holds = holds
 
 writes_named : (v : TcpValue) (bytes : List ℕ) → TcpNames v → TcpNames (send_after v bytes)
 writes_named v bytes holds = by (takes_writes v.block.state) where
-  by : (takes : Bool) → TcpNames (if takes then sent_more v (enqueued (anchored v.queued) (take (min (length bytes) (length v.queued.free)) bytes)) else unoffered v)
+  by : (takes : Bool) → TcpNames
+      (if takes then sent_more v (enqueued (anchored v.queued) (take (min (length bytes) (length v.queued.free)) bytes)) else unoffered v)
   by true = holds
   by false = holds
 

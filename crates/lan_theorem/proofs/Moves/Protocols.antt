@@ -32,7 +32,8 @@ use Rattle.tcp_model.specs.AddressPair.{AddressPair}
 use Rattle.tcp_model.specs.AddressPair.TheVariants as Pair
 use Rattle.tcp_model.specs.Acknowledged.{acknowledged, duplicates_after}
 use Rattle.tcp_model.specs.Answers.{drawn, may_draw, with_draw, acked, answer_for, ranges_held}
-use Rattle.tcp_model.specs.Arrival.{waiting_anew, outside, passed_outside, tells_news, finished, with_content, told, taken, inside, checked, takes_reset, challenges_reset, reset_comes, challenges_syn, received, arrives_in, arrives, is_void_syn}
+use Rattle.tcp_model.specs.Arrival.{waiting_anew, outside, passed_outside, tells_news, finished, with_content, told, taken, inside, checked, takes_reset}
+use Rattle.tcp_model.specs.Arrival.{challenges_reset, reset_comes, challenges_syn, received, arrives_in, arrives, is_void_syn}
 use Rattle.tcp_model.specs.Calls.{listening}
 use Rattle.tcp_model.specs.Checks.{Check, acknowledgement_check, is_in_window, taken_down, falls_back}
 use Rattle.tcp_model.specs.Checks.Check.{Passes, Old, Drops, Draws, Resets}
@@ -42,14 +43,17 @@ use Rattle.tcp_model.specs.EndpointPair.{EndpointPair}
 use Rattle.tcp_model.specs.Moments.{is_due}
 use Rattle.tcp_model.specs.OfferKind.{OfferKind}
 use Rattle.tcp_model.specs.OfferKind.TheVariants as Kind
-use Rattle.tcp_model.specs.Offers.{number_at, offer_segment, offer_choice, offer_ack, offer_syn, offer_reset, offer_keep_alive, offer_held_back, silent, last_rules, first_rules, backed_off, offer_between, offer_with, offer_of, payload_of, packet_with, offered_packet}
+use Rattle.tcp_model.specs.Offers.{number_at, offer_segment, offer_choice, offer_ack, offer_syn, offer_reset, offer_keep_alive, offer_held_back, silent}
+use Rattle.tcp_model.specs.Offers.{last_rules, first_rules, backed_off, offer_between, offer_with, offer_of, payload_of, packet_with, offered_packet}
 use Rattle.tcp_model.specs.OpenOffer.{OpenOffer}
 use Rattle.tcp_model.specs.Opening.{is_first_syn, opens, takes_answer, acks_syn, syn_answered, answering}
 use Rattle.tcp_model.specs.Probing.{probe_started, probe_moment, probe_kept}
 use Rattle.tcp_model.specs.Reply.{Reply}
 use Rattle.tcp_model.specs.Retries.{heard, gives_up, given_up}
-use Rattle.tcp_model.specs.Rules.{Choice, control_for, time_wait_end, owes_syn, resends, ack_moment, has_text, text_choice, resend_choice, probe_choice, updates_window, keep_alive_moment}
-use Rattle.tcp_model.specs.Segments.{no_ranges, hops_of, segment, ack_segment, sack_segment, syn_segment, reset_segment, keep_alive_segment, rst_reply, reset_for}
+use Rattle.tcp_model.specs.Rules.{Choice, control_for, time_wait_end, owes_syn, resends, ack_moment, has_text, text_choice, resend_choice, probe_choice}
+use Rattle.tcp_model.specs.Rules.{updates_window, keep_alive_moment}
+use Rattle.tcp_model.specs.Segments.{no_ranges, hops_of, segment, ack_segment, sack_segment, syn_segment, reset_segment, keep_alive_segment, rst_reply}
+use Rattle.tcp_model.specs.Segments.{reset_for}
 use Rattle.tcp_model.specs.State.{State}
 use Rattle.tcp_model.specs.State.TheVariants as In
 use Rattle.tcp_model.specs.States.{is_closed}
@@ -72,10 +76,20 @@ use Rattle.lan_theorem.proofs.Moves.Answering.{AnswersSegments, replied_all}
 -- HEADERS
 
 -- the header that stands between two addresses names this protocol
-between_names : (source destination : IpAddress) (protocol : IpProtocol) (len limit : ℕ) (h : IpRepr) → header_between source destination protocol len limit ≡ Some h → carried_in h ≡ protocol
+between_names : (source destination : IpAddress) (protocol : IpProtocol) (len limit : ℕ) (h : IpRepr) →
+    header_between source destination protocol len limit ≡ Some h → carried_in h ≡ protocol
 between_names (Address.Ipv4 source) (Address.Ipv4 destination) protocol len limit h = by (nat_lt (20 + len) (2 ^ 16)) where
   header : IpRepr
-  header = Ip.Ipv4 (record { src_addr = source; dst_addr = destination; next_header = protocol; payload_len = len; hop_limit = limit; ident = 0; dont_frag = false })
+  header = Ip.Ipv4 (record {
+    src_addr = source;
+    dst_addr = destination;
+    next_header = protocol;
+    payload_len = len;
+    hop_limit = limit;
+    ident =
+        0;
+    dont_frag = false;
+  })
 
   by : (fits : Bool) → (if fits then Some header else None) ≡ Some h → carried_in h ≡ protocol
   by true is = let same : header ≡ h = cc in ap carried_in (sym same)
@@ -90,10 +104,20 @@ between_names (Address.Ipv6 source) (Address.Ipv6 destination) protocol len limi
 between_names (Address.Ipv4 source) (Address.Ipv6 destination) protocol len limit h = λ is. absurd (cc)
 between_names (Address.Ipv6 source) (Address.Ipv4 destination) protocol len limit h = λ is. absurd (cc)
 
-between_v4 : (source destination : Ipv4Address) (len limit : ℕ) (h : IpRepr) → header_between (Address.Ipv4 source) (Address.Ipv4 destination) Protocol.Icmp len limit ≡ Some h → (carried_in h ≡ Protocol.Icmp) × IsV4 h
+between_v4 : (source destination : Ipv4Address) (len limit : ℕ) (h : IpRepr) →
+    header_between (Address.Ipv4 source) (Address.Ipv4 destination) Protocol.Icmp len limit ≡ Some h → (carried_in h ≡ Protocol.Icmp) × IsV4 h
 between_v4 source destination len limit h = by (nat_lt (20 + len) (2 ^ 16)) where
   header : IpRepr
-  header = Ip.Ipv4 (record { src_addr = source; dst_addr = destination; next_header = Protocol.Icmp; payload_len = len; hop_limit = limit; ident = 0; dont_frag = false })
+  header = Ip.Ipv4 (record {
+    src_addr = source;
+    dst_addr = destination;
+    next_header = Protocol.Icmp;
+    payload_len = len;
+    hop_limit = limit;
+    ident =
+        0;
+    dont_frag = false;
+  })
 
   by : (fits : Bool) → (if fits then Some header else None) ≡ Some h → (carried_in h ≡ Protocol.Icmp) × IsV4 h
   by true is = let same : header ≡ h = cc in subst (λ (x : IpRepr). (carried_in x ≡ Protocol.Icmp) × IsV4 x) same (refl, tt)
@@ -121,11 +145,13 @@ message_names (Address.Ipv6 source) (Address.Ipv6 remote) bytes len limit h (Seg
 message_names (Address.Ipv4 source) (Address.Ipv6 remote) bytes len limit h x is named = absurd (let none : None ≡ Some h = named in cc)
 message_names (Address.Ipv6 source) (Address.Ipv4 remote) bytes len limit h x is named = absurd (let none : None ≡ Some h = named in cc)
 
-icmp_names : (source : Option IpAddress) (remote : IpAddress) (bytes : List ℕ) (limit : ℕ) (p : PacketValue) → Icmps.IsPacketFrom source remote bytes limit p → NamesItsPayload p
+icmp_names : (source : Option IpAddress) (remote : IpAddress) (bytes : List ℕ) (limit : ℕ) (p : PacketValue) → Icmps.IsPacketFrom source remote bytes limit p →
+    NamesItsPayload p
 icmp_names None remote bytes limit p is = absurd is
 icmp_names (Some source) remote bytes limit p is = message_names source remote bytes (payload_len p.payload) limit p.header p.payload is.0 is.1
 
-udp_header_names : (o : Option IpAddress) (s : Udps.UdpSettings) (destination : IpAddress) (size : ℕ) (h : IpRepr) → Udps.header_from o s destination size ≡ Some h → carried_in h ≡ Protocol.Udp
+udp_header_names : (o : Option IpAddress) (s : Udps.UdpSettings) (destination : IpAddress) (size : ℕ) (h : IpRepr) →
+    Udps.header_from o s destination size ≡ Some h → carried_in h ≡ Protocol.Udp
 udp_header_names None s destination size h is = absurd (cc)
 udp_header_names (Some source) s destination size h is = between_names source destination Protocol.Udp (8 + size) (hops s.hop_limit) h is
 
@@ -167,7 +193,8 @@ module _ (cx : ContextValue) (pair : EndpointPair) where
   held_back : (v : TcpValue) → OffersTcp (offer_held_back cx v pair)
   held_back v =
       let text = text_choice v.block pair.addresses cx.ip_mtu v.queued in
-      either (v.block.peer.window == 0) (offer_choice Kind.Probe cx v pair probe_choice) (offer_choice Kind.Text cx v pair text) (choice Kind.Probe v probe_choice) (choice Kind.Text v text)
+      either (v.block.peer.window == 0) (offer_choice Kind.Probe cx v pair probe_choice) (offer_choice Kind.Text cx v pair text)
+      (choice Kind.Probe v probe_choice) (choice Kind.Text v text)
 
   last : (v : TcpValue) → v.offered ≡ None → OffersTcp (last_rules cx v pair)
   last v none =
@@ -177,7 +204,8 @@ module _ (cx : ContextValue) (pair : EndpointPair) where
       either (is_due cx.moment (probe_moment v.block (queued_in v))) (offer_held_back cx v pair) second (held_back v)
       (either (is_due cx.moment (ack_moment v.block)) (offer_ack Kind.Ack cx v pair) third (ack Kind.Ack v)
       (either (updates_window v.block (room_of v.received) (free_in v)) (offer_ack Kind.WindowUpdate cx v pair) fourth (ack Kind.WindowUpdate v)
-      (either (is_due cx.moment (keep_alive_moment v.block)) (offer_keep_alive cx v pair) (silent false v) (one Kind.KeepAlive v (keep_alive_segment v.block pair cx.moment (window_of v)) 0 1) (plain false v none))))
+      (either (is_due cx.moment (keep_alive_moment v.block)) (offer_keep_alive cx v pair) (silent false v)
+      (one Kind.KeepAlive v (keep_alive_segment v.block pair cx.moment (window_of v)) 0 1) (plain false v none))))
 
   first_rule : (v : TcpValue) → v.offered ≡ None → OffersTcp (first_rules cx v pair)
   first_rule v none =
@@ -186,12 +214,14 @@ module _ (cx : ContextValue) (pair : EndpointPair) where
       let fourth : Offered TcpValue = last_rules cx (with_block v (probe_started cx.moment (queued_in v) v.block)) pair in
       let third : Offered TcpValue = if has_text v.block pair.addresses cx.ip_mtu v.queued then offer_choice Kind.Text cx v pair text else fourth in
       let second : Offered TcpValue = if resends v.block then offer_choice Kind.FastRetransmission cx v pair resent else third in
-      either (owes_syn v.block) (offer_syn cx v pair) second (one Kind.Syn v (syn_segment v.block pair cx.moment cx.ip_mtu (room_of v.received) (free_in v)) 0 0)
+      either (owes_syn v.block) (offer_syn cx v pair) second
+      (one Kind.Syn v (syn_segment v.block pair cx.moment cx.ip_mtu (room_of v.received) (free_in v)) 0 0)
       (either (resends v.block) (offer_choice Kind.FastRetransmission cx v pair resent) third (choice Kind.FastRetransmission v resent)
       (either (has_text v.block pair.addresses cx.ip_mtu v.queued) (offer_choice Kind.Text cx v pair text) fourth (choice Kind.Text v text)
       (last (with_block v (probe_started cx.moment (queued_in v) v.block)) none)))
 
-  gives : (v : TcpValue) (back : Bool) → v.offered ≡ None → OffersTcp (silent true (if back then listening v v.block.names.listen else with_block v (timed_out v.block)))
+  gives : (v : TcpValue) (back : Bool) → v.offered ≡ None →
+      OffersTcp (silent true (if back then listening v v.block.names.listen else with_block v (timed_out v.block)))
   gives v true none = tt
   gives v false none = plain true (with_block v (timed_out v.block)) none
 
@@ -207,7 +237,8 @@ module _ (cx : ContextValue) (pair : EndpointPair) where
       either (is_due cx.moment (time_wait_end v.block)) (silent true (ended v)) second (plain true (ended v) none)
       (either (is_due cx.moment (timeout_end v.block (queued_in v))) late third (plain true (with_block v (timed_out v.block)) none)
       (either (is_closed v.block.state) reset open_yet
-      (either v.block.sender.reset_due (offer_reset cx v pair) (silent false v) (one Kind.Reset v (reset_segment v.block pair cx.moment (window_of v)) 0 0) (plain false v none))
+      (either v.block.sender.reset_due (offer_reset cx v pair) (silent false v) (one Kind.Reset v (reset_segment v.block pair cx.moment (window_of v)) 0 0)
+      (plain false v none))
       (either (gives_up cx.moment v.block (queued_in v)) over (first_rules cx going pair) (gives v (falls_back v.block) none) (first_rule going none))))
 
 names_with : (pair : Option EndpointPair) (cx : ContextValue) (v : TcpValue) → v.offered ≡ None → OffersTcp (offer_with pair cx v)
@@ -221,9 +252,11 @@ segment_names (Some o) queue p named is =
     subst NamesItsPayload same named
 
 tcp_offer_names : (cx : ContextValue) (v : TcpValue) (p : PacketValue) → offered_packet (offer_of cx v).socket ≡ Some p → NamesItsPayload p
-tcp_offer_names cx v p is = segment_names (offer_of cx v).socket.offered (offer_of cx v).socket.queued.queue p (names_with v.block.names.pair cx (unoffered v) refl) is
+tcp_offer_names cx v p is =
+    segment_names (offer_of cx v).socket.offered (offer_of cx v).socket.queued.queue p (names_with v.block.names.pair cx (unoffered v) refl) is
 
-pub offered_names : (cx : ContextValue) (s s' : Socket) (answer : Answer.Offer) (p : PacketValue) → Offers cx s answer s' → offered_by s' ≡ Some p → NamesItsPayload p
+pub offered_names : (cx : ContextValue) (s s' : Socket) (answer : Answer.Offer) (p : PacketValue) → Offers cx s answer s' → offered_by s' ≡ Some p →
+    NamesItsPayload p
 offered_names cx (Is.Raw v) (Is.Raw v') answer p offers is =
     let took = takes_one Raws.TakesPacket v (first v.queued) answer v' p offers is in raw_names v.settings took.0 p took.1
 offered_names cx (Is.Icmp v) (Is.Icmp v') answer p offers is =
@@ -253,10 +286,12 @@ module _ (cx : ContextValue) (ip : IpRepr) (header : TcpHeader) where
   reset_tcp v size = names_tcp (addresses_in ip) 64 (header_len (reset_for header size))
 
   acked_tcp : (v : TcpValue) (ranges : List (Option (ℕ × ℕ))) → AnswersTcp (acked cx v ip header ranges)
-  acked_tcp v ranges = names_tcp (addresses_in ip) (hops_of v.block.settings.hop_limit) (header_len (sack_segment v.block (pair_in ip header) cx.moment (window_of v) ranges))
+  acked_tcp v ranges = names_tcp (addresses_in ip) (hops_of v.block.settings.hop_limit)
+      (header_len (sack_segment v.block (pair_in ip header) cx.moment (window_of v) ranges))
 
   drawn_tcp : (v : TcpValue) → AnswersTcp (drawn cx v ip header)
-  drawn_tcp v = either_arrived (may_draw cx.moment v.block.timers.draws_from) (acked cx (with_draw v cx.moment) ip header no_ranges) (dropped v) (acked_tcp (with_draw v cx.moment) no_ranges) tt
+  drawn_tcp v = either_arrived (may_draw cx.moment v.block.timers.draws_from) (acked cx (with_draw v cx.moment) ip header no_ranges) (dropped v)
+      (acked_tcp (with_draw v cx.moment) no_ranges) tt
 
   answer_tcp : (v : TcpValue) (size : ℕ) (fills : Bool) (early : Option ℕ) → AnswersTcp (answer_for cx v ip header size fills early)
   answer_tcp v size fills (Some place) = acked_tcp v (ranges_held v place)
@@ -281,7 +316,8 @@ module _ (cx : ContextValue) (ip : IpRepr) (header : TcpHeader) where
 
   outside_tcp : (v : TcpValue) → AnswersTcp (outside cx v ip header)
   outside_tcp v =
-      either_arrived (is_closed v.block.state) (dropped v) (drawn cx (waiting_anew v header cx.moment) ip header) tt (drawn_tcp (waiting_anew v header cx.moment))
+      either_arrived (is_closed v.block.state) (dropped v) (drawn cx (waiting_anew v header cx.moment) ip header) tt
+      (drawn_tcp (waiting_anew v header cx.moment))
 
   passed_outside_tcp : (v : TcpValue) (size by : ℕ) → AnswersTcp (passed_outside cx v ip header size by)
   passed_outside_tcp v size by =
@@ -293,7 +329,8 @@ module _ (cx : ContextValue) (ip : IpRepr) (header : TcpHeader) where
       either_arrived (is_in_window v.block (free_in v) header (length bytes)) (inside cx v ip header bytes by) (passed_outside cx v ip header (length bytes) by)
       (inside_tcp v bytes by) (passed_outside_tcp v (length bytes) by)
   checked_tcp Old v bytes =
-      either_arrived (is_in_window v.block (free_in v) header (length bytes)) (with_content cx (with_block v (heard v.block)) ip header bytes) (outside cx v ip header)
+      either_arrived (is_in_window v.block (free_in v) header (length bytes)) (with_content cx (with_block v (heard v.block)) ip header bytes)
+      (outside cx v ip header)
       (content_tcp (with_block v (heard v.block)) bytes) (outside_tcp v)
   checked_tcp Drops v bytes = tt
   checked_tcp Draws v bytes = drawn_tcp v
@@ -327,10 +364,12 @@ module _ (cx : ContextValue) (ip : IpRepr) (header : TcpHeader) where
       let answered = with_block v (timeout_restarted (syn_answered v.block header cx.moment) cx.moment (queued_in v)) in
       let down : Arrived = if acks_syn v.block.sender.una header.ack_number then dropped (ended v) else dropped v in
       let third : Arrived = if is_syn header.control then dropped answered else dropped v in
-      let second : Arrived = if is_some header.ack_number && not (acks_syn v.block.sender.una header.ack_number) then answered_with v (rst_reply ip header (length bytes)) else third in
+      let second : Arrived = if is_some header.ack_number && not (acks_syn v.block.sender.una header.ack_number) then answered_with v
+      (rst_reply ip header (length bytes)) else third in
       either_arrived (is_rst header.control) down second
       (either_arrived (acks_syn v.block.sender.una header.ack_number) (dropped (ended v)) (dropped v) tt tt)
-      (either_arrived (is_some header.ack_number && not (acks_syn v.block.sender.una header.ack_number)) (answered_with v (rst_reply ip header (length bytes))) third (reset_tcp v (length bytes))
+      (either_arrived (is_some header.ack_number && not (acks_syn v.block.sender.una header.ack_number)) (answered_with v (rst_reply ip header (length bytes)))
+      third (reset_tcp v (length bytes))
       (either_arrived (is_syn header.control) (dropped answered) (dropped v) tt tt))
 
   arrives_in_tcp : (state : State) (v : TcpValue) (bytes : List ℕ) → AnswersTcp (arrives_in state cx v ip header bytes)
@@ -341,7 +380,8 @@ module _ (cx : ContextValue) (ip : IpRepr) (header : TcpHeader) where
 
   pub arrives_tcp : (v : TcpValue) (bytes : List ℕ) → AnswersTcp (arrives cx v ip header bytes)
   arrives_tcp v bytes =
-      either_arrived (is_void_syn header) (dropped (unoffered v)) (arrives_in v.block.state cx (unoffered v) ip header bytes) tt (arrives_in_tcp v.block.state (unoffered v) bytes)
+      either_arrived (is_void_syn header) (dropped (unoffered v)) (arrives_in v.block.state cx (unoffered v) ip header bytes) tt
+      (arrives_in_tcp v.block.state (unoffered v) bytes)
 
 -- WHAT ANSWERS A PACKET
 
@@ -349,10 +389,12 @@ packet_names : (a : Option Reply) → IsTcpReply a → IfSome (packet_by a) Name
 packet_names None names = tt
 packet_names (Some reply) names = names
 
-four : (header : Ipv4Repr) (message : Icmpv4Header) (bytes : List ℕ) → header.next_header ≡ Protocol.Icmp → NamesItsPayload (packet_of (Ip.Ipv4 header) (ControlV4 message bytes))
+four : (header : Ipv4Repr) (message : Icmpv4Header) (bytes : List ℕ) → header.next_header ≡ Protocol.Icmp →
+    NamesItsPayload (packet_of (Ip.Ipv4 header) (ControlV4 message bytes))
 four header message bytes named = (named, tt)
 
-six : (header : Ipv6Repr) (message : MessageValue) (bytes : List ℕ) → header.next_header ≡ Protocol.Icmpv6 → NamesItsPayload (packet_of (Ip.Ipv6 header) (ControlV6 message bytes))
+six : (header : Ipv6Repr) (message : MessageValue) (bytes : List ℕ) → header.next_header ≡ Protocol.Icmpv6 →
+    NamesItsPayload (packet_of (Ip.Ipv6 header) (ControlV6 message bytes))
 six header message bytes named = named
 
 segments_name : (cx : ContextValue) (ip : IpRepr) (header : TcpHeader) (bytes : List ℕ) → AnswersSegments NamesItsPayload cx ip header bytes
@@ -361,6 +403,7 @@ segments_name cx ip header bytes = record {
   reset = names_tcp (addresses_in ip) 64 (header_len (reset_for header (length bytes)));
 }
 
-pub replied_names : (i : InnerValue) (places : Places) (ip : IpRepr) (payload : List ℕ) (taken : Bool) (carried : Option PayloadValue) → IfSome (handed_reply i places ip payload taken carried) NamesItsPayload
+pub replied_names : (i : InnerValue) (places : Places) (ip : IpRepr) (payload : List ℕ) (taken : Bool) (carried : Option PayloadValue) →
+    IfSome (handed_reply i places ip payload taken carried) NamesItsPayload
 replied_names i places ip payload taken carried =
     replied_all NamesItsPayload four six i places ip payload taken carried (λ header bytes is. segments_name (context_of i) ip header bytes)

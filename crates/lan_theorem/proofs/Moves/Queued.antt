@@ -13,7 +13,8 @@ module _ {H S : Type 0} where
   offer_left_by None v v' is = inr (ap (λ (w : SocketValue H S). contents w.queued) is ∙ contents_without_first v.queued)
   offer_left_by (Some p) v v' is = inl (ap (λ (w : SocketValue H S). contents w.queued) is ∙ contents_unpadded v.queued)
 
-  pub offer_left : (Takes : S → H × List ℕ → PacketValue → Type 0) (o : Option (H × List ℕ)) (v v' : SocketValue H S) (answer : Answer.Offer) → OffersFirst Takes v o answer v' → IsLeft (contents v.queued) (contents v'.queued)
+  pub offer_left : (Takes : S → H × List ℕ → PacketValue → Type 0) (o : Option (H × List ℕ)) (v v' : SocketValue H S) (answer : Answer.Offer) →
+      OffersFirst Takes v o answer v' → IsLeft (contents v.queued) (contents v'.queued)
   offer_left Takes None v v' answer offers = inl (ap (λ (w : SocketValue H S). contents w.queued) offers.1)
   offer_left Takes (Some q) v v' answer offers = offer_left_by v'.offered v v' offers.2
 

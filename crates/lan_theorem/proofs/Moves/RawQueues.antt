@@ -64,7 +64,8 @@ settles_foreign sent (Is.Tcp v) holds = tt
 
 packet_foreign : (ip : IpRepr) (payload : List ℕ) (s : Socket) → QueuesForeign s → QueuesForeign (with_packet ip payload s)
 packet_foreign ip payload (Is.Raw v) holds = by (Raws.fits ip) where
-  by : (fits : Bool) → QueuesForeign (Is.Raw (if fits then arrived v (header_len_in ip + length payload) tt (written true ip ++ payload) else Datagrams.settled false v))
+  by : (fits : Bool) → QueuesForeign
+      (Is.Raw (if fits then arrived v (header_len_in ip + length payload) tt (written true ip ++ payload) else Datagrams.settled false v))
   by true = holds
   by false = holds
 packet_foreign ip payload (Is.Icmp v) holds = tt
@@ -99,7 +100,8 @@ foreign_sockets = record {
   datagram ip udp bytes (Is.Udp v) holds = tt
   datagram ip udp bytes (Is.Tcp v) holds = tt
 
-  segment : (cx : ContextValue) (ip : IpRepr) (header : TcpHeader) (bytes : List ℕ) (s : Socket) → AreNamed header.src_port header.dst_port → QueuesForeign s → QueuesForeign (with_segment cx ip header bytes s)
+  segment : (cx : ContextValue) (ip : IpRepr) (header : TcpHeader) (bytes : List ℕ) (s : Socket) → AreNamed header.src_port header.dst_port → QueuesForeign s →
+      QueuesForeign (with_segment cx ip header bytes s)
   segment cx ip header bytes (Is.Raw v) named holds = holds
   segment cx ip header bytes (Is.Icmp v) named holds = tt
   segment cx ip header bytes (Is.Udp v) named holds = tt
@@ -139,12 +141,15 @@ read_so p n is = ap (λ (q : IpProtocol). protocol_of (protocol_number q)) is �
 foreign_header : (h : IpRepr) (bytes : List ℕ) → names_tcp_or_udp Medium.Ip bytes ≡ false → IsIp false bytes h → NamesNoPorts (carried_in (normal h))
 foreign_header (Ip.Ipv4 v) bytes none is =
     subst NamesNoPorts (sym (read_so v.next_header (slice_index bytes 9) is.protocol))
-    (neither_first (slice_index bytes 0 / 16) 4 (slice_index bytes 9) ((slice_index bytes 0 / 16 == 6) && is_tcp_or_udp (slice_index bytes 6)) v.next_header is.version none is.protocol)
+    (neither_first (slice_index bytes 0 / 16) 4 (slice_index bytes 9) ((slice_index bytes 0 / 16 == 6) && is_tcp_or_udp (slice_index bytes 6)) v.next_header
+    is.version none is.protocol)
 foreign_header (Ip.Ipv6 v) bytes none is =
     subst NamesNoPorts (sym (read_so v.next_header (slice_index bytes 6) is.protocol))
-    (neither_second (slice_index bytes 0 / 16) 6 (slice_index bytes 6) ((slice_index bytes 0 / 16 == 4) && is_tcp_or_udp (slice_index bytes 9)) v.next_header is.version none is.protocol)
+    (neither_second (slice_index bytes 0 / 16) 6 (slice_index bytes 6) ((slice_index bytes 0 / 16 == 4) && is_tcp_or_udp (slice_index bytes 9)) v.next_header
+    is.version none is.protocol)
 
-foreign_first : (o : Option (Unit {0} × List ℕ)) (v v' : RawValue) (answer : Answer.Offer) (p : PacketValue) → first v.queued ≡ o → QueuesForeign (Is.Raw v) → OffersFirst Raws.TakesPacket v o answer v' → v'.offered ≡ Some p
+foreign_first : (o : Option (Unit {0} × List ℕ)) (v v' : RawValue) (answer : Answer.Offer) (p : PacketValue) → first v.queued ≡ o → QueuesForeign (Is.Raw v) →
+    OffersFirst Raws.TakesPacket v o answer v' → v'.offered ≡ Some p
     → NamesNoPorts (carried_in (normal p.header))
 foreign_first None v v' answer p is holds offers open_so =
     let none : v'.offered ≡ None = ap (λ (w : RawValue). w.offered) offers.1 in
@@ -153,5 +158,6 @@ foreign_first (Some q) v v' answer p is holds offers open_so =
     let only : IsOnly (Raws.TakesPacket v.settings q) p = subst (IsFound (Raws.TakesPacket v.settings q)) open_so offers.0 in
     foreign_header p.header q.1 (each_first IsForeign v.queued q is holds) only.takes.read
 
-pub offered_foreign : (cx : ContextValue) (v v' : RawValue) (answer : Answer.Offer) (p : PacketValue) → QueuesForeign (Is.Raw v) → Raws.Offers cx v answer v' → v'.offered ≡ Some p → NamesNoPorts (carried_in (normal p.header))
+pub offered_foreign : (cx : ContextValue) (v v' : RawValue) (answer : Answer.Offer) (p : PacketValue) → QueuesForeign (Is.Raw v) → Raws.Offers cx v answer v' →
+    v'.offered ≡ Some p → NamesNoPorts (carried_in (normal p.header))
 offered_foreign cx v v' answer p holds offers open_so = foreign_first (first v.queued) v v' answer p refl holds offers open_so

@@ -23,14 +23,17 @@ use Rattle.interface_tables.specs.Inner.{InnerValue}
 use Rattle.interface_ingress.specs.Arrives.{told, answered}
 use Rattle.interface_ingress.specs.Handed.{control_v4_reply, control_v6_reply, message_reply}
 use Rattle.interface_ingress.specs.Heard.{Heard, heard, heard_on, counts, learned, advertised, answer, advertisement, is_asked}
-use Rattle.interface_ingress.specs.Replies.{sent_v4, echo_v4, port_unreachable, protocol_unreachable, source_of_reply, reply_v6, is_between_hosts, quoted_v4, quoted_v6}
+use Rattle.interface_ingress.specs.Replies.{sent_v4, echo_v4, port_unreachable, protocol_unreachable, source_of_reply, reply_v6, is_between_hosts, quoted_v4}
+use Rattle.interface_ingress.specs.Replies.{quoted_v6}
 use Rattle.lan_packets.specs.Parties.{Party}
 use Rattle.lan_theorem.specs.Moves.Made.{IsMade, IsMadeReply}
 
 -- what holds of each control message behind a header that names it
 module _ (Q : PacketValue → Type 0)
-    (four : (header : Ipv4Repr) (message : Icmpv4Header) (bytes : List ℕ) → header.next_header ≡ Protocol.Icmp → Q (packet_of (Ip.Ipv4 header) (ControlV4 message bytes)))
-    (six : (header : Ipv6Repr) (message : MessageValue) (bytes : List ℕ) → header.next_header ≡ Protocol.Icmpv6 → Q (packet_of (Ip.Ipv6 header) (ControlV6 message bytes))) where
+    (four : (header : Ipv4Repr) (message : Icmpv4Header) (bytes : List ℕ) → header.next_header ≡ Protocol.Icmp →
+    Q (packet_of (Ip.Ipv4 header) (ControlV4 message bytes)))
+    (six : (header : Ipv6Repr) (message : MessageValue) (bytes : List ℕ) → header.next_header ≡ Protocol.Icmpv6 →
+    Q (packet_of (Ip.Ipv6 header) (ControlV6 message bytes))) where
   abbrev pub Free : Option PacketValue → Type 0
   Free reply = IfSome reply Q
 
@@ -79,17 +82,20 @@ module _ (Q : PacketValue → Type 0)
   control_v6_free i (Ip.Ipv4 header) message bytes = tt
   control_v6_free i (Ip.Ipv6 header) message bytes = message_free i header message bytes
 
-  error_free : (between : Bool) (i : InnerValue) (header : Ipv6Repr) (message : MessageValue) (quoted : List ℕ) → Free (if between then Some (reply_v6 i header message quoted) else None)
+  error_free : (between : Bool) (i : InnerValue) (header : Ipv6Repr) (message : MessageValue) (quoted : List ℕ) →
+      Free (if between then Some (reply_v6 i header message quoted) else None)
   error_free true i header message quoted = six _ _ quoted refl
   error_free false i header message quoted = tt
 
   port_free : (i : InnerValue) (ip : IpRepr) (payload : List ℕ) → Free (port_unreachable i ip payload)
   port_free i (Ip.Ipv4 header) payload = sent_free _ header.src_addr _ (quoted_v4 payload)
-  port_free i (Ip.Ipv6 header) payload = error_free (is_between_hosts header) i header (Icmpv6.DstUnreachable V6Reason.PortUnreachable header) (quoted_v6 payload)
+  port_free i (Ip.Ipv6 header) payload =
+      error_free (is_between_hosts header) i header (Icmpv6.DstUnreachable V6Reason.PortUnreachable header) (quoted_v6 payload)
 
   protocol_free : (i : InnerValue) (ip : IpRepr) (payload : List ℕ) → Free (protocol_unreachable i ip payload)
   protocol_free i (Ip.Ipv4 header) payload = sent_free _ header.src_addr _ (quoted_v4 payload)
-  protocol_free i (Ip.Ipv6 header) payload = error_free (is_between_hosts header) i header (Icmpv6.ParamProblem V6Problem.UnrecognizedNxtHdr 40 header) (quoted_v6 payload)
+  protocol_free i (Ip.Ipv6 header) payload =
+      error_free (is_between_hosts header) i header (Icmpv6.ParamProblem V6Problem.UnrecognizedNxtHdr 40 header) (quoted_v6 payload)
 
   pub port_error_free : (quiet : Bool) (i : InnerValue) (ip : IpRepr) (payload : List ℕ) → Free (if quiet then None else port_unreachable i ip payload)
   port_error_free quiet i ip payload = free_if quiet (port_unreachable i ip payload) (port_free i ip payload)

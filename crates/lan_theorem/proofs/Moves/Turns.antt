@@ -1,5 +1,6 @@
 -- A socket's turn is a move, or none.
-use Rattle.std.proofs.Common.{◌≡◌, ℕ, Bool, true, false, inl, inr, List, [], ◌∷◌, ◌++◌, length, Option, Some, None, IfSome, refl, sym, ap, ◌∙◌, subst, arith, append-nil, ◌+◌}
+use Rattle.std.proofs.Common.{◌≡◌, ℕ, Bool, true, false, inl, inr, List, [], ◌∷◌, ◌++◌, length, Option, Some, None, IfSome, refl, sym, ap, ◌∙◌, subst, arith}
+use Rattle.std.proofs.Common.{append-nil, ◌+◌}
 use Rattle.std.specs.Prelude.{slice_set, slice_index_or}
 use Rattle.ip_wire.specs.Ip.{destination_of}
 use Rattle.ip_wire.specs.IpAddress.{IpAddress}
@@ -63,7 +64,8 @@ abbrev CanBeWide : PacketValue → Type 0
 CanBeWide x = IsWellFormed x → IsWide x
 
 -- moves lead to these sockets, and a packet that is done with was made
-pub record Gives (names : List ℕ → Bool) (side : Side) (net now : Net) (sockets : List (Option Parties.Socket)) (sent : Bool) (packet : Option PacketValue) : Type 0 where
+pub record Gives (names : List ℕ →
+    Bool) (side : Side) (net now : Net) (sockets : List (Option Parties.Socket)) (sent : Bool) (packet : Option PacketValue) : Type 0 where
   pub moved : Moved names side net now sockets
   pub made : sent ≡ true → IfSome packet (IsMade (party moved.next side))
 
@@ -79,16 +81,20 @@ module _ (names : List ℕ → Bool) (side : Side) (net now : Net) (r : Reaches 
   found m s has =
       ap (λ (xs : List (Option Parties.Socket)). slice_index_or xs (length before) None) has ∙ get-middle seen_place before (holding m s) after None
 
-  changed : (m m' : Meta) (s s' : Socket) → Has m s → slice_set (party now side).sockets (length before) (Some (seen s')) ≡ sockets_of (before ++ holding m' s' ∷ after)
+  changed : (m m' : Meta) (s s' : Socket) → Has m s →
+      slice_set (party now side).sockets (length before) (Some (seen s')) ≡ sockets_of (before ++ holding m' s' ∷ after)
   changed m m' s s' has =
-      ap (λ (xs : List (Option Parties.Socket)). slice_set xs (length before) (Some (seen s'))) has ∙ set-middle seen_place before (holding m s) (holding m' s') after
+      ap (λ (xs : List (Option Parties.Socket)). slice_set xs (length before) (Some (seen s'))) has ∙
+      set-middle seen_place before (holding m s) (holding m' s') after
 
   abbrev looks_same : (m m' : Meta) (s s' : Socket) → seen s' ≡ seen s → Has m s → Moved names side net now (sockets_of (before ++ holding m' s' ∷ after))
   looks_same m m' s s' same has =
-      stays names side net now r (sockets_of (before ++ holding m' s' ∷ after)) (has ∙ sym (same-middle seen_place before (holding m s) (holding m' s') after (ap Some same)))
+      stays names side net now r (sockets_of (before ++ holding m' s' ∷ after)) (has ∙
+      sym (same-middle seen_place before (holding m s) (holding m' s') after (ap Some same)))
 
   -- a raw packet and a control message are neither segments nor datagrams
-  raw_gives : (m m' : Meta) (cx : ContextValue) (v v' : RawValue) (answer : Answer.Offer) (sent : Bool) → Raws.Offers cx v answer v' → Has m (Is.Raw v) → To m' (settled sent (Is.Raw v')) sent v'.offered
+  raw_gives : (m m' : Meta) (cx : ContextValue) (v v' : RawValue) (answer : Answer.Offer) (sent : Bool) → Raws.Offers cx v answer v' → Has m (Is.Raw v) →
+      To m' (settled sent (Is.Raw v')) sent v'.offered
   raw_gives m m' cx v v' answer sent offers has = record {
     moved = looks_same m m' (Is.Raw v) (settled sent (Is.Raw v')) refl has;
     made = λ done. if_some v'.offered (IsMade (party now side)) (λ x is.
@@ -96,7 +102,8 @@ module _ (names : List ℕ → Bool) (side : Side) (net now : Net) (r : Reaches 
         subst (MadeBy (party now side)) (sym (ap (λ (y : PacketValue). y.payload) took.1.carried)) tt);
   }
 
-  icmp_gives : (m m' : Meta) (cx : ContextValue) (v v' : IcmpValue) (answer : Answer.Offer) (sent : Bool) → Icmps.Offers cx v answer v' → Has m (Is.Icmp v) → To m' (settled sent (Is.Icmp v')) sent v'.offered
+  icmp_gives : (m m' : Meta) (cx : ContextValue) (v v' : IcmpValue) (answer : Answer.Offer) (sent : Bool) → Icmps.Offers cx v answer v' → Has m (Is.Icmp v) →
+      To m' (settled sent (Is.Icmp v')) sent v'.offered
   icmp_gives m m' cx v v' answer sent offers has = record {
     moved = looks_same m m' (Is.Icmp v) (settled sent (Is.Icmp v')) refl has;
     made = λ done. if_some v'.offered (IsMade (party now side)) (λ x is.
@@ -104,13 +111,15 @@ module _ (names : List ℕ → Bool) (side : Side) (net now : Net) (r : Reaches 
         message_made (party now side) (cx.source_for took.0.0) took.0.0 took.0.1 (hops v.settings.hop_limit) x took.1);
   }
 
-  udp_gives : (m m' : Meta) (cx : ContextValue) (v v' : UdpValue) (answer : Answer.Offer) (sent : Bool) → Udps.Offers cx v answer v' → Has m (Is.Udp v) → To m' (settled sent (Is.Udp v')) sent v'.offered
+  udp_gives : (m m' : Meta) (cx : ContextValue) (v v' : UdpValue) (answer : Answer.Offer) (sent : Bool) → Udps.Offers cx v answer v' → Has m (Is.Udp v) →
+      To m' (settled sent (Is.Udp v')) sent v'.offered
   udp_gives m m' cx v v' answer sent offers has = record {
     moved =
         moves_by names side net now r move (sockets_of (before ++ holding m' (settled sent (Is.Udp v')) ∷ after)) (found m (Is.Udp v) has, offers) refl
         (changed m m' (Is.Udp v) (settled sent (Is.Udp v')) has)
         (grows_by (party now side) (Moves.party_after (party now side) move) [] (datagrams_of v'.offered) (sym (append-nil (party now side).segments)) refl);
-    made = λ done. there now side move (λ (y : Party). IfSome v'.offered (IsMade y)) (if_some v'.offered (IsMade (Moves.party_after (party now side) move)) (λ x is.
+    made = λ done. there now side move (λ (y : Party). IfSome v'.offered (IsMade y))
+        (if_some v'.offered (IsMade (Moves.party_after (party now side) move)) (λ x is.
         let took = takes_one (Udps.TakesDatagram cx) v (first v.queued) answer v' x offers is in
         udp_made (Moves.party_after (party now side) move) (party now side).datagrams cx v.settings took.0 x
         (ap (λ (o : Option PacketValue). (party now side).datagrams ++ datagrams_of o) is) took.1));
@@ -118,15 +127,18 @@ module _ (names : List ℕ → Bool) (side : Side) (net now : Net) (r : Reaches 
     move : Moves.Move
     move = Moves.Gives (length before) cx v answer v' sent
 
-  more_offered : (y : Party) (o : Option OpenOffer) (queue : List ℕ) → y.segments ≡ and_offer (party now side).segments o queue → y.datagrams ≡ (party now side).datagrams → Grows (party now side) y
+  more_offered : (y : Party) (o : Option OpenOffer) (queue : List ℕ) → y.segments ≡ and_offer (party now side).segments o queue →
+      y.datagrams ≡ (party now side).datagrams → Grows (party now side) y
   more_offered y None queue s d = grows_to (party now side) y s d
   more_offered y (Some o) queue s d =
       grows_by (party now side) y (made_of o.segment (payload_of o o.kind queue) ∷ []) [] s (d ∙ sym (append-nil (party now side).datagrams))
 
-  tcp_gives : (m m' : Meta) (cx : ContextValue) (v : TcpValue) (sent : Bool) → Has m (Is.Tcp v) → To m' (settled sent (Is.Tcp (offer_of cx v).socket)) sent (offered_packet (offer_of cx v).socket)
+  tcp_gives : (m m' : Meta) (cx : ContextValue) (v : TcpValue) (sent : Bool) → Has m (Is.Tcp v) →
+      To m' (settled sent (Is.Tcp (offer_of cx v).socket)) sent (offered_packet (offer_of cx v).socket)
   tcp_gives m m' cx v true has = record {
     moved =
-        moves_by names side net now r move (sockets_of (before ++ holding m' (settled true (Is.Tcp (offer_of cx v).socket)) ∷ after)) (found m (Is.Tcp v) has) refl
+        moves_by names side net now r move (sockets_of (before ++ holding m' (settled true (Is.Tcp (offer_of cx v).socket)) ∷ after))
+        (found m (Is.Tcp v) has) refl
         (changed m m' (Is.Tcp v) (settled true (Is.Tcp (offer_of cx v).socket)) has)
         (more_offered (Moves.party_after (party now side) move) (offer_of cx v).socket.offered (offer_of cx v).socket.queued.queue refl refl);
     made = λ done. there now side move (λ (y : Party). IfSome (offered_packet (offer_of cx v).socket) (IsMade y))
@@ -137,7 +149,8 @@ module _ (names : List ℕ → Bool) (side : Side) (net now : Net) (r : Reaches 
     move = Moves.Offers (length before) cx v true
   tcp_gives m m' cx v false has = record {
     moved =
-        moves_by names side net now r move (sockets_of (before ++ holding m' (settled false (Is.Tcp (offer_of cx v).socket)) ∷ after)) (found m (Is.Tcp v) has) refl
+        moves_by names side net now r move (sockets_of (before ++ holding m' (settled false (Is.Tcp (offer_of cx v).socket)) ∷ after))
+        (found m (Is.Tcp v) has) refl
         (changed m m' (Is.Tcp v) (settled false (Is.Tcp (offer_of cx v).socket)) has)
         (grows_to (party now side) (Moves.party_after (party now side) move) refl refl);
     made = λ done. absurd (cc);
@@ -171,7 +184,8 @@ unsettled (Is.Tcp v) none = let no_offer : v.offered ≡ None = none_open v.offe
 
 -- THE TURN
 
-module _ {D : Type 0} (moves : D → Move → D → Type 0) (turn_of : Option IpAddress) (names : List ℕ → Bool) (side : Side) (net : Net) (q : Party) (L : ℕ → State D → Party → Type 0) (link : IsLink moves q L) (n : ℕ) (h : HostValue) (before after : Places) where
+module _ {D : Type 0} (moves : D → Move → D → Type 0) (turn_of : Option IpAddress) (names : List ℕ → Bool) (side : Side) (net : Net) (q : Party) (L : ℕ →
+    State D → Party → Type 0) (link : IsLink moves q L) (n : ℕ) (h : HostValue) (before after : Places) where
   abbrev At : Sender D → Option (Item Socket) → State D
   At x o = sending_as h x (before ++ record { inner = o } ∷ after)
 
@@ -186,18 +200,21 @@ module _ {D : Type 0} (moves : D → Move → D → Type 0) (turn_of : Option Ip
   uncounted s f = record { now = f.now; reaches = f.reaches; sockets = f.sockets; link = link.more n (n + 1) s (party f.now side) (omega arith) f.link }
 
   -- a packet goes its way, with its sockets told already
-  leaves : (x x' : Sender D) (places : Places) (party : Party) (meta : Meta) (packet : PacketValue) (sent : Sent) → IsWide packet → (is_done sent ≡ true → IsMade party packet) → Leaves moves turn_of x meta packet sent x'
+  leaves : (x x' : Sender D) (places : Places) (party : Party) (meta : Meta) (packet : PacketValue) (sent : Sent) → IsWide packet →
+      (is_done sent ≡ true → IsMade party packet) → Leaves moves turn_of x meta packet sent x'
       → L n (sending_as h x places) party → L (n + 1) (sending_as h x' places) party
   leaves x x' places party meta packet sent wide made (inl rests) holds =
       let there : state x'.device (record h { inner = x.inner; left = x.left }) places ≡ sending_as h x' places =
       λ k. state x'.device (record h { inner = sym rests.2 k; left = sym rests.3 k }) places in
-      link.more n (n + 1) (sending_as h x' places) party (omega arith) (subst (λ (s : State D). L n s party) there (link.leave n (sending_as h x places) party rests.0 x'.device rests.1 holds))
+      link.more n (n + 1) (sending_as h x' places) party (omega arith)
+      (subst (λ (s : State D). L n s party) there (link.leave n (sending_as h x places) party rests.0 x'.device rests.1 holds))
   leaves x x' places party meta packet sent wide made (inr goes) holds =
       link.goes n (state goes.0 (record h { inner = x.inner; left = x.left }) places) party packet sent x'.device x'.inner x'.left wide made goes.2
       (link.leave n (sending_as h x places) party true goes.0 goes.1 holds)
 
   -- nothing goes, and the sockets look the same
-  stays_put : (x x' : Sender D) (o o' : Option (Item Socket)) → x' ≡ x → seen_place (record { inner = o' }) ≡ seen_place (record { inner = o }) → Now (At x o) → Now (At x' o')
+  stays_put : (x x' : Sender D) (o o' : Option (Item Socket)) → x' ≡ x → seen_place (record { inner = o' }) ≡ seen_place (record { inner = o }) → Now (At x o) →
+      Now (At x' o')
   stays_put x x' o o' is same f = subst (λ (y : Sender D). Now (At y o')) (sym is) (record {
     now = f.now;
     reaches = f.reaches;
@@ -206,7 +223,8 @@ module _ {D : Type 0} (moves : D → Move → D → Type 0) (turn_of : Option Ip
   })
 
   -- moves lead on, while nothing goes
-  abbrev moved_on : (x : Sender D) (o : Option (Item Socket)) (places : Places) (f : Now (At x o)) → (m : Moved names side net f.now (sockets_of places)) → Now (sending_as h x places)
+  abbrev moved_on : (x : Sender D) (o : Option (Item Socket)) (places : Places) (f : Now (At x o)) → (m : Moved names side net f.now (sockets_of places)) →
+      Now (sending_as h x places)
   moved_on x o places f m = record {
     now = m.next;
     reaches = m.reaches;
@@ -214,26 +232,32 @@ module _ {D : Type 0} (moves : D → Move → D → Type 0) (turn_of : Option Ip
     link = link.grown n (At x o) places (party f.now side) (party m.next side) m.grows f.link;
   }
 
-  silent : (x x' : Sender D) (item item' : Item Socket) (offered : Socket) (changed : Bool) (turned : Turned) → Offers (context_of x.inner) item.socket (Offer.Silent changed) offered
+  silent : (x x' : Sender D) (item item' : Item Socket) (offered : Socket) (changed : Bool) (turned : Turned) →
+      Offers (context_of x.inner) item.socket (Offer.Silent changed) offered
       → Answers moves turn_of (Offer.Silent changed) x (record item { socket = offered }) turned x' item' → Now (At x (Some item)) → Now (At x' (Some item'))
   silent x x' item item' offered changed turned offers answers f =
-      let given = gives names side net f.now f.reaches before after item.meta unmarked (context_of x.inner) item.socket offered (Offer.Silent changed) false offers f.sockets in
-      let same : settled false offered ≡ offered = unsettled offered (none_offered (offered_by offered) changed (has_packet item.socket offered (context_of x.inner) (Offer.Silent changed) offers)) in
+      let given = gives names side net f.now f.reaches before after item.meta unmarked (context_of x.inner) item.socket offered (Offer.Silent changed) false
+      offers f.sockets in
+      let same : settled false offered ≡ offered =
+      unsettled offered (none_offered (offered_by offered) changed (has_packet item.socket offered (context_of x.inner) (Offer.Silent changed) offers)) in
       let still : Now (At x (Some (record { meta = unmarked; socket = offered }))) =
       subst (λ (s : Socket). Now (At x (Some (record { meta = unmarked; socket = s })))) same
       (moved_on x (Some item) (before ++ holding unmarked (settled false offered) ∷ after) f given.moved) in
       subst (λ (i : Item Socket). Now (At x' (Some i))) (sym answers.2)
       (subst (λ (y : Sender D). Now (At y (Some (record { meta = unmarked; socket = offered })))) (sym answers.1) still)
 
-  sends : (x x' : Sender D) (item item' : Item Socket) (offered : Socket) (changed : Bool) (turned : Turned) (packet : Option PacketValue) → packet ≡ offered_by offered → IfSome packet CanBeWide
-      → Offers (context_of x.inner) item.socket (Offer.Packet changed) offered → SendsBy moves turn_of packet x (record item { socket = offered }) changed turned x' item'
+  sends : (x x' : Sender D) (item item' : Item Socket) (offered : Socket) (changed : Bool) (turned : Turned) (packet : Option PacketValue) →
+      packet ≡ offered_by offered → IfSome packet CanBeWide
+      → Offers (context_of x.inner) item.socket (Offer.Packet changed) offered →
+      SendsBy moves turn_of packet x (record item { socket = offered }) changed turned x' item'
       → Now (At x (Some item)) → Next (At x' (Some item'))
   sends x x' item item' offered changed turned None is wide offers goes f = absurd goes
   sends x x' item item' offered changed turned (Some packet) is wide offers goes f =
       let sent = goes.0 in
       let meta = marked sent x.inner.moment (waits_until (plan_at x packet) x'.inner) (destination_of packet.header) item.meta in
       let places = before ++ holding meta (settled (is_done sent) offered) ∷ after in
-      let given = gives names side net f.now f.reaches before after item.meta meta (context_of x.inner) item.socket offered (Offer.Packet changed) (is_done sent) offers f.sockets in
+      let given = gives names side net f.now f.reaches before after item.meta meta (context_of x.inner) item.socket offered (Offer.Packet changed)
+      (is_done sent) offers f.sockets in
       let on = moved_on x (Some item) places f given.moved in
       let told : Next (sending_as h x' places) = record {
         now = on.now;
@@ -247,21 +271,25 @@ module _ {D : Type 0} (moves : D → Move → D → Type 0) (turn_of : Option Ip
   asks : (x x' : Sender D) (item item' : Item Socket) (answer : Answer.Offer) (offered : Socket) (turned : Turned) → IfSome (offered_by offered) CanBeWide
       → Offers (context_of x.inner) item.socket answer offered → Answers moves turn_of answer x (record item { socket = offered }) turned x' item'
       → Now (At x (Some item)) → Next (At x' (Some item'))
-  asks x x' item item' (Offer.Silent changed) offered turned wide offers answers f = uncounted (At x' (Some item')) (silent x x' item item' offered changed turned offers answers f)
+  asks x x' item item' (Offer.Silent changed) offered turned wide offers answers f =
+      uncounted (At x' (Some item')) (silent x x' item item' offered changed turned offers answers f)
   asks x x' item item' (Offer.Packet changed) offered turned wide offers answers f =
       sends x x' item item' offered changed turned (offered_by offered) refl wide offers answers f
 
-  turns : (waits : Bool) (x x' : Sender D) (item item' : Item Socket) (turned : Turned) → TurnsIf moves turn_of waits x (let_through x.inner item) turned x' item' → IsFit item.socket
+  turns : (waits : Bool) (x x' : Sender D) (item item' : Item Socket) (turned : Turned) →
+      TurnsIf moves turn_of waits x (let_through x.inner item) turned x' item' → IsFit item.socket
       → Now (At x (Some item)) → Next (At x' (Some item'))
   turns true x x' item item' turned waits fit f =
       uncounted (At x' (Some item')) (stays_put x x' (Some item) (Some item') waits.1 (ap (λ (i : Item Socket). Some (seen i.socket)) waits.2) f)
   turns false x x' item item' turned asked fit f =
       let through = let_through x.inner item in
       asks x x' through item' asked.0 asked.1 turned
-      (if_some (offered_by asked.1) CanBeWide (λ p is formed. offered_wide (context_of x.inner) item.socket asked.1 asked.0 p fit asked.2 is formed)) asked.2 asked.3
+      (if_some (offered_by asked.1) CanBeWide (λ p is formed. offered_wide (context_of x.inner) item.socket asked.1 asked.0 p fit asked.2 is formed))
+      asked.2 asked.3
       (stays_put x x (Some item) (Some through) refl refl f)
 
-  items : (x x' : Sender D) (o o' : Option (Item Socket)) (turned : Turned) → ItemTurns moves turn_of o x turned x' o' → OfItem IsFit o → Now (At x o) → Next (At x' o')
+  items : (x x' : Sender D) (o o' : Option (Item Socket)) (turned : Turned) → ItemTurns moves turn_of o x turned x' o' → OfItem IsFit o → Now (At x o) →
+      Next (At x' o')
   items x x' None None turned turn fit f = uncounted (At x' None) (stays_put x x' None None turn.1 refl f)
   items x x' (Some item) (Some item') turned turn fit f = turns (is_waiting x.inner item.meta) x x' item item' turned turn fit f
   items x x' None (Some item') turned turn fit f = absurd turn

@@ -113,11 +113,13 @@ message_plain (Address.Ipv4 source) (Address.Ipv6 remote) bytes other is = absur
 message_plain (Address.Ipv6 source) (Address.Ipv4 remote) bytes other is = absurd is
 message_plain (Address.Ipv6 source) (Address.Ipv6 remote) bytes other is = absurd is
 
-icmp_plain : (source : Option IpAddress) (remote : IpAddress) (bytes : List ℕ) (limit : ℕ) (p : PacketValue) → Icmps.IsPacketFrom source remote bytes limit p → IsPlain p.payload
+icmp_plain : (source : Option IpAddress) (remote : IpAddress) (bytes : List ℕ) (limit : ℕ) (p : PacketValue) → Icmps.IsPacketFrom source remote bytes limit p →
+    IsPlain p.payload
 icmp_plain None remote bytes limit p is = absurd is
 icmp_plain (Some source) remote bytes limit p is = message_plain source remote bytes p.payload is.0
 
-udp_first : (cx : ContextValue) (o : Option (UdpMetadata × List ℕ)) (v v' : UdpValue) (answer : Answer.Offer) (p : PacketValue) → first v.queued ≡ o → NamesPorts (Is.Udp v)
+udp_first : (cx : ContextValue) (o : Option (UdpMetadata × List ℕ)) (v v' : UdpValue) (answer : Answer.Offer) (p : PacketValue) → first v.queued ≡ o →
+    NamesPorts (Is.Udp v)
     → OffersFirst (Udps.TakesDatagram cx) v o answer v' → v'.offered ≡ Some p → NamesItsPayload p → HasWidths p.payload → FitsBehind p.header p.payload
 udp_first cx None v v' answer p is holds offers open_so named widths =
     let none : v'.offered ≡ None = ap (λ (w : UdpValue). w.offered) offers.1 in
@@ -132,7 +134,8 @@ udp_first cx (Some q) v v' answer p is holds offers open_so named widths =
       record { source_port = fields.source_port; destination_port = fields.destination_port; nonzero = each_first IsNamed v.queued q is holds },
     )
 
-segment_plain : (o : Option OpenOffer) (queue : List ℕ) (p : PacketValue) → ((x : OpenOffer) → o ≡ Some x → AreNamed x.segment.src_port x.segment.dst_port) → packet_with o queue ≡ Some p → IsPlain p.payload
+segment_plain : (o : Option OpenOffer) (queue : List ℕ) (p : PacketValue) → ((x : OpenOffer) → o ≡ Some x → AreNamed x.segment.src_port x.segment.dst_port) →
+    packet_with o queue ≡ Some p → IsPlain p.payload
 segment_plain None queue p named is = absurd (cc)
 segment_plain (Some o) queue p named is =
     let same : packet_of o.header (Segment o.segment (payload_of o o.kind queue)) ≡ p = cc in
@@ -146,7 +149,8 @@ tcp_plain cx v p holds is = segment_plain (offer_of cx v).socket.offered (offer_
       let ends = holds goes.0 goes.1 in
       (λ zero. ends.0 (sym goes.2.source_port ∙ zero), λ zero. ends.1 (sym goes.2.destination_port ∙ zero))
 
-offered_fits : (cx : ContextValue) (s s' : Socket) (answer : Answer.Offer) (p : PacketValue) → IsFit s → Offers cx s answer s' → offered_by s' ≡ Some p → NamesItsPayload p → HasWidths p.payload → FitsBehind p.header p.payload
+offered_fits : (cx : ContextValue) (s s' : Socket) (answer : Answer.Offer) (p : PacketValue) → IsFit s → Offers cx s answer s' → offered_by s' ≡ Some p →
+    NamesItsPayload p → HasWidths p.payload → FitsBehind p.header p.payload
 offered_fits cx (Is.Raw v) (Is.Raw v') answer p fit offers is named widths =
     let took = takes_one Raws.TakesPacket v (first v.queued) answer v' p offers is in
     subst (FitsBehind p.header) (sym (ap (λ (x : PacketValue). x.payload) took.1.carried)) (offered_foreign cx v v' answer p fit.0 offers is)
@@ -158,7 +162,8 @@ offered_fits cx (Is.Tcp v) (Is.Tcp v') answer p fit offers is named widths =
     plain_fits p.header p.payload (tcp_plain cx v p fit.1 (ap (λ (w : TcpValue). offered_packet w) (sym offers.1) ∙ is)) named widths
 offered_fits cx s s' answer p fit offers is named widths = absurd offers
 
-pub offered_wide : (cx : ContextValue) (s s' : Socket) (answer : Answer.Offer) (p : PacketValue) → IsFit s → Offers cx s answer s' → offered_by s' ≡ Some p → IsWellFormed p → IsWide p
+pub offered_wide : (cx : ContextValue) (s s' : Socket) (answer : Answer.Offer) (p : PacketValue) → IsFit s → Offers cx s answer s' → offered_by s' ≡ Some p →
+    IsWellFormed p → IsWide p
 offered_wide cx s s' answer p fit offers is formed =
     formed_wide p formed (offered_fits cx s s' answer p fit offers is (offered_names cx s s' answer p offers is) formed.payload)
 
@@ -167,7 +172,8 @@ offered_wide cx s s' answer p fit offers is formed =
 abbrev GoesPlain : PacketValue → Type 0
 GoesPlain p = IsPlain p.payload
 
-back_named : (ip : IpRepr) (header : TcpHeader) (reply : Reply) → AreNamed header.src_port header.dst_port → GoesBack ip header reply → AreNamed reply.segment.src_port reply.segment.dst_port
+back_named : (ip : IpRepr) (header : TcpHeader) (reply : Reply) → AreNamed header.src_port header.dst_port → GoesBack ip header reply →
+    AreNamed reply.segment.src_port reply.segment.dst_port
 back_named ip header reply named back = (λ zero. named.1 (sym back.source_port ∙ zero), λ zero. named.0 (sym back.destination_port ∙ zero))
 
 module _ (cx : ContextValue) (ip : IpRepr) (header : TcpHeader) (bytes : List ℕ) (named : AreNamed header.src_port header.dst_port) where
@@ -181,13 +187,16 @@ module _ (cx : ContextValue) (ip : IpRepr) (header : TcpHeader) (bytes : List �
     reset = back_named ip header (rst_reply ip header (length bytes)) named (reset_back ip header (length bytes));
   }
 
-four : (header : Ipv4Repr) (message : Icmpv4Header) (bytes : List ℕ) → header.next_header ≡ Protocol.Icmp → GoesPlain (packet_of (Ip.Ipv4 header) (ControlV4 message bytes))
+four : (header : Ipv4Repr) (message : Icmpv4Header) (bytes : List ℕ) → header.next_header ≡ Protocol.Icmp →
+    GoesPlain (packet_of (Ip.Ipv4 header) (ControlV4 message bytes))
 four header message bytes named = tt
 
-six : (header : Ipv6Repr) (message : MessageValue) (bytes : List ℕ) → header.next_header ≡ Protocol.Icmpv6 → GoesPlain (packet_of (Ip.Ipv6 header) (ControlV6 message bytes))
+six : (header : Ipv6Repr) (message : MessageValue) (bytes : List ℕ) → header.next_header ≡ Protocol.Icmpv6 →
+    GoesPlain (packet_of (Ip.Ipv6 header) (ControlV6 message bytes))
 six header message bytes named = tt
 
-replied_plain : (i : InnerValue) (places : Places) (ip : IpRepr) (payload : List ℕ) (taken : Bool) (carried : Option PayloadValue) → IsCarriedContent i.checksums ip payload carried → IfSome (handed_reply i places ip payload taken carried) GoesPlain
+replied_plain : (i : InnerValue) (places : Places) (ip : IpRepr) (payload : List ℕ) (taken : Bool) (carried : Option PayloadValue) →
+    IsCarriedContent i.checksums ip payload carried → IfSome (handed_reply i places ip payload taken carried) GoesPlain
 replied_plain i places ip payload taken carried is =
     replied_all GoesPlain four six i places ip payload taken carried (λ header bytes same.
     segments_plain (context_of i) ip header bytes (segment_named i.checksums ip payload header bytes (subst (IsCarriedContent i.checksums ip payload) same is)))
@@ -208,20 +217,26 @@ told_wide (Some packet) = tt
 abbrev RepliesWide : Option ReplyValue → Type 0
 RepliesWide reply = IfSome reply CanBeWide
 
-hands_wide : (i : InnerValue) (places : Places) (ip : IpRepr) (payload : List ℕ) (taken : Bool) (a : Arrived) → Hands i places ip payload taken a → RepliesWide a.reply
+hands_wide : (i : InnerValue) (places : Places) (ip : IpRepr) (payload : List ℕ) (taken : Bool) (a : Arrived) → Hands i places ip payload taken a →
+    RepliesWide a.reply
 hands_wide i places ip payload taken a (carried, is, so) =
-    subst RepliesWide (sym so.reply) (answered_wide (handed_reply i places ip payload taken carried) (replied_plain i places ip payload taken carried is) (replied_names i places ip payload taken carried))
+    subst RepliesWide (sym so.reply)
+    (answered_wide (handed_reply i places ip payload taken carried) (replied_plain i places ip payload taken carried is)
+    (replied_names i places ip payload taken carried))
 
-v4_wide : (ours : Bool) (i : InnerValue) (places : Places) (link : Option EthernetRepr) (ip : IpRepr) (payload : List ℕ) (a : Arrived) → ArrivesV4 ours i places link ip payload a → RepliesWide a.reply
+v4_wide : (ours : Bool) (i : InnerValue) (places : Places) (link : Option EthernetRepr) (ip : IpRepr) (payload : List ℕ) (a : Arrived) →
+    ArrivesV4 ours i places link ip payload a → RepliesWide a.reply
 v4_wide true i places link ip payload a is = hands_wide (renewed i link ip) (packet_delivered ip payload places) ip payload (is_taken_raw ip places) a is
 v4_wide false i places link ip payload a is = subst RepliesWide (sym is.reply) tt
 
-v6_wide : (ours : Bool) (i : InnerValue) (places : Places) (link : Option EthernetRepr) (ip : IpRepr) (payload : List ℕ) (a : Arrived) → ArrivesV6 ours i places link ip payload a → RepliesWide a.reply
+v6_wide : (ours : Bool) (i : InnerValue) (places : Places) (link : Option EthernetRepr) (ip : IpRepr) (payload : List ℕ) (a : Arrived) →
+    ArrivesV6 ours i places link ip payload a → RepliesWide a.reply
 v6_wide true i places link ip payload a is = hands_wide (renewed i link ip) (packet_delivered ip payload places) ip payload (is_taken_raw ip places) a is
 v6_wide false i places link ip payload a is = subst RepliesWide (sym is.reply) tt
 
 pub brings_wide : (i : InnerValue) (places : Places) (content : Option IncomingValue) (a : Arrived) → Brings i places content a → RepliesWide a.reply
 brings_wide i places None a is = subst RepliesWide (sym is.reply) tt
 brings_wide i places (Some (Arp link packet)) a is = subst RepliesWide (sym is.reply) (told_wide (arp_answer i packet))
-brings_wide i places (Some (Ip4 link header piece payload)) a is = v4_wide (is_for_us i (Address.Ipv4 header.dst_addr)) i places link (Ip.Ipv4 header) payload a is
+brings_wide i places (Some (Ip4 link header piece payload)) a is =
+    v4_wide (is_for_us i (Address.Ipv4 header.dst_addr)) i places link (Ip.Ipv4 header) payload a is
 brings_wide i places (Some (Ip6 link header payload)) a is = v6_wide (is_for_us i (Address.Ipv6 header.dst_addr)) i places link (Ip.Ipv6 header) payload a is

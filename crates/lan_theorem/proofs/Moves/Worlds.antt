@@ -35,12 +35,14 @@ use Rattle.lan_theorem.proofs.Moves.Places.{Places}
 
 -- EVENTS BUT FOR POLLS
 
-same_hosts : (old new : Stations) (side : Side) → sockets_of (station new side).places ≡ sockets_of (station old side).places → station new (other side) ≡ station old (other side)
+same_hosts : (old new : Stations) (side : Side) → sockets_of (station new side).places ≡ sockets_of (station old side).places →
+    station new (other side) ≡ station old (other side)
     → (s : Side) → sockets_of (station new s).places ≡ sockets_of (station old s).places
 same_hosts old new side same rests =
     either_side side (λ s. sockets_of (station new s).places ≡ sockets_of (station old s).places) same (ap (λ (x : StationValue). sockets_of x.places) rests)
 
-with_end : (hosts : Stations) (side : Side) (end : LinkEnd) (s : Side) → sockets_of (station (with_station hosts side (with_link (station hosts side) end)) s).places ≡ sockets_of (station hosts s).places
+with_end : (hosts : Stations) (side : Side) (end : LinkEnd) (s : Side) →
+    sockets_of (station (with_station hosts side (with_link (station hosts side) end)) s).places ≡ sockets_of (station hosts s).places
 with_end hosts A end A = refl
 with_end hosts A end B = refl
 with_end hosts B end A = refl
@@ -51,10 +53,12 @@ link_same hosts (Hands origin) s = with_end hosts (goes_to origin) _ s
 link_same hosts (Cuts from k at) s = with_end hosts from _ s
 
 module _ (net : Net) (old new : Stations) (past : List Entry) (e : Entry) (of : IsNetOf net old past) where
-  still : (k : Kind) → kind_of e.event ≡ k → IsNoCall k → ((s : Side) → sockets_of (station new s).places ≡ sockets_of (station old s).places) → Comes names net new (e ∷ past)
+  still : (k : Kind) → kind_of e.event ≡ k → IsNoCall k → ((s : Side) → sockets_of (station new s).places ≡ sockets_of (station old s).places) →
+      Comes names net new (e ∷ past)
   still k is none same = still_comes net old new past e of (subst IsNoCall (sym is) none) same
 
-  by_kind : (k : Kind) → kind_of e.event ≡ k → IsNoPoll k → refusal_in past old e.event ≡ None → Happens old k e.answer e.found new → Comes names net new (e ∷ past)
+  by_kind : (k : Kind) → kind_of e.event ≡ k → IsNoPoll k → refusal_in past old e.event ≡ None → Happens old k e.answer e.found new →
+      Comes names net new (e ∷ past)
   by_kind (OfHost side (Calls i call)) is quiet none acts = call_comes net old new past e side i call of is none acts
   by_kind (OfHost side (Sets setting)) is quiet none acts =
       still (OfHost side (Sets setting)) is tt (same_hosts old new side (ap (λ (x : StationValue). sockets_of x.places) acts.acts.0.3) acts.rests)
@@ -66,7 +70,8 @@ module _ (net : Net) (old new : Stations) (past : List Entry) (e : Entry) (of : 
   by_kind (OfLink act) is quiet none acts =
       still (OfLink act) is tt (λ s. ap (λ (h : Stations). sockets_of (station h s).places) acts.2 ∙ link_same old act s)
 
-pub rest_comes : (net : Net) (old new : Stations) (past : List Entry) (e : Entry) → IsNetOf net old past → IsNoPoll (kind_of e.event) → Leads past old e new → Comes names net new (e ∷ past)
+pub rest_comes : (net : Net) (old new : Stations) (past : List Entry) (e : Entry) → IsNetOf net old past → IsNoPoll (kind_of e.event) → Leads past old e new →
+    Comes names net new (e ∷ past)
 rest_comes net old new past e of quiet leads = by_kind net old new past e of (kind_of e.event) refl quiet leads.allowed leads.happens
 
 -- RUNS
@@ -89,11 +94,14 @@ unused_fresh (Is.Icmp v) unused = tt
 unused_fresh (Is.Udp v) unused = (refl, unused.0, unused.1)
 unused_fresh (Is.Tcp v) unused = unused
 
-fresh_socket : (o : Option Socket) (s : Parties.Socket) → ((socket : Socket) → o ≡ Some socket → IsUnused socket) → seen_in o ≡ Some s → IsFreshSocket (port_of o) s
+fresh_socket : (o : Option Socket) (s : Parties.Socket) → ((socket : Socket) → o ≡ Some socket → IsUnused socket) → seen_in o ≡ Some s →
+    IsFreshSocket (port_of o) s
 fresh_socket None s unused is = absurd (cc)
-fresh_socket (Some socket) s unused is = let same : seen socket ≡ s = cc in subst (IsFreshSocket (port_of (Some socket))) same (unused_fresh socket (unused socket refl))
+fresh_socket (Some socket) s unused is = let same : seen socket ≡ s =
+    cc in subst (IsFreshSocket (port_of (Some socket))) same (unused_fresh socket (unused socket refl))
 
-fresh_party : (s : Start) (p : Party) (ports : ℕ → ℕ) → IsFreshStart s → p ≡ party_of (unused s) → ((i : ℕ) → ports i ≡ port_of (socket_at s.places i)) → IsFreshParty ports p
+fresh_party : (s : Start) (p : Party) (ports : ℕ → ℕ) → IsFreshStart s → p ≡ party_of (unused s) → ((i : ℕ) → ports i ≡ port_of (socket_at s.places i)) →
+    IsFreshParty ports p
 fresh_party s p ports fresh is named = record {
   sockets = λ i x at.
       let there : seen_in (socket_at s.places i) ≡ Some x = sym (seen_index s.places i) ∙ ap (λ (y : Party). slice_index_or y.sockets i None) (sym is) ∙ at in
@@ -115,7 +123,8 @@ abbrev pub unmade : Net → Net
 unmade net = record { a = record net.a { segments = []; datagrams = [] }; b = record net.b { segments = []; datagrams = [] }; history = net.history }
 
 module _ (ports : Side → ℕ → ℕ) (net : Net) (safe : IsSafe ports net) where
-  prefix : (side : Side) (i j : ℕ) (v : TcpValue) → ArePartners net.history side i j → IsTcpAt (unmade net) side i v → IsPrefixOf (taken_in net side i v) (written net.history (other side) j)
+  prefix : (side : Side) (i j : ℕ) (v : TcpValue) → ArePartners net.history side i j → IsTcpAt (unmade net) side i v →
+      IsPrefixOf (taken_in net side i v) (written net.history (other side) j)
   prefix A i j v partners at = safe.prefix A i j v partners at
   prefix B i j v partners at = safe.prefix B i j v partners at
 
@@ -127,7 +136,8 @@ module _ (ports : Side → ℕ → ℕ) (net : Net) (safe : IsSafe ports net) wh
   still_nothing : (side : Side) (i : ℕ) (v : TcpValue) → HasNothing net side i v → HasNothing (unmade net) side i v
   still_nothing side i v nothing = record { taken = nothing.taken; queued = nothing.queued }
 
-  alone : (side : Side) (i : ℕ) (v : TcpValue) → ((j : ℕ) → ¬ (ArePartners net.history side i j)) → IsTcpAt (unmade net) side i v → HasNothing (unmade net) side i v
+  alone : (side : Side) (i : ℕ) (v : TcpValue) → ((j : ℕ) → ¬ (ArePartners net.history side i j)) → IsTcpAt (unmade net) side i v →
+      HasNothing (unmade net) side i v
   alone A i v none at = still_nothing A i v (safe.alone A i v none at)
   alone B i v none at = still_nothing B i v (safe.alone B i v none at)
 

@@ -55,7 +55,8 @@ HaveWords (e ∷ past) = HasWord (kind_of e.event) × HaveWords past
 
 -- each was harmless when it was handed over
 abbrev pub WasHarmless : Stations → Type 0
-WasHarmless from = (past : List Entry) (old new : Stations) (e : Entry) → HaveWords past → HasWord (kind_of e.event) → WorldRun past from old → Leads past old e new
+WasHarmless from = (past : List Entry) (old new : Stations) (e : Entry) → HaveWords past → HasWord (kind_of e.event) → WorldRun past from old →
+    Leads past old e new
     → IsHarmlessBy old (kind_of e.event)
 
 -- WHAT A DAMAGED FRAME BRINGS

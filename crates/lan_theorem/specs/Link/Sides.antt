@@ -44,7 +44,8 @@ AreFrom made out (Some v) = IsFrom made out v
 pub record IsOther (medium : Medium) (frame : List ℕ) : Type 0 where
   pub uncut : ipv4_part medium frame ≡ None
   pub no_segment : tcp_part medium frame ≡ None
-  pub brings : (hardware : HardwareAddress) (padding : List ℕ) (v : IncomingValue) → medium_on hardware ≡ medium → IsIncoming hardware sealed (frame ++ padding) v → HasNoPorts v
+  pub brings : (hardware : HardwareAddress) (padding : List ℕ) (v : IncomingValue) → medium_on hardware ≡ medium →
+      IsIncoming hardware sealed (frame ++ padding) v → HasNoPorts v
 
 -- a frame that a host sent, or that the link made of one by a cut
 abbrev pub IsHostFrame : Medium → List PacketValue → List ℕ → Type 0
@@ -101,7 +102,8 @@ pub record IsLeft (hardware : HardwareAddress) (out : List PacketValue) (l : Lef
 
 -- A host that sends. `made` and `out` are its own, `first` its first number, and `sent` the frames that left it with those that the link
 -- made of them.
-pub record IsSender (made : PayloadValue → Type 0) (first : ℕ) (i : InnerValue) (left : Option LeftValue) (sent : List (List ℕ)) (out : List PacketValue) : Type 0 where
+pub record IsSender (made : PayloadValue →
+    Type 0) (first : ℕ) (i : InnerValue) (left : Option LeftValue) (sent : List (List ℕ)) (out : List PacketValue) : Type 0 where
   pub sound : IsSound i
   pub are_sent : AreSent made first i.ident out
   pub left_is : IfSome left (IsLeft i.hardware out)
@@ -124,7 +126,8 @@ abbrev pub Grows : List PacketValue → List PacketValue → Type 0
 Grows out out' = (p : PacketValue) → IsAmong p out → IsAmong p out'
 
 -- It is a sender still, of more packets: so many more of IPv4 at most, each of which has a first frame.
-pub record WentOut (made : PayloadValue → Type 0) (first most : ℕ) (out : List PacketValue) (sent : List (List ℕ)) (i' : InnerValue) (l' : Option LeftValue) (sent' : List (List ℕ)) : Type 0 where
+pub record WentOut (made : PayloadValue → Type 0) (first most : ℕ) (out : List PacketValue) (sent : List (List ℕ)) (i' : InnerValue) (l' : Option LeftValue)
+    (sent' : List (List ℕ)) : Type 0 where
   pub out_after : List PacketValue
   pub grows : Grows out out_after
   pub count : count_v4 out_after ≤ count_v4 out + most

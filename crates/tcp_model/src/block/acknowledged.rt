@@ -1,7 +1,10 @@
 //! The acknowledgement and the window of an accepted segment.
 ghost use Rattle.std.specs.Prelude.{◌≡◌, ◌≤◌, ◌<◌, ◌^◌, IfSome};
 ghost use Rattle.net_base.specs.Time.{IsMoment};
-ghost use Rattle.tcp_model.specs.Acknowledged.{freed_by, sender_moved, retransmit_after, acks_own_syn, acks_in_recovery, is_partial, round_trip_after, recovery_after, reno_after, una_moved, acks_fin, state_after_ack, in_state, block_acknowledged, scaled, acks_no_less, or_number, names_window, windowed, window_set, end_past, highest_end, sacked_by, ranges_taken, tells_of_loss, is_duplicate, duplicates_after, is_third, begins_recovery, reno_counted, counted};
+ghost use Rattle.tcp_model.specs.Acknowledged.{freed_by, sender_moved, retransmit_after, acks_own_syn, acks_in_recovery, is_partial, round_trip_after};
+ghost use Rattle.tcp_model.specs.Acknowledged.{recovery_after, reno_after, una_moved, acks_fin, state_after_ack, in_state, block_acknowledged, scaled};
+ghost use Rattle.tcp_model.specs.Acknowledged.{acks_no_less, or_number, names_window, windowed, window_set, end_past, highest_end, sacked_by, ranges_taken};
+ghost use Rattle.tcp_model.specs.Acknowledged.{tells_of_loss, is_duplicate, duplicates_after, is_third, begins_recovery, reno_counted, counted};
 
 use super::opening::or_recent;
 use crate::{Block, State};

@@ -1,6 +1,7 @@
 //! A fresh control block, and what follows from its fields.
 ghost use Rattle.std.specs.Prelude.{◌≡◌, ◌+◌, ◌*◌, ◌≤◌, ◌^◌};
-ghost use Rattle.tcp_model.specs.Blocks.{default_settings, fresh_sender, fresh_block, forgotten, unacked, nxt, top, past_top, own_scale, scale_for, field_of, own_shift, window_field, told_of, least_step, is_worth_telling, edge_after, announced};
+ghost use Rattle.tcp_model.specs.Blocks.{default_settings, fresh_sender, fresh_block, forgotten, unacked, nxt, top, past_top, own_scale, scale_for, field_of};
+ghost use Rattle.tcp_model.specs.Blocks.{own_shift, window_field, told_of, least_step, is_worth_telling, edge_after, announced};
 
 use crate::{
     Block, CongestionControl, Names, Peer, Receiver, Reno, RoundTrip, Sender, Settings, State,

@@ -1,6 +1,8 @@
 //! What a socket offers: a test for each rule, and what the rules for text may send.
 ghost use Rattle.std.specs.Prelude.{◌≡◌, ◌+◌, ◌≤◌, ◌<◌, ◌^◌, min};
-ghost use Rattle.tcp_model.specs.Rules.{time_wait_end, owes_syn, resends, ack_moment, Choice, stamp_len, size_limit, congestion_limit, beyond, window_limit, next_place, fin_goes, text_of_size, ready, may_be_small, fills_enough, is_sendable, sends_choice, sent_places, first_text, probe_choice, control_for, updates_window, keep_alive_moment, backed_off_now};
+ghost use Rattle.tcp_model.specs.Rules.{time_wait_end, owes_syn, resends, ack_moment, Choice, stamp_len, size_limit, congestion_limit, beyond, window_limit};
+ghost use Rattle.tcp_model.specs.Rules.{next_place, fin_goes, text_of_size, ready, may_be_small, fills_enough, is_sendable, sends_choice, sent_places};
+ghost use Rattle.tcp_model.specs.Rules.{first_text, probe_choice, control_for, updates_window, keep_alive_moment, backed_off_now};
 ghost use Rattle.tcp_model.specs.Offers.{number_at, backed_off};
 ghost use Rattle.tcp_model.specs.Choices.{choice_of};
 

@@ -1,7 +1,8 @@
 //! The segments that a socket makes.
 ghost use Rattle.std.specs.Prelude.{◌≡◌, ◌+◌, ◌≤◌, ◌<◌, ◌^◌, List, ℕ, Option};
 ghost use Rattle.net_base.specs.Time.{IsMoment};
-ghost use Rattle.tcp_model.specs.Segments.{hops_of, stamp_by, stamp_of, segment, ack_segment, sack_segment, mss_for, syn_options, next_if_heard, syn_segment, reset_segment, keep_alive_segment, segment_len, reply_to, reset_seq, reset_ack, reset_for, rst_reply};
+ghost use Rattle.tcp_model.specs.Segments.{hops_of, stamp_by, stamp_of, segment, ack_segment, sack_segment, mss_for, syn_options, next_if_heard, syn_segment};
+ghost use Rattle.tcp_model.specs.Segments.{reset_segment, keep_alive_segment, segment_len, reply_to, reset_seq, reset_ack, reset_for, rst_reply};
 
 use super::fresh::{field_of, own_scale};
 use crate::{AddressPair, Block, EndpointPair, Reply};

@@ -1,7 +1,8 @@
 //! The user timeout, and probes of a closed window.
 ghost use Rattle.std.specs.Prelude.{◌≡◌, ◌≤◌, ◌^◌, IfSome};
 ghost use Rattle.net_base.specs.Time.{IsMoment};
-ghost use Rattle.tcp_model.specs.Timeout.{waits_for_remote, timeout_runs, timeout_restarted, timeout_kept, is_timeout_unset, timeout_started, timeout_end, timed_out};
+ghost use Rattle.tcp_model.specs.Timeout.{waits_for_remote, timeout_runs, timeout_restarted, timeout_kept, is_timeout_unset, timeout_started, timeout_end};
+ghost use Rattle.tcp_model.specs.Timeout.{timed_out};
 ghost use Rattle.tcp_model.specs.Probing.{is_window_small, is_probing, probe_kept, is_probe_unset, probe_started, probe_moment};
 
 use crate::{Block, State};

@@ -13,4 +13,5 @@ returns-in-None-clause-after c =
 pub returns-in-None-clause-read : goal.returns-in-None-clause-read
 returns-in-None-clause-read c =
     let within : c.args.place < length c.args.places.now = omega (arith, c.if-place-places.false) in let free : c.index-places-place.result.inner ≡ None = cc in
-    unwritten c.args.places.now c.args.place c.index-places-place.result within c.index-places-place.is free as_icmp (λ v out. recv_written v out) c.args.out.now
+    unwritten c.args.places.now c.args.place c.index-places-place.result within c.index-places-place.is free as_icmp (λ v out. recv_written v out)
+    c.args.out.now

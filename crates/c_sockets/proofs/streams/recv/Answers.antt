@@ -8,7 +8,8 @@ use Rattle.c_sockets.proofs.streams.recv.Goals as goal
 pub returns-in-None-clause-after : goal.returns-in-None-clause-after
 returns-in-None-clause-after c =
     let within : c.args.place < length c.args.places.now = omega (arith, c.if-place-places.false) in let free : c.index-places-place.result.inner ≡ None = cc in
-    kept c.args.places.now c.args.place c.index-places-place.result within c.index-places-place.is free as_tcp (λ x. Kind.Tcp x) (λ v. read_after v (length c.args.out.now))
+    kept c.args.places.now c.args.place c.index-places-place.result within c.index-places-place.is free as_tcp (λ x. Kind.Tcp x)
+    (λ v. read_after v (length c.args.out.now))
 
 pub returns-in-None-clause-read : goal.returns-in-None-clause-read
 returns-in-None-clause-read c =

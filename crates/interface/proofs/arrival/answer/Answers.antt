@@ -35,7 +35,8 @@ returns-else-is_question-clause-replied g c =
     in
     let asks : c.is_question.result ≡ would_ask s p = c.is_question.ensures ∙ ap is_question same in
     let quiet : (awaited && would_ask s p) ≡ false = elim c.else-is_question.branch [
-      | else-is_question-via-then-is_question+else-is_some w ↦ unawaited_by awaited (would_ask s p) (ap is_some (sym w.turn_of.ensures) ∙ sym w.is_some.ensures ∙ w.if-is_some.false)
+      | else-is_question-via-then-is_question+else-is_some w ↦ unawaited_by awaited (would_ask s p) (ap is_some (sym w.turn_of.ensures) ∙
+          sym w.is_some.ensures ∙ w.if-is_some.false)
       | else-is_question-via-else-is_question w ↦ unasked_by awaited (would_ask s p) (sym asks ∙ w.if-is_question.false)
     ] in
     let fits : IsWellFormed p = search rules in

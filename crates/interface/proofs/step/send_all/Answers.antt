@@ -14,6 +14,7 @@ returns-clause-egress g c =
     inr (
       sender c.send_waiting.new.device c.args.inner.now c.send_waiting.new.fragmenter,
       c.if-not-send_waiting.ensures.clears,
-      subst (λ (o : Option IpAddress). Pass g.D.Device.moves o (sender c.send_waiting.new.device c.args.inner.now c.send_waiting.new.fragmenter) [] false c.args.places.now went)
+      subst (λ (o : Option IpAddress). Pass g.D.Device.moves o (sender c.send_waiting.new.device c.args.inner.now c.send_waiting.new.fragmenter) [] false
+          c.args.places.now went)
           c.turn_of-turn.ensures c.pass.ensures.pass,
     )

@@ -7,7 +7,8 @@ use Rattle.interface_egress.proofs.laws.one_outcome.Goals as goal
 
 pub returns-clause-packet : goal.returns-clause-packet
 returns-clause-packet g c old i l busy p low len is s t new other j j' k k' =
-    one_way g.D.Device.moves (link_room i.hardware + i.mtu) old is i l p (plan_of i busy p.header) (λ d by. planned_short i busy p d low len by) s t new other j j' k k'
+    one_way g.D.Device.moves (link_room i.hardware + i.mtu) old is i l p (plan_of i busy p.header) (λ d by. planned_short i busy p d low len by) s t new
+    other j j' k k'
 
 pub returns-clause-piece : goal.returns-clause-piece
 returns-clause-piece g c old i l low is x y new other k k' =

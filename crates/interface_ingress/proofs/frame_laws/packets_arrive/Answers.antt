@@ -4,6 +4,7 @@ use Rattle.interface_ingress.proofs.frame_laws.packets_arrive.Goals as goal
 
 pub returns : goal.returns
 returns c = λ hardware sender receiver link p padding framed sendable value can sealed. (
-  packet-arrives hardware sender receiver link p.header (payload_written sender p.header p.payload) padding framed sendable.header value (length-carried sender p sendable can) sealed,
+  packet-arrives hardware sender receiver link p.header (payload_written sender p.header p.payload) padding framed sendable.header value
+      (length-carried sender p sendable can) sealed,
   payload-arrives sender receiver p.header p.payload sendable.payload can sealed,
 )

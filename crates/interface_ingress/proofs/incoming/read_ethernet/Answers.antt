@@ -14,18 +14,21 @@ returns-in-Arp-clause-content c =
     let link = c.in-Ok.link in
     framed-arp c.args.checksums.now c.args.frame.now link (content_of c.read_arp.new.content)
     (record { format = subst (λ (b : List ℕ). Ethernet.IsEthernet b link) c.new_unchecked-frame.ensures c.in-Ok.ensures.found; carried_is = c.in-Arp.is })
-    (subst (λ (b : List ℕ). IsOnly (IsArpBehind link b) (content_of c.read_arp.new.content)) (c.payload-packet.ensures ∙ ap Ethernet.payload_of c.new_unchecked-frame.ensures) c.read_arp.ensures.content)
+    (subst (λ (b : List ℕ). IsOnly (IsArpBehind link b) (content_of c.read_arp.new.content)) (c.payload-packet.ensures ∙
+    ap Ethernet.payload_of c.new_unchecked-frame.ensures) c.read_arp.ensures.content)
 
 pub returns-in-Ipv4-clause-content : goal.returns-in-Ipv4-clause-content
 returns-in-Ipv4-clause-content c =
     let link = c.in-Ok.link in
     framed-v4 c.args.checksums.now c.args.frame.now link (content_of c.read_ipv4.new.content)
     (record { format = subst (λ (b : List ℕ). Ethernet.IsEthernet b link) c.new_unchecked-frame.ensures c.in-Ok.ensures.found; carried_is = c.in-Ipv4.is })
-    (subst (λ (b : List ℕ). IsOnly (IsV4Behind c.args.checksums.now (Some link) b) (content_of c.read_ipv4.new.content)) (c.payload-packet.ensures ∙ ap Ethernet.payload_of c.new_unchecked-frame.ensures) c.read_ipv4.ensures.content)
+    (subst (λ (b : List ℕ). IsOnly (IsV4Behind c.args.checksums.now (Some link) b) (content_of c.read_ipv4.new.content)) (c.payload-packet.ensures ∙
+    ap Ethernet.payload_of c.new_unchecked-frame.ensures) c.read_ipv4.ensures.content)
 
 pub returns-in-Ipv6-clause-content : goal.returns-in-Ipv6-clause-content
 returns-in-Ipv6-clause-content c =
     let link = c.in-Ok.link in
     framed-v6 c.args.checksums.now c.args.frame.now link (content_of c.read_ipv6.new.content)
     (record { format = subst (λ (b : List ℕ). Ethernet.IsEthernet b link) c.new_unchecked-frame.ensures c.in-Ok.ensures.found; carried_is = c.in-Ipv6.is })
-    (subst (λ (b : List ℕ). IsOnly (IsV6Behind (Some link) b) (content_of c.read_ipv6.new.content)) (c.payload-packet.ensures ∙ ap Ethernet.payload_of c.new_unchecked-frame.ensures) c.read_ipv6.ensures.content)
+    (subst (λ (b : List ℕ). IsOnly (IsV6Behind (Some link) b) (content_of c.read_ipv6.new.content)) (c.payload-packet.ensures ∙
+    ap Ethernet.payload_of c.new_unchecked-frame.ensures) c.read_ipv6.ensures.content)

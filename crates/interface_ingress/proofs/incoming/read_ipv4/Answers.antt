@@ -7,7 +7,8 @@ use Rattle.interface_ingress.proofs.incoming.read_ipv4.Goals as goal
 pub returns-in_default-clause-content : goal.returns-in_default-clause-content
 returns-in_default-clause-content c =
     rw c.requires.none (refused-v4 c.args.checksums.now c.args.link c.args.bytes.now
-    (λ h is. c.in_default.not-Ok h (c.parse.ensures.only h (subst (λ (b : List ℕ). Ipv4.IsIpv4 (verifies c.args.checksums.now.ipv4) b h) (sym c.new_unchecked-packet.ensures) is))))
+    (λ h is. c.in_default.not-Ok h
+    (c.parse.ensures.only h (subst (λ (b : List ℕ). Ipv4.IsIpv4 (verifies c.args.checksums.now.ipv4) b h) (sym c.new_unchecked-packet.ensures) is))))
 
 pub returns-clause-measured : goal.returns-clause-measured
 returns-clause-measured c =

@@ -5,7 +5,8 @@ pub returns-clause-own : goal.returns-clause-own
 returns-clause-own g c = λ holes same slots key expires piece offset more test. piece_own holes same test slots key expires piece offset more
 
 pub returns-clause-other : goal.returns-clause-other
-returns-clause-other g c = λ holes same slots key expires piece offset more test other ne. piece_other holes same test slots key expires piece offset more other ne
+returns-clause-other g c =
+    λ holes same slots key expires piece offset more test other ne. piece_other holes same test slots key expires piece offset more other ne
 
 pub returns-clause-apart : goal.returns-clause-apart
 returns-clause-apart g c = λ holes same slots key expires piece offset more test apart. piece_apart holes same test slots key expires piece offset more apart

@@ -7,4 +7,5 @@ use Rattle.interface_tables.proofs.route.best_route.Goals as goal
 
 pub returns : goal.returns
 returns c =
-    c.longest_from_the_end.ensures ∙ fold_better_of (serving c.args.address.now c.args.timestamp) is_longer IsStrictWeakOrder-is_longer (reverse c.args.routes.now)
+    c.longest_from_the_end.ensures ∙
+    fold_better_of (serving c.args.address.now c.args.timestamp) is_longer IsStrictWeakOrder-is_longer (reverse c.args.routes.now)

@@ -18,7 +18,8 @@ returns-in-Ok-eq0-clause-ended g c =
       before.0,
       before.1 ++ last.0,
       all_read _ _ _ _ before.2 none.0 (none.1 refl room),
-      script_ends before.0 c.loop-count.run.begun.items before.1 last.0 c.loop-count.run.number c.in_ok-status-in-Ok-eq0.status c.loop-count.run.session before.4 last.2,
+      script_ends before.0 c.loop-count.run.begun.items before.1 last.0 c.loop-count.run.number c.in_ok-status-in-Ok-eq0.status c.loop-count.run.session
+          before.4 last.2,
       Appends-kept _ _ _ _ (Appends-trans _ _ _ _ _ before.3 last.1) c.flush.ensures.bytes,
     )
 
@@ -27,7 +28,8 @@ returns-in-Ok-eq0-clause-reads g c =
     let before = c.loop-count.invariant.runs in
     let read = rw c.in-Ok-eq0.is at c.read.ensures.bytes in
     let none = rw c.in-Ok-eq0.field-0-test at read in
-    reads_on _ _ _ before.0 before.1 c.loop-count.run.begun.items _ c.loop-count.run.number c.loop-count.run.session before.2 none.0 before.4 c.loop-count.run.unbroken
+    reads_on _ _ _ before.0 before.1 c.loop-count.run.begun.items _ c.loop-count.run.number c.loop-count.run.session before.2 none.0 before.4
+    c.loop-count.run.unbroken
     (omega arith)
 
 -- a line ended the run
@@ -49,7 +51,8 @@ pub returns-then-not-led-clause-reads : goal.returns-then-not-led-clause-reads
 returns-then-not-led-clause-reads g c =
     let before = c.loop-count.invariant.runs in
     let read = rw c.in-Ok.is at c.read.ensures.bytes in
-    reads_on _ _ _ before.0 before.1 c.loop-count.run.begun.items _ c.loop-count.run.number c.loop-count.run.session before.2 read.0 before.4 c.loop-count.run.unbroken
+    reads_on _ _ _ before.0 before.1 c.loop-count.run.begun.items _ c.loop-count.run.number c.loop-count.run.session before.2 read.0 before.4
+    c.loop-count.run.unbroken
     (omega (arith, length-take c.in-Ok.len c.read.new.buf, c.read.auto.buf, c.loop-count.invariant.room))
 
 -- the reader failed
@@ -58,7 +61,8 @@ returns-in-Err-2-clause-unended g c =
     let before = c.loop-count.invariant.runs in
     let read = rw c.in-Err-2.is at c.read.ensures.bytes in (
       before.1,
-      runs_so_far _ _ before.0 before.1 c.loop-count.run.begun.items c.loop-count.run.number c.loop-count.run.session (Consumes-kept _ _ _ _ before.2 read) before.4 c.loop-count.run.unbroken,
+      runs_so_far _ _ before.0 before.1 c.loop-count.run.begun.items c.loop-count.run.number c.loop-count.run.session (Consumes-kept _ _ _ _ before.2 read)
+          before.4 c.loop-count.run.unbroken,
       before.3,
     )
 
@@ -66,21 +70,24 @@ pub returns-in-Err-2-clause-reads : goal.returns-in-Err-2-clause-reads
 returns-in-Err-2-clause-reads g c =
     let before = c.loop-count.invariant.runs in
     let read = rw c.in-Err-2.is at c.read.ensures.bytes in
-    nothing_behind _ _ before.0 before.1 c.loop-count.run.begun.items c.loop-count.run.number c.loop-count.run.session (Consumes-kept _ _ _ _ before.2 read) before.4 c.loop-count.run.unbroken
+    nothing_behind _ _ before.0 before.1 c.loop-count.run.begun.items c.loop-count.run.number c.loop-count.run.session (Consumes-kept _ _ _ _ before.2 read)
+    before.4 c.loop-count.run.unbroken
 
 -- or came to no end
 pub returns-clause-unended : goal.returns-clause-unended
 returns-clause-unended g c =
     let before = c.loop-count.invariant.runs in (
       before.1,
-      runs_so_far _ _ before.0 before.1 c.loop-count.run.begun.items c.loop-count.run.number c.loop-count.run.session before.2 before.4 c.loop-count.run.unbroken,
+      runs_so_far _ _ before.0 before.1 c.loop-count.run.begun.items c.loop-count.run.number c.loop-count.run.session before.2 before.4
+          c.loop-count.run.unbroken,
       before.3,
     )
 
 pub returns-clause-reads : goal.returns-clause-reads
 returns-clause-reads g c =
     let before = c.loop-count.invariant.runs in
-    nothing_behind _ _ before.0 before.1 c.loop-count.run.begun.items c.loop-count.run.number c.loop-count.run.session before.2 before.4 c.loop-count.run.unbroken
+    nothing_behind _ _ before.0 before.1 c.loop-count.run.begun.items c.loop-count.run.number c.loop-count.run.session before.2 before.4
+    c.loop-count.run.unbroken
 
 -- a piece was run, or the read is tried again
 pub loop-count-preserved : goal.loop-count-preserved
@@ -98,7 +105,8 @@ loop-count-preserved g c =
               before.1 ++ ran.0,
               Consumes-trans _ _ _ _ _ before.2 read.0,
               Appends-kept _ _ _ _ (Appends-trans _ _ _ _ _ before.3 ran.1) w.flush-in-Ok.ensures.bytes,
-              pieces_run 1 w.take_piece.new.self.number Begun w.take_piece.new.self.session before.0 c.loop-count.run.begun.items _ w.take_piece.new.self.begun.items before.1 ran.0
+              pieces_run 1 w.take_piece.new.self.number Begun w.take_piece.new.self.session before.0 c.loop-count.run.begun.items _
+                  w.take_piece.new.self.begun.items before.1 ran.0
                   c.loop-count.run.number c.loop-count.run.session before.4 ran.2,
             );
             number = omega (arith, number, length-take w.in-Ok.len c.read.new.buf, c.read.auto.buf, c.loop-count.invariant.number, c.loop-count.invariant.room);

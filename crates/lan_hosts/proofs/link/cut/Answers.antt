@@ -10,7 +10,10 @@ pub returns-clause-ok : goal.returns-clause-ok
 returns-clause-ok c =
     let frame : List ℕ = frame_at c.args.host.now c.args.frame in
     let medium : Medium = medium_of c.args.host.now in
-    with_pieces c.add_both.result c.args.host.now c.add_both.new.self c.in_ok-first.first.items (first_piece medium frame c.args.at) c.in_ok-first.second.items (second_piece medium frame c.args.at)
-    (c.in_ok-first.ensures.first ∙ ap (λ (m : Medium). first_piece m c.sent_frame.result.now c.args.at) c.medium.ensures ∙ ap (λ (f : List ℕ). first_piece medium f c.args.at) c.sent_frame.ensures)
-    (c.in_ok-first.ensures.second ∙ ap (λ (m : Medium). second_piece m c.sent_frame.result.now c.args.at) c.medium.ensures ∙ ap (λ (f : List ℕ). second_piece medium f c.args.at) c.sent_frame.ensures)
+    with_pieces c.add_both.result c.args.host.now c.add_both.new.self c.in_ok-first.first.items (first_piece medium frame c.args.at) c.in_ok-first.second.items
+    (second_piece medium frame c.args.at)
+    (c.in_ok-first.ensures.first ∙ ap (λ (m : Medium). first_piece m c.sent_frame.result.now c.args.at) c.medium.ensures ∙
+    ap (λ (f : List ℕ). first_piece medium f c.args.at) c.sent_frame.ensures)
+    (c.in_ok-first.ensures.second ∙ ap (λ (m : Medium). second_piece m c.sent_frame.result.now c.args.at) c.medium.ensures ∙
+    ap (λ (f : List ℕ). second_piece medium f c.args.at) c.sent_frame.ensures)
     c.add_both.ensures.ok

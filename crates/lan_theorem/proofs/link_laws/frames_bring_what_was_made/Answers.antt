@@ -10,7 +10,9 @@ pub returns-clause-cut : goal.returns-clause-cut
 returns-clause-cut c = cut_is_host
 
 pub returns-clause-damaged : goal.returns-clause-damaged
-returns-clause-damaged c = λ made hardware out frame padding part place word all is there damage. damaged_brings (IsIn made) hardware out all frame part place word padding is there damage
+returns-clause-damaged c =
+    λ made hardware out frame padding part place word all is there damage. damaged_brings (IsIn made) hardware out all frame part place word padding is
+    there damage
 
 pub returns-clause-noise : goal.returns-clause-noise
 returns-clause-noise c = λ made hardware out bytes none. noise_brings (IsIn made) hardware out bytes none

@@ -10,7 +10,8 @@ pub returns-clause-piece : goal.returns-clause-piece
 returns-clause-piece c = λ made first out i l l' d d' gone s goes. piece_keeps (IsIn made) first out i l d s gone d' l' goes
 
 pub returns-clause-arp : goal.returns-clause-arp
-returns-clause-arp c = λ made first out i l d d' packet gone s station between departs. tells_keeps (IsIn made) first out i l d s packet gone d' station between departs
+returns-clause-arp c = λ made first out i l d d' packet gone s station between departs. tells_keeps (IsIn made) first out i l d s packet gone d' station
+    between departs
 
 pub returns-clause-arrival : goal.returns-clause-arrival
 returns-clause-arrival c = λ made first out i l sent places content a s brings. arrival_keeps_sender (IsIn made) first out i l sent places content a brings s

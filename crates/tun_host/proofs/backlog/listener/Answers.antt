@@ -37,12 +37,14 @@ returns c =
     let to : FreshTo (socket_count service) (first_place service) c.loop-i.made.entries.items =
     subst (λ (n : ℕ). FreshTo n (first_place service) c.loop-i.made.entries.items) end
     (subst (λ (n : ℕ). FreshTo c.loop-i.i n c.loop-i.made.entries.items) c.first_place-first.ensures.place so_far.2) in
-    let fresh : AreFreshEntries service made.entries.items = subst (AreFreshEntries service) (sym c.add_keeper.ensures.entries) (made_all service c.loop-i.made.entries.items to) in
+    let fresh : AreFreshEntries service made.entries.items =
+    subst (AreFreshEntries service) (sym c.add_keeper.ensures.entries) (made_all service c.loop-i.made.entries.items to) in
     let keeper : c.at-2.result ≡ handle (keeper_place service) = ap handle (c.at-2.ensures ∙ c.keeper_place.ensures) in
     record {
       is = record {
         endpoint = c.add_keeper.ensures.endpoint ∙ so_far.0;
-        keepers = c.in_ok-add_keeper.ensures.added ∙ (ap (λ (ks : List SocketHandle). ks ++ c.at-2.result ∷ []) so_far.1 ∙ ap (λ (h : SocketHandle). h ∷ []) keeper);
+        keepers = c.in_ok-add_keeper.ensures.added ∙
+            (ap (λ (ks : List SocketHandle). ks ++ c.at-2.result ∷ []) so_far.1 ∙ ap (λ (h : SocketHandle). h ∷ []) keeper);
         stands = fresh_stand service made.entries.items fresh;
       };
       fresh = fresh;

@@ -22,7 +22,8 @@ loop-at-preserved c =
       first_of (search rules, grind (arith, common_steps)),
       first_of (search rules, grind (arith, common_steps)),
       c.serve_one.ensures.rest ∙ ap (λ (l : Listener). record l { entries = c.serve_one.new.listener.entries }) so_far.2,
-      served_more c.loop-at.at (first_place c.args.service) c.args.service c.args.places.now c.args.listener.now.entries.items c.loop-at.places mid.entries.items so_far.3 within
+      served_more c.loop-at.at (first_place c.args.service) c.args.service c.args.places.now c.args.listener.now.entries.items c.loop-at.places
+          mid.entries.items so_far.3 within
           c.serve_one.new.places c.serve_one.new.listener.entries.items c.serve_one.ensures.served,
     )
 
@@ -31,4 +32,5 @@ serve_one-requires-clause-within c = omega (arith, c.loop-at.invariant.3.entries
 
 pub returns-clause-served : goal.returns-clause-served
 returns-clause-served c =
-    served_all c.loop-at.at (first_place c.args.service) c.args.service c.args.places.now c.args.listener.now.entries.items c.loop-at.places c.loop-at.listener.entries.items c.loop-at.invariant.3 (omega arith)
+    served_all c.loop-at.at (first_place c.args.service) c.args.service c.args.places.now c.args.listener.now.entries.items c.loop-at.places
+    c.loop-at.listener.entries.items c.loop-at.invariant.3 (omega arith)

@@ -8,4 +8,5 @@ returns-then-at-places c = served_nowhere c.args.service c.args.places.now c.arg
 pub returns : goal.returns
 returns c =
     let it = c.index-places-at in
-    served_somewhere c.args.service c.args.places.now c.args.at it.result c.serve_place.new.place c.is_over.result (omega arith) c.serve_place.ensures c.is_over.ensures
+    served_somewhere c.args.service c.args.places.now c.args.at it.result c.serve_place.new.place c.is_over.result (omega arith) c.serve_place.ensures
+    c.is_over.ensures

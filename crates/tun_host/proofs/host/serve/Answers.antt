@@ -9,32 +9,40 @@ use Rattle.tun_host.proofs.host.serve.Goals as goal
 pub serve_set-requires-clause-echoes : goal.serve_set-requires-clause-echoes
 serve_set-requires-clause-echoes c =
     let l = c.args.echoes.now in
-    refreshed_stand l.endpoint (micros_of c.args.now) (first_place Streams) (socket_count Streams) l.keepers.items (places c.args.sockets.now) l.entries.items (places c.refresh.new.set) c.refresh.new.self.entries.items
+    refreshed_stand l.endpoint (micros_of c.args.now) (first_place Streams) (socket_count Streams) l.keepers.items (places c.args.sockets.now) l.entries.items
+    (places c.refresh.new.set) c.refresh.new.self.entries.items
     c.refresh.ensures.refreshed c.requires.echoes.stands
 
 pub serve_set-requires-clause-pages : goal.serve_set-requires-clause-pages
 serve_set-requires-clause-pages c =
     let l = c.args.pages.now in
-    refreshed_stand l.endpoint (micros_of c.args.now) (first_place Page) (socket_count Page) l.keepers.items (places c.refresh.new.set) l.entries.items (places c.refresh-2.new.set) c.refresh-2.new.self.entries.items
+    refreshed_stand l.endpoint (micros_of c.args.now) (first_place Page) (socket_count Page) l.keepers.items (places c.refresh.new.set) l.entries.items
+    (places c.refresh-2.new.set) c.refresh-2.new.self.entries.items
     c.refresh-2.ensures.refreshed c.requires.pages.stands
 
 pub returns-clause-serve : goal.returns-clause-serve
 returns-clause-serve c = record {
   seen = places c.refresh.new.set;
   ready = served_of (places c.refresh-2.new.set) c.refresh.new.self.entries.items c.refresh-2.new.self.entries.items;
-  sees_echoes = seen_as Streams c.args.echoes.now (micros_of c.args.now) (places c.args.sockets.now) c.args.echoes.now.entries.items (places c.refresh.new.set) c.refresh.new.self.entries.items
+  sees_echoes = seen_as Streams c.args.echoes.now (micros_of c.args.now) (places c.args.sockets.now) c.args.echoes.now.entries.items (places c.refresh.new.set)
+      c.refresh.new.self.entries.items
       c.requires.echoes c.refresh.ensures.refreshed;
-  sees_pages = seen_as Page c.args.pages.now (micros_of c.args.now) (places c.refresh.new.set) c.args.pages.now.entries.items (places c.refresh-2.new.set) c.refresh-2.new.self.entries.items
+  sees_pages = seen_as Page c.args.pages.now (micros_of c.args.now) (places c.refresh.new.set) c.args.pages.now.entries.items (places c.refresh-2.new.set)
+      c.refresh-2.new.self.entries.items
       c.requires.pages c.refresh-2.ensures.refreshed;
   serves = c.serve_set.ensures.serve;
 }
 
 pub returns-clause-echoes : goal.returns-clause-echoes
 returns-clause-echoes c =
-    still_listener Streams c.args.echoes.now c.refresh.new.self c.serve_set.new.echoes (micros_of c.args.now) (places c.args.sockets.now) (places c.refresh.new.set) _ _
-    c.requires.echoes c.refresh.ensures.refreshed c.refresh.ensures.endpoint c.refresh.ensures.keepers c.serve_set.ensures.serve.serves_streams c.serve_set.ensures.echoes
+    still_listener Streams c.args.echoes.now c.refresh.new.self c.serve_set.new.echoes (micros_of c.args.now) (places c.args.sockets.now)
+    (places c.refresh.new.set) _ _
+    c.requires.echoes c.refresh.ensures.refreshed c.refresh.ensures.endpoint c.refresh.ensures.keepers c.serve_set.ensures.serve.serves_streams
+    c.serve_set.ensures.echoes
 
 pub returns-clause-pages : goal.returns-clause-pages
 returns-clause-pages c =
-    still_listener Page c.args.pages.now c.refresh-2.new.self c.serve_set.new.pages (micros_of c.args.now) (places c.refresh.new.set) (places c.refresh-2.new.set) _ _
-    c.requires.pages c.refresh-2.ensures.refreshed c.refresh-2.ensures.endpoint c.refresh-2.ensures.keepers c.serve_set.ensures.serve.serves_pages c.serve_set.ensures.pages
+    still_listener Page c.args.pages.now c.refresh-2.new.self c.serve_set.new.pages (micros_of c.args.now) (places c.refresh.new.set)
+    (places c.refresh-2.new.set) _ _
+    c.requires.pages c.refresh-2.ensures.refreshed c.refresh-2.ensures.endpoint c.refresh-2.ensures.keepers c.serve_set.ensures.serve.serves_pages
+    c.serve_set.ensures.pages

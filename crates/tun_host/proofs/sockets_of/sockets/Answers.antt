@@ -11,4 +11,5 @@ pub loop-i-preserved : goal.loop-i-preserved
 loop-i-preserved c =
     let place = c.in_ok-place.field-0 in
     let is_fresh = subst (λ (s : Service). IsFreshPlace s place) c.service_at.ensures c.in_ok-place.ensures in
-    subst (λ (ps : List (SocketStorage Socket)). FreshTo (c.loop-i.i + 1) ps) (sym c.in_ok-push.ensures.items) (fresh_more c.loop-i.i c.loop-i.all.items place c.loop-i.invariant is_fresh)
+    subst (λ (ps : List (SocketStorage Socket)). FreshTo (c.loop-i.i + 1) ps) (sym c.in_ok-push.ensures.items)
+    (fresh_more c.loop-i.i c.loop-i.all.items place c.loop-i.invariant is_fresh)

@@ -17,9 +17,11 @@ returns-in_err-now g c =
     let why = c.in_err-now.ensures.refused in
     record {
       served = λ not.
-          subst (λ (r : Result (Unit {0}) ServeError). (output : List ℕ) × IsServed (g.R.Read.remaining c.args.reader.now) output r × Appends (g.W.Write.contents c.args.writer.now) (g.W.Write.contents c.loop.writer) output) (sym same)
+          subst (λ (r : Result (Unit {0}) ServeError). (output : List ℕ) × IsServed (g.R.Read.remaining c.args.reader.now) output r ×
+          Appends (g.W.Write.contents c.args.writer.now) (g.W.Write.contents c.loop.writer) output) (sym same)
           (ended _ _ _ _ _ _ _ c.loop.invariant.2 (Err c.in_err-now.field-0.0)
-          (unread_at (g.R.Read.remaining c.loop.reader) c.loop.invariant.2.past c.loop.last (option_map state_of c.loop.host) c.in_err-now.field-0.0 why.0 why.1 why.2));
+          (unread_at (g.R.Read.remaining c.loop.reader) c.loop.invariant.2.past c.loop.last (option_map state_of c.loop.host) c.in_err-now.field-0.0 why.0
+          why.1 why.2));
     }
 
 -- a turn that no host takes
@@ -29,12 +31,15 @@ returns-in_err-current g c =
     let same : c.from_residual-in_err-current.result ≡ Err c.in_err-current.field-0.0 = cc (p.1, p.2) in
     let now = g.R.Read.remaining c.loop.reader in
     let next = g.R.Read.remaining c.next_turn.new.reader in
-    let comes = subst (λ (m : Option ℤ). IfSome now (λ bytes. Next LONGEST c.loop.last bytes m c.next_turn.new.packet.items next)) c.in-Some.is c.in_ok-now.ensures.turn in
+    let comes = subst (λ (m : Option ℤ). IfSome now (λ bytes. Next LONGEST c.loop.last bytes m c.next_turn.new.packet.items next)) c.in-Some.is
+    c.in_ok-now.ensures.turn in
     record {
       served = λ not.
-          subst (λ (r : Result (Unit {0}) ServeError). (output : List ℕ) × IsServed (g.R.Read.remaining c.args.reader.now) output r × Appends (g.W.Write.contents c.args.writer.now) (g.W.Write.contents c.loop.writer) output) (sym same)
+          subst (λ (r : Result (Unit {0}) ServeError). (output : List ℕ) × IsServed (g.R.Read.remaining c.args.reader.now) output r ×
+          Appends (g.W.Write.contents c.args.writer.now) (g.W.Write.contents c.loop.writer) output) (sym same)
           (ended _ _ _ _ _ _ _ c.loop.invariant.2 (Err c.in_err-current.field-0.0)
-          (refused_at now next c.loop.invariant.2.past c.loop.last c.in-Some.now (option_map state_of c.loop.host) c.next_turn.new.packet.items c.in_err-current.field-0.0 comes c.in_err-current.ensures.refused));
+          (refused_at now next c.loop.invariant.2.past c.loop.last c.in-Some.now (option_map state_of c.loop.host) c.next_turn.new.packet.items
+          c.in_err-current.field-0.0 comes c.in_err-current.ensures.refused));
     }
 
 -- one turn more
@@ -42,12 +47,15 @@ pub loop-preserved : goal.loop-preserved
 loop-preserved g c =
     let now = g.R.Read.remaining c.loop.reader in
     let next = g.R.Read.remaining c.next_turn.new.reader in
-    let comes = subst (λ (m : Option ℤ). IfSome now (λ bytes. Next LONGEST c.loop.last bytes m c.next_turn.new.packet.items next)) c.in-Some.is c.in_ok-now.ensures.turn in
+    let comes = subst (λ (m : Option ℤ). IfSome now (λ bytes. Next LONGEST c.loop.last bytes m c.next_turn.new.packet.items next)) c.in-Some.is
+    c.in_ok-now.ensures.turn in
     let moment = subst (λ (m : Option ℤ). IfSome m IsMoment) c.in-Some.is c.in_ok-now.ensures.moment in
     let said = c.in_ok-answer_turn.ensures.answers in (
       moment,
       c.in_ok-answer_turn.ensures.set_up,
-      running_more c.loop.counter (g.R.Read.remaining c.args.reader.now) now next (g.W.Write.contents c.args.writer.now) (g.W.Write.contents c.loop.writer) (g.W.Write.contents c.answer_turn.new.writer)
-          c.loop.last c.in-Some.now (option_map state_of c.loop.host) c.next_turn.new.packet.items c.in_ok-current.packet.items said.0 (state_of c.in_ok-current.current) (state_of c.answer_turn.new.self)
+      running_more c.loop.counter (g.R.Read.remaining c.args.reader.now) now next (g.W.Write.contents c.args.writer.now) (g.W.Write.contents c.loop.writer)
+          (g.W.Write.contents c.answer_turn.new.writer)
+          c.loop.last c.in-Some.now (option_map state_of c.loop.host) c.next_turn.new.packet.items c.in_ok-current.packet.items said.0
+          (state_of c.in_ok-current.current) (state_of c.answer_turn.new.self)
           c.loop.invariant.2 comes c.in_ok-current.ensures.arrives said.1 said.2,
     )

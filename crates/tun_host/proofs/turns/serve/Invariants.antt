@@ -8,4 +8,5 @@ use Rattle.tun_host.proofs.turns.serve.Given as goal
 abbrev pub invariant-loop : goal.invariant-loop
 invariant-loop g l =
     IsMoment l.last × IfSome l.host IsSetUp
-    × IsRunning l.counter (g.R.Read.remaining l.initial.reader) (g.R.Read.remaining l.reader) (g.W.Write.contents l.initial.writer) (g.W.Write.contents l.writer) l.last (option_map state_of l.host)
+    × IsRunning l.counter (g.R.Read.remaining l.initial.reader) (g.R.Read.remaining l.reader) (g.W.Write.contents l.initial.writer)
+    (g.W.Write.contents l.writer) l.last (option_map state_of l.host)

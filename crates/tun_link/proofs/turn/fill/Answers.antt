@@ -1,4 +1,5 @@
-use Rattle.std.proofs.Common.{◌≡◌, ℕ, ◌+◌, ◌-◌, ◌≤◌, List, ◌++◌, rules, arith, length, take, slice_range, sym, ap, ◌∙◌, subst, le_refl, drop_at, length-take-le, take-add}
+use Rattle.std.proofs.Common.{◌≡◌, ℕ, ◌+◌, ◌-◌, ◌≤◌, List, ◌++◌, rules, arith, length, take, slice_range, sym, ap, ◌∙◌, subst, le_refl, drop_at, length-take-le}
+use Rattle.std.proofs.Common.{take-add}
 use Rattle.std.proofs.lemmas.List.{take-append-le}
 use Rattle.std.proofs.lemmas.Slice.{take-put_mid_below}
 use Rattle.std.specs.Io.KnownBytes.{Consumes}
@@ -16,7 +17,8 @@ slice_range-put_mid : (a k n : ℕ) (xs ys : List ℕ) → a ≤ length xs → n
 slice_range-put_mid a k n xs ys within fits =
     let same : (a + n) - a ≡ n = omega arith in
     let after = post_of a k xs in
-    ap (take ((a + n) - a)) (drop_at (take a xs) (ys ++ after) a (length-take-le a xs within)) ∙ ap (λ m. take m (ys ++ after)) same ∙ take-append-le n ys after fits
+    ap (take ((a + n) - a)) (drop_at (take a xs) (ys ++ after) a (length-take-le a xs within)) ∙ ap (λ m. take m (ys ++ after)) same ∙
+    take-append-le n ys after fits
 
 -- a read filled some more, or is tried again
 pub loop-preserved : goal.loop-preserved
@@ -29,9 +31,18 @@ loop-preserved g c =
           let read = rw w.in-Ok.is at c.read.ensures.bytes in
           let bound = rw w.in-Ok.is at c.read.ensures.bound in
           let part = slice_range-put_mid from room w.in-Ok.count c.loop.buffer c.read.new.buf within bound.0 in
-          let joined = take_split from (from + w.in-Ok.count) c.loop.buffer (put_mid from room c.loop.buffer c.read.new.buf) (omega arith) (take-put_mid_below _ _ _ _ _ (le_refl _) within) in
-          rw w.at-is (search rules, search rules, subst (Consumes _ _) (ap (λ l. take from c.loop.buffer ++ l) (sym part) ∙ joined) (Consumes-trans _ _ _ _ _ c.loop.invariant.2 read.0))
+          let joined = take_split from (from + w.in-Ok.count) c.loop.buffer (put_mid from room c.loop.buffer c.read.new.buf) (omega arith)
+          (take-put_mid_below _ _ _ _ _ (le_refl _) within) in
+          rw w.at-is (
+            search rules,
+            search rules,
+            subst (Consumes _ _) (ap (λ l. take from c.loop.buffer ++ l) (sym part) ∙ joined) (Consumes-trans _ _ _ _ _ c.loop.invariant.2 read.0),
+          )
       | in-Err w ↦
           let kept = rw w.in-Err.is at c.read.ensures.bytes in
-          rw w.at-is (search rules, search rules, subst (Consumes _ _) (sym (take-put_mid_below _ _ _ _ _ (le_refl _) within)) (Consumes-kept _ _ _ _ c.loop.invariant.2 kept))
+          rw w.at-is (
+            search rules,
+            search rules,
+            subst (Consumes _ _) (sym (take-put_mid_below _ _ _ _ _ (le_refl _) within)) (Consumes-kept _ _ _ _ c.loop.invariant.2 kept),
+          )
     ]

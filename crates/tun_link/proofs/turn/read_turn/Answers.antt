@@ -11,7 +11,8 @@ returns-clause-turn g c =
     let head = c.fill.new.buffer in
     let ten : length head ≡ 10 = c.fill.auto.buffer in
     let full : take c.in_ok-count.count head ≡ head = take_all _ _ (omega (arith, ten, c.if-count-lt-HEAD_LEN.false)) in
-    let short : little_number 8 (take (length head - 2) (drop 2 head)) ≡ little_number 8 (drop 2 head) = little_from-take 0 8 (length head - 2) (drop 2 head) (omega (arith, ten)) in
+    let short : little_number 8 (take (length head - 2) (drop 2 head)) ≡ little_number 8 (drop 2 head) =
+    little_from-take 0 8 (length head - 2) (drop 2 head) (omega (arith, ten)) in
     let eight : little_number 8 (take 8 (drop 2 head)) ≡ little_number 8 (drop 2 head) = little_from-take 0 8 8 (drop 2 head) (omega arith) in
     let read = c.read_u64.ensures in
     let micros : c.read_u64.result ≡ little_number 8 (drop 2 head) = first_of (omega (arith, read, short, eight), grind (arith, read, short, eight)) in

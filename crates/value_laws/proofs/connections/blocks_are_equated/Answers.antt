@@ -1,4 +1,5 @@
-use Rattle.value_laws.proofs.Equal.{Decides-block, Decides-congestion, Decides-names, Decides-peer, Decides-receiver, Decides-reno, Decides-round_trip, Decides-sender, Decides-settings, Decides-state, Decides-timers}
+use Rattle.value_laws.proofs.Equal.{Decides-block, Decides-congestion, Decides-names, Decides-peer, Decides-receiver, Decides-reno, Decides-round_trip}
+use Rattle.value_laws.proofs.Equal.{Decides-sender, Decides-settings, Decides-state, Decides-timers}
 use Rattle.value_laws.proofs.connections.blocks_are_equated.Goals as goal
 
 pub returns : goal.returns

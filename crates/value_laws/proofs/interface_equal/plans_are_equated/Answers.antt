@@ -9,4 +9,5 @@ returns-clause-questions c = Decides-question
 pub returns-clause-plans : goal.returns-clause-plans
 returns-clause-plans c =
     let hardware = c.hardware_tests.ensures in
-    Decides-plan (λ a b. by_other _ _ (hardware.equal a b) (hardware.same a b)) (λ a b h k. Decides-and _ _ (by_other _ _ (hardware.equal a b) (hardware.same a b)) (c.ipv4_equal.ensures.header h k))
+    Decides-plan (λ a b. by_other _ _ (hardware.equal a b) (hardware.same a b))
+    (λ a b h k. Decides-and _ _ (by_other _ _ (hardware.equal a b) (hardware.same a b)) (c.ipv4_equal.ensures.header h k))

@@ -14,7 +14,8 @@ returns g c =
       addresses = made-has config device moment result (λ (h : HostValue). h.inner.addresses ≡ []) made refl;
       any_ip = made-has config device moment result (λ (h : HostValue). h.inner.any_ip ≡ false) made refl;
       routes = made-has config device moment result (λ (h : HostValue). h.inner.routes ≡ []) made refl;
-      neighbors = made-has config device moment result (λ (h : HostValue). h.inner.neighbors ≡ record { entries = []; silent = pos 0; searches = [] }) made refl;
+      neighbors = made-has config device moment result (λ (h : HostValue). h.inner.neighbors ≡
+          record { entries = []; silent = pos 0; searches = [] }) made refl;
       fresh = made-has config device moment result (λ (h : HostValue). h.inner.fresh ≡ true) made refl;
       left = made-has config device moment result (λ (h : HostValue). h.left ≡ None) made refl;
       slots = made-has config device moment result (λ (h : HostValue). length h.slots ≡ 2) made refl;

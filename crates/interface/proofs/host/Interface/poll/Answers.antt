@@ -7,12 +7,14 @@ use Rattle.interface.proofs.host.Interface.poll.Goals as goal
 
 pub returns-then-poll_all-clause-quiet : goal.returns-then-poll_all-clause-quiet
 returns-then-poll_all-clause-quiet g c = λ asked is early none.
-    quiet_poll c.due_as_before.ensures g.D.Device.moves c.args.timestamp asked c.args.self.now.inner.moment c.args.budget (state c.args.device.now c.args.self.now (places c.args.sockets.now))
+    quiet_poll c.due_as_before.ensures g.D.Device.moves c.args.timestamp asked c.args.self.now.inner.moment c.args.budget
+    (state c.args.device.now c.args.self.now (places c.args.sockets.now))
     (state c.poll_all.new.device c.poll_all.new.self (places c.poll_all.new.sockets)) _ is early none c.if-poll_all.ensures.steps
 
 pub returns-else-poll_all-clause-quiet : goal.returns-else-poll_all-clause-quiet
 returns-else-poll_all-clause-quiet g c = λ asked is early none.
-    quiet_poll c.due_as_before.ensures g.D.Device.moves c.args.timestamp asked c.args.self.now.inner.moment c.args.budget (state c.args.device.now c.args.self.now (places c.args.sockets.now))
+    quiet_poll c.due_as_before.ensures g.D.Device.moves c.args.timestamp asked c.args.self.now.inner.moment c.args.budget
+    (state c.args.device.now c.args.self.now (places c.args.sockets.now))
     (state c.poll_all.new.device c.poll_all.new.self (places c.poll_all.new.sockets)) _ is early none c.if-poll_all.ensures.steps
 
 pub returns-else-poll_all-clause-unchanged : goal.returns-else-poll_all-clause-unchanged

@@ -11,7 +11,8 @@ returns-clause-steps g c =
     let mid = state c.receive_all-changed.new.device c.receive_all-changed.new.self (places c.receive_all-changed.new.sockets) in (
       mid,
       c.receive_all-changed.result,
-      subst (λ (h : HostValue). Repeats (IngressStep g.D.Device.moves c.args.timestamp) c.args.budget (state c.args.device.now h (places c.args.sockets.now)) false mid c.receive_all-changed.result)
+      subst (λ (h : HostValue). Repeats (IngressStep g.D.Device.moves c.args.timestamp) c.args.budget (state c.args.device.now h (places c.args.sockets.now))
+          false mid c.receive_all-changed.result)
           c.poll_maintenance.ensures c.receive_all-changed.ensures.steps,
       c.send_all.ensures.steps,
     )

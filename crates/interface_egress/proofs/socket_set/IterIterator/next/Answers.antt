@@ -10,5 +10,6 @@ returns-in-Some-clause-steps g c =
 
 pub returns-in-Some-clause-goes : goal.returns-in-Some-clause-goes
 returns-in-Some-clause-goes g c =
-    let long : length (used_left c.args.self.now) ≡ suc (length (used_left (record { places = c.loop-self.self.places; at = c.loop-self.self.at + 1 }))) = ap length (returns-in-Some-clause-steps g c) in
+    let long : length (used_left c.args.self.now) ≡ suc (length (used_left (record { places = c.loop-self.self.places; at = c.loop-self.self.at + 1 }))) =
+    ap length (returns-in-Some-clause-steps g c) in
     record { on = λ f. (search rules, search rules, omega (arith, long)); keeps = search rules; rests = λ f. search rules }

@@ -6,5 +6,10 @@ use Rattle.interface_tables.proofs.inner.InterfaceInner.update_routes.Goals as g
 
 pub returns : goal.returns
 returns g c =
-    let called : FnOnceReturnsAtMut g.F.FnOnce c.args.f c.self.inside.routes c.f.result c.f.new.arg2 = search rules in
-    (c.self.inside.routes, c.f.new.arg2, ap (λ (i : InnerValue). i.routes) c.self.view_is, called, ap (λ (i : InnerValue). with_routes i c.f.new.arg2) c.self.view_is)
+    let called : FnOnceReturnsAtMut g.F.FnOnce c.args.f c.self.inside.routes c.f.result c.f.new.arg2 = search rules in (
+      c.self.inside.routes,
+      c.f.new.arg2,
+      ap (λ (i : InnerValue). i.routes) c.self.view_is,
+      called,
+      ap (λ (i : InnerValue). with_routes i c.f.new.arg2) c.self.view_is,
+    )

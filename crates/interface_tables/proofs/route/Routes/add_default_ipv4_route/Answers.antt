@@ -7,5 +7,6 @@ use Rattle.interface_tables.proofs.route.Routes.add_default_ipv4_route.Goals as 
 pub returns-clause-added : goal.returns-clause-added
 returns-clause-added g c =
     let items = c.as_slice.ensures.value ∙ c.self.view_is in
-    let place : c.place_of_ipv4_gateway-place.result ≡ position is_gateway_v4 c.args.self.now = c.place_of_ipv4_gateway-place.ensures.place ∙ ap (position is_gateway_v4) items in
+    let place : c.place_of_ipv4_gateway-place.result ≡ position is_gateway_v4 c.args.self.now = c.place_of_ipv4_gateway-place.ensures.place ∙
+    ap (position is_gateway_v4) items in
     on_ok_weaker c.exchange.result (λ added. (c.new_ipv4_gateway.result, c.new_ipv4_gateway.ensures, rw place at added)) c.exchange.ensures.added

@@ -27,5 +27,6 @@ returns g c =
     let some = something_left c.args.self.now.begun.items c.as_slice.result.now c.as_slice.ensures.value c.if-is_empty.ensures in (
       ran.0,
       ran.1,
-      last_leads c.args.self.now.number c.args.self.now.session c.take_line.new.self.session c.args.self.now.begun.items ran.0 c.args.self.now.unbroken some ran.2.0,
+      last_leads c.args.self.now.number c.args.self.now.session c.take_line.new.self.session c.args.self.now.begun.items ran.0 c.args.self.now.unbroken
+          some ran.2.0,
     )

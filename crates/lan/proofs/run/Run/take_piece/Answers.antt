@@ -29,8 +29,10 @@ returns-then-not-branch-clause-runs g c =
     let ran = rw c.if-not-branch.true at c.in_ok-take_line.ensures in (
       before.1 ++ ran.0,
       Appends-trans _ _ _ _ _ before.2 ran.1,
-      line_goes_out c.args.self.now.number c.loop-end.self.number c.begin.new.self.number c.args.self.now.session c.loop-end.self.session c.begin.new.self.session
-          c.args.self.now.begun.items c.args.piece.now before.0 c.loop-end.rest.now before.1 c.loop-end.self.begun.items c.begin.new.self.begun.items ran.0 c.in-Some.end ran.2.0
+      line_goes_out c.args.self.now.number c.loop-end.self.number c.begin.new.self.number c.args.self.now.session c.loop-end.self.session
+          c.begin.new.self.session
+          c.args.self.now.begun.items c.args.piece.now before.0 c.loop-end.rest.now before.1 c.loop-end.self.begun.items c.begin.new.self.begun.items ran.0
+          c.in-Some.end ran.2.0
           before.3 before.4 (sym c.in-Some.ensures.place) c.in_ok-begin.ensures.begun c.begin.new.self.unbroken
           c.begin.ensures.session c.begin.ensures.number ran.2.1 ran.2.2,
     )
@@ -56,6 +58,13 @@ loop-end-preserved g c =
         step.0,
         step.1,
       );
-      number = omega (arith, numbered, c.begin.ensures.number, c.in-Some.ensures.found, c.loop-end.invariant.number, length-drop (c.in-Some.end + 1) c.loop-end.rest.now);
+      number = omega (
+        arith,
+        numbered,
+        c.begin.ensures.number,
+        c.in-Some.ensures.found,
+        c.loop-end.invariant.number,
+        length-drop (c.in-Some.end + 1) c.loop-end.rest.now,
+      );
     }
     )

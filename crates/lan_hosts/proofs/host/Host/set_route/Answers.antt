@@ -5,5 +5,6 @@ use Rattle.lan_hosts.proofs.host.Host.set_route.Goals as goal
 
 pub returns : goal.returns
 returns c =
-    configured_from c.args.self.now c.self.inside.interface c.set_route.new.interface (places c.self.inside.sockets) c.self.inside.port.link (Settings.Route c.args.router) c.give.result c.set_route.result
+    configured_from c.args.self.now c.self.inside.interface c.set_route.new.interface (places c.self.inside.sockets) c.self.inside.port.link
+    (Settings.Route c.args.router) c.give.result c.set_route.result
     c.self.view_is c.set_route.ensures.after c.set_route.ensures.answer c.give.ensures

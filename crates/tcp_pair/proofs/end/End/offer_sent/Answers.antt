@@ -13,6 +13,8 @@ join_offered-requires-clause-room c =
 
 pub returns-clause-after : goal.returns-clause-after
 returns-clause-after c =
-    went c.self.inside.context c.set_now.new.self c.self.inside.socket c.offer.new.self c.settle.new.self c.self.inside.sent.items c.try_reserve.new.self.items c.join_offered.new.sent.items
-    c.self.inside.opened c.self.inside.accepted c.args.moment c.set_now.ensures c.offer.ensures.socket c.in_ok-try_reserve.ensures.items c.join_offered.ensures c.settle.ensures
+    went c.self.inside.context c.set_now.new.self c.self.inside.socket c.offer.new.self c.settle.new.self c.self.inside.sent.items c.try_reserve.new.self.items
+    c.join_offered.new.sent.items
+    c.self.inside.opened c.self.inside.accepted c.args.moment c.set_now.ensures c.offer.ensures.socket c.in_ok-try_reserve.ensures.items c.join_offered.ensures
+    c.settle.ensures
     ∙ ap (λ (e : EndValue). with_own e (offered_at e.side (record e.own { moment = c.args.moment }) true)) c.self.view_is

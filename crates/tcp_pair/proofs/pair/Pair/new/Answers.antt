@@ -5,7 +5,8 @@ use Rattle.tcp_pair.proofs.pair.Pair.new.Goals as goal
 
 pub invariant_of-result : goal.invariant_of-result
 invariant_of-result c =
-    new_shown c.args.a c.args.b c.new.result c.new-2.result c.new-3.result.items c.new-4.result.items c.new.ensures c.new-2.ensures c.new-3.ensures.items c.new-4.ensures.items c.requires.a
+    new_shown c.args.a c.args.b c.new.result c.new-2.result c.new-3.result.items c.new-4.result.items c.new.ensures c.new-2.ensures c.new-3.ensures.items
+    c.new-4.ensures.items c.requires.a
     c.requires.b
 
 pub returns-clause-kept : goal.returns-clause-kept

@@ -28,7 +28,8 @@ module _ (c : After-push_reserved-2) where
   found_is : c.state-found.result ≡ found
   found_is =
       c.state-found.ensures
-      ∙ ap (λ (v : TcpValue). v.block.state) (c.socket.ensures ∙ ap (λ (e : EndValue). e.own.socket) (c.end_at.ensures ∙ ap (λ (s : Side). at ends s) c.side_of.ensures))
+      ∙ ap (λ (v : TcpValue). v.block.state) (c.socket.ensures ∙
+      ap (λ (e : EndValue). e.own.socket) (c.end_at.ensures ∙ ap (λ (s : Side). at ends s) c.side_of.ensures))
 
   taken_is : c.push_reserved.new.self.items ≡ c.self.inside.taken.items ++ record { event = c.args.event; found = found } ∷ []
   taken_is =
@@ -45,7 +46,8 @@ module _ (c : After-push_reserved-2) where
 pub invariant_of-self-2 : goal.invariant_of-self-2
 invariant_of-self-2 c =
     fields_kept (ends c) c.self.inside.taken.items c.self.inside.answers.items c.args.event c.self.invariant c.args.self.now c.self.view_is
-    (record { a = c.act.new.a; b = c.act.new.b }) c.push_reserved.new.self.items c.push_reserved-2.new.self.items c.in_ok-answer.ensures.after (taken_is c) (answers_is c)
+    (record { a = c.act.new.a; b = c.act.new.b }) c.push_reserved.new.self.items c.push_reserved-2.new.self.items c.in_ok-answer.ensures.after (taken_is c)
+    (answers_is c)
     c.requires
 
 pub returns-clause-kept : goal.returns-clause-kept
@@ -54,5 +56,6 @@ returns-clause-kept c = (invariant_of-self-2 c).kept
 pub returns-clause-step : goal.returns-clause-step
 returns-clause-step c =
     step_taken (ends c) c.self.inside.taken.items c.self.inside.answers.items c.args.event c.self.invariant c.args.self.now c.self.view_is
-    (record { a = c.act.new.a; b = c.act.new.b }) c.push_reserved.new.self.items c.push_reserved-2.new.self.items c.in_ok-answer.ensures.after (taken_is c) (answers_is c)
+    (record { a = c.act.new.a; b = c.act.new.b }) c.push_reserved.new.self.items c.push_reserved-2.new.self.items c.in_ok-answer.ensures.after (taken_is c)
+    (answers_is c)
     c.in_ok-answer.answer c.in_ok-answer.ensures.answer

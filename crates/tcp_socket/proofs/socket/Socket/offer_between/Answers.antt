@@ -8,6 +8,10 @@ pub invariant_of-self-2 : goal.invariant_of-self-2
 invariant_of-self-2 g c =
     record {
       room = c.self.invariant.room;
-      block = rw (c.back_off.ensures, c.start_timeout.ensures) (kept_going c.self.inside.block c.now-now.result c.len-queued.result c.now-now.ensures.moment c.self.invariant.block);
-      unsettled = none_open c.self.inside.offered c.back_off.new.self c.self.inside.queued (ap (λ (v : TcpValue). v.offered) c.self.view_is ∙ c.requires.unoffered);
+      block = rw (
+        c.back_off.ensures,
+        c.start_timeout.ensures,
+      ) (kept_going c.self.inside.block c.now-now.result c.len-queued.result c.now-now.ensures.moment c.self.invariant.block);
+      unsettled = none_open c.self.inside.offered c.back_off.new.self c.self.inside.queued (ap (λ (v : TcpValue). v.offered) c.self.view_is ∙
+          c.requires.unoffered);
     }

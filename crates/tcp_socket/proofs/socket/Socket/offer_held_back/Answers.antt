@@ -12,7 +12,10 @@ offer_part-requires g c = record { part = part_of_probe c.args.self.now (g.C.Con
 
 pub offer_part-requires-else-self-eq0 : goal.offer_part-requires-else-self-eq0
 offer_part-requires-else-self-eq0 g c =
-    record { part = rw c.ready_part-part.ensures (part_of_held c.args.self.now c.args.pair.now.addresses c.ip_mtu.result (g.C.Context.context c.args.cx.now).moment c.requires.due) }
+    record {
+      part = rw c.ready_part-part.ensures
+          (part_of_held c.args.self.now c.args.pair.now.addresses c.ip_mtu.result (g.C.Context.context c.args.cx.now).moment c.requires.due);
+    }
 
 pub returns-else-self-eq0-clause-socket : goal.returns-else-self-eq0-clause-socket
 returns-else-self-eq0-clause-socket g c =
@@ -21,7 +24,8 @@ returns-else-self-eq0-clause-socket g c =
     let pair = c.args.pair.now in
     let text = text_choice v.block pair.addresses cx.ip_mtu v.queued in
     let window : c.self.inside.block.peer.window ≡ v.block.peer.window = ap (λ (w : TcpValue). w.block.peer.window) c.self.view_is in
-    let opened : (v.block.peer.window == 0) ≡ false = rw (← window) (not_zero c.self.inside.block.peer.window (λ none. omega (arith, none, c.if-self-eq0.false))) in
+    let opened : (v.block.peer.window == 0) ≡ false =
+    rw (← window) (not_zero c.self.inside.block.peer.window (λ none. omega (arith, none, c.if-self-eq0.false))) in
     let part = c.ready_part-part.ensures ∙ ap (λ (mtu : ℕ). text_choice v.block pair.addresses mtu v.queued) c.ip_mtu.ensures in
     c.offer_part-else-self-eq0.ensures.socket
     ∙ ap (λ (choice : Choice). (offer_choice Kind.Text cx v pair choice).socket) part

@@ -23,7 +23,8 @@ returns-in-Some-clause-sendable g c =
     ∙ ap (λ (m : ℤ). Some (reply_of c.in-Some.due m left ip header (length bytes))) (sym c.now-now.ensures.value)
     ∙ ap (λ (r : Reply). Some r) (sym c.reply.ensures)
     in
-    sent_out c.replied.result c.reply.result (answer_of c.arrive.result cx.moment left ip header (length bytes)) c.replied.ensures.reply c.replied.ensures.bare due
+    sent_out c.replied.result c.reply.result (answer_of c.arrive.result cx.moment left ip header (length bytes)) c.replied.ensures.reply
+    c.replied.ensures.bare due
     (subst (λ (o : Option Reply). IfSome o (λ x. IsSendable (packet_in x))) (sym c.arrive.ensures.answer) (sendable_answer cx c.args.self.now ip header bytes))
 
 pub returns-in-Some-clause-answer : goal.returns-in-Some-clause-answer

@@ -18,4 +18,7 @@ release-requires g c =
 pub returns-clause-read : goal.returns-clause-read
 returns-clause-read g c =
     let here : c.get.result.now ≡ lent c.self.inside.received = rw c.len.ensures at c.get.ensures in
-    rw (← c.self.view_is) (none_refuses _ (sym c.in_ok-check_recv.ensures), (c.f-count.result.0, (c.get.result, c.f-count.ensures, here), rw c.release.ensures refl))
+    rw (← c.self.view_is) (
+      none_refuses _ (sym c.in_ok-check_recv.ensures),
+      (c.f-count.result.0, (c.get.result, c.f-count.ensures, here), rw c.release.ensures refl),
+    )

@@ -12,6 +12,10 @@ invariant_of-self-then-is_syn g c =
     let sized = sized_syn (is_syn header.control) (is_zero header.options.max_seg_size) c.requires.sized syn in
     record {
       room = c.self.invariant.room;
-      block = rw (c.restart_timeout.ensures, c.take_answer.ensures) (kept_answer c.self.inside.block header c.now-now.result c.len.result c.now-now.ensures.moment (sized_mss header.options.max_seg_size sized));
+      block = rw (
+        c.restart_timeout.ensures,
+        c.take_answer.ensures,
+      ) (kept_answer c.self.inside.block header c.now-now.result c.len.result c.now-now.ensures.moment
+          (sized_mss header.options.max_seg_size sized));
       unsettled = none_open c.self.inside.offered c.restart_timeout.new.self c.self.inside.queued none;
     }

@@ -9,6 +9,8 @@ invariant_of-self c =
     let none : c.self.inside.offered ≡ None = ap (λ (v : TcpValue). v.offered) c.self.view_is ∙ c.requires.unoffered in
     record {
       room = c.self.invariant.room;
-      block = rw c.take_fin.ensures (kept_fin c.self.inside.block (next_at c.self.inside.block c.args.next) c.args.header.now c.args.size c.args.advance c.args.now c.self.invariant.block);
+      block = rw c.take_fin.ensures
+          (kept_fin c.self.inside.block (next_at c.self.inside.block c.args.next) c.args.header.now c.args.size c.args.advance c.args.now
+          c.self.invariant.block);
       unsettled = none_open c.self.inside.offered c.take_fin.new.self c.self.inside.queued none;
     }

@@ -8,6 +8,12 @@ invariant_of-self c =
     let none : c.self.inside.offered ≡ None = ap (λ (v : TcpValue). v.offered) c.self.view_is ∙ c.requires.unoffered in
     record {
       room = c.self.invariant.room;
-      block = rw (c.restart_timeout.ensures, c.count.ensures, c.take_ranges.ensures, c.set_window.ensures) (kept_told c.self.inside.block c.args.header.now c.args.duplicates c.len.result c.args.now c.requires.moment c.self.invariant.block);
+      block = rw (
+        c.restart_timeout.ensures,
+        c.count.ensures,
+        c.take_ranges.ensures,
+        c.set_window.ensures,
+      ) (kept_told c.self.inside.block c.args.header.now c.args.duplicates c.len.result c.args.now c.requires.moment
+          c.self.invariant.block);
       unsettled = none_open c.self.inside.offered c.restart_timeout.new.self c.self.inside.queued none;
     }

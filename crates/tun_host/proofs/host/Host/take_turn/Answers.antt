@@ -21,9 +21,11 @@ returns-clause-turn c =
       gone = gone;
       changed = is_change c.poll.result;
       changed_again = is_change c.poll-2.result;
-      takes = subst (λ (d : DrainValue). Polls DrainMove c.args.now budget (state d before.interface (places before.sockets)) (is_change c.poll.result) come) c.put.ensures c.poll.ensures;
+      takes = subst (λ (d : DrainValue). Polls DrainMove c.args.now budget (state d before.interface (places before.sockets)) (is_change c.poll.result) come)
+          c.put.ensures c.poll.ensures;
       serves = c.serve.ensures.serve;
       sends = c.poll-2.ensures;
       asked = c.poll_at.ensures.value;
-      after = ap (λ (h : HostValue). record { net = state c.poll-2.new.drain h (places c.poll-2.new.sockets); echoes = echoes; pages = pages }) c.poll_at.ensures.after;
+      after = ap (λ (h : HostValue). record { net = state c.poll-2.new.drain h (places c.poll-2.new.sockets); echoes = echoes; pages = pages })
+          c.poll_at.ensures.after;
     }

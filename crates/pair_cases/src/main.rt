@@ -1,0 +1,134 @@
+//! Plays cases of two TCP sockets, each event by event, and writes what happens.
+#![tactic(auto)]
+
+mod answers;
+mod bad;
+mod beside;
+mod lines;
+mod played;
+mod words;
+
+use crate::bad::{Bad, Lack};
+use crate::lines::{Todo, read_line, read_sizes};
+use crate::played::Played;
+use case_files::{Case, ends_line, read_cases};
+use std::alloc::Global;
+use std::io::{self, Read, Write};
+use std::process::ExitCode;
+use std::str;
+
+fn main(rt: HostRuntime) -> ExitCode {
+    let ended = play(rt.alloc(), &mut rt.reader(), &mut io::writer(&rt));
+    // A reader or a writer failed, or no memory was left.
+    ExitCode::from(ended.unwrap_or(2))
+}
+
+/// Plays each case that the reader gives. The status is 0 where each was played to its end, else 1.
+fn play<R: Read, W: Write>(alloc: Global, reader: &mut R, writer: &mut W) -> io::Result<u8> {
+    let status = match read_cases(alloc, reader)? {
+        Ok(cases) => play_all(alloc, cases.as_slice(), writer)?,
+        Err(fault) => {
+            writeln!(writer, "{fault}")?;
+            1
+        }
+    };
+    writer.flush()?;
+    Ok(status)
+}
+
+fn play_all<W: Write>(alloc: Global, cases: &[Case], writer: &mut W) -> io::Result<u8> {
+    let mut ended = 0;
+    for case in cases {
+        if !play_case(alloc, case, writer)? {
+            ended = 1;
+        }
+    }
+    Ok(ended)
+}
+
+/// Plays a case, whose first line says which sockets it has. False: a line ended it.
+fn play_case<W: Write>(alloc: Global, case: &Case, writer: &mut W) -> io::Result<bool> {
+    writer.write_all(b"== ")?;
+    writer.write_all(case.name.as_slice())?;
+    writer.write_all(b"\n")?;
+    let first = case
+        .text
+        .split(|byte| ends_line(byte))
+        .next()
+        .unwrap_or(b"");
+    match made(alloc, first) {
+        Ok(mut played) => {
+            writer.write_all(first)?;
+            writer.write_all(b"\n")?;
+            play_events(alloc, &mut played, case.text.as_slice(), writer)
+        }
+        Err(bad) => {
+            let why = bad.to_text(alloc, first)?;
+            writeln!(writer, "line 1: {why}")?;
+            Ok(false)
+        }
+    }
+}
+
+/// The sockets that a case's first line says.
+fn made(alloc: Global, line: &[u8]) -> Result<Box<Played>, Bad> {
+    let sizes = read_sizes(text(line)?)?;
+    match Played::new(alloc, &sizes) {
+        Some(played) => Ok(played),
+        None => Err(Bad::new(Lack::Buffers, 0)),
+    }
+}
+
+/// Plays the events behind a case's first line.
+fn play_events<W: Write>(
+    alloc: Global,
+    played: &mut Played,
+    script: &[u8],
+    writer: &mut W,
+) -> io::Result<bool> {
+    for (place, line) in script.split(|byte| ends_line(byte)).enumerate().skip(1) {
+        if line.is_empty() {
+            // Behind the last line feed.
+            return Ok(true);
+        }
+        match play_line(alloc, played, line, writer)? {
+            None => {}
+            Some(bad) => {
+                let why = bad.to_text(alloc, line)?;
+                writeln!(writer, "line {}: {why}", place.saturating_add(1))?;
+                return Ok(false);
+            }
+        }
+    }
+    Ok(true)
+}
+
+/// Plays a line: why it says no event, if it says none.
+fn play_line<W: Write>(
+    alloc: Global,
+    played: &mut Played,
+    line: &[u8],
+    writer: &mut W,
+) -> io::Result<Option<Bad>> {
+    let todo = match said(alloc, line) {
+        Ok(Some(todo)) => todo,
+        Ok(None) => return Ok(None),
+        Err(bad) => return Ok(Some(bad)),
+    };
+    writer.write_all(line)?;
+    writer.write_all(b"\n")?;
+    let text = played.take(alloc, &todo)?;
+    writer.write_all(text.as_bytes())?;
+    Ok(None)
+}
+
+fn said(alloc: Global, line: &[u8]) -> Result<Option<Todo>, Bad> {
+    read_line(alloc, text(line)?)
+}
+
+fn text(line: &[u8]) -> Result<&str, Bad> {
+    match str::from_utf8(line) {
+        Ok(text) => Ok(text),
+        Err(_) => Err(Bad::new(Lack::Text, 0)),
+    }
+}
