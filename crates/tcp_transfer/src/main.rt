@@ -4,17 +4,17 @@
 #![tactic(auto)]
 
 ghost use Rattle.std.specs.Prelude.{IfOk};
-ghost use Rattle.tcp_tie.specs.Promises.{IsFresh};
-ghost use Rattle.tcp_pair_model.specs.Safe.{IsSafe};
-ghost use Rattle.tcp_socket.specs.Receive.{FitsBuffer};
+ghost use Rattle.tcp_pair.specs.Promises.{IsFresh};
+ghost use Rattle.tcp_pair.specs.Safe.{IsSafe};
+ghost use Rattle.sockets.specs.TcpReceive.{FitsBuffer};
 
 use anyhow::Result;
 use ip_wire::{IpAddress, IpEndpoint, IpListenEndpoint, TcpControl};
 use net_base::{Instant, ManagedSlice, RingBuffer};
+use sockets::tcp::{Socket, SocketBuffer, State};
 use std::alloc::{AllocError, Global};
 use std::str;
 use tcp_pair::{Bytes, Pair, PairAnswer, PairEvent, SentSegment, Side, TcpFault, TcpSetting};
-use tcp_socket::{Socket, SocketBuffer, State};
 
 const TEXT: &[u8; 60] = b"Whatever a network loses, the bytes that are read are these.";
 
