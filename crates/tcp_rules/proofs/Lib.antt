@@ -14,4 +14,5 @@ pub mod WaitingRules
 pub mod CongestionRules
 pub mod TimingRules
 pub mod RecoveryRules
+pub mod EdgeSteps
 pub mod EdgeRules
