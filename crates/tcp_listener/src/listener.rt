@@ -1,6 +1,6 @@
 //! A listener with a backlog.
 ghost use Rattle.std.specs.Prelude.{◌≡◌, ◌∷◌, ◌++◌, [], map, IfOk, OnErr};
-ghost use Rattle.interface_egress.specs.Set.{places};
+ghost use Rattle.interface_egress.specs.Set.{places, is_fixed};
 ghost use Rattle.tcp_listener.specs.Calls.{fresh_entry, micros_of, Refreshes, Accepts, accepted, given_back};
 
 use crate::entry::Entry;
@@ -92,6 +92,7 @@ impl Listener {
             self.new.entries.items }
         ensures endpoint { self.new.endpoint ≡ self.old.endpoint }
         ensures keepers { self.new.keepers.items ≡ self.old.keepers.items }
+        ensures fixed { is_fixed set.new ≡ is_fixed set.old }
     {
         let now = micros_of(now);
         let keepers = self.keepers.as_slice();
@@ -108,6 +109,7 @@ impl Listener {
     /// The socket whose connection has waited for longest. It is its user's until `give_back`.
     pub fn accept(&mut self) -> Option<SocketHandle>
         ensures accepted { Accepts self.old.entries.items result self.new.entries.items }
+        ensures rest { self.new ≡ record self.old { entries = self.new.entries } }
     {
         let at = oldest(self.entries.as_slice(), Stage::Open)?;
         self.entries[at].stage = Stage::Accepted;

@@ -1,0 +1,340 @@
+/* Calls in random order, with random numbers, on two hosts whose frames cross, and frames at random: whole, cut, changed and made up.
+ *
+ *   fuzz SECONDS [SEED]
+ *
+ * It ends by a signal where a sanitizer finds something, with status 1 where an answer isn't one that its call may give. With
+ * -DLIBFUZZER it is libFuzzer's target, and takes its choices from the input.
+ */
+#include "zemplovir.h"
+
+#include <stdio.h>
+#include <stdlib.h>
+#include <string.h>
+#include <time.h>
+
+enum { HOSTS = 2, SOCKETS = 8, MOST = 2048 };
+
+static const uint8_t *input;
+static size_t input_left;
+static uint64_t state;
+
+/* The next choice below a number. */
+static uint64_t choice(uint64_t below)
+{
+    uint64_t word = 0;
+    if (input != NULL) {
+        for (int i = 0; i < 2 && input_left > 0; i++, input_left--)
+            word = word << 8 | *input++;
+    } else {
+        state ^= state << 13;
+        state ^= state >> 7;
+        state ^= state << 17;
+        word = state * 0x2545f4914f6cdd1du >> 20;
+    }
+    return below == 0 ? word : word % below;
+}
+
+static size_t any_size(void)
+{
+    static const size_t sizes[] = {0, 1, 2, 20, 100, 576, 1500, 4096, 65536};
+    switch (choice(12)) {
+    case 0: return (size_t)1 << 20;
+    case 1: return ((size_t)1 << 30) + 1;
+    case 2: return SIZE_MAX;
+    default: return sizes[choice(sizeof sizes / sizeof *sizes)];
+    }
+}
+
+/* A size that is mostly small: what memory is taken for. */
+static size_t some_size(void)
+{
+    return choice(16) == 0 ? any_size() : (size_t)choice(5000);
+}
+
+static uint64_t any_number(void)
+{
+    switch (choice(4)) {
+    case 0: return 0;
+    case 1: return UINT64_MAX;
+    case 2: return choice(1000000);
+    default: return choice(0) << 32 | choice(0);
+    }
+}
+
+static zv_address any_address(void)
+{
+    zv_address address = {0, {0}};
+    address.family = choice(8) == 0 ? (uint8_t)choice(256) : choice(4) == 0 ? 6 : 4;
+    for (int i = 0; i < 16; i++)
+        address.bytes[i] = (uint8_t)choice(256);
+    if (choice(4) != 0) {
+        const uint8_t near[4] = {192, 168, 1, (uint8_t)(1 + choice(3))};
+        memset(address.bytes, 0, sizeof address.bytes);
+        if (address.family == 4) {
+            memcpy(address.bytes, near, sizeof near);
+        } else {
+            address.bytes[0] = 0xfe;
+            address.bytes[1] = 0x80;
+            address.bytes[15] = near[3];
+        }
+    }
+    return address;
+}
+
+static zv_endpoint any_endpoint(void)
+{
+    zv_endpoint endpoint = {any_address(), (uint16_t)(choice(4) == 0 ? choice(65536) : 7)};
+    return endpoint;
+}
+
+static void fail(const char *why, uint64_t number)
+{
+    fprintf(stderr, "fuzz: %s: %llu\n", why, (unsigned long long)number);
+    abort();
+}
+
+static void check(uint32_t code)
+{
+    if (code > ZV_IN_BACKLOG)
+        fail("no such code", code);
+}
+
+static int64_t clock_of[HOSTS];
+
+static void make(zv_host *host, int which)
+{
+    zv_settings settings = {
+        .medium = (uint8_t)(choice(16) == 0 ? choice(256) : which < 0 ? choice(3) : ZV_ETHERNET),
+        .hardware = {2, 0, 0, 0, 0, (uint8_t)(which + 1)},
+        .mtu = choice(8) == 0 ? any_size() : 1514,
+        .seed = choice(0),
+        .frames = choice(8) == 0 ? some_size() : 32,
+    };
+    zv_address own = zv_ipv4(192, 168, 1, (uint8_t)(which + 1));
+    check(zv_host_new(host, &settings, choice(16) == 0 ? (int64_t)any_number() : clock_of[which]));
+    check(zv_address_add(host, &own, 24));
+}
+
+/* One call, of any kind. */
+static void call(zv_host *host, int which)
+{
+    static uint8_t bytes[70000];
+    static const uint8_t *lent;
+    uint8_t byte = 0;
+    size_t count = 0, other = 0, socket = choice(32) == 0 ? any_size() : (size_t)choice(SOCKETS);
+    size_t length = (size_t)choice(MOST);
+    int64_t at = 0;
+    zv_endpoint remote = any_endpoint(), local = any_endpoint();
+    zv_address address = any_address(), network = any_address();
+    zv_counts counts;
+    uint32_t code = ZV_OK;
+    if (choice(64) == 0)
+        length = choice(sizeof bytes);
+    for (size_t i = 0; i < 8 && i < length; i++)
+        bytes[i] = (uint8_t)choice(256);
+    switch (choice(56)) {
+    case 0: code = zv_address_add(host, &address, (uint8_t)choice(140)); break;
+    case 1: code = zv_address_remove(host, &address); break;
+    case 2: code = zv_route_add(host, &network, (uint8_t)choice(140), &address); break;
+    case 3: code = zv_route_remove(host, &network, (uint8_t)choice(140)); break;
+    case 4: code = zv_udp_new(host, choice(16), some_size(), &count); break;
+    case 5: code = zv_udp_bind(host, socket, &address, (uint16_t)choice(10)); break;
+    case 6: case 7: case 8: code = zv_udp_send(host, socket, bytes, length, &remote, &address); break;
+    case 9: case 10:
+        code = zv_udp_recv(host, socket, bytes, length, &count, &remote, &address);
+        if (code == ZV_OK && count > length)
+            fail("more bytes than the buffer has", count);
+        break;
+    case 11: code = zv_udp_set_hop_limit(host, socket, (uint8_t)choice(256)); break;
+    case 12: code = zv_udp_close(host, socket); break;
+    case 13: code = zv_tcp_new(host, some_size(), some_size(), &count); break;
+    case 14: case 15: code = zv_tcp_listen(host, socket, &address, (uint16_t)choice(10)); break;
+    case 16: case 17: code = zv_tcp_connect(host, socket, &remote, &address, (uint16_t)choice(10)); break;
+    case 18: case 19: case 20:
+        code = zv_tcp_send(host, socket, bytes, length, &count);
+        if (code == ZV_OK && count > length)
+            fail("more bytes than there are", count);
+        break;
+    case 21: case 22:
+        code = zv_tcp_recv(host, socket, bytes, length, &count);
+        if (code == ZV_OK && count > length)
+            fail("more bytes than the buffer has", count);
+        break;
+    case 23: case 24:
+        code = zv_tcp_peek(host, socket, &lent, &count);
+        for (size_t i = 0; code == ZV_OK && i < count; i++)
+            byte ^= lent[i];
+        other = any_size();
+        if (code == ZV_OK && zv_tcp_done(host, socket, other, &length) == ZV_OK && (length > other || length > count))
+            fail("more bytes given up than lent", length);
+        break;
+    case 25: code = zv_tcp_done(host, socket, any_size(), &count); break;
+    case 26: code = zv_tcp_close(host, socket); break;
+    case 27: code = zv_tcp_abort(host, socket); break;
+    case 28:
+        code = zv_tcp_state(host, socket, &byte);
+        if (code == ZV_OK && byte > ZV_TIME_WAIT)
+            fail("no such state", byte);
+        break;
+    case 29: code = zv_tcp_peer(host, socket, &local, &remote); break;
+    case 30: code = zv_tcp_queues(host, socket, &count, &other); break;
+    case 31: code = zv_tcp_set_timeout(host, socket, any_number()); break;
+    case 32: code = zv_tcp_set_keep_alive(host, socket, any_number()); break;
+    case 33: code = zv_tcp_set_ack_delay(host, socket, any_number()); break;
+    case 34: code = zv_tcp_set_nagle(host, socket, (uint8_t)choice(256)); break;
+    case 35: code = zv_tcp_set_hop_limit(host, socket, (uint8_t)choice(256)); break;
+    case 36: code = zv_tcp_set_retries(host, socket, (uint16_t)choice(65536)); break;
+    case 37: code = zv_tcp_set_congestion_control(host, socket, (uint8_t)choice(2)); break;
+    case 38: code = zv_tcp_set_timestamps(host, socket, (uint8_t)choice(2), (uint32_t)any_number()); break;
+    case 39: code = zv_tcp_pause_synack(host, socket, (uint8_t)choice(2)); break;
+    case 40: code = choice(2) ? zv_icmp_new(host, choice(8), some_size(), &count) : zv_icmp_bind(host, socket, (uint16_t)choice(8)); break;
+    case 41: code = zv_icmp_send(host, socket, bytes, length, &address); break;
+    case 42: code = zv_icmp_recv(host, socket, bytes, length, &count, &address); break;
+    case 43:
+        code = zv_raw_new(host, (uint8_t)(choice(4) == 0 ? choice(256) : 4), (uint16_t)choice(300), choice(8), some_size(), &count);
+        break;
+    case 44: bytes[0] = 0x45; code = zv_raw_send(host, socket, bytes, length); break;
+    case 45: code = zv_raw_recv(host, socket, bytes, length, &count); break;
+    case 46:
+        code = choice(8) == 0 ? zv_socket_remove(host, socket) : zv_counters(host, &counts);
+        break;
+    case 47: code = zv_listener_new(host, &address, (uint16_t)choice(10), &count); break;
+    case 48: case 49: code = zv_listener_add(host, choice(4), socket); break;
+    case 50: code = choice(4) ? zv_listener_accept(host, choice(4), &count) : zv_listener_add_keeper(host, choice(4), socket); break;
+    case 51: code = choice(16) ? zv_listener_give_back(host, choice(4), socket) : zv_listener_remove(host, any_size()); break;
+    case 52:
+        code = choice(2) ? zv_icmp_bind_udp(host, socket, &address, (uint16_t)choice(10))
+                         : zv_icmp_bind_tcp(host, socket, &address, (uint16_t)choice(10));
+        break;
+    case 53: code = zv_icmp_set_hop_limit(host, socket, (uint8_t)choice(256)); break;
+    case 54: {
+        const zv_hardware station = {{2, 0, 0, 0, 0, (uint8_t)(which + 1)}};
+        code = zv_host_set_hardware(host, &station);
+        break;
+    }
+    default:
+        if (choice(64) == 0) {
+            code = choice(2) ? zv_host_set_any_ip(host, (uint8_t)choice(4) / 3) : zv_host_set_reassembly_timeout(host, any_number());
+        } else if (choice(256) == 0) {
+            code = zv_host_free(host);
+            check(code);
+            make(host, which);
+        } else {
+            code = zv_poll_at(host, choice(64) == 0 ? (int64_t)any_number() : clock_of[which], &at);
+        }
+    }
+    check(code);
+}
+
+/* The next frame of one host, if there is one, changed perhaps, goes to the other. */
+static void cross(zv_host *from, zv_host *to)
+{
+    static uint8_t frame[65549];
+    size_t count, room = choice(32) == 0 ? (size_t)choice(200) : sizeof frame;
+    uint32_t code = zv_frame_out(from, frame, room, &count);
+    if (code == ZV_TOO_SHORT) {
+        size_t again;
+        if (zv_frame_out_length(from, &count) != ZV_OK || count <= room)
+            fail("a frame that was too long is gone, or fits", count);
+        if (zv_frame_out(from, frame, sizeof frame, &again) != ZV_OK || again != count)
+            fail("a frame that was too long has another length", again);
+        code = ZV_OK;
+    }
+    if (code != ZV_OK)
+        return;
+    switch (choice(16)) {
+    case 0: return;
+    case 1: count = (size_t)choice(count + 1); break;
+    case 2: case 3:
+        for (uint64_t i = choice(4); count > 0 && i < 4; i++)
+            frame[choice(count)] = (uint8_t)choice(256);
+        break;
+    case 4: check(zv_frame_in(to, frame, count)); break;
+    default: break;
+    }
+    check(zv_frame_in(to, frame, count));
+}
+
+static void made_up(zv_host *to)
+{
+    uint8_t frame[256];
+    size_t length = (size_t)choice(sizeof frame);
+    for (size_t i = 0; i < length; i++)
+        frame[i] = (uint8_t)choice(256);
+    if (length > 23) {
+        const uint8_t head[14] = {2, 0, 0, 0, 0, (uint8_t)(1 + choice(2)), 2, 0, 0, 0, 0, 3, 8, (uint8_t)(choice(2) * 6)};
+        memcpy(frame, head, sizeof head);
+        frame[14] = 0x45;
+    }
+    check(zv_frame_in(to, frame, length));
+}
+
+static void step(zv_host *hosts)
+{
+    int which = (int)choice(HOSTS);
+    uint8_t changed = 0;
+    switch (choice(8)) {
+    case 0: case 1: case 2:
+        clock_of[which] += (int64_t)choice(choice(64) == 0 ? 100000000 : 20000);
+        check(zv_poll(&hosts[which], clock_of[which], (uint16_t)choice(20), &changed));
+        if (choice(256) == 0)
+            check(zv_poll(&hosts[which], (int64_t)any_number(), (uint16_t)choice(20), &changed));
+        if (changed > 1)
+            fail("neither changed nor unchanged", changed);
+        break;
+    case 3: case 4: cross(&hosts[which], &hosts[1 - which]); break;
+    case 5:
+        if (choice(4) == 0)
+            made_up(&hosts[which]);
+        break;
+    default: call(&hosts[which], which);
+    }
+}
+
+static void begin(zv_host *hosts)
+{
+    for (int i = 0; i < HOSTS; i++) {
+        clock_of[i] = 0;
+        make(&hosts[i], i);
+    }
+}
+
+static void end(zv_host *hosts)
+{
+    for (int i = 0; i < HOSTS; i++)
+        check(zv_host_free(&hosts[i]));
+}
+
+#ifdef LIBFUZZER
+int LLVMFuzzerTestOneInput(const uint8_t *data, size_t size);
+
+int LLVMFuzzerTestOneInput(const uint8_t *data, size_t size)
+{
+    zv_host hosts[HOSTS] = {{0}, {0}};
+    input = data;
+    input_left = size;
+    begin(hosts);
+    while (input_left > 0)
+        step(hosts);
+    end(hosts);
+    return 0;
+}
+#else
+int main(int count, char **words)
+{
+    const double seconds = count > 1 ? atof(words[1]) : 10;
+    const time_t begun = time(NULL);
+    uint64_t steps = 0, runs = 0, seed = count > 2 ? strtoull(words[2], NULL, 10) : 1;
+    while (difftime(time(NULL), begun) < seconds) {
+        zv_host hosts[HOSTS] = {{0}, {0}};
+        state = (seed + runs) * 0x9e3779b97f4a7c15u | 1;
+        begin(hosts);
+        for (int i = 0; i < 20000; i++, steps++)
+            step(hosts);
+        end(hosts);
+        runs++;
+    }
+    printf("fuzz: %llu steps in %llu runs\n", (unsigned long long)steps, (unsigned long long)runs);
+    return 0;
+}
+#endif

@@ -1,0 +1,242 @@
+/* A host on a TUN or TAP device of Linux that sends back what it gets: UDP and TCP at port 7, a page at port 80, and answers to pings.
+ *
+ *   tun NAME tun|tap ADDRESS PREFIX [ROUTER]        as root, the device made before: docs/C.md
+ */
+#include "zemplovir.h"
+
+#include <arpa/inet.h>
+#include <errno.h>
+#include <fcntl.h>
+#include <linux/if.h>
+#include <linux/if_tun.h>
+#include <poll.h>
+#include <signal.h>
+#include <stdio.h>
+#include <stdlib.h>
+#include <string.h>
+#include <sys/ioctl.h>
+#include <time.h>
+#include <unistd.h>
+
+enum { STREAMS = 4, PAGES = 4, MTU = 1500, BUDGET = 64 };
+
+/* No socket. */
+#define NONE ((size_t)-1)
+
+static volatile sig_atomic_t is_over;
+
+static void end(int number)
+{
+    (void)number;
+    is_over = 1;
+}
+
+static void must(uint32_t code, const char *what)
+{
+    if (code != ZV_OK) {
+        fprintf(stderr, "tun: %s: %s\n", what, zv_strerror(code));
+        exit(1);
+    }
+}
+
+static int64_t now(void)
+{
+    static int64_t first = -1;
+    struct timespec t;
+    clock_gettime(CLOCK_MONOTONIC, &t);
+    int64_t micros = (int64_t)t.tv_sec * 1000000 + t.tv_nsec / 1000;
+    if (first < 0)
+        first = micros;
+    return micros - first;
+}
+
+static int open_device(const char *name, int is_tap)
+{
+    struct ifreq request;
+    int device = open("/dev/net/tun", O_RDWR | O_NONBLOCK);
+    if (device < 0) {
+        perror("tun: /dev/net/tun");
+        exit(1);
+    }
+    memset(&request, 0, sizeof request);
+    request.ifr_flags = (short)((is_tap ? IFF_TAP : IFF_TUN) | IFF_NO_PI);
+    strncpy(request.ifr_name, name, IFNAMSIZ - 1);
+    if (ioctl(device, TUNSETIFF, &request) < 0) {
+        perror("tun: TUNSETIFF");
+        exit(1);
+    }
+    return device;
+}
+
+static zv_address read_address(const char *text)
+{
+    zv_address address = {0, {0}};
+    if (inet_pton(AF_INET, text, address.bytes) == 1)
+        address.family = 4;
+    else if (inet_pton(AF_INET6, text, address.bytes) == 1)
+        address.family = 6;
+    return address;
+}
+
+/* Frames that came go to the host, as many as it takes; those that are to go go to the device. */
+static void carry(zv_host *host, int device, int64_t moment)
+{
+    static uint8_t frame[65549];
+    uint8_t changed;
+    size_t count;
+    for (int taken = 0; taken < BUDGET; taken++) {
+        ssize_t length = read(device, frame, sizeof frame);
+        if (length <= 0)
+            break;
+        zv_frame_in(host, frame, (size_t)length);
+    }
+    must(zv_poll(host, moment, BUDGET, &changed), "poll");
+    while (zv_frame_out(host, frame, sizeof frame, &count) == ZV_OK)
+        if (write(device, frame, count) < 0 && errno != EAGAIN && errno != EIO)
+            perror("tun: write");
+}
+
+static void echo_datagrams(zv_host *host, size_t socket)
+{
+    static uint8_t bytes[65535];
+    zv_endpoint remote;
+    zv_address local;
+    size_t count;
+    while (zv_udp_recv(host, socket, bytes, sizeof bytes, &count, &remote, &local) == ZV_OK)
+        zv_udp_send(host, socket, bytes, count, &remote, &local);
+}
+
+/* The bytes that wait go back where they lie, as many as there is room for. */
+static void echo_stream(zv_host *host, size_t socket)
+{
+    const uint8_t *bytes;
+    size_t count, sent, done;
+    const zv_address any = zv_any();
+    uint8_t state;
+    must(zv_tcp_state(host, socket, &state), "state");
+    if (state == ZV_CLOSED) {
+        zv_tcp_listen(host, socket, &any, 7);
+        return;
+    }
+    for (;;) {
+        uint32_t code = zv_tcp_peek(host, socket, &bytes, &count);
+        if (code == ZV_FINISHED)
+            zv_tcp_close(host, socket);
+        if (code != ZV_OK || count == 0)
+            return;
+        if (zv_tcp_send(host, socket, bytes, count, &sent) != ZV_OK || sent == 0)
+            return;
+        zv_tcp_done(host, socket, sent, &done);
+    }
+}
+
+/* A page for whoever asks for anything, at a listener with a backlog. An accepted socket goes back once it is closed. */
+static int serve_page(zv_host *host, size_t socket)
+{
+    static const char page[] = "HTTP/1.0 200 OK\r\nContent-Type: text/plain\r\nContent-Length: 24\r\n"
+                               "Connection: close\r\n\r\nserved by C over a TUN.\n";
+    static uint8_t request[2048];
+    size_t count;
+    uint8_t state;
+    must(zv_tcp_state(host, socket, &state), "state");
+    if (zv_tcp_recv(host, socket, request, sizeof request, &count) == ZV_OK && count > 3)
+        zv_tcp_send(host, socket, (const uint8_t *)page, sizeof page - 1, &count);
+    else if (state == ZV_ESTABLISHED)
+        return 0;
+    zv_tcp_close(host, socket);
+    return 1;
+}
+
+static void serve_pages(zv_host *host, size_t listener, size_t *accepted)
+{
+    for (int i = 0; i < PAGES; i++) {
+        if (accepted[i] == NONE && zv_listener_accept(host, listener, &accepted[i]) != ZV_OK)
+            accepted[i] = NONE;
+        if (accepted[i] == NONE || !serve_page(host, accepted[i]))
+            continue;
+        must(zv_listener_give_back(host, listener, accepted[i]), "give back");
+        accepted[i] = NONE;
+    }
+}
+
+/* A listener at port 80, with its sockets behind it and a keeper for what is beyond them. */
+static size_t listen_for_pages(zv_host *host)
+{
+    const zv_address any = zv_any();
+    size_t listener, socket;
+    must(zv_listener_new(host, &any, 80, &listener), "listener");
+    for (int i = 0; i < PAGES; i++) {
+        must(zv_tcp_new(host, 4096, 4096, &socket), "TCP socket");
+        must(zv_listener_add(host, listener, socket), "backlog");
+    }
+    must(zv_tcp_new(host, 0, 0, &socket), "TCP socket");
+    must(zv_listener_add_keeper(host, listener, socket), "keeper");
+    return listener;
+}
+
+int main(int count, char **words)
+{
+    zv_host host = {0};
+    if (count < 5) {
+        fprintf(stderr, "usage: tun NAME tun|tap ADDRESS PREFIX [ROUTER]\n");
+        return 2;
+    }
+    const int is_tap = strcmp(words[2], "tap") == 0;
+    const int device = open_device(words[1], is_tap);
+    const zv_address own = read_address(words[3]);
+    zv_settings settings = {
+        .medium = is_tap ? ZV_ETHERNET : ZV_IP,
+        .hardware = {2, 0, 0, 0, 0, 1},
+        .mtu = is_tap ? MTU + 14 : MTU,
+        .frames = 256,
+    };
+    FILE *random = fopen("/dev/urandom", "rb");
+    if (random == NULL || fread(&settings.seed, sizeof settings.seed, 1, random) != 1) {
+        perror("tun: /dev/urandom");
+        return 1;
+    }
+    fclose(random);
+    must(zv_host_new(&host, &settings, now()), "host");
+    must(zv_address_add(&host, &own, (uint8_t)atoi(words[4])), "address");
+    if (count > 5) {
+        const zv_address router = read_address(words[5]);
+        const zv_address all = {router.family, {0}};
+        must(zv_route_add(&host, &all, 0, &router), "route");
+    }
+    size_t datagrams, streams[STREAMS], accepted[PAGES];
+    const zv_address any = zv_any();
+    must(zv_udp_new(&host, 64, 65536, &datagrams), "UDP socket");
+    must(zv_udp_bind(&host, datagrams, &any, 7), "UDP port");
+    for (int i = 0; i < STREAMS; i++) {
+        must(zv_tcp_new(&host, 262144, 262144, &streams[i]), "TCP socket");
+        must(zv_tcp_set_nagle(&host, streams[i], 0), "Nagle");
+        must(zv_tcp_set_ack_delay(&host, streams[i], UINT64_MAX), "ACK delay");
+    }
+    const size_t listener = listen_for_pages(&host);
+    for (int i = 0; i < PAGES; i++)
+        accepted[i] = NONE;
+
+    signal(SIGTERM, end);
+    signal(SIGINT, end);
+    fprintf(stderr, "tun: ready\n");
+    while (!is_over) {
+        int64_t at, moment = now();
+        carry(&host, device, moment);
+        echo_datagrams(&host, datagrams);
+        for (int i = 0; i < STREAMS; i++)
+            echo_stream(&host, streams[i]);
+        serve_pages(&host, listener, accepted);
+        carry(&host, device, moment);
+        must(zv_poll_at(&host, moment, &at), "poll_at");
+        int64_t left = at - moment;
+        struct pollfd waits = {device, POLLIN, 0};
+        poll(&waits, 1, left <= 0 ? 0 : left > 1000000 ? 1000 : (int)((left + 999) / 1000));
+    }
+    zv_counts counts;
+    must(zv_counters(&host, &counts), "counters");
+    fprintf(stderr, "tun: %llu frames came, %llu were dropped, %llu went\n", (unsigned long long)counts.frames_in,
+            (unsigned long long)counts.frames_dropped, (unsigned long long)counts.frames_out);
+    must(zv_host_free(&host), "free");
+    close(device);
+    return 0;
+}

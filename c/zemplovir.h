@@ -1,0 +1,378 @@
+/* Zemplovir: a TCP/IP stack without threads, clocks or devices of its own, for C99 and later.
+ *
+ * A program hands frames in, polls, and fetches frames; sockets are called between polls. docs/C.md has a first program.
+ *
+ * What every call shares
+ *   host       A zv_host that is all zero before its first call. Only these calls write it. It may be moved, not copied. One call at a
+ *              time: not from two threads at once, and not from a signal handler.
+ *   pointers   Not null, not even where a length of 0 goes with them; valid for the whole call, writable where they aren't const, and
+ *              not overlapping one another. Nothing is kept after a call but by zv_tcp_peek, which lends.
+ *   numbers    Any. There is no number, moment or socket that a call may not be given: it answers a code.
+ *   answer     ZV_OK, or why not. After any other code nothing has changed, and nothing is written behind the pointers, but where a call
+ *              says so.
+ *   moments    Microseconds, from 0 to 2^61, after a start that the program chooses. They shouldn't go back.
+ *   sockets    The number of a place in the host. A place is used again once its socket is removed.
+ *   memory     Taken by malloc when a host or a socket is made, and for frames: once frames have been as many and as long as they
+ *              become, no more. It is given back by zv_socket_remove and zv_host_free.
+ */
+#ifndef ZEMPLOVIR_H
+#define ZEMPLOVIR_H
+
+#include <stddef.h>
+#include <stdint.h>
+
+#ifdef __cplusplus
+extern "C" {
+#endif
+
+/* A host, behind one pointer: null for none. */
+typedef struct zv_host {
+    void *inside;
+} zv_host;
+
+/* Why a call is refused. Every call may answer ZV_NO_HOST; each names what else it may answer. */
+enum {
+    ZV_OK = 0,
+    ZV_NO_HOST = 1,       /* the handle has no host */
+    ZV_HAS_HOST = 2,      /* the handle has a host already */
+    ZV_MEMORY = 3,        /* malloc gave none */
+    ZV_BAD_ARGUMENT = 4,  /* a family, a prefix or a medium that there isn't, or addresses of two families */
+    ZV_NO_SOCKET = 5,     /* the place has no socket */
+    ZV_WRONG_KIND = 6,    /* the socket there is of another kind */
+    ZV_INVALID_STATE = 7, /* the socket's state doesn't take the call */
+    ZV_UNADDRESSABLE = 8, /* a port is 0, an address unspecified, the socket unbound, or no own address is of the family */
+    ZV_FULL = 9,          /* no room: in the socket's queue, or among the frames that wait */
+    ZV_EMPTY = 10,        /* nothing waits */
+    ZV_TRUNCATED = 11,    /* the datagram is longer than the buffer, and is gone */
+    ZV_FINISHED = 12,     /* the remote has closed its way, and all that it sent was read */
+    ZV_TOO_SHORT = 13,    /* the frame is longer than the buffer, and stays */
+    ZV_TOO_LONG = 14,     /* the frame is longer than 65,549 bytes, or a stream's buffer than 2^30 */
+    ZV_TABLE_FULL = 15,   /* there are four addresses or routes already, or sixteen listeners */
+    ZV_NOT_FOUND = 16,    /* the address or the route isn't there */
+    ZV_MEDIUM = 17,       /* the medium has other hardware addresses */
+    ZV_NOT_UNICAST = 18,  /* the address isn't that of one host, or of one station */
+    ZV_MTU = 19,          /* the longest IP packet of a frame is below 576 or above 65,535 bytes */
+    ZV_MOMENT = 20,       /* the moment is below 0 or above 2^61 */
+    ZV_NO_LISTENER = 21,  /* there is no listener of this number */
+    ZV_IN_BACKLOG = 22    /* a listener has the socket */
+};
+
+/* The code in words. */
+static inline const char *zv_strerror(uint32_t code)
+{
+    switch (code) {
+    case ZV_OK: return "done";
+    case ZV_NO_HOST: return "no host behind the handle";
+    case ZV_HAS_HOST: return "a host behind the handle already";
+    case ZV_MEMORY: return "out of memory";
+    case ZV_BAD_ARGUMENT: return "bad argument";
+    case ZV_NO_SOCKET: return "no socket at the place";
+    case ZV_WRONG_KIND: return "a socket of another kind at the place";
+    case ZV_INVALID_STATE: return "invalid state";
+    case ZV_UNADDRESSABLE: return "unaddressable";
+    case ZV_FULL: return "no room";
+    case ZV_EMPTY: return "nothing waits";
+    case ZV_TRUNCATED: return "datagram longer than the buffer, and gone";
+    case ZV_FINISHED: return "the stream is read to its end";
+    case ZV_TOO_SHORT: return "buffer too short for the frame, which stays";
+    case ZV_TOO_LONG: return "too long";
+    case ZV_TABLE_FULL: return "table full";
+    case ZV_NOT_FOUND: return "not found";
+    case ZV_MEDIUM: return "the medium has other hardware addresses";
+    case ZV_NOT_UNICAST: return "not the address of one host";
+    case ZV_MTU: return "IP MTU out of 576 to 65535 bytes";
+    case ZV_MOMENT: return "moment out of range";
+    case ZV_NO_LISTENER: return "no listener of this number";
+    case ZV_IN_BACKLOG: return "a listener has the socket";
+    default: return "unknown code";
+    }
+}
+
+/* An address: family 4 or 6, and its bytes as they go over the network, of which the first 4 count for family 4. Family 0 stands for
+ * no address where a call says that it may. */
+typedef struct zv_address {
+    uint8_t family;
+    uint8_t bytes[16];
+} zv_address;
+
+static inline zv_address zv_ipv4(uint8_t a, uint8_t b, uint8_t c, uint8_t d)
+{
+    zv_address address = {4, {a, b, c, d}};
+    return address;
+}
+
+static inline zv_address zv_any(void)
+{
+    zv_address address = {0, {0}};
+    return address;
+}
+
+typedef struct zv_endpoint {
+    zv_address address;
+    uint16_t port; /* as a number, in the machine's order */
+} zv_endpoint;
+
+/* The address of a station on Ethernet. */
+typedef struct zv_hardware {
+    uint8_t bytes[6];
+} zv_hardware;
+
+enum {
+    ZV_ETHERNET = 1, /* frames begin with an Ethernet header; neighbours are found by ARP and neighbour discovery */
+    ZV_IP = 2        /* frames are IP packets, as on a TUN device */
+};
+
+typedef struct zv_settings {
+    uint8_t medium;      /* ZV_ETHERNET or ZV_IP */
+    uint8_t hardware[6]; /* the station's address, on Ethernet alone */
+    size_t mtu;          /* bytes of the longest frame, its Ethernet header counted: 1514 on Ethernet, 1500 on a TUN device */
+    uint64_t seed;       /* from a true source: whoever knows it knows first sequence numbers, ports and identifications */
+    size_t frames;       /* how many frames may wait each way */
+} zv_settings;
+
+typedef struct zv_counts {
+    uint64_t frames_in;      /* frames that came and were taken in */
+    uint64_t frames_dropped; /* frames that came and were refused by zv_frame_in */
+    uint64_t frames_out;     /* frames that were fetched */
+    uint64_t polls;
+} zv_counts;
+
+/* HOSTS */
+
+/* Makes a host without addresses, routes and sockets behind an empty handle.
+ * ZV_HAS_HOST, ZV_BAD_ARGUMENT (medium), ZV_MEDIUM, ZV_NOT_UNICAST, ZV_MTU, ZV_MOMENT, ZV_MEMORY. */
+uint32_t zv_host_new(zv_host *host, const zv_settings *settings, int64_t now);
+
+/* Gives all memory of the host back, that of its sockets too. The handle is empty then, and may be used for another host. */
+uint32_t zv_host_free(zv_host *host);
+
+/* Adds an own address with the length of its network's prefix, as 24; at most four. All neighbours are forgotten.
+ * ZV_BAD_ARGUMENT, ZV_TABLE_FULL, ZV_NOT_UNICAST. */
+uint32_t zv_address_add(zv_host *host, const zv_address *address, uint8_t prefix);
+
+/* Takes an own address out. All neighbours are forgotten. ZV_BAD_ARGUMENT, ZV_NOT_FOUND. */
+uint32_t zv_address_remove(zv_host *host, const zv_address *address);
+
+/* Adds a route: packets for the network go to the router. A prefix of 0 is the default route. At most four.
+ * ZV_BAD_ARGUMENT, ZV_TABLE_FULL. */
+uint32_t zv_route_add(zv_host *host, const zv_address *network, uint8_t prefix, const zv_address *router);
+
+/* Takes the first route of exactly this network out. ZV_BAD_ARGUMENT, ZV_NOT_FOUND. */
+uint32_t zv_route_remove(zv_host *host, const zv_address *network, uint8_t prefix);
+
+/* Sets the station's address. ZV_MEDIUM, ZV_NOT_UNICAST. */
+uint32_t zv_host_set_hardware(zv_host *host, const zv_hardware *hardware);
+
+/* Whether every address counts as an own one, for a host that answers for others: 0 for no. */
+uint32_t zv_host_set_any_ip(zv_host *host, uint8_t enabled);
+
+/* How long the pieces of a datagram are waited for, in microseconds. A new host waits a minute. */
+uint32_t zv_host_set_reassembly_timeout(zv_host *host, uint64_t micros);
+
+/* FRAMES AND TIME */
+
+/* A frame comes: its bytes are copied, and wait for a poll. After a refusal it is counted as dropped.
+ * ZV_TOO_LONG, ZV_FULL, ZV_MEMORY. */
+uint32_t zv_frame_in(zv_host *host, const uint8_t *frame, size_t length);
+
+/* Copies the first frame that is to go to the buffer, and says its length. It stays where the buffer is too short.
+ * ZV_EMPTY, ZV_TOO_SHORT. */
+uint32_t zv_frame_out(zv_host *host, uint8_t *frame, size_t length, size_t *count);
+
+/* How many bytes the first frame has that is to go. ZV_EMPTY. */
+uint32_t zv_frame_out_length(zv_host *host, size_t *count);
+
+/* Takes in at most `budget` of the frames that came, and goes over the sockets at most `budget` times for what they have to send. While
+ * as many frames are to go as may, none comes and none goes: fetch them, and poll again. Then each listener sees how far the sockets of its
+ * backlog came. `changed` is 1 where the state or a queue of a
+ * socket may have changed, else 0. ZV_MOMENT. */
+uint32_t zv_poll(zv_host *host, int64_t now, uint16_t budget, uint8_t *changed);
+
+/* When the host wants to be polled: nothing has to be done before, unless a frame comes or a socket is called. INT64_MAX for never; a
+ * moment that has passed for now. ZV_MOMENT. */
+uint32_t zv_poll_at(zv_host *host, int64_t now, int64_t *at);
+
+/* What the host has counted since it was made. */
+uint32_t zv_counters(zv_host *host, zv_counts *counters);
+
+/* Gives the memory of a socket of any kind back. Its place is free for the next one. A connection ends without a word to the remote:
+ * close or abort it, and poll, before. One that a listener has stays. ZV_NO_SOCKET, ZV_IN_BACKLOG. */
+uint32_t zv_socket_remove(zv_host *host, size_t socket);
+
+/* UDP. Each call with a socket may answer ZV_NO_SOCKET and ZV_WRONG_KIND. */
+
+/* Makes a socket with room for so many datagrams, of so many bytes together, each way, and says its place. ZV_MEMORY. */
+uint32_t zv_udp_new(zv_host *host, size_t packets, size_t bytes, size_t *socket);
+
+/* Binds the socket to a port, of one own address or, with zv_any, of all. ZV_BAD_ARGUMENT, ZV_UNADDRESSABLE (port 0), ZV_INVALID_STATE
+ * (it is bound). */
+uint32_t zv_udp_bind(zv_host *host, size_t socket, const zv_address *address, uint16_t port);
+
+/* Queues a datagram, which a poll sends. It goes from the own address `local`; with zv_any from the one that the socket is bound to, or
+ * that the host chooses. One for which there is no own address of its family is dropped later, in silence.
+ * ZV_BAD_ARGUMENT, ZV_UNADDRESSABLE, ZV_FULL. */
+uint32_t zv_udp_send(zv_host *host, size_t socket, const uint8_t *bytes, size_t length, const zv_endpoint *remote, const zv_address *local);
+
+/* Copies the first datagram to the buffer; says its length, where it came from, and the own address that it was sent to. One that is
+ * longer than the buffer is gone (ZV_TRUNCATED). ZV_EMPTY. */
+uint32_t zv_udp_recv(zv_host *host, size_t socket, uint8_t *bytes, size_t length, size_t *count, zv_endpoint *remote, zv_address *local);
+
+/* Sets the hop limit of what is sent, 0 for the usual 64. */
+uint32_t zv_udp_set_hop_limit(zv_host *host, size_t socket, uint8_t limit);
+
+/* Unbinds the socket, and empties its queues. */
+uint32_t zv_udp_close(zv_host *host, size_t socket);
+
+/* TCP. Each call with a socket may answer ZV_NO_SOCKET and ZV_WRONG_KIND. */
+
+/* The state of a connection. */
+enum {
+    ZV_CLOSED = 0,
+    ZV_LISTEN = 1,
+    ZV_SYN_SENT = 2,
+    ZV_SYN_RECEIVED = 3,
+    ZV_ESTABLISHED = 4,
+    ZV_FIN_WAIT_1 = 5,
+    ZV_FIN_WAIT_2 = 6,
+    ZV_CLOSE_WAIT = 7,
+    ZV_CLOSING = 8,
+    ZV_LAST_ACK = 9,
+    ZV_TIME_WAIT = 10
+};
+
+/* Makes a closed socket with room for so many bytes each way, and says its place. ZV_MEMORY, ZV_TOO_LONG. */
+uint32_t zv_tcp_new(zv_host *host, size_t received, size_t queued, size_t *socket);
+
+/* Waits for a connection to a port, of one own address or, with zv_any, of any. The socket itself becomes the connection: to serve
+ * several at a time, let several sockets listen, or make a listener. ZV_BAD_ARGUMENT, ZV_UNADDRESSABLE (port 0), ZV_INVALID_STATE (it is open). */
+uint32_t zv_tcp_listen(zv_host *host, size_t socket, const zv_address *address, uint16_t port);
+
+/* Opens a connection from a port, of an own address or, with zv_any, of the one that the host chooses.
+ * ZV_BAD_ARGUMENT, ZV_UNADDRESSABLE, ZV_INVALID_STATE (it is open). */
+uint32_t zv_tcp_connect(zv_host *host, size_t socket, const zv_endpoint *remote, const zv_address *address, uint16_t port);
+
+/* Queues as many of the bytes as there is room for, perhaps none, and says how many. ZV_INVALID_STATE. */
+uint32_t zv_tcp_send(zv_host *host, size_t socket, const uint8_t *bytes, size_t length, size_t *count);
+
+/* Copies waiting bytes to the buffer, perhaps none, and says how many. ZV_FINISHED, ZV_INVALID_STATE. */
+uint32_t zv_tcp_recv(zv_host *host, size_t socket, uint8_t *bytes, size_t length, size_t *count);
+
+/* Lends the first waiting bytes, as many as lie behind one another: they stand where `bytes` points to until the next call with this
+ * host, and may be read only. Where none wait, `bytes` isn't written. ZV_FINISHED, ZV_INVALID_STATE. */
+uint32_t zv_tcp_peek(zv_host *host, size_t socket, const uint8_t **bytes, size_t *count);
+
+/* Gives up the first waiting bytes, at most `wanted` and as many as lie behind one another, and says how many.
+ * ZV_FINISHED, ZV_INVALID_STATE. */
+uint32_t zv_tcp_done(zv_host *host, size_t socket, size_t wanted, size_t *count);
+
+/* Closes the way out: what is queued still goes, and then the end of the stream. The remote may still send. */
+uint32_t zv_tcp_close(zv_host *host, size_t socket);
+
+/* Ends the connection. The next poll sends a reset, if there is a remote that waits for one. */
+uint32_t zv_tcp_abort(zv_host *host, size_t socket);
+
+/* The state of the connection. */
+uint32_t zv_tcp_state(zv_host *host, size_t socket, uint8_t *state);
+
+/* The own endpoint of the connection and the remote's. ZV_INVALID_STATE (there is no connection). */
+uint32_t zv_tcp_peer(zv_host *host, size_t socket, zv_endpoint *local, zv_endpoint *remote);
+
+/* How many bytes wait to be read, and how many are queued that aren't acknowledged. */
+uint32_t zv_tcp_queues(zv_host *host, size_t socket, size_t *received, size_t *queued);
+
+/* How long the remote may be silent while something waits for it, in microseconds. UINT64_MAX for ever, which is what a new socket has. */
+uint32_t zv_tcp_set_timeout(zv_host *host, size_t socket, uint64_t micros);
+
+/* The interval of keep-alives in microseconds. UINT64_MAX for none, which is what a new socket has. */
+uint32_t zv_tcp_set_keep_alive(zv_host *host, size_t socket, uint64_t micros);
+
+/* The delay of an acknowledgement in microseconds. UINT64_MAX for none. */
+uint32_t zv_tcp_set_ack_delay(zv_host *host, size_t socket, uint64_t micros);
+
+/* Whether small segments wait while others are in flight: 0 for no. */
+uint32_t zv_tcp_set_nagle(zv_host *host, size_t socket, uint8_t enabled);
+
+/* The hop limit of what is sent, 0 for the usual 64. */
+uint32_t zv_tcp_set_hop_limit(zv_host *host, size_t socket, uint8_t limit);
+
+/* After how many timeouts without an answer the connection gives up; above 255 for never. A new socket gives up after 9 while the
+ * connection is opened, and 16 later. */
+uint32_t zv_tcp_set_retries(zv_host *host, size_t socket, uint16_t limit);
+
+/* Whether what is sent is held back where congestion may be, as RFC 5681 says: 0 for no. */
+uint32_t zv_tcp_set_congestion_control(zv_host *host, size_t socket, uint8_t enabled);
+
+/* Whether segments carry timestamps (RFC 7323), 0 for no; they begin with `first`. */
+uint32_t zv_tcp_set_timestamps(zv_host *host, size_t socket, uint8_t enabled, uint32_t first);
+
+/* Whether the answer to a SYN waits until this is set to 0. */
+uint32_t zv_tcp_pause_synack(zv_host *host, size_t socket, uint8_t paused);
+
+/* LISTENERS with a backlog: sockets that listen at one port in turn. A socket comes from zv_tcp_new and stays the listener's until the
+ * listener is removed; a connection that is open waits to be accepted, is the caller's then, and is given back once it was closed or
+ * aborted. Where no socket is free for a SYN, one in TIME-WAIT gives way, or one that is half open for long; else a keeper takes the SYN
+ * and says nothing, so that the remote tries again. Each call but the first may answer ZV_NO_LISTENER. */
+
+/* Makes a listener at a port, of one own address or, with zv_any, of any, and says its number. A number is used again once its listener
+ * is removed. ZV_BAD_ARGUMENT, ZV_UNADDRESSABLE (port 0), ZV_TABLE_FULL (sixteen), ZV_MEMORY. */
+uint32_t zv_listener_new(zv_host *host, const zv_address *address, uint16_t port, size_t *listener);
+
+/* Takes a closed TCP socket into the backlog. The next poll lets it listen.
+ * ZV_NO_SOCKET, ZV_WRONG_KIND, ZV_INVALID_STATE (it isn't closed), ZV_IN_BACKLOG, ZV_MEMORY. */
+uint32_t zv_listener_add(zv_host *host, size_t listener, size_t socket);
+
+/* Takes a closed TCP socket for a keeper, made after those of the backlog. It needs no room for bytes. Codes as above. */
+uint32_t zv_listener_add_keeper(zv_host *host, size_t listener, size_t socket);
+
+/* Says the socket whose connection has waited for longest. ZV_EMPTY. */
+uint32_t zv_listener_accept(zv_host *host, size_t listener, size_t *socket);
+
+/* Takes an accepted socket back, which was closed or aborted: it listens again when its connection has ended. Another socket is let be. */
+uint32_t zv_listener_give_back(zv_host *host, size_t listener, size_t socket);
+
+/* Gives the listener up. Its sockets stay as they are. */
+uint32_t zv_listener_remove(zv_host *host, size_t listener);
+
+/* ICMP. Each call with a socket may answer ZV_NO_SOCKET and ZV_WRONG_KIND. */
+
+/* Makes a socket with room for so many messages, of so many bytes together, each way, and says its place. ZV_MEMORY. */
+uint32_t zv_icmp_new(zv_host *host, size_t packets, size_t bytes, size_t *socket);
+
+/* From now on echo messages with this identifier are for the socket. ZV_INVALID_STATE (it is bound). */
+uint32_t zv_icmp_bind(zv_host *host, size_t socket, uint16_t identifier);
+
+/* From now on errors about UDP datagrams that were sent from this port are for the socket, of one own address or, with zv_any, of all.
+ * ZV_BAD_ARGUMENT, ZV_UNADDRESSABLE (port 0), ZV_INVALID_STATE (it is bound). */
+uint32_t zv_icmp_bind_udp(zv_host *host, size_t socket, const zv_address *address, uint16_t port);
+
+/* The same of errors about TCP segments. */
+uint32_t zv_icmp_bind_tcp(zv_host *host, size_t socket, const zv_address *address, uint16_t port);
+
+/* Sets the hop limit of what is sent, 0 for the usual 64. */
+uint32_t zv_icmp_set_hop_limit(zv_host *host, size_t socket, uint8_t limit);
+
+/* Queues a message, from its type on. Its checksum is written when it is sent. ZV_BAD_ARGUMENT, ZV_UNADDRESSABLE, ZV_FULL. */
+uint32_t zv_icmp_send(zv_host *host, size_t socket, const uint8_t *bytes, size_t length, const zv_address *remote);
+
+/* Copies the first message to the buffer, and says its length and where it came from. One that is longer than the buffer is gone
+ * (ZV_TRUNCATED). ZV_EMPTY. */
+uint32_t zv_icmp_recv(zv_host *host, size_t socket, uint8_t *bytes, size_t length, size_t *count, zv_address *remote);
+
+/* RAW. Each call with a socket may answer ZV_NO_SOCKET and ZV_WRONG_KIND. */
+
+/* Makes a socket for the IP packets of a family (4, 6, or 0 for both) and a protocol (above 255 for all), with room for so many packets,
+ * of so many bytes together, each way, and says its place. ZV_BAD_ARGUMENT (family), ZV_MEMORY. */
+uint32_t zv_raw_new(zv_host *host, uint8_t family, uint16_t protocol, size_t packets, size_t bytes, size_t *socket);
+
+/* Queues a packet with its IP header, whose checksum is written when it is sent. ZV_FULL. */
+uint32_t zv_raw_send(zv_host *host, size_t socket, const uint8_t *bytes, size_t length);
+
+/* Copies the first packet to the buffer, its IP header first, and says its length. One that is longer than the buffer is gone
+ * (ZV_TRUNCATED). ZV_EMPTY. */
+uint32_t zv_raw_recv(zv_host *host, size_t socket, uint8_t *bytes, size_t length, size_t *count);
+
+#ifdef __cplusplus
+}
+#endif
+
+#endif

@@ -1,0 +1,30 @@
+-- A host that is refused.
+use Rattle.std.proofs.Common.{◌≡◌, ℤ, Option, None, Some, Result, Err, ap, sym, subst}
+use Rattle.net_base.specs.DeviceCapabilities.{DeviceCapabilities}
+use Rattle.interface.specs.Host.{HostValue}
+use Rattle.interface.specs.Made.{MadeUnless, Makes, new_host}
+use Rattle.interface.specs.Settings.{refusal}
+use Rattle.interface_tables.specs.declared.config.Config.{Config}
+use Rattle.interface_tables.specs.declared.config.NewError.{NewError}
+use Rattle.c_sockets.specs.declared.code.Code.{Code}
+use Rattle.c_calls.specs.Calls.{NewHost, NewHostUnless, config_of, device_of, fresh_host}
+use Rattle.c_calls.specs.Codes.{of_new}
+use Rattle.c_calls.specs.Host.{StackValue}
+use Rattle.c_calls.specs.declared.host.Settings.{Settings}
+
+same_error : {e e' : NewError} → ◌≡◌ {A = Result HostValue NewError} (Err e) (Err e') → e ≡ e'
+same_error is = cc
+
+pub refused : (r : Option NewError) (h : HostValue) (e : NewError) (s : StackValue) → MadeUnless r h (Err e) → NewHostUnless r s (Err (of_new e))
+refused (Some error) h e s is = ap (λ (x : NewError). Err (of_new x)) (same_error is)
+refused None h e s is = ap of_new is
+
+pub refused_by : (settings : Settings) (now : ℤ) (config : Config) (device : DeviceCapabilities) (r : Result HostValue NewError) (e : NewError) (code : Code)
+    → config ≡ config_of settings → device ≡ device_of settings → r ≡ Err e → code ≡ of_new e
+    → Makes config device now r → NewHost settings now (Err code)
+refused_by settings now config device r e code configured described is coded h =
+    let given : Makes (config_of settings) (device_of settings) now (Err e) =
+    subst (λ x. Makes x (device_of settings) now (Err e)) configured
+    (subst (λ x. Makes config x now (Err e)) described (subst (λ x. Makes config device now x) is h)) in
+    subst (λ x. NewHost settings now (Err x)) (sym coded)
+    (refused (refusal (config_of settings) (device_of settings) now) (new_host (config_of settings) (device_of settings) now) e (fresh_host settings now) given)

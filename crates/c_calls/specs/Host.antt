@@ -1,0 +1,15 @@
+-- A host as a value: its link, its interface, its sockets, its listeners and what it counted.
+use Rattle.std.specs.Prelude.{ℕ, List, Option}
+use Rattle.c_link.specs.Link.{LinkValue}
+use Rattle.c_calls.specs.declared.host.Counters.{Counters}
+use Rattle.interface.specs.Host.{HostValue}
+use Rattle.interface_egress.specs.declared.socket_set.SocketStorage.{SocketStorage}
+use Rattle.sockets.specs.declared.socket.Socket.{Socket}
+use Rattle.tcp_listener.specs.declared.listener.Listener.{Listener}
+
+pub record StackValue : Type 0 where
+  pub link : LinkValue
+  pub host : HostValue
+  pub places : List (SocketStorage Socket)
+  pub listeners : List (Option Listener)
+  pub counters : Counters

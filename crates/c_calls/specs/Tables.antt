@@ -1,0 +1,106 @@
+-- The own addresses of a host and its routes, with one more or one less, or why not.
+use Rattle.std.specs.Prelude.{◌≡◌, ℕ, ◌==◌, nat_le, nat_lt, Bool, not, ◌&&◌, if◌then◌else◌, List, [], ◌∷◌, ◌++◌, length, position, remove, Option, None, Some, Result, Ok, Err}
+use Rattle.std.specs.List.{list_any}
+use Rattle.ip_wire.specs.Block.{block_address, block_prefix_len}
+use Rattle.ip_wire.specs.IpAddress.{IpAddress}
+use Rattle.ip_wire.specs.IpCidr.{IpCidr}
+use Rattle.sockets.specs.Addresses.{is_same_address, are_of_one_family}
+use Rattle.interface.specs.Host.{HostValue}
+use Rattle.interface.specs.Made.{with_inner}
+use Rattle.interface.specs.Route.{Route}
+use Rattle.interface.specs.Settings.{is_stranger, with_addresses, with_routes}
+use Rattle.interface_tables.specs.declared.config.HardwareAddrError.{HardwareAddrError}
+use Rattle.interface_tables.specs.declared.config.HardwareAddrError.TheVariants as No
+use Rattle.c_sockets.specs.declared.code.Code.{Code}
+use Rattle.c_sockets.specs.declared.code.Code.TheVariants as Is
+use Rattle.c_calls.specs.Host.{StackValue}
+
+-- a table has four entries at most
+abbrev pub room : ℕ
+room = 4
+
+abbrev pub is_done : {A : Type 0} → Result A Code → Result (Unit {0}) Code
+is_done (Ok made) = Ok tt
+is_done (Err code) = Err code
+
+-- ADDRESSES
+
+abbrev pub is_address : IpAddress → IpCidr → Bool
+is_address address block = is_same_address (block_address block) address
+
+abbrev pub pushed : List IpCidr → IpCidr → List IpCidr
+pushed blocks block = if nat_lt (length blocks) room then blocks ++ block ∷ [] else blocks
+
+abbrev pub removed : List IpCidr → ℕ → List IpCidr
+removed blocks place = if nat_lt place (length blocks) then remove blocks place else blocks
+
+-- each is one host's or unspecified
+abbrev pub checked : List IpCidr → Result (List IpCidr) Code
+checked blocks = if list_any is_stranger blocks then Err Is.NotUnicast else Ok blocks
+
+abbrev pub own_with : List IpCidr → IpCidr → Result (List IpCidr) Code
+own_with own block = if nat_le room (length own) then Err Is.TableFull else checked (own ++ block ∷ [])
+
+abbrev pub own_without_at : List IpCidr → Option ℕ → Result (List IpCidr) Code
+own_without_at own None = Err Is.NotFound
+own_without_at own (Some place) = checked (remove own place)
+
+-- without the first block of this address
+abbrev pub own_without : List IpCidr → IpAddress → Result (List IpCidr) Code
+own_without own address = own_without_at own (position (is_address address) own)
+
+-- these addresses, or nothing changed
+abbrev pub own_in : HostValue → Result (List IpCidr) Code → HostValue
+own_in h (Ok blocks) = with_inner h (with_addresses h.inner blocks)
+own_in h (Err code) = h
+
+abbrev pub with_own : StackValue → Result (List IpCidr) Code → StackValue
+with_own s blocks = record s { host = own_in s.host blocks }
+
+-- ROUTES
+
+-- it is the route of this block
+abbrev pub is_block : IpCidr → Route → Bool
+is_block block route =
+    is_same_address (block_address route.cidr) (block_address block) && (block_prefix_len route.cidr == block_prefix_len block)
+
+abbrev pub route_to : IpCidr → IpAddress → Route
+route_to network router = record { cidr = network; via_router = router; preferred_until = None; expires_at = None }
+
+abbrev pub pushed_route : List Route → Route → List Route
+pushed_route routes route = if nat_lt (length routes) room then routes ++ route ∷ [] else routes
+
+abbrev pub removed_route : List Route → ℕ → List Route
+removed_route routes place = if nat_lt place (length routes) then remove routes place else routes
+
+-- behind the others, if its router is of its family and there is room
+abbrev pub routes_with : List Route → Route → Result (List Route) Code
+routes_with routes route =
+    if not (are_of_one_family (block_address route.cidr) route.via_router) then Err Is.BadArgument
+    else if nat_le room (length routes) then Err Is.TableFull
+    else Ok (routes ++ route ∷ [])
+
+abbrev pub routes_without_at : List Route → Option ℕ → Result (List Route) Code
+routes_without_at routes None = Err Is.NotFound
+routes_without_at routes (Some place) = Ok (remove routes place)
+
+-- without the first route of exactly this block
+abbrev pub routes_without : List Route → IpCidr → Result (List Route) Code
+routes_without routes block = routes_without_at routes (position (is_block block) routes)
+
+abbrev pub table_in : HostValue → Result (List Route) Code → HostValue
+table_in h (Ok routes) = with_inner h (with_routes h.inner routes)
+table_in h (Err code) = h
+
+abbrev pub with_table : StackValue → Result (List Route) Code → StackValue
+with_table s routes = record s { host = table_in s.host routes }
+
+-- HARDWARE ADDRESS
+
+abbrev pub of_hardware : HardwareAddrError → Code
+of_hardware No.Medium = Is.Medium
+of_hardware No.NotUnicast = Is.NotUnicast
+
+abbrev pub hardware_answer : Option HardwareAddrError → Result (Unit {0}) Code
+hardware_answer None = Ok tt
+hardware_answer (Some error) = Err (of_hardware error)

@@ -1,0 +1,294 @@
+//! Listeners with a backlog.
+ghost use Rattle.std.specs.Prelude.{◌≡◌, ◌==◌, position, is_none, IfOk, Err, Ok};
+ghost use Rattle.std.specs.List.{list_any};
+ghost use Rattle.interface.specs.Set.{places, is_fixed};
+ghost use Rattle.tcp_listener.specs.Calls.{micros_of};
+ghost use Rattle.tcp_listener.specs.declared.entry.Entry.{Entry};
+ghost use Rattle.interface_egress.specs.declared.socket_set.SocketHandle.{SocketHandle as Handle};
+ghost use Rattle.sockets.specs.AnySocket.{as_tcp};
+ghost use Rattle.c_sockets.specs.Places.{answer_at};
+ghost use Rattle.c_calls.specs.Backlogs.{RefreshesAt, RefreshesAll, MakesListener, IsPut, listener_place, is_there, without_listener, listener_at, has_place, is_in_backlog, closed_in, may_be_taken, Takes, HasEntry, HasKeeper, Grows, Grown, WhereThere, Accepted, GivenBack, AcceptsFrom, GivesBack, listener_refusal};
+
+use crate::host::Host;
+use c_sockets::{Code, looks};
+use interface::{SocketHandle, SocketSet};
+use ip_wire::IpListenEndpoint;
+use net_base::Instant;
+use sockets::Socket;
+use sockets::tcp::State;
+use tcp_listener::{Entry, Listener};
+
+/// How many listeners a host has at most.
+const MOST_LISTENERS: usize = 16;
+
+fn refresh_one(listener: &mut Option<Listener>, sockets: &mut SocketSet<Socket>, now: Instant)
+    ensures seen { RefreshesAt (micros_of now) listener.old (places sockets.old) listener.new (places sockets.new) }
+    ensures fixed { is_fixed sockets.new ≡ is_fixed sockets.old }
+{
+    match listener {
+        Some(listener) => listener.refresh(sockets, now),
+        None => {}
+    }
+}
+
+/// Each listener in turn sees how far its sockets came.
+pub(crate) fn refresh_all(
+    listeners: &mut [Option<Listener>],
+    sockets: &mut SocketSet<Socket>,
+    now: Instant,
+)
+    ensures seen { RefreshesAll (micros_of now) listeners.old (places sockets.old) listeners.new (places sockets.new) }
+    ensures fixed { is_fixed sockets.new ≡ is_fixed sockets.old }
+{
+    if let Some((first, rest)) = listeners.split_first_mut() {
+        refresh_one(first, sockets, now);
+        refresh_all(rest, sockets, now);
+    }
+}
+
+fn free_listener(listeners: &[Option<Listener>]) -> Option<usize>
+    ensures { result ≡ position is_none listeners.now }
+{
+    listeners.iter().position(|listener| listener.is_none())
+}
+
+fn listener_place(listeners: &[Option<Listener>]) -> usize
+    ensures { result ≡ listener_place listeners.now }
+{
+    match free_listener(listeners) {
+        Some(place) => place,
+        None => listeners.len(),
+    }
+}
+
+/// Why there can be no further listener, but for memory.
+fn listener_refusal(endpoint: &IpListenEndpoint, listeners: &[Option<Listener>]) -> Option<Code>
+    ensures { result ≡ listener_refusal endpoint.now listeners.now }
+{
+    if endpoint.port == 0 {
+        Some(Code::Unaddressable)
+    } else if MOST_LISTENERS <= listener_place(listeners) {
+        Some(Code::TableFull)
+    } else {
+        None
+    }
+}
+
+/// Puts a listener at the first free place, or behind the others.
+fn put_listener(listeners: &mut Vec<Option<Listener>>, listener: Listener) -> Result<usize, Code>
+    ensures { IsPut listeners.old.items listener result listeners.new.items }
+{
+    match free_listener(listeners.as_slice()) {
+        Some(place) => {
+            listeners[place] = Some(listener);
+            Ok(place)
+        }
+        None => {
+            let place = listeners.len();
+            match listeners.push(Some(listener)) {
+                Ok(()) => Ok(place),
+                Err(_) => Err(Code::Memory),
+            }
+        }
+    }
+}
+
+fn entry_has(entry: &Entry, place: usize) -> bool
+    ensures { result ≡ (entry.now.handle.0 == place) }
+{
+    entry.handle.place() == place
+}
+
+fn keeper_is(keeper: &SocketHandle, place: usize) -> bool
+    ensures { result ≡ (keeper.now.0 == place) }
+{
+    keeper.place() == place
+}
+
+fn entries_have(entries: &[Entry], place: usize) -> bool
+    ensures { result ≡ list_any (λ (e : Entry). e.handle.0 == place) entries.now }
+{
+    entries.iter().any(|entry| entry_has(entry, place))
+}
+
+fn keepers_have(keepers: &[SocketHandle], place: usize) -> bool
+    ensures { result ≡ list_any (λ (h : Handle). h.0 == place) keepers.now }
+{
+    keepers.iter().any(|keeper| keeper_is(keeper, place))
+}
+
+fn has_place(listener: &Option<Listener>, place: usize) -> bool
+    ensures { result ≡ has_place place listener.now }
+{
+    match listener {
+        Some(listener) => {
+            entries_have(listener.entries.as_slice(), place)
+                || keepers_have(listener.keepers.as_slice(), place)
+        }
+        None => false,
+    }
+}
+
+/// Whether a listener has the socket at the place.
+pub(crate) fn is_in_backlog(listeners: &[Option<Listener>], place: usize) -> bool
+    ensures { result ≡ is_in_backlog listeners.now place }
+{
+    listeners.iter().any(|listener| has_place(listener, place))
+}
+
+impl Host {
+    /// A listener without sockets, of one own address or of any.
+    pub fn listener_new(&mut self, endpoint: IpListenEndpoint) -> Result<usize, Code>
+        ensures { MakesListener endpoint self.old result self.new }
+    {
+        if let Some(code) = listener_refusal(&endpoint, self.listeners.as_slice()) {
+            return Err(code);
+        }
+        put_listener(&mut self.listeners, Listener::new(self.alloc, endpoint))
+    }
+
+    /// Gives a listener up. Its sockets stay as they are.
+    pub fn listener_remove(&mut self, listener: usize) -> Result<(), Code>
+        ensures answer { result ≡ is_there (listener_at self.old.listeners listener) }
+        ensures after { self.new ≡ without_listener (listener_at self.old.listeners listener) self.old listener }
+    {
+        if listener >= self.listeners.len() || self.listeners[listener].is_none() {
+            return Err(Code::NoListener);
+        }
+        self.listeners[listener] = None;
+        Ok(())
+    }
+
+    /// Whether the socket at the place may be taken into a backlog.
+    fn may_be_taken(&self, socket: usize) -> Result<(), Code>
+        ensures { result ≡ may_be_taken self.now socket }
+    {
+        match looks::state(self.sockets.sockets.as_slice(), socket) {
+            Ok(State::Closed) => {
+                if is_in_backlog(self.listeners.as_slice(), socket) {
+                    Err(Code::InBacklog)
+                } else {
+                    Ok(())
+                }
+            }
+            Ok(_) => Err(Code::InvalidState),
+            Err(code) => Err(code),
+        }
+    }
+
+    /// Takes a closed TCP socket into the backlog of a listener. It listens once the host is polled.
+    pub fn listener_add(&mut self, listener: usize, socket: usize) -> Result<(), Code>
+        ensures { Takes (HasEntry socket) self.old listener socket result self.new }
+    {
+        let taken = self.may_be_taken(socket);
+        if listener >= self.listeners.len() {
+            return Err(Code::NoListener);
+        }
+        add_to(&mut self.listeners[listener], socket, taken)
+    }
+
+    /// Takes a closed TCP socket for a keeper of a listener, which drops what is beyond the backlog. It needs no room for bytes.
+    pub fn listener_add_keeper(&mut self, listener: usize, socket: usize) -> Result<(), Code>
+        ensures { Takes (HasKeeper socket) self.old listener socket result self.new }
+    {
+        let taken = self.may_be_taken(socket);
+        if listener >= self.listeners.len() {
+            return Err(Code::NoListener);
+        }
+        add_keeper_to(&mut self.listeners[listener], socket, taken)
+    }
+
+    /// The place of the socket whose connection has waited for longest. It is its user's until `listener_give_back`.
+    pub fn listener_accept(&mut self, listener: usize) -> Result<usize, Code>
+        ensures { AcceptsFrom self.old listener result self.new }
+    {
+        if listener >= self.listeners.len() {
+            return Err(Code::NoListener);
+        }
+        accept_of(&mut self.listeners[listener])
+    }
+
+    /// Takes an accepted socket back, which its user closed or aborted. It listens again when its connection has ended.
+    pub fn listener_give_back(&mut self, listener: usize, socket: usize) -> Result<(), Code>
+        ensures { GivesBack self.old listener socket result self.new }
+    {
+        if listener >= self.listeners.len() {
+            return Err(Code::NoListener);
+        }
+        give_back_to(&mut self.listeners[listener], socket)
+    }
+}
+
+fn added(listener: &mut Listener, socket: usize) -> Result<(), Code>
+    ensures { Grows (HasEntry socket) listener.old result listener.new }
+{
+    match listener.add(SocketHandle::at(socket)) {
+        Ok(()) => Ok(()),
+        Err(_) => Err(Code::Memory),
+    }
+}
+
+fn add_to(
+    listener: &mut Option<Listener>,
+    socket: usize,
+    taken: Result<(), Code>,
+) -> Result<(), Code>
+    ensures { WhereThere (Grown (HasEntry socket) taken) listener.old result listener.new }
+{
+    match listener {
+        Some(listener) => match taken {
+            Ok(()) => added(listener, socket),
+            Err(code) => Err(code),
+        },
+        None => Err(Code::NoListener),
+    }
+}
+
+fn kept(listener: &mut Listener, socket: usize) -> Result<(), Code>
+    ensures { Grows (HasKeeper socket) listener.old result listener.new }
+{
+    match listener.add_keeper(SocketHandle::at(socket)) {
+        Ok(()) => Ok(()),
+        Err(_) => Err(Code::Memory),
+    }
+}
+
+fn add_keeper_to(
+    listener: &mut Option<Listener>,
+    socket: usize,
+    taken: Result<(), Code>,
+) -> Result<(), Code>
+    ensures { WhereThere (Grown (HasKeeper socket) taken) listener.old result listener.new }
+{
+    match listener {
+        Some(listener) => match taken {
+            Ok(()) => kept(listener, socket),
+            Err(code) => Err(code),
+        },
+        None => Err(Code::NoListener),
+    }
+}
+
+fn accept_of(listener: &mut Option<Listener>) -> Result<usize, Code>
+    ensures { WhereThere Accepted listener.old result listener.new }
+{
+    match listener {
+        Some(listener) => match listener.accept() {
+            Some(handle) => Ok(handle.place()),
+            None => Err(Code::Empty),
+        },
+        None => Err(Code::NoListener),
+    }
+}
+
+fn give_back_to(listener: &mut Option<Listener>, socket: usize) -> Result<(), Code>
+    ensures { WhereThere (GivenBack socket) listener.old result listener.new }
+{
+    match listener {
+        Some(listener) => {
+            listener.give_back(SocketHandle::at(socket));
+            Ok(())
+        }
+        None => Err(Code::NoListener),
+    }
+}

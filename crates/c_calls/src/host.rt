@@ -1,0 +1,230 @@
+//! A host: its link, its interface and its sockets.
+ghost use Rattle.std.specs.Prelude.{◌≡◌, length};
+ghost use Rattle.c_link.specs.Link.{next_len, fetch_answer, fetched};
+ghost use Rattle.c_sockets.specs.Codes.{coded};
+ghost use Rattle.c_calls.specs.Calls.{counted, NewHost, TakesFrame, fetched_from, or_empty, PollsAt, AsksAt, device_of, config_of};
+ghost use Rattle.c_calls.specs.Added.{MakesSocket};
+ghost use Rattle.c_calls.specs.Backlogs.{may_be_removed, removed_by};
+ghost use Rattle.c_calls.specs.Codes.{of_fetch};
+
+use crate::backlogs::{is_in_backlog, refresh_all};
+use crate::code::{of_fetch, of_new, of_push};
+use c_link::FrameLink;
+use c_sockets::Code;
+use interface::{AddError, Config, Interface, PollResult, SocketHandle, SocketSet};
+use ip_wire::{EthernetAddress, HardwareAddress};
+use net_base::{ChecksumCapabilities, DeviceCapabilities, Instant, ManagedSlice, Medium};
+use sockets::Socket;
+use std::alloc::Global;
+use std::marker::Model;
+use tcp_listener::Listener;
+
+/// What a host is made with.
+#[derive(Clone, Copy, Debug)]
+pub struct Settings {
+    /// The station's address, on a medium that has such addresses.
+    pub hardware: Option<EthernetAddress>,
+    /// How many bytes the longest frame has, with its Ethernet header where there is one.
+    pub mtu: usize,
+    /// What its random words begin with.
+    pub seed: u64,
+    /// How many frames may wait each way.
+    pub frames: usize,
+}
+
+/// What a host has counted since it was made, each up to the largest number.
+#[derive(Clone, Copy, Debug, PartialEq, Eq)]
+pub struct Counters {
+    /// Frames that came, and were taken in.
+    pub frames_in: u64,
+    /// Frames that came, and were refused: too long, too many, or without memory.
+    pub frames_dropped: u64,
+    /// Frames that were fetched.
+    pub frames_out: u64,
+    /// Polls.
+    pub polls: u64,
+}
+
+/// A host.
+#[derive(Drop)]
+pub struct Host {
+    pub(crate) alloc: Global,
+    pub(crate) link: FrameLink,
+    pub(crate) interface: Interface,
+    pub(crate) sockets: SocketSet<Socket>,
+    pub(crate) listeners: Vec<Option<Listener>>,
+    pub(crate) counters: Counters,
+}
+
+impl Model for Host {
+    ghost use Rattle.std.specs.Prelude.{◌≡◌, false};
+    ghost use Rattle.interface.specs.Set.{places, is_fixed};
+    ghost use Rattle.c_calls.specs.Host.{StackValue};
+
+    ghost Value = { StackValue };
+
+    ghost view = { λ h. record { link = h.link; host = h.interface; places = places h.sockets; listeners = h.listeners.items; counters = h.counters } };
+
+    ghost invariant = { λ h. is_fixed h.sockets ≡ false };
+}
+
+/// What its device says of itself.
+fn capabilities(settings: &Settings) -> DeviceCapabilities
+    ensures { result ≡ device_of settings.now }
+{
+    DeviceCapabilities {
+        medium: match settings.hardware {
+            Some(_) => Medium::Ethernet,
+            None => Medium::Ip,
+        },
+        max_transmission_unit: settings.mtu,
+        checksum: ChecksumCapabilities::default(),
+    }
+}
+
+fn config(settings: &Settings) -> Config
+    ensures { result ≡ config_of settings.now }
+{
+    Config {
+        random_seed: settings.seed,
+        hardware_addr: match settings.hardware {
+            Some(address) => HardwareAddress::Ethernet(address),
+            None => HardwareAddress::Ip,
+        },
+    }
+}
+
+fn one_more(count: u64) -> u64
+    ensures { result ≡ counted count }
+{
+    count.saturating_add(1)
+}
+
+impl Host {
+    /// A host without addresses, routes and sockets, from this moment on.
+    pub fn new(alloc: Global, settings: &Settings, now: Instant) -> Result<Host, Code>
+        ensures { NewHost settings.now now result }
+    {
+        let link = FrameLink::new(alloc, capabilities(settings), settings.frames);
+        match Interface::new(alloc, &config(settings), &link, now) {
+            Ok(interface) => Ok(Host {
+                alloc,
+                link,
+                interface,
+                sockets: SocketSet::new(ManagedSlice::Owned(Vec::new(alloc))),
+                listeners: Vec::new(alloc),
+                counters: Counters {
+                    frames_in: 0,
+                    frames_dropped: 0,
+                    frames_out: 0,
+                    polls: 0,
+                },
+            }),
+            Err(error) => Err(of_new(error)),
+        }
+    }
+
+    /// A frame comes, and waits for a poll.
+    pub fn frame_in(&mut self, frame: &[u8]) -> Result<(), Code>
+        ensures { TakesFrame frame.now self.old result self.new }
+    {
+        match self.link.push(frame) {
+            Ok(()) => {
+                self.counters.frames_in = one_more(self.counters.frames_in);
+                Ok(())
+            }
+            Err(error) => {
+                self.counters.frames_dropped = one_more(self.counters.frames_dropped);
+                Err(of_push(error))
+            }
+        }
+    }
+
+    /// Copies the first frame that is to go to the front of the slice, and answers its length.
+    pub fn frame_out(&mut self, out: &mut [u8]) -> Result<usize, Code>
+        ensures answer { result ≡ coded of_fetch (fetch_answer self.old.link.sent (length out.old)) }
+        ensures after { self.new ≡ fetched_from self.old (length out.old) }
+        ensures bytes { out.new ≡ fetched self.old.link.sent out.old }
+    {
+        match self.link.fetch(out) {
+            Ok(count) => {
+                self.counters.frames_out = one_more(self.counters.frames_out);
+                Ok(count)
+            }
+            Err(error) => Err(of_fetch(error)),
+        }
+    }
+
+    /// How many bytes the first frame has that is to go.
+    pub fn frame_out_len(&self) -> Result<usize, Code>
+        ensures { result ≡ or_empty (next_len self.now.link.sent) }
+    {
+        match self.link.next_len() {
+            Some(count) => Ok(count),
+            None => Err(Code::Empty),
+        }
+    }
+
+    /// Takes in what came and sends what is to be sent, each at most so many times. Answers whether a socket's state or queue may have
+    /// changed.
+    pub fn poll(&mut self, now: Instant, budget: u16) -> Result<bool, Code>
+        ensures { PollsAt now budget self.old result self.new }
+    {
+        if !now.is_moment() {
+            return Err(Code::Moment);
+        }
+        self.counters.polls = one_more(self.counters.polls);
+        let polled = self
+            .interface
+            .poll(now, &mut self.link, &mut self.sockets, budget);
+        refresh_all(self.listeners.as_mut_slice(), &mut self.sockets, now);
+        match polled {
+            PollResult::None => Ok(false),
+            PollResult::SocketStateChanged => Ok(true),
+        }
+    }
+
+    /// When the host wants to be polled: nothing has to be done before, unless a frame comes or a socket is called.
+    pub fn poll_at(&mut self, now: Instant) -> Result<Option<Instant>, Code>
+        ensures { AsksAt now self.old result self.new }
+    {
+        if !now.is_moment() {
+            return Err(Code::Moment);
+        }
+        Ok(self.interface.poll_at(now, &self.sockets))
+    }
+
+    /// What was counted.
+    pub fn counters(&self) -> Counters
+        ensures { result ≡ self.now.counters }
+    {
+        self.counters
+    }
+
+    /// Takes the socket at the place out, and gives its memory back.
+    pub fn remove(&mut self, place: usize) -> Result<(), Code>
+        ensures answer { result ≡ may_be_removed self.old place }
+        ensures after { self.new ≡ removed_by (may_be_removed self.old place) self.old place }
+    {
+        let handle = SocketHandle::at(place);
+        if self.sockets.get(handle).is_none() {
+            return Err(Code::NoSocket);
+        }
+        if is_in_backlog(self.listeners.as_slice(), place) {
+            return Err(Code::InBacklog);
+        }
+        let _ = self.sockets.remove(handle);
+        Ok(())
+    }
+
+    /// Puts a socket at the first free place.
+    pub(crate) fn add(&mut self, socket: Socket) -> Result<usize, Code>
+        ensures { MakesSocket socket self.old result self.new }
+    {
+        match self.sockets.add(socket) {
+            Ok(handle) => Ok(handle.place()),
+            Err(AddError::Full(_)) => Err(Code::Full),
+            Err(AddError::Memory(_)) => Err(Code::Memory),
+        }
+    }
+}

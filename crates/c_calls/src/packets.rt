@@ -1,0 +1,59 @@
+//! Calls of raw sockets.
+ghost use Rattle.std.specs.Prelude.{◌≡◌, length};
+ghost use Rattle.sockets.specs.AnySocket.{as_raw};
+ghost use Rattle.sockets.specs.declared.socket.Socket.TheVariants as Kind;
+ghost use Rattle.c_sockets.specs.Places.{answer_at, after_at, written_at};
+ghost use Rattle.sockets.specs.Raw.{send_answer, send_after, counted};
+ghost use Rattle.sockets.specs.SocketValue.{recv_answer, recv_after, recv_written};
+ghost use Rattle.c_sockets.specs.Codes.{coded, of_raw_send, of_recv};
+ghost use Rattle.c_calls.specs.Added.{MakesSocket, new_raw};
+
+use crate::host::Host;
+use c_sockets::{Code, packets, queue};
+use ip_wire::{IpProtocol, IpVersion};
+use net_base::ManagedSlice;
+use sockets::{Socket, raw};
+
+impl Host {
+    /// A socket with room for so many packets, of so many bytes together, each way.
+    pub fn raw_new(
+        &mut self,
+        version: Option<IpVersion>,
+        protocol: Option<IpProtocol>,
+        packets: usize,
+        bytes: usize,
+    ) -> Result<usize, Code>
+        ensures { MakesSocket (new_raw version protocol packets bytes) self.old result self.new }
+    {
+        let (Some(received), Some(queued)) = (
+            queue(self.alloc, packets, bytes),
+            queue(self.alloc, packets, bytes),
+        ) else {
+            return Err(Code::Memory);
+        };
+        self.add(Socket::Raw(raw::Socket::new(version, protocol, received, queued)))
+    }
+
+    /// Queues a packet with its IP header.
+    pub fn raw_send(&mut self, place: usize, bytes: &[u8]) -> Result<(), Code>
+        ensures answer { result ≡ answer_at as_raw (λ v. coded of_raw_send (send_answer v (length bytes.now))) self.old.places place }
+        ensures after { self.new ≡ record self.old { places = after_at as_raw Kind.Raw (λ v. send_after v bytes.now) self.old.places place } }
+    {
+        match &mut self.sockets.sockets {
+            ManagedSlice::Fixed(places) => packets::send(places.as_mut_slice(), place, bytes),
+            ManagedSlice::Owned(places) => packets::send(places.as_mut_slice(), place, bytes),
+        }
+    }
+
+    /// Reads the first packet to the front of the slice, and answers its length.
+    pub fn raw_recv(&mut self, place: usize, out: &mut [u8]) -> Result<usize, Code>
+        ensures answer { result ≡ answer_at as_raw (λ v. coded of_recv (counted (recv_answer v (length out.old)))) self.old.places place }
+        ensures after { self.new ≡ record self.old { places = after_at as_raw Kind.Raw (recv_after) self.old.places place } }
+        ensures read { out.new ≡ written_at as_raw recv_written out.old self.old.places place }
+    {
+        match &mut self.sockets.sockets {
+            ManagedSlice::Fixed(places) => packets::recv(places.as_mut_slice(), place, out),
+            ManagedSlice::Owned(places) => packets::recv(places.as_mut_slice(), place, out),
+        }
+    }
+}

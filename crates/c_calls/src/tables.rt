@@ -1,0 +1,191 @@
+//! Addresses, routes and other settings of a host.
+ghost use Rattle.std.specs.Prelude.{◌≡◌, position};
+ghost use Rattle.ip_wire.specs.HardwareAddress.TheVariants as Hardware;
+ghost use Rattle.interface.specs.Made.{with_inner, with_timeout};
+ghost use Rattle.interface.specs.Settings.{hardware_refusal, with_hardware, with_any_ip};
+ghost use Rattle.c_calls.specs.Tables.{is_address, is_block, pushed, removed, pushed_route, removed_route, own_with, own_without, routes_with, routes_without, with_own, with_table, own_in, table_in, route_to, is_done, hardware_answer};
+
+use crate::host::Host;
+use arrayvec::ArrayVec;
+use c_sockets::Code;
+use interface::{HardwareAddrError, Interface, Route, Routes, TABLE_ROOM};
+use ip_wire::{EthernetAddress, HardwareAddress, IpAddress, IpCidr};
+use net_base::Duration;
+use sockets::addresses::{are_of_one_family, is_same_address};
+
+fn is_address(block: &IpCidr, address: &IpAddress) -> bool
+    ensures { result ≡ is_address address.now block.now }
+{
+    is_same_address(&block.address(), address)
+}
+
+fn place_of_address(blocks: &[IpCidr], address: &IpAddress) -> Option<usize>
+    ensures { result ≡ position (is_address address.now) blocks.now }
+{
+    blocks.iter().position(|block| is_address(block, address))
+}
+
+fn is_block(route: &Route, block: &IpCidr) -> bool
+    ensures { result ≡ is_block block.now route.now }
+{
+    is_same_address(&route.cidr.address(), &block.address())
+        && route.cidr.prefix_len() == block.prefix_len()
+}
+
+fn place_of_route(routes: &[Route], block: &IpCidr) -> Option<usize>
+    ensures { result ≡ position (is_block block.now) routes.now }
+{
+    routes.iter().position(|route| is_block(route, block))
+}
+
+/// One more, where there is room.
+fn push_address(addresses: &mut ArrayVec<IpCidr, TABLE_ROOM>, block: IpCidr)
+    ensures { addresses.new.items ≡ pushed addresses.old.items block }
+{
+    let _ = addresses.try_push(block);
+}
+
+/// The address of this place leaves.
+fn take_address(addresses: &mut ArrayVec<IpCidr, TABLE_ROOM>, place: usize)
+    ensures { addresses.new.items ≡ removed addresses.old.items place }
+{
+    let _ = addresses.pop_at(place);
+}
+
+fn add_address(interface: &mut Interface, block: IpCidr) -> Result<(), Code>
+    ensures answer { result ≡ is_done (own_with interface.old.inner.addresses block) }
+    ensures after { interface.new ≡ own_in interface.old (own_with interface.old.inner.addresses block) }
+{
+    if TABLE_ROOM <= interface.ip_addrs().len() {
+        return Err(Code::TableFull);
+    }
+    match interface.update_ip_addrs(|addresses| push_address(addresses, block)) {
+        Ok(()) => Ok(()),
+        Err(_) => Err(Code::NotUnicast),
+    }
+}
+
+fn remove_address(interface: &mut Interface, address: &IpAddress) -> Result<(), Code>
+    ensures answer { result ≡ is_done (own_without interface.old.inner.addresses address.now) }
+    ensures after { interface.new ≡ own_in interface.old (own_without interface.old.inner.addresses address.now) }
+{
+    let Some(place) = place_of_address(interface.ip_addrs(), address) else {
+        return Err(Code::NotFound);
+    };
+    match interface.update_ip_addrs(|addresses| take_address(addresses, place)) {
+        Ok(()) => Ok(()),
+        Err(_) => Err(Code::NotUnicast),
+    }
+}
+
+fn push_route(routes: &mut Routes<TABLE_ROOM>, route: Route)
+    ensures { routes.new ≡ pushed_route routes.old route }
+{
+    let _ = routes.push(route);
+}
+
+fn take_route(routes: &mut Routes<TABLE_ROOM>, place: usize)
+    ensures { routes.new ≡ removed_route routes.old place }
+{
+    let _ = routes.remove(place);
+}
+
+fn add_route(interface: &mut Interface, route: Route) -> Result<(), Code>
+    ensures answer { result ≡ is_done (routes_with interface.old.inner.routes route) }
+    ensures after { interface.new ≡ table_in interface.old (routes_with interface.old.inner.routes route) }
+{
+    if !are_of_one_family(&route.cidr.address(), &route.via_router) {
+        return Err(Code::BadArgument);
+    }
+    if TABLE_ROOM <= interface.routes().as_slice().len() {
+        return Err(Code::TableFull);
+    }
+    interface.update_routes(|routes| push_route(routes, route));
+    Ok(())
+}
+
+fn remove_route(interface: &mut Interface, block: &IpCidr) -> Result<(), Code>
+    ensures answer { result ≡ is_done (routes_without interface.old.inner.routes block.now) }
+    ensures after { interface.new ≡ table_in interface.old (routes_without interface.old.inner.routes block.now) }
+{
+    let Some(place) = place_of_route(interface.routes().as_slice(), block) else {
+        return Err(Code::NotFound);
+    };
+    interface.update_routes(|routes| take_route(routes, place));
+    Ok(())
+}
+
+fn set_hardware(interface: &mut Interface, address: EthernetAddress) -> Result<(), Code>
+    ensures answer { result ≡ hardware_answer (hardware_refusal interface.old.inner.hardware (Hardware.Ethernet address)) }
+    ensures after { interface.new ≡ with_inner interface.old (with_hardware interface.old.inner (Hardware.Ethernet address)) }
+{
+    match interface.set_hardware_addr(HardwareAddress::Ethernet(address)) {
+        Ok(()) => Ok(()),
+        Err(HardwareAddrError::Medium) => Err(Code::Medium),
+        Err(HardwareAddrError::NotUnicast) => Err(Code::NotUnicast),
+    }
+}
+
+impl Host {
+    /// Adds an own address with its network. All neighbours are forgotten.
+    pub fn address_add(&mut self, block: IpCidr) -> Result<(), Code>
+        ensures answer { result ≡ is_done (own_with self.old.host.inner.addresses block) }
+        ensures after { self.new ≡ with_own self.old (own_with self.old.host.inner.addresses block) }
+    {
+        add_address(&mut self.interface, block)
+    }
+
+    /// Takes an own address out. All neighbours are forgotten.
+    pub fn address_remove(&mut self, address: IpAddress) -> Result<(), Code>
+        ensures answer { result ≡ is_done (own_without self.old.host.inner.addresses address) }
+        ensures after { self.new ≡ with_own self.old (own_without self.old.host.inner.addresses address) }
+    {
+        remove_address(&mut self.interface, &address)
+    }
+
+    /// Adds a route: packets for the network go to the router.
+    pub fn route_add(&mut self, network: IpCidr, router: IpAddress) -> Result<(), Code>
+        ensures answer { result ≡ is_done (routes_with self.old.host.inner.routes (route_to network router)) }
+        ensures after { self.new ≡ with_table self.old (routes_with self.old.host.inner.routes (route_to network router)) }
+    {
+        add_route(
+            &mut self.interface,
+            Route {
+                cidr: network,
+                via_router: router,
+                preferred_until: None,
+                expires_at: None,
+            },
+        )
+    }
+
+    /// Takes the first route of the network out.
+    pub fn route_remove(&mut self, network: IpCidr) -> Result<(), Code>
+        ensures answer { result ≡ is_done (routes_without self.old.host.inner.routes network) }
+        ensures after { self.new ≡ with_table self.old (routes_without self.old.host.inner.routes network) }
+    {
+        remove_route(&mut self.interface, &network)
+    }
+
+    /// Sets the station's address.
+    pub fn set_hardware(&mut self, address: EthernetAddress) -> Result<(), Code>
+        ensures answer { result ≡ hardware_answer (hardware_refusal self.old.host.inner.hardware (Hardware.Ethernet address)) }
+        ensures after { self.new ≡ record self.old { host = with_inner self.old.host (with_hardware self.old.host.inner (Hardware.Ethernet address)) } }
+    {
+        set_hardware(&mut self.interface, address)
+    }
+
+    /// Sets whether every address counts as an own one.
+    pub fn set_any_ip(&mut self, any_ip: bool)
+        ensures { self.new ≡ record self.old { host = with_inner self.old.host (with_any_ip self.old.host.inner any_ip) } }
+    {
+        self.interface.set_any_ip(any_ip);
+    }
+
+    /// Sets how long the pieces of a datagram are waited for.
+    pub fn set_reassembly_timeout(&mut self, timeout: Duration)
+        ensures { self.new ≡ record self.old { host = with_timeout self.old.host timeout } }
+    {
+        self.interface.set_reassembly_timeout(timeout);
+    }
+}

@@ -1,0 +1,176 @@
+//! UDP sockets.
+ghost use Rattle.std.specs.Prelude.{◌≡◌, length};
+ghost use Rattle.sockets.specs.AnySocket.{as_udp};
+ghost use Rattle.sockets.specs.Udp.{send_answer, send_after};
+ghost use Rattle.sockets.specs.SocketValue.{recv_answer, recv_after, recv_written};
+ghost use Rattle.sockets.specs.declared.socket.Socket.TheVariants as Kind;
+ghost use Rattle.c_sockets.specs.Codes.{coded, of_send, of_recv};
+ghost use Rattle.c_sockets.specs.Places.{answer_at, after_at, written_at};
+ghost use Rattle.c_sockets.specs.Datagrams.{act_answer, act_after};
+ghost use Rattle.c_sockets.specs.declared.datagrams.Act.TheVariants as To;
+ghost use Rattle.c_calls.specs.Added.{MakesSocket, new_udp};
+ghost use Rattle.zemplovir_c.specs.Answers.{answer_by, after_by, given_by, written_by, mapped, checked_answer, checked, Gives};
+ghost use Rattle.zemplovir_c.specs.Values.{optional_in, endpoint_in, listens_at, metadata, endpoint_out, address_or_none};
+
+use crate::answers::{NO_HOST, OK, done, given};
+use crate::handle::Handle;
+use crate::types::{
+    Address, Endpoint, listens_at, optional, required_endpoint, said_endpoint, said_or_none,
+};
+use c_sockets::datagrams::Act;
+use ip_wire::{IpAddress, IpEndpoint};
+use net_base::PacketMeta;
+use sockets::udp::UdpMetadata;
+use std::alloc::Global;
+
+fn metadata_of(remote: IpEndpoint, local: Option<IpAddress>) -> UdpMetadata
+    ensures { result ≡ metadata remote local }
+{
+    UdpMetadata {
+        endpoint: remote,
+        local_address: local,
+        meta: PacketMeta {},
+    }
+}
+
+/// Makes a socket with room for so many datagrams, of so many bytes together, each way.
+#[unsafe(no_mangle)]
+pub extern "C" fn zv_udp_new(
+    alloc: Global,
+    handle: &mut Handle,
+    packets: usize,
+    bytes: usize,
+    socket: &mut usize,
+) -> u32
+    ensures { Gives (MakesSocket (new_udp packets bytes)) handle.old.inside result socket.old socket.new handle.new.inside }
+{
+    let Some(mut host) = handle.take(alloc) else {
+        return NO_HOST;
+    };
+    let answer = host.udp_new(packets, bytes);
+    handle.put(host);
+    given(answer, socket)
+}
+
+/// Binds the socket to a port, of one own address or, where the family is 0, of all.
+#[unsafe(no_mangle)]
+pub extern "C" fn zv_udp_bind(
+    alloc: Global,
+    handle: &mut Handle,
+    socket: usize,
+    address: &Address,
+    port: u16,
+) -> u32
+    ensures answer { result ≡ checked_answer (optional_in address.now) (λ at. answer_by handle.old.inside (λ host. answer_at as_udp (act_answer (To.Bind (listens_at at port))) host.places socket)) }
+    ensures after { handle.new.inside ≡ checked (optional_in address.now) (λ at. after_by handle.old.inside (λ host. record host { places = after_at as_udp Kind.Udp (act_after (To.Bind (listens_at at port))) host.places socket })) handle.old.inside }
+{
+    let address = match optional(address) {
+        Ok(address) => address,
+        Err(code) => return code.number(),
+    };
+    let Some(mut host) = handle.take(alloc) else {
+        return NO_HOST;
+    };
+    let answer = host.udp_act(socket, Act::Bind(listens_at(address, port)));
+    handle.put(host);
+    done(answer)
+}
+
+/// Queues a datagram, which goes from the named own address, or from one that the socket or the host chooses where the family is
+/// 0.
+#[unsafe(no_mangle)]
+pub extern "C" fn zv_udp_send(
+    alloc: Global,
+    handle: &mut Handle,
+    socket: usize,
+    bytes: &[u8],
+    remote: &Endpoint,
+    local: &Address,
+) -> u32
+    ensures answer { result ≡ checked_answer (endpoint_in remote.now) (λ to. checked_answer (optional_in local.now) (λ from.
+        answer_by handle.old.inside (λ host. answer_at as_udp (λ v. coded of_send (send_answer v (metadata to from) (length bytes.now))) host.places socket))) }
+    ensures after { handle.new.inside ≡ checked (endpoint_in remote.now) (λ to. checked (optional_in local.now) (λ from.
+        after_by handle.old.inside (λ host. record host { places = after_at as_udp Kind.Udp (λ v. send_after v (metadata to from) bytes.now) host.places socket })) handle.old.inside) handle.old.inside }
+{
+    let remote = match required_endpoint(remote) {
+        Ok(remote) => remote,
+        Err(code) => return code.number(),
+    };
+    let local = match optional(local) {
+        Ok(local) => local,
+        Err(code) => return code.number(),
+    };
+    let Some(mut host) = handle.take(alloc) else {
+        return NO_HOST;
+    };
+    let answer = host.udp_send(socket, bytes, metadata_of(remote, local));
+    handle.put(host);
+    done(answer)
+}
+
+/// Reads the first datagram.
+#[unsafe(no_mangle)]
+pub extern "C" fn zv_udp_recv(
+    alloc: Global,
+    handle: &mut Handle,
+    socket: usize,
+    bytes: &mut [u8],
+    count: &mut usize,
+    remote: &mut Endpoint,
+    local: &mut Address,
+) -> u32
+    ensures answer { result ≡ answer_by handle.old.inside (λ host. answer_at as_udp (λ v. coded of_recv (recv_answer v (length bytes.old))) host.places socket) }
+    ensures after { handle.new.inside ≡ after_by handle.old.inside (λ host. record host { places = after_at as_udp Kind.Udp (recv_after) host.places socket }) }
+    ensures count { count.new ≡ given_by handle.old.inside (λ host. mapped (λ got. got.0) (answer_at as_udp (λ v. coded of_recv (recv_answer v (length bytes.old))) host.places socket)) count.old }
+    ensures remote { remote.new ≡ given_by handle.old.inside (λ host. mapped (λ got. endpoint_out got.1.endpoint) (answer_at as_udp (λ v. coded of_recv (recv_answer v (length bytes.old))) host.places socket)) remote.old }
+    ensures local { local.new ≡ given_by handle.old.inside (λ host. mapped (λ got. address_or_none got.1.local_address) (answer_at as_udp (λ v. coded of_recv (recv_answer v (length bytes.old))) host.places socket)) local.old }
+    ensures read { bytes.new ≡ written_by handle.old.inside (λ host. written_at as_udp recv_written bytes.old host.places socket) bytes.old }
+{
+    let Some(mut host) = handle.take(alloc) else {
+        return NO_HOST;
+    };
+    let answer = host.udp_recv(socket, bytes);
+    handle.put(host);
+    match answer {
+        Ok((length, metadata)) => {
+            *count = length;
+            *remote = said_endpoint(metadata.endpoint);
+            *local = said_or_none(metadata.local_address);
+            OK
+        }
+        Err(code) => code.number(),
+    }
+}
+
+/// Sets the hop limit, 0 for 64.
+#[unsafe(no_mangle)]
+pub extern "C" fn zv_udp_set_hop_limit(
+    alloc: Global,
+    handle: &mut Handle,
+    socket: usize,
+    limit: u8,
+) -> u32
+    ensures answer { result ≡ answer_by handle.old.inside (λ host. answer_at as_udp (act_answer (To.HopLimit limit)) host.places socket) }
+    ensures after { handle.new.inside ≡ after_by handle.old.inside (λ host. record host { places = after_at as_udp Kind.Udp (act_after (To.HopLimit limit)) host.places socket }) }
+{
+    let Some(mut host) = handle.take(alloc) else {
+        return NO_HOST;
+    };
+    let answer = host.udp_act(socket, Act::HopLimit(limit));
+    handle.put(host);
+    done(answer)
+}
+
+/// Unbinds the socket, and empties its queues.
+#[unsafe(no_mangle)]
+pub extern "C" fn zv_udp_close(alloc: Global, handle: &mut Handle, socket: usize) -> u32
+    ensures answer { result ≡ answer_by handle.old.inside (λ host. answer_at as_udp (act_answer (To.Close)) host.places socket) }
+    ensures after { handle.new.inside ≡ after_by handle.old.inside (λ host. record host { places = after_at as_udp Kind.Udp (act_after (To.Close)) host.places socket }) }
+{
+    let Some(mut host) = handle.take(alloc) else {
+        return NO_HOST;
+    };
+    let answer = host.udp_act(socket, Act::Close);
+    handle.put(host);
+    done(answer)
+}

@@ -1,0 +1,145 @@
+//! The calls of the static library, as `c/zemplovir.h` declares them.
+use std::ffi::c_void;
+
+#[repr(C)]
+pub struct Host {
+    pub inside: *mut c_void,
+}
+
+#[repr(C)]
+#[derive(Clone, Copy, Default)]
+pub struct Address {
+    pub family: u8,
+    pub bytes: [u8; 16],
+}
+
+#[repr(C)]
+#[derive(Clone, Copy, Default)]
+pub struct Endpoint {
+    pub address: Address,
+    pub port: u16,
+}
+
+#[repr(C)]
+pub struct Hardware {
+    pub bytes: [u8; 6],
+}
+
+#[repr(C)]
+pub struct Settings {
+    pub medium: u8,
+    pub hardware: [u8; 6],
+    pub mtu: usize,
+    pub seed: u64,
+    pub frames: usize,
+}
+
+#[repr(C)]
+#[derive(Clone, Copy, Debug, Default, PartialEq, Eq)]
+pub struct Counters {
+    /// Frames that came and were taken in.
+    pub frames_in: u64,
+    /// Frames that came and were refused.
+    pub frames_dropped: u64,
+    /// Frames that were fetched.
+    pub frames_out: u64,
+    /// Polls.
+    pub polls: u64,
+}
+
+extern "C" {
+    pub fn zv_host_new(host: *mut Host, settings: *const Settings, now: i64) -> u32;
+    pub fn zv_host_free(host: *mut Host) -> u32;
+    pub fn zv_address_add(host: *mut Host, address: *const Address, prefix: u8) -> u32;
+    pub fn zv_address_remove(host: *mut Host, address: *const Address) -> u32;
+    pub fn zv_route_add(host: *mut Host, network: *const Address, prefix: u8, router: *const Address) -> u32;
+    pub fn zv_route_remove(host: *mut Host, network: *const Address, prefix: u8) -> u32;
+    pub fn zv_host_set_hardware(host: *mut Host, hardware: *const Hardware) -> u32;
+    pub fn zv_host_set_any_ip(host: *mut Host, enabled: u8) -> u32;
+    pub fn zv_host_set_reassembly_timeout(host: *mut Host, micros: u64) -> u32;
+    pub fn zv_frame_in(host: *mut Host, frame: *const u8, length: usize) -> u32;
+    pub fn zv_frame_out(host: *mut Host, frame: *mut u8, length: usize, count: *mut usize) -> u32;
+    pub fn zv_frame_out_length(host: *mut Host, count: *mut usize) -> u32;
+    pub fn zv_poll(host: *mut Host, now: i64, budget: u16, changed: *mut u8) -> u32;
+    pub fn zv_poll_at(host: *mut Host, now: i64, at: *mut i64) -> u32;
+    pub fn zv_counters(host: *mut Host, counters: *mut Counters) -> u32;
+    pub fn zv_socket_remove(host: *mut Host, socket: usize) -> u32;
+    pub fn zv_udp_new(host: *mut Host, packets: usize, bytes: usize, socket: *mut usize) -> u32;
+    pub fn zv_udp_bind(host: *mut Host, socket: usize, address: *const Address, port: u16) -> u32;
+    pub fn zv_udp_send(
+        host: *mut Host,
+        socket: usize,
+        bytes: *const u8,
+        length: usize,
+        remote: *const Endpoint,
+        local: *const Address,
+    ) -> u32;
+    pub fn zv_udp_recv(
+        host: *mut Host,
+        socket: usize,
+        bytes: *mut u8,
+        length: usize,
+        count: *mut usize,
+        remote: *mut Endpoint,
+        local: *mut Address,
+    ) -> u32;
+    pub fn zv_udp_set_hop_limit(host: *mut Host, socket: usize, limit: u8) -> u32;
+    pub fn zv_udp_close(host: *mut Host, socket: usize) -> u32;
+    pub fn zv_tcp_new(host: *mut Host, received: usize, queued: usize, socket: *mut usize) -> u32;
+    pub fn zv_tcp_listen(host: *mut Host, socket: usize, address: *const Address, port: u16) -> u32;
+    pub fn zv_tcp_connect(
+        host: *mut Host,
+        socket: usize,
+        remote: *const Endpoint,
+        address: *const Address,
+        port: u16,
+    ) -> u32;
+    pub fn zv_tcp_send(host: *mut Host, socket: usize, bytes: *const u8, length: usize, count: *mut usize) -> u32;
+    pub fn zv_tcp_recv(host: *mut Host, socket: usize, bytes: *mut u8, length: usize, count: *mut usize) -> u32;
+    pub fn zv_tcp_peek(host: *mut Host, socket: usize, bytes: *mut *const u8, count: *mut usize) -> u32;
+    pub fn zv_tcp_done(host: *mut Host, socket: usize, wanted: usize, count: *mut usize) -> u32;
+    pub fn zv_tcp_close(host: *mut Host, socket: usize) -> u32;
+    pub fn zv_tcp_abort(host: *mut Host, socket: usize) -> u32;
+    pub fn zv_tcp_state(host: *mut Host, socket: usize, state: *mut u8) -> u32;
+    pub fn zv_tcp_peer(host: *mut Host, socket: usize, local: *mut Endpoint, remote: *mut Endpoint) -> u32;
+    pub fn zv_tcp_queues(host: *mut Host, socket: usize, received: *mut usize, queued: *mut usize) -> u32;
+    pub fn zv_tcp_set_timeout(host: *mut Host, socket: usize, micros: u64) -> u32;
+    pub fn zv_tcp_set_keep_alive(host: *mut Host, socket: usize, micros: u64) -> u32;
+    pub fn zv_tcp_set_ack_delay(host: *mut Host, socket: usize, micros: u64) -> u32;
+    pub fn zv_tcp_set_nagle(host: *mut Host, socket: usize, enabled: u8) -> u32;
+    pub fn zv_tcp_set_hop_limit(host: *mut Host, socket: usize, limit: u8) -> u32;
+    pub fn zv_tcp_set_retries(host: *mut Host, socket: usize, limit: u16) -> u32;
+    pub fn zv_tcp_set_congestion_control(host: *mut Host, socket: usize, enabled: u8) -> u32;
+    pub fn zv_tcp_set_timestamps(host: *mut Host, socket: usize, enabled: u8, first: u32) -> u32;
+    pub fn zv_tcp_pause_synack(host: *mut Host, socket: usize, paused: u8) -> u32;
+    pub fn zv_listener_new(host: *mut Host, address: *const Address, port: u16, listener: *mut usize) -> u32;
+    pub fn zv_listener_add(host: *mut Host, listener: usize, socket: usize) -> u32;
+    pub fn zv_listener_add_keeper(host: *mut Host, listener: usize, socket: usize) -> u32;
+    pub fn zv_listener_accept(host: *mut Host, listener: usize, socket: *mut usize) -> u32;
+    pub fn zv_listener_give_back(host: *mut Host, listener: usize, socket: usize) -> u32;
+    pub fn zv_listener_remove(host: *mut Host, listener: usize) -> u32;
+    pub fn zv_icmp_new(host: *mut Host, packets: usize, bytes: usize, socket: *mut usize) -> u32;
+    pub fn zv_icmp_bind(host: *mut Host, socket: usize, identifier: u16) -> u32;
+    pub fn zv_icmp_bind_udp(host: *mut Host, socket: usize, address: *const Address, port: u16) -> u32;
+    pub fn zv_icmp_bind_tcp(host: *mut Host, socket: usize, address: *const Address, port: u16) -> u32;
+    pub fn zv_icmp_set_hop_limit(host: *mut Host, socket: usize, limit: u8) -> u32;
+    pub fn zv_icmp_send(host: *mut Host, socket: usize, bytes: *const u8, length: usize, remote: *const Address) -> u32;
+    pub fn zv_icmp_recv(
+        host: *mut Host,
+        socket: usize,
+        bytes: *mut u8,
+        length: usize,
+        count: *mut usize,
+        remote: *mut Address,
+    ) -> u32;
+    pub fn zv_raw_new(
+        host: *mut Host,
+        family: u8,
+        protocol: u16,
+        packets: usize,
+        bytes: usize,
+        socket: *mut usize,
+    ) -> u32;
+    pub fn zv_raw_send(host: *mut Host, socket: usize, bytes: *const u8, length: usize) -> u32;
+    pub fn zv_raw_recv(host: *mut Host, socket: usize, bytes: *mut u8, length: usize, count: *mut usize) -> u32;
+}

@@ -1,0 +1,243 @@
+//! A safe wrapper of the TCP/IP stack's static library, with smoltcp's names where it has the same thing.
+//!
+//! An [`Interface`] holds its sockets, which are named by handles. Frames go in by [`Interface::receive`] and out by
+//! [`Interface::transmit`]; [`Interface::poll`] does all that is to be done in between.
+//!
+//! The wrapper adds nothing to what the library does, but that Rust's types keep the library's demands: a host is freed once, is used from
+//! one thread at a time, and lent bytes are read only as long as nothing else is called.
+mod error;
+mod ffi;
+pub mod icmp;
+mod listener;
+pub mod raw;
+pub mod tcp;
+pub mod udp;
+
+pub use error::{Error, Result};
+pub use ffi::Counters;
+pub use listener::ListenerHandle;
+
+use std::net::{IpAddr, Ipv4Addr, Ipv6Addr, SocketAddr};
+use std::ptr::null_mut;
+use std::time::Duration;
+
+/// Microseconds after a start that the program chooses.
+#[derive(Clone, Copy, Debug, PartialEq, Eq, PartialOrd, Ord)]
+pub struct Instant {
+    micros: i64,
+}
+
+impl Instant {
+    pub const ZERO: Instant = Instant { micros: 0 };
+
+    pub fn from_micros(micros: i64) -> Instant {
+        Instant { micros }
+    }
+
+    pub fn from_millis(millis: i64) -> Instant {
+        Instant { micros: millis.saturating_mul(1000) }
+    }
+
+    pub fn total_micros(self) -> i64 {
+        self.micros
+    }
+}
+
+/// What the device's frames are.
+#[derive(Clone, Copy, Debug, PartialEq, Eq)]
+pub enum Medium {
+    /// Ethernet frames, of the station with this address.
+    Ethernet([u8; 6]),
+    /// IP packets with nothing before them.
+    Ip,
+}
+
+/// What an interface is made with.
+#[derive(Clone, Copy, Debug)]
+pub struct Config {
+    pub medium: Medium,
+    /// The longest frame, its Ethernet header counted.
+    pub max_transmission_unit: usize,
+    /// From a true source: whoever knows it knows first sequence numbers, ports and identifications.
+    pub random_seed: u64,
+    /// How many frames may wait each way.
+    pub frames: usize,
+}
+
+/// The place of a socket.
+#[derive(Clone, Copy, Debug, PartialEq, Eq, Hash)]
+pub struct SocketHandle(usize);
+
+/// A host: its addresses, its routes, its sockets, and the frames that wait.
+pub struct Interface {
+    host: ffi::Host,
+}
+
+// The host is one box, whose memory no other host shares.
+unsafe impl Send for Interface {}
+
+fn done(code: u32) -> Result<()> {
+    if code == 0 {
+        Ok(())
+    } else {
+        Err(Error::of(code))
+    }
+}
+
+fn address(address: IpAddr) -> ffi::Address {
+    let mut bytes = [0; 16];
+    match address {
+        IpAddr::V4(it) => {
+            bytes[..4].copy_from_slice(&it.octets());
+            ffi::Address { family: 4, bytes }
+        }
+        IpAddr::V6(it) => ffi::Address { family: 6, bytes: it.octets() },
+    }
+}
+
+fn optional(it: Option<IpAddr>) -> ffi::Address {
+    it.map_or(ffi::Address::default(), address)
+}
+
+fn endpoint(it: SocketAddr) -> ffi::Endpoint {
+    ffi::Endpoint { address: address(it.ip()), port: it.port() }
+}
+
+fn read(it: &ffi::Address) -> Option<IpAddr> {
+    match it.family {
+        4 => Some(IpAddr::V4(Ipv4Addr::new(it.bytes[0], it.bytes[1], it.bytes[2], it.bytes[3]))),
+        6 => Some(IpAddr::V6(Ipv6Addr::from(it.bytes))),
+        _ => None,
+    }
+}
+
+fn read_endpoint(it: &ffi::Endpoint) -> Option<SocketAddr> {
+    Some(SocketAddr::new(read(&it.address)?, it.port))
+}
+
+fn micros(it: Option<Duration>) -> u64 {
+    it.map_or(u64::MAX, |it| u64::try_from(it.as_micros()).unwrap_or(u64::MAX - 1))
+}
+
+impl Interface {
+    /// A host without addresses, routes and sockets.
+    pub fn new(config: &Config, now: Instant) -> Result<Interface> {
+        let (medium, hardware) = match config.medium {
+            Medium::Ethernet(hardware) => (1, hardware),
+            Medium::Ip => (2, [0; 6]),
+        };
+        let settings = ffi::Settings {
+            medium,
+            hardware,
+            mtu: config.max_transmission_unit,
+            seed: config.random_seed,
+            frames: config.frames,
+        };
+        let mut host = ffi::Host { inside: null_mut() };
+        done(unsafe { ffi::zv_host_new(&mut host, &settings, now.micros) })?;
+        Ok(Interface { host })
+    }
+
+    /// Adds an own address with its network's prefix.
+    pub fn add_ip_addr(&mut self, it: IpAddr, prefix_len: u8) -> Result<()> {
+        done(unsafe { ffi::zv_address_add(&mut self.host, &address(it), prefix_len) })
+    }
+
+    pub fn remove_ip_addr(&mut self, it: IpAddr) -> Result<()> {
+        done(unsafe { ffi::zv_address_remove(&mut self.host, &address(it)) })
+    }
+
+    /// Packets for the network go to the router.
+    pub fn add_route(&mut self, network: IpAddr, prefix_len: u8, router: IpAddr) -> Result<()> {
+        done(unsafe { ffi::zv_route_add(&mut self.host, &address(network), prefix_len, &address(router)) })
+    }
+
+    pub fn remove_route(&mut self, network: IpAddr, prefix_len: u8) -> Result<()> {
+        done(unsafe { ffi::zv_route_remove(&mut self.host, &address(network), prefix_len) })
+    }
+
+    /// Sets the station's address.
+    pub fn set_hardware_addr(&mut self, bytes: [u8; 6]) -> Result<()> {
+        done(unsafe { ffi::zv_host_set_hardware(&mut self.host, &ffi::Hardware { bytes }) })
+    }
+
+    /// Whether every address counts as an own one.
+    pub fn set_any_ip(&mut self, any_ip: bool) -> Result<()> {
+        done(unsafe { ffi::zv_host_set_any_ip(&mut self.host, any_ip.into()) })
+    }
+
+    /// How long the pieces of a datagram are waited for.
+    pub fn set_reassembly_timeout(&mut self, timeout: Duration) -> Result<()> {
+        done(unsafe { ffi::zv_host_set_reassembly_timeout(&mut self.host, micros(Some(timeout))) })
+    }
+
+    /// A frame comes, and waits for a poll.
+    pub fn receive(&mut self, frame: &[u8]) -> Result<()> {
+        done(unsafe { ffi::zv_frame_in(&mut self.host, frame.as_ptr(), frame.len()) })
+    }
+
+    /// Copies the first frame that is to go, and answers its length. It stays where the buffer is too short.
+    pub fn transmit(&mut self, frame: &mut [u8]) -> Result<usize> {
+        let mut count = 0;
+        done(unsafe { ffi::zv_frame_out(&mut self.host, frame.as_mut_ptr(), frame.len(), &mut count) })?;
+        Ok(count)
+    }
+
+    /// How many bytes the first frame has that is to go, if there is one.
+    pub fn transmit_len(&mut self) -> Option<usize> {
+        let mut count = 0;
+        done(unsafe { ffi::zv_frame_out_length(&mut self.host, &mut count) }).ok()?;
+        Some(count)
+    }
+
+    /// Takes in what came and sends what is to be sent, each at most so many times. Answers whether a socket's state or queue may have
+    /// changed.
+    pub fn poll(&mut self, now: Instant, budget: u16) -> Result<bool> {
+        let mut changed = 0;
+        done(unsafe { ffi::zv_poll(&mut self.host, now.micros, budget, &mut changed) })?;
+        Ok(changed != 0)
+    }
+
+    /// When the host wants to be polled, if ever.
+    pub fn poll_at(&mut self, now: Instant) -> Result<Option<Instant>> {
+        let mut at = 0;
+        done(unsafe { ffi::zv_poll_at(&mut self.host, now.micros, &mut at) })?;
+        Ok((at != i64::MAX).then_some(Instant { micros: at }))
+    }
+
+    /// How long it is until the host wants to be polled, if ever.
+    pub fn poll_delay(&mut self, now: Instant) -> Result<Option<Duration>> {
+        let at = self.poll_at(now)?;
+        Ok(at.map(|at| Duration::from_micros(at.micros.saturating_sub(now.micros).max(0) as u64)))
+    }
+
+    /// What the host has counted.
+    pub fn counters(&mut self) -> Result<Counters> {
+        let mut counters = Counters::default();
+        done(unsafe { ffi::zv_counters(&mut self.host, &mut counters) })?;
+        Ok(counters)
+    }
+
+    /// Gives the memory of a socket of any kind back.
+    pub fn remove(&mut self, handle: SocketHandle) -> Result<()> {
+        done(unsafe { ffi::zv_socket_remove(&mut self.host, handle.0) })
+    }
+
+    fn made(&mut self, make: impl FnOnce(*mut ffi::Host, *mut usize) -> u32) -> Result<SocketHandle> {
+        let mut socket = 0;
+        done(make(&mut self.host, &mut socket))?;
+        Ok(SocketHandle(socket))
+    }
+
+    fn counted(&mut self, call: impl FnOnce(*mut ffi::Host, *mut usize) -> u32) -> Result<usize> {
+        let mut count = 0;
+        done(call(&mut self.host, &mut count))?;
+        Ok(count)
+    }
+}
+
+impl Drop for Interface {
+    fn drop(&mut self) {
+        unsafe { ffi::zv_host_free(&mut self.host) };
+    }
+}

@@ -1,0 +1,191 @@
+//! TCP sockets.
+use crate::{done, endpoint, ffi, micros, optional, read_endpoint, Error, Interface, Result, SocketHandle};
+use std::net::{IpAddr, SocketAddr};
+use std::ptr::null;
+use std::slice;
+use std::time::Duration;
+
+/// The state of a connection.
+#[derive(Clone, Copy, Debug, PartialEq, Eq)]
+pub enum State {
+    Closed,
+    Listen,
+    SynSent,
+    SynReceived,
+    Established,
+    FinWait1,
+    FinWait2,
+    CloseWait,
+    Closing,
+    LastAck,
+    TimeWait,
+}
+
+/// The states, each at its number.
+const STATES: [State; 11] = [
+    State::Closed,
+    State::Listen,
+    State::SynSent,
+    State::SynReceived,
+    State::Established,
+    State::FinWait1,
+    State::FinWait2,
+    State::CloseWait,
+    State::Closing,
+    State::LastAck,
+    State::TimeWait,
+];
+
+/// A TCP socket of an interface.
+pub struct Socket<'a> {
+    pub(crate) interface: &'a mut Interface,
+    pub(crate) handle: SocketHandle,
+}
+
+impl Interface {
+    /// Makes a TCP socket with room for so many bytes each way.
+    pub fn add_tcp(&mut self, received: usize, queued: usize) -> Result<SocketHandle> {
+        self.made(|host, socket| unsafe { ffi::zv_tcp_new(host, received, queued, socket) })
+    }
+
+    /// The TCP socket of this handle. A handle of another socket is refused by the calls.
+    pub fn tcp(&mut self, handle: SocketHandle) -> Socket<'_> {
+        Socket { interface: self, handle }
+    }
+}
+
+impl Socket<'_> {
+    /// Waits for a connection to a port of any own address.
+    pub fn listen(&mut self, port: u16) -> Result<()> {
+        self.listen_on(None, port)
+    }
+
+    /// Waits for a connection to a port of one own address, or of any.
+    pub fn listen_on(&mut self, local: Option<IpAddr>, port: u16) -> Result<()> {
+        done(unsafe { ffi::zv_tcp_listen(&mut self.interface.host, self.handle.0, &optional(local), port) })
+    }
+
+    /// Opens a connection from this port.
+    pub fn connect(&mut self, remote: SocketAddr, local_port: u16) -> Result<()> {
+        self.connect_from(remote, None, local_port)
+    }
+
+    pub fn connect_from(&mut self, remote: SocketAddr, local: Option<IpAddr>, local_port: u16) -> Result<()> {
+        done(unsafe {
+            ffi::zv_tcp_connect(
+                &mut self.interface.host,
+                self.handle.0,
+                &endpoint(remote),
+                &optional(local),
+                local_port,
+            )
+        })
+    }
+
+    /// Queues as many of the bytes as there is room for, and answers how many.
+    pub fn send_slice(&mut self, data: &[u8]) -> Result<usize> {
+        let handle = self.handle.0;
+        self.interface
+            .counted(|host, count| unsafe { ffi::zv_tcp_send(host, handle, data.as_ptr(), data.len(), count) })
+    }
+
+    /// Reads waiting bytes, and answers how many.
+    pub fn recv_slice(&mut self, data: &mut [u8]) -> Result<usize> {
+        let handle = self.handle.0;
+        self.interface
+            .counted(|host, count| unsafe { ffi::zv_tcp_recv(host, handle, data.as_mut_ptr(), data.len(), count) })
+    }
+
+    /// Lends the first waiting bytes, as many as lie behind one another, without copying them.
+    pub fn peek(&mut self) -> Result<&[u8]> {
+        let (mut bytes, mut count) = (null(), 0);
+        done(unsafe { ffi::zv_tcp_peek(&mut self.interface.host, self.handle.0, &mut bytes, &mut count) })?;
+        if count == 0 {
+            return Ok(&[]);
+        }
+        // They stay until the next call of the interface, and that is borrowed for as long as they are.
+        Ok(unsafe { slice::from_raw_parts(bytes, count) })
+    }
+
+    /// Lends the waiting bytes to `f`, which answers how many of them are read, and a value that is passed on.
+    pub fn recv<R>(&mut self, f: impl FnOnce(&[u8]) -> (usize, R)) -> Result<R> {
+        let (count, answer) = f(self.peek()?);
+        let handle = self.handle.0;
+        self.interface
+            .counted(|host, read| unsafe { ffi::zv_tcp_done(host, handle, count, read) })?;
+        Ok(answer)
+    }
+
+    pub fn close(&mut self) -> Result<()> {
+        done(unsafe { ffi::zv_tcp_close(&mut self.interface.host, self.handle.0) })
+    }
+
+    pub fn abort(&mut self) -> Result<()> {
+        done(unsafe { ffi::zv_tcp_abort(&mut self.interface.host, self.handle.0) })
+    }
+
+    pub fn state(&mut self) -> Result<State> {
+        let mut state = 0;
+        done(unsafe { ffi::zv_tcp_state(&mut self.interface.host, self.handle.0, &mut state) })?;
+        STATES.get(state as usize).copied().ok_or(Error::Unknown(0))
+    }
+
+    /// The own endpoint of the connection, and the remote's.
+    pub fn endpoints(&mut self) -> Result<(SocketAddr, SocketAddr)> {
+        let (mut local, mut remote) = (ffi::Endpoint::default(), ffi::Endpoint::default());
+        done(unsafe { ffi::zv_tcp_peer(&mut self.interface.host, self.handle.0, &mut local, &mut remote) })?;
+        match (read_endpoint(&local), read_endpoint(&remote)) {
+            (Some(local), Some(remote)) => Ok((local, remote)),
+            _ => Err(Error::InvalidState),
+        }
+    }
+
+    /// How many bytes wait to be read, and how many are queued that aren't acknowledged.
+    pub fn queues(&mut self) -> Result<(usize, usize)> {
+        let (mut received, mut queued) = (0, 0);
+        done(unsafe { ffi::zv_tcp_queues(&mut self.interface.host, self.handle.0, &mut received, &mut queued) })?;
+        Ok((received, queued))
+    }
+
+    pub fn set_timeout(&mut self, limit: Option<Duration>) -> Result<()> {
+        done(unsafe { ffi::zv_tcp_set_timeout(&mut self.interface.host, self.handle.0, micros(limit)) })
+    }
+
+    pub fn set_keep_alive(&mut self, interval: Option<Duration>) -> Result<()> {
+        done(unsafe { ffi::zv_tcp_set_keep_alive(&mut self.interface.host, self.handle.0, micros(interval)) })
+    }
+
+    pub fn set_ack_delay(&mut self, delay: Option<Duration>) -> Result<()> {
+        done(unsafe { ffi::zv_tcp_set_ack_delay(&mut self.interface.host, self.handle.0, micros(delay)) })
+    }
+
+    pub fn set_nagle_enabled(&mut self, enabled: bool) -> Result<()> {
+        done(unsafe { ffi::zv_tcp_set_nagle(&mut self.interface.host, self.handle.0, enabled.into()) })
+    }
+
+    pub fn set_hop_limit(&mut self, limit: Option<u8>) -> Result<()> {
+        done(unsafe { ffi::zv_tcp_set_hop_limit(&mut self.interface.host, self.handle.0, limit.unwrap_or(0)) })
+    }
+
+    /// After how many timeouts without an answer the connection gives up, if ever.
+    pub fn set_retries(&mut self, limit: Option<u8>) -> Result<()> {
+        let limit = limit.map_or(u16::MAX, u16::from);
+        done(unsafe { ffi::zv_tcp_set_retries(&mut self.interface.host, self.handle.0, limit) })
+    }
+
+    /// Whether what is sent is held back where congestion may be, as RFC 5681 says.
+    pub fn set_congestion_control(&mut self, enabled: bool) -> Result<()> {
+        done(unsafe { ffi::zv_tcp_set_congestion_control(&mut self.interface.host, self.handle.0, enabled.into()) })
+    }
+
+    /// Timestamps, which begin with this number, or none.
+    pub fn set_timestamps(&mut self, first: Option<u32>) -> Result<()> {
+        let (is_on, first) = (first.is_some().into(), first.unwrap_or(0));
+        done(unsafe { ffi::zv_tcp_set_timestamps(&mut self.interface.host, self.handle.0, is_on, first) })
+    }
+
+    /// Whether the answer to a SYN waits.
+    pub fn pause_synack(&mut self, pause: bool) -> Result<()> {
+        done(unsafe { ffi::zv_tcp_pause_synack(&mut self.interface.host, self.handle.0, pause.into()) })
+    }
+}

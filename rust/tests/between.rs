@@ -1,0 +1,190 @@
+//! Two interfaces whose frames go from one to the other.
+use std::net::{IpAddr, Ipv4Addr, SocketAddr};
+use zemplovir::{Config, Error, Instant, Interface, Medium, tcp::State};
+
+const FIRST: IpAddr = IpAddr::V4(Ipv4Addr::new(192, 168, 1, 1));
+const SECOND: IpAddr = IpAddr::V4(Ipv4Addr::new(192, 168, 1, 2));
+
+fn host(medium: Medium, own: IpAddr, seed: u64) -> Interface {
+    let max_transmission_unit = if medium == Medium::Ip { 1500 } else { 1514 };
+    let config = Config { medium, max_transmission_unit, random_seed: seed, frames: 64 };
+    let mut host = Interface::new(&config, Instant::ZERO).unwrap();
+    host.add_ip_addr(own, 24).unwrap();
+    host
+}
+
+/// Two hosts at one wire.
+struct Pair {
+    first: Interface,
+    second: Interface,
+    now: i64,
+}
+
+impl Pair {
+    fn new(ethernet: bool) -> Pair {
+        let medium = |last| if ethernet { Medium::Ethernet([2, 0, 0, 0, 0, last]) } else { Medium::Ip };
+        Pair { first: host(medium(1), FIRST, 1), second: host(medium(2), SECOND, 2), now: 0 }
+    }
+
+    fn carry(from: &mut Interface, to: &mut Interface) {
+        let mut frame = [0; 2048];
+        while let Ok(count) = from.transmit(&mut frame) {
+            to.receive(&frame[..count]).unwrap();
+        }
+    }
+
+    /// Polls both for so many turns, a millisecond each.
+    fn run(&mut self, turns: usize) {
+        for _ in 0..turns {
+            self.now += 1000;
+            let now = Instant::from_micros(self.now);
+            self.first.poll(now, 64).unwrap();
+            Pair::carry(&mut self.first, &mut self.second);
+            self.second.poll(now, 64).unwrap();
+            Pair::carry(&mut self.second, &mut self.first);
+        }
+    }
+}
+
+#[test]
+fn datagrams_go_and_come_back() {
+    for ethernet in [false, true] {
+        let mut pair = Pair::new(ethernet);
+        let (one, other) = (pair.first.add_udp(4, 4096).unwrap(), pair.second.add_udp(4, 4096).unwrap());
+        pair.first.udp(one).bind(4000).unwrap();
+        pair.second.udp(other).bind(7).unwrap();
+        pair.first.udp(one).send_slice(b"hello", SocketAddr::new(SECOND, 7)).unwrap();
+        pair.run(3);
+        let mut data = [0; 64];
+        let (count, from) = pair.second.udp(other).recv_slice(&mut data).unwrap();
+        assert_eq!(&data[..count], b"hello");
+        assert_eq!(from.endpoint, SocketAddr::new(FIRST, 4000));
+        assert_eq!(from.local_address, Some(SECOND));
+        pair.second.udp(other).send_slice(&data[..count], from).unwrap();
+        pair.run(3);
+        let (count, from) = pair.first.udp(one).recv_slice(&mut data).unwrap();
+        assert_eq!((&data[..count], from.endpoint), (&b"hello"[..], SocketAddr::new(SECOND, 7)));
+        assert_eq!(pair.first.udp(one).recv_slice(&mut data), Err(Error::Exhausted));
+    }
+}
+
+#[test]
+fn a_stream_arrives_whole() {
+    let mut pair = Pair::new(false);
+    let (one, other) = (pair.first.add_tcp(8192, 8192).unwrap(), pair.second.add_tcp(4096, 4096).unwrap());
+    pair.second.tcp(other).listen(7).unwrap();
+    pair.first.tcp(one).connect(SocketAddr::new(SECOND, 7), 4000).unwrap();
+    pair.run(4);
+    assert_eq!(pair.first.tcp(one).state(), Ok(State::Established));
+    let ends = (SocketAddr::new(SECOND, 7), SocketAddr::new(FIRST, 4000));
+    assert_eq!(pair.second.tcp(other).endpoints(), Ok(ends));
+    let text: Vec<u8> = (0..100_000u32).map(|it| (it * 7 % 251) as u8).collect();
+    let (mut sent, mut got) = (0, Vec::new());
+    for _ in 0..2000 {
+        if sent < text.len() {
+            sent += pair.first.tcp(one).send_slice(&text[sent..]).unwrap();
+            if sent == text.len() {
+                pair.first.tcp(one).close().unwrap();
+            }
+        }
+        pair.run(1);
+        match pair.second.tcp(other).recv(|bytes| (bytes.len(), bytes.to_vec())) {
+            Ok(bytes) => got.extend(bytes),
+            Err(Error::Finished) => break,
+            Err(error) => panic!("{error}"),
+        }
+    }
+    assert_eq!(got, text);
+}
+
+#[test]
+fn a_frame_that_does_not_fit_stays() {
+    let mut pair = Pair::new(false);
+    let one = pair.first.add_udp(4, 4096).unwrap();
+    pair.first.udp(one).bind(4000).unwrap();
+    pair.first.udp(one).send_slice(&[7; 100], SocketAddr::new(SECOND, 7)).unwrap();
+    pair.first.poll(Instant::ZERO, 8).unwrap();
+    assert_eq!(pair.first.transmit(&mut [0; 100]), Err(Error::TooShort));
+    assert_eq!(pair.first.transmit_len(), Some(128));
+    assert_eq!(pair.first.transmit(&mut [0; 128]), Ok(128));
+    assert_eq!(pair.first.transmit(&mut [0; 128]), Err(Error::Exhausted));
+}
+
+#[test]
+fn refusals_have_names() {
+    let mut pair = Pair::new(false);
+    let (stream, datagrams) = (pair.first.add_tcp(64, 64).unwrap(), pair.first.add_udp(1, 64).unwrap());
+    assert_eq!(pair.first.tcp(datagrams).listen(7), Err(Error::WrongKind));
+    assert_eq!(pair.first.tcp(stream).listen(0), Err(Error::Unaddressable));
+    assert_eq!(pair.first.tcp(stream).send_slice(b"x"), Err(Error::InvalidState));
+    assert_eq!(pair.first.udp(datagrams).send_slice(b"x", SocketAddr::new(SECOND, 7)), Err(Error::Unaddressable));
+    pair.first.udp(datagrams).bind(4000).unwrap();
+    assert_eq!(pair.first.udp(datagrams).bind(4001), Err(Error::InvalidState));
+    pair.first.udp(datagrams).send_slice(b"x", SocketAddr::new(SECOND, 7)).unwrap();
+    assert_eq!(pair.first.udp(datagrams).send_slice(b"x", SocketAddr::new(SECOND, 7)), Err(Error::Full));
+    assert_eq!(pair.first.add_ip_addr(FIRST, 33), Err(Error::BadArgument));
+    assert_eq!(pair.first.add_ip_addr("224.0.0.1".parse().unwrap(), 24), Err(Error::NotUnicast));
+    assert_eq!(pair.first.remove_ip_addr(SECOND), Err(Error::NotFound));
+    assert_eq!(pair.first.remove_route(SECOND, 24), Err(Error::NotFound));
+    assert_eq!(pair.first.poll(Instant::from_micros(-1), 1), Err(Error::Moment));
+    assert_eq!(pair.first.add_tcp((1 << 30) + 1, 64), Err(Error::TooLong));
+    pair.first.remove(stream).unwrap();
+    assert_eq!(pair.first.remove(stream), Err(Error::NoSocket));
+    assert_eq!(pair.first.tcp(stream).abort(), Err(Error::NoSocket));
+    let config = Config { medium: Medium::Ip, max_transmission_unit: 500, random_seed: 0, frames: 1 };
+    assert_eq!(Interface::new(&config, Instant::ZERO).err(), Some(Error::Mtu));
+}
+
+#[test]
+fn a_ping_is_answered() {
+    let mut pair = Pair::new(true);
+    let one = pair.first.add_icmp(4, 1024).unwrap();
+    pair.first.icmp(one).bind(9).unwrap();
+    pair.first.icmp(one).send_slice(&[8, 0, 0, 0, 0, 9, 0, 1, 5, 6], SECOND).unwrap();
+    pair.run(3);
+    let mut data = [0; 64];
+    let (count, from) = pair.first.icmp(one).recv_slice(&mut data).unwrap();
+    assert_eq!((data[0], &data[4..count], from), (0, &[0, 9, 0, 1, 5, 6][..], SECOND));
+}
+
+#[test]
+fn a_link_without_room_takes_no_more() {
+    let mut pair = Pair::new(false);
+    let mut taken = 0;
+    while pair.first.receive(&[0; 20]).is_ok() {
+        taken += 1;
+    }
+    assert_eq!((taken, pair.first.receive(&[0; 20])), (64, Err(Error::Full)));
+    pair.first.poll(Instant::ZERO, 64).unwrap();
+    assert_eq!(pair.first.receive(&[0; 20]), Ok(()));
+    assert_eq!(pair.first.counters().unwrap().frames_dropped, 2);
+}
+
+#[test]
+fn a_listener_serves_more_than_it_has_sockets() {
+    let mut pair = Pair::new(true);
+    let listener = pair.second.add_listener(None, 80).unwrap();
+    let served = pair.second.add_tcp(256, 256).unwrap();
+    pair.second.add_to_backlog(listener, served).unwrap();
+    let keeper = pair.second.add_tcp(0, 0).unwrap();
+    pair.second.add_keeper(listener, keeper).unwrap();
+    assert_eq!(pair.second.add_to_backlog(listener, served), Err(Error::InBacklog));
+    assert_eq!(pair.second.remove(served), Err(Error::InBacklog));
+    assert_eq!(pair.second.accept(listener), Ok(None));
+    for round in 0..3 {
+        pair.run(1);
+        let asks = pair.first.add_tcp(256, 256).unwrap();
+        pair.first.tcp(asks).connect(SocketAddr::new(SECOND, 80), 4000 + round).unwrap();
+        pair.run(4);
+        assert_eq!(pair.second.accept(listener), Ok(Some(served)));
+        assert_eq!(pair.second.accept(listener), Ok(None));
+        pair.second.tcp(served).abort().unwrap();
+        pair.second.give_back(listener, served).unwrap();
+        pair.run(2);
+        assert_eq!(pair.first.tcp(asks).state(), Ok(State::Closed));
+        pair.first.remove(asks).unwrap();
+    }
+    pair.second.remove_listener(listener).unwrap();
+    assert_eq!(pair.second.accept(listener), Err(Error::NoListener));
+    pair.second.remove(served).unwrap();
+}
