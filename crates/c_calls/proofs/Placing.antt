@@ -8,7 +8,8 @@ use Rattle.c_sockets.specs.declared.code.Code.{Code}
 use Rattle.c_calls.specs.Backlogs.{listener_in, listener_at, with_listener, WhereThere, OnListener}
 use Rattle.c_calls.specs.Host.{StackValue}
 
-module _ {A : Type 0} (Does : Listener → Result A Code → Option Listener → Type 0) (s s' : StackValue) (n : ℕ) (result : Result A Code) (l' : Option Listener) where
+module _ {A : Type 0} (Does : Listener → Result A Code → Option Listener →
+    Type 0) (s s' : StackValue) (n : ℕ) (result : Result A Code) (l' : Option Listener) where
   there : (l : Option Listener) → with_listener s n l ≡ s → WhereThere Does l result l' → s' ≡ with_listener s n l' → OnListener Does l s n result s'
   there None same h is = (h.0, is ∙ ap (with_listener s n) h.1 ∙ same)
   there (Some l) same h is = (l', h, is)
@@ -17,5 +18,6 @@ module _ {A : Type 0} (Does : Listener → Result A Code → Option Listener →
       → WhereThere Does l result l' → s' ≡ with_listener s n l' → OnListener Does (listener_at s.listeners n) s n result s'
   on_listener l within at h is =
       let got : slice_get s.listeners n ≡ Some l = slice_get_read s.listeners (length s.listeners) n l refl within at in
-      let same : with_listener s n l ≡ s = ap (λ (x : List (Option Listener)). record s { listeners = x }) (ap (slice_set s.listeners n) at ∙ set-get_or s.listeners n l) in
+      let same : with_listener s n l ≡ s =
+      ap (λ (x : List (Option Listener)). record s { listeners = x }) (ap (slice_set s.listeners n) at ∙ set-get_or s.listeners n l) in
       subst (λ x. OnListener Does (listener_in x) s n result s') (sym got) (there l same h is)

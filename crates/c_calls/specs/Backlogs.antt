@@ -1,5 +1,6 @@
 -- The listeners of a host.
-use Rattle.std.specs.Prelude.{◌≡◌, ℕ, ◌==◌, nat_le, Bool, false, ◌||◌, if◌then◌else◌, List, [], ◌∷◌, ◌++◌, length, map, position, slice_get, slice_set, Option, None, Some, is_none, Result, Ok, Err, MatchResult}
+use Rattle.std.specs.Prelude.{◌≡◌, ℕ, ◌==◌, nat_le, Bool, false, ◌||◌, if◌then◌else◌, List, [], ◌∷◌, ◌++◌, length, map, position, slice_get, slice_set, Option}
+use Rattle.std.specs.Prelude.{None, Some, is_none, Result, Ok, Err, MatchResult}
 use Rattle.std.specs.List.{list_any}
 use Rattle.std.specs.Option.{MatchOption}
 use Rattle.ip_wire.specs.IpListenEndpoint.{IpListenEndpoint}
@@ -143,7 +144,8 @@ WhereThere Does None result l' = (result ≡ Err Is.NoListener) × (l' ≡ None)
 WhereThere Does (Some l) result l' = Does l result l'
 
 -- a call of the listener at a place, which leaves another there
-abbrev pub OnListener : {A : Type 0} → (Listener → Result A Code → Option Listener → Type 0) → Option Listener → StackValue → ℕ → Result A Code → StackValue → Type 0
+abbrev pub OnListener : {A : Type 0} → (Listener → Result A Code → Option Listener → Type 0) → Option Listener → StackValue → ℕ → Result A Code →
+    StackValue → Type 0
 OnListener Does None s n result s' = (result ≡ Err Is.NoListener) × (s' ≡ s)
 OnListener Does (Some l) s n result s' = (l' : Option Listener) × Does l result l' × (s' ≡ with_listener s n l')
 

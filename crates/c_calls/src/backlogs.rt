@@ -7,7 +7,9 @@ ghost use Rattle.tcp_listener.specs.declared.entry.Entry.{Entry};
 ghost use Rattle.interface_egress.specs.declared.socket_set.SocketHandle.{SocketHandle as Handle};
 ghost use Rattle.sockets.specs.AnySocket.{as_tcp};
 ghost use Rattle.c_sockets.specs.Places.{answer_at};
-ghost use Rattle.c_calls.specs.Backlogs.{RefreshesAt, RefreshesAll, MakesListener, IsPut, listener_place, is_there, without_listener, listener_at, has_place, is_in_backlog, closed_in, may_be_taken, Takes, HasEntry, HasKeeper, Grows, Grown, WhereThere, Accepted, GivenBack, AcceptsFrom, GivesBack, listener_refusal};
+ghost use Rattle.c_calls.specs.Backlogs.{RefreshesAt, RefreshesAll, MakesListener, IsPut, listener_place, is_there, without_listener, listener_at, has_place};
+ghost use Rattle.c_calls.specs.Backlogs.{is_in_backlog, closed_in, may_be_taken, Takes, HasEntry, HasKeeper, Grows, Grown, WhereThere, Accepted, GivenBack};
+ghost use Rattle.c_calls.specs.Backlogs.{AcceptsFrom, GivesBack, listener_refusal};
 
 use crate::host::Host;
 use c_sockets::{Code, looks};

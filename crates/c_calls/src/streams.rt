@@ -88,7 +88,8 @@ impl Host {
         remote: IpEndpoint,
         local: IpListenEndpoint,
     ) -> Result<(), Code>
-        ensures answer { result ≡ answer_at as_tcp (λ v. coded of_connect (connect_answer (context_of self.old.host.inner) v remote local)) self.old.places place }
+        ensures answer { result ≡
+            answer_at as_tcp (λ v. coded of_connect (connect_answer (context_of self.old.host.inner) v remote local)) self.old.places place }
         ensures after { self.new ≡ record self.old {
           host = if draws_at as_tcp (λ v. connect_draws (context_of self.old.host.inner) v remote local) self.old.places place
               then with_inner self.old.host (drawn self.old.host.inner) else self.old.host;

@@ -3,7 +3,8 @@ ghost use Rattle.std.specs.Prelude.{◌≡◌, position};
 ghost use Rattle.ip_wire.specs.HardwareAddress.TheVariants as Hardware;
 ghost use Rattle.interface.specs.Made.{with_inner, with_timeout};
 ghost use Rattle.interface.specs.Settings.{hardware_refusal, with_hardware, with_any_ip};
-ghost use Rattle.c_calls.specs.Tables.{is_address, is_block, pushed, removed, pushed_route, removed_route, own_with, own_without, routes_with, routes_without, with_own, with_table, own_in, table_in, route_to, is_done, hardware_answer};
+ghost use Rattle.c_calls.specs.Tables.{is_address, is_block, pushed, removed, pushed_route, removed_route, own_with, own_without, routes_with, routes_without};
+ghost use Rattle.c_calls.specs.Tables.{with_own, with_table, own_in, table_in, route_to, is_done, hardware_answer};
 
 use crate::host::Host;
 use arrayvec::ArrayVec;

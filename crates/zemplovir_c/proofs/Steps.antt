@@ -8,7 +8,8 @@ pub use base.Logic.{SProp, ent, emp, never, id⊢, fst∗}
 pub use base.Fml.{ftrue, fsep, flft}
 pub use prog.Wp.{WpFn}
 pub use types.Logic.{sem}
-pub use types.Kit.{‵, raw, ◌⊛◌, some, later, at_ret, ◌$◌, ◌∵◌, !, qed, by, move, keep, drop, split, split3, join, fsplit, fjoin, fpick, fpack, pick, suffices, use0, use1, await, rewrite, feq_i, feq_l}
+pub use types.Kit.{‵, raw, ◌⊛◌, some, later, at_ret, ◌$◌, ◌∵◌, !, qed, by, move, keep, drop, split, split3, join, fsplit, fjoin, fpick, fpack, pick, suffices}
+pub use types.Kit.{use0, use1, await, rewrite, feq_i, feq_l}
 pub use types.Run.{stop, fld, lit, of_opd, bin, no_more, and_then, first, blocks, branches, exec, returns, enter}
 pub use types.ByLocal.{alloc_all, pass_all, free_all, look_at, get, get_in, sets, sets_last, lands_as, lands_last, env}
 pub use types.Part.{agg, sub, whole}

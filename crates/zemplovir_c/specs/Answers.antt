@@ -68,7 +68,8 @@ Acts Does (Some host) result after =
 abbrev pub Gives : {A : Type 0} → (StackValue → Result A Code → StackValue → Type 0) → Option StackValue → ℕ → A → A → Option StackValue → Type 0
 Gives Does None result before written after = (result ≡ no_host) × (written ≡ before) × (after ≡ None)
 Gives {A} Does (Some host) result before written after =
-    (answer : Result A Code) × ((left : StackValue) × Does host answer left × (result ≡ number_by answer) × (written ≡ given answer before) × (after ≡ Some left))
+    (answer : Result A Code) ×
+    ((left : StackValue) × Does host answer left × (result ≡ number_by answer) × (written ≡ given answer before) × (after ≡ Some left))
 
 -- the same of an answer that C has in another form
 abbrev pub As : {A B : Type 0} → (A → B) → (StackValue → Result A Code → StackValue → Type 0) → StackValue → Result B Code → StackValue → Type 0

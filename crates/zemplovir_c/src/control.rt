@@ -48,7 +48,9 @@ pub extern "C" fn zv_icmp_bind(
     identifier: u16,
 ) -> u32
     ensures answer { result ≡ answer_by handle.old.inside (λ host. answer_at as_icmp (act_answer (To.Bind (Bound.Ident identifier))) host.places socket) }
-    ensures after { handle.new.inside ≡ after_by handle.old.inside (λ host. record host { places = after_at as_icmp Kind.Icmp (act_after (To.Bind (Bound.Ident identifier))) host.places socket }) }
+    ensures after { handle.new.inside ≡
+        after_by handle.old.inside
+        (λ host. record host { places = after_at as_icmp Kind.Icmp (act_after (To.Bind (Bound.Ident identifier))) host.places socket }) }
 {
     let Some(mut host) = handle.take(alloc) else {
         return NO_HOST;
@@ -67,8 +69,14 @@ pub extern "C" fn zv_icmp_bind_udp(
     address: &Address,
     port: u16,
 ) -> u32
-    ensures answer { result ≡ checked_answer (optional_in address.now) (λ at. answer_by handle.old.inside (λ host. answer_at as_icmp (act_answer (To.Bind (Bound.Udp (listens_at at port)))) host.places socket)) }
-    ensures after { handle.new.inside ≡ checked (optional_in address.now) (λ at. after_by handle.old.inside (λ host. record host { places = after_at as_icmp Kind.Icmp (act_after (To.Bind (Bound.Udp (listens_at at port)))) host.places socket })) handle.old.inside }
+    ensures answer { result ≡
+        checked_answer (optional_in address.now)
+        (λ at. answer_by handle.old.inside (λ host. answer_at as_icmp (act_answer (To.Bind (Bound.Udp (listens_at at port)))) host.places socket)) }
+    ensures after { handle.new.inside ≡
+        checked (optional_in address.now)
+        (λ at. after_by handle.old.inside
+        (λ host. record host { places = after_at as_icmp Kind.Icmp (act_after (To.Bind (Bound.Udp (listens_at at port)))) host.places socket }))
+        handle.old.inside }
 {
     let address = match optional(address) {
         Ok(address) => address,
@@ -91,8 +99,14 @@ pub extern "C" fn zv_icmp_bind_tcp(
     address: &Address,
     port: u16,
 ) -> u32
-    ensures answer { result ≡ checked_answer (optional_in address.now) (λ at. answer_by handle.old.inside (λ host. answer_at as_icmp (act_answer (To.Bind (Bound.Tcp (listens_at at port)))) host.places socket)) }
-    ensures after { handle.new.inside ≡ checked (optional_in address.now) (λ at. after_by handle.old.inside (λ host. record host { places = after_at as_icmp Kind.Icmp (act_after (To.Bind (Bound.Tcp (listens_at at port)))) host.places socket })) handle.old.inside }
+    ensures answer { result ≡
+        checked_answer (optional_in address.now)
+        (λ at. answer_by handle.old.inside (λ host. answer_at as_icmp (act_answer (To.Bind (Bound.Tcp (listens_at at port)))) host.places socket)) }
+    ensures after { handle.new.inside ≡
+        checked (optional_in address.now)
+        (λ at. after_by handle.old.inside
+        (λ host. record host { places = after_at as_icmp Kind.Icmp (act_after (To.Bind (Bound.Tcp (listens_at at port)))) host.places socket }))
+        handle.old.inside }
 {
     let address = match optional(address) {
         Ok(address) => address,
@@ -115,7 +129,8 @@ pub extern "C" fn zv_icmp_set_hop_limit(
     limit: u8,
 ) -> u32
     ensures answer { result ≡ answer_by handle.old.inside (λ host. answer_at as_icmp (act_answer (To.HopLimit limit)) host.places socket) }
-    ensures after { handle.new.inside ≡ after_by handle.old.inside (λ host. record host { places = after_at as_icmp Kind.Icmp (act_after (To.HopLimit limit)) host.places socket }) }
+    ensures after { handle.new.inside ≡
+        after_by handle.old.inside (λ host. record host { places = after_at as_icmp Kind.Icmp (act_after (To.HopLimit limit)) host.places socket }) }
 {
     let Some(mut host) = handle.take(alloc) else {
         return NO_HOST;
@@ -134,8 +149,13 @@ pub extern "C" fn zv_icmp_send(
     bytes: &[u8],
     remote: &Address,
 ) -> u32
-    ensures answer { result ≡ checked_answer (required_in remote.now) (λ to. answer_by handle.old.inside (λ host. answer_at as_icmp (λ v. coded of_send (send_answer v to (length bytes.now))) host.places socket)) }
-    ensures after { handle.new.inside ≡ checked (required_in remote.now) (λ to. after_by handle.old.inside (λ host. record host { places = after_at as_icmp Kind.Icmp (λ v. send_after v to bytes.now) host.places socket })) handle.old.inside }
+    ensures answer { result ≡
+        checked_answer (required_in remote.now)
+        (λ to. answer_by handle.old.inside (λ host. answer_at as_icmp (λ v. coded of_send (send_answer v to (length bytes.now))) host.places socket)) }
+    ensures after { handle.new.inside ≡
+        checked (required_in remote.now)
+        (λ to. after_by handle.old.inside (λ host. record host { places = after_at as_icmp Kind.Icmp (λ v. send_after v to bytes.now) host.places socket }))
+        handle.old.inside }
 {
     let remote = match required(remote) {
         Ok(remote) => remote,
@@ -159,10 +179,16 @@ pub extern "C" fn zv_icmp_recv(
     count: &mut usize,
     remote: &mut Address,
 ) -> u32
-    ensures answer { result ≡ answer_by handle.old.inside (λ host. answer_at as_icmp (λ v. coded of_recv (recv_answer v (length bytes.old))) host.places socket) }
-    ensures after { handle.new.inside ≡ after_by handle.old.inside (λ host. record host { places = after_at as_icmp Kind.Icmp (recv_after) host.places socket }) }
-    ensures count { count.new ≡ given_by handle.old.inside (λ host. mapped (λ got. got.0) (answer_at as_icmp (λ v. coded of_recv (recv_answer v (length bytes.old))) host.places socket)) count.old }
-    ensures remote { remote.new ≡ given_by handle.old.inside (λ host. mapped (λ got. address_out got.1) (answer_at as_icmp (λ v. coded of_recv (recv_answer v (length bytes.old))) host.places socket)) remote.old }
+    ensures answer { result ≡
+        answer_by handle.old.inside (λ host. answer_at as_icmp (λ v. coded of_recv (recv_answer v (length bytes.old))) host.places socket) }
+    ensures after { handle.new.inside ≡
+        after_by handle.old.inside (λ host. record host { places = after_at as_icmp Kind.Icmp (recv_after) host.places socket }) }
+    ensures count { count.new ≡
+        given_by handle.old.inside
+        (λ host. mapped (λ got. got.0) (answer_at as_icmp (λ v. coded of_recv (recv_answer v (length bytes.old))) host.places socket)) count.old }
+    ensures remote { remote.new ≡
+        given_by handle.old.inside
+        (λ host. mapped (λ got. address_out got.1) (answer_at as_icmp (λ v. coded of_recv (recv_answer v (length bytes.old))) host.places socket)) remote.old }
     ensures read { bytes.new ≡ written_by handle.old.inside (λ host. written_at as_icmp recv_written bytes.old host.places socket) bytes.old }
 {
     let Some(mut host) = handle.take(alloc) else {

@@ -61,8 +61,13 @@ pub extern "C" fn zv_udp_bind(
     address: &Address,
     port: u16,
 ) -> u32
-    ensures answer { result ≡ checked_answer (optional_in address.now) (λ at. answer_by handle.old.inside (λ host. answer_at as_udp (act_answer (To.Bind (listens_at at port))) host.places socket)) }
-    ensures after { handle.new.inside ≡ checked (optional_in address.now) (λ at. after_by handle.old.inside (λ host. record host { places = after_at as_udp Kind.Udp (act_after (To.Bind (listens_at at port))) host.places socket })) handle.old.inside }
+    ensures answer { result ≡
+        checked_answer (optional_in address.now)
+        (λ at. answer_by handle.old.inside (λ host. answer_at as_udp (act_answer (To.Bind (listens_at at port))) host.places socket)) }
+    ensures after { handle.new.inside ≡
+        checked (optional_in address.now)
+        (λ at. after_by handle.old.inside
+        (λ host. record host { places = after_at as_udp Kind.Udp (act_after (To.Bind (listens_at at port))) host.places socket })) handle.old.inside }
 {
     let address = match optional(address) {
         Ok(address) => address,
@@ -90,7 +95,9 @@ pub extern "C" fn zv_udp_send(
     ensures answer { result ≡ checked_answer (endpoint_in remote.now) (λ to. checked_answer (optional_in local.now) (λ from.
         answer_by handle.old.inside (λ host. answer_at as_udp (λ v. coded of_send (send_answer v (metadata to from) (length bytes.now))) host.places socket))) }
     ensures after { handle.new.inside ≡ checked (endpoint_in remote.now) (λ to. checked (optional_in local.now) (λ from.
-        after_by handle.old.inside (λ host. record host { places = after_at as_udp Kind.Udp (λ v. send_after v (metadata to from) bytes.now) host.places socket })) handle.old.inside) handle.old.inside }
+        after_by handle.old.inside
+        (λ host. record host { places = after_at as_udp Kind.Udp (λ v. send_after v (metadata to from) bytes.now) host.places socket })) handle.old.inside)
+        handle.old.inside }
 {
     let remote = match required_endpoint(remote) {
         Ok(remote) => remote,
@@ -119,11 +126,20 @@ pub extern "C" fn zv_udp_recv(
     remote: &mut Endpoint,
     local: &mut Address,
 ) -> u32
-    ensures answer { result ≡ answer_by handle.old.inside (λ host. answer_at as_udp (λ v. coded of_recv (recv_answer v (length bytes.old))) host.places socket) }
+    ensures answer { result ≡
+        answer_by handle.old.inside (λ host. answer_at as_udp (λ v. coded of_recv (recv_answer v (length bytes.old))) host.places socket) }
     ensures after { handle.new.inside ≡ after_by handle.old.inside (λ host. record host { places = after_at as_udp Kind.Udp (recv_after) host.places socket }) }
-    ensures count { count.new ≡ given_by handle.old.inside (λ host. mapped (λ got. got.0) (answer_at as_udp (λ v. coded of_recv (recv_answer v (length bytes.old))) host.places socket)) count.old }
-    ensures remote { remote.new ≡ given_by handle.old.inside (λ host. mapped (λ got. endpoint_out got.1.endpoint) (answer_at as_udp (λ v. coded of_recv (recv_answer v (length bytes.old))) host.places socket)) remote.old }
-    ensures local { local.new ≡ given_by handle.old.inside (λ host. mapped (λ got. address_or_none got.1.local_address) (answer_at as_udp (λ v. coded of_recv (recv_answer v (length bytes.old))) host.places socket)) local.old }
+    ensures count { count.new ≡
+        given_by handle.old.inside
+        (λ host. mapped (λ got. got.0) (answer_at as_udp (λ v. coded of_recv (recv_answer v (length bytes.old))) host.places socket)) count.old }
+    ensures remote { remote.new ≡
+        given_by handle.old.inside
+        (λ host. mapped (λ got. endpoint_out got.1.endpoint) (answer_at as_udp (λ v. coded of_recv (recv_answer v (length bytes.old))) host.places socket))
+        remote.old }
+    ensures local { local.new ≡
+        given_by handle.old.inside
+        (λ host. mapped (λ got. address_or_none got.1.local_address)
+        (answer_at as_udp (λ v. coded of_recv (recv_answer v (length bytes.old))) host.places socket)) local.old }
     ensures read { bytes.new ≡ written_by handle.old.inside (λ host. written_at as_udp recv_written bytes.old host.places socket) bytes.old }
 {
     let Some(mut host) = handle.take(alloc) else {
@@ -151,7 +167,8 @@ pub extern "C" fn zv_udp_set_hop_limit(
     limit: u8,
 ) -> u32
     ensures answer { result ≡ answer_by handle.old.inside (λ host. answer_at as_udp (act_answer (To.HopLimit limit)) host.places socket) }
-    ensures after { handle.new.inside ≡ after_by handle.old.inside (λ host. record host { places = after_at as_udp Kind.Udp (act_after (To.HopLimit limit)) host.places socket }) }
+    ensures after { handle.new.inside ≡
+        after_by handle.old.inside (λ host. record host { places = after_at as_udp Kind.Udp (act_after (To.HopLimit limit)) host.places socket }) }
 {
     let Some(mut host) = handle.take(alloc) else {
         return NO_HOST;
@@ -165,7 +182,8 @@ pub extern "C" fn zv_udp_set_hop_limit(
 #[unsafe(no_mangle)]
 pub extern "C" fn zv_udp_close(alloc: Global, handle: &mut Handle, socket: usize) -> u32
     ensures answer { result ≡ answer_by handle.old.inside (λ host. answer_at as_udp (act_answer (To.Close)) host.places socket) }
-    ensures after { handle.new.inside ≡ after_by handle.old.inside (λ host. record host { places = after_at as_udp Kind.Udp (act_after (To.Close)) host.places socket }) }
+    ensures after { handle.new.inside ≡
+        after_by handle.old.inside (λ host. record host { places = after_at as_udp Kind.Udp (act_after (To.Close)) host.places socket }) }
 {
     let Some(mut host) = handle.take(alloc) else {
         return NO_HOST;

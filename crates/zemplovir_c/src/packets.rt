@@ -50,7 +50,10 @@ pub extern "C" fn zv_raw_new(
     bytes: usize,
     socket: &mut usize,
 ) -> u32
-    ensures { Where (version_in family) result ((socket.new ≡ socket.old) × (handle.new.inside ≡ handle.old.inside)) (λ version. Gives (MakesSocket (new_raw version (protocol_in protocol) packets bytes)) handle.old.inside result socket.old socket.new handle.new.inside) }
+    ensures { Where (version_in family) result ((socket.new ≡ socket.old) ×
+        (handle.new.inside ≡ handle.old.inside))
+        (λ version. Gives (MakesSocket (new_raw version (protocol_in protocol) packets bytes)) handle.old.inside result socket.old socket.new
+        handle.new.inside) }
 {
     let version = match version_of(family) {
         Ok(version) => version,
@@ -72,8 +75,10 @@ pub extern "C" fn zv_raw_send(
     socket: usize,
     bytes: &[u8],
 ) -> u32
-    ensures answer { result ≡ answer_by handle.old.inside (λ host. answer_at as_raw (λ v. coded of_raw_send (send_answer v (length bytes.now))) host.places socket) }
-    ensures after { handle.new.inside ≡ after_by handle.old.inside (λ host. record host { places = after_at as_raw Kind.Raw (λ v. send_after v bytes.now) host.places socket }) }
+    ensures answer { result ≡
+        answer_by handle.old.inside (λ host. answer_at as_raw (λ v. coded of_raw_send (send_answer v (length bytes.now))) host.places socket) }
+    ensures after { handle.new.inside ≡
+        after_by handle.old.inside (λ host. record host { places = after_at as_raw Kind.Raw (λ v. send_after v bytes.now) host.places socket }) }
 {
     let Some(mut host) = handle.take(alloc) else {
         return NO_HOST;
@@ -92,9 +97,11 @@ pub extern "C" fn zv_raw_recv(
     bytes: &mut [u8],
     count: &mut usize,
 ) -> u32
-    ensures answer { result ≡ answer_by handle.old.inside (λ host. answer_at as_raw (λ v. coded of_recv (counted (recv_answer v (length bytes.old)))) host.places socket) }
+    ensures answer { result ≡
+        answer_by handle.old.inside (λ host. answer_at as_raw (λ v. coded of_recv (counted (recv_answer v (length bytes.old)))) host.places socket) }
     ensures after { handle.new.inside ≡ after_by handle.old.inside (λ host. record host { places = after_at as_raw Kind.Raw (recv_after) host.places socket }) }
-    ensures count { count.new ≡ given_by handle.old.inside (λ host. answer_at as_raw (λ v. coded of_recv (counted (recv_answer v (length bytes.old)))) host.places socket) count.old }
+    ensures count { count.new ≡
+        given_by handle.old.inside (λ host. answer_at as_raw (λ v. coded of_recv (counted (recv_answer v (length bytes.old)))) host.places socket) count.old }
     ensures read { bytes.new ≡ written_by handle.old.inside (λ host. written_at as_raw recv_written bytes.old host.places socket) bytes.old }
 {
     let Some(mut host) = handle.take(alloc) else {

@@ -70,7 +70,9 @@ pub extern "C" fn zv_tcp_set_timeout(
     micros: u64,
 ) -> u32
     ensures answer { result ≡ answer_by handle.old.inside (λ host. answer_at as_tcp (act_answer (To.Timeout (duration_of micros))) host.places socket) }
-    ensures after { handle.new.inside ≡ after_by handle.old.inside (λ host. record host { places = after_at as_tcp Kind.Tcp (act_after (To.Timeout (duration_of micros))) host.places socket }) }
+    ensures after { handle.new.inside ≡
+        after_by handle.old.inside
+        (λ host. record host { places = after_at as_tcp Kind.Tcp (act_after (To.Timeout (duration_of micros))) host.places socket }) }
 {
     let Some(mut host) = handle.take(alloc) else {
         return NO_HOST;
@@ -89,7 +91,9 @@ pub extern "C" fn zv_tcp_set_keep_alive(
     micros: u64,
 ) -> u32
     ensures answer { result ≡ answer_by handle.old.inside (λ host. answer_at as_tcp (act_answer (To.KeepAlive (duration_of micros))) host.places socket) }
-    ensures after { handle.new.inside ≡ after_by handle.old.inside (λ host. record host { places = after_at as_tcp Kind.Tcp (act_after (To.KeepAlive (duration_of micros))) host.places socket }) }
+    ensures after { handle.new.inside ≡
+        after_by handle.old.inside
+        (λ host. record host { places = after_at as_tcp Kind.Tcp (act_after (To.KeepAlive (duration_of micros))) host.places socket }) }
 {
     let Some(mut host) = handle.take(alloc) else {
         return NO_HOST;
@@ -108,7 +112,9 @@ pub extern "C" fn zv_tcp_set_ack_delay(
     micros: u64,
 ) -> u32
     ensures answer { result ≡ answer_by handle.old.inside (λ host. answer_at as_tcp (act_answer (To.AckDelay (duration_of micros))) host.places socket) }
-    ensures after { handle.new.inside ≡ after_by handle.old.inside (λ host. record host { places = after_at as_tcp Kind.Tcp (act_after (To.AckDelay (duration_of micros))) host.places socket }) }
+    ensures after { handle.new.inside ≡
+        after_by handle.old.inside
+        (λ host. record host { places = after_at as_tcp Kind.Tcp (act_after (To.AckDelay (duration_of micros))) host.places socket }) }
 {
     let Some(mut host) = handle.take(alloc) else {
         return NO_HOST;
@@ -127,7 +133,8 @@ pub extern "C" fn zv_tcp_set_nagle(
     enabled: u8,
 ) -> u32
     ensures answer { result ≡ answer_by handle.old.inside (λ host. answer_at as_tcp (act_answer (To.Nagle (is_on enabled))) host.places socket) }
-    ensures after { handle.new.inside ≡ after_by handle.old.inside (λ host. record host { places = after_at as_tcp Kind.Tcp (act_after (To.Nagle (is_on enabled))) host.places socket }) }
+    ensures after { handle.new.inside ≡
+        after_by handle.old.inside (λ host. record host { places = after_at as_tcp Kind.Tcp (act_after (To.Nagle (is_on enabled))) host.places socket }) }
 {
     let Some(mut host) = handle.take(alloc) else {
         return NO_HOST;
@@ -146,7 +153,8 @@ pub extern "C" fn zv_tcp_set_hop_limit(
     limit: u8,
 ) -> u32
     ensures answer { result ≡ answer_by handle.old.inside (λ host. answer_at as_tcp (act_answer (To.HopLimit limit)) host.places socket) }
-    ensures after { handle.new.inside ≡ after_by handle.old.inside (λ host. record host { places = after_at as_tcp Kind.Tcp (act_after (To.HopLimit limit)) host.places socket }) }
+    ensures after { handle.new.inside ≡
+        after_by handle.old.inside (λ host. record host { places = after_at as_tcp Kind.Tcp (act_after (To.HopLimit limit)) host.places socket }) }
 {
     let Some(mut host) = handle.take(alloc) else {
         return NO_HOST;
@@ -165,7 +173,9 @@ pub extern "C" fn zv_tcp_set_retries(
     limit: u16,
 ) -> u32
     ensures answer { result ≡ answer_by handle.old.inside (λ host. answer_at as_tcp (act_answer (To.Retries (byte_or_none limit))) host.places socket) }
-    ensures after { handle.new.inside ≡ after_by handle.old.inside (λ host. record host { places = after_at as_tcp Kind.Tcp (act_after (To.Retries (byte_or_none limit))) host.places socket }) }
+    ensures after { handle.new.inside ≡
+        after_by handle.old.inside
+        (λ host. record host { places = after_at as_tcp Kind.Tcp (act_after (To.Retries (byte_or_none limit))) host.places socket }) }
 {
     let Some(mut host) = handle.take(alloc) else {
         return NO_HOST;
@@ -184,7 +194,9 @@ pub extern "C" fn zv_tcp_set_congestion_control(
     enabled: u8,
 ) -> u32
     ensures answer { result ≡ answer_by handle.old.inside (λ host. answer_at as_tcp (act_answer (To.Congestion (control_of enabled))) host.places socket) }
-    ensures after { handle.new.inside ≡ after_by handle.old.inside (λ host. record host { places = after_at as_tcp Kind.Tcp (act_after (To.Congestion (control_of enabled))) host.places socket }) }
+    ensures after { handle.new.inside ≡
+        after_by handle.old.inside
+        (λ host. record host { places = after_at as_tcp Kind.Tcp (act_after (To.Congestion (control_of enabled))) host.places socket }) }
 {
     let Some(mut host) = handle.take(alloc) else {
         return NO_HOST;
@@ -203,8 +215,11 @@ pub extern "C" fn zv_tcp_set_timestamps(
     enabled: u8,
     first: u32,
 ) -> u32
-    ensures answer { result ≡ answer_by handle.old.inside (λ host. answer_at as_tcp (act_answer (To.Timestamps (generator_of enabled first))) host.places socket) }
-    ensures after { handle.new.inside ≡ after_by handle.old.inside (λ host. record host { places = after_at as_tcp Kind.Tcp (act_after (To.Timestamps (generator_of enabled first))) host.places socket }) }
+    ensures answer { result ≡
+        answer_by handle.old.inside (λ host. answer_at as_tcp (act_answer (To.Timestamps (generator_of enabled first))) host.places socket) }
+    ensures after { handle.new.inside ≡
+        after_by handle.old.inside
+        (λ host. record host { places = after_at as_tcp Kind.Tcp (act_after (To.Timestamps (generator_of enabled first))) host.places socket }) }
 {
     let Some(mut host) = handle.take(alloc) else {
         return NO_HOST;
@@ -223,7 +238,8 @@ pub extern "C" fn zv_tcp_pause_synack(
     paused: u8,
 ) -> u32
     ensures answer { result ≡ answer_by handle.old.inside (λ host. answer_at as_tcp (act_answer (To.PauseSynack (is_on paused))) host.places socket) }
-    ensures after { handle.new.inside ≡ after_by handle.old.inside (λ host. record host { places = after_at as_tcp Kind.Tcp (act_after (To.PauseSynack (is_on paused))) host.places socket }) }
+    ensures after { handle.new.inside ≡
+        after_by handle.old.inside (λ host. record host { places = after_at as_tcp Kind.Tcp (act_after (To.PauseSynack (is_on paused))) host.places socket }) }
 {
     let Some(mut host) = handle.take(alloc) else {
         return NO_HOST;

@@ -50,8 +50,13 @@ pub extern "C" fn zv_tcp_listen(
     address: &Address,
     port: u16,
 ) -> u32
-    ensures answer { result ≡ checked_answer (optional_in address.now) (λ at. answer_by handle.old.inside (λ host. answer_at as_tcp (act_answer (To.Listen (listens_at at port))) host.places socket)) }
-    ensures after { handle.new.inside ≡ checked (optional_in address.now) (λ at. after_by handle.old.inside (λ host. record host { places = after_at as_tcp Kind.Tcp (act_after (To.Listen (listens_at at port))) host.places socket })) handle.old.inside }
+    ensures answer { result ≡
+        checked_answer (optional_in address.now)
+        (λ at. answer_by handle.old.inside (λ host. answer_at as_tcp (act_answer (To.Listen (listens_at at port))) host.places socket)) }
+    ensures after { handle.new.inside ≡
+        checked (optional_in address.now)
+        (λ at. after_by handle.old.inside
+        (λ host. record host { places = after_at as_tcp Kind.Tcp (act_after (To.Listen (listens_at at port))) host.places socket })) handle.old.inside }
 {
     let address = match optional(address) {
         Ok(address) => address,
@@ -76,7 +81,8 @@ pub extern "C" fn zv_tcp_connect(
     port: u16,
 ) -> u32
     ensures answer { result ≡ checked_answer (endpoint_in remote.now) (λ to. checked_answer (optional_in address.now) (λ from.
-        answer_by handle.old.inside (λ host. answer_at as_tcp (λ v. coded of_connect (connect_answer (context_of host.host.inner) v to (listens_at from port))) host.places socket))) }
+        answer_by handle.old.inside
+        (λ host. answer_at as_tcp (λ v. coded of_connect (connect_answer (context_of host.host.inner) v to (listens_at from port))) host.places socket))) }
     ensures after { handle.new.inside ≡ checked (endpoint_in remote.now) (λ to. checked (optional_in address.now) (λ from.
         after_by handle.old.inside (λ host. record host {
           host = if draws_at as_tcp (λ v. connect_draws (context_of host.host.inner) v to (listens_at from port)) host.places socket
@@ -109,9 +115,12 @@ pub extern "C" fn zv_tcp_send(
     bytes: &[u8],
     count: &mut usize,
 ) -> u32
-    ensures answer { result ≡ answer_by handle.old.inside (λ host. answer_at as_tcp (λ v. coded of_stream_send (send_answer v (length bytes.now))) host.places socket) }
-    ensures after { handle.new.inside ≡ after_by handle.old.inside (λ host. record host { places = after_at as_tcp Kind.Tcp (λ v. send_after v bytes.now) host.places socket }) }
-    ensures count { count.new ≡ given_by handle.old.inside (λ host. answer_at as_tcp (λ v. coded of_stream_send (send_answer v (length bytes.now))) host.places socket) count.old }
+    ensures answer { result ≡
+        answer_by handle.old.inside (λ host. answer_at as_tcp (λ v. coded of_stream_send (send_answer v (length bytes.now))) host.places socket) }
+    ensures after { handle.new.inside ≡
+        after_by handle.old.inside (λ host. record host { places = after_at as_tcp Kind.Tcp (λ v. send_after v bytes.now) host.places socket }) }
+    ensures count { count.new ≡
+        given_by handle.old.inside (λ host. answer_at as_tcp (λ v. coded of_stream_send (send_answer v (length bytes.now))) host.places socket) count.old }
 {
     let Some(mut host) = handle.take(alloc) else {
         return NO_HOST;
@@ -130,9 +139,12 @@ pub extern "C" fn zv_tcp_recv(
     bytes: &mut [u8],
     count: &mut usize,
 ) -> u32
-    ensures answer { result ≡ answer_by handle.old.inside (λ host. answer_at as_tcp (λ v. coded of_stream_recv (recv_answer v (length bytes.old))) host.places socket) }
-    ensures after { handle.new.inside ≡ after_by handle.old.inside (λ host. record host { places = after_at as_tcp Kind.Tcp (λ v. read_after v (length bytes.old)) host.places socket }) }
-    ensures count { count.new ≡ given_by handle.old.inside (λ host. answer_at as_tcp (λ v. coded of_stream_recv (recv_answer v (length bytes.old))) host.places socket) count.old }
+    ensures answer { result ≡
+        answer_by handle.old.inside (λ host. answer_at as_tcp (λ v. coded of_stream_recv (recv_answer v (length bytes.old))) host.places socket) }
+    ensures after { handle.new.inside ≡
+        after_by handle.old.inside (λ host. record host { places = after_at as_tcp Kind.Tcp (λ v. read_after v (length bytes.old)) host.places socket }) }
+    ensures count { count.new ≡
+        given_by handle.old.inside (λ host. answer_at as_tcp (λ v. coded of_stream_recv (recv_answer v (length bytes.old))) host.places socket) count.old }
     ensures read { bytes.new ≡ written_by handle.old.inside (λ host. written_at as_tcp read_written bytes.old host.places socket) bytes.old }
 {
     let Some(mut host) = handle.take(alloc) else {
@@ -190,7 +202,8 @@ pub extern "C" fn zv_tcp_done(
     count: &mut usize,
 ) -> u32
     ensures answer { result ≡ answer_by handle.old.inside (λ host. answer_at as_tcp (done_answer wanted) host.places socket) }
-    ensures after { handle.new.inside ≡ after_by handle.old.inside (λ host. record host { places = after_at as_tcp Kind.Tcp (done_after wanted) host.places socket }) }
+    ensures after { handle.new.inside ≡
+        after_by handle.old.inside (λ host. record host { places = after_at as_tcp Kind.Tcp (done_after wanted) host.places socket }) }
     ensures count { count.new ≡ given_by handle.old.inside (λ host. answer_at as_tcp (done_answer wanted) host.places socket) count.old }
 {
     let Some(mut host) = handle.take(alloc) else {
@@ -205,7 +218,8 @@ pub extern "C" fn zv_tcp_done(
 #[unsafe(no_mangle)]
 pub extern "C" fn zv_tcp_close(alloc: Global, handle: &mut Handle, socket: usize) -> u32
     ensures answer { result ≡ answer_by handle.old.inside (λ host. answer_at as_tcp (act_answer (To.Close)) host.places socket) }
-    ensures after { handle.new.inside ≡ after_by handle.old.inside (λ host. record host { places = after_at as_tcp Kind.Tcp (act_after (To.Close)) host.places socket }) }
+    ensures after { handle.new.inside ≡
+        after_by handle.old.inside (λ host. record host { places = after_at as_tcp Kind.Tcp (act_after (To.Close)) host.places socket }) }
 {
     let Some(mut host) = handle.take(alloc) else {
         return NO_HOST;
@@ -219,7 +233,8 @@ pub extern "C" fn zv_tcp_close(alloc: Global, handle: &mut Handle, socket: usize
 #[unsafe(no_mangle)]
 pub extern "C" fn zv_tcp_abort(alloc: Global, handle: &mut Handle, socket: usize) -> u32
     ensures answer { result ≡ answer_by handle.old.inside (λ host. answer_at as_tcp (act_answer (To.Abort)) host.places socket) }
-    ensures after { handle.new.inside ≡ after_by handle.old.inside (λ host. record host { places = after_at as_tcp Kind.Tcp (act_after (To.Abort)) host.places socket }) }
+    ensures after { handle.new.inside ≡
+        after_by handle.old.inside (λ host. record host { places = after_at as_tcp Kind.Tcp (act_after (To.Abort)) host.places socket }) }
 {
     let Some(mut host) = handle.take(alloc) else {
         return NO_HOST;
@@ -287,8 +302,10 @@ pub extern "C" fn zv_tcp_peer(
 ) -> u32
     ensures answer { result ≡ answer_by handle.old.inside (λ host. answer_at as_tcp (ends_in) host.places socket) }
     ensures after { handle.new.inside ≡ handle.old.inside }
-    ensures local { local.new ≡ given_by handle.old.inside (λ host. mapped (λ ends. endpoint_out ends.0) (answer_at as_tcp (ends_in) host.places socket)) local.old }
-    ensures remote { remote.new ≡ given_by handle.old.inside (λ host. mapped (λ ends. endpoint_out ends.1) (answer_at as_tcp (ends_in) host.places socket)) remote.old }
+    ensures local { local.new ≡
+        given_by handle.old.inside (λ host. mapped (λ ends. endpoint_out ends.0) (answer_at as_tcp (ends_in) host.places socket)) local.old }
+    ensures remote { remote.new ≡
+        given_by handle.old.inside (λ host. mapped (λ ends. endpoint_out ends.1) (answer_at as_tcp (ends_in) host.places socket)) remote.old }
 {
     let Some(host) = handle.take(alloc) else {
         return NO_HOST;
@@ -316,8 +333,10 @@ pub extern "C" fn zv_tcp_queues(
 ) -> u32
     ensures answer { result ≡ answer_by handle.old.inside (λ host. answer_at as_tcp (queues_in) host.places socket) }
     ensures after { handle.new.inside ≡ handle.old.inside }
-    ensures received { received.new ≡ given_by handle.old.inside (λ host. mapped (λ lengths. lengths.0) (answer_at as_tcp (queues_in) host.places socket)) received.old }
-    ensures queued { queued.new ≡ given_by handle.old.inside (λ host. mapped (λ lengths. lengths.1) (answer_at as_tcp (queues_in) host.places socket)) queued.old }
+    ensures received { received.new ≡
+        given_by handle.old.inside (λ host. mapped (λ lengths. lengths.0) (answer_at as_tcp (queues_in) host.places socket)) received.old }
+    ensures queued { queued.new ≡
+        given_by handle.old.inside (λ host. mapped (λ lengths. lengths.1) (answer_at as_tcp (queues_in) host.places socket)) queued.old }
 {
     let Some(host) = handle.take(alloc) else {
         return NO_HOST;

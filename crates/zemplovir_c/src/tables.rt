@@ -28,7 +28,8 @@ pub extern "C" fn zv_address_add(
 ) -> u32
     ensures { (named : Result Block Refusal) × IsBlockBy (required_in address.now) prefix named
         × (result ≡ checked_answer named (λ block. answer_by handle.old.inside (λ host. is_done (own_with host.host.inner.addresses block))))
-        × (handle.new.inside ≡ checked named (λ block. after_by handle.old.inside (λ host. with_own host (own_with host.host.inner.addresses block))) handle.old.inside) }
+        × (handle.new.inside ≡ checked named (λ block. after_by handle.old.inside (λ host. with_own host (own_with host.host.inner.addresses block)))
+        handle.old.inside) }
 {
     let block = match block(address, prefix) {
         Ok(block) => block,
@@ -45,8 +46,11 @@ pub extern "C" fn zv_address_add(
 /// Takes an own address out.
 #[unsafe(no_mangle)]
 pub extern "C" fn zv_address_remove(alloc: Global, handle: &mut Handle, address: &Address) -> u32
-    ensures answer { result ≡ checked_answer (required_in address.now) (λ own. answer_by handle.old.inside (λ host. is_done (own_without host.host.inner.addresses own))) }
-    ensures after { handle.new.inside ≡ checked (required_in address.now) (λ own. after_by handle.old.inside (λ host. with_own host (own_without host.host.inner.addresses own))) handle.old.inside }
+    ensures answer { result ≡
+        checked_answer (required_in address.now) (λ own. answer_by handle.old.inside (λ host. is_done (own_without host.host.inner.addresses own))) }
+    ensures after { handle.new.inside ≡
+        checked (required_in address.now) (λ own. after_by handle.old.inside (λ host. with_own host (own_without host.host.inner.addresses own)))
+        handle.old.inside }
 {
     let address = match required(address) {
         Ok(address) => address,
@@ -101,7 +105,8 @@ pub extern "C" fn zv_route_remove(
 ) -> u32
     ensures { (named : Result Block Refusal) × IsBlockBy (required_in network.now) prefix named
         × (result ≡ checked_answer named (λ block. answer_by handle.old.inside (λ host. is_done (routes_without host.host.inner.routes block))))
-        × (handle.new.inside ≡ checked named (λ block. after_by handle.old.inside (λ host. with_table host (routes_without host.host.inner.routes block))) handle.old.inside) }
+        × (handle.new.inside ≡ checked named (λ block. after_by handle.old.inside (λ host. with_table host (routes_without host.host.inner.routes block)))
+        handle.old.inside) }
 {
     let network = match block(network, prefix) {
         Ok(network) => network,
@@ -122,8 +127,12 @@ pub extern "C" fn zv_host_set_hardware(
     handle: &mut Handle,
     hardware: &Hardware,
 ) -> u32
-    ensures answer { result ≡ answer_by handle.old.inside (λ host. hardware_answer (hardware_refusal host.host.inner.hardware (Station.Ethernet (record { 0 = hardware.now.bytes })))) }
-    ensures after { handle.new.inside ≡ after_by handle.old.inside (λ host. record host { host = with_inner host.host (with_hardware host.host.inner (Station.Ethernet (record { 0 = hardware.now.bytes }))) }) }
+    ensures answer { result ≡
+        answer_by handle.old.inside
+        (λ host. hardware_answer (hardware_refusal host.host.inner.hardware (Station.Ethernet (record { 0 = hardware.now.bytes })))) }
+    ensures after { handle.new.inside ≡
+        after_by handle.old.inside
+        (λ host. record host { host = with_inner host.host (with_hardware host.host.inner (Station.Ethernet (record { 0 = hardware.now.bytes }))) }) }
 {
     let Some(mut host) = handle.take(alloc) else {
         return NO_HOST;
@@ -138,7 +147,8 @@ pub extern "C" fn zv_host_set_hardware(
 #[unsafe(no_mangle)]
 pub extern "C" fn zv_host_set_any_ip(alloc: Global, handle: &mut Handle, enabled: u8) -> u32
     ensures answer { result ≡ answer_by handle.old.inside (λ host. all_done) }
-    ensures after { handle.new.inside ≡ after_by handle.old.inside (λ host. record host { host = with_inner host.host (with_any_ip host.host.inner (is_on enabled)) }) }
+    ensures after { handle.new.inside ≡
+        after_by handle.old.inside (λ host. record host { host = with_inner host.host (with_any_ip host.host.inner (is_on enabled)) }) }
 {
     let Some(mut host) = handle.take(alloc) else {
         return NO_HOST;

@@ -12,4 +12,5 @@ returns c =
     let grown : WhereThere (Grown (HasEntry c.args.socket) (may_be_taken s c.args.socket)) c.index_mut.result.now c.add_to.result c.add_to.new.listener =
     subst (λ x. WhereThere (Grown (HasEntry c.args.socket) x) c.index_mut.result.now c.add_to.result c.add_to.new.listener) taken c.add_to.ensures in
     subst (λ x. Takes (HasEntry c.args.socket) x c.args.listener c.args.socket c.add_to.result (with_listener s c.args.listener c.add_to.new.listener)) now
-    (on_listener (Grown (HasEntry c.args.socket) (may_be_taken s c.args.socket)) s _ c.args.listener c.add_to.result c.add_to.new.listener c.index_mut.result.now within c.index_mut.ensures.value grown refl)
+    (on_listener (Grown (HasEntry c.args.socket) (may_be_taken s c.args.socket)) s _ c.args.listener c.add_to.result c.add_to.new.listener
+    c.index_mut.result.now within c.index_mut.ensures.value grown refl)

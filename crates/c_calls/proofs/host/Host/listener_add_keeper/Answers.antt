@@ -9,7 +9,11 @@ returns c =
     let s = the_view c.self.inside in let now : s ≡ c.args.self.now = cc in
     let within : c.args.listener < length c.self.inside.listeners.items = omega (arith, c.if-listener-len.false) in
     let taken : c.may_be_taken-taken.result ≡ may_be_taken s c.args.socket = cc in
-    let grown : WhereThere (Grown (HasKeeper c.args.socket) (may_be_taken s c.args.socket)) c.index_mut.result.now c.add_keeper_to.result c.add_keeper_to.new.listener =
-    subst (λ x. WhereThere (Grown (HasKeeper c.args.socket) x) c.index_mut.result.now c.add_keeper_to.result c.add_keeper_to.new.listener) taken c.add_keeper_to.ensures in
-    subst (λ x. Takes (HasKeeper c.args.socket) x c.args.listener c.args.socket c.add_keeper_to.result (with_listener s c.args.listener c.add_keeper_to.new.listener)) now
-    (on_listener (Grown (HasKeeper c.args.socket) (may_be_taken s c.args.socket)) s _ c.args.listener c.add_keeper_to.result c.add_keeper_to.new.listener c.index_mut.result.now within c.index_mut.ensures.value grown refl)
+    let grown : WhereThere (Grown (HasKeeper c.args.socket) (may_be_taken s c.args.socket)) c.index_mut.result.now c.add_keeper_to.result
+    c.add_keeper_to.new.listener =
+    subst (λ x. WhereThere (Grown (HasKeeper c.args.socket) x) c.index_mut.result.now c.add_keeper_to.result c.add_keeper_to.new.listener) taken
+    c.add_keeper_to.ensures in
+    subst (λ x. Takes (HasKeeper c.args.socket) x c.args.listener c.args.socket c.add_keeper_to.result
+    (with_listener s c.args.listener c.add_keeper_to.new.listener)) now
+    (on_listener (Grown (HasKeeper c.args.socket) (may_be_taken s c.args.socket)) s _ c.args.listener c.add_keeper_to.result c.add_keeper_to.new.listener
+    c.index_mut.result.now within c.index_mut.ensures.value grown refl)

@@ -7,4 +7,5 @@ use Rattle.c_calls.proofs.host.Host.tcp_connect.Goals as goal
 pub returns-clause-after : goal.returns-clause-after
 returns-clause-after c =
     let now : the_view c.self.inside ≡ c.args.self.now = cc in
-    connects c.args.place c.args.remote c.args.local (the_view c.self.inside) c.args.self.now c.connect.new.cx (places c.connect.new.sockets) now c.connect.ensures.drawn c.connect.ensures.after
+    connects c.args.place c.args.remote c.args.local (the_view c.self.inside) c.args.self.now c.connect.new.cx (places c.connect.new.sockets) now
+    c.connect.ensures.drawn c.connect.ensures.after
