@@ -10,4 +10,4 @@ returns c =
     let back = sent_back_is (first c.args.socket.now.received) c.args.buffer.now c.in-Ok.count c.in-Ok.metadata (recv_after c.args.socket.now)
     (sym c.recv_slice.ensures.answer ∙ c.in-Ok.is) in
     let sent = c.send_slice.ensures in
-    sent.1.1.1 ∙ (rw sent.1.0 (rw c.recv_slice.ensures.state (rw c.recv_slice.ensures.read back)))
+    sent.3 ∙ (rw sent.1 (rw c.recv_slice.ensures.state (rw c.recv_slice.ensures.read back)))
