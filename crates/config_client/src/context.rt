@@ -29,7 +29,16 @@ impl Context for Host {
     ghost use Rattle.net_base.specs.Capabilities.{all_checksums};
     ghost use Rattle.net_base.specs.Checksum.TheVariants as checksum;
 
-    ghost context = { λ c. record { moment = c.now; has_ip_addr = λ a. false; source_for = λ a. None; is_broadcast = λ a. false; ip_mtu = 1500; checksums = all_checksums checksum.Both; random = c.words } };
+    ghost context = { λ c. record {
+      moment = c.now;
+      has_ip_addr = λ a. false;
+      source_for = λ a. None;
+      is_broadcast = λ a. false;
+      ip_mtu = 1500;
+      checksums =
+          all_checksums checksum.Both;
+      random = c.words;
+    } };
 
     ghost drawn = { λ c. record c { words = next_state c.words } };
 

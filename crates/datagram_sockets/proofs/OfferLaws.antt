@@ -13,7 +13,8 @@ pub true-false : true ≡ false → ⊥
 true-false is = cc
 
 module _ {H : Type 0} where
-  by_padding : (b : Bool) (p : QueuedPacket H) (ps : List (QueuedPacket H)) (start places room : ℕ) (q : Packets H) → contents q ≡ (p.header, p.bytes) ∷ contents (packets_in ps start places room) → q.places ≡ places → q.room ≡ room
+  by_padding : (b : Bool) (p : QueuedPacket H) (ps : List (QueuedPacket H)) (start places room : ℕ) (q : Packets H) →
+      contents q ≡ (p.header, p.bytes) ∷ contents (packets_in ps start places room) → q.places ≡ places → q.room ≡ room
       → (contents (if b then q else packets_in (record { padding = 0; header = p.header; bytes = p.bytes } ∷ ps) start places room) ≡ contents q)
       × ((if b then q else packets_in (record { padding = 0; header = p.header; bytes = p.bytes } ∷ ps) start places room).places ≡ places)
       × ((if b then q else packets_in (record { padding = 0; header = p.header; bytes = p.bytes } ∷ ps) start places room).room ≡ room)
@@ -34,16 +35,26 @@ module _ {H S : Type 0} where
       let e = unpadded_in v.queued.packets v.queued.start v.queued.places v.queued.room in
       record { received = refl; settings = refl; queued = e.0; places = e.1; room = e.2 }
 
-  unchanged_by : (v v' : SocketValue H S) (o : Option PacketValue) (answer : Answer.Offer) → answer ≡ answer_with o → v' ≡ left_with o v → changed_by answer ≡ false → IsSameButForPlaces v (settled false v')
+  unchanged_by : (v v' : SocketValue H S) (o : Option PacketValue) (answer : Answer.Offer) → answer ≡ answer_with o → v' ≡ left_with o v →
+      changed_by answer ≡ false → IsSameButForPlaces v (settled false v')
   unchanged_by v v' None answer answered state is =
       absurd (true-false (subst (λ a. changed_by a ≡ false) answered is))
   unchanged_by v v' (Some p) answer answered state is =
       subst (λ (w : SocketValue H S). IsSameButForPlaces v (settled false w)) (sym state) (unchanged_at v p)
 
-  unchanged_first : (Takes : S → H × List ℕ → PacketValue → Type 0) (v v' : SocketValue H S) (f : Option (H × List ℕ)) (answer : Answer.Offer) → OffersFirst Takes v f answer v' → changed_by answer ≡ false → IsSameButForPlaces v (settled false v')
+  unchanged_first : (Takes : S → H × List ℕ → PacketValue → Type 0) (v v' : SocketValue H S) (f : Option (H × List ℕ)) (answer : Answer.Offer) →
+      OffersFirst Takes v f answer v' → changed_by answer ≡ false → IsSameButForPlaces v (settled false v')
   unchanged_first Takes v v' None answer offers is =
-      subst (λ (w : SocketValue H S). IsSameButForPlaces v (settled false w)) (sym offers.1) (record { received = refl; settings = refl; queued = refl; places = refl; room = refl })
+      subst (λ (w : SocketValue H S). IsSameButForPlaces v (settled false w)) (sym offers.1) (record {
+        received = refl;
+        settings = refl;
+        queued = refl;
+        places =
+            refl;
+        room = refl;
+      })
   unchanged_first Takes v v' (Some q) answer offers is = unchanged_by v v' v'.offered answer offers.1 offers.2 is
 
-  pub unchanged : (Takes : S → H × List ℕ → PacketValue → Type 0) (v v' : SocketValue H S) (answer : Answer.Offer) → OffersBy Takes v answer v' → changed_by answer ≡ false → IsSameButForPlaces v (settled false v')
+  pub unchanged : (Takes : S → H × List ℕ → PacketValue → Type 0) (v v' : SocketValue H S) (answer : Answer.Offer) → OffersBy Takes v answer v' →
+      changed_by answer ≡ false → IsSameButForPlaces v (settled false v')
   unchanged Takes v v' answer offers is = unchanged_first Takes v v' (first v.queued) answer offers is

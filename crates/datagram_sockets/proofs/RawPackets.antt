@@ -23,7 +23,8 @@ carried_len (Either.Ipv6 v) bytes is =
     omega (arith, range_len bytes 40 (40 + be16 bytes 4) (omega arith) is.whole.within, is.payload)
 
 -- a packet that was read and may be sent is the only one that takes the bytes
-pub only_one : (s : RawFilters) (bytes : List ℕ) (header : IpRepr) → Ip.Fits header → Ip.IsIp false bytes header → ((other : IpRepr) → Ip.IsIp false bytes other → other ≡ header)
+pub only_one : (s : RawFilters) (bytes : List ℕ) (header : IpRepr) → Ip.Fits header → Ip.IsIp false bytes header →
+    ((other : IpRepr) → Ip.IsIp false bytes other → other ≡ header)
     → may_send s header ≡ true → IsOnly (TakesPacket s (tt, bytes)) (bytes_behind header (tt, bytes))
 only_one s bytes header fits is only may = record {
   takes = record { read = is; may_send = may; carried = refl };
@@ -32,7 +33,8 @@ only_one s bytes header fits is only may = record {
 }
 
 -- where the only packet in the bytes may not be sent, none takes them
-pub none_takes : (s : RawFilters) (bytes : List ℕ) (header : IpRepr) → ((other : IpRepr) → Ip.IsIp false bytes other → other ≡ header) → may_send s header ≡ false
+pub none_takes : (s : RawFilters) (bytes : List ℕ) (header : IpRepr) → ((other : IpRepr) → Ip.IsIp false bytes other → other ≡ header) →
+    may_send s header ≡ false
     → (p : PacketValue) → TakesPacket s (tt, bytes) p → ⊥
 none_takes s bytes header only may p takes =
     true-false (sym takes.may_send ∙ ap (may_send s) (only p.header takes.read) ∙ may)

@@ -1,5 +1,6 @@
 -- The packet that takes a queued datagram can be sent, and is the only one.
-use Rattle.std.proofs.Common.{◌≡◌, ℕ, ◌+◌, ◌<◌, ◌^◌, List, length, refl, sym, ap, ◌∙◌, subst, Bool, Option, None, Some, true, false, nat_lt, if◌then◌else◌, arith}
+use Rattle.std.proofs.Common.{◌≡◌, ℕ, ◌+◌, ◌<◌, ◌^◌, List, length, refl, sym, ap, ◌∙◌, subst, Bool, Option, None, Some, true, false, nat_lt, if◌then◌else◌}
+use Rattle.std.proofs.Common.{arith}
 use Rattle.std.proofs.lemmas.Bool.{ltb-true}
 use Rattle.std.proofs.lemmas.Option.{none-some}
 use Rattle.ip_wire.specs.IpAddress.{IpAddress}
@@ -27,7 +28,8 @@ some_when false x y is = absurd (none-some y is)
 less : (n : ℕ) → 20 + (8 + n) < 2 ^ 16 → 8 + n < 2 ^ 16
 less n fits = omega arith
 
-between_takes : (source destination : IpAddress) (protocol : IpProtocol) (bytes : List ℕ) (limit : ℕ) (header : IpRepr) → header_between source destination protocol (8 + length bytes) limit ≡ Some header → Takes bytes header
+between_takes : (source destination : IpAddress) (protocol : IpProtocol) (bytes : List ℕ) (limit : ℕ) (header : IpRepr) →
+    header_between source destination protocol (8 + length bytes) limit ≡ Some header → Takes bytes header
 between_takes (Address.Ipv4 a) (Address.Ipv4 b) protocol bytes limit header is =
     let is_so = some_when (nat_lt (20 + (8 + length bytes)) (2 ^ 16)) _ header is in
     let fits = ltb-true (20 + (8 + length bytes)) (2 ^ 16) is_so.0 in
@@ -39,20 +41,24 @@ between_takes (Address.Ipv6 a) (Address.Ipv6 b) protocol bytes limit header is =
 between_takes (Address.Ipv4 a) (Address.Ipv6 b) protocol bytes limit header is = absurd (none-some header is)
 between_takes (Address.Ipv6 a) (Address.Ipv4 b) protocol bytes limit header is = absurd (none-some header is)
 
-from_takes : (source : Option IpAddress) (s : UdpSettings) (destination : IpAddress) (bytes : List ℕ) (header : IpRepr) → header_from source s destination (length bytes) ≡ Some header → Takes bytes header
+from_takes : (source : Option IpAddress) (s : UdpSettings) (destination : IpAddress) (bytes : List ℕ) (header : IpRepr) →
+    header_from source s destination (length bytes) ≡ Some header → Takes bytes header
 from_takes None s destination bytes header is = absurd (none-some header is)
 from_takes (Some source) s destination bytes header is = between_takes source destination _ bytes (hops s.hop_limit) header is
 
-only_one : (cx : ContextValue) (s : UdpSettings) (q : UdpMetadata × List ℕ) (header : IpRepr) → header_for cx s q.0 (length q.1) ≡ Some header → (other : PacketValue) → TakesDatagram cx s q other
+only_one : (cx : ContextValue) (s : UdpSettings) (q : UdpMetadata × List ℕ) (header : IpRepr) → header_for cx s q.0 (length q.1) ≡ Some header →
+    (other : PacketValue) → TakesDatagram cx s q other
     → other ≡ datagram_behind s.endpoint header q
 only_one cx s q header is other (takes, shaped) =
     shaped ∙ ap (λ (h : IpRepr). datagram_behind s.endpoint h q) (some_same other.header header (sym takes ∙ is))
 
-found_in : (cx : ContextValue) (s : UdpSettings) (q : UdpMetadata × List ℕ) (header : Option IpRepr) → header_for cx s q.0 (length q.1) ≡ header → IsHeaderToSend cx s q header
+found_in : (cx : ContextValue) (s : UdpSettings) (q : UdpMetadata × List ℕ) (header : Option IpRepr) → header_for cx s q.0 (length q.1) ≡ header →
+    IsHeaderToSend cx s q header
 found_in cx s q None is = λ p takes. absurd (none-some p.header (sym is ∙ takes.0))
 found_in cx s q (Some header) is =
     let sent = from_takes (source_for cx s q.0) s q.0.endpoint.addr q.1 header is in
     record { takes = (is, refl); only = only_one cx s q header is; sendable = record { header = sent.0; payload = sent.1; len = sent.2 } }
 
-pub found : (cx : ContextValue) (s : UdpSettings) (metadata : UdpMetadata) (bytes : List ℕ) (header : Option IpRepr) → header ≡ header_for cx s metadata (length bytes) → IsHeaderToSend cx s (metadata, bytes) header
+pub found : (cx : ContextValue) (s : UdpSettings) (metadata : UdpMetadata) (bytes : List ℕ) (header : Option IpRepr) →
+    header ≡ header_for cx s metadata (length bytes) → IsHeaderToSend cx s (metadata, bytes) header
 found cx s metadata bytes header is = found_in cx s (metadata, bytes) header (sym is)

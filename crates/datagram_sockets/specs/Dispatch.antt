@@ -23,6 +23,7 @@ module _ {H S : Type 0} where
       MatchOption v.offered ((r ≡ Ok tt) × (v' ≡ v)) (λ value. GivesAt g f value r × (v' ≡ settled (is_ok r) v))
 
   -- an offer was made, and its packet handed to f
-  abbrev pub Dispatches : {F E : Type 0} → Once F (Packet × Unit {0}) (Result (Unit {0}) E) → F → (Offer → SocketValue H S → Type 0) → Result (Unit {0}) E → SocketValue H S → Type 0
+  abbrev pub Dispatches : {F E : Type 0} → Once F (Packet × Unit {0}) (Result (Unit {0}) E) → F → (Offer → SocketValue H S → Type 0) → Result (Unit {0}) E →
+      SocketValue H S → Type 0
   Dispatches g f Offers r v' =
       (answer : Offer) × (between : SocketValue H S) × Offers answer between × Hands g f between r v'

@@ -11,7 +11,16 @@ use Rattle.ip_wire.specs.IpRepr.TheVariants as Ip
 abbrev pub header_between : IpAddress → IpAddress → IpProtocol → ℕ → ℕ → Option IpRepr
 header_between (Address.Ipv4 source) (Address.Ipv4 destination) protocol len hops =
     if nat_lt (20 + len) (2 ^ 16)
-    then Some (Ip.Ipv4 (record { src_addr = source; dst_addr = destination; next_header = protocol; payload_len = len; hop_limit = hops; ident = 0; dont_frag = false }))
+    then Some (Ip.Ipv4 (record {
+      src_addr = source;
+      dst_addr = destination;
+      next_header = protocol;
+      payload_len = len;
+      hop_limit = hops;
+      ident =
+          0;
+      dont_frag = false;
+    }))
     else None
 header_between (Address.Ipv6 source) (Address.Ipv6 destination) protocol len hops =
     if nat_lt len (2 ^ 16)

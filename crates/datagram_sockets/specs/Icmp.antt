@@ -1,5 +1,6 @@
 -- An ICMP socket as a value, and what its calls answer and leave.
-use Rattle.std.specs.Prelude.{◌≡◌, ℕ, ◌+◌, ◌<◌, ◌^◌, ◌==◌, nat_lt, nat_le, not, ◌&&◌, Bool, true, false, if◌then◌else◌, List, length, Option, None, Some, Result, Ok, Err, is_ok}
+use Rattle.std.specs.Prelude.{◌≡◌, ℕ, ◌+◌, ◌<◌, ◌^◌, ◌==◌, nat_lt, nat_le, not, ◌&&◌, Bool, true, false, if◌then◌else◌, List, length, Option, None, Some}
+use Rattle.std.specs.Prelude.{Result, Ok, Err, is_ok}
 use Rattle.net_base.specs.Packets.{Packets}
 use Rattle.ip_wire.specs.Fields.{be16}
 use Rattle.ip_wire.specs.IpAddress.{IpAddress}

@@ -1,5 +1,6 @@
 -- A socket of datagrams as a value, whatever kind it is of, and what its calls answer and leave.
-use Rattle.std.specs.Prelude.{ℕ, nat_lt, nat_le, not, ◌&&◌, Bool, false, if◌then◌else◌, List, [], ◌++◌, length, drop, Option, None, Some, is_some, Result, Ok, Err, is_ok}
+use Rattle.std.specs.Prelude.{ℕ, nat_lt, nat_le, not, ◌&&◌, Bool, false, if◌then◌else◌, List, [], ◌++◌, length, drop, Option, None, Some, is_some, Result, Ok}
+use Rattle.std.specs.Prelude.{Err, is_ok}
 use Rattle.net_base.specs.Packets.{Packets, packets_in, used_places, is_full_for, appended, unpadded, first, without_first}
 use Rattle.socket_base.specs.Packet.{PacketValue}
 use Rattle.socket_base.specs.declared.poll_at.PollAt.{PollAt}

@@ -1,5 +1,6 @@
 //! Sockets for control messages (RFC 792, RFC 4443).
-ghost use Rattle.std.specs.Prelude.{◌≡◌, ◌≢◌, ◌↔◌, ℕ, ◌+◌, ◌<◌, ◌≤◌, ◌^◌, List, length, take, true, false, IsTrue, IfOk, IfErr, IsErr, OnErr, Ok, Err, None, Some, IsSome, if◌then◌else◌};
+ghost use Rattle.std.specs.Prelude.{◌≡◌, ◌≢◌, ◌↔◌, ℕ, ◌+◌, ◌<◌, ◌≤◌, ◌^◌, List, length, take, true, false, IsTrue, IfOk, IfErr, IsErr, OnErr, Ok, Err, None};
+ghost use Rattle.std.specs.Prelude.{Some, IsSome, if◌then◌else◌};
 ghost use Rattle.std.specs.Borrow.{sem};
 ghost use Rattle.std.specs.Fn.{FnOnceTakesAtMut, FnOnceReturnsAtMut};
 ghost use Rattle.net_base.specs.Packets.{used_room, first};
@@ -12,7 +13,9 @@ ghost use Rattle.control_wire.specs.Icmpv4 as Icmpv4;
 ghost use Rattle.control_wire.specs.Icmpv6 as Icmpv6;
 ghost use Rattle.socket_base.specs.declared.offer.Offer.{Offer};
 ghost use Rattle.socket_base.specs.declared.offer.Offer.TheVariants as Answer;
-ghost use Rattle.datagram_sockets.specs.Icmp.{IcmpValue, made, is_specified, is_open, with_hop_limit, bind_answer, bind_after, send_answer, send_after, takes_echo, takes_quoted, takes_error, accepts_v4, accepts_v6, fits_v4, fits_v6, process_v4_after, process_v6_after, IsPacketFrom, Offers};
+ghost use Rattle.datagram_sockets.specs.Icmp.{IcmpValue, made, is_specified, is_open, with_hop_limit, bind_answer, bind_after, send_answer, send_after};
+ghost use Rattle.datagram_sockets.specs.Icmp.{takes_echo, takes_quoted, takes_error, accepts_v4, accepts_v6, fits_v4, fits_v6, process_v4_after};
+ghost use Rattle.datagram_sockets.specs.Icmp.{process_v6_after, IsPacketFrom, Offers};
 ghost use Rattle.datagram_sockets.specs.IcmpKept.{IsKeptFrom};
 ghost use Rattle.datagram_sockets.specs.SocketValue.{can_send, can_recv, with_queued, is_done, recv_answer, recv_after, recv_written, settled, poll_of};
 ghost use Rattle.datagram_sockets.specs.Offers.{HasPacket, IsSameButForPlaces, changed_by};
@@ -108,7 +111,12 @@ impl Model for Socket {
 
     ghost Value = { IcmpValue };
 
-    ghost view = { λ s. record { received = s.queues.received; queued = s.queues.queued; settings = record { endpoint = s.endpoint; hop_limit = s.hop_limit }; offered = offered_in s.offered (first s.queues.queued) } };
+    ghost view = { λ s. record {
+      received = s.queues.received;
+      queued = s.queues.queued;
+      settings = record { endpoint = s.endpoint; hop_limit = s.hop_limit };
+      offered = offered_in s.offered (first s.queues.queued);
+    } };
 
     ghost invariant = { λ s. IsOpen s.offered s.queues.queued };
 }
@@ -421,7 +429,8 @@ impl Socket {
 
     /// Whether this message, in a packet with this header, is for the socket.
     pub fn accepts_v4(&self, ip_repr: &Ipv4Repr, icmp_repr: &Icmpv4Repr) -> bool
-        ensures { result ≡ accepts_v4 self.now.settings.endpoint (Address.Ipv4 ip_repr.now.dst_addr) (Icmpv4.header_of icmp_repr.now) (Icmpv4.payload_of icmp_repr.now) }
+        ensures { result ≡ accepts_v4 self.now.settings.endpoint (Address.Ipv4 ip_repr.now.dst_addr) (Icmpv4.header_of icmp_repr.now)
+            (Icmpv4.payload_of icmp_repr.now) }
     {
         let destination = IpAddress::Ipv4(ip_repr.dst_addr);
         match *icmp_repr {
@@ -437,7 +446,8 @@ impl Socket {
 
     /// Whether this message, in a packet with this header, is for the socket.
     pub fn accepts_v6(&self, ip_repr: &Ipv6Repr, icmp_repr: &Icmpv6Repr) -> bool
-        ensures { result ≡ accepts_v6 self.now.settings.endpoint (Address.Ipv6 ip_repr.now.dst_addr) (Icmpv6.value_of (Icmpv6.header_of icmp_repr.now)) (Icmpv6.carried_by icmp_repr.now) }
+        ensures { result ≡ accepts_v6 self.now.settings.endpoint (Address.Ipv6 ip_repr.now.dst_addr) (Icmpv6.value_of (Icmpv6.header_of icmp_repr.now))
+            (Icmpv6.carried_by icmp_repr.now) }
     {
         let destination = IpAddress::Ipv6(ip_repr.dst_addr);
         match *icmp_repr {

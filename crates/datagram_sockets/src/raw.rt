@@ -1,5 +1,6 @@
 //! Sockets for whole IP packets (RFC 791, RFC 8200).
-ghost use Rattle.std.specs.Prelude.{◌≡◌, ℕ, ◌+◌, ◌≤◌, ◌↔◌, List, ◌++◌, length, take, true, false, IsTrue, IfOk, IfErr, IsErr, OnErr, Ok, Err, None, Some, IsSome};
+ghost use Rattle.std.specs.Prelude.{◌≡◌, ℕ, ◌+◌, ◌≤◌, ◌↔◌, List, ◌++◌, length, take, true, false, IsTrue, IfOk, IfErr, IsErr, OnErr, Ok, Err, None, Some};
+ghost use Rattle.std.specs.Prelude.{IsSome};
 ghost use Rattle.std.specs.Borrow.{sem};
 ghost use Rattle.std.specs.Fn.{FnOnceTakesAtMut, FnOnceReturnsAtMut};
 ghost use Rattle.net_base.specs.Packets.{used_room, first};
@@ -9,9 +10,11 @@ ghost use Rattle.socket_base.specs.Packet.{PacketValue, IsSendable, option_value
 ghost use Rattle.ip_wire.specs.Ip as Ip;
 ghost use Rattle.socket_base.specs.declared.offer.Offer.{Offer};
 ghost use Rattle.socket_base.specs.declared.offer.Offer.TheVariants as Answer;
-ghost use Rattle.datagram_sockets.specs.Raw.{RawValue, filters, send_answer, send_after, counted, passes, fits, process_after, may_send, carried_by, IsHeaderToSend, Offers};
+ghost use Rattle.datagram_sockets.specs.Raw.{RawValue, filters, send_answer, send_after, counted, passes, fits, process_after, may_send, carried_by};
+ghost use Rattle.datagram_sockets.specs.Raw.{IsHeaderToSend, Offers};
 ghost use Rattle.datagram_sockets.specs.Same.{is_version, is_protocol};
-ghost use Rattle.datagram_sockets.specs.SocketValue.{fresh, taken_in, can_send, can_recv, with_queued, is_done, recv_answer, recv_after, recv_written, peeked, settled, poll_of};
+ghost use Rattle.datagram_sockets.specs.SocketValue.{fresh, taken_in, can_send, can_recv, with_queued, is_done, recv_answer, recv_after, recv_written, peeked};
+ghost use Rattle.datagram_sockets.specs.SocketValue.{settled, poll_of};
 ghost use Rattle.datagram_sockets.specs.Offers.{HasPacket, IsSameButForPlaces, changed_by};
 ghost use Rattle.datagram_sockets.specs.Dispatch.{TakesOffered, Dispatches};
 ghost use Rattle.datagram_sockets.specs.declared.raw.SendError.TheVariants as Send;
@@ -141,7 +144,13 @@ impl Model for Socket {
 
     ghost Value = { RawValue };
 
-    ghost view = { λ s. record { received = s.queues.received; queued = s.queues.queued; settings = filters s.ip_version s.ip_protocol; offered = offered_in s.offered (first s.queues.queued) } };
+    ghost view = { λ s. record {
+      received = s.queues.received;
+      queued = s.queues.queued;
+      settings = filters s.ip_version s.ip_protocol;
+      offered =
+          offered_in s.offered (first s.queues.queued);
+    } };
 
     ghost invariant = { λ s. IsOpen s.offered s.queues.queued };
 }

@@ -1,5 +1,6 @@
 //! Sockets for user datagrams (RFC 768).
-ghost use Rattle.std.specs.Prelude.{◌≡◌, ◌≢◌, ◌+◌, ◌<◌, ◌≤◌, ◌^◌, ◌↔◌, ℕ, List, length, take, false, true, IfOk, IfErr, IsErr, OnErr, OnOk, Result, Ok, Err, Option, None, Some, IsSome, if◌then◌else◌};
+ghost use Rattle.std.specs.Prelude.{◌≡◌, ◌≢◌, ◌+◌, ◌<◌, ◌≤◌, ◌^◌, ◌↔◌, ℕ, List, length, take, false, true, IfOk, IfErr, IsErr, OnErr, OnOk, Result, Ok, Err};
+ghost use Rattle.std.specs.Prelude.{Option, None, Some, IsSome, if◌then◌else◌};
 ghost use Rattle.std.specs.Borrow.{sem};
 ghost use Rattle.std.specs.Fn.{FnOnceTakesAtMut, FnOnceReturnsAtMut};
 ghost use Rattle.net_base.specs.Packets.{used_room, first};
@@ -10,7 +11,8 @@ ghost use Rattle.socket_base.specs.Context.{ContextValue};
 ghost use Rattle.socket_base.specs.Packet.{PacketValue, IsSendable, option_value};
 ghost use Rattle.socket_base.specs.declared.offer.Offer.{Offer};
 ghost use Rattle.socket_base.specs.declared.offer.Offer.TheVariants as Answer;
-ghost use Rattle.datagram_sockets.specs.Udp.{UdpValue, made, metadata_to, is_open, bind_answer, bind_after, closed, with_hop_limit, is_unaddressable, send_answer, send_after, accepts, process_after, header_for, settings_of, IsHeaderToSend, Offers};
+ghost use Rattle.datagram_sockets.specs.Udp.{UdpValue, made, metadata_to, is_open, bind_answer, bind_after, closed, with_hop_limit, is_unaddressable};
+ghost use Rattle.datagram_sockets.specs.Udp.{send_answer, send_after, accepts, process_after, header_for, settings_of, IsHeaderToSend, Offers};
 ghost use Rattle.datagram_sockets.specs.SocketValue.{can_send, can_recv, with_queued, is_done, recv_answer, recv_after, recv_written, settled, poll_of};
 ghost use Rattle.datagram_sockets.specs.Offers.{HasPacket, IsSameButForPlaces, changed_by};
 ghost use Rattle.datagram_sockets.specs.Dispatch.{TakesOffered, Dispatches};
@@ -94,7 +96,13 @@ impl Model for Socket {
 
     ghost Value = { UdpValue };
 
-    ghost view = { λ s. record { received = s.queues.received; queued = s.queues.queued; settings = settings_of s.endpoint s.hop_limit; offered = offered_in s.endpoint s.offered (first s.queues.queued) } };
+    ghost view = { λ s. record {
+      received = s.queues.received;
+      queued = s.queues.queued;
+      settings = settings_of s.endpoint s.hop_limit;
+      offered =
+          offered_in s.endpoint s.offered (first s.queues.queued);
+    } };
 
     ghost invariant = { λ s. IsOpen s.offered s.queues.queued };
 }

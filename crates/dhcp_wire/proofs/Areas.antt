@@ -42,7 +42,8 @@ options_by b bytes is_pad is_end = elim is_pad [
   | false ↦ elim is_end [ true ↦ [] | false ↦ option_before b bytes (options_in (suc (slice_index bytes 0)) bytes) ]
 ]
 
-options_in-by : (b : ℕ) (bytes : List ℕ) (is_pad is_end : Bool) → (b == 0) ≡ is_pad → (b == 255) ≡ is_end → options_in 0 (b ∷ bytes) ≡ options_by b bytes is_pad is_end
+options_in-by : (b : ℕ) (bytes : List ℕ) (is_pad is_end : Bool) → (b == 0) ≡ is_pad → (b == 255) ≡ is_end →
+    options_in 0 (b ∷ bytes) ≡ options_by b bytes is_pad is_end
 options_in-by b bytes is_pad is_end pad end = ap (λ t. options_by b bytes t (b == 255)) pad ∙ ap (options_by b bytes is_pad) end
 
 abbrev area_by : List ℕ → Bool → Bool → Bool
@@ -96,4 +97,5 @@ last_of-miss kind code n inner so_far some goes le isnt =
     last_of-one kind code n inner so_far some goes le
     ∙ ap (λ (t : Bool). last_of kind (if t then Some (take n inner) else so_far) (options_in 0 (drop n inner))) (ne_eqb code kind isnt)
 
-pub ruleset area_steps = (options_in-pad, options_in-end, options_in-one, is_area-pad, is_area-end, is_area-one, is_area-short, is_area-lone, last_of-hit, last_of-miss)
+pub ruleset area_steps =
+    (options_in-pad, options_in-end, options_in-one, is_area-pad, is_area-end, is_area-one, is_area-short, is_area-lone, last_of-hit, last_of-miss)

@@ -1,5 +1,6 @@
 -- The fixed fields of a message that was written, read.
-use Rattle.std.proofs.Common.{◌≡◌, ℕ, ◌+◌, ◌-◌, ◌*◌, ◌≤◌, List, [], ◌∷◌, ◌++◌, length, take, drop, replicate, get_or, refl, sym, ◌∙◌, ap, subst, arith, append_assoc, length-append}
+use Rattle.std.proofs.Common.{◌≡◌, ℕ, ◌+◌, ◌-◌, ◌*◌, ◌≤◌, List, [], ◌∷◌, ◌++◌, length, take, drop, replicate, get_or, refl, sym, ◌∙◌, ap, subst, arith}
+use Rattle.std.proofs.Common.{append_assoc, length-append}
 use Rattle.std.specs.Prelude.{slice_range, slice_index}
 use Rattle.std.specs.Int.{w16, w32, to_be_bytes}
 use Rattle.std.proofs.lemmas.List.{take_at, drop_at, drop-drop, get_or-drop, length-replicate}
@@ -54,14 +55,32 @@ number-at bytes a b c d rest is =
     omega (arith, i0, i1, i2, i3)
 
 -- the addresses of the front
-front-parts : (v : DhcpRepr) (rest : List ℕ) → drop 12 (regrouped v rest) ≡ v.client_ip.0 ++ (v.your_ip.0 ++ (v.server_ip.0 ++ (v.relay_agent_ip.0 ++ behind_front v rest)))
+front-parts : (v : DhcpRepr) (rest : List ℕ) →
+    drop 12 (regrouped v rest) ≡ v.client_ip.0 ++ (v.your_ip.0 ++ (v.server_ip.0 ++ (v.relay_agent_ip.0 ++ behind_front v rest)))
 front-parts v rest = simp append_assoc refl
 
 length-front : (v : DhcpRepr) → IsValue v → length (front v) ≡ 28
-length-front v is = omega (arith, is.client_ip.0, is.your_ip.0, is.server_ip.0, is.relay_agent_ip.0, length-append v.client_ip.0 (v.your_ip.0 ++ (v.server_ip.0 ++ v.relay_agent_ip.0)), length-append v.your_ip.0 (v.server_ip.0 ++ v.relay_agent_ip.0), length-append v.server_ip.0 v.relay_agent_ip.0)
+length-front v is = omega (
+  arith,
+  is.client_ip.0,
+  is.your_ip.0,
+  is.server_ip.0,
+  is.relay_agent_ip.0,
+  length-append v.client_ip.0 (v.your_ip.0 ++ (v.server_ip.0 ++ v.relay_agent_ip.0)),
+  length-append v.your_ip.0 (v.server_ip.0 ++ v.relay_agent_ip.0),
+  length-append v.server_ip.0 v.relay_agent_ip.0,
+)
 
 pub length-fixed : (v : DhcpRepr) → IsValue v → length (fixed v) ≡ 240
-length-fixed v is = omega (arith, length-front v is, is.client_hardware_address.0, length-append (front v) (v.client_hardware_address.0 ++ (unused ++ (99 ∷ 130 ∷ 83 ∷ 99 ∷ []))), length-append v.client_hardware_address.0 (unused ++ (99 ∷ 130 ∷ 83 ∷ 99 ∷ [])), length-append unused (99 ∷ 130 ∷ 83 ∷ 99 ∷ []), length-unused)
+length-fixed v is = omega (
+  arith,
+  length-front v is,
+  is.client_hardware_address.0,
+  length-append (front v) (v.client_hardware_address.0 ++ (unused ++ (99 ∷ 130 ∷ 83 ∷ 99 ∷ []))),
+  length-append v.client_hardware_address.0 (unused ++ (99 ∷ 130 ∷ 83 ∷ 99 ∷ [])),
+  length-append unused (99 ∷ 130 ∷ 83 ∷ 99 ∷ []),
+  length-unused,
+)
 
 AreFixed-regrouped : (v : DhcpRepr) (rest : List ℕ) → IsValue v → AreFixed v (regrouped v rest) rest
 AreFixed-regrouped v rest is =
@@ -81,7 +100,15 @@ AreFixed-regrouped v rest is =
       client_hardware_address = station.here;
       magic_number = number-at bytes 99 130 83 99 rest names.behind;
       options = magic.behind;
-      long = omega (arith, length-front v is, is.client_hardware_address.0, length-append (front v) (behind_front v rest), length-append v.client_hardware_address.0 (unused ++ (99 ∷ 130 ∷ 83 ∷ 99 ∷ rest)), length-append unused (99 ∷ 130 ∷ 83 ∷ 99 ∷ rest), length-unused);
+      long = omega (
+        arith,
+        length-front v is,
+        is.client_hardware_address.0,
+        length-append (front v) (behind_front v rest),
+        length-append v.client_hardware_address.0 (unused ++ (99 ∷ 130 ∷ 83 ∷ 99 ∷ rest)),
+        length-append unused (99 ∷ 130 ∷ 83 ∷ 99 ∷ rest),
+        length-unused,
+      );
     }
 
 -- the message, and what follows it
@@ -95,4 +122,10 @@ AreFixed-written v more is =
 
 pub length-written : (v : DhcpRepr) → IsValue v → length (written v) ≡ buffer_len v
 length-written v is =
-    omega (arith, length-fixed v is, length-append (fixed v) (options_bytes v ++ (255 ∷ replicate (padding v) 0)), length-append (options_bytes v) (255 ∷ replicate (padding v) 0), length-replicate {A = ℕ} (padding v) 0)
+    omega (
+      arith,
+      length-fixed v is,
+      length-append (fixed v) (options_bytes v ++ (255 ∷ replicate (padding v) 0)),
+      length-append (options_bytes v) (255 ∷ replicate (padding v) 0),
+      length-replicate {A = ℕ} (padding v) 0,
+    )

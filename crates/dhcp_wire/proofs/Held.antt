@@ -1,5 +1,6 @@
 -- What options hold, written and read.
-use Rattle.std.proofs.Common.{◌≡◌, ℕ, ◌+◌, ◌-◌, ◌<◌, ◌≤◌, ◌^◌, Bool, true, false, List, [], ◌∷◌, ◌++◌, length, take, drop, refl, sym, ◌∙◌, ap, subst, arith, append_assoc, length-append}
+use Rattle.std.proofs.Common.{◌≡◌, ℕ, ◌+◌, ◌-◌, ◌<◌, ◌≤◌, ◌^◌, Bool, true, false, List, [], ◌∷◌, ◌++◌, length, take, drop, refl, sym, ◌∙◌, ap, subst, arith}
+use Rattle.std.proofs.Common.{append_assoc, length-append}
 use Rattle.std.specs.Prelude.{Option, Some, None, IsTrue, slice_range}
 use Rattle.std.specs.Int.{w16, w32, to_be_bytes}
 use Rattle.std.proofs.lemmas.Bool.{le-leb, lt-leb, eq-eqb}
@@ -97,7 +98,9 @@ AreRead-one a is =
     let len : length (a.0 ++ []) ≡ 4 = omega (arith, is.0, length-append a.0 []) in
     let some = inside-some (a.0 ++ []) (omega (arith, len)) in
     record {
-      servers_are = ap servers_in some ∙ three _ _ _ (Some a) None None (address_at-part [] [] a 0 refl is) (address_at-none (a.0 ++ []) 4 (omega (arith, len))) (address_at-none (a.0 ++ []) 8 (omega (arith, len)));
+      servers_are = ap servers_in some ∙
+          three _ _ _ (Some a) None None (address_at-part [] [] a 0 refl is) (address_at-none (a.0 ++ []) 4 (omega (arith, len)))
+          (address_at-none (a.0 ++ []) 8 (omega (arith, len)));
       lengths = ap has_addresses some ∙ rw len refl;
     }
 
@@ -106,18 +109,23 @@ AreRead-two a b is also =
     let len : length (a.0 ++ (b.0 ++ [])) ≡ 8 = omega (arith, is.0, also.0, length-append a.0 (b.0 ++ []), length-append b.0 []) in
     let some = inside-some (a.0 ++ (b.0 ++ [])) (omega (arith, len)) in
     record {
-      servers_are = ap servers_in some ∙ three _ _ _ (Some a) (Some b) None (address_at-part [] (b.0 ++ []) a 0 refl is) (address_at-part a.0 [] b 4 is.0 also) (address_at-none (a.0 ++ (b.0 ++ [])) 8 (omega (arith, len)));
+      servers_are = ap servers_in some ∙
+          three _ _ _ (Some a) (Some b) None (address_at-part [] (b.0 ++ []) a 0 refl is) (address_at-part a.0 [] b 4 is.0 also)
+          (address_at-none (a.0 ++ (b.0 ++ [])) 8 (omega (arith, len)));
       lengths = ap has_addresses some ∙ rw len refl;
     }
 
-AreRead-three : (a b c : Ipv4Address) → IsIpv4Address a → IsIpv4Address b → IsIpv4Address c → AreRead (a.0 ++ (b.0 ++ (c.0 ++ []))) (Some a ∷ Some b ∷ Some c ∷ [])
+AreRead-three : (a b c : Ipv4Address) → IsIpv4Address a → IsIpv4Address b → IsIpv4Address c →
+    AreRead (a.0 ++ (b.0 ++ (c.0 ++ []))) (Some a ∷ Some b ∷ Some c ∷ [])
 AreRead-three a b c is also last =
-    let len : length (a.0 ++ (b.0 ++ (c.0 ++ []))) ≡ 12 = omega (arith, is.0, also.0, last.0, length-append a.0 (b.0 ++ (c.0 ++ [])), length-append b.0 (c.0 ++ []), length-append c.0 []) in
+    let len : length (a.0 ++ (b.0 ++ (c.0 ++ []))) ≡ 12 =
+    omega (arith, is.0, also.0, last.0, length-append a.0 (b.0 ++ (c.0 ++ [])), length-append b.0 (c.0 ++ []), length-append c.0 []) in
     let some = inside-some (a.0 ++ (b.0 ++ (c.0 ++ []))) (omega (arith, len)) in
     let eight : length (a.0 ++ b.0) ≡ 8 = omega (arith, is.0, also.0, length-append a.0 b.0) in
     let third = ap (λ xs. address_at xs 8) (sym (append_assoc a.0 b.0 (c.0 ++ []))) ∙ address_at-part (a.0 ++ b.0) [] c 8 eight last in
     record {
-      servers_are = ap servers_in some ∙ three _ _ _ (Some a) (Some b) (Some c) (address_at-part [] (b.0 ++ (c.0 ++ [])) a 0 refl is) (address_at-part a.0 (c.0 ++ []) b 4 is.0 also) third;
+      servers_are = ap servers_in some ∙
+          three _ _ _ (Some a) (Some b) (Some c) (address_at-part [] (b.0 ++ (c.0 ++ [])) a 0 refl is) (address_at-part a.0 (c.0 ++ []) b 4 is.0 also) third;
       lengths = ap has_addresses some ∙ rw len refl;
     }
 

@@ -8,15 +8,33 @@ use Rattle.dhcp_wire.specs.MessageType.{type_number, opcode_of, op_number}
 use Rattle.dhcp_wire.specs.Options.{OptionValue, options_in, is_area, last_of, seen}
 use Rattle.dhcp_wire.specs.Packet.{IsWhole, overload_number, overload_of, file_area, sname_area, option_of}
 use Rattle.dhcp_wire.specs.Values.{has_length, has_addresses, address_in, number16_in, number32_in, station_in, servers_in}
-use Rattle.dhcp_wire.specs.Written.{slots, padding, written, address_inside, number16_inside, number32_inside, station_inside, addresses_bytes, addresses_inside}
+use Rattle.dhcp_wire.specs.Written.{slots, padding, written, address_inside, number16_inside, number32_inside, station_inside, addresses_bytes}
+use Rattle.dhcp_wire.specs.Written.{addresses_inside}
 use Rattle.dhcp_wire.specs.Normal.{IsValue, normal}
 use Rattle.dhcp_wire.specs.declared.repr.DhcpRepr.{DhcpRepr}
 use Rattle.dhcp_wire.proofs.Fixed.{AreFixed, AreFixed-written}
 use Rattle.dhcp_wire.proofs.Slots.{AreKinds, present, options_bytes-slots, options_in-slots, is_area-slots, look, last_of-present, or_else-none}
-use Rattle.dhcp_wire.proofs.Held.{AreRead, AreRead-servers, address_in-inside, has_length-address, has_addresses-address, number16_in-inside, has_length-number16, number32_in-inside, has_length-number32, station_in-inside, type_in-number}
+use Rattle.dhcp_wire.proofs.Held.{AreRead, AreRead-servers, address_in-inside, has_length-address, has_addresses-address, number16_in-inside}
+use Rattle.dhcp_wire.proofs.Held.{has_length-number16, number32_in-inside, has_length-number32, station_in-inside, type_in-number}
 
 kinds : (v : DhcpRepr) → AreKinds (slots v)
-kinds v = (refl, refl, (refl, refl, (refl, refl, (refl, refl, (refl, refl, (refl, refl, (refl, refl, (refl, refl, (refl, refl, (refl, refl, (refl, refl, (refl, refl, (refl, refl, tt)))))))))))))
+kinds v = (
+  refl,
+  refl,
+  (
+    refl,
+    refl,
+    (
+      refl,
+      refl,
+      (
+        refl,
+        refl,
+        (refl, refl, (refl, refl, (refl, refl, (refl, refl, (refl, refl, (refl, refl, (refl, refl, (refl, refl, (refl, refl, tt))))))))),
+      ),
+    ),
+  ),
+)
 
 options_in-written : (v : DhcpRepr) (more : List ℕ) → IsValue v → options_in 0 (drop 240 (written v ++ more)) ≡ present (slots v)
 options_in-written v more is =
@@ -39,12 +57,14 @@ overload-none v more is =
 option_of-look : (v : DhcpRepr) (more : List ℕ) (kind : ℕ) → IsValue v → option_of kind (written v ++ more) ≡ look kind None (slots v)
 option_of-look v more kind is =
     let bytes : List ℕ = written v ++ more in
-    ap (λ n. last_of kind (last_of kind (last_of kind None (options_in 0 (drop 240 bytes))) (options_in 0 (file_area n bytes))) (options_in 0 (sname_area n bytes))) (overload-none v more is)
+    ap (λ n. last_of kind (last_of kind (last_of kind None (options_in 0 (drop 240 bytes))) (options_in 0 (file_area n bytes)))
+    (options_in 0 (sname_area n bytes))) (overload-none v more is)
     ∙ ap (last_of kind None) (options_in-written v more is)
     ∙ last_of-present kind None (slots v)
 
 -- an option of a message that was written, with what is inside
-option-is : (v : DhcpRepr) (more : List ℕ) (kind : ℕ) (inside : Option (List ℕ)) → IsValue v → look kind None (slots v) ≡ inside → option_of kind (written v ++ more) ≡ inside
+option-is : (v : DhcpRepr) (more : List ℕ) (kind : ℕ) (inside : Option (List ℕ)) → IsValue v → look kind None (slots v) ≡ inside →
+    option_of kind (written v ++ more) ≡ inside
 option-is v more kind inside is looked = option_of-look v more kind is ∙ looked
 
 IsWhole-written : (v : DhcpRepr) (more : List ℕ) → IsValue v → IsWhole (written v ++ more)
@@ -95,11 +115,14 @@ AreOptions-written v more is = record {
 AreLengths-options : (v : DhcpRepr) (bytes : List ℕ) → IsValue v → AreOptions v bytes → AreLengths bytes
 AreLengths-options v bytes is o = record {
   network = and_from _ _ (ap (has_length 4) o.subnet_mask ∙ has_length-address v.subnet_mask is.subnet_mask)
-      (and_from _ _ (ap has_addresses o.router ∙ has_addresses-address v.router is.router) (ap has_addresses o.dns_servers ∙ (AreRead-servers v.dns_servers is.dns_servers).lengths));
+      (and_from _ _ (ap has_addresses o.router ∙ has_addresses-address v.router is.router) (ap has_addresses o.dns_servers ∙
+      (AreRead-servers v.dns_servers is.dns_servers).lengths));
   server = and_from _ _ (ap (has_length 4) o.requested_ip ∙ has_length-address v.requested_ip is.requested_ip)
-      (and_from _ _ (ap (has_length 4) o.server_identifier ∙ has_length-address v.server_identifier is.server_identifier) (ap (has_length 2) o.max_size ∙ has_length-number16 v.max_size));
+      (and_from _ _ (ap (has_length 4) o.server_identifier ∙ has_length-address v.server_identifier is.server_identifier) (ap (has_length 2) o.max_size ∙
+      has_length-number16 v.max_size));
   times = and_from _ _ (ap (has_length 4) o.lease_duration ∙ has_length-number32 v.lease_duration)
-      (and_from _ _ (ap (has_length 4) o.renew_duration ∙ has_length-number32 v.renew_duration) (ap (has_length 4) o.rebind_duration ∙ has_length-number32 v.rebind_duration));
+      (and_from _ _ (ap (has_length 4) o.renew_duration ∙ has_length-number32 v.renew_duration) (ap (has_length 4) o.rebind_duration ∙
+      has_length-number32 v.rebind_duration));
 }
 
 -- the type of a message that was written

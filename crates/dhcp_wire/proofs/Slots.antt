@@ -1,10 +1,12 @@
 -- Options that were written, read.
-use Rattle.std.proofs.Common.{◌≡◌, ◌≢◌, ℕ, ◌+◌, ◌≤◌, Bool, true, false, eqb, List, [], ◌∷◌, ◌++◌, length, take, drop, refl, sym, ◌∙◌, ap, arith, append_assoc, length-append}
+use Rattle.std.proofs.Common.{◌≡◌, ◌≢◌, ℕ, ◌+◌, ◌≤◌, Bool, true, false, eqb, List, [], ◌∷◌, ◌++◌, length, take, drop, refl, sym, ◌∙◌, ap, arith, append_assoc}
+use Rattle.std.proofs.Common.{length-append}
 use Rattle.std.specs.Prelude.{◌==◌, Option, Some, None, if◌then◌else◌}
 use Rattle.std.proofs.lemmas.Bool.{eqb-false}
 use Rattle.std.proofs.Math.Seq.{take-append_seam, drop-append_seam}
 use Rattle.dhcp_wire.specs.Options.{OptionValue, options_in, is_area, last_of}
-use Rattle.dhcp_wire.specs.Written.{Slot, inside_bytes, slots_bytes, client_slots, name_slots, time_slots, network_slots, slots, client_bytes, name_bytes, time_bytes, network_bytes, options_bytes}
+use Rattle.dhcp_wire.specs.Written.{Slot, inside_bytes, slots_bytes, client_slots, name_slots, time_slots, network_slots, slots, client_bytes, name_bytes}
+use Rattle.dhcp_wire.specs.Written.{time_bytes, network_bytes, options_bytes}
 use Rattle.dhcp_wire.specs.declared.repr.DhcpRepr.{DhcpRepr}
 use Rattle.dhcp_wire.proofs.Areas.{options_in-one, is_area-one}
 
@@ -26,7 +28,8 @@ abbrev pub AreKinds : List Slot → Type 0
 AreKinds [] = Unit {0}
 AreKinds (s ∷ slots) = ((s.kind == 0) ≡ false) × ((s.kind == 255) ≡ false) × AreKinds slots
 
-options_in-inside : (kind : ℕ) (inside : Option (List ℕ)) (bytes : List ℕ) → kind ≢ 0 → kind ≢ 255 → options_in 0 (inside_bytes kind inside ++ bytes) ≡ one kind inside (options_in 0 bytes)
+options_in-inside : (kind : ℕ) (inside : Option (List ℕ)) (bytes : List ℕ) → kind ≢ 0 → kind ≢ 255 →
+    options_in 0 (inside_bytes kind inside ++ bytes) ≡ one kind inside (options_in 0 bytes)
 options_in-inside kind None bytes some goes = refl
 options_in-inside kind (Some inside) bytes some goes =
     options_in-one kind (length inside) (inside ++ bytes) some goes (omega (arith, length-append inside bytes))
@@ -40,7 +43,8 @@ options_in-slots (s ∷ slots) rest kinds =
     ∙ options_in-inside s.kind s.inside (slots_bytes slots ++ (255 ∷ rest)) (eqb-false s.kind 0 kinds.0) (eqb-false s.kind 255 kinds.1)
     ∙ ap (one s.kind s.inside) (options_in-slots slots rest kinds.2)
 
-is_area-inside : (kind : ℕ) (inside : Option (List ℕ)) (bytes : List ℕ) → kind ≢ 0 → kind ≢ 255 → is_area 0 (inside_bytes kind inside ++ bytes) ≡ is_area 0 bytes
+is_area-inside : (kind : ℕ) (inside : Option (List ℕ)) (bytes : List ℕ) → kind ≢ 0 → kind ≢ 255 →
+    is_area 0 (inside_bytes kind inside ++ bytes) ≡ is_area 0 bytes
 is_area-inside kind None bytes some goes = refl
 is_area-inside kind (Some inside) bytes some goes =
     is_area-one kind (length inside) (inside ++ bytes) some goes (omega (arith, length-append inside bytes))
@@ -67,7 +71,8 @@ same-both : (b : Bool) (x : Option (List ℕ)) → x ≡ (if b then x else x)
 same-both true x = refl
 same-both false x = refl
 
-last_of-one : (kind k : ℕ) (inside so_far : Option (List ℕ)) (os : List OptionValue) → last_of kind so_far (one k inside os) ≡ last_of kind (if k == kind then or_else inside so_far else so_far) os
+last_of-one : (kind k : ℕ) (inside so_far : Option (List ℕ)) (os : List OptionValue) →
+    last_of kind so_far (one k inside os) ≡ last_of kind (if k == kind then or_else inside so_far else so_far) os
 last_of-one kind k None so_far os = ap (λ s. last_of kind s os) (same-both (k == kind) so_far)
 last_of-one kind k (Some inside) so_far os = refl
 
@@ -85,7 +90,8 @@ or_else-none (Some inside) = refl
 pub slots_bytes-append : (a b : List Slot) → slots_bytes (a ++ b) ≡ slots_bytes a ++ slots_bytes b
 slots_bytes-append [] b = refl
 slots_bytes-append (s ∷ slots) b =
-    ap (λ xs. inside_bytes s.kind s.inside ++ xs) (slots_bytes-append slots b) ∙ sym (append_assoc (inside_bytes s.kind s.inside) (slots_bytes slots) (slots_bytes b))
+    ap (λ xs. inside_bytes s.kind s.inside ++ xs) (slots_bytes-append slots b) ∙
+    sym (append_assoc (inside_bytes s.kind s.inside) (slots_bytes slots) (slots_bytes b))
 
 -- the options of a message, group by group, are those of all slots
 pub options_bytes-slots : (v : DhcpRepr) → options_bytes v ≡ slots_bytes (slots v)

@@ -1,5 +1,6 @@
 -- A message as a value (RFC 2131, section 2; RFC 2132).
-use Rattle.std.specs.Prelude.{◌≡◌, ◌==◌, ◌≢◌, ℕ, ◌/◌, ◌%◌, ◌≤◌, Bool, true, false, ◌&&◌, IsTrue, IsSome, Option, Some, None, List, [], ◌∷◌, length, slice_index, slice_range}
+use Rattle.std.specs.Prelude.{◌≡◌, ◌==◌, ◌≢◌, ℕ, ◌/◌, ◌%◌, ◌≤◌, Bool, true, false, ◌&&◌, IsTrue, IsSome, Option, Some, None, List, [], ◌∷◌, length, slice_index}
+use Rattle.std.specs.Prelude.{slice_range}
 use Rattle.ip_address.specs.Fields.{be16, be32}
 use Rattle.dhcp_wire.specs.MessageType.{type_of, opcode_of, op_number}
 use Rattle.dhcp_wire.specs.Options.{seen}

@@ -1,6 +1,7 @@
 -- DHCP options (RFC 2132, section 2). A pad is a single 0, and the end a single 255. Every other option is its code,
 -- a byte that counts what is inside, and what is inside. An area of options goes to its end, or to the end of the bytes.
-use Rattle.std.specs.Prelude.{◌==◌, ℕ, zero, suc, ◌+◌, Bool, true, false, nat_le, if◌then◌else◌, Option, Some, None, List, [], ◌∷◌, ◌++◌, length, take, slice_index}
+use Rattle.std.specs.Prelude.{◌==◌, ℕ, zero, suc, ◌+◌, Bool, true, false, nat_le, if◌then◌else◌, Option, Some, None, List, [], ◌∷◌, ◌++◌, length, take}
+use Rattle.std.specs.Prelude.{slice_index}
 use denote.Ref.{Bor}
 use Rattle.dhcp_wire.specs.declared.option.DhcpOption.{DhcpOption}
 

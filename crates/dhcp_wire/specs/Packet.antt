@@ -1,6 +1,7 @@
 -- A message in bytes (RFC 2131, section 2): fixed fields of 240 bytes with the magic number, and then the options. The
 -- overload option (RFC 2132, section 9.3) says whether the fields of the file and of the server's name hold options too.
-use Rattle.std.specs.Prelude.{◌≡◌, ◌==◌, ℕ, ◌≤◌, Bool, true, false, nat_le, ◌&&◌, ◌||◌, IsTrue, if◌then◌else◌, Option, Some, None, List, [], ◌∷◌, length, drop, slice_index, slice_range}
+use Rattle.std.specs.Prelude.{◌≡◌, ◌==◌, ℕ, ◌≤◌, Bool, true, false, nat_le, ◌&&◌, ◌||◌, IsTrue, if◌then◌else◌, Option, Some, None, List, [], ◌∷◌, length, drop}
+use Rattle.std.specs.Prelude.{slice_index, slice_range}
 use Rattle.dhcp_wire.specs.Options.{is_area, options_in, last_of}
 use Rattle.dhcp_wire.specs.declared.packet.DhcpPacket.{DhcpPacket}
 

@@ -4,7 +4,9 @@ ghost use Rattle.std.specs.Int.{w16, w32, to_be_bytes};
 ghost use Rattle.ip_address.specs.Extends.{Extends};
 ghost use Rattle.dhcp_wire.specs.Options.{seen};
 ghost use Rattle.dhcp_wire.specs.MessageType.{type_number};
-ghost use Rattle.dhcp_wire.specs.Written.{Fits, FitsInside, inside_bytes, address_inside, number16_inside, number32_inside, station_inside, addresses_bytes, addresses_inside, client_bytes, name_bytes, time_bytes, network_bytes, flag_byte, unused, front, fixed, options_bytes, padding, buffer_len, written};
+ghost use Rattle.dhcp_wire.specs.Written.{Fits, FitsInside, inside_bytes, address_inside, number16_inside, number32_inside, station_inside, addresses_bytes};
+ghost use Rattle.dhcp_wire.specs.Written.{addresses_inside, client_bytes, name_bytes, time_bytes, network_bytes, flag_byte, unused, front, fixed};
+ghost use Rattle.dhcp_wire.specs.Written.{options_bytes, padding, buffer_len, written};
 
 use crate::field;
 use crate::repr::{DhcpRepr, MAX_DNS_SERVER_COUNT};

@@ -2,7 +2,8 @@
 ghost use Rattle.std.specs.Prelude.{◌≡◌, ◌↔◌, ◌≤◌, ◌<◌, ℕ, Bool, IsTrue, IsOk, IfOk, Option, Some, None, List, length, slice_index};
 ghost use Rattle.dhcp_wire.specs.Options.{seen};
 ghost use Rattle.dhcp_wire.specs.Packet.{IsWhole, bytes_of, option_of};
-ghost use Rattle.dhcp_wire.specs.Dhcp.{AreLengths, are_network_lengths, are_server_lengths, are_time_lengths, IsEthernet, HasOpcode, IsMessage, IsDhcp, type_in};
+ghost use Rattle.dhcp_wire.specs.Dhcp.{AreLengths, are_network_lengths, are_server_lengths, are_time_lengths, IsEthernet, HasOpcode, IsMessage, IsDhcp};
+ghost use Rattle.dhcp_wire.specs.Dhcp.{type_in};
 ghost use Rattle.dhcp_wire.specs.MessageType.{op_number, opcode_of};
 ghost use Rattle.dhcp_wire.specs.declared.message_type.DhcpMessageType.{DhcpMessageType as MessageType};
 

@@ -5,7 +5,8 @@ use Rattle.ip_wire.specs.EthernetAddress.{EthernetAddress}
 use Rattle.ip_wire.specs.Ipv4Address.{Ipv4Address}
 use Rattle.dhcp_wire.specs.Normal.{IsAddress}
 use Rattle.dhcp_wire.specs.Options.{seen}
-use Rattle.dhcp_wire.specs.Written.{inside_bytes, client_bytes, name_bytes, time_bytes, network_bytes, address_inside, number16_inside, number32_inside, station_inside, addresses_bytes, addresses_inside, buffer_len}
+use Rattle.dhcp_wire.specs.Written.{inside_bytes, client_bytes, name_bytes, time_bytes, network_bytes, address_inside, number16_inside, number32_inside}
+use Rattle.dhcp_wire.specs.Written.{station_inside, addresses_bytes, addresses_inside, buffer_len}
 use Rattle.dhcp_wire.specs.declared.repr.DhcpRepr.{DhcpRepr}
 
 address-short : (kind : ℕ) (address : Option Ipv4Address) → IsAddress address → length (inside_bytes kind (address_inside address)) ≤ 6
@@ -43,7 +44,8 @@ client-short m is =
       e61,
       e57,
       address-short 50 m.requested_ip is.requested_ip,
-      length-append (inside_bytes 61 (station_inside m.client_identifier)) (inside_bytes 50 (address_inside m.requested_ip) ++ (inside_bytes 57 (number16_inside m.max_size) ++ [])),
+      length-append (inside_bytes 61 (station_inside m.client_identifier)) (inside_bytes 50 (address_inside m.requested_ip) ++
+          (inside_bytes 57 (number16_inside m.max_size) ++ [])),
       length-append (inside_bytes 50 (address_inside m.requested_ip)) (inside_bytes 57 (number16_inside m.max_size) ++ []),
       length-append (inside_bytes 57 (number16_inside m.max_size)) [],
     )
@@ -52,13 +54,15 @@ name-short : (m : DhcpRepr) → IsSmall m → length (name_bytes m) ≤ 11
 unfolding name_bytes
 name-short m is =
     let e12 : length (inside_bytes 12 (seen m.host_name)) ≡ 0 = ap (λ (o : Option (List ℕ)). length (inside_bytes 12 o)) is.host_name in
-    let e55 : length (inside_bytes 55 (seen m.parameter_request_list)) ≡ 5 = ap (λ (o : Option (List ℕ)). length (inside_bytes 55 o)) is.parameter_request_list in
+    let e55 : length (inside_bytes 55 (seen m.parameter_request_list)) ≡ 5 =
+    ap (λ (o : Option (List ℕ)). length (inside_bytes 55 o)) is.parameter_request_list in
     omega (
       arith,
       e12,
       e55,
       address-short 54 m.server_identifier is.server_identifier,
-      length-append (inside_bytes 54 (address_inside m.server_identifier)) (inside_bytes 12 (seen m.host_name) ++ (inside_bytes 55 (seen m.parameter_request_list) ++ [])),
+      length-append (inside_bytes 54 (address_inside m.server_identifier)) (inside_bytes 12 (seen m.host_name) ++
+          (inside_bytes 55 (seen m.parameter_request_list) ++ [])),
       length-append (inside_bytes 12 (seen m.host_name)) (inside_bytes 55 (seen m.parameter_request_list) ++ []),
       length-append (inside_bytes 55 (seen m.parameter_request_list)) [],
     )

@@ -51,7 +51,8 @@ waits now retries (Bound lease) h = with_waits now lease lease.renew_at h
 waits now retries (Renewing lease retry_at) h = with_waits now lease (earlier retry_at lease.rebind_at) h
 waits now retries (Rebinding lease retry_at) h = with_waits now lease retry_at h
 
-pub silent : (cx : ContextValue) (v v' : DhcpValue) (answer : Offer) → IsBefore cx.moment (poll_of v.state) → Offers cx v answer v' → (answer ≡ Answer.Silent false) × (v' ≡ settled false v)
+pub silent : (cx : ContextValue) (v v' : DhcpValue) (answer : Offer) → IsBefore cx.moment (poll_of v.state) → Offers cx v answer v' →
+    (answer ≡ Answer.Silent false) × (v' ≡ settled false v)
 silent cx v v' answer before offers =
     subst (λ (t : Turn). OffersAs t cx v answer v') (waits cx.moment v.settings.retry.request_retries v.state before) offers
 
@@ -70,7 +71,8 @@ given_up now retries (Bound l) lease has h = with_over now l l.renew_at (same_en
 given_up now retries (Renewing l retry_at) lease has h = with_over now l (earlier retry_at l.rebind_at) (same_end now l lease (cc) h)
 given_up now retries (Rebinding l retry_at) lease has h = with_over now l retry_at (same_end now l lease (cc) h)
 
-pub offers_end : (cx : ContextValue) (v v' : DhcpValue) (answer : Offer) (lease : Lease) → lease_of v.state ≡ Some lease → lease.expires_at ≤ℤ cx.moment → Offers cx v answer v' → v' ≡ begun v
+pub offers_end : (cx : ContextValue) (v v' : DhcpValue) (answer : Offer) (lease : Lease) → lease_of v.state ≡ Some lease → lease.expires_at ≤ℤ cx.moment →
+    Offers cx v answer v' → v' ≡ begun v
 offers_end cx v v' answer lease has h offers =
     let done = subst (λ (t : Turn). OffersAs t cx v answer v') (given_up cx.moment v.settings.retry.request_retries v.state lease has h) offers in
     done.1
@@ -88,17 +90,22 @@ pub offers_kept : (cx : ContextValue) (v v' : DhcpValue) (answer : Offer) → Of
 offers_kept cx v v' answer offers = kept_by (turn_of cx.moment v.settings.retry.request_retries v.state) cx v v' answer offers
 
 -- a message that is sent keeps the lease
-chosen_kept : (now : ℤ) (v : DhcpValue) (ended early first : Bool) (lease : Lease) (kind : Kind) → chosen ended early first lease ≡ Send kind → lease_of (next_of now v kind) ≡ Some lease
+chosen_kept : (now : ℤ) (v : DhcpValue) (ended early first : Bool) (lease : Lease) (kind : Kind) → chosen ended early first lease ≡ Send kind →
+    lease_of (next_of now v kind) ≡ Some lease
 chosen_kept now v true early first lease kind e = absurd (cc)
 chosen_kept now v false true first lease kind e = absurd (cc)
-chosen_kept now v false false true lease kind e = let same : Renew lease ≡ kind = (cc) in subst (λ (k : Kind). lease_of (next_of now v k) ≡ Some lease) same refl
-chosen_kept now v false false false lease kind e = let same : Rebind lease ≡ kind = (cc) in subst (λ (k : Kind). lease_of (next_of now v k) ≡ Some lease) same refl
+chosen_kept now v false false true lease kind e = let same : Renew lease ≡ kind =
+    (cc) in subst (λ (k : Kind). lease_of (next_of now v k) ≡ Some lease) same refl
+chosen_kept now v false false false lease kind e = let same : Rebind lease ≡ kind =
+    (cc) in subst (λ (k : Kind). lease_of (next_of now v k) ≡ Some lease) same refl
 
-discover_kept : (now : ℤ) (v : DhcpValue) (early : Bool) (kind : Kind) → (if early then Wait else Send Discover) ≡ Send kind → lease_of (next_of now v kind) ≡ None
+discover_kept : (now : ℤ) (v : DhcpValue) (early : Bool) (kind : Kind) → (if early then Wait else Send Discover) ≡ Send kind →
+    lease_of (next_of now v kind) ≡ None
 discover_kept now v true kind e = absurd (cc)
 discover_kept now v false kind e = let same : Discover ≡ kind = (cc) in subst (λ (k : Kind). lease_of (next_of now v k) ≡ None) same refl
 
-turn_kept : (now : ℤ) (retries : ℕ) (v : DhcpValue) (s : ClientState) (kind : Kind) → turn_of now retries s ≡ Send kind → lease_of (next_of now v kind) ≡ lease_of s
+turn_kept : (now : ℤ) (retries : ℕ) (v : DhcpValue) (s : ClientState) (kind : Kind) → turn_of now retries s ≡ Send kind →
+    lease_of (next_of now v kind) ≡ lease_of s
 turn_kept now retries v Init kind e = discover_kept now v false kind e
 turn_kept now retries v (Selecting s) kind e = discover_kept now v (int_lt now s.retry_at) kind e
 turn_kept now retries v (Requesting s) kind e = by (int_lt now s.retry_at) (nat_le retries s.retry) e where
@@ -106,17 +113,22 @@ turn_kept now retries v (Requesting s) kind e = by (int_lt now s.retry_at) (nat_
   by true spent e = absurd (cc)
   by false true e = absurd (cc)
   by false false e = let same : Request s ≡ kind = (cc) in subst (λ (k : Kind). lease_of (next_of now v k) ≡ None) same refl
-turn_kept now retries v (Bound lease) kind e = chosen_kept now v (int_le lease.expires_at now) (int_lt now lease.renew_at) (int_lt now lease.rebind_at) lease kind e
-turn_kept now retries v (Renewing lease retry_at) kind e = chosen_kept now v (int_le lease.expires_at now) (int_lt now (earlier retry_at lease.rebind_at)) (int_lt now lease.rebind_at) lease kind e
-turn_kept now retries v (Rebinding lease retry_at) kind e = chosen_kept now v (int_le lease.expires_at now) (int_lt now retry_at) (int_lt now lease.rebind_at) lease kind e
+turn_kept now retries v (Bound lease) kind e =
+    chosen_kept now v (int_le lease.expires_at now) (int_lt now lease.renew_at) (int_lt now lease.rebind_at) lease kind e
+turn_kept now retries v (Renewing lease retry_at) kind e =
+    chosen_kept now v (int_le lease.expires_at now) (int_lt now (earlier retry_at lease.rebind_at)) (int_lt now lease.rebind_at) lease kind e
+turn_kept now retries v (Rebinding lease retry_at) kind e =
+    chosen_kept now v (int_le lease.expires_at now) (int_lt now retry_at) (int_lt now lease.rebind_at) lease kind e
 
-sent_kept : (cx : ContextValue) (v v' : DhcpValue) (answer : Offer) (t : Turn) → turn_of cx.moment v.settings.retry.request_retries v.state ≡ t → OffersAs t cx v answer v' → lease_of (sent_from v' v'.offered).state ≡ lease_of v'.state
+sent_kept : (cx : ContextValue) (v v' : DhcpValue) (answer : Offer) (t : Turn) → turn_of cx.moment v.settings.retry.request_retries v.state ≡ t →
+    OffersAs t cx v answer v' → lease_of (sent_from v' v'.offered).state ≡ lease_of v'.state
 sent_kept cx v v' answer Wait is offers = subst (λ (w : DhcpValue). lease_of (sent_from w w.offered).state ≡ lease_of w.state) (sym offers.1) refl
 sent_kept cx v v' answer GiveUp is offers = subst (λ (w : DhcpValue). lease_of (sent_from w w.offered).state ≡ lease_of w.state) (sym offers.1) refl
 sent_kept cx v v' answer (Send kind) is offers =
     subst (λ (w : DhcpValue). lease_of (sent_from w w.offered).state ≡ lease_of w.state) (sym offers.1.offers)
     (turn_kept cx.moment v.settings.retry.request_retries v v.state kind is)
 
-pub settled_kept : (cx : ContextValue) (v v' : DhcpValue) (answer : Offer) (sent : Bool) → Offers cx v answer v' → lease_of (settled sent v').state ≡ lease_of v'.state
+pub settled_kept : (cx : ContextValue) (v v' : DhcpValue) (answer : Offer) (sent : Bool) → Offers cx v answer v' →
+    lease_of (settled sent v').state ≡ lease_of v'.state
 settled_kept cx v v' answer false offers = refl
 settled_kept cx v v' answer true offers = sent_kept cx v v' answer (turn_of cx.moment v.settings.retry.request_retries v.state) refl offers

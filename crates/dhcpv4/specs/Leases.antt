@@ -80,5 +80,6 @@ abbrev pub lease_in : ℤ → ServerInfo → DhcpRepr → Option Ipv4Cidr → Op
 lease_in now server m None most = None
 lease_in now server m (Some block) most =
     if is_usable m.your_ip
-    then Some (lease_with now server m block (lease_span m.lease_duration most) (spans_of (lease_span m.lease_duration most) (micros_of m.renew_duration) (micros_of m.rebind_duration)))
+    then Some (lease_with now server m block (lease_span m.lease_duration most)
+    (spans_of (lease_span m.lease_duration most) (micros_of m.renew_duration) (micros_of m.rebind_duration)))
     else None

@@ -65,7 +65,18 @@ impl Model for Socket {
 
     ghost Value = { DhcpValue };
 
-    ghost view = { λ s. record { station = s.station; settings = s.settings; state = s.state; transaction_id = s.transaction_id; changed = s.changed; random = s.random; next_id = s.next_id; next_word = s.next_word; offered = open_of s.settings s.offered s.message } };
+    ghost view = { λ s. record {
+      station = s.station;
+      settings = s.settings;
+      state = s.state;
+      transaction_id = s.transaction_id;
+      changed = s.changed;
+      random =
+          s.random;
+      next_id = s.next_id;
+      next_word = s.next_word;
+      offered = open_of s.settings s.offered s.message;
+    } };
 }
 
 impl Socket {

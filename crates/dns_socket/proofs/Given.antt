@@ -1,5 +1,6 @@
 -- Addresses come from the answer alone.
-use Rattle.std.proofs.Common.{◌≡◌, ◌⊎◌, inl, inr, ℕ, zero, suc, Bool, true, false, if◌then◌else◌, ℤ, List, [], ◌∷◌, Option, Some, None, refl, sym, ap, ◌∙◌, subst}
+use Rattle.std.proofs.Common.{◌≡◌, ◌⊎◌, inl, inr, ℕ, zero, suc, Bool, true, false, if◌then◌else◌, ℤ, List, [], ◌∷◌, Option, Some, None, refl, sym, ap, ◌∙◌}
+use Rattle.std.proofs.Common.{subst}
 use Rattle.std.specs.List.{Contains}
 use Rattle.std.specs.Prelude.{slice_index, ◌%◌, ◌==◌, ◌&&◌}
 use Rattle.std.proofs.lemmas.Bool.{and_parts, eqb-true}
@@ -51,7 +52,8 @@ alias-more r rs name target is = record { by = is.by; among = there r is.by rs i
 alias_in-alias : (rs : List DnsRecord) (name target : DnsName) → alias_in name rs ≡ Some target → IsAlias rs name target
 alias_in-alias [] name target e = absurd (cc)
 alias_in-alias (r ∷ rs) name target e = by (alias_by name r) refl e (λ more. alias-more r rs name target (alias_in-alias rs name target more)) where
-  by : (o : Option DnsName) → alias_by name r ≡ o → or_else o (alias_in name rs) ≡ Some target → (alias_in name rs ≡ Some target → IsAlias (r ∷ rs) name target) → IsAlias (r ∷ rs) name target
+  by : (o : Option DnsName) → alias_by name r ≡ o → or_else o (alias_in name rs) ≡ Some target →
+      (alias_in name rs ≡ Some target → IsAlias (r ∷ rs) name target) → IsAlias (r ∷ rs) name target
   by (Some found) is e more = alias_by-alias (r ∷ rs) name target r (here r rs) (is ∙ e)
   by None is e more = more e
 
@@ -82,7 +84,8 @@ record Gives (rs : List DnsRecord) (name : DnsName) (a : IpAddress) : Type 0 whe
   named : is_same_name by.name name ≡ true
   holds : HoldsAddress by.«data» a
 
-gives-first : (r : DnsRecord) (rs : List DnsRecord) (kind : DnsQueryType) (name : DnsName) (a : IpAddress) → address_by kind name r ≡ Some a → Gives (r ∷ rs) name a
+gives-first : (r : DnsRecord) (rs : List DnsRecord) (kind : DnsQueryType) (name : DnsName) (a : IpAddress) → address_by kind name r ≡ Some a →
+    Gives (r ∷ rs) name a
 gives-first r rs kind name a e = by (is_same_name r.name name) refl e where
   by : (t : Bool) → is_same_name r.name name ≡ t → (if t then address_of kind r.«data» else None) ≡ Some a → Gives (r ∷ rs) name a
   by true same e = record { by = r; among = here r rs; named = same; holds = holds-address kind r.«data» a e }
@@ -91,7 +94,8 @@ gives-first r rs kind name a e = by (is_same_name r.name name) refl e where
 gives-more : (r : DnsRecord) (rs : List DnsRecord) (name : DnsName) (a : IpAddress) → Gives rs name a → Gives (r ∷ rs) name a
 gives-more r rs name a is = record { by = is.by; among = there r is.by rs is.among; named = is.named; holds = is.holds }
 
-gives-either : (r : DnsRecord) (rs : List DnsRecord) (kind : DnsQueryType) (name : DnsName) (a b : IpAddress) → address_by kind name r ≡ Some b → (b ≡ a) ⊎ Contains (addresses_of kind name rs) a
+gives-either : (r : DnsRecord) (rs : List DnsRecord) (kind : DnsQueryType) (name : DnsName) (a b : IpAddress) → address_by kind name r ≡ Some b →
+    (b ≡ a) ⊎ Contains (addresses_of kind name rs) a
     → (Contains (addresses_of kind name rs) a → Gives (r ∷ rs) name a) → Gives (r ∷ rs) name a
 gives-either r rs kind name a b is (inl same) more = gives-first r rs kind name a (is ∙ ap Some same)
 gives-either r rs kind name a b is (inr rest) more = more rest
@@ -99,7 +103,8 @@ gives-either r rs kind name a b is (inr rest) more = more rest
 gives : (rs : List DnsRecord) (kind : DnsQueryType) (name : DnsName) (a : IpAddress) → Contains (addresses_of kind name rs) a → Gives rs name a
 gives [] kind name a has = absurd (nothing a has)
 gives (r ∷ rs) kind name a has = by (address_by kind name r) refl has (λ more. gives-more r rs name a (gives rs kind name a more)) where
-  by : (o : Option IpAddress) → address_by kind name r ≡ o → Contains (put_address o (addresses_of kind name rs)) a → (Contains (addresses_of kind name rs) a → Gives (r ∷ rs) name a) → Gives (r ∷ rs) name a
+  by : (o : Option IpAddress) → address_by kind name r ≡ o → Contains (put_address o (addresses_of kind name rs)) a →
+      (Contains (addresses_of kind name rs) a → Gives (r ∷ rs) name a) → Gives (r ∷ rs) name a
   by (Some b) is has more = gives-either r rs kind name a b is (first_or_rest b a (addresses_of kind name rs) has) more
   by None is has more = more has
 
@@ -114,9 +119,11 @@ padded-has (suc n) (x ∷ xs) a has = by (first_or_rest (Some x) (Some a) (padde
   by (inl same) more = let is : x ≡ a = (cc) in subst (λ (y : IpAddress). Contains (x ∷ xs) y) is (here x xs)
   by (inr rest) more = there x a xs (more rest)
 
-belongs : (q : Query) (message : List ℕ) (at count : ℕ) (found : List (Option IpAddress)) (is : IsAnswer q message at count found) (a : IpAddress) → Contains found (Some a) → Belongs is.records q.question.name a
+belongs : (q : Query) (message : List ℕ) (at count : ℕ) (found : List (Option IpAddress)) (is : IsAnswer q message at count found) (a : IpAddress) →
+    Contains found (Some a) → Belongs is.records q.question.name a
 belongs q message at count found is a has =
-    let placed : Contains (padded 4 (addresses_of q.question.type_ is.finds.last is.records)) (Some a) = subst (λ (l : List (Option IpAddress)). Contains l (Some a)) is.finds.are has in
+    let placed : Contains (padded 4 (addresses_of q.question.type_ is.finds.last is.records)) (Some a) =
+    subst (λ (l : List (Option IpAddress)). Contains l (Some a)) is.finds.are has in
     let by = gives is.records q.question.type_ is.finds.last a (padded-has 4 (addresses_of q.question.type_ is.finds.last is.records) a placed) in
     record {
       aliases = is.finds.true_name.aliases;
@@ -131,7 +138,8 @@ belongs q message at count found is a has =
 
 -- DATAGRAMS.
 
-judged-answer : (truncated : Bool) (code : DnsRcode) (q : Query) (message : List ℕ) (at : ℕ) (found : List (Option IpAddress)) → IsJudgedBy truncated code q message at (V.Found found) → IsAnswer q message at (be16 message 6) found
+judged-answer : (truncated : Bool) (code : DnsRcode) (q : Query) (message : List ℕ) (at : ℕ) (found : List (Option IpAddress)) →
+    IsJudgedBy truncated code q message at (V.Found found) → IsAnswer q message at (be16 message 6) found
 judged-answer true code q message at found is = absurd (cc)
 judged-answer false Code.NoError q message at found is = is.0
 judged-answer false Code.NXDomain q message at found is = absurd (cc)
@@ -167,9 +175,11 @@ from q ip repr is = by q.asked refl is where
 abbrev IsEither : DnsValue → IpRepr → UdpRepr → List ℕ → List (Option IpAddress) → Type 0
 IsEither v ip repr payload found = (v.state ≡ S.Completed found) ⊎ IsAnswered v ip repr payload found
 
-answered : (v : DnsValue) (ip : IpRepr) (repr : UdpRepr) (payload : List ℕ) (q : Query) (found : List (Option IpAddress)) → v.state ≡ S.Pending q → From q ip repr → IsVerdict q payload (V.Found found) → IsEither v ip repr payload found
+answered : (v : DnsValue) (ip : IpRepr) (repr : UdpRepr) (payload : List ℕ) (q : Query) (found : List (Option IpAddress)) → v.state ≡ S.Pending q →
+    From q ip repr → IsVerdict q payload (V.Found found) → IsEither v ip repr payload found
 answered v ip repr payload q found pending f (inl replied) =
-    let is = judged-answer (flags_of (slice_index payload 2) (slice_index payload 3)).truncated (rcode_of (slice_index payload 3 % 16)) q payload replied.at found replied.judged in
+    let is = judged-answer (flags_of (slice_index payload 2) (slice_index payload 3)).truncated (rcode_of (slice_index payload 3 % 16)) q payload replied.at
+    found replied.judged in
     inr (record {
       query = q;
       pending = pending;
@@ -195,13 +205,15 @@ asked-none now (S.Pending p) q found pending e = absurd (cc)
 asked-none now (S.Completed f) q found pending e = absurd (cc)
 asked-none now S.Failed q found pending e = absurd (cc)
 
-turned-none : (now : ℤ) (servers : List (Option IpAddress)) (state : State) (q : Query) (found : List (Option IpAddress)) → state ≡ S.Pending q → next_state now servers state ≡ S.Completed found → ⊥
+turned-none : (now : ℤ) (servers : List (Option IpAddress)) (state : State) (q : Query) (found : List (Option IpAddress)) → state ≡ S.Pending q →
+    next_state now servers state ≡ S.Completed found → ⊥
 turned-none now servers state q found pending e = by (has_next servers state) e where
   by : (t : Bool) → (if t then ask_next now state else S.Failed) ≡ S.Completed found → ⊥
   by true e = asked-none now state q found pending e
   by false e = absurd (cc)
 
-verdict-given : (now : ℤ) (v : DnsValue) (ip : IpRepr) (repr : UdpRepr) (payload : List ℕ) (q : Query) (verdict : Verdict) (found : List (Option IpAddress)) → v.state ≡ S.Pending q → From q ip repr → IsVerdict q payload verdict
+verdict-given : (now : ℤ) (v : DnsValue) (ip : IpRepr) (repr : UdpRepr) (payload : List ℕ) (q : Query) (verdict : Verdict) (found : List (Option IpAddress)) →
+    v.state ≡ S.Pending q → From q ip repr → IsVerdict q payload verdict
     → (judged now v verdict).state ≡ S.Completed found → IsEither v ip repr payload found
 verdict-given now v ip repr payload q V.Unrelated found pending f is e = inl e
 verdict-given now v ip repr payload q (V.Found these) found pending f is e =
@@ -214,14 +226,17 @@ kept-given : (v v' : DnsValue) (ip : IpRepr) (repr : UdpRepr) (payload : List �
 kept-given v v' ip repr payload same = λ found is. inl (sym (ap (λ (w : DnsValue). w.state) same) ∙ is)
 
 -- by the state in which a datagram is taken
-in-given : (now : ℤ) (v : DnsValue) (ip : IpRepr) (repr : UdpRepr) (payload : List ℕ) (verdict : Verdict) (found : List (Option IpAddress)) (s : State) → v.state ≡ s → accepts s ip repr ≡ true → IsVerdictIn s payload verdict
+in-given : (now : ℤ) (v : DnsValue) (ip : IpRepr) (repr : UdpRepr) (payload : List ℕ) (verdict : Verdict) (found : List (Option IpAddress)) (s : State) →
+    v.state ≡ s → accepts s ip repr ≡ true → IsVerdictIn s payload verdict
     → (judged now v verdict).state ≡ S.Completed found → IsEither v ip repr payload found
 in-given now v ip repr payload verdict found S.Idle is accepted read e = absurd (cc)
-in-given now v ip repr payload verdict found (S.Pending q) is accepted read e = verdict-given now v ip repr payload q verdict found is (from q ip repr accepted) read e
+in-given now v ip repr payload verdict found (S.Pending q) is accepted read e =
+    verdict-given now v ip repr payload q verdict found is (from q ip repr accepted) read e
 in-given now v ip repr payload verdict found (S.Completed f) is accepted read e = absurd (cc)
 in-given now v ip repr payload verdict found S.Failed is accepted read e = absurd (cc)
 
-if-given : (now : ℤ) (v v' : DnsValue) (ip : IpRepr) (repr : UdpRepr) (payload : List ℕ) (t : Bool) → accepts v.state ip repr ≡ t → ProcessedIf t now v payload v' → AreGiven v ip repr payload v'
+if-given : (now : ℤ) (v v' : DnsValue) (ip : IpRepr) (repr : UdpRepr) (payload : List ℕ) (t : Bool) → accepts v.state ip repr ≡ t →
+    ProcessedIf t now v payload v' → AreGiven v ip repr payload v'
 if-given now v v' ip repr payload true accepted takes = λ found e.
     in-given now v ip repr payload takes.verdict found v.state refl accepted takes.is (sym (ap (λ (w : DnsValue). w.state) takes.taken) ∙ e)
 if-given now v v' ip repr payload false accepted same = kept-given v v' ip repr payload same

@@ -23,7 +23,8 @@ Sendable ports message header = IsSendable (packet_of header (Datagram ports mes
 some_same : (x y : IpRepr) → Some x ≡ Some y → x ≡ y
 some_same x y is = (cc)
 
-between : (source : Option IpAddress) (server : IpAddress) (limit : ℕ) (ports : UdpRepr) (message : List ℕ) (header : IpRepr) → length message ≤ 271 → header_between source server (length message) limit ≡ Some header → Sendable ports message header
+between : (source : Option IpAddress) (server : IpAddress) (limit : ℕ) (ports : UdpRepr) (message : List ℕ) (header : IpRepr) → length message ≤ 271 →
+    header_between source server (length message) limit ≡ Some header → Sendable ports message header
 between (Some (Address.Ipv4 a)) (Address.Ipv4 b) limit ports message header short is =
     subst (Sendable ports message) (some_same _ header is)
     (record { header = omega (arith, short); payload = record { len = omega (arith, short); family = refl }; len = refl })
@@ -40,7 +41,8 @@ IsSent q message Wait = Unit {0}
 IsSent q message Next = Unit {0}
 IsSent q message (Send s) = Sendable (ports_of q) message s.header
 
-sent-with : (header : Option IpRepr) (now : ℤ) (server : IpAddress) (q : Query) (message : List ℕ) → ((h : IpRepr) → header ≡ Some h → Sendable (ports_of q) message h) → IsSent q message (sent_with header now server q)
+sent-with : (header : Option IpRepr) (now : ℤ) (server : IpAddress) (q : Query) (message : List ℕ) →
+    ((h : IpRepr) → header ≡ Some h → Sendable (ports_of q) message h) → IsSent q message (sent_with header now server q)
 sent-with None now server q message fits = tt
 sent-with (Some h) now server q message fits = fits h refl
 
@@ -57,7 +59,8 @@ turns cx v q short = by (int_lt cx.moment (due_at q)) (int_le q.next_at cx.momen
   by false true = tt
   by false false = sent-to (server_at v.servers q.server) cx v q short
 
-pub sendable : (cx : ContextValue) (v : DnsValue) (state : State) (sending : Sending) → turn_in state cx v ≡ Send sending → length v.message ≤ 271 → IfSome (packet_in (open_in state v.message sending)) IsSendable
+pub sendable : (cx : ContextValue) (v : DnsValue) (state : State) (sending : Sending) → turn_in state cx v ≡ Send sending → length v.message ≤ 271 →
+    IfSome (packet_in (open_in state v.message sending)) IsSendable
 sendable cx v S.Idle sending is short = tt
 sendable cx v (S.Pending q) sending is short = subst (λ (t : Turn). IsSent q v.message t) is (turns cx v q short)
 sendable cx v (S.Completed found) sending is short = tt

@@ -15,7 +15,8 @@ judged-unoffered now v (V.Found found) = refl
 judged-unoffered now v V.Missing = refl
 judged-unoffered now v V.Refused = refl
 
-pub taken : (now : ℤ) (v w v' : DnsValue) (ip : IpRepr) (repr : UdpRepr) (payload : List ℕ) (verdict : Verdict) → w ≡ unoffered v → accepts w.state ip repr ≡ true → IsVerdictIn w.state payload verdict → v' ≡ judged now w verdict
+pub taken : (now : ℤ) (v w v' : DnsValue) (ip : IpRepr) (repr : UdpRepr) (payload : List ℕ) (verdict : Verdict) → w ≡ unoffered v →
+    accepts w.state ip repr ≡ true → IsVerdictIn w.state payload verdict → v' ≡ judged now w verdict
     → Processed now v ip repr payload v'
 taken now v w v' ip repr payload verdict same accepted is done =
     let state : w.state ≡ v.state = ap (λ (u : DnsValue). u.state) same in

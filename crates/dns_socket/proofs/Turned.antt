@@ -27,7 +27,8 @@ waits cx v (S.Pending q) h = ap (λ t. turn_where t cx v q) (soon cx.moment (due
 waits cx v (S.Completed found) h = refl
 waits cx v S.Failed h = refl
 
-pub silent : (cx : ContextValue) (v v' : DnsValue) (answer : Offer) → IsBefore cx.moment (poll_of v.state) → Offers cx v answer v' → (answer ≡ Answer.Silent false) × (v' ≡ settled false v)
+pub silent : (cx : ContextValue) (v v' : DnsValue) (answer : Offer) → IsBefore cx.moment (poll_of v.state) → Offers cx v answer v' →
+    (answer ≡ Answer.Silent false) × (v' ≡ settled false v)
 silent cx v v' answer before offers = subst (λ (t : Turn). OffersAs t cx v answer v') (waits cx v v.state before) offers
 
 -- no addresses come of a turn to the next server
@@ -37,18 +38,21 @@ asked-kept now (S.Pending q) found e = absurd (cc)
 asked-kept now (S.Completed f) found e = e
 asked-kept now S.Failed found e = e
 
-next-kept : (now : ℤ) (servers : List (Option IpAddress)) (s : State) (found : List (Option IpAddress)) → next_state now servers s ≡ S.Completed found → s ≡ S.Completed found
+next-kept : (now : ℤ) (servers : List (Option IpAddress)) (s : State) (found : List (Option IpAddress)) → next_state now servers s ≡ S.Completed found →
+    s ≡ S.Completed found
 next-kept now servers s found e = by (has_next servers s) e where
   by : (t : Bool) → (if t then ask_next now s else S.Failed) ≡ S.Completed found → s ≡ S.Completed found
   by true e = asked-kept now s found e
   by false e = absurd (cc)
 
-as-kept : (cx : ContextValue) (v v' : DnsValue) (answer : Offer) (found : List (Option IpAddress)) (t : Turn) → OffersAs t cx v answer v' → v'.state ≡ S.Completed found → v.state ≡ S.Completed found
+as-kept : (cx : ContextValue) (v v' : DnsValue) (answer : Offer) (found : List (Option IpAddress)) (t : Turn) → OffersAs t cx v answer v' →
+    v'.state ≡ S.Completed found → v.state ≡ S.Completed found
 as-kept cx v v' answer found Wait offers is = sym (ap (λ (w : DnsValue). w.state) offers.1) ∙ is
 as-kept cx v v' answer found Next offers is = next-kept cx.moment v.servers v.state found (sym (ap (λ (w : DnsValue). w.state) offers.1) ∙ is)
 as-kept cx v v' answer found (Send s) offers is = sym (ap (λ (w : DnsValue). w.state) offers.1) ∙ is
 
-pub offers_kept : (cx : ContextValue) (v v' : DnsValue) (answer : Offer) (found : List (Option IpAddress)) → Offers cx v answer v' → v'.state ≡ S.Completed found → v.state ≡ S.Completed found
+pub offers_kept : (cx : ContextValue) (v v' : DnsValue) (answer : Offer) (found : List (Option IpAddress)) → Offers cx v answer v' →
+    v'.state ≡ S.Completed found → v.state ≡ S.Completed found
 offers_kept cx v v' answer found offers is = as-kept cx v v' answer found (turn_in v.state cx v) offers is
 
 sent_by-kept : (s : State) (sending : Sending) (found : List (Option IpAddress)) → sent_by s sending ≡ S.Completed found → s ≡ S.Completed found

@@ -20,7 +20,16 @@ use Rattle.dns_socket.specs.declared.query.Turn.TheVariants.{Wait, Next, Send}
 -- the header of a query of so many bytes, behind that of UDP: from an address of the server's family
 abbrev pub header_between : Option IpAddress → IpAddress → ℕ → ℕ → Option IpRepr
 header_between (Some (Address.Ipv4 source)) (Address.Ipv4 server) len hops =
-    Some (Ip.Ipv4 (record { src_addr = source; dst_addr = server; next_header = Protocol.Udp; payload_len = 8 + len; hop_limit = hops; ident = 0; dont_frag = false }))
+    Some (Ip.Ipv4 (record {
+      src_addr = source;
+      dst_addr = server;
+      next_header = Protocol.Udp;
+      payload_len = 8 + len;
+      hop_limit = hops;
+      ident =
+          0;
+      dont_frag = false;
+    }))
 header_between (Some (Address.Ipv6 source)) (Address.Ipv6 server) len hops =
     Some (Ip.Ipv6 (record { src_addr = source; dst_addr = server; next_header = Protocol.Udp; payload_len = 8 + len; hop_limit = hops }))
 header_between source server len hops = None

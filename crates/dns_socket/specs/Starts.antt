@@ -49,11 +49,13 @@ started now v question number port = record v {
 abbrev pub StartedAs : Result DnsName DnsNameError → ContextValue → DnsValue → DnsQueryType → Result (Unit {0}) StartQueryError → DnsValue → Type 0
 StartedAs (Ok name) cx v kind answer v' =
     (answer ≡ Ok tt)
-    × (v' ≡ started cx.moment v (record { name = name; type_ = kind }) (number_of (word (next_state cx.random))) (port_of (word (next_state (next_state cx.random)))))
+    × (v' ≡ started cx.moment v (record { name = name; type_ = kind }) (number_of (word (next_state cx.random)))
+    (port_of (word (next_state (next_state cx.random)))))
 StartedAs (Err why) cx v kind answer v' = (answer ≡ Err (refusal_of why)) × (v' ≡ unoffered v)
 
 -- the text is a name, and asked for, or it isn't, and nothing is asked
-pub record IsStart (cx : ContextValue) (v : DnsValue) (text : List ℕ) (kind : DnsQueryType) (answer : Result (Unit {0}) StartQueryError) (v' : DnsValue) : Type 0 where
+pub record IsStart (cx : ContextValue) (v : DnsValue) (text : List ℕ) (kind : DnsQueryType) (answer : Result (Unit {0}) StartQueryError)
+    (v' : DnsValue) : Type 0 where
   pub name : Result DnsName DnsNameError
   pub is : IsNameOfText text name
   pub starts : StartedAs name cx v kind answer v'

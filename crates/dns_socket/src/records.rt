@@ -1,7 +1,8 @@
 //! What the records of an answer say of a name.
 ghost use Rattle.std.specs.Prelude.{◌≡◌, ℕ, false, true, List, length};
 ghost use Rattle.dns_wire.specs.declared.record_at.DnsRecord.{DnsRecord};
-ghost use Rattle.dns_socket.specs.Records.{AreRecords, IsCut, HasRecords, is_same_name, alias_by, alias_in, address_by, addresses_of, IsTrueName, Finds, or_name, padded, with_address};
+ghost use Rattle.dns_socket.specs.Records.{AreRecords, IsCut, HasRecords, is_same_name, alias_by, alias_in, address_by, addresses_of, IsTrueName, Finds};
+ghost use Rattle.dns_socket.specs.Records.{or_name, padded, with_address};
 
 use dns_wire::{DnsName, DnsQueryType, DnsRecord, DnsRecordData};
 use ip_wire::IpAddress;

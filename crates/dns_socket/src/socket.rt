@@ -49,7 +49,14 @@ impl Model for Socket {
 
     ghost Value = { DnsValue };
 
-    ghost view = { λ s. record { servers = s.servers; hop_limit = s.hop_limit; state = s.state; message = s.message.items; offered = open_of s.offered s.state s.message.items } };
+    ghost view = { λ s. record {
+      servers = s.servers;
+      hop_limit = s.hop_limit;
+      state = s.state;
+      message = s.message.items;
+      offered =
+          open_of s.offered s.state s.message.items;
+    } };
 }
 
 impl Socket {

@@ -33,7 +33,8 @@ name-is a b same = ap named same
 abbrev asked : DnsName → DnsQueryType → ℕ → DnsQuestion × ℕ
 asked name kind stop = (record { name = name; type_ = kind }, stop + 4)
 
-pub question-is : (message : List ℕ) (at : ℕ) (q : DnsQuestion) (end : ℕ) (name : DnsName) (kind : DnsQueryType) (stop : ℕ) (is : IsQuestion message at q end) → bytes_of_name name ≡ bytes_of_name q.name → stop ≡ is.name_end
+pub question-is : (message : List ℕ) (at : ℕ) (q : DnsQuestion) (end : ℕ) (name : DnsName) (kind : DnsQueryType) (stop : ℕ) (is : IsQuestion message at q end) →
+    bytes_of_name name ≡ bytes_of_name q.name → stop ≡ is.name_end
     → kind ≡ type_of (be16 message stop) → asked name kind stop ≡ (q, end)
 question-is message at q end name kind stop is same ends kind_is =
     let kinds : kind ≡ q.type_ = kind_is ∙ ap (λ k. type_of (be16 message k)) ends ∙ sym is.kind in
@@ -46,7 +47,8 @@ question-is message at q end name kind stop is same ends kind_is =
 abbrev answered : List ℕ → DnsName → ℕ → DnsRecordData → ℕ → DnsRecord × ℕ
 answered message name ttl held stop = (record { name = name; ttl = ttl; «data» = held }, stop + 10 + be16 message (stop + 8))
 
-pub record-is : (message : List ℕ) (at : ℕ) (r : DnsRecord) (end : ℕ) (name : DnsName) (ttl : ℕ) (held : DnsRecordData) (stop : ℕ) (is : IsRecord message at r end) → bytes_of_name name ≡ bytes_of_name r.name → stop ≡ is.name_end
+pub record-is : (message : List ℕ) (at : ℕ) (r : DnsRecord) (end : ℕ) (name : DnsName) (ttl : ℕ) (held : DnsRecordData) (stop : ℕ)
+    (is : IsRecord message at r end) → bytes_of_name name ≡ bytes_of_name r.name → stop ≡ is.name_end
     → ttl ≡ be32 message (stop + 4) → held ≡ r.data → answered message name ttl held stop ≡ (r, end)
 record-is message at r end name ttl held stop is same ends ttl_is held_is =
     let counts : ttl ≡ r.ttl = ttl_is ∙ ap (λ k. be32 message (k + 4)) ends ∙ sym is.ttl in
@@ -64,7 +66,8 @@ holds-at message at r end stop is ends =
     subst P (sym ends) is.holds
 
 -- an A record holds one address
-pub address-is : (message : List ℕ) (start len : ℕ) (address : Ipv4Address) (held : DnsRecordData) → address.0 ≡ slice_range message start (start + 4) → IsData message 1 1 start len held → A address ≡ held
+pub address-is : (message : List ℕ) (start len : ℕ) (address : Ipv4Address) (held : DnsRecordData) → address.0 ≡ slice_range message start (start + 4) →
+    IsData message 1 1 start len held → A address ≡ held
 address-is message start len address (A other) is holds = let same : address ≡ other = ap (λ xs. v4 xs) (is ∙ sym holds.3) in ap A same
 address-is message start len address (Aaaa other) is holds = absurd (omega (arith, holds.1))
 address-is message start len address (Cname name) is holds = absurd (omega (arith, holds.1))
@@ -77,7 +80,8 @@ address-len message start len (Cname name) holds = absurd (omega (arith, holds.1
 address-len message start len (Other kind first count) holds = absurd ((holds.0 refl).0 refl)
 
 -- an AAAA record holds one address of IPv6
-pub address_v6-is : (message : List ℕ) (start len : ℕ) (address : Ipv6Address) (held : DnsRecordData) → address.0 ≡ slice_range message start (start + 16) → IsData message 1 28 start len held → Aaaa address ≡ held
+pub address_v6-is : (message : List ℕ) (start len : ℕ) (address : Ipv6Address) (held : DnsRecordData) → address.0 ≡ slice_range message start (start + 16) →
+    IsData message 1 28 start len held → Aaaa address ≡ held
 address_v6-is message start len address (A other) is holds = absurd (omega (arith, holds.1))
 address_v6-is message start len address (Aaaa other) is holds = let same : address ≡ other = ap (λ xs. v6 xs) (is ∙ sym holds.3) in ap Aaaa same
 address_v6-is message start len address (Cname name) is holds = absurd (omega (arith, holds.1))
@@ -107,7 +111,8 @@ pub holds-as : (message : List ℕ) (at : ℕ) (r : DnsRecord) (end stop class k
 holds-as message at r end stop class kind len is ends class_is kind_is len_is =
     subst (λ (k : ℕ). IsData message k kind (stop + 10) len r.«data») (sym class_is)
     (subst (λ (k : ℕ). IsData message (be16 message (stop + 2)) k (stop + 10) len r.«data») (sym kind_is)
-    (subst (λ (k : ℕ). IsData message (be16 message (stop + 2)) (be16 message stop) (stop + 10) k r.«data») (sym len_is) (holds-at message at r end stop is ends)))
+    (subst (λ (k : ℕ). IsData message (be16 message (stop + 2)) (be16 message stop) (stop + 10) k r.«data») (sym len_is)
+    (holds-at message at r end stop is ends)))
 
 -- a record and where it ends
 abbrev pub pair : DnsName → ℕ → DnsRecordData → ℕ → DnsRecord × ℕ
@@ -123,8 +128,10 @@ held-same : (a b : DnsRecordData) → held_as a ≡ held_as b → a ≡ b
 held-same a b same = cc
 
 -- a record that was read, with a length that was read before
-pub one-record : (message : List ℕ) (at : ℕ) (r : DnsRecord) (end : ℕ) (name : DnsName) (ttl : ℕ) (held : DnsRecordData) (stop len : ℕ) (is : IsRecord message at r end) → bytes_of_name name ≡ bytes_of_name r.name → stop ≡ is.name_end
-    → ttl ≡ be32 message (stop + 4) → held_as held ≡ held_as r.«data» → len ≡ be16 message (stop + 8) → told (pair name ttl held (stop + 10 + len)) ≡ told (r, end)
+pub one-record : (message : List ℕ) (at : ℕ) (r : DnsRecord) (end : ℕ) (name : DnsName) (ttl : ℕ) (held : DnsRecordData) (stop len : ℕ)
+    (is : IsRecord message at r end) → bytes_of_name name ≡ bytes_of_name r.name → stop ≡ is.name_end
+    → ttl ≡ be32 message (stop + 4) → held_as held ≡ held_as r.«data» → len ≡ be16 message (stop + 8) →
+    told (pair name ttl held (stop + 10 + len)) ≡ told (r, end)
 one-record message at r end name ttl held stop len is same ends ttl_is held_is len_is =
     ap (λ (k : ℕ). told (pair name ttl held (stop + 10 + k))) len_is
     ∙ ap told (record-is message at r end name ttl held stop is same ends ttl_is (held-same held r.«data» held_is))

@@ -26,7 +26,8 @@ pub record Labelled (message : List ℕ) (limit at : ℕ) (label : List ℕ) (st
   pub is : steps ≡ Label label ∷ rest
   pub leads : Leads message limit (at + 1 + length label) rest
 
-pub Leads-label : (message : List ℕ) (limit at : ℕ) (label : List ℕ) (steps : List Step) → IsLabel message at label → Leads message limit at steps → Labelled message limit at label steps
+pub Leads-label : (message : List ℕ) (limit at : ℕ) (label : List ℕ) (steps : List Step) → IsLabel message at label → Leads message limit at steps →
+    Labelled message limit at label steps
 Leads-label message limit at label [] stands leads = absurd (omega (arith, leads.value, stands.count, stands.some))
 Leads-label message limit at label (Label other ∷ steps) stands leads =
     let same : other ≡ label = IsLabel-one message at other label leads.0 stands in
@@ -43,7 +44,8 @@ pub record Pointed (message : List ℕ) (place : ℕ) (steps : List Step) : Type
   pub is : steps ≡ Jump place ∷ rest
   pub leads : Leads message place place rest
 
-pub Leads-pointer : (message : List ℕ) (limit at place : ℕ) (steps : List Step) → IsPointer message limit at place → Leads message limit at steps → Pointed message place steps
+pub Leads-pointer : (message : List ℕ) (limit at place : ℕ) (steps : List Step) → IsPointer message limit at place → Leads message limit at steps →
+    Pointed message place steps
 Leads-pointer message limit at place [] stands leads = absurd (omega (arith, leads.value, stands.first))
 Leads-pointer message limit at place (Label label ∷ steps) stands leads = absurd (omega (arith, stands.first, leads.0.count, leads.0.short))
 Leads-pointer message limit at place (Jump other ∷ steps) stands leads =
@@ -85,15 +87,18 @@ Keeps-start message at = record {
   only = λ all leads. record { steps = all; leads = leads; name_is = refl; end_is = refl };
 }
 
-end_from-label : (end : Option ℕ) (place : ℕ) (label : List ℕ) (steps : List Step) → end_from end place (Label label ∷ steps) ≡ end_from end (place + 1 + length label) steps
+end_from-label : (end : Option ℕ) (place : ℕ) (label : List ℕ) (steps : List Step) →
+    end_from end place (Label label ∷ steps) ≡ end_from end (place + 1 + length label) steps
 end_from-label None place label steps = refl
 end_from-label (Some end) place label steps = refl
 
 -- a label is read
-pub Keeps-label : (message : List ℕ) (at limit place next : ℕ) (read more label : List ℕ) (end : Option ℕ) → IsLabel message place label → next ≡ place + 1 + length label → more ≡ read ++ (length label ∷ label)
+pub Keeps-label : (message : List ℕ) (at limit place next : ℕ) (read more label : List ℕ) (end : Option ℕ) → IsLabel message place label →
+    next ≡ place + 1 + length label → more ≡ read ++ (length label ∷ label)
     → Keeps message at limit place read end → Keeps message at limit next more end
 Keeps-label message at limit place next read more label end stands next_is more_is keeps =
-    let join : (rest : List ℕ) → read ++ (length label ∷ (label ++ rest)) ≡ more ++ rest = λ rest. sym (append_assoc read (length label ∷ label) rest) ∙ ap (λ xs. xs ++ rest) (sym more_is) in
+    let join : (rest : List ℕ) → read ++ (length label ∷ (label ++ rest)) ≡ more ++ rest = λ rest. sym (append_assoc read (length label ∷ label) rest) ∙
+    ap (λ xs. xs ++ rest) (sym more_is) in
     record {
       found = λ steps leads.
           let w = keeps.found (Label label ∷ steps) (stands, subst (λ n. Leads message limit n steps) next_is leads) in
@@ -114,12 +119,14 @@ Keeps-label message at limit place next read more label end stands next_is more_
           };
     }
 
-end_from-pointer : (end : Option ℕ) (place target : ℕ) (steps : List Step) → end_from end place (Jump target ∷ steps) ≡ end_from (Some (unwrap_or end (place + 2))) target steps
+end_from-pointer : (end : Option ℕ) (place target : ℕ) (steps : List Step) →
+    end_from end place (Jump target ∷ steps) ≡ end_from (Some (unwrap_or end (place + 2))) target steps
 end_from-pointer None place target steps = refl
 end_from-pointer (Some end) place target steps = refl
 
 -- a pointer is read
-pub Keeps-pointer : (message : List ℕ) (at limit place target : ℕ) (read : List ℕ) (end : Option ℕ) (now : ℕ) → IsPointer message limit place target → now ≡ unwrap_or end (place + 2)
+pub Keeps-pointer : (message : List ℕ) (at limit place target : ℕ) (read : List ℕ) (end : Option ℕ) (now : ℕ) → IsPointer message limit place target →
+    now ≡ unwrap_or end (place + 2)
     → Keeps message at limit place read end → Keeps message at target target read (Some now)
 Keeps-pointer message at limit place target read end now stands now_is keeps = record {
   found = λ steps leads.
@@ -146,7 +153,8 @@ end_from-root None place = refl
 end_from-root (Some end) place = refl
 
 -- the name that was read, once its end stands there
-pub Keeps-named : (message : List ℕ) (at limit place : ℕ) (read name : List ℕ) (end : Option ℕ) (stop : ℕ) → Keeps message at limit place read end → IsRoot message place → IsName message at name stop
+pub Keeps-named : (message : List ℕ) (at limit place : ℕ) (read name : List ℕ) (end : Option ℕ) (stop : ℕ) → Keeps message at limit place read end →
+    IsRoot message place → IsName message at name stop
     → (name ≡ read ++ (0 ∷ [])) × (stop ≡ unwrap_or end (place + 1))
 Keeps-named message at limit place read name end stop keeps root is =
     let l = keeps.only is.steps is.leads in
@@ -154,13 +162,15 @@ Keeps-named message at limit place read name end stop keeps root is =
     (is.name_is ∙ l.name_is ∙ ap (λ ss. read ++ name_of ss) none, is.end_is ∙ l.end_is ∙ ap (λ ss. end_from end place ss) none ∙ end_from-root end place)
 
 -- and it has room for its last zero
-pub Keeps-short : (message : List ℕ) (at limit place : ℕ) (read name : List ℕ) (end : Option ℕ) (stop : ℕ) → Keeps message at limit place read end → IsRoot message place → IsName message at name stop → length read < 255
+pub Keeps-short : (message : List ℕ) (at limit place : ℕ) (read name : List ℕ) (end : Option ℕ) (stop : ℕ) → Keeps message at limit place read end →
+    IsRoot message place → IsName message at name stop → length read < 255
 Keeps-short message at limit place read name end stop keeps root is =
     let named = Keeps-named message at limit place read name end stop keeps root is in
     omega (arith, is.short, ap length named.0, length-append read (0 ∷ []))
 
 -- what was read is a name, once its end stands there
-pub Keeps-name : (message : List ℕ) (at limit place : ℕ) (read name : List ℕ) (end : Option ℕ) (stop : ℕ) → Keeps message at limit place read end → IsRoot message place → name ≡ read ++ (0 ∷ []) → stop ≡ unwrap_or end (place + 1) → length name ≤ 255
+pub Keeps-name : (message : List ℕ) (at limit place : ℕ) (read name : List ℕ) (end : Option ℕ) (stop : ℕ) → Keeps message at limit place read end →
+    IsRoot message place → name ≡ read ++ (0 ∷ []) → stop ≡ unwrap_or end (place + 1) → length name ≤ 255
     → IsName message at name stop
 Keeps-name message at limit place read name end stop keeps root name_is stop_is short =
     let w = keeps.found [] root in
@@ -173,13 +183,15 @@ Keeps-name message at limit place read name end stop keeps root name_is stop_is 
     }
 
 -- no name where nothing stands
-pub Keeps-none : (message : List ℕ) (at limit place : ℕ) (read name : List ℕ) (end : Option ℕ) (stop : ℕ) → Keeps message at limit place read end → IsNoPart message limit place → IsName message at name stop → ⊥
+pub Keeps-none : (message : List ℕ) (at limit place : ℕ) (read name : List ℕ) (end : Option ℕ) (stop : ℕ) → Keeps message at limit place read end →
+    IsNoPart message limit place → IsName message at name stop → ⊥
 Keeps-none message at limit place read name end stop keeps none is =
     let l = keeps.only is.steps is.leads in
     Leads-none message limit place l.steps none l.leads
 
 -- a name has room for each of its labels
-pub Keeps-room : (message : List ℕ) (at limit place : ℕ) (read name label : List ℕ) (end : Option ℕ) (stop : ℕ) → Keeps message at limit place read end → IsLabel message place label → IsName message at name stop
+pub Keeps-room : (message : List ℕ) (at limit place : ℕ) (read name label : List ℕ) (end : Option ℕ) (stop : ℕ) → Keeps message at limit place read end →
+    IsLabel message place label → IsName message at name stop
     → length read + 1 + length label ≤ 255
 Keeps-room message at limit place read name label end stop keeps stands is =
     let l = keeps.only is.steps is.leads in

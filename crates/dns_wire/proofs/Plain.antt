@@ -1,5 +1,6 @@
 -- Names without pointers, read.
-use Rattle.std.proofs.Common.{◌≡◌, ℕ, ◌+◌, ◌-◌, ◌<◌, ◌≤◌, List, [], ◌∷◌, ◌++◌, length, take, drop, get_or, refl, sym, ◌∙◌, ap, subst, arith, append_assoc, length-append}
+use Rattle.std.proofs.Common.{◌≡◌, ℕ, ◌+◌, ◌-◌, ◌<◌, ◌≤◌, List, [], ◌∷◌, ◌++◌, length, take, drop, get_or, refl, sym, ◌∙◌, ap, subst, arith, append_assoc}
+use Rattle.std.proofs.Common.{length-append}
 use Rattle.std.specs.Prelude.{slice_index, slice_range}
 use Rattle.std.proofs.lemmas.List.{take_at, drop_at, get_or-append-add}
 use Rattle.dns_wire.specs.Message.{AreLabels, labels_name, IsPlain}
@@ -27,11 +28,13 @@ end_of-steps at (label ∷ labels) =
     omega (arith, rest, length-append label (labels_name labels))
 
 -- the bytes with the first label before the rest
-first-label : (front label others rest : List ℕ) → front ++ ((length label ∷ (label ++ others)) ++ rest) ≡ (front ++ (length label ∷ [])) ++ (label ++ (others ++ rest))
+first-label : (front label others rest : List ℕ) → front ++ ((length label ∷ (label ++ others)) ++ rest) ≡ (front ++ (length label ∷ [])) ++
+    (label ++ (others ++ rest))
 first-label front label others rest =
     ap (λ xs. front ++ (length label ∷ xs)) (append_assoc label others rest) ∙ sym (append_assoc front (length label ∷ []) (label ++ (others ++ rest)))
 
-behind-label : (front label others rest : List ℕ) → front ++ ((length label ∷ (label ++ others)) ++ rest) ≡ (front ++ (length label ∷ label)) ++ (others ++ rest)
+behind-label : (front label others rest : List ℕ) → front ++ ((length label ∷ (label ++ others)) ++ rest) ≡ (front ++ (length label ∷ label)) ++
+    (others ++ rest)
 behind-label front label others rest =
     ap (λ xs. front ++ (length label ∷ xs)) (append_assoc label others rest) ∙ sym (append_assoc front (length label ∷ label) (others ++ rest))
 
@@ -45,7 +48,8 @@ label-bytes front label others rest at len =
     ∙ ap (take (length label)) (drop_at (front ++ (length label ∷ [])) (label ++ (others ++ rest)) (at + 1) before)
     ∙ take_at label (others ++ rest) (length label) refl
 
-pub Leads-plain : (front rest : List ℕ) (limit at : ℕ) (labels : List (List ℕ)) → length front ≡ at → AreLabels labels → Leads (front ++ (labels_name labels ++ rest)) limit at (steps_of labels)
+pub Leads-plain : (front rest : List ℕ) (limit at : ℕ) (labels : List (List ℕ)) → length front ≡ at → AreLabels labels →
+    Leads (front ++ (labels_name labels ++ rest)) limit at (steps_of labels)
 Leads-plain front rest limit at [] len are = record {
   within = omega (arith, len, length-append front (0 ∷ rest));
   value = index-at front (0 ∷ rest) at 0 at len (omega arith);
@@ -57,11 +61,20 @@ Leads-plain front rest limit at (label ∷ labels) len are =
     let here : IsLabel bytes at label = record {
       some = are.0;
       short = are.1;
-      within = omega (arith, len, length-append front ((length label ∷ (label ++ others)) ++ rest), length-append (label ++ others) rest, length-append label others);
+      within = omega (
+        arith,
+        len,
+        length-append front ((length label ∷ (label ++ others)) ++ rest),
+        length-append (label ++ others) rest,
+        length-append label others,
+      );
       count = index-at front ((length label ∷ (label ++ others)) ++ rest) at 0 at len (omega arith);
       bytes = label-bytes front label others rest at len;
-    } in
-    (here, subst (λ (xs : List ℕ). Leads xs limit (at + 1 + length label) (steps_of labels)) (sym (behind-label front label others rest)) (Leads-plain (front ++ (length label ∷ label)) rest limit (at + 1 + length label) labels before are.2))
+    } in (
+      here,
+      subst (λ (xs : List ℕ). Leads xs limit (at + 1 + length label) (steps_of labels)) (sym (behind-label front label others rest))
+          (Leads-plain (front ++ (length label ∷ label)) rest limit (at + 1 + length label) labels before are.2),
+    )
 
 -- a name without pointers is read where it stands
 pub IsName-plain : (front name rest : List ℕ) (at : ℕ) → length front ≡ at → IsPlain name → IsName (front ++ (name ++ rest)) at name (at + length name)

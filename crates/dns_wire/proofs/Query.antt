@@ -1,5 +1,6 @@
 -- A query that was written, read.
-use Rattle.std.proofs.Common.{◌≡◌, ◌≢◌, ℕ, ◌+◌, ◌*◌, ◌/◌, ◌%◌, ◌^◌, ◌<◌, ◌≤◌, Bool, true, false, List, [], ◌∷◌, ◌++◌, length, get_or, refl, sym, ◌∙◌, ap, subst, arith, append_assoc, length-append}
+use Rattle.std.proofs.Common.{◌≡◌, ◌≢◌, ℕ, ◌+◌, ◌*◌, ◌/◌, ◌%◌, ◌^◌, ◌<◌, ◌≤◌, Bool, true, false, List, [], ◌∷◌, ◌++◌, length, get_or, refl, sym, ◌∙◌, ap, subst}
+use Rattle.std.proofs.Common.{arith, append_assoc, length-append}
 use Rattle.std.specs.Prelude.{◌==◌, if◌then◌else◌, slice_index}
 use Rattle.std.specs.Int.{w16, to_be_bytes}
 use Rattle.std.proofs.lemmas.Bool.{eq-eqb, ne_eqb}
@@ -62,18 +63,21 @@ response-is r a t d o small =
 authoritative-is : (r a t d : Bool) (o : ℕ) → a ≡ (summed (weighs r 128) o (weighs a 4) (weighs t 2) (weighs d 1) / 4 % 2 == 1)
 authoritative-is r a t d o =
     let below : weighs t 2 + weighs d 1 < 4 = omega (arith, weighs-le t 2, weighs-le d 1) in
-    let same : 8 * (weighs r 16 + o) + weighs a 4 + (weighs t 2 + weighs d 1) ≡ summed (weighs r 128) o (weighs a 4) (weighs t 2) (weighs d 1) = omega (arith, (weighs-128 r).0) in
+    let same : 8 * (weighs r 16 + o) + weighs a 4 + (weighs t 2 + weighs d 1) ≡ summed (weighs r 128) o (weighs a 4) (weighs t 2) (weighs d 1) =
+    omega (arith, (weighs-128 r).0) in
     flag-4 a (weighs r 16 + o) (weighs t 2 + weighs d 1) below ∙ ap (λ n. n / 4 % 2 == 1) same
 
 truncated-is : (r a t d : Bool) (o : ℕ) → t ≡ (summed (weighs r 128) o (weighs a 4) (weighs t 2) (weighs d 1) / 2 % 2 == 1)
 truncated-is r a t d o =
     let below : weighs d 1 < 2 = omega (arith, weighs-le d 1) in
-    let same : 4 * (weighs r 32 + 2 * o + weighs a 1) + weighs t 2 + weighs d 1 ≡ summed (weighs r 128) o (weighs a 4) (weighs t 2) (weighs d 1) = omega (arith, (weighs-128 r).1, (weighs-4 a).0) in
+    let same : 4 * (weighs r 32 + 2 * o + weighs a 1) + weighs t 2 + weighs d 1 ≡ summed (weighs r 128) o (weighs a 4) (weighs t 2) (weighs d 1) =
+    omega (arith, (weighs-128 r).1, (weighs-4 a).0) in
     flag-2 t (weighs r 32 + 2 * o + weighs a 1) (weighs d 1) below ∙ ap (λ n. n / 2 % 2 == 1) same
 
 desired-is : (r a t d : Bool) (o : ℕ) → d ≡ (summed (weighs r 128) o (weighs a 4) (weighs t 2) (weighs d 1) % 2 == 1)
 desired-is r a t d o =
-    let same : 2 * (weighs r 64 + 4 * o + weighs a 2 + weighs t 1) + weighs d 1 ≡ summed (weighs r 128) o (weighs a 4) (weighs t 2) (weighs d 1) = omega (arith, (weighs-128 r).2, (weighs-4 a).1, weighs-2 t) in
+    let same : 2 * (weighs r 64 + 4 * o + weighs a 2 + weighs t 1) + weighs d 1 ≡ summed (weighs r 128) o (weighs a 4) (weighs t 2) (weighs d 1) =
+    omega (arith, (weighs-128 r).2, (weighs-4 a).1, weighs-2 t) in
     flag-1 d (weighs r 64 + 4 * o + weighs a 2 + weighs t 1) ∙ ap (λ n. n % 2 == 1) same
 
 available-is : (flag : Bool) → flag ≡ (weighs flag 128 / 128 % 2 == 1)
@@ -87,10 +91,14 @@ flags-back : (f : DnsFlags) (o : DnsOpcode) → opcode_number o < 16 → f ≡ f
 flags-back f o small =
     let n = opcode_number o in
     let high : ℕ = summed (weighs f.response 128) (opcode_number o) (weighs f.authoritative 4) (weighs f.truncated 2) (weighs f.recursion_desired 1) in
-    ap (λ x. of_flags x f.authoritative f.truncated f.recursion_desired f.recursion_available) (response-is f.response f.authoritative f.truncated f.recursion_desired (opcode_number o) small)
-    ∙ ap (λ x. of_flags (high / 128 % 2 == 1) x f.truncated f.recursion_desired f.recursion_available) (authoritative-is f.response f.authoritative f.truncated f.recursion_desired (opcode_number o))
-    ∙ ap (λ x. of_flags (high / 128 % 2 == 1) (high / 4 % 2 == 1) x f.recursion_desired f.recursion_available) (truncated-is f.response f.authoritative f.truncated f.recursion_desired (opcode_number o))
-    ∙ ap (λ x. of_flags (high / 128 % 2 == 1) (high / 4 % 2 == 1) (high / 2 % 2 == 1) x f.recursion_available) (desired-is f.response f.authoritative f.truncated f.recursion_desired (opcode_number o))
+    ap (λ x. of_flags x f.authoritative f.truncated f.recursion_desired f.recursion_available)
+    (response-is f.response f.authoritative f.truncated f.recursion_desired (opcode_number o) small)
+    ∙ ap (λ x. of_flags (high / 128 % 2 == 1) x f.truncated f.recursion_desired f.recursion_available)
+    (authoritative-is f.response f.authoritative f.truncated f.recursion_desired (opcode_number o))
+    ∙ ap (λ x. of_flags (high / 128 % 2 == 1) (high / 4 % 2 == 1) x f.recursion_desired f.recursion_available)
+    (truncated-is f.response f.authoritative f.truncated f.recursion_desired (opcode_number o))
+    ∙ ap (λ x. of_flags (high / 128 % 2 == 1) (high / 4 % 2 == 1) (high / 2 % 2 == 1) x f.recursion_available)
+    (desired-is f.response f.authoritative f.truncated f.recursion_desired (opcode_number o))
     ∙ ap (λ x. of_flags (high / 128 % 2 == 1) (high / 4 % 2 == 1) (high / 2 % 2 == 1) (high % 2 == 1) x) (available-is f.recursion_available)
 
 -- the header of a query, and what stands behind its name
@@ -103,14 +111,16 @@ tail_of v = to_be_bytes w16 (type_number v.question.type_) ++ (0 ∷ 1 ∷ [])
 abbrev whole : List ℕ → List ℕ → List ℕ → List ℕ
 whole front name rest = front ++ (name ++ rest)
 
-question-read : (front name : List ℕ) (high low : ℕ) (more : List ℕ) (q : DnsQuestion) (kind : ℕ) → length front ≡ 12 → bytes_of_name q.name ≡ name → IsPlain name → kind ≡ 256 * high + low → type_number q.type_ ≡ kind
+question-read : (front name : List ℕ) (high low : ℕ) (more : List ℕ) (q : DnsQuestion) (kind : ℕ) → length front ≡ 12 → bytes_of_name q.name ≡ name →
+    IsPlain name → kind ≡ 256 * high + low → type_number q.type_ ≡ kind
     → IsQuestion (whole front name (high ∷ low ∷ 0 ∷ 1 ∷ more)) 12 (normal q) (16 + length name)
 question-read front name high low more q kind len name_is plain kind_is type_is =
     let bytes : List ℕ = whole front name (high ∷ low ∷ 0 ∷ 1 ∷ more) in
     let before : length (front ++ name) ≡ 12 + length name = omega (arith, len, length-append front name) in
     let regrouped : bytes ≡ (front ++ name) ++ (high ∷ low ∷ 0 ∷ 1 ∷ more) = sym (append_assoc front name (high ∷ low ∷ 0 ∷ 1 ∷ more)) in
     let at : (n : ℕ) → get_or bytes (12 + length name + n) 0 ≡ get_or (high ∷ low ∷ 0 ∷ 1 ∷ more) n 0 = λ n.
-    ap (λ xs. get_or xs (12 + length name + n) 0) regrouped ∙ index-at (front ++ name) (high ∷ low ∷ 0 ∷ 1 ∷ more) (12 + length name) n (12 + length name + n) before refl
+    ap (λ xs. get_or xs (12 + length name + n) 0) regrouped ∙
+    index-at (front ++ name) (high ∷ low ∷ 0 ∷ 1 ∷ more) (12 + length name) n (12 + length name + n) before refl
     in
     let first : get_or bytes (12 + length name) 0 ≡ high = ap (λ k. get_or bytes k 0) (omega arith) ∙ at 0 in
     let third : get_or bytes (12 + length name + 2 + 1) 0 ≡ 1 = ap (λ k. get_or bytes k 0) (omega arith) ∙ at 3 in
@@ -124,7 +134,8 @@ question-read front name high low more q kind len name_is plain kind_is type_is 
       end_is = omega arith;
     }
 
-pub IsQuery-written : (v : DnsRepr) (more : List ℕ) → v.transaction_id < 2 ^ 16 → opcode_number v.opcode < 16 → type_number v.question.type_ < 2 ^ 16 → IsPlain (bytes_of_name v.question.name) → IsQuery (written v ++ more) v
+pub IsQuery-written : (v : DnsRepr) (more : List ℕ) → v.transaction_id < 2 ^ 16 → opcode_number v.opcode < 16 → type_number v.question.type_ < 2 ^ 16 →
+    IsPlain (bytes_of_name v.question.name) → IsQuery (written v ++ more) v
 IsQuery-written v more small opcode kind plain =
     let name : List ℕ = bytes_of_name v.question.name in
     let code : ℕ = type_number v.question.type_ in
@@ -134,5 +145,6 @@ IsQuery-written v more small opcode kind plain =
       flags = flags-back v.flags v.opcode opcode;
       questions = refl;
       answers = refl;
-      question = subst (λ (xs : List ℕ). IsQuestion (header_of v ++ xs) 12 (normal v.question) (16 + length name)) (sym (append_assoc name (tail_of v) more)) asked;
+      question = subst (λ (xs : List ℕ). IsQuestion (header_of v ++ xs) 12 (normal v.question) (16 + length name))
+          (sym (append_assoc name (tail_of v) more)) asked;
     }

@@ -1,5 +1,6 @@
 -- Labels of a text.
-use Rattle.std.proofs.Common.{◌≡◌, ◌⊎◌, inl, inr, ℕ, zero, suc, ◌+◌, ◌-◌, ◌<◌, ◌≤◌, Bool, true, false, if◌then◌else◌, List, [], ◌∷◌, ◌++◌, length, take, drop, get_or, refl, sym, ◌∙◌, ap, subst, arith, append_assoc, length-append}
+use Rattle.std.proofs.Common.{◌≡◌, ◌⊎◌, inl, inr, ℕ, zero, suc, ◌+◌, ◌-◌, ◌<◌, ◌≤◌, Bool, true, false, if◌then◌else◌, List, [], ◌∷◌, ◌++◌, length, take, drop}
+use Rattle.std.proofs.Common.{get_or, refl, sym, ◌∙◌, ap, subst, arith, append_assoc, length-append}
 use Rattle.std.proofs.Math.Nat.{eq-or-lt_of_le}
 use Rattle.std.proofs.lemmas.List.{length-take-le, length-drop, take_all}
 use Rattle.std.specs.Prelude.{◌≢◌, ◌==◌, slice_index}
@@ -88,7 +89,8 @@ Kept-more text bytes rest others bytes' n kept is more some short left written =
     ap labels_name split ∙ ap (λ m. m ∷ (take n rest ++ labels_name (labels_of others))) size
     in
     record {
-      named = kept.named ∙ ap (λ xs. bytes ++ xs) name ∙ sym (append_assoc bytes (n ∷ take n rest) (labels_name (labels_of others))) ∙ ap (λ xs. xs ++ labels_name (labels_of others)) (sym written);
+      named = kept.named ∙ ap (λ xs. bytes ++ xs) name ∙ sym (append_assoc bytes (n ∷ take n rest) (labels_name (labels_of others))) ∙
+          ap (λ xs. xs ++ labels_name (labels_of others)) (sym written);
       forth = λ a. (subst AreLabels split (kept.forth a)).2;
       back = λ a. kept.back (subst AreLabels (sym split) (omega (arith, size), omega (arith, size), a));
       len = omega (arith, kept.len, size, gone, ap length left, ap length written, length-append bytes (n ∷ take n rest));
@@ -103,7 +105,8 @@ Kept-all text bytes rest bytes' n kept is all some short written =
     (kept.back (subst AreLabels (sym whole) (omega arith, omega arith, tt)), written ∙ ap (λ xs. bytes ++ xs) (sym name) ∙ sym kept.named)
 
 pub Kept-last : (text bytes rest front more bytes' : List ℕ) (n : ℕ) → Kept text bytes rest → IsLabelEnd rest n → n ≡ length rest → 0 < n → n < 64
-    → front ≡ take n rest → more ≡ bytes ++ (length front ∷ front) → bytes' ≡ more ++ (0 ∷ []) → AreLabels (labels_of text) × (bytes' ≡ labels_name (labels_of text))
+    → front ≡ take n rest → more ≡ bytes ++ (length front ∷ front) → bytes' ≡ more ++ (0 ∷ []) → AreLabels (labels_of text) ×
+    (bytes' ≡ labels_name (labels_of text))
 Kept-last text bytes rest front more bytes' n kept is all some short cut pushed last =
     let whole : front ≡ rest = cut ∙ take_all n rest (omega (arith, all)) in
     let size : length front ≡ n = ap length whole ∙ sym all in

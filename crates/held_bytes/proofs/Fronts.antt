@@ -11,7 +11,8 @@ use Rattle.held_bytes.proofs.Places.{above, entry-held, entry-none, map_from-sam
 use Rattle.held_bytes.proofs.Storing.{held-store, length-overlay, EndsBy-union}
 
 -- n places from p on are held, and the next one isn't
-pub front-upto : (rs : List (ℕ × ℕ)) (p n : ℕ) (xs : List ℕ) → ((q : ℕ) → p ≤ q → q < p + n → Holds rs q) → (Holds rs (p + n) → ⊥) → (receive.front (map_from rs p xs) ≡ take n xs) × (receive.behind (map_from rs p xs) ≡ map_from rs (p + n) (drop n xs))
+pub front-upto : (rs : List (ℕ × ℕ)) (p n : ℕ) (xs : List ℕ) → ((q : ℕ) → p ≤ q → q < p + n → Holds rs q) → (Holds rs (p + n) → ⊥) →
+    (receive.front (map_from rs p xs) ≡ take n xs) × (receive.behind (map_from rs p xs) ≡ map_from rs (p + n) (drop n xs))
 front-upto rs p zero [] h none = (refl, refl)
 front-upto rs p (suc n) [] h none = (refl, refl)
 front-upto rs p zero (x ∷ xs) h none =
@@ -96,7 +97,8 @@ EndsBy-without_front rs end runs ends = λ p h.
     let moved = ends (p + front rs) (((is_front rs runs).behind p (p + front rs) refl).0 h) in omega arith
 
 -- all that a buffer needs that stores bytes and takes out the front
-pub takes_front : (rs : List (ℕ × ℕ)) (free : List ℕ) (at : ℕ) (bytes : List ℕ) → AreRuns rs → EndsBy rs (length free) → at + length bytes ≤ length free → TakesFront rs free at bytes (added rs at (length bytes)) (overlay free at bytes)
+pub takes_front : (rs : List (ℕ × ℕ)) (free : List ℕ) (at : ℕ) (bytes : List ℕ) → AreRuns rs → EndsBy rs (length free) → at + length bytes ≤ length free →
+    TakesFront rs free at bytes (added rs at (length bytes)) (overlay free at bytes)
 takes_front rs free at bytes runs ends fits =
     let new = added rs at (length bytes) in
     let laid = overlay free at bytes in

@@ -1,5 +1,6 @@
 -- Lemmas on the places that are held, and on the map of bytes at them.
-use Rattle.std.proofs.Common.{◌≡◌, ℕ, suc, ◌+◌, ◌<◌, ◌≤◌, ◌⊎◌, inl, inr, Bool, true, false, List, [], ◌∷◌, ◌++◌, length, Option, Some, None, slice_get, refl, sym, ap, ap₂, ◌∙◌, arith}
+use Rattle.std.proofs.Common.{◌≡◌, ℕ, suc, ◌+◌, ◌<◌, ◌≤◌, ◌⊎◌, inl, inr, Bool, true, false, List, [], ◌∷◌, ◌++◌, length, Option, Some, None, slice_get, refl}
+use Rattle.std.proofs.Common.{sym, ap, ap₂, ◌∙◌, arith}
 use Rattle.std.specs.Prelude.{◌↔◌, nat_le, nat_lt, ◌&&◌, if◌then◌else◌}
 use Rattle.std.proofs.lemmas.Bool.{cases_lt, le-leb, lt-leb, lt-ltb, le-ltb, and_from, and_left, and_right, or_left, or_right, or_from}
 use Rattle.net_containers.specs.Assembler.{Holds, AreRunsFrom}
@@ -14,7 +15,8 @@ above low (r ∷ rs) p h x = elim x [
   | inr z ↦ omega (arith, above (r.1 + 1) rs p h.2 z, h.0, h.1)
 ]
 
-run_tells : (r : ℕ × ℕ) (p : ℕ) → (((nat_le r.0 p && nat_lt p r.1) ≡ true) × ((r.0 ≤ p) × (p < r.1))) ⊎ (((nat_le r.0 p && nat_lt p r.1) ≡ false) × ((r.0 ≤ p) × (p < r.1) → ⊥))
+run_tells : (r : ℕ × ℕ) (p : ℕ) → (((nat_le r.0 p && nat_lt p r.1) ≡ true) × ((r.0 ≤ p) × (p < r.1))) ⊎
+    (((nat_le r.0 p && nat_lt p r.1) ≡ false) × ((r.0 ≤ p) × (p < r.1) → ⊥))
 run_tells r p = elim (cases_lt p r.0) [
   | inl before ↦ inr (and_left (nat_le r.0 p) (nat_lt p r.1) (lt-leb r.0 p before), λ h. absurd (omega (arith, h.0)))
   | inr from ↦ elim (cases_lt p r.1) [
@@ -58,14 +60,17 @@ is_held-same rs ss p q h = elim (is_held-tells rs p) [
   ]
 ]
 
-pub entry-same : (rs ss : List (ℕ × ℕ)) (p q byte : ℕ) → Holds rs p ↔ Holds ss q → (if is_held rs p then Some byte else None) ≡ (if is_held ss q then Some byte else None)
+pub entry-same : (rs ss : List (ℕ × ℕ)) (p q byte : ℕ) → Holds rs p ↔ Holds ss q →
+    (if is_held rs p then Some byte else None) ≡ (if is_held ss q then Some byte else None)
 entry-same rs ss p q byte h = ap (λ (t : Bool). if t then Some byte else None) (is_held-same rs ss p q h)
 
 -- runs that hold the same places of the bytes make the same map, also where one set is moved against the other
-pub map_from-same : (rs ss : List (ℕ × ℕ)) (p q : ℕ) (xs : List ℕ) → ((k i j : ℕ) → k < length xs → i ≡ p + k → j ≡ q + k → Holds rs i ↔ Holds ss j) → map_from rs p xs ≡ map_from ss q xs
+pub map_from-same : (rs ss : List (ℕ × ℕ)) (p q : ℕ) (xs : List ℕ) → ((k i j : ℕ) → k < length xs → i ≡ p + k → j ≡ q + k → Holds rs i ↔ Holds ss j) →
+    map_from rs p xs ≡ map_from ss q xs
 map_from-same rs ss p q [] h = refl
 map_from-same rs ss p q (x ∷ xs) h =
-    ap₂ ◌∷◌ (entry-same rs ss p q x (h 0 p q (omega arith) (omega arith) (omega arith))) (map_from-same rs ss (suc p) (suc q) xs (λ k i j lt a b. h (suc k) i j (omega arith) (omega arith) (omega arith)))
+    ap₂ ◌∷◌ (entry-same rs ss p q x (h 0 p q (omega arith) (omega arith) (omega arith)))
+    (map_from-same rs ss (suc p) (suc q) xs (λ k i j lt a b. h (suc k) i j (omega arith) (omega arith) (omega arith)))
 
 pub length-map_from : (rs : List (ℕ × ℕ)) (p : ℕ) (xs : List ℕ) → length (map_from rs p xs) ≡ length xs
 length-map_from rs p [] = refl
@@ -75,7 +80,8 @@ pub map_from-append : (rs : List (ℕ × ℕ)) (p : ℕ) (xs ys : List ℕ) → 
 map_from-append rs p [] ys = ap (λ (n : ℕ). map_from rs n ys) (omega arith)
 map_from-append rs p (x ∷ xs) ys =
     let e : suc p + length xs ≡ p + suc (length xs) = omega arith in
-    ap (λ (rest : List (Option ℕ)). (if is_held rs p then Some x else None) ∷ rest) (map_from-append rs (suc p) xs ys ∙ ap (λ (n : ℕ). map_from rs (suc p) xs ++ map_from rs n ys) e)
+    ap (λ (rest : List (Option ℕ)). (if is_held rs p then Some x else None) ∷ rest) (map_from-append rs (suc p) xs ys ∙
+    ap (λ (n : ℕ). map_from rs (suc p) xs ++ map_from rs n ys) e)
 
 -- where nothing is held, the map is free space
 pub map_from-space : (rs : List (ℕ × ℕ)) (p : ℕ) (xs : List ℕ) → EndsBy rs p → map_from rs p xs ≡ space (length xs)
@@ -88,10 +94,12 @@ map_from-space rs p (x ∷ xs) ends =
 pub map_from-more : (rs : List (ℕ × ℕ)) (xs more : List ℕ) → EndsBy rs (length xs) → map_from rs 0 (xs ++ more) ≡ map_from rs 0 xs ++ space (length more)
 map_from-more rs xs more ends =
     let z : 0 + length xs ≡ length xs = omega arith in
-    map_from-append rs 0 xs more ∙ ap (λ (n : ℕ). map_from rs 0 xs ++ map_from rs n more) z ∙ ap (λ (map : List (Option ℕ)). map_from rs 0 xs ++ map) (map_from-space rs (length xs) more ends)
+    map_from-append rs 0 xs more ∙ ap (λ (n : ℕ). map_from rs 0 xs ++ map_from rs n more) z ∙
+    ap (λ (map : List (Option ℕ)). map_from rs 0 xs ++ map) (map_from-space rs (length xs) more ends)
 
 -- bytes at places that aren't held don't count
-pub map_from-unmarked : (rs : List (ℕ × ℕ)) (p : ℕ) (xs ys : List ℕ) → length xs ≡ length ys → ((k i : ℕ) → i ≡ p + k → Holds rs i → slice_get xs k ≡ slice_get ys k) → map_from rs p xs ≡ map_from rs p ys
+pub map_from-unmarked : (rs : List (ℕ × ℕ)) (p : ℕ) (xs ys : List ℕ) → length xs ≡ length ys →
+    ((k i : ℕ) → i ≡ p + k → Holds rs i → slice_get xs k ≡ slice_get ys k) → map_from rs p xs ≡ map_from rs p ys
 map_from-unmarked rs p [] [] same h = refl
 map_from-unmarked rs p [] (y ∷ ys) same h = absurd (omega arith)
 map_from-unmarked rs p (x ∷ xs) [] same h = absurd (omega arith)

@@ -9,7 +9,8 @@ use Rattle.held_bytes.proofs.Places.{map_from-unmarked, above}
 use Rattle.held_bytes.proofs.Storing.{length-overlay}
 
 -- where joining positions makes a run more, none of them was held
-joined-apart : (low : ℕ) (rs : List (ℕ × ℕ)) (start end p : ℕ) → AreRunsFrom low rs → length rs < length (joined rs start end) → Holds rs p → (p < start) ⊎ (end ≤ p)
+joined-apart : (low : ℕ) (rs : List (ℕ × ℕ)) (start end p : ℕ) → AreRunsFrom low rs → length rs < length (joined rs start end) → Holds rs p →
+    (p < start) ⊎ (end ≤ p)
 joined-apart low [] start end p runs more h = absurd h
 joined-apart low (r ∷ rs) start end p runs more h = elim (joined-cases r rs start end) [
   | inl a ↦ elim h [
@@ -35,15 +36,18 @@ overlay-elsewhere (x ∷ xs) (suc at) bytes zero way = refl
 overlay-elsewhere (x ∷ xs) (suc at) bytes (suc k) way = overlay-elsewhere xs at bytes k (elim way [ inl y ↦ inl (omega arith) | inr z ↦ inr (omega arith) ])
 overlay-elsewhere (x ∷ xs) zero [] k way = refl
 overlay-elsewhere (x ∷ xs) zero (byte ∷ bytes) zero way = absurd (elim way [ inl y ↦ omega arith | inr z ↦ omega arith ])
-overlay-elsewhere (x ∷ xs) zero (byte ∷ bytes) (suc k) way = overlay-elsewhere xs zero bytes k (elim way [ inl y ↦ absurd (omega arith) | inr z ↦ inr (omega arith) ])
+overlay-elsewhere (x ∷ xs) zero (byte ∷ bytes) (suc k) way =
+    overlay-elsewhere xs zero bytes k (elim way [ inl y ↦ absurd (omega arith) | inr z ↦ inr (omega arith) ])
 
 -- bytes at places that aren't held
-pub map_from-elsewhere : (rs : List (ℕ × ℕ)) (free : List ℕ) (at : ℕ) (bytes : List ℕ) → ((p : ℕ) → Holds rs p → (p < at) ⊎ (at + length bytes ≤ p)) → map_from rs 0 (overlay free at bytes) ≡ map_from rs 0 free
+pub map_from-elsewhere : (rs : List (ℕ × ℕ)) (free : List ℕ) (at : ℕ) (bytes : List ℕ) → ((p : ℕ) → Holds rs p → (p < at) ⊎ (at + length bytes ≤ p)) →
+    map_from rs 0 (overlay free at bytes) ≡ map_from rs 0 free
 map_from-elsewhere rs free at bytes apart =
     map_from-unmarked rs 0 (overlay free at bytes) free (length-overlay free at bytes) (λ k i e h.
     let same : i ≡ k = omega arith in
     overlay-elsewhere free at bytes k (apart k (rw same at h)))
 
-pub map_from-refused : (rs : List (ℕ × ℕ)) (free : List ℕ) (at : ℕ) (bytes : List ℕ) → AreRuns rs → length rs < length (added rs at (length bytes)) → map_from rs 0 (overlay free at bytes) ≡ map_from rs 0 free
+pub map_from-refused : (rs : List (ℕ × ℕ)) (free : List ℕ) (at : ℕ) (bytes : List ℕ) → AreRuns rs → length rs < length (added rs at (length bytes)) →
+    map_from rs 0 (overlay free at bytes) ≡ map_from rs 0 free
 map_from-refused rs free at bytes runs more =
     map_from-elsewhere rs free at bytes (λ p h. added-apart rs at (length bytes) p runs more h)

@@ -11,7 +11,8 @@ pub AreRuns-runs_from : (p : ℕ) (map : List (Option ℕ)) → AreRunsFrom p (r
 AreRuns-runs_from p [] = tt
 AreRuns-runs_from p (None ∷ map) = AreRunsFrom-lower p (suc p) (runs_from (suc p) map) (omega arith) (AreRuns-runs_from (suc p) map)
 AreRuns-runs_from p (Some byte ∷ map) =
-    AreRuns-joined p (runs_from (suc p) map) p (suc p) (AreRunsFrom-lower p (suc p) (runs_from (suc p) map) (omega arith) (AreRuns-runs_from (suc p) map)) (omega arith) (omega arith)
+    AreRuns-joined p (runs_from (suc p) map) p (suc p) (AreRunsFrom-lower p (suc p) (runs_from (suc p) map) (omega arith) (AreRuns-runs_from (suc p) map))
+    (omega arith) (omega arith)
 
 -- they hold the held places of the bytes
 Holds-runs_from : (rs : List (ℕ × ℕ)) (p : ℕ) (xs : List ℕ) (q : ℕ) → Holds (runs_from p (map_from rs p xs)) q ↔ (Holds rs q × ((p ≤ q) × (q < p + length xs)))

@@ -1,6 +1,7 @@
 -- Bytes that came out of order: the free space behind what came without a gap, of which some places hold a byte. An assembler
 -- keeps the runs of the places that do, a buffer the bytes, and both together are a receive map.
-use Rattle.std.specs.Prelude.{◌≡◌, ℕ, zero, suc, ◌<◌, ◌≤◌, Bool, false, ◌&&◌, ◌||◌, nat_le, nat_lt, if◌then◌else◌, List, [], ◌∷◌, length, take, drop, Option, Some, None}
+use Rattle.std.specs.Prelude.{◌≡◌, ℕ, zero, suc, ◌<◌, ◌≤◌, Bool, false, ◌&&◌, ◌||◌, nat_le, nat_lt, if◌then◌else◌, List, [], ◌∷◌, length, take, drop, Option}
+use Rattle.std.specs.Prelude.{Some, None}
 use Rattle.net_containers.specs.Assembler.{Holds, AreRuns, joined, front, without_front}
 use Rattle.tcp_law.specs.ReceiveMap as receive
 

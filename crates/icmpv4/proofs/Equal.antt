@@ -44,15 +44,27 @@ Decides-header a b = (λ yes. absurd (cc), λ e. absurd (cc))
 -- messages are compared by their headers and the bytes that they carry
 pub Decides-message : (a b : Icmpv4Repr) → Decides (Messages.ghosts.eq a b) ((header_of a ≡ header_of b) × (payload_of a ≡ payload_of b))
 Decides-message (Repr.EchoRequest i m xs) (Repr.EchoRequest j n ys) =
-    let same = Decides-and _ _ (Decides-eqb i j) (Decides-and _ _ (Decides-eqb m n) (bytes_eq-Decides xs.now ys.now)) in
-    (λ yes. both (ap₂ Header.EchoRequest (same.0 yes).0 (same.0 yes).1.0) (same.0 yes).1.1, λ e. let header = e.0 in let first : i ≡ j = cc in let second : m ≡ n = cc in same.1 (both first (both second e.1)))
+    let same = Decides-and _ _ (Decides-eqb i j) (Decides-and _ _ (Decides-eqb m n) (bytes_eq-Decides xs.now ys.now)) in (
+      λ yes. both (ap₂ Header.EchoRequest (same.0 yes).0 (same.0 yes).1.0) (same.0 yes).1.1,
+      λ e. let header = e.0 in let first : i ≡ j =
+          cc in let second : m ≡ n = cc in same.1 (both first (both second e.1)),
+    )
 Decides-message (Repr.EchoReply i m xs) (Repr.EchoReply j n ys) =
-    let same = Decides-and _ _ (Decides-eqb i j) (Decides-and _ _ (Decides-eqb m n) (bytes_eq-Decides xs.now ys.now)) in
-    (λ yes. both (ap₂ Header.EchoReply (same.0 yes).0 (same.0 yes).1.0) (same.0 yes).1.1, λ e. let header = e.0 in let first : i ≡ j = cc in let second : m ≡ n = cc in same.1 (both first (both second e.1)))
+    let same = Decides-and _ _ (Decides-eqb i j) (Decides-and _ _ (Decides-eqb m n) (bytes_eq-Decides xs.now ys.now)) in (
+      λ yes. both (ap₂ Header.EchoReply (same.0 yes).0 (same.0 yes).1.0) (same.0 yes).1.1,
+      λ e. let header = e.0 in let first : i ≡ j =
+          cc in let second : m ≡ n = cc in same.1 (both first (both second e.1)),
+    )
 Decides-message (Repr.DstUnreachable r h xs) (Repr.DstUnreachable s k ys) =
-    let same = Decides-and _ _ (Decides-unreachable r s) (Decides-and _ _ (Decides-v4 h k) (bytes_eq-Decides xs.now ys.now)) in
-    (λ yes. both (ap₂ Header.DstUnreachable (same.0 yes).0 (same.0 yes).1.0) (same.0 yes).1.1, λ e. let header = e.0 in let first : r ≡ s = cc in let second : h ≡ k = cc in same.1 (both first (both second e.1)))
+    let same = Decides-and _ _ (Decides-unreachable r s) (Decides-and _ _ (Decides-v4 h k) (bytes_eq-Decides xs.now ys.now)) in (
+      λ yes. both (ap₂ Header.DstUnreachable (same.0 yes).0 (same.0 yes).1.0) (same.0 yes).1.1,
+      λ e. let header = e.0 in let first : r ≡ s =
+          cc in let second : h ≡ k = cc in same.1 (both first (both second e.1)),
+    )
 Decides-message (Repr.TimeExceeded r h xs) (Repr.TimeExceeded s k ys) =
-    let same = Decides-and _ _ (Decides-exceeded r s) (Decides-and _ _ (Decides-v4 h k) (bytes_eq-Decides xs.now ys.now)) in
-    (λ yes. both (ap₂ Header.TimeExceeded (same.0 yes).0 (same.0 yes).1.0) (same.0 yes).1.1, λ e. let header = e.0 in let first : r ≡ s = cc in let second : h ≡ k = cc in same.1 (both first (both second e.1)))
+    let same = Decides-and _ _ (Decides-exceeded r s) (Decides-and _ _ (Decides-v4 h k) (bytes_eq-Decides xs.now ys.now)) in (
+      λ yes. both (ap₂ Header.TimeExceeded (same.0 yes).0 (same.0 yes).1.0) (same.0 yes).1.1,
+      λ e. let header = e.0 in let first : r ≡ s =
+          cc in let second : h ≡ k = cc in same.1 (both first (both second e.1)),
+    )
 Decides-message a b = (λ yes. absurd (cc), λ e. let header = e.0 in absurd (cc))

@@ -10,9 +10,17 @@ use Rattle.icmpv4.specs.declared.header.Icmpv4Header.TheVariants as Header
 behind : (sealed : Bool) (header : Ipv4Repr) (payload : List ℕ) → Ipv4.IsValue header → length (Ipv4.written sealed header ++ payload) ≡ 20 + length payload
 behind sealed header payload value =
     let addresses : List ℕ = header.src_addr.0 ++ (header.dst_addr.0 ++ []) in
-    omega (arith, value.source.0, value.destination.0, length-append header.src_addr.0 (header.dst_addr.0 ++ []), length-append header.dst_addr.0 [], length-append addresses payload)
+    omega (
+      arith,
+      value.source.0,
+      value.destination.0,
+      length-append header.src_addr.0 (header.dst_addr.0 ++ []),
+      length-append header.dst_addr.0 [],
+      length-append addresses payload,
+    )
 
-pub length-message : (quote_sealed sealed : Bool) (v : Icmpv4Header) (payload : List ℕ) → IsValue v → length (written quote_sealed sealed v payload) ≡ header_len v + length payload
+pub length-message : (quote_sealed sealed : Bool) (v : Icmpv4Header) (payload : List ℕ) → IsValue v →
+    length (written quote_sealed sealed v payload) ≡ header_len v + length payload
 length-message quote_sealed sealed (Header.EchoRequest ident seq_no) payload value = omega arith
 length-message quote_sealed sealed (Header.EchoReply ident seq_no) payload value = omega arith
 length-message quote_sealed sealed (Header.DstUnreachable reason header) payload value = omega (arith, behind quote_sealed header payload value.1)

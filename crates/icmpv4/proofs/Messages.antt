@@ -12,11 +12,13 @@ use Rattle.icmpv4.specs.declared.message.Icmpv4Message.{Icmpv4Message}
 use Rattle.icmpv4.specs.declared.message.Icmpv4Message.TheVariants as Message
 use Rattle.icmpv4.specs.declared.header.Icmpv4Header.{Icmpv4Header}
 use Rattle.icmpv4.specs.declared.header.Icmpv4Header.TheVariants as Header
-use Rattle.icmpv4.specs.Icmpv4.{IsIcmpv4, IsWhole, Says, Fits, IsValue, behind, quoted_len, kind_of, code_of, four_of, quoted_in, free_fields, spelling, header_len}
+use Rattle.icmpv4.specs.Icmpv4.{IsIcmpv4, IsWhole, Says, Fits, IsValue, behind, quoted_len, kind_of, code_of, four_of, quoted_in, free_fields, spelling}
+use Rattle.icmpv4.specs.Icmpv4.{header_len}
 use Rattle.icmpv4.proofs.Codes.{unreachable_number-unreachable_of, exceeded_number-exceeded_of}
 
 -- a message that is no echo quotes a header
-pub IsQuoted-error : (bytes : List ℕ) (v : Icmpv4Header) (payload : List ℕ) (m : Icmpv4Message) → message_of (slice_index bytes 0) ≡ m → m ≢ Message.EchoRequest → m ≢ Message.EchoReply
+pub IsQuoted-error : (bytes : List ℕ) (v : Icmpv4Header) (payload : List ℕ) (m : Icmpv4Message) → message_of (slice_index bytes 0) ≡ m →
+    m ≢ Message.EchoRequest → m ≢ Message.EchoReply
     → Says bytes v payload → (header : Ipv4Repr) × Ipv4.IsQuoted (behind bytes) header (quoted_len bytes)
 IsQuoted-error bytes (Header.EchoRequest ident seq_no) payload m is request reply says = absurd (request (sym is ∙ ap message_of says.kind_is))
 IsQuoted-error bytes (Header.EchoReply ident seq_no) payload m is request reply says = absurd (reply (sym is ∙ ap message_of says.kind_is))
@@ -40,16 +42,21 @@ code_is bytes (Header.TimeExceeded reason header) payload says = ap exceeded_num
 behind_check : (bytes : List ℕ) (v : Icmpv4Header) (payload : List ℕ) → IsBytes bytes → IsWhole bytes → Says bytes v payload
     → drop 4 bytes ≡ four_of v (slice_range bytes 4 8) ++ (quoted_in v bytes ++ payload)
 behind_check bytes (Header.EchoRequest ident seq_no) payload small whole says =
-    peel16 bytes 4 ident _ small (omega (arith, whole)) says.identifier (peel16 bytes 6 seq_no _ small (omega (arith, whole)) says.sequence (sym says.payload_is))
+    peel16 bytes 4 ident _ small (omega (arith, whole)) says.identifier
+    (peel16 bytes 6 seq_no _ small (omega (arith, whole)) says.sequence (sym says.payload_is))
 behind_check bytes (Header.EchoReply ident seq_no) payload small whole says =
-    peel16 bytes 4 ident _ small (omega (arith, whole)) says.identifier (peel16 bytes 6 seq_no _ small (omega (arith, whole)) says.sequence (sym says.payload_is))
+    peel16 bytes 4 ident _ small (omega (arith, whole)) says.identifier
+    (peel16 bytes 6 seq_no _ small (omega (arith, whole)) says.sequence (sym says.payload_is))
 behind_check bytes (Header.DstUnreachable reason header) payload small whole says =
-    peel_to bytes 4 8 _ _ (omega arith) refl (sym (take-append-drop (quoted_len bytes) (behind bytes)) ∙ ap (λ xs. take (quoted_len bytes) (behind bytes) ++ xs) (sym says.1.payload_is))
+    peel_to bytes 4 8 _ _ (omega arith) refl (sym (take-append-drop (quoted_len bytes) (behind bytes)) ∙
+    ap (λ xs. take (quoted_len bytes) (behind bytes) ++ xs) (sym says.1.payload_is))
 behind_check bytes (Header.TimeExceeded reason header) payload small whole says =
-    peel_to bytes 4 8 _ _ (omega arith) refl (sym (take-append-drop (quoted_len bytes) (behind bytes)) ∙ ap (λ xs. take (quoted_len bytes) (behind bytes) ++ xs) (sym says.1.payload_is))
+    peel_to bytes 4 8 _ _ (omega arith) refl (sym (take-append-drop (quoted_len bytes) (behind bytes)) ∙
+    ap (λ xs. take (quoted_len bytes) (behind bytes) ++ xs) (sym says.1.payload_is))
 
 -- a message is spelled by its value, with what a value doesn't keep, and its data
-pub bytes-spelling : (tested : Bool) (bytes : List ℕ) (v : Icmpv4Header) (payload : List ℕ) → IsBytes bytes → IsIcmpv4 tested bytes v payload → bytes ≡ spelling v (free_fields v bytes) payload
+pub bytes-spelling : (tested : Bool) (bytes : List ℕ) (v : Icmpv4Header) (payload : List ℕ) → IsBytes bytes → IsIcmpv4 tested bytes v payload →
+    bytes ≡ spelling v (free_fields v bytes) payload
 bytes-spelling tested bytes v payload small is =
     let whole : 8 ≤ length bytes = is.whole in
     peel8 bytes 0 (kind_of v) _ (omega (arith, whole)) (kind_is bytes v payload is.says) (
@@ -63,12 +70,29 @@ room : (bytes : List ℕ) (v : Icmpv4Header) (payload : List ℕ) → IsWhole by
 room bytes (Header.EchoRequest ident seq_no) payload whole says = omega (arith, whole, ap length says.payload_is, length-drop 8 bytes)
 room bytes (Header.EchoReply ident seq_no) payload whole says = omega (arith, whole, ap length says.payload_is, length-drop 8 bytes)
 room bytes (Header.DstUnreachable reason header) payload whole says =
-    omega (arith, whole, ap length says.1.payload_is, length-drop 8 bytes, length-drop (quoted_len bytes) (behind bytes), says.1.quoted.least, says.1.quoted.within)
+    omega (
+      arith,
+      whole,
+      ap length says.1.payload_is,
+      length-drop 8 bytes,
+      length-drop (quoted_len bytes) (behind bytes),
+      says.1.quoted.least,
+      says.1.quoted.within,
+    )
 room bytes (Header.TimeExceeded reason header) payload whole says =
-    omega (arith, whole, ap length says.1.payload_is, length-drop 8 bytes, length-drop (quoted_len bytes) (behind bytes), says.1.quoted.least, says.1.quoted.within)
+    omega (
+      arith,
+      whole,
+      ap length says.1.payload_is,
+      length-drop 8 bytes,
+      length-drop (quoted_len bytes) (behind bytes),
+      says.1.quoted.least,
+      says.1.quoted.within,
+    )
 
 -- a message takes no more room than the bytes that it was read from
-pub within : (tested : Bool) (bytes : List ℕ) (v : Icmpv4Header) (payload : List ℕ) → IsIcmpv4 tested bytes v payload → header_len v + length payload ≤ length bytes
+pub within : (tested : Bool) (bytes : List ℕ) (v : Icmpv4Header) (payload : List ℕ) → IsIcmpv4 tested bytes v payload →
+    header_len v + length payload ≤ length bytes
 within tested bytes v payload is = room bytes v payload is.whole is.says
 
 -- bytes behind others are bytes

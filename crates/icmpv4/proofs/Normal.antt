@@ -39,7 +39,8 @@ normal-says : (bytes : List ℕ) (v : Icmpv4Header) (payload : List ℕ) → Say
 normal-says bytes (Header.EchoRequest ident seq_no) payload says = refl
 normal-says bytes (Header.EchoReply ident seq_no) payload says = refl
 normal-says bytes (Header.DstUnreachable reason header) payload says =
-    unreachable-alike _ _ _ _ (normal-unreachable (slice_index bytes 1) reason says.0) (normal-header (slice_index (behind bytes) 9) header says.1.quoted.protocol)
+    unreachable-alike _ _ _ _ (normal-unreachable (slice_index bytes 1) reason says.0)
+    (normal-header (slice_index (behind bytes) 9) header says.1.quoted.protocol)
 normal-says bytes (Header.TimeExceeded reason header) payload says =
     exceeded-alike _ _ _ _ (normal-exceeded (slice_index bytes 1) reason says.0) (normal-header (slice_index (behind bytes) 9) header says.1.quoted.protocol)
 
@@ -51,6 +52,7 @@ pub normal-normal : (v : Icmpv4Header) → normal (normal v) ≡ normal v
 normal-normal (Header.EchoRequest ident seq_no) = refl
 normal-normal (Header.EchoReply ident seq_no) = refl
 normal-normal (Header.DstUnreachable reason header) =
-    unreachable-alike _ _ _ _ (normal-unreachable (unreachable_number reason) _ refl) (normal-header (protocol_number header.next_header) (Ipv4.normal header) refl)
+    unreachable-alike _ _ _ _ (normal-unreachable (unreachable_number reason) _ refl)
+    (normal-header (protocol_number header.next_header) (Ipv4.normal header) refl)
 normal-normal (Header.TimeExceeded reason header) =
     exceeded-alike _ _ _ _ (normal-exceeded (exceeded_number reason) _ refl) (normal-header (protocol_number header.next_header) (Ipv4.normal header) refl)

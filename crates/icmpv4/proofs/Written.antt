@@ -31,12 +31,22 @@ whole-spelling sealed (Header.TimeExceeded reason header) payload check = omega 
 -- the data stands behind the addresses of a quoted header
 payload-quoted : (header : Ipv4Repr) (payload : List ℕ) → Ipv4.IsValue header → payload ≡ drop 8 (header.src_addr.0 ++ (header.dst_addr.0 ++ []) ++ payload)
 payload-quoted header payload value =
-    sym (drop_at (header.src_addr.0 ++ (header.dst_addr.0 ++ [])) payload 8 (omega (arith, value.source.0, value.destination.0, length-append header.src_addr.0 (header.dst_addr.0 ++ []), length-append header.dst_addr.0 [])))
+    sym (drop_at (header.src_addr.0 ++
+    (header.dst_addr.0 ++ [])) payload 8 (omega (
+      arith,
+      value.source.0,
+      value.destination.0,
+      length-append header.src_addr.0 (header.dst_addr.0 ++ []),
+      length-append header.dst_addr.0 [],
+    )))
 
 -- what a message says that was sent, whatever its checksum
-Says-spelling : (sealed : Bool) (v : Icmpv4Header) (payload : List ℕ) (check : ℕ) → IsValue v → Fits v → Says (spelling v (sent_fields sealed v check) payload) (normal v) payload
-Says-spelling sealed (Header.EchoRequest ident seq_no) payload check value fits = record { kind_is = refl; code = refl; identifier = omega (arith, value.0); sequence = omega (arith, value.1); payload_is = refl }
-Says-spelling sealed (Header.EchoReply ident seq_no) payload check value fits = record { kind_is = refl; code = refl; identifier = omega (arith, value.0); sequence = omega (arith, value.1); payload_is = refl }
+Says-spelling : (sealed : Bool) (v : Icmpv4Header) (payload : List ℕ) (check : ℕ) → IsValue v → Fits v →
+    Says (spelling v (sent_fields sealed v check) payload) (normal v) payload
+Says-spelling sealed (Header.EchoRequest ident seq_no) payload check value fits =
+    record { kind_is = refl; code = refl; identifier = omega (arith, value.0); sequence = omega (arith, value.1); payload_is = refl }
+Says-spelling sealed (Header.EchoReply ident seq_no) payload check value fits =
+    record { kind_is = refl; code = refl; identifier = omega (arith, value.0); sequence = omega (arith, value.1); payload_is = refl }
 Says-spelling sealed (Header.DstUnreachable reason header) payload check value fits =
     (refl, record { kind_is = refl; quoted = IsQuoted-v4 sealed header payload fits value.1; payload_is = payload-quoted header payload value.1 })
 Says-spelling sealed (Header.TimeExceeded reason header) payload check value fits =

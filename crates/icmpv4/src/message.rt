@@ -1,6 +1,7 @@
 //! What a message is, by its type, and why an error was sent, by its code.
 ghost use Rattle.std.specs.Prelude.{◌≡◌, Some};
-ghost use Rattle.icmpv4.specs.Icmpv4Codes.{message_number, message_of, unreachable_number, unreachable_of, exceeded_number, exceeded_of, message_text, unreachable_text, exceeded_text};
+ghost use Rattle.icmpv4.specs.Icmpv4Codes.{message_number, message_of, unreachable_number, unreachable_of, exceeded_number, exceeded_of, message_text};
+ghost use Rattle.icmpv4.specs.Icmpv4Codes.{unreachable_text, exceeded_text};
 
 use std::fmt;
 

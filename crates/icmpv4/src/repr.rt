@@ -4,7 +4,8 @@ ghost use Rattle.ip_address.specs.Fields.{be16};
 ghost use Rattle.net_devices.specs.Capabilities.{verifies, computes};
 ghost use Rattle.ip_packet.specs.Ipv4 as Ipv4;
 ghost use Rattle.ip_packet.specs.declared.ipv4.repr.Ipv4Repr.{Ipv4Repr};
-ghost use Rattle.icmpv4.specs.Icmpv4.{IsIcmpv4, IsWhole, Says, Fits, bytes_of, bytes_in, name_of, behind, quoted_len, header_of, payload_of, written, header_len};
+ghost use Rattle.icmpv4.specs.Icmpv4.{IsIcmpv4, IsWhole, Says, Fits, bytes_of, bytes_in, name_of, behind, quoted_len, header_of, payload_of, written};
+ghost use Rattle.icmpv4.specs.Icmpv4.{header_len};
 ghost use Rattle.icmpv4.specs.declared.header.Icmpv4Header.{Icmpv4Header};
 
 use crate::header::Icmpv4Header;

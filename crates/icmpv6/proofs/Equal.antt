@@ -64,11 +64,17 @@ Decides-link (Some a) (Some b) = let same = Decides-raw a b in (λ yes. ap Some 
 -- neighbour messages are compared by their values
 pub Decides-neighbor : (a b : NdiscRepr) → Decides (Neighbors.ghosts.eq a b) (neighbor_message a ≡ neighbor_message b)
 Decides-neighbor (Ndisc.NeighborSolicit t l) (Ndisc.NeighborSolicit u m) =
-    let same = Decides-and _ _ (Decides-target t u) (Decides-link l m) in
-    (λ yes. ap₂ Solicitation (same.0 yes).0 (same.0 yes).1, λ e. let first : t ≡ u = cc in let second : link_bytes l ≡ link_bytes m = cc in same.1 (both first second))
+    let same = Decides-and _ _ (Decides-target t u) (Decides-link l m) in (
+      λ yes. ap₂ Solicitation (same.0 yes).0 (same.0 yes).1,
+      λ e. let first : t ≡ u = cc in let second : link_bytes l ≡ link_bytes m =
+          cc in same.1 (both first second),
+    )
 Decides-neighbor (Ndisc.NeighborAdvert f t l) (Ndisc.NeighborAdvert g u m) =
-    let same = Decides-and _ _ (Decides-flags f g) (Decides-and _ _ (Decides-target t u) (Decides-link l m)) in
-    (λ yes. λ i. Advertisement ((same.0 yes).0 i) ((same.0 yes).1.0 i) ((same.0 yes).1.1 i), λ e. let flags : f ≡ g = cc in let first : t ≡ u = cc in let second : link_bytes l ≡ link_bytes m = cc in same.1 (both flags (both first second)))
+    let same = Decides-and _ _ (Decides-flags f g) (Decides-and _ _ (Decides-target t u) (Decides-link l m)) in (
+      λ yes. λ i. Advertisement ((same.0 yes).0 i) ((same.0 yes).1.0 i) ((same.0 yes).1.1 i),
+      λ e. let flags : f ≡ g = cc in let first : t ≡ u =
+          cc in let second : link_bytes l ≡ link_bytes m = cc in same.1 (both flags (both first second)),
+    )
 Decides-neighbor a b = (λ yes. absurd (cc), λ e. absurd (cc))
 
 -- headers are compared by their values
@@ -83,8 +89,11 @@ Decides-header (Header.TimeExceeded r h) (Header.TimeExceeded s k) =
     let same = Decides-and _ _ (Decides-exceeded r s) (Decides-v6 h k) in
     (λ yes. ap₂ Value.TimeExceeded (same.0 yes).0 (same.0 yes).1, λ e. let first : r ≡ s = cc in let second : h ≡ k = cc in same.1 (both first second))
 Decides-header (Header.ParamProblem r p h) (Header.ParamProblem s q k) =
-    let same = Decides-and _ _ (Decides-problem r s) (Decides-and _ _ (Decides-eqb p q) (Decides-v6 h k)) in
-    (λ yes. λ i. Value.ParamProblem ((same.0 yes).0 i) ((same.0 yes).1.0 i) ((same.0 yes).1.1 i), λ e. let first : r ≡ s = cc in let place : p ≡ q = cc in let second : h ≡ k = cc in same.1 (both first (both place second)))
+    let same = Decides-and _ _ (Decides-problem r s) (Decides-and _ _ (Decides-eqb p q) (Decides-v6 h k)) in (
+      λ yes. λ i. Value.ParamProblem ((same.0 yes).0 i) ((same.0 yes).1.0 i) ((same.0 yes).1.1 i),
+      λ e. let first : r ≡ s = cc in let place : p ≡ q =
+          cc in let second : h ≡ k = cc in same.1 (both first (both place second)),
+    )
 Decides-header (Header.EchoRequest i m) (Header.EchoRequest j n) =
     let same = Decides-and _ _ (Decides-eqb i j) (Decides-eqb m n) in
     (λ yes. ap₂ Value.EchoRequest (same.0 yes).0 (same.0 yes).1, λ e. let first : i ≡ j = cc in let second : m ≡ n = cc in same.1 (both first second))
@@ -98,23 +107,41 @@ Decides-header a b = (λ yes. absurd (cc), λ e. absurd (cc))
 -- messages are compared by their values and the bytes that they carry
 pub Decides-message : (a b : Icmpv6Repr) → Decides (Messages.ghosts.eq a b) ((value_of (header_of a) ≡ value_of (header_of b)) × (carried_by a ≡ carried_by b))
 Decides-message (Repr.DstUnreachable r h xs) (Repr.DstUnreachable s k ys) =
-    let same = Decides-and _ _ (Decides-unreachable r s) (Decides-and _ _ (Decides-v6 h k) (bytes_eq-Decides xs.now ys.now)) in
-    (λ yes. both (ap₂ Value.DstUnreachable (same.0 yes).0 (same.0 yes).1.0) (same.0 yes).1.1, λ e. let header = e.0 in let first : r ≡ s = cc in let second : h ≡ k = cc in same.1 (both first (both second e.1)))
+    let same = Decides-and _ _ (Decides-unreachable r s) (Decides-and _ _ (Decides-v6 h k) (bytes_eq-Decides xs.now ys.now)) in (
+      λ yes. both (ap₂ Value.DstUnreachable (same.0 yes).0 (same.0 yes).1.0) (same.0 yes).1.1,
+      λ e. let header = e.0 in let first : r ≡ s =
+          cc in let second : h ≡ k = cc in same.1 (both first (both second e.1)),
+    )
 Decides-message (Repr.PktTooBig m h xs) (Repr.PktTooBig n k ys) =
-    let same = Decides-and _ _ (Decides-eqb m n) (Decides-and _ _ (Decides-v6 h k) (bytes_eq-Decides xs.now ys.now)) in
-    (λ yes. both (ap₂ Value.PktTooBig (same.0 yes).0 (same.0 yes).1.0) (same.0 yes).1.1, λ e. let header = e.0 in let first : m ≡ n = cc in let second : h ≡ k = cc in same.1 (both first (both second e.1)))
+    let same = Decides-and _ _ (Decides-eqb m n) (Decides-and _ _ (Decides-v6 h k) (bytes_eq-Decides xs.now ys.now)) in (
+      λ yes. both (ap₂ Value.PktTooBig (same.0 yes).0 (same.0 yes).1.0) (same.0 yes).1.1,
+      λ e. let header = e.0 in let first : m ≡ n = cc in let second : h ≡ k =
+          cc in same.1 (both first (both second e.1)),
+    )
 Decides-message (Repr.TimeExceeded r h xs) (Repr.TimeExceeded s k ys) =
-    let same = Decides-and _ _ (Decides-exceeded r s) (Decides-and _ _ (Decides-v6 h k) (bytes_eq-Decides xs.now ys.now)) in
-    (λ yes. both (ap₂ Value.TimeExceeded (same.0 yes).0 (same.0 yes).1.0) (same.0 yes).1.1, λ e. let header = e.0 in let first : r ≡ s = cc in let second : h ≡ k = cc in same.1 (both first (both second e.1)))
+    let same = Decides-and _ _ (Decides-exceeded r s) (Decides-and _ _ (Decides-v6 h k) (bytes_eq-Decides xs.now ys.now)) in (
+      λ yes. both (ap₂ Value.TimeExceeded (same.0 yes).0 (same.0 yes).1.0) (same.0 yes).1.1,
+      λ e. let header = e.0 in let first : r ≡ s =
+          cc in let second : h ≡ k = cc in same.1 (both first (both second e.1)),
+    )
 Decides-message (Repr.ParamProblem r p h xs) (Repr.ParamProblem s q k ys) =
-    let same = Decides-and _ _ (Decides-problem r s) (Decides-and _ _ (Decides-eqb p q) (Decides-and _ _ (Decides-v6 h k) (bytes_eq-Decides xs.now ys.now))) in
-    (λ yes. both (λ i. Value.ParamProblem ((same.0 yes).0 i) ((same.0 yes).1.0 i) ((same.0 yes).1.1.0 i)) (same.0 yes).1.1.1, λ e. let header = e.0 in let first : r ≡ s = cc in let place : p ≡ q = cc in let second : h ≡ k = cc in same.1 (both first (both place (both second e.1))))
+    let same = Decides-and _ _ (Decides-problem r s) (Decides-and _ _ (Decides-eqb p q) (Decides-and _ _ (Decides-v6 h k) (bytes_eq-Decides xs.now ys.now))) in (
+      λ yes. both (λ i. Value.ParamProblem ((same.0 yes).0 i) ((same.0 yes).1.0 i) ((same.0 yes).1.1.0 i)) (same.0 yes).1.1.1,
+      λ e. let header =
+          e.0 in let first : r ≡ s = cc in let place : p ≡ q = cc in let second : h ≡ k = cc in same.1 (both first (both place (both second e.1))),
+    )
 Decides-message (Repr.EchoRequest i m xs) (Repr.EchoRequest j n ys) =
-    let same = Decides-and _ _ (Decides-eqb i j) (Decides-and _ _ (Decides-eqb m n) (bytes_eq-Decides xs.now ys.now)) in
-    (λ yes. both (ap₂ Value.EchoRequest (same.0 yes).0 (same.0 yes).1.0) (same.0 yes).1.1, λ e. let header = e.0 in let first : i ≡ j = cc in let second : m ≡ n = cc in same.1 (both first (both second e.1)))
+    let same = Decides-and _ _ (Decides-eqb i j) (Decides-and _ _ (Decides-eqb m n) (bytes_eq-Decides xs.now ys.now)) in (
+      λ yes. both (ap₂ Value.EchoRequest (same.0 yes).0 (same.0 yes).1.0) (same.0 yes).1.1,
+      λ e. let header = e.0 in let first : i ≡ j =
+          cc in let second : m ≡ n = cc in same.1 (both first (both second e.1)),
+    )
 Decides-message (Repr.EchoReply i m xs) (Repr.EchoReply j n ys) =
-    let same = Decides-and _ _ (Decides-eqb i j) (Decides-and _ _ (Decides-eqb m n) (bytes_eq-Decides xs.now ys.now)) in
-    (λ yes. both (ap₂ Value.EchoReply (same.0 yes).0 (same.0 yes).1.0) (same.0 yes).1.1, λ e. let header = e.0 in let first : i ≡ j = cc in let second : m ≡ n = cc in same.1 (both first (both second e.1)))
+    let same = Decides-and _ _ (Decides-eqb i j) (Decides-and _ _ (Decides-eqb m n) (bytes_eq-Decides xs.now ys.now)) in (
+      λ yes. both (ap₂ Value.EchoReply (same.0 yes).0 (same.0 yes).1.0) (same.0 yes).1.1,
+      λ e. let header = e.0 in let first : i ≡ j = cc in let second : m ≡ n =
+          cc in same.1 (both first (both second e.1)),
+    )
 Decides-message (Repr.Ndisc x) (Repr.Ndisc y) =
     let same = Decides-neighbor x y in (λ yes. both (ap Value.Ndisc (same.0 yes)) refl, λ e. let header = e.0 in same.1 (cc))
 Decides-message a b = (λ yes. absurd (cc), λ e. let header = e.0 in absurd (cc))

@@ -8,7 +8,8 @@ use Rattle.icmpv6.specs.Ndisc as Neighbor
 use Rattle.icmpv6.specs.Icmpv6.{MessageValue, DstUnreachable, PktTooBig, TimeExceeded, ParamProblem, EchoRequest, EchoReply, Ndisc, Says}
 
 -- a message of an error's type quotes some header
-pub quotes : (message : List ℕ) (v : MessageValue) → slice_index message 0 < 128 → Says message v → (header : Ipv6Repr) × Ipv6.IsQuoted (drop 8 message) header 40
+pub quotes : (message : List ℕ) (v : MessageValue) → slice_index message 0 < 128 → Says message v → (header : Ipv6Repr) ×
+    Ipv6.IsQuoted (drop 8 message) header 40
 quotes message (DstUnreachable reason header) small says = (header, says.1.quoted)
 quotes message (PktTooBig mtu header) small says = (header, says.2.quoted)
 quotes message (TimeExceeded reason header) small says = (header, says.1.quoted)

@@ -4,7 +4,8 @@ use Rattle.std.specs.Prelude.{if◌then◌else◌}
 use Rattle.ip_address.specs.declared.ipv6.Ipv6Address.{Ipv6Address}
 use Rattle.ip_packet.specs.Ipv6 as Ipv6
 use Rattle.ip_packet.specs.declared.ipv6.repr.Ipv6Repr.{Ipv6Repr}
-use Rattle.icmpv6.specs.Icmpv6.{MessageValue, DstUnreachable, PktTooBig, TimeExceeded, ParamProblem, EchoRequest, EchoReply, Ndisc, IsValue, CanCarry, header_len, written}
+use Rattle.icmpv6.specs.Icmpv6.{MessageValue, DstUnreachable, PktTooBig, TimeExceeded, ParamProblem, EchoRequest, EchoReply, Ndisc, IsValue, CanCarry}
+use Rattle.icmpv6.specs.Icmpv6.{header_len, written}
 use Rattle.icmpv6.specs.Ndisc as Neighbor
 use Rattle.icmpv6.specs.Packet.{checksum_of}
 use Rattle.icmpv6.proofs.NdiscLaws.{length-spelling}
@@ -12,7 +13,13 @@ use Rattle.icmpv6.proofs.NdiscLaws.{length-spelling}
 -- a quoted header and the bytes behind it
 behind : (header : Ipv6Repr) (carried : List ℕ) → Ipv6.IsValue header → length (Ipv6.written header ++ carried) ≡ 40 + length carried
 behind header carried value =
-    omega (arith, value.source.0, value.destination.0, length-append header.src_addr.0 header.dst_addr.0, length-append (header.src_addr.0 ++ header.dst_addr.0) carried)
+    omega (
+      arith,
+      value.source.0,
+      value.destination.0,
+      length-append header.src_addr.0 header.dst_addr.0,
+      length-append (header.src_addr.0 ++ header.dst_addr.0) carried,
+    )
 
 pub length-message : (source destination : Ipv6Address) (sealed : Bool) (v : MessageValue) (carried : List ℕ) → IsValue v → CanCarry v carried
     → length (written source destination sealed v carried) ≡ header_len v + length carried

@@ -23,7 +23,8 @@ pub record Solicits (bytes options : List ℕ) (target : Ipv6Address) (m : Neigh
   pub is : Solicitation target link ≡ m
   pub has : HasLink 1 None options link
 
-pub IsNdisc-solicits : (bytes options : List ℕ) (target : Ipv6Address) (m : NeighborMessage) → type_of bytes ≡ Message.NeighborSolicit → options ≡ payload_of bytes → target.0 ≡ slice_range bytes 8 24 → IsNdisc bytes m → Solicits bytes options target m
+pub IsNdisc-solicits : (bytes options : List ℕ) (target : Ipv6Address) (m : NeighborMessage) → type_of bytes ≡ Message.NeighborSolicit →
+    options ≡ payload_of bytes → target.0 ≡ slice_range bytes 8 24 → IsNdisc bytes m → Solicits bytes options target m
 IsNdisc-solicits bytes options target (Solicitation other link) kind behind there is = record {
   link = link;
   is = ap (λ a. Solicitation a link) (address-same target other (there ∙ sym is.target_is));
@@ -37,11 +38,14 @@ pub record Advertises (bytes options : List ℕ) (flags : NdiscNeighborFlags) (t
   pub is : Advertisement flags target link ≡ m
   pub has : HasLink 2 None options link
 
-pub IsNdisc-advertises : (bytes options : List ℕ) (flags : NdiscNeighborFlags) (target : Ipv6Address) (m : NeighborMessage) → type_of bytes ≡ Message.NeighborAdvert → options ≡ payload_of bytes → flags ≡ flags_of (slice_index bytes 4) → target.0 ≡ slice_range bytes 8 24 → IsNdisc bytes m
+pub IsNdisc-advertises : (bytes options : List ℕ) (flags : NdiscNeighborFlags) (target : Ipv6Address) (m : NeighborMessage) →
+    type_of bytes ≡ Message.NeighborAdvert → options ≡ payload_of bytes → flags ≡ flags_of (slice_index bytes 4) → target.0 ≡ slice_range bytes 8 24 →
+    IsNdisc bytes m
     → Advertises bytes options flags target m
 IsNdisc-advertises bytes options flags target (Solicitation other link) kind behind set there is = absurd (let e = sym kind ∙ is.kind in cc e)
 IsNdisc-advertises bytes options flags target (Advertisement more other link) kind behind set there is = record {
   link = link;
-  is = ap (λ a. Advertisement flags a link) (address-same target other (there ∙ sym is.target_is)) ∙ ap (λ f. Advertisement f other link) (set ∙ sym is.flags_are);
+  is = ap (λ a. Advertisement flags a link) (address-same target other (there ∙ sym is.target_is)) ∙
+      ap (λ f. Advertisement f other link) (set ∙ sym is.flags_are);
   has = subst (λ xs. HasLink 2 None xs link) (sym (options-behind bytes options Message.NeighborAdvert kind behind)) is.target_link;
 }

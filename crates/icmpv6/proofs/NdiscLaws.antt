@@ -1,11 +1,13 @@
 -- Neighbour messages written and read back.
-use Rattle.std.proofs.Common.{◌≡◌, ℕ, ◌+◌, ◌-◌, ◌<◌, ◌≤◌, Bool, true, false, List, [], ◌∷◌, ◌++◌, length, take, drop, replicate, refl, sym, ◌∙◌, ap, subst, arith}
+use Rattle.std.proofs.Common.{◌≡◌, ℕ, ◌+◌, ◌-◌, ◌<◌, ◌≤◌, Bool, true, false, List, [], ◌∷◌, ◌++◌, length, take, drop, replicate, refl, sym, ◌∙◌, ap, subst}
+use Rattle.std.proofs.Common.{arith}
 use Rattle.std.specs.Prelude.{Option, Some, None}
 use Rattle.std.specs.List.{last_or}
 use Rattle.std.proofs.lemmas.List.{append-nil, length-append, length-drop, length-replicate}
 use Rattle.std.proofs.Math.Seq.{take-append_seam, drop-append_seam}
 use Rattle.ip_address.specs.Sum.{word_sum}
-use Rattle.icmpv6.specs.Ndisc.{NeighborMessage, Solicitation, Advertisement, IsNdisc, IsValue, IsLink, Fits, FitsLink, buffer_len, spelling, normal, flag_bits, flags_of}
+use Rattle.icmpv6.specs.Ndisc.{NeighborMessage, Solicitation, Advertisement, IsNdisc, IsValue, IsLink, Fits, FitsLink, buffer_len, spelling, normal, flag_bits}
+use Rattle.icmpv6.specs.Ndisc.{flags_of}
 use Rattle.icmpv6.specs.NdiscOption.{OptionValue, units, option_bytes, options_bytes, AreOptions, links, HasLink, padded, link_len, link_option, read_link}
 use Rattle.icmpv6.specs.declared.ndisc_flags.NdiscNeighborFlags.{NdiscNeighborFlags}
 use Rattle.icmpv6.proofs.NdiscSteps.{links-this}
@@ -91,7 +93,8 @@ normal-same (Advertisement flags target link) fits = ap (Advertisement flags tar
 
 -- one that was padded isn't padded again
 padded-padded : (address : List ℕ) → padded (padded address) ≡ padded address
-padded-padded address = padded-long (padded address) (omega (arith, length-append address (replicate (6 - length address) 0), length-replicate {A = ℕ} (6 - length address) 0))
+padded-padded address = padded-long (padded address)
+    (omega (arith, length-append address (replicate (6 - length address) 0), length-replicate {A = ℕ} (6 - length address) 0))
 
 read_link-again : (link : Option (List ℕ)) → read_link (read_link link) ≡ read_link link
 read_link-again None = refl
@@ -103,7 +106,8 @@ normal-normal (Solicitation target link) = ap (Solicitation target) (read_link-a
 normal-normal (Advertisement flags target link) = ap (Advertisement flags target) (read_link-again link)
 
 -- a link address fills a unit at least
-some-option : (kind : ℕ) (address : List ℕ) (bytes : List ℕ) (os : List OptionValue) → bytes ≡ options_bytes os → AreOptions kind os → Some address ≡ last_or None (links kind os) → 8 ≤ length bytes
+some-option : (kind : ℕ) (address : List ℕ) (bytes : List ℕ) (os : List OptionValue) → bytes ≡ options_bytes os → AreOptions kind os →
+    Some address ≡ last_or None (links kind os) → 8 ≤ length bytes
 some-option kind address bytes [] spelled are is = absurd (cc is)
 some-option kind address bytes (o ∷ os) spelled are is = omega (arith, ap length spelled, length-append o.inside (options_bytes os), are.0.some, are.0.whole)
 
@@ -121,8 +125,10 @@ length-link_option kind None small = refl
 length-link_option kind (Some address) small = omega (arith, length-padded address small.0)
 
 pub length-spelling : (m : NeighborMessage) (check : ℕ) → IsValue m → length (spelling m check) ≡ buffer_len m
-length-spelling (Solicitation target link) check value = omega (arith, length-append target.0 (link_option 1 link), length-link_option 1 link value.1, value.0.0)
-length-spelling (Advertisement flags target link) check value = omega (arith, length-append target.0 (link_option 2 link), length-link_option 2 link value.1, value.0.0)
+length-spelling (Solicitation target link) check value =
+    omega (arith, length-append target.0 (link_option 1 link), length-link_option 1 link value.1, value.0.0)
+length-spelling (Advertisement flags target link) check value =
+    omega (arith, length-append target.0 (link_option 2 link), length-link_option 2 link value.1, value.0.0)
 
 -- the checksum's part of a word sum
 pub word_sum-spelling : (m : NeighborMessage) (check : ℕ) → check < 65536 → word_sum (spelling m check) ≡ word_sum (spelling m 0) + check

@@ -30,11 +30,13 @@ back-bytes [] b small = small
 back-bytes (x ∷ a) b small = back-bytes a b (λ i. small (suc i))
 
 -- those of the last link address among options
-last-bytes : (kind : ℕ) (so_far : Option (List ℕ)) (os : List OptionValue) → HasBytes so_far → IsBytes (options_bytes os) → HasBytes (last_or so_far (links kind os))
+last-bytes : (kind : ℕ) (so_far : Option (List ℕ)) (os : List OptionValue) → HasBytes so_far → IsBytes (options_bytes os) →
+    HasBytes (last_or so_far (links kind os))
 last-bytes kind so_far [] before small = before
 last-bytes kind so_far (o ∷ os) before small = elim (eqb_tells o.kind kind) [
   | inl hit ↦ subst (λ xs. HasBytes (last_or so_far xs)) (sym (links-this kind o os hit.1))
-      (last-bytes kind (Some o.inside) os (front-bytes o.inside (options_bytes os) (λ i. small (suc (suc i)))) (back-bytes (option_bytes o) (options_bytes os) small))
+      (last-bytes kind (Some o.inside) os (front-bytes o.inside (options_bytes os) (λ i. small (suc (suc i))))
+      (back-bytes (option_bytes o) (options_bytes os) small))
   | inr miss ↦ subst (λ xs. HasBytes (last_or so_far xs)) (sym (links-other kind o os miss.1))
       (last-bytes kind so_far os before (back-bytes (option_bytes o) (options_bytes os) small))
 ]

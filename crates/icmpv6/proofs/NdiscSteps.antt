@@ -41,7 +41,8 @@ option-same o p k i = ap (λ n. record { kind = n; inside = o.inside }) k ∙ ap
 
 -- the options after the first
 abbrev Follows : ℕ → Option (List ℕ) → OptionValue → List ℕ → Option (List ℕ) → Type 0
-Follows kind so_far o rest link = (os : List OptionValue) × (rest ≡ options_bytes os) × (o.kind ≡ kind → length o.inside ≡ 6) × AreOptions kind os × (link ≡ last_or so_far (links kind (o ∷ os)))
+Follows kind so_far o rest link = (os : List OptionValue) × (rest ≡ options_bytes os) × (o.kind ≡ kind → length o.inside ≡ 6) × AreOptions kind os ×
+    (link ≡ last_or so_far (links kind (o ∷ os)))
 
 empty-length : (bytes : List ℕ) → bytes ≡ [] → length bytes ≡ 0
 empty-length bytes none = ap length none
@@ -49,13 +50,19 @@ empty-length bytes none = ap length none
 option-length : (bytes : List ℕ) (o : OptionValue) (r : List ℕ) → Begins bytes o r → 2 ≤ length bytes
 option-length bytes o r a = omega (arith, ap length a.spelled)
 
-HasLink-unfold : (kind : ℕ) (so_far link : Option (List ℕ)) (bytes : List ℕ) (o : OptionValue) (r : List ℕ) (os : List OptionValue) → Begins bytes o r → bytes ≡ options_bytes os → AreOptions kind os → link ≡ last_or so_far (links kind os)
+HasLink-unfold : (kind : ℕ) (so_far link : Option (List ℕ)) (bytes : List ℕ) (o : OptionValue) (r : List ℕ) (os : List OptionValue) → Begins bytes o r →
+    bytes ≡ options_bytes os → AreOptions kind os → link ≡ last_or so_far (links kind os)
     → Follows kind so_far o r link
 HasLink-unfold kind so_far link bytes o r [] begins none are is = absurd (omega (arith, empty-length bytes none, option-length bytes o r begins))
 HasLink-unfold kind so_far link bytes o r (p ∷ ps) begins spelled are is =
     let there : Begins bytes p (options_bytes ps) = record { is_option = are.0; spelled = spelled } in
-    let same : p ≡ o = sym (option-same o p (kind-same bytes o p r _ begins there) (inside-same bytes o p r _ begins there)) in
-    (ps, rest-same bytes o p r (options_bytes ps) begins there, subst (λ q. q.kind ≡ kind → length q.inside ≡ 6) same are.1, are.2, is ∙ ap (λ q. last_or so_far (links kind (q ∷ ps))) same)
+    let same : p ≡ o = sym (option-same o p (kind-same bytes o p r _ begins there) (inside-same bytes o p r _ begins there)) in (
+      ps,
+      rest-same bytes o p r (options_bytes ps) begins there,
+      subst (λ q. q.kind ≡ kind → length q.inside ≡ 6) same are.1,
+      are.2,
+      is ∙ ap (λ q. last_or so_far (links kind (q ∷ ps))) same,
+    )
 
 -- an option of another type gives no link address
 pub links-other : (kind : ℕ) (o : OptionValue) (os : List OptionValue) → o.kind ≢ kind → links kind (o ∷ os) ≡ links kind os
@@ -65,43 +72,61 @@ pub links-this : (kind : ℕ) (o : OptionValue) (os : List OptionValue) → o.ki
 links-this kind o os this = elim (eqb_tells o.kind kind) [ inl hit ↦ rw hit.0 refl | inr miss ↦ absurd (miss.1 this) ]
 
 -- the first option is of another type
-other-fold : (kind : ℕ) (so_far link : Option (List ℕ)) (bytes : List ℕ) (o : OptionValue) (r : List ℕ) → Begins bytes o r → o.kind ≢ kind → HasLink kind so_far r link → HasLink kind so_far bytes link
-other-fold kind so_far link bytes o r begins other has =
-    (o ∷ has.0, begins.spelled ∙ ap (λ xs. option_bytes o ++ xs) has.1, (begins.is_option, (λ this. absurd (other this)), has.2), has.3 ∙ ap (last_or so_far) (sym (links-other kind o has.0 other)))
+other-fold : (kind : ℕ) (so_far link : Option (List ℕ)) (bytes : List ℕ) (o : OptionValue) (r : List ℕ) → Begins bytes o r → o.kind ≢ kind →
+    HasLink kind so_far r link → HasLink kind so_far bytes link
+other-fold kind so_far link bytes o r begins other has = (
+  o ∷ has.0,
+  begins.spelled ∙ ap (λ xs. option_bytes o ++ xs) has.1,
+  (begins.is_option, (λ this. absurd (other this)), has.2),
+  has.3 ∙ ap (last_or so_far) (sym (links-other kind o has.0 other)),
+)
 
-other-unfold : (kind : ℕ) (so_far link : Option (List ℕ)) (bytes : List ℕ) (o : OptionValue) (r : List ℕ) → Begins bytes o r → o.kind ≢ kind → HasLink kind so_far bytes link → HasLink kind so_far r link
+other-unfold : (kind : ℕ) (so_far link : Option (List ℕ)) (bytes : List ℕ) (o : OptionValue) (r : List ℕ) → Begins bytes o r → o.kind ≢ kind →
+    HasLink kind so_far bytes link → HasLink kind so_far r link
 other-unfold kind so_far link bytes o r begins other has =
     let f = HasLink-unfold kind so_far link bytes o r has.0 begins has.1 has.2 has.3 in
     (f.0, f.1, f.3, f.4 ∙ ap (last_or so_far) (links-other kind o f.0 other))
 
-pub HasLink-other : (kind : ℕ) (so_far link : Option (List ℕ)) (bytes : List ℕ) (o : OptionValue) (r : List ℕ) → Begins bytes o r → o.kind ≢ kind → HasLink kind so_far r link ↔ HasLink kind so_far bytes link
-HasLink-other kind so_far link bytes o r begins other = (other-fold kind so_far link bytes o r begins other, other-unfold kind so_far link bytes o r begins other)
+pub HasLink-other : (kind : ℕ) (so_far link : Option (List ℕ)) (bytes : List ℕ) (o : OptionValue) (r : List ℕ) → Begins bytes o r → o.kind ≢ kind →
+    HasLink kind so_far r link ↔ HasLink kind so_far bytes link
+HasLink-other kind so_far link bytes o r begins other =
+    (other-fold kind so_far link bytes o r begins other, other-unfold kind so_far link bytes o r begins other)
 
 -- the first option is a link address
-this-fold : (kind : ℕ) (so_far link : Option (List ℕ)) (bytes : List ℕ) (o : OptionValue) (r : List ℕ) → Begins bytes o r → o.kind ≡ kind → length o.inside ≡ 6 → HasLink kind (Some o.inside) r link → HasLink kind so_far bytes link
-this-fold kind so_far link bytes o r begins this six has =
-    (o ∷ has.0, begins.spelled ∙ ap (λ xs. option_bytes o ++ xs) has.1, (begins.is_option, (λ same. six), has.2), has.3 ∙ ap (last_or so_far) (sym (links-this kind o has.0 this)))
+this-fold : (kind : ℕ) (so_far link : Option (List ℕ)) (bytes : List ℕ) (o : OptionValue) (r : List ℕ) → Begins bytes o r → o.kind ≡ kind →
+    length o.inside ≡ 6 → HasLink kind (Some o.inside) r link → HasLink kind so_far bytes link
+this-fold kind so_far link bytes o r begins this six has = (
+  o ∷ has.0,
+  begins.spelled ∙ ap (λ xs. option_bytes o ++ xs) has.1,
+  (begins.is_option, (λ same. six), has.2),
+  has.3 ∙ ap (last_or so_far) (sym (links-this kind o has.0 this)),
+)
 
-this-unfold : (kind : ℕ) (so_far link : Option (List ℕ)) (bytes : List ℕ) (o : OptionValue) (r : List ℕ) → Begins bytes o r → o.kind ≡ kind → HasLink kind so_far bytes link → HasLink kind (Some o.inside) r link
+this-unfold : (kind : ℕ) (so_far link : Option (List ℕ)) (bytes : List ℕ) (o : OptionValue) (r : List ℕ) → Begins bytes o r → o.kind ≡ kind →
+    HasLink kind so_far bytes link → HasLink kind (Some o.inside) r link
 this-unfold kind so_far link bytes o r begins this has =
     let f = HasLink-unfold kind so_far link bytes o r has.0 begins has.1 has.2 has.3 in
     (f.0, f.1, f.3, f.4 ∙ ap (last_or so_far) (links-this kind o f.0 this))
 
-pub HasLink-this : (kind : ℕ) (so_far link : Option (List ℕ)) (bytes : List ℕ) (o : OptionValue) (r : List ℕ) (address : List ℕ) → Begins bytes o r → o.kind ≡ kind → address ≡ o.inside → length o.inside ≡ 6
+pub HasLink-this : (kind : ℕ) (so_far link : Option (List ℕ)) (bytes : List ℕ) (o : OptionValue) (r : List ℕ) (address : List ℕ) → Begins bytes o r →
+    o.kind ≡ kind → address ≡ o.inside → length o.inside ≡ 6
     → HasLink kind (Some address) r link ↔ HasLink kind so_far bytes link
 HasLink-this kind so_far link bytes o r address begins this same six =
     rw same (this-fold kind so_far link bytes o r begins this six, this-unfold kind so_far link bytes o r begins this)
 
 -- a link address of another length than six bytes is refused
-pub HasLink-six : (kind : ℕ) (so_far link : Option (List ℕ)) (bytes : List ℕ) (o : OptionValue) (r : List ℕ) → Begins bytes o r → o.kind ≡ kind → HasLink kind so_far bytes link → length o.inside ≡ 6
+pub HasLink-six : (kind : ℕ) (so_far link : Option (List ℕ)) (bytes : List ℕ) (o : OptionValue) (r : List ℕ) → Begins bytes o r → o.kind ≡ kind →
+    HasLink kind so_far bytes link → length o.inside ≡ 6
 HasLink-six kind so_far link bytes o r begins this has = (HasLink-unfold kind so_far link bytes o r has.0 begins has.1 has.2 has.3).2 this
 
 -- bytes that are no option are refused
-none-begins : (kind : ℕ) (bytes : List ℕ) (os : List OptionValue) → 0 < length bytes → ((o : OptionValue) (r : List ℕ) → Begins bytes o r → ⊥) → bytes ≡ options_bytes os → AreOptions kind os → ⊥
+none-begins : (kind : ℕ) (bytes : List ℕ) (os : List OptionValue) → 0 < length bytes → ((o : OptionValue) (r : List ℕ) → Begins bytes o r → ⊥) →
+    bytes ≡ options_bytes os → AreOptions kind os → ⊥
 none-begins kind bytes [] some none spelled are = omega (arith, empty-length bytes spelled)
 none-begins kind bytes (o ∷ os) some none spelled are = none o (options_bytes os) (record { is_option = are.0; spelled = spelled })
 
-pub HasLink-none : (kind : ℕ) (so_far link : Option (List ℕ)) (bytes : List ℕ) → 0 < length bytes → ((o : OptionValue) (r : List ℕ) → Begins bytes o r → ⊥) → HasLink kind so_far bytes link → ⊥
+pub HasLink-none : (kind : ℕ) (so_far link : Option (List ℕ)) (bytes : List ℕ) → 0 < length bytes → ((o : OptionValue) (r : List ℕ) → Begins bytes o r → ⊥) →
+    HasLink kind so_far bytes link → ⊥
 HasLink-none kind so_far link bytes some none has = none-begins kind bytes has.0 some none has.1 has.2
 
 -- no bytes are left
@@ -112,7 +137,8 @@ empty (b ∷ bytes) none = absurd (omega arith)
 pub HasLink-nothing : (kind : ℕ) (so_far : Option (List ℕ)) (bytes : List ℕ) → length bytes ≡ 0 → HasLink kind so_far bytes so_far
 HasLink-nothing kind so_far bytes none = ([], empty bytes none, tt, refl)
 
-last-none : (kind : ℕ) (so_far : Option (List ℕ)) (bytes : List ℕ) (os : List OptionValue) → length bytes ≡ 0 → bytes ≡ options_bytes os → so_far ≡ last_or so_far (links kind os)
+last-none : (kind : ℕ) (so_far : Option (List ℕ)) (bytes : List ℕ) (os : List OptionValue) → length bytes ≡ 0 → bytes ≡ options_bytes os →
+    so_far ≡ last_or so_far (links kind os)
 last-none kind so_far bytes [] none spelled = refl
 last-none kind so_far bytes (o ∷ os) none spelled = absurd (omega (arith, ap length spelled))
 

@@ -16,7 +16,8 @@ use Rattle.icmpv6.specs.Reason.{unreachable_code, unreachable_of, exceeded_code,
 use Rattle.icmpv6.specs.declared.reason.Icmpv6DstUnreachable.{Icmpv6DstUnreachable}
 use Rattle.icmpv6.specs.declared.reason.Icmpv6TimeExceeded.{Icmpv6TimeExceeded}
 use Rattle.icmpv6.specs.declared.reason.Icmpv6ParamProblem.{Icmpv6ParamProblem}
-use Rattle.icmpv6.specs.Icmpv6.{MessageValue, DstUnreachable, PktTooBig, TimeExceeded, ParamProblem, EchoRequest, EchoReply, Ndisc, IsIcmpv6, IsValue, Says, Fits, CanCarry, carried_in, code_in, normal}
+use Rattle.icmpv6.specs.Icmpv6.{MessageValue, DstUnreachable, PktTooBig, TimeExceeded, ParamProblem, EchoRequest, EchoReply, Ndisc, IsIcmpv6, IsValue, Says}
+use Rattle.icmpv6.specs.Icmpv6.{Fits, CanCarry, carried_in, code_in, normal}
 
 -- a quoted header can be sent
 quote-fits : (message : List ℕ) (header : Ipv6Repr) → IsBytes message → Ipv6.IsQuoted (drop 8 message) header 40 → Ipv6.Fits header × Ipv6.IsValue header
@@ -60,7 +61,8 @@ Says-value message (EchoReply ident seq_no) small says = (half-small message 4 i
 Says-value message (Ndisc neighbor) small says = IsNdisc-value message neighbor small says
 
 -- a message that was read can be sent again
-pub fits : (source destination : Ipv6Address) (tested : Bool) (message : List ℕ) (v : MessageValue) → IsBytes message → IsIcmpv6 source destination tested message v → Fits v × IsValue v
+pub fits : (source destination : Ipv6Address) (tested : Bool) (message : List ℕ) (v : MessageValue) → IsBytes message →
+    IsIcmpv6 source destination tested message v → Fits v × IsValue v
 fits source destination tested message v small is = (Says-fits message v small is.says, Says-value message v small is.says)
 
 -- with the bytes that it carries
@@ -106,14 +108,16 @@ Says-normal message (EchoRequest ident seq_no) says = refl
 Says-normal message (EchoReply ident seq_no) says = refl
 Says-normal message (Ndisc neighbor) says = ap Ndisc (IsNdisc-normal message neighbor says)
 
-pub normal-read : (source destination : Ipv6Address) (tested : Bool) (message : List ℕ) (v : MessageValue) → IsIcmpv6 source destination tested message v → normal v ≡ v
+pub normal-read : (source destination : Ipv6Address) (tested : Bool) (message : List ℕ) (v : MessageValue) → IsIcmpv6 source destination tested message v →
+    normal v ≡ v
 normal-read source destination tested message v is = Says-normal message v is.says
 
 -- the parts of a normal form
 quote-again : (header : Ipv6Repr) → Ipv6.normal (Ipv6.normal header) ≡ Ipv6.normal header
 quote-again header = protocol-normal (Ipv6.normal header) (protocol_number header.next_header) refl
 
-unreachable-again : (reason : Icmpv6DstUnreachable) → unreachable_of (unreachable_code (unreachable_of (unreachable_code reason))) ≡ unreachable_of (unreachable_code reason)
+unreachable-again : (reason : Icmpv6DstUnreachable) → unreachable_of (unreachable_code (unreachable_of (unreachable_code reason))) ≡
+    unreachable_of (unreachable_code reason)
 unreachable-again reason = unreachable-normal (unreachable_of (unreachable_code reason)) (unreachable_code reason) refl
 
 exceeded-again : (reason : Icmpv6TimeExceeded) → exceeded_of (exceeded_code (exceeded_of (exceeded_code reason))) ≡ exceeded_of (exceeded_code reason)
@@ -125,12 +129,15 @@ problem-again reason = problem-normal (problem_of (problem_code reason)) (proble
 -- a normal form is in its normal form
 pub normal-normal : (v : MessageValue) → normal (normal v) ≡ normal v
 normal-normal (DstUnreachable reason header) =
-    ap (λ r. DstUnreachable r (Ipv6.normal (Ipv6.normal header))) (unreachable-again reason) ∙ ap (DstUnreachable (unreachable_of (unreachable_code reason))) (quote-again header)
+    ap (λ r. DstUnreachable r (Ipv6.normal (Ipv6.normal header))) (unreachable-again reason) ∙
+    ap (DstUnreachable (unreachable_of (unreachable_code reason))) (quote-again header)
 normal-normal (PktTooBig mtu header) = ap (PktTooBig mtu) (quote-again header)
 normal-normal (TimeExceeded reason header) =
-    ap (λ r. TimeExceeded r (Ipv6.normal (Ipv6.normal header))) (exceeded-again reason) ∙ ap (TimeExceeded (exceeded_of (exceeded_code reason))) (quote-again header)
+    ap (λ r. TimeExceeded r (Ipv6.normal (Ipv6.normal header))) (exceeded-again reason) ∙
+    ap (TimeExceeded (exceeded_of (exceeded_code reason))) (quote-again header)
 normal-normal (ParamProblem reason pointer header) =
-    ap (λ r. ParamProblem r pointer (Ipv6.normal (Ipv6.normal header))) (problem-again reason) ∙ ap (ParamProblem (problem_of (problem_code reason)) pointer) (quote-again header)
+    ap (λ r. ParamProblem r pointer (Ipv6.normal (Ipv6.normal header))) (problem-again reason) ∙
+    ap (ParamProblem (problem_of (problem_code reason)) pointer) (quote-again header)
 normal-normal (EchoRequest ident seq_no) = refl
 normal-normal (EchoReply ident seq_no) = refl
 normal-normal (Ndisc neighbor) = ap Ndisc (Neighbor.normal-normal neighbor)

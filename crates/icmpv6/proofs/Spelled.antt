@@ -11,20 +11,23 @@ use Rattle.ip_packet.specs.declared.ipv6.repr.Ipv6Repr.{Ipv6Repr}
 use Rattle.icmpv6.proofs.Reasons.{unreachable_code-unreachable_of, exceeded_code-exceeded_of, problem_code-problem_of}
 use Rattle.icmpv6.specs.Reason.{unreachable_code, exceeded_code, problem_code}
 use Rattle.icmpv6.proofs.NdiscLaws.{buffer_len-room}
-use Rattle.icmpv6.specs.Icmpv6.{MessageValue, DstUnreachable, PktTooBig, TimeExceeded, ParamProblem, EchoRequest, EchoReply, Ndisc, IsIcmpv6, IsEcho, Says, KeepsAll, carried_in, code_in, free_in, header_len, echo_spelling, error_spelling, spelling}
+use Rattle.icmpv6.specs.Icmpv6.{MessageValue, DstUnreachable, PktTooBig, TimeExceeded, ParamProblem, EchoRequest, EchoReply, Ndisc, IsIcmpv6, IsEcho, Says}
+use Rattle.icmpv6.specs.Icmpv6.{KeepsAll, carried_in, code_in, free_in, header_len, echo_spelling, error_spelling, spelling}
 
 -- all bytes behind a place are bytes
 pub IsBytes-drop : (n : ℕ) (bytes : List ℕ) → IsBytes bytes → IsBytes (drop n bytes)
 IsBytes-drop n bytes small = λ i. rw (get_or-drop n bytes i 0) (small (n + i))
 
 -- an error is spelled by its four bytes at place 4, the quoted header and what follows it
-error-spelling : (message : List ℕ) (number code word : ℕ) (header : Ipv6Repr) → IsBytes message → number ≡ slice_index message 0 → code ≡ slice_index message 1 → word ≡ be32 message 4
+error-spelling : (message : List ℕ) (number code word : ℕ) (header : Ipv6Repr) → IsBytes message → number ≡ slice_index message 0 →
+    code ≡ slice_index message 1 → word ≡ be32 message 4
     → Ipv6.IsQuoted (drop 8 message) header 40
     → message ≡ error_spelling number code word header (free_in message) (drop 48 message)
 error-spelling message number code word header small kind reason at4 quoted =
     let len : 48 ≤ length message = omega (arith, quoted.room, length-drop {A = ℕ} 8 message) in
     let rest : drop 8 message ≡ Ipv6.spelling header (Ipv6.class_and_flow (drop 8 message)) ++ drop 48 message =
-    header-spelling (drop 8 message) header 40 (IsBytes-drop 8 message small) quoted ∙ ap (λ xs. Ipv6.spelling header (Ipv6.class_and_flow (drop 8 message)) ++ xs) (drop-drop 40 8 message)
+    header-spelling (drop 8 message) header 40 (IsBytes-drop 8 message small) quoted ∙
+    ap (λ xs. Ipv6.spelling header (Ipv6.class_and_flow (drop 8 message)) ++ xs) (drop-drop 40 8 message)
     in
     peel8 message 0 number _ (omega arith) kind (
     peel8 message 1 code _ (omega arith) reason (
@@ -49,20 +52,26 @@ echo-spelling message number ident seq_no small len is =
     )
 
 -- a message that says this is spelled so
-Says-spelled : (message : List ℕ) (v : MessageValue) → IsBytes message → KeepsAll v → 8 ≤ length message → Says message v → message ≡ spelling v (free_in message) (carried_in message v)
+Says-spelled : (message : List ℕ) (v : MessageValue) → IsBytes message → KeepsAll v → 8 ≤ length message → Says message v →
+    message ≡ spelling v (free_in message) (carried_in message v)
 Says-spelled message (DstUnreachable reason header) small keeps len says =
-    error-spelling message 1 (unreachable_code reason) (be32 message 4) header small (sym says.1.kind) (ap unreachable_code says.0 ∙ unreachable_code-unreachable_of (code_in message)) refl says.1.quoted
-Says-spelled message (PktTooBig mtu header) small keeps len says = error-spelling message 2 0 mtu header small (sym says.2.kind) (sym says.0) says.1 says.2.quoted
+    error-spelling message 1 (unreachable_code reason) (be32 message 4) header small (sym says.1.kind) (ap unreachable_code says.0 ∙
+    unreachable_code-unreachable_of (code_in message)) refl says.1.quoted
+Says-spelled message (PktTooBig mtu header) small keeps len says =
+    error-spelling message 2 0 mtu header small (sym says.2.kind) (sym says.0) says.1 says.2.quoted
 Says-spelled message (TimeExceeded reason header) small keeps len says =
-    error-spelling message 3 (exceeded_code reason) (be32 message 4) header small (sym says.1.kind) (ap exceeded_code says.0 ∙ exceeded_code-exceeded_of (code_in message)) refl says.1.quoted
+    error-spelling message 3 (exceeded_code reason) (be32 message 4) header small (sym says.1.kind) (ap exceeded_code says.0 ∙
+    exceeded_code-exceeded_of (code_in message)) refl says.1.quoted
 Says-spelled message (ParamProblem reason pointer header) small keeps len says =
-    error-spelling message 4 (problem_code reason) pointer header small (sym says.2.kind) (ap problem_code says.0 ∙ problem_code-problem_of (code_in message)) says.1 says.2.quoted
+    error-spelling message 4 (problem_code reason) pointer header small (sym says.2.kind) (ap problem_code says.0 ∙
+    problem_code-problem_of (code_in message)) says.1 says.2.quoted
 Says-spelled message (EchoRequest ident seq_no) small keeps len says = echo-spelling message 128 ident seq_no small len says
 Says-spelled message (EchoReply ident seq_no) small keeps len says = echo-spelling message 129 ident seq_no small len says
 Says-spelled message (Ndisc neighbor) small keeps len says = absurd keeps
 
 -- a message is spelled by what it says and carries
-pub message-spelling : (source destination : Ipv6Address) (tested : Bool) (message : List ℕ) (v : MessageValue) → IsBytes message → KeepsAll v → IsIcmpv6 source destination tested message v
+pub message-spelling : (source destination : Ipv6Address) (tested : Bool) (message : List ℕ) (v : MessageValue) → IsBytes message → KeepsAll v →
+    IsIcmpv6 source destination tested message v
     → message ≡ spelling v (free_in message) (carried_in message v)
 message-spelling source destination tested message v small keeps is = Says-spelled message v small keeps is.whole is.says
 

@@ -11,7 +11,8 @@ use Rattle.ip_packet.specs.declared.ipv6.repr.Ipv6Repr.{Ipv6Repr}
 use Rattle.icmpv6.specs.Packet.{IsChecked, covered, checksum_of}
 use Rattle.icmpv6.proofs.NdiscLaws.{IsNdisc-written, word_sum-spelling}
 use Rattle.icmpv6.specs.Ndisc as Neighbor
-use Rattle.icmpv6.specs.Icmpv6.{MessageValue, DstUnreachable, PktTooBig, TimeExceeded, ParamProblem, EchoRequest, EchoReply, Ndisc, IsIcmpv6, IsValue, CanCarry, Says, Fits, carried_in, normal, sent_free, spelling, written}
+use Rattle.icmpv6.specs.Icmpv6.{MessageValue, DstUnreachable, PktTooBig, TimeExceeded, ParamProblem, EchoRequest, EchoReply, Ndisc, IsIcmpv6, IsValue, CanCarry}
+use Rattle.icmpv6.specs.Icmpv6.{Says, Fits, carried_in, normal, sent_free, spelling, written}
 
 -- a number in the checksum field adds itself to the word sum
 word_sum-check : (v : MessageValue) (carried : List ℕ) (check : ℕ) → check < 65536
@@ -36,13 +37,15 @@ length-check (Ndisc (Neighbor.Solicitation target link)) carried check = refl
 length-check (Ndisc (Neighbor.Advertisement flags target link)) carried check = refl
 
 -- a message whose checksum was written holds it
-IsChecked-written : (source destination : Ipv6Address) (v : MessageValue) (carried : List ℕ) → IsChecked source destination (written source destination true v carried)
+IsChecked-written : (source destination : Ipv6Address) (v : MessageValue) (carried : List ℕ) →
+    IsChecked source destination (written source destination true v carried)
 IsChecked-written source destination v carried =
     let total : ℕ = covered source destination (spelling v (sent_free 0) carried) in
     let sums : word_sum (spelling v (sent_free (65535 - folded total)) carried) ≡ word_sum (spelling v (sent_free 0) carried) + (65535 - folded total) =
     word_sum-check v carried (65535 - folded total) (omega arith)
     in
-    let longer : word_sum (pseudo_v6 source.0 destination.0 58 (length (spelling v (sent_free (65535 - folded total)) carried))) ≡ word_sum (pseudo_v6 source.0 destination.0 58 (length (spelling v (sent_free 0) carried))) =
+    let longer : word_sum (pseudo_v6 source.0 destination.0 58 (length (spelling v (sent_free (65535 - folded total)) carried))) ≡
+    word_sum (pseudo_v6 source.0 destination.0 58 (length (spelling v (sent_free 0) carried))) =
     ap (λ n. word_sum (pseudo_v6 source.0 destination.0 58 n)) (length-check v carried (65535 - folded total))
     in
     let same : covered source destination (written source destination true v carried) ≡ total + (65535 - folded total) = omega (arith, sums, longer) in
@@ -74,20 +77,27 @@ whole-spelling (Ndisc (Neighbor.Solicitation target link)) check carried value =
 whole-spelling (Ndisc (Neighbor.Advertisement flags target link)) check carried value = omega arith
 
 -- a message that was sent is read back in its normal form
-pub IsIcmpv6-written : (source destination : Ipv6Address) (tested sealed : Bool) (v : MessageValue) (carried : List ℕ) → IsValue v → Fits v → (IsTrue tested → IsTrue sealed)
+pub IsIcmpv6-written : (source destination : Ipv6Address) (tested sealed : Bool) (v : MessageValue) (carried : List ℕ) → IsValue v → Fits v →
+    (IsTrue tested → IsTrue sealed)
     → IsIcmpv6 source destination tested (written source destination sealed v carried) (normal v)
 IsIcmpv6-written source destination tested false v carried value fits both =
     record { whole = whole-spelling v 0 carried value; checked = λ t. absurd (cc (both t)); says = Says-spelling v 0 carried value fits }
 IsIcmpv6-written source destination tested true v carried value fits both =
     let check : ℕ = checksum_of source destination (spelling v (sent_free 0) carried) in
-    record { whole = whole-spelling v check carried value; checked = λ _. IsChecked-written source destination v carried; says = Says-spelling v check carried value fits }
+    record {
+      whole = whole-spelling v check carried value;
+      checked = λ _. IsChecked-written source destination v carried;
+      says =
+          Says-spelling v check carried value fits;
+    }
 
 -- the bytes behind an emitted header
 behind : (header : Ipv6Repr) (carried : List ℕ) → Ipv6.IsValue header → drop 40 (Ipv6.written header ++ carried) ≡ carried
 behind header carried value =
     drop_at (Ipv6.written header) carried 40 (omega (arith, value.source.0, value.destination.0, length-append header.src_addr.0 header.dst_addr.0))
 
-carried_in-spelling : (v : MessageValue) (check : ℕ) (carried : List ℕ) → IsValue v → CanCarry v carried → carried_in (spelling v (sent_free check) carried) (normal v) ≡ carried
+carried_in-spelling : (v : MessageValue) (check : ℕ) (carried : List ℕ) → IsValue v → CanCarry v carried →
+    carried_in (spelling v (sent_free check) carried) (normal v) ≡ carried
 carried_in-spelling (DstUnreachable reason header) check carried value can = behind header carried value.1
 carried_in-spelling (PktTooBig mtu header) check carried value can = behind header carried value.1
 carried_in-spelling (TimeExceeded reason header) check carried value can = behind header carried value.1
@@ -100,4 +110,5 @@ carried_in-spelling (Ndisc neighbor) check carried value can = sym can
 pub carried_in-written : (source destination : Ipv6Address) (sealed : Bool) (v : MessageValue) (carried : List ℕ) → IsValue v → CanCarry v carried
     → carried_in (written source destination sealed v carried) (normal v) ≡ carried
 carried_in-written source destination false v carried value can = carried_in-spelling v 0 carried value can
-carried_in-written source destination true v carried value can = carried_in-spelling v (checksum_of source destination (spelling v (sent_free 0) carried)) carried value can
+carried_in-written source destination true v carried value can =
+    carried_in-spelling v (checksum_of source destination (spelling v (sent_free 0) carried)) carried value can

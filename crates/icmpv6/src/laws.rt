@@ -2,7 +2,8 @@
 ghost use Rattle.std.specs.Prelude.{◌≡◌, ◌↔◌, true, false, ℕ, ◌+◌, ◌≤◌, Bool, IsTrue, List, length, slice_range};
 ghost use Rattle.ip_address.specs.Fields.{be16, IsBytes};
 ghost use Rattle.ip_address.specs.declared.ipv6.Ipv6Address.{Ipv6Address};
-ghost use Rattle.icmpv6.specs.Icmpv6.{MessageValue, IsIcmpv6, IsValue, Fits, CanCarry, KeepsAll, carried_by, carried_in, free_in, header_len, header_of, value_of, normal, spelling, written};
+ghost use Rattle.icmpv6.specs.Icmpv6.{MessageValue, IsIcmpv6, IsValue, Fits, CanCarry, KeepsAll, carried_by, carried_in, free_in, header_len, header_of};
+ghost use Rattle.icmpv6.specs.Icmpv6.{value_of, normal, spelling, written};
 ghost use Rattle.icmpv6.specs.Ndisc as Neighbor;
 ghost use Rattle.icmpv6.specs.Ndisc.{NeighborMessage, IsNdisc};
 ghost use Rattle.icmpv6.specs.declared.message.Icmpv6Message.{Icmpv6Message};

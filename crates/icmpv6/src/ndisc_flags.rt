@@ -79,7 +79,12 @@ impl NdiscNeighborFlags {
 impl BitOr for NdiscNeighborFlags {
     type Output = NdiscNeighborFlags;
 
-    ghost bitor_gives = { λ a b c. c ≡ record { router = a.router || b.router; solicited = a.solicited || b.solicited; overrides = a.overrides || b.overrides } };
+    ghost bitor_gives = { λ a b c. c ≡ record {
+      router = a.router || b.router;
+      solicited = a.solicited || b.solicited;
+      overrides =
+          a.overrides || b.overrides;
+    } };
 
     /// The flags that are set in one of both.
     fn bitor(self, other: NdiscNeighborFlags) -> NdiscNeighborFlags {

@@ -1,6 +1,7 @@
 //! Why a message tells of an error. A reason stands for the message's code.
 ghost use Rattle.std.specs.Prelude.{◌≡◌, Some};
-ghost use Rattle.icmpv6.specs.Reason.{unreachable_code, unreachable_of, exceeded_code, exceeded_of, problem_code, problem_of, unreachable_text, exceeded_text, problem_text};
+ghost use Rattle.icmpv6.specs.Reason.{unreachable_code, unreachable_of, exceeded_code, exceeded_of, problem_code, problem_of, unreachable_text, exceeded_text};
+ghost use Rattle.icmpv6.specs.Reason.{problem_text};
 
 use std::fmt;
 

@@ -157,7 +157,8 @@ impl<'a> Icmpv6Repr<'a> {
         checksum_caps: &ChecksumCapabilities,
     ) -> Result<Icmpv6Repr<'a>, Error>
         requires { length (bytes_of packet.now) < 2 ^ 32 }
-        ensures found { IfOk result (λ r. IsIcmpv6 src_addr.now dst_addr.now (verifies checksum_caps.now.icmpv6) (bytes_of packet.now) (value_of (header_of r))) }
+        ensures found { IfOk result
+            (λ r. IsIcmpv6 src_addr.now dst_addr.now (verifies checksum_caps.now.icmpv6) (bytes_of packet.now) (value_of (header_of r))) }
         ensures bytes { IfOk result (λ r. carried_by r ≡ carried_in (bytes_of packet.now) (value_of (header_of r))) }
         ensures only { (v : MessageValue)
             → IsIcmpv6 src_addr.now dst_addr.now (verifies checksum_caps.now.icmpv6) (bytes_of packet.now) v

@@ -15,8 +15,9 @@ mod turn;
 pub use host::Interface;
 pub use instant::{earlier, place_instant, poll_instant};
 pub use interface_egress::{
-    AddError, Config, Handles, HardwareAddrError, InterfaceInner, Item, Iter, Meta, NewError,
-    NotUnicast, Route, RouteTableFull, Routes, SocketHandle, SocketSet, SocketStorage, TABLE_ROOM,
+    AddError, Config, Handles, HardwareAddrError, InterfaceInner, Item, Iter, IterMut, Meta,
+    NewError, NotUnicast, Route, RouteTableFull, Routes, SocketHandle, SocketSet, SocketStorage,
+    TABLE_ROOM,
 };
 pub use passes::pass;
 pub use poll::{PollIngressSingleResult, PollResult};

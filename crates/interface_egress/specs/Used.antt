@@ -1,9 +1,11 @@
 -- The used places of a host's sockets, in order.
-use Rattle.std.specs.Prelude.{◌≡◌, ℕ, ◌+◌, ◌≤◌, ◌⊎◌, List, [], ◌∷◌, drop, map, Option, None, Some}
-use Rattle.std.specs.Borrow.{Bor}
+use Rattle.std.specs.Prelude.{◌≡◌, ℕ, ◌+◌, ◌<◌, ◌≤◌, ◌^◌, ◌⊎◌, List, [], ◌∷◌, drop, length, map, Option, None, Some}
+use Rattle.std.specs.Borrow.{Bor, MutBor}
+use Rattle.std.specs.Slice.Iter.{iter_mut_rest}
 use Rattle.interface_egress.specs.Set.{socket_of}
 use Rattle.interface_egress.specs.declared.socket_set.Handles.{Handles}
 use Rattle.interface_egress.specs.declared.socket_set.Iter.{Iter}
+use Rattle.interface_egress.specs.declared.socket_set.IterMut.{IterMut}
 use Rattle.interface_egress.specs.declared.socket_set.SocketHandle.{SocketHandle}
 use Rattle.interface_egress.specs.declared.socket_set.SocketStorage.{SocketStorage}
 
@@ -23,6 +25,17 @@ module _ {T : Type 0} where
   -- what an iterator has left
   abbrev pub used_left : Iter T → List (SocketHandle × T)
   used_left i = used i.at (drop i.at i.places.now)
+
+  -- what an iterator that lends has left
+  abbrev pub lent_left : IterMut T → List (SocketHandle × T)
+  lent_left i = used i.at (iter_mut_rest i.places)
+
+  abbrev pub lent_item : SocketHandle × MutBor T → SocketHandle × T
+  lent_item u = (u.0, u.1.now)
+
+  -- the places of what is left have numbers
+  abbrev pub CanLend : IterMut T → Type 0
+  CanLend i = i.at + length (iter_mut_rest i.places) < 2 ^ 64
 
   abbrev pub handles_left : Handles T → List SocketHandle
   handles_left h = map handle_of (used_left h.sockets)

@@ -21,5 +21,7 @@ pub use interface_tables::{
 };
 pub use plan::{Plan, plan_for};
 pub use socket_meta::{Meta, Waiting};
-pub use socket_set::{AddError, Handles, Item, Iter, SocketHandle, SocketSet, SocketStorage};
+pub use socket_set::{
+    AddError, Handles, Item, Iter, IterMut, SocketHandle, SocketSet, SocketStorage,
+};
 pub use way_out::{Sent, dispatch, send_next};

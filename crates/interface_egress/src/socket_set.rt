@@ -4,11 +4,11 @@ ghost use Rattle.std.specs.Fn.{FnOnceReturnsAtMut};
 ghost use Rattle.std.specs.Option.{ForSome, option_copied, option_copied_mut};
 ghost use Rattle.net_containers.specs.ManagedSlice.{storage_items};
 ghost use Rattle.interface_egress.specs.Set.{places, is_fixed, is_fixed_storage, free, socket_at, free_place, Adds, Updates};
-ghost use Rattle.interface_egress.specs.Used.{used, used_left, handles_left, handle_of};
+ghost use Rattle.interface_egress.specs.Used.{used, used_left, lent_left, CanLend, handles_left, handle_of};
 
 use crate::socket_meta::Meta;
 use net_base::ManagedSlice;
-use std::{fmt, mem};
+use std::{fmt, mem, slice};
 
 /// The place of a socket in its set.
 #[derive(Clone, Copy, Debug, Default, PartialEq, Eq, PartialOrd, Ord, Hash)]
@@ -109,6 +109,18 @@ impl<T: Drop> SocketSet<T> {
         }
     }
 
+    /// Lends the sockets with their handles, from the lowest place on.
+    pub fn iter_mut(&mut self) -> IterMut<'_, T>
+        ensures left { lent_left result ≡ used 0 (places self.old) }
+        ensures ready { CanLend result }
+    {
+        let places = match &mut self.sockets {
+            ManagedSlice::Fixed(places) => places.iter_mut(),
+            ManagedSlice::Owned(places) => places.iter_mut(),
+        };
+        IterMut { places, at: 0 }
+    }
+
     /// The handles of the sockets, from the lowest place on.
     pub fn handles(&self) -> Handles<'_, T>
         ensures { handles_left result ≡ map handle_of (used 0 (places self.now)) }
@@ -191,6 +203,61 @@ impl<'a, T> Iterator for Iter<'a, T> {
             }
         }
         None
+    }
+}
+
+/// The sockets of a set with their handles, each lent, from the lowest place on.
+#[derive(Drop)]
+pub struct IterMut<'a, T> {
+    places: slice::IterMut<'a, SocketStorage<T>>,
+    at: usize,
+}
+
+impl<'a, T> Iterator for IterMut<'a, T> {
+    ghost use Rattle.std.specs.Iterator.{YieldsFirstBy, item_count};
+    ghost use Rattle.interface_egress.specs.Used.{lent_left, lent_item, CanLend};
+
+    type Item = (SocketHandle, &'a mut T);
+
+    ghost can_next = { CanLend };
+
+    ghost next_gives = { YieldsFirstBy lent_item lent_left };
+
+    ghost remaining = { item_count lent_left };
+
+    fn next(&mut self) -> Option<(SocketHandle, &'a mut T)> {
+        while let Some(place) = self.places.next() {
+            let at = self.at;
+            self.at += 1;
+            if let Some(item) = &mut place.inner {
+                return Some((SocketHandle(at), &mut item.socket));
+            }
+        }
+        None
+    }
+}
+
+impl<'a, T: Drop> IntoIterator for &'a SocketSet<T> {
+    type Item = (SocketHandle, &'a T);
+
+    type IntoIter = Iter<'a, T>;
+
+    ghost into_iter_gives = { λ set i. used_left i ≡ used 0 (places set.now) };
+
+    fn into_iter(self) -> Iter<'a, T> {
+        self.iter()
+    }
+}
+
+impl<'a, T: Drop> IntoIterator for &'a mut SocketSet<T> {
+    type Item = (SocketHandle, &'a mut T);
+
+    type IntoIter = IterMut<'a, T>;
+
+    ghost into_iter_gives = { λ set i. (lent_left i ≡ used 0 (places set.now)) × CanLend i };
+
+    fn into_iter(self) -> IterMut<'a, T> {
+        self.iter_mut()
     }
 }
 

@@ -105,6 +105,40 @@ fn used_places_in_order(rt: HostRuntime) {
     assert!(rt; sockets.next().is_none() && sockets.next().is_none());
 }
 
+/// Each socket is lent once, at its handle, and keeps what is written.
+#[test]
+fn each_socket_is_lent_in_order(rt: HostRuntime) {
+    let mut apart = apart(&rt);
+    let mut lent = apart.set.iter_mut();
+    if let Some((handle, socket)) = lent.next() {
+        assert!(rt; handle == apart.first && *socket == 7);
+        *socket = 17;
+    }
+    if let Some((handle, socket)) = lent.next() {
+        assert!(rt; handle == apart.last && *socket == 9);
+        *socket = 29;
+    }
+    assert!(rt; lent.next().is_none() && lent.next().is_none());
+    assert!(rt; holds(&apart.set, apart.first, Some(17)));
+    assert!(rt; holds(&apart.set, apart.last, Some(29)));
+    assert!(rt; holds(&apart.set, apart.unused, None));
+}
+
+/// A loop over a set goes through its sockets, read or lent.
+#[test]
+fn a_loop_goes_through_a_set(rt: HostRuntime) {
+    let mut apart = apart(&rt);
+    for (handle, socket) in &mut apart.set {
+        *socket = handle.place() as u32;
+    }
+    let mut sum = 0u32;
+    for (_, socket) in &apart.set {
+        sum = sum.wrapping_mul(10).wrapping_add(*socket);
+    }
+    assert!(rt; sum == 2);
+    assert!(rt; holds(&apart.set, apart.last, Some(2)));
+}
+
 #[test]
 fn used_handles_in_order(rt: HostRuntime) {
     let apart = apart(&rt);

@@ -81,11 +81,13 @@ address-v4 x fits =
     (record { 0 = big_bytes 4 x }, (length-bytes_high_first 4 x, IsBytes-big_bytes 4 x), big_number-big_bytes 4 x fits)
 
 -- IPv4 blocks: a block within another has its own address there, and no shorter prefix
-pub IsWithinV4-only : (outer inner : Ipv4Cidr) → v4_number inner.address < 2 ^ 32 → IsIpv4Address inner.address → IsWithinV4 outer inner → (outer.prefix_len ≤ inner.prefix_len) × IsInV4 outer inner.address
+pub IsWithinV4-only : (outer inner : Ipv4Cidr) → v4_number inner.address < 2 ^ 32 → IsIpv4Address inner.address → IsWithinV4 outer inner →
+    (outer.prefix_len ≤ inner.prefix_len) × IsInV4 outer inner.address
 IsWithinV4-only outer inner fits is all =
     let own : IsInV4 outer inner.address = all inner.address is refl in
     elim (cases_lt inner.prefix_len outer.prefix_len) [
-      | inl shorter ↦ absurd (agree-more (v4_number outer.address / 2 ^ (32 - outer.prefix_len)) (v4_number inner.address) (32 - outer.prefix_len) (32 - inner.prefix_len) 32 (omega arith) fits (let l : outer.prefix_len ≤ 32 = outer.in_range in omega arith)
+      | inl shorter ↦ absurd (agree-more (v4_number outer.address / 2 ^ (32 - outer.prefix_len)) (v4_number inner.address) (32 - outer.prefix_len)
+          (32 - inner.prefix_len) 32 (omega arith) fits (let l : outer.prefix_len ≤ 32 = outer.in_range in omega arith)
           (λ x less same. let w = address-v4 x less in
           ap (λ n. n / 2 ^ (32 - outer.prefix_len)) (sym w.2) ∙ all w.0 w.1 (ap (λ n. n / 2 ^ (32 - inner.prefix_len)) w.2 ∙ same)))
       | inr le ↦ (le, own)
@@ -103,11 +105,13 @@ address-v6 x fits =
     (record { 0 = big_bytes 16 x }, (length-bytes_high_first 16 x, IsBytes-big_bytes 16 x), big_number-big_bytes 16 x fits)
 
 -- IPv6 blocks: a block within another has its own address there, and no shorter prefix
-pub IsWithinV6-only : (outer inner : Ipv6Cidr) → v6_number inner.address < 2 ^ 128 → IsIpv6Address inner.address → IsWithinV6 outer inner → (outer.prefix_len ≤ inner.prefix_len) × IsInV6 outer inner.address
+pub IsWithinV6-only : (outer inner : Ipv6Cidr) → v6_number inner.address < 2 ^ 128 → IsIpv6Address inner.address → IsWithinV6 outer inner →
+    (outer.prefix_len ≤ inner.prefix_len) × IsInV6 outer inner.address
 IsWithinV6-only outer inner fits is all =
     let own : IsInV6 outer inner.address = all inner.address is refl in
     elim (cases_lt inner.prefix_len outer.prefix_len) [
-      | inl shorter ↦ absurd (agree-more (v6_number outer.address / 2 ^ (128 - outer.prefix_len)) (v6_number inner.address) (128 - outer.prefix_len) (128 - inner.prefix_len) 128 (omega arith) fits (let l : outer.prefix_len ≤ 128 = outer.in_range in omega arith)
+      | inl shorter ↦ absurd (agree-more (v6_number outer.address / 2 ^ (128 - outer.prefix_len)) (v6_number inner.address) (128 - outer.prefix_len)
+          (128 - inner.prefix_len) 128 (omega arith) fits (let l : outer.prefix_len ≤ 128 = outer.in_range in omega arith)
           (λ x less same. let w = address-v6 x less in
           ap (λ n. n / 2 ^ (128 - outer.prefix_len)) (sym w.2) ∙ all w.0 w.1 (ap (λ n. n / 2 ^ (128 - inner.prefix_len)) w.2 ∙ same)))
       | inr le ↦ (le, own)

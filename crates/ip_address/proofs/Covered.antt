@@ -16,7 +16,8 @@ folded-combined a b =
 
 -- the sum of the pseudo header combined with that of the packet
 pub folded-covered : (source destination : IpAddress) (protocol : ℕ) (packet : List ℕ)
-    → folded (folded (word_sum (pseudo_of source destination protocol (length packet))) + folded (word_sum packet)) ≡ folded (covered source destination protocol packet)
+    → folded (folded (word_sum (pseudo_of source destination protocol (length packet))) + folded (word_sum packet)) ≡
+    folded (covered source destination protocol packet)
 folded-covered source destination protocol packet =
     folded-combined (word_sum (pseudo_of source destination protocol (length packet))) (word_sum packet)
 

@@ -18,7 +18,8 @@ pub IsIpText-apart : (text : List ℕ) (a : Ipv4Address) (b : Ipv6Address) → I
 IsIpText-apart text a b h k = Lacks-colon text b k (Lacks-dotted 58 text a.0 (omega arith) (λ e. omega arith) h)
 
 -- no text is an endpoint of both families
-pub IsEndpointText-apart : (text : List ℕ) (a : Ipv4Address) (port : ℕ) (b : Ipv6Address) (other : ℕ) → IsIpv4EndpointText text a port → IsIpv6EndpointText text b other → ⊥
+pub IsEndpointText-apart : (text : List ℕ) (a : Ipv4Address) (port : ℕ) (b : Ipv6Address) (other : ℕ) → IsIpv4EndpointText text a port →
+    IsIpv6EndpointText text b other → ⊥
 IsEndpointText-apart text a port b other h k =
     let P : List ℕ → Type 0 = λ t. Lacks t 91 in
     let lacks : Lacks text 91 =
@@ -27,22 +28,26 @@ IsEndpointText-apart text a port b other h k =
     Lacks-joined 91 [] (k.address ++ 93 ∷ 58 ∷ k.digits) (subst P k.spelled lacks)
 
 -- reading an address of either family: an IPv4 address was read
-pub ip_v4 : (text : List ℕ) (x : Ipv4Address) → IsIpv4Text text x → ((y : Ipv4Address) → IsIpv4Text text y → Some x ≡ Some y) → (a : IpAddress) → IsIpText text a → Some (Ip.Ipv4 x) ≡ Some a
+pub ip_v4 : (text : List ℕ) (x : Ipv4Address) → IsIpv4Text text x → ((y : Ipv4Address) → IsIpv4Text text y → Some x ≡ Some y) → (a : IpAddress) →
+    IsIpText text a → Some (Ip.Ipv4 x) ≡ Some a
 ip_v4 text x found only (Ip.Ipv4 y) h = ap (λ z. Some (Ip.Ipv4 z)) (some_inside x y (only y h))
 ip_v4 text x found only (Ip.Ipv6 y) h = absurd (IsIpText-apart text x y found h)
 
 -- no IPv4 address was read, and an IPv6 address was
-pub ip_v6 : (text : List ℕ) (x : Ipv6Address) → ((y : Ipv4Address) → IsIpv4Text text y → None ≡ Some y) → ((y : Ipv6Address) → IsIpv6Text text y → Some x ≡ Some y) → (a : IpAddress) → IsIpText text a → Some (Ip.Ipv6 x) ≡ Some a
+pub ip_v6 : (text : List ℕ) (x : Ipv6Address) → ((y : Ipv4Address) → IsIpv4Text text y → None ≡ Some y) →
+    ((y : Ipv6Address) → IsIpv6Text text y → Some x ≡ Some y) → (a : IpAddress) → IsIpText text a → Some (Ip.Ipv6 x) ≡ Some a
 ip_v6 text x first only (Ip.Ipv4 y) h = let e : None ≡ Some y = first y h in absurd (cc)
 ip_v6 text x first only (Ip.Ipv6 y) h = ap (λ z. Some (Ip.Ipv6 z)) (some_inside x y (only y h))
 
 -- neither was
-pub ip_none : (text : List ℕ) → ((y : Ipv4Address) → IsIpv4Text text y → None ≡ Some y) → ((y : Ipv6Address) → IsIpv6Text text y → None ≡ Some y) → (a : IpAddress) → IsIpText text a → None ≡ Some a
+pub ip_none : (text : List ℕ) → ((y : Ipv4Address) → IsIpv4Text text y → None ≡ Some y) → ((y : Ipv6Address) → IsIpv6Text text y → None ≡ Some y) →
+    (a : IpAddress) → IsIpText text a → None ≡ Some a
 ip_none text first second (Ip.Ipv4 y) h = let e : None ≡ Some y = first y h in absurd (cc)
 ip_none text first second (Ip.Ipv6 y) h = let e : None ≡ Some y = second y h in absurd (cc)
 
 -- an IPv4 endpoint was read
-pub endpoint_v4 : (text : List ℕ) (x : Ipv4Address) (port : ℕ) → IsIpv4EndpointText text x port → ((y : Ipv4Address) (q : ℕ) → IsIpv4EndpointText text y q → (x ≡ y) × (port ≡ q))
+pub endpoint_v4 : (text : List ℕ) (x : Ipv4Address) (port : ℕ) → IsIpv4EndpointText text x port →
+    ((y : Ipv4Address) (q : ℕ) → IsIpv4EndpointText text y q → (x ≡ y) × (port ≡ q))
     → (a : IpAddress) (q : ℕ) → IsAddressAndPort text a q → (Ip.Ipv4 x ≡ a) × (port ≡ q)
 endpoint_v4 text x port found only (Ip.Ipv4 y) q h = let both = only y q h in (ap Ip.Ipv4 both.0, both.1)
 endpoint_v4 text x port found only (Ip.Ipv6 y) q h = absurd (IsEndpointText-apart text x port y q found h)

@@ -1,5 +1,6 @@
 -- Texts of IPv6 addresses.
-use Rattle.std.proofs.Common.{◌≡◌, ◌≢◌, ℕ, ◌+◌, ◌*◌, ◌<◌, ◌≤◌, inl, inr, Bool, true, false, List, [], ◌∷◌, ◌++◌, length, sym, ◌∙◌, append_assoc, ap, arith, subst, decimal, length-append}
+use Rattle.std.proofs.Common.{◌≡◌, ◌≢◌, ℕ, ◌+◌, ◌*◌, ◌<◌, ◌≤◌, inl, inr, Bool, true, false, List, [], ◌∷◌, ◌++◌, length, sym, ◌∙◌, append_assoc, ap, arith}
+use Rattle.std.proofs.Common.{subst, decimal, length-append}
 use Rattle.std.specs.Char.{digit_value}
 use Rattle.std.specs.Net.Addr.{segments_of}
 use Rattle.std.specs.Net.Grammar.{IsDotted, IsGroupsAfter, IsColonHex}
@@ -18,11 +19,15 @@ Lacks-tail byte text octets other dot h =
     let P : List ℕ → Type 0 = λ t. Lacks t byte in
     let point : Lacks (46 ∷ []) byte = Lacks-cons byte 46 [] dot (λ i less. absurd (omega arith)) in
     subst P (sym h.spelled)
-    (Lacks-append byte _ (decimal h.d) (Lacks-append byte _ (46 ∷ []) (Lacks-append byte _ (decimal h.c) (Lacks-append byte _ (46 ∷ []) (Lacks-append byte _ (decimal h.b) (Lacks-append byte (decimal h.a) (46 ∷ [])
-    (Lacks-decimal byte h.a other h.fit.0) point) (Lacks-decimal byte h.b other h.fit.1)) point) (Lacks-decimal byte h.c other h.fit.2)) point) (Lacks-decimal byte h.d other h.fit.3))
+    (Lacks-append byte _ (decimal h.d)
+    (Lacks-append byte _ (46 ∷
+    []) (Lacks-append byte _ (decimal h.c) (Lacks-append byte _ (46 ∷ []) (Lacks-append byte _ (decimal h.b) (Lacks-append byte (decimal h.a) (46 ∷ [])
+    (Lacks-decimal byte h.a other h.fit.0) point) (Lacks-decimal byte h.b other h.fit.1)) point) (Lacks-decimal byte h.c other h.fit.2)) point)
+    (Lacks-decimal byte h.d other h.fit.3))
 
 -- groups of hex digits with colons between them
-Lacks-groups : (byte : ℕ) (ipv4 : Bool) (lead text segments : List ℕ) → 16 ≤ digit_value byte → 46 ≢ byte → 58 ≢ byte → Lacks lead byte → IsGroupsAfter ipv4 lead text segments → Lacks text byte
+Lacks-groups : (byte : ℕ) (ipv4 : Bool) (lead text segments : List ℕ) → 16 ≤ digit_value byte → 46 ≢ byte → 58 ≢ byte → Lacks lead byte →
+    IsGroupsAfter ipv4 lead text segments → Lacks text byte
 Lacks-groups byte ipv4 lead text [] other dot colon before h = let P : List ℕ → Type 0 = λ t. Lacks t byte in subst P (sym h) (λ i less. absurd (omega arith))
 Lacks-groups byte ipv4 lead text (s ∷ segments) other dot colon before h =
     let P : List ℕ → Type 0 = λ t. Lacks t byte in
@@ -39,12 +44,16 @@ Lacks-colon_hex byte text segments other dot colon h =
     let none : Lacks [] byte = λ i less. absurd (omega arith) in
     elim h [
       | inl g ↦ Lacks-groups byte true [] text segments other dot colon none g.0
-      | inr e ↦ subst P (sym e.spelled) (Lacks-append byte _ e.tail_text (Lacks-append byte e.head_text (58 ∷ 58 ∷ []) (Lacks-groups byte false [] e.head_text e.head other dot colon none e.head_groups)
-          (Lacks-cons byte 58 (58 ∷ []) colon (Lacks-cons byte 58 [] colon none))) (Lacks-groups byte true [] e.tail_text e.tail other dot colon none e.tail_groups))
+      | inr e ↦ subst P (sym e.spelled)
+          (Lacks-append byte _ e.tail_text
+          (Lacks-append byte e.head_text (58 ∷ 58 ∷ []) (Lacks-groups byte false [] e.head_text e.head other dot colon none e.head_groups)
+          (Lacks-cons byte 58 (58 ∷ []) colon (Lacks-cons byte 58 [] colon none)))
+          (Lacks-groups byte true [] e.tail_text e.tail other dot colon none e.tail_groups))
     ]
 
 -- groups after a colon begin with it
-groups-colon : (ipv4 : Bool) (text : List ℕ) (s : ℕ) (segments : List ℕ) → IsGroupsAfter ipv4 (58 ∷ []) text (s ∷ segments) → (rest : List ℕ) × (text ≡ 58 ∷ rest)
+groups-colon : (ipv4 : Bool) (text : List ℕ) (s : ℕ) (segments : List ℕ) → IsGroupsAfter ipv4 (58 ∷ []) text (s ∷ segments) → (rest : List ℕ) ×
+    (text ≡ 58 ∷ rest)
 groups-colon ipv4 text s segments h = elim h [ inl g ↦ (g.0 ++ g.1, g.2) | inr d ↦ (d.0, d.3) ]
 
 -- eight groups have a colon between them
@@ -72,7 +81,8 @@ Lacks-dotted_end : (byte : ℕ) (text hex : List ℕ) → 10 ≤ digit_value byt
 Lacks-dotted_end byte text hex other dot colon h lacks =
     let P : List ℕ → Type 0 = λ t. Lacks t byte in
     let front : Lacks h.front byte = Lacks-front byte h.front _ (subst P h.in_hex lacks) in
-    subst P (sym h.spelled) (Lacks-append byte h.front (58 ∷ h.tail) front (Lacks-cons byte 58 h.tail colon (Lacks-dotted byte h.tail h.octets other dot h.of_tail)))
+    subst P (sym h.spelled) (Lacks-append byte h.front (58 ∷ h.tail) front
+    (Lacks-cons byte 58 h.tail colon (Lacks-dotted byte h.tail h.octets other dot h.of_tail)))
 
 -- it has a dot
 pub Lacks-dot : (text hex : List ℕ) → IsDottedEnd text hex → Lacks text 46 → ⊥
@@ -106,7 +116,8 @@ dotted-dot text octets h lacks =
     Lacks-joined 46 _ (decimal h.d) last
 
 -- groups of at most four digits, each after at most one byte
-length-groups : (ipv4 : Bool) (lead text segments : List ℕ) → length lead ≤ 1 → Lacks text 46 → IsGroupsAfter ipv4 lead text segments → length text ≤ 5 * length segments
+length-groups : (ipv4 : Bool) (lead text segments : List ℕ) → length lead ≤ 1 → Lacks text 46 → IsGroupsAfter ipv4 lead text segments →
+    length text ≤ 5 * length segments
 length-groups ipv4 lead text [] one lacks h = let none : length text ≡ 0 = ap length h in omega arith
 length-groups ipv4 lead text (s ∷ segments) one lacks h =
     let P : List ℕ → Type 0 = λ t. Lacks t 46 in
@@ -115,7 +126,8 @@ length-groups ipv4 lead text (s ∷ segments) one lacks h =
           let after : Lacks g.1 46 = Lacks-back 46 (lead ++ g.0) g.1 (subst P g.2 lacks) in
           let rest : length g.1 ≤ 5 * length segments = length-groups ipv4 (58 ∷ []) g.1 segments (omega arith) after g.4 in
           let four : length g.0 ≤ 4 = g.3.1 in
-          let whole : length text ≡ length lead + length g.0 + length g.1 = ap length g.2 ∙ length-append (lead ++ g.0) g.1 ∙ ap (λ n. n + length g.1) (length-append lead g.0) in
+          let whole : length text ≡ length lead + length g.0 + length g.1 = ap length g.2 ∙ length-append (lead ++ g.0) g.1 ∙
+          ap (λ n. n + length g.1) (length-append lead g.0) in
           omega arith)
       | inr d ↦ absurd (dotted-dot d.0 d.1 d.4 (Lacks-back 46 lead d.0 (subst P d.3 lacks)))
     ]
@@ -143,10 +155,15 @@ length-hex_groups text segments h =
       | inl g ↦ length-all_groups text segments h.0 g.0 g.1
       | inr e ↦ (
           let both : Lacks (e.head_text ++ (58 ∷ 58 ∷ []) ++ e.tail_text) 46 = subst P e.spelled h.0 in
-          let head : length e.head_text ≤ 5 * length e.head = length-groups false [] e.head_text e.head (omega arith) (Lacks-front 46 e.head_text (58 ∷ 58 ∷ []) (Lacks-front 46 _ e.tail_text both)) e.head_groups in
-          let tail : length e.tail_text ≤ 5 * length e.tail = length-groups true [] e.tail_text e.tail (omega arith) (Lacks-back 46 _ e.tail_text both) e.tail_groups in
+          let head : length e.head_text ≤ 5 * length e.head =
+          length-groups false [] e.head_text e.head (omega arith) (Lacks-front 46 e.head_text (58 ∷ 58 ∷ []) (Lacks-front 46 _ e.tail_text both))
+          e.head_groups in
+          let tail : length e.tail_text ≤ 5 * length e.tail =
+          length-groups true [] e.tail_text e.tail (omega arith) (Lacks-back 46 _ e.tail_text both) e.tail_groups in
           let room : length e.head + length e.tail < 8 = e.room in
-          let whole : length text ≡ length e.head_text + 2 + length e.tail_text = ap length e.spelled ∙ length-append (e.head_text ++ (58 ∷ 58 ∷ [])) e.tail_text ∙ ap (λ n. n + length e.tail_text) (length-append e.head_text (58 ∷ 58 ∷ [])) in
+          let whole : length text ≡ length e.head_text + 2 + length e.tail_text =
+          ap length e.spelled ∙ length-append (e.head_text ++ (58 ∷ 58 ∷ [])) e.tail_text ∙
+          ap (λ n. n + length e.tail_text) (length-append e.head_text (58 ∷ 58 ∷ [])) in
           omega arith)
     ]
 

@@ -36,5 +36,6 @@ Decides-key a b =
     let second = Decides-and _ _ (bytes_eq-Decides a.src_addr.0 b.src_addr.0) third in
     let all = Decides-and _ _ (Decides-eqb a.id b.id) second in (
       λ yes. same a b (front (all.0 yes)) (front (back (all.0 yes))) (front (back (back (all.0 yes)))) (back (back (back (all.0 yes)))),
-      λ e. all.1 (both (ap (λ (k : Ipv4FragKey). k.id) e) (both (ap (λ (k : Ipv4FragKey). k.src_addr.0) e) (both (ap (λ (k : Ipv4FragKey). k.dst_addr.0) e) (ap (λ (k : Ipv4FragKey). k.protocol) e)))),
+      λ e. all.1 (both (ap (λ (k : Ipv4FragKey). k.id) e)
+          (both (ap (λ (k : Ipv4FragKey). k.src_addr.0) e) (both (ap (λ (k : Ipv4FragKey). k.dst_addr.0) e) (ap (λ (k : Ipv4FragKey). k.protocol) e)))),
     )

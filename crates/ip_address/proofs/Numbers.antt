@@ -14,7 +14,8 @@ step number n k p q is other = elim (eqb_tells n k) [ inl hit ↦ rw hit.0 (is �
 -- what an Ethernet frame of a number carries has that number
 pub ether_number-ether_of : (n : ℕ) → ether_number (ether_of n) ≡ n
 ether_number-ether_of n =
-    step ether_number n 0x0800 Ether.Ipv4 _ refl (step ether_number n 0x0806 Ether.Arp _ refl (step ether_number n 0x86dd Ether.Ipv6 (Ether.Unknown n) refl refl))
+    step ether_number n 0x0800 Ether.Ipv4 _ refl
+    (step ether_number n 0x0806 Ether.Arp _ refl (step ether_number n 0x86dd Ether.Ipv6 (Ether.Unknown n) refl refl))
 
 -- what an IP packet of a number carries has that number
 pub protocol_number-protocol_of : (n : ℕ) → protocol_number (protocol_of n) ≡ n

@@ -13,7 +13,8 @@ use Rattle.ip_address.proofs.Ipv6Texts.{Lacks-dot, IsCutAtLast-end}
 use Rattle.ip_address.proofs.Texts.{Lacks-digits, IsCutAtLast-unique}
 
 -- the parts at the first place of a byte are determined
-IsCut-unique : (byte : ℕ) (front back first second : List ℕ) → front ++ byte ∷ back ≡ first ++ byte ∷ second → Lacks front byte → Lacks first byte → (front ≡ first) × (back ≡ second)
+IsCut-unique : (byte : ℕ) (front back first second : List ℕ) → front ++ byte ∷ back ≡ first ++ byte ∷ second → Lacks front byte → Lacks first byte →
+    (front ≡ first) × (back ≡ second)
 IsCut-unique byte [] back [] second same lacks other = (refl, cc)
 IsCut-unique byte [] back (b ∷ first) second same lacks other = let head : b ≡ byte = cc in absurd (other 0 (omega arith) head)
 IsCut-unique byte (a ∷ front) back [] second same lacks other = let head : a ≡ byte = cc in absurd (lacks 0 (omega arith) head)
@@ -26,7 +27,8 @@ IsCut-unique byte (a ∷ front) back (b ∷ first) second same lacks other =
 -- a part of an IPv4 address and what stands behind its dot
 IsOctetBefore-unique : (text : List ℕ) (m n : ℕ) (rest other : List ℕ) → IsOctetBefore text m rest → IsOctetBefore text n other → (m ≡ n) × (rest ≡ other)
 IsOctetBefore-unique text m n rest other h k =
-    let both = IsCut-unique 46 h.0 rest k.0 other (sym h.1 ∙ k.1) (Lacks-digits 10 46 h.0 h.2.0.0.0.1 (omega arith)) (Lacks-digits 10 46 k.0 k.2.0.0.0.1 (omega arith)) in
+    let both = IsCut-unique 46 h.0 rest k.0 other (sym h.1 ∙ k.1) (Lacks-digits 10 46 h.0 h.2.0.0.0.1 (omega arith))
+    (Lacks-digits 10 46 k.0 k.2.0.0.0.1 (omega arith)) in
     let first = h.2.0.0.1 in
     let second = k.2.0.0.1 in
     let digits = both.0 in

@@ -75,6 +75,7 @@ Decides-raw a b =
       λ yes. ap (λ n. take n a.bytes) (both.0 yes).1 ∙ ap (λ xs. take b.len xs) (both.0 yes).0,
       λ same.
           let len : a.len ≡ b.len = sym a.whole ∙ ap length same ∙ b.whole in
-          let bytes : a.bytes ≡ b.bytes = sym a.zeros ∙ ap (λ xs. xs ++ replicate (6 - a.len) 0) same ∙ ap (λ n. raw_bytes b ++ replicate (6 - n) 0) len ∙ b.zeros in
+          let bytes : a.bytes ≡ b.bytes = sym a.zeros ∙ ap (λ xs. xs ++ replicate (6 - a.len) 0) same ∙
+          ap (λ n. raw_bytes b ++ replicate (6 - n) 0) len ∙ b.zeros in
           both.1 (bytes, len),
     )

@@ -12,7 +12,8 @@ peel8 bytes i b rest le is after =
     drop_more bytes i 0 le ∙ ap (λ x. x ∷ drop (i + 1) bytes) (sym is) ∙ ap (λ xs. b ∷ xs) after
 
 -- the two bytes of a number
-pub peel16 : (bytes : List ℕ) (i n : ℕ) (rest : List ℕ) → IsBytes bytes → i + 2 ≤ length bytes → n ≡ be16 bytes i → drop (i + 2) bytes ≡ rest → drop i bytes ≡ n / 256 % 256 ∷ n % 256 ∷ rest
+pub peel16 : (bytes : List ℕ) (i n : ℕ) (rest : List ℕ) → IsBytes bytes → i + 2 ≤ length bytes → n ≡ be16 bytes i → drop (i + 2) bytes ≡ rest →
+    drop i bytes ≡ n / 256 % 256 ∷ n % 256 ∷ rest
 peel16 bytes i n rest small le is after =
     let high : get_or bytes i 0 < 256 = small i in
     let low : get_or bytes (i + 1) 0 < 256 = small (i + 1) in
@@ -34,7 +35,8 @@ pub length-slice_range : (bytes : List ℕ) (i k : ℕ) → i ≤ k → k ≤ le
 length-slice_range bytes i k le within = omega (arith, length-take (k - i) (drop i bytes), length-drop i bytes)
 
 -- the four bytes of a number
-pub peel32 : (bytes : List ℕ) (i n : ℕ) (rest : List ℕ) → IsBytes bytes → i + 4 ≤ length bytes → n ≡ be32 bytes i → drop (i + 4) bytes ≡ rest → drop i bytes ≡ to_be_bytes w32 n ++ rest
+pub peel32 : (bytes : List ℕ) (i n : ℕ) (rest : List ℕ) → IsBytes bytes → i + 4 ≤ length bytes → n ≡ be32 bytes i → drop (i + 4) bytes ≡ rest →
+    drop i bytes ≡ to_be_bytes w32 n ++ rest
 peel32 bytes i n rest small le is after =
     let first : get_or bytes i 0 < 256 = small i in
     let second : get_or bytes (i + 1) 0 < 256 = small (i + 1) in

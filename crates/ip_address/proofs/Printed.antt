@@ -1,5 +1,6 @@
 -- What is printed is a text that is read.
-use Rattle.std.proofs.Common.{◌≡◌, ℕ, ◌+◌, ◌*◌, ◌/◌, ◌%◌, ◌^◌, ◌<◌, ◌≤◌, inl, List, [], ◌∷◌, ◌++◌, length, zero, suc, sym, refl, ◌∙◌, ap, ap₂, ◌-◌, ◌≢◌, subst, length-drop, append_assoc, arith, get_or, decimal, inr, take, drop, take-append-drop, All, codes}
+use Rattle.std.proofs.Common.{◌≡◌, ℕ, ◌+◌, ◌*◌, ◌/◌, ◌%◌, ◌^◌, ◌<◌, ◌≤◌, inl, List, [], ◌∷◌, ◌++◌, length, zero, suc, sym, refl, ◌∙◌, ap, ap₂, ◌-◌, ◌≢◌, subst}
+use Rattle.std.proofs.Common.{length-drop, append_assoc, arith, get_or, decimal, inr, take, drop, take-append-drop, All, codes}
 use Rattle.std.specs.Char.{digit_char, digit_value}
 use Rattle.std.specs.Net.Addr.{segments_of, octets_of}
 use Rattle.std.specs.Net.Text.{ipv4_text, ipv6_text}
@@ -13,7 +14,9 @@ use Rattle.std.proofs.lemmas.Str.{digit_value-digit_char}
 use Rattle.ip_address.specs.Address.{IsEthernetAddress, IsIpv4Address, IsIpv6Address, IsIpAddress}
 use Rattle.ip_address.specs.Block.{block_address, block_prefix_len}
 use Rattle.ip_address.specs.Fields.{IsBytes}
-use Rattle.ip_address.specs.Text.{IsDecimal, IsOctet, IsDottedText, IsIpv4BlockText, IsIpv6BlockText, IsIpBlockText, IsIpv4EndpointText, IsHexPair, IsSixPairs, IsEthernetText, hex_pair, ethernet_text, Lacks, IsHexGroups, two_groups, IsGroupsText, IsIpv6Text, IsIpText, ip_text, block_text, ipv4_block_text, ipv6_block_text}
+use Rattle.ip_address.specs.Text.{IsDecimal, IsOctet, IsDottedText, IsIpv4BlockText, IsIpv6BlockText, IsIpBlockText, IsIpv4EndpointText, IsHexPair, IsSixPairs}
+use Rattle.ip_address.specs.Text.{IsEthernetText, hex_pair, ethernet_text, Lacks, IsHexGroups, two_groups, IsGroupsText, IsIpv6Text, IsIpText, ip_text}
+use Rattle.ip_address.specs.Text.{block_text, ipv4_block_text, ipv6_block_text}
 use Rattle.ip_address.proofs.Texts.{Lacks-digits, Lacks-cons, Lacks-append}
 use Rattle.ip_address.specs.declared.ethernet.EthernetAddress.{EthernetAddress}
 use Rattle.ip_address.specs.declared.ip.IpAddress.{IpAddress}
@@ -167,7 +170,13 @@ mapped_groups (a ∷ b ∷ c ∷ d ∷ []) len bytes =
         tail = 0xffff ∷ segments_of (a ∷ b ∷ c ∷ d ∷ []);
         spelled = refl;
         head_groups = refl;
-        tail_groups = inl (102 ∷ 102 ∷ 102 ∷ 102 ∷ [], _, refl, ones, inl (hex_pair a ++ hex_pair b, 58 ∷ (hex_pair c ++ hex_pair d), refl, high, inl (hex_pair c ++ hex_pair d, [], refl, low, refl)));
+        tail_groups = inl (
+          102 ∷ 102 ∷ 102 ∷ 102 ∷ [],
+          _,
+          refl,
+          ones,
+          inl (hex_pair a ++ hex_pair b, 58 ∷ (hex_pair c ++ hex_pair d), refl, high, inl (hex_pair c ++ hex_pair d, [], refl, low, refl)),
+        );
         room = omega arith;
         value = refl;
       }),
@@ -187,17 +196,25 @@ IsGroupsText-printed xs eight fits =
     let o : List ℕ = octets_of (drop 6 xs) in
     let small : (k : ℕ) → get_or (drop 6 xs) k 0 < 2 ^ 16 = AllSegments-drop 6 xs fits in
     let four : length o ≡ 4 = length-octets_of (drop 6 xs) ∙ ap (λ n. 2 * n) (length-drop 6 xs ∙ ap (λ n. n - 6) eight) in
-    let all : xs ≡ 0 ∷ 0 ∷ 0 ∷ 0 ∷ 0 ∷ 0xffff ∷ drop 6 xs = sym (take-append-drop 6 xs) ∙ ap (λ t. t ++ drop 6 xs) ((bytes_eq-Decides (take 6 xs) (0 ∷ 0 ∷ 0 ∷ 0 ∷ 0 ∷ 0xffff ∷ [])).0 mapped) in
+    let all : xs ≡ 0 ∷ 0 ∷ 0 ∷ 0 ∷ 0 ∷ 0xffff ∷ drop 6 xs =
+    sym (take-append-drop 6 xs) ∙ ap (λ t. t ++ drop 6 xs) ((bytes_eq-Decides (take 6 xs) (0 ∷ 0 ∷ 0 ∷ 0 ∷ 0 ∷ 0xffff ∷ [])).0 mapped) in
     let dotted : IsDottedText (ipv4_text o) o = IsDottedText-printed o four (octets_of-small (drop 6 xs) small) in
     let groups : xs ≡ 0 ∷ 0 ∷ 0 ∷ 0 ∷ 0 ∷ 0xffff ∷ segments_of o = all ∙ ap (λ t. 0 ∷ 0 ∷ 0 ∷ 0 ∷ 0 ∷ 0xffff ∷ t) (sym (segments_of-octets_of (drop 6 xs))) in
     let P : List ℕ → Type 0 = λ t. IsHexGroups (codes "::ffff" ++ 58 ∷ two_groups o) t in
-    inr (codes "::ffff" ++ 58 ∷ two_groups o, record { front = codes "::ffff"; tail = ipv4_text o; octets = o; spelled = refl; of_tail = dotted; in_hex = refl }, subst P (sym groups) (mapped_groups o four (octets_of-small (drop 6 xs) small))))
+    inr (
+      codes "::ffff" ++ 58 ∷ two_groups o,
+      record { front = codes "::ffff"; tail = ipv4_text o; octets = o; spelled = refl; of_tail = dotted; in_hex = refl },
+      subst P (sym groups) (mapped_groups o four (octets_of-small (drop 6 xs) small)),
+    ))
     (λ _. inl (Lacks-hex_or_colon _ (All-hex_groups_text xs fits), IsColonHex-hex_groups_text xs eight fits))
 
 -- a printed IPv6 address
 pub IsIpv6Text-printed : (a : Ipv6Address) → IsIpv6Address a → IsIpv6Text (ipv6_text (segments_of a.0)) a
-IsIpv6Text-printed a h =
-    (segments_of a.0, IsGroupsText-printed (segments_of a.0) (length-segments_of 8 a.0 h.0) (segments_of-small a.0 h.1), sym (octets_of-segments_of 8 a.0 h.0 h.1))
+IsIpv6Text-printed a h = (
+  segments_of a.0,
+  IsGroupsText-printed (segments_of a.0) (length-segments_of 8 a.0 h.0) (segments_of-small a.0 h.1),
+  sym (octets_of-segments_of 8 a.0 h.0 h.1),
+)
 
 -- a printed address of either family
 pub IsIpText-printed : (a : IpAddress) → IsIpAddress a → IsIpText (ip_text a) a

@@ -17,13 +17,15 @@ put16-put16 bytes i m n =
     ap (λ xs. set xs (i + 1) (n % 256)) swapped ∙ set-set (set bytes i (n / 256 % 256)) (i + 1) (m % 256) (n % 256)
 
 -- a field is cleared, then filled with a value of the bytes
-pub put16-cleared : (value_of : List ℕ → ℕ) (at : ℕ) (old cleared new : List ℕ) (value : ℕ) → cleared ≡ put16 old at 0 → value ≡ value_of cleared → new ≡ put16 cleared at value
+pub put16-cleared : (value_of : List ℕ → ℕ) (at : ℕ) (old cleared new : List ℕ) (value : ℕ) → cleared ≡ put16 old at 0 → value ≡ value_of cleared →
+    new ≡ put16 cleared at value
     → new ≡ put16 old at (value_of (put16 old at 0))
 put16-cleared value_of at old cleared new value first is last =
     last ∙ ap (λ n. put16 cleared at n) is ∙ ap (λ xs. put16 xs at (value_of xs)) first ∙ put16-put16 old at 0 (value_of (put16 old at 0))
 
 -- a checksum's field is cleared, then filled with the complement of the sum of what the checksum covers
-pub put16-complement : (covered : List ℕ → ℕ) (at : ℕ) (old cleared new : List ℕ) (sum : ℕ) → cleared ≡ put16 old at 0 → sum ≡ folded (covered cleared) → new ≡ put16 cleared at (65535 - sum)
+pub put16-complement : (covered : List ℕ → ℕ) (at : ℕ) (old cleared new : List ℕ) (sum : ℕ) → cleared ≡ put16 old at 0 → sum ≡ folded (covered cleared) →
+    new ≡ put16 cleared at (65535 - sum)
     → new ≡ put16 old at (complement (covered (put16 old at 0)))
 put16-complement covered at old cleared new sum first is last =
     put16-cleared (λ xs. complement (covered xs)) at old cleared new (65535 - sum) first (ap (λ n. 65535 - n) is) last
@@ -41,7 +43,8 @@ put16-second bytes i n within =
 -- all other bytes stay
 pub put16-elsewhere : (bytes : List ℕ) (i place n : ℕ) → (place < i) ⊎ (i + 2 ≤ place) → slice_index (put16 bytes i n) place ≡ slice_index bytes place
 put16-elsewhere bytes i place n apart =
-    get_or-set_other (set bytes i (n / 256 % 256)) (i + 1) place (n % 256) 0 (λ e. omega arith) ∙ get_or-set_other bytes i place (n / 256 % 256) 0 (λ e. omega arith)
+    get_or-set_other (set bytes i (n / 256 % 256)) (i + 1) place (n % 256) 0 (λ e. omega arith) ∙
+    get_or-set_other bytes i place (n / 256 % 256) 0 (λ e. omega arith)
 
 pub put32-elsewhere : (bytes : List ℕ) (i place n : ℕ) → (place < i) ⊎ (i + 4 ≤ place) → slice_index (put32 bytes i n) place ≡ slice_index bytes place
 put32-elsewhere bytes i place n apart =

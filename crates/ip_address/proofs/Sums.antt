@@ -1,5 +1,6 @@
 -- Laws of word sums and of their folding to 16 bits.
-use Rattle.std.proofs.Common.{◌≡◌, ◌≢◌, ℕ, ◌+◌, ◌-◌, ◌*◌, ◌/◌, ◌%◌, ◌^◌, ◌<◌, ◌≤◌, List, [], ◌∷◌, ◌++◌, length, zero, suc, refl, sym, ◌∙◌, ap, arith, ◌↔◌, take, drop, length-append}
+use Rattle.std.proofs.Common.{◌≡◌, ◌≢◌, ℕ, ◌+◌, ◌-◌, ◌*◌, ◌/◌, ◌%◌, ◌^◌, ◌<◌, ◌≤◌, List, [], ◌∷◌, ◌++◌, length, zero, suc, refl, sym, ◌∙◌, ap, arith, ◌↔◌, take}
+use Rattle.std.proofs.Common.{drop, length-append}
 use Rattle.std.proofs.lemmas.List.{take-append-drop}
 use Rattle.std.specs.Int.{w32, w64, from_le_bytes, to_be_bytes}
 use Rattle.ip_address.specs.Pseudo.{pseudo_v6}
@@ -63,7 +64,8 @@ from_le_bytes-low_first (a ∷ b ∷ c ∷ d ∷ e ∷ f ∷ g ∷ h ∷ []) len
 from_le_bytes-low_first _ len = absurd (omega arith)
 
 -- the first four bytes added to the rest, which are again low bytes first
-pub low_first-fours : (x y : ℕ) (front bytes tail : List ℕ) → x ≡ from_le_bytes w32 front → y ≡ low_first tail → front ≡ take 4 bytes → tail ≡ drop 4 bytes → length tail + 4 ≡ length bytes
+pub low_first-fours : (x y : ℕ) (front bytes tail : List ℕ) → x ≡ from_le_bytes w32 front → y ≡ low_first tail → front ≡ take 4 bytes → tail ≡ drop 4 bytes →
+    length tail + 4 ≡ length bytes
     → folded (256 * (x + y)) ≡ folded (word_sum bytes)
 low_first-fours x y front bytes tail first second taken left len =
     let joined : front ++ tail ≡ bytes = rw (taken, left) (take-append-drop 4 bytes) in
@@ -75,7 +77,8 @@ low_first-fours x y front bytes tail first second taken left len =
     ap folded parts ∙ folded-both _ _ _ _ (folded-low_first front) (folded-low_first tail) ∙ ap folded sums
 
 -- a step of the sum over the first eight bytes of the rest
-pub low_first-step : (total x : ℕ) (front rest tail : List ℕ) (all : ℕ) → x ≡ from_le_bytes w64 front → front ≡ take 8 rest → tail ≡ drop 8 rest → length tail + 8 ≡ length rest
+pub low_first-step : (total x : ℕ) (front rest tail : List ℕ) (all : ℕ) → x ≡ from_le_bytes w64 front → front ≡ take 8 rest → tail ≡ drop 8 rest →
+    length tail + 8 ≡ length rest
     → folded (256 * total + word_sum rest) ≡ all → folded (256 * (total + x) + word_sum tail) ≡ all
 low_first-step total x front rest tail all is first last len before =
     let joined : front ++ tail ≡ rest = rw (first, last) (take-append-drop 8 rest) in

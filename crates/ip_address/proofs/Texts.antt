@@ -1,5 +1,6 @@
 -- Laws of the texts of addresses.
-use Rattle.std.proofs.Common.{◌≡◌, ◌≢◌, ℕ, ◌+◌, ◌<◌, ◌≤◌, ◌⊎◌, inl, inr, List, [], ◌∷◌, ◌++◌, length, zero, suc, sym, refl, ◌∙◌, ap, ap₂, arith, get_or, subst, take, drop, take-append-drop, Option, Some, None, Result, Ok}
+use Rattle.std.proofs.Common.{◌≡◌, ◌≢◌, ℕ, ◌+◌, ◌<◌, ◌≤◌, ◌⊎◌, inl, inr, List, [], ◌∷◌, ◌++◌, length, zero, suc, sym, refl, ◌∙◌, ap, ap₂, arith, get_or, subst}
+use Rattle.std.proofs.Common.{take, drop, take-append-drop, Option, Some, None, Result, Ok}
 use Rattle.std.specs.Prelude.{MatchOption, MatchResult, IsSome, IfSome, IsSomeAnd, IsOk, IfOk, IsOkAnd, IsUtf8, Err}
 use Rattle.std.specs.Str.{IsAscii}
 use Rattle.std.proofs.lemmas.Str.{IsUtf8-from_ascii}
@@ -14,7 +15,8 @@ use Rattle.ip_address.specs.Text.{Reads, Lacks, IsCut, IsCutAtLast, IsOctetBefor
 -- digits lack what is no digit
 pub Lacks-digits : (radix byte : ℕ) (text : List ℕ) → AllDigits radix text → radix ≤ digit_value byte → Lacks text byte
 Lacks-digits radix byte [] digits other i less = absurd (omega arith)
-Lacks-digits radix byte (c ∷ text) digits other zero less = λ same. let h : digit_value c < radix = digits.0 in let e : digit_value c ≡ digit_value byte = ap digit_value same in omega arith
+Lacks-digits radix byte (c ∷ text) digits other zero less = λ same. let h : digit_value c < radix = digits.0 in let e : digit_value c ≡ digit_value byte =
+    ap digit_value same in omega arith
 Lacks-digits radix byte (c ∷ text) digits other (suc i) less = Lacks-digits radix byte text digits.1 other i (omega arith)
 
 -- one more byte that is not it
@@ -44,7 +46,8 @@ Lacks-joined byte [] back lacks = lacks 0 (omega arith) refl
 Lacks-joined byte (b ∷ front) back lacks = Lacks-joined byte front back (λ i less. lacks (suc i) (omega arith))
 
 -- an octet and a dot
-Lacks-octet_before : (byte : ℕ) (text : List ℕ) (n : ℕ) (rest : List ℕ) → 10 ≤ digit_value byte → 46 ≢ byte → IsOctetBefore text n rest → Lacks rest byte → Lacks text byte
+Lacks-octet_before : (byte : ℕ) (text : List ℕ) (n : ℕ) (rest : List ℕ) → 10 ≤ digit_value byte → 46 ≢ byte → IsOctetBefore text n rest → Lacks rest byte →
+    Lacks text byte
 Lacks-octet_before byte text n rest other dot h after =
     let P : List ℕ → Type 0 = λ t. Lacks t byte in
     subst P (sym h.1) (Lacks-append byte h.0 (46 ∷ rest) (Lacks-digits 10 byte h.0 h.2.0.0.0.1 other) (Lacks-cons byte 46 rest dot after))
@@ -66,17 +69,21 @@ abbrev Parts : Type 0
 Parts = Option (Bor (List ℕ) × Bor (List ℕ))
 
 -- the parts before and after a byte are a cut
-pub IsCut-parts : (byte : ℕ) (text : List ℕ) (P : Type 0) (r : Parts) → MatchOption r P (λ x. (text ≡ x.0.now ++ (byte ∷ x.1.now)) × ((i : ℕ) → i < length x.0.now → get_or x.0.now i 0 ≢ byte)) → IfSome r (λ p. IsCut byte text p.0.now p.1.now)
+pub IsCut-parts : (byte : ℕ) (text : List ℕ) (P : Type 0) (r : Parts) →
+    MatchOption r P (λ x. (text ≡ x.0.now ++ (byte ∷ x.1.now)) × ((i : ℕ) → i < length x.0.now → get_or x.0.now i 0 ≢ byte)) →
+    IfSome r (λ p. IsCut byte text p.0.now p.1.now)
 IsCut-parts byte text P None h = tt
 IsCut-parts byte text P (Some p) h = record { joined = h.0; first = h.1 }
 
 -- parts that are these two are there
-pub IsSomeAnd-parts : (front back : List ℕ) (r : Parts) → MatchOption r ⊥ (λ x. (x.0.now ≡ front) × (x.1.now ≡ back)) → IsSomeAnd r (λ p. (p.0.now ≡ front) × (p.1.now ≡ back))
+pub IsSomeAnd-parts : (front back : List ℕ) (r : Parts) → MatchOption r ⊥ (λ x. (x.0.now ≡ front) × (x.1.now ≡ back)) →
+    IsSomeAnd r (λ p. (p.0.now ≡ front) × (p.1.now ≡ back))
 IsSomeAnd-parts front back None h = h
 IsSomeAnd-parts front back (Some p) h = h
 
 -- the parts at the last place of a byte are determined
-pub IsCutAtLast-unique : (byte : ℕ) (front back first second : List ℕ) → front ++ byte ∷ back ≡ first ++ byte ∷ second → Lacks back byte → Lacks second byte → (front ≡ first) × (back ≡ second)
+pub IsCutAtLast-unique : (byte : ℕ) (front back first second : List ℕ) → front ++ byte ∷ back ≡ first ++ byte ∷ second → Lacks back byte → Lacks second byte →
+    (front ≡ first) × (back ≡ second)
 IsCutAtLast-unique byte [] back [] second same lacks other = (refl, cc)
 IsCutAtLast-unique byte [] back (b ∷ first) second same lacks other =
     let P : List ℕ → Type 0 = λ t. Lacks t byte in
@@ -96,10 +103,12 @@ IsCutAtLast-unique byte (a ∷ front) back (b ∷ first) second same lacks other
 abbrev pub IsRsplitOnceResult : ℕ → List ℕ → Parts → Type 0
 IsRsplitOnceResult c bs r =
     MatchOption r (RFindsChar c bs None)
-    (λ x. (i : ℕ) × (j : ℕ) × RFindsChar c bs (Some (i, j)) × (x.0.now ≡ take i bs) × (x.1.now ≡ drop j bs) × (i ≤ j) × (length x.0.now ≡ i) × (length x.1.now + j ≡ length bs))
+    (λ x. (i : ℕ) × (j : ℕ) × RFindsChar c bs (Some (i, j)) × (x.0.now ≡ take i bs) × (x.1.now ≡ drop j bs) × (i ≤ j) × (length x.0.now ≡ i) ×
+    (length x.1.now + j ≡ length bs))
 
 -- they are a cut at the last such byte
-pub IsCutAtLast-parts : (byte : ℕ) (text : List ℕ) (r : Parts) → IsRsplitOnceResult byte text r → byte < 128 → IfSome r (λ p. IsCutAtLast byte text p.0.now p.1.now)
+pub IsCutAtLast-parts : (byte : ℕ) (text : List ℕ) (r : Parts) → IsRsplitOnceResult byte text r → byte < 128 →
+    IfSome r (λ p. IsCutAtLast byte text p.0.now p.1.now)
 IsCutAtLast-parts byte text None h small = tt
 IsCutAtLast-parts byte text (Some p) h small =
     let i : ℕ = h.0 in
@@ -136,10 +145,12 @@ pub ReadsBlock-ok_or : {A B E : Type 0} (IsTextOf : A → ℕ → Type 0) (addre
     → IfSome o (λ b. IsTextOf (address b) (len b)) → ((a : A) (n : ℕ) → IsTextOf a n → IsSomeAnd o (λ b. (address b ≡ a) × (len b ≡ n)))
     → IfOk r (λ b. IsTextOf (address b) (len b)) × ((a : A) (n : ℕ) → IsTextOf a n → IsOkAnd r (λ b. (address b ≡ a) × (len b ≡ n)))
 ReadsBlock-ok_or {A} {B} {E} IsTextOf address len None e r is found only =
-    let P : Result B E → Type 0 = λ x. IfOk x (λ b. IsTextOf (address b) (len b)) × ((a : A) (n : ℕ) → IsTextOf a n → IsOkAnd x (λ b. (address b ≡ a) × (len b ≡ n))) in
+    let P : Result B E → Type 0 = λ x. IfOk x (λ b. IsTextOf (address b) (len b)) ×
+    ((a : A) (n : ℕ) → IsTextOf a n → IsOkAnd x (λ b. (address b ≡ a) × (len b ≡ n))) in
     subst P (sym is) (tt, λ a n h. absurd (only a n h))
 ReadsBlock-ok_or {A} {B} {E} IsTextOf address len (Some x) e r is found only =
-    let P : Result B E → Type 0 = λ y. IfOk y (λ b. IsTextOf (address b) (len b)) × ((a : A) (n : ℕ) → IsTextOf a n → IsOkAnd y (λ b. (address b ≡ a) × (len b ≡ n))) in
+    let P : Result B E → Type 0 = λ y. IfOk y (λ b. IsTextOf (address b) (len b)) ×
+    ((a : A) (n : ℕ) → IsTextOf a n → IsOkAnd y (λ b. (address b ≡ a) × (len b ≡ n))) in
     subst P (sym is) (found, only)
 
 -- what holds of each value that is there
@@ -149,14 +160,16 @@ IfSome-map P Q (Some a) step h = step a h
 
 -- the separators of Ethernet addresses are no hex digits
 separator-other : (separator : ℕ) → (separator ≡ 45) ⊎ (separator ≡ 58) → 16 ≤ digit_value separator
-separator-other separator h = let P : ℕ → Type 0 = λ s. 16 ≤ digit_value s in elim h [ inl e ↦ subst P (sym e) (omega arith) | inr e ↦ subst P (sym e) (omega arith) ]
+separator-other separator h = let P : ℕ →
+    Type 0 = λ s. 16 ≤ digit_value s in elim h [ inl e ↦ subst P (sym e) (omega arith) | inr e ↦ subst P (sym e) (omega arith) ]
 
 -- one or two hex digits lack a separator
 pub Lacks-hex : (separator : ℕ) (text : List ℕ) (n : ℕ) → (separator ≡ 45) ⊎ (separator ≡ 58) → IsHexPair text n → Lacks text separator
 Lacks-hex separator text n h pair = Lacks-digits 16 separator text pair.0.0.1 (separator-other separator h)
 
 -- a pair and a separator, before a text that lacks the byte
-Lacks-pair_before : (byte separator : ℕ) (text : List ℕ) (n : ℕ) (rest : List ℕ) → 16 ≤ digit_value byte → separator ≢ byte → IsHexPairBefore separator text n rest → Lacks rest byte → Lacks text byte
+Lacks-pair_before : (byte separator : ℕ) (text : List ℕ) (n : ℕ) (rest : List ℕ) → 16 ≤ digit_value byte → separator ≢ byte →
+    IsHexPairBefore separator text n rest → Lacks rest byte → Lacks text byte
 Lacks-pair_before byte separator text n rest other apart h after =
     let P : List ℕ → Type 0 = λ t. Lacks t byte in
     subst P (sym h.1) (Lacks-append byte h.0 (separator ∷ rest) (Lacks-digits 16 byte h.0 h.2.0.0.1 other) (Lacks-cons byte separator rest apart after))
@@ -164,7 +177,8 @@ Lacks-pair_before byte separator text n rest other apart h after =
 -- six pairs with colons between them have no dash
 Lacks-six : (text octets : List ℕ) → IsSixPairs 58 text octets → Lacks text 45
 Lacks-six text octets h =
-    let step = λ (t : List ℕ) (n : ℕ) (rest : List ℕ) (before : IsHexPairBefore 58 t n rest) (after : Lacks rest 45). Lacks-pair_before 45 58 t n rest (omega arith) (λ e. omega arith) before after in
+    let step = λ (t : List ℕ) (n : ℕ) (rest : List ℕ) (before : IsHexPairBefore 58 t n rest) (after : Lacks rest 45).
+    Lacks-pair_before 45 58 t n rest (omega arith) (λ e. omega arith) before after in
     step text h.a h.after_a h.first (step h.after_a h.b h.after_b h.second (step h.after_b h.c h.after_c h.third (step h.after_c h.d h.after_d h.fourth
     (step h.after_d h.e h.after_e h.fifth (Lacks-digits 16 45 h.after_e h.sixth.0.0.1 (omega arith))))))
 
@@ -175,7 +189,8 @@ IsSixPairs-apart text octets others h k =
     Lacks-joined 45 h.first.0 h.after_a (subst P h.first.1 (Lacks-six text others k))
 
 -- bytes of ASCII are a text
-pub IsOk-ascii : {A E : Type 0} (bytes : List ℕ) (P : A → Type 0) (Q : E → Type 0) (r : Result A E) → MatchResult r P (λ e. ¬ (IsUtf8 bytes) × Q e) → IsAscii bytes → IsOk r
+pub IsOk-ascii : {A E : Type 0} (bytes : List ℕ) (P : A → Type 0) (Q : E → Type 0) (r : Result A E) → MatchResult r P (λ e. ¬ (IsUtf8 bytes) × Q e) →
+    IsAscii bytes → IsOk r
 IsOk-ascii bytes P Q (Ok x) h ascii = refl
 IsOk-ascii bytes P Q (Err e) h ascii = absurd (h.0 (IsUtf8-from_ascii bytes ascii))
 

@@ -1,6 +1,7 @@
 -- The tests of addresses as truth values, with which functions of values compute. What each of them means stands in
 -- `Address` and `Block`; the calls' contracts name both.
-use Rattle.std.specs.Prelude.{ℕ, ◌-◌, ◌/◌, ◌%◌, ◌^◌, ◌==◌, ◌&&◌, ◌||◌, not, Bool, true, false, Option, Some, None, if◌then◌else◌, nat_le, ◌∷◌, [], ◌++◌, replicate, take, slice_index, bit_xor}
+use Rattle.std.specs.Prelude.{ℕ, ◌-◌, ◌/◌, ◌%◌, ◌^◌, ◌==◌, ◌&&◌, ◌||◌, not, Bool, true, false, Option, Some, None, if◌then◌else◌, nat_le, ◌∷◌, [], ◌++◌}
+use Rattle.std.specs.Prelude.{replicate, take, slice_index, bit_xor}
 use Rattle.std.specs.Int.{w128, leading_zeros}
 use Rattle.std.specs.Str.{bytes_eq}
 use Rattle.byteorder.specs.Endian.{big_bytes}

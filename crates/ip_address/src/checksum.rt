@@ -212,13 +212,16 @@ const fn add_u32(a: u32, b: u32) -> u32
 /// length.
 pub fn joined()
     ensures words { (front back : List ℕ) → length front % 2 ≡ 0 → word_sum (front ++ back) ≡ word_sum front + word_sum back }
-    ensures sums { (front back : List ℕ) → length front % 2 ≡ 0 → folded (word_sum (front ++ back)) ≡ folded (folded (word_sum front) + folded (word_sum back)) }
+    ensures sums { (front back : List ℕ) → length front % 2 ≡ 0 →
+        folded (word_sum (front ++ back)) ≡ folded (folded (word_sum front) + folded (word_sum back)) }
 {}
 
 /// Law: the sum of what the checksum of a protocol above IP covers is the combination of the sums of
 /// the pseudo header and of the packet.
 pub fn covered_combines()
-    ensures { (source destination : IpAddress) (protocol : ℕ) (packet : List ℕ) → folded (folded (word_sum (pseudo_of source destination protocol (length packet))) + folded (word_sum packet)) ≡ folded (covered source destination protocol packet) }
+    ensures { (source destination : IpAddress) (protocol : ℕ) (packet : List ℕ) →
+        folded (folded (word_sum (pseudo_of source destination protocol (length packet))) + folded (word_sum packet)) ≡
+        folded (covered source destination protocol packet) }
 {}
 
 /// Law: a checksum holds exactly where the sum of all that it covers is `0xffff`.
@@ -234,5 +237,6 @@ pub fn complement_holds()
 /// Law: a checksum that holds fails once one aligned word that it covers is replaced by a number
 /// that is not congruent to it modulo 65535. `covered` is the sum of what else it covers.
 pub fn changed_word_fails()
-    ensures { (covered : ℕ) (bytes : List ℕ) (i n : ℕ) → i % 2 ≡ 0 → i + 2 ≤ length bytes → n < 2 ^ 16 → be16 bytes i % 65535 ≢ n % 65535 → ChecksumHolds (covered + word_sum bytes) → ¬ (ChecksumHolds (covered + word_sum (put16 bytes i n))) }
+    ensures { (covered : ℕ) (bytes : List ℕ) (i n : ℕ) → i % 2 ≡ 0 → i + 2 ≤ length bytes → n < 2 ^ 16 → be16 bytes i % 65535 ≢ n % 65535 →
+        ChecksumHolds (covered + word_sum bytes) → ¬ (ChecksumHolds (covered + word_sum (put16 bytes i n))) }
 {}

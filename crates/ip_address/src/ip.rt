@@ -7,7 +7,8 @@ ghost use Rattle.ip_address.specs.Address.{version_of, IsUnspecified, IsMulticas
 ghost use Rattle.ip_address.specs.AddressTests.{is_unspecified, is_multicast, is_broadcast, is_unicast, is_in_block};
 ghost use Rattle.ip_address.specs.Block.{width_of, block_address, block_prefix_len, IsBlock, IsIn, IsWithin};
 ghost use Rattle.ip_address.specs.Protocol.{protocol_number, protocol_of};
-ghost use Rattle.ip_address.specs.Text.{Reads, IsIpText, ReadsIpBlock, IsEndpointText, ip_text, block_text, endpoint_text, listen_endpoint_text, version_text, protocol_text};
+ghost use Rattle.ip_address.specs.Text.{Reads, IsIpText, ReadsIpBlock, IsEndpointText, ip_text, block_text, endpoint_text, listen_endpoint_text, version_text};
+ghost use Rattle.ip_address.specs.Text.{protocol_text};
 
 use crate::Error;
 use crate::ipv4::{Ipv4Address, Ipv4Cidr};

@@ -1,7 +1,8 @@
 //! IPv6 addresses and blocks of them.
 ghost use Rattle.std.specs.Prelude.{◌≡◌, ◌↔◌, ◌-◌, ◌^◌, ◌≤◌, ◌==◌, ◌/◌, ◌%◌, ◌∷◌, [], IsTrue, Some};
 ghost use Rattle.std.specs.Net.Addr.{octets_of};
-ghost use Rattle.ip_address.specs.Address.{v6_number, IsIpv6Address, IsUnspecifiedV6, IsLoopbackV6, IsMulticastV6, IsLinkLocal, IsUnicastV6, IsMaskV6, scope_of, IsSolicitedNode, solicited_of};
+ghost use Rattle.ip_address.specs.Address.{v6_number, IsIpv6Address, IsUnspecifiedV6, IsLoopbackV6, IsMulticastV6, IsLinkLocal, IsUnicastV6, IsMaskV6};
+ghost use Rattle.ip_address.specs.Address.{scope_of, IsSolicitedNode, solicited_of};
 
 use crate::ip::AddressExt;
 use crate::text::{colon_hex, ipv6_block};

@@ -4,8 +4,12 @@
 ghost use Rattle.std.specs.Prelude.{◌≡◌, ◌↔◌, ℕ, IsTrue, None, ◌∷◌, ◌++◌, []};
 ghost use Rattle.std.specs.Cmp.{IsTotalOrder};
 ghost use Rattle.std.specs.Net.Addr.{octets_of};
-ghost use Rattle.ip_address.specs.Address.{IsEthernetBroadcast, IsEthernetMulticast, IsEthernetUnicast, IsHardwareUnicast, version_of, IsUnspecified, IsMulticast, IsBroadcast, IsUnicast, IsUnspecifiedV4, IsLoopbackV4, IsBroadcastV4, IsUnspecifiedV6, IsLoopbackV6, solicited_prefix};
-ghost use Rattle.ip_address.specs.AddressTests.{is_ethernet_broadcast, is_ethernet_multicast, is_ethernet_unicast, is_hardware_unicast, is_same_hardware, is_unspecified, is_multicast, is_broadcast, is_unicast, is_loopback, is_in_block, are_of_one_family, is_same_address};
+ghost use Rattle.ip_address.specs.Address.{IsEthernetBroadcast, IsEthernetMulticast, IsEthernetUnicast, IsHardwareUnicast, version_of, IsUnspecified};
+ghost use Rattle.ip_address.specs.Address.{IsMulticast, IsBroadcast, IsUnicast, IsUnspecifiedV4, IsLoopbackV4, IsBroadcastV4, IsUnspecifiedV6, IsLoopbackV6};
+ghost use Rattle.ip_address.specs.Address.{solicited_prefix};
+ghost use Rattle.ip_address.specs.AddressTests.{is_ethernet_broadcast, is_ethernet_multicast, is_ethernet_unicast, is_hardware_unicast, is_same_hardware};
+ghost use Rattle.ip_address.specs.AddressTests.{is_unspecified, is_multicast, is_broadcast, is_unicast, is_loopback, is_in_block, are_of_one_family};
+ghost use Rattle.ip_address.specs.AddressTests.{is_same_address};
 ghost use Rattle.ip_address.specs.Block.{IsBlock, IsIn};
 ghost use Rattle.ip_address.specs.Hardware.{raw_bytes};
 ghost use Rattle.ip_address.specs.Order.{Agree, hash_after};

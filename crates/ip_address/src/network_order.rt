@@ -59,14 +59,20 @@ pub fn written_numbers_are_read()
     ensures two { (bytes : List ℕ) (at value : ℕ) → at + 2 ≤ length bytes → value < 2 ^ 16 → be16 (put16 bytes at value) at ≡ value }
     ensures four { (bytes : List ℕ) (at value : ℕ) → at + 4 ≤ length bytes → value < 2 ^ 32 → be32 (put32 bytes at value) at ≡ value }
     ensures one_elsewhere { (bytes : List ℕ) (at place value : ℕ) → place ≢ at → slice_index (put8 bytes at value) place ≡ slice_index bytes place }
-    ensures two_elsewhere { (bytes : List ℕ) (at place value : ℕ) → (place < at) ⊎ (at + 2 ≤ place) → slice_index (put16 bytes at value) place ≡ slice_index bytes place }
-    ensures four_elsewhere { (bytes : List ℕ) (at place value : ℕ) → (place < at) ⊎ (at + 4 ≤ place) → slice_index (put32 bytes at value) place ≡ slice_index bytes place }
+    ensures two_elsewhere { (bytes : List ℕ) (at place value : ℕ) → (place < at) ⊎ (at + 2 ≤ place) →
+        slice_index (put16 bytes at value) place ≡ slice_index bytes place }
+    ensures four_elsewhere { (bytes : List ℕ) (at place value : ℕ) → (place < at) ⊎ (at + 4 ≤ place) →
+        slice_index (put32 bytes at value) place ≡ slice_index bytes place }
 {}
 
 /// Law: what stands from a place on is the bytes of the field there, then what stands behind it.
 pub fn fields_stand_in_turn()
-    ensures one { (bytes : List ℕ) (at value : ℕ) (rest : List ℕ) → at < length bytes → value ≡ slice_index bytes at → drop (at + 1) bytes ≡ rest → drop at bytes ≡ value ∷ rest }
-    ensures two { (bytes : List ℕ) (at value : ℕ) (rest : List ℕ) → IsBytes bytes → at + 2 ≤ length bytes → value ≡ be16 bytes at → drop (at + 2) bytes ≡ rest → drop at bytes ≡ to_be_bytes w16 value ++ rest }
-    ensures four { (bytes : List ℕ) (at value : ℕ) (rest : List ℕ) → IsBytes bytes → at + 4 ≤ length bytes → value ≡ be32 bytes at → drop (at + 4) bytes ≡ rest → drop at bytes ≡ to_be_bytes w32 value ++ rest }
-    ensures run { (bytes : List ℕ) (at end : ℕ) (field rest : List ℕ) → at ≤ end → field ≡ slice_range bytes at end → drop end bytes ≡ rest → drop at bytes ≡ field ++ rest }
+    ensures one { (bytes : List ℕ) (at value : ℕ) (rest : List ℕ) → at < length bytes → value ≡ slice_index bytes at → drop (at + 1) bytes ≡ rest →
+        drop at bytes ≡ value ∷ rest }
+    ensures two { (bytes : List ℕ) (at value : ℕ) (rest : List ℕ) → IsBytes bytes → at + 2 ≤ length bytes → value ≡ be16 bytes at → drop (at + 2) bytes ≡ rest →
+        drop at bytes ≡ to_be_bytes w16 value ++ rest }
+    ensures four { (bytes : List ℕ) (at value : ℕ) (rest : List ℕ) → IsBytes bytes → at + 4 ≤ length bytes → value ≡ be32 bytes at →
+        drop (at + 4) bytes ≡ rest → drop at bytes ≡ to_be_bytes w32 value ++ rest }
+    ensures run { (bytes : List ℕ) (at end : ℕ) (field rest : List ℕ) → at ≤ end → field ≡ slice_range bytes at end → drop end bytes ≡ rest →
+        drop at bytes ≡ field ++ rest }
 {}

@@ -6,7 +6,10 @@ ghost use Rattle.std.specs.Str.{IsAscii};
 ghost use Rattle.std.specs.Net.Addr.{octets_of, segments_of};
 ghost use Rattle.std.specs.Net.Text.{ipv4_text, ipv6_text};
 ghost use Rattle.ip_address.specs.Address.{IsEthernetAddress, IsIpv4Address, IsIpv6Address, IsIpAddress};
-ghost use Rattle.ip_address.specs.Text.{IsCut, IsCutAtLast, IsDecimal, IsOctet, IsOctetBefore, IsIpv4Text, IsIpv4BlockText, IsIpv4EndpointText, ipv4_block_text, IsHexPair, IsHexPairBefore, IsSixPairs, IsEthernetText, hex_pair, ethernet_text, IsHexGroups, two_groups, IsDottedEnd, IsIpv6Text, IsIpv6BlockText, ipv6_block_text, ip_text, block_text, IsIpText, IsIpBlockText, IsIpv6EndpointText, IsEndpointText};
+ghost use Rattle.ip_address.specs.Text.{IsCut, IsCutAtLast, IsDecimal, IsOctet, IsOctetBefore, IsIpv4Text, IsIpv4BlockText, IsIpv4EndpointText};
+ghost use Rattle.ip_address.specs.Text.{ipv4_block_text, IsHexPair, IsHexPairBefore, IsSixPairs, IsEthernetText, hex_pair, ethernet_text, IsHexGroups};
+ghost use Rattle.ip_address.specs.Text.{two_groups, IsDottedEnd, IsIpv6Text, IsIpv6BlockText, ipv6_block_text, ip_text, block_text, IsIpText, IsIpBlockText};
+ghost use Rattle.ip_address.specs.Text.{IsIpv6EndpointText, IsEndpointText};
 ghost use Rattle.ip_address.specs.Block.{width_of, block_address, block_prefix_len};
 
 use crate::ethernet::EthernetAddress;

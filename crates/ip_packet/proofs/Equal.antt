@@ -37,7 +37,8 @@ Decides-udp a b = search rules
 pub Decides-piece : (a b : Ipv4Piece) → Decides (Piece.ghosts.eq a b) (a ≡ b)
 Decides-piece a b = search rules
 
-same-v4 : (a b : Ipv4Repr) → a.src_addr.0 ≡ b.src_addr.0 → a.dst_addr.0 ≡ b.dst_addr.0 → a.next_header ≡ b.next_header → a.payload_len ≡ b.payload_len → a.hop_limit ≡ b.hop_limit → a.ident ≡ b.ident
+same-v4 : (a b : Ipv4Repr) → a.src_addr.0 ≡ b.src_addr.0 → a.dst_addr.0 ≡ b.dst_addr.0 → a.next_header ≡ b.next_header → a.payload_len ≡ b.payload_len →
+    a.hop_limit ≡ b.hop_limit → a.ident ≡ b.ident
     → a.dont_frag ≡ b.dont_frag → a ≡ b
 same-v4 a b e f g h k l m = λ i. record {
   src_addr = record { 0 = e i };
@@ -68,7 +69,8 @@ Decides-v4 a b =
           all.1 (both (ap (λ (v : Ipv4Repr). v.src_addr.0) e) (both (ap (λ (v : Ipv4Repr). v.dst_addr.0) e) middle)),
     )
 
-same-v6 : (a b : Ipv6Repr) → a.src_addr.0 ≡ b.src_addr.0 → a.dst_addr.0 ≡ b.dst_addr.0 → a.next_header ≡ b.next_header → a.payload_len ≡ b.payload_len → a.hop_limit ≡ b.hop_limit → a ≡ b
+same-v6 : (a b : Ipv6Repr) → a.src_addr.0 ≡ b.src_addr.0 → a.dst_addr.0 ≡ b.dst_addr.0 → a.next_header ≡ b.next_header → a.payload_len ≡ b.payload_len →
+    a.hop_limit ≡ b.hop_limit → a ≡ b
 same-v6 a b e f g h k = λ i. record {
   src_addr = record { 0 = e i };
   dst_addr = record { 0 = f i };

@@ -8,7 +8,11 @@ use Rattle.ip_packet.specs.Parts.{has_flag}
 
 -- a set bit counts with its weight
 weighs : (n weight : ℕ) → (if n % 2 == 1 then weight else 0) ≡ n % 2 * weight
-weighs n weight = elim (eqb_tells (n % 2) 1) [ inl hit ↦ rw hit.0 (rw hit.1 (omega arith)) | inr miss ↦ let none : n % 2 ≡ 0 = omega (arith, miss.1) in rw miss.0 (rw none (omega arith)) ]
+weighs n weight = elim (eqb_tells (n % 2) 1) [
+  | inl hit ↦ rw hit.0 (rw hit.1 (omega arith))
+  | inr miss ↦ let none : n % 2 ≡ 0 = omega (arith, miss.1) in
+      rw miss.0 (rw none (omega arith))
+]
 
 -- the flags and the offset that were read make the field that they were read from
 pub field-read : (bytes : List ℕ) (dont_frag : Bool) → IsBytes bytes → dont_frag ≡ has_flag (slice_index bytes 6) 64

@@ -7,7 +7,8 @@ pub joined-front : (a b first source destination old rest : List ℕ) → a ≡ 
     → a ++ b ≡ (first ++ (source ++ destination)) ++ drop 40 old
 joined-front a b first source destination old rest front addresses behind =
     let deep : drop 16 (drop 16 rest) ≡ drop 40 old = ap (λ xs. drop 16 (drop 16 xs)) behind ∙ ap (drop 16) (drop-drop 16 8 old) ∙ drop-drop 16 24 old in
-    let split : b ≡ (source ++ destination) ++ drop 40 old = addresses ∙ ap (λ xs. source ++ (destination ++ xs)) deep ∙ sym (append_assoc source destination (drop 40 old)) in
+    let split : b ≡ (source ++ destination) ++ drop 40 old = addresses ∙ ap (λ xs. source ++ (destination ++ xs)) deep ∙
+    sym (append_assoc source destination (drop 40 old)) in
     ap (λ xs. xs ++ b) front ∙ ap (λ xs. first ++ xs) split ∙ sym (append_assoc first (source ++ destination) (drop 40 old))
 
 -- nothing stands behind a header that fills the bytes

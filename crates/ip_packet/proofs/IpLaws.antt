@@ -63,11 +63,13 @@ fits-ip tested bytes (Ip.Ipv4 v) small is = fits-v4 tested bytes v small is
 fits-ip tested bytes (Ip.Ipv6 v) small is = fits-v6 bytes v small is
 
 -- bytes of version 4 that aren't an IPv4 packet are no packet
-pub refused-v4 : (tested : Bool) (bytes viewed : List ℕ) → viewed ≡ bytes → slice_index bytes 0 / 16 ≡ 4 → ((v : Ipv4Repr) → Ipv4.IsIpv4 tested viewed v → ⊥) → (v : IpRepr) → IsIp tested bytes v → ⊥
+pub refused-v4 : (tested : Bool) (bytes viewed : List ℕ) → viewed ≡ bytes → slice_index bytes 0 / 16 ≡ 4 → ((v : Ipv4Repr) → Ipv4.IsIpv4 tested viewed v → ⊥) →
+    (v : IpRepr) → IsIp tested bytes v → ⊥
 refused-v4 tested bytes viewed same first none (Ip.Ipv4 v) is = none v (subst (λ xs. Ipv4.IsIpv4 tested xs v) (sym same) is)
 refused-v4 tested bytes viewed same first none (Ip.Ipv6 v) is = absurd (omega (arith, first, is.version))
 
 -- bytes of version 6 that aren't an IPv6 packet are no packet
-pub refused-v6 : (tested : Bool) (bytes viewed : List ℕ) → viewed ≡ bytes → slice_index bytes 0 / 16 ≡ 6 → ((v : Ipv6Repr) → Ipv6.IsIpv6 viewed v → ⊥) → (v : IpRepr) → IsIp tested bytes v → ⊥
+pub refused-v6 : (tested : Bool) (bytes viewed : List ℕ) → viewed ≡ bytes → slice_index bytes 0 / 16 ≡ 6 → ((v : Ipv6Repr) → Ipv6.IsIpv6 viewed v → ⊥) →
+    (v : IpRepr) → IsIp tested bytes v → ⊥
 refused-v6 tested bytes viewed same first none (Ip.Ipv4 v) is = absurd (omega (arith, first, is.version))
 refused-v6 tested bytes viewed same first none (Ip.Ipv6 v) is = none v (subst (λ xs. Ipv6.IsIpv6 xs v) (sym same) is)

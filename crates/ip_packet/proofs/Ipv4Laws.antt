@@ -1,12 +1,14 @@
 -- A packet's header and what spells it.
-use Rattle.std.proofs.Common.{◌≡◌, ℕ, ◌+◌, ◌-◌, ◌/◌, ◌<◌, ◌≤◌, ◌%◌, ◌^◌, Bool, true, false, IsTrue, List, [], ◌++◌, length, take, drop, refl, sym, ◌∙◌, ap, subst, arith, length-append, append_assoc}
+use Rattle.std.proofs.Common.{◌≡◌, ℕ, ◌+◌, ◌-◌, ◌/◌, ◌<◌, ◌≤◌, ◌%◌, ◌^◌, Bool, true, false, IsTrue, List, [], ◌++◌, length, take, drop, refl, sym, ◌∙◌, ap}
+use Rattle.std.proofs.Common.{subst, arith, length-append, append_assoc}
 use Rattle.std.specs.Prelude.{slice_range, slice_index}
 use Rattle.std.proofs.lemmas.List.{take_at, drop_at}
 use Rattle.ip_address.proofs.Sums.{ChecksumHolds-complement}
 use Rattle.ip_address.specs.Fields.{be16, IsBytes}
 use Rattle.ip_address.specs.Protocol.{protocol_number}
 use Rattle.ip_address.specs.Sum.{word_sum, ChecksumHolds, complement}
-use Rattle.ip_packet.specs.Ipv4.{IsIpv4, IsQuoted, IsValue, IsKeyOf, Fits, key_of, piece_of, spelling, sent_fields, free_fields, written_as, written, header_len_of, payload_of, normal}
+use Rattle.ip_packet.specs.Ipv4.{IsIpv4, IsQuoted, IsValue, IsKeyOf, Fits, key_of, piece_of, spelling, sent_fields, free_fields, written_as, written}
+use Rattle.ip_packet.specs.Ipv4.{header_len_of, payload_of, normal}
 use Rattle.ip_packet.proofs.Flags.{field-read, dont_frag-sent, more-sent, offset-sent}
 use Rattle.ip_packet.specs.declared.ipv4.piece.Ipv4Piece.{Ipv4Piece}
 use Rattle.ip_packet.specs.declared.ipv4.repr.Ipv4Repr.{Ipv4Repr}
@@ -38,7 +40,8 @@ pub header-spelling : (bytes : List ℕ) (v : Ipv4Repr) (header_len : ℕ) → I
 header-spelling bytes v header_len small is least =
     let options : List ℕ = slice_range bytes 20 (header_len_of bytes) in
     let behind : List ℕ = drop header_len bytes in
-    let len : 20 + length options ≡ header_len_of bytes = length-slice_range bytes 20 (header_len_of bytes) (omega (arith, is.header, is.least)) (omega (arith, is.header, is.within)) in
+    let len : 20 + length options ≡ header_len_of bytes =
+    length-slice_range bytes 20 (header_len_of bytes) (omega (arith, is.header, is.least)) (omega (arith, is.header, is.within)) in
     let total : 20 + length options + v.payload_len ≡ be16 bytes 2 = omega (arith, len, is.header, is.payload, least) in
     let protocol : protocol_number v.next_header ≡ slice_index bytes 9 = ap protocol_number is.protocol ∙ protocol_number-protocol_of (slice_index bytes 9) in
     let addresses : (v.src_addr.0 ++ (v.dst_addr.0 ++ options)) ++ behind ≡ v.src_addr.0 ++ (v.dst_addr.0 ++ (options ++ behind)) = simp append_assoc in
@@ -66,12 +69,14 @@ header-spelling bytes v header_len small is least =
     )
 
 -- a packet is spelled by its header, with what a value doesn't keep, and then come payload and padding
-pub bytes-spelling : (tested : Bool) (bytes : List ℕ) (v : Ipv4Repr) → IsBytes bytes → IsIpv4 tested bytes v → bytes ≡ spelling v (free_fields bytes) ++ drop (header_len_of bytes) bytes
+pub bytes-spelling : (tested : Bool) (bytes : List ℕ) (v : Ipv4Repr) → IsBytes bytes → IsIpv4 tested bytes v →
+    bytes ≡ spelling v (free_fields bytes) ++ drop (header_len_of bytes) bytes
 bytes-spelling tested bytes v small is =
     header-spelling bytes v (header_len_of bytes) small (IsQuoted-whole tested bytes v is) (omega (arith, is.payload))
 
 -- a number in the checksum field adds itself to the word sum
-word_sum-check : (v : Ipv4Repr) (piece : Ipv4Piece) (check : ℕ) → check < 65536 → word_sum (spelling v (sent_fields piece check)) ≡ word_sum (spelling v (sent_fields piece 0)) + check
+word_sum-check : (v : Ipv4Repr) (piece : Ipv4Piece) (check : ℕ) → check < 65536 →
+    word_sum (spelling v (sent_fields piece check)) ≡ word_sum (spelling v (sent_fields piece 0)) + check
 word_sum-check v piece check small = omega arith
 
 -- a header whose checksum was written holds it
@@ -90,7 +95,8 @@ pub take-first : (source destination rest : List ℕ) → length source ≡ 4 �
 take-first source destination rest len =
     sym (ap (take 4) (append_assoc source (destination ++ []) rest) ∙ take_at source ((destination ++ []) ++ rest) 4 len)
 
-pub take-second : (source destination rest : List ℕ) → length source ≡ 4 → length destination ≡ 4 → destination ≡ take 4 (drop 4 ((source ++ (destination ++ [])) ++ rest))
+pub take-second : (source destination rest : List ℕ) → length source ≡ 4 → length destination ≡ 4 →
+    destination ≡ take 4 (drop 4 ((source ++ (destination ++ [])) ++ rest))
 take-second source destination rest first second =
     sym (
     ap (λ xs. take 4 (drop 4 xs)) (append_assoc source (destination ++ []) rest)
@@ -100,11 +106,13 @@ take-second source destination rest first second =
     )
 
 -- a packet whose header was emitted, up to its checksum
-IsIpv4-spelling : (tested : Bool) (v : Ipv4Repr) (piece : Ipv4Piece) (check : ℕ) (rest : List ℕ) → Fits v → IsValue v → piece.offset < 2 ^ 16 → v.payload_len ≤ length rest → (IsTrue tested → ChecksumHolds (word_sum (spelling v (sent_fields piece check))))
+IsIpv4-spelling : (tested : Bool) (v : Ipv4Repr) (piece : Ipv4Piece) (check : ℕ) (rest : List ℕ) → Fits v → IsValue v → piece.offset < 2 ^ 16 →
+    v.payload_len ≤ length rest → (IsTrue tested → ChecksumHolds (word_sum (spelling v (sent_fields piece check))))
     → IsIpv4 tested (spelling v (sent_fields piece check) ++ rest) (normal v)
 IsIpv4-spelling tested v piece check rest fits value short within holds =
     let header : length (spelling v (sent_fields piece check)) ≡ 20 = length-spelling v piece check value in
-    let all : length (spelling v (sent_fields piece check) ++ rest) ≡ 20 + length rest = length-append (spelling v (sent_fields piece check)) rest ∙ ap (λ n. n + length rest) header in
+    let all : length (spelling v (sent_fields piece check) ++ rest) ≡ 20 + length rest = length-append (spelling v (sent_fields piece check)) rest ∙
+    ap (λ n. n + length rest) header in
     record {
       whole = record { room = omega (arith, all); header = omega arith; least = omega (arith, fits); within = omega (arith, all, fits, within) };
       version = refl;
@@ -119,42 +127,51 @@ IsIpv4-spelling tested v piece check rest fits value short within holds =
     }
 
 -- the header of a piece that was emitted is read back in its normal form, whatever follows the payload
-IsIpv4-piece : (tested sealed : Bool) (v : Ipv4Repr) (piece : Ipv4Piece) (rest : List ℕ) → Fits v → IsValue v → piece.offset < 2 ^ 16 → v.payload_len ≤ length rest → (IsTrue tested → IsTrue sealed)
+IsIpv4-piece : (tested sealed : Bool) (v : Ipv4Repr) (piece : Ipv4Piece) (rest : List ℕ) → Fits v → IsValue v → piece.offset < 2 ^ 16 →
+    v.payload_len ≤ length rest → (IsTrue tested → IsTrue sealed)
     → IsIpv4 tested (written_as sealed v piece ++ rest) (normal v)
 IsIpv4-piece tested false v piece rest fits value short within both = IsIpv4-spelling tested v piece 0 rest fits value short within (λ t. absurd (cc (both t)))
 IsIpv4-piece tested true v piece rest fits value short within both =
     IsIpv4-spelling tested v piece (complement (word_sum (spelling v (sent_fields piece 0)))) rest fits value short within (λ _. ChecksumHolds-written v piece)
 
 -- so is that of a datagram that nobody cut
-pub IsIpv4-written : (tested sealed : Bool) (v : Ipv4Repr) (rest : List ℕ) → Fits v → IsValue v → v.payload_len ≤ length rest → (IsTrue tested → IsTrue sealed) → IsIpv4 tested (written sealed v ++ rest) (normal v)
-IsIpv4-written tested sealed v rest fits value within both = IsIpv4-piece tested sealed v (record { offset = 0; more = false }) rest fits value (omega arith) within both
+pub IsIpv4-written : (tested sealed : Bool) (v : Ipv4Repr) (rest : List ℕ) → Fits v → IsValue v → v.payload_len ≤ length rest →
+    (IsTrue tested → IsTrue sealed) → IsIpv4 tested (written sealed v ++ rest) (normal v)
+IsIpv4-written tested sealed v rest fits value within both =
+    IsIpv4-piece tested sealed v (record { offset = 0; more = false }) rest fits value (omega arith) within both
 
 -- which piece it is stands in the header
 abbrev piece-at : ℕ → Bool → Ipv4Piece
 piece-at offset more = record { offset = offset; more = more }
 
-pub piece_of-written : (sealed : Bool) (v : Ipv4Repr) (piece : Ipv4Piece) (rest : List ℕ) → piece.offset < 2 ^ 16 → piece.offset % 8 ≡ 0 → piece_of (written_as sealed v piece ++ rest) ≡ piece
+pub piece_of-written : (sealed : Bool) (v : Ipv4Repr) (piece : Ipv4Piece) (rest : List ℕ) → piece.offset < 2 ^ 16 → piece.offset % 8 ≡ 0 →
+    piece_of (written_as sealed v piece ++ rest) ≡ piece
 piece_of-written sealed v piece rest short whole =
     ap (λ n. piece-at n (piece_of (written_as sealed v piece ++ rest)).more) (offset-sent v.dont_frag piece.more piece.offset short whole)
     ∙ ap (λ b. piece-at piece.offset b) (more-sent v.dont_frag piece.more piece.offset short)
 
-pub reads-back : (tested sealed : Bool) (v : Ipv4Repr) (piece : Ipv4Piece) (rest : List ℕ) → Fits v → IsValue v → piece.offset < 2 ^ 16 → piece.offset % 8 ≡ 0 → v.payload_len ≤ length rest → (IsTrue tested → IsTrue sealed)
+pub reads-back : (tested sealed : Bool) (v : Ipv4Repr) (piece : Ipv4Piece) (rest : List ℕ) → Fits v → IsValue v → piece.offset < 2 ^ 16 → piece.offset % 8 ≡ 0 →
+    v.payload_len ≤ length rest → (IsTrue tested → IsTrue sealed)
     → IsIpv4 tested (written_as sealed v piece ++ rest) (normal v) × (piece_of (written_as sealed v piece ++ rest) ≡ piece)
 reads-back tested sealed v piece rest fits value short whole within both =
     (IsIpv4-piece tested sealed v piece rest fits value short within both, piece_of-written sealed v piece rest short whole)
 
 -- the key that the bytes show is that of the header
-key-same : (id id' : ℕ) (source source' destination destination' : List ℕ) (p p' : IpProtocol) → id ≡ id' → source ≡ source' → destination ≡ destination' → p ≡ p'
-    → (let k : Ipv4FragKey = record { id = id; src_addr = record { 0 = source }; dst_addr = record { 0 = destination }; protocol = p } in k) ≡ record { id = id'; src_addr = record { 0 = source' }; dst_addr = record { 0 = destination' }; protocol = p' }
+key-same : (id id' : ℕ) (source source' destination destination' : List ℕ) (p p' : IpProtocol) → id ≡ id' → source ≡ source' →
+    destination ≡ destination' → p ≡ p'
+    → (let k : Ipv4FragKey = record { id = id; src_addr = record { 0 = source }; dst_addr = record { 0 = destination }; protocol = p } in k) ≡
+    record { id = id'; src_addr = record { 0 = source' }; dst_addr = record { 0 = destination' }; protocol = p' }
 key-same id id' source source' destination destination' p p' a b c d = rw (a, b, c, d) refl
 
 pub key-read : (tested : Bool) (bytes : List ℕ) (v : Ipv4Repr) (key : Ipv4FragKey) → IsIpv4 tested bytes v → IsKeyOf bytes key → key ≡ key_of v
 key-read tested bytes v key is shows =
-    key-same _ _ _ _ _ _ _ _ (shows.identification ∙ sym is.identification) (shows.source ∙ sym is.source) (shows.destination ∙ sym is.destination) (shows.protocol ∙ sym is.protocol)
+    key-same _ _ _ _ _ _ _ _ (shows.identification ∙ sym is.identification) (shows.source ∙ sym is.source) (shows.destination ∙
+    sym is.destination) (shows.protocol ∙ sym is.protocol)
 
 -- what a packet carries is as much of what comes behind its header as the header says
 pub payload_of-written : (sealed : Bool) (v : Ipv4Repr) (rest : List ℕ) → Fits v → IsValue v → payload_of (written sealed v ++ rest) ≡ take v.payload_len rest
 payload_of-written sealed v rest fits value =
-    let header : length (written sealed v) ≡ 20 = omega (arith, value.source.0, value.destination.0, length-append v.src_addr.0 (v.dst_addr.0 ++ []), length-append v.dst_addr.0 []) in
+    let header : length (written sealed v) ≡ 20 =
+    omega (arith, value.source.0, value.destination.0, length-append v.src_addr.0 (v.dst_addr.0 ++ []), length-append v.dst_addr.0 []) in
     let size : be16 (written sealed v ++ rest) 2 - 20 ≡ v.payload_len = omega (arith, fits) in
     ap (λ n. take n (drop 20 (written sealed v ++ rest))) size ∙ ap (take v.payload_len) (drop_at (written sealed v) rest 20 header)

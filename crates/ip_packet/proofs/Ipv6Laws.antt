@@ -1,5 +1,6 @@
 -- An IPv6 packet's header and what spells it.
-use Rattle.std.proofs.Common.{◌≡◌, ℕ, ◌+◌, ◌-◌, ◌*◌, ◌/◌, ◌<◌, ◌≤◌, ◌^◌, List, ◌++◌, length, get_or, take, drop, refl, sym, ◌∙◌, ap, arith, length-append, append_assoc}
+use Rattle.std.proofs.Common.{◌≡◌, ℕ, ◌+◌, ◌-◌, ◌*◌, ◌/◌, ◌<◌, ◌≤◌, ◌^◌, List, ◌++◌, length, get_or, take, drop, refl, sym, ◌∙◌, ap, arith, length-append}
+use Rattle.std.proofs.Common.{append_assoc}
 use Rattle.std.specs.Prelude.{slice_index}
 use Rattle.std.proofs.lemmas.List.{take_at, drop_at}
 use Rattle.ip_address.specs.Fields.{be16, be32, IsBytes}
@@ -32,7 +33,8 @@ IsQuoted-whole bytes v is = record {
 }
 
 -- a quoted header is spelled by its value, with its class and flow
-pub header-spelling : (bytes : List ℕ) (v : Ipv6Repr) (header_len : ℕ) → IsBytes bytes → IsQuoted bytes v header_len → bytes ≡ spelling v (class_and_flow bytes) ++ drop header_len bytes
+pub header-spelling : (bytes : List ℕ) (v : Ipv6Repr) (header_len : ℕ) → IsBytes bytes → IsQuoted bytes v header_len →
+    bytes ≡ spelling v (class_and_flow bytes) ++ drop header_len bytes
 header-spelling bytes v header_len small is =
     let protocol : protocol_number v.next_header ≡ slice_index bytes 6 = ap protocol_number is.protocol ∙ protocol_number-protocol_of (slice_index bytes 6) in
     let behind : List ℕ = drop header_len bytes in
@@ -58,7 +60,8 @@ pub take-first : (source destination rest : List ℕ) → length source ≡ 16 �
 take-first source destination rest len =
     sym (ap (take 16) (append_assoc source destination rest) ∙ take_at source (destination ++ rest) 16 len)
 
-pub take-second : (source destination rest : List ℕ) → length source ≡ 16 → length destination ≡ 16 → destination ≡ take 16 (drop 16 ((source ++ destination) ++ rest))
+pub take-second : (source destination rest : List ℕ) → length source ≡ 16 → length destination ≡ 16 →
+    destination ≡ take 16 (drop 16 ((source ++ destination) ++ rest))
 take-second source destination rest first second =
     sym (
     ap (λ xs. take 16 (drop 16 xs)) (append_assoc source destination rest)

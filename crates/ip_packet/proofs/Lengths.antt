@@ -13,5 +13,6 @@ length-header sealed (Ip.Ipv4 v) value =
     omega (arith, value.source.0, value.destination.0, length-append v.src_addr.0 (v.dst_addr.0 ++ []), length-append v.dst_addr.0 [])
 length-header sealed (Ip.Ipv6 v) value = omega (arith, value.source.0, value.destination.0, length-append v.src_addr.0 v.dst_addr.0)
 
-pub length-datagram : (source destination : IpAddress) (sealed : Bool) (v : UdpRepr) (payload : List ℕ) → length (Udp.written source destination sealed v payload) ≡ 8 + length payload
+pub length-datagram : (source destination : IpAddress) (sealed : Bool) (v : UdpRepr) (payload : List ℕ) →
+    length (Udp.written source destination sealed v payload) ≡ 8 + length payload
 length-datagram source destination sealed v payload = omega arith

@@ -12,7 +12,8 @@ use Rattle.ip_packet.proofs.Ipv6Laws as V6
 use Rattle.ip_packet.proofs.Runs.{part, numbered}
 
 -- a header with any checksum
-IsQuoted-spelling : (v : Ipv4Repr) (piece : Ipv4Piece) (check : ℕ) (rest : List ℕ) → Ipv4.Fits v → Ipv4.IsValue v → piece.offset < 2 ^ 16 → Ipv4.IsQuoted (Ipv4.spelling v (Ipv4.sent_fields piece check) ++ rest) (Ipv4.normal v) 20
+IsQuoted-spelling : (v : Ipv4Repr) (piece : Ipv4Piece) (check : ℕ) (rest : List ℕ) → Ipv4.Fits v → Ipv4.IsValue v → piece.offset < 2 ^ 16 →
+    Ipv4.IsQuoted (Ipv4.spelling v (Ipv4.sent_fields piece check) ++ rest) (Ipv4.normal v) 20
 IsQuoted-spelling v piece check rest fits value short =
     let all : length (Ipv4.spelling v (Ipv4.sent_fields piece check) ++ rest) ≡ 20 + length rest =
     length-append (Ipv4.spelling v (Ipv4.sent_fields piece check)) rest ∙ ap (λ n. n + length rest) (V4.length-spelling v piece check value)
@@ -33,7 +34,8 @@ IsQuoted-spelling v piece check rest fits value short =
     }
 
 -- an emitted IPv4 header is read in its normal form, whatever follows it
-pub IsQuoted-v4 : (sealed : Bool) (v : Ipv4Repr) (rest : List ℕ) → Ipv4.Fits v → Ipv4.IsValue v → Ipv4.IsQuoted (Ipv4.written sealed v ++ rest) (Ipv4.normal v) 20
+pub IsQuoted-v4 : (sealed : Bool) (v : Ipv4Repr) (rest : List ℕ) → Ipv4.Fits v → Ipv4.IsValue v →
+    Ipv4.IsQuoted (Ipv4.written sealed v ++ rest) (Ipv4.normal v) 20
 IsQuoted-v4 false v rest fits value = IsQuoted-spelling v (record { offset = 0; more = false }) 0 rest fits value (omega arith)
 IsQuoted-v4 true v rest fits value = IsQuoted-spelling v (record { offset = 0; more = false }) _ rest fits value (omega arith)
 

@@ -20,7 +20,8 @@ IsBytes-part bytes i k small =
     IsBytes-take (k - i) (drop i bytes) (λ j. subst (λ b. b < 256) (sym (get_or-drop i bytes j 0)) (small (i + j)))
 
 -- the bytes between two places, as a field
-pub part : (bytes field : List ℕ) (i k n : ℕ) → IsBytes bytes → i + n ≡ k → k ≤ length bytes → field ≡ slice_range bytes i k → (length field ≡ n) × IsBytes field
+pub part : (bytes field : List ℕ) (i k n : ℕ) → IsBytes bytes → i + n ≡ k → k ≤ length bytes → field ≡ slice_range bytes i k → (length field ≡ n) ×
+    IsBytes field
 part bytes field i k n small len room is =
     (omega (arith, len, room, ap length is, length-slice_range bytes i k (omega (arith, len)) room), subst IsBytes (sym is) (IsBytes-part bytes i k small))
 

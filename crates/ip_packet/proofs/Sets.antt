@@ -42,19 +42,24 @@ one n is = rw is refl
 none : (n : ℕ) → n ≡ 0 → (n == 1) ≡ false
 none n is = rw is refl
 
-pub dont_frag-set : (bytes : List ℕ) (set : Bool) → 20 ≤ length bytes → has_flag (slice_index (put8 bytes 6 (with_flag (slice_index bytes 6) 64 set)) 6) 64 ≡ set
+pub dont_frag-set : (bytes : List ℕ) (set : Bool) → 20 ≤ length bytes →
+    has_flag (slice_index (put8 bytes 6 (with_flag (slice_index bytes 6) 64 set)) 6) 64 ≡ set
 dont_frag-set bytes true room = ap (λ b. has_flag b 64) (byte bytes 6 _ (omega (arith, room))) ∙ one _ (omega arith)
 dont_frag-set bytes false room = ap (λ b. has_flag b 64) (byte bytes 6 _ (omega (arith, room))) ∙ none _ (omega arith)
 
-pub more_frags-set : (bytes : List ℕ) (set : Bool) → 20 ≤ length bytes → has_flag (slice_index (put8 bytes 6 (with_flag (slice_index bytes 6) 32 set)) 6) 32 ≡ set
+pub more_frags-set : (bytes : List ℕ) (set : Bool) → 20 ≤ length bytes →
+    has_flag (slice_index (put8 bytes 6 (with_flag (slice_index bytes 6) 32 set)) 6) 32 ≡ set
 more_frags-set bytes true room = ap (λ b. has_flag b 32) (byte bytes 6 _ (omega (arith, room))) ∙ one _ (omega arith)
 more_frags-set bytes false room = ap (λ b. has_flag b 32) (byte bytes 6 _ (omega (arith, room))) ∙ none _ (omega arith)
 
-pub offset-set : (bytes : List ℕ) (n : ℕ) → 20 ≤ length bytes → n < 2 ^ 16 → 8 * (be16 (put16 bytes 6 (be16 bytes 6 / 2 ^ 13 * 2 ^ 13 + n / 8)) 6 % 2 ^ 13) ≡ n / 8 * 8
-offset-set bytes n room small = ap (λ w. 8 * (w % 2 ^ 13)) (word bytes 6 (be16 bytes 6 / 2 ^ 13 * 2 ^ 13 + n / 8) (omega (arith, room))) ∙ (omega (arith, small))
+pub offset-set : (bytes : List ℕ) (n : ℕ) → 20 ≤ length bytes → n < 2 ^ 16 →
+    8 * (be16 (put16 bytes 6 (be16 bytes 6 / 2 ^ 13 * 2 ^ 13 + n / 8)) 6 % 2 ^ 13) ≡ n / 8 * 8
+offset-set bytes n room small = ap (λ w. 8 * (w % 2 ^ 13)) (word bytes 6 (be16 bytes 6 / 2 ^ 13 * 2 ^ 13 + n / 8) (omega (arith, room))) ∙
+    (omega (arith, small))
 
 -- a protocol is read by the number that was put
-pub protocol-set : (bytes : List ℕ) (i : ℕ) (p : IpProtocol) → i < length bytes → protocol_of (slice_index (put8 bytes i (protocol_number p)) i) ≡ protocol_of (protocol_number p)
+pub protocol-set : (bytes : List ℕ) (i : ℕ) (p : IpProtocol) → i < length bytes →
+    protocol_of (slice_index (put8 bytes i (protocol_number p)) i) ≡ protocol_of (protocol_number p)
 protocol-set bytes i p room = ap protocol_of (byte bytes i (protocol_number p) room)
 
 -- a run of bytes at a place where it was put
@@ -62,4 +67,5 @@ pub run-set : (bytes field : List ℕ) (i k : ℕ) → i ≤ length bytes → le
 run-set bytes field i k room len =
     let before : length (take i bytes) ≡ i = omega (arith, length-take i bytes, room) in
     let width : i + k - i ≡ k = omega arith in
-    ap (λ n. take n (drop i (put_run bytes i k field))) width ∙ ap (take k) (drop_at (take i bytes) (field ++ drop (i + k) bytes) i before) ∙ take_at field (drop (i + k) bytes) k len
+    ap (λ n. take n (drop i (put_run bytes i k field))) width ∙ ap (take k) (drop_at (take i bytes) (field ++ drop (i + k) bytes) i before) ∙
+    take_at field (drop (i + k) bytes) k len

@@ -1,5 +1,6 @@
 -- A datagram and what spells it.
-use Rattle.std.proofs.Common.{◌≡◌, ◌≤◌, ℕ, ◌+◌, ◌-◌, ◌<◌, ◌^◌, Bool, true, false, IsTrue, List, ◌++◌, length, get_or, drop, refl, sym, ◌∙◌, subst, inr, arith, length-append}
+use Rattle.std.proofs.Common.{◌≡◌, ◌≤◌, ℕ, ◌+◌, ◌-◌, ◌<◌, ◌^◌, Bool, true, false, IsTrue, List, ◌++◌, length, get_or, drop, refl, sym, ◌∙◌, subst, inr, arith}
+use Rattle.std.proofs.Common.{length-append}
 use Rattle.std.proofs.lemmas.List.{take_at}
 use Rattle.ip_address.specs.Address.{version_of}
 use Rattle.ip_address.specs.Fields.{be16, IsBytes}
@@ -43,12 +44,14 @@ ChecksumHolds-written source destination v payload =
     subst ChecksumHolds (sym same) (ChecksumHolds-nonzero_complement total)
 
 -- a datagram's length field gives back the datagram, whatever follows it
-datagram_of-spelling : (v : UdpRepr) (payload rest : List ℕ) (check : ℕ) → 8 + length payload < 2 ^ 16 → datagram_of (spelling v payload check ++ rest) ≡ spelling v payload check
+datagram_of-spelling : (v : UdpRepr) (payload rest : List ℕ) (check : ℕ) → 8 + length payload < 2 ^ 16 →
+    datagram_of (spelling v payload check ++ rest) ≡ spelling v payload check
 datagram_of-spelling v payload rest check fits =
     take_at (spelling v payload check) rest (be16 (spelling v payload check ++ rest) 4) (omega arith)
 
 -- a datagram that was emitted is read back, whatever follows it
-pub IsUdp-written : (source destination : IpAddress) (tested sealed : Bool) (v : UdpRepr) (payload rest : List ℕ) → Fits source destination payload → IsAccepted v → (IsTrue tested → IsTrue sealed)
+pub IsUdp-written : (source destination : IpAddress) (tested sealed : Bool) (v : UdpRepr) (payload rest : List ℕ) → Fits source destination payload →
+    IsAccepted v → (IsTrue tested → IsTrue sealed)
     → IsUdp source destination tested (written source destination sealed v payload ++ rest) v
 IsUdp-written source destination tested false v payload rest fits accepted both = record {
   whole = record { header = omega arith; least = omega (arith, fits.len); within = omega (arith, fits.len, length-append payload rest) };
@@ -69,13 +72,15 @@ IsUdp-written source destination tested true v payload rest fits accepted both =
 }
 
 -- a datagram and its header take no more room than the bytes that they were read from
-pub within : (source destination : IpAddress) (tested : Bool) (bytes : List ℕ) (v : UdpRepr) → IsUdp source destination tested bytes v → 8 + length (payload_of bytes) ≤ length bytes
+pub within : (source destination : IpAddress) (tested : Bool) (bytes : List ℕ) (v : UdpRepr) → IsUdp source destination tested bytes v →
+    8 + length (payload_of bytes) ≤ length bytes
 within source destination tested bytes v is =
     let whole : IsWhole bytes = is.whole in
     omega (arith, whole.within, length-slice_range bytes 8 (be16 bytes 4) whole.least whole.within)
 
 -- a datagram that was read can be written again
-pub fits : (source destination : IpAddress) (tested : Bool) (bytes : List ℕ) (v : UdpRepr) → version_of source ≡ version_of destination → IsBytes bytes → IsUdp source destination tested bytes v
+pub fits : (source destination : IpAddress) (tested : Bool) (bytes : List ℕ) (v : UdpRepr) → version_of source ≡ version_of destination → IsBytes bytes →
+    IsUdp source destination tested bytes v
     → Fits source destination (payload_of bytes) × IsAccepted v
 fits source destination tested bytes v family small is =
     let whole : IsWhole bytes = is.whole in
@@ -94,6 +99,7 @@ fits source destination tested bytes v family small is =
     )
 
 -- and so is its payload
-pub payload_of-written : (source destination : IpAddress) (sealed : Bool) (v : UdpRepr) (payload rest : List ℕ) → Fits source destination payload → payload_of (written source destination sealed v payload ++ rest) ≡ payload
+pub payload_of-written : (source destination : IpAddress) (sealed : Bool) (v : UdpRepr) (payload rest : List ℕ) → Fits source destination payload →
+    payload_of (written source destination sealed v payload ++ rest) ≡ payload
 payload_of-written source destination sealed v payload rest fits =
     take_at payload rest (be16 (written source destination sealed v payload ++ rest) 4 - 8) (omega (arith, fits.len))

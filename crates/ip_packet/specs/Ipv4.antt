@@ -2,7 +2,8 @@
 -- length, identification, flags and offset in units of eight bytes, time to live, protocol, checksum, the
 -- addresses and options; then the payload, which ends where the total length says. What lies behind it is
 -- padding.
-use Rattle.std.specs.Prelude.{◌≡◌, ℕ, ◌+◌, ◌-◌, ◌*◌, ◌/◌, ◌%◌, ◌<◌, ◌≤◌, ◌^◌, Bool, false, IsTrue, if◌then◌else◌, List, [], ◌∷◌, ◌++◌, length, take, slice_index, slice_range}
+use Rattle.std.specs.Prelude.{◌≡◌, ℕ, ◌+◌, ◌-◌, ◌*◌, ◌/◌, ◌%◌, ◌<◌, ◌≤◌, ◌^◌, Bool, false, IsTrue, if◌then◌else◌, List, [], ◌∷◌, ◌++◌, length, take}
+use Rattle.std.specs.Prelude.{slice_index, slice_range}
 use Rattle.std.specs.Int.{w16, to_be_bytes}
 use Rattle.std.specs.Borrow.{GName}
 use Rattle.ip_address.specs.Address.{IsIpv4Address}
@@ -97,7 +98,8 @@ piece_of bytes = record { offset = 8 * (be16 bytes 6 % 2 ^ 13); more = has_flag 
 
 -- the field of the flags, reserved, don't-fragment and more-fragments, and of the offset in units of eight bytes
 abbrev pub flags_and_offset : Bool → Bool → Ipv4Piece → ℕ
-flags_and_offset reserved dont_frag piece = (if reserved then 2 ^ 15 else 0) + (if dont_frag then 2 ^ 14 else 0) + (if piece.more then 2 ^ 13 else 0) + piece.offset / 8
+flags_and_offset reserved dont_frag piece = (if reserved then 2 ^ 15 else 0) + (if dont_frag then 2 ^ 14 else 0) + (if piece.more then 2 ^ 13 else 0) +
+    piece.offset / 8
 
 -- what a header has beside its value
 pub record Free : Type 0 where
@@ -124,7 +126,11 @@ sent_fields piece check = record { services = 0; reserved = false; piece = piece
 -- a header with this value
 abbrev pub spelling : Ipv4Repr → Free → List ℕ
 spelling v free =
-    (64 + (20 + length free.options) / 4) ∷ free.services ∷ (to_be_bytes w16 (20 + length free.options + v.payload_len) ++ (to_be_bytes w16 v.ident ++ (to_be_bytes w16 (flags_and_offset free.reserved v.dont_frag free.piece) ++ v.hop_limit ∷ protocol_number v.next_header ∷ (to_be_bytes w16 free.checksum ++ (v.src_addr.0 ++ (v.dst_addr.0 ++ free.options))))))
+    (64 + (20 + length free.options) / 4) ∷ free.services ∷
+    (to_be_bytes w16 (20 + length free.options + v.payload_len) ++
+    (to_be_bytes w16 v.ident ++
+    (to_be_bytes w16 (flags_and_offset free.reserved v.dont_frag free.piece) ++ v.hop_limit ∷ protocol_number v.next_header ∷
+    (to_be_bytes w16 free.checksum ++ (v.src_addr.0 ++ (v.dst_addr.0 ++ free.options))))))
 
 -- the header of a piece that is sent: with a checksum that holds, or with 0
 abbrev pub written_as : Bool → Ipv4Repr → Ipv4Piece → List ℕ

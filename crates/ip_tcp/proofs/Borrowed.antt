@@ -39,7 +39,8 @@ Decides-value a b = (λ yes. absurd (cc), λ e. absurd (cc))
 -- a segment is compared by its header and its payload's bytes
 pub Decides-segment : (a b : TcpRepr) → Decides (Segment.ghosts.eq a b) ((header_of a ≡ header_of b) × (a.payload.now ≡ b.payload.now))
 Decides-segment a b =
-    let stamp = Decides-and _ _ (Decides-option (λ x y. Stamp.ghosts.eq x y) Decides-stamp a.timestamp b.timestamp) (bytes_eq-Decides a.payload.now b.payload.now) in
+    let stamp = Decides-and _ _ (Decides-option (λ x y. Stamp.ghosts.eq x y) Decides-stamp a.timestamp b.timestamp)
+    (bytes_eq-Decides a.payload.now b.payload.now) in
     let ranges = Decides-and _ _ (Decides-ranges a.sack_ranges b.sack_ranges) stamp in
     let permitted = Decides-and _ _ (booleans_Decides a.sack_permitted b.sack_permitted) ranges in
     let size = Decides-and _ _ (Decides-option (λ (x y : ℕ). x == y) Decides-eqb a.max_seg_size b.max_seg_size) permitted in
@@ -76,7 +77,9 @@ Decides-segment a b =
       λ e.
           let h : header_of a ≡ header_of b = e.0 in
           let last = both (ap (λ (v : TcpHeader). v.options.sack_ranges) h) (both (ap (λ (v : TcpHeader). v.options.timestamp) h) e.1) in
-          let options = both (ap (λ (v : TcpHeader). v.options.window_scale) h) (both (ap (λ (v : TcpHeader). v.options.max_seg_size) h) (both (ap (λ (v : TcpHeader). v.options.sack_permitted) h) last)) in
-          let middle = both (ap (λ (v : TcpHeader). v.seq_number.0) h) (both (ap (λ (v : TcpHeader). v.ack_number) h) (both (ap (λ (v : TcpHeader). v.window_len) h) options)) in
+          let options = both (ap (λ (v : TcpHeader). v.options.window_scale) h)
+          (both (ap (λ (v : TcpHeader). v.options.max_seg_size) h) (both (ap (λ (v : TcpHeader). v.options.sack_permitted) h) last)) in
+          let middle = both (ap (λ (v : TcpHeader). v.seq_number.0) h)
+          (both (ap (λ (v : TcpHeader). v.ack_number) h) (both (ap (λ (v : TcpHeader). v.window_len) h) options)) in
           all.1 (both (ap (λ (v : TcpHeader). v.src_port) h) (both (ap (λ (v : TcpHeader). v.dst_port) h) (both (ap (λ (v : TcpHeader). v.control) h) middle))),
     )

@@ -59,7 +59,8 @@ Decides-number a b =
     let make : ℕ → SeqNumber = λ n. record { 0 = n } in
     (λ yes. ap make (inside.0 yes), λ same. inside.1 (ap (λ (x : SeqNumber). x.0) same))
 
-same-options : (a b : TcpOptions) → a.max_seg_size ≡ b.max_seg_size → a.window_scale ≡ b.window_scale → a.sack_permitted ≡ b.sack_permitted → a.sack_ranges ≡ b.sack_ranges → a.timestamp ≡ b.timestamp
+same-options : (a b : TcpOptions) → a.max_seg_size ≡ b.max_seg_size → a.window_scale ≡ b.window_scale → a.sack_permitted ≡ b.sack_permitted →
+    a.sack_ranges ≡ b.sack_ranges → a.timestamp ≡ b.timestamp
     → a ≡ b
 same-options a b e f g h k = λ i. record {
   max_seg_size = e i;
@@ -80,10 +81,13 @@ Decides-options a b =
       λ yes.
           let parts = all.0 yes in
           same-options a b (front parts) (front (back parts)) (front (back (back parts))) (front (back (back (back parts)))) (back (back (back (back parts)))),
-      λ e. all.1 (both (ap (λ (v : TcpOptions). v.max_seg_size) e) (both (ap (λ (v : TcpOptions). v.window_scale) e) (both (ap (λ (v : TcpOptions). v.sack_permitted) e) (both (ap (λ (v : TcpOptions). v.sack_ranges) e) (ap (λ (v : TcpOptions). v.timestamp) e))))),
+      λ e. all.1 (both (ap (λ (v : TcpOptions). v.max_seg_size) e)
+          (both (ap (λ (v : TcpOptions). v.window_scale) e)
+          (both (ap (λ (v : TcpOptions). v.sack_permitted) e) (both (ap (λ (v : TcpOptions). v.sack_ranges) e) (ap (λ (v : TcpOptions). v.timestamp) e))))),
     )
 
-same-header : (a b : TcpHeader) → a.src_port ≡ b.src_port → a.dst_port ≡ b.dst_port → a.control ≡ b.control → a.seq_number.0 ≡ b.seq_number.0 → a.ack_number ≡ b.ack_number
+same-header : (a b : TcpHeader) → a.src_port ≡ b.src_port → a.dst_port ≡ b.dst_port → a.control ≡ b.control → a.seq_number.0 ≡ b.seq_number.0 →
+    a.ack_number ≡ b.ack_number
     → a.window_len ≡ b.window_len → a.options ≡ b.options → a ≡ b
 same-header a b e f g h k l m = λ i. record {
   src_port = e i;
@@ -110,5 +114,7 @@ Decides-header a b =
           same-header a b (front (all.0 yes)) (front (back (all.0 yes))) (front two) (front (back two)) (front four) (front (back four)) (back (back four)),
       λ e.
           let last = both (ap (λ (v : TcpHeader). v.ack_number) e) (both (ap (λ (v : TcpHeader). v.window_len) e) (ap (λ (v : TcpHeader). v.options) e)) in
-          all.1 (both (ap (λ (v : TcpHeader). v.src_port) e) (both (ap (λ (v : TcpHeader). v.dst_port) e) (both (ap (λ (v : TcpHeader). v.control) e) (both (ap (λ (v : TcpHeader). v.seq_number.0) e) last)))),
+          all.1 (both (ap (λ (v : TcpHeader). v.src_port) e)
+          (both (ap (λ (v : TcpHeader). v.dst_port) e)
+          (both (ap (λ (v : TcpHeader). v.control) e) (both (ap (λ (v : TcpHeader). v.seq_number.0) e) last)))),
     )

@@ -1,12 +1,14 @@
 -- Options and the bytes that spell them.
-use Rattle.std.proofs.Common.{◌≡◌, ◌≢◌, ℕ, ◌+◌, ◌-◌, ◌%◌, ◌≤◌, suc, false, List, [], ◌∷◌, ◌++◌, length, take, drop, refl, sym, ◌∙◌, ap, subst, arith, ◌↔◌, inl, inr, length-append, length-take}
+use Rattle.std.proofs.Common.{◌≡◌, ◌≢◌, ℕ, ◌+◌, ◌-◌, ◌%◌, ◌≤◌, suc, false, List, [], ◌∷◌, ◌++◌, length, take, drop, refl, sym, ◌∙◌, ap, subst, arith, ◌↔◌, inl}
+use Rattle.std.proofs.Common.{inr, length-append, length-take}
 use Rattle.std.specs.Prelude.{Option, Some, None, slice_index, slice_range, ◌==◌}
 use Rattle.std.proofs.lemmas.Bool.Decides.{eqb_tells, leb_tells}
 use Rattle.std.proofs.lemmas.Bool.{eq-eqb}
 use Rattle.std.proofs.lemmas.List.{take_at, drop_at, take-append-drop}
 use Rattle.ip_tcp.proofs.First.{first_option}
 use Rattle.ip_address.specs.Fields.{be16, be32}
-use Rattle.ip_tcp.specs.Options.{OptionValue, EndOfList, NoOperation, MaxSegmentSize, WindowScale, SackPermitted, SackRange, TimeStamp, Unknown, ranges_of, long_option, IsOption, IsOtherKind, Begins}
+use Rattle.ip_tcp.specs.Options.{OptionValue, EndOfList, NoOperation, MaxSegmentSize, WindowScale, SackPermitted, SackRange, TimeStamp, Unknown, ranges_of}
+use Rattle.ip_tcp.specs.Options.{long_option, IsOption, IsOtherKind, Begins}
 use Rattle.ip_tcp.specs.Seen.{First, first_long, before, inside}
 
 -- no bytes are left
@@ -72,7 +74,19 @@ inside-spelled kind inner o not_end not_nop is =
               | inr not_eight ↦
                   let read = rw (not_two.0, not_three.0, not_four.0, not_five.0, not_eight.0) at is in
                   let same : Unknown kind inner ≡ o = cc read in
-                  subst (λ p. IsOption p (long_option kind inner)) same (refl, record { end = not_end; no_operation = not_nop; size = not_two.1; scale = not_three.1; permitted = not_four.1; ranges = not_five.1; stamp = not_eight.1 })
+                  subst (λ p. IsOption p (long_option kind inner)) same (
+                    refl,
+                    record {
+                      end = not_end;
+                      no_operation = not_nop;
+                      size = not_two.1;
+                      scale = not_three.1;
+                      permitted = not_four.1;
+                      ranges =
+                          not_five.1;
+                      stamp = not_eight.1;
+                    },
+                  )
             ]
           ]
         ]
@@ -97,7 +111,8 @@ long_option-split kind n m xs is within =
     )
 
 -- an option of more than one byte begins the bytes that it was read from
-first_long-Begins : (kind n : ℕ) (xs : List ℕ) (f : First) → kind ≢ 0 → kind ≢ 1 → first_long (kind ∷ n ∷ xs) n ≡ Some f → Begins (kind ∷ n ∷ xs) f.option f.rest
+first_long-Begins : (kind n : ℕ) (xs : List ℕ) (f : First) → kind ≢ 0 → kind ≢ 1 → first_long (kind ∷ n ∷ xs) n ≡ Some f →
+    Begins (kind ∷ n ∷ xs) f.option f.rest
 first_long-Begins kind n xs f not_end not_nop is =
     elim (leb_tells 2 n) [
       | inr miss ↦ absurd (let e = rw miss.0 at is in cc e)
@@ -108,13 +123,17 @@ first_long-Begins kind n xs f not_end not_nop is =
             let found = before-read (inside kind (take (n - 2) xs)) (drop n (kind ∷ n ∷ xs)) f read in
             let cut : kind ∷ n ∷ xs ≡ long_option kind (take (n - 2) xs) ++ drop n (kind ∷ n ∷ xs) =
             long_option-split kind n (n - 2) xs (omega (arith, least.1)) (omega (arith, within.1))
-            in
-            (long_option kind (take (n - 2) xs), inside-spelled kind (take (n - 2) xs) f.option not_end not_nop found.0, cut ∙ ap (λ ys. long_option kind (take (n - 2) xs) ++ ys) (sym found.1))
+            in (
+              long_option kind (take (n - 2) xs),
+              inside-spelled kind (take (n - 2) xs) f.option not_end not_nop found.0,
+              cut ∙ ap (λ ys. long_option kind (take (n - 2) xs) ++ ys) (sym found.1),
+            )
       ]
     ]
 
 -- so does an option of one byte
-byte-Begins : (kind : ℕ) (o : OptionValue) (xs : List ℕ) (f : First) → IsOption o (kind ∷ []) → record { option = o; rest = xs } ≡ f → Begins (kind ∷ xs) f.option f.rest
+byte-Begins : (kind : ℕ) (o : OptionValue) (xs : List ℕ) (f : First) → IsOption o (kind ∷ []) → record { option = o; rest = xs } ≡ f →
+    Begins (kind ∷ xs) f.option f.rest
 byte-Begins kind o xs f is same = subst (λ (g : First). Begins (kind ∷ xs) g.option g.rest) same (kind ∷ [], is, refl)
 
 -- an option stands at the front of the bytes that it was read from
@@ -129,7 +148,8 @@ first_option-Begins (kind ∷ xs) f is =
       ]
     ]
   where
-    long-Begins : (kind : ℕ) (xs : List ℕ) (f : First) → kind ≢ 0 → kind ≢ 1 → first_long (kind ∷ xs) (slice_index xs 0) ≡ Some f → Begins (kind ∷ xs) f.option f.rest
+    long-Begins : (kind : ℕ) (xs : List ℕ) (f : First) → kind ≢ 0 → kind ≢ 1 → first_long (kind ∷ xs) (slice_index xs 0) ≡ Some f →
+        Begins (kind ∷ xs) f.option f.rest
     long-Begins kind [] f not_end not_nop is = absurd (cc is)
     long-Begins kind (n ∷ xs) f not_end not_nop is = first_long-Begins kind n xs f not_end not_nop is
 
@@ -147,7 +167,8 @@ long_option-first kind inner rest o not_end not_nop is =
     in
     elim (eqb_tells kind 0) [
       | inl hit ↦ absurd (not_end hit.1)
-      | inr miss ↦ elim (eqb_tells kind 1) [ inl hit ↦ absurd (not_nop hit.1) | inr other ↦ rw (miss.0, other.0) (long ∙ ap (λ ys. Some (record { option = o; rest = ys })) behind) ]
+      | inr miss ↦ elim (eqb_tells kind 1)
+          [ inl hit ↦ absurd (not_nop hit.1) | inr other ↦ rw (miss.0, other.0) (long ∙ ap (λ ys. Some (record { option = o; rest = ys })) behind) ]
     ]
 
 -- a test that fails
@@ -157,7 +178,13 @@ eqb-miss a b other = elim (eqb_tells a b) [ inl hit ↦ absurd (other hit.1) | i
 -- an option of another kind is read
 other-inside : (kind : ℕ) (inner : List ℕ) → IsOtherKind kind → inside kind inner ≡ Some (Unknown kind inner)
 other-inside kind inner other =
-    rw (eqb-miss kind 2 other.size, eqb-miss kind 3 other.scale, eqb-miss kind 4 other.permitted, eqb-miss kind 5 other.ranges, eqb-miss kind 8 other.stamp) refl
+    rw (
+      eqb-miss kind 2 other.size,
+      eqb-miss kind 3 other.scale,
+      eqb-miss kind 4 other.permitted,
+      eqb-miss kind 5 other.ranges,
+      eqb-miss kind 8 other.stamp,
+    ) refl
 
 -- an option that spells the front of bytes is read there
 IsOption-first : (o : OptionValue) (front rest : List ℕ) → IsOption o front → first_option (front ++ rest) ≡ Some (record { option = o; rest = rest })
@@ -166,26 +193,31 @@ IsOption-first NoOperation front rest is = ap (λ xs. first_option (xs ++ rest))
 IsOption-first (MaxSegmentSize n) front rest is =
     let inner : List ℕ = is.0 in
     let read : inside 2 inner ≡ Some (MaxSegmentSize n) = rw (eq-eqb (length inner) 2 is.2) (ap (λ k. Some (MaxSegmentSize k)) (sym is.3)) in
-    ap (λ xs. first_option (xs ++ rest)) is.1 ∙ long_option-first 2 inner rest (MaxSegmentSize n) (λ e. absurd (omega (arith, e))) (λ e. absurd (omega (arith, e))) read
+    ap (λ xs. first_option (xs ++ rest)) is.1 ∙
+    long_option-first 2 inner rest (MaxSegmentSize n) (λ e. absurd (omega (arith, e))) (λ e. absurd (omega (arith, e))) read
 IsOption-first (WindowScale n) front rest is =
     let inner : List ℕ = is.0 in
     let read : inside 3 inner ≡ Some (WindowScale n) = rw (eq-eqb (length inner) 1 is.2) (ap (λ k. Some (WindowScale k)) (sym is.3)) in
-    ap (λ xs. first_option (xs ++ rest)) is.1 ∙ long_option-first 3 inner rest (WindowScale n) (λ e. absurd (omega (arith, e))) (λ e. absurd (omega (arith, e))) read
+    ap (λ xs. first_option (xs ++ rest)) is.1 ∙
+    long_option-first 3 inner rest (WindowScale n) (λ e. absurd (omega (arith, e))) (λ e. absurd (omega (arith, e))) read
 IsOption-first SackPermitted front rest is =
     ap (λ xs. first_option (xs ++ rest)) is ∙ long_option-first 4 [] rest SackPermitted (λ e. absurd (omega (arith, e))) (λ e. absurd (omega (arith, e))) refl
 IsOption-first (SackRange ranges) front rest is =
     let inner : List ℕ = is.0 in
     let read : inside 5 inner ≡ Some (SackRange ranges) = rw (eq-eqb (length inner % 8) 0 is.2) (ap (λ k. Some (SackRange k)) (sym is.3)) in
-    ap (λ xs. first_option (xs ++ rest)) is.1 ∙ long_option-first 5 inner rest (SackRange ranges) (λ e. absurd (omega (arith, e))) (λ e. absurd (omega (arith, e))) read
+    ap (λ xs. first_option (xs ++ rest)) is.1 ∙
+    long_option-first 5 inner rest (SackRange ranges) (λ e. absurd (omega (arith, e))) (λ e. absurd (omega (arith, e))) read
 IsOption-first (TimeStamp tsval tsecr) front rest is =
     let inner : List ℕ = is.0 in
     let read : inside 8 inner ≡ Some (TimeStamp tsval tsecr) =
     rw (eq-eqb (length inner) 8 is.2) (ap (λ k. Some (TimeStamp k (be32 inner 4))) (sym is.3) ∙ ap (λ k. Some (TimeStamp tsval k)) (sym is.4))
     in
-    ap (λ xs. first_option (xs ++ rest)) is.1 ∙ long_option-first 8 inner rest (TimeStamp tsval tsecr) (λ e. absurd (omega (arith, e))) (λ e. absurd (omega (arith, e))) read
+    ap (λ xs. first_option (xs ++ rest)) is.1 ∙
+    long_option-first 8 inner rest (TimeStamp tsval tsecr) (λ e. absurd (omega (arith, e))) (λ e. absurd (omega (arith, e))) read
 IsOption-first (Unknown kind inner) front rest is =
     let other : IsOtherKind kind = is.1 in
-    ap (λ xs. first_option (xs ++ rest)) is.0 ∙ long_option-first kind inner rest (Unknown kind inner) other.end other.no_operation (other-inside kind inner other)
+    ap (λ xs. first_option (xs ++ rest)) is.0 ∙
+    long_option-first kind inner rest (Unknown kind inner) other.end other.no_operation (other-inside kind inner other)
 
 -- an option is read exactly where its spelling stands at the front
 pub first_option-spelled : (bytes rest : List ℕ) (o : OptionValue) → (first_option bytes ≡ Some (record { option = o; rest = rest })) ↔ Begins bytes o rest

@@ -2,7 +2,8 @@
 use Rattle.std.proofs.Common.{◌≡◌, ℕ, ◌+◌, ◌≤◌, List, [], ◌∷◌, length, refl, sym, ap, subst, arith, inl, inr, length-append}
 use Rattle.std.specs.Prelude.{Some}
 use Rattle.std.proofs.lemmas.Bool.Decides.{leb_tells}
-use Rattle.ip_tcp.specs.Options.{OptionValue, EndOfList, NoOperation, MaxSegmentSize, WindowScale, SackPermitted, SackRange, TimeStamp, Unknown, ranges_of, IsOption, Spells, Says, taken, all_taken, no_options, options_bytes, range_options, options_room, closed_up, AreRead}
+use Rattle.ip_tcp.specs.Options.{OptionValue, EndOfList, NoOperation, MaxSegmentSize, WindowScale, SackPermitted, SackRange, TimeStamp, Unknown, ranges_of}
+use Rattle.ip_tcp.specs.Options.{IsOption, Spells, Says, taken, all_taken, no_options, options_bytes, range_options, options_room, closed_up, AreRead}
 use Rattle.ip_tcp.specs.declared.option.TcpOptions.{TcpOptions}
 
 -- how many bytes an option takes where it is kept

@@ -6,7 +6,8 @@ use Rattle.ip_tcp.specs.Options.{options_area}
 use Rattle.ip_tcp.specs.Tcp.{acknowledges, header_len, written}
 use Rattle.ip_tcp.specs.declared.header.TcpHeader.{TcpHeader}
 
-pub length-segment : (source destination : IpAddress) (sealed : Bool) (v : TcpHeader) (payload : List ℕ) → length (written source destination sealed v payload) ≡ header_len v + length payload
+pub length-segment : (source destination : IpAddress) (sealed : Bool) (v : TcpHeader) (payload : List ℕ) →
+    length (written source destination sealed v payload) ≡ header_len v + length payload
 length-segment source destination sealed v payload =
     let area : List ℕ = options_area (acknowledges v.ack_number) v.options in
     omega (arith, length-append area payload, length-options_area (acknowledges v.ack_number) v.options)

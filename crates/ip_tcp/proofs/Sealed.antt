@@ -10,7 +10,8 @@ use Rattle.ip_tcp.specs.Tcp.{IsChecked, IsTcp}
 use Rattle.ip_tcp.specs.declared.header.TcpHeader.{TcpHeader}
 
 -- a segment whose checksum holds isn't read once one aligned word is changed to a number of another class
-pub IsTcp-put16 : (source destination : IpAddress) (bytes : List ℕ) (i n : ℕ) (v : TcpHeader) → IsChecked source destination bytes → i % 2 ≡ 0 → i + 2 ≤ length bytes → n < 65536
+pub IsTcp-put16 : (source destination : IpAddress) (bytes : List ℕ) (i n : ℕ) (v : TcpHeader) → IsChecked source destination bytes → i % 2 ≡ 0 →
+    i + 2 ≤ length bytes → n < 65536
     → be16 bytes i % 65535 ≢ n % 65535 → IsTcp source destination true (put16 bytes i n) v → ⊥
 IsTcp-put16 source destination bytes i n v checked even within small other is =
     let len : length (put16 bytes i n) ≡ length bytes = simp length-set in

@@ -1,5 +1,6 @@
 -- Options that were sent, read back.
-use Rattle.std.proofs.Common.{◌≡◌, ℕ, ◌-◌, ◌^◌, zero, suc, Bool, true, false, List, [], ◌∷◌, ◌++◌, length, replicate, refl, sym, ◌∙◌, ap, subst, arith, append_assoc}
+use Rattle.std.proofs.Common.{◌≡◌, ℕ, ◌-◌, ◌^◌, zero, suc, Bool, true, false, List, [], ◌∷◌, ◌++◌, length, replicate, refl, sym, ◌∙◌, ap, subst, arith}
+use Rattle.std.proofs.Common.{append_assoc}
 use Rattle.std.specs.Prelude.{Option, Some, None}
 use Rattle.std.specs.Int.{w16, w32, to_be_bytes}
 use Rattle.ip_tcp.proofs.First.{first_option}
@@ -7,7 +8,10 @@ use Rattle.ip_address.specs.Fields.{be32, IsNumber}
 use Rattle.ip_tcp.proofs.Steps.{Says-fold}
 use Rattle.ip_tcp.proofs.Grammar.{first_option-spelled}
 use Rattle.std.proofs.lemmas.List.{append-nil}
-use Rattle.ip_tcp.specs.Options.{OptionValue, Begins, EndOfList, NoOperation, MaxSegmentSize, WindowScale, SackPermitted, SackRange, TimeStamp, Unknown, IsOption, IsOptionValue, normal_option, option_bytes, ranges_bytes, taken, Says, no_options, options_bytes, size_options, scale_options, sack_options, range_options, stamp_options, sent_bytes, options_room, padded, options_area, normal_options, sent_ranges, closed_up, no_ranges, read_scale, IsRange, IsStamp, AreRanges, AreOptions}
+use Rattle.ip_tcp.specs.Options.{OptionValue, Begins, EndOfList, NoOperation, MaxSegmentSize, WindowScale, SackPermitted, SackRange, TimeStamp, Unknown}
+use Rattle.ip_tcp.specs.Options.{IsOption, IsOptionValue, normal_option, option_bytes, ranges_bytes, taken, Says, no_options, options_bytes, size_options}
+use Rattle.ip_tcp.specs.Options.{scale_options, sack_options, range_options, stamp_options, sent_bytes, options_room, padded, options_area, normal_options}
+use Rattle.ip_tcp.specs.Options.{sent_ranges, closed_up, no_ranges, read_scale, IsRange, IsStamp, AreRanges, AreOptions}
 use Rattle.ip_tcp.specs.Seen.{is_end}
 use Rattle.ip_tcp.specs.declared.option.TcpOptions.{TcpOptions}
 use Rattle.ip_tcp.specs.declared.timestamp.TcpTimestampRepr.{TcpTimestampRepr}
@@ -19,7 +23,8 @@ Says-zeros v (suc n) = (EndOfList ∷ [], (replicate n 0, (0 ∷ [], refl, refl)
 
 -- options from their fields
 abbrev state : Option ℕ → Option ℕ → Bool → List (Option (ℕ × ℕ)) → Option TcpTimestampRepr → TcpOptions
-state size scale permitted ranges stamp = record { max_seg_size = size; window_scale = scale; sack_permitted = permitted; sack_ranges = ranges; timestamp = stamp }
+state size scale permitted ranges stamp =
+    record { max_seg_size = size; window_scale = scale; sack_permitted = permitted; sack_ranges = ranges; timestamp = stamp }
 
 -- ranges that start and end alike are the same
 pair : ℕ → ℕ → ℕ × ℕ
@@ -44,9 +49,11 @@ one-read : (a : ℕ × ℕ) → IsRange (Some a) → Some a ∷ None ∷ None �
 one-read a small = ap (λ r. Some r ∷ None ∷ None ∷ []) (spelled-same a small)
 
 two-read : (a b : ℕ × ℕ) → IsRange (Some a) → IsRange (Some b) → Some a ∷ Some b ∷ None ∷ [] ≡ Some (spelled a) ∷ Some (spelled b) ∷ None ∷ []
-two-read a b first second = ap (λ r. Some r ∷ Some b ∷ None ∷ []) (spelled-same a first) ∙ ap (λ r. Some (spelled a) ∷ Some r ∷ None ∷ []) (spelled-same b second)
+two-read a b first second = ap (λ r. Some r ∷ Some b ∷ None ∷ []) (spelled-same a first) ∙
+    ap (λ r. Some (spelled a) ∷ Some r ∷ None ∷ []) (spelled-same b second)
 
-three-read : (a b c : ℕ × ℕ) → IsRange (Some a) → IsRange (Some b) → IsRange (Some c) → Some a ∷ Some b ∷ Some c ∷ [] ≡ Some (spelled a) ∷ Some (spelled b) ∷ Some (spelled c) ∷ []
+three-read : (a b c : ℕ × ℕ) → IsRange (Some a) → IsRange (Some b) → IsRange (Some c) →
+    Some a ∷ Some b ∷ Some c ∷ [] ≡ Some (spelled a) ∷ Some (spelled b) ∷ Some (spelled c) ∷ []
 three-read a b c first second third =
     ap (λ r. Some r ∷ Some b ∷ Some c ∷ []) (spelled-same a first) ∙ ap (λ r. Some (spelled a) ∷ Some r ∷ Some c ∷ []) (spelled-same b second)
     ∙ ap (λ r. Some (spelled a) ∷ Some (spelled b) ∷ Some r ∷ []) (spelled-same c third)
@@ -79,42 +86,56 @@ pub option-read : (o : OptionValue) (rest : List ℕ) → IsOptionValue o → Be
 option-read o rest value = (option_bytes o, option-spelled o value, refl)
 
 -- an option before what is read
-Says-option : (o : OptionValue) (so_far v : TcpOptions) (rest : List ℕ) → IsOptionValue o → is_end (normal_option o) ≡ false → Says (taken so_far (normal_option o)) rest v
+Says-option : (o : OptionValue) (so_far v : TcpOptions) (rest : List ℕ) → IsOptionValue o → is_end (normal_option o) ≡ false →
+    Says (taken so_far (normal_option o)) rest v
     → Says so_far (options_bytes (o ∷ []) ++ rest) v
 Says-option o so_far v rest value more says =
-    Says-fold so_far v (options_bytes (o ∷ []) ++ rest) (normal_option o) rest (ap (λ xs. first_option (xs ++ rest)) (append-nil (option_bytes o)) ∙ (first_option-spelled (option_bytes o ++ rest) rest (normal_option o)).1 (option-read o rest value)) more says
+    Says-fold so_far v (options_bytes (o ∷ []) ++ rest) (normal_option o) rest (ap (λ xs. first_option (xs ++ rest)) (append-nil (option_bytes o)) ∙
+    (first_option-spelled (option_bytes o ++ rest) rest (normal_option o)).1 (option-read o rest value)) more says
 
 -- a maximum segment size before what is read
-Says-size : (m : Option ℕ) (v : TcpOptions) (rest : List ℕ) → IsNumber (2 ^ 16) m → Says (state m None false no_ranges None) rest v → Says no_options (options_bytes (size_options m) ++ rest) v
+Says-size : (m : Option ℕ) (v : TcpOptions) (rest : List ℕ) → IsNumber (2 ^ 16) m → Says (state m None false no_ranges None) rest v →
+    Says no_options (options_bytes (size_options m) ++ rest) v
 Says-size None v rest small says = says
 Says-size (Some n) v rest small says = Says-option (MaxSegmentSize n) no_options v rest small refl says
 
 -- a scale before what is read
-Says-scale : (m scale : Option ℕ) (v : TcpOptions) (rest : List ℕ) → IsNumber 256 scale → Says (state m (read_scale scale) false no_ranges None) rest v → Says (state m None false no_ranges None) (options_bytes (scale_options scale) ++ rest) v
+Says-scale : (m scale : Option ℕ) (v : TcpOptions) (rest : List ℕ) → IsNumber 256 scale → Says (state m (read_scale scale) false no_ranges None) rest v →
+    Says (state m None false no_ranges None) (options_bytes (scale_options scale) ++ rest) v
 Says-scale m None v rest small says = says
 Says-scale m (Some n) v rest small says = Says-option (WindowScale n) (state m None false no_ranges None) v rest small refl says
 
 -- timestamps before what is read
-Says-stamp : (m s : Option ℕ) (p : Bool) (ranges : List (Option (ℕ × ℕ))) (stamp : Option TcpTimestampRepr) (v : TcpOptions) (rest : List ℕ) → IsStamp stamp → Says (state m s p ranges stamp) rest v
+Says-stamp : (m s : Option ℕ) (p : Bool) (ranges : List (Option (ℕ × ℕ))) (stamp : Option TcpTimestampRepr) (v : TcpOptions) (rest : List ℕ) → IsStamp stamp →
+    Says (state m s p ranges stamp) rest v
     → Says (state m s p ranges None) (options_bytes (stamp_options stamp) ++ rest) v
 Says-stamp m s p ranges None v rest small says = says
 Says-stamp m s p ranges (Some stamp) v rest small says = Says-option (TimeStamp stamp.tsval stamp.tsecr) (state m s p ranges None) v rest small refl says
 
 -- ranges before what is read
-Says-ranges : (ranges : List (Option (ℕ × ℕ))) (m s : Option ℕ) (v : TcpOptions) (rest : List ℕ) → AreRanges ranges → Says (state m s false (closed_up ranges) None) rest v
+Says-ranges : (ranges : List (Option (ℕ × ℕ))) (m s : Option ℕ) (v : TcpOptions) (rest : List ℕ) → AreRanges ranges →
+    Says (state m s false (closed_up ranges) None) rest v
     → Says (state m s false no_ranges None) (options_bytes (range_options ranges) ++ rest) v
 Says-ranges (None ∷ None ∷ None ∷ []) m s v rest small says = says
-Says-ranges (Some a ∷ None ∷ None ∷ []) m s v rest small says = Says-option (SackRange (Some a ∷ None ∷ None ∷ [])) (state m s false no_ranges None) v rest small refl says
-Says-ranges (None ∷ Some a ∷ None ∷ []) m s v rest small says = Says-option (SackRange (None ∷ Some a ∷ None ∷ [])) (state m s false no_ranges None) v rest small refl says
-Says-ranges (None ∷ None ∷ Some a ∷ []) m s v rest small says = Says-option (SackRange (None ∷ None ∷ Some a ∷ [])) (state m s false no_ranges None) v rest small refl says
-Says-ranges (Some a ∷ Some b ∷ None ∷ []) m s v rest small says = Says-option (SackRange (Some a ∷ Some b ∷ None ∷ [])) (state m s false no_ranges None) v rest small refl says
-Says-ranges (Some a ∷ None ∷ Some b ∷ []) m s v rest small says = Says-option (SackRange (Some a ∷ None ∷ Some b ∷ [])) (state m s false no_ranges None) v rest small refl says
-Says-ranges (None ∷ Some a ∷ Some b ∷ []) m s v rest small says = Says-option (SackRange (None ∷ Some a ∷ Some b ∷ [])) (state m s false no_ranges None) v rest small refl says
-Says-ranges (Some a ∷ Some b ∷ Some c ∷ []) m s v rest small says = Says-option (SackRange (Some a ∷ Some b ∷ Some c ∷ [])) (state m s false no_ranges None) v rest small refl says
+Says-ranges (Some a ∷ None ∷ None ∷ []) m s v rest small says =
+    Says-option (SackRange (Some a ∷ None ∷ None ∷ [])) (state m s false no_ranges None) v rest small refl says
+Says-ranges (None ∷ Some a ∷ None ∷ []) m s v rest small says =
+    Says-option (SackRange (None ∷ Some a ∷ None ∷ [])) (state m s false no_ranges None) v rest small refl says
+Says-ranges (None ∷ None ∷ Some a ∷ []) m s v rest small says =
+    Says-option (SackRange (None ∷ None ∷ Some a ∷ [])) (state m s false no_ranges None) v rest small refl says
+Says-ranges (Some a ∷ Some b ∷ None ∷ []) m s v rest small says =
+    Says-option (SackRange (Some a ∷ Some b ∷ None ∷ [])) (state m s false no_ranges None) v rest small refl says
+Says-ranges (Some a ∷ None ∷ Some b ∷ []) m s v rest small says =
+    Says-option (SackRange (Some a ∷ None ∷ Some b ∷ [])) (state m s false no_ranges None) v rest small refl says
+Says-ranges (None ∷ Some a ∷ Some b ∷ []) m s v rest small says =
+    Says-option (SackRange (None ∷ Some a ∷ Some b ∷ [])) (state m s false no_ranges None) v rest small refl says
+Says-ranges (Some a ∷ Some b ∷ Some c ∷ []) m s v rest small says =
+    Says-option (SackRange (Some a ∷ Some b ∷ Some c ∷ [])) (state m s false no_ranges None) v rest small refl says
 Says-ranges _ m s v rest small says = absurd small
 
 -- SACK permitted, or ranges, before what is read
-Says-sack : (p acks : Bool) (ranges : List (Option (ℕ × ℕ))) (m s : Option ℕ) (v : TcpOptions) (rest : List ℕ) → AreRanges ranges → Says (state m s p (sent_ranges p acks ranges) None) rest v
+Says-sack : (p acks : Bool) (ranges : List (Option (ℕ × ℕ))) (m s : Option ℕ) (v : TcpOptions) (rest : List ℕ) → AreRanges ranges →
+    Says (state m s p (sent_ranges p acks ranges) None) rest v
     → Says (state m s false no_ranges None) (options_bytes (sack_options p acks ranges) ++ rest) v
 Says-sack true acks ranges m s v rest small says = Says-option SackPermitted (state m s false no_ranges None) v rest tt refl says
 Says-sack false false ranges m s v rest small says = says
@@ -124,12 +145,15 @@ Says-sack false true ranges m s v rest small says = Says-ranges ranges m s v res
 pub Says-area : (acks : Bool) (v : TcpOptions) → AreOptions v → Says no_options (options_area acks v) (normal_options acks v)
 Says-area acks v small =
     let zeros : List ℕ = replicate (padded (options_room v) - length (sent_bytes acks v)) 0 in
-    let apart : options_area acks v ≡ options_bytes (size_options v.max_seg_size) ++ (options_bytes (scale_options v.window_scale) ++ (options_bytes (sack_options v.sack_permitted acks v.sack_ranges) ++ (options_bytes (stamp_options v.timestamp) ++ zeros))) = simp append_assoc in
+    let apart : options_area acks v ≡ options_bytes (size_options v.max_seg_size) ++
+    (options_bytes (scale_options v.window_scale) ++
+    (options_bytes (sack_options v.sack_permitted acks v.sack_ranges) ++ (options_bytes (stamp_options v.timestamp) ++ zeros))) = simp append_assoc in
     subst (λ xs. Says no_options xs (normal_options acks v)) (sym apart) (
     Says-size v.max_seg_size (normal_options acks v) _ small.size (
     Says-scale v.max_seg_size v.window_scale (normal_options acks v) _ small.scale (
     Says-sack v.sack_permitted acks v.sack_ranges v.max_seg_size (read_scale v.window_scale) (normal_options acks v) _ small.ranges (
-    Says-stamp v.max_seg_size (read_scale v.window_scale) v.sack_permitted (sent_ranges v.sack_permitted acks v.sack_ranges) v.timestamp (normal_options acks v) _ small.stamp (
+    Says-stamp v.max_seg_size (read_scale v.window_scale) v.sack_permitted (sent_ranges v.sack_permitted acks v.sack_ranges) v.timestamp (normal_options acks v)
+    _ small.stamp (
     Says-zeros (normal_options acks v) (padded (options_room v) - length (sent_bytes acks v))
     )
     )

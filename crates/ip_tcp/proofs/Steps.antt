@@ -1,5 +1,6 @@
 -- Options read one by one.
-use Rattle.std.proofs.Common.{◌≡◌, ◌≢◌, ℕ, ◌-◌, ◌<◌, ◌≤◌, true, false, List, [], ◌∷◌, length, take, drop, refl, sym, ◌∙◌, ap, subst, arith, ◌↔◌, inl, inr, length-drop, take_all}
+use Rattle.std.proofs.Common.{◌≡◌, ◌≢◌, ℕ, ◌-◌, ◌<◌, ◌≤◌, true, false, List, [], ◌∷◌, length, take, drop, refl, sym, ◌∙◌, ap, subst, arith, ◌↔◌, inl, inr}
+use Rattle.std.proofs.Common.{length-drop, take_all}
 use Rattle.std.specs.Prelude.{Option, Some, None, Result, Ok, Err, IsOk, IfOk, slice_index, slice_range}
 use denote.Ref.{Bor}
 use Rattle.std.proofs.lemmas.Bool.Decides.{eqb_tells, leb_tells}
@@ -21,11 +22,13 @@ rest_or None = []
 rest_or (Some f) = f.rest
 
 -- one answer has one option and one rest
-same_option : (o p : OptionValue) (r s : List ℕ) (answer : Option First) → answer ≡ Some (record { option = o; rest = r }) → answer ≡ Some (record { option = p; rest = s }) → o ≡ p
+same_option : (o p : OptionValue) (r s : List ℕ) (answer : Option First) → answer ≡ Some (record { option = o; rest = r }) →
+    answer ≡ Some (record { option = p; rest = s }) → o ≡ p
 unfolding option_or
 same_option o p r s answer a b = ap option_or (sym a ∙ b)
 
-same_rest : (o p : OptionValue) (r s : List ℕ) (answer : Option First) → answer ≡ Some (record { option = o; rest = r }) → answer ≡ Some (record { option = p; rest = s }) → r ≡ s
+same_rest : (o p : OptionValue) (r s : List ℕ) (answer : Option First) → answer ≡ Some (record { option = o; rest = r }) →
+    answer ≡ Some (record { option = p; rest = s }) → r ≡ s
 unfolding rest_or
 same_rest o p r s answer a b = ap rest_or (sym a ∙ b)
 
@@ -37,13 +40,16 @@ Begins-one bytes rest behind o p first second =
     (same_option o p rest behind (first_option bytes) a b, same_rest o p rest behind (first_option bytes) a b)
 
 -- a reader that answers what is read at the front finds an option that stands there, and finds it wherever one does
-pub seen-found : (bytes : List ℕ) (result : Result (Bor (List ℕ) × TcpOption) Error) → seen_first result ≡ first_option bytes → IfOk result (λ p. Begins bytes (value_of p.1) p.0.now)
+pub seen-found : (bytes : List ℕ) (result : Result (Bor (List ℕ) × TcpOption) Error) → seen_first result ≡ first_option bytes →
+    IfOk result (λ p. Begins bytes (value_of p.1) p.0.now)
 seen-found bytes (Ok p) is = (first_option-spelled bytes p.0.now (value_of p.1)).0 (sym is)
 seen-found bytes (Err e) is = tt
 
-pub seen-only : (bytes : List ℕ) (result : Result (Bor (List ℕ) × TcpOption) Error) → seen_first result ≡ first_option bytes → (o : OptionValue) (rest : List ℕ) → Begins bytes o rest
+pub seen-only : (bytes : List ℕ) (result : Result (Bor (List ℕ) × TcpOption) Error) → seen_first result ≡ first_option bytes →
+    (o : OptionValue) (rest : List ℕ) → Begins bytes o rest
     → IsOk result × IfOk result (λ p. (value_of p.1 ≡ o) × (p.0.now ≡ rest))
-seen-only bytes (Ok p) is o rest begins = (refl, Begins-one bytes p.0.now rest (value_of p.1) o ((first_option-spelled bytes p.0.now (value_of p.1)).0 (sym is)) begins)
+seen-only bytes (Ok p) is o rest begins =
+    (refl, Begins-one bytes p.0.now rest (value_of p.1) o ((first_option-spelled bytes p.0.now (value_of p.1)).0 (sym is)) begins)
 seen-only bytes (Err e) is o rest begins = let some = (first_option-spelled bytes rest o).1 begins in absurd (cc (is, some))
 
 -- and the other way round
@@ -78,45 +84,54 @@ Spells-empty (EndOfList ∷ os) bytes none s = absurd (none_first bytes EndOfLis
 Spells-empty (o ∷ os) bytes none s = absurd (none_first bytes o s.0 none s.1)
 
 -- what bytes spell that begin with the end of options
-pub Spells-end : (os : List OptionValue) (bytes : List ℕ) (o : OptionValue) (r : List ℕ) → first_option bytes ≡ Some (record { option = o; rest = r }) → is_end o ≡ true
+pub Spells-end : (os : List OptionValue) (bytes : List ℕ) (o : OptionValue) (r : List ℕ) → first_option bytes ≡ Some (record { option = o; rest = r }) →
+    is_end o ≡ true
     → (so_far : TcpOptions) → Spells os bytes → all_taken so_far os ≡ so_far
 Spells-end [] bytes o r is end so_far s = refl
 Spells-end (EndOfList ∷ os) bytes o r is end so_far s = ap (all_taken so_far) s.2
-Spells-end (p ∷ os) bytes o r is end so_far s = let e = same_option o p r s.0 (first_option bytes) is ((first_option-spelled bytes s.0 p).1 s.1) in let f = ap is_end e in cc
+Spells-end (p ∷ os) bytes o r is end so_far s = let e = same_option o p r s.0 (first_option bytes) is ((first_option-spelled bytes s.0 p).1 s.1) in let f =
+    ap is_end e in cc
 
 -- the option at the front of what is spelled
-Says-unfold : (so_far v : TcpOptions) (os : List OptionValue) (bytes : List ℕ) (o : OptionValue) (r : List ℕ) → first_option bytes ≡ Some (record { option = o; rest = r }) → is_end o ≡ false
+Says-unfold : (so_far v : TcpOptions) (os : List OptionValue) (bytes : List ℕ) (o : OptionValue) (r : List ℕ) →
+    first_option bytes ≡ Some (record { option = o; rest = r }) → is_end o ≡ false
     → Spells os bytes → v ≡ all_taken so_far os → Says (taken so_far o) r v
 Says-unfold so_far v [] bytes o r is more s all = absurd (none_first bytes o r s ((first_option-spelled bytes r o).0 is))
-Says-unfold so_far v (EndOfList ∷ os) bytes o r is more s all = absurd (let e = same_option o EndOfList r s.0 (first_option bytes) is ((first_option-spelled bytes s.0 EndOfList).1 s.1) in let f = ap is_end e in cc)
+Says-unfold so_far v (EndOfList ∷ os) bytes o r is more s all =
+    absurd (let e = same_option o EndOfList r s.0 (first_option bytes) is ((first_option-spelled bytes s.0 EndOfList).1 s.1) in let f = ap is_end e in cc)
 Says-unfold so_far v (p ∷ os) bytes o r is more s all =
     let next = (first_option-spelled bytes s.0 p).1 s.1 in
     let e = same_option o p r s.0 (first_option bytes) is next in
     let f = same_rest o p r s.0 (first_option bytes) is next in
     (os, subst (Spells os) (sym f) s.2, all ∙ ap (λ q. all_taken (taken so_far q) os) (sym e))
 
-pub Says-fold : (so_far v : TcpOptions) (bytes : List ℕ) (o : OptionValue) (r : List ℕ) → first_option bytes ≡ Some (record { option = o; rest = r }) → is_end o ≡ false
+pub Says-fold : (so_far v : TcpOptions) (bytes : List ℕ) (o : OptionValue) (r : List ℕ) → first_option bytes ≡ Some (record { option = o; rest = r }) →
+    is_end o ≡ false
     → Says (taken so_far o) r v → Says so_far bytes v
 Says-fold so_far v bytes EndOfList r is more says = absurd (cc more)
 Says-fold so_far v bytes o r is more says = (o ∷ says.0, (r, (first_option-spelled bytes r o).0 is, says.1), says.2)
 
 -- one option more
-pub Says-step : (so_far v : TcpOptions) (bytes : List ℕ) (o : OptionValue) (r : List ℕ) → first_option bytes ≡ Some (record { option = o; rest = r }) → is_end o ≡ false
+pub Says-step : (so_far v : TcpOptions) (bytes : List ℕ) (o : OptionValue) (r : List ℕ) → first_option bytes ≡ Some (record { option = o; rest = r }) →
+    is_end o ≡ false
     → Says (taken so_far o) r v ↔ Says so_far bytes v
 Says-step so_far v bytes o r is more =
     (Says-fold so_far v bytes o r is more, λ says. Says-unfold so_far v says.0 bytes o r is more says.1 says.2)
 
 -- the same with the options that a reader has then
-pub Says-next : (so_far next v : TcpOptions) (bytes : List ℕ) (o : OptionValue) (r : List ℕ) → first_option bytes ≡ Some (record { option = o; rest = r }) → is_end o ≡ false → next ≡ taken so_far o
+pub Says-next : (so_far next v : TcpOptions) (bytes : List ℕ) (o : OptionValue) (r : List ℕ) → first_option bytes ≡ Some (record { option = o; rest = r }) →
+    is_end o ≡ false → next ≡ taken so_far o
     → Says next r v ↔ Says so_far bytes v
 Says-next so_far next v bytes o r is more made = rw made (Says-step so_far v bytes o r is more)
 
 -- the end of options
-Says-at_end : (so_far : TcpOptions) (bytes : List ℕ) (o : OptionValue) (r : List ℕ) → first_option bytes ≡ Some (record { option = o; rest = r }) → is_end o ≡ true → Says so_far bytes so_far
+Says-at_end : (so_far : TcpOptions) (bytes : List ℕ) (o : OptionValue) (r : List ℕ) → first_option bytes ≡ Some (record { option = o; rest = r }) →
+    is_end o ≡ true → Says so_far bytes so_far
 Says-at_end so_far bytes EndOfList r is end = (EndOfList ∷ [], (r, (first_option-spelled bytes r EndOfList).0 is, refl), refl)
 Says-at_end so_far bytes o r is end = absurd (cc end)
 
-pub Says-end : (so_far v : TcpOptions) (bytes : List ℕ) (o : OptionValue) (r : List ℕ) → first_option bytes ≡ Some (record { option = o; rest = r }) → is_end o ≡ true
+pub Says-end : (so_far v : TcpOptions) (bytes : List ℕ) (o : OptionValue) (r : List ℕ) → first_option bytes ≡ Some (record { option = o; rest = r }) →
+    is_end o ≡ true
     → (Says so_far bytes so_far) × (Says so_far bytes v → so_far ≡ v)
 Says-end so_far v bytes o r is end =
     (Says-at_end so_far bytes o r is end, λ says. sym (says.2 ∙ Spells-end says.0 bytes o r is end so_far says.1))
@@ -129,7 +144,8 @@ pub Says-empty : (so_far v : TcpOptions) (bytes : List ℕ) → length bytes ≡
 Says-empty so_far v bytes none says = sym (says.2 ∙ ap (all_taken so_far) (Spells-empty says.0 bytes (empty bytes none) says.1))
 
 -- a first byte that is neither 0 nor 1
-pub first_option-long : (bytes rest : List ℕ) → 1 ≤ length bytes → rest ≡ take (length bytes - 1) (drop 1 bytes) → slice_index bytes 0 ≢ 0 → slice_index bytes 0 ≢ 1
+pub first_option-long : (bytes rest : List ℕ) → 1 ≤ length bytes → rest ≡ take (length bytes - 1) (drop 1 bytes) → slice_index bytes 0 ≢ 0 →
+    slice_index bytes 0 ≢ 1
     → first_option bytes ≡ first_long bytes (slice_index rest 0)
 first_option-long [] rest room is not_end not_nop = absurd (omega arith)
 first_option-long (kind ∷ xs) rest room is not_end not_nop =
@@ -148,7 +164,8 @@ first_long-shorter bytes n f is =
       | inl least ↦ elim (leb_tells n (length bytes)) [
         | inr miss ↦ absurd (let e = rw (least.0, miss.0) at is in cc e)
         | inl within ↦
-            let rest : f.rest ≡ drop n bytes = (before-read (inside (slice_index bytes 0) (slice_range bytes 2 n)) (drop n bytes) f (rw (least.0, within.0) at is)).1 in
+            let rest : f.rest ≡ drop n bytes =
+            (before-read (inside (slice_index bytes 0) (slice_range bytes 2 n)) (drop n bytes) f (rw (least.0, within.0) at is)).1 in
             let e : length f.rest ≡ length (drop n bytes) = ap length rest in
             omega (arith, e, length-drop n bytes, least.1, within.1)
       ]

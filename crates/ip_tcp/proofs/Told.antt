@@ -14,6 +14,7 @@ written-same source destination sealed sealed_too v w payload other value value_
     let untested_too : IsTrue false → IsTrue sealed_too = λ t. absurd (cc t) in
     let first = IsTcp-written source destination false sealed v payload value untested in
     let second = IsTcp-written source destination false sealed_too w other value_too untested_too in (
-      IsTcp-one source destination false (written source destination sealed_too w other) (normal v) (normal w) (subst (λ xs. IsTcp source destination false xs (normal v)) same first) second,
+      IsTcp-one source destination false (written source destination sealed_too w other) (normal v) (normal w)
+          (subst (λ xs. IsTcp source destination false xs (normal v)) same first) second,
       sym (payload_of-written source destination sealed v payload) ∙ ap payload_of same ∙ payload_of-written source destination sealed_too w other,
     )

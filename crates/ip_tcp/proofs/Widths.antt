@@ -1,5 +1,6 @@
 -- Numbers that were read have the widths of their fields.
-use Rattle.std.proofs.Common.{◌≡◌, ℕ, ◌+◌, ◌-◌, ◌<◌, ◌≤◌, ◌^◌, zero, suc, Bool, true, false, List, [], ◌∷◌, ◌++◌, length, take, drop, refl, sym, ◌∙◌, ap, subst, arith, inl, inr}
+use Rattle.std.proofs.Common.{◌≡◌, ℕ, ◌+◌, ◌-◌, ◌<◌, ◌≤◌, ◌^◌, zero, suc, Bool, true, false, List, [], ◌∷◌, ◌++◌, length, take, drop, refl, sym, ◌∙◌, ap, subst}
+use Rattle.std.proofs.Common.{arith, inl, inr}
 use Rattle.std.specs.Prelude.{Some, None, slice_index, slice_range, if◌then◌else◌}
 use Rattle.std.proofs.Math.ListN.{get_or-append}
 use Rattle.std.proofs.lemmas.List.{get_or-append-add, take-append-drop}
@@ -7,7 +8,8 @@ use Rattle.std.proofs.lemmas.Bool.Decides.{leb_tells}
 use Rattle.ip_address.specs.Fields.{be16, be32, IsBytes}
 use Rattle.ip_address.specs.declared.ip.IpAddress.{IpAddress}
 use Rattle.ip_address.specs.declared.seq_number.SeqNumber.{SeqNumber}
-use Rattle.ip_tcp.specs.Options.{OptionValue, EndOfList, NoOperation, MaxSegmentSize, WindowScale, SackPermitted, SackRange, TimeStamp, Unknown, range_at, long_option, IsOption, Spells, Says, taken, all_taken, no_options, IsRange, AreRanges, AreOptions, IsOptionValue}
+use Rattle.ip_tcp.specs.Options.{OptionValue, EndOfList, NoOperation, MaxSegmentSize, WindowScale, SackPermitted, SackRange, TimeStamp, Unknown, range_at}
+use Rattle.ip_tcp.specs.Options.{long_option, IsOption, Spells, Says, taken, all_taken, no_options, IsRange, AreRanges, AreOptions, IsOptionValue}
 use Rattle.ip_tcp.specs.Tcp.{IsTcp, IsValue, IsAck, options_of, header_len_of}
 use Rattle.ip_tcp.specs.declared.header.TcpHeader.{TcpHeader}
 use Rattle.ip_tcp.specs.declared.option.TcpOptions.{TcpOptions}
@@ -57,7 +59,8 @@ IsRange-read inner i small =
 IsOptionValue-read : (o : OptionValue) (front : List ℕ) → IsOption o front → IsBytes front → IsOptionValue o
 IsOptionValue-read EndOfList front is small = tt
 IsOptionValue-read NoOperation front is small = tt
-IsOptionValue-read (MaxSegmentSize n) front is small = let width = be16-small is.0 0 (IsBytes-inner 2 is.0 front is.1 small) in let number = is.3 in omega (arith, width, number)
+IsOptionValue-read (MaxSegmentSize n) front is small = let width = be16-small is.0 0 (IsBytes-inner 2 is.0 front is.1 small) in let number =
+    is.3 in omega (arith, width, number)
 IsOptionValue-read (WindowScale n) front is small = let width = IsBytes-inner 3 is.0 front is.1 small 0 in let number = is.3 in omega (arith, width, number)
 IsOptionValue-read SackPermitted front is small = tt
 IsOptionValue-read (SackRange ranges) front is small =
@@ -88,7 +91,8 @@ Spells-widths (EndOfList ∷ os) bytes v small s before = subst (λ q. AreOption
 Spells-widths (o ∷ os) bytes v small s before =
     let begins = s.1 in
     let parts : IsBytes (begins.0 ++ s.0) = subst IsBytes begins.2 small in
-    Spells-widths os s.0 (taken v o) (IsBytes-back begins.0 s.0 parts) s.2 (AreOptions-taken v o (IsOptionValue-read o begins.0 begins.1 (IsBytes-front begins.0 s.0 parts)) before)
+    Spells-widths os s.0 (taken v o) (IsBytes-back begins.0 s.0 parts) s.2
+    (AreOptions-taken v o (IsOptionValue-read o begins.0 begins.1 (IsBytes-front begins.0 s.0 parts)) before)
 
 Says-widths : (bytes : List ℕ) (v : TcpOptions) → IsBytes bytes → Says no_options bytes v → AreOptions v
 Says-widths bytes v small says =
@@ -100,7 +104,8 @@ IsAck-read true n small = small
 IsAck-read false n small = tt
 
 -- what was read has fields of their widths
-pub IsValue-read : (source destination : IpAddress) (tested : Bool) (bytes : List ℕ) (v : TcpHeader) → IsBytes bytes → IsTcp source destination tested bytes v → IsValue v
+pub IsValue-read : (source destination : IpAddress) (tested : Bool) (bytes : List ℕ) (v : TcpHeader) → IsBytes bytes →
+    IsTcp source destination tested bytes v → IsValue v
 IsValue-read source destination tested bytes v small is =
     let sequence = ap (λ (n : SeqNumber). n.0) is.sequence in
     record {

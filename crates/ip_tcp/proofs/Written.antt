@@ -1,5 +1,6 @@
 -- A segment that was sent, read back.
-use Rattle.std.proofs.Common.{◌≡◌, ℕ, ◌+◌, ◌-◌, ◌*◌, ◌/◌, ◌%◌, ◌<◌, ◌≤◌, ◌^◌, Bool, true, false, IsTrue, List, ◌++◌, length, replicate, refl, sym, ap, subst, arith, length-append}
+use Rattle.std.proofs.Common.{◌≡◌, ℕ, ◌+◌, ◌-◌, ◌*◌, ◌/◌, ◌%◌, ◌<◌, ◌≤◌, ◌^◌, Bool, true, false, IsTrue, List, ◌++◌, length, replicate, refl, sym, ap, subst}
+use Rattle.std.proofs.Common.{arith, length-append}
 use Rattle.std.specs.Prelude.{Option, Some, None, ◌==◌, if◌then◌else◌}
 use Rattle.std.specs.Int.{w32, to_be_bytes}
 use Rattle.std.proofs.lemmas.List.{take_at, drop_at, length-replicate}
@@ -10,9 +11,11 @@ use Rattle.ip_address.specs.declared.ip.IpAddress.{IpAddress}
 use Rattle.ip_address.specs.declared.seq_number.SeqNumber.{SeqNumber}
 use Rattle.ip_tcp.proofs.Sent.{Says-area}
 use Rattle.ip_tcp.specs.Control.{control_of, control_bits}
-use Rattle.ip_tcp.specs.Options.{Says, no_options, options_area, options_room, options_bytes, permitted_options, range_options, sack_options, size_options, scale_options, stamp_options, padded, sent_bytes, normal_options}
+use Rattle.ip_tcp.specs.Options.{Says, no_options, options_area, options_room, options_bytes, permitted_options, range_options, sack_options, size_options}
+use Rattle.ip_tcp.specs.Options.{scale_options, stamp_options, padded, sent_bytes, normal_options}
 use Rattle.ip_address.specs.Pseudo.{covered}
-use Rattle.ip_tcp.specs.Tcp.{IsTcp, IsChecked, IsValue, IsAck, spelling, fixed_fields, sent_fields, written, header_len_of, options_of, payload_of, acknowledges, sent_ack, normal}
+use Rattle.ip_tcp.specs.Tcp.{IsTcp, IsChecked, IsValue, IsAck, spelling, fixed_fields, sent_fields, written, header_len_of, options_of, payload_of}
+use Rattle.ip_tcp.specs.Tcp.{acknowledges, sent_ack, normal}
 use Rattle.ip_tcp.specs.declared.control.TcpControl.{TcpControl}
 use Rattle.ip_tcp.specs.declared.control.TcpControl.TheVariants as Control
 use Rattle.ip_tcp.specs.declared.header.TcpHeader.{TcpHeader}
@@ -24,7 +27,8 @@ flags_byte control acks = control_bits control + (if acks then 16 else 0)
 
 -- the flag is read back
 control-read : (control : TcpControl) (acks : Bool)
-    → control_of (flags_byte control acks / 2 % 2 == 1) (flags_byte control acks / 1 % 2 == 1) (flags_byte control acks / 4 % 2 == 1) (flags_byte control acks / 8 % 2 == 1) ≡ Some control
+    → control_of (flags_byte control acks / 2 % 2 == 1) (flags_byte control acks / 1 % 2 == 1) (flags_byte control acks / 4 % 2 == 1)
+    (flags_byte control acks / 8 % 2 == 1) ≡ Some control
 control-read Control.None true = refl
 control-read Control.None false = refl
 control-read Control.Psh true = refl
@@ -59,13 +63,15 @@ number-read n small =
     let same : n.0 ≡ be32 (to_be_bytes w32 n.0) 0 = omega (arith, small) in
     ap number same
 
-ack-read : (ack : Option SeqNumber) (set : Bool) → set ≡ acknowledges ack → IsAck ack → ack ≡ (if set then Some (record { 0 = be32 (to_be_bytes w32 (sent_ack ack)) 0 }) else None)
+ack-read : (ack : Option SeqNumber) (set : Bool) → set ≡ acknowledges ack → IsAck ack →
+    ack ≡ (if set then Some (record { 0 = be32 (to_be_bytes w32 (sent_ack ack)) 0 }) else None)
 ack-read None set is small = rw is refl
 ack-read (Some n) set is small = rw is (ap Some (number-read n small))
 
 -- the options that are sent have the room that is made for them
 sack-room : (permitted acks : Bool) (ranges : List (Option (ℕ × ℕ)))
-    → length (options_bytes (sack_options permitted acks ranges)) ≤ length (options_bytes (permitted_options permitted)) + length (options_bytes (range_options ranges))
+    → length (options_bytes (sack_options permitted acks ranges)) ≤ length (options_bytes (permitted_options permitted)) +
+    length (options_bytes (range_options ranges))
 sack-room true acks ranges = omega arith
 sack-room false true ranges = omega arith
 sack-room false false ranges = omega arith
@@ -94,10 +100,12 @@ word_sum-check : (v : TcpHeader) (payload : List ℕ) (check : ℕ) → check < 
 word_sum-check v payload check small = omega arith
 
 -- a segment whose checksum was written holds it
-IsChecked-written : (source destination : IpAddress) (v : TcpHeader) (payload : List ℕ) → IsChecked source destination (written source destination true v payload)
+IsChecked-written : (source destination : IpAddress) (v : TcpHeader) (payload : List ℕ) →
+    IsChecked source destination (written source destination true v payload)
 IsChecked-written source destination v payload =
     let total : ℕ = covered source destination 6 (spelling v 0 payload) in
-    let sums : word_sum (spelling v (65535 - folded total) payload) ≡ word_sum (spelling v 0 payload) + (65535 - folded total) = word_sum-check v payload (65535 - folded total) (omega arith) in
+    let sums : word_sum (spelling v (65535 - folded total) payload) ≡ word_sum (spelling v 0 payload) + (65535 - folded total) =
+    word_sum-check v payload (65535 - folded total) (omega arith) in
     let same : covered source destination 6 (written source destination true v payload) ≡ total + (65535 - folded total) = omega (arith, sums) in
     subst ChecksumHolds (sym same) (ChecksumHolds-complement total)
 
@@ -110,7 +118,8 @@ IsTcp-spelling source destination tested v payload check value holds =
     let len : length area ≡ padded (options_room v.options) = length-options_area acks v.options in
     let head : header_len_of (spelling v check payload) ≡ 20 + padded (options_room v.options) = len-read (options_room v.options) in
     let behind = length-append area payload in
-    let apart : area ≡ options_of (spelling v check payload) = sym (take_at area payload (header_len_of (spelling v check payload) - 20) (omega (arith, head, len))) in
+    let apart : area ≡ options_of (spelling v check payload) =
+    sym (take_at area payload (header_len_of (spelling v check payload) - 20) (omega (arith, head, len))) in
     record {
       whole = record { fixed = omega arith; least = omega (arith, head); within = omega (arith, head, len, behind) };
       source_port = omega (arith, value.source_port);
@@ -130,7 +139,8 @@ pub IsTcp-written : (source destination : IpAddress) (tested sealed : Bool) (v :
     → IsTcp source destination tested (written source destination sealed v payload) (normal v)
 IsTcp-written source destination tested false v payload value both = IsTcp-spelling source destination tested v payload 0 value (λ t. absurd (cc (both t)))
 IsTcp-written source destination tested true v payload value both =
-    IsTcp-spelling source destination tested v payload (65535 - folded (covered source destination 6 (spelling v 0 payload))) value (λ _. IsChecked-written source destination v payload)
+    IsTcp-spelling source destination tested v payload (65535 - folded (covered source destination 6 (spelling v 0 payload))) value
+    (λ _. IsChecked-written source destination v payload)
 
 -- what it carries is the payload
 payload_of-spelling : (v : TcpHeader) (payload : List ℕ) (check : ℕ) → payload_of (spelling v check payload) ≡ payload
@@ -141,6 +151,7 @@ payload_of-spelling v payload check =
     let head : header_len_of (spelling v check payload) ≡ 20 + padded (options_room v.options) = len-read (options_room v.options) in
     drop_at (fixed_fields v (sent_fields v check) ++ area) payload (header_len_of (spelling v check payload)) (omega (arith, head, len))
 
-pub payload_of-written : (source destination : IpAddress) (sealed : Bool) (v : TcpHeader) (payload : List ℕ) → payload_of (written source destination sealed v payload) ≡ payload
+pub payload_of-written : (source destination : IpAddress) (sealed : Bool) (v : TcpHeader) (payload : List ℕ) →
+    payload_of (written source destination sealed v payload) ≡ payload
 payload_of-written source destination false v payload = payload_of-spelling v payload 0
 payload_of-written source destination true v payload = payload_of-spelling v payload (65535 - folded (covered source destination 6 (spelling v 0 payload)))

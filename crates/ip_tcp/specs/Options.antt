@@ -1,7 +1,8 @@
 -- TCP options (RFC 9293, section 3.2; RFC 7323, sections 2.2 and 3.2; RFC 2018, sections 2 and 3). The end of
 -- the options and a no-operation are one byte. All others are their kind, their length with these two bytes,
 -- and what is inside.
-use Rattle.std.specs.Prelude.{◌≡◌, ◌≢◌, ◌==◌, ℕ, ◌+◌, ◌%◌, ◌<◌, ◌^◌, Bool, true, false, nat_le, if◌then◌else◌, Option, Some, None, List, [], ◌∷◌, ◌++◌, length, take, slice_index, min, replicate, ◌-◌, ◌*◌, ◌/◌}
+use Rattle.std.specs.Prelude.{◌≡◌, ◌≢◌, ◌==◌, ℕ, ◌+◌, ◌%◌, ◌<◌, ◌^◌, Bool, true, false, nat_le, if◌then◌else◌, Option, Some, None, List, [], ◌∷◌, ◌++◌, length}
+use Rattle.std.specs.Prelude.{take, slice_index, min, replicate, ◌-◌, ◌*◌, ◌/◌}
 use Rattle.std.specs.Int.{w16, w32, to_be_bytes}
 use Rattle.ip_address.specs.Fields.{be16, be32, IsNumber}
 use Rattle.ip_tcp.specs.declared.option.TcpOption.{TcpOption}

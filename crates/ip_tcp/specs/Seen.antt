@@ -1,6 +1,7 @@
 -- What a reader of options answers, as a value, and what it makes of bytes step by step. That this is what the
 -- bytes spell is proved of each reader.
-use Rattle.std.specs.Prelude.{◌==◌, ℕ, ◌%◌, Bool, true, false, nat_le, if◌then◌else◌, Option, Some, None, Result, Ok, Err, List, [], ◌∷◌, length, drop, slice_index, slice_range}
+use Rattle.std.specs.Prelude.{◌==◌, ℕ, ◌%◌, Bool, true, false, nat_le, if◌then◌else◌, Option, Some, None, Result, Ok, Err, List, [], ◌∷◌, length, drop}
+use Rattle.std.specs.Prelude.{slice_index, slice_range}
 use denote.Ref.{Bor}
 use Rattle.ip_address.specs.Fields.{be16, be32}
 use Rattle.ip_address.specs.declared.Error.{Error}

@@ -2,7 +2,8 @@
 -- acknowledgement number, four bytes each; header length in units of four bytes, reserved bits and flags, in
 -- two bytes; window, checksum and urgent pointer, two bytes each; options up to the header's length; then
 -- the payload, up to the end.
-use Rattle.std.specs.Prelude.{◌≡◌, ◌≢◌, ◌==◌, IsTrue, Option, Some, None, ℕ, ◌+◌, ◌*◌, ◌/◌, ◌%◌, ◌<◌, ◌≤◌, Bool, if◌then◌else◌, ◌^◌, true, false, List, ◌∷◌, ◌++◌, length, drop, slice_index, slice_range}
+use Rattle.std.specs.Prelude.{◌≡◌, ◌≢◌, ◌==◌, IsTrue, Option, Some, None, ℕ, ◌+◌, ◌*◌, ◌/◌, ◌%◌, ◌<◌, ◌≤◌, Bool, if◌then◌else◌, ◌^◌, true, false, List, ◌∷◌}
+use Rattle.std.specs.Prelude.{◌++◌, length, drop, slice_index, slice_range}
 use Rattle.std.specs.Int.{w16, w32, to_be_bytes}
 use Rattle.std.specs.Borrow.{GName}
 use Rattle.ip_address.specs.Address.{version_of}
@@ -150,7 +151,11 @@ pub record Free : Type 0 where
 -- the fixed fields of a header
 abbrev pub fixed_fields : TcpHeader → Free → List ℕ
 fixed_fields v free =
-    to_be_bytes w16 v.src_port ++ (to_be_bytes w16 v.dst_port ++ (to_be_bytes w32 v.seq_number.0 ++ (to_be_bytes w32 free.acknowledgement ++ (free.length_and_reserved ∷ free.flags ∷ (to_be_bytes w16 v.window_len ++ (to_be_bytes w16 free.checksum ++ to_be_bytes w16 free.urgent))))))
+    to_be_bytes w16 v.src_port ++
+    (to_be_bytes w16 v.dst_port ++
+    (to_be_bytes w32 v.seq_number.0 ++
+    (to_be_bytes w32 free.acknowledgement ++
+    (free.length_and_reserved ∷ free.flags ∷ (to_be_bytes w16 v.window_len ++ (to_be_bytes w16 free.checksum ++ to_be_bytes w16 free.urgent))))))
 
 -- these fields as they are sent: the reserved bits, the other flags and the urgent pointer are 0
 abbrev pub sent_fields : TcpHeader → ℕ → Free

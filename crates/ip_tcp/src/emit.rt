@@ -1,7 +1,8 @@
 //! Options written.
 ghost use Rattle.std.specs.Prelude.{◌≡◌, ℕ, ◌+◌, ◌-◌, ◌*◌, ◌<◌, ◌≤◌, ◌==◌, ◌++◌, Option, IsSome, List, length, take, drop, replicate, if◌then◌else◌};
 ghost use Rattle.ip_address.specs.Extends.{Extends};
-ghost use Rattle.ip_tcp.specs.Options.{value_of, option_bytes, options_bytes, ranges_bytes, FitsOption, size_options, scale_options, permitted_options, range_options, stamp_options, sack_options, sack_room, options_room, padded, options_area};
+ghost use Rattle.ip_tcp.specs.Options.{value_of, option_bytes, options_bytes, ranges_bytes, FitsOption, size_options, scale_options, permitted_options};
+ghost use Rattle.ip_tcp.specs.Options.{range_options, stamp_options, sack_options, sack_room, options_room, padded, options_area};
 ghost use Rattle.ip_tcp.specs.Options.{SackRange, TimeStamp, Unknown};
 
 use crate::field;

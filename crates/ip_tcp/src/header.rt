@@ -5,7 +5,8 @@ ghost use Rattle.net_devices.specs.Capabilities.{verifies, computes};
 ghost use Rattle.ip_address.specs.Fields.{put16};
 ghost use Rattle.ip_address.specs.Sum.{folded, complement};
 ghost use Rattle.ip_address.specs.Pseudo.{covered};
-ghost use Rattle.ip_tcp.specs.Tcp.{IsTcp, IsWhole, Fits, bytes_of, bytes_in, name_of, acknowledged, acknowledges, sent_ack, sent_flags, header_len, fixed_fields, sent_fields, spelling, written};
+ghost use Rattle.ip_tcp.specs.Tcp.{IsTcp, IsWhole, Fits, bytes_of, bytes_in, name_of, acknowledged, acknowledges, sent_ack, sent_flags, header_len};
+ghost use Rattle.ip_tcp.specs.Tcp.{fixed_fields, sent_fields, spelling, written};
 ghost use Rattle.ip_tcp.specs.declared.header.TcpHeader.{TcpHeader};
 
 use crate::control::TcpControl;

@@ -4,7 +4,8 @@ ghost use Rattle.ip_address.specs.Address.{version_of};
 ghost use Rattle.ip_address.specs.Fields.{be16, put8, put16, IsBytes};
 ghost use Rattle.ip_address.specs.declared.ip.IpAddress.{IpAddress};
 ghost use Rattle.ip_tcp.specs.Options.{OptionValue, value_of, Begins, IsOptionValue, option_bytes, normal_option, AreRead, sent_ranges};
-ghost use Rattle.ip_tcp.specs.Tcp.{IsChecked, IsTcp, IsValue, Fits, acknowledges, flag, put_flag, fixed_fields, header_len, header_len_of, header_of, normal, options_of, payload_of, read_fields, written};
+ghost use Rattle.ip_tcp.specs.Tcp.{IsChecked, IsTcp, IsValue, Fits, acknowledges, flag, put_flag, fixed_fields, header_len, header_len_of, header_of, normal};
+ghost use Rattle.ip_tcp.specs.Tcp.{options_of, payload_of, read_fields, written};
 
 use crate::control::TcpControl;
 use crate::field::{

@@ -1,10 +1,12 @@
 //! A TCP segment in a buffer, read and written in place.
-ghost use Rattle.std.specs.Prelude.{◌≡◌, ◌==◌, ◌↔◌, ℕ, ◌+◌, ◌-◌, ◌*◌, ◌/◌, ◌%◌, ◌<◌, ◌≤◌, ◌^◌, Bool, IsTrue, IsOk, IfOk, List, length, drop, slice_index, slice_range, if◌then◌else◌};
+ghost use Rattle.std.specs.Prelude.{◌≡◌, ◌==◌, ◌↔◌, ℕ, ◌+◌, ◌-◌, ◌*◌, ◌/◌, ◌%◌, ◌<◌, ◌≤◌, ◌^◌, Bool, IsTrue, IsOk, IfOk, List, length, drop, slice_index};
+ghost use Rattle.std.specs.Prelude.{slice_range, if◌then◌else◌};
 ghost use Rattle.ip_address.specs.Address.{version_of};
 ghost use Rattle.ip_address.specs.Fields.{be16, be32, put8, put16, put32};
 ghost use Rattle.ip_address.specs.Sum.{folded};
 ghost use Rattle.ip_address.specs.Pseudo.{covered};
-ghost use Rattle.ip_tcp.specs.Tcp.{IsWhole, IsChecked, HasOptions, bytes_in, name_of, flag, put_flag, header_len_of, options_of, payload_of, sequence_len, with_checksum};
+ghost use Rattle.ip_tcp.specs.Tcp.{IsWhole, IsChecked, HasOptions, bytes_in, name_of, flag, put_flag, header_len_of, options_of, payload_of, sequence_len};
+ghost use Rattle.ip_tcp.specs.Tcp.{with_checksum};
 ghost use Rattle.ip_tcp.specs.declared.option.TcpOptions.{TcpOptions};
 
 use crate::field;

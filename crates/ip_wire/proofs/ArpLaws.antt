@@ -1,5 +1,6 @@
 -- An ARP packet and what spells it.
-use Rattle.std.proofs.Common.{◌≡◌, ℕ, ◌+◌, ◌*◌, ◌/◌, ◌%◌, ◌<◌, ◌≤◌, ◌^◌, List, ◌++◌, length, get_or, take, drop, refl, sym, ◌∙◌, ap, arith, length-append, append_assoc}
+use Rattle.std.proofs.Common.{◌≡◌, ℕ, ◌+◌, ◌*◌, ◌/◌, ◌%◌, ◌<◌, ◌≤◌, ◌^◌, List, ◌++◌, length, get_or, take, drop, refl, sym, ◌∙◌, ap, arith, length-append}
+use Rattle.std.proofs.Common.{append_assoc}
 use Rattle.std.proofs.lemmas.List.{take_at, drop_at, drop-drop}
 use Rattle.ip_address.specs.Fields.{be16, IsBytes}
 use Rattle.ip_wire.specs.Arp.{IsArp, IsValue, written, normal, operation_number, operation_of}
@@ -69,7 +70,17 @@ IsArp-written (Arp.EthernetIpv4 operation sha spa tha tpa) rest value =
     let after16 : drop 16 tail ≡ d ++ rest = sym (drop-drop 6 10 tail) ∙ behind c _ (drop 10 tail) 6 lc after10 in
     let all : length tail ≡ 20 + length rest =
     ap length is
-    ∙ omega (arith, la, lb, lc, ld, length-append a (b ++ (c ++ (d ++ rest))), length-append b (c ++ (d ++ rest)), length-append c (d ++ rest), length-append d rest)
+    ∙ omega (
+      arith,
+      la,
+      lb,
+      lc,
+      ld,
+      length-append a (b ++ (c ++ (d ++ rest))),
+      length-append b (c ++ (d ++ rest)),
+      length-append c (d ++ rest),
+      length-append d rest,
+    )
     in
     record {
       room = omega (arith, all);
@@ -77,7 +88,8 @@ IsArp-written (Arp.EthernetIpv4 operation sha spa tha tpa) rest value =
       protocol_kind = refl;
       hardware_len = refl;
       protocol_len = refl;
-      operation_is = let same : operation_number operation ≡ 256 * (operation_number operation / 256 % 256) + operation_number operation % 256 = omega (arith, op) in ap operation_of same;
+      operation_is = let same : operation_number operation ≡ 256 * (operation_number operation / 256 % 256) + operation_number operation % 256 =
+          omega (arith, op) in ap operation_of same;
       source_hardware_is = sym (ap (take 6) is ∙ take_at a _ 6 la);
       source_protocol_is = sym (ap (take 4) after6 ∙ take_at b _ 4 lb);
       target_hardware_is = sym (ap (take 6) after10 ∙ take_at c _ 6 lc);
@@ -103,7 +115,8 @@ fits bytes (Arp.EthernetIpv4 operation sha spa tha tpa) small is =
 -- a packet that was read is in its normal form
 pub read : (bytes : List ℕ) (v : ArpRepr) → IsArp bytes v → normal v ≡ v
 read bytes (Arp.EthernetIpv4 operation sha spa tha tpa) is =
-    ap (λ p. Arp.EthernetIpv4 p sha spa tha tpa) (named-again operation_number operation_of operation_number-operation_of operation (be16 bytes 6) is.operation_is)
+    ap (λ p. Arp.EthernetIpv4 p sha spa tha tpa)
+    (named-again operation_number operation_of operation_number-operation_of operation (be16 bytes 6) is.operation_is)
 
 -- the normal form of a normal form is itself
 pub normal-again : (v : ArpRepr) → normal (normal v) ≡ normal v

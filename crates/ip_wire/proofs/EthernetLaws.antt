@@ -1,5 +1,6 @@
 -- A frame's header and what spells it.
-use Rattle.std.proofs.Common.{◌≡◌, ℕ, ◌+◌, ◌/◌, ◌%◌, ◌<◌, ◌≤◌, ◌^◌, List, ◌++◌, length, get_or, take, drop, refl, sym, ◌∙◌, ap, arith, length-append, append_assoc}
+use Rattle.std.proofs.Common.{◌≡◌, ℕ, ◌+◌, ◌/◌, ◌%◌, ◌<◌, ◌≤◌, ◌^◌, List, ◌++◌, length, get_or, take, drop, refl, sym, ◌∙◌, ap, arith, length-append}
+use Rattle.std.proofs.Common.{append_assoc}
 use Rattle.std.proofs.lemmas.List.{take_at, drop_at, get_or-drop}
 use Rattle.std.specs.Int.{w16, to_be_bytes}
 use Rattle.ip_address.specs.Fields.{be16, IsBytes}
@@ -28,15 +29,18 @@ bytes-written bytes v small is =
 
 -- two addresses before a number, read
 parts : (destination source rest : List ℕ) (n : ℕ) → length destination ≡ 6 → length source ≡ 6 → n < 2 ^ 16
-    → let frame : List ℕ = (destination ++ (source ++ to_be_bytes w16 n)) ++ rest in (destination ≡ take 6 frame) × (source ≡ take 6 (drop 6 frame)) × (be16 frame 12 ≡ n) × (14 ≤ length frame)
+    → let frame : List ℕ = (destination ++ (source ++ to_be_bytes w16 n)) ++ rest in (destination ≡ take 6 frame) × (source ≡ take 6 (drop 6 frame)) ×
+    (be16 frame 12 ≡ n) × (14 ≤ length frame)
 parts destination source rest n first second small =
     let frame : List ℕ = (destination ++ (source ++ to_be_bytes w16 n)) ++ rest in
     let joined : frame ≡ destination ++ (source ++ (to_be_bytes w16 n ++ rest)) =
     append_assoc destination (source ++ to_be_bytes w16 n) rest ∙ ap (λ xs. destination ++ xs) (append_assoc source (to_be_bytes w16 n) rest)
     in
-    let behind6 : drop 6 frame ≡ source ++ (to_be_bytes w16 n ++ rest) = ap (drop 6) joined ∙ drop_at destination (source ++ (to_be_bytes w16 n ++ rest)) 6 first in
+    let behind6 : drop 6 frame ≡ source ++ (to_be_bytes w16 n ++ rest) =
+    ap (drop 6) joined ∙ drop_at destination (source ++ (to_be_bytes w16 n ++ rest)) 6 first in
     let six : length (destination ++ source) ≡ 12 = omega (arith, length-append destination source) in
-    let joined12 : frame ≡ (destination ++ source) ++ (to_be_bytes w16 n ++ rest) = joined ∙ sym (append_assoc destination source (to_be_bytes w16 n ++ rest)) in
+    let joined12 : frame ≡ (destination ++ source) ++ (to_be_bytes w16 n ++ rest) =
+    joined ∙ sym (append_assoc destination source (to_be_bytes w16 n ++ rest)) in
     let behind12 : drop 12 frame ≡ to_be_bytes w16 n ++ rest = ap (drop 12) joined12 ∙ drop_at (destination ++ source) (to_be_bytes w16 n ++ rest) 12 six in
     let high : get_or frame 12 0 ≡ n / 256 % 256 = sym (get_or-drop 12 frame 0 0) ∙ ap (λ xs. get_or xs 0 0) behind12 in
     let low : get_or frame 13 0 ≡ n % 256 = sym (get_or-drop 12 frame 1 0) ∙ ap (λ xs. get_or xs 1 0) behind12 in

@@ -67,7 +67,8 @@ pub record IsWhole (bytes : List ℕ) : Type 0 where
   pub within : packet_end bytes ≤ length bytes
 
 -- the bytes begin with a packet over Ethernet for IPv4, with these fields
-pub record IsEthernetIpv4 (bytes : List ℕ) (operation : ArpOperation) (source_hardware : EthernetAddress) (source_protocol : Ipv4Address) (target_hardware : EthernetAddress) (target_protocol : Ipv4Address) : Type 0 where
+pub record IsEthernetIpv4 (bytes : List ℕ) (operation : ArpOperation) (source_hardware : EthernetAddress) (source_protocol : Ipv4Address)
+    (target_hardware : EthernetAddress) (target_protocol : Ipv4Address) : Type 0 where
   pub room : 28 ≤ length bytes
   pub hardware_kind : be16 bytes 0 ≡ 1
   pub protocol_kind : be16 bytes 2 ≡ 0x0800
@@ -87,7 +88,8 @@ IsArp bytes (Arp.EthernetIpv4 operation source_hardware source_protocol target_h
 -- the packet with this value
 abbrev pub written : ArpRepr → List ℕ
 written (Arp.EthernetIpv4 operation source_hardware source_protocol target_hardware target_protocol) =
-    0 ∷ 1 ∷ 8 ∷ 0 ∷ 6 ∷ 4 ∷ (to_be_bytes w16 (operation_number operation) ++ (source_hardware.0 ++ (source_protocol.0 ++ (target_hardware.0 ++ target_protocol.0))))
+    0 ∷ 1 ∷ 8 ∷ 0 ∷ 6 ∷ 4 ∷ (to_be_bytes w16 (operation_number operation) ++
+    (source_hardware.0 ++ (source_protocol.0 ++ (target_hardware.0 ++ target_protocol.0))))
 
 -- each field is a number of its width
 abbrev pub IsValue : ArpRepr → Type 0

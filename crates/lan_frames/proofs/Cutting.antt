@@ -1,5 +1,6 @@
 -- A frame cut in two, as the code comes upon its parts.
-use Rattle.std.proofs.Common.{◌≡◌, ℕ, ◌+◌, ◌-◌, ◌%◌, ◌^◌, ◌<◌, ◌≤◌, ◌/◌, Bool, true, false, ◌&&◌, ◌==◌, nat_le, cond, IsSome, Some, None, slice_index, List, ◌++◌, length, take, drop, get_or, length-drop, refl, ◌∙◌, ap, arith, Fits, w8}
+use Rattle.std.proofs.Common.{◌≡◌, ℕ, ◌+◌, ◌-◌, ◌%◌, ◌^◌, ◌<◌, ◌≤◌, ◌/◌, Bool, true, false, ◌&&◌, ◌==◌, nat_le, cond, IsSome, Some, None, slice_index, List}
+use Rattle.std.proofs.Common.{◌++◌, length, take, drop, get_or, length-drop, refl, ◌∙◌, ap, arith, Fits, w8}
 use Rattle.std.proofs.lemmas.Bool.Decides.{nat_tests}
 use Rattle.std.proofs.lemmas.List.{length-take, get_or-drop}
 use Rattle.net_devices.specs.Capabilities.{frame_header}
@@ -31,7 +32,8 @@ some_by false false x h = h
 pub whole_packet : (medium : Medium) (frame packet : List ℕ) → IsSome (ipv4_part medium frame) → packet ≡ packet_in medium frame → IsWhole packet
 whole_packet medium frame packet h is =
     let inside : IsWhole (packet_in medium frame) =
-    whole_by (packet_in medium frame) (some_by (may_carry medium 0x0800 frame) (is_ipv4 (packet_in medium frame)) (payload_v4 medium (packet_in medium frame)) h) in
+    whole_by (packet_in medium frame)
+    (some_by (may_carry medium 0x0800 frame) (is_ipv4 (packet_in medium frame)) (payload_v4 medium (packet_in medium frame)) h) in
     rw is inside
 
 -- ITS PIECES

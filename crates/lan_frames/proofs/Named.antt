@@ -45,10 +45,12 @@ right_none false named other is none = cc
 same_number : (n m : ℕ) → n ≡ m → eqb n m ≡ true
 same_number n m is = grind (arith, nat_tests)
 
-pub neither_first : (n m protocol : ℕ) (other : Bool) (p : IpProtocol) → n ≡ m → (eqb n m && is_tcp_or_udp protocol) || other ≡ false → p ≡ protocol_of protocol → IsNeither p
+pub neither_first : (n m protocol : ℕ) (other : Bool) (p : IpProtocol) → n ≡ m → (eqb n m && is_tcp_or_udp protocol) || other ≡ false →
+    p ≡ protocol_of protocol → IsNeither p
 neither_first n m protocol other p is none of = neither protocol p (left_none (eqb n m) (is_tcp_or_udp protocol) other (same_number n m is) none) of
 
-pub neither_second : (n m protocol : ℕ) (other : Bool) (p : IpProtocol) → n ≡ m → other || (eqb n m && is_tcp_or_udp protocol) ≡ false → p ≡ protocol_of protocol → IsNeither p
+pub neither_second : (n m protocol : ℕ) (other : Bool) (p : IpProtocol) → n ≡ m → other || (eqb n m && is_tcp_or_udp protocol) ≡ false →
+    p ≡ protocol_of protocol → IsNeither p
 neither_second n m protocol other p is none of = neither protocol p (right_none (eqb n m) (is_tcp_or_udp protocol) other (same_number n m is) none) of
 
 -- an EtherType is told by its number

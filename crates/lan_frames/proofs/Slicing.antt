@@ -1,5 +1,6 @@
 -- A frame that carries a slice of a payload, cut in two.
-use Rattle.std.proofs.Common.{◌≡◌, ℕ, ◌+◌, ◌-◌, ◌/◌, ◌%◌, ◌^◌, ◌<◌, ◌≤◌, ◌&&◌, ◌==◌, nat_le, Bool, true, cond, Option, Some, None, List, [], ◌++◌, length, take, drop, slice_index, length-append, length-drop, append_assoc, refl, sym, ◌∙◌, ap, arith}
+use Rattle.std.proofs.Common.{◌≡◌, ℕ, ◌+◌, ◌-◌, ◌/◌, ◌%◌, ◌^◌, ◌<◌, ◌≤◌, ◌&&◌, ◌==◌, nat_le, Bool, true, cond, Option, Some, None, List, [], ◌++◌, length, take}
+use Rattle.std.proofs.Common.{drop, slice_index, length-append, length-drop, append_assoc, refl, sym, ◌∙◌, ap, arith}
 use Rattle.std.proofs.lemmas.List.{take_at, drop_at, take-take, drop-take, drop-drop, length-take-le, get_or_append_left}
 use Rattle.std.proofs.lemmas.Bool.Decides.{nat_tests}
 use Rattle.net_devices.specs.Capabilities.{frame_header}
@@ -36,8 +37,26 @@ value_with v n value = record {
 -- the header, read
 same_header : (src src' dst dst' : List ℕ) (p p' : IpProtocol) (n hops hops' id id' : ℕ) (dont dont' : Bool)
     → src ≡ src' → dst ≡ dst' → p ≡ p' → hops ≡ hops' → id ≡ id' → dont ≡ dont'
-    → (let h : Ipv4Repr = record { src_addr = record { 0 = src }; dst_addr = record { 0 = dst }; next_header = p; payload_len = n; hop_limit = hops; ident = id; dont_frag = dont } in h)
-    ≡ record { src_addr = record { 0 = src' }; dst_addr = record { 0 = dst' }; next_header = p'; payload_len = n; hop_limit = hops'; ident = id'; dont_frag = dont' }
+    → (let h : Ipv4Repr = record {
+      src_addr = record { 0 = src };
+      dst_addr = record { 0 = dst };
+      next_header = p;
+      payload_len = n;
+      hop_limit = hops;
+      ident =
+          id;
+      dont_frag = dont;
+    } in h)
+    ≡ record {
+      src_addr = record { 0 = src' };
+      dst_addr = record { 0 = dst' };
+      next_header = p';
+      payload_len = n;
+      hop_limit = hops';
+      ident =
+          id';
+      dont_frag = dont';
+    }
 same_header src src' dst dst' p p' n hops hops' id id' dont dont' a b c d e f = rw (a, b, c, d, e, f) refl
 
 header_is : (packet : List ℕ) (v : Ipv4Repr) (n : ℕ) → IsIpv4 true packet (normal v) → header_for packet n ≡ with_len (normal v) n
@@ -48,10 +67,12 @@ header_is packet v n is =
 abbrev with_protocol : Ipv4Repr → IpProtocol → Ipv4Repr
 with_protocol v p = record v { next_header = p }
 
-written_normal : (v : Ipv4Repr) (n offset : ℕ) (more : Bool) → written_piece true (with_len (normal v) n) offset more ≡ written_piece true (with_len v n) offset more
+written_normal : (v : Ipv4Repr) (n offset : ℕ) (more : Bool) →
+    written_piece true (with_len (normal v) n) offset more ≡ written_piece true (with_len v n) offset more
 written_normal v n offset more = rw (protocol_number-protocol_of (protocol_number v.next_header)) refl
 
-piece_is : (packet bytes front : List ℕ) (header : Ipv4Repr) (count cut offset : ℕ) (more : Bool) → IsIpv4 true packet (normal (with_len header count)) → front ≡ bytes → length bytes ≡ cut
+piece_is : (packet bytes front : List ℕ) (header : Ipv4Repr) (count cut offset : ℕ) (more : Bool) → IsIpv4 true packet (normal (with_len header count)) →
+    front ≡ bytes → length bytes ≡ cut
     → piece_with packet offset more front ≡ written_piece true (with_len header cut) offset more ++ bytes
 piece_is packet bytes front header count cut offset more is same len =
     ap (piece_with packet offset more) same
@@ -59,7 +80,8 @@ piece_is packet bytes front header count cut offset more is same len =
     ∙ ap (λ (v : Ipv4Repr). written_piece true v offset more ++ bytes) (header_is packet (with_len header count) cut is)
     ∙ ap (λ (l : List ℕ). l ++ bytes) (written_normal header cut offset more)
 
-module _ (header : Ipv4Repr) (payload padding : List ℕ) (s : Slice) (value : IsValue header) (short : 20 + length payload < 2 ^ 16) (slice : IsSliceOf payload s) (whole : s.at % 8 ≡ 0) where
+module _ (header : Ipv4Repr) (payload padding : List ℕ) (s : Slice) (value : IsValue header) (short : 20 + length payload < 2 ^ 16)
+    (slice : IsSliceOf payload s) (whole : s.at % 8 ≡ 0) where
   abbrev packet : List ℕ
   packet = written_piece true (with_len header s.count) s.at s.more ++ (bytes_of_slice payload s ++ padding)
 
@@ -68,21 +90,25 @@ module _ (header : Ipv4Repr) (payload padding : List ℕ) (s : Slice) (value : I
 
   reads : IsIpv4 true packet (normal (with_len header s.count)) × (piece_of packet ≡ record { offset = s.at; more = s.more })
   reads =
-      reads-back true true (with_len header s.count) (record { offset = s.at; more = s.more }) (bytes_of_slice payload s ++ padding) (omega (arith, slice.within, short)) (value_with header s.count value)
+      reads-back true true (with_len header s.count) (record { offset = s.at; more = s.more }) (bytes_of_slice payload s ++
+      padding) (omega (arith, slice.within, short)) (value_with header s.count value)
       (omega (arith, slice.within, short)) whole (omega (arith, length-append (bytes_of_slice payload s) padding, len_of_slice)) (λ t. t)
 
   payload_is : payload_of packet ≡ bytes_of_slice payload s
   payload_is =
-      let header_len : length (written_piece true (with_len header s.count) s.at s.more) ≡ 20 = omega (arith, value.source.0, value.destination.0, length-append header.src_addr.0 (header.dst_addr.0 ++ []), length-append header.dst_addr.0 []) in
+      let header_len : length (written_piece true (with_len header s.count) s.at s.more) ≡ 20 =
+      omega (arith, value.source.0, value.destination.0, length-append header.src_addr.0 (header.dst_addr.0 ++ []), length-append header.dst_addr.0 []) in
       let size : be16 packet 2 - 20 ≡ s.count = omega (arith, reads.0.payload) in
       ap (λ (n : ℕ). take n (drop 20 packet)) size
       ∙ ap (take s.count) (drop_at (written_piece true (with_len header s.count) s.at s.more) (bytes_of_slice payload s ++ padding) 20 header_len)
       ∙ take_at (bytes_of_slice payload s) padding s.count len_of_slice
 
-  front_piece : (cut : ℕ) → cut ≤ s.count → piece_with packet (piece_of packet).offset true (take cut (payload_of packet)) ≡ written_piece true (with_len header cut) s.at true ++ take cut (drop s.at payload)
+  front_piece : (cut : ℕ) → cut ≤ s.count → piece_with packet (piece_of packet).offset true (take cut (payload_of packet)) ≡
+      written_piece true (with_len header cut) s.at true ++ take cut (drop s.at payload)
   front_piece cut within =
       let first : take cut (payload_of packet) ≡ take cut (drop s.at payload) = ap (take cut) payload_is ∙ take-take cut s.count (drop s.at payload) within in
-      let count : length (take cut (drop s.at payload)) ≡ cut = length-take-le cut (drop s.at payload) (omega (arith, slice.within, within, length-drop s.at payload)) in
+      let count : length (take cut (drop s.at payload)) ≡ cut =
+      length-take-le cut (drop s.at payload) (omega (arith, slice.within, within, length-drop s.at payload)) in
       ap (λ (p : Ipv4Piece). piece_with packet p.offset true (take cut (payload_of packet))) reads.1
       ∙ piece_is packet (take cut (drop s.at payload)) (take cut (payload_of packet)) header s.count cut s.at true reads.0 first count
 
@@ -98,11 +124,13 @@ module _ (header : Ipv4Repr) (payload padding : List ℕ) (s : Slice) (value : I
       ≡ written_piece true (with_len header (s.count - cut)) (s.at + cut) s.more ++ take (s.count - cut) (drop (s.at + cut) payload)
   back_piece cut within =
       let rest : drop cut (payload_of packet) ≡ take (s.count - cut) (drop (s.at + cut) payload) = ap (drop cut) payload_is ∙ back_bytes cut within in
-      let count : length (take (s.count - cut) (drop (s.at + cut) payload)) ≡ s.count - cut = length-take-le (s.count - cut) (drop (s.at + cut) payload) (omega (arith, slice.within, within, length-drop (s.at + cut) payload)) in
+      let count : length (take (s.count - cut) (drop (s.at + cut) payload)) ≡ s.count - cut =
+      length-take-le (s.count - cut) (drop (s.at + cut) payload) (omega (arith, slice.within, within, length-drop (s.at + cut) payload)) in
       let offset : (s.at + cut) % 2 ^ 16 ≡ s.at + cut = omega (arith, slice.within, within, short) in
       ap (λ (p : Ipv4Piece). piece_with packet ((p.offset + cut) % 2 ^ 16) p.more (drop cut (payload_of packet))) reads.1
       ∙ ap (λ (n : ℕ). piece_with packet n s.more (drop cut (payload_of packet))) offset
-      ∙ piece_is packet (take (s.count - cut) (drop (s.at + cut) payload)) (drop cut (payload_of packet)) header s.count (s.count - cut) (s.at + cut) s.more reads.0 rest count
+      ∙ piece_is packet (take (s.count - cut) (drop (s.at + cut) payload)) (drop cut (payload_of packet)) header s.count (s.count - cut) (s.at + cut) s.more
+      reads.0 rest count
 
   -- A FRAME
 
@@ -129,7 +157,8 @@ module _ (header : Ipv4Repr) (payload padding : List ℕ) (s : Slice) (value : I
 
     pub second-slice : (cut : ℕ) → cut ≤ s.count → second_piece medium frame cut ≡ frame_of_slice link header payload (back_of s cut)
     second-slice cut within =
-        ap (λ (p : List ℕ). take (frame_header medium) frame ++ piece_with p (((piece_of p).offset + cut) % 2 ^ 16) (piece_of p).more (drop cut (payload_of p))) packet_is
+        ap (λ (p : List ℕ). take (frame_header medium) frame ++
+        piece_with p (((piece_of p).offset + cut) % 2 ^ 16) (piece_of p).more (drop cut (payload_of p))) packet_is
         ∙ ap (λ (l : List ℕ). l ++ piece_with packet (((piece_of packet).offset + cut) % 2 ^ 16) (piece_of packet).more (drop cut (payload_of packet))) link_is
         ∙ ap (λ (l : List ℕ). link ++ l) (back_piece cut within)
 
@@ -150,8 +179,10 @@ all_true a b c d v p q r t u = rw (p, q, r, t, u) refl
 is_ipv4-read : (packet : List ℕ) (v : Ipv4Repr) → IsIpv4 true packet v → is_ipv4 packet ≡ true
 is_ipv4-read packet v is =
     let whole = is.whole in
-    all_true (nat_le 20 (length packet)) (nat_le 20 (header_len_of packet)) (nat_le (header_len_of packet) (be16 packet 2)) (nat_le (be16 packet 2) (length packet)) (slice_index packet 0 / 16 == 4)
-    (let h = whole.room in grind (arith, nat_tests, h)) (let h = is.version in grind (arith, nat_tests, h)) (let h = whole.header in grind (arith, nat_tests, h)) (let h = whole.least in grind (arith, nat_tests, h)) (let h = whole.within in grind (arith, nat_tests, h))
+    all_true (nat_le 20 (length packet)) (nat_le 20 (header_len_of packet)) (nat_le (header_len_of packet) (be16 packet 2))
+    (nat_le (be16 packet 2) (length packet)) (slice_index packet 0 / 16 == 4)
+    (let h = whole.room in grind (arith, nat_tests, h)) (let h = is.version in grind (arith, nat_tests, h)) (let h =
+    whole.header in grind (arith, nat_tests, h)) (let h = whole.least in grind (arith, nat_tests, h)) (let h = whole.within in grind (arith, nat_tests, h))
 
 -- the link header says so also of the frame
 carries-still : (medium : Medium) (link rest : List ℕ) → IsLinkHeader medium link → may_carry medium 0x0800 (link ++ rest) ≡ true
@@ -168,7 +199,8 @@ both a b part p q = rw (p, q) refl
 same_part : (at len len' : ℕ) → len ≡ len' → (let o : Option Part = Some (record { at = at; len = len }) in o) ≡ Some (record { at = at; len = len' })
 same_part at len len' e = rw e refl
 
-pub ipv4_part-slice : (medium : Medium) (link padding payload : List ℕ) (header : Ipv4Repr) (s : Slice) → IsLinkHeader medium link → IsValue header → 20 + length payload < 2 ^ 16 → IsSliceOf payload s → s.at % 8 ≡ 0
+pub ipv4_part-slice : (medium : Medium) (link padding payload : List ℕ) (header : Ipv4Repr) (s : Slice) → IsLinkHeader medium link → IsValue header →
+    20 + length payload < 2 ^ 16 → IsSliceOf payload s → s.at % 8 ≡ 0
     → ipv4_part medium (frame_of_slice link header payload s ++ padding) ≡ Some (record { at = frame_header medium + 20; len = s.count })
 ipv4_part-slice medium link padding payload header s is_link value short slice whole =
     let p : List ℕ = packet header payload padding s value short slice whole in
@@ -176,6 +208,8 @@ ipv4_part-slice medium link padding payload header s is_link value short slice w
     let at_frame = frame_is header payload padding s value short slice whole medium link is_link in
     let size : be16 p 2 - 20 ≡ s.count = omega (arith, is.payload) in
     ap (ipv4_part medium) at_frame
-    ∙ ap (λ (q : List ℕ). cond (may_carry medium 0x0800 (link ++ p) && is_ipv4 q) (Some (payload_v4 medium q)) None) (drop_at link p (frame_header medium) is_link.len)
-    ∙ both (may_carry medium 0x0800 (link ++ p)) (is_ipv4 p) (payload_v4 medium p) (carries-still medium link p is_link) (is_ipv4-read p (normal (with_len header s.count)) is)
+    ∙ ap (λ (q : List ℕ). cond (may_carry medium 0x0800 (link ++ p) && is_ipv4 q) (Some (payload_v4 medium q)) None)
+    (drop_at link p (frame_header medium) is_link.len)
+    ∙ both (may_carry medium 0x0800 (link ++ p)) (is_ipv4 p) (payload_v4 medium p) (carries-still medium link p is_link)
+    (is_ipv4-read p (normal (with_len header s.count)) is)
     ∙ same_part (frame_header medium + 20) (be16 p 2 - 20) s.count size

@@ -1,5 +1,6 @@
 -- Where a frame has a TCP segment, and that segment with one word exchanged.
-use Rattle.std.specs.Prelude.{ℕ, ◌+◌, ◌-◌, ◌/◌, ◌%◌, ◌^◌, nat_le, Bool, true, ◌&&◌, ◌==◌, if◌then◌else◌, List, length, slice_index, slice_range, Option, Some, None}
+use Rattle.std.specs.Prelude.{ℕ, ◌+◌, ◌-◌, ◌/◌, ◌%◌, ◌^◌, nat_le, Bool, true, ◌&&◌, ◌==◌, if◌then◌else◌, List, length, slice_index, slice_range, Option, Some}
+use Rattle.std.specs.Prelude.{None}
 use Rattle.net_devices.specs.Capabilities.{frame_header}
 use Rattle.net_devices.specs.declared.capabilities.Medium.{Medium}
 use Rattle.net_devices.specs.declared.capabilities.Medium.TheVariants.{Ethernet, Ip}

@@ -1,5 +1,6 @@
 -- The text of a value is a word that says the value.
-use Rattle.std.proofs.Common.{◌≡◌, ℕ, ℤ, pos, negsuc, zero, suc, ◌+◌, ◌*◌, ◌/◌, ◌%◌, ◌<◌, ◌==◌, ◌^◌, Bool, true, false, List, [], ◌∷◌, length, map, refl, sym, ap, ◌∙◌, arith, codes, decimal, Option, Some, None, Ok}
+use Rattle.std.proofs.Common.{◌≡◌, ℕ, ℤ, pos, negsuc, zero, suc, ◌+◌, ◌*◌, ◌/◌, ◌%◌, ◌<◌, ◌==◌, ◌^◌, Bool, true, false, List, [], ◌∷◌, length, map, refl, sym}
+use Rattle.std.proofs.Common.{ap, ◌∙◌, arith, codes, decimal, Option, Some, None, Ok}
 use Rattle.std.specs.Bool.{Decides}
 use Rattle.std.specs.Fmt.{signed_decimal}
 use Rattle.std.specs.Str.{bytes_eq}
@@ -24,8 +25,10 @@ use Rattle.lan_script.specs.declared.kinds.QueueSizes.{QueueSizes}
 use Rattle.lan_script.specs.declared.kinds.Side.{Side}
 use Rattle.lan_script.specs.declared.kinds.Side.TheVariants.{A, B}
 use Rattle.lan_script.specs.Lines.{AreQueueSizes}
-use Rattle.lan_script.specs.Words.{number_of, size_of, short_of, micros_of, side_of, medium_of, version_of, protocol_of, hex_bytes_of, four_digits_of, AreBlockTexts}
-use Rattle.lan_script.specs.Text.{side_text, medium_text, version_text, protocol_text, endpoint_word_of, endpoint_word, hex_word, four_digits, queue_words, IsNamed, IsEndpoint, IsProtocol, AreIpBlocks, AreSizes}
+use Rattle.lan_script.specs.Words.{number_of, size_of, short_of, micros_of, side_of, medium_of, version_of, protocol_of, hex_bytes_of, four_digits_of}
+use Rattle.lan_script.specs.Words.{AreBlockTexts}
+use Rattle.lan_script.specs.Text.{side_text, medium_text, version_text, protocol_text, endpoint_word_of, endpoint_word, hex_word, four_digits, queue_words}
+use Rattle.lan_script.specs.Text.{IsNamed, IsEndpoint, IsProtocol, AreIpBlocks, AreSizes}
 use Rattle.lan_script.proofs.WordLemmas.{digit_words, number_of_yes}
 
 pub side_back : (h : Side) → side_of (side_text h) ≡ Some h

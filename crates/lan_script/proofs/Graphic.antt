@@ -1,5 +1,6 @@
 -- The text of a value has no blank, and only ASCII.
-use Rattle.std.proofs.Common.{◌≡◌, ℕ, ℤ, pos, negsuc, zero, suc, ◌/◌, ◌%◌, ◌<◌, ◌^◌, true, List, [], ◌∷◌, ◌++◌, take, drop, slice_index, All, refl, ◌∙◌, arith, codes, decimal, Option, Some, None}
+use Rattle.std.proofs.Common.{◌≡◌, ℕ, ℤ, pos, negsuc, zero, suc, ◌/◌, ◌%◌, ◌<◌, ◌^◌, true, List, [], ◌∷◌, ◌++◌, take, drop, slice_index, All, refl, ◌∙◌, arith}
+use Rattle.std.proofs.Common.{codes, decimal, Option, Some, None}
 use Rattle.std.specs.List.{list_all}
 use Rattle.std.specs.Char.{digit_char, is_ascii_digit, is_ascii_graphic, is_ascii_hexdigit}
 use Rattle.std.specs.Fmt.{signed_decimal}
@@ -32,7 +33,8 @@ use Rattle.net_base.specs.declared.Medium.{Medium}
 use Rattle.net_base.specs.declared.Medium.TheVariants.{Ethernet, Ip}
 use Rattle.lan_script.specs.declared.kinds.Side.{Side}
 use Rattle.lan_script.specs.declared.kinds.Side.TheVariants.{A, B}
-use Rattle.lan_script.specs.Text.{side_text, medium_text, version_text, protocol_text, endpoint_word_of, endpoint_word, hex_word, four_digits, IsNamed, IsEndpoint, IsProtocol}
+use Rattle.lan_script.specs.Text.{side_text, medium_text, version_text, protocol_text, endpoint_word_of, endpoint_word, hex_word, four_digits, IsNamed}
+use Rattle.lan_script.specs.Text.{IsEndpoint, IsProtocol}
 use Rattle.lan_script.proofs.WordLemmas.{digit_words, same_digits}
 use Rattle.lan_script.proofs.Backs.{two_bytes}
 
@@ -84,7 +86,8 @@ moment_graphic (negsuc n) bad = absurd bad
 encoded_graphic : (bytes : List ℕ) → IsBytes bytes → IsGraphic (encode_lower bytes)
 encoded_graphic bytes h =
     let digits = list_all-from_AllPass is_hex_digit (encode_lower bytes) (decode_of-ok (encode_lower bytes) bytes (decode_of-encode_lower bytes h)).1 in
-    graphic_of (λ c. is_ascii_hexdigit c ≡ true) graphic_hexdigit (encode_lower bytes) (AllPass-from_list_all is_ascii_hexdigit (encode_lower bytes) (same_digits (encode_lower bytes) ∙ digits))
+    graphic_of (λ c. is_ascii_hexdigit c ≡ true) graphic_hexdigit (encode_lower bytes)
+    (AllPass-from_list_all is_ascii_hexdigit (encode_lower bytes) (same_digits (encode_lower bytes) ∙ digits))
 
 pub hex_graphic : (bytes : List ℕ) → IsBytes bytes → IsGraphic (hex_word bytes)
 hex_graphic [] h = refl
@@ -136,13 +139,16 @@ endpoint_graphic e h = endpoint_of e.addr e.port h.0 h.1
 
 pub block_graphic : (block : IpCidr) → IsIpAddress (block_address block) → IsGraphic (block_text block)
 block_graphic (Block.Ipv4 b) h =
-    and_then (ip_text (ip.Ipv4 b.address)) (47 ∷ decimal b.prefix_len) (ip_graphic (ip.Ipv4 b.address) h) (behind 47 (decimal b.prefix_len) refl (decimal_graphic b.prefix_len (omega (arith, b.in_range))))
+    and_then (ip_text (ip.Ipv4 b.address)) (47 ∷ decimal b.prefix_len) (ip_graphic (ip.Ipv4 b.address) h)
+    (behind 47 (decimal b.prefix_len) refl (decimal_graphic b.prefix_len (omega (arith, b.in_range))))
 block_graphic (Block.Ipv6 b) h =
-    and_then (ip_text (ip.Ipv6 b.address)) (47 ∷ decimal b.prefix_len) (ip_graphic (ip.Ipv6 b.address) h) (behind 47 (decimal b.prefix_len) refl (decimal_graphic b.prefix_len (omega (arith, b.in_range))))
+    and_then (ip_text (ip.Ipv6 b.address)) (47 ∷ decimal b.prefix_len) (ip_graphic (ip.Ipv6 b.address) h)
+    (behind 47 (decimal b.prefix_len) refl (decimal_graphic b.prefix_len (omega (arith, b.in_range))))
 
 pair_before : (n : ℕ) (back : List ℕ) → n < 256 → IsGraphic back → IsGraphic (hex_pair n ++ back)
 pair_before n back less h =
-    behind (digit_char (n / 16)) (digit_char (n % 16) ∷ back) (graphic_digit_char (n / 16) (omega arith)) (behind (digit_char (n % 16)) back (graphic_digit_char (n % 16) (omega arith)) h)
+    behind (digit_char (n / 16)) (digit_char (n % 16) ∷ back) (graphic_digit_char (n / 16) (omega arith))
+    (behind (digit_char (n % 16)) back (graphic_digit_char (n % 16) (omega arith)) h)
 
 pair_and_dash : (n : ℕ) (back : List ℕ) → n < 256 → IsGraphic back → IsGraphic (hex_pair n ++ 45 ∷ back)
 pair_and_dash n back less h = pair_before n (45 ∷ back) less (behind 45 back refl h)

@@ -27,13 +27,15 @@ without_blank word h = All-weaker (λ c. is_ascii_graphic c ≡ true) (λ c. (c 
 
 word_ascii : (word : List ℕ) → IsGraphic word → list_all (λ c. nat_lt c 128) word ≡ true
 word_ascii word h =
-    list_all-from_AllPass (λ c. nat_lt c 128) word (All-weaker (λ c. is_ascii_graphic c ≡ true) (λ c. nat_lt c 128 ≡ true) ascii word (AllPass-from_list_all is_ascii_graphic word h))
+    list_all-from_AllPass (λ c. nat_lt c 128) word
+    (All-weaker (λ c. is_ascii_graphic c ≡ true) (λ c. nat_lt c 128 ≡ true) ascii word (AllPass-from_list_all is_ascii_graphic word h))
 
 pub joined_splits : (words : List (List ℕ)) → AreGraphic words → words_of 32 (join_with_byte 32 words) ≡ words
 joined_splits [] h = absurd h
 joined_splits (word ∷ []) h = slice_split_none (λ c. c == 32) word (without_blank word h)
 joined_splits (word ∷ next ∷ words) h =
-    slice_split_at (λ c. c == 32) word 32 (join_with_byte 32 (next ∷ words)) (without_blank word h.0) refl ∙ ap (λ t. word ∷ t) (joined_splits (next ∷ words) h.1)
+    slice_split_at (λ c. c == 32) word 32 (join_with_byte 32 (next ∷ words)) (without_blank word h.0) refl ∙
+    ap (λ t. word ∷ t) (joined_splits (next ∷ words) h.1)
 
 pub joined_ascii : (words : List (List ℕ)) → AreGraphic words → list_all (λ c. nat_lt c 128) (join_with_byte 32 words) ≡ true
 joined_ascii [] h = absurd h

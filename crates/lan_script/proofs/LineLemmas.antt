@@ -1,5 +1,6 @@
 -- Lemmas on the lines of a script.
-use Rattle.std.proofs.Common.{◌≡◌, ℕ, zero, suc, ◌<◌, ◌≤◌, Bool, true, false, ◌&&◌, ltb, nat_lt, List, [], ◌∷◌, slice_index, refl, arith, Option, Some, None, IfSome}
+use Rattle.std.proofs.Common.{◌≡◌, ℕ, zero, suc, ◌<◌, ◌≤◌, Bool, true, false, ◌&&◌, ltb, nat_lt, List, [], ◌∷◌, slice_index, refl, arith, Option, Some, None}
+use Rattle.std.proofs.Common.{IfSome}
 use Rattle.std.specs.List.{list_all}
 use Rattle.std.specs.Str.{IsAscii}
 use Rattle.std.proofs.lemmas.Bool.Decides.{nat_tests}

@@ -3,13 +3,15 @@ use Rattle.std.proofs.Common.{◌≡◌, ℕ, List, [], ◌∷◌, map, refl, sy
 use Rattle.ip_wire.specs.IpCidr.{IpCidr}
 use Rattle.ip_wire.specs.Text.{block_text}
 use Rattle.lan_script.specs.declared.line.Line.{Line}
-use Rattle.lan_script.specs.declared.line.Line.TheVariants.{World, Socket, Start, Listen, Connect, Send, Recv, Close, Abort, State, Bind, Ident, SendTo, SendIcmp, SendRaw, RecvFrom, Addrs, Hw, Route, Poll, PollAt, Deliver, Damage, Noise, Room, Cut}
+use Rattle.lan_script.specs.declared.line.Line.TheVariants.{World, Socket, Start, Listen, Connect, Send, Recv, Close, Abort, State, Bind, Ident, SendTo}
+use Rattle.lan_script.specs.declared.line.Line.TheVariants.{SendIcmp, SendRaw, RecvFrom, Addrs, Hw, Route, Poll, PollAt, Deliver, Damage, Noise, Room, Cut}
 use Rattle.lan_script.specs.declared.kinds.QueueSizes.{QueueSizes}
 use Rattle.lan_script.specs.declared.kinds.SocketSpec.{SocketSpec}
 use Rattle.lan_script.specs.declared.kinds.SocketSpec.TheVariants.{Udp, Icmp, Raw, Tcp}
 use Rattle.lan_script.specs.Lines.{SaysWords, SaysLine}
 use Rattle.lan_script.specs.Text.{side_text, queue_words, socket_words, line_words, line_text, AreIpBlocks, AreSizes, IsSpec, HasText}
-use Rattle.lan_script.proofs.Graphic.{IsGraphic, side_graphic, medium_graphic, version_graphic, protocol_graphic, decimal_graphic, short_graphic, moment_graphic, hex_graphic, four_digits_graphic, endpoint_graphic, ip_graphic, ethernet_graphic, block_graphic}
+use Rattle.lan_script.proofs.Graphic.{IsGraphic, side_graphic, medium_graphic, version_graphic, protocol_graphic, decimal_graphic, short_graphic}
+use Rattle.lan_script.proofs.Graphic.{moment_graphic, hex_graphic, four_digits_graphic, endpoint_graphic, ip_graphic, ethernet_graphic, block_graphic}
 use Rattle.lan_script.proofs.JoinedLemmas.{AreGraphic, joined_splits, joined_ascii}
 use Rattle.lan_script.proofs.ReadBack.{says_words}
 

@@ -1,5 +1,6 @@
 -- Lemmas on the words of a script.
-use Rattle.std.proofs.Common.{◌≡◌, ℕ, ℤ, ◌==◌, ◌-◌, ◌%◌, ◌<◌, ◌≤◌, ◌^◌, Bool, true, false, not, cond, eqb, nat_le, ◌&&◌, ◌||◌, List, [], ◌∷◌, length, refl, sym, inl, inr, ap, ◌∙◌, arith, rules, Option, Some, None, Result, Ok, Err}
+use Rattle.std.proofs.Common.{◌≡◌, ℕ, ℤ, ◌==◌, ◌-◌, ◌%◌, ◌<◌, ◌≤◌, ◌^◌, Bool, true, false, not, cond, eqb, nat_le, ◌&&◌, ◌||◌, List, [], ◌∷◌, length, refl, sym}
+use Rattle.std.proofs.Common.{inl, inr, ap, ◌∙◌, arith, rules, Option, Some, None, Result, Ok, Err}
 use Rattle.std.specs.Option.{is_some}
 use Rattle.std.specs.List.{onto_first, position_or_len, list_all, before_first, after_first}
 use Rattle.std.specs.Char.{is_ascii_digit, is_ascii_hexdigit}
@@ -37,8 +38,10 @@ pub words_of_some : (c : ℕ) (text : List ℕ) → (length (words_of c text) ==
 words_of_some c text = grind (arith, nat_tests, length-slice_split (λ b. eqb b c) text)
 
 -- where a text has a separator, its first word ends there
-pub first_word_ends : (c : ℕ) (left : Option (Bor (List ℕ))) (words : List (List ℕ)) (text : Bor (List ℕ)) (first rest : List ℕ) → words_left c left ≡ words → left ≡ Some text
-    → (first ≡ before_first (λ b. eqb b c) text.now) × (rest ≡ after_first (λ b. eqb b c) text.now) × (position_or_len (λ b. eqb b c) text.now < length text.now)
+pub first_word_ends : (c : ℕ) (left : Option (Bor (List ℕ))) (words : List (List ℕ)) (text : Bor (List ℕ)) (first rest : List ℕ) → words_left c left ≡ words →
+    left ≡ Some text
+    → (first ≡ before_first (λ b. eqb b c) text.now) × (rest ≡ after_first (λ b. eqb b c) text.now) ×
+    (position_or_len (λ b. eqb b c) text.now < length text.now)
     → words ≡ first ∷ words_of c rest
 first_word_ends c left words text first rest view is parts =
     sym view ∙ ap (words_left c) is ∙ slice_split_first (λ b. eqb b c) text.now 0 parts.2 ∙ rw (parts.0, parts.1) refl
@@ -60,7 +63,8 @@ none_left c (Some text) false h = sym (words_of_some c text.now)
 pub digit_words : IsNumeralModel (λ ds. list_all is_ascii_digit ds ≡ true) (digits_value 10)
 digit_words = numerals_by_value _ (search rules)
 
-pub number_of_yes : (bound : ℕ) (word : List ℕ) (value : ℕ) → list_all is_ascii_digit word ≡ true → 0 < length word → digits_value 10 word < bound → value ≡ digits_value 10 word → Some value ≡ number_of bound word
+pub number_of_yes : (bound : ℕ) (word : List ℕ) (value : ℕ) → list_all is_ascii_digit word ≡ true → 0 < length word → digits_value 10 word < bound →
+    value ≡ digits_value 10 word → Some value ≡ number_of bound word
 number_of_yes bound word value digits some small e = grind (arith, nat_tests)
 
 number_of_nothing : (bound : ℕ) (word : List ℕ) → length word ≤ 0 → number_of bound word ≡ None
@@ -76,7 +80,8 @@ number_of_no bound word not_in =
       | inr none ↦ number_of_nothing bound word none
     ]
 
-pub number_of_parsed : {E : Type 0} → (k : ℕ) (word : List ℕ) (r : Result ℕ E) → ParsesUnsigned k 10 word r → list_all is_ascii_digit word ≡ true → result_ok r ≡ number_of (2 ^ k) word
+pub number_of_parsed : {E : Type 0} → (k : ℕ) (word : List ℕ) (r : Result ℕ E) → ParsesUnsigned k 10 word r → list_all is_ascii_digit word ≡ true →
+    result_ok r ≡ number_of (2 ^ k) word
 number_of_parsed {E} k word (Ok x) parsed digits =
     let facts = parse_digits digit_words {E = E} k word (Ok x) parsed digits in
     number_of_yes (2 ^ k) word x digits facts.0.0 facts.0.1 facts.1
@@ -84,7 +89,8 @@ number_of_parsed {E} k word (Err e) parsed digits =
     let facts = parse_digits digit_words {E = E} k word (Err e) parsed digits in
     sym (number_of_no (2 ^ k) word facts)
 
-pub micros_of_parsed : {E : Type 0} → (word : List ℕ) (r : Result ℤ E) → ParsesSigned w64 10 word r → list_all is_ascii_digit word ≡ true → result_ok r ≡ micros_of word
+pub micros_of_parsed : {E : Type 0} → (word : List ℕ) (r : Result ℤ E) → ParsesSigned w64 10 word r → list_all is_ascii_digit word ≡ true →
+    result_ok r ≡ micros_of word
 micros_of_parsed {E} word (Ok x) parsed digits =
     let facts = parse_signed_digits digit_words {E = E} w64 word (Ok x) parsed digits in
     ap Some facts.1 ∙ rw (← number_of_yes (2 ^ 63) word (digits_value 10 word) digits facts.0.0 facts.0.1 refl) refl
@@ -104,7 +110,10 @@ some_of_three false false false x y z = refl
 
 pub same_digits : (word : List ℕ) → list_all is_ascii_hexdigit word ≡ list_all is_hex_digit word
 same_digits [] = refl
-same_digits (c ∷ cs) = rw (some_of_three (nat_le 65 c && nat_le c 70) (nat_le 97 c && nat_le c 102) (nat_le 48 c && nat_le c 57) (c - 55) (c - 87) (c - 48), same_digits cs) refl
+same_digits (c ∷ cs) = rw (
+  some_of_three (nat_le 65 c && nat_le c 70) (nat_le 97 c && nat_le c 102) (nat_le 48 c && nat_le c 57) (c - 55) (c - 87) (c - 48),
+  same_digits cs,
+) refl
 
 only_digits_decode : (word : List ℕ) (r : Result (List ℕ) FromHexError) → decode_of word ≡ r → list_all is_hex_digit word ≡ false → false ≡ is_ok r
 only_digits_decode word (Ok bytes) e h =

@@ -3,14 +3,16 @@ use Rattle.std.specs.Prelude.{ℕ, nat_lt, IsTrue, List, drop}
 use Rattle.std.specs.List.{list_all}
 use Rattle.ip_wire.specs.Text.{IsEndpointText, IsIpText, IsEthernetText}
 use Rattle.lan_script.specs.Verbs.{verb_of}
-use Rattle.lan_script.specs.Words.{words_of, side_of, medium_of, kind_of, version_of, protocol_of, size_of, short_of, four_digits_of, micros_of, hex_bytes_of, First, FirstIs, AreBlocks, Reads, ReadsAll, Ends}
+use Rattle.lan_script.specs.Words.{words_of, side_of, medium_of, kind_of, version_of, protocol_of, size_of, short_of, four_digits_of, micros_of, hex_bytes_of}
+use Rattle.lan_script.specs.Words.{First, FirstIs, AreBlocks, Reads, ReadsAll, Ends}
 use Rattle.lan_script.specs.declared.kinds.Side.{Side}
 use Rattle.lan_script.specs.declared.kinds.SocketKind.{SocketKind}
 use Rattle.lan_script.specs.declared.kinds.SocketKind.TheVariants as kind
 use Rattle.lan_script.specs.declared.kinds.SocketSpec.TheVariants.{Udp, Icmp, Raw, Tcp}
 use Rattle.lan_script.specs.declared.kinds.QueueSizes.{QueueSizes}
 use Rattle.lan_script.specs.declared.line.Line.{Line}
-use Rattle.lan_script.specs.declared.line.Line.TheVariants.{World, Socket, Start, Listen, Connect, Send, Recv, Close, Abort, State, Bind, Ident, SendTo, SendIcmp, SendRaw, RecvFrom, Addrs, Hw, Route, Poll, PollAt, Deliver, Damage, Noise, Room, Cut}
+use Rattle.lan_script.specs.declared.line.Line.TheVariants.{World, Socket, Start, Listen, Connect, Send, Recv, Close, Abort, State, Bind, Ident, SendTo}
+use Rattle.lan_script.specs.declared.line.Line.TheVariants.{SendIcmp, SendRaw, RecvFrom, Addrs, Hw, Route, Poll, PollAt, Deliver, Damage, Noise, Room, Cut}
 use Rattle.lan_script.specs.declared.verb.Verb.{Verb}
 use Rattle.lan_script.specs.declared.verb.Verb.TheVariants as verb
 use Rattle.lan_script.specs.declared.verb.StreamVerb.{StreamVerb}

@@ -13,7 +13,8 @@ ghost use Rattle.lan_script.specs.declared.kinds.Side.{Side};
 ghost use Rattle.lan_script.specs.declared.kinds.SocketKind.{SocketKind};
 ghost use Rattle.lan_script.specs.declared.verb.Verb.{Verb};
 ghost use Rattle.lan_script.specs.Verbs.{verb_of};
-ghost use Rattle.lan_script.specs.Words.{words_of, number_of, size_of, short_of, micros_of, side_of, medium_of, kind_of, version_of, protocol_of, four_digits_of, hex_bytes_of, First, FirstIs, IsBlockText, AreBlocks};
+ghost use Rattle.lan_script.specs.Words.{words_of, number_of, size_of, short_of, micros_of, side_of, medium_of, kind_of, version_of, protocol_of};
+ghost use Rattle.lan_script.specs.Words.{four_digits_of, hex_bytes_of, First, FirstIs, IsBlockText, AreBlocks};
 
 use crate::blocks::Blocks;
 use crate::hex_bytes::HexBytes;

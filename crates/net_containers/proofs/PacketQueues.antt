@@ -1,5 +1,6 @@
 -- Lemmas on the packets of a queue and the entries that it keeps.
-use Rattle.std.proofs.Common.{◌≡◌, ℕ, ◌+◌, ◌<◌, ◌≤◌, ◌%◌, ◌⊎◌, List, [], ◌∷◌, ◌++◌, length, take, drop, refl, sym, ap, ◌∙◌, inl, inr, add_assoc, zero-add, arith, length-drop}
+use Rattle.std.proofs.Common.{◌≡◌, ℕ, ◌+◌, ◌<◌, ◌≤◌, ◌%◌, ◌⊎◌, List, [], ◌∷◌, ◌++◌, length, take, drop, refl, sym, ap, ◌∙◌, inl, inr, add_assoc, zero-add}
+use Rattle.std.proofs.Common.{arith, length-drop}
 use Rattle.std.specs.Prelude.{Option, None, Some, IsSome, ◌==◌, if◌then◌else◌}
 use Rattle.std.proofs.lemmas.Bool.{false≢true}
 use Rattle.std.proofs.lemmas.Bool.Decides.{eqb_tells}
@@ -15,7 +16,9 @@ more skipped = if skipped == 0 then 0 else 1
 
 module _ {H : Type 0} where
   -- as many entries as the packets take
-  places-step : (n : ℕ) (header : Option H) (ms : List (PacketMetadata H)) (bs : List ℕ) (skipped at room : ℕ) → AreLaid at room (entry n header ∷ ms) → ((skipped ≡ 0) ⊎ IsSome header) → ((s : ℕ) → ((s ≡ 0) ⊎ BeginsWithPacket ms) → used_places (packets_of s ms (drop n bs)) ≡ more s + length ms) → used_places (packets_of skipped (entry n header ∷ ms) bs) ≡ more skipped + length (entry n header ∷ ms)
+  places-step : (n : ℕ) (header : Option H) (ms : List (PacketMetadata H)) (bs : List ℕ) (skipped at room : ℕ) → AreLaid at room (entry n header ∷ ms) →
+      ((skipped ≡ 0) ⊎ IsSome header) → ((s : ℕ) → ((s ≡ 0) ⊎ BeginsWithPacket ms) → used_places (packets_of s ms (drop n bs)) ≡ more s + length ms) →
+      used_places (packets_of skipped (entry n header ∷ ms) bs) ≡ more skipped + length (entry n header ∷ ms)
   places-step n None ms bs skipped at room h way ih = elim way [
     | inl z ↦ elim (eqb_tells (skipped + n) 0) [
       | inl none ↦ absurd (omega (arith, none.1, h.1.0))
@@ -30,7 +33,8 @@ module _ {H : Type 0} where
         | inr some ↦ rw some.0 (omega (arith, rest))
       ]
 
-  places-packets_of : (ms : List (PacketMetadata H)) (bs : List ℕ) (skipped at room : ℕ) → AreLaid at room ms → ((skipped ≡ 0) ⊎ BeginsWithPacket ms) → used_places (packets_of skipped ms bs) ≡ more skipped + length ms
+  places-packets_of : (ms : List (PacketMetadata H)) (bs : List ℕ) (skipped at room : ℕ) → AreLaid at room ms → ((skipped ≡ 0) ⊎ BeginsWithPacket ms) →
+      used_places (packets_of skipped ms bs) ≡ more skipped + length ms
   places-packets_of [] bs skipped at room h way = elim way [ inl z ↦ rw z (omega arith) | inr e ↦ absurd e ]
   places-packets_of (m ∷ ms) bs skipped at room h way =
       places-step m.size m.header ms bs skipped at room h way (λ s w. places-packets_of ms (drop m.size bs) s ((at + m.size) % room) room h.2 w)
@@ -39,16 +43,20 @@ module _ {H : Type 0} where
   used_places-packets_of ms bs at room h = places-packets_of ms bs 0 at room h (inl refl) ∙ omega arith
 
   -- as many bytes
-  room-step : (n : ℕ) (header : Option H) (ms : List (PacketMetadata H)) (bs : List ℕ) (skipped at room : ℕ) → AreLaid at room (entry n header ∷ ms) → n + size_of ms ≡ length bs → ((s : ℕ) → ((s ≡ 0) ⊎ BeginsWithPacket ms) → used_room (packets_of s ms (drop n bs)) ≡ s + length (drop n bs)) → ((skipped ≡ 0) ⊎ IsSome header) → used_room (packets_of skipped (entry n header ∷ ms) bs) ≡ skipped + length bs
+  room-step : (n : ℕ) (header : Option H) (ms : List (PacketMetadata H)) (bs : List ℕ) (skipped at room : ℕ) → AreLaid at room (entry n header ∷ ms) →
+      n + size_of ms ≡ length bs → ((s : ℕ) → ((s ≡ 0) ⊎ BeginsWithPacket ms) → used_room (packets_of s ms (drop n bs)) ≡ s + length (drop n bs)) →
+      ((skipped ≡ 0) ⊎ IsSome header) → used_room (packets_of skipped (entry n header ∷ ms) bs) ≡ skipped + length bs
   room-step n None ms bs skipped at room h e ih way = ih (skipped + n) (inr h.1.1) ∙ omega (arith, length-drop n bs)
   room-step n (Some x) ms bs skipped at room h e ih way =
       let rest = ih 0 (inl refl) in
       omega (arith, rest, length-drop n bs, length-take-le n bs (omega arith))
 
-  room-packets_of : (ms : List (PacketMetadata H)) (bs : List ℕ) (skipped at room : ℕ) → AreLaid at room ms → size_of ms ≡ length bs → ((skipped ≡ 0) ⊎ BeginsWithPacket ms) → used_room (packets_of skipped ms bs) ≡ skipped + length bs
+  room-packets_of : (ms : List (PacketMetadata H)) (bs : List ℕ) (skipped at room : ℕ) → AreLaid at room ms → size_of ms ≡ length bs →
+      ((skipped ≡ 0) ⊎ BeginsWithPacket ms) → used_room (packets_of skipped ms bs) ≡ skipped + length bs
   room-packets_of [] bs skipped at room h e way = elim way [ inl z ↦ omega (arith, e) | inr x ↦ absurd x ]
   room-packets_of (m ∷ ms) bs skipped at room h e way =
-      room-step m.size m.header ms bs skipped at room h e (λ s w. room-packets_of ms (drop m.size bs) s ((at + m.size) % room) room h.2 (omega (arith, e, length-drop m.size bs)) w) way
+      room-step m.size m.header ms bs skipped at room h e
+      (λ s w. room-packets_of ms (drop m.size bs) s ((at + m.size) % room) room h.2 (omega (arith, e, length-drop m.size bs)) w) way
 
   pub used_room-packets_of : (ms : List (PacketMetadata H)) (bs : List ℕ) (at room : ℕ) → AreLaid at room ms → size_of ms ≡ length bs → used_room (packets_of 0 ms bs) ≡ length bs
   used_room-packets_of ms bs at room h e = room-packets_of ms bs 0 at room h e (inl refl) ∙ omega arith
@@ -71,7 +79,8 @@ module _ {H : Type 0} where
   IsPadding-append n (Some x) ms es h = tt
 
   -- entries that are laid behind others
-  pub AreLaid-append : (ms es : List (PacketMetadata H)) (at room : ℕ) → at % room ≡ at → AreLaid at room ms → AreLaid ((at + size_of ms) % room) room es → AreLaid at room (ms ++ es)
+  pub AreLaid-append : (ms es : List (PacketMetadata H)) (at room : ℕ) → at % room ≡ at → AreLaid at room ms → AreLaid ((at + size_of ms) % room) room es →
+      AreLaid at room (ms ++ es)
   AreLaid-append [] es at room e h t =
       let here : (at + 0) % room ≡ at = ap (λ n. n % room) (add-zero at) ∙ e in
       rw here at t
@@ -88,22 +97,28 @@ module _ {H : Type 0} where
       let next : (0 + m.size) % room ≡ 0 = ap (λ n. n % room) none ∙ zero-mod room in
       (omega (arith, none), h.1, rw next (AreLaid-from_zero ms ((at + m.size) % room) room h.2 (omega (arith, e))))
 
-  append-step : (n : ℕ) (header : Option H) (ms es : List (PacketMetadata H)) (bs cs : List ℕ) (skipped at room : ℕ) → AreLaid at room (entry n header ∷ ms) → n ≤ length bs → ((s : ℕ) → ((s ≡ 0) ⊎ BeginsWithPacket ms) → packets_of s (ms ++ es) (drop n bs ++ cs) ≡ packets_of s ms (drop n bs) ++ packets_of 0 es cs) → ((skipped ≡ 0) ⊎ IsSome header) → packets_of skipped (entry n header ∷ (ms ++ es)) (bs ++ cs) ≡ packets_of skipped (entry n header ∷ ms) bs ++ packets_of 0 es cs
+  append-step : (n : ℕ) (header : Option H) (ms es : List (PacketMetadata H)) (bs cs : List ℕ) (skipped at room : ℕ) → AreLaid at room (entry n header ∷ ms) →
+      n ≤ length bs → ((s : ℕ) → ((s ≡ 0) ⊎ BeginsWithPacket ms) → packets_of s (ms ++ es) (drop n bs ++ cs) ≡ packets_of s ms (drop n bs) ++
+      packets_of 0 es cs) → ((skipped ≡ 0) ⊎ IsSome header) →
+      packets_of skipped (entry n header ∷ (ms ++ es)) (bs ++ cs) ≡ packets_of skipped (entry n header ∷ ms) bs ++ packets_of 0 es cs
   append-step n None ms es bs cs skipped at room h fits ih way =
       ap (λ xs. packets_of (skipped + n) (ms ++ es) xs) (drop-append-le n bs cs fits) ∙ ih (skipped + n) (inr h.1.1)
   append-step n (Some x) ms es bs cs skipped at room h fits ih way =
       rw (drop-append-le n bs cs fits, take-append-le n bs cs fits) (ap (λ ps. packet skipped x (take n bs) ∷ ps) (ih 0 (inl refl)))
 
   -- packets behind others
-  packets_of-behind : (ms es : List (PacketMetadata H)) (bs cs : List ℕ) (skipped at room : ℕ) → AreLaid at room ms → size_of ms ≡ length bs → ((skipped ≡ 0) ⊎ BeginsWithPacket ms) → packets_of skipped (ms ++ es) (bs ++ cs) ≡ packets_of skipped ms bs ++ packets_of 0 es cs
+  packets_of-behind : (ms es : List (PacketMetadata H)) (bs cs : List ℕ) (skipped at room : ℕ) → AreLaid at room ms → size_of ms ≡ length bs →
+      ((skipped ≡ 0) ⊎ BeginsWithPacket ms) → packets_of skipped (ms ++ es) (bs ++ cs) ≡ packets_of skipped ms bs ++ packets_of 0 es cs
   packets_of-behind [] es bs cs skipped at room h e way = elim way [
     | inl z ↦ let none : bs ≡ [] = nil_from_length bs (sym e) in rw (none, z) refl
     | inr x ↦ absurd x
   ]
   packets_of-behind (m ∷ ms) es bs cs skipped at room h e way =
-      append-step m.size m.header ms es bs cs skipped at room h (omega (arith, e)) (λ s w. packets_of-behind ms es (drop m.size bs) cs s ((at + m.size) % room) room h.2 (omega (arith, e, length-drop m.size bs)) w) way
+      append-step m.size m.header ms es bs cs skipped at room h (omega (arith, e))
+      (λ s w. packets_of-behind ms es (drop m.size bs) cs s ((at + m.size) % room) room h.2 (omega (arith, e, length-drop m.size bs)) w) way
 
-  pub packets_of-append : (ms es : List (PacketMetadata H)) (bs cs : List ℕ) (at room : ℕ) → AreLaid at room ms → size_of ms ≡ length bs → packets_of 0 (ms ++ es) (bs ++ cs) ≡ packets_of 0 ms bs ++ packets_of 0 es cs
+  pub packets_of-append : (ms es : List (PacketMetadata H)) (bs cs : List ℕ) (at room : ℕ) → AreLaid at room ms → size_of ms ≡ length bs →
+      packets_of 0 (ms ++ es) (bs ++ cs) ≡ packets_of 0 ms bs ++ packets_of 0 es cs
   packets_of-append ms es bs cs at room h e = packets_of-behind ms es bs cs 0 at room h e (inl refl)
 
   -- the entries of a new packet
@@ -112,7 +127,8 @@ module _ {H : Type 0} where
       if padding == 0 then entry size (Some header) ∷ []
       else entry padding None ∷ entry size (Some header) ∷ []
 
-  pub AreLaid-entries_for : (padding size : ℕ) (header : H) (at room : ℕ) → (padding ≡ 0 → at + size ≤ room) → (0 < padding → (at + padding ≡ room) × (size ≤ room)) → AreLaid at room (entries_for padding size header)
+  pub AreLaid-entries_for : (padding size : ℕ) (header : H) (at room : ℕ) → (padding ≡ 0 → at + size ≤ room) →
+      (0 < padding → (at + padding ≡ room) × (size ≤ room)) → AreLaid at room (entries_for padding size header)
   AreLaid-entries_for padding size header at room whole wrapped = elim (eqb_tells padding 0) [
     | inl none ↦ rw none.0 (whole none.1, tt, tt)
     | inr some ↦ let w = wrapped (omega (arith, some.1)) in
@@ -126,7 +142,8 @@ module _ {H : Type 0} where
     | inr some ↦ rw some.0 (omega arith)
   ]
 
-  pub packets_of-entries_for : (padding size : ℕ) (header : H) (ps cs : List ℕ) → length ps ≡ padding → length cs ≡ size → packets_of 0 (entries_for padding size header) (ps ++ cs) ≡ packet padding header cs ∷ []
+  pub packets_of-entries_for : (padding size : ℕ) (header : H) (ps cs : List ℕ) → length ps ≡ padding → length cs ≡ size →
+      packets_of 0 (entries_for padding size header) (ps ++ cs) ≡ packet padding header cs ∷ []
   packets_of-entries_for padding size header ps cs long whole =
       let all : take size cs ≡ cs = take_all size cs (omega (arith, whole)) in
       elim (eqb_tells padding 0) [

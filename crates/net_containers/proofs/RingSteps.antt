@@ -1,17 +1,21 @@
 -- The steps of a ring, on its value alone.
-use Rattle.std.proofs.Common.{◌≡◌, ℕ, ◌+◌, ◌-◌, ◌%◌, ◌<◌, ◌≤◌, ◌⊎◌, List, [], ◌∷◌, ◌++◌, length, take, drop, min, refl, sym, ap, ◌∙◌, inl, inr, add_assoc, arith, length-append, length-drop, take-append-drop, append_assoc}
-use Rattle.std.proofs.lemmas.List.{take_at, drop_at, take_all, drop_all, length-take-le, take-append-le, drop-drop, append-nil, nil_from_length, length-map, drop_more, get_or_at, set_at, map_more}
+use Rattle.std.proofs.Common.{◌≡◌, ℕ, ◌+◌, ◌-◌, ◌%◌, ◌<◌, ◌≤◌, ◌⊎◌, List, [], ◌∷◌, ◌++◌, length, take, drop, min, refl, sym, ap, ◌∙◌, inl, inr, add_assoc}
+use Rattle.std.proofs.Common.{arith, length-append, length-drop, take-append-drop, append_assoc}
+use Rattle.std.proofs.lemmas.List.{take_at, drop_at, take_all, drop_all, length-take-le, take-append-le, drop-drop, append-nil, nil_from_length, length-map}
+use Rattle.std.proofs.lemmas.List.{drop_more, get_or_at, set_at, map_more}
 use Rattle.std.proofs.lemmas.Bool.{cases_lt}
 use Rattle.std.proofs.Math.Seq.{take-add, drop-append-add}
 use Rattle.std.specs.Prelude.{slice_get, Some, map}
 use Rattle.std.proofs.Common.{get_or, set}
 use Rattle.std.proofs.Math.Dec.{eqb-suc-zero}
-use Rattle.net_containers.specs.Ring.{Ring, ring, ring_in, IsPlaced, laid_from, storage_of, capacity, until_end, contiguous, unbroken_free, unbroken_queued, cleared, anchored, extended, released, overwritten, rewritten, enqueued, dequeued, waiting}
+use Rattle.net_containers.specs.Ring.{Ring, ring, ring_in, IsPlaced, laid_from, storage_of, capacity, until_end, contiguous, unbroken_free, unbroken_queued}
+use Rattle.net_containers.specs.Ring.{cleared, anchored, extended, released, overwritten, rewritten, enqueued, dequeued, waiting}
 use Rattle.net_containers.proofs.Rotations.{wraps_once, laid_over-fits, length-rotated}
 use Rattle.net_containers.proofs.Rings.{rotated-laid_from, laid_from-free, laid_from-queue}
 
 -- what does not fit before the end of the storage begins at its first place, and is unbroken
-pub rest_unbroken : {X : Type 0} (r : Ring X) (from count first : ℕ) → IsPlaced r → from + count ≤ capacity r → first ≡ min count (until_end r from) → count - first ≤ until_end r (from + first)
+pub rest_unbroken : {X : Type 0} (r : Ring X) (from count first : ℕ) → IsPlaced r → from + count ≤ capacity r → first ≡ min count (until_end r from) →
+    count - first ≤ until_end r (from + first)
 rest_unbroken r from count first p within is = elim (cases_lt 0 (capacity r)) [
   | inl some ↦ let a = wraps_once r.start from (capacity r) (p.1 some) (omega arith) in
       let b = wraps_once r.start (from + first) (capacity r) (p.1 some) (omega arith) in
@@ -31,7 +35,8 @@ module _ {X : Type 0} where
       ∙ omega (arith, length-append ws (drop (offset + length ws) r.free), length-drop (offset + length ws) r.free, length-take-le offset r.free (omega arith))
 
   -- elements written behind those that were written
-  pub overwritten-overwritten : (r : Ring X) (offset : ℕ) (vs ws : List X) → offset + length vs + length ws ≤ length r.free → overwritten (overwritten r offset vs) (offset + length vs) ws ≡ overwritten r offset (vs ++ ws)
+  pub overwritten-overwritten : (r : Ring X) (offset : ℕ) (vs ws : List X) → offset + length vs + length ws ≤ length r.free →
+      overwritten (overwritten r offset vs) (offset + length vs) ws ≡ overwritten r offset (vs ++ ws)
   overwritten-overwritten r offset vs ws fits =
       let f = r.free in
       let a = length vs in
@@ -41,15 +46,19 @@ module _ {X : Type 0} where
       let head_len : length head ≡ offset = length-take-le offset f (omega arith) in
       let front_len : length (head ++ vs) ≡ offset + a = length-append head vs ∙ omega arith in
       let shape : head ++ (vs ++ tail) ≡ (head ++ vs) ++ tail = sym (append_assoc head vs tail) in
-      let kept : take (offset + a) (head ++ (vs ++ tail)) ≡ head ++ vs = ap (λ ys. take (offset + a) ys) shape ∙ take_at (head ++ vs) tail (offset + a) front_len in
+      let kept : take (offset + a) (head ++ (vs ++ tail)) ≡ head ++ vs = ap (λ ys. take (offset + a) ys) shape ∙
+      take_at (head ++ vs) tail (offset + a) front_len in
       let gone : drop (offset + a) (head ++ (vs ++ tail)) ≡ tail = ap (λ ys. drop (offset + a) ys) shape ∙ drop_at (head ++ vs) tail (offset + a) front_len in
       let far : drop (offset + a + b) (head ++ (vs ++ tail)) ≡ drop (offset + a + b) f =
       sym (drop-drop b (offset + a) (head ++ (vs ++ tail))) ∙ ap (λ ys. drop b ys) gone ∙ drop-drop b (offset + a) f in
       let sum : offset + length (vs ++ ws) ≡ offset + a + b = omega (arith, length-append vs ws) in
-      rw (kept, far, sum, append_assoc vs ws (drop (offset + a + b) f)) (ap (λ ys. ring r.queue ys r.start) (append_assoc head vs (ws ++ drop (offset + a + b) f)))
+      rw (kept, far, sum, append_assoc vs ws (drop (offset + a + b) f))
+      (ap (λ ys. ring r.queue ys r.start) (append_assoc head vs (ws ++ drop (offset + a + b) f)))
 
   -- what is laid over a ring, where it does not reach the end of the storage
-  pub laid_from-is : (r : Ring X) (offset : ℕ) (ws : List X) → IsPlaced r → offset + length ws ≤ capacity r → length ws ≤ until_end r offset → (ys : List X) → take offset (r.queue ++ r.free) ++ (ws ++ drop (offset + length ws) (r.queue ++ r.free)) ≡ ys → laid_from r offset ws ≡ ring (take (length r.queue) ys) (drop (length r.queue) ys) r.start
+  pub laid_from-is : (r : Ring X) (offset : ℕ) (ws : List X) → IsPlaced r → offset + length ws ≤ capacity r → length ws ≤ until_end r offset → (ys : List X) →
+      take offset (r.queue ++ r.free) ++ (ws ++ drop (offset + length ws) (r.queue ++ r.free)) ≡ ys →
+      laid_from r offset ws ≡ ring (take (length r.queue) ys) (drop (length r.queue) ys) r.start
   unfolding ring_in
   laid_from-is r offset ws p fits unbroken ys is =
       let n : length (r.queue ++ r.free) ≡ capacity r = length-append r.queue r.free in
@@ -57,7 +66,9 @@ module _ {X : Type 0} where
       rw e refl
 
   -- the two unbroken parts of what is written to the free elements
-  pub write_twice : (r : Ring X) (offset count first : ℕ) (vs ws xs : List X) → IsPlaced r → offset + count ≤ length r.free → first ≡ min count (until_end r (length r.queue + offset)) → count ≤ length xs → vs ≡ take first xs → ws ≡ take (count - first) (drop first xs) → laid_from (laid_from r (length r.queue + offset) vs) (length r.queue + offset + first) ws ≡ overwritten r offset (take count xs)
+  pub write_twice : (r : Ring X) (offset count first : ℕ) (vs ws xs : List X) → IsPlaced r → offset + count ≤ length r.free →
+      first ≡ min count (until_end r (length r.queue + offset)) → count ≤ length xs → vs ≡ take first xs → ws ≡ take (count - first) (drop first xs) →
+      laid_from (laid_from r (length r.queue + offset) vs) (length r.queue + offset + first) ws ≡ overwritten r offset (take count xs)
   write_twice r offset count first vs ws xs p fits is enough a b =
       let vs_len : length vs ≡ first = ap length a ∙ length-take-le first xs (omega arith) in
       let ws_len : length ws ≡ count - first = ap length b ∙ length-take-le (count - first) (drop first xs) (omega (arith, length-drop first xs)) in
@@ -76,7 +87,10 @@ module _ {X : Type 0} where
       ∙ ap (λ ys. overwritten r offset ys) all
 
   -- the second part fits
-  pub second_part : (r : Ring X) (offset count first : ℕ) (vs : List X) → IsPlaced r → offset + count ≤ length r.free → first ≡ min count (until_end r (length r.queue + offset)) → length vs ≡ first → (length r.queue + offset + first + (count - first) ≤ capacity (laid_from r (length r.queue + offset) vs)) × (count - first ≤ until_end (laid_from r (length r.queue + offset) vs) (length r.queue + offset + first))
+  pub second_part : (r : Ring X) (offset count first : ℕ) (vs : List X) → IsPlaced r → offset + count ≤ length r.free →
+      first ≡ min count (until_end r (length r.queue + offset)) → length vs ≡ first →
+      (length r.queue + offset + first + (count - first) ≤ capacity (laid_from r (length r.queue + offset) vs)) ×
+      (count - first ≤ until_end (laid_from r (length r.queue + offset) vs) (length r.queue + offset + first))
   second_part r offset count first vs p fits is long =
       let one = overwritten r offset vs in
       let same = length-overwritten r offset vs (omega arith) in
@@ -85,7 +99,8 @@ module _ {X : Type 0} where
       rw (laid_from-free r offset vs p.0 p.1 (omega arith) (omega arith), n) (omega arith, left)
 
   -- elements laid over what was just queued
-  pub laid_from-extended : (r : Ring X) (count : ℕ) (ws : List X) → IsPlaced r → count ≤ contiguous r → length ws ≡ count → laid_from (extended r count) (length r.queue) ws ≡ enqueued r ws
+  pub laid_from-extended : (r : Ring X) (count : ℕ) (ws : List X) → IsPlaced r → count ≤ contiguous r → length ws ≡ count →
+      laid_from (extended r count) (length r.queue) ws ≡ enqueued r ws
   laid_from-extended r count ws p fits long =
       let q = r.queue in
       let f = r.free in
@@ -94,14 +109,19 @@ module _ {X : Type 0} where
       let f_len = length-drop count f in
       let n : capacity one ≡ capacity r = omega arith in
       let shape : (q ++ take count f) ++ drop count f ≡ q ++ f = append_assoc q (take count f) (drop count f) ∙ ap (λ ys. q ++ ys) (take-append-drop count f) in
-      let is : take (length q) ((q ++ take count f) ++ drop count f) ++ (ws ++ drop (length q + length ws) ((q ++ take count f) ++ drop count f)) ≡ (q ++ ws) ++ drop (length ws) f =
+      let is : take (length q) ((q ++ take count f) ++ drop count f) ++ (ws ++ drop (length q + length ws) ((q ++ take count f) ++ drop count f)) ≡ (q ++ ws) ++
+      drop (length ws) f =
       rw (shape, take_at q f (length q) refl, drop-append-add q f (length ws)) (sym (append_assoc q ws (drop (length ws) f))) in
       let front_len : length (q ++ ws) ≡ length (q ++ take count f) = length-append q ws ∙ omega arith in
       laid_from-is one (length q) ws (rw n p) (omega arith) (rw n (omega arith)) ((q ++ ws) ++ drop (length ws) f) is
-      ∙ rw (take_at (q ++ ws) (drop (length ws) f) (length (q ++ take count f)) front_len, drop_at (q ++ ws) (drop (length ws) f) (length (q ++ take count f)) front_len) refl
+      ∙ rw (
+        take_at (q ++ ws) (drop (length ws) f) (length (q ++ take count f)) front_len,
+        drop_at (q ++ ws) (drop (length ws) f) (length (q ++ take count f)) front_len,
+      ) refl
 
   -- what was just given up lies before the end of the storage
-  pub released-unbroken : (r : Ring X) (count : ℕ) → IsPlaced r → count ≤ length r.queue → count ≤ until_end r 0 → (capacity (released r count) ≡ capacity r) × IsPlaced (released r count) × (count ≤ until_end (released r count) (capacity r - count))
+  pub released-unbroken : (r : Ring X) (count : ℕ) → IsPlaced r → count ≤ length r.queue → count ≤ until_end r 0 → (capacity (released r count) ≡ capacity r) ×
+      IsPlaced (released r count) × (count ≤ until_end (released r count) (capacity r - count))
   released-unbroken r count p fits unbroken =
       let q = r.queue in
       let f = r.free in
@@ -119,7 +139,8 @@ module _ {X : Type 0} where
       ])
 
   -- elements laid over what was just given up
-  pub laid_from-released : (r : Ring X) (count : ℕ) (ws : List X) → IsPlaced r → count ≤ length r.queue → count ≤ until_end r 0 → length ws ≡ count → laid_from (released r count) (capacity r - count) ws ≡ dequeued r ws
+  pub laid_from-released : (r : Ring X) (count : ℕ) (ws : List X) → IsPlaced r → count ≤ length r.queue → count ≤ until_end r 0 → length ws ≡ count →
+      laid_from (released r count) (capacity r - count) ws ≡ dequeued r ws
   laid_from-released r count ws p fits unbroken long =
       let q = r.queue in
       let f = r.free in
@@ -140,17 +161,20 @@ module _ {X : Type 0} where
       ∙ rw (take_at rest (f ++ ws) (length rest) refl, drop_at rest (f ++ ws) (length rest) refl, long) refl
 
   -- elements laid over the free ones, wherever they begin
-  pub laid_from-unallocated : (r : Ring X) (offset size : ℕ) (ws : List X) → IsPlaced r → length ws ≡ unbroken_free r offset size → laid_from r (length r.queue + min offset (length r.free)) ws ≡ overwritten r offset ws
+  pub laid_from-unallocated : (r : Ring X) (offset size : ℕ) (ws : List X) → IsPlaced r → length ws ≡ unbroken_free r offset size →
+      laid_from r (length r.queue + min offset (length r.free)) ws ≡ overwritten r offset ws
   laid_from-unallocated r offset size ws p long = elim (cases_lt (length r.free) offset) [
     | inl past ↦ let none : ws ≡ [] = nil_from_length ws (omega arith) in
         let at : min offset (length r.free) ≡ length r.free = omega arith in
-        rw (none, at) (laid_from-free r (length r.free) [] p.0 p.1 (omega arith) (omega arith) ∙ overwritten-nil r (length r.free) ∙ sym (overwritten-nil r offset))
+        rw (none, at) (laid_from-free r (length r.free) [] p.0 p.1 (omega arith) (omega arith) ∙ overwritten-nil r (length r.free) ∙
+        sym (overwritten-nil r offset))
     | inr here ↦ let at : min offset (length r.free) ≡ offset = omega arith in
         rw at (laid_from-free r offset ws p.0 p.1 (omega arith) (omega arith))
   ]
 
   -- writing from an offset past the free elements writes nothing
-  pub overwritten-past : (r : Ring X) (offset : ℕ) (ws : List X) → length ws ≤ length r.free - offset → overwritten r (min offset (length r.free)) ws ≡ overwritten r offset ws
+  pub overwritten-past : (r : Ring X) (offset : ℕ) (ws : List X) → length ws ≤ length r.free - offset →
+      overwritten r (min offset (length r.free)) ws ≡ overwritten r offset ws
   overwritten-past r offset ws fits = elim (cases_lt (length r.free) offset) [
     | inl past ↦ let none : ws ≡ [] = nil_from_length ws (omega arith) in
         rw none (overwritten-nil r (min offset (length r.free)) ∙ sym (overwritten-nil r offset))
@@ -171,10 +195,12 @@ module _ {X : Type 0} where
   anchored-cases r = anchored-by_queue r.queue r.free r.start
 
   -- an empty ring has as much room wherever it is read from
-  pub length-anchored : (r : Ring X) → IsPlaced r → (length (anchored r).queue ≡ length r.queue) × (length (anchored r).free ≡ length r.free) × IsPlaced (anchored r)
+  pub length-anchored : (r : Ring X) → IsPlaced r → (length (anchored r).queue ≡ length r.queue) × (length (anchored r).free ≡ length r.free) ×
+      IsPlaced (anchored r)
   length-anchored r p = elim (anchored-cases r) [
     | inl none ↦ rw none.1 (
-        let n : length (storage_of r) ≡ capacity r = length-rotated (capacity r - r.start) (r.queue ++ r.free) (omega (arith, length-append r.queue r.free)) ∙ length-append r.queue r.free in
+        let n : length (storage_of r) ≡ capacity r = length-rotated (capacity r - r.start) (r.queue ++ r.free) (omega (arith, length-append r.queue r.free)) ∙
+        length-append r.queue r.free in
         let e : length r.queue ≡ 0 = ap length none.0 in
         (sym e, n ∙ omega arith, (omega arith, λ h. h))
         )
@@ -182,32 +208,44 @@ module _ {X : Type 0} where
   ]
 
   -- the two unbroken parts of what is read
-  pub second_read : (r : Ring X) (offset count first : ℕ) → IsPlaced r → offset + count ≤ length r.queue → first ≡ min count (until_end r offset) → unbroken_queued r (offset + first) (count - first) ≡ count - first
+  pub second_read : (r : Ring X) (offset count first : ℕ) → IsPlaced r → offset + count ≤ length r.queue → first ≡ min count (until_end r offset) →
+      unbroken_queued r (offset + first) (count - first) ≡ count - first
   second_read r offset count first p fits is =
       let left = rest_unbroken r offset count first p (omega arith) is in
       omega arith
 
-  pub read_twice : (q xs : List X) (offset count first : ℕ) → offset + count ≤ length q → count ≤ length xs → first ≤ count → take first (take first (drop offset q) ++ drop first xs) ++ (take (count - first) (drop (offset + first) q) ++ drop (count - first) (drop first (take first (drop offset q) ++ drop first xs))) ≡ take count (drop offset q) ++ drop count xs
+  pub read_twice : (q xs : List X) (offset count first : ℕ) → offset + count ≤ length q → count ≤ length xs → first ≤ count →
+      take first (take first (drop offset q) ++ drop first xs) ++
+      (take (count - first) (drop (offset + first) q) ++ drop (count - first) (drop first (take first (drop offset q) ++ drop first xs))) ≡
+      take count (drop offset q) ++ drop count xs
   read_twice q xs offset count first fits enough part =
       let front = take first (drop offset q) in
       let front_len : length front ≡ first = length-take-le first (drop offset q) (omega (arith, length-drop offset q)) in
       let far : drop (count - first) (drop first xs) ≡ drop count xs = drop-drop (count - first) first xs ∙ ap (λ n. drop n xs) (omega arith) in
       let both : front ++ take (count - first) (drop (offset + first) q) ≡ take count (drop offset q) =
       rw (← drop-drop first offset q, ← take-add first (count - first) (drop offset q)) (ap (λ n. take n (drop offset q)) (omega arith)) in
-      rw (take_at front (drop first xs) first front_len, drop_at front (drop first xs) first front_len, far, ← both) (sym (append_assoc front (take (count - first) (drop (offset + first) q)) (drop count xs)))
+      rw (
+        take_at front (drop first xs) first front_len,
+        drop_at front (drop first xs) first front_len,
+        far,
+        ← both,
+      ) (sym (append_assoc front (take (count - first) (drop (offset + first) q)) (drop count xs)))
 
   -- where a ring begins whose free elements joined the queue
   pub IsPlaced-extended : (r : Ring X) (count : ℕ) → count ≤ length r.free → IsPlaced (extended r count) → IsPlaced r
   IsPlaced-extended r count fits p =
-      let n : capacity (extended r count) ≡ capacity r = omega (arith, length-append r.queue (take count r.free), length-take-le count r.free fits, length-drop count r.free) in
+      let n : capacity (extended r count) ≡ capacity r =
+      omega (arith, length-append r.queue (take count r.free), length-take-le count r.free fits, length-drop count r.free) in
       rw n at p
 
   -- what is lent by each call
-  pub just_extended : (r : Ring X) (count : ℕ) → count ≤ length r.free → take count (drop (length r.queue) ((r.queue ++ take count r.free) ++ drop count r.free)) ≡ take count r.free
+  pub just_extended : (r : Ring X) (count : ℕ) → count ≤ length r.free →
+      take count (drop (length r.queue) ((r.queue ++ take count r.free) ++ drop count r.free)) ≡ take count r.free
   just_extended r count fits =
       rw (append_assoc r.queue (take count r.free) (drop count r.free), take-append-drop count r.free, drop_at r.queue r.free (length r.queue) refl) refl
 
-  pub just_released : (r : Ring X) (count : ℕ) → count ≤ length r.queue → take count (drop (capacity r - count) (drop count r.queue ++ (r.free ++ take count r.queue))) ≡ take count r.queue
+  pub just_released : (r : Ring X) (count : ℕ) → count ≤ length r.queue →
+      take count (drop (capacity r - count) (drop count r.queue ++ (r.free ++ take count r.queue))) ≡ take count r.queue
   just_released r count fits =
       let rest = drop count r.queue in
       let given = take count r.queue in
@@ -217,7 +255,8 @@ module _ {X : Type 0} where
       ∙ ap (λ ys. take count ys) (drop_at (rest ++ r.free) given (capacity r - count) front_len)
       ∙ take_all count given (omega arith)
 
-  pub just_free : (r : Ring X) (offset size : ℕ) → size ≤ length r.free - offset → take size (drop (length r.queue + min offset (length r.free)) (r.queue ++ r.free)) ≡ take size (drop offset r.free)
+  pub just_free : (r : Ring X) (offset size : ℕ) → size ≤ length r.free - offset →
+      take size (drop (length r.queue + min offset (length r.free)) (r.queue ++ r.free)) ≡ take size (drop offset r.free)
   just_free r offset size fits =
       ap (λ ys. take size ys) (drop-append-add r.queue r.free (min offset (length r.free)))
       ∙ elim (cases_lt (length r.free) offset) [
@@ -301,14 +340,16 @@ module _ {X : Type 0} where
   -- the element that was just queued, and the one that was just given up
   pub just_queued : (r : Ring X) (x : X) → slice_get ((r.queue ++ take 1 r.free) ++ drop 1 r.free) (length r.queue) ≡ Some x → slice_get r.free 0 ≡ Some x
   just_queued r x e =
-      let shape : (r.queue ++ take 1 r.free) ++ drop 1 r.free ≡ r.queue ++ r.free = append_assoc r.queue (take 1 r.free) (drop 1 r.free) ∙ ap (λ ys. r.queue ++ ys) (take-append-drop 1 r.free) in
+      let shape : (r.queue ++ take 1 r.free) ++ drop 1 r.free ≡ r.queue ++ r.free = append_assoc r.queue (take 1 r.free) (drop 1 r.free) ∙
+      ap (λ ys. r.queue ++ ys) (take-append-drop 1 r.free) in
       next_free r x (rw shape at e)
 
   first_taken : (q : List X) (x : X) → slice_get (take 1 q) 0 ≡ Some x → slice_get q 0 ≡ Some x
   first_taken [] x e = e
   first_taken (y ∷ q) x e = e
 
-  pub just_given : (r : Ring X) (x : X) → 0 < length r.queue → slice_get (drop 1 r.queue ++ (r.free ++ take 1 r.queue)) (capacity r - 1) ≡ Some x → slice_get r.queue 0 ≡ Some x
+  pub just_given : (r : Ring X) (x : X) → 0 < length r.queue → slice_get (drop 1 r.queue ++ (r.free ++ take 1 r.queue)) (capacity r - 1) ≡ Some x →
+      slice_get r.queue 0 ≡ Some x
   just_given r x some e =
       let front = drop 1 r.queue ++ r.free in
       let shape : drop 1 r.queue ++ (r.free ++ take 1 r.queue) ≡ front ++ take 1 r.queue = sym (append_assoc (drop 1 r.queue) r.free (take 1 r.queue)) in
@@ -316,7 +357,8 @@ module _ {X : Type 0} where
       first_taken r.queue x (after_queue front (take 1 r.queue) x (rw (shape, n) at e))
 
   -- elements laid over the first free ones
-  pub laid_from-many : (r : Ring X) (ws : List X) → IsPlaced r → length ws ≤ length r.free → length ws ≤ until_end r (length r.queue) → laid_from r (length r.queue) ws ≡ overwritten r 0 ws
+  pub laid_from-many : (r : Ring X) (ws : List X) → IsPlaced r → length ws ≤ length r.free → length ws ≤ until_end r (length r.queue) →
+      laid_from r (length r.queue) ws ≡ overwritten r 0 ws
   laid_from-many r ws p fits unbroken =
       let z : length r.queue + 0 ≡ length r.queue = omega arith in
       ap (λ i. laid_from r i ws) (sym z) ∙ laid_from-free r 0 ws p.0 p.1 (omega arith) (rw z unbroken)
@@ -325,11 +367,13 @@ module _ {X : Type 0} where
   length-overwritten_many r ws fits = length-overwritten r 0 ws (omega arith)
 
   -- a list whose first elements are put into their known state
-  pub reset_more : (f : X → X) (xs : List X) (i : ℕ) (x y : X) → i < length xs → x ≡ get_or (map f (take i xs) ++ drop i xs) i x → y ≡ f x → set (map f (take i xs) ++ drop i xs) i y ≡ map f (take (i + 1) xs) ++ drop (i + 1) xs
+  pub reset_more : (f : X → X) (xs : List X) (i : ℕ) (x y : X) → i < length xs → x ≡ get_or (map f (take i xs) ++ drop i xs) i x → y ≡ f x →
+      set (map f (take i xs) ++ drop i xs) i y ≡ map f (take (i + 1) xs) ++ drop (i + 1) xs
   reset_more f xs i x y within read is =
       let n : length (map f (take i xs)) ≡ i = length-map (take i xs) f ∙ length-take-le i xs (omega arith) in
       let rest : drop i xs ≡ get_or xs i x ∷ drop (i + 1) xs = drop_more xs i x within in
-      let here : x ≡ get_or xs i x = read ∙ ap (λ ys. get_or (map f (take i xs) ++ ys) i x) rest ∙ get_or_at (map f (take i xs)) (get_or xs i x) (drop (i + 1) xs) x i n in
+      let here : x ≡ get_or xs i x = read ∙ ap (λ ys. get_or (map f (take i xs) ++ ys) i x) rest ∙
+      get_or_at (map f (take i xs)) (get_or xs i x) (drop (i + 1) xs) x i n in
       ap (λ ys. set (map f (take i xs) ++ ys) i y) rest
       ∙ set_at (map f (take i xs)) (get_or xs i x) (drop (i + 1) xs) y i n
       ∙ ap (λ v. map f (take i xs) ++ v ∷ drop (i + 1) xs) (is ∙ ap f here)

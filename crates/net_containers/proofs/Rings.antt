@@ -1,13 +1,17 @@
 -- What a ring's value says of its fields, and its fields of the value.
 use Rattle.std.proofs.lemmas.Option.{slice_get_read}
 use Rattle.std.specs.Prelude.{slice_get, Some}
-use Rattle.std.proofs.Common.{add-one, set, ◌≡◌, ℕ, ◌+◌, ◌-◌, ◌%◌, ◌<◌, ◌≤◌, List, [], ◌∷◌, ◌++◌, length, get_or, take, drop, min, refl, sym, ap, ◌∙◌, inl, inr, arith, length-append, length-drop, length-take, take-append-drop, append_assoc}
-use Rattle.std.proofs.lemmas.List.{take_at, drop_at, length-take-le, take-append-le, drop-append-le, take-take, drop-drop, drop-take, append-nil, nil_from_length, set_split}
+use Rattle.std.proofs.Common.{add-one, set, ◌≡◌, ℕ, ◌+◌, ◌-◌, ◌%◌, ◌<◌, ◌≤◌, List, [], ◌∷◌, ◌++◌, length, get_or, take, drop, min, refl, sym, ap, ◌∙◌, inl, inr}
+use Rattle.std.proofs.Common.{arith, length-append, length-drop, length-take, take-append-drop, append_assoc}
+use Rattle.std.proofs.lemmas.List.{take_at, drop_at, length-take-le, take-append-le, drop-append-le, take-take, drop-drop, drop-take, append-nil}
+use Rattle.std.proofs.lemmas.List.{nil_from_length, set_split}
 use Rattle.std.proofs.lemmas.Bool.{cases_lt}
 use Rattle.std.proofs.Math.Nat.{mod-eq_of_lt, zero-mod, add-zero}
 use Rattle.std.proofs.Math.Seq.{take-add, take-append-add, drop-append-add}
-use Rattle.net_containers.specs.Ring.{Ring, ring, ring_in, IsRing, rotated, laid_over, laid_from, storage_of, capacity, place_of, until_end, extended, released, overwritten, rewritten, IsPlaced, unbroken_queued}
-use Rattle.net_containers.proofs.Rotations.{length-rotated, rotated_back, rotated_forth, laid_over-fits, wraps_once, rotated-rotated, rotated-laid_at, part-rotated_at, get_or-rotated}
+use Rattle.net_containers.specs.Ring.{Ring, ring, ring_in, IsRing, rotated, laid_over, laid_from, storage_of, capacity, place_of, until_end, extended, released}
+use Rattle.net_containers.specs.Ring.{overwritten, rewritten, IsPlaced, unbroken_queued}
+use Rattle.net_containers.proofs.Rotations.{length-rotated, rotated_back, rotated_forth, laid_over-fits, wraps_once, rotated-rotated, rotated-laid_at}
+use Rattle.net_containers.proofs.Rotations.{part-rotated_at, get_or-rotated}
 
 module _ {X : Type 0} where
   -- the ring in the storage, as a value
@@ -46,12 +50,14 @@ module _ {X : Type 0} where
       rw (e, take_at r.queue r.free (length r.queue) refl, drop_at r.queue r.free (length r.queue) refl) refl
 
   -- more or less queued, at the same start
-  pub ring_in-more : (xs : List X) (start count more : ℕ) → IsRing xs start count → count + more ≤ length xs → ring_in xs start (count + more) ≡ extended (ring_in xs start count) more
+  pub ring_in-more : (xs : List X) (start count more : ℕ) → IsRing xs start count → count + more ≤ length xs →
+      ring_in xs start (count + more) ≡ extended (ring_in xs start count) more
   unfolding ring_in
   ring_in-more xs start count more ok within =
       rw (take-add count more (rotated start xs), drop-drop more count (rotated start xs)) refl
 
-  pub ring_in-fewer : (xs : List X) (start count fewer : ℕ) → IsRing xs start count → fewer ≤ count → ring_in xs ((start + fewer) % length xs) (count - fewer) ≡ released (ring_in xs start count) fewer
+  pub ring_in-fewer : (xs : List X) (start count fewer : ℕ) → IsRing xs start count → fewer ≤ count →
+      ring_in xs ((start + fewer) % length xs) (count - fewer) ≡ released (ring_in xs start count) fewer
   unfolding ring_in
   ring_in-fewer xs start count fewer ok within =
       let all = rotated start xs in
@@ -63,9 +69,18 @@ module _ {X : Type 0} where
             let on = rotated-rotated start fewer xs there (omega (arith, ok.count_within)) in
             let long : count - fewer ≤ length (drop fewer all) = omega (arith, length-drop fewer all, ok.count_within) in
             let e : count ≡ fewer + (count - fewer) = omega arith in
-            let queue : take (count - fewer) (drop fewer all) ≡ drop fewer (take count all) = sym (drop-take fewer (count - fewer) all) ∙ ap (λ n. drop fewer (take n all)) (sym e) in
+            let queue : take (count - fewer) (drop fewer all) ≡ drop fewer (take count all) = sym (drop-take fewer (count - fewer) all) ∙
+            ap (λ n. drop fewer (take n all)) (sym e) in
             let free : drop (count - fewer) (drop fewer all) ≡ drop count all = drop-drop (count - fewer) fewer all ∙ ap (λ n. drop n all) (sym e) in
-            rw (on, take-append-le (count - fewer) (drop fewer all) (take fewer all) long, drop-append-le (count - fewer) (drop fewer all) (take fewer all) long, queue, free, take-take fewer count all within, cap) refl
+            rw (
+              on,
+              take-append-le (count - fewer) (drop fewer all) (take fewer all) long,
+              drop-append-le (count - fewer) (drop fewer all) (take fewer all) long,
+              queue,
+              free,
+              take-take fewer count all within,
+              cap,
+            ) refl
         | inr none ↦ let nil : xs ≡ [] = nil_from_length xs (omega arith) in
             let a : start ≡ 0 = omega (arith, ok.start_within) in
             let b : count ≡ 0 = omega (arith, ok.count_within) in
@@ -74,11 +89,14 @@ module _ {X : Type 0} where
       ]
 
   -- what is laid over a ring from an offset on, in its storage
-  pub laid_from-ring_in : (xs : List X) (start count offset : ℕ) (ws : List X) (r : Ring X) → Sees xs start count r → laid_from r offset ws ≡ ring_in (laid_over xs ((start + offset) % length xs) ws) start count
+  pub laid_from-ring_in : (xs : List X) (start count offset : ℕ) (ws : List X) (r : Ring X) → Sees xs start count r →
+      laid_from r offset ws ≡ ring_in (laid_over xs ((start + offset) % length xs) ws) start count
   laid_from-ring_in xs start count offset ws r v = rw (v.storage, v.room, v.starts, v.queued) refl
 
   -- what is laid over an unbroken part of a ring
-  pub rotated-laid_from : (r : Ring X) (offset : ℕ) (ws : List X) → r.start ≤ capacity r → (0 < capacity r → r.start < capacity r) → offset + length ws ≤ capacity r → length ws ≤ until_end r offset → rotated r.start (laid_over (storage_of r) (place_of r offset) ws) ≡ laid_over (r.queue ++ r.free) offset ws
+  pub rotated-laid_from : (r : Ring X) (offset : ℕ) (ws : List X) → r.start ≤ capacity r → (0 < capacity r → r.start < capacity r) →
+      offset + length ws ≤ capacity r → length ws ≤ until_end r offset →
+      rotated r.start (laid_over (storage_of r) (place_of r offset) ws) ≡ laid_over (r.queue ++ r.free) offset ws
   rotated-laid_from r offset ws within below fits unbroken =
       let all = r.queue ++ r.free in
       let n : length all ≡ capacity r = length-append r.queue r.free in
@@ -97,7 +115,9 @@ module _ {X : Type 0} where
       ]
 
   -- elements laid over the free ones
-  pub laid_from-free : (r : Ring X) (offset : ℕ) (ws : List X) → r.start ≤ capacity r → (0 < capacity r → r.start < capacity r) → offset + length ws ≤ length r.free → length ws ≤ until_end r (length r.queue + offset) → laid_from r (length r.queue + offset) ws ≡ overwritten r offset ws
+  pub laid_from-free : (r : Ring X) (offset : ℕ) (ws : List X) → r.start ≤ capacity r → (0 < capacity r → r.start < capacity r) →
+      offset + length ws ≤ length r.free → length ws ≤ until_end r (length r.queue + offset) →
+      laid_from r (length r.queue + offset) ws ≡ overwritten r offset ws
   unfolding ring_in
   laid_from-free r offset ws within below fits unbroken =
       let q = r.queue in
@@ -112,7 +132,8 @@ module _ {X : Type 0} where
       rw (e, take_at q (take offset f ++ rest) (length q) refl, drop_at q (take offset f ++ rest) (length q) refl) refl
 
   -- elements laid over the first queued ones
-  pub laid_from-queue : (r : Ring X) (ws : List X) → r.start ≤ capacity r → (0 < capacity r → r.start < capacity r) → length ws ≤ length r.queue → length ws ≤ until_end r 0 → laid_from r 0 ws ≡ rewritten r ws
+  pub laid_from-queue : (r : Ring X) (ws : List X) → r.start ≤ capacity r → (0 < capacity r → r.start < capacity r) → length ws ≤ length r.queue →
+      length ws ≤ until_end r 0 → laid_from r 0 ws ≡ rewritten r ws
   unfolding ring_in
   laid_from-queue r ws within below fits unbroken =
       let q = r.queue in
@@ -138,7 +159,8 @@ module _ {X : Type 0} where
 
   -- where the read place lies
   pub placed : (xs : List X) (start count : ℕ) (r : Ring X) → IsRing xs start count → Sees xs start count r → IsPlaced r
-  placed xs start count r ok v = (omega (arith, v.room, v.starts, ok.start_within), λ h. omega (arith, v.room, v.starts, ok.start_below (omega (arith, v.room))))
+  placed xs start count r ok v =
+      (omega (arith, v.room, v.starts, ok.start_within), λ h. omega (arith, v.room, v.starts, ok.start_below (omega (arith, v.room))))
 
   -- the read place is that of the first element
   pub first_place : (xs : List X) (start count : ℕ) → IsRing xs start count → start ≡ (start + 0) % length xs
@@ -150,7 +172,9 @@ module _ {X : Type 0} where
   ]
 
   -- an unbroken part of the storage, as a part of the ring
-  pub part_of : (xs : List X) (start count : ℕ) (r : Ring X) (place offset size : ℕ) → IsRing xs start count → Sees xs start count r → place ≡ (start + offset) % length xs → offset + size ≤ length xs → place + size ≤ length xs → take (place + size - place) (drop place xs) ≡ take size (drop offset (r.queue ++ r.free))
+  pub part_of : (xs : List X) (start count : ℕ) (r : Ring X) (place offset size : ℕ) → IsRing xs start count → Sees xs start count r →
+      place ≡ (start + offset) % length xs → offset + size ≤ length xs → place + size ≤ length xs →
+      take (place + size - place) (drop place xs) ≡ take size (drop offset (r.queue ++ r.free))
   part_of xs start count r place offset size ok v is within unbroken =
       let k : place + size - place ≡ size = omega arith in
       elim (cases_lt 0 (length xs)) [
@@ -159,33 +183,42 @@ module _ {X : Type 0} where
       ]
 
   -- where an unbroken part ends
-  pub ends_within : (xs : List X) (start count : ℕ) (r : Ring X) (place offset size : ℕ) → Sees xs start count r → place ≡ (start + offset) % length xs → place ≤ length xs → size ≤ until_end r offset → place + size ≤ length xs
+  pub ends_within : (xs : List X) (start count : ℕ) (r : Ring X) (place offset size : ℕ) → Sees xs start count r → place ≡ (start + offset) % length xs →
+      place ≤ length xs → size ≤ until_end r offset → place + size ≤ length xs
   ends_within xs start count r place offset size v is within unbroken =
       let u : size ≤ length xs - (start + offset) % length xs = rw (v.room, v.starts) at unbroken in
       omega (arith, u)
 
   -- what a `Vec` holds after a write from the index on
-  laid_over-refilled : (xs : List X) (at : ℕ) (ws : List X) → at ≤ length xs → take (length xs) (take at xs ++ (ws ++ drop (length ws) (drop at xs)) ++ drop (length (take at xs ++ (ws ++ drop (length ws) (drop at xs)))) xs) ≡ laid_over xs at ws
+  laid_over-refilled : (xs : List X) (at : ℕ) (ws : List X) → at ≤ length xs →
+      take (length xs) (take at xs ++ (ws ++ drop (length ws) (drop at xs)) ++ drop (length (take at xs ++ (ws ++ drop (length ws) (drop at xs)))) xs) ≡
+      laid_over xs at ws
   laid_over-refilled xs at ws within =
       let ys = take at xs ++ (ws ++ drop (length ws) (drop at xs)) in
       take-append-le (length xs) ys (drop (length ys) xs) (simp (length-append, length-drop, length-take) (omega arith))
 
   -- a ring whose storage was written to from a place on
-  pub lent_from : (xs : List X) (start count : ℕ) (r : Ring X) (len place offset : ℕ) (ws : List X) → Sees xs start count r → place ≡ (start + offset) % length xs → len ≡ length xs → place ≤ length xs → ring_in (take len (take place xs ++ (ws ++ drop (length ws) (drop place xs)) ++ drop (length (take place xs ++ (ws ++ drop (length ws) (drop place xs)))) xs)) start count ≡ laid_from r offset ws
+  pub lent_from : (xs : List X) (start count : ℕ) (r : Ring X) (len place offset : ℕ) (ws : List X) → Sees xs start count r →
+      place ≡ (start + offset) % length xs → len ≡ length xs → place ≤ length xs →
+      ring_in (take len (take place xs ++ (ws ++ drop (length ws) (drop place xs)) ++
+      drop (length (take place xs ++ (ws ++ drop (length ws) (drop place xs)))) xs)) start count ≡ laid_from r offset ws
   lent_from xs start count r len place offset ws v is n within =
-      let e : take len (take place xs ++ (ws ++ drop (length ws) (drop place xs)) ++ drop (length (take place xs ++ (ws ++ drop (length ws) (drop place xs)))) xs) ≡ laid_over xs ((start + offset) % length xs) ws =
+      let e : take len (take place xs ++ (ws ++ drop (length ws) (drop place xs)) ++
+      drop (length (take place xs ++ (ws ++ drop (length ws) (drop place xs)))) xs) ≡ laid_over xs ((start + offset) % length xs) ws =
       rw n (laid_over-refilled xs place ws within) ∙ ap (λ p. laid_over xs p ws) is in
       ap (λ ys. ring_in ys start count) e ∙ sym (laid_from-ring_in xs start count offset ws r v)
 
   -- a ring whose storage was written to at a place
-  pub lent_at : (xs : List X) (start count : ℕ) (r : Ring X) (place offset : ℕ) (w : X) → Sees xs start count r → place ≡ (start + offset) % length xs → place < length xs → ring_in (set xs place w) start count ≡ laid_from r offset (w ∷ [])
+  pub lent_at : (xs : List X) (start count : ℕ) (r : Ring X) (place offset : ℕ) (w : X) → Sees xs start count r → place ≡ (start + offset) % length xs →
+      place < length xs → ring_in (set xs place w) start count ≡ laid_from r offset (w ∷ [])
   lent_at xs start count r place offset w v is within =
       let e : set xs place w ≡ laid_over xs ((start + offset) % length xs) (w ∷ []) =
       set_split xs place w within ∙ rw (← add-one) (sym (laid_over-fits xs place (w ∷ []) (omega arith))) ∙ ap (λ p. laid_over xs p (w ∷ [])) is in
       ap (λ ys. ring_in ys start count) e ∙ sym (laid_from-ring_in xs start count offset (w ∷ []) r v)
 
   -- an element of the storage, as one of the ring
-  pub element_of : (xs : List X) (start count : ℕ) (r : Ring X) (place offset : ℕ) (x : X) → IsRing xs start count → Sees xs start count r → place ≡ (start + offset) % length xs → offset < length xs → x ≡ get_or xs place x → slice_get (r.queue ++ r.free) offset ≡ Some x
+  pub element_of : (xs : List X) (start count : ℕ) (r : Ring X) (place offset : ℕ) (x : X) → IsRing xs start count → Sees xs start count r →
+      place ≡ (start + offset) % length xs → offset < length xs → x ≡ get_or xs place x → slice_get (r.queue ++ r.free) offset ≡ Some x
   element_of xs start count r place offset x ok v is within read =
       let all = length-append r.queue r.free in
       slice_get_read (r.queue ++ r.free) (length (r.queue ++ r.free)) offset x refl (omega (arith, v.room)) (
@@ -193,7 +226,9 @@ module _ {X : Type 0} where
       )
 
   -- the unbroken part of what is queued
-  pub unbroken_part : (xs : List X) (start count : ℕ) (r : Ring X) (place offset from size len : ℕ) → IsRing xs start count → Sees xs start count r → from ≡ min offset count → place ≡ (start + from) % length xs → place ≤ length xs → len ≡ min (min size (count - from)) (length xs - place) → len ≡ unbroken_queued r offset size
+  pub unbroken_part : (xs : List X) (start count : ℕ) (r : Ring X) (place offset from size len : ℕ) → IsRing xs start count → Sees xs start count r →
+      from ≡ min offset count → place ≡ (start + from) % length xs → place ≤ length xs → len ≡ min (min size (count - from)) (length xs - place) →
+      len ≡ unbroken_queued r offset size
   unbroken_part xs start count r place offset from size len ok v o is within k =
       rw (v.room, v.starts, v.queued) (elim (cases_lt count offset) [
         | inl past ↦ omega arith
@@ -202,7 +237,9 @@ module _ {X : Type 0} where
             omega arith
       ])
 
-  pub queued_part : (xs : List X) (start count : ℕ) (r : Ring X) (place offset from size len : ℕ) → IsRing xs start count → Sees xs start count r → from ≡ min offset count → place ≡ (start + from) % length xs → place ≤ length xs → len ≡ min (min size (count - from)) (length xs - place) → take (place + len - place) (drop place xs) ≡ take len (drop offset r.queue)
+  pub queued_part : (xs : List X) (start count : ℕ) (r : Ring X) (place offset from size len : ℕ) → IsRing xs start count → Sees xs start count r →
+      from ≡ min offset count → place ≡ (start + from) % length xs → place ≤ length xs → len ≡ min (min size (count - from)) (length xs - place) →
+      take (place + len - place) (drop place xs) ≡ take len (drop offset r.queue)
   queued_part xs start count r place offset from size len ok v o is within k =
       let q : from ≤ length r.queue = omega (arith, v.queued) in
       let room : len ≤ length (drop from r.queue) = omega (arith, length-drop from r.queue, v.queued) in

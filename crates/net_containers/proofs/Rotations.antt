@@ -1,7 +1,9 @@
 -- Lemmas on a list that is read from one of its places on and round its end.
-use Rattle.std.proofs.Common.{◌≡◌, ℕ, ◌+◌, ◌-◌, ◌%◌, ◌<◌, ◌≤◌, ◌⊎◌, List, ◌++◌, length, get_or, take, drop, refl, sym, ap, ◌∙◌, inl, inr, mod-eq_of_lt, arith, length-append, length-drop, length-take, take-append-drop, append_assoc}
+use Rattle.std.proofs.Common.{◌≡◌, ℕ, ◌+◌, ◌-◌, ◌%◌, ◌<◌, ◌≤◌, ◌⊎◌, List, ◌++◌, length, get_or, take, drop, refl, sym, ap, ◌∙◌, inl, inr, mod-eq_of_lt, arith}
+use Rattle.std.proofs.Common.{length-append, length-drop, length-take, take-append-drop, append_assoc}
 use native.Mathlib.Nat.{mod-eq-sub-mod}
-use Rattle.std.proofs.lemmas.List.{same_lists, take_at, drop_at, take_all, length-take-le, get_or-drop, get_or-take, get_or_append_left, get_or-append_right, drop-drop, take-append-le, drop-append-le}
+use Rattle.std.proofs.lemmas.List.{same_lists, take_at, drop_at, take_all, length-take-le, get_or-drop, get_or-take, get_or_append_left, get_or-append_right}
+use Rattle.std.proofs.lemmas.List.{drop-drop, take-append-le, drop-append-le}
 use Rattle.std.proofs.lemmas.Bool.{cases_lt}
 use Rattle.std.proofs.Math.Seq.{take-add, take-append-add, drop-append-add}
 use Rattle.net_containers.specs.Ring.{rotated, laid_over}
@@ -35,7 +37,8 @@ module _ {X : Type 0} where
       let tail = length-drop st xs in
       elim (wraps_once st i (length xs) below (omega arith)) [
         | inl w ↦ get_or_append_left (drop st xs) (take st xs) d i (omega arith) ∙ get_or-drop st xs i d ∙ ap (λ j. get_or xs j d) (sym w.1)
-        | inr w ↦ get_or-append_right (drop st xs) (take st xs) (length xs - st) i d (omega arith) (omega arith) ∙ get_or-take st xs _ d (omega arith) ∙ ap (λ j. get_or xs j d) (omega arith)
+        | inr w ↦ get_or-append_right (drop st xs) (take st xs) (length xs - st) i d (omega arith) (omega arith) ∙ get_or-take st xs _ d (omega arith) ∙
+            ap (λ j. get_or xs j d) (omega arith)
       ]
 
   -- laid over where it fits
@@ -47,7 +50,9 @@ module _ {X : Type 0} where
   length-laid_over xs at ws = simp (length-append, length-drop, length-take) (omega arith)
 
   -- the elements of a list with others laid over it
-  pub get_or-laid : (xs : List X) (at : ℕ) (ws : List X) (j : ℕ) (d : X) → at + length ws ≤ length xs → (j < at → get_or (laid_over xs at ws) j d ≡ get_or xs j d) × (at ≤ j → j < at + length ws → get_or (laid_over xs at ws) j d ≡ get_or ws (j - at) d) × (at + length ws ≤ j → get_or (laid_over xs at ws) j d ≡ get_or xs j d)
+  pub get_or-laid : (xs : List X) (at : ℕ) (ws : List X) (j : ℕ) (d : X) → at + length ws ≤ length xs →
+      (j < at → get_or (laid_over xs at ws) j d ≡ get_or xs j d) × (at ≤ j → j < at + length ws → get_or (laid_over xs at ws) j d ≡ get_or ws (j - at) d) ×
+      (at + length ws ≤ j → get_or (laid_over xs at ws) j d ≡ get_or xs j d)
   get_or-laid xs at ws j d fits =
       let front = length-take-le at xs (omega arith) in
       let back = drop (at + length ws) xs in
@@ -61,7 +66,8 @@ module _ {X : Type 0} where
       )
 
   -- elements laid over an unbroken part
-  pub rotated-laid : (st o : ℕ) (xs ws : List X) → st < length xs → o + length ws ≤ length xs → (st + o) % length xs + length ws ≤ length xs → rotated st (laid_over xs ((st + o) % length xs) ws) ≡ laid_over (rotated st xs) o ws
+  pub rotated-laid : (st o : ℕ) (xs ws : List X) → st < length xs → o + length ws ≤ length xs → (st + o) % length xs + length ws ≤ length xs →
+      rotated st (laid_over xs ((st + o) % length xs) ws) ≡ laid_over (rotated st xs) o ws
   rotated-laid st o xs ws below within unbroken =
       let p = (st + o) % length xs in
       let ys = laid_over xs p ws in
@@ -69,13 +75,15 @@ module _ {X : Type 0} where
       let turned = length-rotated st xs (omega arith) in
       same_lists _ _ (length-rotated st ys (omega arith) ∙ whole ∙ sym turned ∙ sym (length-laid_over (rotated st xs) o ws)) (λ i d h.
       let inside : i < length xs = rw (length-rotated st ys (omega arith), whole) at h in
-      let left : get_or (rotated st ys) i d ≡ get_or ys ((st + i) % length xs) d = get_or-rotated st i ys d (omega arith) (omega arith) ∙ ap (λ n. get_or ys ((st + i) % n) d) whole in
+      let left : get_or (rotated st ys) i d ≡ get_or ys ((st + i) % length xs) d = get_or-rotated st i ys d (omega arith) (omega arith) ∙
+      ap (λ n. get_or ys ((st + i) % n) d) whole in
       let old = get_or-rotated st i xs d below inside in
       let here = get_or-laid xs p ws ((st + i) % length xs) d unbroken in
       let there = get_or-laid (rotated st xs) o ws i d (omega arith) in
       let wrap_o = wraps_once st o (length xs) below (omega arith) in
       let wrap_i = wraps_once st i (length xs) below (omega arith) in
-      let untouched : (((st + i) % length xs) < p) ⊎ (p + length ws ≤ (st + i) % length xs) → get_or ys ((st + i) % length xs) d ≡ get_or xs ((st + i) % length xs) d = λ outside. elim outside [ inl a ↦ here.0 a | inr b ↦ here.2 b ] in
+      let untouched : (((st + i) % length xs) < p) ⊎ (p + length ws ≤ (st + i) % length xs) →
+      get_or ys ((st + i) % length xs) d ≡ get_or xs ((st + i) % length xs) d = λ outside. elim outside [ inl a ↦ here.0 a | inr b ↦ here.2 b ] in
       left ∙ elim (cases_lt i o) [
         | inl low ↦ untouched (elim (cases_lt ((st + i) % length xs) p) [ inl a ↦ inl a | inr b ↦ inr (omega arith) ]) ∙ sym old ∙ sym (there.0 low)
         | inr high ↦ elim (cases_lt i (o + length ws)) [
@@ -85,7 +93,8 @@ module _ {X : Type 0} where
       ])
 
   -- an unbroken part, read
-  pub part-rotated : (st o k : ℕ) (xs : List X) → st < length xs → o + k ≤ length xs → (st + o) % length xs + k ≤ length xs → take k (drop ((st + o) % length xs) xs) ≡ take k (drop o (rotated st xs))
+  pub part-rotated : (st o k : ℕ) (xs : List X) → st < length xs → o + k ≤ length xs → (st + o) % length xs + k ≤ length xs →
+      take k (drop ((st + o) % length xs) xs) ≡ take k (drop o (rotated st xs))
   part-rotated st o k xs below within unbroken =
       let p = (st + o) % length xs in
       let turned = length-rotated st xs (omega arith) in
@@ -95,17 +104,26 @@ module _ {X : Type 0} where
       let inside : i < k = omega arith in
       let wrap_o = wraps_once st o (length xs) below (omega arith) in
       let wrap_i = wraps_once st (o + i) (length xs) below (omega arith) in
-      get_or-take k (drop p xs) i d inside ∙ get_or-drop p xs i d ∙ ap (λ m. get_or xs m d) (omega arith) ∙ sym (get_or-rotated st (o + i) xs d below (omega arith)) ∙ sym (get_or-drop o (rotated st xs) i d) ∙ sym (get_or-take k (drop o (rotated st xs)) i d inside))
+      get_or-take k (drop p xs) i d inside ∙ get_or-drop p xs i d ∙ ap (λ m. get_or xs m d) (omega arith) ∙
+      sym (get_or-rotated st (o + i) xs d below (omega arith)) ∙ sym (get_or-drop o (rotated st xs) i d) ∙
+      sym (get_or-take k (drop o (rotated st xs)) i d inside))
 
   -- a start further on
-  pub rotated-rotated : (st k : ℕ) (xs : List X) → st < length xs → k ≤ length xs → rotated ((st + k) % length xs) xs ≡ drop k (rotated st xs) ++ take k (rotated st xs)
+  pub rotated-rotated : (st k : ℕ) (xs : List X) → st < length xs → k ≤ length xs →
+      rotated ((st + k) % length xs) xs ≡ drop k (rotated st xs) ++ take k (rotated st xs)
   rotated-rotated st k xs below within =
       let front = take st xs in
       let back = drop st xs in
       let back_len : length back ≡ length xs - st = length-drop st xs in
       let front_len : length front ≡ st = length-take-le st xs (omega arith) in
       elim (wraps_once st k (length xs) below within) [
-        | inl w ↦ rw (w.1, drop-append-le k back front (omega arith), take-append-le k back front (omega arith), take-add st k xs, drop-drop k st xs) (sym (append_assoc (drop (st + k) xs) front (take k back)))
+        | inl w ↦ rw (
+          w.1,
+          drop-append-le k back front (omega arith),
+          take-append-le k back front (omega arith),
+          take-add st k xs,
+          drop-drop k st xs,
+        ) (sym (append_assoc (drop (st + k) xs) front (take k back)))
         | inr w ↦ let p = st + k - length xs in
             let e : k ≡ length back + p = omega arith in
             let all : front ++ back ≡ xs = take-append-drop st xs in
@@ -117,10 +135,12 @@ module _ {X : Type 0} where
       ]
 
   -- the same with a name for the length
-  pub rotated-laid_at : (n st o : ℕ) (xs ws : List X) → n ≡ length xs → st < n → o + length ws ≤ n → (st + o) % n + length ws ≤ n → rotated st (laid_over xs ((st + o) % n) ws) ≡ laid_over (rotated st xs) o ws
+  pub rotated-laid_at : (n st o : ℕ) (xs ws : List X) → n ≡ length xs → st < n → o + length ws ≤ n → (st + o) % n + length ws ≤ n →
+      rotated st (laid_over xs ((st + o) % n) ws) ≡ laid_over (rotated st xs) o ws
   rotated-laid_at n st o xs ws e below within unbroken =
       rw e (rotated-laid st o xs ws (omega arith) (omega arith) (rw e at unbroken))
 
-  pub part-rotated_at : (n st o k : ℕ) (xs : List X) → n ≡ length xs → st < n → o + k ≤ n → (st + o) % n + k ≤ n → take k (drop ((st + o) % n) xs) ≡ take k (drop o (rotated st xs))
+  pub part-rotated_at : (n st o k : ℕ) (xs : List X) → n ≡ length xs → st < n → o + k ≤ n → (st + o) % n + k ≤ n →
+      take k (drop ((st + o) % n) xs) ≡ take k (drop o (rotated st xs))
   part-rotated_at n st o k xs e below within unbroken =
       rw e (part-rotated st o k xs (omega arith) (omega arith) (rw e at unbroken))

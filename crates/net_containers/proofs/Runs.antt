@@ -1,5 +1,6 @@
 -- Lemmas on the runs of a set of positions.
-use Rattle.std.proofs.Common.{zero, subst, suc, ◌≡◌, ℕ, ◌+◌, ◌-◌, ◌<◌, ◌≤◌, ◌⊎◌, Bool, true, false, List, [], ◌∷◌, length, min, max, refl, sym, ap, ap₂, ◌∙◌, inl, inr, arith}
+use Rattle.std.proofs.Common.{zero, subst, suc, ◌≡◌, ℕ, ◌+◌, ◌-◌, ◌<◌, ◌≤◌, ◌⊎◌, Bool, true, false, List, [], ◌∷◌, length, min, max, refl, sym, ap, ap₂, ◌∙◌}
+use Rattle.std.proofs.Common.{inl, inr, arith}
 use Rattle.std.specs.Prelude.{◌↔◌, ◌==◌, nat_lt}
 use Rattle.std.proofs.lemmas.Bool.{cases_lt, ltb-true, ltb-false, ne_eqb}
 use Rattle.std.proofs.lemmas.Bool.Decides.{eqb_tells}
@@ -18,7 +19,9 @@ AreRunsFrom-lower low low' [] le h = tt
 AreRunsFrom-lower low low' (r ∷ rs) le h = (omega (arith, h.0), h.1, h.2)
 
 -- the three cases of `joined`
-pub joined-cases : (r : ℕ × ℕ) (rs : List (ℕ × ℕ)) (start end : ℕ) → ((r.1 < start) × (joined (r ∷ rs) start end ≡ r ∷ joined rs start end)) ⊎ (((start ≤ r.1) × (end < r.0) × (joined (r ∷ rs) start end ≡ (start, end) ∷ (r ∷ rs))) ⊎ ((start ≤ r.1) × (r.0 ≤ end) × (joined (r ∷ rs) start end ≡ joined rs (min r.0 start) (max r.1 end))))
+pub joined-cases : (r : ℕ × ℕ) (rs : List (ℕ × ℕ)) (start end : ℕ) → ((r.1 < start) × (joined (r ∷ rs) start end ≡ r ∷ joined rs start end)) ⊎
+    (((start ≤ r.1) × (end < r.0) × (joined (r ∷ rs) start end ≡ (start, end) ∷ (r ∷ rs))) ⊎
+    ((start ≤ r.1) × (r.0 ≤ end) × (joined (r ∷ rs) start end ≡ joined rs (min r.0 start) (max r.1 end))))
 joined-cases r rs start end = elim (lt_tells r.1 start) [
   | inl a ↦ inl (a.1, rw a.0 refl)
   | inr b ↦ inr (elim (lt_tells end r.0) [
@@ -33,12 +36,14 @@ AreRuns-joined low (r ∷ rs) start end h le lt = elim (joined-cases r rs start 
   | inl a ↦ rw a.1 (h.0, h.1, AreRuns-joined (r.1 + 1) rs start end h.2 (omega arith) lt)
   | inr o ↦ elim o [
     | inl b ↦ rw b.2 (le, lt, (omega arith, h.1, h.2))
-    | inr c ↦ rw c.2 (AreRuns-joined low rs (min r.0 start) (max r.1 end) (AreRunsFrom-lower low (r.1 + 1) rs (omega (arith, h.0, h.1)) h.2) (omega (arith, h.0)) (omega (arith, h.1)))
+    | inr c ↦ rw c.2 (AreRuns-joined low rs (min r.0 start) (max r.1 end) (AreRunsFrom-lower low (r.1 + 1) rs (omega (arith, h.0, h.1)) h.2)
+        (omega (arith, h.0)) (omega (arith, h.1)))
   ]
 ]
 
 -- what is held once positions are joined
-pub Holds-joined : (rs : List (ℕ × ℕ)) (low start end p : ℕ) → AreRunsFrom low rs → start < end → Holds (joined rs start end) p ↔ (Holds rs p ⊎ ((start ≤ p) × (p < end)))
+pub Holds-joined : (rs : List (ℕ × ℕ)) (low start end p : ℕ) → AreRunsFrom low rs → start < end →
+    Holds (joined rs start end) p ↔ (Holds rs p ⊎ ((start ≤ p) × (p < end)))
 Holds-joined [] low start end p h lt = (λ a. elim a [ inl x ↦ inr x | inr y ↦ absurd y ], λ b. elim b [ inl x ↦ absurd x | inr y ↦ inl y ])
 Holds-joined (r ∷ rs) low start end p h lt = elim (joined-cases r rs start end) [
   | inl a ↦ let e = Holds-joined rs (r.1 + 1) start end p h.2 lt in
@@ -104,7 +109,8 @@ Holds-behind low r xs h x = elim x [
 ]
 
 -- with the same first position, the run that holds as much doesn't end earlier
-ends_within : (low low' : ℕ) (r q : ℕ × ℕ) (xs ys : List (ℕ × ℕ)) → AreRunsFrom low (r ∷ xs) → AreRunsFrom low' (q ∷ ys) → r.0 ≡ q.0 → HoldSame (r ∷ xs) (q ∷ ys) → q.1 ≤ r.1
+ends_within : (low low' : ℕ) (r q : ℕ × ℕ) (xs ys : List (ℕ × ℕ)) → AreRunsFrom low (r ∷ xs) → AreRunsFrom low' (q ∷ ys) → r.0 ≡ q.0 →
+    HoldSame (r ∷ xs) (q ∷ ys) → q.1 ≤ r.1
 ends_within low low' r q xs ys a b e h = elim (cases_lt r.1 q.1) [
   | inl more ↦ absurd (Holds-behind low r xs a ((h r.1).1 (inl (omega (arith, a.1), more))))
   | inr fits ↦ fits
@@ -119,8 +125,16 @@ same_runs low low' [] [] a b h = refl
 same_runs low low' [] (q ∷ ys) a b h = absurd ((h q.0).1 (inl (omega arith, b.1)))
 same_runs low low' (r ∷ xs) [] a b h = absurd ((h r.0).0 (inl (omega arith, a.1)))
 same_runs low low' (r ∷ xs) (q ∷ ys) a b h =
-    let first : r.0 ≡ q.0 = omega (arith, starts_before low' r q ys b ((h r.0).0 (inl (omega arith, a.1))), starts_before low q r xs a ((h q.0).1 (inl (omega arith, b.1)))) in
-    let last : r.1 ≡ q.1 = omega (arith, ends_within low low' r q xs ys a b first h, ends_within low' low q r ys xs b a (sym first) (HoldSame-sym (r ∷ xs) (q ∷ ys) h)) in
+    let first : r.0 ≡ q.0 = omega (
+      arith,
+      starts_before low' r q ys b ((h r.0).0 (inl (omega arith, a.1))),
+      starts_before low q r xs a ((h q.0).1 (inl (omega arith, b.1))),
+    ) in
+    let last : r.1 ≡ q.1 = omega (
+      arith,
+      ends_within low low' r q xs ys a b first h,
+      ends_within low' low q r ys xs b a (sym first) (HoldSame-sym (r ∷ xs) (q ∷ ys) h),
+    ) in
     let same : r ≡ q = λ i. (first i, last i) in
     let a' : AreRunsFrom (q.1 + 1) xs = rw last at a.2 in
     let h' : HoldSame (q ∷ xs) (q ∷ ys) = subst (λ (v : ℕ × ℕ). HoldSame (v ∷ xs) (q ∷ ys)) same h in
@@ -129,8 +143,12 @@ same_runs low low' (r ∷ xs) (q ∷ ys) a b h =
 -- runs lowered by a distance
 pub AreRuns-lowered : (by low : ℕ) (rs : List (ℕ × ℕ)) → by ≤ low → AreRunsFrom low rs → AreRunsFrom (low - by) (lowered by rs)
 AreRuns-lowered by low [] le h = tt
-AreRuns-lowered by low (r ∷ rs) le h =
-    (omega (arith, h.0), omega (arith, h.0, h.1), AreRunsFrom-lower (r.1 - by + 1) (r.1 + 1 - by) (lowered by rs) (omega (arith, h.0, h.1)) (AreRuns-lowered by (r.1 + 1) rs (omega (arith, h.0, h.1)) h.2))
+AreRuns-lowered by low (r ∷ rs) le h = (
+  omega (arith, h.0),
+  omega (arith, h.0, h.1),
+  AreRunsFrom-lower (r.1 - by + 1) (r.1 + 1 - by) (lowered by rs) (omega (arith, h.0, h.1))
+      (AreRuns-lowered by (r.1 + 1) rs (omega (arith, h.0, h.1)) h.2),
+)
 
 pub not_zero : (n : ℕ) → (n ≡ 0 → ⊥) → 0 < n
 not_zero zero h = absurd (h refl)
@@ -158,7 +176,8 @@ length-joined (r ∷ rs) start end = elim (joined-cases r rs start end) [
 ]
 
 -- positions from 0 on that reach the first run make no run more
-pub length-added_front : (rs : List (ℕ × ℕ)) (size room : ℕ) → 1 ≤ room → length rs ≤ room → (size ≡ 0) ⊎ ((rs ≡ []) ⊎ ((r : ℕ × ℕ) × (ss : List (ℕ × ℕ)) × (rs ≡ r ∷ ss) × (r.0 ≤ size))) → length (added rs 0 size) ≤ room
+pub length-added_front : (rs : List (ℕ × ℕ)) (size room : ℕ) → 1 ≤ room → length rs ≤ room →
+    (size ≡ 0) ⊎ ((rs ≡ []) ⊎ ((r : ℕ × ℕ) × (ss : List (ℕ × ℕ)) × (rs ≡ r ∷ ss) × (r.0 ≤ size))) → length (added rs 0 size) ≤ room
 length-added_front rs size room some few way = elim (eqb_tells size 0) [
   | inl none ↦ rw none.0 few
   | inr more ↦ rw more.0 (elim way [
@@ -187,7 +206,8 @@ lowered-none (r ∷ rs) =
     ap₂ ◌∷◌ (λ i. (left i, right i)) (lowered-none rs)
 
 -- positions from 0 on that don't reach the first run
-pub added-front : (rs : List (ℕ × ℕ)) (size : ℕ) → AreRunsFrom (size + 1) rs → (front (added rs 0 size) ≡ size) × (without_front (added rs 0 size) ≡ lowered size rs)
+pub added-front : (rs : List (ℕ × ℕ)) (size : ℕ) → AreRunsFrom (size + 1) rs → (front (added rs 0 size) ≡ size) ×
+    (without_front (added rs 0 size) ≡ lowered size rs)
 added-front [] size h = elim (eqb_tells size 0) [
   | inl none ↦ rw none.0 (sym none.1, refl)
   | inr more ↦ let z : 0 + size ≡ size = omega arith in rw more.0 (z, refl)

@@ -1,5 +1,6 @@
 -- The test whether two lists of runs are the same.
-use Rattle.std.proofs.Common.{◌≡◌, ℕ, zero, suc, ◌+◌, ◌<◌, Bool, true, false, List, [], ◌∷◌, ◌++◌, length, replicate, inl, inr, refl, sym, ap, ap₂, subst, ◌∙◌, arith}
+use Rattle.std.proofs.Common.{◌≡◌, ℕ, zero, suc, ◌+◌, ◌<◌, Bool, true, false, List, [], ◌∷◌, ◌++◌, length, replicate, inl, inr, refl, sym, ap, ap₂, subst, ◌∙◌}
+use Rattle.std.proofs.Common.{arith}
 use Rattle.std.specs.Prelude.{nat_eq, ◌&&◌}
 use Rattle.std.proofs.lemmas.Bool.{false≢true}
 use Rattle.std.proofs.lemmas.Bool.Decides.{eqb_tells}
@@ -50,7 +51,8 @@ none_unlike : (a b : ℕ) → a < b → (nat_eq a 0 && nat_eq b 0) ≡ false
 none_unlike a b lt = elim (eqb_tells b 0) [ inl y ↦ absurd (omega (arith, y.1)) | inr n ↦ rw n.0 (never (nat_eq a 0)) ]
 
 -- unused pairs behind two lists of runs don't tell them apart
-pub test_unused : (xs ys : List (ℕ × ℕ)) (low low' i j : ℕ) → AreRunsFrom low xs → AreRunsFrom low' ys → length xs + i ≡ length ys + j → same_run_lists (xs ++ replicate i (0, 0)) (ys ++ replicate j (0, 0)) ≡ same_run_lists xs ys
+pub test_unused : (xs ys : List (ℕ × ℕ)) (low low' i j : ℕ) → AreRunsFrom low xs → AreRunsFrom low' ys → length xs + i ≡ length ys + j →
+    same_run_lists (xs ++ replicate i (0, 0)) (ys ++ replicate j (0, 0)) ≡ same_run_lists xs ys
 test_unused [] [] low low' i j a b n =
     let same : i ≡ j = omega (arith, n) in
     rw same (test_alike (replicate j (0, 0)))

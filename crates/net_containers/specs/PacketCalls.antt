@@ -13,7 +13,8 @@ TakesPacket {F} {H} g f header bytes =
     (p : MutBor H) (q : MutBor (List ℕ)) → p.now ≡ header → q.now ≡ bytes → g.pre f (p, (q, tt))
 
 -- at this header and these bytes, it may give r and leave header' and bytes'
-pub record ReturnsAtPacket {F H R : Type 0} (g : Once F (PacketMut H) (R × PacketMut H)) (f : F) (header : H) (bytes : List ℕ) (r : R) (header' : H) (bytes' : List ℕ) : Type 0 where
+pub record ReturnsAtPacket {F H R : Type 0} (g : Once F (PacketMut H) (R × PacketMut H)) (f : F) (header : H) (bytes : List ℕ) (r : R) (header' : H)
+    (bytes' : List ℕ) : Type 0 where
   pub shown : PacketMut H
   pub shows : (shown.0.now ≡ header) × (shown.1.0.now ≡ bytes)
   pub left : PacketMut H

@@ -1,5 +1,6 @@
 -- What a contract sees of a `PacketBuffer`.
-use Rattle.std.specs.Prelude.{ℕ, ◌+◌, ◌-◌, ◌%◌, ◌==◌, nat_lt, nat_le, ◌&&◌, ◌||◌, Bool, if◌then◌else◌, min, List, [], ◌∷◌, ◌++◌, length, drop, map, Option, None, Some, refl}
+use Rattle.std.specs.Prelude.{ℕ, ◌+◌, ◌-◌, ◌%◌, ◌==◌, nat_lt, nat_le, ◌&&◌, ◌||◌, Bool, if◌then◌else◌, min, List, [], ◌∷◌, ◌++◌, length, drop, map, Option}
+use Rattle.std.specs.Prelude.{None, Some, refl}
 use Rattle.std.specs.Coded.{Coded, code_by, coded×, coded_list, coded_ℕ}
 
 -- A packet in its place. `padding` counts the bytes that were skipped before it at the end of the storage.
@@ -22,14 +23,16 @@ module _ {H : Type 0} where
 
   abbrev pub packet_code : Coded H → Coded (QueuedPacket H)
   packet_code c =
-      code_by (ℕ × (H × List ℕ)) (coded× coded_ℕ (coded× c (coded_list coded_ℕ))) (λ p. (p.padding, (p.header, p.bytes))) (λ p. packet p.0 p.1.0 p.1.1) (λ _. refl)
+      code_by (ℕ × (H × List ℕ)) (coded× coded_ℕ (coded× c (coded_list coded_ℕ))) (λ p. (p.padding, (p.header, p.bytes)))
+      (λ p. packet p.0 p.1.0 p.1.1) (λ _. refl)
 
   abbrev pub packets_in : List (QueuedPacket H) → ℕ → ℕ → ℕ → Packets H
   packets_in packets start places room = record { packets = packets; start = start; places = places; room = room }
 
   abbrev pub packets_code : Coded H → Coded (Packets H)
   packets_code c =
-      code_by (List (QueuedPacket H) × (ℕ × (ℕ × ℕ))) (coded× (coded_list (packet_code c)) (coded× coded_ℕ (coded× coded_ℕ coded_ℕ))) (λ q. (q.packets, (q.start, (q.places, q.room)))) (λ p. packets_in p.0 p.1.0 p.1.1.0 p.1.1.1) (λ _. refl)
+      code_by (List (QueuedPacket H) × (ℕ × (ℕ × ℕ))) (coded× (coded_list (packet_code c)) (coded× coded_ℕ (coded× coded_ℕ coded_ℕ)))
+      (λ q. (q.packets, (q.start, (q.places, q.room)))) (λ p. packets_in p.0 p.1.0 p.1.1.0 p.1.1.1) (λ _. refl)
 
   -- the headers and bytes in order, without their places
   abbrev pub contents : Packets H → List (H × List ℕ)
@@ -70,7 +73,8 @@ module _ {H : Type 0} where
   -- the unbroken part is too short, padding fills it.
   abbrev pub is_full_for : Packets H → ℕ → Bool
   is_full_for q size =
-      nat_le q.places (used_places q.packets) || (nat_lt (window q) size || (nat_lt (unbroken q) size && (nat_le q.places (used_places q.packets + 1) || nat_lt (window q - unbroken q) size)))
+      nat_le q.places (used_places q.packets) ||
+      (nat_lt (window q) size || (nat_lt (unbroken q) size && (nat_le q.places (used_places q.packets + 1) || nat_lt (window q - unbroken q) size)))
 
   -- a packet behind the others, with the padding that room for `size` bytes needs
   abbrev pub appended : Packets H → ℕ → H → List ℕ → Packets H

@@ -15,7 +15,8 @@ module _ {X : Type 0} where
 
   abbrev pub ring_code : Coded X → Coded (Ring X)
   ring_code c =
-      code_by (List X × (List X × ℕ)) (coded× (coded_list c) (coded× (coded_list c) coded_ℕ)) (λ r. (r.queue, (r.free, r.start))) (λ p. ring p.0 p.1.0 p.1.1) (λ _. refl)
+      code_by (List X × (List X × ℕ)) (coded× (coded_list c) (coded× (coded_list c) coded_ℕ)) (λ r. (r.queue, (r.free, r.start)))
+      (λ p. ring p.0 p.1.0 p.1.1) (λ _. refl)
 
   -- how many elements the ring holds at most
   abbrev pub capacity : Ring X → ℕ

@@ -1,9 +1,11 @@
 //! A queue of packets, each a header and unbroken bytes, in storage that is handed in.
-ghost use Rattle.std.specs.Prelude.{◌≡◌, ◌≢◌, ℕ, ◌<◌, ◌≤◌, ◌↔◌, List, [], ◌++◌, length, take, drop, slice_get, IsTrue, IsErr, IfOk, OnOk, OnErr, MatchResult, None, Some};
+ghost use Rattle.std.specs.Prelude.{◌≡◌, ◌≢◌, ℕ, ◌<◌, ◌≤◌, ◌↔◌, List, [], ◌++◌, length, take, drop, slice_get, IsTrue, IsErr, IfOk, OnOk, OnErr, MatchResult};
+ghost use Rattle.std.specs.Prelude.{None, Some};
 ghost use Rattle.std.specs.Borrow.{sem};
 ghost use Rattle.std.specs.Fn.{FnOnceTakesAtMut, FnOnceReturnsAtMut};
 ghost use Rattle.net_containers.specs.Ring.{capacity, contiguous, anchored, extended};
-ghost use Rattle.net_containers.specs.Packets.{packets_in, used_places, used_room, is_full_for, padding_for, appended, unpadded, first, without_first, with_first};
+ghost use Rattle.net_containers.specs.Packets.{packets_in, used_places, used_room, is_full_for, padding_for, appended, unpadded, first, without_first};
+ghost use Rattle.net_containers.specs.Packets.{with_first};
 ghost use Rattle.net_containers.specs.PacketCalls.{TakesPacket, ReturnsAtPacket};
 ghost use Rattle.net_containers.specs.Entries.{entry, padding_first, padded, BeginsWithPacket};
 

@@ -1,6 +1,9 @@
 //! A ring of elements in storage that is handed in.
-ghost use Rattle.std.specs.Prelude.{◌≡◌, ℕ, ◌+◌, ◌-◌, ◌%◌, ◌≤◌, ◌<◌, ◌↔◌, List, [], ◌∷◌, ◌++◌, length, take, drop, map, min, IsTrue, IsOk, IsErr, IfOk, OnErr, MatchResult, slice_get, Some, ⊤};
-ghost use Rattle.net_containers.specs.Ring.{Ring, capacity, ring, cleared, anchored, IsPlaced, until_end, contiguous, unbroken_free, free_from, queued_count, unbroken_queued, overwritten, rewritten, extended, released, enqueued, dequeued, laid_from, offered, waiting, storage_of};
+ghost use Rattle.std.specs.Prelude.{◌≡◌, ℕ, ◌+◌, ◌-◌, ◌%◌, ◌≤◌, ◌<◌, ◌↔◌, List, [], ◌∷◌, ◌++◌, length, take, drop, map, min, IsTrue, IsOk, IsErr, IfOk, OnErr};
+ghost use Rattle.std.specs.Prelude.{MatchResult, slice_get, Some, ⊤};
+ghost use Rattle.net_containers.specs.Ring.{Ring, capacity, ring, cleared, anchored, IsPlaced, until_end, contiguous, unbroken_free, free_from, queued_count};
+ghost use Rattle.net_containers.specs.Ring.{unbroken_queued, overwritten, rewritten, extended, released, enqueued, dequeued, laid_from, offered, waiting};
+ghost use Rattle.net_containers.specs.Ring.{storage_of};
 ghost use Rattle.std.specs.Borrow.{sem};
 ghost use Rattle.std.specs.Fn.{FnOnceTakesAtMut, FnOnceReturnsAtMut};
 

@@ -26,7 +26,8 @@ use Rattle.control_wire.specs.Icmpv6Header.TheVariants as Icmpv6
 use Rattle.control_wire.specs.NdiscRepr.{NdiscRepr}
 use Rattle.control_wire.specs.NdiscRepr.TheVariants as Ndisc
 use Rattle.control_wire.specs.NdiscNeighborFlags.{NdiscNeighborFlags}
-use Rattle.packet_text.specs.Names.{ether_text, operation_text, protocol_text, unreachable4_text, exceeded4_text, unreachable6_text, exceeded6_text, problem_text}
+use Rattle.packet_text.specs.Names.{ether_text, operation_text, protocol_text, unreachable4_text, exceeded4_text, unreachable6_text, exceeded6_text}
+use Rattle.packet_text.specs.Names.{problem_text}
 
 -- letters where a flag is set
 abbrev pub where_set : Bool → List ℕ → List ℕ

@@ -1,6 +1,8 @@
 //! Numbers of protocols, operations and reasons, printed as a name and the number: `UDP (17)`.
 ghost use Rattle.std.specs.Prelude.{◌≡◌, Some};
-ghost use Rattle.packet_text.specs.Names.{protocol_name, protocol_text, operation_name, operation_text, unreachable4_name, unreachable4_text, exceeded4_name, exceeded4_text, unreachable6_name, unreachable6_text, exceeded6_name, exceeded6_text, problem_name, problem_text, ether_text};
+ghost use Rattle.packet_text.specs.Names.{protocol_name, protocol_text, operation_name, operation_text, unreachable4_name, unreachable4_text, exceeded4_name};
+ghost use Rattle.packet_text.specs.Names.{exceeded4_text, unreachable6_name, unreachable6_text, exceeded6_name, exceeded6_text, problem_name, problem_text};
+ghost use Rattle.packet_text.specs.Names.{ether_text};
 
 use control_wire::{
     Icmpv4DstUnreachable, Icmpv4TimeExceeded, Icmpv6DstUnreachable, Icmpv6ParamProblem,

@@ -33,26 +33,40 @@ Decides-due a b = search rules
 
 -- the formats' laws
 pub record Laws : Type 0 where
-  pub icmpv4 : (a b : Icmpv4Repr) → Decides (Payloads.ghosts.eq (Payload.Icmpv4 a) (Payload.Icmpv4 b)) ((Icmpv4.header_of a ≡ Icmpv4.header_of b) × (Icmpv4.payload_of a ≡ Icmpv4.payload_of b))
-  pub icmpv6 : (a b : Icmpv6Repr) → Decides (Payloads.ghosts.eq (Payload.Icmpv6 a) (Payload.Icmpv6 b)) ((Icmpv6.value_of (Icmpv6.header_of a) ≡ Icmpv6.value_of (Icmpv6.header_of b)) × (Icmpv6.carried_by a ≡ Icmpv6.carried_by b))
-  pub tcp : (a b : TcpRepr) → Decides (Payloads.ghosts.eq (Payload.Tcp a) (Payload.Tcp b)) ((Tcp.header_of a ≡ Tcp.header_of b) × (a.payload.now ≡ b.payload.now))
+  pub icmpv4 : (a b : Icmpv4Repr) →
+      Decides (Payloads.ghosts.eq (Payload.Icmpv4 a) (Payload.Icmpv4 b)) ((Icmpv4.header_of a ≡ Icmpv4.header_of b) ×
+      (Icmpv4.payload_of a ≡ Icmpv4.payload_of b))
+  pub icmpv6 : (a b : Icmpv6Repr) →
+      Decides (Payloads.ghosts.eq (Payload.Icmpv6 a) (Payload.Icmpv6 b)) ((Icmpv6.value_of (Icmpv6.header_of a) ≡ Icmpv6.value_of (Icmpv6.header_of b)) ×
+      (Icmpv6.carried_by a ≡ Icmpv6.carried_by b))
+  pub tcp : (a b : TcpRepr) →
+      Decides (Payloads.ghosts.eq (Payload.Tcp a) (Payload.Tcp b)) ((Tcp.header_of a ≡ Tcp.header_of b) × (a.payload.now ≡ b.payload.now))
   pub udp : (a b : UdpRepr) (xs ys : Bor (List ℕ)) → Decides (Payloads.ghosts.eq (Payload.Udp a xs) (Payload.Udp b ys)) ((a ≡ b) × (xs.now ≡ ys.now))
 
 pub Decides-payload : Laws → (a b : IpPayload) → Decides (Payloads.ghosts.eq a b) (payload_value a ≡ payload_value b)
 Decides-payload laws (Payload.Icmpv4 a) (Payload.Icmpv4 b) =
-    let same = laws.icmpv4 a b in
-    (λ yes. ap₂ ControlV4 (same.0 yes).0 (same.0 yes).1, λ e. let first : Icmpv4.header_of a ≡ Icmpv4.header_of b = cc in let second : Icmpv4.payload_of a ≡ Icmpv4.payload_of b = cc in same.1 (both first second))
+    let same = laws.icmpv4 a b in (
+      λ yes. ap₂ ControlV4 (same.0 yes).0 (same.0 yes).1,
+      λ e. let first : Icmpv4.header_of a ≡ Icmpv4.header_of b =
+          cc in let second : Icmpv4.payload_of a ≡ Icmpv4.payload_of b = cc in same.1 (both first second),
+    )
 Decides-payload laws (Payload.Icmpv6 a) (Payload.Icmpv6 b) =
-    let same = laws.icmpv6 a b in
-    (λ yes. ap₂ ControlV6 (same.0 yes).0 (same.0 yes).1, λ e. let first : Icmpv6.value_of (Icmpv6.header_of a) ≡ Icmpv6.value_of (Icmpv6.header_of b) = cc in let second : Icmpv6.carried_by a ≡ Icmpv6.carried_by b = cc in same.1 (both first second))
+    let same = laws.icmpv6 a b in (
+      λ yes. ap₂ ControlV6 (same.0 yes).0 (same.0 yes).1,
+      λ e. let first : Icmpv6.value_of (Icmpv6.header_of a) ≡ Icmpv6.value_of (Icmpv6.header_of b) =
+          cc in let second : Icmpv6.carried_by a ≡ Icmpv6.carried_by b = cc in same.1 (both first second),
+    )
 Decides-payload laws (Payload.Raw xs) (Payload.Raw ys) =
     let same = bytes_eq-Decides xs.now ys.now in (λ yes. ap Bytes (same.0 yes), λ e. same.1 (cc))
 Decides-payload laws (Payload.Udp a xs) (Payload.Udp b ys) =
     let same = laws.udp a b xs ys in
     (λ yes. ap₂ Datagram (same.0 yes).0 (same.0 yes).1, λ e. let first : a ≡ b = cc in let second : xs.now ≡ ys.now = cc in same.1 (both first second))
 Decides-payload laws (Payload.Tcp a) (Payload.Tcp b) =
-    let same = laws.tcp a b in
-    (λ yes. ap₂ Segment (same.0 yes).0 (same.0 yes).1, λ e. let first : Tcp.header_of a ≡ Tcp.header_of b = cc in let second : a.payload.now ≡ b.payload.now = cc in same.1 (both first second))
+    let same = laws.tcp a b in (
+      λ yes. ap₂ Segment (same.0 yes).0 (same.0 yes).1,
+      λ e. let first : Tcp.header_of a ≡ Tcp.header_of b = cc in let second : a.payload.now ≡ b.payload.now =
+          cc in same.1 (both first second),
+    )
 Decides-payload laws a b = (λ yes. absurd (cc), λ e. absurd (cc))
 
 -- packets are compared by header and payload

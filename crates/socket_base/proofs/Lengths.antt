@@ -19,15 +19,21 @@ use Rattle.socket_base.specs.Widths.{IsPayload}
 
 -- the formats' laws
 pub record Lengths : Type 0 where
-  pub udp : (source destination : IpAddress) (sealed : Bool) (v : UdpRepr) (payload : List ℕ) → length (Udp.written source destination sealed v payload) ≡ 8 + length payload
-  pub tcp : (source destination : IpAddress) (sealed : Bool) (v : TcpHeader) (payload : List ℕ) → length (Tcp.written source destination sealed v payload) ≡ Tcp.header_len v + length payload
-  pub icmpv4 : (quote_sealed sealed : Bool) (v : Icmpv4Header) (payload : List ℕ) → Icmpv4.IsValue v → length (Icmpv4.written quote_sealed sealed v payload) ≡ Icmpv4.header_len v + length payload
-  pub icmpv6 : (source destination : Ipv6Address) (sealed : Bool) (v : Icmpv6.MessageValue) (carried : List ℕ) → Icmpv6.IsValue v → Icmpv6.CanCarry v carried → length (Icmpv6.written source destination sealed v carried) ≡ Icmpv6.header_len v + length carried
+  pub udp : (source destination : IpAddress) (sealed : Bool) (v : UdpRepr) (payload : List ℕ) →
+      length (Udp.written source destination sealed v payload) ≡ 8 + length payload
+  pub tcp : (source destination : IpAddress) (sealed : Bool) (v : TcpHeader) (payload : List ℕ) →
+      length (Tcp.written source destination sealed v payload) ≡ Tcp.header_len v + length payload
+  pub icmpv4 : (quote_sealed sealed : Bool) (v : Icmpv4Header) (payload : List ℕ) → Icmpv4.IsValue v →
+      length (Icmpv4.written quote_sealed sealed v payload) ≡ Icmpv4.header_len v + length payload
+  pub icmpv6 : (source destination : Ipv6Address) (sealed : Bool) (v : Icmpv6.MessageValue) (carried : List ℕ) → Icmpv6.IsValue v → Icmpv6.CanCarry v carried →
+      length (Icmpv6.written source destination sealed v carried) ≡ Icmpv6.header_len v + length carried
 
-pub length-payload : Lengths → (caps : ChecksumCapabilities) (ip : IpRepr) (v : PayloadValue) → PayloadFits ip v → IsPayload v → length (payload_written caps ip v) ≡ payload_len v
+pub length-payload : Lengths → (caps : ChecksumCapabilities) (ip : IpRepr) (v : PayloadValue) → PayloadFits ip v → IsPayload v →
+    length (payload_written caps ip v) ≡ payload_len v
 length-payload laws caps ip (ControlV4 message bytes) fits value = laws.icmpv4 (computes caps.ipv4) (computes caps.icmpv4) message bytes value
 length-payload laws caps (Ip.Ipv4 header) (ControlV6 message bytes) fits value = absurd fits
-length-payload laws caps (Ip.Ipv6 header) (ControlV6 message bytes) fits value = laws.icmpv6 header.src_addr header.dst_addr (computes caps.icmpv6) message bytes value.0 value.1
+length-payload laws caps (Ip.Ipv6 header) (ControlV6 message bytes) fits value =
+    laws.icmpv6 header.src_addr header.dst_addr (computes caps.icmpv6) message bytes value.0 value.1
 length-payload laws caps ip (Bytes bytes) fits value = refl
 length-payload laws caps ip (Datagram header bytes) fits value = laws.udp (source_of ip) (destination_of ip) (computes caps.udp) header bytes
 length-payload laws caps ip (Segment header bytes) fits value = laws.tcp (source_of ip) (destination_of ip) (computes caps.tcp) header bytes

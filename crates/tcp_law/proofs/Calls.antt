@@ -1,5 +1,6 @@
 -- The calls of a user, the end of a connection and the fallback of a listener keep the invariant.
-use Rattle.std.proofs.Common.{◌≡◌, ◌⊎◌, inl, inr, ℕ, ◌+◌, ◌^◌, ◌≤◌, Bool, true, false, List, [], ◌++◌, length, take, drop, Option, refl, sym, ap, ◌∙◌, subst, arith, length-append, append-nil, append_assoc, take-append-drop, le_refl}
+use Rattle.std.proofs.Common.{◌≡◌, ◌⊎◌, inl, inr, ℕ, ◌+◌, ◌^◌, ◌≤◌, Bool, true, false, List, [], ◌++◌, length, take, drop, Option, refl, sym, ap, ◌∙◌, subst}
+use Rattle.std.proofs.Common.{arith, length-append, append-nil, append_assoc, take-append-drop, le_refl}
 use Rattle.tcp_law.specs.Numbers.{wire}
 use Rattle.tcp_law.specs.ReceiveMap.{Begins, AgreesWith, space}
 use Rattle.tcp_law.specs.Side.{Phase, Opening, Side, taken_in, rcv_next, one_if, IsConnected}
@@ -55,14 +56,16 @@ pub same_sync :
     → IsInStep s t ⊎ IsSilent s t
     → IsInStep new t ⊎ IsSilent new t
 same_sync s new t iss una written closed (inl in_step) = inl (IsInStep-same s new t iss una in_step)
-same_sync s new t iss una written closed (inr silent) = inr (record { unwritten = written ∙ silent.unwritten; closed = closed silent.closed; una = by silent.una }) where
-  by : (s.una ≡ s.iss) ⊎ HasReached t (wire s.una) → (new.una ≡ new.iss) ⊎ HasReached t (wire new.una)
-  by (inl first) = inl (una ∙ (first ∙ sym iss))
-  by (inr reached) = inr (subst (λ (p : ℕ). HasReached t (wire p)) (sym una) reached)
+same_sync s new t iss una written closed (inr silent) =
+    inr (record { unwritten = written ∙ silent.unwritten; closed = closed silent.closed; una = by silent.una }) where
+      by : (s.una ≡ s.iss) ⊎ HasReached t (wire s.una) → (new.una ≡ new.iss) ⊎ HasReached t (wire new.una)
+      by (inl first) = inl (una ∙ (first ∙ sym iss))
+      by (inr reached) = inr (subst (λ (p : ℕ). HasReached t (wire p)) (sym una) reached)
 
 -- where only what the side took in changes
 pub keeps_received :
-    (s t : Side) (read waiting : List ℕ) (window : List (Option ℕ)) (fin : Bool) → let new : Side = record s { read = read; waiting = waiting; window = window; took_fin = fin } in
+    (s t : Side) (read waiting : List ℕ) (window : List (Option ℕ)) (fin : Bool) →
+    let new : Side = record s { read = read; waiting = waiting; window = window; took_fin = fin } in
     OneWay s t → OneWay t s → rcv_next s ≤ rcv_next new → (IsEarly s.phase → HasNoStream new)
     → Begins (taken_in new) t.written → AgreesWith window (drop (length (taken_in new)) t.written) → (fin ≡ true → IsComplete t new)
     → OneWay new t × OneWay t new
@@ -118,7 +121,8 @@ keeps_connects s t iss out back may =
       short = well.short;
       irs = well.irs;
     } in (
-      OneWay-own s new grows t out well' (inr (record { unwritten = no_stream.0; closed = λ (e : SynSent ≡ Synchronized). absurd (cc); una = inl refl })) (λ (e : Active ≡ Passive). absurd (cc)) (λ sent. sent),
+      OneWay-own s new grows t out well' (inr (record { unwritten = no_stream.0; closed = λ (e : SynSent ≡ Synchronized). absurd (cc); una = inl refl }))
+          (λ (e : Active ≡ Passive). absurd (cc)) (λ sent. sent),
       OneWay-same s new grows t back refl refl refl refl,
     )
 
@@ -155,7 +159,8 @@ keeps_writes s t bytes out back may =
 
 -- what was read and what waits are the same bytes together
 taken_in-reads : (s : Side) (count : ℕ) → taken_in (after s (Reads count)) ≡ taken_in s
-taken_in-reads s count = append_assoc s.read (take count s.waiting) (drop count s.waiting) ∙ ap (λ (bytes : List ℕ). s.read ++ bytes) (take-append-drop count s.waiting)
+taken_in-reads s count = append_assoc s.read (take count s.waiting) (drop count s.waiting) ∙
+    ap (λ (bytes : List ℕ). s.read ++ bytes) (take-append-drop count s.waiting)
 
 pub keeps_reads : (s t : Side) (count : ℕ) → Keeps s t (Reads count)
 keeps_reads s t count out back may =
@@ -175,7 +180,8 @@ keeps_closes s t out back may =
     let new = after s Closes in
     let well = out.well_formed in
     let grows = Grows-same s new (λ _. tt) refl refl (λ _. refl) refl (λ _. (refl, le_refl _)) in
-    let well' = IsWellFormed-same s new well refl refl refl (one_if-small s.closed) refl (heard s.phase s.opening s.irs may well.phase) (λ early. absurd early) in (
+    let well' = IsWellFormed-same s new well refl refl refl (one_if-small s.closed) refl (heard s.phase s.opening s.irs may well.phase)
+    (λ early. absurd early) in (
       OneWay-own s new grows t out well' (same_sync s new t refl refl refl (λ _ _. refl) out.sync) out.listener (λ sent. sent),
       OneWay-same s new grows t back refl refl refl refl,
     )
@@ -212,6 +218,7 @@ keeps_falls_back s t out back may =
       short = omega arith;
       irs = well.irs;
     } in (
-      OneWay-own s new grows t out well' (inr (record { unwritten = refl; closed = λ (e : Listen ≡ Synchronized). absurd (cc); una = inl refl })) (λ _. out.listener may.1) (λ sent. sent),
+      OneWay-own s new grows t out well' (inr (record { unwritten = refl; closed = λ (e : Listen ≡ Synchronized). absurd (cc); una = inl refl }))
+          (λ _. out.listener may.1) (λ sent. sent),
       OneWay-other s new grows t back tt (AgreesWith-space (length s.waiting + length s.window) t.written) (λ (e : false ≡ true). absurd (cc)),
     )

@@ -3,7 +3,8 @@ use Rattle.std.proofs.Common.{suc, ◌-◌, ◌≤◌, length, ◌≡◌, ◌++�
 use Rattle.tcp_law.specs.Side.{Phase, Side, freed}
 use Rattle.tcp_law.specs.Side.Phase.{Unopened, Listen, SynSent, SynReceived}
 use Rattle.tcp_law.specs.Move.{Move, May, after}
-use Rattle.tcp_law.specs.Move.Move.{Listens, Connects, Writes, Reads, Closes, Ends, FallsBack, SendsSyn, SendsSynAck, SendsAck, SendsData, SendsKeepAlive, SendsReset, TakesSyn, TakesCrossedSyn, TakesSynAck, TakesAck, TakesBytes, TakesFin}
+use Rattle.tcp_law.specs.Move.Move.{Listens, Connects, Writes, Reads, Closes, Ends, FallsBack, SendsSyn, SendsSynAck, SendsAck, SendsData, SendsKeepAlive}
+use Rattle.tcp_law.specs.Move.Move.{SendsReset, TakesSyn, TakesCrossedSyn, TakesSynAck, TakesAck, TakesBytes, TakesFin}
 use Rattle.tcp_law.specs.Invariant.{IsEarly, OneWay}
 use Rattle.tcp_law.proofs.Calls.{early_at}
 

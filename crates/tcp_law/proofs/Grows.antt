@@ -1,5 +1,6 @@
 -- What never goes back on one side, and what of the invariant it alone keeps.
-use Rattle.std.proofs.Common.{◌≡◌, ◌⊎◌, inl, inr, ℕ, suc, ◌+◌, ◌-◌, ◌^◌, ◌≤◌, true, List, [], ◌++◌, length, drop, Option, Some, None, sym, ap, ◌∙◌, subst, arith, length-append, append-nil}
+use Rattle.std.proofs.Common.{◌≡◌, ◌⊎◌, inl, inr, ℕ, suc, ◌+◌, ◌-◌, ◌^◌, ◌≤◌, true, List, [], ◌++◌, length, drop, Option, Some, None, sym, ap, ◌∙◌, subst}
+use Rattle.std.proofs.Common.{arith, length-append, append-nil}
 use Rattle.std.specs.List.{AllByRecursion}
 use Rattle.tcp_law.specs.ReceiveMap.{Begins, AgreesWith}
 use Rattle.tcp_law.specs.Numbers.{wire, IsFirst}
@@ -7,7 +8,8 @@ use Rattle.tcp_law.specs.Segment.{Segment}
 use Rattle.tcp_law.specs.Side.{Phase, Side, taken_in, rcv_next, one_if}
 use Rattle.tcp_law.specs.Side.Phase.{Unopened, Listen, SynSent, SynReceived, Synchronized, Ended}
 use Rattle.tcp_law.specs.Side.Opening.{Passive, Active}
-use Rattle.tcp_law.specs.Invariant.{IsLate, IsEarly, FitsPhase, HasNoStream, IsWellFormed, IsPiece, IsBelow, IsPlain, IsSyn, HasReached, IsHonest, IsInStep, IsSilent, IsComplete, OneWay}
+use Rattle.tcp_law.specs.Invariant.{IsLate, IsEarly, FitsPhase, HasNoStream, IsWellFormed, IsPiece, IsBelow, IsPlain, IsSyn, HasReached, IsHonest, IsInStep}
+use Rattle.tcp_law.specs.Invariant.{IsSilent, IsComplete, OneWay}
 use Rattle.tcp_law.proofs.Lists.{Begins-grow, Begins-drop-grow, AgreesWith-drop-grow, AllByRecursion-map}
 
 pub record Grows (s new : Side) : Type 0 where
@@ -67,7 +69,8 @@ late_of_closed s well e = by (late_or_early s.phase) where
 
 -- where ISS and SND.UNA stay
 pub IsInStep-same : (s new t : Side) → new.iss ≡ s.iss → new.una ≡ s.una → IsInStep s t → IsInStep new t
-IsInStep-same s new t iss una in_step = record { counts = in_step.counts ∙ sym iss; opened = omega (arith, in_step.opened); reached = omega (arith, in_step.reached) }
+IsInStep-same s new t iss una in_step =
+    record { counts = in_step.counts ∙ sym iss; opened = omega (arith, in_step.opened); reached = omega (arith, in_step.reached) }
 
 -- where the bytes that were taken in and IRS stay
 pub IsComplete-same : (t s new : Side) → taken_in new ≡ taken_in s → new.irs ≡ s.irs → IsComplete t s → IsComplete t new
@@ -138,7 +141,8 @@ module _ (s new : Side) (grows : Grows s new) where
     kind (inr (inl plain)) = inr (inl plain)
     kind (inr (inr syn)) = inr (inr (IsSyn-grows x syn))
 
-    ack : (x.ack ≡ None) ⊎ ((number : ℕ) × (x.ack ≡ Some number) × HasReached s number) → (x.ack ≡ None) ⊎ ((number : ℕ) × (x.ack ≡ Some number) × HasReached new number)
+    ack : (x.ack ≡ None) ⊎ ((number : ℕ) × (x.ack ≡ Some number) × HasReached s number) →
+        (x.ack ≡ None) ⊎ ((number : ℕ) × (x.ack ≡ Some number) × HasReached new number)
     ack (inl none) = inl none
     ack (inr some) = inr (some.0, some.1, HasReached-grows some.0 some.2)
 

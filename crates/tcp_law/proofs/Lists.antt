@@ -1,5 +1,6 @@
 -- Lemmas on bytes that begin a stream, and on the receive map.
-use Rattle.std.proofs.Common.{◌≡◌, ℕ, zero, suc, ◌+◌, ◌≤◌, List, [], ◌∷◌, ◌++◌, length, take, drop, Option, Some, None, slice_get, refl, sym, ap, ◌∙◌, subst, arith, drop-drop}
+use Rattle.std.proofs.Common.{◌≡◌, ℕ, zero, suc, ◌+◌, ◌≤◌, List, [], ◌∷◌, ◌++◌, length, take, drop, Option, Some, None, slice_get, refl, sym, ap, ◌∙◌, subst}
+use Rattle.std.proofs.Common.{arith, drop-drop}
 use Rattle.std.specs.List.{AllByRecursion}
 use Rattle.tcp_law.specs.ReceiveMap.{space, store, front, behind, AgreesWith, Begins}
 use Rattle.tcp_law.specs.Safe.{IsPrefixOf}
@@ -101,7 +102,8 @@ AgreesWith-room (Some x ∷ map) n [] h = absurd h
 AgreesWith-room (Some x ∷ map) n (y ∷ ys) h = (h.0, AgreesWith-room map n ys h.1)
 
 -- bytes of the stream, laid at their place
-pub AgreesWith-store : (map : List (Option ℕ)) (place : ℕ) (bytes ys : List ℕ) → AgreesWith map ys → Begins bytes (drop place ys) → AgreesWith (store map place bytes) ys
+pub AgreesWith-store : (map : List (Option ℕ)) (place : ℕ) (bytes ys : List ℕ) → AgreesWith map ys → Begins bytes (drop place ys) →
+    AgreesWith (store map place bytes) ys
 AgreesWith-store [] place bytes ys h g = tt
 AgreesWith-store (None ∷ map) (suc place) [] [] h g = AgreesWith-store map place [] [] h tt
 AgreesWith-store (None ∷ map) (suc place) (b ∷ bytes) [] h g = absurd g

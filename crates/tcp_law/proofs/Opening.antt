@@ -1,5 +1,6 @@
 -- A SYN and an acknowledgement that a side takes keep the invariant.
-use Rattle.std.proofs.Common.{◌≡◌, ◌⊎◌, inl, inr, ℕ, suc, ◌+◌, ◌^◌, ◌≤◌, Bool, true, false, List, [], length, Some, None, refl, sym, ap, ◌∙◌, subst, arith, le_refl}
+use Rattle.std.proofs.Common.{◌≡◌, ◌⊎◌, inl, inr, ℕ, suc, ◌+◌, ◌^◌, ◌≤◌, Bool, true, false, List, [], length, Some, None, refl, sym, ap, ◌∙◌, subst, arith}
+use Rattle.std.proofs.Common.{le_refl}
 use Rattle.tcp_law.specs.ReceiveMap.{Begins}
 use Rattle.tcp_law.specs.Numbers.{wire, IsFirst}
 use Rattle.tcp_law.specs.Segment.{Control, Segment, IsData, IsNoReset}
@@ -97,7 +98,8 @@ keeps_takes_syn s t x iss out back may =
       short = well.short;
       irs = omega arith;
     } in (
-      OneWay-own s new grows t out well' (inr (record { unwritten = no_stream.0; closed = λ (e : SynReceived ≡ Synchronized). absurd (cc); una = inl refl })) (λ _. inr (counts, bare.1)) (λ sent. sent),
+      OneWay-own s new grows t out well' (inr (record { unwritten = no_stream.0; closed = λ (e : SynReceived ≡ Synchronized). absurd (cc); una = inl refl }))
+          (λ _. inr (counts, bare.1)) (λ sent. sent),
       OneWay-other s new grows t back back.received back.held (λ e. absurd (let no_fin : false ≡ true = sym no_stream.3 ∙ e in cc)),
     )
   where
@@ -185,7 +187,8 @@ keeps_takes_ack s t x at out back may =
       OneWay-same s new grows t back refl refl refl refl,
     )
   where
-    running : HasReached t (wire at) → s.phase ≡ Synchronized → IsInStep s t ⊎ IsSilent s t → IsInStep (after s (TakesAck x at)) t ⊎ IsSilent (after s (TakesAck x at)) t
+    running : HasReached t (wire at) → s.phase ≡ Synchronized → IsInStep s t ⊎ IsSilent s t → IsInStep (after s (TakesAck x at)) t ⊎
+        IsSilent (after s (TakesAck x at)) t
     running h e (inl in_step) =
         let number = h.same in
         let past = h.after_syn in
@@ -201,7 +204,8 @@ keeps_takes_ack s t x at out back may =
         inl (record { counts = counts; opened = omega arith; reached = omega arith })
     running h e (inr silent) = inr (record { unwritten = silent.unwritten; closed = λ _. silent.closed e; una = inr h })
 
-    sync : HasReached t (wire at) → (s.phase ≡ SynReceived) ⊎ (s.phase ≡ Synchronized) → IsInStep (after s (TakesAck x at)) t ⊎ IsSilent (after s (TakesAck x at)) t
+    sync : HasReached t (wire at) → (s.phase ≡ SynReceived) ⊎ (s.phase ≡ Synchronized) → IsInStep (after s (TakesAck x at)) t ⊎
+        IsSilent (after s (TakesAck x at)) t
     sync h (inl e) =
         let one : at ≡ suc s.iss = may.opens e in
         let none = out.well_formed.early (early_at s SynReceived e tt) in

@@ -1,5 +1,6 @@
 -- Each segment that a side sends keeps the invariant.
-use Rattle.std.proofs.Common.{◌≡◌, ◌⊎◌, inl, inr, ℕ, suc, ◌+◌, ◌-◌, ◌^◌, ◌<◌, ◌≤◌, Bool, true, false, length, drop, Some, None, refl, sym, subst, arith, length-drop, length-take, le_refl}
+use Rattle.std.proofs.Common.{◌≡◌, ◌⊎◌, inl, inr, ℕ, suc, ◌+◌, ◌-◌, ◌^◌, ◌<◌, ◌≤◌, Bool, true, false, length, drop, Some, None, refl, sym, subst, arith}
+use Rattle.std.proofs.Common.{length-drop, length-take, le_refl}
 use Rattle.tcp_law.specs.Numbers.{wire}
 use Rattle.tcp_law.specs.Segment.{Segment, IsData, fin_if}
 use Rattle.tcp_law.specs.Segment.Control.{Fin}
@@ -19,7 +20,8 @@ keeps_sent s t x out back honest =
     let well = out.well_formed in
     let grows = Grows-same s new (λ late. late) refl refl (λ e. e) refl (λ _. (refl, le_refl _)) in
     let well' = IsWellFormed-same s new well refl refl refl (le_refl _) refl well.phase well.early in (
-      OneWay-own s new grows t out well' (same_sync s new t refl refl refl (λ h. h) out.sync) out.listener (λ sent. AllByRecursion-push (IsHonest new t) s.sent x sent (IsHonest-own s new grows t x honest)),
+      OneWay-own s new grows t out well' (same_sync s new t refl refl refl (λ h. h) out.sync) out.listener
+          (λ sent. AllByRecursion-push (IsHonest new t) s.sent x sent (IsHonest-own s new grows t x honest)),
       OneWay-same s new grows t back refl refl refl refl,
     )
 
@@ -27,7 +29,8 @@ keeps_sent s t x out back honest =
 rcv_next-reached : (s : Side) → 2 ^ 32 ≤ s.irs → HasReached s (wire (rcv_next s))
 rcv_next-reached s low = record { at = rcv_next s; same = refl; heard = low; after_syn = omega arith; high = le_refl _ }
 
-acks_reached : (s : Side) (x : Segment) → 2 ^ 32 ≤ s.irs → x.ack ≡ Some (wire (rcv_next s)) → (x.ack ≡ None) ⊎ ((number : ℕ) × (x.ack ≡ Some number) × HasReached s number)
+acks_reached : (s : Side) (x : Segment) → 2 ^ 32 ≤ s.irs → x.ack ≡ Some (wire (rcv_next s)) →
+    (x.ack ≡ None) ⊎ ((number : ℕ) × (x.ack ≡ Some number) × HasReached s number)
 acks_reached s x low e = inr (wire (rcv_next s), e, rcv_next-reached s low)
 
 pub keeps_sends_syn : (s t : Side) → Keeps s t SendsSyn
@@ -40,7 +43,10 @@ pub keeps_sends_syn_ack : (s t : Side) → Keeps s t SendsSynAck
 keeps_sends_syn_ack s t out back may =
     let low = heard s.phase s.opening s.irs may out.well_formed.phase in
     keeps_sent s t (syn_ack s) out back
-    (inr (inr (inr (record { syn = refl; at = s.iss; first = out.well_formed.iss; seq = refl; bare = λ (e : Some (wire (rcv_next s)) ≡ None). absurd (cc) })), acks_reached s (syn_ack s) low refl))
+    (inr (
+      inr (inr (record { syn = refl; at = s.iss; first = out.well_formed.iss; seq = refl; bare = λ (e : Some (wire (rcv_next s)) ≡ None). absurd (cc) })),
+      acks_reached s (syn_ack s) low refl,
+    ))
 
 pub keeps_sends_ack : (s t : Side) (at : ℕ) → Keeps s t (SendsAck at)
 keeps_sends_ack s t at out back may =

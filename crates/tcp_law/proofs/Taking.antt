@@ -1,5 +1,6 @@
 -- Bytes and a FIN that a side takes keep the invariant.
-use Rattle.std.proofs.Common.{◌≡◌, ◌⊎◌, inl, inr, ℕ, suc, ◌+◌, ◌-◌, ◌^◌, ◌<◌, ◌≤◌, true, false, List, [], ◌++◌, length, drop, Option, sym, ap, ◌∙◌, subst, arith, append_assoc, length-append, drop-drop, drop_of_length-le}
+use Rattle.std.proofs.Common.{◌≡◌, ◌⊎◌, inl, inr, ℕ, suc, ◌+◌, ◌-◌, ◌^◌, ◌<◌, ◌≤◌, true, false, List, [], ◌++◌, length, drop, Option, sym, ap, ◌∙◌, subst}
+use Rattle.std.proofs.Common.{arith, append_assoc, length-append, drop-drop, drop_of_length-le}
 use Rattle.tcp_law.specs.ReceiveMap.{Begins, AgreesWith, store, front, behind}
 use Rattle.tcp_law.specs.Numbers.{wire, IsNear}
 use Rattle.tcp_law.specs.Segment.{Segment, IsData}
@@ -9,7 +10,8 @@ use Rattle.tcp_law.specs.Side.Phase.{Synchronized}
 use Rattle.tcp_law.specs.Move.{after, laid}
 use Rattle.tcp_law.specs.Move.Move.{TakesBytes, TakesFin}
 use Rattle.tcp_law.specs.Invariant.{IsEarly, IsPiece, IsBelow, IsPlain, IsSyn, IsHonest, IsInStep, IsSilent, IsComplete, OneWay}
-use Rattle.tcp_law.proofs.Lists.{Begins-append, Begins-drop, Begins-front, Begins-length, Begins-nothing, Begins-whole, AgreesWith-store, AgreesWith-behind, store-nothing, drop-nothing, drop-twice}
+use Rattle.tcp_law.proofs.Lists.{Begins-append, Begins-drop, Begins-front, Begins-length, Begins-nothing, Begins-whole, AgreesWith-store, AgreesWith-behind}
+use Rattle.tcp_law.proofs.Lists.{store-nothing, drop-nothing, drop-twice}
 use Rattle.tcp_law.proofs.Calls.{Keeps, keeps_received, one_if-small, fits_at}
 use Rattle.tcp_law.proofs.Opening.{honest}
 
@@ -38,7 +40,8 @@ module _ (s t : Side) (x : Segment) (out : OneWay s t) (back : OneWay t s) where
       omega arith
 
   -- a piece lies at its place in the receive map
-  laid_piece : (at : ℕ) → s.took_fin ≡ false → x.seq ≡ wire at → IsNear (rcv_next s) at → IsPiece t x → s.irs ≡ t.iss → AgreesWith (laid s at x.bytes) (drop (length (taken_in s)) t.written)
+  laid_piece : (at : ℕ) → s.took_fin ≡ false → x.seq ≡ wire at → IsNear (rcv_next s) at → IsPiece t x → s.irs ≡ t.iss →
+      AgreesWith (laid s at x.bytes) (drop (length (taken_in s)) t.written)
   laid_piece at none seq near piece counts =
       let next = rcv_next-open s none in
       let bound = rcv_next-short in
@@ -59,13 +62,15 @@ module _ (s t : Side) (x : Segment) (out : OneWay s t) (back : OneWay t s) where
   laid_unchanged at e = subst (λ (map : List (Option ℕ)). AgreesWith map (drop (length (taken_in s)) t.written)) (sym e) back.held
 
   -- whatever came, the receive map holds bytes of the stream at their places
-  laid_agrees : (at : ℕ) → s.took_fin ≡ false → IsData x.control → x.seq ≡ wire at → IsNear (rcv_next s) at → IsHonest t s x → AgreesWith (laid s at x.bytes) (drop (length (taken_in s)) t.written)
+  laid_agrees : (at : ℕ) → s.took_fin ≡ false → IsData x.control → x.seq ≡ wire at → IsNear (rcv_next s) at → IsHonest t s x →
+      AgreesWith (laid s at x.bytes) (drop (length (taken_in s)) t.written)
   laid_agrees at none data_kind seq near (inl reset) = absurd (subst IsData reset data_kind)
   laid_agrees at none data_kind seq near (inr h) = kind h.0 where
     from : IsPiece t x → IsInStep t s ⊎ IsSilent t s → AgreesWith (laid s at x.bytes) (drop (length (taken_in s)) t.written)
     from piece (inl in_step) = laid_piece at none seq near piece in_step.counts
     from piece (inr silent) =
-        let nothing : drop (piece.at - suc t.iss) t.written ≡ [] = ap (λ (ys : List ℕ). drop (piece.at - suc t.iss) ys) silent.unwritten ∙ drop-nothing (piece.at - suc t.iss) in
+        let nothing : drop (piece.at - suc t.iss) t.written ≡ [] = ap (λ (ys : List ℕ). drop (piece.at - suc t.iss) ys) silent.unwritten ∙
+        drop-nothing (piece.at - suc t.iss) in
         laid_unchanged at (laid-nothing s at x.bytes (Begins-nothing x.bytes (subst (λ (ys : List ℕ). Begins x.bytes ys) nothing piece.bytes)))
 
     plain : (x.bytes ≡ []) ⊎ IsBelow s x → AgreesWith (laid s at x.bytes) (drop (length (taken_in s)) t.written)
@@ -136,7 +141,8 @@ keeps_takes_bytes s t x at out back may =
     keeps_received s t s.read (s.waiting ++ front map) (behind map) s.took_fin out back
     (omega arith)
     (not_early s may.running)
-    (subst (λ (bytes : List ℕ). Begins bytes t.written) (sym longer) (Begins-append (taken_in s) (front map) t.written back.received (Begins-front map rest agrees)))
+    (subst (λ (bytes : List ℕ). Begins bytes t.written) (sym longer)
+    (Begins-append (taken_in s) (front map) t.written back.received (Begins-front map rest agrees)))
     (subst (λ (ys : List ℕ). AgreesWith (behind map) ys) behind_them (AgreesWith-behind map rest agrees))
     (λ e. absurd (let clash : false ≡ true = sym may.unfinished ∙ e in cc))
 

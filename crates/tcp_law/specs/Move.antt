@@ -1,6 +1,7 @@
 -- The moves of a side: the calls of its user, the segments that it may send, and what it may take from a segment of its partner.
 -- What a move asks for is less than what the rules of a socket ask for: where they say that a socket does so, here it may.
-use Rattle.std.specs.Prelude.{◌≡◌, ℕ, suc, ◌+◌, ◌-◌, ◌^◌, ◌<◌, ◌≤◌, ◌≢◌, Bool, true, false, List, [], ◌∷◌, ◌++◌, length, take, drop, Option, Some, None, slice_get}
+use Rattle.std.specs.Prelude.{◌≡◌, ℕ, suc, ◌+◌, ◌-◌, ◌^◌, ◌<◌, ◌≤◌, ◌≢◌, Bool, true, false, List, [], ◌∷◌, ◌++◌, length, take, drop, Option, Some, None}
+use Rattle.std.specs.Prelude.{slice_get}
 use Rattle.tcp_law.specs.ReceiveMap.{store, front, behind, space}
 use Rattle.tcp_law.specs.Numbers.{wire, IsFirst, IsNear}
 use Rattle.tcp_law.specs.Segment.{Segment, IsData, IsNoReset, fin_if}

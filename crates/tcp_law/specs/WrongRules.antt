@@ -6,7 +6,8 @@ use Rattle.tcp_law.specs.Segment.Control.{Plain, Fin, Rst}
 use Rattle.tcp_law.specs.Side.{Side, rcv_next}
 use Rattle.tcp_law.specs.Side.Phase.{SynReceived, Synchronized, Ended}
 use Rattle.tcp_law.specs.Move.{Comes, sends}
-use Rattle.tcp_law.specs.Move.Move.{Listens, Connects, Writes, Closes, Ends, FallsBack, SendsSyn, SendsSynAck, SendsAck, SendsData, TakesSyn, TakesSynAck, TakesAck, TakesBytes, TakesFin}
+use Rattle.tcp_law.specs.Move.Move.{Listens, Connects, Writes, Closes, Ends, FallsBack, SendsSyn, SendsSynAck, SendsAck, SendsData, TakesSyn, TakesSynAck}
+use Rattle.tcp_law.specs.Move.Move.{TakesAck, TakesBytes, TakesFin}
 use Rattle.tcp_law.specs.Run.{World, Event, IsRun, run, start}
 use Rattle.tcp_law.specs.Run.Event.{A, B}
 use Rattle.tcp_law.specs.Safe.{AreSafe}

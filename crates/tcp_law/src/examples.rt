@@ -3,7 +3,8 @@
 ghost use Rattle.std.specs.Prelude.{ℕ, List, [], ◌∷◌, true, ◌≡◌};
 ghost use Rattle.tcp_law.specs.Side.{taken_in, freed};
 ghost use Rattle.tcp_law.specs.Side.Phase.{SynReceived, Synchronized, Ended};
-ghost use Rattle.tcp_law.specs.Examples.{LeadsTo, passive_first, active_first, out_of_order, keep_alive, zero_window, close_both_ways, simultaneous_open, fallback, old_answer, wrap};
+ghost use Rattle.tcp_law.specs.Examples.{LeadsTo, passive_first, active_first, out_of_order, keep_alive, zero_window, close_both_ways, simultaneous_open};
+ghost use Rattle.tcp_law.specs.Examples.{fallback, old_answer, wrap};
 
 /// Both orders of opening, both sides at once, and a listener that falls back and takes the old SYN again.
 pub fn connections_open()

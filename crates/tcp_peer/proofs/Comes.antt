@@ -1,5 +1,6 @@
 -- An honest segment comes.
-use Rattle.std.proofs.Common.{◌≡◌, ◌⊎◌, inl, inr, ℕ, suc, ◌+◌, ◌<◌, ◌≤◌, nat_lt, Bool, true, false, List, [], ◌∷◌, ◌++◌, length, Some, refl, sym, ap, ◌∙◌, subst, arith}
+use Rattle.std.proofs.Common.{◌≡◌, ◌⊎◌, inl, inr, ℕ, suc, ◌+◌, ◌<◌, ◌≤◌, nat_lt, Bool, true, false, List, [], ◌∷◌, ◌++◌, length, Some, refl, sym, ap, ◌∙◌}
+use Rattle.std.proofs.Common.{subst, arith}
 use Rattle.tcp_law.specs.Invariant.{HoldsBetween}
 use Rattle.tcp_law.specs.Invariant as law
 use Rattle.tcp_law.specs.Numbers.{wire}
@@ -26,7 +27,8 @@ kind_no_reset t s x (inl piece) = by x.control piece.kind where
 kind_no_reset t s x (inr (inl plain)) = subst IsNoReset (sym plain.plain) tt
 kind_no_reset t s x (inr (inr syn)) = subst IsNoReset (sym syn.syn) tt
 
-module _ (peer : End) (written : List ℕ) (closed : Bool) (s : Side) (came : List Segment) (x : Segment) (e : IsEnd peer) (b : IsBeside peer written closed s came) where
+module _ (peer : End) (written : List ℕ) (closed : Bool) (s : Side) (came : List Segment) (x : Segment) (e : IsEnd peer)
+    (b : IsBeside peer written closed s came) where
   abbrev partner : List ℕ → Bool → Side
   partner took fin = shadow peer written closed b.una took fin came
 
@@ -49,7 +51,8 @@ module _ (peer : End) (written : List ℕ) (closed : Bool) (s : Side) (came : Li
     module _ (number : ℕ) (acks : x.ack ≡ Some number) (h : HasReached peer (as_end s) number) where
       past : peer.heard < h.at
       past = by h.so_far where
-        by : (h.at ≡ suc peer.heard) ⊎ ((peer.heard ≡ s.iss) × (peer.heard < h.at) × (h.at ≤ suc s.iss + length s.written + one_if s.closed)) → peer.heard < h.at
+        by : (h.at ≡ suc peer.heard) ⊎ ((peer.heard ≡ s.iss) × (peer.heard < h.at) × (h.at ≤ suc s.iss + length s.written + one_if s.closed)) →
+            peer.heard < h.at
         by (inl syn) = omega arith
         by (inr far) = far.1
 
@@ -70,7 +73,8 @@ module _ (peer : End) (written : List ℕ) (closed : Bool) (s : Side) (came : Li
             una = b.una;
             took = r.took;
             fin = r.fin;
-            taken = inr (acknowledged-last came x (wire (suc peer.heard + length r.took + one_if r.fin)) (kind_no_reset t s x k) (acks ∙ ap Some (h.same ∙ ap wire (sym r.just))));
+            taken = inr (acknowledged-last came x (wire (suc peer.heard + length r.took + one_if r.fin)) (kind_no_reset t s x k) (acks ∙
+                ap Some (h.same ∙ ap wire (sym r.just))));
             holds = says s t x r.holds refl refl (inr (k, inr (number, acks, reached)));
           }
 
@@ -92,7 +96,8 @@ module _ (peer : End) (written : List ℕ) (closed : Bool) (s : Side) (came : Li
 
 module _ (peer : End) (s : Side) (came : List Segment) (x : Segment) (e : IsEnd peer) (acks : SaysOfTheOther peer (as_end s) x) where
   -- without bytes of its stream, and without FIN
-  other : (written : List ℕ) (closed : Bool) → law.IsPlain s x ⊎ IsSyn peer x → IsBeside peer written closed s came → IsBeside peer written closed s (came ++ x ∷ [])
+  other : (written : List ℕ) (closed : Bool) → law.IsPlain s x ⊎ IsSyn peer x → IsBeside peer written closed s came →
+      IsBeside peer written closed s (came ++ x ∷ [])
   other written closed said b = comes_as peer written closed s came x e b (kind said) acks where
     kind : law.IsPlain s x ⊎ IsSyn peer x → (took : List ℕ) (fin : Bool) → Kind (shadow peer written closed b.una took fin came) s x
     kind (inl plain) took fin = inr (inl plain)
@@ -115,7 +120,8 @@ module _ (peer : End) (s : Side) (came : List Segment) (x : Segment) (e : IsEnd 
   nothing [] same none = same
   nothing (byte ∷ bytes) same none = absurd (omega arith)
 
-  piece_comes : IsPiece peer (as_end s) x → (control : Control) → x.control ≡ control → (test : Bool) → nat_lt 0 (length x.bytes) ≡ test → Meets peer s came → Meets peer s (came ++ x ∷ [])
+  piece_comes : IsPiece peer (as_end s) x → (control : Control) → x.control ≡ control → (test : Bool) → nat_lt 0 (length x.bytes) ≡ test → Meets peer s came →
+      Meets peer s (came ++ x ∷ [])
   piece_comes piece Plain c true t = begun piece (λ _ none. absurd (let some = test_lt 0 (length x.bytes) t in omega arith))
   piece_comes piece Plain c false t = others (inl (bare_said s x (c, nothing x.bytes refl (let none = test_ge 0 (length x.bytes) t in omega arith))))
   piece_comes piece Fin c test t = begun piece (λ plain. absurd (let clash : Fin ≡ Plain = sym c ∙ plain in cc))
@@ -132,7 +138,8 @@ module _ (peer : End) (s : Side) (came : List Segment) (x : Segment) (e : IsEnd 
   said_comes (inr (inr (inl old))) m = old_comes old m
   said_comes (inr (inr (inr syn))) m = others (inr syn) m
 
-pub meets_honest : (peer : End) (s : Side) (came : List Segment) (x : Segment) → IsEnd peer → IsHonest peer (as_end s) s.sent x → Meets peer s came → Meets peer s (came ++ x ∷ [])
+pub meets_honest : (peer : End) (s : Side) (came : List Segment) (x : Segment) → IsEnd peer → IsHonest peer (as_end s) s.sent x → Meets peer s came →
+    Meets peer s (came ++ x ∷ [])
 meets_honest peer s came x e (inl reset) (inl b) = inl (same_taken peer [] false s came x e b (inl reset))
 meets_honest peer s came x e (inl reset) (inr b) = inr (same_taken peer peer.stream peer.ends s came x e b (inl reset))
 meets_honest peer s came x e (inr said) m = said_comes peer s came x e said.1 said.0 m

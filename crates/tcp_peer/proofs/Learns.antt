@@ -1,5 +1,6 @@
 -- What the peer learns and says next: its stream, once this side counts from its SYN, and what it acknowledges.
-use Rattle.std.proofs.Common.{◌≡◌, ◌⊎◌, inl, inr, ℕ, suc, ◌+◌, ◌-◌, ◌<◌, ◌≤◌, nat_lt, Bool, true, false, List, [], length, take, refl, ap, arith, le_refl, length-take, take_all}
+use Rattle.std.proofs.Common.{◌≡◌, ◌⊎◌, inl, inr, ℕ, suc, ◌+◌, ◌-◌, ◌<◌, ◌≤◌, nat_lt, Bool, true, false, List, [], length, take, refl, ap, arith, le_refl}
+use Rattle.std.proofs.Common.{length-take, take_all}
 use Rattle.std.proofs.lemmas.Bool.Decides.{nat_tests}
 use Rattle.tcp_law.specs.Invariant.{HoldsBetween, IsWellFormed, IsComplete}
 use Rattle.tcp_law.specs.Segment.{Segment}

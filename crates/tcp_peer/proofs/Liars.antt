@@ -1,5 +1,6 @@
 -- What an honest segment with bytes, or with an acknowledgement, says on numerals.
-use Rattle.std.proofs.Common.{◌≡◌, ◌⊎◌, inl, inr, ℕ, zero, suc, ◌+◌, ◌-◌, ◌^◌, ◌<◌, List, [], ◌∷◌, length, drop, Some, None, slice_get, refl, sym, ap, ◌∙◌, subst, arith, length-drop}
+use Rattle.std.proofs.Common.{◌≡◌, ◌⊎◌, inl, inr, ℕ, zero, suc, ◌+◌, ◌-◌, ◌^◌, ◌<◌, List, [], ◌∷◌, length, drop, Some, None, slice_get, refl, sym, ap, ◌∙◌}
+use Rattle.std.proofs.Common.{subst, arith, length-drop}
 use Rattle.tcp_law.specs.ReceiveMap.{Begins}
 use Rattle.tcp_law.specs.Numbers.{wire}
 use Rattle.tcp_law.specs.Segment.{Segment, IsData}
@@ -8,7 +9,8 @@ use Rattle.tcp_law.proofs.Lists.{Begins-length}
 use Rattle.tcp_peer.specs.Peer.{End, IsEnd, IsAcknowledged, HasReached, IsPiece, IsOld, IsHonest, SaysOfItself, SaysOfTheOther}
 
 -- its bytes are the stream's at this place
-pub bytes_there : (me other : End) (x : Segment) (k : ℕ) → IsEnd me → k < 2 ^ 29 → x.seq ≡ wire (suc me.first + k) → (length x.bytes ≡ 0 → ⊥) → IsPiece me other x → Begins x.bytes (drop k me.stream)
+pub bytes_there : (me other : End) (x : Segment) (k : ℕ) → IsEnd me → k < 2 ^ 29 → x.seq ≡ wire (suc me.first + k) → (length x.bytes ≡ 0 → ⊥) →
+    IsPiece me other x → Begins x.bytes (drop k me.stream)
 bytes_there me other x k e small number some p =
     let short = Begins-length x.bytes (drop (p.at - suc me.first) me.stream) p.bytes in
     let rest = length-drop (p.at - suc me.first) me.stream in
@@ -24,7 +26,8 @@ bytes_there me other x k e small number some p =
     positive (suc n) nonzero = omega arith
 
 -- an acknowledgement is of a position that it has reached
-pub reached_by : (me other : End) (theirs : List Segment) (x : Segment) (number : ℕ) → (x.control ≡ Rst → ⊥) → x.ack ≡ Some number → IsHonest me other theirs x → HasReached me other number
+pub reached_by : (me other : End) (theirs : List Segment) (x : Segment) (number : ℕ) → (x.control ≡ Rst → ⊥) → x.ack ≡ Some number →
+    IsHonest me other theirs x → HasReached me other number
 reached_by me other theirs x number no_reset e (inl reset) = absurd (no_reset reset)
 reached_by me other theirs x number no_reset e (inr said) = by said.1 where
   by : SaysOfTheOther me other x → HasReached me other number
@@ -35,7 +38,8 @@ reached_by me other theirs x number no_reset e (inr said) = by said.1 where
       subst (HasReached me other) same some.2
 
 -- bytes without SYN are a piece, or old
-pub piece_or_old : (me other : End) (theirs : List Segment) (x : Segment) → IsData x.control → (length x.bytes ≡ 0 → ⊥) → IsHonest me other theirs x → IsPiece me other x ⊎ IsOld other theirs x
+pub piece_or_old : (me other : End) (theirs : List Segment) (x : Segment) → IsData x.control → (length x.bytes ≡ 0 → ⊥) → IsHonest me other theirs x →
+    IsPiece me other x ⊎ IsOld other theirs x
 piece_or_old me other theirs x kind some (inl reset) = absurd (subst IsData reset kind)
 piece_or_old me other theirs x kind some (inr said) = by said.0 where
   by : SaysOfItself me other theirs x → IsPiece me other x ⊎ IsOld other theirs x

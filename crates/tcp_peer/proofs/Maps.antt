@@ -1,5 +1,6 @@
 -- What stands at a place of the receive map, and of lists that are made of others.
-use Rattle.std.proofs.Common.{◌≡◌, ◌⊎◌, inl, inr, ℕ, zero, suc, ◌+◌, ◌<◌, List, [], ◌∷◌, ◌++◌, Option, Some, None, length, drop, slice_get, refl, ap, subst, arith}
+use Rattle.std.proofs.Common.{◌≡◌, ◌⊎◌, inl, inr, ℕ, zero, suc, ◌+◌, ◌<◌, List, [], ◌∷◌, ◌++◌, Option, Some, None, length, drop, slice_get, refl, ap, subst}
+use Rattle.std.proofs.Common.{arith}
 use Rattle.tcp_law.specs.ReceiveMap.{space, store, front, behind}
 
 pub slice_get-drop : {X : Type 0} (k : ℕ) (xs : List X) (j : ℕ) (x : X) → slice_get (drop k xs) j ≡ Some x → slice_get xs (k + j) ≡ Some x
@@ -42,19 +43,24 @@ pub record IsLaid (map : List (Option ℕ)) (place : ℕ) (bytes : List ℕ) (m 
   pub there : m ≡ place + index
   pub inside : m < length map
 
-pub held-store : (map : List (Option ℕ)) (place : ℕ) (bytes : List ℕ) (m byte : ℕ) → slice_get (store map place bytes) m ≡ Some (Some byte) → (slice_get map m ≡ Some (Some byte)) ⊎ IsLaid map place bytes m byte
+pub held-store : (map : List (Option ℕ)) (place : ℕ) (bytes : List ℕ) (m byte : ℕ) → slice_get (store map place bytes) m ≡ Some (Some byte) →
+    (slice_get map m ≡ Some (Some byte)) ⊎ IsLaid map place bytes m byte
 held-store [] place bytes m byte e = absurd (cc)
 held-store (entry ∷ map) (suc place) bytes zero byte e = inl e
 held-store (entry ∷ map) (suc place) bytes (suc m) byte e = next (held-store map place bytes m byte e) where
-  next : (slice_get map m ≡ Some (Some byte)) ⊎ IsLaid map place bytes m byte → (slice_get map m ≡ Some (Some byte)) ⊎ IsLaid (entry ∷ map) (suc place) bytes (suc m) byte
+  next : (slice_get map m ≡ Some (Some byte)) ⊎ IsLaid map place bytes m byte → (slice_get map m ≡ Some (Some byte)) ⊎
+      IsLaid (entry ∷ map) (suc place) bytes (suc m) byte
   next (inl old) = inl old
   next (inr l) = let there = l.there in let inside = l.inside in inr (record { index = l.index; stands = l.stands; there = omega arith; inside = omega arith })
 held-store (entry ∷ map) zero [] m byte e = inl e
-held-store (entry ∷ map) zero (b ∷ bytes) zero byte e = let same : b ≡ byte = cc in inr (record { index = 0; stands = ap Some same; there = refl; inside = omega arith })
+held-store (entry ∷ map) zero (b ∷ bytes) zero byte e = let same : b ≡ byte =
+    cc in inr (record { index = 0; stands = ap Some same; there = refl; inside = omega arith })
 held-store (entry ∷ map) zero (b ∷ bytes) (suc m) byte e = next (held-store map zero bytes m byte e) where
-  next : (slice_get map m ≡ Some (Some byte)) ⊎ IsLaid map zero bytes m byte → (slice_get map m ≡ Some (Some byte)) ⊎ IsLaid (entry ∷ map) zero (b ∷ bytes) (suc m) byte
+  next : (slice_get map m ≡ Some (Some byte)) ⊎ IsLaid map zero bytes m byte → (slice_get map m ≡ Some (Some byte)) ⊎
+      IsLaid (entry ∷ map) zero (b ∷ bytes) (suc m) byte
   next (inl old) = inl old
-  next (inr l) = let there = l.there in let inside = l.inside in inr (record { index = suc l.index; stands = l.stands; there = omega arith; inside = omega arith })
+  next (inr l) = let there = l.there in let inside =
+      l.inside in inr (record { index = suc l.index; stands = l.stands; there = omega arith; inside = omega arith })
 
 pub held-front : (map : List (Option ℕ)) (i byte : ℕ) → slice_get (front map) i ≡ Some byte → slice_get map i ≡ Some (Some byte)
 held-front [] i byte e = absurd (cc)
@@ -62,8 +68,10 @@ held-front (None ∷ map) i byte e = absurd (cc)
 held-front (Some b ∷ map) zero byte e = let same : b ≡ byte = cc in ap (λ (x : ℕ). Some (Some x)) same
 held-front (Some b ∷ map) (suc i) byte e = held-front map i byte e
 
-pub held-behind : (map : List (Option ℕ)) (m n byte : ℕ) → n ≡ length (front map) + m → slice_get (behind map) m ≡ Some (Some byte) → slice_get map n ≡ Some (Some byte)
+pub held-behind : (map : List (Option ℕ)) (m n byte : ℕ) → n ≡ length (front map) + m → slice_get (behind map) m ≡ Some (Some byte) →
+    slice_get map n ≡ Some (Some byte)
 held-behind [] m n byte same e = absurd (cc)
-held-behind (None ∷ map) m n byte same e = let this : m ≡ n = omega arith in subst (λ (k : ℕ). slice_get {X = Option ℕ} (None ∷ map) k ≡ Some (Some byte)) this e
+held-behind (None ∷ map) m n byte same e = let this : m ≡ n =
+    omega arith in subst (λ (k : ℕ). slice_get {X = Option ℕ} (None ∷ map) k ≡ Some (Some byte)) this e
 held-behind (Some b ∷ map) m zero byte same e = absurd (omega arith)
 held-behind (Some b ∷ map) m (suc n) byte same e = held-behind map m n byte (omega arith) e

@@ -1,5 +1,6 @@
 -- What is promised of a side beside the peer, and of each run.
-use Rattle.std.proofs.Common.{◌≡◌, ◌⊎◌, inl, inr, ℕ, suc, ◌+◌, ◌-◌, ◌<◌, ◌≤◌, nat_lt, Bool, true, false, List, [], ◌∷◌, length, drop, Some, None, refl, sym, ap, ◌∙◌, arith, length-drop}
+use Rattle.std.proofs.Common.{◌≡◌, ◌⊎◌, inl, inr, ℕ, suc, ◌+◌, ◌-◌, ◌<◌, ◌≤◌, nat_lt, Bool, true, false, List, [], ◌∷◌, length, drop, Some, None, refl, sym, ap}
+use Rattle.std.proofs.Common.{◌∙◌, arith, length-drop}
 use Rattle.tcp_law.specs.Alone.{AreResets}
 use Rattle.tcp_law.specs.Invariant.{HoldsBetween, IsInStep, IsSilent, OneWay}
 use Rattle.tcp_law.specs.Invariant as law
@@ -111,7 +112,8 @@ module _ (peer : End) (written : List ℕ) (closed : Bool) (s : Side) (came : Li
     shorter : length (taken_in s) ≤ length written
     shorter = Begins-length (taken_in s) written back.received
 
-    by : IsInStep t s ⊎ IsSilent t s → (fin : Bool) → s.took_fin ≡ fin → Said peer written closed → (at ≡ suc s.irs) ⊎ ((s.irs ≡ peer.first) × (s.irs < at) × (at ≤ end_of peer))
+    by : IsInStep t s ⊎ IsSilent t s → (fin : Bool) → s.took_fin ≡ fin → Said peer written closed →
+        (at ≡ suc s.irs) ⊎ ((s.irs ≡ peer.first) × (s.irs < at) × (at ≤ end_of peer))
     by sync true f (inl none) = absurd (let clash : false ≡ true = sym none.1 ∙ (safe.finished f).0 in cc)
     by sync false f (inl none) = inl (let nothing = ap length none.0 in let unfinished = ap one_if f in let short = shorter in omega arith)
     by sync true f (inr all) =
@@ -180,15 +182,18 @@ meets_safe peer s came e (inr b) = safe_beside peer peer.stream peer.ends s came
 
 -- RUNS
 
-meets_event : (peer : End) (w : Scene) (event : Event) → IsEnd peer → Meets peer w.side w.came → MayHappen peer w event → Meets peer (happens w event).side (happens w event).came
+meets_event : (peer : End) (w : Scene) (event : Event) → IsEnd peer → Meets peer w.side w.came → MayHappen peer w event →
+    Meets peer (happens w event).side (happens w event).came
 meets_event peer w (Comes x) e m may = meets_honest peer w.side w.came x e may m
 meets_event peer w (Does move) e m may = meets_move peer w.side w.came move m may
 
-meets_run : (peer : End) (w : Scene) (events : List Event) → IsEnd peer → Meets peer w.side w.came → IsRun peer w events → Meets peer (run w events).side (run w events).came
+meets_run : (peer : End) (w : Scene) (events : List Event) → IsEnd peer → Meets peer w.side w.came → IsRun peer w events →
+    Meets peer (run w events).side (run w events).came
 meets_run peer w [] e m is_run = m
 meets_run peer w (event ∷ events) e m is_run = meets_run peer (happens w event) events e (meets_event peer w event e m is_run.0) is_run.1
 
-pub runs_safe : (peer : End) (room : ℕ) (resets : List Segment) (events : List Event) → IsEnd peer → AreResets resets → IsRun peer (start room resets) events → IsSafeBeside peer (run (start room resets) events)
+pub runs_safe : (peer : End) (room : ℕ) (resets : List Segment) (events : List Event) → IsEnd peer → AreResets resets → IsRun peer (start room resets) events →
+    IsSafeBeside peer (run (start room resets) events)
 runs_safe peer room resets events e are_resets is_run =
     let end = run (start room resets) events in
     meets_safe peer end.side end.came e (meets_run peer (start room resets) events e (meets_start peer room resets e are_resets) is_run)

@@ -1,9 +1,11 @@
 -- Each byte that a side takes in stood in a segment, at its position in the window.
-use Rattle.std.proofs.Common.{◌≡◌, ◌⊎◌, inl, inr, ℕ, suc, ◌+◌, ◌-◌, ◌<◌, ◌≤◌, true, false, List, [], ◌∷◌, ◌++◌, length, take, drop, Option, Some, slice_get, refl, sym, ap, ◌∙◌, subst, arith, append_assoc, append-nil, take-append-drop, length-append}
+use Rattle.std.proofs.Common.{◌≡◌, ◌⊎◌, inl, inr, ℕ, suc, ◌+◌, ◌-◌, ◌<◌, ◌≤◌, true, false, List, [], ◌∷◌, ◌++◌, length, take, drop, Option, Some, slice_get}
+use Rattle.std.proofs.Common.{refl, sym, ap, ◌∙◌, subst, arith, append_assoc, append-nil, take-append-drop, length-append}
 use Rattle.tcp_law.specs.Alone.{unopened}
 use Rattle.tcp_law.specs.Invariant.{IsEarly}
 use Rattle.tcp_law.specs.Move.{Move, May, after, MayAll, after_all, laid, MayTakeBytes}
-use Rattle.tcp_law.specs.Move.Move.{Listens, Connects, Writes, Reads, Closes, Ends, FallsBack, SendsSyn, SendsSynAck, SendsAck, SendsData, SendsKeepAlive, SendsReset, TakesSyn, TakesCrossedSyn, TakesSynAck, TakesAck, TakesBytes, TakesFin}
+use Rattle.tcp_law.specs.Move.Move.{Listens, Connects, Writes, Reads, Closes, Ends, FallsBack, SendsSyn, SendsSynAck, SendsAck, SendsData, SendsKeepAlive}
+use Rattle.tcp_law.specs.Move.Move.{SendsReset, TakesSyn, TakesCrossedSyn, TakesSynAck, TakesAck, TakesBytes, TakesFin}
 use Rattle.tcp_law.specs.ReceiveMap.{front}
 use Rattle.tcp_law.specs.Safe.{IsPrefixOf}
 use Rattle.tcp_law.specs.Segment.{Segment}
@@ -37,11 +39,13 @@ at_place : (P : ℕ → ℕ → Type 0) (p q byte : ℕ) → p ≡ q → P p byt
 at_place P p q byte same h = subst (λ (n : ℕ). P n byte) same h
 
 pub reads_same : (s : Side) (count : ℕ) → taken_in (after s (Reads count)) ≡ taken_in s
-reads_same s count = append_assoc s.read (take count s.waiting) (drop count s.waiting) ∙ ap (λ (bytes : List ℕ). s.read ++ bytes) (take-append-drop count s.waiting)
+reads_same s count = append_assoc s.read (take count s.waiting) (drop count s.waiting) ∙
+    ap (λ (bytes : List ℕ). s.read ++ bytes) (take-append-drop count s.waiting)
 
 module _ (P : ℕ → ℕ → Type 0) (s t : Side) (h : Holds P s) where
   -- where nothing is taken in, held or finished, and the phase is no earlier
-  holds_same : (new : Side) → taken_in new ≡ taken_in s → new.window ≡ s.window → new.took_fin ≡ s.took_fin → new.irs ≡ s.irs → (IsEarly new.phase → IsEarly s.phase) → Holds P new
+  holds_same : (new : Side) → taken_in new ≡ taken_in s → new.window ≡ s.window → new.took_fin ≡ s.took_fin → new.irs ≡ s.irs →
+      (IsEarly new.phase → IsEarly s.phase) → Holds P new
   holds_same new bytes window fin irs early = record {
     early = λ is_early. let none = h.early (early is_early) in record {
       bytes = bytes ∙ none.bytes;
@@ -90,7 +94,8 @@ module _ (P : ℕ → ℕ → Type 0) (s t : Side) (h : Holds P s) where
   }
 
   module _ (x : Segment) (at : ℕ) (may : MayTakeBytes s t x at)
-      (places : (place byte : ℕ) → slice_get x.bytes place ≡ Some byte → rcv_next s ≤ at + place → at + place < rcv_next s + length s.window → P (at + place) byte) where
+      (places : (place byte : ℕ) → slice_get x.bytes place ≡ Some byte → rcv_next s ≤ at + place → at + place < rcv_next s + length s.window →
+      P (at + place) byte) where
     -- what the map holds then
     laid_held : (m byte : ℕ) → slice_get (laid s at x.bytes) m ≡ Some (Some byte) → P (rcv_next s + m) byte
     laid_held m byte e = by (held-store s.window (at - rcv_next s) (drop (rcv_next s - at) x.bytes) m byte e) where

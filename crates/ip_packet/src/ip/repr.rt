@@ -2,7 +2,8 @@
 ghost use Rattle.std.specs.Prelude.{◌≡◌, ◌+◌, ◌≤◌, ◌<◌, ◌^◌, IfOk, ◌++◌, length, drop};
 ghost use Rattle.ip_address.specs.Address.{version_of};
 ghost use Rattle.net_devices.specs.Capabilities.{verifies, computes};
-ghost use Rattle.ip_packet.specs.Ip.{version_in, source_of, destination_of, carried_in, payload_len_of, hops_in, IsUnnumbered, header_len_in, with_payload_len, IsIp, Fits, written};
+ghost use Rattle.ip_packet.specs.Ip.{version_in, source_of, destination_of, carried_in, payload_len_of, hops_in, IsUnnumbered, header_len_in, with_payload_len};
+ghost use Rattle.ip_packet.specs.Ip.{IsIp, Fits, written};
 ghost use Rattle.ip_packet.specs.declared.ip.repr.IpRepr.{IpRepr};
 ghost use Rattle.ip_packet.specs.declared.ip.repr.IpRepr.TheVariants as Either;
 

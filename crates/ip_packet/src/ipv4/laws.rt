@@ -3,7 +3,8 @@ ghost use Rattle.std.specs.Prelude.{◌≡◌, ◌↔◌, ℕ, ◌+◌, ◌*◌,
 ghost use Rattle.ip_address.specs.Fields.{be16, put8, put16, IsBytes, with_flag};
 ghost use Rattle.ip_address.specs.Protocol.{protocol_number, protocol_of};
 ghost use Rattle.ip_packet.specs.Parts.{put_run, has_flag};
-ghost use Rattle.ip_packet.specs.Ipv4.{IsIpv4, IsQuoted, IsValue, IsKeyOf, Fits, key_of, piece_of, header_len_of, payload_of, free_fields, spelling, written_piece, written, normal};
+ghost use Rattle.ip_packet.specs.Ipv4.{IsIpv4, IsQuoted, IsValue, IsKeyOf, Fits, key_of, piece_of, header_len_of, payload_of, free_fields, spelling};
+ghost use Rattle.ip_packet.specs.Ipv4.{written_piece, written, normal};
 
 use super::field::{
     CHECKSUM, DSCP_ECN, DST_ADDR, FLG_OFF, HEADER_LEN, IDENT, LENGTH, PROTOCOL, SRC_ADDR, TTL,

@@ -4,7 +4,8 @@ ghost use Rattle.ip_address.specs.Fields.{be16, put8, put16, with_flag};
 ghost use Rattle.ip_address.specs.Protocol.{protocol_number, protocol_of};
 ghost use Rattle.ip_address.specs.Sum.{word_sum, folded};
 ghost use Rattle.ip_packet.specs.Parts.{put_run, has_flag};
-ghost use Rattle.ip_packet.specs.Ipv4.{IsWhole, IsChecked, IsKeyOf, piece_of, flags_and_offset, bytes_in, name_of, header_len_of, header_of, payload_of, written, with_checksum};
+ghost use Rattle.ip_packet.specs.Ipv4.{IsWhole, IsChecked, IsKeyOf, piece_of, flags_and_offset, bytes_in, name_of, header_len_of, header_of, payload_of};
+ghost use Rattle.ip_packet.specs.Ipv4.{written, with_checksum};
 ghost use Rattle.ip_packet.specs.declared.ipv4.piece.Ipv4Piece.{Ipv4Piece};
 ghost use Rattle.ip_address.specs.declared.ipv4.Ipv4FragKey.{Ipv4FragKey};
 

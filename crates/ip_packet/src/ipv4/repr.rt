@@ -3,7 +3,8 @@ ghost use Rattle.std.specs.Prelude.{◌≡◌, ℕ, ◌+◌, ◌/◌, ◌<◌, �
 ghost use Rattle.ip_address.specs.Protocol.{protocol_number};
 ghost use Rattle.ip_address.specs.Sum.{word_sum, folded, complement};
 ghost use Rattle.net_devices.specs.Capabilities.{verifies, computes};
-ghost use Rattle.ip_packet.specs.Ipv4.{IsIpv4, IsQuoted, Fits, key_of, flags_and_offset, bytes_of, bytes_in, name_of, sent_fields, spelling, written_piece, written};
+ghost use Rattle.ip_packet.specs.Ipv4.{IsIpv4, IsQuoted, Fits, key_of, flags_and_offset, bytes_of, bytes_in, name_of, sent_fields, spelling, written_piece};
+ghost use Rattle.ip_packet.specs.Ipv4.{written};
 ghost use Rattle.ip_packet.specs.declared.ipv4.piece.Ipv4Piece.{Ipv4Piece};
 ghost use Rattle.ip_packet.specs.declared.ipv4.repr.Ipv4Repr.{Ipv4Repr};
 ghost use Rattle.ip_address.specs.declared.ipv4.Ipv4FragKey.{Ipv4FragKey};

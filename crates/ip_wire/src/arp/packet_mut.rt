@@ -3,7 +3,8 @@ ghost use Rattle.std.specs.Prelude.{◌≡◌, ◌↔◌, ◌<◌, ◌≤◌, Is
 ghost use Rattle.ip_address.specs.Fields.{be16, put8, put16};
 ghost use Rattle.ip_address.specs.Protocol.{ether_number, ether_of};
 ghost use Rattle.ip_packet.specs.Parts.{put_run};
-ghost use Rattle.ip_wire.specs.Arp.{IsWhole, hardware_number, hardware_of, operation_number, operation_of, bytes_in, name_of, source_protocol_at, target_hardware_at, target_protocol_at, packet_end, written};
+ghost use Rattle.ip_wire.specs.Arp.{IsWhole, hardware_number, hardware_of, operation_number, operation_of, bytes_in, name_of, source_protocol_at};
+ghost use Rattle.ip_wire.specs.Arp.{target_hardware_at, target_protocol_at, packet_end, written};
 
 use super::field;
 use super::kinds::{ArpHardware, ArpOperation};

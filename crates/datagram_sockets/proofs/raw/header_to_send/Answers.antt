@@ -15,17 +15,22 @@ ok_same {E} x y r one two =
 
 pub returns-in_default : goal.returns-in_default
 returns-in_default c = λ p takes.
-    c.in_default.not-Ok p.header (c.parse.ensures.only p.header (subst (λ (caps : ChecksumCapabilities). Ip.IsIp (verifies caps.ipv4) c.args.bytes.now p.header) (sym c.ignored.ensures) takes.read))
+    c.in_default.not-Ok p.header
+    (c.parse.ensures.only p.header
+    (subst (λ (caps : ChecksumCapabilities). Ip.IsIp (verifies caps.ipv4) c.args.bytes.now p.header) (sym c.ignored.ensures) takes.read))
 
 pub returns-then-passes : goal.returns-then-passes
 returns-then-passes c =
     let header = c.in-Ok.header in
     let read = subst (λ (caps : ChecksumCapabilities). Ip.IsIp (verifies caps.ipv4) c.args.bytes.now header) c.ignored.ensures c.in-Ok.ensures.found in
     let only = λ (other : IpRepr) (is : Ip.IsIp false c.args.bytes.now other).
-    sym (ok_same header other c.parse.result c.in-Ok.is (c.parse.ensures.only other (subst (λ (caps : ChecksumCapabilities). Ip.IsIp (verifies caps.ipv4) c.args.bytes.now other) (sym c.ignored.ensures) is)))
+    sym (ok_same header other c.parse.result c.in-Ok.is
+    (c.parse.ensures.only other (subst (λ (caps : ChecksumCapabilities). Ip.IsIp (verifies caps.ipv4) c.args.bytes.now other) (sym c.ignored.ensures) is)))
     in
-    let specified : is_unspecified (Ip.destination_of header) ≡ false = ap is_unspecified (sym c.dst_addr.ensures) ∙ sym c.is_unspecified.ensures ∙ c.if-not-is_unspecified.true in
+    let specified : is_unspecified (Ip.destination_of header) ≡ false = ap is_unspecified (sym c.dst_addr.ensures) ∙ sym c.is_unspecified.ensures ∙
+    c.if-not-is_unspecified.true in
     let may : may_send (filters c.args.version c.args.protocol) header ≡ true =
     ap (λ b. if b then false else passes c.args.version c.args.protocol header) specified ∙ sym c.passes.ensures ∙ c.if-passes.true
     in
-    only_one (filters c.args.version c.args.protocol) c.args.bytes.now header (fits-ip false c.args.bytes.now header (λ i. (c.type_inv.bytes i).fits) read).0 read only may
+    only_one (filters c.args.version c.args.protocol) c.args.bytes.now header (fits-ip false c.args.bytes.now header (λ i. (c.type_inv.bytes i).fits) read).0
+    read only may

@@ -12,7 +12,8 @@ end_in n (Ok p) = p.1
 end_in n (Err e) = n
 
 same_question : {E : Type 0} (a b : DnsQuestion) (m n : ℕ) (read : Result (DnsQuestion × ℕ) E) → read ≡ Ok (a, m) → read ≡ Ok (b, n) → (a ≡ b) × (m ≡ n)
-same_question {E} a b m n read one two = (sym (ap (question_in {E = E} a) one) ∙ ap (question_in {E = E} a) two, sym (ap (end_in {E = E} m) one) ∙ ap (end_in {E = E} m) two)
+same_question {E} a b m n read one two =
+    (sym (ap (question_in {E = E} a) one) ∙ ap (question_in {E = E} a) two, sym (ap (end_in {E = E} m) one) ∙ ap (end_in {E = E} m) two)
 
 pub returns-then-repeats-clause-none : goal.returns-then-repeats-clause-none
 returns-then-repeats-clause-none c = λ at is.
@@ -22,7 +23,8 @@ returns-then-repeats-clause-none c = λ at is.
 pub returns-else-repeats-clause-none : goal.returns-else-repeats-clause-none
 returns-else-repeats-clause-none c = λ at is.
     let same = same_question c.in-Ok.question is.question c.in-Ok.at at c.parse.result c.in-Ok.is (c.parse.ensures.only is.question at is.stands) in
-    let repeated : repeats c.in-Ok.question c.args.query.now.question ≡ true = ap (λ (q : DnsQuestion). repeats q c.args.query.now.question) same.0 ∙ is.repeated in
+    let repeated : repeats c.in-Ok.question c.args.query.now.question ≡ true = ap (λ (q : DnsQuestion). repeats q c.args.query.now.question) same.0 ∙
+    is.repeated in
     let other : false ≡ true = sym c.if-repeats.false ∙ c.repeats.ensures ∙ repeated in
     absurd (cc other)
 

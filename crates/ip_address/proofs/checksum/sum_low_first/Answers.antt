@@ -4,7 +4,8 @@ use Rattle.ip_address.proofs.checksum.sum_low_first.Goals as goal
 
 pub loop-front-preserved : goal.loop-front-preserved
 loop-front-preserved c = (
-  low_first-step _ _ c.in-Some.front.now c.loop-front.rest.now _ _ c.from_le_bytes.ensures c.in-Some.ensures.cases.0 c.in-Some.ensures.cases.1 c.in-Some.ensures.cases.2 c.loop-front.invariant.0,
+  low_first-step _ _ c.in-Some.front.now c.loop-front.rest.now _ _ c.from_le_bytes.ensures c.in-Some.ensures.cases.0 c.in-Some.ensures.cases.1
+      c.in-Some.ensures.cases.2 c.loop-front.invariant.0,
   omega (arith, c.in-Some.ensures.cases.2),
 )
 

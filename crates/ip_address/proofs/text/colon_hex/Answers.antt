@@ -7,7 +7,9 @@ use Rattle.ip_address.proofs.text.colon_hex.Goals as goal
 pub returns-in-Some-clause-found : goal.returns-in-Some-clause-found
 returns-in-Some-clause-found c =
     let same = c.as_str.ensures.value in
-    IfSome-map _ _ c.hex_groups.result (λ a h. (h.0, inr (c.in-Some.hex.bytes, c.in-Some.ensures.found, (let P : List ℕ → Type 0 = λ t. IsHexGroups t h.0 in subst P same h.1)), h.2)) c.hex_groups.ensures.found
+    IfSome-map _ _ c.hex_groups.result
+    (λ a h. (h.0, inr (c.in-Some.hex.bytes, c.in-Some.ensures.found, (let P : List ℕ → Type 0 = λ t. IsHexGroups t h.0 in subst P same h.1)), h.2))
+    c.hex_groups.ensures.found
 
 pub returns-in-Some-clause-only : goal.returns-in-Some-clause-only
 returns-in-Some-clause-only c = λ a h.

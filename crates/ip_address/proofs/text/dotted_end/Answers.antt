@@ -22,5 +22,6 @@ returns-clause-only c = λ hex h fits.
     let spelled : c.in_ok-front.front.now ++ 58 ∷ two_groups c.in_ok-dotted.field-0.0 ≡ hex =
     ap₂ (λ f o. f ++ 58 ∷ two_groups o) same.0 octets ∙ sym h.in_hex
     in
-    let room : length c.in_ok-front.front.now + 10 ≤ 39 = omega (arith, ap length spelled, length-append c.in_ok-front.front.now (58 ∷ two_groups c.in_ok-dotted.field-0.0)) in
+    let room : length c.in_ok-front.front.now + 10 ≤ 39 =
+    omega (arith, ap length spelled, length-append c.in_ok-front.front.now (58 ∷ two_groups c.in_ok-dotted.field-0.0)) in
     IsSomeAnd-from _ _ c.in_hex.result c.in_hex.ensures.found (c.in_hex.ensures.room room) (λ r is. is ∙ spelled)

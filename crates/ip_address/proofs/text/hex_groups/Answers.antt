@@ -10,7 +10,8 @@ use Rattle.ip_address.proofs.text.hex_groups.Goals as goal
 pub returns-in-Ok-clause-found : goal.returns-in-Ok-clause-found
 returns-in-Ok-clause-found c =
     let found = contains_char 46 c.args.text.now c.contains.result c.contains.ensures.cases (omega arith) in
-    let lacks : Lacks c.args.text.now 46 = λ i less same. let yes : c.contains.result ≡ true = found.1 i less same in let no : c.contains.result ≡ false = c.if-contains.false in absurd (cc) in
+    let lacks : Lacks c.args.text.now 46 = λ i less same. let yes : c.contains.result ≡ true = found.1 i less same in let no : c.contains.result ≡ false =
+    c.if-contains.false in absurd (cc) in
     (c.in-Ok.address.segments, (lacks, c.in-Ok.ensures.value), c.octets.ensures)
 
 pub returns-in-Ok-clause-only : goal.returns-in-Ok-clause-only

@@ -1,4 +1,5 @@
-use Rattle.ip_address.proofs.Printed.{IsEthernetText-printed, IsDottedText-printed, IsIpv6Text-printed, IsIpText-printed, IsIpv4BlockText-printed, IsIpv6BlockText-printed, IsIpBlockText-printed, IsIpv4EndpointText-printed}
+use Rattle.ip_address.proofs.Printed.{IsEthernetText-printed, IsDottedText-printed, IsIpv6Text-printed, IsIpText-printed, IsIpv4BlockText-printed}
+use Rattle.ip_address.proofs.Printed.{IsIpv6BlockText-printed, IsIpBlockText-printed, IsIpv4EndpointText-printed}
 use Rattle.ip_address.proofs.text.printed_reads_back.Goals as goal
 
 pub returns : goal.returns

@@ -7,4 +7,5 @@ returns-clause-front c =
 
 pub returns-clause-exact : goal.returns-clause-exact
 returns-clause-exact c len =
-    whole-front 40 _ _ c.args.bytes.now (joined-front _ _ _ _ _ c.args.bytes.now _ c.copy_from_slice.ensures.after c.put_addresses.ensures c.split_at_mut-front.ensures.back) len
+    whole-front 40 _ _ c.args.bytes.now
+    (joined-front _ _ _ _ _ c.args.bytes.now _ c.copy_from_slice.ensures.after c.put_addresses.ensures c.split_at_mut-front.ensures.back) len

@@ -12,5 +12,6 @@ pub returns : goal.returns
 returns c =
     let one : c.extend_from_slice.new.self.items ≡ [] ++ c.args.link.now =
     c.in_ok-extend_from_slice.ensures.items ∙ ap (λ (l : List ℕ). l ++ c.args.link.now) c.new-frame.ensures.items in
-    joined c.args.link.now c.header-header.result c.args.bytes.now c.extend_from_slice.new.self.items c.extend_from_slice-2.new.self.items c.extend_from_slice-3.new.self.items _
+    joined c.args.link.now c.header-header.result c.args.bytes.now c.extend_from_slice.new.self.items c.extend_from_slice-2.new.self.items
+    c.extend_from_slice-3.new.self.items _
     one c.in_ok-extend_from_slice-2.ensures.items c.in_ok-extend_from_slice-3.ensures.items c.header-header.ensures

@@ -12,7 +12,8 @@ is_end : IsEnd peer
 is_end = record { first = (omega arith, omega arith); heard = (omega arith, omega arith); short = omega arith }
 
 -- bytes at these numbers are new to one that counts from this SYN, and acknowledged it alone
-new_bytes : (heard k : ℕ) (x : Segment) → at 299 ≤ heard → heard ≤ at 300 → k < 1_000 → x.seq ≡ 301 + k → (length x.bytes ≡ 0 → ⊥) → IsOld (record this { heard = heard }) told x → ⊥
+new_bytes : (heard k : ℕ) (x : Segment) → at 299 ≤ heard → heard ≤ at 300 → k < 1_000 → x.seq ≡ 301 + k → (length x.bytes ≡ 0 → ⊥) →
+    IsOld (record this { heard = heard }) told x → ⊥
 new_bytes heard k x low top small seq some p = by p.high where
   old_at : at 301 ≤ p.at
   old_at = let number = p.number in let from = p.low in omega arith
@@ -26,7 +27,8 @@ new_bytes heard k x low top small seq some p = by p.high where
       let new = old_at in
       some (omega arith)
 
-says_text : (x : Segment) (k : ℕ) → IsData x.control → (length x.bytes ≡ 0 → ⊥) → k < 1_000 → x.seq ≡ 301 + k → Says x → Begins x.bytes (drop k (1 ∷ 2 ∷ 3 ∷ []))
+says_text : (x : Segment) (k : ℕ) → IsData x.control → (length x.bytes ≡ 0 → ⊥) → k < 1_000 → x.seq ≡ 301 + k → Says x →
+    Begins x.bytes (drop k (1 ∷ 2 ∷ 3 ∷ []))
 says_text x k kind some small seq says = by (piece_or_old peer this told x kind some says) where
   by : IsPiece peer this x ⊎ IsOld this told x → Begins x.bytes (drop k (1 ∷ 2 ∷ 3 ∷ []))
   by (inl p) = bytes_there peer this x k is_end (omega arith) (omega arith) some p

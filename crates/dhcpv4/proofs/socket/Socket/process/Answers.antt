@@ -8,8 +8,20 @@ use Rattle.dhcpv4.proofs.socket.Socket.process.Goals as goal
 pub returns : goal.returns
 returns g c =
     let i = c.self.inside in
-    let w : DhcpValue = record { station = i.station; settings = i.settings; state = i.state; transaction_id = i.transaction_id; changed = i.changed; random = i.random; next_id = i.next_id; next_word = i.next_word; offered = None } in
+    let w : DhcpValue = record {
+      station = i.station;
+      settings = i.settings;
+      state = i.state;
+      transaction_id = i.transaction_id;
+      changed = i.changed;
+      random =
+          i.random;
+      next_id = i.next_id;
+      next_word = i.next_word;
+      offered = None;
+    } in
     subst (λ (now : ℤ). Processed now c.args.self.now c.args.ip_repr.now c.args.repr.now c.args.payload.now c.tell.new.self) c.now.ensures.value
-    (taken c.now.result c.args.self.now w c.tell.new.self c.args.ip_repr.now c.in-Ipv4.header c.args.repr.now c.args.payload.now c.in-Ok.message c.block_of-block.result
+    (taken c.now.result c.args.self.now w c.tell.new.self c.args.ip_repr.now c.in-Ipv4.header c.args.repr.now c.args.payload.now c.in-Ok.message
+    c.block_of-block.result
     (ap unoffered c.self.view_is) (sym c.is_for.ensures ∙ c.if-not-is_for.false) c.in-Ipv4.is
     (subst (λ (bytes : List ℕ). IsDhcp bytes c.in-Ok.message) c.new_unchecked.ensures c.in-Ok.ensures.found) c.block_of-block.ensures c.tell.ensures)

@@ -10,7 +10,8 @@ records-preserved c = λ rs end stand all.
     AliasLeft-next _ _ _ _ _ _ _ _ _ _ _ (c.records.invariant rs end stand all) (omega arith) c.in-Ok.is c.parse.ensures.only c.alias_by-alias.ensures (cc)
 
 pub returns-in_default : goal.returns-in_default
-returns-in_default c = λ rs end stand all. absurd (AliasLeft-cut _ _ _ _ _ _ _ (c.records.invariant rs end stand all) (omega arith) c.in_default.not-Ok c.parse.ensures.only)
+returns-in_default c = λ rs end stand all.
+    absurd (AliasLeft-cut _ _ _ _ _ _ _ (c.records.invariant rs end stand all) (omega arith) c.in_default.not-Ok c.parse.ensures.only)
 
 pub returns-then-is_some : goal.returns-then-is_some
 returns-then-is_some c = λ rs end stand all.

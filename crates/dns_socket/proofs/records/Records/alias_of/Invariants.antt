@@ -5,7 +5,8 @@ use Rattle.dns_socket.proofs.Aliases.{AliasLeft}
 use Rattle.dns_socket.proofs.records.Records.alias_of.Given as goal
 
 abbrev pub invariant-records : goal.invariant-records
-invariant-records l = (rs : List DnsRecord) (end : ℕ) → AreRecords l.self.message.now l.self.at rs end → length rs ≡ l.self.count → AliasLeft l.self.message.now l.at l.left end l.name (alias_in l.name rs)
+invariant-records l = (rs : List DnsRecord) (end : ℕ) → AreRecords l.self.message.now l.self.at rs end → length rs ≡ l.self.count →
+    AliasLeft l.self.message.now l.at l.left end l.name (alias_in l.name rs)
 
 abbrev pub decreases-records : goal.decreases-records
 decreases-records l = l.left

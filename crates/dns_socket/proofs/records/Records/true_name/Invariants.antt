@@ -5,7 +5,8 @@ use Rattle.dns_socket.proofs.Aliases.{Led}
 use Rattle.dns_socket.proofs.records.Records.true_name.Given as goal
 
 abbrev pub invariant-aliases : goal.invariant-aliases
-invariant-aliases l = (rs : List DnsRecord) (end : ℕ) → AreRecords l.self.message.now l.self.at rs end → length rs ≡ l.self.count → Led rs l.name (or_name l.last l.name) l.left
+invariant-aliases l = (rs : List DnsRecord) (end : ℕ) → AreRecords l.self.message.now l.self.at rs end → length rs ≡ l.self.count →
+    Led rs l.name (or_name l.last l.name) l.left
 
 abbrev pub decreases-aliases : goal.decreases-aliases
 decreases-aliases l = l.left

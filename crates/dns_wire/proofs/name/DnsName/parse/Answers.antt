@@ -16,7 +16,8 @@ returns-in_default-clause-only c = λ name end is.
 pub returns-in-Root-clause-found : goal.returns-in-Root-clause-found
 returns-in-Root-clause-found c =
     let root : IsRoot c.args.message.now c.parts.place = rw c.in-Root.is at c.in_ok-part_at.ensures in
-    Keeps-name _ _ _ _ c.parts.bytes.items _ _ _ c.parts.invariant.keeps root c.in-Ok.ensures.ok c.unwrap_or.ensures (omega (arith, c.in-Ok.ensures.len, c.in-Ok.ensures.variant.0 refl))
+    Keeps-name _ _ _ _ c.parts.bytes.items _ _ _ c.parts.invariant.keeps root c.in-Ok.ensures.ok c.unwrap_or.ensures
+    (omega (arith, c.in-Ok.ensures.len, c.in-Ok.ensures.variant.0 refl))
 
 pub returns-in-Root-clause-only : goal.returns-in-Root-clause-only
 returns-in-Root-clause-only c = λ name end is.
@@ -37,7 +38,12 @@ parts-preserved-in-Label c =
     let next : c.parts.place + (1 + length c.in-Label.label.now) ≡ c.parts.place + 1 + length c.in-Label.label.now = omega arith in
     record {
       keeps = Keeps-label _ _ _ _ _ _ _ _ _ label next c.in_ok-push_label-in-Label.ensures.pushed c.parts.invariant.keeps;
-      room = omega (arith, ap length c.in_ok-push_label-in-Label.ensures.pushed, length-append c.parts.bytes.items (length c.in-Label.label.now ∷ c.in-Label.label.now), c.in_ok-push_label-in-Label.ensures.full.0 refl);
+      room = omega (
+        arith,
+        ap length c.in_ok-push_label-in-Label.ensures.pushed,
+        length-append c.parts.bytes.items (length c.in-Label.label.now ∷ c.in-Label.label.now),
+        c.in_ok-push_label-in-Label.ensures.full.0 refl,
+      );
     }
 
 pub parts-preserved : goal.parts-preserved

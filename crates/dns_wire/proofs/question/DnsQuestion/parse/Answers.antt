@@ -5,7 +5,8 @@ use Rattle.dns_wire.specs.Message.{IsQuestion}
 use Rattle.dns_wire.specs.Name.{bytes_of_name}
 use Rattle.dns_wire.proofs.Found.{question-is}
 use Rattle.dns_wire.proofs.question.DnsQuestion.parse.Goals as goal
-use Rattle.dns_wire.proofs.question.DnsQuestion.parse.Goals.{then-name_end-message-via-then-name_end-message, then-name_end-message-via-else-name_end-message+then-message-name_end-lt4}
+use Rattle.dns_wire.proofs.question.DnsQuestion.parse.Goals.{then-name_end-message-via-then-name_end-message}
+use Rattle.dns_wire.proofs.question.DnsQuestion.parse.Goals.{then-name_end-message-via-else-name_end-message+then-message-name_end-lt4}
 
 pub returns-in_err-name-clause-only : goal.returns-in_err-name-clause-only
 returns-in_err-name-clause-only c = λ question end is.
@@ -32,5 +33,7 @@ returns-then-read_u16-ne-CLASS_IN-clause-only c = λ question end is.
 pub returns-clause-only : goal.returns-clause-only
 returns-clause-only c = λ question end is.
     let named = c.in_ok-name.ensures.only (bytes_of_name question.name) is.name_end is.name in
-    let kinds : c.from_number-type_.result ≡ type_of (be16 c.args.message.now c.in_ok-name.name_end) = c.from_number-type_.ensures ∙ ap type_of c.read_u16-2.ensures in
-    ap Ok (question-is c.args.message.now c.args.at question end c.in_ok-name.name c.from_number-type_.result c.in_ok-name.name_end is named.1.0 named.1.1 kinds)
+    let kinds : c.from_number-type_.result ≡ type_of (be16 c.args.message.now c.in_ok-name.name_end) =
+    c.from_number-type_.ensures ∙ ap type_of c.read_u16-2.ensures in
+    ap Ok (question-is c.args.message.now c.args.at question end c.in_ok-name.name c.from_number-type_.result c.in_ok-name.name_end is named.1.0
+    named.1.1 kinds)

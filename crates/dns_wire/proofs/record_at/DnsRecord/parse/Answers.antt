@@ -4,7 +4,8 @@ use Rattle.dns_wire.specs.Message.{IsRecord}
 use Rattle.dns_wire.specs.Name.{bytes_of_name}
 use Rattle.dns_wire.proofs.Found.{holds-as, one-record}
 use Rattle.dns_wire.proofs.record_at.DnsRecord.parse.Goals as goal
-use Rattle.dns_wire.proofs.record_at.DnsRecord.parse.Goals.{then-name_end-message-via-then-name_end-message, then-name_end-message-via-else-name_end-message+then-message-name_end-lt10}
+use Rattle.dns_wire.proofs.record_at.DnsRecord.parse.Goals.{then-name_end-message-via-then-name_end-message}
+use Rattle.dns_wire.proofs.record_at.DnsRecord.parse.Goals.{then-name_end-message-via-else-name_end-message+then-message-name_end-lt10}
 
 pub returns-in_err-name-clause-only : goal.returns-in_err-name-clause-only
 returns-in_err-name-clause-only c = λ answer end is.
@@ -32,13 +33,16 @@ returns-then-len-message-clause-only c = λ answer end is.
 pub returns-in_err-data-clause-only : goal.returns-in_err-data-clause-only
 returns-in_err-data-clause-only c = λ answer end is.
     let named = c.in_ok-name.ensures.only (bytes_of_name answer.name) is.name_end is.name in
-    let held = holds-as c.args.message.now c.args.at answer end c.in_ok-name.name_end c.read_u16-class.result c.read_u16-kind.result c.read_u16-len.result is named.1.1 c.read_u16-class.ensures c.read_u16-kind.ensures c.read_u16-len.ensures in
+    let held = holds-as c.args.message.now c.args.at answer end c.in_ok-name.name_end c.read_u16-class.result c.read_u16-kind.result c.read_u16-len.result is
+    named.1.1 c.read_u16-class.ensures c.read_u16-kind.ensures c.read_u16-len.ensures in
     let no = c.in_err-data.ensures.only answer.«data» held in
     absurd (cc no)
 
 pub returns-clause-only : goal.returns-clause-only
 returns-clause-only c = λ answer end is.
     let named = c.in_ok-name.ensures.only (bytes_of_name answer.name) is.name_end is.name in
-    let held = holds-as c.args.message.now c.args.at answer end c.in_ok-name.name_end c.read_u16-class.result c.read_u16-kind.result c.read_u16-len.result is named.1.1 c.read_u16-class.ensures c.read_u16-kind.ensures c.read_u16-len.ensures in
+    let held = holds-as c.args.message.now c.args.at answer end c.in_ok-name.name_end c.read_u16-class.result c.read_u16-kind.result c.read_u16-len.result is
+    named.1.1 c.read_u16-class.ensures c.read_u16-kind.ensures c.read_u16-len.ensures in
     let same = c.in_ok-data.ensures.only answer.«data» held in
-    one-record c.args.message.now c.args.at answer end c.in_ok-name.name c.read_u32-ttl.result c.in_ok-data.«data» c.in_ok-name.name_end c.read_u16-len.result is named.1.0 named.1.1 c.read_u32-ttl.ensures same c.read_u16-len.ensures
+    one-record c.args.message.now c.args.at answer end c.in_ok-name.name c.read_u32-ttl.result c.in_ok-data.«data» c.in_ok-name.name_end c.read_u16-len.result
+    is named.1.0 named.1.1 c.read_u32-ttl.ensures same c.read_u16-len.ensures

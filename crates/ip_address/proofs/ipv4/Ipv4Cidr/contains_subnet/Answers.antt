@@ -16,5 +16,6 @@ pub returns-else-self-subnet : goal.returns-else-self-subnet
 returns-else-self-subnet c =
     let fits : v4_number c.args.subnet.now.address < 2 ^ 32 = omega (arith, c.to_bits-bits.ensures.value) in (
       λ yes. let no = rw (lt-leb c.args.self.now.prefix_len c.args.subnet.now.prefix_len c.if-self-subnet.false) at yes in absurd (cc),
-      λ all. let le : c.args.self.now.prefix_len ≤ c.args.subnet.now.prefix_len = (IsWithinV4-only c.args.self.now c.args.subnet.now fits c.to_bits-bits.ensures.whole all).0 in absurd (omega (arith, le)),
+      λ all. let le : c.args.self.now.prefix_len ≤ c.args.subnet.now.prefix_len =
+          (IsWithinV4-only c.args.self.now c.args.subnet.now fits c.to_bits-bits.ensures.whole all).0 in absurd (omega (arith, le)),
     )

@@ -9,5 +9,6 @@ returns-then-bits-mask_of-clause-only c = λ n mask.
 
 pub returns-else-bits-mask_of-clause-only : goal.returns-else-bits-mask_of-clause-only
 returns-else-bits-mask_of-clause-only c = λ n mask.
-    let same : c.leading_ones-ones.result ≡ n = c.leading_ones-ones.ensures ∙ ap (leading_ones w128) (c.to_bits-bits.ensures.value ∙ mask.1) ∙ leading_ones-mask_128 n mask.0 in
+    let same : c.leading_ones-ones.result ≡ n = c.leading_ones-ones.ensures ∙ ap (leading_ones w128) (c.to_bits-bits.ensures.value ∙ mask.1) ∙
+    leading_ones-mask_128 n mask.0 in
     absurd (c.if-bits-mask_of.false (c.to_bits-bits.ensures.value ∙ mask.1 ∙ sym (c.mask_of.ensures ∙ ap (λ k. 2 ^ 128 - 2 ^ (128 - k)) same)))

@@ -42,7 +42,8 @@ returns-clause-only c = λ v is.
     let flags : control_in (bytes_of c.args.packet.now) ≡ Some c.in-Some.control =
     sym (control_of-same _ _ _ _ _ _ _ _ c.syn.ensures c.fin.ensures c.rst.ensures c.psh.ensures) ∙ sym c.from_flags-flags.ensures ∙ c.in-Some.is in
     let given = is.control in
-    ap Ok (header-same c.src_port-2.result c.dst_port-2.result c.window_len.result c.in-Some.control c.seq_number.result c.acknowledged.result c.in_ok-options.options v
+    ap Ok (header-same c.src_port-2.result c.dst_port-2.result c.window_len.result c.in-Some.control c.seq_number.result c.acknowledged.result
+    c.in_ok-options.options v
     (c.src_port-2.ensures ∙ sym is.source_port)
     (c.dst_port-2.ensures ∙ sym is.destination_port)
     (cc (flags, given))

@@ -3,12 +3,14 @@ use Rattle.net_containers.specs.Assembler.{added}
 use Rattle.net_containers.proofs.Runs.{added-front, length-added_front, not_zero}
 use Rattle.net_containers.proofs.Kept.{length-kept, kept_lowered, begun-none, begun-some}
 use Rattle.net_containers.proofs.assembler.Assembler.add_then_remove_front.Goals as goal
-use Rattle.net_containers.proofs.assembler.Assembler.add_then_remove_front.Goals.{else-offset-eq0-via-then-offset-eq0+else-begun_by-eq0, else-offset-eq0-via-else-offset-eq0}
+use Rattle.net_containers.proofs.assembler.Assembler.add_then_remove_front.Goals.{else-offset-eq0-via-then-offset-eq0+else-begun_by-eq0}
+use Rattle.net_containers.proofs.assembler.Assembler.add_then_remove_front.Goals.{else-offset-eq0-via-else-offset-eq0}
 
 pub invariant_of-self : goal.invariant_of-self
 invariant_of-self g c =
     let s = c.self.inside in
-    (kept_lowered g.row.N s.count c.args.size s.ranges _ c.self.invariant (sym c.begun_by.ensures.value ∙ c.if-begun_by-eq0.true) (ap (λ qs. qs ++ drop s.count s.ranges) c.lower.ensures)).0
+    (kept_lowered g.row.N s.count c.args.size s.ranges _ c.self.invariant (sym c.begun_by.ensures.value ∙
+    c.if-begun_by-eq0.true) (ap (λ qs. qs ++ drop s.count s.ranges) c.lower.ensures)).0
 
 pub returns-then-begun_by-eq0-clause-ok : goal.returns-then-begun_by-eq0-clause-ok
 returns-then-begun_by-eq0-clause-ok g c =
@@ -25,7 +27,8 @@ returns-in_err-add-clause-refused g c =
     let more : g.row.N < length (added c.args.self.now c.args.offset c.args.size) = c.in_err-add.ensures.refused.0 refl in
     let few : length rs ≤ g.row.N = omega (arith, length-kept g.row.N s.count s.ranges c.self.invariant, c.self.invariant.within) in
     let behind : 0 < c.args.offset = elim c.else-offset-eq0.branch [
-      | else-offset-eq0-via-then-offset-eq0+else-begun_by-eq0 w ↦ let first = begun-some rs c.args.size (λ e. w.if-begun_by-eq0.false (w.begun_by.ensures.value ∙ e)) in
+      | else-offset-eq0-via-then-offset-eq0+else-begun_by-eq0 w ↦ let first =
+          begun-some rs c.args.size (λ e. w.if-begun_by-eq0.false (w.begun_by.ensures.value ∙ e)) in
           let fits = length-added_front rs c.args.size g.row.N c.self.invariant.some_room few (inr (inr first)) in
           absurd (omega (arith, fits, rw (w.if-offset-eq0.true, ← c.self.view_is) at more))
       | else-offset-eq0-via-else-offset-eq0 w ↦ not_zero c.args.offset w.if-offset-eq0.false

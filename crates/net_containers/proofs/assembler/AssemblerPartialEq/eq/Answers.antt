@@ -10,9 +10,17 @@ same : goal.returns-clause-value
 same g c =
     let s = c.self.inside in
     let o = c.other.inside in
-    let n : length (take s.count s.ranges) + (g.row.N - s.count) ≡ length (take o.count o.ranges) + (g.row.N - o.count) = omega (arith, length-kept g.row.N s.count s.ranges c.self.invariant, length-kept g.row.N o.count o.ranges c.other.invariant, c.self.invariant.within, c.other.invariant.within) in
+    let n : length (take s.count s.ranges) + (g.row.N - s.count) ≡ length (take o.count o.ranges) + (g.row.N - o.count) =
+    omega (
+      arith,
+      length-kept g.row.N s.count s.ranges c.self.invariant,
+      length-kept g.row.N o.count o.ranges c.other.invariant,
+      c.self.invariant.within,
+      c.other.invariant.within,
+    ) in
     c.eq.ensures ∙ ap₂ same_run_lists (kept-is g.row.N s.count s.ranges c.self.invariant) (kept-is g.row.N o.count o.ranges c.other.invariant)
-    ∙ test_unused _ _ 0 0 (g.row.N - s.count) (g.row.N - o.count) c.self.invariant.runs c.other.invariant.runs n ∙ ap₂ same_run_lists c.self.view_is c.other.view_is
+    ∙ test_unused _ _ 0 0 (g.row.N - s.count) (g.row.N - o.count) c.self.invariant.runs c.other.invariant.runs n ∙
+    ap₂ same_run_lists c.self.view_is c.other.view_is
 
 pub returns-clause-value : goal.returns-clause-value
 returns-clause-value g c = same g c
@@ -23,5 +31,6 @@ returns-clause-positions g c =
     let b = c.args.other.now in
     let value : c.eq.result ≡ same_run_lists a b = same g c in (
       λ e. same_from_test a b (sym value ∙ e),
-      λ h. value ∙ test_from_same a b (same_runs 0 0 a b (subst AreRuns c.self.view_is c.self.invariant.runs) (subst AreRuns c.other.view_is c.other.invariant.runs) h),
+      λ h. value ∙ test_from_same a b
+          (same_runs 0 0 a b (subst AreRuns c.self.view_is c.self.invariant.runs) (subst AreRuns c.other.view_is c.other.invariant.runs) h),
     )

@@ -34,7 +34,8 @@ invariant_of-self-lent g c w =
     let fits = room_unbroken s.metadata s.payload padding size c.self.invariant room in
     let whole : min size (contiguous (extended (anchored s.payload) padding)) ≡ size = omega (arith, fits) in
     rw (c.push.ensures, c.packet.ensures, c.pad.ensures.entries, c.pad.ensures.bytes, anchored-extended s.payload padding, whole)
-    (AreEntries-lent _ (extended (extended (anchored s.payload) padding) size) _ w (AreEntries-extended s.metadata s.payload padding size c.args.header c.self.invariant room))
+    (AreEntries-lent _ (extended (extended (anchored s.payload) padding) size) _ w
+    (AreEntries-extended s.metadata s.payload padding size c.args.header c.self.invariant room))
 
 pub returns-clause-len : goal.returns-clause-len
 returns-clause-len g c =
@@ -44,4 +45,5 @@ returns-clause-len g c =
     let told = c.in_ok-padding.ensures in
     let room = has_room s.metadata s.payload _ padding size c.self.invariant refl told.full.1 told.padding in
     let fits = room_unbroken s.metadata s.payload padding size c.self.invariant room in
-    c.enqueue_many.ensures.len ∙ ap (λ r. min size (contiguous (anchored r))) c.pad.ensures.bytes ∙ ap (λ r. min size (contiguous r)) (anchored-extended s.payload padding) ∙ omega (arith, fits)
+    c.enqueue_many.ensures.len ∙ ap (λ r. min size (contiguous (anchored r))) c.pad.ensures.bytes ∙
+    ap (λ r. min size (contiguous r)) (anchored-extended s.payload padding) ∙ omega (arith, fits)

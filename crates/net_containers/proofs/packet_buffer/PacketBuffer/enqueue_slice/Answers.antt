@@ -42,7 +42,8 @@ copy_from_slice-requires g c =
     let room = has_room s.metadata s.payload _ padding size c.self.invariant c.self.view_is told.full.1 told.padding in
     let e = extended (anchored s.payload) padding in
     let fits = room_unbroken s.metadata s.payload padding size c.self.invariant room in
-    let long : length c.get_unallocated-bytes.result.now ≡ size = c.get_unallocated-bytes.ensures.len ∙ ap (λ r. unbroken_free r 0 size) c.pad.ensures.bytes ∙ lent_whole e size fits in
+    let long : length c.get_unallocated-bytes.result.now ≡ size = c.get_unallocated-bytes.ensures.len ∙ ap (λ r. unbroken_free r 0 size) c.pad.ensures.bytes ∙
+    lent_whole e size fits in
     long
 
 pub enqueue_unallocated-requires : goal.enqueue_unallocated-requires
@@ -54,10 +55,13 @@ enqueue_unallocated-requires g c =
     let room = has_room s.metadata s.payload _ padding size c.self.invariant c.self.view_is told.full.1 told.padding in
     let e = extended (anchored s.payload) padding in
     let fits = room_unbroken s.metadata s.payload padding size c.self.invariant room in
-    let long : length c.get_unallocated-bytes.result.now ≡ size = c.get_unallocated-bytes.ensures.len ∙ ap (λ r. unbroken_free r 0 size) c.pad.ensures.bytes ∙ lent_whole e size fits in
+    let long : length c.get_unallocated-bytes.result.now ≡ size = c.get_unallocated-bytes.ensures.len ∙ ap (λ r. unbroken_free r 0 size) c.pad.ensures.bytes ∙
+    lent_whole e size fits in
     let left = c.copy_from_slice.new.self in
     let copied : left ≡ c.args.data.now = c.copy_from_slice.ensures.after in
-    let laid : laid_from c.pad.new.payload (free_from c.pad.new.payload 0) left ≡ overwritten e 0 left = c.get_unallocated-bytes.ensures.written left (c.copy_from_slice.ensures.len ∙ c.get_unallocated-bytes.ensures.len) ∙ ap (λ r. overwritten r 0 left) c.pad.ensures.bytes in
+    let laid : laid_from c.pad.new.payload (free_from c.pad.new.payload 0) left ≡ overwritten e 0 left =
+    c.get_unallocated-bytes.ensures.written left (c.copy_from_slice.ensures.len ∙ c.get_unallocated-bytes.ensures.len) ∙
+    ap (λ r. overwritten r 0 left) c.pad.ensures.bytes in
     let same = length-overwritten_many e left (omega (arith, ap length copied, fits)) in
     rw laid (omega (arith, same, fits))
 
@@ -70,10 +74,13 @@ invariant_of-self g c =
     let room = has_room s.metadata s.payload _ padding size c.self.invariant c.self.view_is told.full.1 told.padding in
     let e = extended (anchored s.payload) padding in
     let fits = room_unbroken s.metadata s.payload padding size c.self.invariant room in
-    let long : length c.get_unallocated-bytes.result.now ≡ size = c.get_unallocated-bytes.ensures.len ∙ ap (λ r. unbroken_free r 0 size) c.pad.ensures.bytes ∙ lent_whole e size fits in
+    let long : length c.get_unallocated-bytes.result.now ≡ size = c.get_unallocated-bytes.ensures.len ∙ ap (λ r. unbroken_free r 0 size) c.pad.ensures.bytes ∙
+    lent_whole e size fits in
     let left = c.copy_from_slice.new.self in
     let copied : left ≡ c.args.data.now = c.copy_from_slice.ensures.after in
-    let laid : laid_from c.pad.new.payload (free_from c.pad.new.payload 0) left ≡ overwritten e 0 left = c.get_unallocated-bytes.ensures.written left (c.copy_from_slice.ensures.len ∙ c.get_unallocated-bytes.ensures.len) ∙ ap (λ r. overwritten r 0 left) c.pad.ensures.bytes in
+    let laid : laid_from c.pad.new.payload (free_from c.pad.new.payload 0) left ≡ overwritten e 0 left =
+    c.get_unallocated-bytes.ensures.written left (c.copy_from_slice.ensures.len ∙ c.get_unallocated-bytes.ensures.len) ∙
+    ap (λ r. overwritten r 0 left) c.pad.ensures.bytes in
     rw (c.push.ensures, c.packet.ensures, c.pad.ensures.entries, c.enqueue_unallocated.ensures, laid)
     (AreEntries-written s.metadata s.payload padding size size c.args.header left c.self.invariant room (omega arith) (ap length copied))
 
@@ -86,10 +93,13 @@ returns-clause-queued g c =
     let room = has_room s.metadata s.payload _ padding size c.self.invariant c.self.view_is told.full.1 told.padding in
     let e = extended (anchored s.payload) padding in
     let fits = room_unbroken s.metadata s.payload padding size c.self.invariant room in
-    let long : length c.get_unallocated-bytes.result.now ≡ size = c.get_unallocated-bytes.ensures.len ∙ ap (λ r. unbroken_free r 0 size) c.pad.ensures.bytes ∙ lent_whole e size fits in
+    let long : length c.get_unallocated-bytes.result.now ≡ size = c.get_unallocated-bytes.ensures.len ∙ ap (λ r. unbroken_free r 0 size) c.pad.ensures.bytes ∙
+    lent_whole e size fits in
     let left = c.copy_from_slice.new.self in
     let copied : left ≡ c.args.data.now = c.copy_from_slice.ensures.after in
-    let laid : laid_from c.pad.new.payload (free_from c.pad.new.payload 0) left ≡ overwritten e 0 left = c.get_unallocated-bytes.ensures.written left (c.copy_from_slice.ensures.len ∙ c.get_unallocated-bytes.ensures.len) ∙ ap (λ r. overwritten r 0 left) c.pad.ensures.bytes in
+    let laid : laid_from c.pad.new.payload (free_from c.pad.new.payload 0) left ≡ overwritten e 0 left =
+    c.get_unallocated-bytes.ensures.written left (c.copy_from_slice.ensures.len ∙ c.get_unallocated-bytes.ensures.len) ∙
+    ap (λ r. overwritten r 0 left) c.pad.ensures.bytes in
     let is = told.padding ∙ ap (λ q. padding_for q size) (sym c.self.view_is) in
     rw (c.push.ensures, c.packet.ensures, c.pad.ensures.entries, c.enqueue_unallocated.ensures, laid)
     (packets_seen-written s.metadata s.payload padding size size c.args.header left c.self.invariant room is (omega arith) (ap length copied))

@@ -33,7 +33,8 @@ f-size-requires g c =
     let room = has_room s.metadata s.payload _ padding size c.self.invariant c.self.view_is told.full.1 told.padding in
     let e = extended (anchored s.payload) padding in
     let fits = room_unbroken s.metadata s.payload padding size c.self.invariant room in
-    let long : length c.get_unallocated.result.now ≡ size = c.get_unallocated.ensures.len ∙ ap (λ r. unbroken_free r 0 size) c.pad.ensures.bytes ∙ lent_whole e size fits in
+    let long : length c.get_unallocated.result.now ≡ size = c.get_unallocated.ensures.len ∙ ap (λ r. unbroken_free r 0 size) c.pad.ensures.bytes ∙
+    lent_whole e size fits in
     let callable = c.requires.callable c.get_unallocated.result.now long in
     search (rules, callable)
 
@@ -46,12 +47,14 @@ enqueue_unallocated-requires g c =
     let room = has_room s.metadata s.payload _ padding size c.self.invariant c.self.view_is told.full.1 told.padding in
     let e = extended (anchored s.payload) padding in
     let fits = room_unbroken s.metadata s.payload padding size c.self.invariant room in
-    let long : length c.get_unallocated.result.now ≡ size = c.get_unallocated.ensures.len ∙ ap (λ r. unbroken_free r 0 size) c.pad.ensures.bytes ∙ lent_whole e size fits in
+    let long : length c.get_unallocated.result.now ≡ size = c.get_unallocated.ensures.len ∙ ap (λ r. unbroken_free r 0 size) c.pad.ensures.bytes ∙
+    lent_whole e size fits in
     let left = c.f-size.new.arg2 in
     let met : FnOnceReturnsAtMut g.F.FnOnce c.args.f c.get_unallocated.result.now c.f-size.result left = search (rules, of_calls) in
     let count = c.requires.within c.get_unallocated.result.now left c.f-size.result long met in
     let kept : length left ≡ size = c.f-size.auto.arg2 ∙ long in
-    let laid : laid_from c.pad.new.payload (free_from c.pad.new.payload 0) left ≡ overwritten e 0 left = c.get_unallocated.ensures.written left (c.f-size.auto.arg2 ∙ c.get_unallocated.ensures.len) ∙ ap (λ r. overwritten r 0 left) c.pad.ensures.bytes in
+    let laid : laid_from c.pad.new.payload (free_from c.pad.new.payload 0) left ≡ overwritten e 0 left =
+    c.get_unallocated.ensures.written left (c.f-size.auto.arg2 ∙ c.get_unallocated.ensures.len) ∙ ap (λ r. overwritten r 0 left) c.pad.ensures.bytes in
     let same = length-overwritten_many e left (omega (arith, kept, fits)) in
     rw laid (omega (arith, same, count, fits))
 
@@ -73,12 +76,14 @@ invariant_of-self g c =
     let room = has_room s.metadata s.payload _ padding size c.self.invariant c.self.view_is told.full.1 told.padding in
     let e = extended (anchored s.payload) padding in
     let fits = room_unbroken s.metadata s.payload padding size c.self.invariant room in
-    let long : length c.get_unallocated.result.now ≡ size = c.get_unallocated.ensures.len ∙ ap (λ r. unbroken_free r 0 size) c.pad.ensures.bytes ∙ lent_whole e size fits in
+    let long : length c.get_unallocated.result.now ≡ size = c.get_unallocated.ensures.len ∙ ap (λ r. unbroken_free r 0 size) c.pad.ensures.bytes ∙
+    lent_whole e size fits in
     let left = c.f-size.new.arg2 in
     let met : FnOnceReturnsAtMut g.F.FnOnce c.args.f c.get_unallocated.result.now c.f-size.result left = search (rules, of_calls) in
     let count = c.requires.within c.get_unallocated.result.now left c.f-size.result long met in
     let kept : length left ≡ size = c.f-size.auto.arg2 ∙ long in
-    let laid : laid_from c.pad.new.payload (free_from c.pad.new.payload 0) left ≡ overwritten e 0 left = c.get_unallocated.ensures.written left (c.f-size.auto.arg2 ∙ c.get_unallocated.ensures.len) ∙ ap (λ r. overwritten r 0 left) c.pad.ensures.bytes in
+    let laid : laid_from c.pad.new.payload (free_from c.pad.new.payload 0) left ≡ overwritten e 0 left =
+    c.get_unallocated.ensures.written left (c.f-size.auto.arg2 ∙ c.get_unallocated.ensures.len) ∙ ap (λ r. overwritten r 0 left) c.pad.ensures.bytes in
     rw (c.push.ensures, c.packet.ensures, c.pad.ensures.entries, c.enqueue_unallocated.ensures, laid)
     (AreEntries-written s.metadata s.payload padding size c.f-size.result c.args.header left c.self.invariant room count kept)
 
@@ -91,12 +96,14 @@ returns-clause-called g c =
     let room = has_room s.metadata s.payload _ padding size c.self.invariant c.self.view_is told.full.1 told.padding in
     let e = extended (anchored s.payload) padding in
     let fits = room_unbroken s.metadata s.payload padding size c.self.invariant room in
-    let long : length c.get_unallocated.result.now ≡ size = c.get_unallocated.ensures.len ∙ ap (λ r. unbroken_free r 0 size) c.pad.ensures.bytes ∙ lent_whole e size fits in
+    let long : length c.get_unallocated.result.now ≡ size = c.get_unallocated.ensures.len ∙ ap (λ r. unbroken_free r 0 size) c.pad.ensures.bytes ∙
+    lent_whole e size fits in
     let left = c.f-size.new.arg2 in
     let met : FnOnceReturnsAtMut g.F.FnOnce c.args.f c.get_unallocated.result.now c.f-size.result left = search (rules, of_calls) in
     let count = c.requires.within c.get_unallocated.result.now left c.f-size.result long met in
     let kept : length left ≡ size = c.f-size.auto.arg2 ∙ long in
-    let laid : laid_from c.pad.new.payload (free_from c.pad.new.payload 0) left ≡ overwritten e 0 left = c.get_unallocated.ensures.written left (c.f-size.auto.arg2 ∙ c.get_unallocated.ensures.len) ∙ ap (λ r. overwritten r 0 left) c.pad.ensures.bytes in
+    let laid : laid_from c.pad.new.payload (free_from c.pad.new.payload 0) left ≡ overwritten e 0 left =
+    c.get_unallocated.ensures.written left (c.f-size.auto.arg2 ∙ c.get_unallocated.ensures.len) ∙ ap (λ r. overwritten r 0 left) c.pad.ensures.bytes in
     let is = told.padding ∙ ap (λ q. padding_for q size) (sym c.self.view_is) in (
       c.get_unallocated.result.now,
       left,

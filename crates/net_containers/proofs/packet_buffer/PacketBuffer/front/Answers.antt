@@ -11,7 +11,8 @@ unwrap-header-requires g c =
     let s = c.self.inside in
     let size = c.first-first.result.now.size in
     let some : s.metadata.queue ≢ [] = λ e. false≢true (sym c.if-is_empty.false ∙ c.is_empty.ensures.1 e) in
-    let begins : BeginsWithPacket s.metadata.queue = begins-unpadded s.metadata s.payload c.args.self.now c.self.invariant (c.self.view_is ∙ sym c.requires) some in
+    let begins : BeginsWithPacket s.metadata.queue =
+    begins-unpadded s.metadata s.payload c.args.self.now c.self.invariant (c.self.view_is ∙ sym c.requires) some in
     let has : IsSome c.first-first.result.now.header = header_first s.metadata.queue c.first-first.result.now begins c.first-first.ensures in
     c.as_ref.ensures.variant ∙ has
 
@@ -20,7 +21,8 @@ first_part-requires-clause-queued g c =
     let s = c.self.inside in
     let size = c.first-first.result.now.size in
     let some : s.metadata.queue ≢ [] = λ e. false≢true (sym c.if-is_empty.false ∙ c.is_empty.ensures.1 e) in
-    let begins : BeginsWithPacket s.metadata.queue = begins-unpadded s.metadata s.payload c.args.self.now c.self.invariant (c.self.view_is ∙ sym c.requires) some in
+    let begins : BeginsWithPacket s.metadata.queue =
+    begins-unpadded s.metadata s.payload c.args.self.now c.self.invariant (c.self.view_is ∙ sym c.requires) some in
     let it = packet_first s.metadata.queue c.first-first.result.now begins c.first-first.ensures in
     let f = fronts s.metadata s.payload size it.0 c.self.invariant it.1 in
     f.fits
@@ -30,7 +32,8 @@ first_part-requires-clause-unbroken g c =
     let s = c.self.inside in
     let size = c.first-first.result.now.size in
     let some : s.metadata.queue ≢ [] = λ e. false≢true (sym c.if-is_empty.false ∙ c.is_empty.ensures.1 e) in
-    let begins : BeginsWithPacket s.metadata.queue = begins-unpadded s.metadata s.payload c.args.self.now c.self.invariant (c.self.view_is ∙ sym c.requires) some in
+    let begins : BeginsWithPacket s.metadata.queue =
+    begins-unpadded s.metadata s.payload c.args.self.now c.self.invariant (c.self.view_is ∙ sym c.requires) some in
     let it = packet_first s.metadata.queue c.first-first.result.now begins c.first-first.ensures in
     let f = fronts s.metadata s.payload size it.0 c.self.invariant it.1 in
     f.unbroken
@@ -40,10 +43,12 @@ returns-clause-empty g c =
     let s = c.self.inside in
     let size = c.first-first.result.now.size in
     let some : s.metadata.queue ≢ [] = λ e. false≢true (sym c.if-is_empty.false ∙ c.is_empty.ensures.1 e) in
-    let begins : BeginsWithPacket s.metadata.queue = begins-unpadded s.metadata s.payload c.args.self.now c.self.invariant (c.self.view_is ∙ sym c.requires) some in
+    let begins : BeginsWithPacket s.metadata.queue =
+    begins-unpadded s.metadata s.payload c.args.self.now c.self.invariant (c.self.view_is ∙ sym c.requires) some in
     let it = packet_first s.metadata.queue c.first-first.result.now begins c.first-first.ensures in
     let f = fronts s.metadata s.payload size it.0 c.self.invariant it.1 in
-    let is : first c.args.self.now ≡ Some (it.0, take size s.payload.queue) = ap first (sym c.self.view_is) ∙ first-seen s.metadata s.payload size it.0 c.self.invariant it.1 in
+    let is : first c.args.self.now ≡ Some (it.0, take size s.payload.queue) =
+    ap first (sym c.self.view_is) ∙ first-seen s.metadata s.payload size it.0 c.self.invariant it.1 in
     (λ e. absurd (false≢true e), λ e. absurd (let no_packet : None ≡ Some (it.0, take size s.payload.queue) = sym (ap first_by e) ∙ is in cc))
 
 pub returns-clause-first : goal.returns-clause-first

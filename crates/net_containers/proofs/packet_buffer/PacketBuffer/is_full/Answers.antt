@@ -7,6 +7,9 @@ use Rattle.net_containers.proofs.packet_buffer.PacketBuffer.is_full.Goals as goa
 pub returns : goal.returns
 returns g c =
     let s = c.self.inside in
-    let used : used_places c.args.self.now.packets ≡ length s.metadata.queue = ap (λ q. used_places q.packets) (sym c.self.view_is) ∙ used_places-packets_of s.metadata.queue s.payload.queue _ _ c.self.invariant.laid in
-    let places : c.args.self.now.places ≡ length s.metadata.queue + length s.metadata.free = ap (λ q. q.places) (sym c.self.view_is) in
-    (λ e. omega (arith, used, places, ap length (c.is_full.ensures.0 e)), λ e. c.is_full.ensures.1 (nil_from_length s.metadata.free (omega (arith, used, places))))
+    let used : used_places c.args.self.now.packets ≡ length s.metadata.queue = ap (λ q. used_places q.packets) (sym c.self.view_is) ∙
+    used_places-packets_of s.metadata.queue s.payload.queue _ _ c.self.invariant.laid in
+    let places : c.args.self.now.places ≡ length s.metadata.queue + length s.metadata.free = ap (λ q. q.places) (sym c.self.view_is) in (
+      λ e. omega (arith, used, places, ap length (c.is_full.ensures.0 e)),
+      λ e. c.is_full.ensures.1 (nil_from_length s.metadata.free (omega (arith, used, places))),
+    )

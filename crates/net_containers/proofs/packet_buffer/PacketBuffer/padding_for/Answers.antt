@@ -4,7 +4,8 @@ use Rattle.std.proofs.lemmas.List.{nil_from_length}
 use Rattle.net_containers.specs.Ring.{capacity, contiguous, anchored}
 use Rattle.net_containers.proofs.PacketSteps.{IsFull, full_tells, padding_is, padding_tells}
 use Rattle.net_containers.proofs.packet_buffer.PacketBuffer.padding_for.Goals as goal
-use Rattle.net_containers.proofs.packet_buffer.PacketBuffer.padding_for.Goals.{then-window-lt2-via-then-window-lt2, then-window-lt2-via-else-window-lt2+then-window-unbroken}
+use Rattle.net_containers.proofs.packet_buffer.PacketBuffer.padding_for.Goals.{then-window-lt2-via-then-window-lt2}
+use Rattle.net_containers.proofs.packet_buffer.PacketBuffer.padding_for.Goals.{then-window-lt2-via-else-window-lt2+then-window-unbroken}
 
 pub returns-then-is_full-clause-full : goal.returns-then-is_full-clause-full
 returns-then-is_full-clause-full g c =
@@ -74,6 +75,7 @@ pub returns-clause-padding : goal.returns-clause-padding
 returns-clause-padding g c =
     let s = c.self.inside in
     elim (padding_tells (contiguous (anchored s.payload)) c.args.size) [
-      | inl less ↦ c.unbroken_window-unbroken.ensures ∙ sym (padding_is s.metadata s.payload c.args.self.now c.args.size c.self.invariant c.self.view_is ∙ less.1)
+      | inl less ↦ c.unbroken_window-unbroken.ensures ∙
+          sym (padding_is s.metadata s.payload c.args.self.now c.args.size c.self.invariant c.self.view_is ∙ less.1)
       | inr enough ↦ absurd (omega (arith, enough.0, c.if-size-unbroken.false))
     ]

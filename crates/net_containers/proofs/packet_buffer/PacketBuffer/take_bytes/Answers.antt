@@ -21,9 +21,13 @@ returns g c =
     let taken = c.in_ok-header.ensures.first in
     let f = fronts s.metadata s.payload size header c.self.invariant taken in
     let it : first c.args.self.now ≡ Some (header, take size s.payload.queue) =
-    sym (first-unpadded c.args.self.now) ∙ ap first (sym c.dequeue_padding.ensures ∙ sym c.self.view_is) ∙ first-seen s.metadata s.payload size header c.self.invariant taken in
-    let bytes : c.part.result.now ≡ take size s.payload.queue = c.part.ensures ∙ rw (c.dequeue_allocated.ensures, c.capacity.ensures.capacity) (just_released s.payload size f.fits) in
-    let ends = packets_seen-without_first s.metadata c.take_entry.new.metadata s.payload c.dequeue_allocated.new.self size header c.self.invariant taken c.in_ok-header.ensures.rest c.in_ok-header.ensures.capacity (ap (λ r. r.queue) c.dequeue_allocated.ensures) (ap (λ r. r.start) c.dequeue_allocated.ensures) (capacity-released s.payload c.dequeue_allocated.new.self size f.fits c.dequeue_allocated.ensures)
+    sym (first-unpadded c.args.self.now) ∙ ap first (sym c.dequeue_padding.ensures ∙ sym c.self.view_is) ∙
+    first-seen s.metadata s.payload size header c.self.invariant taken in
+    let bytes : c.part.result.now ≡ take size s.payload.queue =
+    c.part.ensures ∙ rw (c.dequeue_allocated.ensures, c.capacity.ensures.capacity) (just_released s.payload size f.fits) in
+    let ends = packets_seen-without_first s.metadata c.take_entry.new.metadata s.payload c.dequeue_allocated.new.self size header c.self.invariant taken
+    c.in_ok-header.ensures.rest c.in_ok-header.ensures.capacity (ap (λ r. r.queue) c.dequeue_allocated.ensures)
+    (ap (λ r. r.start) c.dequeue_allocated.ensures) (capacity-released s.payload c.dequeue_allocated.new.self size f.fits c.dequeue_allocated.ensures)
     ∙ ap without_first (c.self.view_is ∙ c.dequeue_padding.ensures) ∙ without_first-unpadded c.args.self.now in (
       (refl, λ _. tt, ends),
       record {

@@ -16,7 +16,10 @@ dequeue_allocated-requires g c =
     let count = c.requires.within c.f-count.result c.f-count.new.arg2 met' in
     let long : length c.f-count.new.arg2 ≡ c.min-size.result = c.f-count.auto.arg2 ∙ c.part_mut.ensures.len in
     let fits : length c.f-count.new.arg2 ≤ length r.queue = omega arith in
-    rw (laid_from-queue r c.f-count.new.arg2 c.part_mut.ensures.placed.0 c.part_mut.ensures.placed.1 fits (omega arith), length-rewritten r c.f-count.new.arg2 fits) (omega (arith, count, length-waiting r))
+    rw (
+      laid_from-queue r c.f-count.new.arg2 c.part_mut.ensures.placed.0 c.part_mut.ensures.placed.1 fits (omega arith),
+      length-rewritten r c.f-count.new.arg2 fits,
+    ) (omega (arith, count, length-waiting r))
 
 pub returns : goal.returns
 returns g c =
@@ -26,5 +29,11 @@ returns g c =
     let met : FnOnceReturnsAtMut g.F.FnOnce c.args.f c.part_mut.result.now c.f-count.result c.f-count.new.arg2 = search (rules, of_calls) in
     let met' : FnOnceReturnsAtMut g.F.FnOnce c.args.f (waiting r) c.f-count.result c.f-count.new.arg2 = rw lent at met in
     let long : length c.f-count.new.arg2 ≡ c.min-size.result = c.f-count.auto.arg2 ∙ c.part_mut.ensures.len in
-    let fits : length c.f-count.new.arg2 ≤ length r.queue = omega arith in
-    (c.f-count.new.arg2, omega (arith, length-waiting r), met', c.dequeue_allocated.ensures ∙ ap (λ s. released s c.f-count.result.0) (laid_from-queue r c.f-count.new.arg2 c.part_mut.ensures.placed.0 c.part_mut.ensures.placed.1 fits (omega arith)))
+    let fits : length c.f-count.new.arg2 ≤ length r.queue = omega arith in (
+      c.f-count.new.arg2,
+      omega (arith, length-waiting r),
+      met',
+      c.dequeue_allocated.ensures ∙
+          ap (λ s. released s c.f-count.result.0)
+          (laid_from-queue r c.f-count.new.arg2 c.part_mut.ensures.placed.0 c.part_mut.ensures.placed.1 fits (omega arith)),
+    )

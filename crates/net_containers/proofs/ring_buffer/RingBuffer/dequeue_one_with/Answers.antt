@@ -16,7 +16,8 @@ returns-clause-called g c =
       c.first_mut.ensures.value,
       met,
       elim c.if-is_ok.branch [
-        | then-is_ok w ↦ MatchResult-ok _ _ _ (sym c.is_ok.ensures.value ∙ w.if-is_ok.true) (w.self-is ∙ w.dequeue_allocated.ensures ∙ released-rewritten c.args.self.now (c.f-answer.new.arg2 ∷ []) some)
+        | then-is_ok w ↦ MatchResult-ok _ _ _ (sym c.is_ok.ensures.value ∙ w.if-is_ok.true) (w.self-is ∙ w.dequeue_allocated.ensures ∙
+            released-rewritten c.args.self.now (c.f-answer.new.arg2 ∷ []) some)
         | else-is_ok w ↦ MatchResult-err _ _ _ (sym c.is_ok.ensures.value ∙ w.if-is_ok.false) w.self-is
       ],
     )

@@ -22,10 +22,15 @@ returns g c =
     let v = sees s.storage.items s.read_at s.length _ c.self.invariant c.self.view_is in
     let n : c.len.result ≡ length s.storage.items = omega (arith, s.storage.ok.0) in
     let is : c.place-at.result ≡ (s.read_at + c.args.offset) % length s.storage.items = rw n at c.place-at.ensures.place in (
-      (refl, λ w. lent_at s.storage.items s.read_at s.length _ c.place-at.result c.args.offset w v is (omega (arith, n, v.room, c.place-at.ensures.below (omega (arith, v.room))))),
+      (
+        refl,
+        λ w. lent_at s.storage.items s.read_at s.length _ c.place-at.result c.args.offset w v is
+            (omega (arith, n, v.room, c.place-at.ensures.below (omega (arith, v.room)))),
+      ),
       record {
         lends = tt;
-        value = element_of s.storage.items s.read_at s.length _ c.place-at.result c.args.offset c.index_mut.result.now c.self.invariant v is (omega (arith, v.room)) c.index_mut.ensures.value;
+        value = element_of s.storage.items s.read_at s.length _ c.place-at.result c.args.offset c.index_mut.result.now c.self.invariant v is
+            (omega (arith, v.room)) c.index_mut.ensures.value;
         placed = placed _ _ _ _ c.self.invariant v;
       },
     )

@@ -14,9 +14,12 @@ returns g c =
       record {
         lends = tt;
         len = c.part_mut.ensures.len ∙ k ∙ ap (λ s. min c.args.size (contiguous s)) c.anchor.ensures;
-        value = c.part_mut.ensures.value ∙ rw (c.enqueue_unallocated.ensures, c.len-from.ensures, k) (just_extended r (min c.args.size (contiguous r)) (omega arith)) ∙ ap (λ s. take (min c.args.size (contiguous s)) s.free) c.anchor.ensures;
+        value = c.part_mut.ensures.value ∙
+            rw (c.enqueue_unallocated.ensures, c.len-from.ensures, k) (just_extended r (min c.args.size (contiguous r)) (omega arith)) ∙
+            ap (λ s. take (min c.args.size (contiguous s)) s.free) c.anchor.ensures;
         written = λ ws long. let f : Ring g.row.T.Denot = anchored c.args.self.now in
             ap (λ i. laid_from (extended f (min c.args.size (contiguous f))) i ws) (sym at)
-            ∙ laid_from-extended f (min c.args.size (contiguous f)) ws (subst (λ (s : Ring g.row.T.Denot). IsPlaced s) c.anchor.ensures placed) (omega arith) long;
+            ∙ laid_from-extended f (min c.args.size (contiguous f)) ws (subst (λ (s : Ring g.row.T.Denot). IsPlaced s) c.anchor.ensures placed)
+            (omega arith) long;
       },
     )

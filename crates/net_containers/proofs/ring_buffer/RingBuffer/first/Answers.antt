@@ -13,4 +13,6 @@ pub returns : goal.returns
 returns g c =
     let s = c.self.inside in
     let v = sees s.storage.items s.read_at s.length _ c.self.invariant c.self.view_is in
-    first_queued c.args.self.now _ c.requires (element_of s.storage.items s.read_at s.length _ s.read_at 0 c.index.result.now c.self.invariant v (first_place s.storage.items s.read_at s.length c.self.invariant) (omega (arith, v.room, c.requires)) c.index.ensures)
+    first_queued c.args.self.now _ c.requires
+    (element_of s.storage.items s.read_at s.length _ s.read_at 0 c.index.result.now c.self.invariant v
+    (first_place s.storage.items s.read_at s.length c.self.invariant) (omega (arith, v.room, c.requires)) c.index.ensures)

@@ -9,7 +9,8 @@ returns-clause-len g c =
     let v = sees s.storage.items s.read_at s.length _ c.self.invariant c.self.view_is in
     let n : c.len-capacity.result ≡ length s.storage.items = omega (arith, s.storage.ok.0) in
     let is : c.place-at.result ≡ (s.read_at + c.min-offset.result) % length s.storage.items = rw n at c.place-at.ensures.place in
-    let k = unbroken_part s.storage.items s.read_at s.length _ c.place-at.result c.args.offset c.min-offset.result c.args.size c.min-size.result c.self.invariant v c.min-offset.ensures is (omega (arith, c.place-at.ensures.within)) (omega arith) in
+    let k = unbroken_part s.storage.items s.read_at s.length _ c.place-at.result c.args.offset c.min-offset.result c.args.size c.min-size.result
+    c.self.invariant v c.min-offset.ensures is (omega (arith, c.place-at.ensures.within)) (omega arith) in
     length-take-le _ _ (rw (c.as_slice.ensures.value, length-drop c.place-at.result s.storage.items) (omega (arith, c.place-at.ensures.within))) ∙ omega arith
 
 pub returns-clause-value : goal.returns-clause-value
@@ -18,8 +19,10 @@ returns-clause-value g c =
     let v = sees s.storage.items s.read_at s.length _ c.self.invariant c.self.view_is in
     let n : c.len-capacity.result ≡ length s.storage.items = omega (arith, s.storage.ok.0) in
     let is : c.place-at.result ≡ (s.read_at + c.min-offset.result) % length s.storage.items = rw n at c.place-at.ensures.place in
-    let k = unbroken_part s.storage.items s.read_at s.length _ c.place-at.result c.args.offset c.min-offset.result c.args.size c.min-size.result c.self.invariant v c.min-offset.ensures is (omega (arith, c.place-at.ensures.within)) (omega arith) in
+    let k = unbroken_part s.storage.items s.read_at s.length _ c.place-at.result c.args.offset c.min-offset.result c.args.size c.min-size.result
+    c.self.invariant v c.min-offset.ensures is (omega (arith, c.place-at.ensures.within)) (omega arith) in
     rw c.as_slice.ensures.value (
-    queued_part s.storage.items s.read_at s.length _ c.place-at.result c.args.offset c.min-offset.result c.args.size c.min-size.result c.self.invariant v c.min-offset.ensures is (omega (arith, c.place-at.ensures.within)) (omega arith)
+    queued_part s.storage.items s.read_at s.length _ c.place-at.result c.args.offset c.min-offset.result c.args.size c.min-size.result c.self.invariant v
+    c.min-offset.ensures is (omega (arith, c.place-at.ensures.within)) (omega arith)
     ∙ ap (λ i. take i (drop c.args.offset c.args.self.now.queue)) k
     )

@@ -15,7 +15,12 @@ overflow_add-result g c =
     let v = sees s.storage.items s.read_at s.length _ c.self.invariant c.self.view_is in
     let n : c.len.result ≡ length s.storage.items = omega (arith, s.storage.ok.0) in
     let is : c.place-at.result ≡ (s.read_at + c.args.offset) % length s.storage.items = rw n at c.place-at.ensures.place in
-    omega (arith, s.storage.ok.0, ends_within s.storage.items s.read_at s.length _ c.place-at.result c.args.offset c.args.size v is (omega (arith, c.place-at.ensures.within)) c.requires.unbroken)
+    omega (
+      arith,
+      s.storage.ok.0,
+      ends_within s.storage.items s.read_at s.length _ c.place-at.result c.args.offset c.args.size v is (omega (arith, c.place-at.ensures.within))
+          c.requires.unbroken,
+    )
 
 pub slice_bounds-result-end : goal.slice_bounds-result-end
 slice_bounds-result-end g c =
@@ -23,7 +28,12 @@ slice_bounds-result-end g c =
     let v = sees s.storage.items s.read_at s.length _ c.self.invariant c.self.view_is in
     let n : c.len.result ≡ length s.storage.items = omega (arith, s.storage.ok.0) in
     let is : c.place-at.result ≡ (s.read_at + c.args.offset) % length s.storage.items = rw n at c.place-at.ensures.place in
-    omega (arith, s.storage.ok.0, ends_within s.storage.items s.read_at s.length _ c.place-at.result c.args.offset c.args.size v is (omega (arith, c.place-at.ensures.within)) c.requires.unbroken)
+    omega (
+      arith,
+      s.storage.ok.0,
+      ends_within s.storage.items s.read_at s.length _ c.place-at.result c.args.offset c.args.size v is (omega (arith, c.place-at.ensures.within))
+          c.requires.unbroken,
+    )
 
 pub returns : goal.returns
 returns g c =
@@ -31,5 +41,8 @@ returns g c =
     let v = sees s.storage.items s.read_at s.length _ c.self.invariant c.self.view_is in
     let n : c.len.result ≡ length s.storage.items = omega (arith, s.storage.ok.0) in
     let is : c.place-at.result ≡ (s.read_at + c.args.offset) % length s.storage.items = rw n at c.place-at.ensures.place in
-    let ends = ends_within s.storage.items s.read_at s.length _ c.place-at.result c.args.offset c.args.size v is (omega (arith, c.place-at.ensures.within)) c.requires.unbroken in
-    rw c.as_slice.ensures.value (part_of s.storage.items s.read_at s.length _ c.place-at.result c.args.offset c.args.size c.self.invariant v is (omega (arith, v.room, c.requires.within)) ends)
+    let ends = ends_within s.storage.items s.read_at s.length _ c.place-at.result c.args.offset c.args.size v is (omega (arith, c.place-at.ensures.within))
+    c.requires.unbroken in
+    rw c.as_slice.ensures.value
+    (part_of s.storage.items s.read_at s.length _ c.place-at.result c.args.offset c.args.size c.self.invariant v is
+    (omega (arith, v.room, c.requires.within)) ends)

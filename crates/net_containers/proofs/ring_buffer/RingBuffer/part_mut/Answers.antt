@@ -15,7 +15,12 @@ slice_mut-requires-clause-in_bounds g c =
     let v = sees s.storage.items s.read_at s.length _ c.self.invariant c.self.view_is in
     let n : c.len.result ≡ length s.storage.items = omega (arith, s.storage.ok.0) in
     let is : c.place-at.result ≡ (s.read_at + c.args.offset) % length s.storage.items = rw n at c.place-at.ensures.place in
-    omega (arith, s.storage.ok.0, ends_within s.storage.items s.read_at s.length _ c.place-at.result c.args.offset c.args.size v is (omega (arith, c.place-at.ensures.within)) c.requires.unbroken)
+    omega (
+      arith,
+      s.storage.ok.0,
+      ends_within s.storage.items s.read_at s.length _ c.place-at.result c.args.offset c.args.size v is (omega (arith, c.place-at.ensures.within))
+          c.requires.unbroken,
+    )
 
 pub overflow_add-at : goal.overflow_add-at
 overflow_add-at g c =
@@ -23,7 +28,12 @@ overflow_add-at g c =
     let v = sees s.storage.items s.read_at s.length _ c.self.invariant c.self.view_is in
     let n : c.len.result ≡ length s.storage.items = omega (arith, s.storage.ok.0) in
     let is : c.place-at.result ≡ (s.read_at + c.args.offset) % length s.storage.items = rw n at c.place-at.ensures.place in
-    omega (arith, s.storage.ok.0, ends_within s.storage.items s.read_at s.length _ c.place-at.result c.args.offset c.args.size v is (omega (arith, c.place-at.ensures.within)) c.requires.unbroken)
+    omega (
+      arith,
+      s.storage.ok.0,
+      ends_within s.storage.items s.read_at s.length _ c.place-at.result c.args.offset c.args.size v is (omega (arith, c.place-at.ensures.within))
+          c.requires.unbroken,
+    )
 
 pub returns : goal.returns
 returns g c =
@@ -31,12 +41,19 @@ returns g c =
     let v = sees s.storage.items s.read_at s.length _ c.self.invariant c.self.view_is in
     let n : c.len.result ≡ length s.storage.items = omega (arith, s.storage.ok.0) in
     let is : c.place-at.result ≡ (s.read_at + c.args.offset) % length s.storage.items = rw n at c.place-at.ensures.place in
-    let ends = ends_within s.storage.items s.read_at s.length _ c.place-at.result c.args.offset c.args.size v is (omega (arith, c.place-at.ensures.within)) c.requires.unbroken in (
-      (refl, λ w. lent_from s.storage.items s.read_at s.length _ s.storage.len c.place-at.result c.args.offset w v is s.storage.ok.0 (omega (arith, c.place-at.ensures.within))),
+    let ends = ends_within s.storage.items s.read_at s.length _ c.place-at.result c.args.offset c.args.size v is (omega (arith, c.place-at.ensures.within))
+    c.requires.unbroken in (
+      (
+        refl,
+        λ w. lent_from s.storage.items s.read_at s.length _ s.storage.len c.place-at.result c.args.offset w v is s.storage.ok.0
+            (omega (arith, c.place-at.ensures.within)),
+      ),
       record {
         lends = tt;
         len = c.slice_mut.ensures.len ∙ omega (arith, s.storage.ok.0);
-        value = c.slice_mut.ensures.value ∙ part_of s.storage.items s.read_at s.length _ c.place-at.result c.args.offset c.args.size c.self.invariant v is (omega (arith, v.room, c.requires.within)) ends;
+        value = c.slice_mut.ensures.value ∙
+            part_of s.storage.items s.read_at s.length _ c.place-at.result c.args.offset c.args.size c.self.invariant v is
+            (omega (arith, v.room, c.requires.within)) ends;
         placed = placed _ _ _ _ c.self.invariant v;
       },
     )

@@ -4,7 +4,8 @@ use Rattle.net_containers.proofs.ring_buffer.RingBuffer.reset.Given as goal
 
 abbrev pub invariant-loop-place : goal.invariant-loop-place
 invariant-loop-place g l = record {
-  done : l.self-inside.storage.items ≡ map g.T.Resettable.reset_to (take l.place l.initial.self-inside.storage.items) ++ drop l.place l.initial.self-inside.storage.items;
+  done : l.self-inside.storage.items ≡ map g.T.Resettable.reset_to (take l.place l.initial.self-inside.storage.items) ++
+      drop l.place l.initial.self-inside.storage.items;
   start : l.self-inside.read_at ≡ 0;
   count : l.self-inside.length ≡ 0;
 }

@@ -5,7 +5,8 @@ use Rattle.ip_packet.proofs.ip.repr.IpRepr.parse.Goals as goal
 
 pub returns-in_err-header-in-Ipv4-clause-only : goal.returns-in_err-header-in-Ipv4-clause-only
 returns-in_err-header-in-Ipv4-clause-only c v is =
-    absurd (refused-v4 _ _ _ c.new_unchecked.ensures (c.in_ok-of_packet.ensures.ipv4.0 (ap Ok c.in-Ipv4.is)) (λ w read. let none = c.in_err-header-in-Ipv4.ensures.only w read in cc) v is)
+    absurd (refused-v4 _ _ _ c.new_unchecked.ensures (c.in_ok-of_packet.ensures.ipv4.0 (ap Ok c.in-Ipv4.is)) (λ w read. let none =
+    c.in_err-header-in-Ipv4.ensures.only w read in cc) v is)
 
 pub returns-in_err-header-in-Ipv6-clause-only : goal.returns-in_err-header-in-Ipv6-clause-only
 returns-in_err-header-in-Ipv6-clause-only c v is =
