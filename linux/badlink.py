@@ -24,12 +24,20 @@ LINKS = (
     ("3% lost, 3% repeated, 3% held back, 3% damaged", ("-l", "30", "-r", "30", "-h", "30", "-d", "30")),
 )
 
+# echoes of streams and of datagrams over Linux's own stack
 ECHO = f"""
 import socket, threading
 def serve(it):
+    it.setsockopt(socket.IPPROTO_TCP, socket.TCP_NODELAY, 1)
     with it:
         while piece := it.recv(65536):
             it.sendall(piece)
+def datagrams():
+    with socket.socket(socket.AF_INET, socket.SOCK_DGRAM) as it:
+        it.bind(("{OURS}", 7))
+        while True:
+            it.sendto(*it.recvfrom(65536))
+threading.Thread(target=datagrams, daemon=True).start()
 with socket.create_server(("{OURS}", 7)) as server:
     print("ready", flush=True)
     while True:
@@ -68,12 +76,12 @@ def streams(count, size):
 def by_host(pump, program, options, count, size):
     ran = start(pump, program, *options)
     said = streams(count, size)
-    ran.terminate()
-    ran.wait()
+    end([ran])
     return said
 
 
-def by_linux(pump, options, count, size):
+def linux_beyond(pump, *options):
+    """Linux's own stack behind a second device, in a namespace within, with its echoes; what was started."""
     within = subprocess.Popen(["unshare", "-n", "sh", "-c", "echo here; exec sleep 100000"], stdout=subprocess.PIPE, text=True)
     within.stdout.readline()
     ran = subprocess.Popen([pump, *options, "zemplovir", "beyond"], stdout=subprocess.PIPE, text=True)
@@ -85,12 +93,21 @@ def by_linux(pump, options, count, size):
     inside = ["nsenter", "-t", at, "-n"]
     for words in (f"addr add {OURS}/24 dev beyond", "link set beyond up", "link set lo up"):
         sh(*inside, "ip", *words.split())
-    server = subprocess.Popen([*inside, sys.executable, "-c", ECHO], stdout=subprocess.PIPE, text=True)
+    server = subprocess.Popen([*inside, sys.executable, "-c", ECHO], stdout=subprocess.PIPE, stderr=subprocess.DEVNULL, text=True)
     server.stdout.readline()
-    said = streams(count, size)
-    for it in (server, ran, within):
+    return server, ran, within
+
+
+def end(started):
+    for it in started:
         it.terminate()
         it.wait()
+
+
+def by_linux(pump, options, count, size):
+    started = linux_beyond(pump, *options)
+    said = streams(count, size)
+    end(started)
     return said
 
 
@@ -104,4 +121,5 @@ def main():
         print(f"| {name} | {by_host(pump, program, (*options, *chance), count, size)} | {by_linux(pump, (*options, *chance), count, size)} |", flush=True)
 
 
-main()
+if __name__ == "__main__":
+    main()

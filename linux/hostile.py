@@ -163,7 +163,7 @@ def attacks():
         return [said, say("the reset at the connection's number ends it", dead)]
 
 
-def answer_to(heard, port, seconds=0.3):
+def answer_to(heard, port, seconds=2):
     """The number of the host's SYN that went to this port, if it comes within so many seconds."""
     end = time.monotonic() + seconds
     while (left := end - time.monotonic()) > 0:
@@ -178,16 +178,28 @@ def answer_to(heard, port, seconds=0.3):
     return None
 
 
-def nobody(heard, forged, stage):
+def claim(heard, source):
+    """On Ethernet the host learns from an ARP request where a client at this address is: here."""
+    if "tap" in sys.argv:
+        own = heard.getsockname()[4]
+        asks = struct.pack(">HHBBH", 1, 0x0800, 6, 4, 1) + own + socket.inet_aton(source) + bytes(6) + socket.inet_aton(OURS)
+        heard.sendto(asks, ("zemplovir", 0x0806, 0, 0, bytes.fromhex(STATION.replace(":", ""))))
+
+
+def nobody(heard, forged, stage, port):
     """A client at an address at which nobody is, who comes as far as this stage and vanishes: a SYN, a connection, half a request, a
     whole one, half a request and the end. Whether it came so far."""
-    source, own, port = f"10.77.0.{3 + random.randrange(250)}", random.randrange(1024, 65536), random.choice((7, 80, 80))
+    source, own = f"10.77.0.{3 + random.randrange(250)}", random.randrange(1024, 65536)
+    claim(heard, source)
     number = random.randrange(2**32)
-    forged.sendto(segment(source, own, port, number, 0, SYN), (OURS, 0))
-    if stage == 0:
-        return True
-    said = answer_to(heard, own)
-    if said is None:
+    for _ in range(3):  # a SYN for which no socket is free is dropped, and comes again
+        forged.sendto(segment(source, own, port, number, 0, SYN), (OURS, 0))
+        if stage == 0:
+            return True
+        said = answer_to(heard, own)
+        if said is not None:
+            break
+    else:
         return False
     text = (b"", b"", b"GET /", b"GET / HTTP/1.0\r\n\r\n", b"GET /")[stage]
     forged.sendto(segment(source, own, port, number + 1, said + 1, ACK), (OURS, 0))
@@ -198,12 +210,12 @@ def nobody(heard, forged, stage):
     return True
 
 
-def at_once(count):
+def at_once(count, seconds):
     """How many connections stand at once: of 20, four for echoes and sixteen for pages."""
     held = []
     try:
         for number in range(count):
-            held.append(connected(7 if number < 4 else 80, seconds=0.9))
+            held.append(connected(7 if number < 4 else 80, seconds=seconds))
     except OSError:
         pass
     for it in held:
@@ -211,19 +223,21 @@ def at_once(count):
     return len(held)
 
 
-def vanished(pump, count=200):
-    """Clients that vanish at every stage; an hour of the host's clock later all sockets are free."""
-    came = [0] * 5
+def vanished(pump, count=200, group=50):
+    """Clients that vanish, as many at each of five stages, in groups for which the host has sockets; after each group the host's clock
+    goes on by an hour, and then all sockets are free."""
+    came, free = [0] * 5, []
     with raw() as forged, socket.socket(socket.AF_PACKET, socket.SOCK_DGRAM, socket.htons(0x0800)) as heard:
-        heard.bind(("zemplovir", 0))
-        for _ in range(count):
-            stage = random.randrange(5)
-            came[stage] += nobody(heard, forged, stage)
-    free_before = at_once(20)
-    pump.send_signal(signal.SIGUSR1)
-    print(pump.stdout.readline().strip())
-    free = at_once(20)
-    return say(f"{sum(came)} of {count} clients vanished (SYN, open, half, whole, end: {came}), {free_before} of 20 sockets free; an hour later {free}", free == 20)
+        heard.bind(("zemplovir", 0x0800))
+        for number in range(count):
+            came[number % 5] += nobody(heard, forged, number % 5, 7 if number % group % 20 == 1 else 80)
+            if number % group == group - 1:
+                before = at_once(20, 0.9)
+                pump.send_signal(signal.SIGUSR1)
+                print(pump.stdout.readline().strip(), flush=True)
+                free.append((before, at_once(20, 20)))
+    what = f"{sum(came)} of {count} clients vanished (SYN, open, half, whole, end: {came}); of 20 sockets free, at once and an hour later: {free}"
+    return say(what, sum(came) == count and all(it[1] == 20 for it in free))
 
 
 def long_packets():

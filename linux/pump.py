@@ -97,9 +97,13 @@ def run(host, tun, given):
     def send(packets):
         for packet in packets:
             for it in to_linux.carry(packet):
-                os.write(tun, it)
+                try:
+                    os.write(tun, it)
+                except OSError:  # a device that is down takes nothing
+                    pass
 
     answers, at = host.turn(settings(given))
+    print("pump: ready", flush=True)
     send(answers)
     while True:
         wait = None if at == NEVER else max(at - host.now(), 0) / 1e6
@@ -123,7 +127,6 @@ def main():
     parser.add_argument("--record")
     given = parser.parse_args()
     tun = open_device(given.device, given.tap)
-    print("pump: ready", flush=True)
     host = Host(given.host, given.record)
 
     def end(*_):

@@ -4,7 +4,7 @@
     talk.py HOST SECONDS [FOLDER]   over a TUN device and over a TAP device, by IPv4 and by IPv6: first over a good link, then for so many
                                     seconds over one that loses, repeats and reorders
     talk.py HOST exchange FOLDER    a short exchange over a TAP device: of either family pings, datagrams and a stream, each echoed; the
-                                    page by curl, and a request that isn't understood
+                                    page by curl, a request that isn't understood, ten requests in one piece, GET and HEAD
 
 FOLDER keeps what the program read and wrote (over the TAP device that loses, in the first form): the files stdin and stdout.
 """
@@ -155,15 +155,17 @@ def refusal(at=OURS):
         got = b""
         while piece := it.recv(65536):
             got += piece
-    return say(f"a request that isn't understood is refused{named(at)}", got.startswith(b"HTTP/1.0 400 "))
+    return say(f"a request that isn't understood is refused{named(at)}", got.startswith(b"HTTP/1.1 400 "))
 
 
 def exchange(program, folder):
     """A short exchange with each service, which goes on until the last connection is forgotten."""
+    import pages  # it imports this file
+
     pump = start(program, "--tap", STATION, "--seed", "7", "--record", folder)
     well = []
     for at in (OURS, OURS6):
-        well += [pings(3, at=at), datagrams(5, at), stream(5000, at), page(at), refusal(at)]
+        well += [pings(3, at=at), datagrams(5, at), stream(5000, at), page(at), refusal(at), pages.pipelined(at, 1), pages.heads(at)]
     time.sleep(11)
     stop(pump)
     return well

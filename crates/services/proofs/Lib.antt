@@ -1,1 +1,3 @@
 mod Echo
+mod Megabyte
+mod Reading

@@ -1,2 +1,4 @@
 pub mod Echo
-pub mod Page
+pub mod Request
+pub mod Counts
+pub mod Site

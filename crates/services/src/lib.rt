@@ -1,12 +1,16 @@
-//! Small servers, each over one socket: echoes of datagrams and of streams, and one page.
+//! Small servers, each over one socket: echoes of datagrams and of streams, and a site of three pages.
 //!
 //! Each is called whenever its socket may have changed, and does what can be done now.
 #![tactic(auto)]
 
+mod counts;
 mod datagram;
-mod page;
+mod request;
+mod site;
 mod stream;
 
+pub use counts::Counts;
 pub use datagram::echo_datagram;
-pub use page::{Site, Verdict, judge, serve_page};
+pub use request::{Answer, Reply, Verdict, judge};
+pub use site::{MEGABYTE, Session, serve_site};
 pub use stream::echo_stream;

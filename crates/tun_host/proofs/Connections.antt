@@ -10,6 +10,9 @@ use Rattle.interface_egress.specs.Set.{free}
 use Rattle.interface_egress.specs.declared.socket_set.Item.{Item}
 use Rattle.interface_egress.specs.declared.socket_set.SocketHandle.{SocketHandle}
 use Rattle.interface_egress.specs.declared.socket_set.SocketStorage.{SocketStorage}
+use Rattle.services.specs.Site.{fresh_session}
+use Rattle.services.specs.declared.counts.Counts.{Counts}
+use Rattle.services.specs.declared.site.Session.{Session}
 use Rattle.sockets.specs.declared.socket.Socket.{Socket}
 use Rattle.ip_wire.specs.IpListenEndpoint.{IpListenEndpoint}
 use Rattle.tcp_listener.specs.Calls.{fresh_entry, accepted, given_back, Refreshes}
@@ -20,8 +23,8 @@ use Rattle.tcp_listener.specs.Stages.{is_accepted, is_open}
 use Rattle.tcp_listener.specs.declared.entry.Entry.{Entry}
 use Rattle.tcp_listener.specs.declared.listener.Listener.{Listener}
 use Rattle.tcp_listener.specs.declared.stage.Stage.TheVariants as Stage
-use Rattle.tun_host.specs.Backlogs.{on_port, handle, keepers_of, IsListener, StandsFrom, AreFreshEntries, ended_if, EntryServesBy, EntryServes, BacklogServes}
-use Rattle.tun_host.specs.Backlogs.{back_if, ServesAt, OneServesBy, OneServes}
+use Rattle.tun_host.specs.Backlogs.{session_at, session_after, on_port, handle, keepers_of, IsListener, StandsFrom, AreFreshEntries, ended_if, EntryServesBy}
+use Rattle.tun_host.specs.Backlogs.{EntryServes, BacklogServes, back_if, ServesAt, OneServesBy, OneServes}
 use Rattle.tun_host.specs.Services.{first_place, socket_count, port_of, PlaceServes, is_over}
 use Rattle.tun_host.specs.declared.place.Service.{Service}
 
@@ -123,49 +126,58 @@ ended_keeps : (b : Bool) (e : Entry) → (ended_if b e).handle ≡ e.handle
 ended_keeps true e = refl
 ended_keeps false e = refl
 
-entry_keeps : (b : Bool) (service : Service) (e e' : Entry) (p p' : SocketStorage Socket) → EntryServesBy b service e p e' p' → e'.handle ≡ e.handle
-entry_keeps true service e e' p p' (serves, is) = ap (λ (x : Entry). x.handle) is ∙ ended_keeps (is_over p') e
-entry_keeps false service e e' p p' (place, is) = ap (λ (x : Entry). x.handle) is
+entry_keeps : (b : Bool) (c : Counts) (service : Service) (e e' : Entry) (p p' : SocketStorage Socket) (x x' : Session) →
+    EntryServesBy b c service e p x e' p' x' → e'.handle ≡ e.handle
+entry_keeps true c service e e' p p' x x' (t, serves, session, is) = ap (λ (y : Entry). y.handle) is ∙ ended_keeps (is_over p') e
+entry_keeps false c service e e' p p' x x' (place, session, is) = ap (λ (y : Entry). y.handle) is
 
-pub served_stand : (first count : ℕ) (service : Service) (ps : List (SocketStorage Socket)) (es : List Entry) (ps' : List (SocketStorage Socket))
-    (es' : List Entry)
-    → BacklogServes first service ps es ps' es' → StandsFrom first count es → StandsFrom first count es'
-served_stand first count service ps es ps' es' serves stands =
+pub served_stand : (c : Counts) (first count : ℕ) (service : Service) (ps : List (SocketStorage Socket)) (ss : List Session) (es : List Entry)
+    (ps' : List (SocketStorage Socket)) (ss' : List Session) (es' : List Entry)
+    → BacklogServes c first service ps ss es ps' ss' es' → StandsFrom first count es → StandsFrom first count es'
+served_stand c first count service ps ss es ps' ss' es' serves stands =
     kept_stand first count es stands es' serves.entries
-    (λ i h. entry_keeps (is_accepted (entry_at es i).stage) service (entry_at es i) (entry_at es' i) (place_at ps (first + i)) (place_at ps' (first + i))
-    (serves.each i h))
+    (λ i h. entry_keeps (is_accepted (entry_at es i).stage) c service (entry_at es i) (entry_at es' i) (place_at ps (first + i)) (place_at ps' (first + i))
+    (session_at ss i) (session_at ss' i) (serves.each i h))
 
--- the first n entries were served, and the others and their places are as they were
-pub record ServedTo (n first : ℕ) (service : Service) (ps : List (SocketStorage Socket)) (es : List Entry) (ps' : List (SocketStorage Socket))
-    (es' : List Entry) : Type 0 where
+-- the first n entries were served, and the others, their places and their sessions are as they were
+pub record ServedTo (n : ℕ) (c : Counts) (first : ℕ) (service : Service) (ps : List (SocketStorage Socket)) (ss : List Session) (es : List Entry)
+    (ps' : List (SocketStorage Socket)) (ss' : List Session) (es' : List Entry) : Type 0 where
   pub places : length ps' ≡ length ps
+  pub sessions : length ss' ≡ length ss
   pub entries : length es' ≡ length es
-  pub below : (i : ℕ) → i < n → EntryServes service (entry_at es i) (place_at ps (first + i)) (entry_at es' i) (place_at ps' (first + i))
+  pub below : (i : ℕ) → i < n
+      → EntryServes c service (entry_at es i) (place_at ps (first + i)) (session_at ss i) (entry_at es' i) (place_at ps' (first + i)) (session_at ss' i)
   pub handles : (i : ℕ) → i < length es → (entry_at es' i).handle.0 ≡ first + i
   pub above : (i : ℕ) → n ≤ i → entry_at es' i ≡ entry_at es i
   pub before : (m : ℕ) → m < first → place_at ps' m ≡ place_at ps m
   pub behind : (m : ℕ) → first + n ≤ m → place_at ps' m ≡ place_at ps m
+  pub later : (m : ℕ) → n ≤ m → session_at ss' m ≡ session_at ss m
 
-pub served_none : (first count : ℕ) (service : Service) (ps : List (SocketStorage Socket)) (es : List Entry) → StandsFrom first count es →
-    ServedTo 0 first service ps es ps es
-served_none first count service ps es stands = record {
+pub served_none : (c : Counts) (first count : ℕ) (service : Service) (ps : List (SocketStorage Socket)) (ss : List Session) (es : List Entry) →
+    StandsFrom first count es → ServedTo 0 c first service ps ss es ps ss es
+served_none c first count service ps ss es stands = record {
   places = refl;
+  sessions = refl;
   entries = refl;
   below = λ i h. absurd (omega (arith, h));
   handles = λ i h. stands.handles i (omega (arith, stands.long, h));
   above = λ i h. refl;
   before = λ m h. refl;
   behind = λ m h. refl;
+  later = λ m h. refl;
 }
 
-pub served_all : (n first : ℕ) (service : Service) (ps : List (SocketStorage Socket)) (es : List Entry) (ps' : List (SocketStorage Socket)) (es' : List Entry)
-    → ServedTo n first service ps es ps' es' → n ≡ length es → BacklogServes first service ps es ps' es'
-served_all n first service ps es ps' es' to all = record {
+pub served_all : (n : ℕ) (c : Counts) (first : ℕ) (service : Service) (ps : List (SocketStorage Socket)) (ss : List Session) (es : List Entry)
+    (ps' : List (SocketStorage Socket)) (ss' : List Session) (es' : List Entry)
+    → ServedTo n c first service ps ss es ps' ss' es' → n ≡ length es → BacklogServes c first service ps ss es ps' ss' es'
+served_all n c first service ps ss es ps' ss' es' to all = record {
   places = to.places;
+  sessions = to.sessions;
   entries = to.entries;
   each = λ i h. to.below i (omega (arith, h, all));
   before = to.before;
   behind = λ m h. to.behind m (omega (arith, h, all));
+  others = λ m h. to.later m (omega (arith, h, all));
 }
 
 both_hold : (a b : Bool) (x y : Entry) → a ≡ true → b ≡ true → (if a && b then x else y) ≡ x
@@ -213,20 +225,23 @@ abbrev place_with : Option (Item Socket) → SocketStorage Socket
 place_with o = record { inner = o }
 
 -- where there is no place, there is none afterwards
-past_by : (service : Service) (p p' : SocketStorage Socket) → p ≡ free → PlaceServes service p p' → p' ≡ free
-past_by service p p' none serves =
-    let it : PlaceServes service free p' = subst (λ (q : SocketStorage Socket). PlaceServes service q p') none serves in
-    ap place_with it
+past_by : (c : Counts) (service : Service) (p p' : SocketStorage Socket) (x x' : Session) → p ≡ free → PlaceServes c service p x p' x' → p' ≡ free
+past_by c service p p' x x' none serves =
+    let it : PlaceServes c service free x p' x' = subst (λ (q : SocketStorage Socket). PlaceServes c service q x p' x') none serves in
+    ap place_with it.0
 
-set_here : (service : Service) (ps : List (SocketStorage Socket)) (m : ℕ) (p' : SocketStorage Socket) → PlaceServes service (place_at ps m) p'
+set_here : (c : Counts) (service : Service) (ps : List (SocketStorage Socket)) (m : ℕ) (p' : SocketStorage Socket) (x x' : Session) →
+    PlaceServes c service (place_at ps m) x p' x'
     → (m < length ps) ⊎ (length ps ≤ m) → place_at (slice_set ps m p') m ≡ p'
-set_here service ps m p' serves (inl less) = get_or-set_same ps m p' free less
-set_here service ps m p' serves (inr past) =
+set_here c service ps m p' x x' serves (inl less) = get_or-set_same ps m p' free less
+set_here c service ps m p' x x' serves (inr past) =
     let none : place_at ps m ≡ free = get_or_past ps m free past in
-    ap (λ (qs : List (SocketStorage Socket)). place_at qs m) (set_past ps m p' past) ∙ (none ∙ sym (past_by service (place_at ps m) p' none serves))
+    ap (λ (qs : List (SocketStorage Socket)). place_at qs m) (set_past ps m p' past) ∙ (none ∙ sym (past_by c service (place_at ps m) p' x x' none serves))
 
-module _ (n first : ℕ) (service : Service) (ps : List (SocketStorage Socket)) (es : List Entry) (mid : List (SocketStorage Socket)) (ms : List Entry)
-    (to : ServedTo n first service ps es mid ms) (within : n < length ms) (after : List (SocketStorage Socket)) (fs : List Entry) where
+module _ (n : ℕ) (c : Counts) (first : ℕ) (service : Service) (ps : List (SocketStorage Socket)) (ss : List Session) (es : List Entry)
+    (mid : List (SocketStorage Socket)) (mss : List Session) (ms : List Entry)
+    (to : ServedTo n c first service ps ss es mid mss ms) (within : n < length ms) (after : List (SocketStorage Socket)) (fss : List Session)
+    (fs : List Entry) where
   here : entry_at ms n ≡ entry_at es n
   here = to.above n (omega arith)
 
@@ -234,48 +249,57 @@ module _ (n first : ℕ) (service : Service) (ps : List (SocketStorage Socket)) 
   at_place = to.handles n (omega (arith, to.entries, within))
 
   -- what is shown of entry n, and that nothing else changed
-  module _ (long : length after ≡ length ps) (count : length fs ≡ length es)
-      (served : EntryServes service (entry_at es n) (place_at ps (first + n)) (entry_at fs n) (place_at after (first + n)))
+  module _ (long : length after ≡ length ps) (long_sessions : length fss ≡ length ss) (count : length fs ≡ length es)
+      (served : EntryServes c service (entry_at es n) (place_at ps (first + n)) (session_at ss n) (entry_at fs n) (place_at after (first + n))
+      (session_at fss n))
       (others : (i : ℕ) → i ≢ n → entry_at fs i ≡ entry_at ms i) (same_handle : (entry_at fs n).handle.0 ≡ first + n)
-      (elsewhere : (m : ℕ) → m ≢ first + n → place_at after m ≡ place_at mid m) where
-    below_at : (i : ℕ) → i < n + 1 → (i ≡ n) ⊎ (i ≢ n) →
-        EntryServes service (entry_at es i) (place_at ps (first + i)) (entry_at fs i) (place_at after (first + i))
+      (elsewhere : (m : ℕ) → m ≢ first + n → place_at after m ≡ place_at mid m) (other_sessions : (m : ℕ) → m ≢ n → session_at fss m ≡ session_at mss m) where
+    below_at : (i : ℕ) → i < n + 1 → (i ≡ n) ⊎ (i ≢ n)
+        → EntryServes c service (entry_at es i) (place_at ps (first + i)) (session_at ss i) (entry_at fs i) (place_at after (first + i)) (session_at fss i)
     below_at i h (inl is) =
-        subst (λ (k : ℕ). EntryServes service (entry_at es k) (place_at ps (first + k)) (entry_at fs k) (place_at after (first + k))) (sym is) served
+        subst (λ (k : ℕ). EntryServes c service (entry_at es k) (place_at ps (first + k)) (session_at ss k) (entry_at fs k) (place_at after (first + k))
+        (session_at fss k)) (sym is) served
     below_at i h (inr isnt) =
         let less : i < n = omega (arith, h, isnt) in
-        let there : EntryServes service (entry_at es i) (place_at ps (first + i)) (entry_at ms i) (place_at mid (first + i)) = to.below i less in
-        subst (λ (p : SocketStorage Socket). EntryServes service (entry_at es i) (place_at ps (first + i)) (entry_at fs i) p)
-        (sym (elsewhere (first + i) (λ q. absurd (omega (arith, q, less)))))
-        (subst (λ (x : Entry). EntryServes service (entry_at es i) (place_at ps (first + i)) x (place_at mid (first + i))) (sym (others i isnt)) there)
+        let there : EntryServes c service (entry_at es i) (place_at ps (first + i)) (session_at ss i) (entry_at ms i) (place_at mid (first + i))
+        (session_at mss i) = to.below i less in
+        subst (λ (p : SocketStorage Socket). EntryServes c service (entry_at es i) (place_at ps (first + i)) (session_at ss i) (entry_at fs i) p
+        (session_at fss i)) (sym (elsewhere (first + i) (λ q. absurd (omega (arith, q, less)))))
+        (subst (λ (x : Session). EntryServes c service (entry_at es i) (place_at ps (first + i)) (session_at ss i) (entry_at fs i) (place_at mid (first + i)) x)
+        (sym (other_sessions i isnt))
+        (subst (λ (x : Entry). EntryServes c service (entry_at es i) (place_at ps (first + i)) (session_at ss i) x (place_at mid (first + i))
+        (session_at mss i)) (sym (others i isnt)) there))
 
     handle_at : (i : ℕ) → i < length es → (i ≡ n) ⊎ (i ≢ n) → (entry_at fs i).handle.0 ≡ first + i
     handle_at i h (inl is) = subst (λ (k : ℕ). (entry_at fs k).handle.0 ≡ first + k) (sym is) same_handle
     handle_at i h (inr isnt) = ap (λ (x : Entry). x.handle.0) (others i isnt) ∙ to.handles i h
 
-    step : ServedTo (n + 1) first service ps es after fs
+    step : ServedTo (n + 1) c first service ps ss es after fss fs
     step = record {
       places = long;
+      sessions = long_sessions;
       entries = count;
       below = λ i h. below_at i h (is_or_isnt i n);
       handles = λ i h. handle_at i h (is_or_isnt i n);
       above = λ i h. others i (λ q. absurd (omega (arith, q, h))) ∙ to.above i (omega (arith, h));
       before = λ m h. elsewhere m (λ q. absurd (omega (arith, q, h))) ∙ to.before m h;
       behind = λ m h. elsewhere m (λ q. absurd (omega (arith, q, h))) ∙ to.behind m (omega (arith, h));
+      later = λ m h. other_sessions m (λ q. absurd (omega (arith, q, h))) ∙ to.later m (omega (arith, h));
     }
 
   -- one that isn't accepted
-  left_alone : is_accepted (entry_at ms n).stage ≡ false → after ≡ mid → fs ≡ ms → ServedTo (n + 1) first service ps es after fs
-  left_alone off places entries =
+  left_alone : is_accepted (entry_at ms n).stage ≡ false → after ≡ mid → fss ≡ mss → fs ≡ ms → ServedTo (n + 1) c first service ps ss es after fss fs
+  left_alone off places sessions entries =
       let off_here : is_accepted (entry_at es n).stage ≡ false = ap (λ (x : Entry). is_accepted x.stage) (sym here) ∙ off in
       let place : place_at after (first + n) ≡ place_at ps (first + n) = ap (λ (qs : List (SocketStorage Socket)). place_at qs (first + n)) places ∙
       to.behind (first + n) (omega arith) in
+      let session : session_at fss n ≡ session_at ss n = ap (λ (xs : List Session). session_at xs n) sessions ∙ to.later n (omega arith) in
       let entry : entry_at fs n ≡ entry_at es n = ap (λ (xs : List Entry). entry_at xs n) entries ∙ here in
-      step (ap length places ∙ to.places) (ap length entries ∙ to.entries)
-      (subst (λ (b : Bool). EntryServesBy b service (entry_at es n) (place_at ps (first + n)) (entry_at fs n) (place_at after (first + n))) (sym off_here)
-      (place, entry))
+      step (ap length places ∙ to.places) (ap length sessions ∙ to.sessions) (ap length entries ∙ to.entries)
+      (subst (λ (b : Bool). EntryServesBy b c service (entry_at es n) (place_at ps (first + n)) (session_at ss n) (entry_at fs n) (place_at after (first + n))
+      (session_at fss n)) (sym off_here) (place, session, entry))
       (λ i isnt. ap (λ (xs : List Entry). entry_at xs i) entries) (ap (λ (xs : List Entry). (entry_at xs n).handle.0) entries ∙ at_place)
-      (λ m isnt. ap (λ (qs : List (SocketStorage Socket)). place_at qs m) places)
+      (λ m isnt. ap (λ (qs : List (SocketStorage Socket)). place_at qs m) places) (λ m isnt. ap (λ (xs : List Session). session_at xs m) sessions)
 
   in_or_past : (m : ℕ) → (m < length mid) ⊎ (length mid ≤ m)
   in_or_past m = grind arith
@@ -283,8 +307,11 @@ module _ (n first : ℕ) (service : Service) (ps : List (SocketStorage Socket)) 
   in_or_past_ms : (i : ℕ) → (i < length ms) ⊎ (length ms ≤ i)
   in_or_past_ms i = grind arith
 
-  module _ (on : is_accepted (entry_at ms n).stage ≡ true) (p' : SocketStorage Socket) (serves : PlaceServes service (place_at mid (entry_at ms n).handle.0) p')
-      (places : after ≡ slice_set mid (entry_at ms n).handle.0 p') (entries : fs ≡ back_if (is_over p') (entry_at ms n).handle ms) where
+  module _ (on : is_accepted (entry_at ms n).stage ≡ true) (p' : SocketStorage Socket) (t : Session)
+      (serves : PlaceServes c service (place_at mid (entry_at ms n).handle.0) (session_at mss n) p' t)
+      (session_is : session_at (slice_set mss n (session_after (is_over p') t)) n ≡ session_after (is_over p') t)
+      (places : after ≡ slice_set mid (entry_at ms n).handle.0 p') (sessions : fss ≡ slice_set mss n (session_after (is_over p') t))
+      (entries : fs ≡ back_if (is_over p') (entry_at ms n).handle ms) where
     other_entry : (i : ℕ) → i ≢ n → (i < length ms) ⊎ (length ms ≤ i) → entry_at fs i ≡ entry_at ms i
     other_entry i isnt (inl less) =
         let differs : (entry_at ms i).handle.0 ≢ (entry_at ms n).handle.0 =
@@ -299,75 +326,95 @@ module _ (n first : ℕ) (service : Service) (ps : List (SocketStorage Socket)) 
     this_place =
         let there : place_at after (entry_at ms n).handle.0 ≡ p' =
         ap (λ (qs : List (SocketStorage Socket)). place_at qs (entry_at ms n).handle.0) places ∙
-        set_here service mid (entry_at ms n).handle.0 p' serves (in_or_past (entry_at ms n).handle.0) in
+        set_here c service mid (entry_at ms n).handle.0 p' (session_at mss n) t serves (in_or_past (entry_at ms n).handle.0) in
         subst (λ (m : ℕ). place_at after m ≡ p') at_place there
 
     old_place : place_at mid (entry_at ms n).handle.0 ≡ place_at ps (first + n)
     old_place = ap (place_at mid) at_place ∙ to.behind (first + n) (omega arith)
 
+    this_session : session_at fss n ≡ session_after (is_over p') t
+    this_session = ap (λ (xs : List Session). session_at xs n) sessions ∙ session_is
+
     other_place : (m : ℕ) → m ≢ first + n → place_at after m ≡ place_at mid m
     other_place m isnt =
         ap (λ (qs : List (SocketStorage Socket)). place_at qs m) places ∙ get_or-set_other mid (entry_at ms n).handle.0 m p' free (λ q. isnt (q ∙ at_place))
 
-    served_here : EntryServes service (entry_at es n) (place_at ps (first + n)) (entry_at fs n) (place_at after (first + n))
+    other_session : (m : ℕ) → m ≢ n → session_at fss m ≡ session_at mss m
+    other_session m isnt =
+        ap (λ (xs : List Session). session_at xs m) sessions ∙ get_or-set_other mss n m (session_after (is_over p') t) fresh_session isnt
+
+    served_here : EntryServes c service (entry_at es n) (place_at ps (first + n)) (session_at ss n) (entry_at fs n) (place_at after (first + n))
+        (session_at fss n)
     served_here =
         let on_here : is_accepted (entry_at es n).stage ≡ true = ap (λ (x : Entry). is_accepted x.stage) (sym here) ∙ on in
-        let place : PlaceServes service (place_at ps (first + n)) (place_at after (first + n)) =
-        subst (λ (q : SocketStorage Socket). PlaceServes service (place_at ps (first + n)) q) (sym this_place)
-        (subst (λ (q : SocketStorage Socket). PlaceServes service q p') old_place serves) in
+        let place : PlaceServes c service (place_at ps (first + n)) (session_at ss n) (place_at after (first + n)) t =
+        subst (λ (q : SocketStorage Socket). PlaceServes c service (place_at ps (first + n)) (session_at ss n) q t) (sym this_place)
+        (subst (λ (x : Session). PlaceServes c service (place_at ps (first + n)) x p' t) (to.later n (omega arith))
+        (subst (λ (q : SocketStorage Socket). PlaceServes c service q (session_at mss n) p' t) old_place serves)) in
+        let session : session_at fss n ≡ session_after (is_over (place_at after (first + n))) t =
+        subst (λ (q : SocketStorage Socket). session_at fss n ≡ session_after (is_over q) t) (sym this_place) this_session in
         let entry : entry_at fs n ≡ ended_if (is_over (place_at after (first + n))) (entry_at es n) =
         subst (λ (q : SocketStorage Socket). entry_at fs n ≡ ended_if (is_over q) (entry_at es n)) (sym this_place)
         (subst (λ (x : Entry). entry_at fs n ≡ ended_if (is_over p') x) here this_entry) in
-        subst (λ (b : Bool). EntryServesBy b service (entry_at es n) (place_at ps (first + n)) (entry_at fs n) (place_at after (first + n))) (sym on_here)
-        (place, entry)
+        subst (λ (b : Bool). EntryServesBy b c service (entry_at es n) (place_at ps (first + n)) (session_at ss n) (entry_at fs n) (place_at after (first + n))
+        (session_at fss n)) (sym on_here) (t, place, session, entry)
 
-    served_one : ServedTo (n + 1) first service ps es after fs
+    served_one : ServedTo (n + 1) c first service ps ss es after fss fs
     served_one =
-        step (ap length places ∙ (length-set mid (entry_at ms n).handle.0 p' ∙ to.places)) (ap length entries ∙
-        (back_long (is_over p') (entry_at ms n).handle ms ∙ to.entries)) served_here
+        step (ap length places ∙ (length-set mid (entry_at ms n).handle.0 p' ∙ to.places)) (ap length sessions ∙
+        (length-set mss n (session_after (is_over p') t) ∙ to.sessions))
+        (ap length entries ∙ (back_long (is_over p') (entry_at ms n).handle ms ∙ to.entries)) served_here
         (λ i isnt. other_entry i isnt (in_or_past_ms i))
         (ap (λ (x : Entry). x.handle.0) this_entry ∙ (ap (λ (x : SocketHandle). x.0) (ended_keeps (is_over p') (entry_at ms n)) ∙ at_place)) other_place
+        other_session
 
-  by_stage : (b : Bool) → is_accepted (entry_at ms n).stage ≡ b → OneServesBy b service (entry_at ms n) mid ms after fs →
-      ServedTo (n + 1) first service ps es after fs
-  by_stage true is (over, (p', serves, places, over_is), entries) =
-      served_one is p' serves places (subst (λ (b : Bool). fs ≡ back_if b (entry_at ms n).handle ms) over_is entries)
-  by_stage false is (places, entries) = left_alone is places entries
+  module _ (kept : length ss ≡ length es) where
+    by_stage : (b : Bool) → is_accepted (entry_at ms n).stage ≡ b → OneServesBy b c service n (entry_at ms n) mid mss ms after fss fs →
+        ServedTo (n + 1) c first service ps ss es after fss fs
+    by_stage true is (over, t, (p', serves, places, over_is), sessions, entries) =
+        let has : n < length mss = omega (arith, within, to.entries, to.sessions, kept) in
+        served_one is p' t serves (get_or-set_same mss n (session_after (is_over p') t) fresh_session has) places
+        (subst (λ (b : Bool). fss ≡ slice_set mss n (session_after b t)) over_is sessions)
+        (subst (λ (b : Bool). fs ≡ back_if b (entry_at ms n).handle ms) over_is entries)
+    by_stage false is (places, sessions, entries) = left_alone is places sessions entries
 
-  pub served_more : OneServes service n mid ms after fs → ServedTo (n + 1) first service ps es after fs
-  served_more one = by_stage (is_accepted (entry_at ms n).stage) refl one
+    pub served_more : OneServes c service n mid mss ms after fss fs → ServedTo (n + 1) c first service ps ss es after fss fs
+    served_more one = by_stage (is_accepted (entry_at ms n).stage) refl one
 
 -- ONE ENTRY
 
 -- where there is no place, nothing is served
-pub served_nowhere : (service : Service) (ps : List (SocketStorage Socket)) (at : ℕ) → length ps ≤ at → ServesAt service at ps ps false
-served_nowhere service ps at past =
+pub served_nowhere : (c : Counts) (service : Service) (ps : List (SocketStorage Socket)) (at : ℕ) (x : Session) → length ps ≤ at →
+    ServesAt c service at ps x ps x false
+served_nowhere c service ps at x past =
     let none : place_at ps at ≡ free = get_or_past ps at free past in
-    let same : PlaceServes service free free = refl in
-    let serves : PlaceServes service (place_at ps at) (place_at ps at) = subst (λ (q : SocketStorage Socket). PlaceServes service q q) (sym none) same in
+    let same : PlaceServes c service free x free x = (refl, refl) in
+    let serves : PlaceServes c service (place_at ps at) x (place_at ps at) x =
+    subst (λ (q : SocketStorage Socket). PlaceServes c service q x q x) (sym none) same in
     (place_at ps at, serves, sym (set-get_or ps at free), ap is_over (sym none))
 
 -- the place that was read is served
-pub served_somewhere : (service : Service) (ps : List (SocketStorage Socket)) (at : ℕ) (x p' : SocketStorage Socket) (over : Bool) → at < length ps
-    → PlaceServes service (slice_index_or ps at x) p' → over ≡ is_over p' → ServesAt service at ps (slice_set ps at p') over
-served_somewhere service ps at x p' over within serves over_is =
-    (p', subst (λ (q : SocketStorage Socket). PlaceServes service q p') (get_or_default ps at x free within) serves, refl, over_is)
+pub served_somewhere : (c : Counts) (service : Service) (ps : List (SocketStorage Socket)) (at : ℕ) (x p' : SocketStorage Socket) (y t : Session)
+    (over : Bool) → at < length ps
+    → PlaceServes c service (slice_index_or ps at x) y p' t → over ≡ is_over p' → ServesAt c service at ps y (slice_set ps at p') t over
+served_somewhere c service ps at x p' y t over within serves over_is =
+    (p', subst (λ (q : SocketStorage Socket). PlaceServes c service q y p' t) (get_or_default ps at x free within) serves, refl, over_is)
 
-module _ (service : Service) (at : ℕ) (ps : List (SocketStorage Socket)) (es : List Entry) (e : Entry) (within : at < length es) (read : e ≡
-    slice_index_or es at e) where
+module _ (c : Counts) (service : Service) (at : ℕ) (ps : List (SocketStorage Socket)) (ss : List Session) (es : List Entry) (e : Entry) (within : at <
+    length es) (read : e ≡ slice_index_or es at e) where
   entry_is : e ≡ entry_at es at
   entry_is = read ∙ get_or_default es at e no_entry within
 
-  pub one_left : is_accepted e.stage ≡ false → OneServes service at ps es ps es
+  pub one_left : is_accepted e.stage ≡ false → OneServes c service at ps ss es ps ss es
   one_left off =
-      subst (λ (x : Entry). OneServesBy (is_accepted x.stage) service x ps es ps es) entry_is
-      (subst (λ (b : Bool). OneServesBy b service e ps es ps es) (sym off) (refl, refl))
+      subst (λ (x : Entry). OneServesBy (is_accepted x.stage) c service at x ps ss es ps ss es) entry_is
+      (subst (λ (b : Bool). OneServesBy b c service at e ps ss es ps ss es) (sym off) (refl, refl, refl))
 
-  pub one_served : (ps' : List (SocketStorage Socket)) (es' : List Entry) → is_accepted e.stage ≡ true → OneServesBy true service e ps es ps' es' →
-      OneServes service at ps es ps' es'
-  one_served ps' es' on served =
-      subst (λ (x : Entry). OneServesBy (is_accepted x.stage) service x ps es ps' es') entry_is
-      (subst (λ (b : Bool). OneServesBy b service e ps es ps' es') (sym on) served)
+  pub one_served : (ps' : List (SocketStorage Socket)) (ss' : List Session) (es' : List Entry) → is_accepted e.stage ≡ true →
+      OneServesBy true c service at e ps ss es ps' ss' es' → OneServes c service at ps ss es ps' ss' es'
+  one_served ps' ss' es' on served =
+      subst (λ (x : Entry). OneServesBy (is_accepted x.stage) c service at x ps ss es ps' ss' es') entry_is
+      (subst (λ (b : Bool). OneServesBy b c service at e ps ss es ps' ss' es') (sym on) served)
 
 -- LISTENERS
 
@@ -381,16 +428,17 @@ seen_as service l now ps es ps' es' is refreshes =
     (subst (λ (e : IpListenEndpoint). Refreshes e now l.keepers.items ps es ps' es') is.endpoint refreshes)
 
 -- a listener whose sockets are seen and served stays one
-pub still_listener : (service : Service) (l m n : Listener) (now : ℕ) (ps ps' qs qs' : List (SocketStorage Socket)) → IsListener service l
+pub still_listener : (c : Counts) (service : Service) (l m n : Listener) (now : ℕ) (ps ps' qs qs' : List (SocketStorage Socket)) (ss ss' : List Session) →
+    IsListener service l
     → Refreshes l.endpoint now l.keepers.items ps l.entries.items ps' m.entries.items → m.endpoint ≡ l.endpoint → m.keepers.items ≡ l.keepers.items
-    → BacklogServes (first_place service) service qs (map accepted m.entries.items) qs' n.entries.items → n ≡ record m { entries = n.entries } →
+    → BacklogServes c (first_place service) service qs ss (map accepted m.entries.items) qs' ss' n.entries.items → n ≡ record m { entries = n.entries } →
     IsListener service n
-still_listener service l m n now ps ps' qs qs' is refreshes endpoint keepers serves rest =
+still_listener c service l m n now ps ps' qs qs' ss ss' is refreshes endpoint keepers serves rest =
     let seen : StandsFrom (first_place service) (socket_count service) m.entries.items =
     refreshed_stand l.endpoint now (first_place service) (socket_count service) l.keepers.items ps l.entries.items ps' m.entries.items refreshes is.stands in
     record {
       endpoint = ap (λ (x : Listener). x.endpoint) rest ∙ (endpoint ∙ is.endpoint);
       keepers = ap (λ (x : Listener). x.keepers.items) rest ∙ (keepers ∙ is.keepers);
-      stands = served_stand (first_place service) (socket_count service) service qs (map accepted m.entries.items) qs' n.entries.items serves
+      stands = served_stand c (first_place service) (socket_count service) service qs ss (map accepted m.entries.items) qs' ss' n.entries.items serves
           (accepted_stand (first_place service) (socket_count service) m.entries.items seen);
     }

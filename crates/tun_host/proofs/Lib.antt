@@ -2,3 +2,4 @@ mod Beginning
 mod Fresh
 mod Connections
 mod Running
+mod Collected

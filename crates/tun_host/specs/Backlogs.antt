@@ -1,9 +1,12 @@
 -- A host's listeners, and what its services make of the connections that they accepted.
-use Rattle.std.specs.Prelude.{◌≡◌, ℕ, ◌+◌, ◌<◌, ◌≤◌, Bool, true, false, List, [], ◌∷◌, length, map, slice_set, None}
+use Rattle.std.specs.Prelude.{◌≡◌, ℕ, ◌+◌, ◌<◌, ◌≤◌, Bool, true, false, List, [], ◌∷◌, length, map, slice_index_or, slice_set, None}
 use Rattle.interface.specs.State.{State}
 use Rattle.interface_egress.specs.declared.socket_set.SocketHandle.{SocketHandle}
 use Rattle.interface_egress.specs.declared.socket_set.SocketStorage.{SocketStorage}
 use Rattle.ip_wire.specs.IpListenEndpoint.{IpListenEndpoint}
+use Rattle.services.specs.Site.{fresh_session}
+use Rattle.services.specs.declared.counts.Counts.{Counts}
+use Rattle.services.specs.declared.site.Session.{Session}
 use Rattle.sockets.specs.declared.socket.Socket.{Socket}
 use Rattle.tcp_listener.specs.Calls.{fresh_entry, given_back}
 use Rattle.tcp_listener.specs.Entries.{entry_at}
@@ -14,6 +17,7 @@ use Rattle.tcp_listener.specs.declared.listener.Listener.{Listener}
 use Rattle.tcp_listener.specs.declared.stage.Stage.TheVariants as Stage
 use Rattle.tun_host.specs.Services.{first_place, socket_count, keeper_place, port_of, PlaceServes, is_over}
 use Rattle.tun_host.specs.declared.place.Service.{Service}
+use Rattle.tun_host.specs.declared.tally.Tally.{Tally}
 use Rattle.tun_link.specs.Drain.{DrainValue}
 
 abbrev pub on_port : ℕ → IpListenEndpoint
@@ -56,6 +60,9 @@ pub record HostState : Type 0 where
   pub net : State DrainValue
   pub echoes : List Entry
   pub pages : List Entry
+  pub echo_sessions : List Session
+  pub sessions : List Session
+  pub tally : Tally
 
 -- AN ACCEPTED CONNECTION
 
@@ -64,22 +71,34 @@ abbrev pub ended_if : Bool → Entry → Entry
 ended_if true e = record e { stage = Stage.Ending }
 ended_if false e = e
 
-abbrev pub EntryServesBy : Bool → Service → Entry → SocketStorage Socket → Entry → SocketStorage Socket → Type 0
-EntryServesBy true service e p e' p' = PlaceServes service p p' × (e' ≡ ended_if (is_over p') e)
-EntryServesBy false service e p e' p' = (p' ≡ p) × (e' ≡ e)
+abbrev pub session_at : List Session → ℕ → Session
+session_at ss i = slice_index_or ss i fresh_session
+
+-- a session of a connection that is over is fresh, but for what it counted
+abbrev pub session_after : Bool → Session → Session
+session_after true s = record s { left = 0; closes = false }
+session_after false s = s
+
+abbrev pub EntryServesBy : Bool → Counts → Service → Entry → SocketStorage Socket → Session → Entry → SocketStorage Socket → Session → Type 0
+EntryServesBy true c service e p s e' p' s' =
+    (t : Session) × PlaceServes c service p s p' t × (s' ≡ session_after (is_over p') t) × (e' ≡ ended_if (is_over p') e)
+EntryServesBy false c service e p s e' p' s' = (p' ≡ p) × (s' ≡ s) × (e' ≡ e)
 
 -- one that was accepted is served
-abbrev pub EntryServes : Service → Entry → SocketStorage Socket → Entry → SocketStorage Socket → Type 0
-EntryServes service e p e' p' = EntryServesBy (is_accepted e.stage) service e p e' p'
+abbrev pub EntryServes : Counts → Service → Entry → SocketStorage Socket → Session → Entry → SocketStorage Socket → Session → Type 0
+EntryServes c service e p s e' p' s' = EntryServesBy (is_accepted e.stage) c service e p s e' p' s'
 
 -- each connection that was accepted is served, and nothing else changes
-pub record BacklogServes (first : ℕ) (service : Service) (ps : List (SocketStorage Socket)) (es : List Entry) (ps' : List (SocketStorage Socket))
-    (es' : List Entry) : Type 0 where
+pub record BacklogServes (c : Counts) (first : ℕ) (service : Service) (ps : List (SocketStorage Socket)) (ss : List Session) (es : List Entry)
+    (ps' : List (SocketStorage Socket)) (ss' : List Session) (es' : List Entry) : Type 0 where
   pub places : length ps' ≡ length ps
+  pub sessions : length ss' ≡ length ss
   pub entries : length es' ≡ length es
-  pub each : (i : ℕ) → i < length es → EntryServes service (entry_at es i) (place_at ps (first + i)) (entry_at es' i) (place_at ps' (first + i))
+  pub each : (i : ℕ) → i < length es
+      → EntryServes c service (entry_at es i) (place_at ps (first + i)) (session_at ss i) (entry_at es' i) (place_at ps' (first + i)) (session_at ss' i)
   pub before : (n : ℕ) → n < first → place_at ps' n ≡ place_at ps n
   pub behind : (n : ℕ) → first + length es ≤ n → place_at ps' n ≡ place_at ps n
+  pub others : (n : ℕ) → length es ≤ n → session_at ss' n ≡ session_at ss n
 
 -- the accepted socket of this handle is given back, if it is over
 abbrev pub back_if : Bool → SocketHandle → List Entry → List Entry
@@ -87,14 +106,18 @@ back_if true handle es = map (given_back handle) es
 back_if false handle es = es
 
 -- a place is served, and whether its connection is over
-abbrev pub ServesAt : Service → ℕ → List (SocketStorage Socket) → List (SocketStorage Socket) → Bool → Type 0
-ServesAt service at ps ps' over =
-    (p' : SocketStorage Socket) × PlaceServes service (place_at ps at) p' × (ps' ≡ slice_set ps at p') × (over ≡ is_over p')
+abbrev pub ServesAt : Counts → Service → ℕ → List (SocketStorage Socket) → Session → List (SocketStorage Socket) → Session → Bool → Type 0
+ServesAt c service at ps s ps' t over =
+    (p' : SocketStorage Socket) × PlaceServes c service (place_at ps at) s p' t × (ps' ≡ slice_set ps at p') × (over ≡ is_over p')
 
-abbrev pub OneServesBy : Bool → Service → Entry → List (SocketStorage Socket) → List Entry → List (SocketStorage Socket) → List Entry → Type 0
-OneServesBy true service e ps es ps' es' = (over : Bool) × ServesAt service e.handle.0 ps ps' over × (es' ≡ back_if over e.handle es)
-OneServesBy false service e ps es ps' es' = (ps' ≡ ps) × (es' ≡ es)
+abbrev pub OneServesBy : Bool → Counts → Service → ℕ → Entry → List (SocketStorage Socket) → List Session → List Entry → List (SocketStorage Socket) →
+    List Session → List Entry → Type 0
+OneServesBy true c service at e ps ss es ps' ss' es' =
+    (over : Bool) × (t : Session) × ServesAt c service e.handle.0 ps (session_at ss at) ps' t over
+    × (ss' ≡ slice_set ss at (session_after over t)) × (es' ≡ back_if over e.handle es)
+OneServesBy false c service at e ps ss es ps' ss' es' = (ps' ≡ ps) × (ss' ≡ ss) × (es' ≡ es)
 
 -- one entry's connection is served, where its handle says
-abbrev pub OneServes : Service → ℕ → List (SocketStorage Socket) → List Entry → List (SocketStorage Socket) → List Entry → Type 0
-OneServes service at ps es ps' es' = OneServesBy (is_accepted (entry_at es at).stage) service (entry_at es at) ps es ps' es'
+abbrev pub OneServes : Counts → Service → ℕ → List (SocketStorage Socket) → List Session → List Entry → List (SocketStorage Socket) → List Session →
+    List Entry → Type 0
+OneServes c service at ps ss es ps' ss' es' = OneServesBy (is_accepted (entry_at es at).stage) c service at (entry_at es at) ps ss es ps' ss' es'

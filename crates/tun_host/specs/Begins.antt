@@ -33,7 +33,7 @@ use Rattle.sockets.specs.declared.socket.Socket.TheVariants as Is
 use Rattle.tcp_model.specs.Blocks.{fresh_block, default_settings}
 use Rattle.tcp_model.specs.Value.{TcpValue, emptied, room_of}
 use Rattle.tun_host.specs.Settings.{medium_of}
-use Rattle.tun_host.specs.Services.{service_at, echo_room}
+use Rattle.tun_host.specs.Services.{service_at, socket_count, echo_room}
 use Rattle.tun_host.specs.declared.error.ServeError.{ServeError}
 use Rattle.tun_host.specs.declared.error.ServeError.TheVariants.{Address, Hardware, Memory}
 use Rattle.tun_host.specs.declared.interface_of.TheConstants.{MTU}
@@ -41,7 +41,9 @@ use Rattle.tun_host.specs.declared.place.Service.{Service}
 use Rattle.tun_host.specs.declared.place.Service.TheVariants.{Datagrams, Streams, Page, Keeper}
 use Rattle.tun_host.specs.declared.place.TheConstants.{ECHO_PORT, DATAGRAMS}
 use Rattle.tun_host.specs.declared.settings.Settings.{Settings}
-use Rattle.tun_link.specs.Drain.{DrainValue}
+use Rattle.tun_link.specs.Drain.{DrainValue, fresh_drain}
+use Rattle.tun_host.specs.Tallies.{no_tally}
+use Rattle.services.specs.Site.{fresh_session}
 
 -- THE INTERFACE
 
@@ -166,7 +168,7 @@ pub record AreFresh (places : List (SocketStorage Socket)) : Type 0 where
 
 -- nothing waits at the device, and nothing was sent
 abbrev pub fresh_device : HardwareAddress → DrainValue
-fresh_device hardware = record { waiting = None; dropped = 0; sent = []; refusals = 0; capabilities = capabilities_of hardware }
+fresh_device hardware = fresh_drain (capabilities_of hardware)
 
 -- a host of these settings, from this moment on, on a link
 pub record BeginsAt (s : Settings) (moment : ℤ) (new : State DrainValue) : Type 0 where
@@ -178,3 +180,6 @@ pub record Begins (s : Settings) (moment : ℤ) (new : HostState) : Type 0 where
   pub net : BeginsAt s moment new.net
   pub echoes : AreFreshEntries Streams new.echoes
   pub pages : AreFreshEntries Page new.pages
+  pub echo_sessions : new.echo_sessions ≡ replicate (socket_count Streams) fresh_session
+  pub sessions : new.sessions ≡ replicate (socket_count Page) fresh_session
+  pub tally : new.tally ≡ no_tally

@@ -1,9 +1,11 @@
 -- The services at the places of a host's sockets, and what a turn makes of them.
-use Rattle.std.specs.Prelude.{◌≡◌, ℕ, zero, suc, ◌==◌, nat_le, Bool, false, not, if◌then◌else◌, List, codes, slice_set, Option, None, Some}
+use Rattle.std.specs.Prelude.{◌≡◌, ℕ, zero, suc, ◌==◌, nat_le, Bool, false, not, if◌then◌else◌, List, slice_set, Option, None, Some}
 use Rattle.interface_egress.specs.declared.socket_set.Item.{Item}
 use Rattle.interface_egress.specs.declared.socket_set.SocketStorage.{SocketStorage}
 use Rattle.services.specs.Echo.{datagram_echoed, stream_echoed}
-use Rattle.services.specs.Page.{IsServed}
+use Rattle.services.specs.Site.{Serves, talk, fresh_session}
+use Rattle.services.specs.declared.counts.Counts.{Counts}
+use Rattle.services.specs.declared.site.Session.{Session}
 use Rattle.sockets.specs.declared.socket.Socket.{Socket}
 use Rattle.sockets.specs.declared.socket.Socket.TheVariants as Is
 use Rattle.tcp_control.specs.States.{takes_writes}
@@ -43,20 +45,11 @@ echo_room = 65_536
 
 -- how many bytes of a request are looked at
 abbrev pub most_request : ℕ
-most_request = 1024
+most_request = 4096
 
 -- how many datagrams are echoed in a turn, at most
 unfoldable pub datagram_count : ℕ
 datagram_count = 64
-
--- the page behind its head
-unfoldable pub page : List ℕ
-page =
-    codes "HTTP/1.0 200 OK\r\nContent-Type: text/html\r\nContent-Length: 106\r\n\r\n<!DOCTYPE html>\n<title>Zemplovir</title>\n<p>This page came over a TCP/IP stack whose promises are proved.\n"
-
--- what any other request is told
-unfoldable pub refusal : List ℕ
-refusal = codes "HTTP/1.0 400 Bad Request\r\nContent-Length: 0\r\n\r\n"
 
 abbrev pub times : {X : Type 0} → ℕ → (X → X) → X → X
 times zero f x = x
@@ -72,31 +65,32 @@ abbrev pub stream_served : ℕ → Socket → Socket
 stream_served room (Is.Tcp v) = Is.Tcp (stream_echoed room v)
 stream_served room s = s
 
-abbrev pub PageServed : ℕ → Socket → Socket → Type 0
-PageServed most (Is.Tcp v) (Is.Tcp w) = IsServed page refusal most v w
-PageServed most (Is.Tcp v) s = ⊥
-PageServed most s s' = s' ≡ s
+abbrev pub PageServed : Counts → ℕ → Socket → Session → Socket → Session → Type 0
+PageServed c most (Is.Tcp v) session (Is.Tcp w) session' = Serves c most (talk v session) (talk w session')
+PageServed c most (Is.Tcp v) session s session' = ⊥
+PageServed c most s session s' session' = (s' ≡ s) × (session' ≡ session)
 
-abbrev pub ServesAs : Service → Socket → Socket → Type 0
-ServesAs Datagrams s s' = s' ≡ datagrams_served echo_room s
-ServesAs Streams s s' = s' ≡ stream_served echo_room s
-ServesAs Page s s' = PageServed most_request s s'
-ServesAs Keeper s s' = s' ≡ s
+abbrev pub ServesAs : Counts → Service → Socket → Session → Socket → Session → Type 0
+ServesAs c Datagrams s session s' session' = (s' ≡ datagrams_served echo_room s) × (session' ≡ session)
+ServesAs c Streams s session s' session' = (s' ≡ stream_served echo_room s) × (session' ≡ session)
+ServesAs c Page s session s' session' = PageServed c most_request s session s' session'
+ServesAs c Keeper s session s' session' = (s' ≡ s) × (session' ≡ session)
 
 -- A PLACE
 
 -- what the interface keeps beside the socket stays
-abbrev pub ItemServes : Service → Option (Item Socket) → Option (Item Socket) → Type 0
-ItemServes service None item = item ≡ None
-ItemServes service (Some old) None = ⊥
-ItemServes service (Some old) (Some new) = ServesAs service old.socket new.socket × (new.meta ≡ old.meta)
+abbrev pub ItemServes : Counts → Service → Option (Item Socket) → Session → Option (Item Socket) → Session → Type 0
+ItemServes c service None session item session' = (item ≡ None) × (session' ≡ session)
+ItemServes c service (Some old) session None session' = ⊥
+ItemServes c service (Some old) session (Some new) session' = ServesAs c service old.socket session new.socket session' × (new.meta ≡ old.meta)
 
-abbrev pub PlaceServes : Service → SocketStorage Socket → SocketStorage Socket → Type 0
-PlaceServes service old new = ItemServes service old.inner new.inner
+abbrev pub PlaceServes : Counts → Service → SocketStorage Socket → Session → SocketStorage Socket → Session → Type 0
+PlaceServes c service old session new session' = ItemServes c service old.inner session new.inner session'
 
 -- the first place is served
-abbrev pub FirstServes : List (SocketStorage Socket) → List (SocketStorage Socket) → Type 0
-FirstServes old new = (place : SocketStorage Socket) × PlaceServes Datagrams (place_at old 0) place × (new ≡ slice_set old 0 place)
+abbrev pub FirstServes : Counts → List (SocketStorage Socket) → List (SocketStorage Socket) → Type 0
+FirstServes c old new =
+    (place : SocketStorage Socket) × (session : Session) × PlaceServes c Datagrams (place_at old 0) fresh_session place session × (new ≡ slice_set old 0 place)
 
 -- THE END OF A CONNECTION
 

@@ -12,7 +12,11 @@ use Rattle.tun_host.specs.Begins.{Begins, RefusesSettings}
 use Rattle.tcp_listener.specs.Calls.{micros_of, Refreshes, accepted}
 use Rattle.tcp_listener.specs.declared.entry.Entry.{Entry}
 use Rattle.tun_host.specs.Backlogs.{on_port, keepers_of, IsListener, HostState, BacklogServes}
-use Rattle.tun_host.specs.Services.{first_place, FirstServes, echo_room, most_request}
+use Rattle.services.specs.declared.counts.Counts.{Counts}
+use Rattle.services.specs.declared.site.Session.{Session}
+use Rattle.tun_host.specs.Tallies.{counts_of, more_waiting, collected, no_more}
+use Rattle.tun_host.specs.declared.tally.Tally.{Tally}
+use Rattle.tun_host.specs.Services.{first_place, socket_count, FirstServes, echo_room, most_request}
 use Rattle.tun_host.specs.Settings.{settings_in}
 use Rattle.tun_host.specs.declared.error.ServeError.{ServeError}
 use Rattle.tun_host.specs.declared.error.ServeError.TheVariants.{Turn as NoTurn, Settings as NoSettings, Turns}
@@ -26,7 +30,14 @@ use Rattle.tun_link.specs.Drain.{DrainValue, DrainMove, brought}
 use Rattle.tun_link.specs.Turn.{Takes, Refuses}
 
 abbrev pub state_of : Host → HostState
-state_of h = record { net = state h.drain h.interface (places h.sockets); echoes = h.echoes.entries.items; pages = h.pages.entries.items }
+state_of h = record {
+  net = state h.drain h.interface (places h.sockets);
+  echoes = h.echoes.entries.items;
+  pages = h.pages.entries.items;
+  echo_sessions = h.echo_sessions.items;
+  sessions = h.sessions.items;
+  tally = h.tally;
+}
 
 -- its services' buffers have their lengths, and its listeners their sockets
 pub record IsSetUp (h : Host) : Type 0 where
@@ -34,6 +45,8 @@ pub record IsSetUp (h : Host) : Type 0 where
   pub request : vec_len h.request ≡ most_request
   pub echoes : IsListener Streams h.echoes
   pub pages : IsListener Page h.pages
+  pub echo_sessions : vec_len h.echo_sessions ≡ socket_count Streams
+  pub sessions : vec_len h.sessions ≡ socket_count Page
 
 -- A TURN
 
@@ -45,30 +58,38 @@ budget = 64
 abbrev pub with_packet : State DrainValue → List ℕ → State DrainValue
 with_packet s packet = at_device s (brought packet s.device)
 
--- sockets, and how far those of the listeners came
+-- sockets, how far those of the listeners came, and what the page's connections are in the middle of
 pub record Served : Type 0 where
   pub sockets : List (SocketStorage Socket)
   pub echoes : List Entry
   pub pages : List Entry
+  pub echo_sessions : List Session
+  pub sessions : List Session
 
-abbrev pub served_of : List (SocketStorage Socket) → List Entry → List Entry → Served
-served_of sockets echoes pages = record { sockets = sockets; echoes = echoes; pages = pages }
+abbrev pub served_of : List (SocketStorage Socket) → List Entry → List Entry → List Session → List Session → Served
+served_of sockets echoes pages echo_sessions sessions =
+    record { sockets = sockets; echoes = echoes; pages = pages; echo_sessions = echo_sessions; sessions = sessions }
 
 -- the datagrams are served, and the connections that were accepted
-pub record ServicesServe (old new : Served) : Type 0 where
+pub record ServicesServe (c : Counts) (old new : Served) : Type 0 where
   pub datagrams : List (SocketStorage Socket)
   pub streams : List (SocketStorage Socket)
-  pub serves_datagrams : FirstServes old.sockets datagrams
-  pub serves_streams : BacklogServes (first_place Streams) Streams datagrams (map accepted old.echoes) streams new.echoes
-  pub serves_pages : BacklogServes (first_place Page) Page streams (map accepted old.pages) new.sockets new.pages
+  pub serves_datagrams : FirstServes c old.sockets datagrams
+  pub serves_streams : BacklogServes c (first_place Streams) Streams datagrams old.echo_sessions (map accepted old.echoes) streams new.echo_sessions new.echoes
+  pub serves_pages : BacklogServes c (first_place Page) Page streams old.sessions (map accepted old.pages) new.sockets new.sessions new.pages
 
--- the listeners see how far their sockets came; then the services do what can be done
-pub record AreServed (moment : ℤ) (old new : Served) : Type 0 where
+-- The listeners see how far their sockets came; then the services do what can be done, and what they counted is taken over. A page of
+-- counts has those of the turn's beginning.
+pub record AreServed (moment : ℤ) (d : DrainValue) (old : Served) (t : Tally) (new : Served) (t' : Tally) : Type 0 where
   pub seen : List (SocketStorage Socket)
   pub ready : Served
+  pub done : List Session
   pub sees_echoes : Refreshes (on_port ECHO_PORT) (micros_of moment) (keepers_of Streams) old.sockets old.echoes seen ready.echoes
   pub sees_pages : Refreshes (on_port PAGE_PORT) (micros_of moment) (keepers_of Page) seen old.pages ready.sockets ready.pages
-  pub serves : ServicesServe ready new
+  pub same : (ready.echo_sessions ≡ old.echo_sessions) × (ready.sessions ≡ old.sessions)
+  pub serves : ServicesServe (counts_of d (more_waiting ready.echoes ready.pages t)) ready (record new { sessions = done })
+  pub sessions : new.sessions ≡ map no_more done
+  pub tally : t' ≡ collected done (more_waiting ready.echoes ready.pages t)
 
 -- The packet comes, the interface is polled at the turn's moment, the services do what can be done, and the interface is polled again;
 -- then it is asked when it wants to be polled next. Nothing but the host before, the packet and the moment goes in.
@@ -79,10 +100,18 @@ pub record TakesTurn (old : HostState) (moment : ℤ) (packet : List ℕ) (next 
   pub changed : Bool
   pub changed_again : Bool
   pub takes : Polls DrainMove moment budget (with_packet old.net packet) changed come
-  pub serves : AreServed moment (served_of come.places old.echoes old.pages) done
+  pub tally : Tally
+  pub serves : AreServed moment come.device (served_of come.places old.echoes old.pages old.echo_sessions old.sessions) old.tally done tally
   pub sends : Polls DrainMove moment budget (state come.device come.host done.sockets) changed_again gone
   pub asked : next ≡ poll_instant (at_moment moment gone.host.inner) gone.host.left gone.places
-  pub after : new ≡ record { net = state gone.device (host_at moment gone.host) gone.places; echoes = done.echoes; pages = done.pages }
+  pub after : new ≡ record {
+    net = state gone.device (host_at moment gone.host) gone.places;
+    echoes = done.echoes;
+    pages = done.pages;
+    echo_sessions = done.echo_sessions;
+    sessions = done.sessions;
+    tally = tally;
+  }
 
 -- a turn, and what is written: the packets that were sent, and the moment of the next turn. After that the device has nothing sent.
 pub record Answers (old : HostState) (moment : ℤ) (packet said : List ℕ) (new : HostState) : Type 0 where

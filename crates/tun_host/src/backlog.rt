@@ -1,14 +1,15 @@
 //! The connections of a service: its listener, and what the service makes of those that were accepted.
-ghost use Rattle.std.specs.Prelude.{◌≡◌, ◌<◌, length, map, IfOk};
+ghost use Rattle.std.specs.Prelude.{◌≡◌, ◌<◌, length, map, slice_set, IfOk};
 ghost use Rattle.tcp_listener.specs.Calls.{accepted};
-ghost use Rattle.tun_host.specs.Services.{echo_room, most_request, first_place, FirstServes};
-ghost use Rattle.tun_host.specs.Backlogs.{StandAt, IsFreshListener, back_if, ServesAt, OneServes, BacklogServes};
+ghost use Rattle.tun_host.specs.Services.{echo_room, most_request, first_place, socket_count, FirstServes};
+ghost use Rattle.tun_host.specs.Backlogs.{StandAt, IsFreshListener, session_at, session_after, back_if, ServesAt, OneServes, BacklogServes};
 
 use crate::place::{
     Service, first_place, is_over, keeper_place, port_of, serve_place, socket_count,
 };
 use interface::{SocketHandle, SocketStorage};
 use ip_wire::IpListenEndpoint;
+use services::{Counts, Session};
 use sockets::Socket;
 use std::alloc::{AllocError, Global};
 use tcp_listener::Listener;
@@ -31,13 +32,60 @@ pub fn listener(alloc: Global, service: Service) -> Result<Listener, AllocError>
 }
 
 /// The datagrams at the first place are served.
-pub fn serve_first(places: &mut [SocketStorage<Socket>], buffer: &mut [u8], request: &mut [u8])
+pub fn serve_first(
+    places: &mut [SocketStorage<Socket>],
+    counts: &Counts,
+    buffer: &mut [u8],
+    request: &mut [u8],
+)
     requires buffer { length buffer.old ≡ echo_room }
     requires request { length request.old ≡ most_request }
-    ensures { FirstServes places.old places.new }
+    ensures { FirstServes counts.now places.old places.new }
 {
     if let [place, ..] = places {
-        serve_place(Service::Datagrams, place, buffer, request);
+        let mut session = Session::FRESH;
+        serve_place(
+            Service::Datagrams,
+            place,
+            &mut session,
+            counts,
+            buffer,
+            request,
+        );
+    }
+}
+
+/// The session of an entry, a fresh one where none is kept.
+fn session_at(sessions: &[Session], at: usize) -> Session
+    ensures { result ≡ session_at sessions.now at }
+{
+    if at < sessions.len() {
+        sessions[at]
+    } else {
+        Session::FRESH
+    }
+}
+
+fn put_session(sessions: &mut [Session], at: usize, session: Session)
+    ensures { sessions.new ≡ slice_set sessions.old at session }
+{
+    if at < sessions.len() {
+        sessions[at] = session;
+    }
+}
+
+/// A session of a connection that is over is fresh, but for what it counted.
+fn session_after(is_over: bool, session: Session) -> Session
+    ensures { result ≡ session_after is_over session }
+{
+    if is_over {
+        Session {
+            answered: session.answered,
+            declined: session.declined,
+            ..Session::FRESH
+        }
+    } else {
+        session
     }
 }
 
@@ -46,18 +94,20 @@ fn serve_at(
     service: Service,
     at: usize,
     places: &mut [SocketStorage<Socket>],
+    session: &mut Session,
+    counts: &Counts,
     buffer: &mut [u8],
     request: &mut [u8],
 ) -> bool
     requires buffer { length buffer.old ≡ echo_room }
     requires request { length request.old ≡ most_request }
-    ensures { ServesAt service at places.old places.new result }
+    ensures { ServesAt counts.now service at places.old session.old places.new session.new result }
 {
     if at >= places.len() {
         return false;
     }
     let place = &mut places[at];
-    serve_place(service, place, buffer, request);
+    serve_place(service, place, session, counts, buffer, request);
     is_over(place)
 }
 
@@ -76,21 +126,34 @@ fn serve_one(
     service: Service,
     at: usize,
     places: &mut [SocketStorage<Socket>],
+    sessions: &mut [Session],
     listener: &mut Listener,
+    counts: &Counts,
     buffer: &mut [u8],
     request: &mut [u8],
 )
     requires buffer { length buffer.old ≡ echo_room }
     requires request { length request.old ≡ most_request }
     requires within { at < length listener.old.entries.items }
-    ensures served { OneServes service at places.old listener.old.entries.items places.new listener.new.entries.items }
+    requires sessions { length sessions.old ≡ length listener.old.entries.items }
+    ensures served { OneServes counts.now service at places.old sessions.old listener.old.entries.items places.new sessions.new listener.new.entries.items }
     ensures rest { listener.new ≡ record listener.old { entries = listener.new.entries } }
 {
     let entry = listener.entries[at];
     if !entry.stage.is_accepted() {
         return;
     }
-    let over = serve_at(service, entry.handle.place(), places, buffer, request);
+    let mut session = session_at(sessions, at);
+    let over = serve_at(
+        service,
+        entry.handle.place(),
+        places,
+        &mut session,
+        counts,
+        buffer,
+        request,
+    );
+    put_session(sessions, at, session_after(over, session));
     give_back_if(listener, over, entry.handle);
 }
 
@@ -98,18 +161,24 @@ fn serve_one(
 fn serve_accepted(
     service: Service,
     places: &mut [SocketStorage<Socket>],
+    sessions: &mut [Session],
     listener: &mut Listener,
+    counts: &Counts,
     buffer: &mut [u8],
     request: &mut [u8],
 )
     requires buffer { length buffer.old ≡ echo_room }
     requires request { length request.old ≡ most_request }
     requires stands { StandAt service listener.old.entries.items }
-    ensures served { BacklogServes (first_place service) service places.old listener.old.entries.items places.new listener.new.entries.items }
+    requires sessions { length sessions.old ≡ socket_count service }
+    ensures served { BacklogServes counts.now (first_place service) service places.old sessions.old listener.old.entries.items places.new sessions.new
+        listener.new.entries.items }
     ensures rest { listener.new ≡ record listener.old { entries = listener.new.entries } }
 {
     for at in 0..listener.entries.len() {
-        serve_one(service, at, places, listener, buffer, request);
+        serve_one(
+            service, at, places, sessions, listener, counts, buffer, request,
+        );
     }
 }
 
@@ -117,16 +186,20 @@ fn serve_accepted(
 pub fn serve_backlog(
     service: Service,
     places: &mut [SocketStorage<Socket>],
+    sessions: &mut [Session],
     listener: &mut Listener,
+    counts: &Counts,
     buffer: &mut [u8],
     request: &mut [u8],
 )
     requires buffer { length buffer.old ≡ echo_room }
     requires request { length request.old ≡ most_request }
     requires stands { StandAt service listener.old.entries.items }
-    ensures served { BacklogServes (first_place service) service places.old (map accepted listener.old.entries.items) places.new listener.new.entries.items }
+    requires sessions { length sessions.old ≡ socket_count service }
+    ensures served { BacklogServes counts.now (first_place service) service places.old sessions.old (map accepted listener.old.entries.items) places.new
+        sessions.new listener.new.entries.items }
     ensures rest { listener.new ≡ record listener.old { entries = listener.new.entries } }
 {
     listener.accept_all();
-    serve_accepted(service, places, listener, buffer, request);
+    serve_accepted(service, places, sessions, listener, counts, buffer, request);
 }

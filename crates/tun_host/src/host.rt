@@ -1,27 +1,30 @@
 //! A host with its services.
-ghost use Rattle.std.specs.Prelude.{◌≡◌, ℕ, List, length, IfOk, IfErr, OnOk};
+ghost use Rattle.std.specs.Prelude.{◌≡◌, ℕ, List, length, vec_len, replicate, IfOk, IfErr, OnOk};
 ghost use Rattle.std.specs.Io.KnownBytes.{Appends};
 ghost use Rattle.interface.specs.Set.{places};
 ghost use Rattle.net_base.specs.Time.{IsMoment};
 ghost use Rattle.tun_host.specs.Begins.{Begins, RefusesSettings};
 ghost use Rattle.tun_host.specs.Settings.{HasPrefixes};
 ghost use Rattle.tun_host.specs.Backlogs.{StandAt, IsListener};
-ghost use Rattle.tun_host.specs.Services.{echo_room, most_request};
+ghost use Rattle.tun_host.specs.Services.{echo_room, most_request, socket_count};
 ghost use Rattle.tun_host.specs.Turns.{state_of, IsSetUp, budget, served_of, ServicesServe, AreServed, TakesTurn, Answers};
 ghost use Rattle.interface.specs.State.{state};
+ghost use Rattle.services.specs.Site.{fresh_session};
 ghost use Rattle.interface.specs.Polls.{Polls, is_change};
 ghost use Rattle.tun_link.specs.Drain.{DrainMove};
 
 use crate::backlog::{listener, serve_backlog, serve_first};
 use crate::error::ServeError;
 use crate::interface_of::{capabilities, interface};
-use crate::place::Service;
+use crate::place::{Service, socket_count};
 use crate::settings::Settings;
 use crate::sockets_of::{ROOM, sockets};
+use crate::tally::Tally;
 use interface::{Interface, PollResult, SocketSet, SocketStorage};
 use net_base::{Instant, ManagedSlice};
+use services::{Counts, Session};
 use sockets::Socket;
-use std::alloc::Global;
+use std::alloc::{AllocError, Global};
 use std::io::Write;
 use tcp_listener::Listener;
 use tun_link::{Drain, write_answer};
@@ -30,7 +33,7 @@ use tun_link::{Drain, write_answer};
 const BUDGET: u16 = 64;
 
 /// How many bytes of a request are looked at.
-const MOST_REQUEST: usize = 1024;
+const MOST_REQUEST: usize = 4096;
 
 /// A host on a link of packets, with its sockets, and buffers for its services.
 #[derive(Drop)]
@@ -42,6 +45,11 @@ pub struct Host {
     pub request: Vec<u8>,
     pub echoes: Listener,
     pub pages: Listener,
+    /// Those of the echo's connections stay as they are.
+    pub echo_sessions: Vec<Session>,
+    /// Those of the page's connections.
+    pub sessions: Vec<Session>,
+    pub tally: Tally,
 }
 
 #[tactic(auto, unfolding(crate::specs::Turns::budget))]
@@ -68,8 +76,11 @@ fn poll(
 /// The services do what can be done now.
 fn serve_places(
     places: &mut [SocketStorage<Socket>],
+    echo_sessions: &mut [Session],
+    sessions: &mut [Session],
     echoes: &mut Listener,
     pages: &mut Listener,
+    counts: &Counts,
     buffer: &mut [u8],
     request: &mut [u8],
 )
@@ -77,21 +88,42 @@ fn serve_places(
     requires request { length request.old ≡ most_request }
     requires echoes { StandAt Service.Streams echoes.old.entries.items }
     requires pages { StandAt Service.Page pages.old.entries.items }
-    ensures serve { ServicesServe (served_of places.old echoes.old.entries.items pages.old.entries.items)
-        (served_of places.new echoes.new.entries.items pages.new.entries.items) }
+    requires echo_sessions { length echo_sessions.old ≡ socket_count Service.Streams }
+    requires sessions { length sessions.old ≡ socket_count Service.Page }
+    ensures serve { ServicesServe counts.now (served_of places.old echoes.old.entries.items pages.old.entries.items echo_sessions.old sessions.old)
+        (served_of places.new echoes.new.entries.items pages.new.entries.items echo_sessions.new sessions.new) }
     ensures echoes { echoes.new ≡ record echoes.old { entries = echoes.new.entries } }
     ensures pages { pages.new ≡ record pages.old { entries = pages.new.entries } }
 {
-    serve_first(places, buffer, request);
-    serve_backlog(Service::Streams, places, echoes, buffer, request);
-    serve_backlog(Service::Page, places, pages, buffer, request);
+    serve_first(places, counts, buffer, request);
+    serve_backlog(
+        Service::Streams,
+        places,
+        echo_sessions,
+        echoes,
+        counts,
+        buffer,
+        request,
+    );
+    serve_backlog(
+        Service::Page,
+        places,
+        sessions,
+        pages,
+        counts,
+        buffer,
+        request,
+    );
 }
 
 /// The services do what can be done now, on a set of sockets.
 fn serve_set(
     sockets: &mut SocketSet<Socket>,
+    echo_sessions: &mut [Session],
+    sessions: &mut [Session],
     echoes: &mut Listener,
     pages: &mut Listener,
+    counts: &Counts,
     buffer: &mut [u8],
     request: &mut [u8],
 )
@@ -99,17 +131,37 @@ fn serve_set(
     requires request { length request.old ≡ most_request }
     requires echoes { StandAt Service.Streams echoes.old.entries.items }
     requires pages { StandAt Service.Page pages.old.entries.items }
-    ensures serve { ServicesServe (served_of (places sockets.old) echoes.old.entries.items pages.old.entries.items)
-        (served_of (places sockets.new) echoes.new.entries.items pages.new.entries.items) }
+    requires echo_sessions { length echo_sessions.old ≡ socket_count Service.Streams }
+    requires sessions { length sessions.old ≡ socket_count Service.Page }
+    ensures serve { ServicesServe counts.now (served_of (places sockets.old) echoes.old.entries.items pages.old.entries.items echo_sessions.old sessions.old)
+        (served_of (places sockets.new) echoes.new.entries.items pages.new.entries.items echo_sessions.new sessions.new) }
     ensures echoes { echoes.new ≡ record echoes.old { entries = echoes.new.entries } }
     ensures pages { pages.new ≡ record pages.old { entries = pages.new.entries } }
 {
     match &mut sockets.sockets {
         ManagedSlice::Fixed(places) => {
-            serve_places(places.as_mut_slice(), echoes, pages, buffer, request)
+            serve_places(
+                places.as_mut_slice(),
+                echo_sessions,
+                sessions,
+                echoes,
+                pages,
+                counts,
+                buffer,
+                request,
+            )
         }
         ManagedSlice::Owned(places) => {
-            serve_places(places.as_mut_slice(), echoes, pages, buffer, request)
+            serve_places(
+                places.as_mut_slice(),
+                echo_sessions,
+                sessions,
+                echoes,
+                pages,
+                counts,
+                buffer,
+                request,
+            )
         }
     }
 }
@@ -117,8 +169,12 @@ fn serve_set(
 /// The listeners see how far their sockets came, and the services do what can be done now.
 fn serve(
     sockets: &mut SocketSet<Socket>,
+    echo_sessions: &mut [Session],
+    sessions: &mut [Session],
     echoes: &mut Listener,
     pages: &mut Listener,
+    tally: &mut Tally,
+    device: &Drain,
     buffer: &mut [u8],
     request: &mut [u8],
     now: Instant,
@@ -127,14 +183,36 @@ fn serve(
     requires request { length request.old ≡ most_request }
     requires echoes { IsListener Service.Streams echoes.old }
     requires pages { IsListener Service.Page pages.old }
-    ensures serve { AreServed now (served_of (places sockets.old) echoes.old.entries.items pages.old.entries.items)
-        (served_of (places sockets.new) echoes.new.entries.items pages.new.entries.items) }
+    requires echo_sessions { length echo_sessions.old ≡ socket_count Service.Streams }
+    requires sessions { length sessions.old ≡ socket_count Service.Page }
+    ensures serve { AreServed now device.now (served_of (places sockets.old) echoes.old.entries.items pages.old.entries.items echo_sessions.old sessions.old)
+        tally.old (served_of (places sockets.new) echoes.new.entries.items pages.new.entries.items echo_sessions.new sessions.new) tally.new }
     ensures echoes { IsListener Service.Streams echoes.new }
     ensures pages { IsListener Service.Page pages.new }
 {
     echoes.refresh(sockets, now);
     pages.refresh(sockets, now);
-    serve_set(sockets, echoes, pages, buffer, request);
+    tally.count_waiting(echoes, pages);
+    let counts = tally.counts(device);
+    serve_set(
+        sockets,
+        echo_sessions,
+        sessions,
+        echoes,
+        pages,
+        &counts,
+        buffer,
+        request,
+    );
+    tally.collect(sessions);
+}
+
+/// The sessions of a service's connections before any was accepted.
+fn fresh_sessions(alloc: Global, service: Service) -> Result<Vec<Session>, AllocError>
+    ensures fresh { IfOk result (λ ss. ss.items ≡ replicate (socket_count service) fresh_session) }
+    ensures len { IfOk result (λ ss. vec_len ss ≡ socket_count service) }
+{
+    vec![in alloc; Session::FRESH; socket_count(service)]
 }
 
 impl Host {
@@ -152,8 +230,26 @@ impl Host {
         let request = vec![in alloc; 0; MOST_REQUEST];
         let echoes = listener(alloc, Service::Streams);
         let pages = listener(alloc, Service::Page);
-        match (sockets(alloc), buffer, request, echoes, pages) {
-            (Ok(sockets), Ok(buffer), Ok(request), Ok(echoes), Ok(pages)) => Ok(Host {
+        let echo_sessions = fresh_sessions(alloc, Service::Streams);
+        let sessions = fresh_sessions(alloc, Service::Page);
+        match (
+            sockets(alloc),
+            buffer,
+            request,
+            echoes,
+            pages,
+            echo_sessions,
+            sessions,
+        ) {
+            (
+                Ok(sockets),
+                Ok(buffer),
+                Ok(request),
+                Ok(echoes),
+                Ok(pages),
+                Ok(echo_sessions),
+                Ok(sessions),
+            ) => Ok(Host {
                 interface,
                 sockets,
                 drain,
@@ -161,6 +257,9 @@ impl Host {
                 request,
                 echoes,
                 pages,
+                echo_sessions,
+                sessions,
+                tally: Tally::NONE,
             }),
             _ => Err(ServeError::Memory),
         }
@@ -178,8 +277,12 @@ impl Host {
         let _ = poll(&mut self.interface, &mut self.drain, &mut self.sockets, now);
         serve(
             &mut self.sockets,
+            self.echo_sessions.as_mut_slice(),
+            self.sessions.as_mut_slice(),
             &mut self.echoes,
             &mut self.pages,
+            &mut self.tally,
+            &self.drain,
             self.buffer.as_mut_slice(),
             self.request.as_mut_slice(),
             now,

@@ -10,6 +10,7 @@ mod place;
 mod program;
 mod settings;
 mod sockets_of;
+mod tally;
 mod turns;
 
 pub use error::ServeError;

@@ -1,11 +1,11 @@
 //! The services, each at its places among a host's sockets.
 ghost use Rattle.std.specs.Prelude.{◌≡◌, ◌≤◌, length};
 ghost use Rattle.services.specs.Echo.{datagram_echoed};
-ghost use Rattle.tun_host.specs.Services.{service_at, first_place, socket_count, keeper_place, port_of, echo_room, most_request, datagram_count, page, refusal};
-ghost use Rattle.tun_host.specs.Services.{times, datagrams_served, stream_served, PageServed, ServesAs, PlaceServes, is_over};
+ghost use Rattle.tun_host.specs.Services.{service_at, first_place, socket_count, keeper_place, port_of, echo_room, most_request, datagram_count, times};
+ghost use Rattle.tun_host.specs.Services.{datagrams_served, stream_served, PageServed, ServesAs, PlaceServes, is_over};
 
 use interface::{Item, SocketStorage};
-use services::{Site, echo_datagram, echo_stream, serve_page};
+use services::{Counts, Session, echo_datagram, echo_stream, serve_site};
 use sockets::{Socket, udp};
 
 /// How many streams are echoed at a time.
@@ -21,11 +21,6 @@ pub const DATAGRAMS: usize = 64;
 pub const ECHO_PORT: u16 = 7;
 
 pub const PAGE_PORT: u16 = 80;
-
-const SITE: Site<'static> = Site {
-    page: b"HTTP/1.0 200 OK\r\nContent-Type: text/html\r\nContent-Length: 106\r\n\r\n<!DOCTYPE html>\n<title>Zemplovir</title>\n<p>This page came over a TCP/IP stack whose promises are proved.\n",
-    refusal: b"HTTP/1.0 400 Bad Request\r\nContent-Length: 0\r\n\r\n",
-};
 
 /// What a socket is for.
 #[derive(Clone, Copy, Debug, PartialEq, Eq)]
@@ -100,15 +95,6 @@ pub fn port_of(service: Service) -> u16
     }
 }
 
-/// The page, and what any other request is told.
-#[tactic(auto, unfolding(crate::specs::Services::page, crate::specs::Services::refusal))]
-fn site() -> Site<'static>
-    ensures page { result.page.now ≡ page }
-    ensures refusal { result.refusal.now ≡ refusal }
-{
-    SITE
-}
-
 /// How many datagrams are sent back in a turn, at most.
 #[tactic(auto, unfolding(crate::specs::Services::datagram_count))]
 fn datagram_count() -> usize
@@ -142,25 +128,31 @@ fn serve_stream(socket: &mut Socket, buffer: &mut [u8])
     }
 }
 
-fn serve_request(socket: &mut Socket, request: &mut [u8])
-    ensures { PageServed (length request.old) socket.old socket.new }
+fn serve_request(socket: &mut Socket, session: &mut Session, counts: &Counts, request: &mut [u8])
+    ensures { PageServed counts.now (length request.old) socket.old session.old socket.new session.new }
 {
     if let Socket::Tcp(socket) = socket {
-        let site = site();
-        serve_page(socket, &site, request);
+        serve_site(socket, session, counts, request);
     }
 }
 
 /// A service does what can be done now.
-fn serve_socket(service: Service, socket: &mut Socket, buffer: &mut [u8], request: &mut [u8])
+fn serve_socket(
+    service: Service,
+    socket: &mut Socket,
+    session: &mut Session,
+    counts: &Counts,
+    buffer: &mut [u8],
+    request: &mut [u8],
+)
     requires buffer { length buffer.old ≡ echo_room }
     requires request { length request.old ≡ most_request }
-    ensures { ServesAs service socket.old socket.new }
+    ensures { ServesAs counts.now service socket.old session.old socket.new session.new }
 {
     match service {
         Service::Datagrams => serve_datagrams(socket, buffer),
         Service::Streams => serve_stream(socket, buffer),
-        Service::Page => serve_request(socket, request),
+        Service::Page => serve_request(socket, session, counts, request),
         Service::Keeper => {}
     }
 }
@@ -169,15 +161,17 @@ fn serve_socket(service: Service, socket: &mut Socket, buffer: &mut [u8], reques
 pub fn serve_place(
     service: Service,
     place: &mut SocketStorage<Socket>,
+    session: &mut Session,
+    counts: &Counts,
     buffer: &mut [u8],
     request: &mut [u8],
 )
     requires buffer { length buffer.old ≡ echo_room }
     requires request { length request.old ≡ most_request }
-    ensures { PlaceServes service place.old place.new }
+    ensures { PlaceServes counts.now service place.old session.old place.new session.new }
 {
     if let Some(item) = &mut place.inner {
-        serve_socket(service, &mut item.socket, buffer, request);
+        serve_socket(service, &mut item.socket, session, counts, buffer, request);
     }
 }
 

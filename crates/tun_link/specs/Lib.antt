@@ -1,3 +1,4 @@
 pub mod Turn
 pub mod Answer
+pub mod Reset
 pub mod Drain

@@ -1,8 +1,9 @@
 //! The device of a host that takes turns.
-ghost use Rattle.std.specs.Prelude.{◌≡◌, ◌+◌, ◌^◌, ◌<◌, ◌≤◌, [], ◌++◌, length, vec_len, vec_capacity, IfSome, OnSome, None};
+ghost use Rattle.std.specs.Prelude.{◌≡◌, ◌+◌, ◌^◌, ◌<◌, ◌≤◌, [], ◌++◌, length, vec_len, vec_capacity, IfSome, OnSome};
 ghost use Rattle.tun_link.specs.Answer.{packet_bytes};
-ghost use Rattle.tun_link.specs.Drain.{brought};
+ghost use Rattle.tun_link.specs.Drain.{brought, received, fresh_drain, one_more_if};
 
+use crate::reset::is_reset;
 use net_base::{Device, DeviceCapabilities, Instant, OwnedRxToken, SendRefused, TxToken};
 use std::alloc::Global;
 use std::marker::Model;
@@ -21,7 +22,11 @@ const LENGTH_LEN: usize = 2;
 #[derive(Debug, Drop)]
 pub struct Drain {
     packet: Option<Vec<u8>>,
+    received: u64,
+    resets_received: u64,
     dropped: u64,
+    sent: u64,
+    resets_sent: u64,
     answer: Vec<u8>,
     spare: Vec<u8>,
     refused: u64,
@@ -36,8 +41,12 @@ impl Model for Drain {
 
     ghost view = { λ d. record {
       waiting = option_map (λ packet. packet.items) d.packet;
+      received = d.received;
+      resets_received = d.resets_received;
       dropped = d.dropped;
       sent = d.answer.items;
+      emitted = d.sent;
+      resets_sent = d.resets_sent;
       refusals = d.refused;
       capabilities = d.described;
     } };
@@ -52,11 +61,15 @@ impl TxToken for DrainTxToken {}
 impl Drain {
     /// A device of these capabilities, with no packet and nothing to answer. It allocates nothing: `alloc` serves later calls.
     pub fn new(alloc: Global, capabilities: DeviceCapabilities) -> Drain
-        ensures { result ≡ record { waiting = None; dropped = 0; sent = []; refusals = 0; capabilities = capabilities } }
+        ensures { result ≡ fresh_drain capabilities }
     {
         Drain {
             packet: None,
+            received: 0,
+            resets_received: 0,
             dropped: 0,
+            sent: 0,
+            resets_sent: 0,
             answer: Vec::new(alloc),
             spare: Vec::new(alloc),
             refused: 0,
@@ -69,6 +82,7 @@ impl Drain {
     pub fn put(&mut self, packet: Vec<u8>)
         ensures { self.new ≡ brought packet.items self.old }
     {
+        self.count_received(packet.as_slice());
         if self.described.max_transmission_unit < packet.len() {
             self.packet = None;
             self.dropped = self.dropped.saturating_add(1);
@@ -79,6 +93,50 @@ impl Drain {
         } else {
             Some(packet)
         };
+    }
+
+    /// One packet more that came, unless it has no bytes.
+    fn count_received(&mut self, packet: &[u8])
+        ensures { self.new ≡ received packet.now self.old }
+    {
+        let resets = is_reset(self.described.medium, packet);
+        self.received = one_more_if(!packet.is_empty(), self.received);
+        self.resets_received = one_more_if(resets, self.resets_received);
+    }
+
+    /// How many packets came.
+    pub fn received(&self) -> u64
+        ensures { result ≡ self.now.received }
+    {
+        self.received
+    }
+
+    /// How many of them were resets of TCP.
+    pub fn resets_received(&self) -> u64
+        ensures { result ≡ self.now.resets_received }
+    {
+        self.resets_received
+    }
+
+    /// How many packets went.
+    pub fn sent(&self) -> u64
+        ensures { result ≡ self.now.emitted }
+    {
+        self.sent
+    }
+
+    /// How many of them were resets of TCP.
+    pub fn resets_sent(&self) -> u64
+        ensures { result ≡ self.now.resets_sent }
+    {
+        self.resets_sent
+    }
+
+    /// How many packets were refused, for want of memory.
+    pub fn refused(&self) -> u64
+        ensures { result ≡ self.now.refusals }
+    {
+        self.refused
     }
 
     /// How many packets were dropped for their length.
@@ -142,6 +200,9 @@ impl Device for Drain {
         };
         let answer = f(packet.as_mut_slice());
         append(&mut self.answer, packet.as_slice());
+        let resets = is_reset(self.described.medium, packet.as_slice());
+        self.resets_sent = one_more_if(resets, self.resets_sent);
+        self.sent = self.sent.saturating_add(1);
         self.spare = packet;
         Ok(answer)
     }
@@ -152,6 +213,17 @@ impl Device for Drain {
 
     fn refusals(&self) -> u64 {
         self.refused
+    }
+}
+
+/// One more of what is counted, where it is one.
+fn one_more_if(is_one: bool, count: u64) -> u64
+    ensures { result ≡ one_more_if is_one count }
+{
+    if is_one {
+        count.saturating_add(1)
+    } else {
+        count
     }
 }
 

@@ -4,6 +4,7 @@
 
 mod answer;
 mod drain;
+mod reset;
 mod turn;
 
 pub use answer::write_answer;

@@ -1,6 +1,6 @@
 //! Of `tun_link` and `services`.
 ghost use Rattle.std.specs.Prelude.{◌≡◌, ◌↔◌, IsTrue};
-ghost use Rattle.services.specs.declared.page.Verdict.{Verdict};
+ghost use Rattle.services.specs.declared.request.Verdict.{Verdict};
 ghost use Rattle.tun_link.specs.declared.turn.TurnError.{TurnError};
 
 use services::Verdict;

@@ -18,7 +18,7 @@ pub fn tun_numbers()
     ensures echoed { datagram_count ≡ 64 }
     ensures places { place_count ≡ 71 }
     ensures room { echo_room ≡ 65536 }
-    ensures request { most_request ≡ 1024 }
+    ensures request { most_request ≡ 4096 }
     ensures budget { budget ≡ 64 }
 {}
 

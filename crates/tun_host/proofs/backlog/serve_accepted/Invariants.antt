@@ -7,4 +7,5 @@ use Rattle.tun_host.proofs.backlog.serve_accepted.Given as goal
 abbrev pub invariant-loop-at : goal.invariant-loop-at
 invariant-loop-at l =
     (length l.buffer ≡ echo_room) × (length l.request ≡ most_request) × (l.listener ≡ record l.initial.listener { entries = l.listener.entries })
-    × ServedTo l.at (first_place l.service) l.service l.initial.places l.initial.listener.entries.items l.places l.listener.entries.items
+    × ServedTo l.at l.counts (first_place l.service) l.service l.initial.places l.initial.sessions l.initial.listener.entries.items l.places l.sessions
+    l.listener.entries.items

@@ -13,8 +13,8 @@ serve_accepted-requires-clause-stands c =
 
 pub returns-clause-served : goal.returns-clause-served
 returns-clause-served c =
-    subst (λ (es : List Entry). BacklogServes (first_place c.args.service) c.args.service c.args.places.now es c.serve_accepted.new.places
-    c.serve_accepted.new.listener.entries.items) c.accept_all.ensures.accepted
+    subst (λ (es : List Entry). BacklogServes c.args.counts.now (first_place c.args.service) c.args.service c.args.places.now c.args.sessions.now es
+    c.serve_accepted.new.places c.serve_accepted.new.sessions c.serve_accepted.new.listener.entries.items) c.accept_all.ensures.accepted
     c.serve_accepted.ensures.served
 
 pub returns-clause-rest : goal.returns-clause-rest

@@ -1,6 +1,9 @@
+use Rattle.std.proofs.Common.{◌≡◌, ◌∙◌, ap, subst, refl}
 use Rattle.interface_egress.specs.Set.{places}
 use Rattle.tcp_listener.specs.Calls.{micros_of}
-use Rattle.tun_host.specs.Turns.{served_of}
+use Rattle.services.specs.declared.counts.Counts.{Counts}
+use Rattle.tun_host.specs.Tallies.{counts_of, more_waiting, collected}
+use Rattle.tun_host.specs.Turns.{served_of, ServicesServe}
 use Rattle.tun_host.specs.Services.{first_place, socket_count}
 use Rattle.tun_host.specs.declared.place.Service.TheVariants.{Streams, Page}
 use Rattle.tun_host.proofs.Connections.{refreshed_stand, seen_as, still_listener}
@@ -21,28 +24,40 @@ serve_set-requires-clause-pages c =
     c.refresh-2.ensures.refreshed c.requires.pages.stands
 
 pub returns-clause-serve : goal.returns-clause-serve
-returns-clause-serve c = record {
-  seen = places c.refresh.new.set;
-  ready = served_of (places c.refresh-2.new.set) c.refresh.new.self.entries.items c.refresh-2.new.self.entries.items;
-  sees_echoes = seen_as Streams c.args.echoes.now (micros_of c.args.now) (places c.args.sockets.now) c.args.echoes.now.entries.items (places c.refresh.new.set)
-      c.refresh.new.self.entries.items
-      c.requires.echoes c.refresh.ensures.refreshed;
-  sees_pages = seen_as Page c.args.pages.now (micros_of c.args.now) (places c.refresh.new.set) c.args.pages.now.entries.items (places c.refresh-2.new.set)
-      c.refresh-2.new.self.entries.items
-      c.requires.pages c.refresh-2.ensures.refreshed;
-  serves = c.serve_set.ensures.serve;
-}
+returns-clause-serve c =
+    let echoes = c.refresh.new.self.entries.items in
+    let pages = c.refresh-2.new.self.entries.items in
+    let ready = served_of (places c.refresh-2.new.set) echoes pages c.args.echo_sessions.now c.args.sessions.now in
+    let done = served_of (places c.serve_set.new.sockets) c.serve_set.new.echoes.entries.items c.serve_set.new.pages.entries.items c.serve_set.new.echo_sessions
+    c.serve_set.new.sessions in
+    let counted : c.counts-counts.result ≡ counts_of c.args.device.now (more_waiting echoes pages c.args.tally.now) =
+    c.counts-counts.ensures ∙ ap (counts_of c.args.device.now) c.count_waiting.ensures in
+    record {
+      seen = places c.refresh.new.set;
+      ready = ready;
+      done = c.serve_set.new.sessions;
+      sees_echoes = seen_as Streams c.args.echoes.now (micros_of c.args.now) (places c.args.sockets.now) c.args.echoes.now.entries.items
+          (places c.refresh.new.set) echoes
+          c.requires.echoes c.refresh.ensures.refreshed;
+      sees_pages = seen_as Page c.args.pages.now (micros_of c.args.now) (places c.refresh.new.set) c.args.pages.now.entries.items
+          (places c.refresh-2.new.set) pages
+          c.requires.pages c.refresh-2.ensures.refreshed;
+      same = (refl, refl);
+      serves = subst (λ (n : Counts). ServicesServe n ready done) counted c.serve_set.ensures.serve;
+      sessions = c.collect.ensures.sessions;
+      tally = c.collect.ensures.tally ∙ ap (collected c.serve_set.new.sessions) c.count_waiting.ensures;
+    }
 
 pub returns-clause-echoes : goal.returns-clause-echoes
 returns-clause-echoes c =
-    still_listener Streams c.args.echoes.now c.refresh.new.self c.serve_set.new.echoes (micros_of c.args.now) (places c.args.sockets.now)
-    (places c.refresh.new.set) _ _
+    still_listener _ Streams c.args.echoes.now c.refresh.new.self c.serve_set.new.echoes (micros_of c.args.now) (places c.args.sockets.now)
+    (places c.refresh.new.set) _ _ _ _
     c.requires.echoes c.refresh.ensures.refreshed c.refresh.ensures.endpoint c.refresh.ensures.keepers c.serve_set.ensures.serve.serves_streams
     c.serve_set.ensures.echoes
 
 pub returns-clause-pages : goal.returns-clause-pages
 returns-clause-pages c =
-    still_listener Page c.args.pages.now c.refresh-2.new.self c.serve_set.new.pages (micros_of c.args.now) (places c.refresh.new.set)
-    (places c.refresh-2.new.set) _ _
+    still_listener _ Page c.args.pages.now c.refresh-2.new.self c.serve_set.new.pages (micros_of c.args.now) (places c.refresh.new.set)
+    (places c.refresh-2.new.set) _ _ _ _
     c.requires.pages c.refresh-2.ensures.refreshed c.refresh-2.ensures.endpoint c.refresh-2.ensures.keepers c.serve_set.ensures.serve.serves_pages
     c.serve_set.ensures.pages

@@ -1,11 +1,15 @@
-use Rattle.std.proofs.Common.{ap, subst}
+use Rattle.std.proofs.Common.{rules, arith, ◌≡◌, ◌∙◌, ap, subst, List}
+use Rattle.std.proofs.lemmas.Grind.{common_steps}
+use Rattle.std.proofs.lemmas.List.{with_items_is}
+use Rattle.std.specs.Vec.{with_items}
+use Rattle.services.specs.declared.site.Session.{Session}
 use Rattle.interface.specs.Host.{HostValue}
 use Rattle.interface.specs.Polls.{Polls, is_change}
 use Rattle.interface.specs.State.{state}
 use Rattle.interface_egress.specs.Set.{places}
 use Rattle.tun_link.specs.Drain.{DrainValue, DrainMove}
 use Rattle.tun_host.specs.Backlogs.{HostState}
-use Rattle.tun_host.specs.Turns.{budget, served_of}
+use Rattle.tun_host.specs.Turns.{budget, served_of, AreServed}
 use Rattle.tun_host.proofs.host.Host.take_turn.Goals as goal
 
 pub returns-clause-turn : goal.returns-clause-turn
@@ -13,19 +17,37 @@ returns-clause-turn c =
     let before = c.args.self.now in
     let come = state c.poll.new.drain c.poll.new.interface (places c.poll.new.sockets) in
     let gone = state c.poll-2.new.drain c.poll-2.new.interface (places c.poll-2.new.sockets) in
-    let echoes = c.serve.new.echoes.entries.items in
-    let pages = c.serve.new.pages.entries.items in
+    let done = served_of (places c.serve.new.sockets) c.serve.new.echoes.entries.items c.serve.new.pages.entries.items c.serve.new.echo_sessions
+    c.serve.new.sessions in
+    let was = served_of (places c.poll.new.sockets) before.echoes.entries.items before.pages.entries.items in
+    let echo_sessions : (with_items before.echo_sessions c.serve.new.echo_sessions).items ≡ done.echo_sessions =
+    with_items_is before.echo_sessions c.serve.new.echo_sessions (first_of (search rules, grind (arith, common_steps))) in
+    let sessions : (with_items before.sessions c.serve.new.sessions).items ≡ done.sessions =
+    with_items_is before.sessions c.serve.new.sessions (first_of (search rules, grind (arith, common_steps))) in
+    let ended : HostValue → List Session → List Session → HostState = λ h xs ys. record {
+      net = state c.poll-2.new.drain h (places c.poll-2.new.sockets);
+      echoes = done.echoes;
+      pages = done.pages;
+      echo_sessions = xs;
+      sessions = ys;
+      tally = c.serve.new.tally;
+    } in
     record {
       come = come;
-      done = served_of (places c.serve.new.sockets) echoes pages;
+      done = done;
       gone = gone;
       changed = is_change c.poll.result;
       changed_again = is_change c.poll-2.result;
       takes = subst (λ (d : DrainValue). Polls DrainMove c.args.now budget (state d before.interface (places before.sockets)) (is_change c.poll.result) come)
           c.put.ensures c.poll.ensures;
-      serves = c.serve.ensures.serve;
+      tally = c.serve.new.tally;
+      serves = subst (λ (xs : List Session). AreServed c.args.now c.poll.new.drain (was xs before.sessions.items) before.tally done c.serve.new.tally)
+          c.as_mut_slice.ensures.value
+          (subst (λ (xs : List Session). AreServed c.args.now c.poll.new.drain (was c.as_mut_slice.result.now xs) before.tally done c.serve.new.tally)
+          c.as_mut_slice-2.ensures.value c.serve.ensures.serve);
       sends = c.poll-2.ensures;
       asked = c.poll_at.ensures.value;
-      after = ap (λ (h : HostValue). record { net = state c.poll-2.new.drain h (places c.poll-2.new.sockets); echoes = echoes; pages = pages })
-          c.poll_at.ensures.after;
+      after = ap (λ (xs : List Session). ended c.poll_at.new.self xs (with_items before.sessions c.serve.new.sessions).items) echo_sessions
+          ∙ (ap (ended c.poll_at.new.self done.echo_sessions) sessions ∙
+          ap (λ (h : HostValue). ended h done.echo_sessions done.sessions) c.poll_at.ensures.after);
     }

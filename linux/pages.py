@@ -1,6 +1,11 @@
 #!/usr/bin/env python3
-"""What the site of the program `host` says, held against HTTP's rules (RFC 9110, RFC 9112): site.py HOST, in a network namespace of
-its own (unshare -n). Connections that stay and pipelining, HEAD, refusals, requests in pieces, a megabyte, what the host counted."""
+"""What the site of the program `host` says, held against HTTP's rules (RFC 9110, RFC 9112), in a network namespace of its own
+(unshare -n):
+
+    pages.py HOST [--tap MAC]
+
+Connections that stay and pipelining, HEAD, refusals, requests in pieces, a megabyte, what the host counted.
+"""
 import subprocess, sys
 
 import talk
@@ -71,9 +76,9 @@ def stays(at, count=20):
     return say(f"{well} of {count} pages on one connection{named(at)}", well == count)
 
 
-def pipelined(at):
+def pipelined(at, times=3):
     """Requests that don't wait for the answers, in one piece."""
-    paths = ["/", "/nothing", "/counts", "/", "/nothing", "/?query", "/", "/counts", "/", "/"] * 3
+    paths = ["/", "/nothing", "/counts", "/", "/nothing", "/?query", "/", "/counts", "/", "/"] * times
     with connect(80, at=at) as it:
         it.sendall(b"".join(request(path, "HEAD" if number % 4 == 3 else "GET") for number, path in enumerate(paths)))
         reader, well = Reader(it), 0
