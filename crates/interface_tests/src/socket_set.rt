@@ -108,20 +108,25 @@ fn used_places_in_order(rt: HostRuntime) {
 /// Each socket is lent once, at its handle, and keeps what is written.
 #[test]
 fn each_socket_is_lent_in_order(rt: HostRuntime) {
-    let mut apart = apart(&rt);
-    let mut lent = apart.set.iter_mut();
+    let TwoSockets {
+        mut set,
+        first,
+        unused,
+        last,
+    } = apart(&rt);
+    let mut lent = set.iter_mut();
     if let Some((handle, socket)) = lent.next() {
-        assert!(rt; handle == apart.first && *socket == 7);
+        assert!(rt; handle == first && *socket == 7);
         *socket = 17;
     }
     if let Some((handle, socket)) = lent.next() {
-        assert!(rt; handle == apart.last && *socket == 9);
+        assert!(rt; handle == last && *socket == 9);
         *socket = 29;
     }
     assert!(rt; lent.next().is_none() && lent.next().is_none());
-    assert!(rt; holds(&apart.set, apart.first, Some(17)));
-    assert!(rt; holds(&apart.set, apart.last, Some(29)));
-    assert!(rt; holds(&apart.set, apart.unused, None));
+    assert!(rt; holds(&set, first, Some(17)));
+    assert!(rt; holds(&set, last, Some(29)));
+    assert!(rt; holds(&set, unused, None));
 }
 
 /// A loop over a set goes through its sockets, read or lent.
@@ -129,7 +134,7 @@ fn each_socket_is_lent_in_order(rt: HostRuntime) {
 fn a_loop_goes_through_a_set(rt: HostRuntime) {
     let mut apart = apart(&rt);
     for (handle, socket) in &mut apart.set {
-        *socket = handle.place() as u32;
+        *socket = u32::try_from(handle.place()).unwrap_or(9);
     }
     let mut sum = 0u32;
     for (_, socket) in &apart.set {
